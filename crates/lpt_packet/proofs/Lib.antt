@@ -1,0 +1,9 @@
+pub mod Bursts
+pub mod Codec
+pub mod Found
+pub mod NameLemmas
+pub mod OctetLists
+pub mod Readings
+pub mod Registers
+pub mod Shifts
+pub mod SightLemmas

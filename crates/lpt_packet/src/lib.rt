@@ -1,0 +1,27 @@
+//! Space packets (CCSDS 133.0-B) and their checksum: what octets are a packet, read and written exactly.
+//!
+//! A packet has a primary header of 6 octets, a data field, and here always a packet error control
+//! of 2 octets. Reading borrows and takes no memory.
+#![tactic(auto)]
+
+mod checksum;
+mod direction;
+mod fault;
+pub mod laws;
+mod name;
+mod octets;
+mod packet;
+mod reading;
+mod writing;
+
+pub use checksum::crc16;
+pub use direction::Direction;
+pub use fault::PacketFault;
+pub use name::Name;
+pub use octets::Octets;
+pub use packet::{Packet, PacketKind, Seen};
+pub use reading::read_packet;
+pub use writing::write_packet;
+
+#[cfg(test)]
+mod tests;

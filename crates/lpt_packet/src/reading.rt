@@ -1,0 +1,82 @@
+//! Reading a packet from octets.
+
+ghost use Rattle.std.specs.Prelude.{◌≡◌, ◌+◌, ◌<◌, length, Ok, IfOk};
+ghost use Rattle.lpt_packet.specs.Numbers.{word_at};
+ghost use Rattle.lpt_packet.specs.Packets.{Fields, IdlePacket, APacket, sight, IsSight, IsPacket, IsIdle, verdict, Gives};
+
+use crate::{Packet, PacketFault, PacketKind, Seen, crc16};
+
+/// Reads octets as a space packet (CCSDS 133.0-B, with a packet error control in every packet).
+///
+/// The data field is borrowed. Errors, the first that applies: `Short`, fewer than 7 octets;
+/// `Version`, not 0; `Length`, the octets aren't 7 more than the data length field; then a packet of
+/// APID 2047 is idle, whatever else it holds; `Segmented`, the sequence flags aren't 'unsegmented';
+/// `NoSecondary`, the secondary header flag is 0; `Checksum`, fewer than 8 octets, or the last two
+/// aren't the checksum of those before.
+pub fn read_packet(bytes: &[u8]) -> Result<Seen<'_>, PacketFault>
+    // What is read is what the octets are.
+    ensures found { IfOk result (λ s. IsSight bytes.now (sight s)) }
+
+    // Each packet is read with its fields, and each idle packet is seen.
+    ensures packet { (f : Fields) → IsPacket bytes.now f → Gives result (Ok (APacket f)) }
+    ensures idle { IsIdle bytes.now → Gives result (Ok IdlePacket) }
+
+    // The fault is the first.
+    ensures exact { Gives result (verdict bytes.now) }
+{
+    first_fault_or_sight(bytes)
+}
+
+// The tests of a packet, in their order.
+#[tactic(auto, unfolding(crate::specs::Packets::verdict))]
+fn first_fault_or_sight(bytes: &[u8]) -> Result<Seen<'_>, PacketFault>
+    ensures { Gives result (verdict bytes.now) }
+{
+    if bytes.len() < 7 {
+        return Err(PacketFault::Short);
+    }
+    let first = word(bytes, 0);
+    let second = word(bytes, 2);
+    if first >> 13 != 0 {
+        return Err(PacketFault::Version);
+    }
+    if bytes.len() != 7 + usize::from(word(bytes, 4)) {
+        return Err(PacketFault::Length);
+    }
+    if first & 0x07ff == 0x07ff {
+        return Ok(Seen::Idle);
+    }
+    if second >> 14 != 3 {
+        return Err(PacketFault::Segmented);
+    }
+    if (first >> 11) & 1 != 1 {
+        return Err(PacketFault::NoSecondary);
+    }
+    if bytes.len() < 8 {
+        return Err(PacketFault::Checksum);
+    }
+    let end = bytes.len() - 2;
+    if crc16(&bytes[..end]) != word(bytes, end) {
+        return Err(PacketFault::Checksum);
+    }
+    let kind = if (first >> 12) & 1 == 1 {
+        PacketKind::Tc
+    } else {
+        PacketKind::Tm
+    };
+    let field = &bytes[6..end];
+    Ok(Seen::Packet(Packet {
+        kind,
+        apid: first & 0x07ff,
+        count: second & 0x3fff,
+        field,
+    }))
+}
+
+// The 16-bit number at a place.
+fn word(bytes: &[u8], at: usize) -> u16
+    requires { at + 1 < length bytes.now }
+    ensures { result ≡ word_at bytes.now at }
+{
+    u16::from_be_bytes([bytes[at], bytes[at + 1]])
+}
