@@ -1,0 +1,4 @@
+pub mod CommandLemmas
+pub mod LongLemmas
+pub mod MessageLemmas
+pub mod TelemetryLemmas

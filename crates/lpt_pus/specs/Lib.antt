@@ -1,0 +1,6 @@
+pub mod Commands
+pub mod FaultNames
+pub mod Messages
+pub mod Numbers
+pub mod Ranges
+pub mod Telemetry

@@ -1,0 +1,27 @@
+//! PUS headers (ECSS-E-ST-70-41C) over whole space packets: telecommands and telemetry, read and
+//! written exactly.
+//!
+//! A packet's data field begins with a secondary header, of 5 octets in a telecommand and of 11 in
+//! telemetry. The body follows. Reading borrows and takes no memory.
+//!
+//! Deviation: the time field of telemetry is 32 bits wide and counts the ticks of the sender's
+//! clock, and neither header has a spare field.
+#![tactic(auto)]
+
+mod fault;
+pub mod laws;
+mod reading;
+mod request;
+mod tc_head;
+mod tm_head;
+mod writing;
+
+pub use fault::PusFault;
+pub use reading::{read_tc, read_tm};
+pub use request::RequestId;
+pub use tc_head::TcHead;
+pub use tm_head::TmHead;
+pub use writing::{tc_octets, tm_octets, write_tc, write_tm};
+
+#[cfg(test)]
+mod tests;

@@ -1,0 +1,112 @@
+//! Writing a telecommand or telemetry as a packet's octets.
+
+ghost use Rattle.std.specs.Prelude.{◌≡◌, ◌+◌, ◌≤◌, ◌++◌, length, IfOk};
+ghost use Rattle.lpt_packet.specs.Packets.{spelling};
+ghost use Rattle.lpt_pus.specs.Commands.{command, packet_of};
+ghost use Rattle.lpt_pus.specs.Messages.{Writes, fields_of};
+ghost use Rattle.lpt_pus.specs.Telemetry.{telemetry, tm_packet_of};
+
+use crate::{PusFault, TcHead, TmHead};
+use lpt_packet::{Octets, Packet, PacketKind, write_packet};
+use std::alloc::{AllocError, Global};
+
+/// The most octets of a telecommand's body: a packet has at most 65,542 octets, 8 of them besides
+/// its data field, and the secondary header has 5.
+const TC_BODY_LIMIT: usize = 65529;
+
+/// The most octets of a telemetry message's body: the secondary header has 11.
+const TM_BODY_LIMIT: usize = 65523;
+
+/// The octets of a telecommand's whole packet.
+///
+/// Errors: `TooLong` where the packet would have more than 65,542 octets, which is found before
+/// any memory is taken; `Memory` where memory runs out.
+pub fn write_tc(alloc: Global, head: &TcHead, body: &[u8]) -> Result<Octets, PusFault>
+    ensures { Writes result (spelling (packet_of (command head.now body.now))) }
+{
+    if body.len() > TC_BODY_LIMIT {
+        return Err(PusFault::TooLong);
+    }
+    tc_octets(alloc, head, body).map_err(|_| PusFault::Memory)
+}
+
+/// The octets of a telecommand's whole packet, for a body that is known to fit: at most 65,529
+/// octets. The only error is want of memory.
+pub fn tc_octets(alloc: Global, head: &TcHead, body: &[u8]) -> Result<Octets, AllocError>
+    requires { length body.now ≤ 65529 }
+    ensures { IfOk result (λ o. o ≡ spelling (packet_of (command head.now body.now))) }
+{
+    let source = head.source.to_be_bytes();
+    let header = [
+        0x20 + head.flags,
+        head.service,
+        head.subtype,
+        source[0],
+        source[1],
+    ];
+    packet_octets(alloc, PacketKind::Tc, head.apid, head.count, &header, body)
+}
+
+/// The octets of a telemetry message's whole packet.
+///
+/// Errors: `TooLong` where the packet would have more than 65,542 octets, which is found before
+/// any memory is taken; `Memory` where memory runs out.
+pub fn write_tm(alloc: Global, head: &TmHead, body: &[u8]) -> Result<Octets, PusFault>
+    ensures { Writes result (spelling (tm_packet_of (telemetry head.now body.now))) }
+{
+    if body.len() > TM_BODY_LIMIT {
+        return Err(PusFault::TooLong);
+    }
+    tm_octets(alloc, head, body).map_err(|_| PusFault::Memory)
+}
+
+/// The octets of a telemetry message's whole packet, for a body that is known to fit: at most
+/// 65,523 octets. The only error is want of memory.
+pub fn tm_octets(alloc: Global, head: &TmHead, body: &[u8]) -> Result<Octets, AllocError>
+    requires { length body.now ≤ 65523 }
+    ensures { IfOk result (λ o. o ≡ spelling (tm_packet_of (telemetry head.now body.now))) }
+{
+    let counter = head.counter.to_be_bytes();
+    let destination = head.destination.to_be_bytes();
+    let time = head.time.to_be_bytes();
+    let header = [
+        0x20 + head.status,
+        head.service,
+        head.subtype,
+        counter[0],
+        counter[1],
+        destination[0],
+        destination[1],
+        time[0],
+        time[1],
+        time[2],
+        time[3],
+    ];
+    packet_octets(alloc, PacketKind::Tm, head.apid, head.count, &header, body)
+}
+
+// The octets of a packet whose data field is a secondary header and a body.
+fn packet_octets(
+    alloc: Global,
+    kind: PacketKind,
+    apid: u16,
+    count: u16,
+    header: &[u8],
+    body: &[u8],
+) -> Result<Octets, AllocError>
+    requires apid { apid ≤ 2046 }
+    requires count { count ≤ 16383 }
+    requires field { length header.now + length body.now ≤ 65534 }
+    ensures { IfOk result (λ o. o ≡ spelling (fields_of kind apid count (header.now ++ body.now))) }
+{
+    let mut field = Vec::with_capacity(alloc, header.len() + body.len())?;
+    field.extend_from_slice(header)?;
+    field.extend_from_slice(body)?;
+    let packet = Packet {
+        kind,
+        apid,
+        count,
+        field: &field,
+    };
+    write_packet(alloc, &packet)
+}
