@@ -1,0 +1,5 @@
+pub mod Aborts
+pub mod FaultNames
+pub mod PartRanges
+pub mod Parts
+pub mod Splitting

@@ -1,0 +1,31 @@
+//! The large packet transfer of ECSS-E-ST-70-41C: how a message is split, and the bodies of its
+//! parts and of abortion reports.
+//!
+//! A message longer than the part size is cut into parts of that size, the last of which may be
+//! shorter. The body of a part is the transaction identifier, the part sequence number and the
+//! part's octets; that of an abortion report is the transaction identifier and a failure reason.
+//! The widths of these fields and the numbers of the failure reasons are this project's own.
+//! Reading borrows and takes no memory.
+#![tactic(auto)]
+
+mod abort;
+mod fault;
+mod kind;
+pub mod laws;
+mod part;
+mod reading;
+mod reason;
+mod splitting;
+mod writing;
+
+pub use abort::{read_abort, write_abort};
+pub use fault::PartFault;
+pub use kind::Kind;
+pub use part::Part;
+pub use reading::read_part;
+pub use reason::Reason;
+pub use splitting::{count, slice};
+pub use writing::write_part;
+
+#[cfg(test)]
+mod tests;
