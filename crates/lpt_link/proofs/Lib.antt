@@ -1,0 +1,2 @@
+pub mod PacketLists
+pub mod PresentLemmas

@@ -1,0 +1,4 @@
+pub mod FaultNames
+pub mod Hands
+pub mod Lanes
+pub mod Links

@@ -1,0 +1,238 @@
+//! The link.
+
+ghost use Rattle.std.specs.Prelude.{◌≡◌, ◌↔◌, ◌+◌, ◌<◌, ◌≤◌, length, IfOk, IfErr, OnOk, OnErr, IsOk, IsSome, IfSome, is_some};
+ghost use Rattle.std.specs.Option.{option_copied};
+ghost use Rattle.std.specs.Result.{result_err};
+ghost use Rattle.lpt_link.specs.Lanes.{lane_direction};
+ghost use Rattle.lpt_link.specs.Links.{empty_link, octets_at, is_held, is_held_for, hand_of, hand_has, any_held, any_in_hand, holds, after_put, after_lose, after_take, after_drop, refusal_lose, refusal_take, refusal_drop, IsNumberOf};
+
+use crate::hands::Hands;
+use crate::packet::LinkPacket;
+use crate::{Lane, LinkFault};
+use lpt_packet::{Direction, Name, Octets};
+use std::alloc::{AllocError, Global};
+use std::marker::Model;
+use thiserror::Error;
+
+/// For how many packets a new link has room.
+const FIRST_ROOM: usize = 16;
+
+/// The link: its packets and the lanes' hands.
+#[derive(Debug, Drop)]
+pub struct Link {
+    packets: Vec<LinkPacket>,
+    hands: Hands,
+}
+
+impl Model for Link {
+    ghost use Rattle.std.specs.Prelude.{◌-◌};
+    ghost use Rattle.std.specs.Vec.{vec_len, vec_capacity};
+    ghost use Rattle.lpt_link.specs.Links.{LinkView, IsSound};
+
+    ghost Value = { LinkView };
+
+    ghost view = { λ l. record {
+      at = record { packets = l.packets.items; hands = l.hands };
+      spare = vec_capacity l.packets - vec_len l.packets;
+    } };
+
+    ghost invariant = { λ l. IsSound (record { packets = l.packets.items; hands = l.hands }) };
+}
+
+/// Why a packet wasn't put, and its octets.
+#[derive(Debug, Drop, Error)]
+#[error("{fault}")]
+pub struct PutError {
+    /// The reason, `Memory`.
+    pub fault: LinkFault,
+    /// The octets that were to be put.
+    pub octets: Octets,
+}
+
+impl Link {
+    /// An empty link, and four empty hands. The only error is want of memory.
+    pub fn new(alloc: Global) -> Result<Link, AllocError>
+        ensures { IfOk result (λ l. l.at ≡ empty_link) }
+    {
+        Ok(Link {
+            packets: Vec::with_capacity(alloc, FIRST_ROOM)?,
+            hands: Hands::empty(),
+        })
+    }
+
+    /// How many packets were put, lost ones among them.
+    pub fn packets(&self) -> u64
+        ensures { result ≡ length self.now.at.packets }
+    {
+        self.packets.len() as u64
+    }
+
+    /// The octets of the packet numbered `n`, lost or not. `None` where no packet has that number.
+    pub fn packet(&self, n: u64) -> Option<&[u8]>
+        ensures value { option_copied result ≡ octets_at self.now.at n }
+        ensures some { IsSome result ↔ (n < length self.now.at.packets) }
+    {
+        self.packets
+            .get(n as usize)
+            .map(|packet| packet.octets.as_slice())
+    }
+
+    /// Whether the link holds the packet numbered `n`.
+    pub fn is_held(&self, n: u64) -> bool
+        ensures { result ≡ is_held self.now.at n }
+    {
+        self.packets
+            .get(n as usize)
+            .is_some_and(|packet| packet.held)
+    }
+
+    /// The number of the packet in the lane's hand. The packet goes in the lane's direction.
+    pub fn hand(&self, lane: Lane) -> Option<u64>
+        ensures value { result ≡ hand_of self.now.at lane }
+        ensures numbered { IfSome result (IsNumberOf self.now.at (lane_direction lane)) }
+    {
+        self.hands.of(lane)
+    }
+
+    /// Whether a held packet, or one in a hand, is a part of this transaction: it goes in this
+    /// direction and was put with this tag. A packet in a hand counts even if it was lost since.
+    pub fn holds(&self, direction: Direction, id: Name) -> bool
+        ensures { result ≡ holds self.now.at direction id }
+    {
+        self.any_held(direction, id) || self.any_in_hand(direction, id)
+    }
+
+    /// Makes room for `n` packets more, so that so many can be put without taking memory.
+    ///
+    /// Errors: want of memory alone. Then nothing has changed.
+    pub fn reserve(&mut self, n: u64) -> Result<(), AllocError>
+        ensures ok { OnOk result (n ≤ self.new.spare) }
+        ensures same { self.new.at ≡ self.old.at }
+        ensures spare { self.old.spare ≤ self.new.spare }
+    {
+        self.packets.reserve(n as usize)
+    }
+
+    /// Puts a packet on the link, which holds it from now on. The result is its number: how many
+    /// were put before. `tag` is the identifier of the transaction that it is a part of, or `None`.
+    ///
+    /// It takes the room of one packet.
+    /// Errors: `Memory`, with the octets. Then nothing has changed. With spare room it never comes.
+    pub fn put(
+        &mut self,
+        direction: Direction,
+        tag: Option<Name>,
+        octets: Octets,
+    ) -> Result<u64, PutError>
+        ensures number { IfOk result (λ n. n ≡ length self.old.at.packets) }
+        ensures ok { OnOk result (self.new.at ≡ after_put self.old.at direction tag octets) }
+        ensures room { 0 < self.old.spare → IsOk result }
+        ensures spare { self.old.spare ≤ self.new.spare + 1 }
+        ensures err { OnErr result (self.new.at ≡ self.old.at) }
+        ensures memory { IfErr result (λ e. (e.fault ≡ LinkFault.Memory) × (e.octets ≡ octets)) }
+    {
+        let number = self.packets.len() as u64;
+        let packet = LinkPacket {
+            direction,
+            tag,
+            octets,
+            held: true,
+        };
+        match self.packets.push(packet) {
+            Ok(()) => Ok(number),
+            Err(failed) => Err(PutError {
+                fault: LinkFault::Memory,
+                octets: failed.value.octets,
+            }),
+        }
+    }
+
+    /// Loses the packet numbered `n`: the link holds it no more. Its octets stay readable, and it
+    /// stays in the hands that it is in.
+    ///
+    /// Errors: `NotHeld`, the link doesn't hold it. Then nothing has changed.
+    pub fn lose(&mut self, n: u64) -> Result<(), LinkFault>
+        ensures ok { OnOk result (self.new.at ≡ after_lose self.old.at n) }
+        ensures spare { self.new.spare ≡ self.old.spare }
+        ensures refused { result_err result ≡ refusal_lose self.old.at n }
+        ensures err { OnErr result (self.new.at ≡ self.old.at) }
+    {
+        if !self.is_held(n) {
+            return Err(LinkFault::NotHeld);
+        }
+        self.packets[n as usize].held = false;
+        Ok(())
+    }
+
+    /// Takes the packet numbered `n` into the lane's hand. It stays held.
+    ///
+    /// Errors, the first that applies: `HandFull`, the hand has a packet; `NotHeld`, the link
+    /// doesn't hold the packet, or it goes in the other direction. Then nothing has changed.
+    pub fn take(&mut self, lane: Lane, n: u64) -> Result<(), LinkFault>
+        ensures ok { OnOk result (self.new.at ≡ after_take self.old.at lane n) }
+        ensures spare { self.new.spare ≡ self.old.spare }
+        ensures refused { result_err result ≡ refusal_take self.old.at lane n }
+        ensures err { OnErr result (self.new.at ≡ self.old.at) }
+    {
+        if self.hand(lane).is_some() {
+            return Err(LinkFault::HandFull);
+        }
+        if !self.is_held_for(lane.direction(), n) {
+            return Err(LinkFault::NotHeld);
+        }
+        self.hands.put(lane, Some(n));
+        Ok(())
+    }
+
+    /// Empties the lane's hand. The result is the number of the packet that it had.
+    ///
+    /// Errors: `HandEmpty`, it has none. Then nothing has changed.
+    pub fn drop_hand(&mut self, lane: Lane) -> Result<u64, LinkFault>
+        ensures number { IfOk result (λ n. hand_of self.old.at lane ≡ Some n) }
+        ensures ok { OnOk result (self.new.at ≡ after_drop self.old.at lane) }
+        ensures spare { self.new.spare ≡ self.old.spare }
+        ensures refused { result_err result ≡ refusal_drop self.old.at lane }
+        ensures err { OnErr result (self.new.at ≡ self.old.at) }
+    {
+        let number = self.hands.of(lane).ok_or(LinkFault::HandEmpty)?;
+        self.hands.put(lane, None);
+        Ok(number)
+    }
+
+    // Whether the link holds the packet numbered `n`, and it goes in this direction.
+    fn is_held_for(&self, direction: Direction, n: u64) -> bool
+        ensures { result ≡ is_held_for self.now.at direction n }
+    {
+        self.packets
+            .get(n as usize)
+            .is_some_and(|packet| packet.held && packet.direction == direction)
+    }
+
+    // Whether the packet in the lane's hand is a part of this transaction.
+    fn hand_has(&self, direction: Direction, id: Name, lane: Lane) -> bool
+        ensures { result ≡ hand_has self.now.at direction id lane }
+    {
+        self.hands
+            .of(lane)
+            .and_then(|n| self.packets.get(n as usize))
+            .is_some_and(|packet| packet.is_of(direction, id))
+    }
+
+    // Whether a held packet is a part of this transaction.
+    fn any_held(&self, direction: Direction, id: Name) -> bool
+        ensures { result ≡ any_held self.now.at direction id }
+    {
+        self.packets
+            .iter()
+            .any(|packet| packet.held && packet.is_of(direction, id))
+    }
+
+    // Whether a packet in a hand is.
+    fn any_in_hand(&self, direction: Direction, id: Name) -> bool
+        ensures { result ≡ any_in_hand self.now.at direction id }
+    {
+        Lane::ALL
+            .iter()
+            .any(|lane| self.hand_has(direction, id, *lane))
+    }
+}

@@ -1,0 +1,29 @@
+//! A packet on the link.
+
+ghost use Rattle.std.specs.Prelude.{◌≡◌};
+
+use lpt_packet::{Direction, Name, Octets};
+
+/// A packet that was put on the link.
+#[derive(Debug, Drop)]
+pub(crate) struct LinkPacket {
+    /// Which way it goes.
+    pub(crate) direction: Direction,
+    /// The identifier of the transaction that it is a part of; `None` where it is no part.
+    pub(crate) tag: Option<Name>,
+    /// Its octets. They stay readable after it is lost.
+    pub(crate) octets: Octets,
+    /// Whether the link still holds it.
+    pub(crate) held: bool,
+}
+
+impl LinkPacket {
+    ghost use Rattle.lpt_link.specs.Links.{is_of};
+
+    // Whether the packet is a part of this transaction.
+    pub(crate) fn is_of(&self, direction: Direction, id: Name) -> bool
+        ensures { result ≡ is_of direction id self.now }
+    {
+        self.direction == direction && self.tag == Some(id)
+    }
+}
