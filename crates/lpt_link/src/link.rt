@@ -1,6 +1,6 @@
 //! The link.
 
-ghost use Rattle.std.specs.Prelude.{◌≡◌, ◌↔◌, ◌+◌, ◌<◌, ◌≤◌, length, IfOk, IfErr, OnOk, OnErr, IsOk, IsSome, IfSome, is_some};
+ghost use Rattle.std.specs.Prelude.{◌≡◌, ◌↔◌, ◌+◌, ◌<◌, ◌≤◌, length, IfOk, IfErr, OnOk, OnErr, IsOk, IsSome, IsTrue, IfNone, IfSome, is_some};
 ghost use Rattle.std.specs.Option.{option_copied};
 ghost use Rattle.std.specs.Result.{result_err};
 ghost use Rattle.lpt_link.specs.Lanes.{lane_direction};
@@ -94,6 +94,30 @@ impl Link {
         self.hands.of(lane)
     }
 
+    /// Why the lane can't take the packet of this number now, the first reason as `take` gives it.
+    pub fn refusal_take(&self, lane: Lane, n: u64) -> Option<LinkFault>
+        ensures value { result ≡ refusal_take self.now.at lane n }
+        ensures held { IfNone result (IsTrue (is_held_for self.now.at (lane_direction lane) n)) }
+    {
+        if self.hand(lane).is_some() {
+            return Some(LinkFault::HandFull);
+        }
+        if !self.is_held_for(lane.direction(), n) {
+            return Some(LinkFault::NotHeld);
+        }
+        None
+    }
+
+    /// Why the lane's hand can't be emptied now, as `drop_hand` gives it.
+    pub fn refusal_drop(&self, lane: Lane) -> Option<LinkFault>
+        ensures { result ≡ refusal_drop self.now.at lane }
+    {
+        match self.hand(lane) {
+            Some(_) => None,
+            None => Some(LinkFault::HandEmpty),
+        }
+    }
+
     /// Whether a held packet, or one in a hand, is a part of this transaction: it goes in this
     /// direction and was put with this tag. A packet in a hand counts even if it was lost since.
     pub fn holds(&self, direction: Direction, id: Name) -> bool
@@ -174,11 +198,8 @@ impl Link {
         ensures refused { result_err result ≡ refusal_take self.old.at lane n }
         ensures err { OnErr result (self.new.at ≡ self.old.at) }
     {
-        if self.hand(lane).is_some() {
-            return Err(LinkFault::HandFull);
-        }
-        if !self.is_held_for(lane.direction(), n) {
-            return Err(LinkFault::NotHeld);
+        if let Some(fault) = self.refusal_take(lane, n) {
+            return Err(fault);
         }
         self.hands.put(lane, Some(n));
         Ok(())
