@@ -1,0 +1,13 @@
+pub mod AddLemmas
+pub mod CutLemmas
+pub mod EntryLemmas
+pub mod KeptLemmas
+pub mod ListLemmas
+pub mod MessageLemmas
+pub mod PairLemmas
+pub mod ReceptionLemmas
+pub mod RunLemmas
+pub mod SetLemmas
+pub mod StartLemmas
+pub mod TestLemmas
+pub mod WholeLemmas

@@ -1,0 +1,6 @@
+-- The reception stays that of transaction 7, for parts of 64 octets.
+use Rattle.std.proofs.Common.{◌≡◌}
+use Rattle.lpt_reception.proofs.tests.the_longest_message_comes_last_part_first.Given as goal
+
+abbrev pub invariant-loop-number : goal.invariant-loop-number
+invariant-loop-number g l = (l.filling.id ≡ 7) × (l.filling.p ≡ 64)
