@@ -1,0 +1,5 @@
+mod DueLemmas
+mod ListingLemmas
+mod MapLemmas
+mod OfferLemmas
+mod PlaceLemmas

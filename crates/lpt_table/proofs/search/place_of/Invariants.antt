@@ -1,0 +1,10 @@
+use Rattle.std.proofs.Common.{◌≡◌, drop, nat_cmp}
+use Rattle.lpt_table.specs.EntriesOf.{entries_of}
+use Rattle.lpt_table.specs.Places.{place, later}
+use Rattle.lpt_table.proofs.search.place_of.Given as goal
+
+-- the place among all is the place among those that are left, so much later
+abbrev pub invariant-loop-at : goal.invariant-loop-at
+invariant-loop-at l =
+    place nat_cmp l.id (entries_of l.entries)
+    ≡ later l.at (place nat_cmp l.id (entries_of (drop l.at l.entries)))

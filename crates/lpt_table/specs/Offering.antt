@@ -1,0 +1,74 @@
+-- What a table makes of a part that is offered to it.
+use Rattle.std.specs.Prelude.{◌≡◌, ℕ, Bool, if◌then◌else◌, not, ◌&&◌, nat_le, Option, Some, None, is_some}
+use Rattle.std.specs.Option.{option_map}
+use Rattle.std.specs.FinMap as map
+use Rattle.lpt_packet.specs.Names.{Name}
+use Rattle.lpt_reception.specs.Received.{Kept as KeptPart, Parts, Received, no_parts, with_part, contradicts, is_whole}
+use Rattle.lpt_table.specs.Tables.{TableEntry, TableState}
+
+-- whether a reception of this name is open
+abbrev pub is_open : TableState → Name → Bool
+is_open t id = is_some (map.get t.entries id)
+
+-- whether no reception of this name is open and as many are open as the limit
+abbrev pub is_full : TableState → Name → Bool
+is_full t id = not (is_open t id) && nat_le t.limit (map.len t.entries)
+
+-- the parts of a reception, or none
+abbrev pub parts_of : Option TableEntry → Parts
+parts_of None = no_parts
+parts_of (Some e) = e.parts
+
+-- the parts that are kept under a name
+abbrev pub parts_at : TableState → Name → Parts
+parts_at t id = parts_of (map.get t.entries id)
+
+-- what is kept under a name
+abbrev pub received_at : TableState → Name → Received
+received_at t id = record { id = id; p = t.p; parts = parts_at t id }
+
+-- these parts are kept under a name, and this is their last tick
+abbrev pub with_entry : TableState → Name → Parts → ℕ → TableState
+with_entry t id parts last =
+    record t { entries = map.insert t.entries id (record { parts = parts; last = last }) }
+
+-- the reception of a name is taken out, and its last tick is remembered
+pub record TakesOut (old new : TableState) (id : Name) : Type 0 where
+  pub entry : TableEntry
+  pub was : map.get old.entries id ≡ Some entry
+  pub now : new ≡ record old { entries = map.remove old.entries id; out = Some (id, entry.last) }
+
+-- the last tick of the reception that is out, and 0 where none is, which no call reads
+abbrev pub last_out : Option (Name × ℕ) → ℕ
+last_out None = 0
+last_out (Some o) = o.1
+
+-- the reception that is out is put back under its old last tick
+abbrev pub put_back : TableState → Received → TableState
+put_back t s = record (with_entry t s.id s.parts (last_out t.out)) { out = None }
+
+-- what an offer comes to, want of memory aside
+pub data OfferKind : Type 0 where
+  Kept : OfferKind
+  Again : OfferKind
+  Whole : OfferKind
+  Conflict : OfferKind
+  NoRoom : OfferKind
+
+-- the reception of a name, if one is open, is taken out, and its last tick is remembered
+abbrev pub taken_out : TableState → Name → TableState
+taken_out t id =
+    record t {
+      entries = map.remove t.entries id;
+      out = option_map (λ e. (id, e.last)) (map.get t.entries id);
+    }
+
+-- what an offer of part n of a transaction comes to, and what it makes of the table, where there is
+-- memory for the part
+unfoldable pub offered : TableState → Name → ℕ → KeptPart → ℕ → OfferKind × TableState
+offered t id n x now =
+    if is_full t id then (NoRoom, t)
+    else if contradicts (parts_at t id) n x then (Conflict, taken_out t id)
+    else if is_some (map.get (parts_at t id) n) then (Again, with_entry t id (parts_at t id) now)
+    else if is_whole (with_part (parts_at t id) n x) then (Whole, taken_out t id)
+    else (Kept, with_entry t id (with_part (parts_at t id) n x) now)

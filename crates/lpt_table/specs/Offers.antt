@@ -1,0 +1,56 @@
+-- What an offer of a part answers.
+use Rattle.std.specs.Prelude.{◌≡◌, ℕ, true, false, Option, Some, None}
+use Rattle.lpt_packet.specs.Names.{Name}
+use Rattle.lpt_reception.specs.declared.step.Step.TheVariants as step
+use Rattle.lpt_reception.specs.Answers.{Answers}
+use Rattle.lpt_reception.specs.Received.{Kept as KeptPart, with_part}
+use Rattle.lpt_table.specs.declared.offer.Offer.{Offer}
+use Rattle.lpt_table.specs.declared.offer.Offer.TheVariants.{Kept, Again, Whole, Conflict, NoRoom, Memory}
+use Rattle.lpt_table.specs.Offering as kind
+use Rattle.lpt_table.specs.Tables.{TableState}
+use Rattle.lpt_table.specs.Offering.{OfferKind, is_full, parts_at, received_at, with_entry, TakesOut}
+
+-- what an offer of part n of a transaction answers, and what it makes of the table: no room where
+-- the table is full, else as the reception answers; a part that is kept, or was kept, sets the last
+-- tick, and a reception that is whole or broken off is taken out
+abbrev pub Offers : TableState → Name → ℕ → KeptPart → ℕ → Offer → TableState → Type 0
+Offers old id n x now NoRoom new = (is_full old id ≡ true) × (new ≡ old)
+Offers old id n x now Kept new =
+    (is_full old id ≡ false)
+    × Answers (received_at old id) n x
+    (step.Filling (record (received_at old id) { parts = with_part (parts_at old id) n x }))
+    × (new ≡ with_entry old id (with_part (parts_at old id) n x) now)
+Offers old id n x now Again new =
+    (is_full old id ≡ false)
+    × Answers (received_at old id) n x (step.Again (received_at old id))
+    × (new ≡ with_entry old id (parts_at old id) now)
+Offers old id n x now (Whole w) new =
+    (is_full old id ≡ false)
+    × Answers (received_at old id) n x (step.Whole w)
+    × TakesOut old new id
+Offers old id n x now (Conflict b) new =
+    (is_full old id ≡ false)
+    × Answers (received_at old id) n x (step.Conflict b)
+    × TakesOut old new id
+Offers old id n x now Memory new =
+    (is_full old id ≡ false)
+    × Answers (received_at old id) n x (step.NoMemory (received_at old id))
+    × (new ≡ old)
+
+-- what comes out is of this name and part size
+abbrev pub Its : Name → ℕ → Offer → Type 0
+Its id p Kept = Unit {0}
+Its id p Again = Unit {0}
+Its id p (Whole w) = (w.before.id ≡ id) × (w.before.p ≡ p)
+Its id p (Conflict b) = (b.before.id ≡ id) × (b.before.p ≡ p)
+Its id p NoRoom = Unit {0}
+Its id p Memory = Unit {0}
+
+-- what the offer came to, unless there was no memory
+abbrev pub kind_of : Offer → Option OfferKind
+kind_of Kept = Some kind.Kept
+kind_of Again = Some kind.Again
+kind_of (Whole w) = Some kind.Whole
+kind_of (Conflict b) = Some kind.Conflict
+kind_of NoRoom = Some kind.NoRoom
+kind_of Memory = None

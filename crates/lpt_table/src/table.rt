@@ -1,0 +1,241 @@
+//! The table of open receptions.
+
+ghost use Rattle.std.specs.Prelude.{◌≡◌, ◌<◌, IfOk, IfSome, IsSomeAnd, None, Some};
+ghost use Rattle.std.specs.FinMap as map;
+ghost use Rattle.lpt_table.specs.Deadlines.{IsDue, due_of};
+ghost use Rattle.lpt_table.specs.EntryLists.{IsWithout};
+ghost use Rattle.lpt_table.specs.Offering.{is_open, offered, put_back, with_entry};
+ghost use Rattle.lpt_table.specs.Tables.{TableState, no_receptions};
+
+use crate::Offer;
+use crate::entries::{Entry, EntryList};
+use lpt_packet::Name;
+use lpt_part::Part;
+use lpt_reception::{Filling, Step};
+use std::alloc::{AllocError, Global};
+use std::marker::Model;
+
+/// The receptions that are open at one end, up to a limit, and the tick at which each last took a
+/// part.
+///
+/// While a reception is out of the table, between an offer that hands it out and `settle` or
+/// `put_back`, no other call may be made.
+#[derive(Drop)]
+pub struct Table {
+    alloc: Global,
+    receptions: EntryList,
+    timeout: u32,
+    // The name and the last tick of the reception that is out.
+    out: Option<(Name, u32)>,
+}
+
+impl Model for Table {
+    ghost use Rattle.std.specs.Prelude.{◌≤◌, ◌+◌};
+    ghost use Rattle.std.specs.FinMap as map;
+    ghost use Rattle.lpt_table.specs.Tables.{TableState, coded_table_state};
+
+    ghost Value = { TableState };
+
+    ghost coded = { coded_table_state };
+
+    ghost use Rattle.lpt_table.specs.EntryLists.{how_many_out, IsAway};
+
+    ghost view = { λ a. record {
+      limit = a.receptions.limit;
+      timeout = a.timeout;
+      p = a.receptions.p;
+      entries = a.receptions.entries;
+      out = a.out;
+    } };
+
+    ghost invariant = { λ a.
+        (map.len a.receptions.entries + how_many_out a.out ≤ a.receptions.limit)
+        × IsAway a.out a.receptions.entries };
+}
+
+impl Table {
+    ghost use Rattle.lpt_reception.specs.Answers.{kept};
+    ghost use Rattle.lpt_table.specs.Offers.{Offers, Its, kind_of};
+    ghost use Rattle.lpt_table.specs.EntriesOf.{entry_in};
+
+    /// A table with places for `limit` receptions, in which none is open. A reception is overdue
+    /// when it took no part for `timeout` ticks. Parts are of `p` octets. The only error is want of
+    /// memory.
+    pub fn new(alloc: Global, limit: u32, timeout: u32, p: u32) -> Result<Table, AllocError>
+        ensures { IfOk result (λ t. t ≡ no_receptions limit timeout p) }
+    {
+        Ok(Table {
+            alloc,
+            receptions: EntryList::new(alloc, limit, p)?,
+            timeout,
+            out: None,
+        })
+    }
+
+    /// Offers a part to its transaction's reception, and opens one where none is open. `now` is the
+    /// tick at which the part has come; it isn't compared with earlier ticks.
+    ///
+    /// The answer is the first of these that applies: `NoRoom`; `Conflict`; `Again`; `Whole`;
+    /// `Kept`. `Memory` comes in place of the last two alone. A reception that comes out leaves its
+    /// last tick and its place in the table.
+    pub fn offer(&mut self, part: &Part<'_>, now: u32) -> Offer
+        requires p { part.now.p ≡ self.old.p }
+        requires settled { self.old.out ≡ None }
+        ensures answer { Offers self.old part.now.id part.now.number (kept part.now) now
+            result self.new }
+
+        // A reception that comes out may be put back.
+        ensures its { Its part.now.id self.old.p result }
+
+        // The same as a function, want of memory aside.
+        ensures offered { IfSome (kind_of result) (λ k.
+            offered self.old part.now.id part.now.number (kept part.now) now ≡ (k, self.new)) }
+    {
+        match self.receptions.take(part.id) {
+            Some(entry) => self.offer_to(entry, part, now),
+            None => self.offer_first(part, now),
+        }
+    }
+
+    // Offers a part to the reception of its transaction, which was taken out of the list.
+    fn offer_to(&mut self, entry: Entry, part: &Part<'_>, now: u32) -> Offer
+        requires part { part.now.p ≡ self.old.p }
+        requires settled { self.old.out ≡ None }
+        requires named { entry.filling.id ≡ part.now.id }
+        requires of_size { entry.filling.p ≡ self.old.p }
+        requires absent { map.get self.old.entries part.now.id ≡ None }
+        requires room { map.len self.old.entries < self.old.limit }
+        ensures { (t : TableState) → IsWithout t self.old part.now.id (entry_in entry)
+            → Offers t part.now.id part.now.number (kept part.now) now result self.new }
+    {
+        let Entry { filling, last } = entry;
+        match filling.accept(part) {
+            Step::Filling(filling) => {
+                self.keep(filling, now);
+                Offer::Kept
+            }
+            Step::Again(filling) => {
+                self.keep(filling, now);
+                Offer::Again
+            }
+            Step::Whole(whole) => {
+                self.remember(part.id, last);
+                Offer::Whole(whole)
+            }
+            Step::Conflict(broken) => {
+                self.remember(part.id, last);
+                Offer::Conflict(broken)
+            }
+            Step::NoMemory(filling) => {
+                self.keep(filling, last);
+                Offer::Memory
+            }
+        }
+    }
+
+    // Opens a reception with this part.
+    fn offer_first(&mut self, part: &Part<'_>, now: u32) -> Offer
+        requires part { part.now.p ≡ self.old.p }
+        requires settled { self.old.out ≡ None }
+        requires absent { map.get self.old.entries part.now.id ≡ None }
+        ensures { Offers self.old part.now.id part.now.number (kept part.now) now result self.new }
+    {
+        if self.receptions.is_full() {
+            return Offer::NoRoom;
+        }
+        match Filling::start(self.alloc, part, part.p) {
+            Ok(filling) => {
+                self.keep(filling, now);
+                Offer::Kept
+            }
+            Err(AllocError) => Offer::Memory,
+        }
+    }
+
+    // Keeps a reception, for which there is a place, under a last tick.
+    fn keep(&mut self, filling: Filling, last: u32)
+        requires settled { self.old.out ≡ None }
+        requires absent { map.get self.old.entries filling.id ≡ None }
+        requires room { map.len self.old.entries < self.old.limit }
+        requires p { filling.p ≡ self.old.p }
+        ensures { self.new ≡ with_entry self.old filling.id filling.parts last }
+    {
+        self.receptions.put(Entry { filling, last });
+    }
+
+    // Remembers the last tick of a reception that was taken out, and keeps its place.
+    fn remember(&mut self, id: Name, last: u32)
+        requires absent { map.get self.old.entries id ≡ None }
+        requires room { map.len self.old.entries < self.old.limit }
+        ensures { self.new ≡ record self.old { out = Some (id, last) } }
+    {
+        self.out = Some((id, last));
+    }
+
+    /// Gives up the last tick and the place of the reception that is out, which is that of `id`. It
+    /// takes no memory.
+    pub fn settle(&mut self, id: Name)
+        requires out { IsSomeAnd self.old.out (λ o. o.0 ≡ id) }
+        ensures { self.new ≡ record self.old { out = None } }
+    {
+        let _ = id;
+        self.out = None;
+    }
+
+    /// Puts the reception that is out back, as `filling`, under its old last tick. It takes no
+    /// memory.
+    pub fn put_back(&mut self, filling: Filling)
+        requires out { IsSomeAnd self.old.out (λ o. o.0 ≡ filling.id) }
+        requires p { filling.p ≡ self.old.p }
+        ensures { self.new ≡ put_back self.old filling }
+    {
+        if let Some((_, last)) = self.out.take() {
+            self.keep(filling, last);
+        }
+    }
+
+    /// Whether a reception of this name is open.
+    pub fn is_open(&self, id: Name) -> bool
+        requires settled { self.now.out ≡ None }
+        ensures { result ≡ is_open self.now id }
+    {
+        self.receptions.contains(id)
+    }
+
+    /// How many receptions are open.
+    pub fn len(&self) -> usize
+        requires settled { self.now.out ≡ None }
+        ensures { result ≡ map.len self.now.entries }
+    {
+        self.receptions.len()
+    }
+
+    /// The name of the overdue reception with the least last tick, and of equal ones the least
+    /// name, or `None` where none is overdue.
+    ///
+    /// A reception is overdue when its last tick and the time-out add up to at most `now`.
+    pub fn due(&self, now: u32) -> Option<Name>
+        requires settled { self.now.out ≡ None }
+        ensures due { IsDue self.now now result }
+        ensures value { result ≡ due_of self.now now }
+    {
+        self.receptions.soonest(self.timeout, now).map(|(id, _)| id)
+    }
+
+    /// Removes the reception of this name, and tells whether there was one.
+    pub fn expire(&mut self, id: Name) -> bool
+        requires settled { self.old.out ≡ None }
+        ensures removed { self.new ≡ record self.old { entries = map.remove self.old.entries id } }
+        ensures was { result ≡ is_open self.old id }
+    {
+        self.receptions.take(id).is_some()
+    }
+
+    /// Removes all receptions.
+    pub fn clear_all(&mut self)
+        requires settled { self.old.out ≡ None }
+        ensures { self.new ≡ record self.old { entries = map.empty } }
+    {
+        self.receptions.clear();
+    }
+}
