@@ -1,0 +1,4 @@
+pub mod ArrivalLemmas
+pub mod BodyLemmas
+pub mod OutgoingLemmas
+pub mod TakenLemmas

@@ -1,0 +1,30 @@
+-- What an end does with a packet that is delivered to it.
+use Rattle.std.specs.Prelude.{◌≡◌, ℕ, List, length, Some, None}
+use Rattle.lpt_node.specs.declared.side.Side.{Side}
+use Rattle.lpt_node.specs.declared.config.Config.{Config}
+use Rattle.lpt_node.specs.declared.accepted.Accepted.{Accepted}
+use Rattle.lpt_node.specs.declared.outcome.Outcome.TheVariants as outcome
+use Rattle.lpt_node.specs.declared.outcome.Why.TheVariants as why
+use Rattle.lpt_node.specs.Arrivals.{Arrival, NotRead, AnIdle, Foreign, ARequest, AReport, NoPart, APart, AnAbort}
+use Rattle.lpt_node.specs.Nodes.{NodeData, NodeView}
+use Rattle.lpt_node.specs.Origins.{Origin}
+use Rattle.lpt_node.specs.Sending.{closed}
+use Rattle.lpt_node.specs.Receiving.{noted, ignored, parted}
+
+-- a packet is delivered: the end after it, and the answer
+abbrev pub accepted : Side → Config → NodeData → Arrival → NodeData × Accepted
+accepted side c d NotRead = (d, ignored why.Unreadable)
+accepted side c d AnIdle = (d, ignored why.Idle)
+accepted side c d Foreign = (d, ignored why.ForeignApid)
+accepted side c d (ARequest b) =
+    (d, record { outcome = outcome.PlainReleased (length b); packet = None; released = Some b })
+accepted side c d (AReport service subtype) = (d, noted (outcome.ReportNoted service subtype))
+accepted side c d NoPart = (d, ignored why.BadPart)
+accepted side c d (AnAbort id reason) = (closed d id, noted (outcome.AbortNoted id reason))
+accepted side c d (APart q) = parted side c d q
+
+-- the packet was read for this end
+pub record IsFor (n : NodeView) (o : Origin) : Type 0 where
+  pub side : o.side ≡ n.side
+  pub apid : o.apid ≡ n.config.apid
+  pub p : o.p ≡ n.config.part_size

@@ -1,0 +1,17 @@
+-- Why a call would be refused now.
+use Rattle.std.specs.Prelude.{Option}
+use Rattle.lpt_node.specs.declared.config.Config.{Config}
+use Rattle.lpt_node.specs.declared.ask.Ask.{Ask}
+use Rattle.lpt_node.specs.declared.ask.Ask.TheVariants.{Open, Send, Finish, Tick, Expire}
+use Rattle.lpt_node.specs.declared.fault.NodeFault.{NodeFault}
+use Rattle.lpt_node.specs.Nodes.{NodeData}
+use Rattle.lpt_node.specs.Sending.{refusal_open, refusal_send, refusal_finish}
+use Rattle.lpt_node.specs.Times.{refusal_tick, refusal_expire}
+
+-- the first reason why the call would be refused, want of memory aside
+abbrev pub refusal_of : Config → NodeData → Ask → Option NodeFault
+refusal_of c d (Open id len) = refusal_open c d id len
+refusal_of c d (Send id k) = refusal_send c d id k
+refusal_of c d (Finish id) = refusal_finish d id
+refusal_of c d Tick = refusal_tick d
+refusal_of c d Expire = refusal_expire c d

@@ -1,0 +1,57 @@
+-- What a parsed packet keeps of what it is: where the body of a part or of an abortion report stands.
+use Rattle.std.specs.Prelude.{◌≡◌, ℕ, ◌+◌, ◌≤◌, List, length, drop}
+use Rattle.lpt_packet.specs.Packets.{Fields, fields_at}
+use Rattle.lpt_part.specs.Splitting.{IsPartSize}
+use Rattle.lpt_part.specs.Parts.{piece}
+use Rattle.lpt_node.specs.declared.side.Side.{Side}
+use Rattle.lpt_node.specs.declared.found.Found.{Found}
+use Rattle.lpt_node.specs.declared.found.Found.TheVariants as found
+use Rattle.lpt_node.specs.declared.found.Sight.{Sight}
+use Rattle.lpt_node.specs.declared.found.Sight.TheVariants as sight
+use Rattle.lpt_node.specs.Arrivals.{Arrival, NotRead, AnIdle, Foreign, ARequest, AReport, NoPart, APart, AnAbort, part_arrival, abort_arrival, packet_arrival, arrival}
+
+-- the body that stands in a packet's data field from a place on
+abbrev pub body_from : List ℕ → ℕ → List ℕ
+body_from b from = drop from (fields_at b).octets
+
+-- what was found, with the body read
+abbrev pub arrival_found : ℕ → List ℕ → Found → Arrival
+arrival_found p b found.Unreadable = NotRead
+arrival_found p b found.Idle = AnIdle
+arrival_found p b found.Foreign = Foreign
+arrival_found p b found.Request = ARequest b
+arrival_found p b (found.Report service subtype) = AReport service subtype
+arrival_found p b (found.Part kind from) = part_arrival p (body_from b from) kind
+arrival_found p b (found.Abort from) = abort_arrival (body_from b from)
+
+-- the body that was found lies within the data field, and a request is no longer than a packet
+abbrev pub IsWithin : List ℕ → Found → Type 0
+IsWithin b found.Unreadable = Unit {0}
+IsWithin b found.Idle = Unit {0}
+IsWithin b found.Foreign = Unit {0}
+IsWithin b found.Request = length b ≤ 65542
+IsWithin b (found.Report service subtype) = Unit {0}
+IsWithin b (found.Part kind from) = from + 8 ≤ length b
+IsWithin b (found.Abort from) = from + 8 ≤ length b
+
+-- this was found in the octets
+pub record IsFound (side : Side) (apid p : ℕ) (b : List ℕ) (f : Found) : Type 0 where
+  pub part_size : IsPartSize p
+  pub within : IsWithin b f
+  pub is : arrival_found p b f ≡ arrival side apid p b
+
+-- this was found in octets that are a packet with these fields, of the configured APID
+pub record IsFoundIn (side : Side) (fields : Fields) (b : List ℕ) (f : Found) : Type 0 where
+  pub within : IsWithin b f
+  pub is : (p : ℕ) → arrival_found p b f ≡ packet_arrival side p b fields
+
+-- what is shown of an arrival, for this part size
+abbrev pub Shows : ℕ → Sight → Arrival → Type 0
+Shows p sight.Unreadable a = a ≡ NotRead
+Shows p sight.Idle a = a ≡ AnIdle
+Shows p sight.Foreign a = a ≡ Foreign
+Shows p (sight.Request octets) a = (a ≡ ARequest octets.now) × (length octets.now ≤ 65542)
+Shows p (sight.Report service subtype) a = a ≡ AReport service subtype
+Shows p sight.BadPart a = a ≡ NoPart
+Shows p (sight.Part part) a = (a ≡ APart (piece part)) × (part.p ≡ p)
+Shows p (sight.Abort id reason) a = a ≡ AnAbort id reason

@@ -1,0 +1,15 @@
+pub mod Accepting
+pub mod Arrivals
+pub mod Asking
+pub mod Codes
+pub mod Counting
+pub mod FaultNames
+pub mod Found
+pub mod MadePackets
+pub mod NodeInside
+pub mod Nodes
+pub mod Origins
+pub mod OutgoingLists
+pub mod Receiving
+pub mod Sending
+pub mod Times

@@ -1,0 +1,79 @@
+-- One end of the link as plain data.
+use Rattle.std.specs.Prelude.{ℕ, ◌<◌, ◌≤◌, Bool, true, false, List, length, Option}
+use Rattle.std.specs.FinMap as map
+use Rattle.std.specs.Ordering.{nat_cmp}
+use Rattle.lpt_packet.specs.declared.direction.Direction.{Direction}
+use Rattle.lpt_packet.specs.declared.direction.Direction.TheVariants.{Up, Down}
+use Rattle.lpt_packet.specs.Names.{Name}
+use Rattle.lpt_part.specs.Splitting.{IsPartSize}
+use Rattle.lpt_ledger.specs.Marks.{Marks}
+use Rattle.lpt_table.specs.Tables.{Entries}
+use Rattle.lpt_node.specs.declared.side.Side.{Side}
+use Rattle.lpt_node.specs.declared.side.Side.TheVariants.{Ground, Craft}
+use Rattle.lpt_node.specs.declared.config.Config.{Config}
+use Rattle.lpt_node.specs.Counting.{no_types}
+
+-- the messages of the open outgoing transactions, by their names
+abbrev pub Messages : Type 0
+Messages = map.FinMap nat_cmp (List ℕ)
+
+-- what an end keeps to send: the state of each name, the open messages, the packet sequence count
+-- and the message type counters
+pub record Sending : Type 0 where
+  pub ledger : Marks
+  pub messages : Messages
+  pub count : ℕ
+  pub types : List ℕ
+
+-- what an end keeps to receive: the state of each name, and the open receptions
+pub record Receiving : Type 0 where
+  pub ledger : Marks
+  pub entries : Entries
+
+-- what changes at one end; the clock is in ticks
+pub record NodeData : Type 0 where
+  pub sending : Sending
+  pub receiving : Receiving
+  pub clock : ℕ
+
+-- one end: which it is, its configuration, and what changes
+pub record NodeView : Type 0 where
+  pub side : Side
+  pub config : Config
+  pub at : NodeData
+
+-- whether a side is the spacecraft
+abbrev pub is_craft : Side → Bool
+is_craft Ground = false
+is_craft Craft = true
+
+-- the direction in which a side sends
+abbrev pub direction_from : Side → Direction
+direction_from Ground = Up
+direction_from Craft = Down
+
+-- lengths that a message may have where a part has p octets
+pub record MessageFits (p len : ℕ) : Type 0 where
+  pub least : p < len
+  pub greatest : len ≤ 65542
+
+-- the configured APID and part size are in their ranges
+pub record IsConfigured (c : Config) : Type 0 where
+  pub apid : c.apid ≤ 2046
+  pub part_size : IsPartSize c.part_size
+
+-- the message of an open outgoing transaction
+abbrev pub message_at : NodeData → Name → Option (List ℕ)
+message_at d id = map.get d.sending.messages id
+
+-- an end at which nothing has happened
+abbrev pub no_data : Config → NodeData
+no_data c = record {
+  sending = record { ledger = map.empty; messages = map.empty; count = 0; types = no_types };
+  receiving = record { ledger = map.empty; entries = map.empty };
+  clock = c.clock;
+}
+
+-- a new end
+abbrev pub new_node : Side → Config → NodeView
+new_node side c = record { side = side; config = c; at = no_data c }

@@ -1,0 +1,15 @@
+-- What a delivered packet was read from.
+use Rattle.std.specs.Prelude.{ℕ, List}
+use Rattle.lpt_node.specs.declared.side.Side.{Side}
+use Rattle.lpt_node.specs.Arrivals.{Arrival, arrival}
+
+-- the octets, and the side, the APID and the part size that they were read for
+pub record Origin : Type 0 where
+  pub octets : List ℕ
+  pub side : Side
+  pub apid : ℕ
+  pub p : ℕ
+
+-- what the octets are
+abbrev pub arrival_from : Origin → Arrival
+arrival_from o = arrival o.side o.apid o.p o.octets

@@ -1,0 +1,121 @@
+-- What an end does with the messages that it sends.
+use Rattle.std.specs.Prelude.{◌≡◌, ℕ, ◌==◌, ◌||◌, nat_le, nat_lt, if◌then◌else◌, List, [], length, Option, Some, None}
+use Rattle.std.specs.FinMap as map
+use Rattle.lpt_packet.specs.Names.{Name}
+use Rattle.lpt_part.specs.declared.kind.Kind.{Kind}
+use Rattle.lpt_part.specs.declared.kind.Kind.TheVariants.{First, Middle, Last}
+use Rattle.lpt_part.specs.Parts.{Piece}
+use Rattle.lpt_part.specs.Splitting.{part_count}
+use Rattle.lpt_ledger.specs.declared.state.State.{State}
+use Rattle.lpt_ledger.specs.declared.state.State.TheVariants.{Free, Open, Closed}
+use Rattle.lpt_ledger.specs.Marks.{Opened, Shut}
+use Rattle.lpt_ledger.specs.States.{state_at}
+use Rattle.lpt_node.specs.declared.side.Side.{Side}
+use Rattle.lpt_node.specs.declared.side.Side.TheVariants.{Ground, Craft}
+use Rattle.lpt_node.specs.declared.config.Config.{Config}
+use Rattle.lpt_node.specs.declared.fault.NodeFault.{NodeFault}
+use Rattle.lpt_node.specs.declared.fault.NodeFault.TheVariants.{InUse, Short, Long, TooMany, NotOpen, NoSuchPart, Memory}
+use Rattle.lpt_node.specs.declared.telemetry.TelemetryKind.{TelemetryKind}
+use Rattle.lpt_node.specs.declared.telemetry.TelemetryKind.TheVariants.{FirstPart, MiddlePart, LastPart}
+use Rattle.lpt_node.specs.Counting.{counter_of, next_count, next_types}
+use Rattle.lpt_node.specs.MadePackets.{nth_part, part_made}
+use Rattle.lpt_node.specs.Nodes.{Sending, NodeData, direction_from, message_at}
+
+-- why a message of this length isn't taken, under a name of this state, where n are open
+abbrev pub refusal_open_in : Config → State → ℕ → ℕ → Option NodeFault
+refusal_open_in c Open n len = Some InUse
+refusal_open_in c Closed n len = Some InUse
+refusal_open_in c Free n len =
+    if nat_le len c.part_size then Some Short
+    else if nat_lt 65542 len then Some Long
+    else if nat_le c.outgoing n then Some TooMany
+    else None
+
+-- why a message of this length isn't taken under this name
+abbrev pub refusal_open : Config → NodeData → Name → ℕ → Option NodeFault
+refusal_open c d id len = refusal_open_in c (state_at d.sending.ledger id) (map.len d.sending.messages) len
+
+-- a message is taken
+abbrev pub opened_in : Sending → Name → List ℕ → Sending
+opened_in s id m = record s { ledger = map.insert s.ledger id Opened; messages = map.insert s.messages id m }
+
+-- the end with a message taken
+abbrev pub opened : NodeData → Name → List ℕ → NodeData
+opened d id m = record d { sending = opened_in d.sending id m }
+
+-- why part k of a message, or of none, isn't sent
+abbrev pub refusal_send_of : Config → ℕ → Option (List ℕ) → Option NodeFault
+refusal_send_of c k None = Some NotOpen
+refusal_send_of c k (Some m) =
+    if (k == 0) || nat_lt (part_count (length m) c.part_size) k then Some NoSuchPart else None
+
+-- why part k of this name's message isn't sent
+abbrev pub refusal_send : Config → NodeData → Name → ℕ → Option NodeFault
+refusal_send c d id k = refusal_send_of c k (message_at d id)
+
+-- the telemetry that carries a part of this kind
+abbrev pub part_telemetry : Kind → TelemetryKind
+part_telemetry First = FirstPart
+part_telemetry Middle = MiddlePart
+part_telemetry Last = LastPart
+
+-- a packet was made
+abbrev pub counted : Sending → Sending
+counted s = record s { count = next_count s.count }
+
+-- telemetry of a kind was made
+abbrev pub counted_kind : Sending → TelemetryKind → Sending
+counted_kind s kind = record s { count = next_count s.count; types = next_types s.types kind }
+
+-- a packet that carries a part of this kind was made
+abbrev pub counted_part : Side → Sending → Kind → Sending
+counted_part Ground s kind = counted s
+counted_part Craft s kind = counted_kind s (part_telemetry kind)
+
+-- the packet that carries a part: a telecommand from ground, telemetry from the spacecraft
+abbrev pub part_packet : Side → Config → NodeData → Piece → List ℕ
+part_packet side c d q =
+    part_made c (direction_from side) d.sending.count (counter_of d.sending.types (part_telemetry q.kind)) d.clock q
+
+-- a part is sent: the end after it, and the packet
+abbrev pub sent_piece : Side → Config → NodeData → Piece → NodeData × List ℕ
+sent_piece side c d q =
+    (record d { sending = counted_part side d.sending q.kind }, part_packet side c d q)
+
+-- part k of a message is sent; of none nothing is, where the call is refused
+abbrev pub sent_of : Side → Config → NodeData → Name → ℕ → Option (List ℕ) → NodeData × List ℕ
+sent_of side c d id k None = (d, [])
+sent_of side c d id k (Some m) = sent_piece side c d (nth_part c.part_size id m k)
+
+-- part k of this name's message is sent
+abbrev pub sent : Side → Config → NodeData → Name → ℕ → NodeData × List ℕ
+sent side c d id k = sent_of side c d id k (message_at d id)
+
+-- why a transaction of this state isn't finished
+abbrev pub refusal_finish_in : State → Option NodeFault
+refusal_finish_in Open = None
+refusal_finish_in Free = Some NotOpen
+refusal_finish_in Closed = Some NotOpen
+
+-- why this name's transaction isn't finished
+abbrev pub refusal_finish : NodeData → Name → Option NodeFault
+refusal_finish d id = refusal_finish_in (state_at d.sending.ledger id)
+
+-- a transaction is closed where its state is open, and its message let go
+abbrev pub closed_by : State → Sending → Name → Sending
+closed_by Open s id = record s { ledger = map.insert s.ledger id Shut; messages = map.remove s.messages id }
+closed_by Free s id = s
+closed_by Closed s id = s
+
+-- a transaction is closed where it is open
+abbrev pub closed_in : Sending → Name → Sending
+closed_in s id = closed_by (state_at s.ledger id) s id
+
+-- the end with an outgoing transaction closed
+abbrev pub closed : NodeData → Name → NodeData
+closed d id = record d { sending = closed_in d.sending id }
+
+-- the fault of a call is why it was refused, or want of memory where nothing refuses it
+abbrev pub RefusedBy : Option NodeFault → NodeFault → Type 0
+RefusedBy (Some g) f = f ≡ g
+RefusedBy None f = f ≡ Memory

@@ -1,0 +1,66 @@
+-- The clock of an end, and what is given up for its age.
+use Rattle.std.specs.Prelude.{ℕ, ◌+◌, ◌==◌, if◌then◌else◌, List, Option, Some, None}
+use Rattle.std.specs.FinMap as map
+use Rattle.lpt_packet.specs.Names.{Name}
+use Rattle.lpt_part.specs.declared.reason.Reason.TheVariants as reason
+use Rattle.lpt_ledger.specs.declared.state.State.{State}
+use Rattle.lpt_ledger.specs.declared.state.State.TheVariants.{Free, Open, Closed}
+use Rattle.lpt_ledger.specs.Marks.{Marks, Shut}
+use Rattle.lpt_ledger.specs.States.{state_at}
+use Rattle.lpt_table.specs.Deadlines.{due_of}
+use Rattle.lpt_node.specs.declared.side.Side.{Side}
+use Rattle.lpt_node.specs.declared.config.Config.{Config}
+use Rattle.lpt_node.specs.declared.expired.Expired.{Expired}
+use Rattle.lpt_node.specs.declared.fault.NodeFault.{NodeFault}
+use Rattle.lpt_node.specs.declared.fault.NodeFault.TheVariants.{ClockEnd, NothingDue}
+use Rattle.lpt_node.specs.Nodes.{NodeData}
+use Rattle.lpt_node.specs.Receiving.{table_of, abort_head, abort_report, with_report}
+
+-- why the clock doesn't tick
+abbrev pub refusal_tick : NodeData → Option NodeFault
+refusal_tick d = if d.clock == 4294967295 then Some ClockEnd else None
+
+-- the end one tick later
+abbrev pub ticked : NodeData → NodeData
+ticked d = record d { clock = d.clock + 1 }
+
+-- the name of the reception that is due
+abbrev pub due : Config → NodeData → Option Name
+due c d = due_of (table_of c d.receiving.entries) d.clock
+
+-- why no reception is given up, where this is due
+abbrev pub refusal_expire_of : Option Name → Option NodeFault
+refusal_expire_of None = Some NothingDue
+refusal_expire_of (Some id) = None
+
+-- why no reception is given up for its age
+abbrev pub refusal_expire : Config → NodeData → Option NodeFault
+refusal_expire c d = refusal_expire_of (due c d)
+
+-- a name is closed where its state is free
+abbrev pub shut_by : State → Marks → Name → Marks
+shut_by Free m id = map.insert m id Shut
+shut_by Open m id = m
+shut_by Closed m id = m
+
+-- the end with the reception of a name given up
+abbrev pub given_up : NodeData → Name → NodeData
+given_up d id = record d {
+  receiving = record {
+    ledger = shut_by (state_at d.receiving.ledger id) d.receiving.ledger id;
+    entries = map.remove d.receiving.entries id;
+  };
+}
+
+-- the reception of a name is given up with this report, or none
+abbrev pub expired_with : NodeData → Name → Option (List ℕ) → NodeData × Expired
+expired_with d id packet = (with_report (given_up d id) packet, record { id = id; packet = packet })
+
+-- the reception that is due is given up; where none is nothing is, and the call is refused
+abbrev pub expired_of : Side → Config → NodeData → Option Name → NodeData × Expired
+expired_of side c d None = (d, record { id = 0; packet = None })
+expired_of side c d (Some id) = expired_with d id (abort_report (abort_head side c d) id reason.Expired)
+
+-- a reception is given up for its age: the end after it, and the answer
+abbrev pub expired : Side → Config → NodeData → NodeData × Expired
+expired side c d = expired_of side c d (due c d)

@@ -1,0 +1,110 @@
+//! Receiving packets.
+
+ghost use Rattle.std.specs.Prelude.{◌≡◌, IfOk, OnErr};
+ghost use Rattle.lpt_part.specs.Parts.{piece};
+ghost use Rattle.lpt_node.specs.Accepting.{accepted, IsFor};
+ghost use Rattle.lpt_node.specs.Origins.{arrival_from};
+ghost use Rattle.lpt_node.specs.Receiving.{ignored, noted, parted};
+
+use crate::found::Sight;
+use crate::taken::Taken;
+use crate::taking::take;
+use crate::{Accepted, Node, Outcome, Parsed, TelemetryKind, Why};
+use lpt_ledger::State;
+use lpt_part::{Part, Reason};
+use std::alloc::AllocError;
+
+impl Node {
+    /// Takes a packet that was delivered to this end, and answers what became of it.
+    ///
+    /// A part is kept until all parts of its message are there; then the message is released. The
+    /// only error is want of memory, and then nothing has changed.
+    pub fn accept(&mut self, parsed: &Parsed) -> Result<Accepted, AllocError>
+        requires { IsFor self.old parsed.now }
+        ensures ok { IfOk result (λ r. (self.new.at, r)
+            ≡ accepted self.old.side self.old.config self.old.at (arrival_from parsed.now)) }
+
+        ensures side { self.new.side ≡ self.old.side }
+        ensures config { self.new.config ≡ self.old.config }
+
+        ensures err { OnErr result (self.new.at ≡ self.old.at) }
+    {
+        match parsed.sight() {
+            Sight::Unreadable => Ok(ignored(Why::Unreadable)),
+            Sight::Idle => Ok(ignored(Why::Idle)),
+            Sight::Foreign => Ok(ignored(Why::ForeignApid)),
+            Sight::Request(octets) => Ok(Accepted {
+                outcome: Outcome::PlainReleased(octets.as_slice().len() as u32),
+                packet: None,
+                released: Some(octets.copy()?),
+            }),
+            Sight::Report(service, subtype) => Ok(noted(Outcome::ReportNoted(service, subtype))),
+            Sight::BadPart => Ok(ignored(Why::BadPart)),
+            Sight::Part(part) => self.accept_part(&part),
+            Sight::Abort(id, reason) => {
+                self.close(id);
+                Ok(noted(Outcome::AbortNoted(id, reason)))
+            }
+        }
+    }
+
+    // Takes a part.
+    fn accept_part(&mut self, part: &Part<'_>) -> Result<Accepted, AllocError>
+        requires { part.now.p ≡ self.old.config.part_size }
+        ensures ok { IfOk result (λ r. (self.new.at, r) ≡ parted self.old.side self.old.config self.old.at (piece part.now)) }
+
+        ensures side { self.new.side ≡ self.old.side }
+        ensures config { self.new.config ≡ self.old.config }
+
+        ensures err { OnErr result (self.new.at ≡ self.old.at) }
+    {
+        match self.receivers.state(part.id) {
+            State::Free => {}
+            State::Open => return Ok(ignored(Why::Closed)),
+            State::Closed => return Ok(ignored(Why::Closed)),
+        }
+        let head = self.abort_head();
+        match take(self.alloc, &mut self.table, head, part, self.clock)? {
+            Taken::Kept => Ok(noted(Outcome::Kept(part.id, part.number))),
+            Taken::Again => Ok(noted(Outcome::Again(part.id, part.number))),
+            Taken::NoRoom => Ok(ignored(Why::NoRoom)),
+            Taken::Whole(message) => {
+                let _ = self.receivers.shut(part.id);
+                Ok(Accepted {
+                    outcome: Outcome::Released(part.id, message.as_slice().len() as u32),
+                    packet: None,
+                    released: Some(message),
+                })
+            }
+            Taken::Broken(packet) => {
+                let _ = self.receivers.shut(part.id);
+                if packet.is_some() {
+                    self.counts.step_kind(TelemetryKind::Abort);
+                }
+                Ok(Accepted {
+                    outcome: Outcome::Broken(part.id, Reason::Conflict),
+                    packet,
+                    released: None,
+                })
+            }
+        }
+    }
+}
+
+// An outcome alone.
+fn noted(outcome: Outcome) -> Accepted
+    ensures { result ≡ noted outcome }
+{
+    Accepted {
+        outcome,
+        packet: None,
+        released: None,
+    }
+}
+
+// Nothing was made of a packet.
+fn ignored(why: Why) -> Accepted
+    ensures { result ≡ ignored why }
+{
+    noted(Outcome::Ignored(why))
+}

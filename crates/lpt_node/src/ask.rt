@@ -1,0 +1,18 @@
+//! What a node can be asked to do.
+
+use lpt_packet::Name;
+
+/// A call of a node, as far as its refusal depends on it.
+#[derive(Clone, Copy, Debug, PartialEq, Eq)]
+pub enum Ask {
+    /// To open a message of this name and of so many octets.
+    Open(Name, usize),
+    /// To send the part of this number of the open message of this name.
+    Send(Name, u16),
+    /// To finish the outgoing transaction of this name.
+    Finish(Name),
+    /// To set the clock one tick on.
+    Tick,
+    /// To give the reception up that is due.
+    Expire,
+}

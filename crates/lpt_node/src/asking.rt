@@ -1,0 +1,102 @@
+//! Why a node would refuse a call.
+
+ghost use Rattle.std.specs.Prelude.{◌≡◌, IfNone};
+ghost use Rattle.lpt_node.specs.Asking.{refusal_of};
+ghost use Rattle.lpt_node.specs.Nodes.{MessageFits};
+ghost use Rattle.lpt_node.specs.Sending.{refusal_open, refusal_send, refusal_finish};
+ghost use Rattle.lpt_node.specs.Times.{refusal_tick, refusal_expire};
+
+use crate::{Ask, Node, NodeFault};
+use lpt_ledger::State;
+use lpt_packet::Name;
+use lpt_part::count;
+
+/// The most octets that a message has: those of the longest space packet.
+const LONGEST_MESSAGE: usize = 65542;
+
+impl Node {
+    /// The first reason why this call would be refused now, or `None` where only want of memory
+    /// can stop it.
+    pub fn refusal(&self, ask: &Ask) -> Option<NodeFault>
+        ensures { result ≡ refusal_of self.now.config self.now.at ask.now }
+    {
+        match *ask {
+            Ask::Open(id, length) => self.refusal_open(id, length),
+            Ask::Send(id, k) => self.refusal_send(id, k),
+            Ask::Finish(id) => self.refusal_finish(id),
+            Ask::Tick => self.refusal_tick(),
+            Ask::Expire => self.refusal_expire(),
+        }
+    }
+
+    // Why a message of this length isn't opened under this name.
+    pub(crate) fn refusal_open(&self, id: Name, length: usize) -> Option<NodeFault>
+        ensures value { result ≡ refusal_open self.now.config self.now.at id length }
+        ensures fits { IfNone result (MessageFits self.now.config.part_size length) }
+    {
+        match self.senders.state(id) {
+            State::Free => {}
+            State::Open => return Some(NodeFault::InUse),
+            State::Closed => return Some(NodeFault::InUse),
+        }
+        if length <= self.config.part_size as usize {
+            return Some(NodeFault::Short);
+        }
+        if length > LONGEST_MESSAGE {
+            return Some(NodeFault::Long);
+        }
+        if self.outgoing.len() >= self.config.outgoing as usize {
+            return Some(NodeFault::TooMany);
+        }
+        None
+    }
+
+    // Why part k of the message of this name isn't sent.
+    pub(crate) fn refusal_send(&self, id: Name, k: u16) -> Option<NodeFault>
+        ensures { result ≡ refusal_send self.now.config self.now.at id k }
+    {
+        let p = self.config.part_size;
+        match self.outgoing.get(id) {
+            None => Some(NodeFault::NotOpen),
+            Some(message) => {
+                if k == 0 || u32::from(k) > count(message.len() as u32, p) {
+                    Some(NodeFault::NoSuchPart)
+                } else {
+                    None
+                }
+            }
+        }
+    }
+
+    // Why the outgoing transaction of this name isn't finished.
+    pub(crate) fn refusal_finish(&self, id: Name) -> Option<NodeFault>
+        ensures { result ≡ refusal_finish self.now.at id }
+    {
+        match self.senders.state(id) {
+            State::Open => None,
+            State::Free => Some(NodeFault::NotOpen),
+            State::Closed => Some(NodeFault::NotOpen),
+        }
+    }
+
+    // Why the clock doesn't tick.
+    fn refusal_tick(&self) -> Option<NodeFault>
+        ensures { result ≡ refusal_tick self.now.at }
+    {
+        if self.clock == u32::MAX {
+            Some(NodeFault::ClockEnd)
+        } else {
+            None
+        }
+    }
+
+    // Why no reception is given up for its age.
+    fn refusal_expire(&self) -> Option<NodeFault>
+        ensures { result ≡ refusal_expire self.now.config self.now.at }
+    {
+        match self.table.due(self.clock) {
+            None => Some(NodeFault::NothingDue),
+            Some(_) => None,
+        }
+    }
+}

@@ -1,0 +1,46 @@
+//! What was found in a packet's octets.
+
+use lpt_packet::{Name, Octets};
+use lpt_part::{Kind, Part, Reason};
+
+/// What was found in a packet's octets. Of a part and of an abortion report it is the place in the
+/// packet's data field from which the body stands.
+#[derive(Clone, Copy, Debug)]
+pub(crate) enum Found {
+    /// No packet of the kind that comes to this side.
+    Unreadable,
+    /// An idle packet.
+    Idle,
+    /// A packet of another APID.
+    Foreign,
+    /// A telecommand that carries no part.
+    Request,
+    /// Telemetry of this service type and message subtype that is neither of the next two.
+    Report(u8, u8),
+    /// A message that is to carry a part of this kind.
+    Part(Kind, usize),
+    /// A report that a reception was broken off.
+    Abort(usize),
+}
+
+/// What a parsed packet shows.
+#[derive(Clone, Copy, Debug)]
+pub(crate) enum Sight<'a> {
+    /// No packet of the kind that comes to this side.
+    Unreadable,
+    /// An idle packet.
+    Idle,
+    /// A packet of another APID.
+    Foreign,
+    /// A telecommand that carries no part: the whole packet.
+    Request(&'a Octets),
+    /// Telemetry of this service type and message subtype that is neither a part nor the report
+    /// of an abortion.
+    Report(u8, u8),
+    /// A part or a report of an abortion whose body isn't read.
+    BadPart,
+    /// A part.
+    Part(Part<'a>),
+    /// A report that the reception of this name was broken off, for this reason.
+    Abort(Name, Reason),
+}

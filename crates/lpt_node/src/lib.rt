@@ -1,0 +1,39 @@
+//! One end of the link: what it sends, what it keeps of what it receives, and what it refuses.
+//!
+//! A node sends large messages in parts (ECSS-E-ST-70-41C, large packet transfer), each part in a
+//! space packet, and joins the parts that are delivered to it. Ground sends telecommands and
+//! receives telemetry, the spacecraft the other way round. A node is seen as plain data, and each
+//! call as one function of it.
+#![tactic(auto)]
+
+mod accepted;
+mod accepting;
+mod ask;
+mod asking;
+mod config;
+mod counts;
+mod expired;
+mod fault;
+mod found;
+mod making;
+mod node;
+mod outcome;
+mod outgoing;
+mod parsed;
+mod sending;
+mod side;
+mod taken;
+mod taking;
+mod telemetry;
+mod timing;
+
+pub use accepted::Accepted;
+pub use ask::Ask;
+pub use config::Config;
+pub use expired::Expired;
+pub use fault::NodeFault;
+pub use node::Node;
+pub use outcome::{Outcome, Why};
+pub use parsed::Parsed;
+pub use side::Side;
+pub use telemetry::TelemetryKind;

@@ -1,0 +1,116 @@
+//! The packets that a node makes.
+
+ghost use Rattle.std.specs.Prelude.{◌≡◌, [], IfOk};
+ghost use Rattle.std.specs.Option.{option_map};
+ghost use Rattle.lpt_part.specs.Parts.{piece};
+ghost use Rattle.lpt_pus.specs.Telemetry.{telemetry};
+ghost use Rattle.lpt_packet.specs.declared.direction.Direction.TheVariants.{Up};
+ghost use Rattle.lpt_node.specs.Arrivals.{part_subtype};
+ghost use Rattle.lpt_node.specs.Counting.{counter_of, service_of, subtype_of};
+ghost use Rattle.lpt_node.specs.MadePackets.{telemetry_made};
+ghost use Rattle.lpt_node.specs.Sending.{part_packet, part_telemetry};
+ghost use Rattle.lpt_node.specs.Receiving.{abort_head, abort_report};
+
+use crate::{Node, Side, TelemetryKind};
+use lpt_packet::{Name, Octets};
+use lpt_part::{Kind, Part, Reason, write_abort, write_part};
+use lpt_pus::{TcHead, TmHead, tc_octets, tm_octets};
+use std::alloc::{AllocError, Global};
+
+/// The service type of large packet transfer.
+const TRANSFER: u8 = 13;
+
+impl Node {
+    // The head of the next telemetry of a kind.
+    fn head(&self, kind: TelemetryKind) -> TmHead
+        ensures { telemetry result []
+            ≡ telemetry_made self.now.config self.now.at.sending.count
+            (counter_of self.now.at.sending.types kind) self.now.at.clock
+            (service_of kind) (subtype_of kind) [] }
+    {
+        TmHead {
+            apid: self.config.apid,
+            count: self.counts.count,
+            status: 0,
+            service: kind.service(),
+            subtype: kind.subtype(),
+            counter: self.counts.counter(kind),
+            destination: self.config.source,
+            time: self.clock,
+        }
+    }
+
+    // The head of the next report of an abortion, which the spacecraft alone makes.
+    pub(crate) fn abort_head(&self) -> Option<TmHead>
+        ensures { option_map (λ h. telemetry h []) result ≡ abort_head self.now.side self.now.config self.now.at }
+    {
+        match self.side {
+            Side::Ground => None,
+            Side::Craft => Some(self.head(TelemetryKind::Abort)),
+        }
+    }
+
+    // The packet that carries a part.
+    pub(crate) fn part_packet(&self, part: &Part<'_>) -> Result<Octets, AllocError>
+        ensures { IfOk result (λ o. o ≡ part_packet self.now.side self.now.config self.now.at (piece part.now)) }
+    {
+        let body = write_part(self.alloc, part)?;
+        match self.side {
+            Side::Ground => {
+                let head = TcHead {
+                    apid: self.config.apid,
+                    count: self.counts.count,
+                    flags: 0,
+                    service: TRANSFER,
+                    subtype: subtype_of_part(part.kind),
+                    source: self.config.source,
+                };
+                tc_octets(self.alloc, &head, body.as_slice())
+            }
+            Side::Craft => {
+                let head = self.head(telemetry_of(part.kind));
+                tm_octets(self.alloc, &head, body.as_slice())
+            }
+        }
+    }
+}
+
+// The subtype of the telecommand that carries a part of this kind.
+fn subtype_of_part(kind: Kind) -> u8
+    ensures { result ≡ part_subtype Up kind }
+{
+    match kind {
+        Kind::First => 9,
+        Kind::Middle => 10,
+        Kind::Last => 11,
+    }
+}
+
+// The telemetry that carries a part of this kind.
+pub(crate) fn telemetry_of(kind: Kind) -> TelemetryKind
+    ensures { result ≡ part_telemetry kind }
+{
+    match kind {
+        Kind::First => TelemetryKind::FirstPart,
+        Kind::Middle => TelemetryKind::MiddlePart,
+        Kind::Last => TelemetryKind::LastPart,
+    }
+}
+
+// The report that a reception was broken off, where reports have a head.
+pub(crate) fn abort_report(
+    alloc: Global,
+    head: Option<TmHead>,
+    id: Name,
+    reason: Reason,
+) -> Result<Option<Octets>, AllocError>
+    ensures { IfOk result (λ o. o ≡ abort_report (option_map (λ h. telemetry h []) head) id reason) }
+{
+    match head {
+        None => Ok(None),
+        Some(head) => {
+            let body = write_abort(alloc, id, reason)?;
+            Ok(Some(tm_octets(alloc, &head, body.as_slice())?))
+        }
+    }
+}

@@ -1,0 +1,195 @@
+//! A delivered packet, read before the node that it is for is looked at.
+
+ghost use Rattle.std.specs.Prelude.{◌≡◌, ◌↔◌, ◌+◌, ◌≤◌, ℕ, List, length, Some, IsTrue};
+ghost use Rattle.lpt_packet.specs.Numbers.{IsOctets};
+ghost use Rattle.lpt_packet.specs.Packets.{APacket, fields, seen};
+ghost use Rattle.lpt_part.specs.Splitting.{IsPartSize};
+ghost use Rattle.lpt_packet.specs.declared.direction.Direction.TheVariants.{Up, Down};
+ghost use Rattle.lpt_node.specs.declared.side.Side.TheVariants.{Ground, Craft};
+ghost use Rattle.lpt_node.specs.Arrivals.{carried_kind};
+ghost use Rattle.lpt_node.specs.Origins.{arrival_from};
+ghost use Rattle.lpt_node.specs.Found.{body_from, IsFound, IsFoundIn, Shows};
+
+use crate::Side;
+use crate::found::{Found, Sight};
+use lpt_packet::laws::seen_is_read;
+use lpt_packet::{Octets, Packet, Seen, read_packet};
+use lpt_part::{Kind, read_abort, read_part};
+use lpt_pus::laws::bodies;
+use lpt_pus::{read_tc, read_tm};
+use std::marker::Model;
+
+/// The octets of a telecommand's secondary header, behind which its body stands.
+const TC_HEADER: usize = 5;
+
+/// The octets of a telemetry packet's secondary header, behind which its body stands.
+const TM_HEADER: usize = 11;
+
+/// The service type of large packet transfer.
+const TRANSFER: u8 = 13;
+
+/// The message subtype of the report that a reception was broken off.
+const ABORT: u8 = 16;
+
+/// A delivered packet with what it is to an end of the link, so far as that depends on no state.
+#[derive(Debug, Drop)]
+pub struct Parsed {
+    octets: Octets,
+    side: Side,
+    apid: u16,
+    p: u32,
+    found: Found,
+}
+
+impl Model for Parsed {
+    ghost use Rattle.lpt_node.specs.Origins.{Origin};
+    ghost use Rattle.lpt_node.specs.Codes.{coded_origin};
+
+    ghost Value = { Origin };
+
+    ghost coded = { coded_origin };
+
+    ghost use Rattle.lpt_node.specs.Found.{IsFound};
+
+    ghost view = { λ a. record { octets = a.octets; side = a.side; apid = a.apid; p = a.p } };
+
+    ghost invariant = { λ a. IsFound a.side a.apid a.p a.octets a.found };
+}
+
+impl Parsed {
+    /// Reads octets that were delivered to this side, for packets of this APID and parts of `p`
+    /// octets. It takes no memory.
+    pub fn read(octets: Octets, side: Side, apid: u16, p: u32) -> Parsed
+        requires { IsPartSize p }
+        ensures { result ≡ record { octets = octets; side = side; apid = apid; p = p } }
+    {
+        let found = found_in(octets.as_slice(), side, apid);
+        Parsed {
+            octets,
+            side,
+            apid,
+            p,
+            found,
+        }
+    }
+
+    /// Whether it was read from these octets, for this side, APID and part size.
+    pub fn is_of(&self, octets: &[u8], side: Side, apid: u16, p: u32) -> bool
+        ensures { IsTrue result ↔ (self.now ≡ record { octets = octets.now; side = side; apid = apid; p = p }) }
+    {
+        self.octets.as_slice() == octets && self.side == side && self.apid == apid && self.p == p
+    }
+
+    // What it shows.
+    pub(crate) fn sight(&self) -> Sight<'_>
+        ensures { Shows self.now.p result (arrival_from self.now) }
+    {
+        match self.found {
+            Found::Unreadable => Sight::Unreadable,
+            Found::Idle => Sight::Idle,
+            Found::Foreign => Sight::Foreign,
+            Found::Request => Sight::Request(&self.octets),
+            Found::Report(service, subtype) => Sight::Report(service, subtype),
+            Found::Part(kind, from) => {
+                match read_part(kind, body_from(self.octets.as_slice(), from), self.p) {
+                    Ok(part) => Sight::Part(part),
+                    Err(_) => Sight::BadPart,
+                }
+            }
+            Found::Abort(from) => match read_abort(body_from(self.octets.as_slice(), from)) {
+                Ok((id, reason)) => Sight::Abort(id, reason),
+                Err(_) => Sight::BadPart,
+            },
+        }
+    }
+}
+
+// The body that stands in a packet's data field from a place on.
+fn body_from(octets: &[u8], from: usize) -> &[u8]
+    requires { from + 8 ≤ length octets.now }
+    ensures { result.now ≡ body_from octets.now from }
+{
+    let field = &octets[6..octets.len() - 2];
+    &field[from..]
+}
+
+// What octets are to this side.
+fn found_in(octets: &[u8], side: Side, apid: u16) -> Found
+    requires { IsOctets octets.now }
+    ensures { (p : ℕ) → IsPartSize p → IsFound side apid p octets.now result }
+{
+    seen_is_read();
+    match read_packet(octets) {
+        Err(_) => Found::Unreadable,
+        Ok(Seen::Idle) => Found::Idle,
+        Ok(Seen::Packet(packet)) => {
+            if packet.apid != apid {
+                return Found::Foreign;
+            }
+            match side {
+                Side::Craft => found_in_uplink(&packet),
+                Side::Ground => found_in_downlink(&packet),
+            }
+        }
+    }
+}
+
+// What a packet of the configured APID is to the spacecraft.
+fn found_in_uplink(packet: &Packet<'_>) -> Found
+    ensures { (b : List ℕ) → seen b ≡ Some (APacket (fields packet.now))
+        → IsFoundIn Craft (fields packet.now) b result }
+{
+    bodies();
+    let Ok((head, _)) = read_tc(packet) else {
+        return Found::Unreadable;
+    };
+    match carried_up(head.service, head.subtype) {
+        Some(kind) => Found::Part(kind, TC_HEADER),
+        None => Found::Request,
+    }
+}
+
+// What a packet of the configured APID is on ground.
+fn found_in_downlink(packet: &Packet<'_>) -> Found
+    ensures { (b : List ℕ) → seen b ≡ Some (APacket (fields packet.now))
+        → IsFoundIn Ground (fields packet.now) b result }
+{
+    bodies();
+    let Ok((head, _)) = read_tm(packet) else {
+        return Found::Unreadable;
+    };
+    match carried_down(head.service, head.subtype) {
+        Some(kind) => Found::Part(kind, TM_HEADER),
+        None => {
+            if head.service == TRANSFER && head.subtype == ABORT {
+                Found::Abort(TM_HEADER)
+            } else {
+                Found::Report(head.service, head.subtype)
+            }
+        }
+    }
+}
+
+// The kind of part that a telecommand carries.
+fn carried_up(service: u8, subtype: u8) -> Option<Kind>
+    ensures { result ≡ carried_kind Up service subtype }
+{
+    match (service, subtype) {
+        (TRANSFER, 9) => Some(Kind::First),
+        (TRANSFER, 10) => Some(Kind::Middle),
+        (TRANSFER, 11) => Some(Kind::Last),
+        _ => None,
+    }
+}
+
+// The kind of part that telemetry carries.
+fn carried_down(service: u8, subtype: u8) -> Option<Kind>
+    ensures { result ≡ carried_kind Down service subtype }
+{
+    match (service, subtype) {
+        (TRANSFER, 1) => Some(Kind::First),
+        (TRANSFER, 2) => Some(Kind::Middle),
+        (TRANSFER, 3) => Some(Kind::Last),
+        _ => None,
+    }
+}

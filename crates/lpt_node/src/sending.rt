@@ -1,0 +1,140 @@
+//! Sending messages in parts.
+
+ghost use Rattle.std.specs.Prelude.{◌≡◌, ◌≤◌, length, None, Some, IfOk, IfErr, OnOk, OnErr};
+ghost use Rattle.lpt_part.specs.Parts.{piece};
+ghost use Rattle.lpt_part.specs.Splitting.{IsPartSize, part_count};
+ghost use Rattle.lpt_node.specs.MadePackets.{nth_part};
+ghost use Rattle.lpt_node.specs.Nodes.{MessageFits};
+ghost use Rattle.lpt_node.specs.Sending.{refusal_open, opened, refusal_send, sent, refusal_finish, closed, RefusedBy};
+
+use crate::making::telemetry_of;
+use crate::{Node, NodeFault, Side};
+use lpt_packet::{Name, Octets};
+use lpt_part::laws::parts_fit;
+use lpt_part::{Kind, Part, count, slice};
+
+impl Node {
+    /// Takes a message to be sent under a free name.
+    ///
+    /// Errors, with the message handed back and nothing changed, the first that applies: `InUse`,
+    /// the name isn't free; `Short`, the message isn't longer than a part; `Long`, it has more than
+    /// 65,542 octets; `TooMany`, as many messages are open as the limit; `Memory`.
+    pub fn open(&mut self, id: Name, message: Octets) -> Result<(), (NodeFault, Octets)>
+        ensures enabled { OnOk result (refusal_open self.old.config self.old.at id (length message) ≡ None) }
+        ensures ok { OnOk result (self.new.at ≡ opened self.old.at id message) }
+        ensures fits { OnOk result (MessageFits self.old.config.part_size (length message)) }
+
+        ensures side { self.new.side ≡ self.old.side }
+        ensures config { self.new.config ≡ self.old.config }
+
+        ensures refused { IfErr result (λ e. RefusedBy (refusal_open self.old.config self.old.at id (length message)) e.0) }
+        ensures back { IfErr result (λ e. e.1 ≡ message) }
+        ensures err { OnErr result (self.new.at ≡ self.old.at) }
+    {
+        match self.refusal_open(id, message.as_slice().len()) {
+            Some(fault) => return Err((fault, message)),
+            None => {}
+        }
+        match self.outgoing.insert(id, message) {
+            Ok(()) => {}
+            Err(message) => return Err((NodeFault::Memory, message)),
+        }
+        let _ = self.senders.open(id);
+        Ok(())
+    }
+
+    /// Makes the packet that carries part `k` of an open message; parts are counted from 1.
+    ///
+    /// Errors, with nothing changed, the first that applies: `NotOpen`, no message of this name is
+    /// open; `NoSuchPart`, `k` is 0 or greater than the number of parts; `Memory`.
+    pub fn send_part(&mut self, id: Name, k: u16) -> Result<Octets, NodeFault>
+        ensures enabled { OnOk result (refusal_send self.old.config self.old.at id k ≡ None) }
+        ensures ok { IfOk result (λ o. (self.new.at, o) ≡ sent self.old.side self.old.config self.old.at id k) }
+
+        ensures side { self.new.side ≡ self.old.side }
+        ensures config { self.new.config ≡ self.old.config }
+
+        ensures refused { IfErr result (λ e. RefusedBy (refusal_send self.old.config self.old.at id k) e) }
+        ensures err { OnErr result (self.new.at ≡ self.old.at) }
+    {
+        match self.refusal_send(id, k) {
+            Some(fault) => return Err(fault),
+            None => {}
+        }
+        let Some(message) = self.outgoing.get(id) else {
+            return Err(NodeFault::NotOpen);
+        };
+        let part = part_at(message, self.config.part_size, id, k);
+        let kind = part.kind;
+        let Ok(packet) = self.part_packet(&part) else {
+            return Err(NodeFault::Memory);
+        };
+        match self.side {
+            Side::Ground => self.counts.step(),
+            Side::Craft => self.counts.step_kind(telemetry_of(kind)),
+        }
+        Ok(packet)
+    }
+
+    /// Closes an open outgoing transaction and lets its message go.
+    ///
+    /// Errors: `NotOpen` where none of this name is open. Nothing has changed then.
+    pub fn finish(&mut self, id: Name) -> Result<(), NodeFault>
+        ensures enabled { OnOk result (refusal_finish self.old.at id ≡ None) }
+        ensures ok { OnOk result (self.new.at ≡ closed self.old.at id) }
+
+        ensures side { self.new.side ≡ self.old.side }
+        ensures config { self.new.config ≡ self.old.config }
+
+        ensures refused { IfErr result (λ e. refusal_finish self.old.at id ≡ Some e) }
+        ensures err { OnErr result (self.new.at ≡ self.old.at) }
+    {
+        match self.refusal_finish(id) {
+            Some(fault) => return Err(fault),
+            None => {}
+        }
+        self.close(id);
+        Ok(())
+    }
+
+    // Closes an outgoing transaction where it is open.
+    pub(crate) fn close(&mut self, id: Name)
+        ensures at { self.new.at ≡ closed self.old.at id }
+        ensures side { self.new.side ≡ self.old.side }
+        ensures config { self.new.config ≡ self.old.config }
+    {
+        match self.senders.close(id) {
+            Ok(()) => self.outgoing.remove(id),
+            Err(_) => {}
+        }
+    }
+}
+
+// Part k of a message that has as many.
+fn part_at(message: &[u8], p: u32, id: Name, k: u16) -> Part<'_>
+    requires part_size { IsPartSize p }
+    requires fits { MessageFits p (length message.now) }
+    requires some { 1 ≤ k }
+    requires within { k ≤ part_count (length message.now) p }
+    ensures { piece result ≡ nth_part p id message.now k }
+{
+    parts_fit();
+    let total = count(message.len() as u32, p);
+    let kind = if k == 1 {
+        Kind::First
+    } else if u32::from(k) == total {
+        Kind::Last
+    } else {
+        Kind::Middle
+    };
+    let Some(octets) = slice(message, p, u32::from(k)) else {
+        unreachable!();
+    };
+    Part {
+        id,
+        number: k,
+        kind,
+        octets,
+        p,
+    }
+}

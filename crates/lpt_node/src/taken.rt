@@ -1,0 +1,18 @@
+//! What the open receptions make of a part.
+
+use lpt_packet::Octets;
+
+/// What the open receptions make of a part.
+#[derive(Drop)]
+pub(crate) enum Taken {
+    /// It was added.
+    Kept,
+    /// It had been kept before.
+    Again,
+    /// As many receptions are open as the limit, and none of its transaction.
+    NoRoom,
+    /// With it the message is whole.
+    Whole(Octets),
+    /// It broke the reception off. The spacecraft has a report of it to send.
+    Broken(Option<Octets>),
+}

@@ -1,0 +1,62 @@
+//! The clock, and receptions that took no part for too long.
+
+ghost use Rattle.std.specs.Prelude.{◌≡◌, None, Some, IfOk, IfErr, OnOk, OnErr};
+ghost use Rattle.lpt_node.specs.Sending.{RefusedBy};
+ghost use Rattle.lpt_node.specs.Times.{refusal_tick, ticked, refusal_expire, expired};
+
+use crate::making::abort_report;
+use crate::{Expired, Node, NodeFault, TelemetryKind};
+use lpt_part::Reason;
+
+impl Node {
+    /// Sets the clock one tick on.
+    ///
+    /// Errors: `ClockEnd` where it is at its greatest value. Nothing has changed then.
+    pub fn tick(&mut self) -> Result<(), NodeFault>
+        ensures enabled { OnOk result (refusal_tick self.old.at ≡ None) }
+        ensures ok { OnOk result (self.new.at ≡ ticked self.old.at) }
+
+        ensures side { self.new.side ≡ self.old.side }
+        ensures config { self.new.config ≡ self.old.config }
+
+        ensures refused { IfErr result (λ e. refusal_tick self.old.at ≡ Some e) }
+        ensures err { OnErr result (self.new.at ≡ self.old.at) }
+    {
+        if self.clock == u32::MAX {
+            return Err(NodeFault::ClockEnd);
+        }
+        self.clock += 1;
+        Ok(())
+    }
+
+    /// Gives the reception up that is due: of those that took no part for as long as the time-out,
+    /// the one that has waited longest, and of equal ones the one with the least name. The
+    /// spacecraft makes a report of it.
+    ///
+    /// Errors, with nothing changed, the first that applies: `NothingDue`, no reception is overdue;
+    /// `Memory`.
+    pub fn expire(&mut self) -> Result<Expired, NodeFault>
+        ensures enabled { OnOk result (refusal_expire self.old.config self.old.at ≡ None) }
+        ensures ok { IfOk result (λ r. (self.new.at, r) ≡ expired self.old.side self.old.config self.old.at) }
+
+        ensures side { self.new.side ≡ self.old.side }
+        ensures config { self.new.config ≡ self.old.config }
+
+        ensures refused { IfErr result (λ e. RefusedBy (refusal_expire self.old.config self.old.at) e) }
+        ensures err { OnErr result (self.new.at ≡ self.old.at) }
+    {
+        let Some(id) = self.table.due(self.clock) else {
+            return Err(NodeFault::NothingDue);
+        };
+        let head = self.abort_head();
+        let Ok(packet) = abort_report(self.alloc, head, id, Reason::Expired) else {
+            return Err(NodeFault::Memory);
+        };
+        self.table.expire(id);
+        let _ = self.receivers.shut(id);
+        if packet.is_some() {
+            self.counts.step_kind(TelemetryKind::Abort);
+        }
+        Ok(Expired { id, packet })
+    }
+}
