@@ -1,0 +1,103 @@
+-- Abortion reports: the spacecraft receives none, and on ground one closes the sender of its name.
+use Rattle.std.proofs.Common.{◌≡◌, ◌≢◌, ◌∙◌, ap, sym, subst, refl, ℕ, ◌==◌, Bool, true, false, ◌||◌, if◌then◌else◌, List, Option, Some, None}
+use Rattle.std.specs.Option.{option_map_or}
+use Rattle.std.specs.Prelude.{slice_get}
+use Rattle.std.specs.Result.{result_ok}
+use Rattle.std.specs.FinMap as maps
+use Rattle.lpt_packet.specs.declared.direction.Direction.TheVariants.{Up, Down}
+use Rattle.lpt_packet.specs.Names.{Name, same_name}
+use Rattle.lpt_packet.specs.Packets.{Fields, Sight, IdlePacket, APacket, seen}
+use Rattle.lpt_packet.proofs.NameLemmas.{same_name-true}
+use Rattle.lpt_pus.specs.Commands.{Command, tc_verdict}
+use Rattle.lpt_part.specs.declared.kind.Kind.{Kind}
+use Rattle.lpt_part.specs.declared.reason.Reason.{Reason}
+use Rattle.lpt_part.specs.Parts.{Piece, part_in}
+use Rattle.lpt_ledger.specs.Marks.{Mark, Opened, Shut}
+use Rattle.lpt_ledger.specs.States.{state_of, state_at}
+use Rattle.lpt_ledger.specs.declared.state.State.{State}
+use Rattle.lpt_link.specs.declared.lane.Lane.{Lane}
+use Rattle.lpt_link.specs.declared.lane.Lane.TheVariants.{S1, S2, G1, G2}
+use Rattle.lpt_link.specs.Lanes.{lane_direction}
+use Rattle.lpt_node.specs.declared.config.Config.{Config}
+use Rattle.lpt_node.specs.declared.side.Side.TheVariants.{Ground, Craft}
+use Rattle.lpt_node.specs.Arrivals.{Arrival, NotRead, AnIdle, Foreign, ARequest, NoPart, APart, AnAbort, arrival, sight_arrival, packet_arrival, command_arrival, carried_kind, part_arrival}
+use Rattle.lpt_node.specs.Nodes.{Sending}
+use Rattle.lpt_node.specs.Sending.{closed_in, closed_by}
+use Rattle.lpt_world.specs.declared.entry.Opening.{Opening}
+use Rattle.lpt_world.specs.Journal.{History, SentPacket, sent, hand, in_hand, arrival_at, arrival_in}
+use Rattle.lpt_world.specs.Senders.{Sender, FreeSender, OpenSender, ClosedSender, sender, sender_of, current, is_over}
+use Rattle.lpt_world.specs.Shows.{ShowsSending, mark_of, message_of}
+use Rattle.lpt_world.proofs.CountLemmas.{same_name-comm}
+use Rattle.lpt_world.proofs.MapLemmas.{get_insert, get_remove}
+
+-- ---- the spacecraft
+
+part_no_abort : (o : Option Piece) (id : Name) (reason : Reason) → option_map_or APart o NoPart ≢ AnAbort id reason
+part_no_abort None id reason e = absurd cc
+part_no_abort (Some q) id reason e = absurd cc
+
+command_no_abort : (p : ℕ) (b : List ℕ) (body : List ℕ) (o : Option Kind) (id : Name) (reason : Reason) → option_map_or (part_arrival p body) o (ARequest b) ≢ AnAbort id reason
+command_no_abort p b body None id reason e = absurd cc
+command_no_abort p b body (Some kind) id reason e = part_no_abort (part_in p kind body) id reason e
+
+packet_no_abort : (p : ℕ) (b : List ℕ) (o : Option Command) (id : Name) (reason : Reason) → option_map_or (command_arrival p b) o NotRead ≢ AnAbort id reason
+packet_no_abort p b None id reason e = absurd cc
+packet_no_abort p b (Some c) id reason e = command_no_abort p b c.body (carried_kind Up c.service c.subtype) id reason e
+
+sight_no_abort : (apid p : ℕ) (b : List ℕ) (o : Option Sight) (id : Name) (reason : Reason) → sight_arrival Craft apid p b o ≢ AnAbort id reason
+sight_no_abort apid p b None id reason e = absurd cc
+sight_no_abort apid p b (Some IdlePacket) id reason e = absurd cc
+sight_no_abort apid p b (Some (APacket f)) id reason e = go (f.apid == apid) e where
+  go : (t : Bool) → (if t then packet_arrival Craft p b f else Foreign) ≢ AnAbort id reason
+  go true k = packet_no_abort p b (result_ok (tc_verdict f)) id reason k
+  go false k = absurd cc
+
+craft_no_abort : (apid p : ℕ) (b : List ℕ) (id : Name) (reason : Reason) → arrival Craft apid p b ≢ AnAbort id reason
+unfolding arrival
+craft_no_abort apid p b id reason = sight_no_abort apid p b (seen b) id reason
+
+at_no_abort : (c : Config) (o : Option SentPacket) (id : Name) (reason : Reason) → option_map_or (λ p. arrival_in c Up p.octets) o NotRead ≢ AnAbort id reason
+at_no_abort c None id reason e = absurd cc
+at_no_abort c (Some p) id reason e = craft_no_abort c.apid c.part_size p.octets id reason e
+
+-- no abortion report is in the hand of a lane of the spacecraft
+pub in_hand_no_abort : (c : Config) (h : History) (l : Lane) (id : Name) (reason : Reason) → lane_direction l ≡ Up → in_hand c h l ≢ AnAbort id reason
+in_hand_no_abort c h l id reason up e = go (hand h l) (sym (ap (λ d. option_map_or (arrival_at c h d) (hand h l) NotRead) up) ∙ e) where
+  go : (o : Option ℕ) → option_map_or (arrival_at c h Up) o NotRead ≢ AnAbort id reason
+  go None k = absurd cc
+  go (Some n) k = at_no_abort c (slice_get (sent h) n) id reason k
+
+-- ---- ground
+
+-- a report closes the sender of its name where it is open
+closed_by_state : (v : Sending) (h : History) (id : Name) (n : ℕ) → ShowsSending v (sender h Up) n → (o : Option Opening) → current h Up id ≡ o → (t : Bool) → is_over h Up id ≡ t
+    → ShowsSending (closed_by (state_of (mark_of (sender_of o t))) v id) (λ q. sender_of (current h Up q) (same_name id q || is_over h Up q)) n
+closed_by_state v h id n k None e t d = record { ledger = λ q. k.ledger q ∙ ap mark_of (go q (same_name id q) refl); messages = λ q. k.messages q ∙ ap message_of (go q (same_name id q) refl); count = k.count } where
+  go : (q : Name) (u : Bool) → same_name id q ≡ u → sender_of (current h Up q) (is_over h Up q) ≡ sender_of (current h Up q) (u || is_over h Up q)
+  go q false s = refl
+  go q true s = let none : current h Up q ≡ None = ap (λ x. current h Up x) (sym (same_name-true id q s)) ∙ e in ap (λ x. sender_of x (is_over h Up q)) none ∙ sym (ap (λ x. sender_of x true) none)
+closed_by_state v h id n k (Some o) e true d = record { ledger = λ q. k.ledger q ∙ ap mark_of (go q (same_name id q) refl); messages = λ q. k.messages q ∙ ap message_of (go q (same_name id q) refl); count = k.count } where
+  go : (q : Name) (u : Bool) → same_name id q ≡ u → sender_of (current h Up q) (is_over h Up q) ≡ sender_of (current h Up q) (u || is_over h Up q)
+  go q false s = refl
+  go q true s = ap (sender_of (current h Up q)) (ap (λ x. is_over h Up x) (sym (same_name-true id q s)) ∙ d)
+closed_by_state v h id n k (Some o) e false d = record {
+  ledger = λ q. get_insert v.ledger id Shut q ∙ (λ i. if same_name-comm q id i then Some Shut else k.ledger q i) ∙ marks q (same_name id q) refl;
+  messages = λ q. get_remove v.messages id q ∙ (λ i. if same_name-comm q id i then None else k.messages q i) ∙ messages_of q (same_name id q) refl;
+  count = k.count;
+} where
+  some : (q : Name) → same_name id q ≡ true → current h Up q ≡ Some o
+  some q s = ap (λ x. current h Up x) (sym (same_name-true id q s)) ∙ e
+
+  marks : (q : Name) (u : Bool) → same_name id q ≡ u → (if u then Some Shut else mark_of (sender h Up q)) ≡ mark_of (sender_of (current h Up q) (u || is_over h Up q))
+  marks q false s = refl
+  marks q true s = sym (ap (λ x. mark_of (sender_of x true)) (some q s))
+
+  messages_of : (q : Name) (u : Bool) → same_name id q ≡ u → (if u then None else message_of (sender h Up q)) ≡ message_of (sender_of (current h Up q) (u || is_over h Up q))
+  messages_of q false s = refl
+  messages_of q true s = sym (ap (λ x. message_of (sender_of x true)) (some q s))
+
+pub closed_shown : (v : Sending) (h : History) (id : Name) (n : ℕ) → ShowsSending v (sender h Up) n
+    → ShowsSending (closed_in v id) (λ q. sender_of (current h Up q) (same_name id q || is_over h Up q)) n
+closed_shown v h id n k =
+    subst (λ (m : Option Mark). ShowsSending (closed_by (state_of m) v id) (λ q. sender_of (current h Up q) (same_name id q || is_over h Up q)) n) (sym (k.ledger id))
+    (closed_by_state v h id n k (current h Up id) refl (is_over h Up id) refl)

@@ -1,0 +1,11 @@
+-- What a world shows holds.
+use Rattle.std.proofs.Common.{subst}
+use Rattle.lpt_world.specs.Headline.{Holds}
+use Rattle.lpt_world.specs.Worlds.{Shown, history}
+use Rattle.lpt_world.proofs.HeadlineLemmas.{shown_holds}
+use Rattle.lpt_world.proofs.world.World.journal.Goals as goal
+
+pub returns-clause-headline : goal.returns-clause-headline
+returns-clause-headline c =
+    subst (λ (w : Shown). Holds w.config (history w)) c.self.view_is
+    (shown_holds c.self.inside.ends c.self.inside.journal.items c.self.invariant)

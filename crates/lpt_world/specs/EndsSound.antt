@@ -1,0 +1,13 @@
+-- What always holds of the ends: each is of its side, and both have the configuration.
+use Rattle.std.specs.Prelude.{◌≡◌}
+use Rattle.lpt_node.specs.declared.config.Config.{Config}
+use Rattle.lpt_node.specs.declared.side.Side.TheVariants.{Ground, Craft}
+use Rattle.lpt_node.specs.Nodes.{NodeView}
+use Rattle.lpt_world.specs.Replies.{IsConfig}
+
+pub record IsSound (c : Config) (on_ground on_craft : NodeView) : Type 0 where
+  pub configured : IsConfig c
+  pub ground_side : on_ground.side ≡ Ground
+  pub ground_config : on_ground.config ≡ c
+  pub craft_side : on_craft.side ≡ Craft
+  pub craft_config : on_craft.config ≡ c

@@ -1,0 +1,15 @@
+pub mod ConfigFaultNames
+pub mod Delivery
+pub mod EndsInside
+pub mod EndsSound
+pub mod FaultNames
+pub mod Headline
+pub mod Journal
+pub mod Receivers
+pub mod Releases
+pub mod Replies
+pub mod Senders
+pub mod Shows
+pub mod State
+pub mod WorldInside
+pub mod Worlds

@@ -1,0 +1,160 @@
+-- What each event answers, puts and opens, why it is refused, and which journals are legal.
+use Rattle.std.specs.Prelude.{◌≡◌, ℕ, ◌<◌, ◌≤◌, ◌^◌, nat_lt, nat_le, ◌==◌, Bool, not, ◌&&◌, ◌||◌, if◌then◌else◌, List, [], ◌∷◌, length, Option, Some, None, is_some, ⊤}
+use Rattle.lpt_packet.specs.declared.direction.Direction.{Direction}
+use Rattle.lpt_packet.specs.declared.direction.Direction.TheVariants.{Up, Down}
+use Rattle.lpt_packet.specs.Names.{Name}
+use Rattle.lpt_packet.specs.Numbers.{IsOctets}
+use Rattle.lpt_part.specs.declared.reason.Reason.{Reason}
+use Rattle.lpt_part.specs.Parts.{Piece}
+use Rattle.lpt_part.specs.Splitting.{IsPartSize, part_count}
+use Rattle.lpt_link.specs.Lanes.{lane_direction}
+use Rattle.lpt_node.specs.declared.config.Config.{Config}
+use Rattle.lpt_node.specs.declared.outcome.Outcome.{Outcome}
+use Rattle.lpt_node.specs.declared.outcome.Outcome.TheVariants.{Broken}
+use Rattle.lpt_node.specs.declared.side.Side.{Side}
+use Rattle.lpt_node.specs.declared.side.Side.TheVariants.{Ground, Craft}
+use Rattle.lpt_node.specs.Arrivals.{part_subtype}
+use Rattle.lpt_node.specs.MadePackets.{nth_part, part_made, abort_made}
+use Rattle.lpt_world.specs.declared.event.Event.{Event}
+use Rattle.lpt_world.specs.declared.event.Event.TheVariants.{Open, Send, Take, Deliver}
+use Rattle.lpt_world.specs.declared.reply.Answer.{Answer}
+use Rattle.lpt_world.specs.declared.reply.Answer.TheVariants.{Opened, Put, Took, Delivered}
+use Rattle.lpt_world.specs.declared.reply.Puts.{Puts}
+use Rattle.lpt_world.specs.declared.reply.Reply.{Reply}
+use Rattle.lpt_world.specs.declared.entry.Opening.{Opening}
+use Rattle.lpt_world.specs.declared.fault.StepFault.{StepFault}
+use Rattle.lpt_world.specs.declared.fault.StepFault.TheVariants.{InUse, Short, Long, TooMany, NotOpen, NoSuchPart, NotHeld, HandFull, HandEmpty}
+use Rattle.lpt_world.specs.Journal.{SentPacket, Recorded, History, sent, is_held, goes, hand, receiver_side}
+use Rattle.lpt_world.specs.Senders.{Sender, FreeSender, OpenSender, ClosedSender, sender, is_free, is_open, open_count, count, type_counter}
+use Rattle.lpt_world.specs.Receivers.{clock}
+use Rattle.lpt_world.specs.Delivery.{outcome}
+
+-- ---- replies
+
+-- what is particular to the event in its reply
+abbrev pub answer : Config → History → Event → Answer
+answer c h (Open d id m) = Opened (part_count (length m) c.part_size)
+answer c h (Send d id k) = Put (length (sent h))
+answer c h (Take l n) = Took n
+answer c h (Deliver l) = Delivered (outcome c h l)
+
+-- the octets of a part's packet that the sender makes now
+abbrev pub part_packet : Config → History → Direction → Piece → List ℕ
+part_packet c h Up q = part_made c Up (count h Up) 0 0 q
+part_packet c h Down q =
+    part_made c Down (count h Down) (type_counter h 13 (part_subtype Down q.kind))
+    (clock c h Craft) q
+
+-- the packet of part k of an open message; of no other sender, and then sending is refused
+abbrev pub send_puts : Config → History → Direction → Name → ℕ → Sender → List SentPacket
+send_puts c h d id k (OpenSender m) =
+    record { direction = d; octets = part_packet c h d (nth_part c.part_size id m k) } ∷ []
+send_puts c h d id k FreeSender = []
+send_puts c h d id k ClosedSender = []
+
+-- the abortion report that the spacecraft puts when it breaks a reception off; ground puts none
+abbrev pub abort_puts : Config → History → Side → Name → Reason → List SentPacket
+abort_puts c h Ground id reason = []
+abort_puts c h Craft id reason =
+    record {
+      direction = Down;
+      octets = abort_made c (count h Down) (type_counter h 13 16) (clock c h Craft) id reason;
+    } ∷ []
+
+-- what a delivery with this outcome puts
+abbrev pub outcome_puts : Config → History → Side → Outcome → List SentPacket
+outcome_puts c h side (Broken id reason) = abort_puts c h side id reason
+outcome_puts c h side _ = []
+
+-- the packets that an event puts on the link
+abbrev pub puts : Config → History → Event → List SentPacket
+puts c h (Send d id k) = send_puts c h d id k (sender h d id)
+puts c h (Deliver l) = outcome_puts c h (receiver_side (lane_direction l)) (outcome c h l)
+puts c h _ = []
+
+-- the transactions that an event opens
+abbrev pub opens : Config → History → Event → List Opening
+opens c h (Open d id m) = record { place = length h; direction = d; id = id; message = m } ∷ []
+opens c h _ = []
+
+-- how a reply tells of packets that were put, the first of which got this number
+abbrev pub told : ℕ → List SentPacket → Option Puts
+told first [] = None
+told first (p ∷ ps) = Some (record { first = first; count = length (p ∷ ps) })
+
+-- what an event answers
+abbrev pub reply : Config → History → Event → Reply
+reply c h e = record { answer = answer c h e; puts = told (length (sent h)) (puts c h e) }
+
+-- ---- journals
+
+-- an event with what it gives after this history
+abbrev pub entry : Config → History → Event → Recorded
+entry c h e = record { event = e; reply = reply c h e; puts = puts c h e; opens = opens c h e }
+
+-- the history of a journal, whose newest event stands first
+abbrev pub recorded : Config → List Event → History
+recorded c [] = []
+recorded c (e ∷ es) = let h = recorded c es in entry c h e ∷ h
+
+-- ---- refusals
+
+-- the first fault whose test holds
+abbrev pub first_fault : List (Bool × StepFault) → Option StepFault
+first_fault [] = None
+first_fault (test ∷ tests) = if test.0 then Some test.1 else first_fault tests
+
+-- how many parts an open sender's message has; none else
+abbrev pub parts_open : Config → Sender → ℕ
+parts_open c (OpenSender m) = part_count (length m) c.part_size
+parts_open c _ = 0
+
+-- the reasons for which an event is refused, each with its test, in the order of the tests
+abbrev pub reasons : Config → History → Event → List (Bool × StepFault)
+reasons c h (Open d id m) =
+    (not (is_free (sender h d id)), InUse)
+    ∷ (nat_le (length m) c.part_size, Short)
+    ∷ (nat_lt 65542 (length m), Long)
+    ∷ (nat_le c.outgoing (open_count h d), TooMany) ∷ []
+reasons c h (Send d id k) =
+    (not (is_open (sender h d id)), NotOpen)
+    ∷ ((k == 0) || nat_lt (parts_open c (sender h d id)) k, NoSuchPart) ∷ []
+reasons c h (Take l n) =
+    (is_some (hand h l), HandFull)
+    ∷ (not (is_held h n && goes h (lane_direction l) n), NotHeld) ∷ []
+reasons c h (Deliver l) = (not (is_some (hand h l)), HandEmpty) ∷ []
+
+-- why an event is refused, where it is
+abbrev pub refusal : Config → History → Event → Option StepFault
+refusal c h e = first_fault (reasons c h e)
+
+-- ---- legal journals
+
+-- the event's numbers are of their types
+abbrev pub IsEvent : Event → Type 0
+IsEvent (Open d id m) = (id < 65536) × IsOctets m
+IsEvent (Send d id k) = (id < 65536) × (k < 65536)
+IsEvent _ = ⊤
+
+-- an event can happen after this history
+pub record IsEnabled (c : Config) (h : History) (e : Event) : Type 0 where
+  pub in_range : IsEvent e
+  pub accepted : refusal c h e ≡ None
+
+-- each event can happen after those before it
+abbrev pub Legal : Config → List Event → Type 0
+Legal c [] = ⊤
+Legal c (e ∷ es) = Legal c es × IsEnabled c (recorded c es) e
+
+-- the configuration's numbers are in their ranges
+pub record IsConfig (c : Config) : Type 0 where
+  pub apid_fits : c.apid ≤ 2046
+  pub source_fits : c.source < 65536
+  pub part_size_fits : IsPartSize c.part_size
+  pub some_timeout : 1 ≤ c.timeout
+  pub timeout_fits : c.timeout ≤ 65535
+  pub some_receptions : 1 ≤ c.receptions
+  pub receptions_fit : c.receptions ≤ 64
+  pub some_outgoing : 1 ≤ c.outgoing
+  pub outgoing_fits : c.outgoing ≤ 64
+  pub clock_fits : c.clock < 2 ^ 32

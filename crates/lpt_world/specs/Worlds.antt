@@ -1,0 +1,89 @@
+-- A world as its readers show it: its configuration and its journal.
+use Rattle.std.specs.Prelude.{◌≡◌, ℕ, nat_lt, ◌==◌, ◌||◌, if◌then◌else◌, List, [], ◌∷◌, ◌++◌, map, reverse, length, Option, Some, None}
+use Rattle.lpt_node.specs.declared.config.Config.{Config}
+use Rattle.lpt_world.specs.declared.config_fault.ConfigFault.{ConfigFault}
+use Rattle.lpt_world.specs.declared.config_fault.ConfigFault.TheVariants as configured
+use Rattle.lpt_world.specs.declared.entry.Entry.{Entry}
+use Rattle.lpt_world.specs.declared.event.Event.{Event}
+use Rattle.lpt_world.specs.declared.fault.StepFault.{StepFault}
+use Rattle.lpt_world.specs.declared.fault.StepFault.TheVariants.{NoSuchSeat, Memory}
+use Rattle.lpt_world.specs.declared.reply.Reply.{Reply}
+use Rattle.lpt_world.specs.Journal.{History}
+use Rattle.lpt_world.specs.Replies.{IsEnabled, first_fault, recorded, refusal, reply}
+
+-- the configuration, and the journal with its oldest entry first
+pub record Shown : Type 0 where
+  pub config : Config
+  pub journal : List Entry
+
+-- the events of a journal, the newest first
+abbrev pub events_of : List Entry → List Event
+events_of j = reverse (map (λ x. x.event) j)
+
+-- what a journal tells under a configuration
+abbrev pub history_of : Config → List Entry → History
+history_of c j = recorded c (events_of j)
+
+-- what a world's journal tells
+abbrev pub history : Shown → History
+history w = history_of w.config w.journal
+
+-- each entry's event can happen after those before it, and its reply is the one that it gives then
+abbrev pub IsToldAfter : Config → List Event → List Entry → Type 0
+IsToldAfter c past [] = Unit {0}
+IsToldAfter c past (x ∷ xs) =
+    IsEnabled c (recorded c past) x.event
+    × (x.reply ≡ reply c (recorded c past) x.event)
+    × IsToldAfter c (x.event ∷ past) xs
+
+-- a journal from its beginning
+abbrev pub IsTold : Config → List Entry → Type 0
+IsTold c j = IsToldAfter c [] j
+
+-- why a world refuses a seat's event: there are seats 0 to 10
+abbrev pub refusal_at : Shown → ℕ → Event → Option StepFault
+refusal_at w seat e = if nat_lt 10 seat then Some NoSuchSeat else refusal w.config (history w) e
+
+-- the fault is the first reason, or want of memory where there is none
+abbrev pub RefusedBy : Option StepFault → StepFault → Type 0
+RefusedBy (Some first) fault = fault ≡ first
+RefusedBy None fault = fault ≡ Memory
+
+-- the world with an entry behind its journal
+abbrev pub with_entry : Shown → ℕ → Event → Reply → Shown
+with_entry w seat e r = record w { journal = w.journal ++ record { seat = seat; event = e; reply = r } ∷ [] }
+
+-- ---- runs
+
+-- the world after these events of one seat, each of which was accepted
+abbrev pub entered : Shown → ℕ → List Event → Shown
+entered w seat [] = w
+entered w seat (e ∷ es) = entered (with_entry w seat e (reply w.config (history w) e)) seat es
+
+-- each of these events is accepted after those before it
+abbrev pub AllAccepted : Shown → ℕ → List Event → Type 0
+AllAccepted w seat [] = Unit {0}
+AllAccepted w seat (e ∷ es) =
+    (refusal_at w seat e ≡ None) × AllAccepted (with_entry w seat e (reply w.config (history w) e)) seat es
+
+-- the fault of the event, if there is one
+abbrev pub IsFaultOf : Shown → ℕ → Option Event → StepFault → Type 0
+IsFaultOf w seat None fault = ⊥
+IsFaultOf w seat (Some e) fault = RefusedBy (refusal_at w seat e) fault
+
+-- ---- configurations
+
+-- the first range that a configuration leaves
+abbrev pub config_fault : Config → Option ConfigFault
+config_fault c =
+    if nat_lt 2046 c.apid then Some configured.Apid
+    else if nat_lt c.part_size 4 || nat_lt 1024 c.part_size then Some configured.PartSize
+    else if (c.timeout == 0) || nat_lt 65535 c.timeout then Some configured.Timeout
+    else if (c.receptions == 0) || nat_lt 64 c.receptions then Some configured.Receptions
+    else if (c.outgoing == 0) || nat_lt 64 c.outgoing then Some configured.Outgoing
+    else None
+
+-- the fault is the first range that is left, or want of memory where none is
+abbrev pub ConfigRefusedBy : Option ConfigFault → ConfigFault → Type 0
+ConfigRefusedBy (Some first) fault = fault ≡ first
+ConfigRefusedBy None fault = fault ≡ configured.Memory

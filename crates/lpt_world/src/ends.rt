@@ -1,0 +1,308 @@
+//! Both ends, the link between them, and what was opened and released: all that an event changes.
+
+ghost use Rattle.std.specs.Prelude.{◌≡◌, ◌<◌, IfOk, OnErr, vec_len, None, Some, length};
+ghost use Rattle.std.specs.Option.{option_map};
+ghost use Rattle.std.specs.Vec.{vec_capacity};
+ghost use Rattle.lpt_link.specs.Lanes.{lane_direction};
+ghost use Rattle.lpt_link.specs.Links.{after_put, packet_in_hand};
+ghost use Rattle.lpt_node.specs.Accepting.{accepted};
+ghost use Rattle.lpt_node.specs.Asking.{refusal_of as node_refusal};
+ghost use Rattle.lpt_node.specs.Origins.{arrival_from};
+ghost use Rattle.lpt_world.specs.EndsSound.{IsSound};
+ghost use Rattle.lpt_world.specs.Journal.{sender_side, receiver_side};
+ghost use Rattle.lpt_world.specs.Replies.{IsConfig};
+ghost use Rattle.lpt_world.specs.State.{no_state, end_of, refusal_of, after, node_fault, released_of, with_release, link_with, told_delivery, IsReceived, quiet as quiet_reply, put_one as put_one_reply};
+
+use crate::faults::{of_link, of_node};
+use crate::{Answer, Event, Opening, Puts, Release, Reply, StepFault};
+use lpt_link::{Lane, Link};
+use lpt_node::{Accepted, Ask, Config, Node, Outcome, Parsed, Side};
+use lpt_packet::{Direction, Name, Octets};
+use lpt_part::count;
+use std::alloc::{AllocError, Global};
+
+/// Both ends and the link. It knows nothing of a journal.
+#[derive(Drop)]
+pub(crate) struct Ends {
+    pub(crate) alloc: Global,
+    pub(crate) config: Config,
+    pub(crate) on_ground: Node,
+    pub(crate) on_craft: Node,
+    pub(crate) link: Link,
+    pub(crate) opened: Vec<Opening>,
+    pub(crate) released: Vec<Release>,
+    ghost sound: { IsSound config on_ground on_craft },
+}
+
+impl Ends {
+    ghost use Rattle.lpt_world.specs.EndsInside.{state_of};
+
+    /// Ends at which nothing has happened.
+    pub(crate) fn new(alloc: Global, config: Config) -> Result<Ends, AllocError>
+        requires { IsConfig config }
+        ensures { IfOk result (λ e. (e.config ≡ config) × (state_of e ≡ no_state config)) }
+    {
+        let on_ground = Node::new(alloc, Side::Ground, &config)?;
+        let on_craft = Node::new(alloc, Side::Craft, &config)?;
+        Ok(Ends {
+            alloc,
+            config,
+            on_ground,
+            on_craft,
+            link: Link::new(alloc)?,
+            opened: Vec::new(alloc),
+            released: Vec::new(alloc),
+        })
+    }
+
+    /// Why an event would be refused now, want of memory aside.
+    pub(crate) fn refusal(&self, event: &Event) -> Option<StepFault>
+        ensures { result ≡ refusal_of self.now.config (state_of self.now) event.now }
+    {
+        match event {
+            Event::Open(direction, id, message) => {
+                self.ask(*direction, Ask::Open(*id, message.as_slice().len()))
+            }
+            Event::Send(direction, id, k) => self.ask(*direction, Ask::Send(*id, *k)),
+            Event::Take(lane, n) => self.link.refusal_take(*lane, *n).map(of_link),
+            Event::Deliver(lane) => self.link.refusal_drop(*lane).map(of_link),
+        }
+    }
+
+    // Why the sender of a direction would refuse a call.
+    fn ask(&self, direction: Direction, ask: Ask) -> Option<StepFault>
+        ensures { result ≡ option_map node_fault
+            (node_refusal self.now.config (end_of (state_of self.now) (sender_side direction)) ask) }
+    {
+        match direction {
+            Direction::Up => self.on_ground.refusal(&ask).map(of_node),
+            Direction::Down => self.on_craft.refusal(&ask).map(of_node),
+        }
+    }
+
+    /// Does an event that isn't refused, whole. The only error is want of memory, and then nothing has
+    /// changed.
+    pub(crate) fn apply(&mut self, place: u64, event: &Event) -> Result<Reply, AllocError>
+        requires { refusal_of self.old.config (state_of self.old) event.now ≡ None }
+        ensures ok { IfOk result (λ r. (state_of self.new, r) ≡ after self.old.config place (state_of self.old) event.now) }
+        ensures err { OnErr result (state_of self.new ≡ state_of self.old) }
+        ensures config { self.new.config ≡ self.old.config }
+    {
+        match event {
+            Event::Open(direction, id, message) => self.open(place, *direction, *id, message),
+            Event::Send(direction, id, k) => self.send(*direction, *id, *k),
+            Event::Take(lane, n) => Ok(self.take(*lane, *n)),
+            Event::Deliver(lane) => self.deliver(place, *lane),
+        }
+    }
+
+    // Hands a message to its sender.
+    fn open(
+        &mut self,
+        place: u64,
+        direction: Direction,
+        id: Name,
+        message: &Octets,
+    ) -> Result<Reply, AllocError>
+        requires { refusal_of self.old.config (state_of self.old) (Event.Open direction id message.now) ≡ None }
+        ensures ok { IfOk result (λ r. (state_of self.new, r)
+            ≡ after self.old.config place (state_of self.old) (Event.Open direction id message.now)) }
+        ensures err { OnErr result (state_of self.new ≡ state_of self.old) }
+        ensures config { self.new.config ≡ self.old.config }
+    {
+        let parts = count(message.as_slice().len() as u32, self.config.part_size);
+        self.opened.reserve(1)?;
+        let opening = Opening {
+            place,
+            direction,
+            id,
+            message: message.copy()?,
+        };
+        let sent = message.copy()?;
+        let taken = match direction {
+            Direction::Up => self.on_ground.open(id, sent),
+            Direction::Down => self.on_craft.open(id, sent),
+        };
+        match taken {
+            Ok(()) => {
+                self.opened.push_reserved(opening);
+                Ok(quiet(Answer::Opened(parts as u16)))
+            }
+            Err(_) => Err(AllocError),
+        }
+    }
+
+    // Puts a part on the link.
+    fn send(&mut self, direction: Direction, id: Name, k: u16) -> Result<Reply, AllocError>
+        requires { refusal_of self.old.config (state_of self.old) (Event.Send direction id k) ≡ None }
+        ensures ok { IfOk result (λ r. (state_of self.new, r)
+            ≡ after self.old.config 0 (state_of self.old) (Event.Send direction id k)) }
+        ensures err { OnErr result (state_of self.new ≡ state_of self.old) }
+        ensures config { self.new.config ≡ self.old.config }
+    {
+        self.link.reserve(1)?;
+        let sent = match direction {
+            Direction::Up => self.on_ground.send_part(id, k),
+            Direction::Down => self.on_craft.send_part(id, k),
+        };
+        match sent {
+            Ok(octets) => {
+                let n = put_reserved(&mut self.link, direction, Some(id), octets);
+                Ok(put_one(n, Answer::Put(n)))
+            }
+            Err(_) => Err(AllocError),
+        }
+    }
+
+    // Takes a held packet into a lane's hand.
+    fn take(&mut self, lane: Lane, n: u64) -> Reply
+        requires { refusal_of self.old.config (state_of self.old) (Event.Take lane n) ≡ None }
+        ensures ok { (state_of self.new, result) ≡ after self.old.config 0 (state_of self.old) (Event.Take lane n) }
+        ensures config { self.new.config ≡ self.old.config }
+    {
+        match self.link.take(lane, n) {
+            Ok(()) => quiet(Answer::Took(n)),
+            Err(_) => unreachable!(),
+        }
+    }
+
+    // Delivers what is in a lane's hand.
+    fn deliver(&mut self, place: u64, lane: Lane) -> Result<Reply, AllocError>
+        requires { refusal_of self.old.config (state_of self.old) (Event.Deliver lane) ≡ None }
+        ensures ok { IfOk result (λ r. (state_of self.new, r)
+            ≡ after self.old.config place (state_of self.old) (Event.Deliver lane)) }
+        ensures err { OnErr result (state_of self.new ≡ state_of self.old) }
+        ensures config { self.new.config ≡ self.old.config }
+    {
+        self.released.reserve(1)?;
+        self.link.reserve(1)?;
+        let parsed = self.parsed(lane)?;
+        let Accepted {
+            outcome,
+            packet,
+            released,
+        } = self.receive(lane, &parsed)?;
+        let _ = self.link.drop_hand(lane);
+        self.note_release(place, lane.direction(), outcome, released);
+        Ok(self.report(outcome, packet))
+    }
+
+    // Gives the receiver of a lane what was in its hand.
+    fn receive(&mut self, lane: Lane, parsed: &Parsed) -> Result<Accepted, AllocError>
+        requires side { parsed.now.side ≡ receiver_side (lane_direction lane) }
+        requires apid { parsed.now.apid ≡ self.old.config.apid }
+        requires part_size { parsed.now.p ≡ self.old.config.part_size }
+        ensures ok { IfOk result (λ r. IsReceived (state_of self.old) lane (state_of self.new) r
+            (accepted (receiver_side (lane_direction lane)) self.old.config
+            (end_of (state_of self.old) (receiver_side (lane_direction lane))) (arrival_from parsed.now))) }
+        ensures err { OnErr result (state_of self.new ≡ state_of self.old) }
+        ensures config { self.new.config ≡ self.old.config }
+        ensures link { self.new.link ≡ self.old.link }
+        ensures released { self.new.released ≡ self.old.released }
+    {
+        match lane.direction() {
+            Direction::Up => self.on_craft.accept(parsed),
+            Direction::Down => self.on_ground.accept(parsed),
+        }
+    }
+
+    // Notes a message that was released, where one was.
+    fn note_release(
+        &mut self,
+        place: u64,
+        direction: Direction,
+        outcome: Outcome,
+        released: Option<Octets>,
+    )
+        requires { vec_len self.old.released < vec_capacity self.old.released }
+        ensures state { state_of self.new ≡ record (state_of self.old) {
+          released = with_release self.old.released.items place direction outcome released;
+        } }
+        ensures config { self.new.config ≡ self.old.config }
+        ensures link { self.new.link ≡ self.old.link }
+    {
+        match released {
+            Some(message) => {
+                let of = transaction(direction, outcome);
+                self.released.push_reserved(Release { place, of, message });
+            }
+            None => {}
+        }
+    }
+
+    // Puts the report of a delivery on the link, where there is one, and answers.
+    fn report(&mut self, outcome: Outcome, packet: Option<Octets>) -> Reply
+        requires { 0 < self.old.link.spare }
+        ensures state { state_of self.new ≡ record (state_of self.old) { link = link_with self.old.link.at packet } }
+        ensures reply { result ≡ told_delivery (length self.old.link.at.packets) outcome packet }
+        ensures config { self.new.config ≡ self.old.config }
+    {
+        match packet {
+            Some(octets) => {
+                let n = put_reserved(&mut self.link, Direction::Down, None, octets);
+                put_one(n, Answer::Delivered(outcome))
+            }
+            None => quiet(Answer::Delivered(outcome)),
+        }
+    }
+
+    // Reads a copy of what is in a lane's hand, for its receiver.
+    fn parsed(&self, lane: Lane) -> Result<Parsed, AllocError>
+        requires { refusal_of self.now.config (state_of self.now) (Event.Deliver lane) ≡ None }
+        ensures { IfOk result (λ x. (x.side ≡ receiver_side (lane_direction lane)) × (x.apid ≡ self.now.config.apid)
+            × (x.p ≡ self.now.config.part_size)
+            × (option_map (λ q. q.octets) (packet_in_hand self.now.link.at lane) ≡ Some x.octets)) }
+    {
+        let Some(n) = self.link.hand(lane) else {
+            unreachable!()
+        };
+        let Some(octets) = self.link.packet(n) else {
+            unreachable!()
+        };
+        let side = match lane.direction() {
+            Direction::Up => Side::Craft,
+            Direction::Down => Side::Ground,
+        };
+        let octets = Octets::from_vec(octets.to_vec(self.alloc)?);
+        Ok(Parsed::read(octets, side, self.config.apid, self.config.part_size))
+    }
+}
+
+// The reply of an event that put nothing on the link.
+fn quiet(answer: Answer) -> Reply
+    ensures { result ≡ quiet_reply answer }
+{
+    Reply { answer, puts: None }
+}
+
+// The reply of an event that put one packet, which got this number.
+fn put_one(n: u64, answer: Answer) -> Reply
+    ensures { result ≡ put_one_reply n answer }
+{
+    Reply {
+        answer,
+        puts: Some(Puts { first: n, count: 1 }),
+    }
+}
+
+// Puts a packet for which there is room.
+fn put_reserved(link: &mut Link, direction: Direction, tag: Option<Name>, octets: Octets) -> u64
+    requires { 0 < link.old.spare }
+    ensures at { link.new.at ≡ after_put link.old.at direction tag octets }
+    ensures number { result ≡ length link.old.at.packets }
+{
+    match link.put(direction, tag, octets) {
+        Ok(n) => n,
+        Err(_) => unreachable!(),
+    }
+}
+
+// The transaction of a released message, by the outcome of its delivery.
+fn transaction(direction: Direction, outcome: Outcome) -> Option<(Direction, Name)>
+    ensures { result ≡ released_of direction outcome }
+{
+    match outcome {
+        Outcome::Released(id, _) => Some((direction, id)),
+        _ => None,
+    }
+}

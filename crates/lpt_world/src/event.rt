@@ -1,0 +1,35 @@
+//! What can be asked of a world.
+
+ghost use Rattle.std.specs.Prelude.{◌≡◌, IfOk};
+
+use lpt_link::Lane;
+use lpt_packet::{Direction, Name, Octets};
+use std::alloc::AllocError;
+
+/// One event: one holding of the world, done whole or refused.
+#[derive(Debug, Drop, PartialEq, Eq)]
+pub enum Event {
+    /// Hands a message of this name to the sender of its direction.
+    Open(Direction, Name, Octets),
+    /// Puts the part of this number of an open message on the link.
+    Send(Direction, Name, u16),
+    /// Takes the held packet of this number into the lane's empty hand.
+    Take(Lane, u64),
+    /// Gives the packet in the lane's hand to the receiving node, and empties the hand.
+    Deliver(Lane),
+}
+
+impl Event {
+    /// A copy of the event, its octets on the allocator of this one's. The only error is want of
+    /// memory.
+    pub fn copy(&self) -> Result<Event, AllocError>
+        ensures { IfOk result (λ e. e ≡ self.now) }
+    {
+        Ok(match self {
+            Event::Open(direction, id, message) => Event::Open(*direction, *id, message.copy()?),
+            Event::Send(direction, id, part) => Event::Send(*direction, *id, *part),
+            Event::Take(lane, number) => Event::Take(*lane, *number),
+            Event::Deliver(lane) => Event::Deliver(*lane),
+        })
+    }
+}

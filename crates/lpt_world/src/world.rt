@@ -1,0 +1,250 @@
+//! The world: two nodes, the link between them, and the journal.
+
+ghost use Rattle.std.specs.Prelude.{◌≡◌, ◌≤◌, length, [], take, slice_get, None, IfOk, IfErr, IfSome};
+ghost use Rattle.std.specs.Option.{option_map, option_copied};
+ghost use Rattle.lpt_world.specs.Headline.{Holds, EachIsLastOpened, AtMostOncePerOpening};
+ghost use Rattle.lpt_world.specs.Journal.{sent};
+ghost use Rattle.lpt_world.specs.Releases.{releases};
+ghost use Rattle.lpt_world.specs.Replies.{IsConfig, IsEvent, reply};
+ghost use Rattle.lpt_world.specs.Senders.{opened};
+ghost use Rattle.lpt_world.specs.Worlds.{IsTold, history, refusal_at, RefusedBy, with_entry, entered, AllAccepted, IsFaultOf, config_fault, ConfigRefusedBy};
+
+use crate::ends::Ends;
+use crate::{ConfigFault, Entry, Event, Opening, Refused, Release, Reply, RunEnd, StepFault};
+use lpt_node::Config;
+use std::alloc::Global;
+use std::marker::Model;
+
+/// The greatest seat.
+const LAST_SEAT: u8 = 10;
+
+/// Two nodes, the link between them, and the journal of all events that were accepted.
+#[derive(Drop)]
+pub struct World {
+    ends: Ends,
+    journal: Vec<Entry>,
+}
+
+impl Model for World {
+    ghost use Rattle.lpt_world.specs.Worlds.{Shown};
+
+    ghost Value = { Shown };
+
+    ghost use Rattle.lpt_world.specs.WorldInside.{IsShown};
+
+    ghost view = { λ w. record { config = w.ends.config; journal = w.journal.items } };
+
+    ghost invariant = { λ w. IsShown w.ends w.journal.items };
+}
+
+impl World {
+    /// A world in which nothing has happened.
+    ///
+    /// Errors: the first value of the configuration that is out of its range; want of memory is last.
+    pub fn new(alloc: Global, config: Config) -> Result<World, ConfigFault>
+        ensures ok { IfOk result (λ w. (w.config ≡ config) × (w.journal ≡ [])) }
+        ensures configured { IfOk result (λ w. config_fault config ≡ None) }
+        ensures refused { IfErr result (λ f. ConfigRefusedBy (config_fault config) f) }
+    {
+        match first_range_left(&config) {
+            Some(fault) => return Err(fault),
+            None => {}
+        }
+        match Ends::new(alloc, config) {
+            Ok(ends) => Ok(World {
+                ends,
+                journal: Vec::new(alloc),
+            }),
+            Err(_) => Err(ConfigFault::Memory),
+        }
+    }
+
+    /// Does one event, whole, or refuses it.
+    ///
+    /// Errors: `NoSuchSeat` for a seat above 10; else the event's first reason; want of memory is
+    /// last. The event comes back, and nothing has changed.
+    pub fn step(&mut self, seat: u8, event: Event) -> Result<Reply, Refused>
+        // Accepted exactly where it can happen, want of memory aside; the reply is the journal's.
+        ensures enabled { IfOk result (λ r. refusal_at self.old seat event ≡ None) }
+        ensures reply { IfOk result (λ r. r ≡ reply self.old.config (history self.old) event) }
+        ensures entered { IfOk result (λ r. self.new ≡ with_entry self.old seat event r) }
+
+        ensures refused { IfErr result (λ e. RefusedBy (refusal_at self.old seat event) e.fault) }
+        ensures back { IfErr result (λ e. e.event ≡ event) }
+        ensures at { IfErr result (λ e. e.at ≡ length self.old.journal) }
+        ensures unchanged { IfErr result (λ e. self.new ≡ self.old) }
+    {
+        let at = self.journal.len() as u64;
+        match self.try_step(seat, event) {
+            Ok(reply) => Ok(reply),
+            Err((fault, event)) => Err(Refused { fault, at, event }),
+        }
+    }
+
+    // The same, with the fault and the event where it is refused.
+    fn try_step(&mut self, seat: u8, event: Event) -> Result<Reply, (StepFault, Event)>
+        ensures enabled { IfOk result (λ r. refusal_at self.old seat event ≡ None) }
+        ensures reply { IfOk result (λ r. r ≡ reply self.old.config (history self.old) event) }
+        ensures entered { IfOk result (λ r. self.new ≡ with_entry self.old seat event r) }
+        ensures refused { IfErr result (λ e. RefusedBy (refusal_at self.old seat event) e.0) }
+        ensures back { IfErr result (λ e. e.1 ≡ event) }
+        ensures unchanged { IfErr result (λ e. self.new ≡ self.old) }
+    {
+        match self.refusal(seat, &event) {
+            Some(fault) => return Err((fault, event)),
+            None => {}
+        }
+        if self.journal.reserve(1).is_err() {
+            return Err((StepFault::Memory, event));
+        }
+        in_range(&event);
+        let place = self.journal.len() as u64;
+        match self.ends.apply(place, &event) {
+            Err(_) => Err((StepFault::Memory, event)),
+            Ok(reply) => {
+                self.journal.push_reserved(Entry { seat, event, reply });
+                Ok(reply)
+            }
+        }
+    }
+
+    /// Steps seat 0 through the events, up to the first that is refused.
+    pub fn run(&mut self, events: &[Event]) -> RunEnd
+        ensures done { result.done ≤ length events.now }
+        ensures accepted { AllAccepted self.old 0 (take result.done events.now) }
+        ensures entered { self.new ≡ entered self.old 0 (take result.done events.now) }
+        ensures all { result.refused ≡ None → result.done ≡ length events.now }
+        ensures refused { IfSome result.refused (λ f. IsFaultOf self.new 0 (slice_get events.now result.done) f) }
+    {
+        for (done, event) in events.iter().enumerate() {
+            if let Some(fault) = self.step_copy(event) {
+                return RunEnd {
+                    done: done as u64,
+                    refused: Some(fault),
+                };
+            }
+        }
+        RunEnd {
+            done: events.len() as u64,
+            refused: None,
+        }
+    }
+
+    // Steps seat 0 through a copy of the event, and gives the fault where it is refused.
+    fn step_copy(&mut self, event: &Event) -> Option<StepFault>
+        ensures accepted { result ≡ None → refusal_at self.old 0 event.now ≡ None }
+        ensures entered { result ≡ None → self.new ≡ with_entry self.old 0 event.now (reply self.old.config (history self.old) event.now) }
+        ensures refused { IfSome result (λ f. RefusedBy (refusal_at self.old 0 event.now) f) }
+        ensures unchanged { IfSome result (λ f. self.new ≡ self.old) }
+    {
+        match self.refusal(0, event) {
+            Some(fault) => return Some(fault),
+            None => {}
+        }
+        match event.copy() {
+            Err(_) => Some(StepFault::Memory),
+            Ok(event) => match self.step(0, event) {
+                Ok(_) => None,
+                Err(refused) => Some(refused.fault),
+            },
+        }
+    }
+
+    // Why a seat's event would be refused now, want of memory aside.
+    fn refusal(&self, seat: u8, event: &Event) -> Option<StepFault>
+        ensures { result ≡ refusal_at self.now seat event.now }
+    {
+        if seat > LAST_SEAT {
+            return Some(StepFault::NoSuchSeat);
+        }
+        self.ends.refusal(event)
+    }
+
+    /// All accepted events, the oldest first. Each could happen after those before it, and has the
+    /// reply that it gives then. Each large message released under a name is byte for byte the one
+    /// last opened under it by the other node, at most once per opening.
+    pub fn journal(&self) -> &[Entry]
+        ensures shown { result.now ≡ self.now.journal }
+        ensures told { IsTold self.now.config self.now.journal }
+        ensures configured { IsConfig self.now.config }
+        // What holds of every journal, whatever the link did and the nodes were asked.
+        ensures headline { Holds self.now.config (history self.now) }
+    {
+        self.journal.as_slice()
+    }
+
+    /// All openings, in order of place.
+    pub fn opened(&self) -> &[Opening]
+        ensures { result.now ≡ opened (history self.now) }
+    {
+        self.ends.opened.as_slice()
+    }
+
+    /// All releases, in order of place. Each large message is byte for byte the one last opened
+    /// under its name by the other node, at most once per opening.
+    pub fn released(&self) -> &[Release]
+        ensures all { result.now ≡ releases self.now.config (history self.now) }
+        ensures last_opened { EachIsLastOpened self.now.config (history self.now) }
+        ensures once { AtMostOncePerOpening self.now.config (history self.now) }
+    {
+        self.ends.released.as_slice()
+    }
+
+    /// The octets of the packet of this number, whether the link still holds it or not; none where
+    /// fewer packets were put.
+    pub fn packet(&self, n: u64) -> Option<&[u8]>
+        ensures { option_copied result ≡ option_map (λ p. p.octets) (slice_get (sent (history self.now)) n) }
+    {
+        self.ends.link.packet(n)
+    }
+
+    /// The configuration.
+    pub fn config(&self) -> Config
+        ensures { result ≡ self.now.config }
+    {
+        self.ends.config
+    }
+}
+
+// The first value of a configuration that is out of its range.
+fn first_range_left(config: &Config) -> Option<ConfigFault>
+    ensures fault { result ≡ config_fault config.now }
+    ensures configured { result ≡ None → IsConfig config.now }
+{
+    let _source = config.source;
+    let _clock = config.clock;
+    if config.apid > 2046 {
+        return Some(ConfigFault::Apid);
+    }
+    if config.part_size < 4 || config.part_size > 1024 {
+        return Some(ConfigFault::PartSize);
+    }
+    if config.timeout == 0 || config.timeout > 65535 {
+        return Some(ConfigFault::Timeout);
+    }
+    if config.receptions == 0 || config.receptions > 64 {
+        return Some(ConfigFault::Receptions);
+    }
+    if config.outgoing == 0 || config.outgoing > 64 {
+        return Some(ConfigFault::Outgoing);
+    }
+    None
+}
+
+// The numbers and octets of an event are in the ranges of their types.
+fn in_range(event: &Event)
+    ensures { IsEvent event.now }
+{
+    match event {
+        Event::Open(_, id, message) => {
+            let _id = *id;
+            let _octets = message.as_slice();
+        }
+        Event::Send(_, id, k) => {
+            let _id = *id;
+            let _k = *k;
+        }
+        Event::Take(_, _) => {}
+        Event::Deliver(_) => {}
+    }
+}
