@@ -1,0 +1,4 @@
+pub mod FaultNames
+pub mod Reading
+pub mod Streams
+pub mod ToldInside

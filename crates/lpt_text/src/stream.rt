@@ -1,0 +1,144 @@
+//! Readers and writers that tell their octets and their faults.
+
+ghost use Rattle.std.specs.Prelude.{◌≡◌, ◌≤◌, ◌<◌, ℕ, List, Bool, true, false, length, take, Option, MatchOption, IfSome, IfErr, OnOk};
+ghost use Rattle.std.specs.Io.KnownBytes.{Keeps, Appends, Consumes, IsAtEnd};
+ghost use Rattle.lpt_text.specs.Streams.{read_failed, write_failed, AppendsPart};
+ghost use Rattle.lpt_text.specs.ToldInside.{inner_of, has_failed};
+
+use crate::fault::ToolFault;
+use std::io;
+
+/// Where a text is read from.
+pub trait Source {
+    // The octets that reads will give from here on, where they are known.
+    ghost remaining: { Self → Option (List ℕ) };
+
+    // Whether a read has failed.
+    ghost failed: { Self → Bool };
+
+    /// Reads octets to the front of `buf`, and gives how many: with room, none only at the end.
+    ///
+    /// Errors: `None` where the read failed. It gave no octets then, and the source has failed from
+    /// then on.
+    fn read(&mut self, buf: &mut [u8]) -> Option<usize>
+        ensures bound { IfSome result (λ n. n ≤ length buf.new) }
+        ensures bytes { MatchOption result (Keeps (remaining self.old) (remaining self.new))
+            (λ n. Consumes (remaining self.old) (remaining self.new) (take n buf.new)
+            × (n ≡ 0 → 0 < length buf.new → IsAtEnd (remaining self.new))) }
+        ensures cause { failed self.new ≡ read_failed result (failed self.old) };
+}
+
+/// Where a text is written to.
+pub trait Sink {
+    // The octets that were written, where they are known.
+    ghost contents: { Self → Option (List ℕ) };
+
+    // Whether a write has failed or taken nothing.
+    ghost failed: { Self → Bool };
+
+    /// Writes a front part of `buf`, and gives how many octets it took.
+    ///
+    /// Errors: `None` where the write failed. It took nothing then. After that, and after
+    /// `Some(0)`, the sink has failed from then on.
+    fn write(&mut self, buf: &[u8]) -> Option<usize>
+        ensures bound { IfSome result (λ n. n ≤ length buf.now) }
+        ensures bytes { MatchOption result (Keeps (contents self.old) (contents self.new))
+            (λ n. Appends (contents self.old) (contents self.new) (take n buf.now)) }
+        ensures cause { failed self.new ≡ write_failed result (failed self.old) };
+}
+
+/// A reader or a writer of std, with whether it has failed.
+#[derive(Drop)]
+pub struct Told<S> {
+    inner: S,
+    failed: bool,
+}
+
+impl<S> Told<S> {
+    /// A reader or a writer that has not failed yet.
+    pub fn new(inner: S) -> Self
+        ensures inner { inner_of result ≡ inner }
+        ensures failed { has_failed result ≡ false }
+    {
+        Told {
+            inner,
+            failed: false,
+        }
+    }
+
+    /// The reader or the writer itself.
+    pub fn inner(&self) -> &S
+        ensures { result.now ≡ inner_of self.now }
+    {
+        &self.inner
+    }
+
+    /// The reader or the writer, taken out, so that a writer that keeps octets back can be flushed.
+    pub fn into_inner(self) -> S
+        ensures { result ≡ inner_of self }
+    {
+        let Told { inner, failed: _ } = self;
+        inner
+    }
+}
+
+impl<R: io::Read> Source for Told<R> {
+    ghost remaining = { λ told. R.remaining (inner_of told) };
+
+    ghost failed = { λ told. has_failed told };
+
+    fn read(&mut self, buf: &mut [u8]) -> Option<usize> {
+        match self.inner.read(buf) {
+            Ok(n) => Some(n),
+            Err(_) => {
+                self.failed = true;
+                None
+            }
+        }
+    }
+}
+
+impl<W: io::Write> Sink for Told<W> {
+    ghost contents = { λ told. W.contents (inner_of told) };
+
+    ghost failed = { λ told. has_failed told };
+
+    fn write(&mut self, buf: &[u8]) -> Option<usize> {
+        match self.inner.write(buf) {
+            Ok(n) => {
+                if n == 0 {
+                    self.failed = true;
+                }
+                Some(n)
+            }
+            Err(_) => {
+                self.failed = true;
+                None
+            }
+        }
+    }
+}
+
+/// Writes a whole text, however little each write takes.
+///
+/// Errors: `Write` where a write failed or took nothing. The front part of the text that was taken
+/// before stays written.
+pub fn write_out<K: Sink>(out: &mut K, text: &[u8]) -> Result<(), ToolFault>
+    ensures ok { OnOk result (Appends (K.contents out.old) (K.contents out.new) text.now) }
+    ensures told { OnOk result (K.failed out.new ≡ K.failed out.old) }
+
+    // It fails only by a write that failed or took nothing.
+    ensures fault { IfErr result (λ e. (e ≡ ToolFault.Write) × (K.failed out.new ≡ true)) }
+    ensures part { IfErr result (λ _.
+        AppendsPart (K.contents out.old) (K.contents out.new) text.now) }
+{
+    let mut at = 0;
+    while at < text.len() {
+        let taken = out.write(&text[at..]).unwrap_or(0);
+        if taken == 0 {
+            return Err(ToolFault::Write);
+        }
+        at += taken;
+    }
+    Ok(())
+}
