@@ -1,0 +1,149 @@
+-- What each line of a script asks for.
+use Rattle.std.specs.Prelude.{◌≡◌, ℕ, ◌==◌, Bool, false, if◌then◌else◌, nat_lt, List, [], ◌∷◌, length, Option, Some, None, codes}
+use Rattle.std.specs.Option.{option_map, option_and_then}
+use Rattle.lpt_packet.specs.declared.direction.Direction.{Direction}
+use Rattle.lpt_packet.specs.declared.direction.Direction.TheVariants.{Up, Down}
+use Rattle.lpt_link.specs.declared.lane.Lane.{Lane}
+use Rattle.lpt_link.specs.declared.lane.Lane.TheVariants.{S1, S2, G1, G2}
+use Rattle.lpt_words.specs.declared.grammar.Command.{Command}
+use Rattle.lpt_words.specs.declared.grammar.Command.TheVariants as command
+use Rattle.lpt_words.specs.declared.grammar.Reading.{Reading}
+use Rattle.lpt_words.specs.declared.grammar.Reading.TheVariants.{Skipped, Asks, Unreadable}
+use Rattle.lpt_words.specs.declared.grammar.Keyword.{Keyword}
+use Rattle.lpt_words.specs.declared.grammar.Keyword.TheVariants as key
+use Rattle.lpt_words.specs.Numbers.{is_word, number_of, octets_of}
+use Rattle.lpt_words.specs.Words.{words}
+
+-- ---- single words
+
+-- what the first word of a line names
+abbrev pub keyword_of : List ℕ → Option Keyword
+keyword_of word =
+    if is_word (codes "open") word then Some key.Open
+    else if is_word (codes "send") word then Some key.Send
+    else if is_word (codes "take") word then Some key.Take
+    else if is_word (codes "deliver") word then Some key.Deliver
+    else if is_word (codes "pass") word then Some key.Pass
+    else if is_word (codes "show") word then Some key.Show
+    else None
+
+-- the direction that a word names
+abbrev pub direction_of : List ℕ → Option Direction
+direction_of word =
+    if is_word (codes "up") word then Some Up
+    else if is_word (codes "down") word then Some Down
+    else None
+
+-- the lane that a word names
+abbrev pub lane_of : List ℕ → Option Lane
+lane_of word =
+    if is_word (codes "s1") word then Some S1
+    else if is_word (codes "s2") word then Some S2
+    else if is_word (codes "g1") word then Some G1
+    else if is_word (codes "g2") word then Some G2
+    else None
+
+-- the number of a transaction or a part
+abbrev pub u16_of : List ℕ → Option ℕ
+u16_of word = number_of 65535 word
+
+-- the number of a packet
+abbrev pub packet_number_of : List ℕ → Option ℕ
+packet_number_of word = number_of 9999999999 word
+
+-- ---- the words after the first, a definition a kind of line
+
+-- the second step, where the first gave a value
+infixl 10 ◌>>=◌
+abbrev pub ◌>>=◌ : {A B : Type 0} → Option A → (A → Option B) → Option B
+o >>= f = option_and_then f o
+
+-- `open DIRECTION ID HEX`
+abbrev pub open_of : List (List ℕ) → Option Command
+open_of (d ∷ i ∷ m ∷ []) = do
+  direction ← direction_of d
+  id ← u16_of i
+  message ← octets_of m
+  Some (command.Open direction id message)
+open_of _ = None
+
+-- `send DIRECTION ID K`
+abbrev pub send_of : List (List ℕ) → Option Command
+send_of (d ∷ i ∷ k ∷ []) = do
+  direction ← direction_of d
+  id ← u16_of i
+  part ← u16_of k
+  Some (command.Send direction id part)
+send_of _ = None
+
+-- `LANE N`
+abbrev pub lane_and_packet_of : List (List ℕ) → Option (Lane × ℕ)
+lane_and_packet_of (l ∷ n ∷ []) = do
+  lane ← lane_of l
+  packet ← packet_number_of n
+  Some (lane, packet)
+lane_and_packet_of _ = None
+
+-- `take LANE N`
+abbrev pub take_of : List (List ℕ) → Option Command
+take_of ws = option_map (λ p. command.Take p.0 p.1) (lane_and_packet_of ws)
+
+-- `deliver LANE`
+abbrev pub deliver_of : List (List ℕ) → Option Command
+deliver_of (l ∷ []) = option_map command.Deliver (lane_of l)
+deliver_of _ = None
+
+-- `pass LANE N`
+abbrev pub pass_of : List (List ℕ) → Option Command
+pass_of ws = option_map (λ p. command.Pass p.0 p.1) (lane_and_packet_of ws)
+
+-- `show released` and `show journal`
+abbrev pub show_whole_of : List ℕ → Option Command
+show_whole_of word =
+    if is_word (codes "released") word then Some command.ShowReleased
+    else if is_word (codes "journal") word then Some command.ShowJournal
+    else None
+
+-- those and `show packet N`
+abbrev pub show_of : List (List ℕ) → Option Command
+show_of (w ∷ []) = show_whole_of w
+show_of (w ∷ n ∷ []) =
+    if is_word (codes "packet") w then option_map command.ShowPacket (packet_number_of n) else None
+show_of _ = None
+
+-- the command of a keyword and the words after it
+abbrev pub arguments_of : Keyword → List (List ℕ) → Option Command
+arguments_of key.Open ws = open_of ws
+arguments_of key.Send ws = send_of ws
+arguments_of key.Take ws = take_of ws
+arguments_of key.Deliver ws = deliver_of ws
+arguments_of key.Pass ws = pass_of ws
+arguments_of key.Show ws = show_of ws
+
+-- ---- lines
+
+-- the first word is `open`: a line that takes memory
+abbrev pub TakesMemory : List (List ℕ) → Type 0
+TakesMemory [] = ⊥
+TakesMemory (w ∷ ws) = keyword_of w ≡ Some key.Open
+
+-- whether a word begins a comment
+abbrev pub is_comment : List ℕ → Bool
+is_comment [] = false
+is_comment (b ∷ bs) = b == 35
+
+-- a line with no command is unreadable
+abbrev pub asked : Option Command → Reading
+asked (Some c) = Asks c
+asked None = Unreadable
+
+-- what the words of a line say: a blank line and a comment are skipped
+abbrev pub words_reading : List (List ℕ) → Reading
+words_reading [] = Skipped
+words_reading (w ∷ ws) =
+    if is_comment w then Skipped
+    else asked (option_and_then (λ k. arguments_of k ws) (keyword_of w))
+
+-- what a line says; one of more than 140,000 octets is unreadable, whatever it holds
+unfoldable pub reading_of : List ℕ → Reading
+reading_of line = if nat_lt 140000 (length line) then Unreadable else words_reading (words line)

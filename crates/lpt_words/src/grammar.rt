@@ -1,0 +1,293 @@
+//! What each line of a script asks for.
+
+ghost use Rattle.std.specs.Prelude.{◌≡◌, IfOk, OnErr};
+ghost use Rattle.lpt_words.specs.Words.{words};
+ghost use Rattle.lpt_words.specs.Grammar.{u16_of, packet_number_of, keyword_of, direction_of, lane_of, lane_and_packet_of, open_of, send_of, take_of, deliver_of, pass_of, show_of, show_whole_of, arguments_of, is_comment, words_reading, reading_of, TakesMemory};
+
+use crate::numbers::{read_hex, read_number};
+use crate::words::{LONGEST_LINE, split_word};
+use lpt_link::Lane;
+use lpt_packet::{Direction, Name, Octets};
+use std::alloc::{AllocError, Global};
+
+/// The greatest number of ten digits.
+const GREATEST_NUMBER: u64 = 9_999_999_999;
+
+/// What a line asks for.
+#[derive(Debug, Drop, PartialEq, Eq)]
+pub enum Command {
+    /// `open DIRECTION ID HEX`: opens a message of this name.
+    Open(Direction, Name, Octets),
+    /// `send DIRECTION ID K`: puts the part of this number of an open message on the link.
+    Send(Direction, Name, u16),
+    /// `take LANE N`: takes the packet of this number into the lane's hand.
+    Take(Lane, u64),
+    /// `deliver LANE`: delivers the packet in the lane's hand.
+    Deliver(Lane),
+    /// `pass LANE N`: takes the packet of this number, and then delivers it.
+    Pass(Lane, u64),
+    /// `show released`: prints the messages that were released.
+    ShowReleased,
+    /// `show packet N`: prints the octets of the packet of this number.
+    ShowPacket(u64),
+    /// `show journal`: prints how long the journal is.
+    ShowJournal,
+}
+
+/// What a line says.
+#[derive(Debug, Drop, PartialEq, Eq)]
+pub enum Reading {
+    /// Nothing: the line is blank or a comment.
+    Skipped,
+    /// It asks for this.
+    Asks(Command),
+    /// It has no meaning, which ends a run.
+    Unreadable,
+}
+
+/// The first word of a line.
+#[derive(Clone, Copy, Debug, PartialEq, Eq)]
+enum Keyword {
+    Open,
+    Send,
+    Take,
+    Deliver,
+    Pass,
+    Show,
+}
+
+/// Reads a line, given without its line feed and the carriage return dropped with that.
+///
+/// A blank line and one whose first word begins with `#` are skipped, whatever else they hold. A
+/// line of more than 140,000 octets is unreadable, even one that would be skipped. The words of a
+/// command are in lower case: DIRECTION is `up` or `down`, LANE is `s1`, `s2`, `g1` or `g2`, ID and
+/// K are numbers to 65,535, N is one of at most ten digits, and HEX is as `read_hex` reads it.
+/// Nothing may follow the last word.
+/// Errors: want of memory, only at a line whose first word is `open`.
+#[tactic(auto, unfolding(crate::specs::Grammar::reading_of))]
+pub fn read_line(alloc: Global, line: &[u8]) -> Result<Reading, AllocError>
+    ensures says { IfOk result (λ r. r ≡ reading_of line.now) }
+
+    // Only the octets of a message take memory.
+    ensures memory { OnErr result (TakesMemory (words line.now)) }
+{
+    if line.len() > LONGEST_LINE {
+        return Ok(Reading::Unreadable);
+    }
+    let Some((word, rest)) = split_word(line) else {
+        return Ok(Reading::Skipped);
+    };
+    if begins_comment(word) {
+        return Ok(Reading::Skipped);
+    }
+    let Some(keyword) = read_keyword(word) else {
+        return Ok(Reading::Unreadable);
+    };
+    match read_arguments(alloc, keyword, rest)? {
+        Some(command) => Ok(Reading::Asks(command)),
+        None => Ok(Reading::Unreadable),
+    }
+}
+
+// Whether a word begins a comment.
+fn begins_comment(word: &[u8]) -> bool
+    ensures { result ≡ is_comment word.now }
+{
+    matches!(word, [b'#', ..])
+}
+
+// The command of a keyword and of the words after it.
+fn read_arguments(
+    alloc: Global,
+    keyword: Keyword,
+    rest: &[u8],
+) -> Result<Option<Command>, AllocError>
+    ensures says { IfOk result (λ r. r ≡ arguments_of keyword (words rest.now)) }
+    ensures memory { OnErr result (keyword ≡ Keyword.Open) }
+{
+    match keyword {
+        Keyword::Open => read_open(alloc, rest),
+        Keyword::Send => Ok(read_send(rest)),
+        Keyword::Take => Ok(read_take(rest)),
+        Keyword::Deliver => Ok(read_deliver(rest)),
+        Keyword::Pass => Ok(read_pass(rest)),
+        Keyword::Show => Ok(read_show(rest)),
+    }
+}
+
+// The words after `open`.
+fn read_open(alloc: Global, rest: &[u8]) -> Result<Option<Command>, AllocError>
+    ensures { IfOk result (λ r. r ≡ open_of (words rest.now)) }
+{
+    let Some((direction, rest)) = split_word(rest) else {
+        return Ok(None);
+    };
+    let Some((id, rest)) = split_word(rest) else {
+        return Ok(None);
+    };
+    let Some((message, rest)) = split_word(rest) else {
+        return Ok(None);
+    };
+    if split_word(rest).is_some() {
+        return Ok(None);
+    }
+    let Some(direction) = read_direction(direction) else {
+        return Ok(None);
+    };
+    let Some(id) = read_u16(id) else {
+        return Ok(None);
+    };
+    let Some(message) = read_hex(alloc, message)? else {
+        return Ok(None);
+    };
+    Ok(Some(Command::Open(direction, id, message)))
+}
+
+// The words after `send`.
+fn read_send(rest: &[u8]) -> Option<Command>
+    ensures { result ≡ send_of (words rest.now) }
+{
+    let (direction, rest) = split_word(rest)?;
+    let (id, rest) = split_word(rest)?;
+    let (part, rest) = split_word(rest)?;
+    if split_word(rest).is_some() {
+        return None;
+    }
+    let direction = read_direction(direction)?;
+    let id = read_u16(id)?;
+    let part = read_u16(part)?;
+    Some(Command::Send(direction, id, part))
+}
+
+// The words after `take`.
+fn read_take(rest: &[u8]) -> Option<Command>
+    ensures { result ≡ take_of (words rest.now) }
+{
+    let (lane, packet) = read_lane_and_packet(rest)?;
+    Some(Command::Take(lane, packet))
+}
+
+// The words after `deliver`.
+fn read_deliver(rest: &[u8]) -> Option<Command>
+    ensures { result ≡ deliver_of (words rest.now) }
+{
+    let (lane, rest) = split_word(rest)?;
+    if split_word(rest).is_some() {
+        return None;
+    }
+    let lane = read_lane(lane)?;
+    Some(Command::Deliver(lane))
+}
+
+// The words after `pass`.
+fn read_pass(rest: &[u8]) -> Option<Command>
+    ensures { result ≡ pass_of (words rest.now) }
+{
+    let (lane, packet) = read_lane_and_packet(rest)?;
+    Some(Command::Pass(lane, packet))
+}
+
+// The words after `show`.
+fn read_show(rest: &[u8]) -> Option<Command>
+    ensures { result ≡ show_of (words rest.now) }
+{
+    let (what, rest) = split_word(rest)?;
+    let Some((packet, rest)) = split_word(rest) else {
+        return read_show_whole(what);
+    };
+    if split_word(rest).is_some() || what != b"packet".as_slice() {
+        return None;
+    }
+    let packet = read_packet_number(packet)?;
+    Some(Command::ShowPacket(packet))
+}
+
+// What is shown whole.
+fn read_show_whole(word: &[u8]) -> Option<Command>
+    ensures { result ≡ show_whole_of word.now }
+{
+    if word == b"released".as_slice() {
+        Some(Command::ShowReleased)
+    } else if word == b"journal".as_slice() {
+        Some(Command::ShowJournal)
+    } else {
+        None
+    }
+}
+
+// A lane and the number of a packet, and no further word.
+fn read_lane_and_packet(rest: &[u8]) -> Option<(Lane, u64)>
+    ensures { result ≡ lane_and_packet_of (words rest.now) }
+{
+    let (lane, rest) = split_word(rest)?;
+    let (packet, rest) = split_word(rest)?;
+    if split_word(rest).is_some() {
+        return None;
+    }
+    let lane = read_lane(lane)?;
+    let packet = read_packet_number(packet)?;
+    Some((lane, packet))
+}
+
+fn read_keyword(word: &[u8]) -> Option<Keyword>
+    ensures { result ≡ keyword_of word.now }
+{
+    if word == b"open".as_slice() {
+        Some(Keyword::Open)
+    } else if word == b"send".as_slice() {
+        Some(Keyword::Send)
+    } else if word == b"take".as_slice() {
+        Some(Keyword::Take)
+    } else if word == b"deliver".as_slice() {
+        Some(Keyword::Deliver)
+    } else if word == b"pass".as_slice() {
+        Some(Keyword::Pass)
+    } else if word == b"show".as_slice() {
+        Some(Keyword::Show)
+    } else {
+        None
+    }
+}
+
+fn read_direction(word: &[u8]) -> Option<Direction>
+    ensures { result ≡ direction_of word.now }
+{
+    if word == b"up".as_slice() {
+        Some(Direction::Up)
+    } else if word == b"down".as_slice() {
+        Some(Direction::Down)
+    } else {
+        None
+    }
+}
+
+fn read_lane(word: &[u8]) -> Option<Lane>
+    ensures { result ≡ lane_of word.now }
+{
+    if word == b"s1".as_slice() {
+        Some(Lane::S1)
+    } else if word == b"s2".as_slice() {
+        Some(Lane::S2)
+    } else if word == b"g1".as_slice() {
+        Some(Lane::G1)
+    } else if word == b"g2".as_slice() {
+        Some(Lane::G2)
+    } else {
+        None
+    }
+}
+
+// The number of a transaction or a part.
+fn read_u16(word: &[u8]) -> Option<u16>
+    ensures { result ≡ u16_of word.now }
+{
+    let number = read_number(word, u64::from(u16::MAX))?;
+    Some(number as u16)
+}
+
+// The number of a packet.
+fn read_packet_number(word: &[u8]) -> Option<u64>
+    ensures { result ≡ packet_number_of word.now }
+{
+    read_number(word, GREATEST_NUMBER)
+}

@@ -1,0 +1,16 @@
+//! The lines of a script: how a text is cut into lines and words, and what each line asks for.
+//!
+//! A script is text: lines end with a line feed, and the words of a line stand between spaces. This
+//! crate reads lines; it runs and prints nothing.
+#![tactic(auto)]
+
+mod grammar;
+mod numbers;
+mod words;
+
+pub use grammar::{Command, Reading, read_line};
+pub use numbers::{read_hex, read_number};
+pub use words::{split_line, split_word};
+
+#[cfg(test)]
+mod tests;

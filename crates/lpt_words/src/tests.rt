@@ -1,0 +1,161 @@
+//! Lines of scripts with what they say, worked out by hand.
+
+use crate::{Command, Reading, read_hex, read_line, read_number, split_line, split_word};
+use lpt_link::Lane;
+use lpt_packet::{Direction, Octets};
+use std::test::Fail;
+
+#[test]
+fn reads_each_kind_of_line(rt: HostRuntime) -> Result<(), Fail> {
+    let cases = [
+        ("send up 0 1", Command::Send(Direction::Up, 0, 1)),
+        (
+            "send down 65535 065535",
+            Command::Send(Direction::Down, 65535, 65535),
+        ),
+        ("take s1 0", Command::Take(Lane::S1, 0)),
+        ("take s2 9999999999", Command::Take(Lane::S2, 9_999_999_999)),
+        ("take g1 0000000012", Command::Take(Lane::G1, 12)),
+        ("deliver g2", Command::Deliver(Lane::G2)),
+        ("  pass   g1  3 ", Command::Pass(Lane::G1, 3)),
+        ("show released", Command::ShowReleased),
+        ("show packet 4294967296", Command::ShowPacket(4_294_967_296)),
+        ("show journal", Command::ShowJournal),
+    ];
+    for (line, command) in cases {
+        let reading = read_line(rt.alloc(), line.as_bytes())?;
+        assert_eq!(rt; reading, Reading::Asks(command), "{line}");
+    }
+    Ok(())
+}
+
+#[test]
+fn reads_the_octets_of_a_message(rt: HostRuntime) -> Result<(), Fail> {
+    let cases: [(&str, &[u8]); 4] = [
+        ("open down 7 00", &[0x00]),
+        ("open down 7 0123abcdef", &[0x01, 0x23, 0xab, 0xcd, 0xef]),
+        ("open down 7 ABcDeF", &[0xab, 0xcd, 0xef]),
+        ("open down 7 -", &[]),
+    ];
+    for (line, octets) in cases {
+        let message = Octets::from_vec(octets.to_vec(rt.alloc())?);
+        let reading = read_line(rt.alloc(), line.as_bytes())?;
+        let open = Command::Open(Direction::Down, 7, message);
+        assert_eq!(rt; reading, Reading::Asks(open), "{line}");
+    }
+    for word in ["", "0", "abc", "0g", "0x", "--", "00 "] {
+        assert_eq!(rt; read_hex(rt.alloc(), word.as_bytes())?, None, "{word}");
+    }
+    Ok(())
+}
+
+#[test]
+fn skips_comments_and_blank_lines_and_nothing_else(rt: HostRuntime) -> Result<(), Fail> {
+    for line in [
+        "",
+        "   ",
+        "#",
+        "# show journal",
+        "   #show journal",
+        "#\t\r",
+    ] {
+        let reading = read_line(rt.alloc(), line.as_bytes())?;
+        assert_eq!(rt; reading, Reading::Skipped, "{line}");
+    }
+    let unreadable = [
+        "show",
+        "show journal\r",
+        "show\tjournal",
+        "show journals",
+        "show packet",
+        "show packet 1 2",
+        "show released 1",
+        "show memory 1",
+        "Show journal",
+        "shows journal",
+        "\t",
+        "open up 7",
+        "open up 65536 00",
+        "open up 7 abc",
+        "open up 7 00 00",
+        "open left 7 00",
+        "send up 7 65536",
+        "send up 7 -1",
+        "send up 7 +1",
+        "take s3 1",
+        "take S1 1",
+        "take s1 00000000001",
+        "take s1 0x1",
+        "take s1 1 # one",
+        "deliver",
+        "deliver s1 1",
+        "pass s1",
+        "pass 1 s1",
+    ];
+    for line in unreadable {
+        let reading = read_line(rt.alloc(), line.as_bytes())?;
+        assert_eq!(rt; reading, Reading::Unreadable, "{line}");
+    }
+    Ok(())
+}
+
+#[test]
+fn a_line_has_at_most_140_000_octets(rt: HostRuntime) -> Result<(), Fail> {
+    let mut line = vec![in rt.alloc(); b' '; 139_999]?;
+    line.push(b'#')?;
+    assert_eq!(rt; read_line(rt.alloc(), line.as_slice())?, Reading::Skipped);
+    line.push(b' ')?;
+    assert_eq!(rt;
+        read_line(rt.alloc(), line.as_slice())?,
+        Reading::Unreadable
+    );
+    // The carriage return that a line feed drops counts.
+    for (spaces, reading) in [(139_998, Reading::Skipped), (139_999, Reading::Unreadable)] {
+        let mut text = vec![in rt.alloc(); b' '; spaces]?;
+        for octet in b"#\r\n" {
+            text.push(*octet)?;
+        }
+        let (line, _) = split_line(text.as_slice()).ok_or("no line")?;
+        assert_eq!(rt; read_line(rt.alloc(), line)?, reading, "{spaces}");
+    }
+    Ok(())
+}
+
+#[test]
+fn cuts_a_text_into_lines_and_a_line_into_words(rt: HostRuntime) -> Result<(), Fail> {
+    let mut rest = b"show journal\r\n\n\r\na\rb\r\r\n \nlast\r".as_slice();
+    for line in ["show journal", "", "", "a\rb\r", " ", "last\r"] {
+        let (first, more) = split_line(rest).ok_or("no line is left")?;
+        assert_eq!(rt; first, line.as_bytes());
+        rest = more;
+    }
+    assert!(rt; split_line(rest).is_none());
+    let mut rest = b"  take  s1\t 7 ".as_slice();
+    for word in ["take", "s1\t", "7"] {
+        let (first, more) = split_word(rest).ok_or("no word is left")?;
+        assert_eq!(rt; first, word.as_bytes());
+        rest = more;
+    }
+    assert!(rt; split_word(rest).is_none());
+    Ok(())
+}
+
+#[test]
+fn reads_numbers_of_one_to_ten_digits(rt: HostRuntime) {
+    let cases = [
+        ("0", 65535, Some(0)),
+        ("65535", 65535, Some(65535)),
+        ("65536", 65535, None),
+        ("0000000009", 9, Some(9)),
+        ("1234567890", u64::MAX, Some(1_234_567_890)),
+        ("9999999999", u64::MAX, Some(9_999_999_999)),
+        ("10000000000", u64::MAX, None),
+        ("", u64::MAX, None),
+        ("12a", u64::MAX, None),
+        ("1/", u64::MAX, None),
+        ("1:", u64::MAX, None),
+    ];
+    for (word, greatest, number) in cases {
+        assert_eq!(rt; read_number(word.as_bytes(), greatest), number, "{word}");
+    }
+}
