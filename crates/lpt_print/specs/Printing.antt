@@ -1,0 +1,129 @@
+-- The lines that a script prints.
+use Rattle.std.specs.Prelude.{ℕ, List, [], ◌∷◌, ◌++◌, length, codes, ◌==◌, if◌then◌else◌, Option, Some, None}
+use Rattle.std.specs.List.{flat_map}
+use Rattle.std.specs.Fmt.{decimal}
+use Rattle.hex.specs.Hex.{encode_lower}
+use Rattle.lpt_packet.specs.declared.direction.Direction.{Direction}
+use Rattle.lpt_packet.specs.declared.direction.Direction.TheVariants.{Up, Down}
+use Rattle.lpt_packet.specs.Names.{Name}
+use Rattle.lpt_part.specs.Aborts.{reason_code}
+use Rattle.lpt_link.specs.Lanes.{lane_direction}
+use Rattle.lpt_node.specs.declared.outcome.Outcome.{Outcome}
+use Rattle.lpt_node.specs.declared.outcome.Outcome.TheVariants.{Kept, Again, Released, PlainReleased, ReportNoted, AbortNoted, Broken, Ignored}
+use Rattle.lpt_node.specs.declared.outcome.Why.{Why}
+use Rattle.lpt_node.specs.declared.outcome.Why.TheVariants.{Unreadable, Idle, ForeignApid, BadPart, Closed, NoRoom}
+use Rattle.lpt_world.specs.declared.entry.Release.{Release}
+use Rattle.lpt_world.specs.declared.event.Event.{Event}
+use Rattle.lpt_world.specs.declared.event.Event.TheVariants.{Open, Send, Take, Deliver}
+use Rattle.lpt_world.specs.declared.fault.StepFault.{StepFault}
+use Rattle.lpt_world.specs.declared.reply.Answer.{Answer}
+use Rattle.lpt_world.specs.declared.reply.Answer.TheVariants.{Opened, Put, Took, Delivered}
+use Rattle.lpt_world.specs.declared.reply.Reply.{Reply}
+use Rattle.lpt_world.specs.FaultNames.{code_of, name_of}
+
+-- ---- words
+
+-- words with a space between them, and a line end
+abbrev pub line_of : List (List ℕ) → List ℕ
+line_of [] = 10 ∷ []
+line_of (w ∷ []) = w ++ 10 ∷ []
+line_of (w ∷ v ∷ ws) = w ++ 32 ∷ line_of (v ∷ ws)
+
+-- a direction
+abbrev pub direction_text : Direction → List ℕ
+direction_text Up = codes "up"
+direction_text Down = codes "down"
+
+-- octets in hexadecimal digits, lower case; `-` where there are none
+abbrev pub octets_text : List ℕ → List ℕ
+octets_text m = if length m == 0 then codes "-" else encode_lower m
+
+-- ---- what an event did
+
+-- a message was opened; it has so many parts
+abbrev pub opened_text : Direction → Name → (parts : ℕ) → List ℕ
+opened_text d id parts =
+    line_of (codes "opened" ∷ direction_text d ∷ decimal id ∷ codes "parts" ∷ decimal parts ∷ [])
+
+-- a packet of this number was put on the link
+abbrev pub put_text : ℕ → List ℕ
+put_text n = line_of (codes "put" ∷ decimal n ∷ [])
+
+-- the packet of this number was taken
+abbrev pub took_text : ℕ → List ℕ
+took_text n = line_of (codes "took" ∷ decimal n ∷ [])
+
+-- a word, a transaction and a number
+abbrev pub transaction_line : List ℕ → Direction → Name → ℕ → List ℕ
+transaction_line word d id n = line_of (word ∷ direction_text d ∷ decimal id ∷ decimal n ∷ [])
+
+-- why nothing was made of a packet
+abbrev pub why_name : Why → List ℕ
+why_name Unreadable = codes "Unreadable"
+why_name Idle = codes "Idle"
+why_name ForeignApid = codes "ForeignApid"
+why_name BadPart = codes "BadPart"
+why_name Closed = codes "Closed"
+why_name NoRoom = codes "NoRoom"
+
+-- what became of a packet that was delivered in this direction
+abbrev pub outcome_text : Direction → Outcome → List ℕ
+outcome_text d (Kept id k) = transaction_line (codes "kept") d id k
+outcome_text d (Again id k) = transaction_line (codes "again") d id k
+outcome_text d (Released id len) = transaction_line (codes "released") d id len
+outcome_text d (PlainReleased len) = line_of (codes "plain" ∷ decimal len ∷ [])
+outcome_text d (ReportNoted service subtype) =
+    line_of (codes "report" ∷ decimal service ∷ decimal subtype ∷ [])
+outcome_text d (AbortNoted id reason) =
+    line_of (codes "abort" ∷ decimal id ∷ decimal (reason_code reason) ∷ [])
+outcome_text d (Broken id reason) = transaction_line (codes "broken") d id (reason_code reason)
+outcome_text d (Ignored why) = line_of (codes "ignored" ∷ why_name why ∷ [])
+
+-- what an accepted event prints by its answer; nothing for an answer that isn't the event's own
+abbrev pub answer_text : Event → Answer → List ℕ
+answer_text (Open d id m) (Opened parts) = opened_text d id parts
+answer_text (Send d id k) (Put n) = put_text n
+answer_text (Take l n) (Took k) = took_text k
+answer_text (Deliver l) (Delivered o) = outcome_text (lane_direction l) o
+answer_text _ _ = []
+
+-- what an accepted event prints
+abbrev pub accepted_text : Event → Reply → List ℕ
+accepted_text event reply = answer_text event reply.answer
+
+-- an event was refused
+abbrev pub refused_text : StepFault → List ℕ
+refused_text f = line_of (codes "refused" ∷ decimal (code_of f) ∷ name_of f ∷ [])
+
+-- the line of this number is unreadable
+abbrev pub unreadable_text : ℕ → List ℕ
+unreadable_text n = codes "line " ++ (decimal n ++ (codes ": unreadable" ++ 10 ∷ []))
+
+-- ---- what is shown
+
+-- nothing to show
+abbrev pub none_text : List ℕ
+none_text = line_of (codes "none" ∷ [])
+
+-- a journal has so many entries
+abbrev pub journal_text : ℕ → List ℕ
+journal_text n = line_of (codes "journal" ∷ decimal n ∷ [])
+
+-- the octets of the packet of this number, where there is one
+abbrev pub packet_text : ℕ → Option (List ℕ) → List ℕ
+packet_text n (Some m) = line_of (codes "packet" ∷ decimal n ∷ octets_text m ∷ [])
+packet_text n None = line_of (codes "packet" ∷ decimal n ∷ codes "none" ∷ [])
+
+-- a message that was released, by its transaction, or as a plain request
+abbrev pub message_text : Option (Direction × Name) → List ℕ → List ℕ
+message_text (Some of) m = line_of (direction_text of.0 ∷ decimal of.1 ∷ octets_text m ∷ [])
+message_text None m = line_of (codes "plain" ∷ octets_text m ∷ [])
+
+-- a release
+abbrev pub release_text : Release → List ℕ
+release_text r = message_text r.of r.message
+
+-- all releases, each in order; `none` where there is none
+abbrev pub releases_text : List Release → List ℕ
+releases_text [] = none_text
+releases_text (r ∷ rs) = flat_map release_text (r ∷ rs)

@@ -1,0 +1,249 @@
+//! What octets are, as a text.
+
+ghost use Rattle.std.specs.Prelude.{◌≡◌, [], true, false, IfOk};
+ghost use Rattle.std.specs.String.{string_bytes};
+ghost use Rattle.lpt_packet.specs.Packets.{fields};
+ghost use Rattle.lpt_packet.specs.declared.direction.Direction.TheVariants.{Up, Down};
+ghost use Rattle.lpt_pus.specs.Commands.{command, tc_verdict};
+ghost use Rattle.lpt_pus.specs.Telemetry.{telemetry, tm_verdict};
+ghost use Rattle.lpt_part.specs.Splitting.{IsPartSize};
+ghost use Rattle.lpt_node.specs.Arrivals.{carried_kind};
+ghost use Rattle.lpt_print.specs.Decoding.{Says, decoding, tc_decoding, tm_decoding, fault_text, tc_text, tm_text, body_text, kind_text, part_line, abort_line, tc_carried, tm_carried};
+
+use crate::words::octets_word;
+use lpt_packet::{Packet, PacketKind, Seen, read_packet};
+use lpt_part::{Kind, read_abort, read_part};
+use lpt_pus::{TcHead, TmHead, read_tc, read_tm};
+use std::alloc::{AllocError, Global};
+
+/// The service type of large packet transfer (ECSS-E-ST-70-41C).
+const TRANSFER: u8 = 13;
+
+/// The message subtype of the report that a reception was broken off.
+const ABORT: u8 = 16;
+
+/// What octets are, as a text, and whether they fail a test.
+#[derive(Debug, Drop)]
+pub struct Decoded {
+    /// The lines that say what the octets are.
+    pub text: String,
+    /// Whether they are neither idle, a telecommand nor telemetry.
+    pub faulty: bool,
+}
+
+/// What octets are, for parts of `p` octets (4 to 1024).
+///
+/// `idle`; or a line with what the headers of the telecommand or the telemetry say, one with its
+/// body, and one with the part or the abortion report that the body is, where it is read as one; or
+/// `fault 3 Length`, the first test of the packet, and then of its secondary header, that fails.
+pub fn print_decoded(alloc: Global, octets: &[u8], p: u32) -> Result<Decoded, AllocError>
+    requires { IsPartSize p }
+    ensures { IfOk result (λ d. Says (string_bytes d.text) d.faulty (decoding p octets.now)) }
+{
+    match read_packet(octets) {
+        Ok(Seen::Idle) => Ok(readable(String::from_str(alloc, "idle\n")?)),
+        Ok(Seen::Packet(packet)) => match packet.kind {
+            PacketKind::Tc => decoded_tc(alloc, &packet, p),
+            PacketKind::Tm => decoded_tm(alloc, &packet, p),
+        },
+        Err(fault) => Ok(faulty(print_fault(alloc, fault.code(), fault.name())?)),
+    }
+}
+
+// What a packet is as a telecommand.
+fn decoded_tc(alloc: Global, packet: &Packet<'_>, p: u32) -> Result<Decoded, AllocError>
+    requires { IsPartSize p }
+    ensures { IfOk result (λ d. Says (string_bytes d.text) d.faulty
+        (tc_decoding p (tc_verdict (fields packet.now)))) }
+{
+    match read_tc(packet) {
+        Ok((head, body)) => {
+            let mut text = print_tc(alloc, &head)?;
+            text.push_str(print_body(alloc, body)?.as_str())?;
+            text.push_str(print_tc_carried(alloc, &head, body, p)?.as_str())?;
+            Ok(readable(text))
+        }
+        Err(fault) => Ok(faulty(print_fault(alloc, fault.code(), fault.name())?)),
+    }
+}
+
+// What a packet is as telemetry.
+fn decoded_tm(alloc: Global, packet: &Packet<'_>, p: u32) -> Result<Decoded, AllocError>
+    requires { IsPartSize p }
+    ensures { IfOk result (λ d. Says (string_bytes d.text) d.faulty
+        (tm_decoding p (tm_verdict (fields packet.now)))) }
+{
+    match read_tm(packet) {
+        Ok((head, body)) => {
+            let mut text = print_tm(alloc, &head)?;
+            text.push_str(print_body(alloc, body)?.as_str())?;
+            text.push_str(print_tm_carried(alloc, &head, body, p)?.as_str())?;
+            Ok(readable(text))
+        }
+        Err(fault) => Ok(faulty(print_fault(alloc, fault.code(), fault.name())?)),
+    }
+}
+
+// Octets that are read.
+fn readable(text: String) -> Decoded
+    ensures text { string_bytes result.text ≡ string_bytes text }
+    ensures faulty { result.faulty ≡ false }
+{
+    Decoded {
+        text,
+        faulty: false,
+    }
+}
+
+// Octets that fail a test.
+fn faulty(text: String) -> Decoded
+    ensures text { string_bytes result.text ≡ string_bytes text }
+    ensures faulty { result.faulty ≡ true }
+{
+    Decoded { text, faulty: true }
+}
+
+// The first test that octets fail.
+fn print_fault(alloc: Global, code: u16, name: &str) -> Result<String, AllocError>
+    ensures { IfOk result (λ t. string_bytes t ≡ fault_text code name.now) }
+{
+    format!(in alloc; "fault {code} {name}\n")
+}
+
+// What a telecommand's headers say.
+fn print_tc(alloc: Global, head: &TcHead) -> Result<String, AllocError>
+    ensures { IfOk result (λ t. string_bytes t ≡ tc_text (command head.now [])) }
+{
+    let TcHead {
+        apid,
+        count,
+        flags,
+        service,
+        subtype,
+        source,
+    } = *head;
+    let mut text = format!(in alloc; "tc apid {apid} count {count} flags {flags}")?;
+    let more = format!(in alloc; " service {service} subtype {subtype} source {source}\n")?;
+    text.push_str(more.as_str())?;
+    Ok(text)
+}
+
+// What a telemetry packet's headers say.
+fn print_tm(alloc: Global, head: &TmHead) -> Result<String, AllocError>
+    ensures { IfOk result (λ t. string_bytes t ≡ tm_text (telemetry head.now [])) }
+{
+    let TmHead {
+        apid,
+        count,
+        status,
+        service,
+        subtype,
+        counter,
+        destination,
+        time,
+    } = *head;
+    let mut text = format!(in alloc; "tm apid {apid} count {count} status {status}")?;
+    let more = format!(in alloc;
+        " service {service} subtype {subtype} counter {counter} \
+        destination {destination} time {time}\n"
+    )?;
+    text.push_str(more.as_str())?;
+    Ok(text)
+}
+
+// The octets of a message's body.
+fn print_body(alloc: Global, body: &[u8]) -> Result<String, AllocError>
+    ensures { IfOk result (λ t. string_bytes t ≡ body_text body.now) }
+{
+    let octets = octets_word(alloc, body)?;
+    format!(in alloc; "body {octets}\n")
+}
+
+// The part that a telecommand carries, where it carries one.
+fn print_tc_carried(alloc: Global, head: &TcHead, body: &[u8], p: u32) -> Result<String, AllocError>
+    requires { IsPartSize p }
+    ensures { IfOk result (λ t. string_bytes t ≡ tc_carried p (command head.now body.now)) }
+{
+    match kind_up(head.service, head.subtype) {
+        Some(kind) => print_part(alloc, kind, body, p),
+        None => Ok(String::new(alloc)),
+    }
+}
+
+// The part or the abortion report that telemetry carries, where it carries one.
+fn print_tm_carried(alloc: Global, head: &TmHead, body: &[u8], p: u32) -> Result<String, AllocError>
+    requires { IsPartSize p }
+    ensures { IfOk result (λ t. string_bytes t ≡ tm_carried p (telemetry head.now body.now)) }
+{
+    match kind_down(head.service, head.subtype) {
+        Some(kind) => print_part(alloc, kind, body, p),
+        None => {
+            if head.service == TRANSFER && head.subtype == ABORT {
+                print_abort(alloc, body)
+            } else {
+                Ok(String::new(alloc))
+            }
+        }
+    }
+}
+
+// The part of this kind that a body is; nothing where it isn't read as one.
+fn print_part(alloc: Global, kind: Kind, body: &[u8], p: u32) -> Result<String, AllocError>
+    requires { IsPartSize p }
+    ensures { IfOk result (λ t. string_bytes t ≡ part_line p body.now kind) }
+{
+    let Ok(part) = read_part(kind, body, p) else {
+        return Ok(String::new(alloc));
+    };
+    let kind = kind_word(part.kind);
+    let id = part.id;
+    let number = part.number;
+    let octets = part.octets.len();
+    format!(in alloc; "part {kind} id {id} number {number} octets {octets}\n")
+}
+
+// The abortion report that a body is; nothing where it isn't read as one.
+fn print_abort(alloc: Global, body: &[u8]) -> Result<String, AllocError>
+    ensures { IfOk result (λ t. string_bytes t ≡ abort_line body.now) }
+{
+    let Ok((id, reason)) = read_abort(body) else {
+        return Ok(String::new(alloc));
+    };
+    let reason = reason.code();
+    format!(in alloc; "abort id {id} reason {reason}\n")
+}
+
+// A kind's word.
+fn kind_word(kind: Kind) -> &'static str
+    ensures { result.now ≡ kind_text kind }
+{
+    match kind {
+        Kind::First => "first",
+        Kind::Middle => "middle",
+        Kind::Last => "last",
+    }
+}
+
+// The kind of part that a telecommand carries.
+fn kind_up(service: u8, subtype: u8) -> Option<Kind>
+    ensures { result ≡ carried_kind Up service subtype }
+{
+    match (service, subtype) {
+        (TRANSFER, 9) => Some(Kind::First),
+        (TRANSFER, 10) => Some(Kind::Middle),
+        (TRANSFER, 11) => Some(Kind::Last),
+        _ => None,
+    }
+}
+
+// The kind of part that telemetry carries.
+fn kind_down(service: u8, subtype: u8) -> Option<Kind>
+    ensures { result ≡ carried_kind Down service subtype }
+{
+    match (service, subtype) {
+        (TRANSFER, 1) => Some(Kind::First),
+        (TRANSFER, 2) => Some(Kind::Middle),
+        (TRANSFER, 3) => Some(Kind::Last),
+        _ => None,
+    }
+}

@@ -1,0 +1,20 @@
+//! The texts that the tool prints: what an event did or why it was refused, what a world shows,
+//! and what octets are when they are decoded.
+//!
+//! A text is lines of words, with a space between the words and a line end behind each line.
+//! Numbers are decimal; octets are hexadecimal digits in lower case, or `-` where there are none.
+//! Texts are made here and written nowhere; the only error is want of memory.
+#![tactic(auto)]
+
+mod decoding;
+mod printing;
+mod words;
+
+pub use decoding::{Decoded, print_decoded};
+pub use printing::{
+    print_journal, print_none, print_opened, print_outcome, print_packet, print_put, print_refused,
+    print_release, print_took, print_unreadable,
+};
+
+#[cfg(test)]
+mod tests;

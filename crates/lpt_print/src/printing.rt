@@ -1,0 +1,132 @@
+//! The lines that a script prints.
+
+ghost use Rattle.std.specs.Prelude.{◌≡◌, IfOk};
+ghost use Rattle.std.specs.Option.{option_copied};
+ghost use Rattle.std.specs.String.{string_bytes};
+ghost use Rattle.lpt_print.specs.Printing.{opened_text, put_text, took_text, outcome_text, refused_text, unreadable_text, journal_text, packet_text, release_text, none_text};
+
+use crate::words::{direction_word, octets_word, why_word};
+use lpt_node::Outcome;
+use lpt_packet::{Direction, Name};
+use lpt_world::{Release, StepFault};
+use std::alloc::{AllocError, Global};
+
+/// `opened up 7 parts 3`: a message was opened, and has so many parts.
+pub fn print_opened(
+    alloc: Global,
+    direction: Direction,
+    id: Name,
+    parts: u16,
+) -> Result<String, AllocError>
+    ensures { IfOk result (λ t. string_bytes t ≡ opened_text direction id parts) }
+{
+    let direction = direction_word(direction);
+    format!(in alloc; "opened {direction} {id} parts {parts}\n")
+}
+
+/// `put 0`: the packet of this number was put on the link.
+pub fn print_put(alloc: Global, n: u64) -> Result<String, AllocError>
+    ensures { IfOk result (λ t. string_bytes t ≡ put_text n) }
+{
+    format!(in alloc; "put {n}\n")
+}
+
+/// `took 2`: the packet of this number was taken into a hand.
+pub fn print_took(alloc: Global, n: u64) -> Result<String, AllocError>
+    ensures { IfOk result (λ t. string_bytes t ≡ took_text n) }
+{
+    format!(in alloc; "took {n}\n")
+}
+
+/// What became of a packet that was delivered in this direction: `kept up 7 3` and `again up 7 1`
+/// with a part's number, `released up 7 20` and `plain 27` with a message's octets, `report 1 4`
+/// with service type and message subtype, `abort 7 1` and `broken up 7 3` with the number of the
+/// reason, `ignored Closed` with its name.
+pub fn print_outcome(
+    alloc: Global,
+    direction: Direction,
+    outcome: Outcome,
+) -> Result<String, AllocError>
+    ensures { IfOk result (λ t. string_bytes t ≡ outcome_text direction outcome) }
+{
+    let direction = direction_word(direction);
+    match outcome {
+        Outcome::Kept(id, part) => format!(in alloc; "kept {direction} {id} {part}\n"),
+        Outcome::Again(id, part) => format!(in alloc; "again {direction} {id} {part}\n"),
+        Outcome::Released(id, octets) => format!(in alloc; "released {direction} {id} {octets}\n"),
+        Outcome::PlainReleased(octets) => format!(in alloc; "plain {octets}\n"),
+        Outcome::ReportNoted(service, subtype) => {
+            format!(in alloc; "report {service} {subtype}\n")
+        }
+        Outcome::AbortNoted(id, reason) => {
+            let reason = reason.code();
+            format!(in alloc; "abort {id} {reason}\n")
+        }
+        Outcome::Broken(id, reason) => {
+            let reason = reason.code();
+            format!(in alloc; "broken {direction} {id} {reason}\n")
+        }
+        Outcome::Ignored(why) => {
+            let why = why_word(why);
+            format!(in alloc; "ignored {why}\n")
+        }
+    }
+}
+
+/// `refused 47 NotHeld`: an event was refused, for this reason.
+pub fn print_refused(alloc: Global, fault: StepFault) -> Result<String, AllocError>
+    ensures { IfOk result (λ t. string_bytes t ≡ refused_text fault) }
+{
+    let code = fault.code();
+    let name = fault.name();
+    format!(in alloc; "refused {code} {name}\n")
+}
+
+/// `line 2: unreadable`: the script's line of this number, counted from 1, can't be read.
+pub fn print_unreadable(alloc: Global, line: u64) -> Result<String, AllocError>
+    ensures { IfOk result (λ t. string_bytes t ≡ unreadable_text line) }
+{
+    format!(in alloc; "line {line}: unreadable\n")
+}
+
+/// `journal 10`: the journal has so many entries.
+pub fn print_journal(alloc: Global, n: u64) -> Result<String, AllocError>
+    ensures { IfOk result (λ t. string_bytes t ≡ journal_text n) }
+{
+    format!(in alloc; "journal {n}\n")
+}
+
+/// `packet 0 1864c000`, or `packet 9 none`: the octets of the packet of this number, where there is
+/// one.
+pub fn print_packet(alloc: Global, n: u64, packet: Option<&[u8]>) -> Result<String, AllocError>
+    ensures { IfOk result (λ t. string_bytes t ≡ packet_text n (option_copied packet.entry)) }
+{
+    match packet {
+        Some(octets) => {
+            let octets = octets_word(alloc, octets)?;
+            format!(in alloc; "packet {n} {octets}\n")
+        }
+        None => format!(in alloc; "packet {n} none\n"),
+    }
+}
+
+/// `up 7 1864c000`, or `plain 1864c000` where the message was of no transaction: a release.
+pub fn print_release(alloc: Global, release: &Release) -> Result<String, AllocError>
+    ensures { IfOk result (λ t. string_bytes t ≡ release_text release.now) }
+{
+    let octets = octets_word(alloc, release.message.as_slice())?;
+    match release.of {
+        Some((direction, id)) => {
+            let direction = direction_word(direction);
+            format!(in alloc; "{direction} {id} {octets}\n")
+        }
+        None => format!(in alloc; "plain {octets}\n"),
+    }
+}
+
+/// `none`: there is nothing to show.
+pub fn print_none(alloc: Global) -> Result<String, AllocError>
+    ensures { IfOk result (λ t. string_bytes t ≡ none_text) }
+{
+    String::from_str(alloc, "none\n")
+}

@@ -1,0 +1,181 @@
+//! Each text once, written out by hand, and whole packets with what they decode to.
+
+use super::*;
+use lpt_node::{Outcome, Why};
+use lpt_packet::{Direction, Octets, Packet, PacketKind, write_packet};
+use lpt_part::Reason;
+use lpt_world::{Release, StepFault};
+use std::test::Fail;
+
+/// A telecommand with the first part of a message: identifier 7, part 1, octets 00 to 07.
+const FIRST_PART: [u8; 25] = [
+    0x18, 0x64, 0xc0, 0x00, 0x00, 0x12, 0x20, 0x0d, 0x09, 0x00, 0x01, 0x00, 0x07, 0x00, 0x01, 0x00,
+    0x01, 0x02, 0x03, 0x04, 0x05, 0x06, 0x07, 0xf4, 0x0d,
+];
+
+/// A telecommand with the last part of that message: part 3, octets 10 to 13, sequence count 2.
+const LAST_PART: [u8; 21] = [
+    0x18, 0x64, 0xc0, 0x02, 0x00, 0x0e, 0x20, 0x0d, 0x0b, 0x00, 0x01, 0x00, 0x07, 0x00, 0x03, 0x10,
+    0x11, 0x12, 0x13, 0x13, 0x9b,
+];
+
+/// Telemetry that says that the reception of identifier 7 was broken off, at time 19.
+const ABORT_EXPIRED: [u8; 22] = [
+    0x08, 0x64, 0xc0, 0x00, 0x00, 0x0f, 0x20, 0x0d, 0x10, 0x00, 0x00, 0x00, 0x01, 0x00, 0x00, 0x00,
+    0x13, 0x00, 0x07, 0x01, 0x4e, 0x97,
+];
+
+/// An idle packet.
+const IDLE: [u8; 7] = [0x07, 0xff, 0xc0, 0x00, 0x00, 0x00, 0x00];
+
+#[test]
+fn prints_what_an_event_did(rt: HostRuntime) -> Result<(), Fail> {
+    let alloc = rt.alloc();
+    let opened = print_opened(alloc, Direction::Up, 7, 3)?;
+    assert_eq!(rt; opened.as_str(), "opened up 7 parts 3\n");
+    assert_eq!(rt; print_put(alloc, 0)?.as_str(), "put 0\n");
+    assert_eq!(rt; print_took(alloc, 2)?.as_str(), "took 2\n");
+    let refused = print_refused(alloc, StepFault::NotHeld)?;
+    assert_eq!(rt; refused.as_str(), "refused 47 NotHeld\n");
+    assert_eq!(rt;
+        print_unreadable(alloc, 2)?.as_str(),
+        "line 2: unreadable\n"
+    );
+    Ok(())
+}
+
+#[test]
+fn prints_each_outcome(rt: HostRuntime) -> Result<(), Fail> {
+    let cases = [
+        (Direction::Up, Outcome::Kept(7, 3), "kept up 7 3\n"),
+        (Direction::Up, Outcome::Again(7, 1), "again up 7 1\n"),
+        (
+            Direction::Up,
+            Outcome::Released(7, 20),
+            "released up 7 20\n",
+        ),
+        (
+            Direction::Down,
+            Outcome::Released(65535, 65542),
+            "released down 65535 65542\n",
+        ),
+        (Direction::Up, Outcome::PlainReleased(27), "plain 27\n"),
+        (Direction::Down, Outcome::ReportNoted(1, 4), "report 1 4\n"),
+        (
+            Direction::Down,
+            Outcome::AbortNoted(7, Reason::Expired),
+            "abort 7 1\n",
+        ),
+        (
+            Direction::Up,
+            Outcome::Broken(7, Reason::Conflict),
+            "broken up 7 3\n",
+        ),
+        (
+            Direction::Up,
+            Outcome::Ignored(Why::Unreadable),
+            "ignored Unreadable\n",
+        ),
+        (Direction::Up, Outcome::Ignored(Why::Idle), "ignored Idle\n"),
+        (
+            Direction::Up,
+            Outcome::Ignored(Why::ForeignApid),
+            "ignored ForeignApid\n",
+        ),
+        (
+            Direction::Up,
+            Outcome::Ignored(Why::BadPart),
+            "ignored BadPart\n",
+        ),
+        (
+            Direction::Up,
+            Outcome::Ignored(Why::Closed),
+            "ignored Closed\n",
+        ),
+        (
+            Direction::Up,
+            Outcome::Ignored(Why::NoRoom),
+            "ignored NoRoom\n",
+        ),
+    ];
+    for (direction, outcome, text) in cases {
+        assert_eq!(rt;
+            print_outcome(rt.alloc(), direction, outcome)?.as_str(),
+            text
+        );
+    }
+    Ok(())
+}
+
+#[test]
+fn prints_what_a_world_shows(rt: HostRuntime) -> Result<(), Fail> {
+    let alloc = rt.alloc();
+    assert_eq!(rt; print_journal(alloc, 10)?.as_str(), "journal 10\n");
+    let packet = print_packet(alloc, 0, Some(&[0x18, 0x64, 0xc0, 0x00]))?;
+    assert_eq!(rt; packet.as_str(), "packet 0 1864c000\n");
+    assert_eq!(rt; print_packet(alloc, 0, Some(&[]))?.as_str(), "packet 0 -\n");
+    assert_eq!(rt; print_packet(alloc, 9, None)?.as_str(), "packet 9 none\n");
+    for (of, text) in [
+        (Some((Direction::Up, 7)), "up 7 00ff\n"),
+        (Some((Direction::Down, 8)), "down 8 00ff\n"),
+        (None, "plain 00ff\n"),
+    ] {
+        let message = Octets::from_vec([0x00, 0xff].to_vec(alloc)?);
+        let release = Release {
+            place: 0,
+            of,
+            message,
+        };
+        assert_eq!(rt; print_release(alloc, &release)?.as_str(), text);
+    }
+    assert_eq!(rt; print_none(alloc)?.as_str(), "none\n");
+    Ok(())
+}
+
+#[test]
+fn decodes_octets(rt: HostRuntime) -> Result<(), Fail> {
+    let first = "tc apid 100 count 0 flags 0 service 13 subtype 9 source 1\n\
+        body 000700010001020304050607\n";
+    let first_part = "tc apid 100 count 0 flags 0 service 13 subtype 9 source 1\n\
+        body 000700010001020304050607\n\
+        part first id 7 number 1 octets 8\n";
+    let last_part = "tc apid 100 count 2 flags 0 service 13 subtype 11 source 1\n\
+        body 0007000310111213\n\
+        part last id 7 number 3 octets 4\n";
+    let abort = "tm apid 100 count 0 status 0 service 13 subtype 16 \
+        counter 0 destination 1 time 19\n\
+        body 000701\n\
+        abort id 7 reason 1\n";
+    // The octets, the part size, what is printed, and whether the octets are faulty.
+    let cases = [
+        (FIRST_PART.as_slice(), 8, first_part, false),
+        (FIRST_PART.as_slice(), 4, first, false),
+        (LAST_PART.as_slice(), 8, last_part, false),
+        (ABORT_EXPIRED.as_slice(), 8, abort, false),
+        (IDLE.as_slice(), 8, "idle\n", false),
+        (&FIRST_PART[..24], 8, "fault 3 Length\n", true),
+        (&[], 8, "fault 1 Short\n", true),
+    ];
+    for (octets, p, text, faulty) in cases {
+        assert!(rt; p >= 4 && p <= 1024);
+        let decoded = print_decoded(rt.alloc(), octets, p)?;
+        assert_eq!(rt; decoded.text.as_str(), text);
+        assert_eq!(rt; decoded.faulty, faulty, "{text}");
+    }
+    Ok(())
+}
+
+#[test]
+fn decodes_a_packet_with_a_short_header(rt: HostRuntime) -> Result<(), Fail> {
+    for (kind, field) in [
+        (PacketKind::Tc, [0x20, 0x0d, 0x09, 0x00].as_slice()),
+        (PacketKind::Tm, &[0x20, 0x0d, 0x10, 0, 0, 0, 0, 0, 0, 0]),
+    ] {
+        let packet = Packet::new(kind, 100, 0, field).ok_or("no packet")?;
+        let octets = write_packet(rt.alloc(), &packet)?;
+        let decoded = print_decoded(rt.alloc(), octets.as_slice(), 8)?;
+        assert_eq!(rt; decoded.text.as_str(), "fault 13 ShortHeader\n");
+        assert!(rt; decoded.faulty);
+    }
+    Ok(())
+}
