@@ -1,0 +1,3 @@
+mod EndLemmas
+mod LineLemmas
+mod ScriptLemmas

@@ -1,0 +1,100 @@
+-- How a script's ending follows from those of its lines.
+use Rattle.std.proofs.Common.{◌≡◌, ℕ, ◌+◌, List, ◌∷◌, ◌++◌, Option, None, Some, Ok, Err, Bool, refl, sym, ap, ◌∙◌, subst, append_assoc}
+use Rattle.std.specs.Int.{from_bool}
+use Rattle.std.proofs.KnownBytes.{Appends-trans}
+use Rattle.std.specs.Io.KnownBytes.{Appends}
+use Rattle.lpt_text.specs.Streams.{AppendsPart}
+use Rattle.lpt_text.specs.declared.fault.ToolFault.{ToolFault}
+use Rattle.lpt_text.specs.declared.fault.ToolFault.TheVariants as tool
+use Rattle.lpt_tool.specs.Ends.{LineEnds, LinesEnd}
+use Rattle.lpt_tool.specs.Scripts.{Ran, Script, behind, then_rest, lines_ran, line_ran}
+use Rattle.lpt_text.proofs.StreamLemmas.{part_after, part_of_front}
+use Rattle.lpt_words.specs.Grammar.{reading_of}
+use Rattle.lpt_world.specs.Worlds.{Shown}
+
+-- a text before a text is their joined text
+behind_behind : (first second : List ℕ) (s : Script) → behind first (behind second s) ≡ behind (first ++ second) s
+behind_behind first second s = ap (λ t. record s { text = t }) (sym (append_assoc first second s.text))
+
+-- what all lines do: this text was written, and the lines from here on do the rest
+pub record Goes (all : Script) (rest : List (List ℕ)) (w : Shown) (n refused : ℕ) (a b : Option (List ℕ)) : Type 0 where
+  pub done : List ℕ
+  pub written : Appends a b done
+  pub follows : all ≡ behind done (lines_ran rest w n refused)
+
+-- the line's text follows what was written
+line_first : (all : Script) (line : List ℕ) (more : List (List ℕ)) (w : Shown) (n refused : ℕ) (a b : Option (List ℕ))
+    → (goes : Goes all (line ∷ more) w n refused a b)
+    → (line_ran (reading_of line) n w).bad ≡ None
+    → all ≡ behind (goes.done ++ (line_ran (reading_of line) n w).text)
+    (lines_ran more (line_ran (reading_of line) n w).world (n + 1) (refused + from_bool (line_ran (reading_of line) n w).refused))
+line_first all line more w n refused a b goes good =
+    let ran = line_ran (reading_of line) n w in
+    goes.follows
+    ∙ ap (λ x. behind goes.done (then_rest ran n refused (lines_ran more) x)) good
+    ∙ behind_behind goes.done ran.text (lines_ran more ran.world (n + 1) (refused + from_bool ran.refused))
+
+-- a line that ended well leaves the rest to do
+pub line_done : (all : Script) (rest more : List (List ℕ)) (line : List ℕ) (w v : Shown) (n refused : ℕ) (f : Bool) (a b c : Option (List ℕ))
+    → Goes all rest w n refused a b
+    → rest ≡ line ∷ more
+    → LineEnds (line_ran (reading_of line) n w) (Ok f) v b c
+    → Goes all more v (n + 1) (refused + from_bool f) a c
+line_done all rest more line w v n refused f a b c goes at ends =
+    let ran = line_ran (reading_of line) n w in
+    let here = subst (λ x. Goes all x w n refused a b) at goes in
+    record {
+      done = here.done ++ ran.text;
+      written = Appends-trans a b c here.done ran.text here.written ends.3;
+      follows = line_first all line more w n refused a b here ends.0
+          ∙ ap (λ x. behind (here.done ++ ran.text) (lines_ran more x (n + 1) (refused + from_bool ran.refused))) (sym ends.2)
+          ∙ ap (λ x. behind (here.done ++ ran.text) (lines_ran more v (n + 1) (refused + from_bool x))) (sym ends.1);
+    }
+
+-- all that a line's text is a front part of
+line_front : (all : Script) (line : List ℕ) (more : List (List ℕ)) (w : Shown) (n refused : ℕ) (a b c : Option (List ℕ))
+    → Goes all (line ∷ more) w n refused a b
+    → AppendsPart b c (line_ran (reading_of line) n w).text
+    → AppendsPart a c all.text
+line_front all line more w n refused a b c goes p = by_bad ran.bad refl
+  where
+    ran : Ran
+    ran = line_ran (reading_of line) n w
+
+    front : AppendsPart a c (goes.done ++ ran.text)
+    front = part_after a b c goes.done ran.text goes.written p
+
+    by_bad : (x : Option ℕ) → ran.bad ≡ x → AppendsPart a c all.text
+    by_bad None is =
+        let rest = lines_ran more ran.world (n + 1) (refused + from_bool ran.refused) in
+        subst (λ s. AppendsPart a c s.text) (sym (line_first all line more w n refused a b goes is))
+        (part_of_front a c (goes.done ++ ran.text) rest.text front)
+    by_bad (Some k) is =
+        let last = goes.follows ∙ ap (λ x. behind goes.done (then_rest ran n refused (lines_ran more) x)) is in
+        subst (λ s. AppendsPart a c s.text) (sym last) front
+
+-- a line that ended by a fault ends all
+pub line_fault : (all : Script) (rest more : List (List ℕ)) (line : List ℕ) (w v : Shown) (n refused : ℕ) (fault : ToolFault) (a b c : Option (List ℕ))
+    → Goes all rest w n refused a b
+    → rest ≡ line ∷ more
+    → LineEnds (line_ran (reading_of line) n w) (Err fault) v b c
+    → LinesEnd all (Err fault) a c
+line_fault all rest more line w v n refused fault a b c goes at ends = by_fault fault ends
+  where
+    ran : Ran
+    ran = line_ran (reading_of line) n w
+
+    here : Goes all (line ∷ more) w n refused a b
+    here = subst (λ x. Goes all x w n refused a b) at goes
+
+    by_fault : (fault : ToolFault) → LineEnds ran (Err fault) v b c → LinesEnd all (Err fault) a c
+    by_fault (tool.Line k) p =
+        let last = here.follows ∙ ap (λ x. behind here.done (then_rest ran n refused (lines_ran more) x)) p.0 in (
+          ap (λ s. s.bad) last,
+          subst (λ s. Appends a c s.text) (sym last) (Appends-trans a b c here.done ran.text here.written p.1),
+        )
+    by_fault tool.Write p = line_front all line more w n refused a b c here p
+    by_fault tool.Memory p = line_front all line more w n refused a b c here p
+    by_fault tool.Read p = p
+    by_fault tool.Config p = p
+    by_fault (tool.Threads k) p = p

@@ -1,0 +1,111 @@
+-- What the lines of a script do to a world, and what they print.
+use Rattle.std.specs.Prelude.{ℕ, ◌+◌, Bool, true, false, List, [], ◌∷◌, ◌++◌, length, slice_get, Option, Some, None}
+use Rattle.std.specs.Int.{from_bool}
+use Rattle.std.specs.Option.{option_map}
+use Rattle.lpt_words.specs.Words.{lines}
+use Rattle.lpt_node.specs.declared.config.Config.{Config}
+use Rattle.lpt_print.specs.Printing.{accepted_text, refused_text, releases_text, packet_text, journal_text, unreadable_text}
+use Rattle.lpt_words.specs.declared.grammar.Command.{Command}
+use Rattle.lpt_words.specs.declared.grammar.Command.TheVariants as command
+use Rattle.lpt_words.specs.declared.grammar.Reading.{Reading}
+use Rattle.lpt_words.specs.declared.grammar.Reading.TheVariants.{Skipped, Asks, Unreadable}
+use Rattle.lpt_words.specs.Grammar.{reading_of}
+use Rattle.lpt_world.specs.declared.event.Event.{Event}
+use Rattle.lpt_world.specs.declared.event.Event.TheVariants.{Open, Send, Take, Deliver}
+use Rattle.lpt_world.specs.declared.fault.StepFault.{StepFault}
+use Rattle.lpt_world.specs.declared.reply.Reply.{Reply}
+use Rattle.lpt_world.specs.Journal.{sent}
+use Rattle.lpt_world.specs.Releases.{releases}
+use Rattle.lpt_world.specs.Replies.{reply}
+use Rattle.lpt_world.specs.Worlds.{Shown, history, refusal_at, with_entry}
+
+-- what a line leaves: the world after it, what it printed, whether an event was refused, and its own
+-- number where it is unreadable
+pub record Ran : Type 0 where
+  pub world : Shown
+  pub text : List ℕ
+  pub refused : Bool
+  pub bad : Option ℕ
+
+-- a line that prints this, and leaves this world
+abbrev pub printed : Shown → List ℕ → Ran
+printed w text = record { world = w; text = text; refused = false; bad = None }
+
+-- what an event that isn't refused answers
+abbrev pub answered : Shown → Event → Reply
+answered w e = reply w.config (history w) e
+
+-- one event, by the reason for which it is refused: a refused one changes nothing
+abbrev pub stepped_as : Shown → Event → Option StepFault → Ran
+stepped_as w e None = printed (with_entry w 0 e (answered w e)) (accepted_text e (answered w e))
+stepped_as w e (Some fault) = record { world = w; text = refused_text fault; refused = true; bad = None }
+
+-- one event, which the session asks for, seat 0
+abbrev pub stepped : Shown → Event → Ran
+stepped w e = stepped_as w e (refusal_at w 0 e)
+
+-- the second line's doing behind the first's
+abbrev pub joined : Ran → Ran → Ran
+joined first second = record second { text = first.text ++ second.text }
+
+-- the second, where the first was not refused
+abbrev pub unless_refused : Bool → Ran → (Shown → Ran) → Ran
+unless_refused true first second = first
+unless_refused false first second = joined first (second first.world)
+
+-- two events, of which the second happens where the first was not refused
+abbrev pub and_then : Ran → (Shown → Ran) → Ran
+and_then first second = unless_refused first.refused first second
+
+-- the octets of the packet of this number, where so many were put
+abbrev pub packet_octets : Shown → ℕ → Option (List ℕ)
+packet_octets w n = option_map (λ p. p.octets) (slice_get (sent (history w)) n)
+
+-- what a command does
+abbrev pub does : Command → Shown → Ran
+does (command.Open d id m) w = stepped w (Open d id m)
+does (command.Send d id k) w = stepped w (Send d id k)
+does (command.Take l n) w = stepped w (Take l n)
+does (command.Deliver l) w = stepped w (Deliver l)
+does (command.Pass l n) w = and_then (stepped w (Take l n)) (λ after. stepped after (Deliver l))
+does command.ShowReleased w = printed w (releases_text (releases w.config (history w)))
+does (command.ShowPacket n) w = printed w (packet_text n (packet_octets w n))
+does command.ShowJournal w = printed w (journal_text (length w.journal))
+
+-- what a line does, by what it says and by its number
+abbrev pub line_ran : Reading → ℕ → Shown → Ran
+line_ran Skipped n w = printed w []
+line_ran (Asks c) n w = does c w
+line_ran Unreadable n w = record { world = w; text = unreadable_text n; refused = false; bad = Some n }
+
+-- what a script leaves: its text, how many lines were refused, and the number of the unreadable line
+-- that ended it
+pub record Script : Type 0 where
+  pub text : List ℕ
+  pub refused : ℕ
+  pub bad : Option ℕ
+
+-- a script that is one unreadable line of this number
+abbrev pub unreadable : ℕ → Script
+unreadable n = record { text = unreadable_text n; refused = 0; bad = Some n }
+
+-- the same with this text before its own
+abbrev pub behind : List ℕ → Script → Script
+behind text s = record s { text = text ++ s.text }
+
+-- a line and then the rest, unless the line is unreadable
+abbrev pub then_rest : Ran → ℕ → ℕ → (Shown → ℕ → ℕ → Script) → Option ℕ → Script
+then_rest ran n refused rest (Some k) = record { text = ran.text; refused = refused; bad = Some k }
+then_rest ran n refused rest None =
+    behind ran.text (rest ran.world (n + 1) (refused + from_bool ran.refused))
+
+-- what lines do, from this world on, the first of which has this number, with so many refused before
+abbrev pub lines_ran : List (List ℕ) → Shown → ℕ → ℕ → Script
+lines_ran [] w n refused = record { text = []; refused = refused; bad = None }
+lines_ran (line ∷ more) w n refused =
+    let ran = line_ran (reading_of line) n w in
+    then_rest ran n refused (lines_ran more) ran.bad
+
+-- what a script does to a new world of this configuration
+abbrev pub script_ran : Config → List ℕ → Script
+script_ran c text = lines_ran (lines text) (record { config = c; journal = [] }) 1 0

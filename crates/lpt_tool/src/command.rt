@@ -1,0 +1,150 @@
+//! What a command does to a world and what it prints.
+
+ghost use Rattle.std.specs.Prelude.{◌≡◌, ◌≢◌, ◌-◌, length, slice_get, IsErrOf, IfOk, IfSome, Err, true, false};
+ghost use Rattle.std.specs.List.{flat_map};
+ghost use Rattle.lpt_print.specs.Printing.{accepted_text, release_text, releases_text};
+ghost use Rattle.lpt_tool.specs.Ends.{LineEnds, TextEnds, unrefused};
+ghost use Rattle.lpt_tool.specs.Scripts.{and_then, does, stepped};
+
+use crate::printed::{print_accepted, put, put_refused};
+use lpt_link::Lane;
+use lpt_print::{print_journal, print_none, print_packet, print_release};
+use lpt_text::{Sink, ToolFault};
+use lpt_words::Command;
+use lpt_world::{Entry, Event, Release, World};
+use std::alloc::Global;
+
+/// The seat of the session, for which scripts ask.
+const SESSION: u8 = 0;
+
+/// Does a command, prints its text, and answers whether an event was refused.
+pub(crate) fn run_command<K: Sink>(
+    alloc: Global,
+    world: &mut World,
+    command: Command,
+    out: &mut K,
+) -> Result<bool, ToolFault>
+    ensures ends { LineEnds (does command world.old) result world.new (K.contents out.old) (K.contents out.new) }
+    ensures cause { IsErrOf result ToolFault.Write → K.failed out.new ≡ true }
+    ensures told { result ≢ Err ToolFault.Write → K.failed out.new ≡ K.failed out.old }
+{
+    match command {
+        Command::Open(direction, id, message) => {
+            run_event(alloc, world, Event::Open(direction, id, message), out)
+        }
+        Command::Send(direction, id, part) => {
+            run_event(alloc, world, Event::Send(direction, id, part), out)
+        }
+        Command::Take(lane, number) => run_event(alloc, world, Event::Take(lane, number), out),
+        Command::Deliver(lane) => run_event(alloc, world, Event::Deliver(lane), out),
+        Command::Pass(lane, number) => run_pass(alloc, world, lane, number, out),
+        Command::ShowReleased => quietly(show_released(alloc, world.released(), out)),
+        Command::ShowPacket(number) => {
+            quietly(put(out, print_packet(alloc, number, world.packet(number))))
+        }
+        Command::ShowJournal => {
+            quietly(put(out, print_journal(alloc, world.journal().len() as u64)))
+        }
+    }
+}
+
+// What printed nothing of an event has not been refused.
+fn quietly(written: Result<(), ToolFault>) -> Result<bool, ToolFault>
+    ensures { result ≡ unrefused written }
+{
+    match written {
+        Ok(()) => Ok(false),
+        Err(fault) => Err(fault),
+    }
+}
+
+// Asks the world for an event, and prints what it answers.
+fn run_event<K: Sink>(
+    alloc: Global,
+    world: &mut World,
+    event: Event,
+    out: &mut K,
+) -> Result<bool, ToolFault>
+    ensures ends { LineEnds (stepped world.old event) result world.new (K.contents out.old) (K.contents out.new) }
+    ensures cause { IsErrOf result ToolFault.Write → K.failed out.new ≡ true }
+    ensures told { result ≢ Err ToolFault.Write → K.failed out.new ≡ K.failed out.old }
+{
+    match world.step(SESSION, event) {
+        Ok(_) => put_last(alloc, world, out),
+        Err(refused) => put_refused(alloc, refused.fault, out),
+    }
+}
+
+// Prints what the last event of the journal answered.
+fn put_last<K: Sink>(alloc: Global, world: &World, out: &mut K) -> Result<bool, ToolFault>
+    ensures ends { IfSome (slice_get world.now.journal (length world.now.journal - 1))
+        (λ x. TextEnds (accepted_text x.event x.reply) result (K.contents out.old) (K.contents out.new)) }
+    ensures accepted { IfOk result (λ r. r ≡ false) }
+    ensures cause { IsErrOf result ToolFault.Write → K.failed out.new ≡ true }
+    ensures told { result ≢ Err ToolFault.Write → K.failed out.new ≡ K.failed out.old }
+{
+    match world.journal().last() {
+        Some(entry) => put_entry(alloc, entry, out),
+        None => Ok(false),
+    }
+}
+
+// Prints what an accepted event answered.
+fn put_entry<K: Sink>(alloc: Global, entry: &Entry, out: &mut K) -> Result<bool, ToolFault>
+    ensures ends { TextEnds (accepted_text entry.now.event entry.now.reply) result (K.contents out.old) (K.contents out.new) }
+    ensures accepted { IfOk result (λ r. r ≡ false) }
+    ensures cause { IsErrOf result ToolFault.Write → K.failed out.new ≡ true }
+    ensures told { result ≢ Err ToolFault.Write → K.failed out.new ≡ K.failed out.old }
+{
+    match put(out, print_accepted(alloc, &entry.event, &entry.reply)) {
+        Ok(()) => Ok(false),
+        Err(fault) => Err(fault),
+    }
+}
+
+// Takes a packet into a lane's hand, and delivers it unless that was refused.
+fn run_pass<K: Sink>(
+    alloc: Global,
+    world: &mut World,
+    lane: Lane,
+    number: u64,
+    out: &mut K,
+) -> Result<bool, ToolFault>
+    ensures ends { LineEnds (and_then (stepped world.old (Event.Take lane number)) (λ w. stepped w (Event.Deliver lane)))
+        result world.new (K.contents out.old) (K.contents out.new) }
+    ensures cause { IsErrOf result ToolFault.Write → K.failed out.new ≡ true }
+    ensures told { result ≢ Err ToolFault.Write → K.failed out.new ≡ K.failed out.old }
+{
+    match run_event(alloc, world, Event::Take(lane, number), out) {
+        Ok(false) => run_event(alloc, world, Event::Deliver(lane), out),
+        ended => ended,
+    }
+}
+
+// Prints the released messages, or that there is none.
+fn show_released<K: Sink>(alloc: Global, releases: &[Release], out: &mut K) -> Result<(), ToolFault>
+    ensures ends { TextEnds (releases_text releases.now) result (K.contents out.old) (K.contents out.new) }
+    ensures cause { IsErrOf result ToolFault.Write → K.failed out.new ≡ true }
+    ensures told { result ≢ Err ToolFault.Write → K.failed out.new ≡ K.failed out.old }
+{
+    if releases.is_empty() {
+        put(out, print_none(alloc))
+    } else {
+        put_releases(alloc, releases, out)
+    }
+}
+
+// Prints released messages, one a line.
+fn put_releases<K: Sink>(alloc: Global, releases: &[Release], out: &mut K) -> Result<(), ToolFault>
+    ensures ends { TextEnds (flat_map release_text releases.now) result (K.contents out.old) (K.contents out.new) }
+    ensures cause { IsErrOf result ToolFault.Write → K.failed out.new ≡ true }
+    ensures told { result ≢ Err ToolFault.Write → K.failed out.new ≡ K.failed out.old }
+{
+    for release in releases {
+        match put(out, print_release(alloc, release)) {
+            Ok(()) => {}
+            Err(fault) => return Err(fault),
+        }
+    }
+    Ok(())
+}

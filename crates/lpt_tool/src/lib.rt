@@ -1,0 +1,15 @@
+//! Scripts: what each line does to a world, and what it prints.
+#![tactic(auto)]
+
+mod command;
+mod decoding;
+mod end;
+mod printed;
+mod script;
+
+pub use decoding::decode;
+pub use end::ScriptEnd;
+pub use script::run_script;
+
+#[cfg(test)]
+mod tests;
