@@ -1,0 +1,226 @@
+//! Configurations that are read, and texts that are refused.
+
+use crate::read_config;
+use lpt_node::Config;
+use lpt_text::ToolFault;
+use std::test::Fail;
+
+const DEFAULTS: Config = Config {
+    apid: 100,
+    source: 1,
+    part_size: 8,
+    timeout: 10,
+    receptions: 8,
+    outgoing: 8,
+    clock: 0,
+};
+
+#[test]
+fn gives_the_defaults_of_blank_texts(rt: HostRuntime) {
+    for text in [
+        "",
+        "\n",
+        " \t\r\n",
+        "# nothing is set",
+        "\u{feff}# a mark\n",
+    ] {
+        assert_eq!(rt; read_config(rt.alloc(), text), Ok(DEFAULTS), "{text}");
+    }
+}
+
+#[test]
+fn reads_each_key(rt: HostRuntime) {
+    let text = "
+        clock = 7 # ticks
+        outgoing = 6
+        receptions = 5
+        timeout = 4
+        part_size = 16
+        source = 2
+        'apid' = 1
+    ";
+    let expected = Config {
+        apid: 1,
+        source: 2,
+        part_size: 16,
+        timeout: 4,
+        receptions: 5,
+        outgoing: 6,
+        clock: 7,
+    };
+    assert_eq!(rt; read_config(rt.alloc(), text), Ok(expected));
+}
+
+#[test]
+fn reads_the_ends_of_each_range(rt: HostRuntime) {
+    let of = DEFAULTS;
+    let cases = [
+        ("apid = 0", Config { apid: 0, ..of }),
+        ("apid = 2046", Config { apid: 2046, ..of }),
+        ("source = 0", Config { source: 0, ..of }),
+        (
+            "source = 65535",
+            Config {
+                source: 65535,
+                ..of
+            },
+        ),
+        ("part_size = 4", Config { part_size: 4, ..of }),
+        (
+            "part_size = 1024",
+            Config {
+                part_size: 1024,
+                ..of
+            },
+        ),
+        ("timeout = 1", Config { timeout: 1, ..of }),
+        (
+            "timeout = 65535",
+            Config {
+                timeout: 65535,
+                ..of
+            },
+        ),
+        (
+            "receptions = 1",
+            Config {
+                receptions: 1,
+                ..of
+            },
+        ),
+        (
+            "receptions = 64",
+            Config {
+                receptions: 64,
+                ..of
+            },
+        ),
+        ("outgoing = 1", Config { outgoing: 1, ..of }),
+        ("outgoing = 64", Config { outgoing: 64, ..of }),
+        ("clock = 0", Config { clock: 0, ..of }),
+        (
+            "clock = 4294967295",
+            Config {
+                clock: 4_294_967_295,
+                ..of
+            },
+        ),
+    ];
+    for (text, expected) in cases {
+        assert_eq!(rt; read_config(rt.alloc(), text), Ok(expected), "{text}");
+    }
+}
+
+#[test]
+fn reads_each_form_of_an_integer(rt: HostRuntime) {
+    let of = DEFAULTS;
+    let cases = [
+        ("apid = 0x7FE", Config { apid: 2046, ..of }),
+        (
+            "source = 65_535",
+            Config {
+                source: 65535,
+                ..of
+            },
+        ),
+        (
+            "part_size = 0o20",
+            Config {
+                part_size: 16,
+                ..of
+            },
+        ),
+        ("timeout = 0b11", Config { timeout: 3, ..of }),
+        ("clock = +9", Config { clock: 9, ..of }),
+        ("clock = -0", Config { clock: 0, ..of }),
+    ];
+    for (text, expected) in cases {
+        assert_eq!(rt; read_config(rt.alloc(), text), Ok(expected), "{text}");
+    }
+}
+
+#[test]
+fn refuses_numbers_outside_their_range(rt: HostRuntime) {
+    let texts = [
+        "apid = -1",
+        "apid = 2047",
+        "source = -1",
+        "source = 65536",
+        "part_size = 3",
+        "part_size = 1025",
+        "timeout = 0",
+        "timeout = 65536",
+        "receptions = 0",
+        "receptions = 65",
+        "outgoing = 0",
+        "outgoing = 65",
+        "clock = -1",
+        "clock = 4294967296",
+        "clock = 9223372036854775807",
+        "clock = 9223372036854775808",
+        "apid = 0x7FF",
+        "source = 65_536",
+    ];
+    for text in texts {
+        assert_eq!(rt;
+            read_config(rt.alloc(), text),
+            Err(ToolFault::Config),
+            "{text}"
+        );
+    }
+}
+
+#[test]
+fn refuses_other_keys_and_types(rt: HostRuntime) {
+    let texts = [
+        "parts = 8",
+        "Apid = 100",
+        "apid2 = 100",
+        "\"\" = 1",
+        "memory = []",
+        "per_seat = 1",
+        "ticks = 0",
+        "apid = 100\nsize = 1",
+        "apid = 100.0",
+        "clock = 1e3",
+        "apid = true",
+        "apid = \"100\"",
+        "apid = [100]",
+        "apid = {}",
+        "apid.value = 100",
+        "[apid]",
+        "[[apid]]",
+        "[apid]\nvalue = 100",
+        "clock = 2026-01-01",
+    ];
+    for text in texts {
+        assert_eq!(rt;
+            read_config(rt.alloc(), text),
+            Err(ToolFault::Config),
+            "{text}"
+        );
+    }
+}
+
+#[test]
+fn refuses_what_is_not_toml(rt: HostRuntime) {
+    let texts = [
+        "apid",
+        "apid =",
+        "apid = 007",
+        "apid = 1 source = 2",
+        "apid = 1, source = 2",
+        "{\"apid\": 1}",
+        "apid = 1\napid = 1",
+        "apid = 1\n\"apid\" = 2",
+        "open up 7 00",
+        "\0",
+    ];
+    for text in texts {
+        assert_eq!(rt;
+            read_config(rt.alloc(), text),
+            Err(ToolFault::Config),
+            "{text}"
+        );
+    }
+}
