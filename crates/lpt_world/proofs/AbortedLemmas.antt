@@ -3,29 +3,26 @@ use Rattle.std.proofs.Common.{◌≡◌, ◌≢◌, ◌∙◌, ap, sym, subst, r
 use Rattle.std.specs.Option.{option_map_or}
 use Rattle.std.specs.Prelude.{slice_get}
 use Rattle.std.specs.Result.{result_ok}
-use Rattle.std.specs.FinMap as maps
-use Rattle.lpt_packet.specs.declared.direction.Direction.TheVariants.{Up, Down}
+use Rattle.lpt_packet.specs.declared.direction.Direction.TheVariants.{Up}
 use Rattle.lpt_packet.specs.Names.{Name, same_name}
-use Rattle.lpt_packet.specs.Packets.{Fields, Sight, IdlePacket, APacket, seen}
+use Rattle.lpt_packet.specs.Packets.{Sight, IdlePacket, APacket, seen}
 use Rattle.lpt_packet.proofs.NameLemmas.{same_name-true}
 use Rattle.lpt_pus.specs.Commands.{Command, tc_verdict}
 use Rattle.lpt_part.specs.declared.kind.Kind.{Kind}
 use Rattle.lpt_part.specs.declared.reason.Reason.{Reason}
 use Rattle.lpt_part.specs.Parts.{Piece, part_in}
-use Rattle.lpt_ledger.specs.Marks.{Mark, Opened, Shut}
-use Rattle.lpt_ledger.specs.States.{state_of, state_at}
-use Rattle.lpt_ledger.specs.declared.state.State.{State}
+use Rattle.lpt_ledger.specs.Marks.{Mark, Shut}
+use Rattle.lpt_ledger.specs.States.{state_of}
 use Rattle.lpt_link.specs.declared.lane.Lane.{Lane}
-use Rattle.lpt_link.specs.declared.lane.Lane.TheVariants.{S1, S2, G1, G2}
 use Rattle.lpt_link.specs.Lanes.{lane_direction}
 use Rattle.lpt_node.specs.declared.config.Config.{Config}
-use Rattle.lpt_node.specs.declared.side.Side.TheVariants.{Ground, Craft}
-use Rattle.lpt_node.specs.Arrivals.{Arrival, NotRead, AnIdle, Foreign, ARequest, NoPart, APart, AnAbort, arrival, sight_arrival, packet_arrival, command_arrival, carried_kind, part_arrival}
+use Rattle.lpt_node.specs.declared.side.Side.TheVariants.{Craft}
+use Rattle.lpt_node.specs.Arrivals.{NotRead, Foreign, ARequest, NoPart, APart, AnAbort, arrival, sight_arrival, packet_arrival, command_arrival, carried_kind, part_arrival}
 use Rattle.lpt_node.specs.Nodes.{Sending}
 use Rattle.lpt_node.specs.Sending.{closed_in, closed_by}
 use Rattle.lpt_world.specs.declared.entry.Opening.{Opening}
 use Rattle.lpt_world.specs.Journal.{History, SentPacket, sent, hand, in_hand, arrival_at, arrival_in}
-use Rattle.lpt_world.specs.Senders.{Sender, FreeSender, OpenSender, ClosedSender, sender, sender_of, current, is_over}
+use Rattle.lpt_world.specs.Senders.{sender, sender_of, current, is_over}
 use Rattle.lpt_world.specs.Shows.{ShowsSending, mark_of, message_of}
 use Rattle.lpt_world.proofs.CountLemmas.{same_name-comm}
 use Rattle.lpt_world.proofs.MapLemmas.{get_insert, get_remove}

@@ -1,11 +1,10 @@
 -- The ends and the link do and answer what the journal says, and show it afterwards.
-use Rattle.std.proofs.Common.{◌≡◌, ◌∙◌, ap, sym, subst, refl, ℕ, ◌==◌, nat_le, nat_lt, Bool, true, false, not, ◌&&◌, ◌||◌, List, [], ◌∷◌, length, Option, Some, None, is_some}
+use Rattle.std.proofs.Common.{◌≡◌, ◌∙◌, ap, refl, ℕ, nat_le, Bool, true, false, not, ◌&&◌, List, [], ◌∷◌, length, None, is_some}
 use Rattle.std.specs.FinMap as maps
 use Rattle.lpt_packet.specs.declared.direction.Direction.{Direction}
 use Rattle.lpt_packet.specs.declared.direction.Direction.TheVariants.{Up, Down}
 use Rattle.lpt_packet.specs.Names.{Name}
 use Rattle.lpt_part.specs.Parts.{Piece}
-use Rattle.lpt_part.specs.Splitting.{part_count}
 use Rattle.lpt_link.specs.declared.lane.Lane.TheVariants.{S1, S2, G1, G2}
 use Rattle.lpt_node.specs.declared.accepted.Accepted.{Accepted}
 use Rattle.lpt_node.specs.declared.config.Config.{Config}
@@ -18,16 +17,14 @@ use Rattle.lpt_reception.specs.Received.{Parts, contradicts, is_whole, spelled}
 use Rattle.lpt_table.specs.Tables.{TableState}
 use Rattle.lpt_world.specs.declared.event.Event.{Event}
 use Rattle.lpt_world.specs.declared.event.Event.TheVariants.{Open, Send, Take, Deliver}
-use Rattle.lpt_world.specs.declared.fault.StepFault.{StepFault}
 use Rattle.lpt_world.specs.declared.fault.StepFault.TheVariants.{NotOpen, NoSuchPart}
 use Rattle.lpt_world.specs.declared.reply.Answer.{Answer}
-use Rattle.lpt_world.specs.declared.reply.Answer.TheVariants.{Opened, Put, Took, Delivered}
-use Rattle.lpt_world.specs.declared.reply.Puts.{Puts}
+use Rattle.lpt_world.specs.declared.reply.Answer.TheVariants.{Put, Delivered}
 use Rattle.lpt_world.specs.declared.reply.Reply.{Reply}
 use Rattle.lpt_world.specs.Delivery.{judged, outcome}
 use Rattle.lpt_world.specs.Journal.{History, SentPacket, sent, is_held, hand, in_hand}
 use Rattle.lpt_world.specs.Receivers.{kept, with_piece, heard, has_parts, is_closed, last_tick, reception_count}
-use Rattle.lpt_world.specs.Replies.{outcome_puts, send_puts, entry, told, reply, refusal, first_fault, parts_open}
+use Rattle.lpt_world.specs.Replies.{outcome_puts, send_puts, entry, told, reply, refusal, first_fault}
 use Rattle.lpt_world.specs.Senders.{Sender, FreeSender, OpenSender, ClosedSender, sender, is_open}
 use Rattle.lpt_world.specs.State.{State, after, told_delivery, put_one}
 use Rattle.lpt_world.specs.Shows.{Shows}

@@ -1,5 +1,5 @@
 -- How many transactions and receptions are open: each of them has a name that was opened, or heard.
-use Rattle.std.proofs.Common.{◌≡◌, ◌∙◌, ap, sym, refl, ℕ, zero, suc, ◌==◌, Bool, true, false, not, ◌&&◌, ◌||◌, if◌then◌else◌, List, [], ◌∷◌, ◌++◌, length, map, Option, Some, None, is_some, arith}
+use Rattle.std.proofs.Common.{◌≡◌, ◌∙◌, ap, sym, refl, ◌==◌, Bool, true, false, not, ◌&&◌, ◌||◌, if◌then◌else◌, List, [], ◌∷◌, ◌++◌, map, Option, Some, None, arith}
 use Rattle.std.specs.Prelude.{filter}
 use Rattle.std.specs.Option.{option_or}
 use Rattle.std.proofs.lemmas.Bool.Decides.{nat_tests}
@@ -8,10 +8,9 @@ use Rattle.std.specs.FinMap as maps
 use Rattle.std.specs.Ordering.{nat_cmp}
 use Rattle.lpt_packet.specs.declared.direction.Direction.{Direction}
 use Rattle.lpt_packet.specs.Names.{Name, same_name}
-use Rattle.lpt_packet.proofs.NameLemmas.{same_name-refl, same_name-true}
+use Rattle.lpt_packet.proofs.NameLemmas.{same_name-true}
 use Rattle.lpt_link.specs.Lanes.{lane_direction, same_direction}
 use Rattle.lpt_node.specs.declared.config.Config.{Config}
-use Rattle.lpt_node.specs.declared.outcome.Outcome.{Outcome}
 use Rattle.lpt_node.specs.declared.outcome.Outcome.TheVariants.{Kept, Again, Released, PlainReleased, ReportNoted, AbortNoted, Broken, Ignored}
 use Rattle.lpt_node.specs.Arrivals.{Arrival}
 use Rattle.lpt_reception.specs.Received.{Kept as Kept', Parts, no_parts}
@@ -21,10 +20,9 @@ use Rattle.lpt_world.specs.declared.event.Event.{Event}
 use Rattle.lpt_world.specs.declared.event.Event.TheVariants.{Open, Send, Take, Deliver}
 use Rattle.lpt_world.specs.declared.reply.Answer.{Answer}
 use Rattle.lpt_world.specs.declared.reply.Answer.TheVariants.{Opened, Put, Took, Delivered}
-use Rattle.lpt_world.specs.Journal.{Recorded, History, with_all, in_hand}
-use Rattle.lpt_world.specs.Receivers.{heard, heard_now, heard_after, has_parts, heard_names, names_after, with_kept_name, with_arrival, open_names, reception_count}
-use Rattle.lpt_world.specs.Senders.{Sender, FreeSender, OpenSender, ClosedSender, sender, sender_of, is_open, is_opening_of, current, is_over, opened, opened_names, open_count, once}
-use Rattle.lpt_world.proofs.MapLemmas.{len_once}
+use Rattle.lpt_world.specs.Journal.{History, with_all, in_hand}
+use Rattle.lpt_world.specs.Receivers.{heard, heard_now, heard_after, has_parts, heard_names, names_after, with_kept_name, with_arrival}
+use Rattle.lpt_world.specs.Senders.{sender, sender_of, is_open, is_opening_of, current, is_over, opened, opened_names}
 
 -- ---- lists
 

@@ -1,48 +1,41 @@
 -- What the spacecraft's lanes deliver: the state shows the journal afterwards.
-use Rattle.std.proofs.Common.{◌≡◌, ◌≢◌, ◌∙◌, ap, sym, subst, refl, ℕ, ◌==◌, nat_le, Bool, true, false, not, ◌&&◌, ◌||◌, if◌then◌else◌, List, [], ◌∷◌, ◌++◌, length, Option, Some, None, is_some}
-use Rattle.std.specs.Option.{option_map_or}
-use Rattle.std.specs.Prelude.{slice_get}
+use Rattle.std.proofs.Common.{◌≡◌, ◌∙◌, ap, sym, subst, refl, nat_le, Bool, true, false, not, ◌&&◌, List, [], ◌∷◌, ◌++◌, length, Option, Some, None, is_some}
 use Rattle.std.specs.FinMap as maps
-use Rattle.lpt_packet.specs.declared.direction.Direction.{Direction}
 use Rattle.lpt_packet.specs.declared.direction.Direction.TheVariants.{Up, Down}
-use Rattle.lpt_packet.specs.Names.{Name, same_name}
 use Rattle.lpt_part.specs.Parts.{Piece}
-use Rattle.lpt_part.specs.declared.reason.Reason.{Reason}
 use Rattle.lpt_part.specs.declared.reason.Reason.TheVariants.{Conflict}
 use Rattle.lpt_link.specs.declared.lane.Lane.{Lane}
-use Rattle.lpt_link.specs.declared.lane.Lane.TheVariants.{S1, S2, G1, G2}
-use Rattle.lpt_link.specs.Links.{after_drop, packet_in_hand}
-use Rattle.lpt_link.specs.Lanes.{lane_direction}
+use Rattle.lpt_link.specs.declared.lane.Lane.TheVariants.{S1, S2}
+use Rattle.lpt_link.specs.Links.{after_drop}
 use Rattle.lpt_node.specs.declared.accepted.Accepted.{Accepted}
 use Rattle.lpt_node.specs.declared.config.Config.{Config}
 use Rattle.lpt_node.specs.declared.outcome.Outcome.{Outcome}
 use Rattle.lpt_node.specs.declared.outcome.Outcome.TheVariants.{Released, PlainReleased, Broken}
-use Rattle.lpt_node.specs.declared.side.Side.TheVariants.{Ground, Craft}
+use Rattle.lpt_node.specs.declared.side.Side.TheVariants.{Craft}
 use Rattle.lpt_node.specs.declared.telemetry.TelemetryKind.TheVariants.{Abort}
 use Rattle.lpt_node.specs.Accepting.{accepted}
 use Rattle.lpt_node.specs.Arrivals.{Arrival, NotRead, AnIdle, Foreign, ARequest, AReport, NoPart, APart, AnAbort}
 use Rattle.lpt_node.specs.Counting.{counter_of}
 use Rattle.lpt_node.specs.MadePackets.{abort_made}
 use Rattle.lpt_node.specs.Nodes.{NodeData}
-use Rattle.lpt_node.specs.Receiving.{abort_head, table_of, parted}
-use Rattle.lpt_reception.specs.Received.{Parts, contradicts, is_whole, spelled}
+use Rattle.lpt_node.specs.Receiving.{abort_head, table_of}
+use Rattle.lpt_reception.specs.Received.{contradicts, is_whole, spelled}
 use Rattle.lpt_world.specs.declared.event.Event.TheVariants.{Deliver}
 use Rattle.lpt_world.specs.declared.reply.Answer.TheVariants.{Delivered}
 use Rattle.lpt_world.specs.declared.reply.Puts.{Puts}
-use Rattle.lpt_world.specs.declared.reply.Reply.{Reply}
 use Rattle.lpt_world.specs.Delivery.{judged}
 use Rattle.lpt_world.specs.Journal.{Recorded, History, SentPacket, with_all, sent, is_held, hand, in_hand}
 use Rattle.lpt_world.specs.Receivers.{kept, with_piece, heard, has_parts, is_closed, last_tick, clock, reception_count}
 use Rattle.lpt_world.specs.Releases.{releases, released_now}
-use Rattle.lpt_world.specs.Replies.{outcome_puts, entry, told, reply}
+use Rattle.lpt_world.specs.Replies.{outcome_puts, entry}
 use Rattle.lpt_world.specs.Senders.{made, count, type_counter}
-use Rattle.lpt_world.specs.State.{State, delivered_as, told_delivery, after_deliver}
+use Rattle.lpt_world.specs.State.{State, delivered_as, after_deliver}
 use Rattle.lpt_world.specs.Shows.{Shows, ShowsLink}
 use Rattle.lpt_world.proofs.DeliveryLemmas.{delivery, parted_delivers, judged_by, arrival_agrees}
-use Rattle.lpt_world.proofs.LinkLemmas.{link_more, hands_after_drop, as_many_packets}
+use Rattle.lpt_world.proofs.LinkLemmas.{link_more, hands_after_drop}
 use Rattle.lpt_world.proofs.MadeLemmas.{count_more, types_more, is_report-made}
 use Rattle.lpt_world.proofs.ReceiverLemmas.{kept_shown, again_shown, ended_shown, full_shown, parts_shown, more_parts, some_parts}
-use Rattle.lpt_world.proofs.AbortedLemmas.{closed_shown, in_hand_no_abort}
+use Rattle.lpt_world.proofs.AbortedLemmas.{in_hand_no_abort}
 
 -- a delivery with this outcome, as the history has it
 abbrev delivered_entry : Lane → Outcome → Option Puts → List SentPacket → Recorded

@@ -1,11 +1,9 @@
 -- What the receiver makes of a part, by the answers of the tests in their order, is what the journal says.
-use Rattle.std.proofs.Common.{◌≡◌, ◌∙◌, ap, sym, refl, ℕ, nat_le, Bool, true, false, not, ◌&&◌, if◌then◌else◌, List, [], length, Option, Some, None, is_some}
+use Rattle.std.proofs.Common.{◌≡◌, ◌∙◌, ap, sym, refl, ℕ, Bool, true, false, if◌then◌else◌, length, Option, Some, None, is_some}
 use Rattle.std.specs.Option.{option_map, option_map_or, option_and_then}
 use Rattle.std.specs.Prelude.{slice_get}
 use Rattle.std.proofs.lemmas.Option.{slice_get-map}
 use Rattle.std.specs.FinMap as maps
-use Rattle.lpt_packet.specs.declared.direction.Direction.{Direction}
-use Rattle.lpt_packet.specs.declared.direction.Direction.TheVariants.{Up, Down}
 use Rattle.lpt_packet.specs.Names.{Name}
 use Rattle.lpt_part.specs.Parts.{Piece}
 use Rattle.lpt_part.specs.declared.reason.Reason.TheVariants as reason
@@ -21,15 +19,14 @@ use Rattle.lpt_node.specs.declared.outcome.Outcome.{Outcome}
 use Rattle.lpt_node.specs.declared.outcome.Outcome.TheVariants as outcome
 use Rattle.lpt_node.specs.declared.outcome.Why.TheVariants as why
 use Rattle.lpt_node.specs.declared.side.Side.{Side}
-use Rattle.lpt_node.specs.Arrivals.{Arrival, NotRead}
+use Rattle.lpt_node.specs.Arrivals.{NotRead}
 use Rattle.lpt_node.specs.Nodes.{NodeData}
 use Rattle.lpt_node.specs.Receiving.{taken, taken_from, after_take, by_state, abort_head, table_of, parted}
 use Rattle.lpt_reception.specs.Received.{Parts, contradicts, is_whole, spelled}
 use Rattle.lpt_table.specs.Offering.{OfferKind, Kept, Again, Whole, Conflict, NoRoom, offered, is_full, parts_at, taken_out, with_entry}
 use Rattle.lpt_table.specs.Tables.{TableState}
-use Rattle.lpt_world.specs.Delivery.{judged_part}
-use Rattle.lpt_world.specs.Journal.{History, SentPacket, sent, is_held, hand, arrival_in, arrival_at, in_hand}
-use Rattle.lpt_world.specs.Receivers.{kept, with_piece, has_parts}
+use Rattle.lpt_world.specs.Journal.{History, sent, is_held, hand, arrival_in, arrival_at, in_hand}
+use Rattle.lpt_world.specs.Receivers.{kept, with_piece}
 use Rattle.lpt_world.specs.Shows.{ShowsLink, closed_mark, sent_packet}
 use Rattle.lpt_world.specs.State.{arrival_held}
 

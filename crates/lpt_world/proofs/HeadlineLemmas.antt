@@ -1,5 +1,5 @@
 -- A world that shows its journal keeps what holds of every legal journal.
-use Rattle.std.proofs.Common.{◌≡◌, ◌∙◌, subst, List, [], ◌∷◌, ◌++◌}
+use Rattle.std.proofs.Common.{◌∙◌, subst, List, [], ◌∷◌}
 use Rattle.std.proofs.lemmas.List.{append-nil}
 use Rattle.lpt_node.specs.declared.config.Config.{Config}
 use Rattle.lpt_world.specs.declared.ends.Ends.{Ends}

@@ -1,6 +1,6 @@
 -- The link shows its packets, marks and hands after each change.
-use Rattle.std.proofs.Common.{◌≡◌, ◌≢◌, ◌∙◌, ap, sym, refl, ℕ, zero, suc, ◌+◌, ◌<◌, ◌==◌, nat_lt, Bool, true, false, not, ◌&&◌, ◌||◌, if◌then◌else◌, List, [], ◌∷◌, ◌++◌, length, map, Option, Some, None, arith, length-append}
-use Rattle.std.specs.Option.{option_map, option_map_or}
+use Rattle.std.proofs.Common.{◌≡◌, ◌∙◌, ap, sym, refl, ℕ, zero, suc, ◌+◌, ◌==◌, nat_lt, Bool, true, false, not, ◌&&◌, if◌then◌else◌, List, [], ◌∷◌, ◌++◌, length, map, Option, Some, None, arith, length-append}
+use Rattle.std.specs.Option.{option_map_or}
 use Rattle.std.specs.Prelude.{slice_get}
 use Rattle.std.proofs.lemmas.Bool.Decides.{nat_tests}
 use Rattle.lpt_packet.specs.declared.direction.Direction.{Direction}
@@ -8,10 +8,9 @@ use Rattle.lpt_packet.specs.Names.{Name}
 use Rattle.lpt_link.specs.declared.lane.Lane.{Lane}
 use Rattle.lpt_link.specs.declared.lane.Lane.TheVariants.{S1, S2, G1, G2}
 use Rattle.lpt_link.specs.declared.packet.LinkPacket.{LinkPacket}
-use Rattle.lpt_link.specs.Links.{LinkData, is_held as link_holds, hand_of, after_put, after_take, after_drop}
-use Rattle.lpt_world.specs.declared.event.Event.{Event}
+use Rattle.lpt_link.specs.Links.{LinkData, hand_of, after_put, after_take, after_drop}
 use Rattle.lpt_world.specs.declared.event.Event.TheVariants.{Take, Deliver}
-use Rattle.lpt_world.specs.Journal.{Recorded, History, SentPacket, sent, is_lost, is_held, hand, hand_after}
+use Rattle.lpt_world.specs.Journal.{History, SentPacket, sent, is_lost, is_held, hand_after}
 use Rattle.lpt_world.specs.Shows.{ShowsLink, sent_packet}
 
 -- ---- hands

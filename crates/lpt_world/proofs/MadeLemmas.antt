@@ -1,8 +1,6 @@
 -- The counts of the packets that a node has made.
-use Rattle.std.proofs.Common.{◌≡◌, ◌≢◌, ◌∙◌, ap, sym, refl, ℕ, zero, suc, ◌+◌, ◌%◌, ◌<◌, ◌≤◌, ◌==◌, Bool, true, false, ◌&&◌, if◌then◌else◌, List, [], ◌∷◌, ◌++◌, length, take, drop, set, get_or, arith, length-append, get_or-set_same, get_or-set_other, length-set}
+use Rattle.std.proofs.Common.{◌≡◌, ◌≢◌, ◌∙◌, ap, sym, refl, ℕ, ◌+◌, ◌%◌, ◌<◌, ◌==◌, Bool, true, false, ◌&&◌, if◌then◌else◌, List, [], ◌∷◌, ◌++◌, length, get_or, arith, length-append, get_or-set_same, get_or-set_other, length-set}
 use Rattle.std.specs.Prelude.{filter}
-use Rattle.std.proofs.lemmas.Bool.Decides.{nat_tests}
-use Rattle.lpt_packet.specs.Numbers.{same_octets}
 use Rattle.lpt_packet.proofs.Readings.{true_eq, false_eq}
 use Rattle.lpt_packet.specs.Packets.{spelling}
 use Rattle.lpt_pus.specs.Telemetry.{tm_field}

@@ -1,8 +1,6 @@
 -- The open receptions and the receivers' marks show the journal after each outcome of a part.
-use Rattle.std.proofs.Common.{◌≡◌, ◌∙◌, ap, sym, subst, refl, ℕ, ◌==◌, nat_le, Bool, true, false, not, ◌&&◌, ◌||◌, if◌then◌else◌, List, length, Option, Some, None, is_some}
+use Rattle.std.proofs.Common.{◌≡◌, ◌∙◌, ap, sym, refl, ℕ, ◌==◌, nat_le, Bool, true, false, not, ◌&&◌, ◌||◌, if◌then◌else◌, Some, None, is_some}
 use Rattle.std.specs.Prelude.{filter}
-use Rattle.std.proofs.lemmas.Bool.Decides.{nat_tests}
-use Rattle.std.proofs.Common.{arith}
 use Rattle.std.specs.FinMap as maps
 use Rattle.lpt_packet.specs.declared.direction.Direction.{Direction}
 use Rattle.lpt_packet.specs.Names.{Name, same_name}
@@ -15,7 +13,7 @@ use Rattle.lpt_node.specs.Nodes.{Receiving}
 use Rattle.lpt_node.specs.Receiving.{table_of}
 use Rattle.lpt_reception.specs.Received.{Parts, no_parts}
 use Rattle.lpt_table.specs.Offering.{is_full, parts_at, parts_of}
-use Rattle.lpt_table.specs.Tables.{Entries, TableEntry}
+use Rattle.lpt_table.specs.Tables.{TableEntry}
 use Rattle.lpt_world.specs.Journal.{History}
 use Rattle.lpt_world.specs.Receivers.{heard, has_parts, heard_names, reception_count, with_piece, with_arrival, kept}
 use Rattle.lpt_world.specs.Shows.{ShowsReceiving, entry_of, closed_mark}

@@ -1,7 +1,6 @@
 -- Opening, sending and taking: the state shows the journal afterwards.
-use Rattle.std.proofs.Common.{◌≡◌, ◌∙◌, ap, sym, subst, refl, ℕ, ◌==◌, Bool, true, false, ◌||◌, ◌&&◌, if◌then◌else◌, cond, List, [], ◌∷◌, ◌++◌, length, Option, Some, None, is_some}
+use Rattle.std.proofs.Common.{◌≡◌, ◌∙◌, ap, sym, subst, refl, ℕ, ◌==◌, Bool, true, false, ◌||◌, ◌&&◌, if◌then◌else◌, cond, List, [], ◌∷◌, ◌++◌, length, Option, Some, None}
 use Rattle.std.specs.Option.{option_or}
-use Rattle.lpt_packet.specs.declared.direction.Direction.{Direction}
 use Rattle.lpt_packet.specs.declared.direction.Direction.TheVariants.{Up, Down}
 use Rattle.lpt_packet.specs.Names.{Name, same_name}
 use Rattle.lpt_part.specs.declared.kind.Kind.{Kind}
@@ -19,7 +18,7 @@ use Rattle.lpt_node.specs.Sending.{sent_of, part_packet, part_telemetry, opened_
 use Rattle.lpt_world.specs.declared.entry.Opening.{Opening}
 use Rattle.lpt_world.specs.declared.event.Event.TheVariants.{Open, Send, Take}
 use Rattle.lpt_world.specs.declared.reply.Reply.{Reply}
-use Rattle.lpt_world.specs.Journal.{History, sent, is_held, hand}
+use Rattle.lpt_world.specs.Journal.{History, hand}
 use Rattle.lpt_world.specs.Replies.{send_puts, part_packet as journal_packet}
 use Rattle.lpt_world.specs.Senders.{Sender, FreeSender, OpenSender, ClosedSender, sender, sender_of, is_open, current, is_over, made, count, type_counter, is_report}
 use Rattle.lpt_world.specs.State.{State, after_open, sent_on, after_take}

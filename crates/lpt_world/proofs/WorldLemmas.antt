@@ -25,9 +25,9 @@ use Rattle.lpt_world.specs.declared.event.Event.{Event}
 use Rattle.lpt_world.specs.declared.fault.StepFault.TheVariants.{NoSuchSeat}
 use Rattle.lpt_world.specs.declared.reply.Reply.{Reply}
 use Rattle.lpt_world.specs.EndsInside.{state_of}
-use Rattle.lpt_world.specs.Journal.{Recorded, History, SentPacket, sent, is_held, hand}
+use Rattle.lpt_world.specs.Journal.{History, SentPacket, sent}
 use Rattle.lpt_world.specs.Replies.{IsConfig, IsEvent, IsEnabled, refusal, reply, entry, recorded}
-use Rattle.lpt_world.specs.Shows.{Shows, ShowsLink, ShowsSending, ShowsReceiving, sent_packet}
+use Rattle.lpt_world.specs.Shows.{Shows, ShowsSending, ShowsReceiving, sent_packet}
 use Rattle.lpt_world.specs.State.{State, no_state, after, refusal_of}
 use Rattle.lpt_world.specs.WorldInside.{IsShown, IsWorld}
 use Rattle.lpt_world.specs.Worlds.{IsTold, IsToldAfter, events_of, history_of, refusal_at}

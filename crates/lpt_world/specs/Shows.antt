@@ -11,7 +11,7 @@ use Rattle.lpt_node.specs.declared.config.Config.{Config}
 use Rattle.lpt_node.specs.declared.side.Side.TheVariants.{Ground, Craft}
 use Rattle.lpt_node.specs.declared.telemetry.TelemetryKind.{TelemetryKind}
 use Rattle.lpt_node.specs.Counting.{counter_of, service_of, subtype_of}
-use Rattle.lpt_node.specs.Nodes.{NodeData, Sending, Receiving}
+use Rattle.lpt_node.specs.Nodes.{Sending, Receiving}
 use Rattle.lpt_reception.specs.Received.{Parts}
 use Rattle.lpt_table.specs.Tables.{TableEntry}
 use Rattle.lpt_world.specs.Journal.{SentPacket, History, sent, is_held, hand}

@@ -3,7 +3,7 @@
 use Rattle.std.specs.Prelude.{◌≡◌, ℕ, List, [], ◌∷◌, ◌++◌, length, Option, Some, None}
 use Rattle.std.specs.Option.{option_map, option_map_or}
 use Rattle.lpt_packet.specs.declared.direction.Direction.{Direction}
-use Rattle.lpt_packet.specs.declared.direction.Direction.TheVariants.{Up, Down}
+use Rattle.lpt_packet.specs.declared.direction.Direction.TheVariants.{Down}
 use Rattle.lpt_packet.specs.Names.{Name}
 use Rattle.lpt_part.specs.Splitting.{part_count}
 use Rattle.lpt_link.specs.declared.fault.LinkFault.{LinkFault}
@@ -17,7 +17,7 @@ use Rattle.lpt_node.specs.declared.config.Config.{Config}
 use Rattle.lpt_node.specs.declared.fault.NodeFault.{NodeFault}
 use Rattle.lpt_node.specs.declared.fault.NodeFault.TheVariants as node
 use Rattle.lpt_node.specs.declared.outcome.Outcome.{Outcome}
-use Rattle.lpt_node.specs.declared.outcome.Outcome.TheVariants.{Released, PlainReleased}
+use Rattle.lpt_node.specs.declared.outcome.Outcome.TheVariants.{Released}
 use Rattle.lpt_node.specs.declared.side.Side.{Side}
 use Rattle.lpt_node.specs.declared.side.Side.TheVariants.{Ground, Craft}
 use Rattle.lpt_node.specs.Accepting.{accepted}
@@ -32,7 +32,6 @@ use Rattle.lpt_world.specs.declared.fault.StepFault.{StepFault}
 use Rattle.lpt_world.specs.declared.fault.StepFault.TheVariants as step
 use Rattle.lpt_world.specs.declared.reply.Answer.{Answer}
 use Rattle.lpt_world.specs.declared.reply.Answer.TheVariants.{Opened, Put, Took, Delivered}
-use Rattle.lpt_world.specs.declared.reply.Puts.{Puts}
 use Rattle.lpt_world.specs.declared.reply.Reply.{Reply}
 use Rattle.lpt_world.specs.Journal.{arrival_in, sender_side, receiver_side}
 

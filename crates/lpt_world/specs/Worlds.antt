@@ -1,5 +1,5 @@
 -- A world as its readers show it: its configuration and its journal.
-use Rattle.std.specs.Prelude.{◌≡◌, ℕ, nat_lt, ◌==◌, ◌||◌, if◌then◌else◌, List, [], ◌∷◌, ◌++◌, map, reverse, length, Option, Some, None}
+use Rattle.std.specs.Prelude.{◌≡◌, ℕ, nat_lt, ◌==◌, ◌||◌, if◌then◌else◌, List, [], ◌∷◌, ◌++◌, map, reverse, Option, Some, None}
 use Rattle.lpt_node.specs.declared.config.Config.{Config}
 use Rattle.lpt_world.specs.declared.config_fault.ConfigFault.{ConfigFault}
 use Rattle.lpt_world.specs.declared.config_fault.ConfigFault.TheVariants as configured
@@ -9,7 +9,7 @@ use Rattle.lpt_world.specs.declared.fault.StepFault.{StepFault}
 use Rattle.lpt_world.specs.declared.fault.StepFault.TheVariants.{NoSuchSeat, Memory}
 use Rattle.lpt_world.specs.declared.reply.Reply.{Reply}
 use Rattle.lpt_world.specs.Journal.{History}
-use Rattle.lpt_world.specs.Replies.{IsEnabled, first_fault, recorded, refusal, reply}
+use Rattle.lpt_world.specs.Replies.{IsEnabled, recorded, refusal, reply}
 
 -- the configuration, and the journal with its oldest entry first
 pub record Shown : Type 0 where

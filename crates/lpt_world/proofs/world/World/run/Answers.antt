@@ -1,5 +1,5 @@
 -- Each event that is accepted makes the run one longer.
-use Rattle.std.proofs.Common.{◌≡◌, ◌∙◌, sym, subst, refl, slice_get, Option, Some}
+use Rattle.std.proofs.Common.{◌∙◌, sym, subst, refl, Option, Some}
 use Rattle.lpt_world.specs.declared.event.Event.{Event}
 use Rattle.lpt_world.specs.Worlds.{Shown, IsFaultOf}
 use Rattle.lpt_world.proofs.RunLemmas.{run_on, run_all, got}

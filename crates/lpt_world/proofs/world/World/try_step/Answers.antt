@@ -1,5 +1,5 @@
 -- An event that isn't refused is done, and the longer journal is shown.
-use Rattle.std.proofs.Common.{◌≡◌, ◌∙◌, ap, sym, length, rules, None}
+use Rattle.std.proofs.Common.{◌≡◌, ◌∙◌, ap, sym, length, None}
 use Rattle.lpt_world.specs.EndsInside.{state_of}
 use Rattle.lpt_world.specs.Replies.{reply}
 use Rattle.lpt_world.specs.State.{refusal_of, after}

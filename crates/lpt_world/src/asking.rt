@@ -1,0 +1,223 @@
+//! What the tests ask of worlds, row by row, and how they look at what comes.
+
+use crate::*;
+use lpt_link::Lane::{self, S1};
+use lpt_node::{Config, Outcome};
+use lpt_packet::Direction::{self, Up};
+use lpt_packet::{Name, Octets};
+use std::alloc::{AllocError, Global};
+use std::process::Abort;
+use std::test::Fail;
+
+pub(crate) const CONFIG: Config = Config {
+    apid: 100,
+    source: 1,
+    part_size: 8,
+    timeout: 10,
+    receptions: 8,
+    outgoing: 8,
+    clock: 0,
+};
+
+/// An event to ask for. A message has so many octets: 0, 1, 2, .., and after 255 from 0 again.
+#[derive(Clone, Copy)]
+pub(crate) enum Asked {
+    Open(Direction, Name, usize),
+    Send(Direction, Name, u16),
+    Take(Lane, u64),
+    Deliver(Lane),
+}
+
+/// What a seat asks for and what comes of it.
+#[derive(Clone, Copy)]
+pub(crate) struct Row {
+    pub(crate) seat: u8,
+    pub(crate) asked: Asked,
+    pub(crate) want: Result<Answer, StepFault>,
+}
+
+/// A message that was opened or released: place, direction, name, octets.
+pub(crate) type Message = (u64, Direction, Name, usize);
+
+/// What is asked of a new world, and what it shows then.
+#[derive(Clone, Copy)]
+pub(crate) struct Scene<'a> {
+    pub(crate) config: Config,
+    pub(crate) rows: &'a [Row],
+    pub(crate) opened: &'a [Message],
+    pub(crate) released: &'a [Message],
+    /// Numbers of packets, with the octets of each that is there.
+    pub(crate) packets: &'a [(u64, Option<&'a [u8]>)],
+}
+
+/// The opening of a message of so many octets, which has so many parts.
+pub(crate) fn opens(direction: Direction, id: Name, octets: usize, parts: u16) -> Row {
+    let asked = Asked::Open(direction, id, octets);
+    accepted(asked, Answer::Opened(parts))
+}
+
+/// The sending of a part, which gets the packet of this number.
+pub(crate) fn sends(direction: Direction, id: Name, part: u16, number: u64) -> Row {
+    accepted(Asked::Send(direction, id, part), Answer::Put(number))
+}
+
+/// The taking of a packet.
+pub(crate) fn takes(lane: Lane, number: u64) -> Row {
+    accepted(Asked::Take(lane, number), Answer::Took(number))
+}
+
+/// The delivery of a packet that was taken.
+pub(crate) fn gives(lane: Lane, outcome: Outcome) -> Row {
+    accepted(Asked::Deliver(lane), Answer::Delivered(outcome))
+}
+
+/// What a seat asks for in vain.
+pub(crate) fn refused(seat: u8, asked: Asked, fault: StepFault) -> Row {
+    let want = Err(fault);
+    Row { seat, asked, want }
+}
+
+// What seat 3 is given.
+fn accepted(asked: Asked, answer: Answer) -> Row {
+    let want = Ok(answer);
+    Row {
+        seat: 3,
+        asked,
+        want,
+    }
+}
+
+/// The first path: a message is opened, its three parts are sent and delivered as 3, 1, 2.
+pub(crate) fn first_path() -> [Row; 10] {
+    [
+        opens(Up, 7, 20, 3),
+        sends(Up, 7, 1, 0),
+        sends(Up, 7, 2, 1),
+        sends(Up, 7, 3, 2),
+        takes(S1, 2),
+        gives(S1, Outcome::Kept(7, 3)),
+        takes(S1, 0),
+        gives(S1, Outcome::Kept(7, 1)),
+        takes(S1, 1),
+        gives(S1, Outcome::Released(7, 20)),
+    ]
+}
+
+/// The event that a row asks for.
+pub(crate) fn event(alloc: Global, asked: Asked) -> Result<Event, AllocError> {
+    Ok(match asked {
+        Asked::Open(direction, id, octets) => Event::Open(direction, id, message(alloc, octets)?),
+        Asked::Send(direction, id, part) => Event::Send(direction, id, part),
+        Asked::Take(lane, number) => Event::Take(lane, number),
+        Asked::Deliver(lane) => Event::Deliver(lane),
+    })
+}
+
+// The message of so many octets.
+fn message(alloc: Global, octets: usize) -> Result<Octets, AllocError> {
+    let mut items = Vec::new(alloc);
+    for place in 0..octets {
+        items.push((place % 256) as u8)?;
+    }
+    Ok(Octets::from_vec(items))
+}
+
+/// Plays the rows in a new world, and looks at what it shows.
+pub(crate) fn play(rt: &impl Abort, alloc: Global, scene: &Scene) -> Result<(), Fail> {
+    let mut world = World::new(alloc, scene.config)?;
+    for (number, row) in scene.rows.iter().enumerate() {
+        assert!(rt; comes(alloc, &mut world, row)?, "at row {number}");
+    }
+    assert!(rt; shows(alloc, &world, scene)?);
+    Ok(())
+}
+
+// Whether a row is answered as it says. What is refused comes back, with the journal's length.
+fn comes(alloc: Global, world: &mut World, row: &Row) -> Result<bool, AllocError> {
+    let at = world.journal().len() as u64;
+    let event_asked = event(alloc, row.asked)?;
+    match world.step(row.seat, event_asked) {
+        Ok(reply) => Ok(row.want == Ok(reply.answer)),
+        Err(refused) => {
+            let back = refused.event == event(alloc, row.asked)?;
+            Ok(row.want == Err(refused.fault) && refused.at == at && back)
+        }
+    }
+}
+
+/// Whether a world shows what the scene says: journal, openings, releases and packets.
+pub(crate) fn shows(alloc: Global, world: &World, scene: &Scene) -> Result<bool, AllocError> {
+    Ok(
+        has_packets(world, scene.packets)
+            && is_told(alloc, world, scene.rows)?
+            && has_opened(alloc, world, scene.opened)?
+            && has_released(alloc, world, scene.released)?,
+    )
+}
+
+// Whether these packets are there, or not there.
+fn has_packets(world: &World, packets: &[(u64, Option<&[u8]>)]) -> bool {
+    for (number, octets) in packets {
+        if world.packet(*number) != *octets {
+            return false;
+        }
+    }
+    true
+}
+
+// Whether the journal has the accepted rows, and nothing else.
+fn is_told(alloc: Global, world: &World, rows: &[Row]) -> Result<bool, AllocError> {
+    let mut place = 0;
+    for row in rows {
+        if let Ok(answer) = row.want {
+            match world.journal().get(place) {
+                Some(entry) if tells(alloc, entry, row, answer)? => place += 1,
+                _ => return Ok(false),
+            }
+        }
+    }
+    Ok(world.journal().len() == place)
+}
+
+// Whether an entry has a row's seat, event and reply.
+fn tells(alloc: Global, entry: &Entry, row: &Row, answer: Answer) -> Result<bool, AllocError> {
+    let puts = match answer {
+        Answer::Put(first) => Some(Puts { first, count: 1 }),
+        _ => None,
+    };
+    let reply = Reply { answer, puts };
+    Ok(entry.seat == row.seat && entry.reply == reply && entry.event == event(alloc, row.asked)?)
+}
+
+// Whether these messages were opened, and no others.
+fn has_opened(alloc: Global, world: &World, wants: &[Message]) -> Result<bool, AllocError> {
+    for (opening, (place, direction, id, octets)) in world.opened().iter().zip(wants) {
+        let of = (opening.place, opening.direction, opening.id);
+        if of != (*place, *direction, *id) || opening.message != message(alloc, *octets)? {
+            return Ok(false);
+        }
+    }
+    Ok(world.opened().len() == wants.len())
+}
+
+// Whether these messages were released, and no others.
+fn has_released(alloc: Global, world: &World, wants: &[Message]) -> Result<bool, AllocError> {
+    for (release, (place, direction, id, octets)) in world.released().iter().zip(wants) {
+        let of = (release.place, release.of);
+        if of != (*place, Some((*direction, *id))) || release.message != message(alloc, *octets)? {
+            return Ok(false);
+        }
+    }
+    Ok(world.released().len() == wants.len())
+}
+
+/// Runs a new world through the events of the rows, and gives how many it did and why not more.
+pub(crate) fn run(alloc: Global, rows: &[Row]) -> Result<(u64, Option<StepFault>), Fail> {
+    let mut world = World::new(alloc, CONFIG)?;
+    let mut events = Vec::new(alloc);
+    for row in rows {
+        events.push(event(alloc, row.asked)?)?;
+    }
+    let end = world.run(events.as_slice());
+    Ok((end.done, end.refused))
+}
