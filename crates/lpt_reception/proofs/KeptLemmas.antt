@@ -1,7 +1,8 @@
 -- Lists of kept parts in order: what a search of them tells, and where a part is put.
-use Rattle.std.proofs.Common.{inl, inr, Less, Equal, Greater, ◌≡◌, ◌∙◌, ap, sym, refl, ℕ, zero, suc, ◌+◌, ◌<◌, ◌==◌, ◌&&◌, false, nat_eq, T, List, [], ◌∷◌, length, get_or, None, Ok, Err, Result, arith}
-use Rattle.std.specs.Prelude.{IsSome, MatchResult, is_some}
+use Rattle.std.proofs.Common.{inl, inr, Less, Equal, Greater, ◌≡◌, ◌∙◌, ap, sym, refl, ℕ, zero, suc, ◌+◌, ◌<◌, ◌==◌, ◌&&◌, false, nat_eq, T, List, [], ◌∷◌, length, get_or, Some, None, Ok, Err, Result, arith}
+use Rattle.std.specs.Prelude.{IsSome, IfOk, MatchResult, is_some, slice_get}
 use Rattle.std.specs.List.{insert}
+use Rattle.std.specs.Option.{option_map}
 use Rattle.std.specs.List.Sorted.{IsNonDecreasingBy, IsBinarySearchResult, IsSearchInRange}
 use Rattle.std.specs.Ordering.{nat_cmp, is_lt, ordering_index}
 use Rattle.std.specs.Cmp.{ranked, nat_cmp_is, nat_cmp_total}
@@ -87,6 +88,23 @@ searched ks n (Err i) up within at =
       below = λ j d low high. ranked _ n Less (sym (parted.0 j d low high));
       above = λ j d low high. ranked _ n Greater (sym (parted.1 j d low high));
     }
+
+-- the part of the number stands where a search has found it
+stands_at : (n : ℕ) (ks : List KeptPart) (i : ℕ)
+    → i < length ks
+    → ((d : KeptPart) → (get_or ks i d).number ≡ n)
+    → option_map (λ k. k.number) (slice_get ks i) ≡ Some n
+stands_at n [] i within is = absurd (omega arith)
+stands_at n (k ∷ ks) zero within is = ap Some (is k)
+stands_at n (k ∷ ks) (suc i) within is = stands_at n ks i (omega arith) is
+
+-- where a search has found the part of a number
+pub found_place : (ks : List KeptPart) (n : ℕ) (r : Result ℕ ℕ)
+    → IsSearchInRange r (length ks)
+    → IsBinarySearchResult (λ k. nat_cmp k.number n) ks r
+    → IfOk r (λ i. option_map (λ k. k.number) (slice_get ks i) ≡ Some n)
+found_place ks n (Ok i) within at = stands_at n ks i within (λ d. ranked _ n Equal (sym (at d)))
+found_place ks n (Err i) within at = tt
 
 -- ---- a gap
 

@@ -1,8 +1,9 @@
 //! Lists of parts in the order of their numbers.
 
-ghost use Rattle.std.specs.Prelude.{◌≡◌, ◌≤◌, ◌++◌, None, IfOk, OnOk, IsSome, IsTrue, MatchResult};
+ghost use Rattle.std.specs.Prelude.{◌≡◌, ◌≤◌, ◌++◌, None, Some, slice_get, IfOk, OnOk, IsSome, IsTrue, MatchResult};
 ghost use Rattle.std.specs.FinMap as map;
 ghost use Rattle.std.specs.List.{list_any};
+ghost use Rattle.std.specs.Option.{option_map};
 ghost use Rattle.std.specs.Ordering.{nat_cmp};
 ghost use Rattle.lpt_reception.specs.Answers.{kept, IsNew};
 ghost use Rattle.lpt_reception.specs.KeptParts.{kept_in, entry, entries_of, octets_of, IsGap};
@@ -49,9 +50,11 @@ fn any_clash(parts: &[KeptPart], part: &Part<'_>) -> bool
 // The place of the part of this number, or, as an error, where it would stand.
 fn find(parts: &[KeptPart], number: u16) -> Result<usize, usize>
     requires { IsTrue (map.is_sorted nat_cmp (entries_of parts.now)) }
-    ensures { MatchResult result
+    ensures found { MatchResult result
         (λ i. IsSome (map.find nat_cmp number (entries_of parts.now)))
         (λ i. IsGap parts.now number i) }
+    ensures place { IfOk result (λ i.
+        option_map (λ k. k.number) (slice_get parts.now i) ≡ Some number) }
 {
     parts.binary_search_by_key(&number, |kept| kept.number)
 }

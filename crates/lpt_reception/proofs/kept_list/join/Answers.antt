@@ -6,14 +6,14 @@ use Rattle.lpt_reception.proofs.kept_list.join.Goals as goal
 pub unreachable-requires : goal.unreachable-requires
 unreachable-requires c =
     not_found c.args.parts.now c.args.part.now.number c.requires.consistent c.requires.absent
-    c.in_default.ensures
+    c.in_default.ensures.found
 
 pub returns : goal.returns
 returns c =
     let ks = c.args.parts.now in
     let k = c.args.part.now in
     c.from_vec.ensures
-    ∙ written_by_list ks k c.in-Err.at c.requires.consistent c.in-Err.ensures
+    ∙ written_by_list ks k c.in-Err.at c.requires.consistent c.in-Err.ensures.found
     c.new-message.result.items c.append.new.message.items c.extend_from_slice.new.self.items
     c.append-2.new.message.items c.as_slice.result.now
     c.split_at.result.0.now c.split_at.result.1.now

@@ -18,7 +18,7 @@ returns-in_default c =
     let agrees : contradicts (set_of ks) t.number (kept t) ≡ false =
     contradicts_by_list ks t.number (kept t) c.requires
     ∙ sym c.any_clash.ensures ∙ c.if-any_clash.false in
-    (agrees, known_by_list ks t.number (kept t) c.requires agrees c.in_default.ensures)
+    (agrees, known_by_list ks t.number (kept t) c.requires agrees c.in_default.ensures.found)
 
 pub returns : goal.returns
 returns c =
@@ -27,5 +27,6 @@ returns c =
     let agrees : contradicts (set_of ks) t.number (kept t) ≡ false =
     contradicts_by_list ks t.number (kept t) c.requires
     ∙ sym c.any_clash.ensures ∙ c.if-any_clash.false in
-    let new = new_by_list ks t.number c.in-Err.at (kept t) c.requires agrees c.in-Err.ensures in
-    (new, c.in-Err.ensures)
+    let gap = c.in-Err.ensures.found in
+    let new = new_by_list ks t.number c.in-Err.at (kept t) c.requires agrees gap in
+    (new, gap)
