@@ -1,5 +1,5 @@
 -- What octets are, by the fields of the packet that they are.
-use Rattle.std.proofs.Common.{◌≡◌, ◌∙◌, ap, sym, ℕ, ◌+◌, ◌-◌, ◌%◌, ◌≤◌, ◌<◌, Bool, true, false, ◌&&◌, ◌==◌, nat_le, List, length, take, drop, Option, Some, None, Result, Ok, Err, refl, arith, length-append, length-drop, if◌then◌else◌}
+use Rattle.std.proofs.Common.{◌≡◌, ◌∙◌, ap, sym, ℕ, ◌+◌, ◌-◌, ◌%◌, ◌≤◌, ◌<◌, Bool, true, false, ◌&&◌, ◌==◌, nat_le, List, length, take, drop, Option, Some, None, Result, Ok, refl, arith, length-append, if◌then◌else◌}
 use Rattle.std.specs.Option.{option_map_or}
 use Rattle.std.specs.Result.{result_ok}
 use Rattle.std.proofs.lemmas.Bool.Decides.{nat_tests}
@@ -10,15 +10,15 @@ use Rattle.lpt_packet.specs.declared.packet.Seen.{Seen}
 use Rattle.lpt_packet.specs.Numbers.{word_at, same_octets}
 use Rattle.lpt_packet.specs.Packets.{Fields, Sight, IdlePacket, APacket, fields_at, is_idle, is_packet, seen, sight, spelling, verdict}
 use Rattle.lpt_pus.specs.declared.fault.PusFault.{PusFault}
-use Rattle.lpt_pus.specs.Commands.{Command, IsCommand, packet_of, tc_field, tc_verdict}
-use Rattle.lpt_pus.specs.Telemetry.{Telemetry, IsTelemetry, tm_packet_of, tm_field, tm_verdict}
+use Rattle.lpt_pus.specs.Commands.{Command, IsCommand, tc_field, tc_verdict}
+use Rattle.lpt_pus.specs.Telemetry.{Telemetry, IsTelemetry, tm_field, tm_verdict}
 use Rattle.lpt_part.specs.declared.kind.Kind.{Kind}
 use Rattle.lpt_part.specs.Splitting.{IsPartSize}
 use Rattle.lpt_node.specs.declared.found.Found.{Found}
 use Rattle.lpt_node.specs.declared.found.Found.TheVariants as found
 use Rattle.lpt_node.specs.declared.side.Side.{Side}
 use Rattle.lpt_node.specs.declared.side.Side.TheVariants.{Ground, Craft}
-use Rattle.lpt_node.specs.Arrivals.{Arrival, NotRead, Foreign, ARequest, AReport, part_arrival, abort_arrival, carried_kind, command_arrival, report_arrival, telemetry_arrival, packet_arrival, sight_arrival, arrival}
+use Rattle.lpt_node.specs.Arrivals.{NotRead, Foreign, ARequest, AReport, part_arrival, abort_arrival, carried_kind, command_arrival, report_arrival, telemetry_arrival, packet_arrival, sight_arrival, arrival}
 use Rattle.lpt_node.specs.Found.{body_from, IsFound, IsFoundIn}
 
 -- ---- what is seen

@@ -1,5 +1,5 @@
 -- What an offer to the table comes to.
-use Rattle.std.proofs.Common.{◌≡◌, ◌∙◌, ap, sym, ℕ, List, Option, None, Result, Ok, Err}
+use Rattle.std.proofs.Common.{◌≡◌, ◌∙◌, ap, sym, ℕ, Option, None, Result, Ok, Err}
 use Rattle.std.specs.Result.{IfOk, OnOk, OnErr}
 use Rattle.lpt_packet.specs.Names.{Name}
 use Rattle.lpt_part.specs.declared.reason.Reason.TheVariants.{Conflict}

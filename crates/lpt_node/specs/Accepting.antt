@@ -1,5 +1,5 @@
 -- What an end does with a packet that is delivered to it.
-use Rattle.std.specs.Prelude.{◌≡◌, ℕ, List, length, Some, None}
+use Rattle.std.specs.Prelude.{◌≡◌, length, Some, None}
 use Rattle.lpt_node.specs.declared.side.Side.{Side}
 use Rattle.lpt_node.specs.declared.config.Config.{Config}
 use Rattle.lpt_node.specs.declared.accepted.Accepted.{Accepted}

@@ -1,12 +1,10 @@
 -- What always holds of an end, and how it keeps its open messages: in a list, the newest last.
-use Rattle.std.specs.Prelude.{◌≡◌, ℕ, List, [], ◌∷◌, length, map as mapped, None, refl}
+use Rattle.std.specs.Prelude.{◌≡◌, ℕ, None, refl}
 use Rattle.std.specs.Coded.{Coded, code_by, coded×, coded_ℕ, coded_list}
 use Rattle.std.specs.FinMap as map
-use Rattle.std.specs.Ordering.{nat_cmp}
-use Rattle.lpt_packet.specs.Names.{Name}
 use Rattle.lpt_table.specs.Tables.{TableState}
 use Rattle.lpt_node.specs.declared.config.Config.{Config}
-use Rattle.lpt_node.specs.Nodes.{Messages, MessageFits, IsConfigured}
+use Rattle.lpt_node.specs.Nodes.{Messages, IsConfigured}
 
 -- the part size by which messages are split, and the open messages
 pub record OpenMessages : Type 0 where

@@ -1,10 +1,9 @@
 -- What octets are to a side.
-use Rattle.std.proofs.Common.{◌≡◌, ◌∙◌, ap, subst, sym, Some, Result}
+use Rattle.std.proofs.Common.{◌∙◌, ap, subst, sym, Result}
 use Rattle.std.specs.Result.{result_ok}
 use Rattle.lpt_packet.specs.declared.fault.PacketFault.{PacketFault}
-use Rattle.lpt_packet.specs.declared.packet.Seen.{Seen}
 use Rattle.lpt_packet.specs.declared.packet.Seen.TheVariants as seen_as
-use Rattle.lpt_packet.specs.Packets.{Sight, APacket, fields, seen}
+use Rattle.lpt_packet.specs.Packets.{Sight, fields}
 use Rattle.lpt_node.specs.declared.side.Side.{Side}
 use Rattle.lpt_node.specs.Found.{IsFoundIn}
 use Rattle.lpt_node.proofs.ArrivalLemmas.{seen-read, found_unreadable, found_idle, found_foreign, found_packet}
