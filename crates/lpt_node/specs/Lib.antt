@@ -2,6 +2,7 @@ pub mod Accepting
 pub mod Arrivals
 pub mod Asking
 pub mod Codes
+pub mod Configs
 pub mod Counting
 pub mod FaultNames
 pub mod Found

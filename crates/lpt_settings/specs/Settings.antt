@@ -1,9 +1,8 @@
 -- What the table of a configuration file means.
-use Rattle.std.specs.Prelude.{ℕ, ◌≤◌, ◌<◌, ◌^◌, Bool, true, ◌&&◌, nat_eq, if◌then◌else◌, List, [], ◌∷◌, codes, Option, Some, None}
+use Rattle.std.specs.Prelude.{ℕ, Bool, true, ◌&&◌, nat_eq, if◌then◌else◌, List, [], ◌∷◌, codes, Option, Some, None}
 use Rattle.std.specs.List.{list_any}
 use Rattle.std.specs.Cmp.Lexicographic.{pointwise}
 use Rattle.toml.specs.Data.{Members, no_members, member}
-use Rattle.lpt_part.specs.Splitting.{IsPartSize}
 use Rattle.lpt_node.specs.declared.config.Config.{Config}
 use Rattle.lpt_settings.specs.Numbers.{number_at}
 
@@ -64,16 +63,3 @@ default_config = record {
   outgoing = 8;
   clock = 0;
 }
-
--- the numbers of a configuration are in their ranges
-pub record IsInRange (c : Config) : Type 0 where
-  pub apid_fits : c.apid ≤ 2046
-  pub source_fits : c.source < 65536
-  pub part_size_fits : IsPartSize c.part_size
-  pub some_timeout : 1 ≤ c.timeout
-  pub timeout_fits : c.timeout ≤ 65535
-  pub some_receptions : 1 ≤ c.receptions
-  pub receptions_fit : c.receptions ≤ 64
-  pub some_outgoing : 1 ≤ c.outgoing
-  pub outgoing_fits : c.outgoing ≤ 64
-  pub clock_fits : c.clock < 2 ^ 32

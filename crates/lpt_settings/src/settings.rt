@@ -6,7 +6,8 @@ ghost use Rattle.std.specs.List.{list_all};
 ghost use Rattle.toml.specs.Errors.{IsBlank};
 ghost use Rattle.toml.specs.Parse.{parse_document};
 ghost use Rattle.toml.specs.View.{table_view};
-ghost use Rattle.lpt_settings.specs.Settings.{is_known, has_only, config_of, default_config, IsInRange};
+ghost use Rattle.lpt_node.specs.Configs.{IsConfig};
+ghost use Rattle.lpt_settings.specs.Settings.{is_known, has_only, config_of, default_config};
 
 use crate::numbers::number;
 use lpt_node::Config;
@@ -21,7 +22,7 @@ use toml::Table;
 pub fn read_config(alloc: Global, text: &str) -> Result<Config, ToolFault>
     // The text is a TOML document, and the configuration is what its table means.
     ensures ok { IfOk result (λ c. option_and_then config_of (parse_document text.now) ≡ Some c) }
-    ensures ranges { IfOk result IsInRange }
+    ensures ranges { IfOk result IsConfig }
 
     // White space and comments alone give the defaults.
     ensures blank { IsBlank text.now → result ≡ Ok default_config }
@@ -41,7 +42,7 @@ pub fn read_config(alloc: Global, text: &str) -> Result<Config, ToolFault>
 // The configuration that a table means.
 fn read_table(table: &Table) -> Option<Config>
     ensures value { result ≡ config_of (table_view table.now) }
-    ensures ranges { IfSome result IsInRange }
+    ensures ranges { IfSome result IsConfig }
 {
     if !has_only_known(table) {
         return None;

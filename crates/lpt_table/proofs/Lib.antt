@@ -1,4 +1,4 @@
-mod DueLemmas
+pub mod DueLemmas
 mod ListingLemmas
 mod MapLemmas
 mod OfferLemmas

@@ -1,5 +1,5 @@
 -- The ends and the link do and answer what the journal says, and show it afterwards.
-use Rattle.std.proofs.Common.{◌≡◌, ◌∙◌, ap, refl, ℕ, nat_le, Bool, true, false, not, ◌&&◌, List, [], ◌∷◌, length, None, is_some}
+use Rattle.std.proofs.Common.{◌≡◌, ◌∙◌, ap, refl, ℕ, ◌+◌, nat_le, Bool, true, false, not, ◌&&◌, List, [], ◌∷◌, length, Option, Some, None, is_some}
 use Rattle.std.specs.FinMap as maps
 use Rattle.lpt_packet.specs.declared.direction.Direction.{Direction}
 use Rattle.lpt_packet.specs.declared.direction.Direction.TheVariants.{Up, Down}
@@ -16,24 +16,29 @@ use Rattle.lpt_node.specs.Receiving.{abort_head, table_of}
 use Rattle.lpt_reception.specs.Received.{Parts, contradicts, is_whole, spelled}
 use Rattle.lpt_table.specs.Tables.{TableState}
 use Rattle.lpt_world.specs.declared.event.Event.{Event}
-use Rattle.lpt_world.specs.declared.event.Event.TheVariants.{Open, Send, Take, Deliver}
-use Rattle.lpt_world.specs.declared.fault.StepFault.TheVariants.{NotOpen, NoSuchPart}
+use Rattle.lpt_world.specs.declared.event.Event.TheVariants.{Open, Send, Finish, Take, Deliver, Tick, Expire}
+use Rattle.lpt_world.specs.declared.fault.StepFault.TheVariants.{NotOpen, NoSuchPart, NothingDue}
 use Rattle.lpt_world.specs.declared.reply.Answer.{Answer}
-use Rattle.lpt_world.specs.declared.reply.Answer.TheVariants.{Put, Delivered}
+use Rattle.lpt_world.specs.declared.reply.Answer.TheVariants.{Put, Delivered, Clock, Expired}
 use Rattle.lpt_world.specs.declared.reply.Reply.{Reply}
+use Rattle.lpt_node.specs.declared.outcome.Outcome.{Outcome}
+use Rattle.lpt_node.specs.Times.{expired_of, due as node_due}
 use Rattle.lpt_world.specs.Delivery.{judged, outcome}
+use Rattle.lpt_world.specs.Expiry.{due}
 use Rattle.lpt_world.specs.Journal.{History, SentPacket, sent, is_held, hand, in_hand}
 use Rattle.lpt_world.specs.Receivers.{kept, with_piece, heard, has_parts, is_closed, last_tick, reception_count}
-use Rattle.lpt_world.specs.Replies.{outcome_puts, send_puts, entry, told, reply, refusal, first_fault}
+use Rattle.lpt_world.specs.Replies.{expired_now, expiry_puts, outcome_puts, send_puts, entry, told, reply, refusal, first_fault}
 use Rattle.lpt_world.specs.Senders.{Sender, FreeSender, OpenSender, ClosedSender, sender, is_open}
-use Rattle.lpt_world.specs.State.{State, after, told_delivery, put_one}
+use Rattle.lpt_world.specs.State.{State, after, told_with, expired_as, quiet, put_one}
 use Rattle.lpt_world.specs.Shows.{Shows}
 use Rattle.lpt_world.proofs.CraftLanes.{shown_s1, shown_s2}
 use Rattle.lpt_world.proofs.DeliveryLemmas.{delivery, parted_delivers, judged_by, arrival_agrees}
+use Rattle.lpt_world.proofs.DueAgrees.{due_agrees}
 use Rattle.lpt_world.proofs.GroundLanes.{shown_g1, shown_g2}
 use Rattle.lpt_world.proofs.LinkLemmas.{as_many_packets}
 use Rattle.lpt_world.proofs.ReceiverLemmas.{full_shown, parts_shown}
-use Rattle.lpt_world.proofs.SenderLemmas.{shown_take, sends_up, sends_down, shown_open_up, shown_open_down}
+use Rattle.lpt_world.proofs.SenderLemmas.{shown_finish_up, shown_finish_down, shown_take, sends_up, sends_down, shown_open_up, shown_open_down}
+use Rattle.lpt_world.proofs.TimeLemmas.{shown_tick_ground, shown_tick_craft, shown_expire_ground, shown_expire_craft}
 
 -- ---- sending
 
@@ -41,6 +46,19 @@ use Rattle.lpt_world.proofs.SenderLemmas.{shown_take, sends_up, sends_down, show
 enabled_open : (t : Bool) (u : Bool) → first_fault ((not t, NotOpen) ∷ (u, NoSuchPart) ∷ []) ≡ None → t ≡ true
 enabled_open true u e = refl
 enabled_open false u e = absurd cc
+
+-- ---- expiry
+
+-- where a reception can expire, one is due
+enabled_due : (o : Option Name) → first_fault ((not (is_some o), NothingDue) ∷ []) ≡ None → is_some o ≡ true
+enabled_due None e = absurd cc
+enabled_due (Some id) e = refl
+
+due_ground : (c : Config) (s : State) (h : History) → Shows c s h → node_due c s.on_ground ≡ due c h Down
+due_ground c s h k = due_agrees c h Down s.on_ground.receiving (is_closed h Down) s.on_ground.clock k.down_receiver k.ground_clock
+
+due_craft : (c : Config) (s : State) (h : History) → Shows c s h → node_due c s.on_craft ≡ due c h Up
+due_craft c s h k = due_agrees c h Up s.on_craft.receiving (is_closed h Up) s.on_craft.clock k.up_receiver k.craft_clock
 
 -- ---- the state after an event
 
@@ -51,13 +69,23 @@ shown_after c s h (Send Up id n) k e =
     sends_up c s h id n _ (sender h Up id) (enabled_open (is_open (sender h Up id)) _ e) (maps.get s.on_ground.sending.messages id) (k.up_sender.messages id) k
 shown_after c s h (Send Down id n) k e =
     sends_down c s h id n _ (sender h Down id) (enabled_open (is_open (sender h Down id)) _ e) (maps.get s.on_craft.sending.messages id) (k.down_sender.messages id) k
+shown_after c s h (Finish Up id) k e = shown_finish_up c s h id _ k
+shown_after c s h (Finish Down id) k e = shown_finish_down c s h id _ k
 shown_after c s h (Take l n) k e = shown_take c s h l n _ k
 shown_after c s h (Deliver S1) k e = shown_s1 c s h k
 shown_after c s h (Deliver S2) k e = shown_s2 c s h k
 shown_after c s h (Deliver G1) k e = shown_g1 c s h k
 shown_after c s h (Deliver G2) k e = shown_g2 c s h k
+shown_after c s h (Tick Ground) k e = shown_tick_ground c s h _ k
+shown_after c s h (Tick Craft) k e = shown_tick_craft c s h _ k
+shown_after c s h (Expire Ground) k e = shown_expire_ground c s h _ (due c h Down) (enabled_due (due c h Down) e) (node_due c s.on_ground) (due_ground c s h k) k
+shown_after c s h (Expire Craft) k e = shown_expire_craft c s h _ (due c h Up) (enabled_due (due c h Up) e) (node_due c s.on_craft) (due_craft c s h k) k
 
 -- ---- replies
+
+-- the reply of a delivery that put a report, which got this number, or none
+abbrev told_delivery : ℕ → Outcome → Option (List ℕ) → Reply
+told_delivery n o packet = told_with n (Delivered o) packet
 
 told_craft : (c : Config) (h : History) (n : ℕ) (d : NodeData) (t : TableState) (q : Piece) (before with_it : Parts) (closed full contra again whole : Bool)
     → told_delivery n (delivery closed full contra again whole (abort_head Craft c d) d t q before with_it).1.outcome (delivery closed full contra again whole (abort_head Craft c d) d t q before with_it).1.packet
@@ -117,12 +145,34 @@ reply_send c h d id k n FreeSender e = absurd cc
 reply_send c h d id k n ClosedSender e = absurd cc
 reply_send c h d id k n (OpenSender m) e = refl
 
+-- the reply to the end of what is due is the journal's
+reply_expire_ground : (c : Config) (s : State) (h : History) (n : ℕ) (o : Option Name)
+    → told_with n (Expired Down (expired_of Ground c s.on_ground o).1.id) (expired_of Ground c s.on_ground o).1.packet ≡ reply_with (expired_now Down o) n (expiry_puts c h Ground o)
+reply_expire_ground c s h n None = refl
+reply_expire_ground c s h n (Some id) = refl
+
+reply_expire_craft : (c : Config) (s : State) (h : History) (n : ℕ) (o : Option Name)
+    → told_with n (Expired Up (expired_of Craft c s.on_craft o).1.id) (expired_of Craft c s.on_craft o).1.packet ≡ reply_with (expired_now Up o) n (expiry_puts c h Craft o)
+reply_expire_craft c s h n None = refl
+reply_expire_craft c s h n (Some id) = refl
+
 pub reply_agrees : (c : Config) (s : State) (h : History) (e : Event) → Shows c s h → refusal c h e ≡ None → (after c (length h) s e).1 ≡ reply c h e
 reply_agrees c s h (Open d id m) k e = refl
 reply_agrees c s h (Send d id n) k e =
     ap (λ j. put_one j (Put j)) (as_many_packets s.link (sent h) (is_held h) (hand h) k.link)
     ∙ reply_send c h d id n (length (sent h)) (sender h d id) (enabled_open (is_open (sender h d id)) _ e)
+reply_agrees c s h (Finish d id) k e = refl
 reply_agrees c s h (Take l n) k e = refl
+reply_agrees c s h (Tick Ground) k e = ap (λ n. quiet (Clock (n + 1))) k.ground_clock
+reply_agrees c s h (Tick Craft) k e = ap (λ n. quiet (Clock (n + 1))) k.craft_clock
+reply_agrees c s h (Expire Ground) k e =
+    ap (λ (o : Option Name). (expired_as s Ground (expired_of Ground c s.on_ground o)).1) (due_ground c s h k)
+    ∙ reply_expire_ground c s h (length s.link.packets) (due c h Down)
+    ∙ ap (λ (n : ℕ). reply_with (expired_now Down (due c h Down)) n (expiry_puts c h Ground (due c h Down))) (as_many_packets s.link (sent h) (is_held h) (hand h) k.link)
+reply_agrees c s h (Expire Craft) k e =
+    ap (λ (o : Option Name). (expired_as s Craft (expired_of Craft c s.on_craft o)).1) (due_craft c s h k)
+    ∙ reply_expire_craft c s h (length s.link.packets) (due c h Up)
+    ∙ ap (λ (n : ℕ). reply_with (expired_now Up (due c h Up)) n (expiry_puts c h Craft (due c h Up))) (as_many_packets s.link (sent h) (is_held h) (hand h) k.link)
 reply_agrees c s h (Deliver S1) k e =
     ap (λ (a : Arrival). told_delivery (length s.link.packets) (accepted Craft c s.on_craft a).1.outcome (accepted Craft c s.on_craft a).1.packet) (arrival_agrees c s.link h S1 k.link)
     ∙ tells_craft c s h (length s.link.packets) k (in_hand c h S1)

@@ -17,11 +17,11 @@ use Rattle.lpt_reception.specs.Received.{Kept as Kept', Parts, no_parts}
 use Rattle.lpt_link.specs.declared.lane.Lane.{Lane}
 use Rattle.lpt_world.specs.declared.entry.Opening.{Opening}
 use Rattle.lpt_world.specs.declared.event.Event.{Event}
-use Rattle.lpt_world.specs.declared.event.Event.TheVariants.{Open, Send, Take, Deliver}
+use Rattle.lpt_world.specs.declared.event.Event.TheVariants.{Open, Send, Finish, Take, Deliver, Tick, Expire}
 use Rattle.lpt_world.specs.declared.reply.Answer.{Answer}
-use Rattle.lpt_world.specs.declared.reply.Answer.TheVariants.{Opened, Put, Took, Delivered}
-use Rattle.lpt_world.specs.Journal.{History, with_all, in_hand}
-use Rattle.lpt_world.specs.Receivers.{heard, heard_now, heard_after, has_parts, heard_names, names_after, with_kept_name, with_arrival}
+use Rattle.lpt_world.specs.declared.reply.Answer.TheVariants.{Opened, Put, Finished, Took, Delivered, Clock, Expired}
+use Rattle.lpt_world.specs.Journal.{History, with_all, same_side, receiver_side, in_hand}
+use Rattle.lpt_world.specs.Receivers.{heard, ends, heard_now, heard_after, has_parts, heard_names, names_after, with_kept_name, with_arrival}
 use Rattle.lpt_world.specs.Senders.{sender, sender_of, is_open, is_opening_of, current, is_over, opened, opened_names}
 
 -- ---- lists
@@ -52,7 +52,7 @@ any-with_all p xs [] = sym (or_false (list_any p xs))
 any-with_all p xs (y ∷ ys) = any-append p xs (y ∷ ys)
 
 -- a name is among those that pass exactly where it passes and is among all
-any-filter : (p : Name → Bool) (id : Name) (xs : List Name) → list_any (same_name id) (filter p xs) ≡ (p id && list_any (same_name id) xs)
+pub any-filter : (p : Name → Bool) (id : Name) (xs : List Name) → list_any (same_name id) (filter p xs) ≡ (p id && list_any (same_name id) xs)
 any-filter p id [] = go (p id) where
   go : (t : Bool) → false ≡ (t && false)
   go true = refl
@@ -134,7 +134,10 @@ heard_now_named (Delivered (AbortNoted i a)) r id before names was e = was e
 heard_now_named (Delivered (Ignored w)) r id before names was e = was e
 heard_now_named (Opened n) r id before names was e = was e
 heard_now_named (Put n) r id before names was e = was e
+heard_now_named Finished r id before names was e = was e
 heard_now_named (Took n) r id before names was e = was e
+heard_now_named (Clock n) r id before names was e = was e
+heard_now_named (Expired d i) r id before names was e = was e
 
 heard_after_named : (ev : Event) (a : Answer) (r : Lane → Arrival) (d : Direction) (id : Name) (before : Parts) (names : List Name) → (has_parts before ≡ true → list_any (same_name id) names ≡ true)
     → has_parts (heard_after ev a r d id before) ≡ true → list_any (same_name id) (names_after ev a d names) ≡ true
@@ -144,7 +147,13 @@ heard_after_named (Deliver l) a r d id before names was e = go (same_direction (
   go false f = was f
 heard_after_named (Open e i m) a r d id before names was e' = was e'
 heard_after_named (Send e i k) a r d id before names was e' = was e'
+heard_after_named (Finish e i) a r d id before names was e' = was e'
 heard_after_named (Take l n) a r d id before names was e' = was e'
+heard_after_named (Tick s) a r d id before names was e' = was e'
+heard_after_named (Expire s) a r d id before names was e' = go (same_side s (receiver_side d) && ends a id) e' where
+  go : (t : Bool) → has_parts (if t then no_parts else before) ≡ true → list_any (same_name id) names ≡ true
+  go true f = let k : true ≡ false = sym f ∙ none_open in absurd cc
+  go false f = was f
 
 -- the name of an open reception was heard
 heard_named : (c : Config) (h : History) (d : Direction) (id : Name) → has_parts (heard c h d id) ≡ true → list_any (same_name id) (heard_names h d) ≡ true

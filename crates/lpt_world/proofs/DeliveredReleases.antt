@@ -23,7 +23,8 @@ use Rattle.lpt_world.specs.Senders.{current}
 use Rattle.lpt_world.specs.Receivers.{kept, with_piece, heard, ends, is_closed}
 use Rattle.lpt_world.specs.Delivery.{outcome}
 use Rattle.lpt_world.specs.Releases.{released_now}
-use Rattle.lpt_world.specs.Replies.{entry, IsConfig}
+use Rattle.lpt_node.specs.Configs.{IsConfig}
+use Rattle.lpt_world.specs.Replies.{entry}
 use Rattle.lpt_link.proofs.PresentLemmas.{same_direction-refl}
 use Rattle.lpt_world.proofs.TestLemmas.{no_place}
 use Rattle.lpt_world.proofs.Steps.{IsSound}

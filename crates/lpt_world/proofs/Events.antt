@@ -1,4 +1,4 @@
--- What the events that open, send and take owe, and that they pay it.
+-- What the events that open, send, finish and take owe, and that they pay it.
 use Rattle.std.proofs.Common.{◌≡◌, ◌∙◌, ap, sym, subst, refl, ℕ, zero, suc, ◌<◌, ◌≤◌, nat_lt, nat_le, ◌==◌, cond, Bool, true, false, not, ◌&&◌, ◌||◌, ◌⊎◌, inl, inr, List, [], ◌∷◌, length, Option, Some, None, if◌then◌else◌, arith}
 use Rattle.std.specs.List.{slice_get, find}
 use Rattle.std.specs.Option.{is_some}
@@ -15,13 +15,14 @@ use Rattle.lpt_node.specs.declared.config.Config.{Config}
 use Rattle.lpt_node.specs.declared.side.Side.TheVariants.{Craft}
 use Rattle.lpt_node.specs.Arrivals.{APart, part_subtype}
 use Rattle.lpt_node.specs.MadePackets.{nth_part}
-use Rattle.lpt_world.specs.declared.event.Event.TheVariants.{Open, Send, Take}
+use Rattle.lpt_world.specs.declared.event.Event.TheVariants.{Open, Send, Finish, Take}
 use Rattle.lpt_world.specs.declared.entry.Opening.{Opening}
 use Rattle.lpt_world.specs.declared.fault.StepFault.TheVariants.{InUse, Short, Long, TooMany, NotOpen, NoSuchPart, NotHeld, HandFull}
 use Rattle.lpt_world.specs.Journal.{SentPacket, History, is_held, goes, same_lane, hand, arrival_of}
 use Rattle.lpt_world.specs.Senders.{is_opening_of, current, is_over, Sender, FreeSender, OpenSender, ClosedSender, sender_of, sender, is_free, is_open, open_count, count, type_counter}
 use Rattle.lpt_world.specs.Receivers.{clock}
-use Rattle.lpt_world.specs.Replies.{part_packet, send_puts, parts_open, refusal, entry, IsConfig}
+use Rattle.lpt_node.specs.Configs.{IsConfig}
+use Rattle.lpt_world.specs.Replies.{part_packet, send_puts, parts_open, refusal, entry}
 use Rattle.lpt_world.specs.Headline.{IsPartOfCurrent}
 use Rattle.lpt_packet.proofs.Readings.{not_lt}
 use Rattle.lpt_world.proofs.TestLemmas.{and_l, and_r, not_false, or_false_l, or_false_r, le_false, not_zero, same_lane-true, two_pass, four_pass, no_place}
@@ -129,7 +130,7 @@ packet_arrives c h Down id m k good sound splits i one last =
     part_arrives c Down (count h Down) counter (clock c h Craft) q good counts i
     (part_of-fits m c.part_size k good.part_size_fits splits.long splits.short one last)
 
-only_element : {A : Type 0} (x : A) (n : ℕ) (y : A) → slice_get (x ∷ []) n ≡ Some y → x ≡ y
+pub only_element : {A : Type 0} (x : A) (n : ℕ) (y : A) → slice_get (x ∷ []) n ≡ Some y → x ≡ y
 only_element x zero y e = cc
 only_element x (suc n) y e = absurd (no_place n y e)
 
@@ -190,6 +191,21 @@ send_owes c h d id k good sound i accepted =
               λ q e. subst (λ r. IsPartOfCurrent c (entry c h (Send d id k) ∷ h) d r)
               (same_part (sym arrives ∙ e)) now;
         })
+
+-- ---- finishing
+
+-- an event that puts, takes and opens nothing pays what it owes
+pub finish_owes : (c : Config) (h : History) (d : Direction) (id : Name)
+    → IsSound c h
+    → Owes c h (entry c h (Finish d id))
+finish_owes c h d id sound = record {
+  opens = λ e j u f. absurd cc;
+  retires = λ e j r. absurd cc;
+  puts = λ k p f. absurd (no_place k p f);
+  takes = λ l n f. inl f;
+  hears = λ e j. inl refl;
+  clocks = sound.clocks;
+}
 
 -- ---- taking
 

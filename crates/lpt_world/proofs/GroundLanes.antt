@@ -191,7 +191,7 @@ any_g1 c s h p k (ARequest b) r = record {
   released = (λ i. k.released i ++ record { place = length h; of = None; message = b } ∷ []) ∙ sym (ap (λ x. with_all (releases c h) (released_now (length h) Down (Delivered (PlainReleased (length b))) (heard c h Down) x)) r);
 }
 any_g1 c s h p k (AnAbort id reason) r = record {
-  up_sender = closed_shown s.on_ground.sending h id (count h Up) k.up_sender;
+  up_sender = closed_shown s.on_ground.sending h Up id (count h Up) k.up_sender;
   down_sender = k.down_sender;
   types = k.types;
   up_receiver = k.up_receiver;
@@ -369,7 +369,7 @@ any_g2 c s h p k (ARequest b) r = record {
   released = (λ i. k.released i ++ record { place = length h; of = None; message = b } ∷ []) ∙ sym (ap (λ x. with_all (releases c h) (released_now (length h) Down (Delivered (PlainReleased (length b))) (heard c h Down) x)) r);
 }
 any_g2 c s h p k (AnAbort id reason) r = record {
-  up_sender = closed_shown s.on_ground.sending h id (count h Up) k.up_sender;
+  up_sender = closed_shown s.on_ground.sending h Up id (count h Up) k.up_sender;
   down_sender = k.down_sender;
   types = k.types;
   up_receiver = k.up_receiver;

@@ -1,12 +1,17 @@
 pub mod AbortedLemmas
 pub mod Agrees
+pub mod ClosedLemmas
 pub mod CountLemmas
 pub mod CraftLanes
 pub mod DeliveredReleases
 pub mod Deliveries
 pub mod DeliveryLemmas
+pub mod DueAgrees
+pub mod DueLemmas
 pub mod Events
 pub mod Every
+pub mod ExpiryLemmas
+pub mod ExpiryOwed
 pub mod GroundLanes
 pub mod HeadlineLemmas
 pub mod LegalRows
@@ -29,4 +34,7 @@ pub mod SharedRows
 pub mod Soundness
 pub mod Steps
 pub mod TestLemmas
+pub mod TimeEvents
+pub mod TimeLemmas
+pub mod TimeRows
 pub mod WorldLemmas

@@ -1,5 +1,5 @@
 -- The definitions with the kept parts as lists in the order of numbers: these compute.
-use Rattle.std.proofs.Common.{◌≡◌, ◌∙◌, ap, refl, ℕ, ◌==◌, nat_le, Bool, not, ◌&&◌, if◌then◌else◌, List, [], ◌∷◌, length, Some, None}
+use Rattle.std.proofs.Common.{◌≡◌, ◌∙◌, ap, refl, ℕ, ◌==◌, nat_le, Bool, not, ◌&&◌, if◌then◌else◌, List, [], ◌∷◌, length, Option, Some, None}
 use Rattle.std.specs.Option.{is_some}
 use Rattle.std.specs.List.{filter}
 use Rattle.std.specs.FinMap as map
@@ -18,18 +18,21 @@ use Rattle.lpt_node.specs.declared.outcome.Outcome.TheVariants.{Kept, Again, Rel
 use Rattle.lpt_node.specs.declared.outcome.Why.TheVariants.{Closed, NoRoom}
 use Rattle.lpt_node.specs.Arrivals.{Arrival, ARequest, APart}
 use Rattle.lpt_world.specs.declared.event.Event.{Event}
-use Rattle.lpt_world.specs.declared.event.Event.TheVariants.{Deliver}
+use Rattle.lpt_world.specs.declared.event.Event.TheVariants.{Deliver, Expire}
+use Rattle.lpt_world.specs.declared.fault.StepFault.{StepFault}
+use Rattle.lpt_world.specs.declared.fault.StepFault.TheVariants.{NothingDue}
 use Rattle.lpt_world.specs.declared.reply.Answer.{Answer}
 use Rattle.lpt_world.specs.declared.reply.Answer.TheVariants.{Delivered}
 use Rattle.lpt_world.specs.declared.reply.Reply.{Reply}
 use Rattle.lpt_world.specs.declared.entry.Release.{Release}
-use Rattle.lpt_world.specs.Journal.{Recorded, History, SentPacket, with_all, in_hand, receiver_side, sent}
+use Rattle.lpt_world.specs.Journal.{Recorded, History, SentPacket, with_all, in_hand, receiver_side, direction_to, sent}
 use Rattle.lpt_world.specs.Senders.{once}
-use Rattle.lpt_world.specs.Receivers.{with_piece, heard, has_parts, heard_names, open_names, is_closed}
+use Rattle.lpt_world.specs.Receivers.{with_piece, heard, has_parts, heard_names, open_names, is_closed, last_tick}
+use Rattle.lpt_world.specs.Expiry.{is_overdue, earliest, due}
 use Rattle.lpt_world.specs.Delivery.{judged_part, judged}
 use Rattle.lpt_world.specs.Releases.{released_now, release_after, released_by, releases}
 use Rattle.lpt_world.proofs.ListedSets.{Listed, with_listed, contradicts_listed, whole_listed, spelled_listed, entries-with_piece, contradicts_is, whole_is, listed, entries-heard}
-use Rattle.lpt_world.specs.Replies.{answer, outcome_puts, puts, opens, told, entry, recorded}
+use Rattle.lpt_world.specs.Replies.{expired_now, answer, outcome_puts, expiry_puts, puts, opens, told, entry, recorded, first_fault, refusal}
 
 -- ---- outcomes
 
@@ -86,15 +89,47 @@ judged_is c h d (APart q) =
     (length (once (filter (λ id. has id i) (heard_names h d)))) (entries-heard c h d q.id i) q)
 judged_is c h d a = refl
 
+-- ---- expiry
+
+names_is : (c : Config) (h : History) (d : Direction) → open_names c h d ≡ names_listed c h d
+names_is c h d =
+    let has : (id : Name) → has_parts (heard c h d id) ≡ has_listed (listed c h d id) =
+    λ id. has_parts_is (heard c h d id) ∙ ap has_listed (entries-heard c h d id) in
+    λ i. once (filter (λ id. has id i) (heard_names h d))
+
+-- the reception that is due, by the lists
+abbrev pub due_listed : Config → History → Direction → Option Name
+due_listed c h d =
+    earliest (last_tick c h d) (filter (is_overdue c h d) (names_listed c h d))
+
+due_is : (c : Config) (h : History) (d : Direction) → due c h d ≡ due_listed c h d
+due_is c h d =
+    ap (λ ids. earliest (last_tick c h d) (filter (is_overdue c h d) ids)) (names_is c h d)
+
+-- why an event is refused, by the lists
+abbrev pub refusal_listed : Config → History → Event → Option StepFault
+refusal_listed c h (Expire side) =
+    first_fault ((not (is_some (due_listed c h (direction_to side))), NothingDue) ∷ [])
+refusal_listed c h e = refusal c h e
+
+-- what refuses an event is the same by the lists
+pub refusal_is : (c : Config) (h : History) (e : Event) → refusal c h e ≡ refusal_listed c h e
+refusal_is c h (Expire side) =
+    ap (λ o. first_fault ((not (is_some o), NothingDue) ∷ [])) (due_is c h (direction_to side))
+refusal_is c h e = refl
+
 -- ---- entries
 
 abbrev answer_listed : Config → History → Event → Answer
 answer_listed c h (Deliver l) = Delivered (outcome_listed c h l)
+answer_listed c h (Expire side) =
+    expired_now (direction_to side) (due_listed c h (direction_to side))
 answer_listed c h e = answer c h e
 
 abbrev puts_listed : Config → History → Event → List SentPacket
 puts_listed c h (Deliver l) =
     outcome_puts c h (receiver_side (lane_direction l)) (outcome_listed c h l)
+puts_listed c h (Expire side) = expiry_puts c h side (due_listed c h (direction_to side))
 puts_listed c h e = puts c h e
 
 abbrev reply_listed : Config → History → Event → Reply
@@ -119,6 +154,18 @@ entry_is c h (Deliver l) =
                 told (length (sent h)) (outcome_puts c h (receiver_side (lane_direction l)) (o i));
           };
       puts = outcome_puts c h (receiver_side (lane_direction l)) (o i);
+      opens = [];
+    }
+entry_is c h (Expire side) =
+    let o = due_is c h (direction_to side) in
+    λ i. record {
+      event = Expire side;
+      reply =
+          record {
+            answer = expired_now (direction_to side) (o i);
+            puts = told (length (sent h)) (expiry_puts c h side (o i));
+          };
+      puts = expiry_puts c h side (o i);
       opens = [];
     }
 entry_is c h e = refl

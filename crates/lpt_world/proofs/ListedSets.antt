@@ -16,11 +16,11 @@ use Rattle.lpt_node.specs.declared.config.Config.{Config}
 use Rattle.lpt_node.specs.declared.outcome.Outcome.TheVariants.{Kept, Released, Broken}
 use Rattle.lpt_node.specs.Arrivals.{Arrival, APart}
 use Rattle.lpt_world.specs.declared.event.Event.{Event}
-use Rattle.lpt_world.specs.declared.event.Event.TheVariants.{Deliver}
+use Rattle.lpt_world.specs.declared.event.Event.TheVariants.{Deliver, Expire}
 use Rattle.lpt_world.specs.declared.reply.Answer.{Answer}
 use Rattle.lpt_world.specs.declared.reply.Answer.TheVariants.{Delivered}
-use Rattle.lpt_world.specs.Journal.{History, in_hand}
-use Rattle.lpt_world.specs.Receivers.{kept, with_piece, with_arrival, heard_now, heard_after, heard}
+use Rattle.lpt_world.specs.Journal.{History, same_side, receiver_side, in_hand}
+use Rattle.lpt_world.specs.Receivers.{kept, with_piece, with_arrival, ends, heard_now, heard_after, heard}
 use Rattle.lpt_world.specs.Replies.{answer}
 
 -- ---- the set
@@ -92,6 +92,8 @@ listed_now _ arrived id before = before
 abbrev pub listed_after : Event → Answer → (Lane → Arrival) → Direction → Name → Listed → Listed
 listed_after (Deliver l) answer arrived d id before =
     if same_direction (lane_direction l) d then listed_now answer (arrived l) id before else before
+listed_after (Expire side) answer arrived d id before =
+    if same_side side (receiver_side d) && ends answer id then [] else before
 listed_after _ answer arrived d id before = before
 
 -- the parts that are kept of a transaction, as a list
@@ -137,6 +139,9 @@ entries-heard_after (Deliver l) o arrived d id s =
     chosen (same_direction (lane_direction l) d) (heard_now o (arrived l) id s) s
     ∙ ap (λ es. if same_direction (lane_direction l) d then es else map.entries s)
     (entries-heard_now o (arrived l) id s)
+entries-heard_after (Expire side) o arrived d id s =
+    let over = same_side side (receiver_side d) && ends o id in
+    chosen over no_parts s ∙ ap (λ es. if over then es else map.entries s) no_entries
 entries-heard_after e o arrived d id s = refl
 
 -- what was heard is kept in this list

@@ -34,7 +34,7 @@ len_without {X} m k h =
     omega arith
 
 -- a name that is among others already
-among : (id k : ℕ) (ks : List ℕ) → list_any (same_name k) ks ≡ true → ((id == k) || list_any (same_name id) ks) ≡ list_any (same_name id) ks
+pub among : (id k : ℕ) (ks : List ℕ) → list_any (same_name k) ks ≡ true → ((id == k) || list_any (same_name id) ks) ≡ list_any (same_name id) ks
 among id k ks h = go (id == k) refl where
   go : (t : Bool) → (id == k) ≡ t → (t || list_any (same_name id) ks) ≡ list_any (same_name id) ks
   go false e = refl

@@ -18,8 +18,8 @@ use Rattle.lpt_world.proofs.Releasing.{IsReleaseOf, OwesReleases, opening_then, 
 -- ---- once per opening
 
 -- a new release hasn't the opening of an old one: that transaction is closed, the new one's wasn't
-clash : (c : Config) (h : History) (x : Recorded) (k : ℕ) (r s : Release) (t v : Direction × Name)
-    (o u : Opening)
+pub clash : (c : Config) (h : History) (x : Recorded) (k : ℕ) (r s : Release)
+    (t v : Direction × Name) (o u : Opening)
     → IsSound c h
     → ArePast c h
     → slice_get (releases c h) k ≡ Some r
@@ -46,7 +46,7 @@ clash c h x k r s t v o u sound past e of fresh was now same =
     let both : is_closed h t.0 t.1 ≡ is_closed h v.0 v.1 = λ j. is_closed h (d j) (i j) in
     cc
 
-flipped : (o u : Opening) → IsSameOpening o u → IsSameOpening u o
+pub flipped : (o u : Opening) → IsSameOpening o u → IsSameOpening u o
 flipped o u s =
     record {
       same_direction = sym s.same_direction;
@@ -55,8 +55,8 @@ flipped o u s =
     }
 
 -- the opening of an old release, and of a new one
-old_opening : (c : Config) (h : History) (x : Recorded) (k : ℕ) (r : Release) (t : Direction × Name)
-    (o : Opening)
+pub old_opening : (c : Config) (h : History) (x : Recorded) (k : ℕ) (r : Release)
+    (t : Direction × Name) (o : Opening)
     → ArePast c h
     → slice_get (releases c h) k ≡ Some r
     → r.of ≡ Some t
@@ -67,7 +67,7 @@ old_opening c h x k r t o past e of is =
     ap (λ g. current g t.0 t.1) (sym (before_old h x r.place (omega (arith, p.place_fits))))
     ∙ sym (opening_is (x ∷ h) r t of) ∙ is
 
-new_opening : (h : History) (x : Recorded) (r : Release) (t : Direction × Name) (o : Opening)
+pub new_opening : (h : History) (x : Recorded) (r : Release) (t : Direction × Name) (o : Opening)
     → r.place ≡ length h
     → r.of ≡ Some t
     → opening_of (x ∷ h) r ≡ Some o

@@ -1,5 +1,5 @@
 -- Lists of events as they are asked for, some of them refused, with what each gives.
-use Rattle.std.proofs.Common.{◌≡◌, ap, ℕ, List, [], ◌∷◌, Some, None}
+use Rattle.std.proofs.Common.{◌≡◌, ℕ, List, [], ◌∷◌, Option, Some, None}
 use Rattle.lpt_node.specs.declared.config.Config.{Config}
 use Rattle.lpt_world.specs.declared.event.Event.{Event}
 use Rattle.lpt_world.specs.declared.fault.StepFault.{StepFault}
@@ -8,7 +8,7 @@ use Rattle.lpt_world.specs.declared.reply.Answer.TheVariants.{Put}
 use Rattle.lpt_world.specs.declared.reply.Reply.{Reply}
 use Rattle.lpt_world.specs.Journal.{Recorded, History}
 use Rattle.lpt_world.specs.Replies.{entry, refusal}
-use Rattle.lpt_world.proofs.Listed.{entry_listed, entry_is}
+use Rattle.lpt_world.proofs.Listed.{entry_listed, entry_is, refusal_listed, refusal_is}
 
 -- what an event gives: its reply, or why it is refused
 pub data Given : Type 0 where
@@ -23,25 +23,31 @@ pub record Played : Type 0 where
 abbrev given_first : Given → Played → Played
 given_first g p = record { given = g ∷ p.given; after = p.after }
 
--- these events, the oldest first, after this history; make says what is recorded of an event
-abbrev played_by : (Config → History → Event → Recorded) → Config → History → List Event → Played
-played_by make c h [] = record { given = []; after = h }
-played_by make c h (e ∷ es) = elim (refusal c h e) [
-  | None ↦ given_first (Gives (make c h e).reply) (played_by make c (make c h e ∷ h) es)
-  | Some f ↦ given_first (Refuses f) (played_by make c h es)
+-- These events, the oldest first, after this history. Make says what is recorded of an event, and
+-- refuses why it is refused.
+abbrev played_by : (Config → History → Event → Recorded)
+    → (Config → History → Event → Option StepFault)
+    → Config
+    → History
+    → List Event
+    → Played
+played_by make refuses c h [] = record { given = []; after = h }
+played_by make refuses c h (e ∷ es) = elim (refuses c h e) [
+  | None ↦ given_first (Gives (make c h e).reply) (played_by make refuses c (make c h e ∷ h) es)
+  | Some f ↦ given_first (Refuses f) (played_by make refuses c h es)
 ]
 
 -- these events, the oldest first, on an empty journal
 abbrev pub played : Config → List Event → Played
-played c es = played_by entry c [] es
+played c es = played_by entry refusal c [] es
 
 -- the same, by the lists
 abbrev pub played_listed : Config → List Event → Played
-played_listed c es = played_by entry_listed c [] es
+played_listed c es = played_by entry_listed refusal_listed c [] es
 
 -- what a list of events gives is the same by the lists
 pub played_is : (c : Config) (es : List Event) → played c es ≡ played_listed c es
-played_is c es = ap (λ make. played_by make c [] es) (λ i c h e. entry_is c h e i)
+played_is c es i = played_by (λ c h e. entry_is c h e i) (λ c h e. refusal_is c h e i) c [] es
 
 -- ---- how replies are written in rows
 

@@ -7,10 +7,12 @@ use Rattle.lpt_packet.specs.Names.{Name, same_name}
 use Rattle.lpt_packet.proofs.NameLemmas.{same_name-true}
 use Rattle.lpt_part.specs.Parts.{Piece}
 use Rattle.lpt_ledger.specs.Marks.{Shut}
+use Rattle.lpt_ledger.specs.States.{state_of, state_at}
 use Rattle.lpt_node.specs.declared.config.Config.{Config}
 use Rattle.lpt_node.specs.Arrivals.{Arrival, APart}
 use Rattle.lpt_node.specs.Nodes.{Receiving}
 use Rattle.lpt_node.specs.Receiving.{table_of}
+use Rattle.lpt_node.specs.Times.{shut_by}
 use Rattle.lpt_reception.specs.Received.{Parts, no_parts}
 use Rattle.lpt_table.specs.Offering.{is_full, parts_at, parts_of}
 use Rattle.lpt_table.specs.Tables.{TableEntry}
@@ -128,3 +130,19 @@ ended_shown v parts closed last n k = record {
   go : (id : Name) (t : Bool) → (if t then None else entry_of (parts id) (last id)) ≡ entry_of (if t then no_parts else parts id) (last id)
   go id true = sym (ap (λ t. if t then Some (record { parts = no_parts; last = last id }) else None) none_open)
   go id false = refl
+
+-- a reception was given up for its age; its name may have been closed already
+pub given_up_shown : (v : Receiving) (parts : Name → Parts) (closed : Name → Bool) (last : Name → ℕ) (n : Name) → ShowsReceiving v parts closed last
+    → ShowsReceiving (record { ledger = shut_by (state_at v.ledger n) v.ledger n; entries = maps.remove v.entries n })
+    (λ id. if same_name n id then no_parts else parts id) (λ id. same_name n id || closed id) last
+given_up_shown v parts closed last n k = record {
+  ledger = λ id. (λ i. maps.get (shut_by (state_of (k.ledger n i)) v.ledger n) id) ∙ go id (closed n) refl;
+  entries = (ended_shown v parts closed last n k).entries;
+} where
+  still : (id : Name) (t : Bool) → same_name n id ≡ t → closed n ≡ true → closed_mark (closed id) ≡ closed_mark (t || closed id)
+  still id true d e = ap closed_mark (ap closed (sym (same_name-true n id d)) ∙ e)
+  still id false d e = refl
+
+  go : (id : Name) (t : Bool) → closed n ≡ t → maps.get (shut_by (state_of (closed_mark t)) v.ledger n) id ≡ closed_mark (same_name n id || closed id)
+  go id true e = k.ledger id ∙ still id (same_name n id) refl e
+  go id false e = (ended_shown v parts closed last n k).ledger id

@@ -6,6 +6,7 @@ use Rattle.std.proofs.lemmas.Option.{slice_get-map}
 use Rattle.std.specs.FinMap as maps
 use Rattle.lpt_packet.specs.declared.direction.Direction.{Direction}
 use Rattle.lpt_packet.specs.declared.direction.Direction.TheVariants.{Up, Down}
+use Rattle.lpt_node.specs.declared.side.Side.TheVariants.{Ground, Craft}
 use Rattle.lpt_packet.specs.Names.{Name}
 use Rattle.lpt_part.specs.Splitting.{part_count}
 use Rattle.lpt_ledger.specs.States.{state_of}
@@ -16,17 +17,21 @@ use Rattle.lpt_link.specs.Links.{LinkData, is_held_for}
 use Rattle.lpt_node.specs.declared.config.Config.{Config}
 use Rattle.lpt_node.specs.declared.fault.NodeFault.TheVariants as node
 use Rattle.lpt_node.specs.Nodes.{Sending}
-use Rattle.lpt_node.specs.Sending.{refusal_open_in, refusal_send_of}
+use Rattle.lpt_node.specs.Sending.{refusal_open_in, refusal_send_of, refusal_finish_in}
+use Rattle.lpt_node.specs.Times.{refusal_expire_of}
 use Rattle.lpt_world.specs.declared.event.Event.{Event}
-use Rattle.lpt_world.specs.declared.event.Event.TheVariants.{Open, Send, Take, Deliver}
-use Rattle.lpt_world.specs.declared.fault.StepFault.TheVariants.{InUse, Short, Long, TooMany, NotOpen, NoSuchPart, NotHeld, HandFull, HandEmpty}
+use Rattle.lpt_world.specs.declared.event.Event.TheVariants.{Open, Send, Finish, Take, Deliver, Tick, Expire}
+use Rattle.lpt_world.specs.declared.fault.StepFault.TheVariants.{InUse, Short, Long, TooMany, NotOpen, NoSuchPart, NotHeld, HandFull, HandEmpty, NothingDue, ClockEnd}
 use Rattle.lpt_world.specs.Journal.{History, sent, is_held, goes, hand}
+use Rattle.lpt_world.specs.Receivers.{is_closed, clock}
+use Rattle.lpt_world.specs.Expiry.{due}
 use Rattle.lpt_world.specs.Replies.{refusal, first_fault, parts_open}
 use Rattle.lpt_world.specs.Senders.{Sender, FreeSender, OpenSender, ClosedSender, sender, is_free, is_open, open_count, opened_names}
 use Rattle.lpt_world.specs.State.{State, node_fault, link_fault, refusal_of}
 use Rattle.lpt_world.specs.Shows.{Shows, ShowsSending, ShowsLink, mark_of, message_of, sent_packet}
 use Rattle.lpt_world.proofs.MapLemmas.{len_once}
 use Rattle.lpt_world.proofs.CountLemmas.{open_named}
+use Rattle.lpt_world.proofs.DueAgrees.{due_agrees}
 
 -- ---- opening
 
@@ -61,7 +66,7 @@ open_agrees c v h d next id len k =
     (λ i. option_map node_fault (refusal_open_in c (state_of (k.ledger id i)) (open_as_many v h d next k i) len))
     ∙ refuses_open c (sender h d id) (open_count h d) len
 
--- ---- sending
+-- ---- sending and finishing
 
 by_number : (outside : Bool) → option_map node_fault (if outside then Some node.NoSuchPart else None) ≡ first_fault ((outside, NoSuchPart) ∷ [])
 by_number true = refl
@@ -72,6 +77,11 @@ refuses_send : (c : Config) (k : ℕ) (x : Sender) → option_map node_fault (re
 refuses_send c k FreeSender = refl
 refuses_send c k (OpenSender m) = by_number ((k == 0) || nat_lt (part_count (length m) c.part_size) k)
 refuses_send c k ClosedSender = refl
+
+refuses_finish : (x : Sender) → option_map node_fault (refusal_finish_in (state_of (mark_of x))) ≡ first_fault ((not (is_open x), NotOpen) ∷ [])
+refuses_finish FreeSender = refl
+refuses_finish (OpenSender m) = refl
+refuses_finish ClosedSender = refl
 
 -- ---- taking and delivering
 
@@ -95,6 +105,16 @@ by_empty_hand : (full : Bool) → option_map link_fault (if full then None else 
 by_empty_hand true = refl
 by_empty_hand false = refl
 
+-- ---- time
+
+by_clock : (last : Bool) → option_map node_fault (if last then Some node.ClockEnd else None) ≡ first_fault ((last, ClockEnd) ∷ [])
+by_clock true = refl
+by_clock false = refl
+
+by_due : (o : Option Name) → option_map node_fault (refusal_expire_of o) ≡ first_fault ((not (is_some o), NothingDue) ∷ [])
+by_due None = refl
+by_due (Some id) = refl
+
 -- ---- all events
 
 -- what is refused is what the journal refuses, for the same reason
@@ -103,8 +123,18 @@ refusal_agrees c s h (Open Up id m) k = open_agrees c s.on_ground.sending h Up _
 refusal_agrees c s h (Open Down id m) k = open_agrees c s.on_craft.sending h Down _ id (length m) k.down_sender
 refusal_agrees c s h (Send Up id n) k = ap (λ o. option_map node_fault (refusal_send_of c n o)) (k.up_sender.messages id) ∙ refuses_send c n (sender h Up id)
 refusal_agrees c s h (Send Down id n) k = ap (λ o. option_map node_fault (refusal_send_of c n o)) (k.down_sender.messages id) ∙ refuses_send c n (sender h Down id)
+refusal_agrees c s h (Finish Up id) k = ap (λ m. option_map node_fault (refusal_finish_in (state_of m))) (k.up_sender.ledger id) ∙ refuses_finish (sender h Up id)
+refusal_agrees c s h (Finish Down id) k = ap (λ m. option_map node_fault (refusal_finish_in (state_of m))) (k.down_sender.ledger id) ∙ refuses_finish (sender h Down id)
 refusal_agrees c s h (Take l n) k =
     (λ i. option_map link_fault (if is_some (k.link.in_hands l i) then Some link.HandFull else if held_agrees s.link h (lane_direction l) n k.link i then None else Some link.NotHeld))
     ∙ by_hand (is_some (hand h l)) (is_held h n && goes h (lane_direction l) n)
 refusal_agrees c s h (Deliver l) k =
     ap (λ o. option_map link_fault (if is_some o then None else Some link.HandEmpty)) (k.link.in_hands l) ∙ by_empty_hand (is_some (hand h l))
+refusal_agrees c s h (Tick Ground) k = ap (λ n. option_map node_fault (if n == 4294967295 then Some node.ClockEnd else None)) k.ground_clock ∙ by_clock (clock c h Ground == 4294967295)
+refusal_agrees c s h (Tick Craft) k = ap (λ n. option_map node_fault (if n == 4294967295 then Some node.ClockEnd else None)) k.craft_clock ∙ by_clock (clock c h Craft == 4294967295)
+refusal_agrees c s h (Expire Ground) k =
+    ap (λ o. option_map node_fault (refusal_expire_of o)) (due_agrees c h Down s.on_ground.receiving (is_closed h Down) s.on_ground.clock k.down_receiver k.ground_clock)
+    ∙ by_due (due c h Down)
+refusal_agrees c s h (Expire Craft) k =
+    ap (λ o. option_map node_fault (refusal_expire_of o)) (due_agrees c h Up s.on_craft.receiving (is_closed h Up) s.on_craft.clock k.up_receiver k.craft_clock)
+    ∙ by_due (due c h Up)

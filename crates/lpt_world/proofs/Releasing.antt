@@ -7,11 +7,11 @@ use Rattle.lpt_packet.specs.Names.{Name}
 use Rattle.lpt_link.specs.Lanes.{lane_direction, same_direction}
 use Rattle.lpt_node.specs.declared.config.Config.{Config}
 use Rattle.lpt_world.specs.declared.event.Event.{Event}
-use Rattle.lpt_world.specs.declared.event.Event.TheVariants.{Deliver}
+use Rattle.lpt_world.specs.declared.event.Event.TheVariants.{Deliver, Expire}
 use Rattle.lpt_world.specs.declared.reply.Answer.{Answer}
 use Rattle.lpt_world.specs.declared.entry.Opening.{Opening}
 use Rattle.lpt_world.specs.declared.entry.Release.{Release}
-use Rattle.lpt_world.specs.Journal.{Recorded, History}
+use Rattle.lpt_world.specs.Journal.{Recorded, History, same_side, receiver_side}
 use Rattle.lpt_world.specs.Senders.{is_opening_of, retires, current}
 use Rattle.lpt_world.specs.Receivers.{ends, closed_after, is_closed}
 use Rattle.lpt_world.specs.Releases.{released_by, releases}
@@ -113,10 +113,12 @@ closed_after_stays : (e : Event) (a : Answer) (d : Direction) (id : Name)
     → closed_after e a d id true ≡ true
 closed_after_stays (Deliver l) a d id stays =
     or_true_r (same_direction (lane_direction l) d && ends a id) true refl
+closed_after_stays (Expire side) a d id stays =
+    or_true_r (same_side side (receiver_side d) && ends a id) true refl
 closed_after_stays e a d id stays = refl
 
 -- a closed transaction stays closed while it isn't retired
-closed_stays : (h : History) (x : Recorded) (d : Direction) (id : Name)
+pub closed_stays : (h : History) (x : Recorded) (d : Direction) (id : Name)
     → is_closed h d id ≡ true
     → ¬ (retires x.event d id ≡ true)
     → is_closed (x ∷ h) d id ≡ true
@@ -125,7 +127,8 @@ closed_stays h x d id e stays =
     ∙ closed_after_stays x.event x.reply.answer d id stays
 
 -- an opening that is the last one and not the newest was the last one before, and isn't retired
-was_current : (c : Config) (h : History) (x : Recorded) (d : Direction) (id : Name) (u : Opening)
+pub was_current : (c : Config) (h : History) (x : Recorded) (d : Direction) (id : Name)
+    (u : Opening)
     → Owes c h x
     → current (x ∷ h) d id ≡ Some u
     → u.place < length h
@@ -147,7 +150,7 @@ was_current c h x d id u owes e older =
 
 -- ---- the steps
 
-new_past : (c : Config) (h : History) (x : Recorded) (r : Release) (t : Direction × Name)
+pub new_past : (c : Config) (h : History) (x : Recorded) (r : Release) (t : Direction × Name)
     → IsSound c h
     → r.place ≡ length h
     → IsReleaseOf h x r t
@@ -164,7 +167,7 @@ new_past c h x r t sound place of =
       was_before = omega (arith, known.place_fits);
     }
 
-old_past : (h : History) (x : Recorded) (r : Release) (t : Direction × Name)
+pub old_past : (h : History) (x : Recorded) (r : Release) (t : Direction × Name)
     → IsPast h r t
     → IsPast (x ∷ h) r t
 old_past h x r t p = record {

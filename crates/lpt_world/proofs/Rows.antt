@@ -12,9 +12,9 @@ use Rattle.lpt_node.specs.declared.outcome.Outcome.TheVariants.{Kept, Again, Rel
 use Rattle.lpt_node.specs.declared.outcome.Why.TheVariants.{Closed}
 use Rattle.lpt_node.specs.Arrivals.{arrival}
 use Rattle.lpt_world.specs.declared.event.Event.{Event}
-use Rattle.lpt_world.specs.declared.event.Event.TheVariants.{Open, Send, Take, Deliver}
-use Rattle.lpt_world.specs.declared.fault.StepFault.TheVariants.{NoSuchPart}
-use Rattle.lpt_world.specs.declared.reply.Answer.TheVariants.{Opened, Took, Delivered}
+use Rattle.lpt_world.specs.declared.event.Event.TheVariants.{Open, Send, Finish, Take, Deliver}
+use Rattle.lpt_world.specs.declared.fault.StepFault.TheVariants.{InUse, NotOpen, NoSuchPart}
+use Rattle.lpt_world.specs.declared.reply.Answer.TheVariants.{Opened, Finished, Took, Delivered}
 use Rattle.lpt_world.specs.Journal.{sent}
 use Rattle.lpt_world.specs.Releases.{releases}
 use Rattle.lpt_world.proofs.Listed.{releases_is}
@@ -202,3 +202,22 @@ unfolding seen spelling checksum octets_in shift_all tc_field tc_verdict body_of
 full_parts-released =
     ap (λ p. releases usual p.after) (played_is usual full_parts)
     ∙ releases_is usual (played_listed usual full_parts).after
+
+-- ---- a sender that is finished
+
+abbrev finished : List Event
+finished =
+    Open Up 7 m9
+    ∷ Send Up 7 1
+    ∷ Take S1 0 ∷ Deliver S1
+    ∷ Finish Up 7 ∷ Send Up 7 2 ∷ Finish Up 7 ∷ Open Up 7 m9 ∷ []
+
+-- a closed sender sends nothing, isn't finished again, and its name isn't free
+pub finished-given : (played usual finished).given ≡
+    gives (Opened 2)
+    ∷ puts_packet 0
+    ∷ gives (Took 0) ∷ gives (Delivered (Kept 7 1))
+    ∷ gives Finished ∷ Refuses NotOpen ∷ Refuses NotOpen ∷ Refuses InUse ∷ []
+unfolding seen spelling checksum octets_in shift_all tc_field tc_verdict body_of part_verdict
+    arrival
+finished-given = ap (λ p. p.given) (played_is usual finished)

@@ -1,4 +1,4 @@
--- Opening, sending and taking: the state shows the journal afterwards.
+-- Opening, sending, finishing and taking: the state shows the journal afterwards.
 use Rattle.std.proofs.Common.{◌≡◌, ◌∙◌, ap, sym, subst, refl, ℕ, ◌==◌, Bool, true, false, ◌||◌, ◌&&◌, if◌then◌else◌, cond, List, [], ◌∷◌, ◌++◌, length, Option, Some, None}
 use Rattle.std.specs.Option.{option_or}
 use Rattle.lpt_packet.specs.declared.direction.Direction.TheVariants.{Up, Down}
@@ -16,13 +16,14 @@ use Rattle.lpt_node.specs.Counting.{service_of, subtype_of, counter_of}
 use Rattle.lpt_node.specs.MadePackets.{part_made, nth_part}
 use Rattle.lpt_node.specs.Sending.{sent_of, part_packet, part_telemetry, opened_in}
 use Rattle.lpt_world.specs.declared.entry.Opening.{Opening}
-use Rattle.lpt_world.specs.declared.event.Event.TheVariants.{Open, Send, Take}
+use Rattle.lpt_world.specs.declared.event.Event.TheVariants.{Open, Send, Finish, Take}
 use Rattle.lpt_world.specs.declared.reply.Reply.{Reply}
 use Rattle.lpt_world.specs.Journal.{History, hand}
 use Rattle.lpt_world.specs.Replies.{send_puts, part_packet as journal_packet}
 use Rattle.lpt_world.specs.Senders.{Sender, FreeSender, OpenSender, ClosedSender, sender, sender_of, is_open, current, is_over, made, count, type_counter, is_report}
-use Rattle.lpt_world.specs.State.{State, after_open, sent_on, after_take}
+use Rattle.lpt_world.specs.State.{State, after_open, sent_on, after_finish, after_take}
 use Rattle.lpt_world.specs.Shows.{Shows, ShowsSending, mark_of, message_of}
+use Rattle.lpt_world.proofs.AbortedLemmas.{closed_shown, types_closed}
 use Rattle.lpt_world.proofs.CountLemmas.{same_name-comm}
 use Rattle.lpt_world.proofs.LinkLemmas.{link_more, hands_after_take}
 use Rattle.lpt_world.proofs.MadeLemmas.{count_more, types_more, is_report-made}
@@ -151,6 +152,38 @@ sends_down c s h id n r ClosedSender t o e k = absurd cc
 sends_down c s h id n r (OpenSender m) t o e k =
     subst (λ (x : Option (List ℕ)). Shows c (sent_on s Down id (sent_of Craft c s.on_craft id n x)).0 (record { event = Send Down id n; reply = r; puts = send_puts c h Down id n (OpenSender m); opens = [] } ∷ h)) (sym e)
     (shown_send_down c s h id n r m k)
+
+-- ---- finishing
+
+pub shown_finish_up : (c : Config) (s : State) (h : History) (id : Name) (r : Reply) → Shows c s h
+    → Shows c (after_finish s Up id).0 (record { event = Finish Up id; reply = r; puts = []; opens = [] } ∷ h)
+shown_finish_up c s h id r k = record {
+  up_sender = closed_shown s.on_ground.sending h Up id (count h Up) k.up_sender;
+  down_sender = k.down_sender;
+  types = k.types;
+  up_receiver = k.up_receiver;
+  down_receiver = k.down_receiver;
+  ground_clock = k.ground_clock;
+  craft_clock = k.craft_clock;
+  link = k.link;
+  openings = k.openings;
+  released = k.released;
+}
+
+pub shown_finish_down : (c : Config) (s : State) (h : History) (id : Name) (r : Reply) → Shows c s h
+    → Shows c (after_finish s Down id).0 (record { event = Finish Down id; reply = r; puts = []; opens = [] } ∷ h)
+shown_finish_down c s h id r k = record {
+  up_sender = k.up_sender;
+  down_sender = closed_shown s.on_craft.sending h Down id (count h Down) k.down_sender;
+  types = types_closed s.on_craft.sending id (type_counter h) k.types;
+  up_receiver = k.up_receiver;
+  down_receiver = k.down_receiver;
+  ground_clock = k.ground_clock;
+  craft_clock = k.craft_clock;
+  link = k.link;
+  openings = k.openings;
+  released = k.released;
+}
 
 -- ---- taking
 

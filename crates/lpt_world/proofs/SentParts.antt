@@ -1,9 +1,11 @@
--- A part that a node puts on the link arrives as that part.
-use Rattle.std.proofs.Common.{◌≡◌, ◌∙◌, ap, sym, refl, ℕ, ◌^◌, ◌<◌, ◌≤◌, if◌then◌else◌, length, Some, arith}
+-- A part that a node puts on the link arrives as that part, and an abortion report as one.
+use Rattle.std.proofs.Common.{◌≡◌, ◌∙◌, ap, sym, refl, ℕ, ◌^◌, ◌<◌, ◌≤◌, if◌then◌else◌, length, Some, Ok, arith}
 use Rattle.std.specs.Option.{option_map_or}
 use Rattle.std.specs.Result.{result_ok}
 use Rattle.lpt_packet.specs.declared.direction.Direction.{Direction}
 use Rattle.lpt_packet.specs.declared.direction.Direction.TheVariants.{Up, Down}
+use Rattle.lpt_packet.specs.Names.{Name}
+use Rattle.lpt_packet.specs.Numbers.{word_at}
 use Rattle.lpt_packet.specs.Packets.{Fields, spelling}
 use Rattle.lpt_packet.specs.Ranges.{InRange}
 use Rattle.lpt_packet.proofs.Readings.{eq_true}
@@ -14,16 +16,19 @@ use Rattle.lpt_pus.proofs.CommandLemmas.{length-tc_field, tc_verdict-packet_of}
 use Rattle.lpt_pus.proofs.TelemetryLemmas.{length-tm_field, tm_verdict-tm_packet_of}
 use Rattle.lpt_part.specs.declared.kind.Kind.{Kind}
 use Rattle.lpt_part.specs.declared.kind.Kind.TheVariants.{First, Middle, Last}
+use Rattle.lpt_part.specs.declared.reason.Reason.{Reason}
+use Rattle.lpt_part.specs.declared.reason.Reason.TheVariants.{Expired, Discontinuity, Conflict}
+use Rattle.lpt_part.specs.Aborts.{abort_body, abort_verdict}
 use Rattle.lpt_part.specs.PartRanges.{PartFits}
 use Rattle.lpt_part.specs.Parts.{Piece, body_of}
 use Rattle.lpt_part.proofs.BodyLemmas.{length-body_of, part_verdict-body_of}
 use Rattle.lpt_node.specs.declared.config.Config.{Config}
 use Rattle.lpt_node.specs.declared.side.Side.{Side}
 use Rattle.lpt_node.specs.declared.side.Side.TheVariants.{Ground, Craft}
-use Rattle.lpt_node.specs.Arrivals.{NotRead, Foreign, ARequest, NoPart, APart, report_arrival, part_subtype, carried_kind, part_arrival, command_arrival, telemetry_arrival, packet_arrival, sight_arrival, arrival}
-use Rattle.lpt_node.specs.MadePackets.{command_made, telemetry_made, part_made}
+use Rattle.lpt_node.specs.Arrivals.{NotRead, Foreign, ARequest, NoPart, APart, AnAbort, report_arrival, part_subtype, carried_kind, part_arrival, command_arrival, telemetry_arrival, packet_arrival, sight_arrival, arrival}
+use Rattle.lpt_node.specs.MadePackets.{command_made, telemetry_made, part_made, abort_made}
 use Rattle.lpt_world.specs.Journal.{arrival_in}
-use Rattle.lpt_world.specs.Replies.{IsConfig}
+use Rattle.lpt_node.specs.Configs.{IsConfig}
 
 -- ---- subtypes
 
@@ -150,3 +155,47 @@ part_arrives c Down count counter time q good counts i fits =
     ∙ ap (λ o. option_map_or (part_arrival c.part_size (body_of q)) o (report_arrival t))
     (carried_kind-part_subtype Down q.kind)
     ∙ body_arrives c.part_size q i fits
+
+-- ---- abortion reports
+
+length-abort_body : (id : Name) (reason : Reason) → length (abort_body id reason) ≡ 3
+unfolding abort_body
+length-abort_body id reason = refl
+
+-- a report's body is read
+abort_read : (id : Name) (reason : Reason)
+    → (n : Name) × (abort_verdict (abort_body id reason) ≡ Ok (n, reason))
+unfolding abort_body abort_verdict
+abort_read id Expired = (word_at (abort_body id Expired) 0, refl)
+abort_read id Discontinuity = (word_at (abort_body id Discontinuity) 0, refl)
+abort_read id Conflict = (word_at (abort_body id Conflict) 0, refl)
+
+-- an abortion report arrives as one
+pub abort_arrives : (c : Config) (count counter time : ℕ) (id : Name) (reason : Reason)
+    → IsConfig c
+    → AreCounts count counter time
+    → (n : Name)
+    × (arrival_in c Down (abort_made c count counter time id reason) ≡ AnAbort n reason)
+abort_arrives c count counter time id reason good counts =
+    let t = telemetry_made c count counter time 13 16 (abort_body id reason) in
+    let short : length (abort_body id reason) ≤ 65523 =
+    omega (arith, length-abort_body id reason) in
+    let in_range : TelemetryFits t = record {
+      head_fits =
+          record {
+            apid_fits = good.apid_fits;
+            count_fits = counts.count_fits;
+            status_fits = omega arith;
+          };
+      service_fits = omega arith;
+      subtype_fits = omega arith;
+      counter_fits = counts.counter_fits;
+      destination_fits = good.source_fits;
+      time_fits = counts.time_fits;
+      body_fits = short;
+    } in
+    let read = abort_read id reason in (
+      read.0,
+      telemetry_arrives c.apid c.part_size t in_range refl
+          ∙ ap (λ r. option_map_or (λ a. AnAbort a.0 a.1) (result_ok r) NoPart) read.1,
+    )

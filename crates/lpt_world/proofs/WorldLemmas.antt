@@ -26,7 +26,8 @@ use Rattle.lpt_world.specs.declared.fault.StepFault.TheVariants.{NoSuchSeat}
 use Rattle.lpt_world.specs.declared.reply.Reply.{Reply}
 use Rattle.lpt_world.specs.EndsInside.{state_of}
 use Rattle.lpt_world.specs.Journal.{History, SentPacket, sent}
-use Rattle.lpt_world.specs.Replies.{IsConfig, IsEvent, IsEnabled, refusal, reply, entry, recorded}
+use Rattle.lpt_node.specs.Configs.{IsConfig}
+use Rattle.lpt_world.specs.Replies.{IsEvent, IsEnabled, refusal, reply, entry, recorded}
 use Rattle.lpt_world.specs.Shows.{Shows, ShowsSending, ShowsReceiving, sent_packet}
 use Rattle.lpt_world.specs.State.{State, no_state, after, refusal_of}
 use Rattle.lpt_world.specs.WorldInside.{IsShown, IsWorld}

@@ -3,7 +3,7 @@ use Rattle.std.specs.Prelude.{◌≡◌}
 use Rattle.lpt_node.specs.declared.config.Config.{Config}
 use Rattle.lpt_node.specs.declared.side.Side.TheVariants.{Ground, Craft}
 use Rattle.lpt_node.specs.Nodes.{NodeView}
-use Rattle.lpt_world.specs.Replies.{IsConfig}
+use Rattle.lpt_node.specs.Configs.{IsConfig}
 
 pub record IsSound (c : Config) (on_ground on_craft : NodeView) : Type 0 where
   pub configured : IsConfig c

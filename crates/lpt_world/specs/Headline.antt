@@ -23,7 +23,8 @@ use Rattle.lpt_world.specs.Senders.{current}
 use Rattle.lpt_world.specs.Receivers.{heard}
 use Rattle.lpt_world.specs.Delivery.{outcome}
 use Rattle.lpt_world.specs.Releases.{releases}
-use Rattle.lpt_world.specs.Replies.{recorded, Legal, IsConfig}
+use Rattle.lpt_node.specs.Configs.{IsConfig}
+use Rattle.lpt_world.specs.Replies.{recorded, Legal}
 
 -- ---- parts
 

@@ -57,6 +57,11 @@ abbrev pub receiver_side : Direction → Side
 receiver_side Up = Craft
 receiver_side Down = Ground
 
+-- the direction in which a side receives
+abbrev pub direction_to : Side → Direction
+direction_to Ground = Down
+direction_to Craft = Up
+
 -- ---- the link
 
 -- all packets put on the link, each at the place of its number

@@ -2,6 +2,8 @@ pub mod ConfigFaultNames
 pub mod Delivery
 pub mod EndsInside
 pub mod EndsSound
+pub mod Expiries
+pub mod Expiry
 pub mod FaultNames
 pub mod Headline
 pub mod Journal

@@ -1,5 +1,5 @@
 -- The receiving ends: what each has kept, which receptions have ended, and the clocks.
-use Rattle.std.specs.Prelude.{ℕ, Bool, false, not, ◌&&◌, ◌||◌, ◌==◌, if◌then◌else◌, List, [], ◌∷◌, length}
+use Rattle.std.specs.Prelude.{ℕ, ◌+◌, Bool, false, not, ◌&&◌, ◌||◌, ◌==◌, if◌then◌else◌, List, [], ◌∷◌, length}
 use Rattle.std.specs.List.{filter}
 use Rattle.std.specs.FinMap as map
 use Rattle.lpt_packet.specs.declared.direction.Direction.{Direction}
@@ -13,10 +13,10 @@ use Rattle.lpt_node.specs.declared.outcome.Outcome.TheVariants.{Kept, Again, Rel
 use Rattle.lpt_node.specs.declared.side.Side.{Side}
 use Rattle.lpt_node.specs.Arrivals.{Arrival, APart}
 use Rattle.lpt_world.specs.declared.event.Event.{Event}
-use Rattle.lpt_world.specs.declared.event.Event.TheVariants.{Deliver}
+use Rattle.lpt_world.specs.declared.event.Event.TheVariants.{Deliver, Tick, Expire}
 use Rattle.lpt_world.specs.declared.reply.Answer.{Answer}
-use Rattle.lpt_world.specs.declared.reply.Answer.TheVariants.{Delivered}
-use Rattle.lpt_world.specs.Journal.{History, receiver_side, in_hand}
+use Rattle.lpt_world.specs.declared.reply.Answer.TheVariants.{Delivered, Expired}
+use Rattle.lpt_world.specs.Journal.{History, same_side, receiver_side, in_hand}
 use Rattle.lpt_world.specs.Senders.{once}
 
 -- ---- what was kept
@@ -44,10 +44,19 @@ heard_now (Delivered (Broken i reason)) arrived id before =
     if same_name i id then no_parts else before
 heard_now _ arrived id before = before
 
+-- whether an answer ends the reception of this name
+abbrev pub ends : Answer → Name → Bool
+ends (Delivered (Released i len)) id = same_name i id
+ends (Delivered (Broken i reason)) id = same_name i id
+ends (Expired d i) id = same_name i id
+ends _ id = false
+
 -- what is kept of a transaction after an event; arrived says what is in each lane's hand
 abbrev pub heard_after : Event → Answer → (Lane → Arrival) → Direction → Name → Parts → Parts
 heard_after (Deliver l) answer arrived d id before =
     if same_direction (lane_direction l) d then heard_now answer (arrived l) id before else before
+heard_after (Expire side) answer arrived d id before =
+    if same_side side (receiver_side d) && ends answer id then no_parts else before
 heard_after _ answer arrived d id before = before
 
 -- the parts that are kept of a transaction
@@ -87,16 +96,12 @@ reception_count c h d = length (open_names c h d)
 
 -- ---- receptions that have ended
 
--- whether an answer ends the reception of this name
-abbrev pub ends : Answer → Name → Bool
-ends (Delivered (Released i len)) id = same_name i id
-ends (Delivered (Broken i reason)) id = same_name i id
-ends _ id = false
-
 -- whether the receiver has the transaction closed after an event
 abbrev pub closed_after : Event → Answer → Direction → Name → Bool → Bool
 closed_after (Deliver l) answer d id before =
     (same_direction (lane_direction l) d && ends answer id) || before
+closed_after (Expire side) answer d id before =
+    (same_side side (receiver_side d) && ends answer id) || before
 closed_after _ answer d id before = before
 
 -- whether a reception of the transaction has ended, and it was not retired after that
@@ -106,8 +111,9 @@ is_closed (x ∷ h) d id = closed_after x.event x.reply.answer d id (is_closed h
 
 -- ---- time
 
--- a node's clock after an event; so far none ticks
+-- a node's clock after an event
 abbrev pub clock_after : Event → Side → ℕ → ℕ
+clock_after (Tick t) side before = if same_side t side then before + 1 else before
 clock_after _ side before = before
 
 -- a node's clock

@@ -1,12 +1,13 @@
 -- What each event answers, puts and opens, why it is refused, and which journals are legal.
-use Rattle.std.specs.Prelude.{◌≡◌, ℕ, ◌<◌, ◌≤◌, ◌^◌, nat_lt, nat_le, ◌==◌, Bool, not, ◌&&◌, ◌||◌, if◌then◌else◌, List, [], ◌∷◌, length, Option, Some, None, is_some, ⊤}
+use Rattle.std.specs.Prelude.{◌≡◌, ℕ, ◌+◌, ◌<◌, nat_lt, nat_le, ◌==◌, Bool, not, ◌&&◌, ◌||◌, if◌then◌else◌, List, [], ◌∷◌, length, Option, Some, None, is_some, ⊤}
 use Rattle.lpt_packet.specs.declared.direction.Direction.{Direction}
 use Rattle.lpt_packet.specs.declared.direction.Direction.TheVariants.{Up, Down}
 use Rattle.lpt_packet.specs.Names.{Name}
 use Rattle.lpt_packet.specs.Numbers.{IsOctets}
 use Rattle.lpt_part.specs.declared.reason.Reason.{Reason}
+use Rattle.lpt_part.specs.declared.reason.Reason.TheVariants as reason
 use Rattle.lpt_part.specs.Parts.{Piece}
-use Rattle.lpt_part.specs.Splitting.{IsPartSize, part_count}
+use Rattle.lpt_part.specs.Splitting.{part_count}
 use Rattle.lpt_link.specs.Lanes.{lane_direction}
 use Rattle.lpt_node.specs.declared.config.Config.{Config}
 use Rattle.lpt_node.specs.declared.outcome.Outcome.{Outcome}
@@ -16,27 +17,36 @@ use Rattle.lpt_node.specs.declared.side.Side.TheVariants.{Ground, Craft}
 use Rattle.lpt_node.specs.Arrivals.{part_subtype}
 use Rattle.lpt_node.specs.MadePackets.{nth_part, part_made, abort_made}
 use Rattle.lpt_world.specs.declared.event.Event.{Event}
-use Rattle.lpt_world.specs.declared.event.Event.TheVariants.{Open, Send, Take, Deliver}
+use Rattle.lpt_world.specs.declared.event.Event.TheVariants.{Open, Send, Finish, Take, Deliver, Tick, Expire}
 use Rattle.lpt_world.specs.declared.reply.Answer.{Answer}
-use Rattle.lpt_world.specs.declared.reply.Answer.TheVariants.{Opened, Put, Took, Delivered}
+use Rattle.lpt_world.specs.declared.reply.Answer.TheVariants.{Opened, Put, Finished, Took, Delivered, Clock, Expired}
 use Rattle.lpt_world.specs.declared.reply.Puts.{Puts}
 use Rattle.lpt_world.specs.declared.reply.Reply.{Reply}
 use Rattle.lpt_world.specs.declared.entry.Opening.{Opening}
 use Rattle.lpt_world.specs.declared.fault.StepFault.{StepFault}
-use Rattle.lpt_world.specs.declared.fault.StepFault.TheVariants.{InUse, Short, Long, TooMany, NotOpen, NoSuchPart, NotHeld, HandFull, HandEmpty}
-use Rattle.lpt_world.specs.Journal.{SentPacket, Recorded, History, sent, is_held, goes, hand, receiver_side}
+use Rattle.lpt_world.specs.declared.fault.StepFault.TheVariants.{InUse, Short, Long, TooMany, NotOpen, NoSuchPart, NotHeld, HandFull, HandEmpty, NothingDue, ClockEnd}
+use Rattle.lpt_world.specs.Journal.{SentPacket, Recorded, History, sent, is_held, goes, hand, receiver_side, direction_to}
 use Rattle.lpt_world.specs.Senders.{Sender, FreeSender, OpenSender, ClosedSender, sender, is_free, is_open, open_count, count, type_counter}
 use Rattle.lpt_world.specs.Receivers.{clock}
+use Rattle.lpt_world.specs.Expiry.{due}
 use Rattle.lpt_world.specs.Delivery.{outcome}
 
 -- ---- replies
+
+-- the end of the reception that is due; where none is, that is refused
+abbrev pub expired_now : Direction → Option Name → Answer
+expired_now d None = Expired d 0
+expired_now d (Some id) = Expired d id
 
 -- what is particular to the event in its reply
 abbrev pub answer : Config → History → Event → Answer
 answer c h (Open d id m) = Opened (part_count (length m) c.part_size)
 answer c h (Send d id k) = Put (length (sent h))
+answer c h (Finish d id) = Finished
 answer c h (Take l n) = Took n
 answer c h (Deliver l) = Delivered (outcome c h l)
+answer c h (Tick side) = Clock (clock c h side + 1)
+answer c h (Expire side) = expired_now (direction_to side) (due c h (direction_to side))
 
 -- the octets of a part's packet that the sender makes now
 abbrev pub part_packet : Config → History → Direction → Piece → List ℕ
@@ -52,7 +62,7 @@ send_puts c h d id k (OpenSender m) =
 send_puts c h d id k FreeSender = []
 send_puts c h d id k ClosedSender = []
 
--- the abortion report that the spacecraft puts when it breaks a reception off; ground puts none
+-- the abortion report that the spacecraft puts when it ends a reception so; ground puts none
 abbrev pub abort_puts : Config → History → Side → Name → Reason → List SentPacket
 abort_puts c h Ground id reason = []
 abort_puts c h Craft id reason =
@@ -66,10 +76,16 @@ abbrev pub outcome_puts : Config → History → Side → Outcome → List SentP
 outcome_puts c h side (Broken id reason) = abort_puts c h side id reason
 outcome_puts c h side _ = []
 
+-- what the end of the reception that is due puts; where none is due, it is refused
+abbrev pub expiry_puts : Config → History → Side → Option Name → List SentPacket
+expiry_puts c h side None = []
+expiry_puts c h side (Some id) = abort_puts c h side id reason.Expired
+
 -- the packets that an event puts on the link
 abbrev pub puts : Config → History → Event → List SentPacket
 puts c h (Send d id k) = send_puts c h d id k (sender h d id)
 puts c h (Deliver l) = outcome_puts c h (receiver_side (lane_direction l)) (outcome c h l)
+puts c h (Expire side) = expiry_puts c h side (due c h (direction_to side))
 puts c h _ = []
 
 -- the transactions that an event opens
@@ -119,10 +135,13 @@ reasons c h (Open d id m) =
 reasons c h (Send d id k) =
     (not (is_open (sender h d id)), NotOpen)
     ∷ ((k == 0) || nat_lt (parts_open c (sender h d id)) k, NoSuchPart) ∷ []
+reasons c h (Finish d id) = (not (is_open (sender h d id)), NotOpen) ∷ []
 reasons c h (Take l n) =
     (is_some (hand h l), HandFull)
     ∷ (not (is_held h n && goes h (lane_direction l) n), NotHeld) ∷ []
 reasons c h (Deliver l) = (not (is_some (hand h l)), HandEmpty) ∷ []
+reasons c h (Tick side) = (clock c h side == 4294967295, ClockEnd) ∷ []
+reasons c h (Expire side) = (not (is_some (due c h (direction_to side))), NothingDue) ∷ []
 
 -- why an event is refused, where it is
 abbrev pub refusal : Config → History → Event → Option StepFault
@@ -134,6 +153,7 @@ refusal c h e = first_fault (reasons c h e)
 abbrev pub IsEvent : Event → Type 0
 IsEvent (Open d id m) = (id < 65536) × IsOctets m
 IsEvent (Send d id k) = (id < 65536) × (k < 65536)
+IsEvent (Finish d id) = id < 65536
 IsEvent _ = ⊤
 
 -- an event can happen after this history
@@ -145,16 +165,3 @@ pub record IsEnabled (c : Config) (h : History) (e : Event) : Type 0 where
 abbrev pub Legal : Config → List Event → Type 0
 Legal c [] = ⊤
 Legal c (e ∷ es) = Legal c es × IsEnabled c (recorded c es) e
-
--- the configuration's numbers are in their ranges
-pub record IsConfig (c : Config) : Type 0 where
-  pub apid_fits : c.apid ≤ 2046
-  pub source_fits : c.source < 65536
-  pub part_size_fits : IsPartSize c.part_size
-  pub some_timeout : 1 ≤ c.timeout
-  pub timeout_fits : c.timeout ≤ 65535
-  pub some_receptions : 1 ≤ c.receptions
-  pub receptions_fit : c.receptions ≤ 64
-  pub some_outgoing : 1 ≤ c.outgoing
-  pub outgoing_fits : c.outgoing ≤ 64
-  pub clock_fits : c.clock < 2 ^ 32

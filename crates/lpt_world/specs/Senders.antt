@@ -10,7 +10,7 @@ use Rattle.lpt_link.specs.Lanes.{same_direction}
 use Rattle.lpt_node.specs.declared.side.Side.{Side}
 use Rattle.lpt_node.specs.declared.outcome.Outcome.TheVariants.{AbortNoted}
 use Rattle.lpt_world.specs.declared.event.Event.{Event}
-use Rattle.lpt_world.specs.declared.event.Event.TheVariants.{Open, Deliver}
+use Rattle.lpt_world.specs.declared.event.Event.TheVariants.{Open, Finish, Deliver}
 use Rattle.lpt_world.specs.declared.reply.Answer.{Answer}
 use Rattle.lpt_world.specs.declared.reply.Answer.TheVariants.{Delivered}
 use Rattle.lpt_world.specs.declared.entry.Opening.{Opening}
@@ -45,9 +45,10 @@ abbrev pub notes_abort : Answer → Name → Bool
 notes_abort (Delivered (AbortNoted i reason)) id = same_name i id
 notes_abort _ id = false
 
--- whether an event closes the transaction's sender: an abortion report speaks of what goes up
+-- whether an event closes the transaction's sender; an abortion report speaks of what goes up
 abbrev pub closes : Event → Answer → Direction → Name → Bool
 closes (Deliver l) answer d id = same_direction Up d && notes_abort answer id
+closes (Finish e i) answer d id = same_direction e d && same_name i id
 closes _ answer d id = false
 
 -- whether something closed the sender after its last opening

@@ -14,6 +14,7 @@ use Rattle.lpt_link.specs.Lanes.{lane_direction}
 use Rattle.lpt_link.specs.Links.{LinkData, empty_link, after_put, after_take as link_after_take, after_drop, packet_in_hand, refusal_take, refusal_drop}
 use Rattle.lpt_node.specs.declared.accepted.Accepted.{Accepted}
 use Rattle.lpt_node.specs.declared.config.Config.{Config}
+use Rattle.lpt_node.specs.declared.expired.Expired.{Expired as Ended}
 use Rattle.lpt_node.specs.declared.fault.NodeFault.{NodeFault}
 use Rattle.lpt_node.specs.declared.fault.NodeFault.TheVariants as node
 use Rattle.lpt_node.specs.declared.outcome.Outcome.{Outcome}
@@ -23,17 +24,18 @@ use Rattle.lpt_node.specs.declared.side.Side.TheVariants.{Ground, Craft}
 use Rattle.lpt_node.specs.Accepting.{accepted}
 use Rattle.lpt_node.specs.Arrivals.{Arrival, NotRead}
 use Rattle.lpt_node.specs.Nodes.{NodeData, no_data}
-use Rattle.lpt_node.specs.Sending.{refusal_open, refusal_send, opened as node_opened, sent as node_sent}
+use Rattle.lpt_node.specs.Sending.{refusal_open, refusal_send, refusal_finish, opened as node_opened, sent as node_sent, closed as node_closed}
+use Rattle.lpt_node.specs.Times.{refusal_tick, ticked, refusal_expire, expired}
 use Rattle.lpt_world.specs.declared.entry.Opening.{Opening}
 use Rattle.lpt_world.specs.declared.entry.Release.{Release}
 use Rattle.lpt_world.specs.declared.event.Event.{Event}
-use Rattle.lpt_world.specs.declared.event.Event.TheVariants.{Open, Send, Take, Deliver}
+use Rattle.lpt_world.specs.declared.event.Event.TheVariants.{Open, Send, Finish, Take, Deliver, Tick, Expire}
 use Rattle.lpt_world.specs.declared.fault.StepFault.{StepFault}
 use Rattle.lpt_world.specs.declared.fault.StepFault.TheVariants as step
 use Rattle.lpt_world.specs.declared.reply.Answer.{Answer}
-use Rattle.lpt_world.specs.declared.reply.Answer.TheVariants.{Opened, Put, Took, Delivered}
+use Rattle.lpt_world.specs.declared.reply.Answer.TheVariants.{Opened, Put, Finished, Took, Delivered, Clock, Expired}
 use Rattle.lpt_world.specs.declared.reply.Reply.{Reply}
-use Rattle.lpt_world.specs.Journal.{arrival_in, sender_side, receiver_side}
+use Rattle.lpt_world.specs.Journal.{arrival_in, sender_side, receiver_side, direction_to}
 
 -- both ends, the link, and what was opened and released so far
 pub record State : Type 0 where
@@ -82,8 +84,11 @@ link_fault link.Memory = step.Memory
 abbrev pub refusal_of : Config → State → Event → Option StepFault
 refusal_of c s (Open d id m) = option_map node_fault (refusal_open c (end_of s (sender_side d)) id (length m))
 refusal_of c s (Send d id k) = option_map node_fault (refusal_send c (end_of s (sender_side d)) id k)
+refusal_of c s (Finish d id) = option_map node_fault (refusal_finish (end_of s (sender_side d)) id)
 refusal_of c s (Take l n) = option_map link_fault (refusal_take s.link l n)
 refusal_of c s (Deliver l) = option_map link_fault (refusal_drop s.link l)
+refusal_of c s (Tick side) = option_map node_fault (refusal_tick (end_of s side))
+refusal_of c s (Expire side) = option_map node_fault (refusal_expire c (end_of s side))
 
 -- ---- replies
 
@@ -95,7 +100,7 @@ quiet a = record { answer = a; puts = None }
 abbrev pub put_one : ℕ → Answer → Reply
 put_one n a = record { answer = a; puts = Some (record { first = n; count = 1 }) }
 
--- ---- opening and sending
+-- ---- opening, sending and finishing
 
 abbrev pub after_open : Config → ℕ → State → Direction → Name → List ℕ → State × Reply
 after_open c place s d id m = (
@@ -115,6 +120,11 @@ sent_on s d id x = (
 abbrev pub after_send : Config → State → Direction → Name → ℕ → State × Reply
 after_send c s d id k = sent_on s d id (node_sent (sender_side d) c (end_of s (sender_side d)) id k)
 
+-- a sender is closed
+abbrev pub after_finish : State → Direction → Name → State × Reply
+after_finish s d id =
+    (with_end s (sender_side d) (node_closed (end_of s (sender_side d)) id), quiet Finished)
+
 -- ---- taking and delivering
 
 abbrev pub after_take : State → Lane → ℕ → State × Reply
@@ -125,10 +135,10 @@ abbrev pub link_with : LinkData → Option (List ℕ) → LinkData
 link_with v None = v
 link_with v (Some b) = after_put v Down None b
 
--- the reply of a delivery that put a report, which got this number, or none
-abbrev pub told_delivery : ℕ → Outcome → Option (List ℕ) → Reply
-told_delivery n o None = quiet (Delivered o)
-told_delivery n o (Some b) = put_one n (Delivered o)
+-- the reply of an event that put a report, which got this number, or none
+abbrev pub told_with : ℕ → Answer → Option (List ℕ) → Reply
+told_with n a None = quiet a
+told_with n a (Some b) = put_one n a
 
 -- the transaction of a released message, by the outcome: a plain request has none
 abbrev pub released_of : Direction → Outcome → Option (Direction × Name)
@@ -147,7 +157,7 @@ delivered_as place s l x = (
     link = link_with (after_drop s.link l) x.1.packet;
     released = with_release s.released place (lane_direction l) x.1.outcome x.1.released;
   },
-  told_delivery (length s.link.packets) x.1.outcome x.1.packet,
+  told_with (length s.link.packets) (Delivered x.1.outcome) x.1.packet,
 )
 
 -- the receiver of a lane has taken what was in its hand: the state after it, and the answer
@@ -164,11 +174,31 @@ after_deliver c place s l =
     (accepted (receiver_side (lane_direction l)) c (end_of s (receiver_side (lane_direction l)))
     (arrival_held c (lane_direction l) (packet_in_hand s.link l)))
 
+-- ---- time
+
+-- a node's clock is one tick on
+abbrev pub after_tick : State → Side → State × Reply
+after_tick s side =
+    (with_end s side (ticked (end_of s side)), quiet (Clock (ticked (end_of s side)).clock))
+
+-- a node has ended a reception and answered, and its report is put, where it made one
+abbrev pub expired_as : State → Side → NodeData × Ended → State × Reply
+expired_as s side x = (
+  record (with_end s side x.0) { link = link_with s.link x.1.packet },
+  told_with (length s.link.packets) (Expired (direction_to side) x.1.id) x.1.packet,
+)
+
+abbrev pub after_expire : Config → State → Side → State × Reply
+after_expire c s side = expired_as s side (expired side c (end_of s side))
+
 -- ---- all events
 
 -- what an event at this place makes of the state, and its reply
 abbrev pub after : Config → ℕ → State → Event → State × Reply
 after c place s (Open d id m) = after_open c place s d id m
 after c place s (Send d id k) = after_send c s d id k
+after c place s (Finish d id) = after_finish s d id
 after c place s (Take l n) = after_take s l n
 after c place s (Deliver l) = after_deliver c place s l
+after c place s (Tick side) = after_tick s side
+after c place s (Expire side) = after_expire c s side

@@ -4,7 +4,7 @@ use Rattle.lpt_node.specs.declared.config.Config.{Config}
 use Rattle.lpt_world.specs.declared.ends.Ends.{Ends}
 use Rattle.lpt_world.specs.declared.entry.Entry.{Entry}
 use Rattle.lpt_world.specs.EndsInside.{state_of}
-use Rattle.lpt_world.specs.Replies.{IsConfig}
+use Rattle.lpt_node.specs.Configs.{IsConfig}
 use Rattle.lpt_world.specs.Shows.{Shows}
 use Rattle.lpt_world.specs.Worlds.{IsTold, history_of}
 

@@ -10,8 +10,8 @@ ghost use Rattle.lpt_node.specs.Asking.{refusal_of as node_refusal};
 ghost use Rattle.lpt_node.specs.Origins.{arrival_from};
 ghost use Rattle.lpt_world.specs.EndsSound.{IsSound};
 ghost use Rattle.lpt_world.specs.Journal.{sender_side, receiver_side};
-ghost use Rattle.lpt_world.specs.Replies.{IsConfig};
-ghost use Rattle.lpt_world.specs.State.{no_state, end_of, refusal_of, after, node_fault, released_of, with_release, link_with, told_delivery, IsReceived, quiet as quiet_reply, put_one as put_one_reply};
+ghost use Rattle.lpt_node.specs.Configs.{IsConfig};
+ghost use Rattle.lpt_world.specs.State.{no_state, end_of, refusal_of, after, node_fault, released_of, with_release, link_with, told_with, IsReceived, quiet as quiet_reply, put_one as put_one_reply};
 
 use crate::faults::{of_link, of_node};
 use crate::{Answer, Event, Opening, Puts, Release, Reply, StepFault};
@@ -61,22 +61,25 @@ impl Ends {
     {
         match event {
             Event::Open(direction, id, message) => {
-                self.ask(*direction, Ask::Open(*id, message.as_slice().len()))
+                self.ask(sender(*direction), Ask::Open(*id, message.as_slice().len()))
             }
-            Event::Send(direction, id, k) => self.ask(*direction, Ask::Send(*id, *k)),
+            Event::Send(direction, id, k) => self.ask(sender(*direction), Ask::Send(*id, *k)),
+            Event::Finish(direction, id) => self.ask(sender(*direction), Ask::Finish(*id)),
             Event::Take(lane, n) => self.link.refusal_take(*lane, *n).map(of_link),
             Event::Deliver(lane) => self.link.refusal_drop(*lane).map(of_link),
+            Event::Tick(side) => self.ask(*side, Ask::Tick),
+            Event::Expire(side) => self.ask(*side, Ask::Expire),
         }
     }
 
-    // Why the sender of a direction would refuse a call.
-    fn ask(&self, direction: Direction, ask: Ask) -> Option<StepFault>
+    // Why the node on a side would refuse a call.
+    fn ask(&self, side: Side, ask: Ask) -> Option<StepFault>
         ensures { result ≡ option_map node_fault
-            (node_refusal self.now.config (end_of (state_of self.now) (sender_side direction)) ask) }
+            (node_refusal self.now.config (end_of (state_of self.now) side) ask) }
     {
-        match direction {
-            Direction::Up => self.on_ground.refusal(&ask).map(of_node),
-            Direction::Down => self.on_craft.refusal(&ask).map(of_node),
+        match side {
+            Side::Ground => self.on_ground.refusal(&ask).map(of_node),
+            Side::Craft => self.on_craft.refusal(&ask).map(of_node),
         }
     }
 
@@ -91,8 +94,11 @@ impl Ends {
         match event {
             Event::Open(direction, id, message) => self.open(place, *direction, *id, message),
             Event::Send(direction, id, k) => self.send(*direction, *id, *k),
+            Event::Finish(direction, id) => Ok(self.finish(*direction, *id)),
             Event::Take(lane, n) => Ok(self.take(*lane, *n)),
             Event::Deliver(lane) => self.deliver(place, *lane),
+            Event::Tick(side) => Ok(self.tick(*side)),
+            Event::Expire(side) => self.expire(*side),
         }
     }
 
@@ -154,6 +160,24 @@ impl Ends {
         }
     }
 
+    // Closes an open sender.
+    fn finish(&mut self, direction: Direction, id: Name) -> Reply
+        requires { refusal_of self.old.config (state_of self.old) (Event.Finish direction id)
+            ≡ None }
+        ensures ok { (state_of self.new, result)
+            ≡ after self.old.config 0 (state_of self.old) (Event.Finish direction id) }
+        ensures config { self.new.config ≡ self.old.config }
+    {
+        let finished = match direction {
+            Direction::Up => self.on_ground.finish(id),
+            Direction::Down => self.on_craft.finish(id),
+        };
+        match finished {
+            Ok(()) => quiet(Answer::Finished),
+            Err(_) => unreachable!(),
+        }
+    }
+
     // Takes a held packet into a lane's hand.
     fn take(&mut self, lane: Lane, n: u64) -> Reply
         requires { refusal_of self.old.config (state_of self.old) (Event.Take lane n) ≡ None }
@@ -184,7 +208,7 @@ impl Ends {
         } = self.receive(lane, &parsed)?;
         let _ = self.link.drop_hand(lane);
         self.note_release(place, lane.direction(), outcome, released);
-        Ok(self.report(outcome, packet))
+        Ok(self.report(Answer::Delivered(outcome), packet))
     }
 
     // Gives the receiver of a lane what was in its hand.
@@ -230,19 +254,19 @@ impl Ends {
         }
     }
 
-    // Puts the report of a delivery on the link, where there is one, and answers.
-    fn report(&mut self, outcome: Outcome, packet: Option<Octets>) -> Reply
+    // Puts a node's report on the link, where it made one, and answers.
+    pub(crate) fn report(&mut self, answer: Answer, packet: Option<Octets>) -> Reply
         requires { 0 < self.old.link.spare }
         ensures state { state_of self.new ≡ record (state_of self.old) { link = link_with self.old.link.at packet } }
-        ensures reply { result ≡ told_delivery (length self.old.link.at.packets) outcome packet }
+        ensures reply { result ≡ told_with (length self.old.link.at.packets) answer packet }
         ensures config { self.new.config ≡ self.old.config }
     {
         match packet {
             Some(octets) => {
                 let n = put_reserved(&mut self.link, Direction::Down, None, octets);
-                put_one(n, Answer::Delivered(outcome))
+                put_one(n, answer)
             }
-            None => quiet(Answer::Delivered(outcome)),
+            None => quiet(answer),
         }
     }
 
@@ -268,8 +292,18 @@ impl Ends {
     }
 }
 
+// The side that sends in a direction.
+fn sender(direction: Direction) -> Side
+    ensures { result ≡ sender_side direction }
+{
+    match direction {
+        Direction::Up => Side::Ground,
+        Direction::Down => Side::Craft,
+    }
+}
+
 // The reply of an event that put nothing on the link.
-fn quiet(answer: Answer) -> Reply
+pub(crate) fn quiet(answer: Answer) -> Reply
     ensures { result ≡ quiet_reply answer }
 {
     Reply { answer, puts: None }

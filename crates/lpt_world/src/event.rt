@@ -3,6 +3,7 @@
 ghost use Rattle.std.specs.Prelude.{◌≡◌, IfOk};
 
 use lpt_link::Lane;
+use lpt_node::Side;
 use lpt_packet::{Direction, Name, Octets};
 use std::alloc::AllocError;
 
@@ -13,10 +14,18 @@ pub enum Event {
     Open(Direction, Name, Octets),
     /// Puts the part of this number of an open message on the link.
     Send(Direction, Name, u16),
+    /// Closes the open sender of this name in its direction and lets its message go.
+    Finish(Direction, Name),
     /// Takes the held packet of this number into the lane's empty hand.
     Take(Lane, u64),
     /// Gives the packet in the lane's hand to the receiving node, and empties the hand.
     Deliver(Lane),
+    /// Sets the clock of the node on this side one tick on.
+    Tick(Side),
+    /// Ends the reception at the node on this side that is due: of those that took no part for as
+    /// long as the time-out, the one that has waited longest, and of equal ones that of the least
+    /// name. The spacecraft puts a report of it on the link.
+    Expire(Side),
 }
 
 impl Event {
@@ -28,8 +37,11 @@ impl Event {
         Ok(match self {
             Event::Open(direction, id, message) => Event::Open(*direction, *id, message.copy()?),
             Event::Send(direction, id, part) => Event::Send(*direction, *id, *part),
+            Event::Finish(direction, id) => Event::Finish(*direction, *id),
             Event::Take(lane, number) => Event::Take(*lane, *number),
             Event::Deliver(lane) => Event::Deliver(*lane),
+            Event::Tick(side) => Event::Tick(*side),
+            Event::Expire(side) => Event::Expire(*side),
         })
     }
 }

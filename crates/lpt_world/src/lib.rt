@@ -10,6 +10,7 @@ mod faults;
 pub mod laws;
 mod refused;
 mod reply;
+mod timing;
 mod world;
 
 pub use config_fault::ConfigFault;

@@ -1,6 +1,7 @@
 //! What an accepted event answers.
 
 use lpt_node::Outcome;
+use lpt_packet::{Direction, Name};
 
 /// What an event that was accepted gave.
 #[derive(Clone, Copy, Debug, PartialEq, Eq)]
@@ -18,10 +19,16 @@ pub enum Answer {
     Opened(u16),
     /// The packet on the link has this number.
     Put(u64),
+    /// The sender is closed.
+    Finished,
     /// The packet of this number is in the hand.
     Took(u64),
     /// What became of the delivered packet.
     Delivered(Outcome),
+    /// The clock has this value now, in ticks.
+    Clock(u32),
+    /// The reception of this direction and name was ended for its age.
+    Expired(Direction, Name),
 }
 
 /// Packets that one event put on the link, one after another.

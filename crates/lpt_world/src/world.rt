@@ -5,7 +5,8 @@ ghost use Rattle.std.specs.Option.{option_map, option_copied};
 ghost use Rattle.lpt_world.specs.Headline.{Holds, EachIsLastOpened, AtMostOncePerOpening};
 ghost use Rattle.lpt_world.specs.Journal.{sent};
 ghost use Rattle.lpt_world.specs.Releases.{releases};
-ghost use Rattle.lpt_world.specs.Replies.{IsConfig, IsEvent, reply};
+ghost use Rattle.lpt_node.specs.Configs.{IsConfig};
+ghost use Rattle.lpt_world.specs.Replies.{IsEvent, reply};
 ghost use Rattle.lpt_world.specs.Senders.{opened};
 ghost use Rattle.lpt_world.specs.Worlds.{IsTold, history, refusal_at, RefusedBy, with_entry, entered, AllAccepted, IsFaultOf, config_fault, ConfigRefusedBy};
 
@@ -244,7 +245,12 @@ fn in_range(event: &Event)
             let _id = *id;
             let _k = *k;
         }
+        Event::Finish(_, id) => {
+            let _id = *id;
+        }
         Event::Take(_, _) => {}
         Event::Deliver(_) => {}
+        Event::Tick(_) => {}
+        Event::Expire(_) => {}
     }
 }
