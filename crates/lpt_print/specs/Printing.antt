@@ -14,10 +14,10 @@ use Rattle.lpt_node.specs.declared.outcome.Why.{Why}
 use Rattle.lpt_node.specs.declared.outcome.Why.TheVariants.{Unreadable, Idle, ForeignApid, BadPart, Closed, NoRoom}
 use Rattle.lpt_world.specs.declared.entry.Release.{Release}
 use Rattle.lpt_world.specs.declared.event.Event.{Event}
-use Rattle.lpt_world.specs.declared.event.Event.TheVariants.{Open, Send, Take, Deliver}
+use Rattle.lpt_world.specs.declared.event.Event.TheVariants.{Open, Send, Finish, Take, Deliver, Tick, Expire}
 use Rattle.lpt_world.specs.declared.fault.StepFault.{StepFault}
 use Rattle.lpt_world.specs.declared.reply.Answer.{Answer}
-use Rattle.lpt_world.specs.declared.reply.Answer.TheVariants.{Opened, Put, Took, Delivered}
+use Rattle.lpt_world.specs.declared.reply.Answer.TheVariants.{Opened, Put, Finished, Took, Delivered, Clock, Expired}
 use Rattle.lpt_world.specs.declared.reply.Reply.{Reply}
 use Rattle.lpt_world.specs.FaultNames.{code_of, name_of}
 
@@ -57,6 +57,22 @@ took_text n = line_of (codes "took" ∷ decimal n ∷ [])
 abbrev pub transaction_line : List ℕ → Direction → Name → ℕ → List ℕ
 transaction_line word d id n = line_of (word ∷ direction_text d ∷ decimal id ∷ decimal n ∷ [])
 
+-- a word and a transaction
+abbrev pub named_line : List ℕ → Direction → Name → List ℕ
+named_line word d id = line_of (word ∷ direction_text d ∷ decimal id ∷ [])
+
+-- the sender of this transaction was closed
+abbrev pub finished_text : Direction → Name → List ℕ
+finished_text d id = named_line (codes "finished") d id
+
+-- the reception of this transaction was ended
+abbrev pub expired_text : Direction → Name → List ℕ
+expired_text d id = named_line (codes "expired") d id
+
+-- a clock has this value now
+abbrev pub clock_text : ℕ → List ℕ
+clock_text t = line_of (codes "clock" ∷ decimal t ∷ [])
+
 -- why nothing was made of a packet
 abbrev pub why_name : Why → List ℕ
 why_name Unreadable = codes "Unreadable"
@@ -85,6 +101,9 @@ answer_text (Open d id m) (Opened parts) = opened_text d id parts
 answer_text (Send d id k) (Put n) = put_text n
 answer_text (Take l n) (Took k) = took_text k
 answer_text (Deliver l) (Delivered o) = outcome_text (lane_direction l) o
+answer_text (Finish d id) Finished = finished_text d id
+answer_text (Tick side) (Clock t) = clock_text t
+answer_text (Expire side) (Expired d id) = expired_text d id
 answer_text _ _ = []
 
 -- what an accepted event prints

@@ -3,7 +3,7 @@
 ghost use Rattle.std.specs.Prelude.{◌≡◌, IfOk};
 ghost use Rattle.std.specs.Option.{option_copied};
 ghost use Rattle.std.specs.String.{string_bytes};
-ghost use Rattle.lpt_print.specs.Printing.{opened_text, put_text, took_text, outcome_text, refused_text, unreadable_text, journal_text, packet_text, release_text, none_text};
+ghost use Rattle.lpt_print.specs.Printing.{opened_text, finished_text, expired_text, clock_text, put_text, took_text, outcome_text, refused_text, unreadable_text, journal_text, packet_text, release_text, none_text};
 
 use crate::words::{direction_word, octets_word, why_word};
 use lpt_node::Outcome;
@@ -36,6 +36,29 @@ pub fn print_took(alloc: Global, n: u64) -> Result<String, AllocError>
     ensures { IfOk result (λ t. string_bytes t ≡ took_text n) }
 {
     format!(in alloc; "took {n}\n")
+}
+
+/// `finished up 7`: the sender of this transaction was closed.
+pub fn print_finished(alloc: Global, direction: Direction, id: Name) -> Result<String, AllocError>
+    ensures { IfOk result (λ t. string_bytes t ≡ finished_text direction id) }
+{
+    let direction = direction_word(direction);
+    format!(in alloc; "finished {direction} {id}\n")
+}
+
+/// `expired up 7`: the reception of this transaction was ended.
+pub fn print_expired(alloc: Global, direction: Direction, id: Name) -> Result<String, AllocError>
+    ensures { IfOk result (λ t. string_bytes t ≡ expired_text direction id) }
+{
+    let direction = direction_word(direction);
+    format!(in alloc; "expired {direction} {id}\n")
+}
+
+/// `clock 10`: a clock has this value now, in ticks.
+pub fn print_clock(alloc: Global, ticks: u32) -> Result<String, AllocError>
+    ensures { IfOk result (λ t. string_bytes t ≡ clock_text ticks) }
+{
+    format!(in alloc; "clock {ticks}\n")
 }
 
 /// What became of a packet that was delivered in this direction: `kept up 7 3` and `again up 7 1`

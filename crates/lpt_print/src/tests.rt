@@ -35,6 +35,14 @@ fn prints_what_an_event_did(rt: HostRuntime) -> Result<(), Fail> {
     assert_eq!(rt; opened.as_str(), "opened up 7 parts 3\n");
     assert_eq!(rt; print_put(alloc, 0)?.as_str(), "put 0\n");
     assert_eq!(rt; print_took(alloc, 2)?.as_str(), "took 2\n");
+    let finished = print_finished(alloc, Direction::Up, 7)?;
+    assert_eq!(rt; finished.as_str(), "finished up 7\n");
+    let expired = print_expired(alloc, Direction::Down, 65535)?;
+    assert_eq!(rt; expired.as_str(), "expired down 65535\n");
+    assert_eq!(rt;
+        print_clock(alloc, 4_294_967_295)?.as_str(),
+        "clock 4294967295\n"
+    );
     let refused = print_refused(alloc, StepFault::NotHeld)?;
     assert_eq!(rt; refused.as_str(), "refused 47 NotHeld\n");
     assert_eq!(rt;

@@ -1,3 +1,4 @@
 mod EndLemmas
 mod LineLemmas
 mod ScriptLemmas
+mod TickLemmas

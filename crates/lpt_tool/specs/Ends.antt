@@ -2,6 +2,7 @@
 use Rattle.std.specs.Prelude.{◌≡◌, ◌≢◌, ◌≤◌, ◌<◌, ◌++◌, ◌⊎◌, ℕ, Bool, true, false, List, [], length, Option, Some, None, Result, Ok, Err}
 use Rattle.std.specs.Io.KnownBytes.{Appends, Consumes}
 use Rattle.lpt_node.specs.declared.config.Config.{Config}
+use Rattle.lpt_node.specs.declared.side.Side.{Side}
 use Rattle.lpt_print.specs.Decoding.{decoding}
 use Rattle.lpt_text.specs.declared.reading.End.{End}
 use Rattle.lpt_text.specs.declared.reading.End.TheVariants.{Whole, Failed, TooLong}
@@ -10,8 +11,11 @@ use Rattle.lpt_text.specs.Streams.{AppendsPart}
 use Rattle.lpt_text.specs.declared.fault.ToolFault.{ToolFault}
 use Rattle.lpt_text.specs.declared.fault.ToolFault.TheVariants as tool
 use Rattle.lpt_tool.specs.declared.end.ScriptEnd.{ScriptEnd}
-use Rattle.lpt_tool.specs.Scripts.{Ran, Script, script_ran, unreadable}
-use Rattle.lpt_world.specs.Worlds.{Shown}
+use Rattle.lpt_tool.specs.Scripts.{Ran, Script, script_ran, stepped, ticked, unreadable}
+use Rattle.lpt_world.specs.declared.event.Event.TheVariants.{Tick}
+use Rattle.lpt_world.specs.declared.fault.StepFault.{StepFault}
+use Rattle.lpt_world.specs.declared.fault.StepFault.TheVariants.{Memory}
+use Rattle.lpt_world.specs.Worlds.{Shown, refusal_at}
 
 -- how the writing of a text ends
 abbrev pub TextEnds : {A : Type 0} → List ℕ → Result A ToolFault → Option (List ℕ) → Option (List ℕ) → Type 0
@@ -114,3 +118,10 @@ DecodeEnds p octets (Ok faulty) old new =
 DecodeEnds p octets (Err tool.Write) old new = AppendsPart old new (decoding p octets).text
 DecodeEnds p octets (Err tool.Memory) old new = AppendsPart old new (decoding p octets).text
 DecodeEnds p octets (Err _) old new = ⊥
+
+-- A tick before the last was refused, and this world is left: for want of memory, or for the reason that
+-- the line tells.
+abbrev pub IsTickRefused : ℕ → Side → Shown → Shown → StepFault → Type 0
+IsTickRefused count side old new fault =
+    (fault ≡ Memory)
+    ⊎ ((refusal_at new 0 (Tick side) ≡ Some fault) × (ticked count side old ≡ stepped new (Tick side)))

@@ -1,9 +1,10 @@
 -- What the lines of a script do to a world, and what they print.
-use Rattle.std.specs.Prelude.{ℕ, ◌+◌, Bool, true, false, List, [], ◌∷◌, ◌++◌, length, slice_get, Option, Some, None}
+use Rattle.std.specs.Prelude.{ℕ, zero, suc, ◌+◌, if◌then◌else◌, is_some, Bool, true, false, List, [], ◌∷◌, ◌++◌, length, slice_get, Option, Some, None}
 use Rattle.std.specs.Int.{from_bool}
 use Rattle.std.specs.Option.{option_map}
 use Rattle.lpt_words.specs.Words.{lines}
 use Rattle.lpt_node.specs.declared.config.Config.{Config}
+use Rattle.lpt_node.specs.declared.side.Side.{Side}
 use Rattle.lpt_print.specs.Printing.{accepted_text, refused_text, releases_text, packet_text, journal_text, unreadable_text}
 use Rattle.lpt_words.specs.declared.grammar.Command.{Command}
 use Rattle.lpt_words.specs.declared.grammar.Command.TheVariants as command
@@ -11,7 +12,7 @@ use Rattle.lpt_words.specs.declared.grammar.Reading.{Reading}
 use Rattle.lpt_words.specs.declared.grammar.Reading.TheVariants.{Skipped, Asks, Unreadable}
 use Rattle.lpt_words.specs.Grammar.{reading_of}
 use Rattle.lpt_world.specs.declared.event.Event.{Event}
-use Rattle.lpt_world.specs.declared.event.Event.TheVariants.{Open, Send, Take, Deliver}
+use Rattle.lpt_world.specs.declared.event.Event.TheVariants.{Open, Send, Finish, Take, Deliver, Tick, Expire}
 use Rattle.lpt_world.specs.declared.fault.StepFault.{StepFault}
 use Rattle.lpt_world.specs.declared.reply.Reply.{Reply}
 use Rattle.lpt_world.specs.Journal.{sent}
@@ -57,6 +58,14 @@ unless_refused false first second = joined first (second first.world)
 abbrev pub and_then : Ran → (Shown → Ran) → Ran
 and_then first second = unless_refused first.refused first second
 
+-- so many ticks of a node's clock, up to the first that is refused; only the last of them prints
+abbrev pub ticked : ℕ → Side → Shown → Ran
+ticked zero side w = printed w []
+ticked (suc zero) side w = stepped w (Tick side)
+ticked (suc (suc k)) side w =
+    if is_some (refusal_at w 0 (Tick side)) then stepped w (Tick side)
+    else ticked (suc k) side (with_entry w 0 (Tick side) (answered w (Tick side)))
+
 -- the octets of the packet of this number, where so many were put
 abbrev pub packet_octets : Shown → ℕ → Option (List ℕ)
 packet_octets w n = option_map (λ p. p.octets) (slice_get (sent (history w)) n)
@@ -67,6 +76,9 @@ does (command.Open d id m) w = stepped w (Open d id m)
 does (command.Send d id k) w = stepped w (Send d id k)
 does (command.Take l n) w = stepped w (Take l n)
 does (command.Deliver l) w = stepped w (Deliver l)
+does (command.Finish d id) w = stepped w (Finish d id)
+does (command.Expire side) w = stepped w (Expire side)
+does (command.Tick side count) w = ticked count side w
 does (command.Pass l n) w = and_then (stepped w (Take l n)) (λ after. stepped after (Deliver l))
 does command.ShowReleased w = printed w (releases_text (releases w.config (history w)))
 does (command.ShowPacket n) w = printed w (packet_text n (packet_octets w n))

@@ -1,17 +1,19 @@
 //! What a command does to a world and what it prints.
 
-ghost use Rattle.std.specs.Prelude.{◌≡◌, ◌≢◌, ◌-◌, length, slice_get, IsErrOf, IfOk, IfSome, Err, true, false};
+ghost use Rattle.std.specs.Prelude.{◌≡◌, ◌≢◌, ◌<◌, ◌-◌, length, slice_get, IsErrOf, None, IfErr, IfOk, IfSome, OnOk, Err, true, false};
 ghost use Rattle.std.specs.List.{flat_map};
 ghost use Rattle.lpt_print.specs.Printing.{accepted_text, release_text, releases_text};
-ghost use Rattle.lpt_tool.specs.Ends.{LineEnds, TextEnds, unrefused};
-ghost use Rattle.lpt_tool.specs.Scripts.{and_then, does, stepped};
+ghost use Rattle.lpt_tool.specs.Ends.{IsTickRefused, LineEnds, TextEnds, unrefused};
+ghost use Rattle.lpt_world.specs.Worlds.{RefusedBy, refusal_at, with_entry};
+ghost use Rattle.lpt_tool.specs.Scripts.{and_then, answered, does, stepped, ticked};
 
 use crate::printed::{print_accepted, put, put_refused};
 use lpt_link::Lane;
+use lpt_node::Side;
 use lpt_print::{print_journal, print_none, print_packet, print_release};
 use lpt_text::{Sink, ToolFault};
 use lpt_words::Command;
-use lpt_world::{Entry, Event, Release, World};
+use lpt_world::{Entry, Event, Release, StepFault, World};
 use std::alloc::Global;
 
 /// The seat of the session, for which scripts ask.
@@ -37,6 +39,11 @@ pub(crate) fn run_command<K: Sink>(
         }
         Command::Take(lane, number) => run_event(alloc, world, Event::Take(lane, number), out),
         Command::Deliver(lane) => run_event(alloc, world, Event::Deliver(lane), out),
+        Command::Finish(direction, id) => {
+            run_event(alloc, world, Event::Finish(direction, id), out)
+        }
+        Command::Expire(side) => run_event(alloc, world, Event::Expire(side), out),
+        Command::Tick(side, count) => run_ticks(alloc, world, side, count, out),
         Command::Pass(lane, number) => run_pass(alloc, world, lane, number, out),
         Command::ShowReleased => quietly(show_released(alloc, world.released(), out)),
         Command::ShowPacket(number) => {
@@ -118,6 +125,54 @@ fn run_pass<K: Sink>(
     match run_event(alloc, world, Event::Take(lane, number), out) {
         Ok(false) => run_event(alloc, world, Event::Deliver(lane), out),
         ended => ended,
+    }
+}
+
+// Asks for so many ticks of a node's clock, up to the first that is refused, and prints the last.
+fn run_ticks<K: Sink>(
+    alloc: Global,
+    world: &mut World,
+    side: Side,
+    count: u32,
+    out: &mut K,
+) -> Result<bool, ToolFault>
+    ensures ends { LineEnds (ticked count side world.old) result world.new (K.contents out.old) (K.contents out.new) }
+    ensures cause { IsErrOf result ToolFault.Write → K.failed out.new ≡ true }
+    ensures told { result ≢ Err ToolFault.Write → K.failed out.new ≡ K.failed out.old }
+{
+    if count == 0 {
+        return Ok(false);
+    }
+    match tick_before_last(world, side, count) {
+        Ok(()) => run_event(alloc, world, Event::Tick(side), out),
+        Err(fault) => put_refused(alloc, fault, out),
+    }
+}
+
+// All ticks but the last.
+fn tick_before_last(world: &mut World, side: Side, count: u32) -> Result<(), StepFault>
+    requires { 0 < count }
+    ensures ok { OnOk result (ticked count side world.old ≡ stepped world.new (Event.Tick side)) }
+    ensures err { IfErr result (λ f. IsTickRefused count side world.old world.new f) }
+{
+    for _ in 1..count {
+        match tick(world, side) {
+            Ok(()) => {}
+            Err(fault) => return Err(fault),
+        }
+    }
+    Ok(())
+}
+
+// One tick, which prints nothing.
+fn tick(world: &mut World, side: Side) -> Result<(), StepFault>
+    ensures ok { OnOk result ((refusal_at world.old 0 (Event.Tick side) ≡ None)
+        × (world.new ≡ with_entry world.old 0 (Event.Tick side) (answered world.old (Event.Tick side)))) }
+    ensures err { IfErr result (λ f. (world.new ≡ world.old) × RefusedBy (refusal_at world.old 0 (Event.Tick side)) f) }
+{
+    match world.step(SESSION, Event::Tick(side)) {
+        Ok(_) => Ok(()),
+        Err(refused) => Err(refused.fault),
     }
 }
 

@@ -4,7 +4,10 @@ ghost use Rattle.std.specs.Prelude.{◌≡◌, ◌≢◌, ℕ, List, IfOk, IsErr
 ghost use Rattle.lpt_print.specs.Printing.{accepted_text, refused_text};
 ghost use Rattle.lpt_tool.specs.Ends.{TextEnds};
 
-use lpt_print::{print_opened, print_outcome, print_put, print_refused, print_took};
+use lpt_print::{
+    print_clock, print_expired, print_finished, print_opened, print_outcome, print_put,
+    print_refused, print_took,
+};
 use lpt_text::{Sink, ToolFault, write_out};
 use lpt_world::{Answer, Event, Reply, StepFault};
 use std::alloc::{AllocError, Global};
@@ -34,6 +37,9 @@ pub(crate) fn print_accepted(
             print_opened(alloc, *direction, *id, parts)
         }
         (Event::Send(_, _, _), Answer::Put(number)) => print_put(alloc, number),
+        (Event::Finish(direction, id), Answer::Finished) => print_finished(alloc, *direction, *id),
+        (Event::Expire(_), Answer::Expired(direction, id)) => print_expired(alloc, direction, id),
+        (Event::Tick(_), Answer::Clock(ticks)) => print_clock(alloc, ticks),
         (Event::Take(_, _), Answer::Took(number)) => print_took(alloc, number),
         (Event::Deliver(lane), Answer::Delivered(outcome)) => {
             print_outcome(alloc, lane.direction(), outcome)

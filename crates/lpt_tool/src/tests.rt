@@ -121,6 +121,58 @@ fn refused_lines_are_counted_and_the_script_goes_on(rt: HostRuntime) -> Result<(
 }
 
 #[test]
+fn an_overdue_reception_expires(rt: HostRuntime) -> Result<(), Fail> {
+    // The time-out is 10 ticks from the last part that was taken.
+    let (ended, text) = run(
+        &rt,
+        USUAL,
+        SENT,
+        "pass s1 0\ntick craft 9\npass s1 1\ntick craft\nexpire craft\ntick craft 9\nexpire craft\n\
+        show packet 3\npass s1 2\npass g1 3\nsend up 7 3\n",
+    )?;
+    assert_eq!(rt; ended, Ok(2));
+    let wanted =
+        b"took 0\nkept up 7 1\nclock 9\ntook 1\nkept up 7 2\nclock 10\nrefused 50 NothingDue\n\
+        clock 19\nexpired up 7\npacket 3 0864c000000f200d1000000001000000130007014e97\n\
+        took 2\nignored Closed\ntook 3\nabort 7 1\nrefused 45 NotOpen\n";
+    assert!(rt; text.as_slice().ends_with(wanted));
+    Ok(())
+}
+
+#[test]
+fn ground_reports_no_expiry(rt: HostRuntime) -> Result<(), Fail> {
+    let (ended, text) = run(
+        &rt,
+        USUAL,
+        "open down 7 000102030405060708\nsend down 7 1\npass g1 0\ntick ground 10\nexpire ground\n",
+        "show packet 1\nsend down 7 2\npass g1 1\nfinish down 7\nfinish down 7\n",
+    )?;
+    assert_eq!(rt; ended, Ok(1));
+    assert_eq!(rt;
+        text.as_slice(),
+        b"opened down 7 parts 2\nput 0\ntook 0\nkept down 7 1\nclock 10\nexpired down 7\n\
+        packet 1 none\nput 1\ntook 1\nignored Closed\nfinished down 7\nrefused 45 NotOpen\n"
+            .as_slice()
+    );
+    Ok(())
+}
+
+#[test]
+fn ticks_before_a_refused_one_stay(rt: HostRuntime) -> Result<(), Fail> {
+    let late = Config {
+        clock: 4_294_967_293,
+        ..USUAL
+    };
+    let (ended, text) = run(&rt, late, "tick craft 5\nshow journal\n", "tick ground 2\n")?;
+    assert_eq!(rt; ended, Ok(1));
+    assert_eq!(rt;
+        text.as_slice(),
+        b"refused 56 ClockEnd\njournal 2\nclock 4294967295\n".as_slice()
+    );
+    Ok(())
+}
+
+#[test]
 fn an_unreadable_line_ends_the_run(rt: HostRuntime) -> Result<(), Fail> {
     let cases = [
         ("", "", Ok(0), ""),

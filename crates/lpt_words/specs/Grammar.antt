@@ -1,55 +1,16 @@
 -- What each line of a script asks for.
 use Rattle.std.specs.Prelude.{◌≡◌, ℕ, ◌==◌, Bool, false, if◌then◌else◌, nat_lt, List, [], ◌∷◌, length, Option, Some, None, codes}
 use Rattle.std.specs.Option.{option_map, option_and_then}
-use Rattle.lpt_packet.specs.declared.direction.Direction.{Direction}
-use Rattle.lpt_packet.specs.declared.direction.Direction.TheVariants.{Up, Down}
 use Rattle.lpt_link.specs.declared.lane.Lane.{Lane}
-use Rattle.lpt_link.specs.declared.lane.Lane.TheVariants.{S1, S2, G1, G2}
 use Rattle.lpt_words.specs.declared.grammar.Command.{Command}
 use Rattle.lpt_words.specs.declared.grammar.Command.TheVariants as command
 use Rattle.lpt_words.specs.declared.grammar.Reading.{Reading}
 use Rattle.lpt_words.specs.declared.grammar.Reading.TheVariants.{Skipped, Asks, Unreadable}
-use Rattle.lpt_words.specs.declared.grammar.Keyword.{Keyword}
-use Rattle.lpt_words.specs.declared.grammar.Keyword.TheVariants as key
-use Rattle.lpt_words.specs.Numbers.{is_word, number_of, octets_of}
+use Rattle.lpt_words.specs.declared.names.Keyword.{Keyword}
+use Rattle.lpt_words.specs.declared.names.Keyword.TheVariants as key
+use Rattle.lpt_words.specs.Names.{keyword_of, direction_of, lane_of, node_of, u16_of, packet_number_of, count_of}
+use Rattle.lpt_words.specs.Numbers.{is_word, octets_of}
 use Rattle.lpt_words.specs.Words.{words}
-
--- ---- single words
-
--- what the first word of a line names
-abbrev pub keyword_of : List ℕ → Option Keyword
-keyword_of word =
-    if is_word (codes "open") word then Some key.Open
-    else if is_word (codes "send") word then Some key.Send
-    else if is_word (codes "take") word then Some key.Take
-    else if is_word (codes "deliver") word then Some key.Deliver
-    else if is_word (codes "pass") word then Some key.Pass
-    else if is_word (codes "show") word then Some key.Show
-    else None
-
--- the direction that a word names
-abbrev pub direction_of : List ℕ → Option Direction
-direction_of word =
-    if is_word (codes "up") word then Some Up
-    else if is_word (codes "down") word then Some Down
-    else None
-
--- the lane that a word names
-abbrev pub lane_of : List ℕ → Option Lane
-lane_of word =
-    if is_word (codes "s1") word then Some S1
-    else if is_word (codes "s2") word then Some S2
-    else if is_word (codes "g1") word then Some G1
-    else if is_word (codes "g2") word then Some G2
-    else None
-
--- the number of a transaction or a part
-abbrev pub u16_of : List ℕ → Option ℕ
-u16_of word = number_of 65535 word
-
--- the number of a packet
-abbrev pub packet_number_of : List ℕ → Option ℕ
-packet_number_of word = number_of 9999999999 word
 
 -- ---- the words after the first, a definition a kind of line
 
@@ -97,6 +58,28 @@ deliver_of _ = None
 abbrev pub pass_of : List (List ℕ) → Option Command
 pass_of ws = option_map (λ p. command.Pass p.0 p.1) (lane_and_packet_of ws)
 
+-- `finish DIRECTION ID`
+abbrev pub finish_of : List (List ℕ) → Option Command
+finish_of (d ∷ i ∷ []) = do
+  direction ← direction_of d
+  id ← u16_of i
+  Some (command.Finish direction id)
+finish_of _ = None
+
+-- `tick NODE` and `tick NODE COUNT`
+abbrev pub tick_of : List (List ℕ) → Option Command
+tick_of (n ∷ []) = option_map (λ node. command.Tick node 1) (node_of n)
+tick_of (n ∷ k ∷ []) = do
+  node ← node_of n
+  count ← count_of k
+  Some (command.Tick node count)
+tick_of _ = None
+
+-- `expire NODE`
+abbrev pub expire_of : List (List ℕ) → Option Command
+expire_of (n ∷ []) = option_map command.Expire (node_of n)
+expire_of _ = None
+
 -- `show released` and `show journal`
 abbrev pub show_whole_of : List ℕ → Option Command
 show_whole_of word =
@@ -119,6 +102,9 @@ arguments_of key.Take ws = take_of ws
 arguments_of key.Deliver ws = deliver_of ws
 arguments_of key.Pass ws = pass_of ws
 arguments_of key.Show ws = show_of ws
+arguments_of key.Finish ws = finish_of ws
+arguments_of key.Tick ws = tick_of ws
+arguments_of key.Expire ws = expire_of ws
 
 -- ---- lines
 

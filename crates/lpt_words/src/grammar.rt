@@ -2,16 +2,18 @@
 
 ghost use Rattle.std.specs.Prelude.{◌≡◌, IfOk, OnErr};
 ghost use Rattle.lpt_words.specs.Words.{words};
-ghost use Rattle.lpt_words.specs.Grammar.{u16_of, packet_number_of, keyword_of, direction_of, lane_of, lane_and_packet_of, open_of, send_of, take_of, deliver_of, pass_of, show_of, show_whole_of, arguments_of, is_comment, words_reading, reading_of, TakesMemory};
+ghost use Rattle.lpt_words.specs.Grammar.{lane_and_packet_of, open_of, send_of, take_of, deliver_of, pass_of, finish_of, tick_of, expire_of, show_of, show_whole_of, arguments_of, is_comment, words_reading, reading_of, TakesMemory};
 
-use crate::numbers::{read_hex, read_number};
+use crate::names::{
+    Keyword, read_count, read_direction, read_keyword, read_lane, read_node, read_packet_number,
+    read_u16,
+};
+use crate::numbers::read_hex;
 use crate::words::{LONGEST_LINE, split_word};
 use lpt_link::Lane;
+use lpt_node::Side;
 use lpt_packet::{Direction, Name, Octets};
 use std::alloc::{AllocError, Global};
-
-/// The greatest number of ten digits.
-const GREATEST_NUMBER: u64 = 9_999_999_999;
 
 /// What a line asks for.
 #[derive(Debug, Drop, PartialEq, Eq)]
@@ -26,6 +28,12 @@ pub enum Command {
     Deliver(Lane),
     /// `pass LANE N`: takes the packet of this number, and then delivers it.
     Pass(Lane, u64),
+    /// `finish DIRECTION ID`: closes an open sender.
+    Finish(Direction, Name),
+    /// `tick NODE [COUNT]`: so many ticks of the node's clock, at least 1.
+    Tick(Side, u32),
+    /// `expire NODE`: ends the node's oldest overdue reception.
+    Expire(Side),
     /// `show released`: prints the messages that were released.
     ShowReleased,
     /// `show packet N`: prints the octets of the packet of this number.
@@ -45,22 +53,11 @@ pub enum Reading {
     Unreadable,
 }
 
-/// The first word of a line.
-#[derive(Clone, Copy, Debug, PartialEq, Eq)]
-enum Keyword {
-    Open,
-    Send,
-    Take,
-    Deliver,
-    Pass,
-    Show,
-}
-
 /// Reads a line, given without its line feed and the carriage return dropped with that.
 ///
 /// A blank line and one whose first word begins with `#` are skipped, whatever else they hold. A
 /// line of more than 140,000 octets is unreadable, even one that would be skipped. The words of a
-/// command are in lower case: DIRECTION is `up` or `down`, LANE is `s1`, `s2`, `g1` or `g2`, ID and
+/// command are in lower case: DIRECTION is `up` or `down`, LANE is `s1`, `s2`, `g1` or `g2`, NODE is `craft` or `ground`, ID and
 /// K are numbers to 65,535, N is one of at most ten digits, and HEX is as `read_hex` reads it.
 /// Nothing may follow the last word.
 /// Errors: want of memory, only at a line whose first word is `open`.
@@ -112,6 +109,9 @@ fn read_arguments(
         Keyword::Deliver => Ok(read_deliver(rest)),
         Keyword::Pass => Ok(read_pass(rest)),
         Keyword::Show => Ok(read_show(rest)),
+        Keyword::Finish => Ok(read_finish(rest)),
+        Keyword::Tick => Ok(read_tick(rest)),
+        Keyword::Expire => Ok(read_expire(rest)),
     }
 }
 
@@ -187,6 +187,48 @@ fn read_pass(rest: &[u8]) -> Option<Command>
     Some(Command::Pass(lane, packet))
 }
 
+// The words after `finish`.
+fn read_finish(rest: &[u8]) -> Option<Command>
+    ensures { result ≡ finish_of (words rest.now) }
+{
+    let (direction, rest) = split_word(rest)?;
+    let (id, rest) = split_word(rest)?;
+    if split_word(rest).is_some() {
+        return None;
+    }
+    let direction = read_direction(direction)?;
+    let id = read_u16(id)?;
+    Some(Command::Finish(direction, id))
+}
+
+// The words after `tick`.
+fn read_tick(rest: &[u8]) -> Option<Command>
+    ensures { result ≡ tick_of (words rest.now) }
+{
+    let (node, rest) = split_word(rest)?;
+    let Some((count, rest)) = split_word(rest) else {
+        return Some(Command::Tick(read_node(node)?, 1));
+    };
+    if split_word(rest).is_some() {
+        return None;
+    }
+    let node = read_node(node)?;
+    let count = read_count(count)?;
+    Some(Command::Tick(node, count))
+}
+
+// The words after `expire`.
+fn read_expire(rest: &[u8]) -> Option<Command>
+    ensures { result ≡ expire_of (words rest.now) }
+{
+    let (node, rest) = split_word(rest)?;
+    if split_word(rest).is_some() {
+        return None;
+    }
+    let node = read_node(node)?;
+    Some(Command::Expire(node))
+}
+
 // The words after `show`.
 fn read_show(rest: &[u8]) -> Option<Command>
     ensures { result ≡ show_of (words rest.now) }
@@ -227,67 +269,4 @@ fn read_lane_and_packet(rest: &[u8]) -> Option<(Lane, u64)>
     let lane = read_lane(lane)?;
     let packet = read_packet_number(packet)?;
     Some((lane, packet))
-}
-
-fn read_keyword(word: &[u8]) -> Option<Keyword>
-    ensures { result ≡ keyword_of word.now }
-{
-    if word == b"open".as_slice() {
-        Some(Keyword::Open)
-    } else if word == b"send".as_slice() {
-        Some(Keyword::Send)
-    } else if word == b"take".as_slice() {
-        Some(Keyword::Take)
-    } else if word == b"deliver".as_slice() {
-        Some(Keyword::Deliver)
-    } else if word == b"pass".as_slice() {
-        Some(Keyword::Pass)
-    } else if word == b"show".as_slice() {
-        Some(Keyword::Show)
-    } else {
-        None
-    }
-}
-
-fn read_direction(word: &[u8]) -> Option<Direction>
-    ensures { result ≡ direction_of word.now }
-{
-    if word == b"up".as_slice() {
-        Some(Direction::Up)
-    } else if word == b"down".as_slice() {
-        Some(Direction::Down)
-    } else {
-        None
-    }
-}
-
-fn read_lane(word: &[u8]) -> Option<Lane>
-    ensures { result ≡ lane_of word.now }
-{
-    if word == b"s1".as_slice() {
-        Some(Lane::S1)
-    } else if word == b"s2".as_slice() {
-        Some(Lane::S2)
-    } else if word == b"g1".as_slice() {
-        Some(Lane::G1)
-    } else if word == b"g2".as_slice() {
-        Some(Lane::G2)
-    } else {
-        None
-    }
-}
-
-// The number of a transaction or a part.
-fn read_u16(word: &[u8]) -> Option<u16>
-    ensures { result ≡ u16_of word.now }
-{
-    let number = read_number(word, u64::from(u16::MAX))?;
-    Some(number as u16)
-}
-
-// The number of a packet.
-fn read_packet_number(word: &[u8]) -> Option<u64>
-    ensures { result ≡ packet_number_of word.now }
-{
-    read_number(word, GREATEST_NUMBER)
 }

@@ -5,6 +5,7 @@
 #![tactic(auto)]
 
 mod grammar;
+mod names;
 mod numbers;
 mod words;
 

@@ -2,6 +2,7 @@
 
 use crate::{Command, Reading, read_hex, read_line, read_number, split_line, split_word};
 use lpt_link::Lane;
+use lpt_node::Side;
 use lpt_packet::{Direction, Octets};
 use std::test::Fail;
 
@@ -18,6 +19,10 @@ fn reads_each_kind_of_line(rt: HostRuntime) -> Result<(), Fail> {
         ("take g1 0000000012", Command::Take(Lane::G1, 12)),
         ("deliver g2", Command::Deliver(Lane::G2)),
         ("  pass   g1  3 ", Command::Pass(Lane::G1, 3)),
+        ("finish down 9", Command::Finish(Direction::Down, 9)),
+        ("tick craft", Command::Tick(Side::Craft, 1)),
+        ("tick ground 100000", Command::Tick(Side::Ground, 100_000)),
+        ("expire ground", Command::Expire(Side::Ground)),
         ("show released", Command::ShowReleased),
         ("show packet 4294967296", Command::ShowPacket(4_294_967_296)),
         ("show journal", Command::ShowJournal),
@@ -91,6 +96,15 @@ fn skips_comments_and_blank_lines_and_nothing_else(rt: HostRuntime) -> Result<()
         "deliver s1 1",
         "pass s1",
         "pass 1 s1",
+        "finish up",
+        "finish up 7 1",
+        "tick",
+        "tick s1",
+        "tick craft 0",
+        "tick craft 100001",
+        "tick craft 1 1",
+        "expire",
+        "expire craft 1",
     ];
     for line in unreadable {
         let reading = read_line(rt.alloc(), line.as_bytes())?;

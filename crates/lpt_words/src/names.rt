@@ -1,0 +1,125 @@
+//! The words of a line that name something, each by itself.
+
+ghost use Rattle.std.specs.Prelude.{◌≡◌};
+ghost use Rattle.lpt_words.specs.Names.{count_of, direction_of, keyword_of, lane_of, node_of, packet_number_of, u16_of};
+
+use crate::numbers::read_number;
+use lpt_link::Lane;
+use lpt_node::Side;
+use lpt_packet::Direction;
+
+/// The greatest number of ten digits.
+const GREATEST_NUMBER: u64 = 9_999_999_999;
+
+/// The most ticks that one line can ask for.
+const MOST_TICKS: u64 = 100_000;
+
+/// The first word of a line.
+#[derive(Clone, Copy, Debug, PartialEq, Eq)]
+pub(crate) enum Keyword {
+    Open,
+    Send,
+    Take,
+    Deliver,
+    Pass,
+    Show,
+    Tick,
+    Expire,
+    Finish,
+}
+
+// What the first word of a line asks for.
+pub(crate) fn read_keyword(word: &[u8]) -> Option<Keyword>
+    ensures { result ≡ keyword_of word.now }
+{
+    if word == b"open".as_slice() {
+        Some(Keyword::Open)
+    } else if word == b"send".as_slice() {
+        Some(Keyword::Send)
+    } else if word == b"take".as_slice() {
+        Some(Keyword::Take)
+    } else if word == b"deliver".as_slice() {
+        Some(Keyword::Deliver)
+    } else if word == b"pass".as_slice() {
+        Some(Keyword::Pass)
+    } else if word == b"show".as_slice() {
+        Some(Keyword::Show)
+    } else if word == b"finish".as_slice() {
+        Some(Keyword::Finish)
+    } else if word == b"tick".as_slice() {
+        Some(Keyword::Tick)
+    } else if word == b"expire".as_slice() {
+        Some(Keyword::Expire)
+    } else {
+        None
+    }
+}
+
+// A direction.
+pub(crate) fn read_direction(word: &[u8]) -> Option<Direction>
+    ensures { result ≡ direction_of word.now }
+{
+    if word == b"up".as_slice() {
+        Some(Direction::Up)
+    } else if word == b"down".as_slice() {
+        Some(Direction::Down)
+    } else {
+        None
+    }
+}
+
+// A lane.
+pub(crate) fn read_lane(word: &[u8]) -> Option<Lane>
+    ensures { result ≡ lane_of word.now }
+{
+    if word == b"s1".as_slice() {
+        Some(Lane::S1)
+    } else if word == b"s2".as_slice() {
+        Some(Lane::S2)
+    } else if word == b"g1".as_slice() {
+        Some(Lane::G1)
+    } else if word == b"g2".as_slice() {
+        Some(Lane::G2)
+    } else {
+        None
+    }
+}
+
+// The number of a transaction or a part.
+pub(crate) fn read_u16(word: &[u8]) -> Option<u16>
+    ensures { result ≡ u16_of word.now }
+{
+    let number = read_number(word, u64::from(u16::MAX))?;
+    Some(number as u16)
+}
+
+// The number of a packet.
+pub(crate) fn read_packet_number(word: &[u8]) -> Option<u64>
+    ensures { result ≡ packet_number_of word.now }
+{
+    read_number(word, GREATEST_NUMBER)
+}
+
+// A node.
+pub(crate) fn read_node(word: &[u8]) -> Option<Side>
+    ensures { result ≡ node_of word.now }
+{
+    if word == b"craft".as_slice() {
+        Some(Side::Craft)
+    } else if word == b"ground".as_slice() {
+        Some(Side::Ground)
+    } else {
+        None
+    }
+}
+
+// How many ticks, 1 to 100,000.
+pub(crate) fn read_count(word: &[u8]) -> Option<u32>
+    ensures { result ≡ count_of word.now }
+{
+    let count = read_number(word, MOST_TICKS)?;
+    if count == 0 {
+        return None;
+    }
+    Some(count as u32)
+}
