@@ -1,0 +1,121 @@
+"""Makes scripts, runs the program on each, and prints what that took.
+
+measure.py PROGRAM FOLDER RUNS
+"""
+
+import os
+import random
+import statistics
+import sys
+import time
+
+
+def octets(seed, length):
+    """So many octets, as hexadecimal digits."""
+    return random.Random(seed).randbytes(length).hex()
+
+
+def one_message():
+    """The longest message there is, its parts delivered in a shuffled order."""
+    parts = 8193
+    order = list(range(parts))
+    random.Random(1).shuffle(order)
+    lines = [f"open up 7 {octets(7, 65542)}"]
+    lines += [f"send up 7 {k}" for k in range(1, parts + 1)]
+    lines += [f"pass s1 {n}" for n in order]
+    return lines + ["show released"]
+
+
+def repeats():
+    """The same message, each part but its last delivered twenty times."""
+    parts = 8193
+    lines = [f"open up 7 {octets(7, 65542)}"]
+    lines += [f"send up 7 {k}" for k in range(1, parts + 1)]
+    return lines + [f"pass s1 {n}" for n in range(parts - 1)] * 20
+
+
+def eight_messages():
+    """Eight messages of 60,000 octets, sent and delivered in turns."""
+    names, parts = range(8), 7500
+    lines = [f"open up {i} {octets(i, 60000)}" for i in names]
+    lines += [f"send up {i} {k}" for k in range(1, parts + 1) for i in names]
+    lines += [f"pass s{n % 2 + 1} {n}" for n in range(len(names) * parts)]
+    return lines + ["show released"]
+
+
+def short_lines():
+    """16 MiB of short lines: comments, and as many that print."""
+    lines, size = [], 0
+    while True:
+        line = "show journal" if len(lines) % 2 else "# a comment"
+        size += len(line) + 1
+        if size > 16777216:
+            return lines
+        lines.append(line)
+
+
+def run(words, script):
+    """Runs a program once: its status, how much it wrote, and the seconds that it took."""
+    read, write = os.pipe()
+    actions = [
+        (os.POSIX_SPAWN_OPEN, 0, script, os.O_RDONLY, 0),
+        (os.POSIX_SPAWN_DUP2, write, 1),
+    ]
+    begun = time.monotonic()
+    child = os.posix_spawn(words[0], words, os.environ, file_actions=actions)
+    os.close(write)
+    written = 0
+    while chunk := os.read(read, 1 << 20):
+        written += len(chunk)
+    _, status = os.waitpid(child, 0)
+    seconds = time.monotonic() - begun
+    os.close(read)
+    return os.waitstatus_to_exitcode(status), written, seconds
+
+
+def peak(words, script, folder):
+    """The most memory that a program has at a time, in octets."""
+    told = os.path.join(folder, "peak")
+    run(["/usr/bin/time", "-f", "%M", "-o", told, *words], script)
+    with open(told, encoding="ascii") as file:
+        return int(file.read()) * 1024
+
+
+def measure(words, script, runs):
+    """The median seconds of some runs, each of which must end well, and how much each wrote."""
+    taken = [run(words, script) for _ in range(runs)]
+    for status, written, _ in taken:
+        if status != 0 or written != taken[0][1]:
+            sys.exit(f"{words} on {script}: status {status}, {written} octets written")
+    return statistics.median(seconds for _, _, seconds in taken), taken[0][1]
+
+
+def main():
+    """Prints a table, a line a workload."""
+    program, folder, runs = sys.argv[1], sys.argv[2], int(sys.argv[3])
+    print("| Workload | Lines | Octets | Printed | Seconds | Lines/s | MB/s | Peak MB |")
+    print("|---|--:|--:|--:|--:|--:|--:|--:|")
+    for workload in [one_message, repeats, eight_messages, short_lines]:
+        script = os.path.join(folder, workload.__name__)
+        with open(script, "w", encoding="ascii") as file:
+            count = file.write("\n".join(workload()) + "\n")
+        with open(script, encoding="ascii") as file:
+            lines = sum(1 for _ in file)
+        words = [program, "run", "-"]
+        seconds, written = measure(words, script, runs)
+        print(
+            f"| {workload.__doc__.rstrip('.')} | {lines:,} | {count:,} | {written:,} "
+            f"| {seconds:.3f} | {lines / seconds:,.0f} | {count / seconds / 1e6:.1f} "
+            f"| {peak(words, script, folder) / 1e6:.1f} |",
+            flush=True,
+        )
+    for name, words in [
+        ("Start-up: `--version`", [program, "--version"]),
+        ("`/bin/true`, to compare", ["/bin/true"]),
+    ]:
+        seconds, _ = measure(words, os.devnull, 100)
+        memory = peak(words, os.devnull, folder) / 1e6
+        print(f"| {name} | | | | {seconds:.4f} | | | {memory:.1f} |")
+
+
+main()

@@ -1,0 +1,92 @@
+//! The words of the command line.
+
+use clap::error::ErrorKind;
+use clap::{Arg, ArgAction, ArgMatches, Error};
+use std::alloc::{AllocError, Global};
+
+/// What the words ask for.
+#[derive(Clone, Copy, Debug, PartialEq, Eq)]
+pub struct Asked<'a> {
+    /// What is to be done.
+    pub command: Command<'a>,
+    /// The path of the configuration, where one is given.
+    pub config: Option<&'a str>,
+}
+
+/// A command of the program.
+#[derive(Clone, Copy, Debug, PartialEq, Eq)]
+pub enum Command<'a> {
+    /// `run SCRIPT`: the script's path, or `-` for standard input.
+    Run(&'a str),
+    /// `decode HEX`: octets as hexadecimal digits.
+    Decode(&'a str),
+}
+
+/// Reads the words of the command line, the program's name first.
+///
+/// Errors: what is to be printed where the words are a mistake, or ask for the help or the version;
+/// and want of memory.
+pub fn read_words<'a>(alloc: Global, words: &'a [String]) -> Result<Asked<'a>, Error> {
+    let mut program = program(alloc)?;
+    let matches = program.try_get_matches_from_mut(words)?;
+    match meant(&matches) {
+        Some(asked) => Ok(asked),
+        None => Err(program.error(ErrorKind::MissingRequiredArgument, "a word is missing")?),
+    }
+}
+
+// What the words that were read ask for, where none that is required is missing.
+fn meant<'a>(matches: &ArgMatches<'a>) -> Option<Asked<'a>> {
+    let (name, inner) = matches.subcommand()?;
+    let command = if name == "run" {
+        Command::Run(inner.get_str("SCRIPT")?)
+    } else {
+        Command::Decode(inner.get_str("HEX")?)
+    };
+    let config = inner.get_str("config");
+    Some(Asked { command, config })
+}
+
+// The program and its two commands, as clap reads them.
+fn program<'a>(alloc: Global) -> Result<clap::Command<'a>, AllocError> {
+    let script = word(
+        alloc,
+        "SCRIPT",
+        "The script's path, or - for standard input",
+    );
+    let hex = word(alloc, "HEX", "Octets as hexadecimal digits, or - for none");
+    let run = subcommand(alloc, "run", "Run a script on a new world", script)?;
+    let decode = subcommand(alloc, "decode", "Say what octets are as a packet", hex)?;
+    clap::Command::new(alloc, "lpt")
+        .version("0.1.0")
+        .about("Large packet transfer: two nodes and the link between them")
+        .disable_help_subcommand(true)
+        .arg_required_else_help(true)
+        .subcommand_required(true)
+        .subcommand(run)?
+        .subcommand(decode)
+}
+
+// A command that takes one word, and perhaps a configuration.
+fn subcommand<'a>(
+    alloc: Global,
+    name: &'a str,
+    about: &'a str,
+    word: Arg<'a>,
+) -> Result<clap::Command<'a>, AllocError> {
+    let config = Arg::new(alloc, "config")
+        .long("config")
+        .value_name("FILE")
+        .action(ArgAction::Set)
+        .help("The configuration, a TOML file");
+    let command = clap::Command::new(alloc, name).about(about);
+    command.arg(word)?.arg(config)
+}
+
+// A word that must be given.
+fn word<'a>(alloc: Global, name: &'a str, help: &'a str) -> Arg<'a> {
+    Arg::new(alloc, name)
+        .required(true)
+        .action(ArgAction::Set)
+        .help(help)
+}

@@ -1,0 +1,61 @@
+//! `lpt`: runs scripts of large packet transfer, and says what octets are as a packet.
+//!
+//! It reads its words, its files and its input, and prints; what is done with them stands in the
+//! crates below.
+#![tactic(auto)]
+
+mod command_line;
+mod configuration;
+mod end;
+mod work;
+
+use command_line::{Asked, Command, read_words};
+use end::Status;
+use lpt_text::ToolFault;
+use std::process::ExitCode;
+use std::{env, io};
+
+fn main(rt: HostRuntime) -> ExitCode {
+    let status = match given_words(&rt) {
+        Ok(words) => serve(&rt, words.as_slice()),
+        Err(status) => status,
+    };
+    ExitCode::from(status as u8)
+}
+
+// The words of the command line, the program's name first.
+//
+// Errors: the status by which the program ends, where a word isn't text or memory is wanting.
+fn given_words(rt: &HostRuntime) -> Result<Vec<String>, Status> {
+    let words = match env::args(rt) {
+        Ok(words) => words,
+        Err(error) if error.kind() == io::ErrorKind::OutOfMemory => {
+            return Err(end::told(rt, Err(ToolFault::Memory)));
+        }
+        Err(_) => {
+            let _ = rt.eprintln("error: a word of the command line isn't text");
+            return Err(Status::Unreadable);
+        }
+    };
+    match words.collect(rt.alloc()) {
+        Ok(words) => Ok(words),
+        Err(_) => Err(end::told(rt, Err(ToolFault::Memory))),
+    }
+}
+
+// Does what the words ask for.
+fn serve(rt: &HostRuntime, words: &[String]) -> Status {
+    match read_words(rt.alloc(), words) {
+        Ok(asked) => end::told(rt, done(rt, &asked)),
+        Err(error) => end::explained(rt, &error),
+    }
+}
+
+// Reads the configuration, and does the command.
+fn done(rt: &HostRuntime, asked: &Asked<'_>) -> Result<Status, ToolFault> {
+    let config = configuration::read(rt, asked.config)?;
+    match asked.command {
+        Command::Run(script) => work::run(rt, config, script),
+        Command::Decode(hex) => work::decode(rt, config, hex),
+    }
+}

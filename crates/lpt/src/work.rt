@@ -1,0 +1,86 @@
+//! What the program does: it runs scripts and decodes octets.
+
+ghost use Rattle.lpt_part.specs.Splitting.{IsPartSize};
+
+use crate::end::Status;
+use lpt_node::Config;
+use lpt_text::{Told, ToolFault};
+use lpt_words::read_hex;
+use std::fs::File;
+use std::io;
+use std::io::{BufWriter, Printer, Read, Write};
+
+/// Standard output, written when there is enough of it.
+type Output<'a> = Told<BufWriter<Printer<'a, HostRuntime>>>;
+
+/// Runs a script on a new world: the one at this path, or standard input for `-`.
+///
+/// Errors: `Line` at an unreadable line; `Read` where the script can't be opened or read, `Write`
+/// where a write failed, `Memory`.
+pub fn run(rt: &HostRuntime, config: Config, script: &str) -> Result<Status, ToolFault> {
+    if script == "-" {
+        return run_from(rt, config, rt.reader());
+    }
+    match File::open(rt, script) {
+        Ok(file) => run_from(rt, config, file),
+        Err(_) => Err(ToolFault::Read),
+    }
+}
+
+/// Prints what octets are as a packet.
+///
+/// Errors: `Write` where a write failed, `Memory`. Words that aren't octets are no error here: they
+/// are told on standard error, and the status says so.
+pub fn decode(rt: &HostRuntime, config: Config, hex: &str) -> Result<Status, ToolFault>
+    requires { IsPartSize config.part_size }
+{
+    let octets = match read_hex(rt.alloc(), hex.as_bytes()) {
+        Ok(Some(octets)) => octets,
+        Ok(None) => {
+            let _ = rt.eprintln("hex refused");
+            return Ok(Status::Unreadable);
+        }
+        Err(_) => return Err(ToolFault::Memory),
+    };
+    let mut out = output(rt)?;
+    let decoded = lpt_tool::decode(rt.alloc(), octets.as_slice(), config.part_size, &mut out);
+    flush(out)?;
+    Ok(status_of(decoded?))
+}
+
+// Runs the script that a reader gives.
+fn run_from<R: Read + Drop>(
+    rt: &HostRuntime,
+    config: Config,
+    reader: R,
+) -> Result<Status, ToolFault> {
+    let mut source = Told::new(reader);
+    let mut out = output(rt)?;
+    let ran = lpt_tool::run_script(rt.alloc(), config, &mut source, &mut out);
+    flush(out)?;
+    Ok(status_of(ran?.refused > 0))
+}
+
+// The status of work that was done, by whether something of it was refused.
+fn status_of(refused: bool) -> Status {
+    if refused {
+        Status::Refused
+    } else {
+        Status::Done
+    }
+}
+
+fn output(rt: &HostRuntime) -> Result<Output<'_>, ToolFault> {
+    match BufWriter::new(rt.alloc(), io::writer(rt)) {
+        Ok(writer) => Ok(Told::new(writer)),
+        Err(_) => Err(ToolFault::Memory),
+    }
+}
+
+// Writes what the output has kept back. Where that fails, a write of it failed before all else.
+fn flush(out: Output<'_>) -> Result<(), ToolFault> {
+    match out.into_inner().flush() {
+        Ok(()) => Ok(()),
+        Err(_) => Err(ToolFault::Write),
+    }
+}
