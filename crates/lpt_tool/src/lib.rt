@@ -12,4 +12,6 @@ pub use end::ScriptEnd;
 pub use script::run_script;
 
 #[cfg(test)]
+mod growths;
+#[cfg(test)]
 mod tests;

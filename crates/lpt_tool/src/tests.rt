@@ -7,7 +7,7 @@ use std::io::{self, ErrorKind, Write};
 use std::test::Fail;
 
 /// The configuration of an empty file.
-const USUAL: Config = Config {
+pub(crate) const USUAL: Config = Config {
     apid: 100,
     source: 1,
     part_size: 8,

@@ -1,0 +1,132 @@
+//! Growths that fail: a short script, where one growth of memory fails.
+//!
+//! `rt try --test --fail-alloc N` has the Nth growth of each test fail. A test makes as many growths
+//! of its own beforehand as its name says, so that each meets another growth of the script's run.
+
+use crate::run_script;
+use crate::tests::USUAL;
+use lpt_text::{Told, ToolFault};
+use std::alloc::Global;
+use std::io::{self, ErrorKind, Write};
+use std::process::Abort;
+
+const SCRIPT: &str = "open up 7 000102030405060708\nsend up 7 1\npass s1 0\nshow packet 0\n";
+
+/// What that prints.
+const TEXT: &[u8] = b"opened up 7 parts 2\nput 0\ntook 0\nkept up 7 1\n\
+    packet 0 1864c0000012200d090001000700010001020304050607f40d\n";
+
+/// A writer into an array, which takes no memory.
+#[derive(Drop)]
+struct Fixed {
+    held: [u8; 128],
+    len: usize,
+}
+
+impl Write for Fixed {
+    fn write(&mut self, buf: &[u8]) -> io::Result<usize> {
+        if self.len > self.held.len() || buf.len() > self.held.len() - self.len {
+            return Err(io::Error::from(ErrorKind::BrokenPipe));
+        }
+        self.held[self.len..self.len + buf.len()].copy_from_slice(buf);
+        self.len += buf.len();
+        Ok(buf.len())
+    }
+
+    fn flush(&mut self) -> io::Result<()> {
+        Ok(())
+    }
+}
+
+// Runs the script after so many growths of its own, and gives whether a growth failed. The run ends
+// well, or for want of memory, and then what was written is a front part of the text.
+fn walk(rt: &impl Abort, alloc: Global, own: usize) -> bool {
+    for _ in 0..own {
+        if [0u8].to_vec(alloc).is_err() {
+            return true;
+        }
+    }
+    let mut reader = Told::new(SCRIPT.as_bytes());
+    let mut out = Told::new(Fixed {
+        held: [0; 128],
+        len: 0,
+    });
+    let ended = run_script(alloc, USUAL, &mut reader, &mut out);
+    let Fixed { held, len } = out.into_inner();
+    let written = held.get(..len).unwrap_or(&held);
+    match ended {
+        Ok(end) => {
+            assert!(rt; end.refused == 0 && written == TEXT);
+            false
+        }
+        Err(fault) => {
+            assert!(rt; fault == ToolFault::Memory && TEXT.starts_with(written));
+            true
+        }
+    }
+}
+
+#[test]
+fn no_growth_fails(rt: HostRuntime) {
+    assert!(rt; !walk(&rt, rt.alloc(), 0));
+}
+
+#[test]
+fn after_0(rt: HostRuntime) {
+    walk(&rt, rt.alloc(), 0);
+}
+
+#[test]
+fn after_1(rt: HostRuntime) {
+    walk(&rt, rt.alloc(), 1);
+}
+
+#[test]
+fn after_2(rt: HostRuntime) {
+    walk(&rt, rt.alloc(), 2);
+}
+
+#[test]
+fn after_3(rt: HostRuntime) {
+    walk(&rt, rt.alloc(), 3);
+}
+
+#[test]
+fn after_4(rt: HostRuntime) {
+    walk(&rt, rt.alloc(), 4);
+}
+
+#[test]
+fn after_5(rt: HostRuntime) {
+    walk(&rt, rt.alloc(), 5);
+}
+
+#[test]
+fn after_6(rt: HostRuntime) {
+    walk(&rt, rt.alloc(), 6);
+}
+
+#[test]
+fn after_7(rt: HostRuntime) {
+    walk(&rt, rt.alloc(), 7);
+}
+
+#[test]
+fn after_8(rt: HostRuntime) {
+    walk(&rt, rt.alloc(), 8);
+}
+
+#[test]
+fn after_9(rt: HostRuntime) {
+    walk(&rt, rt.alloc(), 9);
+}
+
+#[test]
+fn after_10(rt: HostRuntime) {
+    walk(&rt, rt.alloc(), 10);
+}
+
+#[test]
+fn after_11(rt: HostRuntime) {
+    walk(&rt, rt.alloc(), 11);
+}
