@@ -9,6 +9,8 @@ use lpt_part::Reason;
 use std::process::Abort;
 use std::test::Fail;
 
+mod counting;
+
 const PASS: Config = Config {
     apid: 100,
     source: 1,
