@@ -1,5 +1,5 @@
 -- What decoding prints of octets.
-use Rattle.std.specs.Prelude.{◌≡◌, ℕ, Bool, true, false, ◌==◌, ◌&&◌, if◌then◌else◌, List, [], ◌∷◌, ◌++◌, length, codes, Result, Ok, Err}
+use Rattle.std.specs.Prelude.{◌≡◌, ℕ, Bool, true, false, ◌==◌, ◌&&◌, if◌then◌else◌, List, [], ◌∷◌, ◌++◌, length, codes, Option, Some, None, Result, Ok, Err}
 use Rattle.std.specs.Option.{option_map_or}
 use Rattle.std.specs.Fmt.{decimal}
 use Rattle.lpt_packet.specs.declared.direction.Direction.TheVariants.{Up, Down}
@@ -8,11 +8,14 @@ use Rattle.lpt_packet.specs.declared.packet.PacketKind.{PacketKind}
 use Rattle.lpt_packet.specs.declared.packet.PacketKind.TheVariants.{Tm, Tc}
 use Rattle.lpt_packet.specs.FaultNames as of_packet
 use Rattle.lpt_packet.specs.Names.{Name}
+use Rattle.lpt_packet.specs.Numbers.{be}
 use Rattle.lpt_packet.specs.Packets.{Fields, Sight, IdlePacket, APacket, verdict}
 use Rattle.lpt_pus.specs.declared.fault.PusFault.{PusFault}
 use Rattle.lpt_pus.specs.FaultNames as of_header
 use Rattle.lpt_pus.specs.Commands.{Command, tc_verdict}
 use Rattle.lpt_pus.specs.Telemetry.{Telemetry, tm_verdict}
+use Rattle.lpt_verify.specs.declared.report.Report.{Report}
+use Rattle.lpt_verify.specs.Reading.{report_in}
 use Rattle.lpt_part.specs.declared.kind.Kind.{Kind}
 use Rattle.lpt_part.specs.declared.kind.Kind.TheVariants.{First, Middle, Last}
 use Rattle.lpt_part.specs.declared.reason.Reason.{Reason}
@@ -69,6 +72,17 @@ abort_text a =
     line_of (codes "abort" ∷ codes "id" ∷ decimal a.0
     ∷ codes "reason" ∷ decimal (reason_code a.1) ∷ [])
 
+-- a failure code, where there is one
+abbrev pub code_words : Option ℕ → List (List ℕ)
+code_words None = []
+code_words (Some code) = codes "code" ∷ decimal code ∷ []
+
+-- a verification report: the request ID in hexadecimal digits, and of a failure its code
+abbrev pub report_text : Report → List ℕ
+report_text r =
+    line_of (codes "report" ∷ codes "request" ∷ octets_text (be r.request.value 4)
+    ∷ code_words r.code)
+
 -- ---- the third line
 
 -- a body that should be a part of this kind; nothing where it isn't read
@@ -79,15 +93,22 @@ part_line p body kind = option_map_or part_text (part_in p kind body) []
 abbrev pub abort_line : List ℕ → List ℕ
 abort_line body = option_map_or abort_text (abort_in body) []
 
+-- a body that should be a verification report's; nothing where it isn't read
+abbrev pub report_line : ℕ → List ℕ → List ℕ
+report_line subtype body = option_map_or report_text (report_in subtype body) []
+
 -- what a telecommand carries, where that is a part
 abbrev pub tc_carried : ℕ → Command → List ℕ
 tc_carried p c = option_map_or (part_line p c.body) (carried_kind Up c.service c.subtype) []
 
--- what telemetry carries that is no part, where that is an abortion report
+-- what telemetry carries that is no part, where that is a verification or an abortion report
 abbrev pub tm_reported : Telemetry → List ℕ
-tm_reported t = if (t.service == 13) && (t.subtype == 16) then abort_line t.body else []
+tm_reported t =
+    if t.service == 1 then report_line t.subtype t.body
+    else if (t.service == 13) && (t.subtype == 16) then abort_line t.body
+    else []
 
--- what telemetry carries, where that is a part or an abortion report
+-- what telemetry carries, where that is a part or a report
 abbrev pub tm_carried : ℕ → Telemetry → List ℕ
 tm_carried p t =
     option_map_or (part_line p t.body) (carried_kind Down t.service t.subtype) (tm_reported t)

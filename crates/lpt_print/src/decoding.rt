@@ -8,13 +8,17 @@ ghost use Rattle.lpt_pus.specs.Commands.{command, tc_verdict};
 ghost use Rattle.lpt_pus.specs.Telemetry.{telemetry, tm_verdict};
 ghost use Rattle.lpt_part.specs.Splitting.{IsPartSize};
 ghost use Rattle.lpt_node.specs.Arrivals.{carried_kind};
-ghost use Rattle.lpt_print.specs.Decoding.{Says, decoding, tc_decoding, tm_decoding, fault_text, tc_text, tm_text, body_text, kind_text, part_line, abort_line, tc_carried, tm_carried};
+ghost use Rattle.lpt_print.specs.Decoding.{Says, decoding, tc_decoding, tm_decoding, fault_text, tc_text, tm_text, body_text, kind_text, part_line, abort_line, report_line, tc_carried, tm_carried};
 
 use crate::words::octets_word;
 use lpt_packet::{Packet, PacketKind, Seen, read_packet};
 use lpt_part::{Kind, read_abort, read_part};
 use lpt_pus::{TcHead, TmHead, read_tc, read_tm};
+use lpt_verify::read_report;
 use std::alloc::{AllocError, Global};
+
+/// The service type of request verification (ECSS-E-ST-70-41C).
+const VERIFICATION: u8 = 1;
 
 /// The service type of large packet transfer (ECSS-E-ST-70-41C).
 const TRANSFER: u8 = 13;
@@ -34,8 +38,9 @@ pub struct Decoded {
 /// What octets are, for parts of `p` octets (4 to 1024).
 ///
 /// `idle`; or a line with what the headers of the telecommand or the telemetry say, one with its
-/// body, and one with the part or the abortion report that the body is, where it is read as one; or
-/// `fault 3 Length`, the first test of the packet, and then of its secondary header, that fails.
+/// body, and one with the part, the verification report or the abortion report that the body is,
+/// where it is read as one; or `fault 3 Length`, the first test of the packet, and then of its
+/// secondary header, that fails.
 pub fn print_decoded(alloc: Global, octets: &[u8], p: u32) -> Result<Decoded, AllocError>
     requires { IsPartSize p }
     ensures { IfOk result (λ d. Says (string_bytes d.text) d.faulty (decoding p octets.now)) }
@@ -170,20 +175,18 @@ fn print_tc_carried(alloc: Global, head: &TcHead, body: &[u8], p: u32) -> Result
     }
 }
 
-// The part or the abortion report that telemetry carries, where it carries one.
+// The part or the report that telemetry carries, where it carries one.
 fn print_tm_carried(alloc: Global, head: &TmHead, body: &[u8], p: u32) -> Result<String, AllocError>
     requires { IsPartSize p }
     ensures { IfOk result (λ t. string_bytes t ≡ tm_carried p (telemetry head.now body.now)) }
 {
     match kind_down(head.service, head.subtype) {
         Some(kind) => print_part(alloc, kind, body, p),
-        None => {
-            if head.service == TRANSFER && head.subtype == ABORT {
-                print_abort(alloc, body)
-            } else {
-                Ok(String::new(alloc))
-            }
-        }
+        None => match (head.service, head.subtype) {
+            (VERIFICATION, subtype) => print_report(alloc, subtype, body),
+            (TRANSFER, ABORT) => print_abort(alloc, body),
+            _ => Ok(String::new(alloc)),
+        },
     }
 }
 
@@ -211,6 +214,20 @@ fn print_abort(alloc: Global, body: &[u8]) -> Result<String, AllocError>
     };
     let reason = reason.code();
     format!(in alloc; "abort id {id} reason {reason}\n")
+}
+
+// The verification report that a body is; nothing where it isn't read as one.
+fn print_report(alloc: Global, subtype: u8, body: &[u8]) -> Result<String, AllocError>
+    ensures { IfOk result (λ t. string_bytes t ≡ report_line subtype body.now) }
+{
+    let Some(report) = read_report(subtype, body) else {
+        return Ok(String::new(alloc));
+    };
+    let request = octets_word(alloc, &report.request.value.to_be_bytes())?;
+    match report.code {
+        None => format!(in alloc; "report request {request}\n"),
+        Some(code) => format!(in alloc; "report request {request} code {code}\n"),
+    }
 }
 
 // A kind's word.

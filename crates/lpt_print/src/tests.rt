@@ -4,6 +4,7 @@ use super::*;
 use lpt_node::{Outcome, Why};
 use lpt_packet::{Direction, Octets, Packet, PacketKind, write_packet};
 use lpt_part::Reason;
+use lpt_pus::{TmHead, write_tm};
 use lpt_world::{Release, StepFault};
 use std::test::Fail;
 
@@ -23,6 +24,12 @@ const LAST_PART: [u8; 21] = [
 const ABORT_EXPIRED: [u8; 22] = [
     0x08, 0x64, 0xc0, 0x00, 0x00, 0x0f, 0x20, 0x0d, 0x10, 0x00, 0x00, 0x00, 0x01, 0x00, 0x00, 0x00,
     0x13, 0x00, 0x07, 0x01, 0x4e, 0x97,
+];
+
+/// Telemetry that says that the telecommand of APID 100 and sequence count 0 was accepted.
+const ACCEPTED: [u8; 23] = [
+    0x08, 0x64, 0xc0, 0x00, 0x00, 0x10, 0x20, 0x01, 0x01, 0x00, 0x00, 0x00, 0x01, 0x00, 0x00, 0x00,
+    0x00, 0x18, 0x64, 0xc0, 0x00, 0xb2, 0xb1,
 ];
 
 /// An idle packet.
@@ -169,6 +176,40 @@ fn decodes_octets(rt: HostRuntime) -> Result<(), Fail> {
         let decoded = print_decoded(rt.alloc(), octets, p)?;
         assert_eq!(rt; decoded.text.as_str(), text);
         assert_eq!(rt; decoded.faulty, faulty, "{text}");
+    }
+    Ok(())
+}
+
+#[test]
+fn decodes_verification_reports(rt: HostRuntime) -> Result<(), Fail> {
+    let alloc = rt.alloc();
+    // Reports that an execution couldn't start, with code 5 and cut short before the code.
+    let head = TmHead::new(100, 0, 0, 1, 4, 0, 1, 0).ok_or("no head")?;
+    let not_started = write_tm(alloc, &head, &[0x18, 0x64, 0xc0, 0x00, 0x00, 0x05])?;
+    let cut_short = write_tm(alloc, &head, &[0x18, 0x64, 0xc0, 0x00])?;
+    let cases = [
+        (
+            ACCEPTED.as_slice(),
+            "tm apid 100 count 0 status 0 service 1 subtype 1 counter 0 destination 1 time 0\n\
+            body 1864c000\n\
+            report request 1864c000\n",
+        ),
+        (
+            not_started.as_slice(),
+            "tm apid 100 count 0 status 0 service 1 subtype 4 counter 0 destination 1 time 0\n\
+            body 1864c0000005\n\
+            report request 1864c000 code 5\n",
+        ),
+        (
+            cut_short.as_slice(),
+            "tm apid 100 count 0 status 0 service 1 subtype 4 counter 0 destination 1 time 0\n\
+            body 1864c000\n",
+        ),
+    ];
+    for (octets, text) in cases {
+        let decoded = print_decoded(alloc, octets, 8)?;
+        assert_eq!(rt; decoded.text.as_str(), text);
+        assert!(rt; !decoded.faulty);
     }
     Ok(())
 }

@@ -1,2 +1,3 @@
 pub mod FlagLemmas
+pub mod ReadingLemmas
 pub mod ReportLemmas

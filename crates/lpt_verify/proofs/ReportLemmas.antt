@@ -1,16 +1,13 @@
 -- The reports of a request: each is read again, and their subtypes rise.
-use Rattle.std.proofs.Common.{rules, IsTrue, nat_cmp, ◌≡◌, ℕ, if◌then◌else◌, ◌<◌, ◌^◌, Bool, true, false, List, [], ◌∷◌, ◌++◌, map, Option, Some, None, IfSome, All, refl, sym, ◌∙◌, ap, inl, inr, arith, nat_le, append-nil}
+use Rattle.std.proofs.Common.{rules, IsTrue, nat_cmp, ℕ, if◌then◌else◌, ◌<◌, ◌^◌, Bool, true, false, List, [], ◌∷◌, ◌++◌, map, Option, Some, None, IfSome, All, refl, sym, inl, inr, nat_le, append-nil}
 use Rattle.std.proofs.lemmas.List.Elements.{All-append, All-cons, All-nil}
 use Rattle.std.proofs.lemmas.Map.Keys.{IsStrictlyIncreasing-from_sorted}
-use Rattle.std.proofs.lemmas.Bool.Decides.{nat_tests}
 use Rattle.std.specs.List.Sorted.{IsStrictlyIncreasing, IsStrictlySortedBy}
-use Rattle.lpt_packet.specs.Numbers.{be, word_at}
-use Rattle.lpt_pus.specs.Numbers.{long_at}
+use Rattle.lpt_packet.specs.Numbers.{be}
 use Rattle.lpt_pus.specs.declared.request.RequestId.{RequestId}
-use Rattle.lpt_verify.specs.declared.report.Report.{Report}
 use Rattle.lpt_verify.specs.declared.report.EncodedReport.{EncodedReport}
 use Rattle.lpt_verify.specs.Reports.{asks, success, failure, success_if, all_reports}
-use Rattle.lpt_verify.specs.Reading.{IsReport, is_success, is_failure, IsCoded, code_text, Names}
+use Rattle.lpt_verify.specs.Reading.{is_success, is_failure, Names}
 
 -- ---- what is written is read again
 
@@ -68,10 +65,6 @@ either : (P : EncodedReport → Type 0) (b : Bool) (xs ys : List EncodedReport)
 either P true xs ys p q = p
 either P false xs ys p q = q
 
--- a report, by its parts
-abbrev report_of : ℕ → Option ℕ → Report
-report_of n code = record { request = record { value = n }; code = code }
-
 -- all reports of a request name it
 pub all_reports-names : (request : RequestId) (flags : ℕ) (code : Option ℕ)
     → request.value < 2 ^ 32
@@ -98,53 +91,6 @@ all_reports-names request flags (Some code) fits code_fits =
     one P (failure v 2 code) (failure-names request code 2 fits code_fits refl) in
     All-append P _ _
     (either P (nat_le code 2) _ _ alone (All-append P _ _ first start)) (All-nil P)
-
--- ---- a body is read in one way
-
--- the number in the first four octets
-value_of : (n : ℕ) (rest : List ℕ) → n < 2 ^ 32 → long_at (be n 4 ++ rest) 0 ≡ n
-value_of n rest fits = omega arith
-
--- the number in the two after them
-code_of : (n code : ℕ) → code < 2 ^ 16 → word_at (be n 4 ++ be code 2) 4 ≡ code
-code_of n code fits = omega arith
-
--- no subtype is both of success and of failure
-apart : (subtype : ℕ) → IsTrue (is_success subtype) → IsTrue (is_failure subtype) → ⊥
-apart subtype success failure = grind (arith, nat_tests)
-
--- bodies that are the same have the same code
-same_code : (subtype n m : ℕ) (a b : Option ℕ)
-    → IsCoded subtype a
-    → IsCoded subtype b
-    → IfSome a (λ c. c < 2 ^ 16)
-    → IfSome b (λ c. c < 2 ^ 16)
-    → be n 4 ++ code_text a ≡ be m 4 ++ code_text b
-    → a ≡ b
-same_code s n m None None coded_a coded_b fits_a fits_b same = refl
-same_code s n m None (Some b) coded_a coded_b fits_a fits_b same = absurd (apart s coded_a coded_b)
-same_code s n m (Some a) None coded_a coded_b fits_a fits_b same = absurd (apart s coded_b coded_a)
-same_code s n m (Some a) (Some b) coded_a coded_b fits_a fits_b same =
-    ap Some (sym (code_of n a fits_a) ∙ ap (λ o. word_at o 4) same ∙ code_of m b fits_b)
-
--- a report is its request and its code
-same_report : (n m : ℕ) (a b : Option ℕ) → n ≡ m → a ≡ b → report_of n a ≡ report_of m b
-same_report n m a b values codes = cc
-
--- a body is read in one way at most
-pub IsReport-one : (subtype : ℕ) (body : List ℕ) (q r : Report)
-    → IsReport subtype body q
-    → IsReport subtype body r
-    → q ≡ r
-IsReport-one subtype body q r p s =
-    let same : be q.request.value 4 ++ code_text q.code ≡ be r.request.value 4 ++ code_text r.code =
-    sym p.spelled ∙ s.spelled in
-    let values : q.request.value ≡ r.request.value =
-    sym (value_of q.request.value (code_text q.code) p.request_fits)
-    ∙ ap (λ o. long_at o 0) same
-    ∙ value_of r.request.value (code_text r.code) s.request_fits in
-    same_report q.request.value r.request.value q.code r.code values
-    (same_code subtype _ _ q.code r.code p.is_coded s.is_coded p.code_fits s.code_fits same)
 
 -- ---- the subtypes rise
 

@@ -1,6 +1,7 @@
 -- What a report's body says.
-use Rattle.std.specs.Prelude.{◌≡◌, ◌⊎◌, ℕ, ◌<◌, ◌^◌, Bool, List, ◌++◌, [], Option, Some, None, IfSome, ◌==◌, ◌||◌, IsTrue}
-use Rattle.lpt_packet.specs.Numbers.{be}
+use Rattle.std.specs.Prelude.{◌≡◌, ◌⊎◌, ℕ, ◌<◌, ◌^◌, Bool, if◌then◌else◌, List, ◌++◌, [], length, Option, Some, None, IfSome, ◌==◌, ◌&&◌, ◌||◌, IsTrue}
+use Rattle.lpt_packet.specs.Numbers.{be, word_at}
+use Rattle.lpt_pus.specs.Numbers.{long_at}
 use Rattle.lpt_pus.specs.declared.request.RequestId.{RequestId}
 use Rattle.lpt_verify.specs.declared.report.Report.{Report}
 use Rattle.lpt_verify.specs.declared.report.EncodedReport.{EncodedReport}
@@ -29,6 +30,18 @@ pub record IsReport (subtype : ℕ) (body : List ℕ) (r : Report) : Type 0 wher
   pub request_fits : r.request.value < 2 ^ 32
   pub code_fits : IfSome r.code (λ c. c < 2 ^ 16)
   pub spelled : body ≡ be r.request.value 4 ++ code_text r.code
+
+-- the report with this failure code, where it has one, that stands at a body's places
+abbrev pub report_at : List ℕ → Option ℕ → Report
+report_at body code = record { request = record { value = long_at body 0 }; code = code }
+
+-- the report that a body is, of this message subtype, where it is one
+unfoldable pub report_in : (subtype : ℕ) → List ℕ → Option Report
+report_in subtype body =
+    if is_success subtype && length body == 4 then Some (report_at body None)
+    else if is_failure subtype && length body == 6 then
+    Some (report_at body (Some (word_at body 4)))
+    else None
 
 -- the report is read as one of this request; its failure code, where it has one, is this
 pub record Names (request : RequestId) (code : Option ℕ) (e : EncodedReport) : Type 0 where

@@ -1,12 +1,13 @@
 //! What the definitions say of reports, proved of all requests and bodies: functions with empty
 //! bodies.
 
-ghost use Rattle.std.specs.Prelude.{◌≡◌, ℕ, ◌<◌, ◌^◌, List, map, Option, IfSome, All};
+ghost use Rattle.std.specs.Prelude.{◌≡◌, ◌↔◌, ℕ, ◌<◌, ◌^◌, List, map, Option, Some, IfSome, All};
 ghost use Rattle.std.specs.List.Sorted.{IsStrictlyIncreasing};
+ghost use Rattle.lpt_packet.specs.Numbers.{IsOctets};
 ghost use Rattle.lpt_pus.specs.declared.request.RequestId.{RequestId};
 ghost use Rattle.lpt_verify.specs.declared.report.Report.{Report};
 ghost use Rattle.lpt_verify.specs.Reports.{all_reports};
-ghost use Rattle.lpt_verify.specs.Reading.{IsReport, Names};
+ghost use Rattle.lpt_verify.specs.Reading.{IsReport, Names, report_in};
 
 /// What is written is read again: each report of a request is read as one that names the request
 /// and, where it is one of failure, the failure code.
@@ -14,6 +15,12 @@ pub fn written_is_read()
     ensures { (request : RequestId) (flags : ℕ) (code : Option ℕ) → request.value < 2 ^ 32
         → IfSome code (λ c. c < 2 ^ 16)
         → All (Names request code) (all_reports request.value flags code) }
+{}
+
+/// A list of octets reads as a report exactly where it is one.
+pub fn read_is_spelled()
+    ensures { (subtype : ℕ) (body : List ℕ) (r : Report) → IsOctets body
+        → (report_in subtype body ≡ Some r) ↔ IsReport subtype body r }
 {}
 
 /// A body is read in one way at most.
