@@ -1,0 +1,60 @@
+-- How long the answers to dumps and checks are.
+use Rattle.std.proofs.Common.{◌≡◌, ◌∙◌, ap, refl, ℕ, ◌+◌, ◌*◌, ◌≤◌, List, [], ◌∷◌, length, drop, sum_by, arith}
+use Rattle.std.specs.List.{flat_map}
+use Rattle.std.proofs.lemmas.List.{length-append, length-take, length-drop}
+use Rattle.std.proofs.lemmas.List.Concat.{flat_map-cons}
+use Rattle.std.proofs.lemmas.List.Sums.{sum_by-cons}
+use Rattle.lpt_packet.specs.Checksums.{checksum}
+use Rattle.lpt_packet.specs.Numbers.{be}
+use Rattle.lpt_memory.specs.declared.request.AreaRange.{AreaRange}
+use Rattle.lpt_memory.specs.Answers.{octets_in, dump_area, check_area, octets_of, dump_body, check_body}
+use Rattle.lpt_memory.specs.Meanings.{dump_length}
+use Rattle.lpt_memory.specs.Memories.{Contents, sizes_of}
+use Rattle.lpt_memory.specs.Ranges.{RangesFit, ReadFits}
+use Rattle.lpt_memory.proofs.MemoriesLemmas.{RangesFit-octets_of}
+
+length-dump_area : (content : List ℕ) (r : AreaRange)
+    → r.address + r.len ≤ length content
+    → length (dump_area content r) ≡ 8 + r.len
+length-dump_area content r fit =
+    let octets = octets_in content r in
+    let long : length octets ≡ r.len =
+    omega (arith, length-take r.len (drop r.address content), length-drop r.address content)
+    in
+    omega (arith, long, length-append octets (be (checksum octets) 2))
+
+length-dump_areas : (content : List ℕ) (ranges : List AreaRange)
+    → RangesFit (length content) ranges
+    → length (flat_map (dump_area content) ranges) ≡ sum_by (λ r. 8 + r.len) ranges
+length-dump_areas content [] fit = refl
+length-dump_areas content (r ∷ rest) fit =
+    let others = flat_map (dump_area content) rest in
+    ap (λ (t : List ℕ). length t) (flat_map-cons (dump_area content) r rest)
+    ∙ omega (
+      arith,
+      length-append (dump_area content r) others,
+      length-dump_area content r fit.0,
+      length-dump_areas content rest fit.1,
+      sum_by-cons (λ (x : AreaRange). 8 + x.len) r rest,
+    )
+
+-- the answer to a dump is as long as its packet less 19 octets
+pub length-dump_body : (id : ℕ) (ranges : List AreaRange) (ms : Contents)
+    → ReadFits (sizes_of ms) id ranges
+    → length (dump_body id ranges ms) + 19 ≡ dump_length ranges
+length-dump_body id ranges ms fits =
+    let fit : RangesFit (length (octets_of id ms)) ranges = RangesFit-octets_of id ranges ms fits in
+    omega (arith, length-dump_areas (octets_of id ms) ranges fit)
+
+length-check_areas : (content : List ℕ) (ranges : List AreaRange)
+    → length (flat_map (check_area content) ranges) ≡ 8 * length ranges
+length-check_areas content [] = refl
+length-check_areas content (r ∷ rest) =
+    let others = flat_map (check_area content) rest in
+    ap (λ (t : List ℕ). length t) (flat_map-cons (check_area content) r rest)
+    ∙ omega (arith, length-append (check_area content r) others, length-check_areas content rest)
+
+-- the answer to a check has two octets, and eight for each area
+pub length-check_body : (id : ℕ) (ranges : List AreaRange) (ms : Contents)
+    → length (check_body id ranges ms) ≡ 2 + 8 * length ranges
+length-check_body id ranges ms = omega (arith, length-check_areas (octets_of id ms) ranges)

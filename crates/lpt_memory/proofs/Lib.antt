@@ -1,0 +1,9 @@
+pub mod AnswerLemmas
+pub mod BodyLemmas
+pub mod BodyMeanings
+pub mod FieldLemmas
+pub mod LoopLemmas
+pub mod MeaningLemmas
+pub mod MemoriesLemmas
+pub mod PutLemmas
+pub mod WritingLemmas

@@ -1,0 +1,59 @@
+-- What a message is answered.
+use Rattle.std.specs.Prelude.{ℕ, ◌≤◌, List, [], ◌∷◌, ◌++◌, length, take, drop, unwrap_or}
+use Rattle.std.specs.List.{flat_map}
+use Rattle.lpt_packet.specs.Numbers.{be}
+use Rattle.lpt_packet.specs.Checksums.{checksum}
+use Rattle.lpt_memory.specs.declared.request.AreaRange.{AreaRange}
+use Rattle.lpt_memory.specs.declared.effect.Effect.{Effect}
+use Rattle.lpt_memory.specs.declared.effect.Effect.TheVariants as effects
+use Rattle.lpt_memory.specs.Meanings.{Meaning, Silent, Fault, Load, Dump, Check}
+use Rattle.lpt_memory.specs.Memories.{Contents, content_of}
+
+-- the octets of a memory in a range
+abbrev pub octets_in : List ℕ → AreaRange → List ℕ
+octets_in content r = take r.len (drop r.address content)
+
+-- start address 32 bits, length 16, the octets, their checksum 16
+abbrev pub dump_area : List ℕ → AreaRange → List ℕ
+dump_area content r =
+    be r.address 4 ++ be r.len 2 ++ octets_in content r ++ be (checksum (octets_in content r)) 2
+
+-- start address 32 bits, length 16, the checksum of the octets 16
+abbrev pub check_area : List ℕ → AreaRange → List ℕ
+check_area content r = be r.address 4 ++ be r.len 2 ++ be (checksum (octets_in content r)) 2
+
+-- the octets of a memory; none where there is no such memory, which no request names
+abbrev pub octets_of : ℕ → Contents → List ℕ
+octets_of id ms = unwrap_or (content_of id ms) []
+
+-- memory identifier 8 bits, number of areas 8, the areas in the order of the request
+abbrev pub dump_body : ℕ → List AreaRange → Contents → List ℕ
+dump_body id ranges ms = id ∷ length ranges ∷ flat_map (dump_area (octets_of id ms)) ranges
+
+-- memory identifier 8 bits, number of areas 8, the areas in the order of the request
+abbrev pub check_body : ℕ → List AreaRange → Contents → List ℕ
+check_body id ranges ms = id ∷ length ranges ∷ flat_map (check_area (octets_of id ms)) ranges
+
+-- what a message is answered
+abbrev pub answer : Meaning → Contents → Effect
+answer Silent ms = effects.Silent
+answer (Fault code) ms = effects.Code code
+answer (Load id areas) ms = effects.Done
+answer (Dump id ranges) ms = effects.Reply (dump_body id ranges ms)
+answer (Check id ranges) ms = effects.Reply (check_body id ranges ms)
+
+-- it has no reply, so that it takes no memory
+abbrev pub HasNoReply : Meaning → Type 0
+HasNoReply Silent = Unit {0}
+HasNoReply (Fault code) = Unit {0}
+HasNoReply (Load id areas) = Unit {0}
+HasNoReply (Dump id ranges) = ⊥
+HasNoReply (Check id ranges) = ⊥
+
+-- a code that is answered is one of 1 to 6, and a reply fits a packet: telemetry has 19 octets
+-- besides its body
+abbrev pub AnswerFits : Effect → Type 0
+AnswerFits effects.Silent = Unit {0}
+AnswerFits (effects.Code code) = (1 ≤ code) × (code ≤ 6)
+AnswerFits effects.Done = Unit {0}
+AnswerFits (effects.Reply body) = length body ≤ 65523

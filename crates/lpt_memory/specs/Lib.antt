@@ -1,0 +1,12 @@
+pub mod Answers
+pub mod FaultNames
+pub mod Fields
+pub mod Meanings
+pub mod Memories
+pub mod MemoriesInside
+pub mod Overlaps
+pub mod Ranges
+pub mod Readings
+pub mod Requests
+pub mod Seen
+pub mod Spellings

@@ -1,0 +1,190 @@
+//! A job on its way from the queue to a worker and back: a ticket, then its reading.
+
+ghost use Rattle.std.specs.Prelude.{◌≡◌, MatchResult};
+
+use crate::request::Content;
+use crate::{Memories, Shape, meaning};
+use lpt_packet::Octets;
+use lpt_pus::TcHead;
+use std::alloc::Global;
+use std::marker::Model;
+
+/// A job that a worker has taken. It can't be dropped: `prepare` or `abandon` spends it.
+#[derive(Debug)]
+pub struct Ticket {
+    boot: u64,
+    job: u64,
+    message: Octets,
+}
+
+impl Model for Ticket {
+    ghost use Rattle.lpt_memory.specs.Readings.{Job};
+
+    ghost Value = { Job };
+
+    ghost view = { λ a. record { boot = a.boot; job = a.job; message = a.message } };
+}
+
+/// What a message means for memories of some shape, at a node with some APID.
+#[derive(Debug, Drop)]
+pub struct Reading {
+    apid: u16,
+    shape: Shape,
+    message: Octets,
+    content: Content,
+}
+
+impl Model for Reading {
+    ghost use Rattle.std.specs.Prelude.{◌≡◌};
+    ghost use Rattle.lpt_memory.specs.Readings.{Source};
+
+    ghost Value = { Source };
+
+    ghost use Rattle.lpt_memory.specs.Meanings.{meaning};
+    ghost use Rattle.lpt_memory.specs.Seen.{seen, IsCounted};
+
+    ghost view = { λ a. record { apid = a.apid; sizes = a.shape; message = a.message } };
+
+    ghost invariant = { λ a. (seen a.content ≡ meaning a.apid a.shape a.message)
+        × IsCounted a.content };
+}
+
+/// A job whose message was read. It can't be dropped: `reading` or `abandon` spends it.
+#[derive(Debug)]
+pub struct Prepared {
+    boot: u64,
+    job: u64,
+    reading: Reading,
+}
+
+impl Model for Prepared {
+    ghost use Rattle.lpt_memory.specs.Readings.{ReadJob};
+
+    ghost Value = { ReadJob };
+
+    ghost view = { λ a. record { boot = a.boot; job = a.job; read = a.reading } };
+}
+
+impl Ticket {
+    /// The ticket of a job: the boot that it is of, its number in that boot, and its message.
+    pub fn new(boot: u64, job: u64, message: Octets) -> Ticket
+        ensures { result ≡ record { boot = boot; job = job; message = message } }
+    {
+        Ticket { boot, job, message }
+    }
+
+    /// Gives the job up. It has no clause: nothing is left of the ticket.
+    pub fn abandon(self) {
+        let Ticket {
+            boot: _,
+            job: _,
+            message: _,
+        } = self;
+    }
+}
+
+/// Reads the message of a job, for memories of this shape at a node with this APID. Each octet of a
+/// load is copied once.
+///
+/// Errors: want of memory, which gives the ticket back.
+pub fn prepare(alloc: Global, shape: &Shape, apid: u16, ticket: Ticket) -> Result<Prepared, Ticket>
+    ensures { MatchResult result
+        (λ p. p ≡ record {
+          boot = ticket.boot;
+          job = ticket.job;
+          read = record {
+            apid = apid;
+            sizes = shape.now;
+            message = ticket.message;
+          };
+        })
+        (λ t. t ≡ ticket) }
+{
+    let Ok(copy) = shape.copy() else {
+        return Err(ticket);
+    };
+    let Ok(content) = meaning::content(alloc, shape.sizes(), apid, ticket.message.as_slice()) else {
+        return Err(ticket);
+    };
+    let Ticket { boot, job, message } = ticket;
+    let reading = Reading {
+        apid,
+        shape: copy,
+        message,
+        content,
+    };
+    Ok(Prepared { boot, job, reading })
+}
+
+impl Prepared {
+    /// The reading of the job's message.
+    pub fn reading(self) -> Reading
+        ensures { result ≡ self.read }
+    {
+        let Prepared {
+            boot: _,
+            job: _,
+            reading,
+        } = self;
+        reading
+    }
+
+    /// Gives the job up. It has no clause: nothing is left of it.
+    pub fn abandon(self) {
+        let Prepared {
+            boot: _,
+            job: _,
+            reading: _,
+        } = self;
+    }
+}
+
+impl Reading {
+    ghost use Rattle.std.specs.Prelude.{◌≡◌, List, ℕ, None, Some, MatchOption};
+    ghost use Rattle.lpt_pus.specs.Commands.{command, command_in};
+    ghost use Rattle.lpt_memory.specs.Readings.{meant};
+    ghost use Rattle.lpt_memory.specs.Seen.{seen, IsCounted};
+
+    /// The head of the telecommand that the message is, or `None` where it is none for the APID:
+    /// its acknowledgement flags, its source, and what its request ID is made of.
+    pub fn head(&self) -> Option<TcHead>
+        ensures { MatchOption result (command_in self.now.apid self.now.message ≡ None)
+            (λ h. (body : List ℕ)
+            × (command_in self.now.apid self.now.message ≡ Some (command h body))) }
+    {
+        let (head, _) = meaning::command_in(self.apid, self.message.as_slice())?;
+        Some(head)
+    }
+
+    // What the message means.
+    pub(crate) fn content(&self) -> &Content
+        ensures seen { seen result.now ≡ meant self.now }
+        ensures counted { IsCounted result.now }
+    {
+        &self.content
+    }
+}
+
+impl Prepared {
+    ghost use Rattle.std.specs.Prelude.{◌↔◌, IsTrue};
+    ghost use Rattle.lpt_memory.specs.Memories.{sizes_of};
+
+    /// Whether it is the reading of this job's message, for this APID and memories of this shape.
+    pub fn is_of(&self, boot: u64, job: u64, message: &[u8], apid: u16, memories: &Memories) -> bool
+        ensures { IsTrue result ↔ (self.now ≡ record {
+          boot = boot;
+          job = job;
+          read = record {
+            apid = apid;
+            sizes = sizes_of memories.now;
+            message = message.now;
+          };
+        }) }
+    {
+        self.boot == boot
+            && self.job == job
+            && self.reading.apid == apid
+            && memories.has_shape(&self.reading.shape)
+            && self.reading.message.as_slice() == message
+    }
+}

@@ -1,0 +1,38 @@
+//! Raw memory management (ECSS-E-ST-70-41C, service 6): what a message asks of the memories, what
+//! it makes of them, and what it answers.
+//!
+//! A load, a dump or a check is read outside any lock, for memories of known identifiers and sizes,
+//! and applied later to memories of that shape. A request with a fault in one area changes nothing.
+//!
+//! The body of a request is a memory identifier (8 bits), the number of areas (8), and the areas: a
+//! start address (32), a length (16), and in a load so many octets and their checksum (16). The body
+//! that answers a dump is spelled as a load's; the one that answers a check leaves the octets out.
+//!
+//! Deviation: a fault in any area refuses the whole request, and the widths of the fields are this
+//! project's own.
+#![tactic(auto)]
+
+mod contents;
+mod effect;
+mod fault;
+mod fields;
+mod job;
+pub mod laws;
+mod meaning;
+mod memories;
+mod reading;
+mod reply;
+mod request;
+mod shape;
+mod writing;
+
+pub use effect::Effect;
+pub use fault::MemoryFault;
+pub use job::{Prepared, Reading, Ticket, prepare};
+pub use memories::Memories;
+pub use request::Area;
+pub use shape::Shape;
+pub use writing::write_load;
+
+#[cfg(test)]
+mod tests;

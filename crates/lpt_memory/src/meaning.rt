@@ -1,0 +1,239 @@
+//! What a message means for memories of known identifiers and sizes.
+
+ghost use Rattle.std.specs.Prelude.{◌≡◌, map, option_map, nat_lt, IfOk};
+ghost use Rattle.lpt_packet.specs.Numbers.{IsOctets};
+ghost use Rattle.lpt_pus.specs.Commands.{command, command_in};
+ghost use Rattle.lpt_memory.specs.Requests.{front_load_area, front_range, request_in};
+ghost use Rattle.lpt_memory.specs.Seen.{load_area, seen, IsCounted};
+ghost use Rattle.lpt_memory.specs.Meanings.{area, size_of, load_fault, range_fault, dump_length, load_meaning, dump_meaning, check_meaning, if_formed, body_meaning, meaning};
+
+use crate::reading::{load_request, range_request};
+use crate::request::{Area, AreaRange, Content, StoredArea};
+use lpt_packet::laws::seen_is_read;
+use lpt_packet::{Octets, Seen, crc16, read_packet};
+use lpt_pus::{TcHead, read_tc};
+use std::alloc::{AllocError, Global};
+
+/// The most octets of a packet.
+const PACKET_LIMIT: usize = 65542;
+
+/// The octets of a packet that answers a dump, besides its areas.
+const DUMP_HEAD: usize = 21;
+
+/// The octets of each area of such an answer, besides those of the memory.
+const DUMP_AREA: usize = 8;
+
+/// The service type of memory management.
+const MEMORY: u8 = 6;
+
+/// The message subtype of a load of raw memory.
+const LOAD: u8 = 2;
+
+/// The message subtype of a dump of raw memory.
+const DUMP: u8 = 5;
+
+/// The message subtype of a check of raw memory.
+const CHECK: u8 = 9;
+
+/// The code of a service or subtype that is none of these.
+const UNKNOWN_REQUEST: u8 = 1;
+
+/// The code of a malformed body.
+const MALFORMED: u8 = 2;
+
+/// The code of a memory that there isn't.
+const UNKNOWN_MEMORY: u8 = 3;
+
+/// The code of an area that isn't within its memory.
+const OUT_OF_RANGE: u8 = 4;
+
+/// The code of an area whose checksum isn't that of its octets.
+const WRONG_CHECKSUM: u8 = 5;
+
+/// The code of a dump whose answer would be longer than a packet can be.
+const LONG_ANSWER: u8 = 6;
+
+// The size of a memory.
+fn size_in(sizes: &[(u8, u32)], id: u8) -> Option<u32>
+    ensures { result ≡ size_of id sizes.now }
+{
+    for (known, size) in sizes {
+        if *known == id {
+            return Some(*size);
+        }
+    }
+    None
+}
+
+// The first fault of the areas of a load.
+fn load_fault_in(size: u32, areas: &[StoredArea<'_>]) -> Option<u8>
+    ensures { result ≡ load_fault size (map load_area areas.now) }
+{
+    for area in areas {
+        if area.address as usize + area.octets.len() > size as usize {
+            return Some(OUT_OF_RANGE);
+        }
+        if crc16(area.octets) != area.checksum {
+            return Some(WRONG_CHECKSUM);
+        }
+    }
+    None
+}
+
+// The first fault of ranges.
+fn range_fault_in(size: u32, ranges: &[AreaRange]) -> Option<u8>
+    ensures { result ≡ range_fault size ranges.now }
+{
+    for AreaRange { address, len } in ranges {
+        if *address as usize + usize::from(*len) > size as usize {
+            return Some(OUT_OF_RANGE);
+        }
+    }
+    None
+}
+
+// Whether the packet that answers a dump would be too long.
+fn is_long(ranges: &[AreaRange]) -> bool
+    ensures { result ≡ nat_lt 65542 (dump_length ranges.now) }
+{
+    let mut total = DUMP_HEAD;
+    for AreaRange { address: _, len } in ranges {
+        total += DUMP_AREA + usize::from(*len);
+        if total > PACKET_LIMIT {
+            return true;
+        }
+    }
+    false
+}
+
+// The areas of a load with copies of their octets. The only error is want of memory.
+fn areas_of(alloc: Global, stored: &[StoredArea<'_>]) -> Result<Vec<Area>, AllocError>
+    ensures { IfOk result (λ v. v.items ≡ map area (map load_area stored.now)) }
+{
+    let mut areas = Vec::with_capacity(alloc, stored.len())?;
+    for from in stored {
+        areas.push(Area {
+            address: from.address,
+            octets: Octets::from_vec(from.octets.to_vec(alloc)?),
+        })?;
+    }
+    Ok(areas)
+}
+
+// What the body of a load means. The only error is want of memory.
+fn load(alloc: Global, sizes: &[(u8, u32)], body: &[u8]) -> Result<Content, AllocError>
+    ensures seen { IfOk result (λ x.
+        seen x ≡ if_formed sizes.now load_meaning (request_in front_load_area body.now)) }
+    ensures counted { IfOk result (λ x. IsCounted x) }
+{
+    let Some((memory, areas)) = load_request(alloc, body)? else {
+        return Ok(Content::Code(MALFORMED));
+    };
+    let Some(size) = size_in(sizes, memory) else {
+        return Ok(Content::Code(UNKNOWN_MEMORY));
+    };
+    if let Some(code) = load_fault_in(size, &areas) {
+        return Ok(Content::Code(code));
+    }
+    Ok(Content::Load(memory, areas_of(alloc, &areas)?))
+}
+
+// What the body of a dump means. The only error is want of memory.
+fn dump(alloc: Global, sizes: &[(u8, u32)], body: &[u8]) -> Result<Content, AllocError>
+    ensures seen { IfOk result (λ x.
+        seen x ≡ if_formed sizes.now dump_meaning (request_in front_range body.now)) }
+    ensures counted { IfOk result (λ x. IsCounted x) }
+{
+    let Some((memory, ranges)) = range_request(alloc, body)? else {
+        return Ok(Content::Code(MALFORMED));
+    };
+    let Some(size) = size_in(sizes, memory) else {
+        return Ok(Content::Code(UNKNOWN_MEMORY));
+    };
+    if let Some(code) = range_fault_in(size, &ranges) {
+        return Ok(Content::Code(code));
+    }
+    if is_long(&ranges) {
+        return Ok(Content::Code(LONG_ANSWER));
+    }
+    Ok(Content::Dump(memory, ranges))
+}
+
+// What the body of a check means. The only error is want of memory.
+fn check(alloc: Global, sizes: &[(u8, u32)], body: &[u8]) -> Result<Content, AllocError>
+    ensures seen { IfOk result (λ x.
+        seen x ≡ if_formed sizes.now check_meaning (request_in front_range body.now)) }
+    ensures counted { IfOk result (λ x. IsCounted x) }
+{
+    let Some((memory, ranges)) = range_request(alloc, body)? else {
+        return Ok(Content::Code(MALFORMED));
+    };
+    let Some(size) = size_in(sizes, memory) else {
+        return Ok(Content::Code(UNKNOWN_MEMORY));
+    };
+    if let Some(code) = range_fault_in(size, &ranges) {
+        return Ok(Content::Code(code));
+    }
+    Ok(Content::Check(memory, ranges))
+}
+
+// What the body of a telecommand of this service and subtype means. The only error is want of
+// memory.
+#[tactic(auto, unfolding(crate::specs::Meanings::body_meaning))]
+fn body_content(
+    alloc: Global,
+    sizes: &[(u8, u32)],
+    service: u8,
+    subtype: u8,
+    body: &[u8],
+) -> Result<Content, AllocError>
+    ensures seen { IfOk result (λ x. seen x ≡ body_meaning sizes.now service subtype body.now) }
+    ensures counted { IfOk result (λ x. IsCounted x) }
+{
+    if service != MEMORY {
+        return Ok(Content::Code(UNKNOWN_REQUEST));
+    }
+    match subtype {
+        LOAD => load(alloc, sizes, body),
+        DUMP => dump(alloc, sizes, body),
+        CHECK => check(alloc, sizes, body),
+        _ => Ok(Content::Code(UNKNOWN_REQUEST)),
+    }
+}
+
+// The telecommand that octets are, where they are the packet of one with this APID.
+#[tactic(auto, unfolding(lpt_pus::specs::Commands::command_in))]
+pub(crate) fn command_in(apid: u16, octets: &[u8]) -> Option<(TcHead, &[u8])>
+    requires { IsOctets octets.now }
+    ensures { option_map (λ x. command x.0 x.1.now) result ≡ command_in apid octets.now }
+{
+    seen_is_read();
+    let Ok(Seen::Packet(packet)) = read_packet(octets) else {
+        return None;
+    };
+    let Ok((head, body)) = read_tc(&packet) else {
+        return None;
+    };
+    if head.apid != apid {
+        return None;
+    }
+    Some((head, body))
+}
+
+// What a message means. The only error is want of memory.
+#[tactic(auto, unfolding(crate::specs::Meanings::meaning))]
+pub(crate) fn content(
+    alloc: Global,
+    sizes: &[(u8, u32)],
+    apid: u16,
+    message: &[u8],
+) -> Result<Content, AllocError>
+    requires { IsOctets message.now }
+    ensures seen { IfOk result (λ x. seen x ≡ meaning apid sizes.now message.now) }
+    ensures counted { IfOk result (λ x. IsCounted x) }
+{
+    let Some((head, body)) = command_in(apid, message) else {
+        return Ok(Content::Silent);
+    };
+    body_content(alloc, sizes, head.service, head.subtype, body)
+}

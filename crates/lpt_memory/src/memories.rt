@@ -1,0 +1,108 @@
+//! The memories of a node.
+
+ghost use Rattle.std.specs.Prelude.{◌≡◌};
+
+use crate::request::Content;
+use crate::{Effect, MemoryFault, Reading, Shape, contents};
+use lpt_packet::Octets;
+use std::alloc::{AllocError, Global};
+use std::marker::Model;
+
+/// The memories of a node: 1 to 16 with distinct identifiers, of 1 to 1,048,576 octets each, in the
+/// order in which they were given.
+#[derive(Debug, Drop)]
+pub struct Memories {
+    items: Vec<(u8, Octets)>,
+}
+
+impl Model for Memories {
+    ghost use Rattle.std.specs.Prelude.{ℕ, List, IsTrue};
+
+    ghost Value = { List (ℕ × List ℕ) };
+
+    ghost use Rattle.lpt_memory.specs.Memories.{are_memories};
+
+    ghost view = { λ a. a.items.items };
+
+    ghost invariant = { λ a. IsTrue (are_memories a.items.items) };
+}
+
+impl Memories {
+    ghost use Rattle.std.specs.Prelude.{◌↔◌, IsTrue, IsOk, IfOk, IfErr, OnOk, OnErr, option_map};
+    ghost use Rattle.lpt_memory.specs.declared.fault.MemoryFault.TheVariants.{BadMemories};
+    ghost use Rattle.lpt_memory.specs.Memories.{are_memories, sizes_of, content_of, effect};
+    ghost use Rattle.lpt_memory.specs.Answers.{answer, HasNoReply, AnswerFits};
+    ghost use Rattle.lpt_memory.specs.Readings.{meant};
+
+    /// Memories of these identifiers and octets, which are not copied. It takes no memory.
+    ///
+    /// Errors: `BadMemories` where they aren't 1 to 16 with distinct identifiers, of 1 to 1,048,576
+    /// octets each; they are dropped then.
+    pub fn new(memories: Vec<(u8, Octets)>) -> Result<Memories, MemoryFault>
+        ensures ok { IsOk result ↔ IsTrue (are_memories memories.items) }
+        ensures value { IfOk result (λ m. m ≡ memories.items) }
+        ensures err { IfErr result (λ e. e ≡ BadMemories) }
+    {
+        if !contents::are_memories(&memories) {
+            return Err(MemoryFault::BadMemories);
+        }
+        Ok(Memories { items: memories })
+    }
+
+    /// The identifiers and sizes. The only error is want of memory.
+    pub fn shape(&self, alloc: Global) -> Result<Shape, AllocError>
+        ensures { IfOk result (λ s. s ≡ sizes_of self.now) }
+    {
+        Ok(Shape::of(contents::sizes_of(alloc, &self.items)?))
+    }
+
+    /// The octets of a memory, or `None` where there is no such memory.
+    pub fn content(&self, id: u8) -> Option<&[u8]>
+        ensures { option_map (λ x. x.now) result ≡ content_of id self.now }
+    {
+        contents::content_in(&self.items, id)
+    }
+
+    // Whether they have this shape.
+    pub(crate) fn has_shape(&self, shape: &Shape) -> bool
+        ensures { IsTrue result ↔ (sizes_of self.now ≡ shape.now) }
+    {
+        contents::have_sizes(&self.items, shape.sizes())
+    }
+
+    /// Does what a message means, and says what it came to. Each octet of a load is copied once.
+    ///
+    /// The only error is want of memory, for the answer to a dump or a check. It leaves the
+    /// memories as they were.
+    pub fn apply(&mut self, alloc: Global, reading: &Reading) -> Result<Effect, AllocError>
+        requires { reading.now.sizes ≡ sizes_of self.old }
+        // What it answers, and what it makes of the memories.
+        ensures answer { IfOk result (λ e. e ≡ answer (meant reading.now) self.old) }
+        ensures ok { OnOk result (self.new ≡ effect (meant reading.now) self.old) }
+
+        // What holds of the memories' sizes, and of each answer.
+        ensures shape { sizes_of self.new ≡ sizes_of self.old }
+        ensures fits { IfOk result (λ e. AnswerFits e) }
+
+        // It fails only where there is a reply to be made, and then changes nothing.
+        ensures no_reply { HasNoReply (meant reading.now) → IsOk result }
+        ensures err { OnErr result (self.new ≡ self.old) }
+    {
+        match reading.content() {
+            Content::Silent => Ok(Effect::Silent),
+            Content::Code(code) => Ok(Effect::Code(*code)),
+            Content::Load(id, areas) => {
+                contents::load(&mut self.items, *id, areas);
+                Ok(Effect::Done)
+            }
+            Content::Dump(id, ranges) => {
+                let body = contents::dump(alloc, &self.items, *id, ranges)?;
+                Ok(Effect::Reply(body))
+            }
+            Content::Check(id, ranges) => {
+                let body = contents::check(alloc, &self.items, *id, ranges)?;
+                Ok(Effect::Reply(body))
+            }
+        }
+    }
+}

@@ -1,0 +1,137 @@
+//! Reading requests: the bodies of loads, dumps and checks, and what they mean.
+
+ghost use Rattle.std.specs.Prelude.{◌≡◌, ◌<◌, length, map, option_map, IfOk, IfSome};
+ghost use Rattle.lpt_memory.specs.Requests.{front_head, front_load_area, front_range, request_in};
+ghost use Rattle.lpt_memory.specs.Fields.{all_areas};
+ghost use Rattle.lpt_memory.specs.Seen.{load_area};
+
+use crate::fields::{long, octet, octets, word};
+use crate::request::{AreaRange, StoredArea};
+use std::alloc::{AllocError, Global};
+
+// The memory, the number of areas, and what is behind them.
+#[tactic(auto, unfolding(crate::specs::Requests::front_head))]
+fn head(body: &[u8]) -> Option<(u8, u8, &[u8])>
+    ensures { option_map (λ x. (x.0, x.1, x.2.now)) result ≡ front_head body.now }
+{
+    let (memory, rest) = octet(body)?;
+    let (count, rest) = octet(rest)?;
+    if count == 0 {
+        return None;
+    }
+    Some((memory, count, rest))
+}
+
+// The area of a load that stands first, and what is behind it.
+#[tactic(auto, unfolding(crate::specs::Requests::front_load_area))]
+fn stored_area(bytes: &[u8]) -> Option<(StoredArea<'_>, &[u8])>
+    ensures { option_map (λ x. (load_area x.0, x.1.now)) result ≡ front_load_area bytes.now }
+{
+    let (address, rest) = long(bytes)?;
+    let (len, rest) = word(rest)?;
+    let (octets, rest) = octets(rest, len)?;
+    let (checksum, rest) = word(rest)?;
+    let area = StoredArea {
+        address,
+        octets,
+        checksum,
+    };
+    Some((area, rest))
+}
+
+// The range that stands first, and what is behind it.
+#[tactic(auto, unfolding(crate::specs::Requests::front_range))]
+fn range(bytes: &[u8]) -> Option<(AreaRange, &[u8])>
+    ensures { option_map (λ x. (x.0, x.1.now)) result ≡ front_range bytes.now }
+{
+    let (address, rest) = long(bytes)?;
+    let (len, rest) = word(rest)?;
+    if len == 0 {
+        return None;
+    }
+    Some((AreaRange { address, len }, rest))
+}
+
+// So many areas of a load, with nothing behind them. The only error is want of memory.
+fn stored_areas(
+    alloc: Global,
+    count: u8,
+    bytes: &[u8],
+) -> Result<Option<Vec<StoredArea<'_>>>, AllocError>
+    ensures { IfOk result (λ r. option_map (λ v. map load_area v.items) r
+        ≡ all_areas front_load_area count bytes.now) }
+{
+    let mut areas = Vec::with_capacity(alloc, usize::from(count))?;
+    let mut rest = bytes;
+    for _ in 0..count {
+        let Some((area, behind)) = stored_area(rest) else {
+            return Ok(None);
+        };
+        areas.push(area)?;
+        rest = behind;
+    }
+    if !rest.is_empty() {
+        return Ok(None);
+    }
+    Ok(Some(areas))
+}
+
+// So many ranges, with nothing behind them. The only error is want of memory.
+fn ranges(alloc: Global, count: u8, bytes: &[u8]) -> Result<Option<Vec<AreaRange>>, AllocError>
+    ensures value { IfOk result (λ r. option_map (λ v. v.items) r
+        ≡ all_areas front_range count bytes.now) }
+    ensures counted { IfOk result (λ r. IfSome r (λ v. length v.items < 256)) }
+{
+    let mut ranges = Vec::with_capacity(alloc, usize::from(count))?;
+    let mut rest = bytes;
+    for _ in 0..count {
+        let Some((range, behind)) = range(rest) else {
+            return Ok(None);
+        };
+        ranges.push(range)?;
+        rest = behind;
+    }
+    if !rest.is_empty() {
+        return Ok(None);
+    }
+    Ok(Some(ranges))
+}
+
+// The request that a load's body is, its octets borrowed. The only error is want of memory.
+#[tactic(auto, unfolding(crate::specs::Requests::request_in))]
+pub(crate) fn load_request(
+    alloc: Global,
+    body: &[u8],
+) -> Result<Option<(u8, Vec<StoredArea<'_>>)>, AllocError>
+    ensures { IfOk result (λ r.
+        option_map (λ x. record { memory = x.0; areas = map load_area x.1.items }) r
+        ≡ request_in front_load_area body.now) }
+{
+    let Some((memory, count, rest)) = head(body) else {
+        return Ok(None);
+    };
+    let Some(areas) = stored_areas(alloc, count, rest)? else {
+        return Ok(None);
+    };
+    Ok(Some((memory, areas)))
+}
+
+// The request that the body of a dump or a check is. The only error is want of memory.
+#[tactic(auto, unfolding(crate::specs::Requests::request_in))]
+pub(crate) fn range_request(
+    alloc: Global,
+    body: &[u8],
+) -> Result<Option<(u8, Vec<AreaRange>)>, AllocError>
+    ensures value { IfOk result (λ r.
+        option_map (λ x. record { memory = x.0; areas = x.1.items }) r
+        ≡ request_in front_range body.now) }
+    ensures counted { IfOk result (λ r. IfSome r (λ x. length x.1.items < 256)) }
+{
+    let Some((memory, count, rest)) = head(body) else {
+        return Ok(None);
+    };
+    let Some(ranges) = ranges(alloc, count, rest)? else {
+        return Ok(None);
+    };
+    Ok(Some((memory, ranges)))
+}

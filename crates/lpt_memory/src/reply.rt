@@ -1,0 +1,86 @@
+//! The bodies that answer dumps and checks.
+
+ghost use Rattle.std.specs.Prelude.{◌≡◌, ◌+◌, ◌<◌, ◌≤◌, ◌∷◌, ◌++◌, length, IfOk, OnOk};
+ghost use Rattle.std.specs.List.{flat_map};
+ghost use Rattle.lpt_memory.specs.Answers.{octets_in, dump_area, check_area};
+ghost use Rattle.lpt_memory.specs.Ranges.{RangesFit};
+
+use crate::request::AreaRange;
+use lpt_packet::{Octets, crc16};
+use std::alloc::{AllocError, Global};
+
+// The octets of a memory in a range.
+fn octets_in<'a>(content: &'a [u8], range: &AreaRange) -> &'a [u8]
+    requires { range.now.address + range.now.len ≤ length content.now }
+    ensures { result.now ≡ octets_in content.now range.now }
+{
+    let start = range.address as usize;
+    &content[start..start + usize::from(range.len)]
+}
+
+// Adds an area of the answer to a dump. The only error is want of memory.
+fn push_dump_area(body: &mut Vec<u8>, content: &[u8], range: &AreaRange) -> Result<(), AllocError>
+    requires { range.now.address + range.now.len ≤ length content.now }
+    ensures { OnOk result (body.new.items ≡ body.old.items ++ dump_area content.now range.now) }
+{
+    let octets = octets_in(content, range);
+    body.extend_from_slice(&range.address.to_be_bytes())?;
+    body.extend_from_slice(&range.len.to_be_bytes())?;
+    body.extend_from_slice(octets)?;
+    body.extend_from_slice(&crc16(octets).to_be_bytes())?;
+    Ok(())
+}
+
+// Adds an area of the answer to a check. The only error is want of memory.
+fn push_check_area(body: &mut Vec<u8>, content: &[u8], range: &AreaRange) -> Result<(), AllocError>
+    requires { range.now.address + range.now.len ≤ length content.now }
+    ensures { OnOk result (body.new.items ≡ body.old.items ++ check_area content.now range.now) }
+{
+    let octets = octets_in(content, range);
+    body.extend_from_slice(&range.address.to_be_bytes())?;
+    body.extend_from_slice(&range.len.to_be_bytes())?;
+    body.extend_from_slice(&crc16(octets).to_be_bytes())?;
+    Ok(())
+}
+
+// The body that answers a dump. The only error is want of memory.
+pub(crate) fn dump(
+    alloc: Global,
+    id: u8,
+    ranges: &[AreaRange],
+    content: &[u8],
+) -> Result<Octets, AllocError>
+    requires counted { length ranges.now < 256 }
+    requires fit { RangesFit (length content.now) ranges.now }
+    ensures { IfOk result (λ o.
+        o ≡ id ∷ length ranges.now ∷ flat_map (dump_area content.now) ranges.now) }
+{
+    let mut body = Vec::new(alloc);
+    body.push(id)?;
+    body.push(ranges.len() as u8)?;
+    for range in ranges {
+        push_dump_area(&mut body, content, range)?;
+    }
+    Ok(Octets::from_vec(body))
+}
+
+// The body that answers a check. The only error is want of memory.
+pub(crate) fn check(
+    alloc: Global,
+    id: u8,
+    ranges: &[AreaRange],
+    content: &[u8],
+) -> Result<Octets, AllocError>
+    requires counted { length ranges.now < 256 }
+    requires fit { RangesFit (length content.now) ranges.now }
+    ensures { IfOk result (λ o.
+        o ≡ id ∷ length ranges.now ∷ flat_map (check_area content.now) ranges.now) }
+{
+    let mut body = Vec::new(alloc);
+    body.push(id)?;
+    body.push(ranges.len() as u8)?;
+    for range in ranges {
+        push_check_area(&mut body, content, range)?;
+    }
+    Ok(Octets::from_vec(body))
+}

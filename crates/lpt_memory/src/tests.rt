@@ -1,0 +1,184 @@
+//! Outside values: requests with faults and without, what they come to, and loads that are written.
+
+use crate::{Area, Effect, Memories, MemoryFault, Ticket, prepare, write_load};
+use lpt_packet::Octets;
+use lpt_pus::{TcHead, write_tc};
+use std::alloc::Global;
+use std::test::Fail;
+
+// A memory 1 of so many zero octets.
+fn memory(alloc: Global, size: usize) -> Result<Memories, Fail> {
+    let mut areas = Vec::new(alloc);
+    areas.push((1, Octets::from_vec(vec![in alloc; 0; size]?)))?;
+    Ok(Memories::new(areas)?)
+}
+
+// The packet of a telecommand of memory management.
+fn request(alloc: Global, subtype: u8, body: &[u8]) -> Result<Octets, Fail> {
+    let head = TcHead::new(100, 0, 0, 6, subtype, 1).ok_or("out of range")?;
+    Ok(write_tc(alloc, &head, body)?)
+}
+
+// What a message comes to.
+fn applied(alloc: Global, memories: &mut Memories, message: Octets) -> Result<Effect, Fail> {
+    let shape = memories.shape(alloc)?;
+    match prepare(alloc, &shape, 100, Ticket::new(0, 0, message)) {
+        Ok(prepared) => {
+            let reading = prepared.reading();
+            Ok(memories.apply(alloc, &reading)?)
+        }
+        Err(ticket) => {
+            ticket.abandon();
+            Err("no memory")?
+        }
+    }
+}
+
+// The code of the fault of a request to memory 1 of so many octets, or 0 where it has none.
+fn code(alloc: Global, size: usize, subtype: u8, body: &[u8]) -> Result<u8, Fail> {
+    let mut memories = memory(alloc, size)?;
+    match applied(alloc, &mut memories, request(alloc, subtype, body)?)? {
+        Effect::Silent => Err("silent")?,
+        Effect::Code(code) => Ok(code),
+        Effect::Done => Ok(0),
+        Effect::Reply(_) => Ok(0),
+    }
+}
+
+// The answer to a request to memory 1 of so many octets.
+fn reply(alloc: Global, size: usize, subtype: u8, body: &[u8]) -> Result<Octets, Fail> {
+    let mut memories = memory(alloc, size)?;
+    match applied(alloc, &mut memories, request(alloc, subtype, body)?)? {
+        Effect::Reply(body) => Ok(body),
+        Effect::Silent => Err("silent")?,
+        Effect::Code(_) => Err("a fault")?,
+        Effect::Done => Err("a load")?,
+    }
+}
+
+// The fault of a load of so many areas of so many octets, or 0 where it is written.
+fn load_fault(alloc: Global, count: u32, octets: usize) -> Result<u16, Fail> {
+    let head = TcHead::new(100, 0, 0, 6, 2, 1).ok_or("out of range")?;
+    let mut areas = Vec::new(alloc);
+    for address in 0..count {
+        areas.push(Area {
+            address,
+            octets: Octets::from_vec(vec![in alloc; 0; octets]?),
+        })?;
+    }
+    Ok(match write_load(alloc, &head, 1, &areas) {
+        Ok(_) => 0,
+        Err(fault) => fault.code(),
+    })
+}
+
+#[test]
+fn loads_at_the_end(rt: HostRuntime) -> Result<(), Fail> {
+    let body = [1, 1, 0, 0, 0, 252, 0, 4, 0xab, 0xcd, 0xef, 0x01, 0x04, 0xa2];
+    let mut memories = memory(rt.alloc(), 256)?;
+    let effect = applied(rt.alloc(), &mut memories, request(rt.alloc(), 2, &body)?)?;
+    assert!(rt; matches!(&effect, Effect::Done));
+    let content = memories.content(1).ok_or("no memory 1")?;
+    assert!(rt; content.len() == 256);
+    assert!(rt; content[250..] == [0, 0, 0xab, 0xcd, 0xef, 0x01]);
+    let past = [1, 1, 0, 0, 0, 253, 0, 4, 0xab, 0xcd, 0xef, 0x01, 0x04, 0xa2];
+    assert_eq!(rt; code(rt.alloc(), 256, 2, &past)?, 4);
+    Ok(())
+}
+
+#[test]
+fn overlapping_areas(rt: HostRuntime) -> Result<(), Fail> {
+    let body = [
+        1, 2, 0, 0, 0, 16, 0, 4, 0xab, 0xcd, 0xef, 0x01, 0x04, 0xa2, 0, 0, 0, 16, 0, 2, 0, 0, 0x1d,
+        0x0f,
+    ];
+    let mut memories = memory(rt.alloc(), 256)?;
+    let effect = applied(rt.alloc(), &mut memories, request(rt.alloc(), 2, &body)?)?;
+    assert!(rt; matches!(&effect, Effect::Done));
+    let content = memories.content(1).ok_or("no memory 1")?;
+    assert!(rt; content.len() == 256);
+    assert!(rt; content[16..20] == [0, 0, 0xef, 0x01]);
+    Ok(())
+}
+
+#[test]
+fn each_fault_in_its_order(rt: HostRuntime) -> Result<(), Fail> {
+    let alloc = rt.alloc();
+    assert_eq!(rt; code(alloc, 256, 1, &[])?, 1);
+    assert_eq!(rt; code(alloc, 256, 2, &[1, 0])?, 2);
+    assert_eq!(rt; code(alloc, 256, 2, &[0])?, 2);
+    assert_eq!(rt; code(alloc, 256, 5, &[9, 1, 0, 0, 0, 0, 0, 2])?, 3);
+    // A second area with the checksum 1d0e in place of 1d0f: nothing is loaded.
+    let body = [
+        1, 2, 0, 0, 0, 0, 0, 4, 0xab, 0xcd, 0xef, 0x01, 0x04, 0xa2, 0, 0, 0, 8, 0, 2, 0, 0, 0x1d,
+        0x0e,
+    ];
+    let mut memories = memory(alloc, 256)?;
+    let effect = applied(alloc, &mut memories, request(alloc, 2, &body)?)?;
+    assert!(rt; matches!(&effect, Effect::Code(5)));
+    let content = memories.content(1).ok_or("no memory 1")?;
+    assert!(rt; content.len() == 256);
+    assert!(rt; content[..4] == [0, 0, 0, 0]);
+    // What is no telecommand is passed over.
+    let noise = Octets::from_vec([0x18, 0x64, 0xc0].to_vec(alloc)?);
+    assert!(rt; matches!(&applied(alloc, &mut memories, noise)?, Effect::Silent));
+    Ok(())
+}
+
+#[test]
+fn dumps_fill_a_packet_and_no_more(rt: HostRuntime) -> Result<(), Fail> {
+    let alloc = rt.alloc();
+    let most = [1, 1, 0, 0, 0, 0, 0xff, 0xe9];
+    assert_eq!(rt; reply(alloc, 131072, 5, &most)?.as_slice().len(), 65523);
+    assert_eq!(rt; code(alloc, 131072, 5, &[1, 1, 0, 0, 0, 0, 0xff, 0xea])?, 6);
+    let two = [1, 2, 0, 0, 0, 0, 0x9c, 0x40, 0, 0, 0, 0, 0x9c, 0x40];
+    assert_eq!(rt; code(alloc, 131072, 5, &two)?, 6);
+    let outside = [1, 2, 0, 1, 0xff, 0xff, 0x9c, 0x40, 0, 0, 0, 0, 0x9c, 0x40];
+    assert_eq!(rt; code(alloc, 131072, 5, &outside)?, 4);
+    Ok(())
+}
+
+#[test]
+fn answers_dumps_and_checks(rt: HostRuntime) -> Result<(), Fail> {
+    let check = reply(rt.alloc(), 256, 9, &[1, 1, 0, 0, 0, 0, 0, 2])?;
+    assert!(rt; check.as_slice() == [1, 1, 0, 0, 0, 0, 0, 2, 0x1d, 0x0f].as_slice());
+    let dump = reply(rt.alloc(), 256, 5, &[1, 1, 0, 0, 0, 0x10, 0, 2])?;
+    assert!(rt; dump.as_slice() == [1, 1, 0, 0, 0, 0x10, 0, 2, 0, 0, 0x1d, 0x0f].as_slice());
+    Ok(())
+}
+
+#[test]
+fn writes_loads(rt: HostRuntime) -> Result<(), Fail> {
+    assert_eq!(rt; load_fault(rt.alloc(), 0, 1)?, 28);
+    assert_eq!(rt; load_fault(rt.alloc(), 255, 1)?, 0);
+    assert_eq!(rt; load_fault(rt.alloc(), 256, 1)?, 28);
+    assert_eq!(rt; load_fault(rt.alloc(), 1, 0)?, 28);
+    assert_eq!(rt; load_fault(rt.alloc(), 2, 40000)?, 27);
+    assert_eq!(rt; MemoryFault::BadMemories.code(), 25);
+    assert_eq!(rt; MemoryFault::BadArea.name(), "BadArea");
+    Ok(())
+}
+
+#[test]
+fn tells_readings_apart(rt: HostRuntime) -> Result<(), Fail> {
+    let alloc = rt.alloc();
+    let memories = memory(alloc, 256)?;
+    let other = memory(alloc, 512)?;
+    let message = request(alloc, 9, &[1, 1, 0, 0, 0, 0, 0, 2])?;
+    let shape = memories.shape(alloc)?;
+    match prepare(alloc, &shape, 100, Ticket::new(2, 3, message.copy()?)) {
+        Ok(prepared) => {
+            let same = prepared.is_of(2, 3, message.as_slice(), 100, &memories);
+            let boot = prepared.is_of(3, 3, message.as_slice(), 100, &memories);
+            let shape = prepared.is_of(2, 3, message.as_slice(), 100, &other);
+            let head = prepared.reading().head().ok_or("no telecommand")?;
+            assert!(rt; same && !boot && !shape);
+            assert_eq!(rt; head.request().value, 0x1864_c000);
+            Ok(())
+        }
+        Err(ticket) => {
+            ticket.abandon();
+            Err("no memory")?
+        }
+    }
+}
