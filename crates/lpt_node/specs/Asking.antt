@@ -2,9 +2,10 @@
 use Rattle.std.specs.Prelude.{Option}
 use Rattle.lpt_node.specs.declared.config.Config.{Config}
 use Rattle.lpt_node.specs.declared.ask.Ask.{Ask}
-use Rattle.lpt_node.specs.declared.ask.Ask.TheVariants.{Open, Send, Finish, Tick, Expire}
+use Rattle.lpt_node.specs.declared.ask.Ask.TheVariants.{Open, Send, Plain, Finish, Tick, Expire}
 use Rattle.lpt_node.specs.declared.fault.NodeFault.{NodeFault}
 use Rattle.lpt_node.specs.Nodes.{NodeData}
+use Rattle.lpt_node.specs.Requests.{refusal_plain}
 use Rattle.lpt_node.specs.Sending.{refusal_open, refusal_send, refusal_finish}
 use Rattle.lpt_node.specs.Times.{refusal_tick, refusal_expire}
 
@@ -12,6 +13,7 @@ use Rattle.lpt_node.specs.Times.{refusal_tick, refusal_expire}
 abbrev pub refusal_of : Config → NodeData → Ask → Option NodeFault
 refusal_of c d (Open id len) = refusal_open c d id len
 refusal_of c d (Send id k) = refusal_send c d id k
+refusal_of c d (Plain service subtype len) = refusal_plain c service subtype len
 refusal_of c d (Finish id) = refusal_finish d id
 refusal_of c d Tick = refusal_tick d
 refusal_of c d Expire = refusal_expire c d

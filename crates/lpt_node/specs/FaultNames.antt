@@ -1,7 +1,7 @@
 -- The numbers and names of a node's faults.
 use Rattle.std.specs.Prelude.{ℕ, List, codes}
 use Rattle.lpt_node.specs.declared.fault.NodeFault.{NodeFault}
-use Rattle.lpt_node.specs.declared.fault.NodeFault.TheVariants.{InUse, Short, Long, TooMany, NotOpen, NoSuchPart, NothingDue, ClockEnd, Memory}
+use Rattle.lpt_node.specs.declared.fault.NodeFault.TheVariants.{InUse, Short, Long, TooMany, NotOpen, NoSuchPart, NothingDue, ClockEnd, Memory, PartRequest}
 
 -- the fault's number
 abbrev pub code_of : NodeFault → ℕ
@@ -14,6 +14,7 @@ code_of NoSuchPart = 46
 code_of NothingDue = 50
 code_of ClockEnd = 56
 code_of Memory = 58
+code_of PartRequest = 60
 
 -- the fault's name
 abbrev pub name_of : NodeFault → List ℕ
@@ -26,3 +27,4 @@ name_of NoSuchPart = codes "NoSuchPart"
 name_of NothingDue = codes "NothingDue"
 name_of ClockEnd = codes "ClockEnd"
 name_of Memory = codes "Memory"
+name_of PartRequest = codes "PartRequest"

@@ -12,5 +12,6 @@ pub mod Nodes
 pub mod Origins
 pub mod OutgoingLists
 pub mod Receiving
+pub mod Requests
 pub mod Sending
 pub mod Times

@@ -9,6 +9,9 @@ pub enum Ask {
     Open(Name, usize),
     /// To send the part of this number of the open message of this name.
     Send(Name, u16),
+    /// To make a plain request of this service type and message subtype, with a body of so many
+    /// octets.
+    Plain(u8, u8, usize),
     /// To finish the outgoing transaction of this name.
     Finish(Name),
     /// To set the clock one tick on.

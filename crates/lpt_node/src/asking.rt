@@ -23,6 +23,7 @@ impl Node {
         match *ask {
             Ask::Open(id, length) => self.refusal_open(id, length),
             Ask::Send(id, k) => self.refusal_send(id, k),
+            Ask::Plain(service, subtype, length) => self.refusal_plain(service, subtype, length),
             Ask::Finish(id) => self.refusal_finish(id),
             Ask::Tick => self.refusal_tick(),
             Ask::Expire => self.refusal_expire(),

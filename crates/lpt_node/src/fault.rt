@@ -35,6 +35,9 @@ pub enum NodeFault {
     /// Want of memory.
     #[error("want of memory")]
     Memory,
+    /// The service type and the message subtype are those of a part.
+    #[error("the service type and the message subtype are those of a part")]
+    PartRequest,
 }
 
 impl NodeFault {
@@ -52,6 +55,7 @@ impl NodeFault {
             NodeFault::NothingDue => 50,
             NodeFault::ClockEnd => 56,
             NodeFault::Memory => 58,
+            NodeFault::PartRequest => 60,
         }
     }
 
@@ -69,6 +73,7 @@ impl NodeFault {
             NodeFault::NothingDue => "NothingDue",
             NodeFault::ClockEnd => "ClockEnd",
             NodeFault::Memory => "Memory",
+            NodeFault::PartRequest => "PartRequest",
         }
     }
 }

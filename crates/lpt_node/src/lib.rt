@@ -20,6 +20,7 @@ mod node;
 mod outcome;
 mod outgoing;
 mod parsed;
+mod requesting;
 mod sending;
 mod side;
 mod taken;

@@ -171,7 +171,7 @@ fn found_in_downlink(packet: &Packet<'_>) -> Found
 }
 
 // The kind of part that a telecommand carries.
-fn carried_up(service: u8, subtype: u8) -> Option<Kind>
+pub(crate) fn carried_up(service: u8, subtype: u8) -> Option<Kind>
     ensures { result ≡ carried_kind Up service subtype }
 {
     match (service, subtype) {

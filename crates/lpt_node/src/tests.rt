@@ -6,6 +6,7 @@ use crate::Outcome::*;
 use lpt_ledger::State;
 use lpt_packet::{Name, Octets};
 use lpt_part::Reason;
+use lpt_pus::AckFlags;
 use std::process::Abort;
 use std::test::Fail;
 
@@ -60,6 +61,23 @@ const REPORT: [u8; 23] = [
 /// TC[17,1]: a connection test.
 const PLAIN: [u8; 13] = [
     0x18, 0x64, 0xc0, 0x00, 0x00, 0x06, 0x20, 0x11, 0x01, 0x00, 0x01, 0xea, 0xa2,
+];
+
+/// The body of a request to load two octets: TC\[6,2\].
+const LOAD: [u8; 14] = [
+    0x01, 0x01, 0x00, 0x00, 0x00, 0x10, 0x00, 0x04, 0xab, 0xcd, 0xef, 0x01, 0x04, 0xa2,
+];
+
+/// The request of count 0, which asks for no report.
+const LOADING: [u8; 27] = [
+    0x18, 0x64, 0xc0, 0x00, 0x00, 0x14, 0x20, 0x06, 0x02, 0x00, 0x01, 0x01, 0x01, 0x00, 0x00, 0x00,
+    0x10, 0x00, 0x04, 0xab, 0xcd, 0xef, 0x01, 0x04, 0xa2, 0x7f, 0xba,
+];
+
+/// The request of count 1, which asks for reports of acceptance and of progress.
+const LOADING_AGAIN: [u8; 27] = [
+    0x18, 0x64, 0xc0, 0x01, 0x00, 0x14, 0x25, 0x06, 0x02, 0x00, 0x01, 0x01, 0x01, 0x00, 0x00, 0x00,
+    0x10, 0x00, 0x04, 0xab, 0xcd, 0xef, 0x01, 0x04, 0xa2, 0x84, 0x62,
 ];
 
 /// An idle packet.
@@ -248,5 +266,23 @@ fn other_packets_are_no_parts(rt: HostRuntime) -> Result<(), Fail> {
         assert_eq!(rt; is(&accepted.released, octets), outcome == plain);
         assert_eq!(rt; node.sender(7) == State::Closed, outcome == expired);
     }
+    Ok(())
+}
+
+#[test]
+fn ground_makes_plain_requests(rt: HostRuntime) -> Result<(), Fail> {
+    let mut node = Node::new(rt.alloc(), Side::Ground, &PASS)?;
+    let none = AckFlags::new(0).ok_or("no flags")?;
+    let some = AckFlags::new(5).ok_or("no flags")?;
+    let first = node.plain(none, 6, 2, &LOAD)?;
+    assert!(rt; first.as_slice() == LOADING.as_slice());
+    let refused = node.plain(none, 13, 11, &[0; 19]).err();
+    assert_eq!(rt; refused, Some(NodeFault::PartRequest));
+    let refused = node.plain(none, 6, 2, &[0; 19]).err();
+    assert_eq!(rt; refused, Some(NodeFault::Long));
+    let second = node.plain(some, 6, 2, &LOAD)?;
+    assert!(rt; second.as_slice() == LOADING_AGAIN.as_slice());
+    assert_eq!(rt; node.refusal(&Ask::Plain(13, 12, 18)), None);
+    assert_eq!(rt; NodeFault::PartRequest.code(), 60);
     Ok(())
 }

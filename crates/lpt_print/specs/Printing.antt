@@ -14,7 +14,7 @@ use Rattle.lpt_node.specs.declared.outcome.Why.{Why}
 use Rattle.lpt_node.specs.declared.outcome.Why.TheVariants.{Unreadable, Idle, ForeignApid, BadPart, Closed, NoRoom}
 use Rattle.lpt_world.specs.declared.entry.Release.{Release}
 use Rattle.lpt_world.specs.declared.event.Event.{Event}
-use Rattle.lpt_world.specs.declared.event.Event.TheVariants.{Open, Send, Finish, Take, Deliver, Tick, Expire}
+use Rattle.lpt_world.specs.declared.event.Event.TheVariants.{Open, Send, Plain, Finish, Take, Deliver, Tick, Expire}
 use Rattle.lpt_world.specs.declared.fault.StepFault.{StepFault}
 use Rattle.lpt_world.specs.declared.reply.Answer.{Answer}
 use Rattle.lpt_world.specs.declared.reply.Answer.TheVariants.{Opened, Put, Finished, Took, Delivered, Clock, Expired}
@@ -99,6 +99,7 @@ outcome_text d (Ignored why) = line_of (codes "ignored" ∷ why_name why ∷ [])
 abbrev pub answer_text : Event → Answer → List ℕ
 answer_text (Open d id m) (Opened parts) = opened_text d id parts
 answer_text (Send d id k) (Put n) = put_text n
+answer_text (Plain flags service subtype body) (Put n) = put_text n
 answer_text (Take l n) (Took k) = took_text k
 answer_text (Deliver l) (Delivered o) = outcome_text (lane_direction l) o
 answer_text (Finish d id) Finished = finished_text d id

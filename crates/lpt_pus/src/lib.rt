@@ -8,6 +8,7 @@
 //! clock, and neither header has a spare field.
 #![tactic(auto)]
 
+mod ack_flags;
 mod fault;
 pub mod laws;
 mod reading;
@@ -16,6 +17,7 @@ mod tc_head;
 mod tm_head;
 mod writing;
 
+pub use ack_flags::AckFlags;
 pub use fault::PusFault;
 pub use reading::{read_tc, read_tm};
 pub use request::RequestId;

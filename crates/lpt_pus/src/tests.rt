@@ -1,6 +1,6 @@
 //! Packets from outside, read and written again, and what is refused.
 
-use crate::{PusFault, TcHead, TmHead, read_tc, read_tm, write_tc, write_tm};
+use crate::{AckFlags, PusFault, TcHead, TmHead, read_tc, read_tm, write_tc, write_tm};
 use lpt_packet::{Packet, PacketKind, Seen, read_packet};
 use std::alloc::Global;
 use std::test::Fail;
@@ -150,4 +150,11 @@ fn fills_a_packet_and_no_more(rt: HostRuntime) -> Result<(), Fail> {
     assert_eq!(rt; tm_length(rt.alloc(), 65523)?, Some(65542));
     assert_eq!(rt; tm_length(rt.alloc(), 65524)?, None);
     Ok(())
+}
+
+#[test]
+fn there_are_four_flags(rt: HostRuntime) {
+    for (bits, wanted) in [(0, Some(0)), (15, Some(15)), (16, None)] {
+        assert_eq!(rt; AckFlags::new(bits).map(|flags| flags.bits()), wanted);
+    }
 }

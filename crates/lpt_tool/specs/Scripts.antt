@@ -12,7 +12,7 @@ use Rattle.lpt_words.specs.declared.grammar.Reading.{Reading}
 use Rattle.lpt_words.specs.declared.grammar.Reading.TheVariants.{Skipped, Asks, Unreadable}
 use Rattle.lpt_words.specs.Grammar.{reading_of}
 use Rattle.lpt_world.specs.declared.event.Event.{Event}
-use Rattle.lpt_world.specs.declared.event.Event.TheVariants.{Open, Send, Finish, Take, Deliver, Tick, Expire}
+use Rattle.lpt_world.specs.declared.event.Event.TheVariants.{Open, Send, Plain, Finish, Take, Deliver, Tick, Expire}
 use Rattle.lpt_world.specs.declared.fault.StepFault.{StepFault}
 use Rattle.lpt_world.specs.declared.reply.Reply.{Reply}
 use Rattle.lpt_world.specs.Journal.{sent}
@@ -74,6 +74,7 @@ packet_octets w n = option_map (λ p. p.octets) (slice_get (sent (history w)) n)
 abbrev pub does : Command → Shown → Ran
 does (command.Open d id m) w = stepped w (Open d id m)
 does (command.Send d id k) w = stepped w (Send d id k)
+does (command.Plain flags service subtype body) w = stepped w (Plain flags service subtype body)
 does (command.Take l n) w = stepped w (Take l n)
 does (command.Deliver l) w = stepped w (Deliver l)
 does (command.Finish d id) w = stepped w (Finish d id)

@@ -37,6 +37,14 @@ pub(crate) fn run_command<K: Sink>(
         Command::Send(direction, id, part) => {
             run_event(alloc, world, Event::Send(direction, id, part), out)
         }
+        Command::Plain(flags, service, subtype, body) => {
+            run_event(
+                alloc,
+                world,
+                Event::Plain(flags, service, subtype, body),
+                out,
+            )
+        }
         Command::Take(lane, number) => run_event(alloc, world, Event::Take(lane, number), out),
         Command::Deliver(lane) => run_event(alloc, world, Event::Deliver(lane), out),
         Command::Finish(direction, id) => {

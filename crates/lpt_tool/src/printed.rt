@@ -37,6 +37,7 @@ pub(crate) fn print_accepted(
             print_opened(alloc, *direction, *id, parts)
         }
         (Event::Send(_, _, _), Answer::Put(number)) => print_put(alloc, number),
+        (Event::Plain(_, _, _, _), Answer::Put(number)) => print_put(alloc, number),
         (Event::Finish(direction, id), Answer::Finished) => print_finished(alloc, *direction, *id),
         (Event::Expire(_), Answer::Expired(direction, id)) => print_expired(alloc, direction, id),
         (Event::Tick(_), Answer::Clock(ticks)) => print_clock(alloc, ticks),

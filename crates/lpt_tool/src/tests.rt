@@ -158,6 +158,25 @@ fn ground_reports_no_expiry(rt: HostRuntime) -> Result<(), Fail> {
 }
 
 #[test]
+fn a_plain_request_is_released_as_it_is(rt: HostRuntime) -> Result<(), Fail> {
+    let (ended, text) = run(
+        &rt,
+        USUAL,
+        "plain 0 6 2 0101000000100004abcdef0104a2\npass s1 0\nshow released\n",
+        "plain 0 13 9 -\n",
+    )?;
+    assert_eq!(rt; ended, Ok(1));
+    assert_eq!(rt;
+        text.as_slice(),
+        b"put 0\ntook 0\nplain 27\n\
+        plain 1864c000001420060200010101000000100004abcdef0104a27fba\n\
+        refused 60 PartRequest\n"
+            .as_slice()
+    );
+    Ok(())
+}
+
+#[test]
 fn ticks_before_a_refused_one_stay(rt: HostRuntime) -> Result<(), Fail> {
     let late = Config {
         clock: 4_294_967_293,

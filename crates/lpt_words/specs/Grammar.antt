@@ -1,5 +1,5 @@
 -- What each line of a script asks for.
-use Rattle.std.specs.Prelude.{◌≡◌, ℕ, ◌==◌, Bool, false, if◌then◌else◌, nat_lt, List, [], ◌∷◌, length, Option, Some, None, codes}
+use Rattle.std.specs.Prelude.{◌≡◌, ℕ, ◌==◌, Bool, false, if◌then◌else◌, nat_lt, List, [], ◌∷◌, length, ◌⊎◌, Option, Some, None, codes}
 use Rattle.std.specs.Option.{option_map, option_and_then}
 use Rattle.lpt_link.specs.declared.lane.Lane.{Lane}
 use Rattle.lpt_words.specs.declared.grammar.Command.{Command}
@@ -8,7 +8,7 @@ use Rattle.lpt_words.specs.declared.grammar.Reading.{Reading}
 use Rattle.lpt_words.specs.declared.grammar.Reading.TheVariants.{Skipped, Asks, Unreadable}
 use Rattle.lpt_words.specs.declared.names.Keyword.{Keyword}
 use Rattle.lpt_words.specs.declared.names.Keyword.TheVariants as key
-use Rattle.lpt_words.specs.Names.{keyword_of, direction_of, lane_of, node_of, u16_of, packet_number_of, count_of}
+use Rattle.lpt_words.specs.Names.{keyword_of, direction_of, lane_of, node_of, u16_of, u8_of, flags_of, packet_number_of, count_of}
 use Rattle.lpt_words.specs.Numbers.{is_word, octets_of}
 use Rattle.lpt_words.specs.Words.{words}
 
@@ -36,6 +36,16 @@ send_of (d ∷ i ∷ k ∷ []) = do
   part ← u16_of k
   Some (command.Send direction id part)
 send_of _ = None
+
+-- `plain FLAGS SERVICE SUBTYPE HEX`
+abbrev pub plain_of : List (List ℕ) → Option Command
+plain_of (f ∷ s ∷ t ∷ m ∷ []) = do
+  flags ← flags_of f
+  service ← u8_of s
+  subtype ← u8_of t
+  body ← octets_of m
+  Some (command.Plain flags service subtype body)
+plain_of _ = None
 
 -- `LANE N`
 abbrev pub lane_and_packet_of : List (List ℕ) → Option (Lane × ℕ)
@@ -105,13 +115,14 @@ arguments_of key.Show ws = show_of ws
 arguments_of key.Finish ws = finish_of ws
 arguments_of key.Tick ws = tick_of ws
 arguments_of key.Expire ws = expire_of ws
+arguments_of key.Plain ws = plain_of ws
 
 -- ---- lines
 
--- the first word is `open`: a line that takes memory
+-- the first word is `open` or `plain`: a line that takes memory
 abbrev pub TakesMemory : List (List ℕ) → Type 0
 TakesMemory [] = ⊥
-TakesMemory (w ∷ ws) = keyword_of w ≡ Some key.Open
+TakesMemory (w ∷ ws) = (keyword_of w ≡ Some key.Open) ⊎ (keyword_of w ≡ Some key.Plain)
 
 -- whether a word begins a comment
 abbrev pub is_comment : List ℕ → Bool

@@ -23,6 +23,7 @@ keyword_of word =
     else if is_word (codes "finish") word then Some key.Finish
     else if is_word (codes "tick") word then Some key.Tick
     else if is_word (codes "expire") word then Some key.Expire
+    else if is_word (codes "plain") word then Some key.Plain
     else None
 
 -- the direction that a word names
@@ -44,6 +45,14 @@ lane_of word =
 -- the number of a transaction or a part
 abbrev pub u16_of : List ℕ → Option ℕ
 u16_of word = number_of 65535 word
+
+-- acknowledgement flags
+abbrev pub flags_of : List ℕ → Option ℕ
+flags_of word = number_of 15 word
+
+-- a service type or a message subtype
+abbrev pub u8_of : List ℕ → Option ℕ
+u8_of word = number_of 255 word
 
 -- the number of a packet
 abbrev pub packet_number_of : List ℕ → Option ℕ

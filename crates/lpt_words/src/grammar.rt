@@ -1,18 +1,19 @@
 //! What each line of a script asks for.
 
-ghost use Rattle.std.specs.Prelude.{◌≡◌, IfOk, OnErr};
+ghost use Rattle.std.specs.Prelude.{◌≡◌, ◌⊎◌, IfOk, OnErr};
 ghost use Rattle.lpt_words.specs.Words.{words};
-ghost use Rattle.lpt_words.specs.Grammar.{lane_and_packet_of, open_of, send_of, take_of, deliver_of, pass_of, finish_of, tick_of, expire_of, show_of, show_whole_of, arguments_of, is_comment, words_reading, reading_of, TakesMemory};
+ghost use Rattle.lpt_words.specs.Grammar.{lane_and_packet_of, open_of, send_of, plain_of, take_of, deliver_of, pass_of, finish_of, tick_of, expire_of, show_of, show_whole_of, arguments_of, is_comment, words_reading, reading_of, TakesMemory};
 
 use crate::names::{
-    Keyword, read_count, read_direction, read_keyword, read_lane, read_node, read_packet_number,
-    read_u16,
+    Keyword, read_count, read_direction, read_flags, read_keyword, read_lane, read_node,
+    read_packet_number, read_u8, read_u16,
 };
 use crate::numbers::read_hex;
 use crate::words::{LONGEST_LINE, split_word};
 use lpt_link::Lane;
 use lpt_node::Side;
 use lpt_packet::{Direction, Name, Octets};
+use lpt_pus::AckFlags;
 use std::alloc::{AllocError, Global};
 
 /// What a line asks for.
@@ -22,6 +23,8 @@ pub enum Command {
     Open(Direction, Name, Octets),
     /// `send DIRECTION ID K`: puts the part of this number of an open message on the link.
     Send(Direction, Name, u16),
+    /// `plain FLAGS SERVICE SUBTYPE HEX`: puts a plain request of this body on the link.
+    Plain(AckFlags, u8, u8, Octets),
     /// `take LANE N`: takes the packet of this number into the lane's hand.
     Take(Lane, u64),
     /// `deliver LANE`: delivers the packet in the lane's hand.
@@ -57,15 +60,16 @@ pub enum Reading {
 ///
 /// A blank line and one whose first word begins with `#` are skipped, whatever else they hold. A
 /// line of more than 140,000 octets is unreadable, even one that would be skipped. The words of a
-/// command are in lower case: DIRECTION is `up` or `down`, LANE is `s1`, `s2`, `g1` or `g2`, NODE is `craft` or `ground`, ID and
-/// K are numbers to 65,535, N is one of at most ten digits, and HEX is as `read_hex` reads it.
-/// Nothing may follow the last word.
-/// Errors: want of memory, only at a line whose first word is `open`.
+/// command are in lower case: DIRECTION is `up` or `down`, LANE is `s1`, `s2`, `g1` or `g2`, NODE is
+/// `craft` or `ground`, ID and K are numbers to 65,535, FLAGS is one to 15, SERVICE and SUBTYPE are
+/// numbers to 255, N is one of at most ten digits, and HEX is as `read_hex` reads it. Nothing may
+/// follow the last word.
+/// Errors: want of memory, only at a line whose first word is `open` or `plain`.
 #[tactic(auto, unfolding(crate::specs::Grammar::reading_of))]
 pub fn read_line(alloc: Global, line: &[u8]) -> Result<Reading, AllocError>
     ensures says { IfOk result (λ r. r ≡ reading_of line.now) }
 
-    // Only the octets of a message take memory.
+    // Only the octets of a message or a request take memory.
     ensures memory { OnErr result (TakesMemory (words line.now)) }
 {
     if line.len() > LONGEST_LINE {
@@ -100,7 +104,7 @@ fn read_arguments(
     rest: &[u8],
 ) -> Result<Option<Command>, AllocError>
     ensures says { IfOk result (λ r. r ≡ arguments_of keyword (words rest.now)) }
-    ensures memory { OnErr result (keyword ≡ Keyword.Open) }
+    ensures memory { OnErr result ((keyword ≡ Keyword.Open) ⊎ (keyword ≡ Keyword.Plain)) }
 {
     match keyword {
         Keyword::Open => read_open(alloc, rest),
@@ -112,6 +116,7 @@ fn read_arguments(
         Keyword::Finish => Ok(read_finish(rest)),
         Keyword::Tick => Ok(read_tick(rest)),
         Keyword::Expire => Ok(read_expire(rest)),
+        Keyword::Plain => read_plain(alloc, rest),
     }
 }
 
@@ -157,6 +162,40 @@ fn read_send(rest: &[u8]) -> Option<Command>
     let id = read_u16(id)?;
     let part = read_u16(part)?;
     Some(Command::Send(direction, id, part))
+}
+
+// The words after `plain`.
+fn read_plain(alloc: Global, rest: &[u8]) -> Result<Option<Command>, AllocError>
+    ensures { IfOk result (λ r. r ≡ plain_of (words rest.now)) }
+{
+    let Some((flags, rest)) = split_word(rest) else {
+        return Ok(None);
+    };
+    let Some((service, rest)) = split_word(rest) else {
+        return Ok(None);
+    };
+    let Some((subtype, rest)) = split_word(rest) else {
+        return Ok(None);
+    };
+    let Some((body, rest)) = split_word(rest) else {
+        return Ok(None);
+    };
+    if split_word(rest).is_some() {
+        return Ok(None);
+    }
+    let Some(flags) = read_flags(flags) else {
+        return Ok(None);
+    };
+    let Some(service) = read_u8(service) else {
+        return Ok(None);
+    };
+    let Some(subtype) = read_u8(subtype) else {
+        return Ok(None);
+    };
+    let Some(body) = read_hex(alloc, body)? else {
+        return Ok(None);
+    };
+    Ok(Some(Command::Plain(flags, service, subtype, body)))
 }
 
 // The words after `take`.

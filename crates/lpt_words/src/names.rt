@@ -1,15 +1,19 @@
 //! The words of a line that name something, each by itself.
 
 ghost use Rattle.std.specs.Prelude.{◌≡◌};
-ghost use Rattle.lpt_words.specs.Names.{count_of, direction_of, keyword_of, lane_of, node_of, packet_number_of, u16_of};
+ghost use Rattle.lpt_words.specs.Names.{count_of, direction_of, flags_of, keyword_of, lane_of, node_of, packet_number_of, u16_of, u8_of};
 
 use crate::numbers::read_number;
 use lpt_link::Lane;
 use lpt_node::Side;
 use lpt_packet::Direction;
+use lpt_pus::AckFlags;
 
 /// The greatest number of ten digits.
 const GREATEST_NUMBER: u64 = 9_999_999_999;
+
+/// The greatest number of acknowledgement flags.
+const GREATEST_FLAGS: u64 = 15;
 
 /// The most ticks that one line can ask for.
 const MOST_TICKS: u64 = 100_000;
@@ -26,6 +30,7 @@ pub(crate) enum Keyword {
     Tick,
     Expire,
     Finish,
+    Plain,
 }
 
 // What the first word of a line asks for.
@@ -50,6 +55,8 @@ pub(crate) fn read_keyword(word: &[u8]) -> Option<Keyword>
         Some(Keyword::Tick)
     } else if word == b"expire".as_slice() {
         Some(Keyword::Expire)
+    } else if word == b"plain".as_slice() {
+        Some(Keyword::Plain)
     } else {
         None
     }
@@ -91,6 +98,22 @@ pub(crate) fn read_u16(word: &[u8]) -> Option<u16>
 {
     let number = read_number(word, u64::from(u16::MAX))?;
     Some(number as u16)
+}
+
+// Acknowledgement flags.
+pub(crate) fn read_flags(word: &[u8]) -> Option<AckFlags>
+    ensures { result ≡ flags_of word.now }
+{
+    let number = read_number(word, GREATEST_FLAGS)?;
+    AckFlags::new(number as u8)
+}
+
+// A service type or a message subtype.
+pub(crate) fn read_u8(word: &[u8]) -> Option<u8>
+    ensures { result ≡ u8_of word.now }
+{
+    let number = read_number(word, u64::from(u8::MAX))?;
+    Some(number as u8)
 }
 
 // The number of a packet.

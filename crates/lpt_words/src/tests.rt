@@ -4,6 +4,7 @@ use crate::{Command, Reading, read_hex, read_line, read_number, split_line, spli
 use lpt_link::Lane;
 use lpt_node::Side;
 use lpt_packet::{Direction, Octets};
+use lpt_pus::AckFlags;
 use std::test::Fail;
 
 #[test]
@@ -51,6 +52,16 @@ fn reads_the_octets_of_a_message(rt: HostRuntime) -> Result<(), Fail> {
     for word in ["", "0", "abc", "0g", "0x", "--", "00 "] {
         assert_eq!(rt; read_hex(rt.alloc(), word.as_bytes())?, None, "{word}");
     }
+    Ok(())
+}
+
+#[test]
+fn reads_plain_requests(rt: HostRuntime) -> Result<(), Fail> {
+    let flags = AckFlags::new(15).ok_or("no flags")?;
+    let body = Octets::from_vec(vec![in rt.alloc(); 0x01, 0xff]?);
+    let reading = read_line(rt.alloc(), b"plain 15 255 0 01fF".as_slice())?;
+    let plain = Command::Plain(flags, 255, 0, body);
+    assert_eq!(rt; reading, Reading::Asks(plain));
     Ok(())
 }
 
@@ -105,6 +116,12 @@ fn skips_comments_and_blank_lines_and_nothing_else(rt: HostRuntime) -> Result<()
         "tick craft 1 1",
         "expire",
         "expire craft 1",
+        "plain 0 6 2",
+        "plain 16 6 2 -",
+        "plain 0 256 2 -",
+        "plain 0 6 256 -",
+        "plain 0 6 2 0",
+        "plain 0 6 2 - 1",
     ];
     for line in unreadable {
         let reading = read_line(rt.alloc(), line.as_bytes())?;

@@ -16,7 +16,7 @@ use Rattle.lpt_node.specs.Receiving.{abort_head, table_of}
 use Rattle.lpt_reception.specs.Received.{Parts, contradicts, is_whole, spelled}
 use Rattle.lpt_table.specs.Tables.{TableState}
 use Rattle.lpt_world.specs.declared.event.Event.{Event}
-use Rattle.lpt_world.specs.declared.event.Event.TheVariants.{Open, Send, Finish, Take, Deliver, Tick, Expire}
+use Rattle.lpt_world.specs.declared.event.Event.TheVariants.{Open, Send, Plain, Finish, Take, Deliver, Tick, Expire}
 use Rattle.lpt_world.specs.declared.fault.StepFault.TheVariants.{NotOpen, NoSuchPart, NothingDue}
 use Rattle.lpt_world.specs.declared.reply.Answer.{Answer}
 use Rattle.lpt_world.specs.declared.reply.Answer.TheVariants.{Put, Delivered, Clock, Expired}
@@ -31,6 +31,7 @@ use Rattle.lpt_world.specs.Replies.{expired_now, expiry_puts, outcome_puts, send
 use Rattle.lpt_world.specs.Senders.{Sender, FreeSender, OpenSender, ClosedSender, sender, is_open}
 use Rattle.lpt_world.specs.State.{State, after, told_with, expired_as, quiet, put_one}
 use Rattle.lpt_world.specs.Shows.{Shows}
+use Rattle.lpt_world.proofs.PlainEvents.{shown_plain}
 use Rattle.lpt_world.proofs.CraftLanes.{shown_s1, shown_s2}
 use Rattle.lpt_world.proofs.DeliveryLemmas.{delivery, parted_delivers, judged_by, arrival_agrees}
 use Rattle.lpt_world.proofs.DueAgrees.{due_agrees}
@@ -69,6 +70,7 @@ shown_after c s h (Send Up id n) k e =
     sends_up c s h id n _ (sender h Up id) (enabled_open (is_open (sender h Up id)) _ e) (maps.get s.on_ground.sending.messages id) (k.up_sender.messages id) k
 shown_after c s h (Send Down id n) k e =
     sends_down c s h id n _ (sender h Down id) (enabled_open (is_open (sender h Down id)) _ e) (maps.get s.on_craft.sending.messages id) (k.down_sender.messages id) k
+shown_after c s h (Plain flags service subtype body) k e = shown_plain c s h flags service subtype body _ k
 shown_after c s h (Finish Up id) k e = shown_finish_up c s h id _ k
 shown_after c s h (Finish Down id) k e = shown_finish_down c s h id _ k
 shown_after c s h (Take l n) k e = shown_take c s h l n _ k
@@ -161,6 +163,7 @@ reply_agrees c s h (Open d id m) k e = refl
 reply_agrees c s h (Send d id n) k e =
     ap (λ j. put_one j (Put j)) (as_many_packets s.link (sent h) (is_held h) (hand h) k.link)
     ∙ reply_send c h d id n (length (sent h)) (sender h d id) (enabled_open (is_open (sender h d id)) _ e)
+reply_agrees c s h (Plain flags service subtype body) k e = ap (λ j. put_one j (Put j)) (as_many_packets s.link (sent h) (is_held h) (hand h) k.link)
 reply_agrees c s h (Finish d id) k e = refl
 reply_agrees c s h (Take l n) k e = refl
 reply_agrees c s h (Tick Ground) k e = ap (λ n. quiet (Clock (n + 1))) k.ground_clock

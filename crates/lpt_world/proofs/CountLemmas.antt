@@ -17,7 +17,7 @@ use Rattle.lpt_reception.specs.Received.{Kept as Kept', Parts, no_parts}
 use Rattle.lpt_link.specs.declared.lane.Lane.{Lane}
 use Rattle.lpt_world.specs.declared.entry.Opening.{Opening}
 use Rattle.lpt_world.specs.declared.event.Event.{Event}
-use Rattle.lpt_world.specs.declared.event.Event.TheVariants.{Open, Send, Finish, Take, Deliver, Tick, Expire}
+use Rattle.lpt_world.specs.declared.event.Event.TheVariants.{Open, Send, Plain, Finish, Take, Deliver, Tick, Expire}
 use Rattle.lpt_world.specs.declared.reply.Answer.{Answer}
 use Rattle.lpt_world.specs.declared.reply.Answer.TheVariants.{Opened, Put, Finished, Took, Delivered, Clock, Expired}
 use Rattle.lpt_world.specs.Journal.{History, with_all, same_side, receiver_side, in_hand}
@@ -147,6 +147,7 @@ heard_after_named (Deliver l) a r d id before names was e = go (same_direction (
   go false f = was f
 heard_after_named (Open e i m) a r d id before names was e' = was e'
 heard_after_named (Send e i k) a r d id before names was e' = was e'
+heard_after_named (Plain f s t b) a r d id before names was e' = was e'
 heard_after_named (Finish e i) a r d id before names was e' = was e'
 heard_after_named (Take l n) a r d id before names was e' = was e'
 heard_after_named (Tick s) a r d id before names was e' = was e'

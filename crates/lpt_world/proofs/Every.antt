@@ -13,7 +13,7 @@ use Rattle.lpt_link.specs.Lanes.{lane_direction}
 use Rattle.lpt_node.specs.declared.config.Config.{Config}
 use Rattle.lpt_node.specs.Arrivals.{NotRead, APart}
 use Rattle.lpt_world.specs.declared.event.Event.{Event}
-use Rattle.lpt_world.specs.declared.event.Event.TheVariants.{Open, Send, Finish, Take, Deliver, Tick, Expire}
+use Rattle.lpt_world.specs.declared.event.Event.TheVariants.{Open, Send, Plain, Finish, Take, Deliver, Tick, Expire}
 use Rattle.lpt_world.specs.declared.fault.StepFault.TheVariants.{HandEmpty}
 use Rattle.lpt_world.specs.Journal.{Recorded, History, hand, arrival_at, in_hand}
 use Rattle.lpt_world.specs.Releases.{released_by}
@@ -24,6 +24,7 @@ use Rattle.lpt_world.proofs.TestLemmas.{one_passes, no_place}
 use Rattle.lpt_world.proofs.Steps.{IsSound, Owes}
 use Rattle.lpt_world.proofs.Soundness.{hand_current, sound_step}
 use Rattle.lpt_world.proofs.Events.{open_owes, send_owes, finish_owes, take_owes}
+use Rattle.lpt_world.proofs.PlainEvents.{plain_owes}
 use Rattle.lpt_world.proofs.TimeEvents.{tick_owes, expire_owes}
 use Rattle.lpt_world.proofs.Deliveries.{delivery_sound, deliver_owes}
 use Rattle.lpt_world.proofs.Releasing.{OwesReleases, ArePast, opening_is}
@@ -50,6 +51,8 @@ pub owes : (c : Config) (h : History) (e : Event)
     → Owes c h (entry c h e)
 owes c h (Open d id m) good sound can = open_owes c h d id m sound can.accepted
 owes c h (Send d id k) good sound can = send_owes c h d id k good sound can.in_range.0 can.accepted
+owes c h (Plain flags service subtype body) good sound can =
+    plain_owes c h flags service subtype body good sound can.in_range can.accepted
 owes c h (Finish d id) good sound can = finish_owes c h d id sound
 owes c h (Tick side) good sound can = tick_owes c h side sound can.accepted
 owes c h (Expire side) good sound can = expire_owes c h side good sound

@@ -11,7 +11,7 @@ use Rattle.lpt_part.specs.Parts.{body_of, part_verdict}
 use Rattle.lpt_node.specs.declared.config.Config.{Config}
 use Rattle.lpt_node.specs.Arrivals.{arrival}
 use Rattle.lpt_world.specs.declared.event.Event.{Event}
-use Rattle.lpt_world.specs.declared.event.Event.TheVariants.{Open, Send, Finish}
+use Rattle.lpt_world.specs.declared.event.Event.TheVariants.{Open, Send, Plain, Finish}
 use Rattle.lpt_node.specs.Configs.{IsConfig}
 use Rattle.lpt_world.specs.Replies.{recorded, refusal, IsEvent, Legal}
 use Rattle.lpt_world.proofs.TestLemmas.{and_l, and_r, not_true, none_is}
@@ -37,6 +37,9 @@ are_octets (x ∷ b) h (suc i) =
 abbrev in_range : Event → Bool
 in_range (Open d id m) = nat_lt id 65536 && list_all (λ x. nat_lt x 256) m
 in_range (Send d id k) = nat_lt id 65536 && nat_lt k 65536
+in_range (Plain flags service subtype body) =
+    nat_lt flags 16
+    && (nat_lt service 256 && (nat_lt subtype 256 && list_all (λ x. nat_lt x 256) body))
 in_range (Finish d id) = nat_lt id 65536
 in_range _ = true
 
@@ -49,6 +52,16 @@ is_event (Send d id k) h = (
   small id 65536 (and_l (nat_lt id 65536) (nat_lt k 65536) h),
   small k 65536 (and_r (nat_lt id 65536) (nat_lt k 65536) h),
 )
+is_event (Plain flags service subtype body) h =
+    let octets = list_all (λ x. nat_lt x 256) body in
+    let rest = nat_lt subtype 256 && octets in
+    let behind = and_r (nat_lt flags 16) (nat_lt service 256 && rest) h in
+    let last = and_r (nat_lt service 256) rest behind in (
+      small flags 16 (and_l (nat_lt flags 16) (nat_lt service 256 && rest) h),
+      small service 256 (and_l (nat_lt service 256) rest behind),
+      small subtype 256 (and_l (nat_lt subtype 256) octets last),
+      are_octets body (and_r (nat_lt subtype 256) octets last),
+    )
 is_event (Finish d id) h = small id 65536 h
 is_event e h = tt
 

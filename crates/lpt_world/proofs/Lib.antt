@@ -22,6 +22,8 @@ pub mod MadeLemmas
 pub mod MapLemmas
 pub mod OnceLemmas
 pub mod OutcomeLemmas
+pub mod PlainEvents
+pub mod PlainRows
 pub mod Played
 pub mod ReceiverLemmas
 pub mod RefusalLemmas

@@ -17,11 +17,12 @@ use Rattle.lpt_link.specs.Links.{LinkData, is_held_for}
 use Rattle.lpt_node.specs.declared.config.Config.{Config}
 use Rattle.lpt_node.specs.declared.fault.NodeFault.TheVariants as node
 use Rattle.lpt_node.specs.Nodes.{Sending}
+use Rattle.lpt_node.specs.Requests.{is_part_request, is_too_long}
 use Rattle.lpt_node.specs.Sending.{refusal_open_in, refusal_send_of, refusal_finish_in}
 use Rattle.lpt_node.specs.Times.{refusal_expire_of}
 use Rattle.lpt_world.specs.declared.event.Event.{Event}
-use Rattle.lpt_world.specs.declared.event.Event.TheVariants.{Open, Send, Finish, Take, Deliver, Tick, Expire}
-use Rattle.lpt_world.specs.declared.fault.StepFault.TheVariants.{InUse, Short, Long, TooMany, NotOpen, NoSuchPart, NotHeld, HandFull, HandEmpty, NothingDue, ClockEnd}
+use Rattle.lpt_world.specs.declared.event.Event.TheVariants.{Open, Send, Plain, Finish, Take, Deliver, Tick, Expire}
+use Rattle.lpt_world.specs.declared.fault.StepFault.TheVariants.{InUse, Short, Long, TooMany, NotOpen, NoSuchPart, NotHeld, HandFull, HandEmpty, NothingDue, ClockEnd, PartRequest}
 use Rattle.lpt_world.specs.Journal.{History, sent, is_held, goes, hand}
 use Rattle.lpt_world.specs.Receivers.{is_closed, clock}
 use Rattle.lpt_world.specs.Expiry.{due}
@@ -83,6 +84,13 @@ refuses_finish FreeSender = refl
 refuses_finish (OpenSender m) = refl
 refuses_finish ClosedSender = refl
 
+-- ---- plain requests
+
+by_request : (part long : Bool) → option_map node_fault (if part then Some node.PartRequest else if long then Some node.Long else None) ≡ first_fault ((part, PartRequest) ∷ (long, Long) ∷ [])
+by_request true long = refl
+by_request false true = refl
+by_request false false = refl
+
 -- ---- taking and delivering
 
 held_for : (dir : Direction) (o : Option LinkPacket) → option_map_or (λ p. p.held && same_direction p.direction dir) o false
@@ -123,6 +131,7 @@ refusal_agrees c s h (Open Up id m) k = open_agrees c s.on_ground.sending h Up _
 refusal_agrees c s h (Open Down id m) k = open_agrees c s.on_craft.sending h Down _ id (length m) k.down_sender
 refusal_agrees c s h (Send Up id n) k = ap (λ o. option_map node_fault (refusal_send_of c n o)) (k.up_sender.messages id) ∙ refuses_send c n (sender h Up id)
 refusal_agrees c s h (Send Down id n) k = ap (λ o. option_map node_fault (refusal_send_of c n o)) (k.down_sender.messages id) ∙ refuses_send c n (sender h Down id)
+refusal_agrees c s h (Plain flags service subtype body) k = by_request (is_part_request service subtype) (is_too_long c (length body))
 refusal_agrees c s h (Finish Up id) k = ap (λ m. option_map node_fault (refusal_finish_in (state_of m))) (k.up_sender.ledger id) ∙ refuses_finish (sender h Up id)
 refusal_agrees c s h (Finish Down id) k = ap (λ m. option_map node_fault (refusal_finish_in (state_of m))) (k.down_sender.ledger id) ∙ refuses_finish (sender h Down id)
 refusal_agrees c s h (Take l n) k =

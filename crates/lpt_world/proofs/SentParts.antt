@@ -1,5 +1,5 @@
 -- A part that a node puts on the link arrives as that part, and an abortion report as one.
-use Rattle.std.proofs.Common.{◌≡◌, ◌∙◌, ap, sym, refl, ℕ, ◌^◌, ◌<◌, ◌≤◌, if◌then◌else◌, length, Some, Ok, arith}
+use Rattle.std.proofs.Common.{◌≡◌, ◌∙◌, ap, sym, refl, ℕ, ◌+◌, ◌^◌, ◌<◌, ◌≤◌, false, if◌then◌else◌, List, length, Option, Some, Ok, arith}
 use Rattle.std.specs.Option.{option_map_or}
 use Rattle.std.specs.Result.{result_ok}
 use Rattle.lpt_packet.specs.declared.direction.Direction.{Direction}
@@ -8,7 +8,7 @@ use Rattle.lpt_packet.specs.Names.{Name}
 use Rattle.lpt_packet.specs.Numbers.{word_at}
 use Rattle.lpt_packet.specs.Packets.{Fields, spelling}
 use Rattle.lpt_packet.specs.Ranges.{InRange}
-use Rattle.lpt_packet.proofs.Readings.{eq_true}
+use Rattle.lpt_packet.proofs.Readings.{eq_true, not_lt}
 use Rattle.lpt_packet.proofs.SightLemmas.{seen_again}
 use Rattle.lpt_pus.specs.Commands.{Command, CommandFits, packet_of, tc_field}
 use Rattle.lpt_pus.specs.Telemetry.{Telemetry, TelemetryFits, tm_packet_of, tm_field}
@@ -26,9 +26,11 @@ use Rattle.lpt_node.specs.declared.config.Config.{Config}
 use Rattle.lpt_node.specs.declared.side.Side.{Side}
 use Rattle.lpt_node.specs.declared.side.Side.TheVariants.{Ground, Craft}
 use Rattle.lpt_node.specs.Arrivals.{NotRead, Foreign, ARequest, NoPart, APart, AnAbort, report_arrival, part_subtype, carried_kind, part_arrival, command_arrival, telemetry_arrival, packet_arrival, sight_arrival, arrival}
-use Rattle.lpt_node.specs.MadePackets.{command_made, telemetry_made, part_made, abort_made}
+use Rattle.lpt_node.specs.MadePackets.{command_made, telemetry_made, part_made, abort_made, tc_made}
+use Rattle.lpt_node.specs.Requests.{is_part_request, is_too_long}
 use Rattle.lpt_world.specs.Journal.{arrival_in}
 use Rattle.lpt_node.specs.Configs.{IsConfig}
+use Rattle.lpt_world.proofs.TestLemmas.{none_is}
 
 -- ---- subtypes
 
@@ -155,6 +157,36 @@ part_arrives c Down count counter time q good counts i fits =
     ∙ ap (λ o. option_map_or (part_arrival c.part_size (body_of q)) o (report_arrival t))
     (carried_kind-part_subtype Down q.kind)
     ∙ body_arrives c.part_size q i fits
+
+-- ---- plain requests
+
+-- a plain request arrives as a request
+pub plain_arrives : (c : Config) (count flags service subtype : ℕ) (body : List ℕ)
+    → IsConfig c
+    → count ≤ 16383
+    → flags < 16
+    → service < 256
+    → subtype < 256
+    → is_part_request service subtype ≡ false
+    → is_too_long c (length body) ≡ false
+    → arrival_in c Up (tc_made c count flags service subtype body)
+    ≡ ARequest (tc_made c count flags service subtype body)
+plain_arrives c count flags service subtype body good counts f s t no_part fits =
+    let short : length body + 13 ≤ c.part_size + 23 =
+    not_lt (c.part_size + 23) (length body + 13) fits in
+    let in_range : CommandFits (command_made c count flags service subtype body) = record {
+      head_fits =
+          record { apid_fits = good.apid_fits; count_fits = counts; flags_fit = omega arith };
+      service_fits = s;
+      subtype_fits = t;
+      source_fits = good.source_fits;
+      body_fits = omega (arith, short, good.part_size_fits.1);
+    } in
+    command_arrives c.apid c.part_size (command_made c count flags service subtype body) in_range
+    refl
+    ∙ ap (λ (o : Option Kind). option_map_or (part_arrival c.part_size body) o
+    (ARequest (tc_made c count flags service subtype body)))
+    (none_is (carried_kind Up service subtype) no_part)
 
 -- ---- abortion reports
 

@@ -1,7 +1,7 @@
 -- The numbers and names of the faults of a world.
 use Rattle.std.specs.Prelude.{ℕ, List, codes}
 use Rattle.lpt_world.specs.declared.fault.StepFault.{StepFault}
-use Rattle.lpt_world.specs.declared.fault.StepFault.TheVariants.{InUse, Short, Long, TooMany, NotOpen, NoSuchPart, NotHeld, HandFull, HandEmpty, NothingDue, ClockEnd, NoSuchSeat, Memory}
+use Rattle.lpt_world.specs.declared.fault.StepFault.TheVariants.{InUse, Short, Long, TooMany, NotOpen, NoSuchPart, NotHeld, HandFull, HandEmpty, NothingDue, ClockEnd, NoSuchSeat, Memory, PartRequest}
 
 -- the fault's number
 abbrev pub code_of : StepFault → ℕ
@@ -18,6 +18,7 @@ code_of NothingDue = 50
 code_of ClockEnd = 56
 code_of NoSuchSeat = 57
 code_of Memory = 58
+code_of PartRequest = 60
 
 -- the fault's name
 abbrev pub name_of : StepFault → List ℕ
@@ -34,3 +35,4 @@ name_of NothingDue = codes "NothingDue"
 name_of ClockEnd = codes "ClockEnd"
 name_of NoSuchSeat = codes "NoSuchSeat"
 name_of Memory = codes "Memory"
+name_of PartRequest = codes "PartRequest"

@@ -15,16 +15,17 @@ use Rattle.lpt_node.specs.declared.outcome.Outcome.TheVariants.{Broken}
 use Rattle.lpt_node.specs.declared.side.Side.{Side}
 use Rattle.lpt_node.specs.declared.side.Side.TheVariants.{Ground, Craft}
 use Rattle.lpt_node.specs.Arrivals.{part_subtype}
-use Rattle.lpt_node.specs.MadePackets.{nth_part, part_made, abort_made}
+use Rattle.lpt_node.specs.MadePackets.{nth_part, part_made, abort_made, tc_made}
+use Rattle.lpt_node.specs.Requests.{is_part_request, is_too_long}
 use Rattle.lpt_world.specs.declared.event.Event.{Event}
-use Rattle.lpt_world.specs.declared.event.Event.TheVariants.{Open, Send, Finish, Take, Deliver, Tick, Expire}
+use Rattle.lpt_world.specs.declared.event.Event.TheVariants.{Open, Send, Plain, Finish, Take, Deliver, Tick, Expire}
 use Rattle.lpt_world.specs.declared.reply.Answer.{Answer}
 use Rattle.lpt_world.specs.declared.reply.Answer.TheVariants.{Opened, Put, Finished, Took, Delivered, Clock, Expired}
 use Rattle.lpt_world.specs.declared.reply.Puts.{Puts}
 use Rattle.lpt_world.specs.declared.reply.Reply.{Reply}
 use Rattle.lpt_world.specs.declared.entry.Opening.{Opening}
 use Rattle.lpt_world.specs.declared.fault.StepFault.{StepFault}
-use Rattle.lpt_world.specs.declared.fault.StepFault.TheVariants.{InUse, Short, Long, TooMany, NotOpen, NoSuchPart, NotHeld, HandFull, HandEmpty, NothingDue, ClockEnd}
+use Rattle.lpt_world.specs.declared.fault.StepFault.TheVariants.{InUse, Short, Long, TooMany, NotOpen, NoSuchPart, NotHeld, HandFull, HandEmpty, NothingDue, ClockEnd, PartRequest}
 use Rattle.lpt_world.specs.Journal.{SentPacket, Recorded, History, sent, is_held, goes, hand, receiver_side, direction_to}
 use Rattle.lpt_world.specs.Senders.{Sender, FreeSender, OpenSender, ClosedSender, sender, is_free, is_open, open_count, count, type_counter}
 use Rattle.lpt_world.specs.Receivers.{clock}
@@ -42,6 +43,7 @@ expired_now d (Some id) = Expired d id
 abbrev pub answer : Config → History → Event → Answer
 answer c h (Open d id m) = Opened (part_count (length m) c.part_size)
 answer c h (Send d id k) = Put (length (sent h))
+answer c h (Plain flags service subtype body) = Put (length (sent h))
 answer c h (Finish d id) = Finished
 answer c h (Take l n) = Took n
 answer c h (Deliver l) = Delivered (outcome c h l)
@@ -61,6 +63,15 @@ send_puts c h d id k (OpenSender m) =
     record { direction = d; octets = part_packet c h d (nth_part c.part_size id m k) } ∷ []
 send_puts c h d id k FreeSender = []
 send_puts c h d id k ClosedSender = []
+
+-- the octets of a plain request's packet that ground makes now
+abbrev pub plain_packet : Config → History → (flags service subtype : ℕ) → List ℕ → List ℕ
+plain_packet c h flags service subtype body = tc_made c (count h Up) flags service subtype body
+
+-- the packet of a plain request
+abbrev pub plain_puts : Config → History → (flags service subtype : ℕ) → List ℕ → List SentPacket
+plain_puts c h flags service subtype body =
+    record { direction = Up; octets = plain_packet c h flags service subtype body } ∷ []
 
 -- the abortion report that the spacecraft puts when it ends a reception so; ground puts none
 abbrev pub abort_puts : Config → History → Side → Name → Reason → List SentPacket
@@ -84,6 +95,7 @@ expiry_puts c h side (Some id) = abort_puts c h side id reason.Expired
 -- the packets that an event puts on the link
 abbrev pub puts : Config → History → Event → List SentPacket
 puts c h (Send d id k) = send_puts c h d id k (sender h d id)
+puts c h (Plain flags service subtype body) = plain_puts c h flags service subtype body
 puts c h (Deliver l) = outcome_puts c h (receiver_side (lane_direction l)) (outcome c h l)
 puts c h (Expire side) = expiry_puts c h side (due c h (direction_to side))
 puts c h _ = []
@@ -135,6 +147,9 @@ reasons c h (Open d id m) =
 reasons c h (Send d id k) =
     (not (is_open (sender h d id)), NotOpen)
     ∷ ((k == 0) || nat_lt (parts_open c (sender h d id)) k, NoSuchPart) ∷ []
+reasons c h (Plain flags service subtype body) =
+    (is_part_request service subtype, PartRequest)
+    ∷ (is_too_long c (length body), Long) ∷ []
 reasons c h (Finish d id) = (not (is_open (sender h d id)), NotOpen) ∷ []
 reasons c h (Take l n) =
     (is_some (hand h l), HandFull)
@@ -153,6 +168,8 @@ refusal c h e = first_fault (reasons c h e)
 abbrev pub IsEvent : Event → Type 0
 IsEvent (Open d id m) = (id < 65536) × IsOctets m
 IsEvent (Send d id k) = (id < 65536) × (k < 65536)
+IsEvent (Plain flags service subtype body) =
+    (flags < 16) × (service < 256) × (subtype < 256) × IsOctets body
 IsEvent (Finish d id) = id < 65536
 IsEvent _ = ⊤
 

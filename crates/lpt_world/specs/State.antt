@@ -3,7 +3,7 @@
 use Rattle.std.specs.Prelude.{◌≡◌, ℕ, List, [], ◌∷◌, ◌++◌, length, Option, Some, None}
 use Rattle.std.specs.Option.{option_map, option_map_or}
 use Rattle.lpt_packet.specs.declared.direction.Direction.{Direction}
-use Rattle.lpt_packet.specs.declared.direction.Direction.TheVariants.{Down}
+use Rattle.lpt_packet.specs.declared.direction.Direction.TheVariants.{Up, Down}
 use Rattle.lpt_packet.specs.Names.{Name}
 use Rattle.lpt_part.specs.Splitting.{part_count}
 use Rattle.lpt_link.specs.declared.fault.LinkFault.{LinkFault}
@@ -24,12 +24,13 @@ use Rattle.lpt_node.specs.declared.side.Side.TheVariants.{Ground, Craft}
 use Rattle.lpt_node.specs.Accepting.{accepted}
 use Rattle.lpt_node.specs.Arrivals.{Arrival, NotRead}
 use Rattle.lpt_node.specs.Nodes.{NodeData, no_data}
+use Rattle.lpt_node.specs.Requests.{refusal_plain, plain_made}
 use Rattle.lpt_node.specs.Sending.{refusal_open, refusal_send, refusal_finish, opened as node_opened, sent as node_sent, closed as node_closed}
 use Rattle.lpt_node.specs.Times.{refusal_tick, ticked, refusal_expire, expired}
 use Rattle.lpt_world.specs.declared.entry.Opening.{Opening}
 use Rattle.lpt_world.specs.declared.entry.Release.{Release}
 use Rattle.lpt_world.specs.declared.event.Event.{Event}
-use Rattle.lpt_world.specs.declared.event.Event.TheVariants.{Open, Send, Finish, Take, Deliver, Tick, Expire}
+use Rattle.lpt_world.specs.declared.event.Event.TheVariants.{Open, Send, Plain, Finish, Take, Deliver, Tick, Expire}
 use Rattle.lpt_world.specs.declared.fault.StepFault.{StepFault}
 use Rattle.lpt_world.specs.declared.fault.StepFault.TheVariants as step
 use Rattle.lpt_world.specs.declared.reply.Answer.{Answer}
@@ -72,6 +73,7 @@ node_fault node.NoSuchPart = step.NoSuchPart
 node_fault node.NothingDue = step.NothingDue
 node_fault node.ClockEnd = step.ClockEnd
 node_fault node.Memory = step.Memory
+node_fault node.PartRequest = step.PartRequest
 
 -- the link's fault as the world tells it
 abbrev pub link_fault : LinkFault → StepFault
@@ -84,6 +86,8 @@ link_fault link.Memory = step.Memory
 abbrev pub refusal_of : Config → State → Event → Option StepFault
 refusal_of c s (Open d id m) = option_map node_fault (refusal_open c (end_of s (sender_side d)) id (length m))
 refusal_of c s (Send d id k) = option_map node_fault (refusal_send c (end_of s (sender_side d)) id k)
+refusal_of c s (Plain flags service subtype body) =
+    option_map node_fault (refusal_plain c service subtype (length body))
 refusal_of c s (Finish d id) = option_map node_fault (refusal_finish (end_of s (sender_side d)) id)
 refusal_of c s (Take l n) = option_map link_fault (refusal_take s.link l n)
 refusal_of c s (Deliver l) = option_map link_fault (refusal_drop s.link l)
@@ -119,6 +123,17 @@ sent_on s d id x = (
 
 abbrev pub after_send : Config → State → Direction → Name → ℕ → State × Reply
 after_send c s d id k = sent_on s d id (node_sent (sender_side d) c (end_of s (sender_side d)) id k)
+
+-- a plain request's packet is put, and ground is this
+abbrev pub requested_on : State → NodeData × List ℕ → State × Reply
+requested_on s x = (
+  record s { on_ground = x.0; link = after_put s.link Up None x.1 },
+  put_one (length s.link.packets) (Put (length s.link.packets)),
+)
+
+abbrev pub after_plain : Config → State → (flags service subtype : ℕ) → List ℕ → State × Reply
+after_plain c s flags service subtype body =
+    requested_on s (plain_made c s.on_ground flags service subtype body)
 
 -- a sender is closed
 abbrev pub after_finish : State → Direction → Name → State × Reply
@@ -197,6 +212,7 @@ after_expire c s side = expired_as s side (expired side c (end_of s side))
 abbrev pub after : Config → ℕ → State → Event → State × Reply
 after c place s (Open d id m) = after_open c place s d id m
 after c place s (Send d id k) = after_send c s d id k
+after c place s (Plain flags service subtype body) = after_plain c s flags service subtype body
 after c place s (Finish d id) = after_finish s d id
 after c place s (Take l n) = after_take s l n
 after c place s (Deliver l) = after_deliver c place s l

@@ -64,6 +64,10 @@ impl Ends {
                 self.ask(sender(*direction), Ask::Open(*id, message.as_slice().len()))
             }
             Event::Send(direction, id, k) => self.ask(sender(*direction), Ask::Send(*id, *k)),
+            Event::Plain(_, service, subtype, body) => {
+                let ask = Ask::Plain(*service, *subtype, body.as_slice().len());
+                self.ask(Side::Ground, ask)
+            }
             Event::Finish(direction, id) => self.ask(sender(*direction), Ask::Finish(*id)),
             Event::Take(lane, n) => self.link.refusal_take(*lane, *n).map(of_link),
             Event::Deliver(lane) => self.link.refusal_drop(*lane).map(of_link),
@@ -94,6 +98,9 @@ impl Ends {
         match event {
             Event::Open(direction, id, message) => self.open(place, *direction, *id, message),
             Event::Send(direction, id, k) => self.send(*direction, *id, *k),
+            Event::Plain(flags, service, subtype, body) => {
+                self.plain(*flags, *service, *subtype, body)
+            }
             Event::Finish(direction, id) => Ok(self.finish(*direction, *id)),
             Event::Take(lane, n) => Ok(self.take(*lane, *n)),
             Event::Deliver(lane) => self.deliver(place, *lane),
@@ -310,7 +317,7 @@ pub(crate) fn quiet(answer: Answer) -> Reply
 }
 
 // The reply of an event that put one packet, which got this number.
-fn put_one(n: u64, answer: Answer) -> Reply
+pub(crate) fn put_one(n: u64, answer: Answer) -> Reply
     ensures { result ≡ put_one_reply n answer }
 {
     Reply {
@@ -320,7 +327,12 @@ fn put_one(n: u64, answer: Answer) -> Reply
 }
 
 // Puts a packet for which there is room.
-fn put_reserved(link: &mut Link, direction: Direction, tag: Option<Name>, octets: Octets) -> u64
+pub(crate) fn put_reserved(
+    link: &mut Link,
+    direction: Direction,
+    tag: Option<Name>,
+    octets: Octets,
+) -> u64
     requires { 0 < link.old.spare }
     ensures at { link.new.at ≡ after_put link.old.at direction tag octets }
     ensures number { result ≡ length link.old.at.packets }

@@ -5,6 +5,7 @@ ghost use Rattle.std.specs.Prelude.{◌≡◌, IfOk};
 use lpt_link::Lane;
 use lpt_node::Side;
 use lpt_packet::{Direction, Name, Octets};
+use lpt_pus::AckFlags;
 use std::alloc::AllocError;
 
 /// One event: one holding of the world, done whole or refused.
@@ -14,6 +15,9 @@ pub enum Event {
     Open(Direction, Name, Octets),
     /// Puts the part of this number of an open message on the link.
     Send(Direction, Name, u16),
+    /// Puts a plain request on the link, direction up: ground's telecommand of these flags, service
+    /// type, message subtype and body. It belongs to no transaction.
+    Plain(AckFlags, u8, u8, Octets),
     /// Closes the open sender of this name in its direction and lets its message go.
     Finish(Direction, Name),
     /// Takes the held packet of this number into the lane's empty hand.
@@ -37,6 +41,9 @@ impl Event {
         Ok(match self {
             Event::Open(direction, id, message) => Event::Open(*direction, *id, message.copy()?),
             Event::Send(direction, id, part) => Event::Send(*direction, *id, *part),
+            Event::Plain(flags, service, subtype, body) => {
+                Event::Plain(*flags, *service, *subtype, body.copy()?)
+            }
             Event::Finish(direction, id) => Event::Finish(*direction, *id),
             Event::Take(lane, number) => Event::Take(*lane, *number),
             Event::Deliver(lane) => Event::Deliver(*lane),

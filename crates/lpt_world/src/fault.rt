@@ -14,8 +14,9 @@ pub enum StepFault {
     /// The message isn't longer than a part.
     #[error("the message isn't longer than a part")]
     Short,
-    /// The message is longer than the longest packet.
-    #[error("the message is longer than the longest packet")]
+    /// The message is longer than the longest packet, or the packet of a plain request has more
+    /// octets than the part size and 23.
+    #[error("too long")]
     Long,
     /// As many outgoing transactions of the node are open as the limit.
     #[error("as many outgoing transactions are open as the limit")]
@@ -47,10 +48,13 @@ pub enum StepFault {
     /// Want of memory.
     #[error("want of memory")]
     Memory,
+    /// The service type and the message subtype are those of a part.
+    #[error("the service type and the message subtype are those of a part")]
+    PartRequest,
 }
 
 impl StepFault {
-    /// The fault's number, 41 to 58.
+    /// The fault's number, 41 to 60.
     pub fn code(self) -> u16
         ensures { result ≡ code_of self }
     {
@@ -68,6 +72,7 @@ impl StepFault {
             StepFault::ClockEnd => 56,
             StepFault::NoSuchSeat => 57,
             StepFault::Memory => 58,
+            StepFault::PartRequest => 60,
         }
     }
 
@@ -89,6 +94,7 @@ impl StepFault {
             StepFault::ClockEnd => "ClockEnd",
             StepFault::NoSuchSeat => "NoSuchSeat",
             StepFault::Memory => "Memory",
+            StepFault::PartRequest => "PartRequest",
         }
     }
 }

@@ -21,6 +21,7 @@ pub(crate) fn of_node(fault: NodeFault) -> StepFault
         NodeFault::NothingDue => StepFault::NothingDue,
         NodeFault::ClockEnd => StepFault::ClockEnd,
         NodeFault::Memory => StepFault::Memory,
+        NodeFault::PartRequest => StepFault::PartRequest,
     }
 }
 

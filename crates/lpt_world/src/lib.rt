@@ -10,6 +10,7 @@ mod faults;
 pub mod laws;
 mod refused;
 mod reply;
+mod requesting;
 mod timing;
 mod world;
 

@@ -280,6 +280,7 @@ fn names_each_fault(rt: HostRuntime) {
         (StepFault::ClockEnd, 56, "ClockEnd"),
         (StepFault::NoSuchSeat, 57, "NoSuchSeat"),
         (StepFault::Memory, 58, "Memory"),
+        (StepFault::PartRequest, 60, "PartRequest"),
     ] {
         assert_eq!(rt; (fault.code(), fault.name()), (code, name));
     }

@@ -245,6 +245,12 @@ fn in_range(event: &Event)
             let _id = *id;
             let _k = *k;
         }
+        Event::Plain(flags, service, subtype, body) => {
+            let _flags = flags.bits();
+            let _service = *service;
+            let _subtype = *subtype;
+            let _octets = body.as_slice();
+        }
         Event::Finish(_, id) => {
             let _id = *id;
         }
