@@ -1,13 +1,26 @@
-"""Makes scripts, runs the program on each, and prints what that took.
+"""Makes scripts, runs the program on each, and prints what that took. Then does so with requests.
 
-measure.py PROGRAM FOLDER RUNS
+measure.py PROGRAM REQUESTS FOLDER RUNS: REQUESTS is the program that measures requests.
 """
 
 import os
 import random
 import statistics
+import subprocess
 import sys
 import time
+
+
+# A part size, and a memory of the most octets that there can be.
+GREATEST_MEMORY = """part_size = 1024
+
+[[memory]]
+id = 1
+size = 1048576
+"""
+
+# The most octets of an area whose load, of this one area, is a packet of 65,542 octets.
+LONGEST_AREA = 65519
 
 
 def octets(seed, length):
@@ -41,6 +54,24 @@ def eight_messages():
     lines += [f"send up {i} {k}" for k in range(1, parts + 1) for i in names]
     lines += [f"pass s{n % 2 + 1} {n}" for n in range(len(names) * parts)]
     return lines + ["show released"]
+
+
+def loads():
+    """112 loads of the longest area there can be, their parts of 1,024 octets sent and delivered."""
+    lines, packets = [], 0
+    for n in range(112):
+        address = n % 16 * LONGEST_AREA
+        lines.append(f"load {n} {n} 0 1 {address} {octets(n, LONGEST_AREA)}")
+        for part in range(1, 66):
+            lines += [f"send up {n} {part}", f"pass s1 {packets}"]
+            packets += 1
+        lines.append(f"finish up {n}")
+    return lines
+
+
+def shown_memory():
+    """A memory of 1 MiB, shown whole sixteen times."""
+    return ["show memory 1 0 1048576"] * 16
 
 
 def short_lines():
@@ -90,18 +121,28 @@ def measure(words, script, runs):
     return statistics.median(seconds for _, _, seconds in taken), taken[0][1]
 
 
-def main():
-    """Prints a table, a line a workload."""
-    program, folder, runs = sys.argv[1], sys.argv[2], int(sys.argv[3])
+def print_scripts(program, folder, runs):
+    """Prints a table, a line a workload: its script, and its configuration where it has one."""
     print("| Workload | Lines | Octets | Printed | Seconds | Lines/s | MB/s | Peak MB |")
     print("|---|--:|--:|--:|--:|--:|--:|--:|")
-    for workload in [one_message, repeats, eight_messages, short_lines]:
+    for workload, config in [
+        (one_message, None),
+        (repeats, None),
+        (eight_messages, None),
+        (short_lines, None),
+        (loads, GREATEST_MEMORY),
+        (shown_memory, GREATEST_MEMORY),
+    ]:
         script = os.path.join(folder, workload.__name__)
         with open(script, "w", encoding="ascii") as file:
             count = file.write("\n".join(workload()) + "\n")
         with open(script, encoding="ascii") as file:
             lines = sum(1 for _ in file)
         words = [program, "run", "-"]
+        if config is not None:
+            with open(script + ".toml", "w", encoding="ascii") as file:
+                file.write(config)
+            words += ["--config", script + ".toml"]
         seconds, written = measure(words, script, runs)
         print(
             f"| {workload.__doc__.rstrip('.')} | {lines:,} | {count:,} | {written:,} "
@@ -116,6 +157,29 @@ def main():
         seconds, _ = measure(words, os.devnull, 100)
         memory = peak(words, os.devnull, folder) / 1e6
         print(f"| {name} | | | | {seconds:.4f} | | | {memory:.1f} |")
+
+
+def print_requests(program, runs):
+    """Prints a table of what a program says of requests: the median seconds for all the octets."""
+    taken = {}
+    for _ in range(runs):
+        told = subprocess.run([program], check=True, capture_output=True, encoding="ascii").stdout
+        for line in told.splitlines():
+            name, count, times, seconds = line.split("|")
+            taken.setdefault((name, int(count)), []).append(float(seconds) / int(times))
+    print("| Requests | Octets | Seconds | Octets/s |")
+    print("|---|--:|--:|--:|")
+    for (name, count), all_seconds in taken.items():
+        seconds = statistics.median(all_seconds)
+        print(f"| {name} | {count:,} | {seconds:.6f} | {count / seconds:,.0f} |")
+
+
+def main():
+    """Prints the tables."""
+    program, requests, folder, runs = *sys.argv[1:4], int(sys.argv[4])
+    print_scripts(program, folder, runs)
+    print()
+    print_requests(requests, runs)
 
 
 main()

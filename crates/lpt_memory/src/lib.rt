@@ -32,7 +32,9 @@ pub use job::{Prepared, Reading, Ticket, prepare};
 pub use memories::Memories;
 pub use request::Area;
 pub use shape::Shape;
-pub use writing::write_load;
+pub use writing::{load_fault, write_load};
 
+#[cfg(test)]
+mod pieces;
 #[cfg(test)]
 mod tests;

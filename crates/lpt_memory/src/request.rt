@@ -3,7 +3,7 @@
 use lpt_packet::Octets;
 
 /// Octets, and the place in a memory that they go to.
-#[derive(Debug, Drop)]
+#[derive(Debug, Drop, PartialEq, Eq)]
 pub struct Area {
     /// The address of the first octet, from 0.
     pub address: u32,

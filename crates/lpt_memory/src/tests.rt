@@ -1,26 +1,30 @@
 //! Outside values: requests with faults and without, what they come to, and loads that are written.
 
-use crate::{Area, Effect, Memories, MemoryFault, Ticket, prepare, write_load};
+use crate::{Area, Effect, Memories, MemoryFault, Ticket, load_fault, prepare, write_load};
 use lpt_packet::Octets;
 use lpt_pus::{TcHead, write_tc};
 use std::alloc::Global;
 use std::test::Fail;
 
 // A memory 1 of so many zero octets.
-fn memory(alloc: Global, size: usize) -> Result<Memories, Fail> {
+pub(crate) fn memory(alloc: Global, size: usize) -> Result<Memories, Fail> {
     let mut areas = Vec::new(alloc);
     areas.push((1, Octets::from_vec(vec![in alloc; 0; size]?)))?;
     Ok(Memories::new(areas)?)
 }
 
 // The packet of a telecommand of memory management.
-fn request(alloc: Global, subtype: u8, body: &[u8]) -> Result<Octets, Fail> {
+pub(crate) fn request(alloc: Global, subtype: u8, body: &[u8]) -> Result<Octets, Fail> {
     let head = TcHead::new(100, 0, 0, 6, subtype, 1).ok_or("out of range")?;
     Ok(write_tc(alloc, &head, body)?)
 }
 
 // What a message comes to.
-fn applied(alloc: Global, memories: &mut Memories, message: Octets) -> Result<Effect, Fail> {
+pub(crate) fn applied(
+    alloc: Global,
+    memories: &mut Memories,
+    message: Octets,
+) -> Result<Effect, Fail> {
     let shape = memories.shape(alloc)?;
     match prepare(alloc, &shape, 100, Ticket::new(0, 0, message)) {
         Ok(prepared) => {
@@ -56,9 +60,8 @@ fn reply(alloc: Global, size: usize, subtype: u8, body: &[u8]) -> Result<Octets,
     }
 }
 
-// The fault of a load of so many areas of so many octets, or 0 where it is written.
-fn load_fault(alloc: Global, count: u32, octets: usize) -> Result<u16, Fail> {
-    let head = TcHead::new(100, 0, 0, 6, 2, 1).ok_or("out of range")?;
+// So many areas of so many octets.
+fn areas(alloc: Global, count: u32, octets: usize) -> Result<Vec<Area>, Fail> {
     let mut areas = Vec::new(alloc);
     for address in 0..count {
         areas.push(Area {
@@ -66,10 +69,18 @@ fn load_fault(alloc: Global, count: u32, octets: usize) -> Result<u16, Fail> {
             octets: Octets::from_vec(vec![in alloc; 0; octets]?),
         })?;
     }
-    Ok(match write_load(alloc, &head, 1, &areas) {
-        Ok(_) => 0,
-        Err(fault) => fault.code(),
-    })
+    Ok(areas)
+}
+
+// The fault of writing a load of such areas, or 0 where it is written.
+fn writing_fault(alloc: Global, count: u32, octets: usize) -> Result<u16, Fail> {
+    let head = TcHead::new(100, 0, 0, 6, 2, 1).ok_or("out of range")?;
+    Ok(
+        match write_load(alloc, &head, 1, &areas(alloc, count, octets)?) {
+            Ok(_) => 0,
+            Err(fault) => fault.code(),
+        },
+    )
 }
 
 #[test]
@@ -149,13 +160,23 @@ fn answers_dumps_and_checks(rt: HostRuntime) -> Result<(), Fail> {
 
 #[test]
 fn writes_loads(rt: HostRuntime) -> Result<(), Fail> {
-    assert_eq!(rt; load_fault(rt.alloc(), 0, 1)?, 28);
-    assert_eq!(rt; load_fault(rt.alloc(), 255, 1)?, 0);
-    assert_eq!(rt; load_fault(rt.alloc(), 256, 1)?, 28);
-    assert_eq!(rt; load_fault(rt.alloc(), 1, 0)?, 28);
-    assert_eq!(rt; load_fault(rt.alloc(), 2, 40000)?, 27);
+    assert_eq!(rt; writing_fault(rt.alloc(), 0, 1)?, 28);
+    assert_eq!(rt; writing_fault(rt.alloc(), 255, 1)?, 0);
+    assert_eq!(rt; writing_fault(rt.alloc(), 256, 1)?, 28);
+    assert_eq!(rt; writing_fault(rt.alloc(), 1, 0)?, 28);
+    assert_eq!(rt; writing_fault(rt.alloc(), 2, 40000)?, 27);
     assert_eq!(rt; MemoryFault::BadMemories.code(), 25);
     assert_eq!(rt; MemoryFault::BadArea.name(), "BadArea");
+    Ok(())
+}
+
+#[test]
+fn tells_what_cant_be_written(rt: HostRuntime) -> Result<(), Fail> {
+    // Two areas of 32,764 octets: 15 + 2 * (8 + 32,764) = 65,559 octets.
+    let long = areas(rt.alloc(), 2, 32764)?;
+    assert_eq!(rt; load_fault(&long), Some(MemoryFault::TooLong));
+    assert_eq!(rt; load_fault(&long[..1]), None);
+    assert_eq!(rt; load_fault(&long[..0]), Some(MemoryFault::BadArea));
     Ok(())
 }
 

@@ -1,4 +1,4 @@
-//! Writing a load as a packet.
+//! Writing a load as a packet, and what can't be written.
 
 ghost use Rattle.std.specs.Prelude.{◌≡◌, ◌+◌, ◌<◌, ◌^◌, ◌++◌, length, nat_lt, None, Err, IfOk, IfErr, IfSome, IfNone, OnOk};
 ghost use Rattle.std.specs.List.{AllByRecursion};
@@ -104,11 +104,27 @@ fn load_packet(
     Ok(octets)
 }
 
+/// The fault for which a load of these areas can't be written, if there is one. It takes no memory.
+///
+/// It is the first that applies: `TooLong` where the packet would have more than 65,542 octets;
+/// `BadArea` for no area, more than 255, or an empty one.
+pub fn load_fault(areas: &[Area]) -> Option<MemoryFault>
+    ensures { result ≡ write_fault areas.now }
+{
+    if is_long(areas) {
+        return Some(MemoryFault::TooLong);
+    }
+    if areas.is_empty() || areas.len() > AREA_LIMIT || any_empty(areas) {
+        return Some(MemoryFault::BadArea);
+    }
+    None
+}
+
 /// The packet of a load: a telecommand of this head, with the areas in their order and a checksum
 /// for each. An area's own checksum is over its octets alone.
 ///
-/// Errors, the first that applies: `TooLong` where the packet would have more than 65,542 octets;
-/// `BadArea` for no area, more than 255, or an empty one; `Memory` where memory runs out.
+/// Errors: the fault that `load_fault` tells of the areas, `TooLong` or `BadArea`; where there is
+/// none, `Memory` where memory runs out.
 pub fn write_load(
     alloc: Global,
     head: &TcHead,
@@ -127,11 +143,8 @@ pub fn write_load(
     ensures fault { IfSome (write_fault areas.now) (λ e. result ≡ Err e) }
     ensures memory { IfNone (write_fault areas.now) (IfErr result (λ e. e ≡ Memory)) }
 {
-    if is_long(areas) {
-        return Err(MemoryFault::TooLong);
-    }
-    if areas.is_empty() || areas.len() > AREA_LIMIT || any_empty(areas) {
-        return Err(MemoryFault::BadArea);
+    if let Some(fault) = load_fault(areas) {
+        return Err(fault);
     }
     load_packet(alloc, head, memory, areas).map_err(|_| MemoryFault::Memory)
 }
