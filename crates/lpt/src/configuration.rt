@@ -1,8 +1,9 @@
-//! The configuration and its file.
+//! The configuration, the first memories, and their file.
 
 ghost use Rattle.std.specs.Prelude.{IfOk};
 ghost use Rattle.lpt_part.specs.Splitting.{IsPartSize};
 
+use lpt_memory::Memories;
 use lpt_node::Config;
 use lpt_settings::read_config;
 use lpt_text::{End, Told, ToolFault, read_text};
@@ -13,12 +14,13 @@ use std::str;
 /// The most octets that the file may have.
 const LONGEST_FILE: usize = 1_048_576;
 
-/// Reads the configuration in the file at this path; without one, it is that of an empty file.
+/// Reads the configuration and the first memories in the file at this path; without one, they are
+/// those of an empty file.
 ///
 /// Errors: `Read` where the file can't be opened or read; `Config` where it has more than 1,048,576
 /// octets, isn't UTF-8 or is refused; `Memory`.
-pub fn read(rt: &HostRuntime, path: Option<&str>) -> Result<Config, ToolFault>
-    ensures { IfOk result (λ c. IsPartSize c.part_size) }
+pub fn read(rt: &HostRuntime, path: Option<&str>) -> Result<(Config, Memories), ToolFault>
+    ensures { IfOk result (λ s. IsPartSize s.0.part_size) }
 {
     let octets = match path {
         Some(path) => read_file(rt, path)?,

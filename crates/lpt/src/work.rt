@@ -3,6 +3,7 @@
 ghost use Rattle.lpt_part.specs.Splitting.{IsPartSize};
 
 use crate::end::Status;
+use lpt_memory::Memories;
 use lpt_node::Config;
 use lpt_text::{Told, ToolFault};
 use lpt_words::read_hex;
@@ -13,16 +14,21 @@ use std::io::{BufWriter, Printer, Read, Write};
 /// Standard output, written when there is enough of it.
 type Output<'a> = Told<BufWriter<Printer<'a, HostRuntime>>>;
 
-/// Runs a script on a new world: the one at this path, or standard input for `-`.
+/// Runs a script on a new world of these memories: the one at this path, or standard input for `-`.
 ///
 /// Errors: `Line` at an unreadable line; `Read` where the script can't be opened or read, `Write`
 /// where a write failed, `Memory`.
-pub fn run(rt: &HostRuntime, config: Config, script: &str) -> Result<Status, ToolFault> {
+pub fn run(
+    rt: &HostRuntime,
+    config: Config,
+    memories: Memories,
+    script: &str,
+) -> Result<Status, ToolFault> {
     if script == "-" {
-        return run_from(rt, config, rt.reader());
+        return run_from(rt, config, memories, rt.reader());
     }
     match File::open(rt, script) {
-        Ok(file) => run_from(rt, config, file),
+        Ok(file) => run_from(rt, config, memories, file),
         Err(_) => Err(ToolFault::Read),
     }
 }
@@ -52,11 +58,12 @@ pub fn decode(rt: &HostRuntime, config: Config, hex: &str) -> Result<Status, Too
 fn run_from<R: Read + Drop>(
     rt: &HostRuntime,
     config: Config,
+    memories: Memories,
     reader: R,
 ) -> Result<Status, ToolFault> {
     let mut source = Told::new(reader);
     let mut out = output(rt)?;
-    let ran = lpt_tool::run_script(rt.alloc(), config, &mut source, &mut out);
+    let ran = lpt_tool::run_script(rt.alloc(), config, memories, &mut source, &mut out);
     flush(out)?;
     Ok(status_of(ran?.refused > 0))
 }

@@ -134,6 +134,13 @@ abbrev pub packet_text : ℕ → Option (List ℕ) → List ℕ
 packet_text n (Some m) = line_of (codes "packet" ∷ decimal n ∷ octets_text m ∷ [])
 packet_text n None = line_of (codes "packet" ∷ decimal n ∷ codes "none" ∷ [])
 
+-- octets of a memory from an address on, where it has so many
+abbrev pub memory_text : (id address : ℕ) → Option (List ℕ) → List ℕ
+memory_text id address (Some m) =
+    line_of (codes "memory" ∷ decimal id ∷ decimal address ∷ octets_text m ∷ [])
+memory_text id address None =
+    line_of (codes "memory" ∷ decimal id ∷ decimal address ∷ codes "none" ∷ [])
+
 -- a message that was released, by its transaction, or as a plain request
 abbrev pub message_text : Option (Direction × Name) → List ℕ → List ℕ
 message_text (Some of) m = line_of (direction_text of.0 ∷ decimal of.1 ∷ octets_text m ∷ [])

@@ -3,7 +3,7 @@
 ghost use Rattle.std.specs.Prelude.{◌≡◌, IfOk};
 ghost use Rattle.std.specs.Option.{option_copied};
 ghost use Rattle.std.specs.String.{string_bytes};
-ghost use Rattle.lpt_print.specs.Printing.{opened_text, finished_text, expired_text, clock_text, put_text, took_text, outcome_text, refused_text, unreadable_text, journal_text, packet_text, release_text, none_text};
+ghost use Rattle.lpt_print.specs.Printing.{opened_text, finished_text, expired_text, clock_text, put_text, took_text, outcome_text, refused_text, unreadable_text, journal_text, packet_text, memory_text, release_text, none_text};
 
 use crate::words::{direction_word, octets_word, why_word};
 use lpt_node::Outcome;
@@ -130,6 +130,25 @@ pub fn print_packet(alloc: Global, n: u64, packet: Option<&[u8]>) -> Result<Stri
             format!(in alloc; "packet {n} {octets}\n")
         }
         None => format!(in alloc; "packet {n} none\n"),
+    }
+}
+
+/// `memory 1 16 00ff`, or `memory 9 0 none`: octets of the memory of this identifier from this
+/// address on, where it has so many.
+pub fn print_memory(
+    alloc: Global,
+    id: u8,
+    address: u32,
+    octets: Option<&[u8]>,
+) -> Result<String, AllocError>
+    ensures { IfOk result (λ t. string_bytes t ≡ memory_text id address (option_copied octets.entry)) }
+{
+    match octets {
+        Some(octets) => {
+            let octets = octets_word(alloc, octets)?;
+            format!(in alloc; "memory {id} {address} {octets}\n")
+        }
+        None => format!(in alloc; "memory {id} {address} none\n"),
     }
 }
 

@@ -130,6 +130,13 @@ fn prints_what_a_world_shows(rt: HostRuntime) -> Result<(), Fail> {
     assert_eq!(rt; packet.as_str(), "packet 0 1864c000\n");
     assert_eq!(rt; print_packet(alloc, 0, Some(&[]))?.as_str(), "packet 0 -\n");
     assert_eq!(rt; print_packet(alloc, 9, None)?.as_str(), "packet 9 none\n");
+    for (octets, text) in [
+        (Some([0x00, 0xff].as_slice()), "memory 1 16 00ff\n"),
+        (Some(&[]), "memory 1 16 -\n"),
+        (None, "memory 1 16 none\n"),
+    ] {
+        assert_eq!(rt; print_memory(alloc, 1, 16, octets)?.as_str(), text);
+    }
     for (of, text) in [
         (Some((Direction::Up, 7)), "up 7 00ff\n"),
         (Some((Direction::Down, 8)), "down 8 00ff\n"),

@@ -1,2 +1,4 @@
+pub mod Keys
+pub mod MemoryTables
 pub mod Numbers
 pub mod Settings

@@ -1,55 +1,45 @@
 -- What the table of a configuration file means.
-use Rattle.std.specs.Prelude.{ℕ, Bool, true, ◌&&◌, nat_eq, if◌then◌else◌, List, [], ◌∷◌, codes, Option, Some, None}
-use Rattle.std.specs.List.{list_any}
-use Rattle.std.specs.Cmp.Lexicographic.{pointwise}
-use Rattle.toml.specs.Data.{Members, no_members, member}
+use Rattle.std.specs.Prelude.{ℕ, if◌then◌else◌, List, [], ◌∷◌, codes, Option, Some, None}
+use Rattle.toml.specs.Data.{Members}
+use Rattle.lpt_memory.specs.Fields.{◌>>=◌}
+use Rattle.lpt_memory.specs.Memories.{Contents}
 use Rattle.lpt_node.specs.declared.config.Config.{Config}
+use Rattle.lpt_settings.specs.Keys.{has_only}
+use Rattle.lpt_settings.specs.MemoryTables.{memories_of, default_memories}
 use Rattle.lpt_settings.specs.Numbers.{number_at}
-
--- the key has the letters of the word
-abbrev pub is_word : List ℕ → List ℕ → Bool
-is_word key word = pointwise nat_eq key word
 
 -- the keys that there are
 abbrev pub known_keys : List (List ℕ)
 known_keys = codes "apid" ∷ codes "source" ∷ codes "part_size" ∷ codes "timeout"
-    ∷ codes "receptions" ∷ codes "outgoing" ∷ codes "clock" ∷ []
+    ∷ codes "receptions" ∷ codes "outgoing" ∷ codes "clock" ∷ codes "memory" ∷ []
 
--- the key is one of them
-abbrev pub is_known : List ℕ → Bool
-is_known key = list_any (is_word key) known_keys
-
--- each key of a table passes
-abbrev pub has_only : (List ℕ → Bool) → Members → Bool
-has_only passes no_members = true
-has_only passes (member key d more) = passes key && has_only passes more
-
--- the second step, where the first gave a value
-infixl 10 ◌>>=◌
-abbrev pub ◌>>=◌ : {A B : Type 0} → Option A → (A → Option B) → Option B
-(Some x) >>= f = f x
-None >>= f = None
-
--- the configuration of a table: each key is known, and each number is in its range or absent
+-- the configuration of a table: each number is in its range or absent
 abbrev pub config_of : Members → Option Config
-config_of members =
-    if has_only is_known members then (do
-      apid ← number_at (codes "apid") 0 2046 100 members
-      source ← number_at (codes "source") 0 65535 1 members
-      part_size ← number_at (codes "part_size") 4 1024 8 members
-      timeout ← number_at (codes "timeout") 1 65535 10 members
-      receptions ← number_at (codes "receptions") 1 64 8 members
-      outgoing ← number_at (codes "outgoing") 1 64 8 members
-      clock ← number_at (codes "clock") 0 4294967295 0 members
-      Some (record {
-        apid = apid;
-        source = source;
-        part_size = part_size;
-        timeout = timeout;
-        receptions = receptions;
-        outgoing = outgoing;
-        clock = clock;
-      }))
+config_of members = do
+  apid ← number_at (codes "apid") 0 2046 (Some 100) members
+  source ← number_at (codes "source") 0 65535 (Some 1) members
+  part_size ← number_at (codes "part_size") 4 1024 (Some 8) members
+  timeout ← number_at (codes "timeout") 1 65535 (Some 10) members
+  receptions ← number_at (codes "receptions") 1 64 (Some 8) members
+  outgoing ← number_at (codes "outgoing") 1 64 (Some 8) members
+  clock ← number_at (codes "clock") 0 4294967295 (Some 0) members
+  Some (record {
+    apid = apid;
+    source = source;
+    part_size = part_size;
+    timeout = timeout;
+    receptions = receptions;
+    outgoing = outgoing;
+    clock = clock;
+  })
+
+-- the settings of a table: each key is known, and the configuration and the memories can be read
+abbrev pub settings_of : Members → Option (Config × Contents)
+settings_of members =
+    if has_only known_keys members then (do
+      config ← config_of members
+      memories ← memories_of members
+      Some (config, memories))
     else None
 
 -- the configuration where no key is set
@@ -63,3 +53,7 @@ default_config = record {
   outgoing = 8;
   clock = 0;
 }
+
+-- the settings where no key is set
+abbrev pub default_settings : Config × Contents
+default_settings = (default_config, default_memories)

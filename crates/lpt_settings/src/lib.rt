@@ -1,4 +1,5 @@
-//! The configuration file: a TOML document of numbers, each with its range and its default.
+//! The configuration file: a TOML document of numbers, each with its range and its default, and of
+//! the memories.
 //!
 //! | Key | Range | Default |
 //! |---|---|---|
@@ -9,11 +10,23 @@
 //! | `receptions` | 1 to 64 | 8 |
 //! | `outgoing` | 1 to 64 | 8 |
 //! | `clock` | 0 to 4,294,967,295 ticks | 0 |
+//! | `memory` | an array of 1 to 16 tables | one memory 1 of 256 octets of 0 |
 //!
-//! Each key may be absent, and there is no other. A new key is one more word in `is_known`, one
-//! more line in `read_table`, and the same in the specs.
+//! Each table of `memory` is a memory of `size` octets that all have the value `fill`. Its
+//! identifier is no other's:
+//!
+//! | Key | Range | Default |
+//! |---|---|---|
+//! | `id` | 0 to 255 | none: it must be there |
+//! | `size` | 1 to 1,048,576 octets | none: it must be there |
+//! | `fill` | 0 to 255 | 0 |
+//!
+//! Each key with a default may be absent, and there is no other key. A new number is one more word
+//! in `read_table`, one more line in `read_numbers`, and the same in the specs.
 #![tactic(auto)]
 
+mod keys;
+mod memories;
 mod numbers;
 mod settings;
 

@@ -8,23 +8,23 @@ use toml::{Table, Value};
 
 /// The number at a key of the table, from `least` to `greatest`; `default` where the key is absent.
 ///
-/// Errors: `None` where the key has another value.
+/// Errors: `None` where the key has another value, or is absent and has no default.
 pub(crate) fn number(
     table: &Table,
     key: &str,
     least: u32,
     greatest: u32,
-    default: u32,
+    default: Option<u32>,
 ) -> Option<u32>
-    requires least { least ≤ default }
-    requires greatest { default ≤ greatest }
+    requires least { IfSome default (λ d. least ≤ d) }
+    requires greatest { IfSome default (λ d. d ≤ greatest) }
     ensures value { result ≡ number_at key.now least greatest default (table_view table.now) }
     ensures least { IfSome result (λ n. least ≤ n) }
     ensures greatest { IfSome result (λ n. n ≤ greatest) }
 {
     match table.get(key) {
         Some(value) => number_of_value(value, least, greatest),
-        None => Some(default),
+        None => default,
     }
 }
 

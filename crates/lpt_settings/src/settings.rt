@@ -1,59 +1,88 @@
-//! A configuration read from the text of its file.
+//! The settings read from the text of a configuration file.
 
-ghost use Rattle.std.specs.Prelude.{◌≡◌, Some, Ok, IfSome, IfOk, IfErr, option_and_then, string_bytes};
-ghost use Rattle.std.specs.BTreeMap.{keys};
-ghost use Rattle.std.specs.List.{list_all};
+ghost use Rattle.std.specs.Prelude.{◌≡◌, ◌⊎◌, Some, IfSome, IfOk, IfErr, MatchResult, option_and_then};
 ghost use Rattle.toml.specs.Errors.{IsBlank};
 ghost use Rattle.toml.specs.Parse.{parse_document};
 ghost use Rattle.toml.specs.View.{table_view};
 ghost use Rattle.lpt_node.specs.Configs.{IsConfig};
-ghost use Rattle.lpt_settings.specs.Settings.{is_known, has_only, config_of, default_config};
+ghost use Rattle.lpt_settings.specs.Settings.{config_of, settings_of, default_settings};
 
+use crate::keys::has_only;
+use crate::memories::memories;
 use crate::numbers::number;
+use lpt_memory::Memories;
 use lpt_node::Config;
 use lpt_text::ToolFault;
-use std::alloc::Global;
+use std::alloc::{AllocError, Global};
 use toml::Table;
 
-/// Reads a configuration: a TOML document of the keys, ranges and defaults that the crate lists.
+/// Reads a configuration and the first memories: a TOML document of the keys, ranges and defaults
+/// that the crate lists.
 ///
-/// Errors: `Config` where the text isn't TOML, a key isn't known, a value isn't an integer or is
-/// out of its range, and for want of memory.
-pub fn read_config(alloc: Global, text: &str) -> Result<Config, ToolFault>
-    // The text is a TOML document, and the configuration is what its table means.
-    ensures ok { IfOk result (λ c. option_and_then config_of (parse_document text.now) ≡ Some c) }
-    ensures ranges { IfOk result IsConfig }
+/// Errors: `Config` where the text isn't TOML, a key isn't known or is missing, a value has another
+/// type or is out of its range, the memories are too many or none or have an identifier twice, and
+/// where the reader of TOML wants memory; `Memory` where there is none for the memories.
+pub fn read_config(alloc: Global, text: &str) -> Result<(Config, Memories), ToolFault>
+    // The text is a TOML document, and the settings are what its table means.
+    ensures ok { IfOk result (λ s. option_and_then settings_of (parse_document text.now) ≡ Some s) }
+    ensures ranges { IfOk result (λ s. IsConfig s.0) }
 
-    // White space and comments alone give the defaults.
-    ensures blank { IsBlank text.now → result ≡ Ok default_config }
+    // White space and comments alone give the defaults, if there is memory for them.
+    ensures blank { IsBlank text.now
+        → MatchResult result (λ s. s ≡ default_settings) (λ e. e ≡ ToolFault.Memory) }
 
     // No clause says when else it succeeds, since the reader of TOML may want memory.
-    ensures fault { IfErr result (λ e. e ≡ ToolFault.Config) }
+    ensures fault { IfErr result (λ e. (e ≡ ToolFault.Config) ⊎ (e ≡ ToolFault.Memory)) }
 {
     let Ok(table) = toml::table_from_str(alloc, text) else {
         return Err(ToolFault::Config);
     };
-    match read_table(&table) {
-        Some(config) => Ok(config),
-        None => Err(ToolFault::Config),
+    match read_table(alloc, &table) {
+        Ok(Some(settings)) => Ok(settings),
+        Ok(None) => Err(ToolFault::Config),
+        Err(_) => Err(ToolFault::Memory),
     }
 }
 
-// The configuration that a table means.
-fn read_table(table: &Table) -> Option<Config>
+// The settings that a table means; `None` where it is refused. The only error is want of memory.
+fn read_table(alloc: Global, table: &Table) -> Result<Option<(Config, Memories)>, AllocError>
+    ensures value { IfOk result (λ s. s ≡ settings_of (table_view table.now)) }
+    ensures ranges { IfOk result (λ s. IfSome s (λ x. IsConfig x.0)) }
+{
+    let known = [
+        "apid",
+        "source",
+        "part_size",
+        "timeout",
+        "receptions",
+        "outgoing",
+        "clock",
+        "memory",
+    ];
+    if !has_only(table, &known) {
+        return Ok(None);
+    }
+    let Some(config) = read_numbers(table) else {
+        return Ok(None);
+    };
+    let Some(memories) = memories(alloc, table)? else {
+        return Ok(None);
+    };
+    Ok(Some((config, memories)))
+}
+
+// The configuration that the numbers of a table mean; `None` where one is refused.
+fn read_numbers(table: &Table) -> Option<Config>
     ensures value { result ≡ config_of (table_view table.now) }
     ensures ranges { IfSome result IsConfig }
 {
-    if !has_only_known(table) {
-        return None;
-    }
-    let apid = number(table, "apid", 0, 2046, 100)?;
-    let source = number(table, "source", 0, 65535, 1)?;
-    let part_size = number(table, "part_size", 4, 1024, 8)?;
-    let timeout = number(table, "timeout", 1, 65535, 10)?;
-    let receptions = number(table, "receptions", 1, 64, 8)?;
-    let outgoing = number(table, "outgoing", 1, 64, 8)?;
-    let clock = number(table, "clock", 0, u32::MAX, 0)?;
+    let apid = number(table, "apid", 0, 2046, Some(100))?;
+    let source = number(table, "source", 0, 65535, Some(1))?;
+    let part_size = number(table, "part_size", 4, 1024, Some(8))?;
+    let timeout = number(table, "timeout", 1, 65535, Some(10))?;
+    let receptions = number(table, "receptions", 1, 64, Some(8))?;
+    let outgoing = number(table, "outgoing", 1, 64, Some(8))?;
+    let clock = number(table, "clock", 0, u32::MAX, Some(0))?;
     Some(Config {
         apid: apid as u16,
         source: source as u16,
@@ -63,28 +92,4 @@ fn read_table(table: &Table) -> Option<Config>
         outgoing,
         clock,
     })
-}
-
-// Whether each member of the table has a known key.
-fn has_only_known(table: &Table) -> bool
-    ensures { result ≡ has_only is_known (table_view table.now) }
-{
-    are_keys_known(table)
-}
-
-// Whether each key of the table is known.
-fn are_keys_known(table: &Table) -> bool
-    ensures { result ≡ list_all (λ key. is_known (string_bytes key)) (keys table.now) }
-{
-    table.keys().all(|key| is_known(key.as_str()))
-}
-
-// Whether there is such a key.
-fn is_known(key: &str) -> bool
-    ensures { result ≡ is_known key.now }
-{
-    matches!(
-        key,
-        "apid" | "source" | "part_size" | "timeout" | "receptions" | "outgoing" | "clock"
-    )
 }

@@ -1,8 +1,10 @@
 //! Configurations that are read, and texts that are refused.
 
 use crate::read_config;
+use lpt_memory::Memories;
 use lpt_node::Config;
 use lpt_text::ToolFault;
+use std::alloc::Global;
 use std::test::Fail;
 
 const DEFAULTS: Config = Config {
@@ -15,6 +17,29 @@ const DEFAULTS: Config = Config {
     clock: 0,
 };
 
+// The configuration of a text, without its memories.
+fn config_in(alloc: Global, text: &str) -> Result<Config, ToolFault> {
+    let (config, _) = read_config(alloc, text)?;
+    Ok(config)
+}
+
+// Whether there is such a memory, of so many octets of this value.
+fn is_filled(memories: &Memories, id: u8, size: usize, fill: u8) -> bool {
+    match memories.content(id) {
+        Some(octets) => octets.len() == size && octets.iter().all(|octet| *octet == fill),
+        None => false,
+    }
+}
+
+// So many memories of one octet.
+fn memories_text(alloc: Global, count: u32) -> Result<String, Fail> {
+    let mut text = String::new(alloc);
+    for id in 0..count {
+        text.push_str(format!(in alloc; "[[memory]]\nid = {id}\nsize = 1\n")?.as_str())?;
+    }
+    Ok(text)
+}
+
 #[test]
 fn gives_the_defaults_of_blank_texts(rt: HostRuntime) {
     for text in [
@@ -24,7 +49,7 @@ fn gives_the_defaults_of_blank_texts(rt: HostRuntime) {
         "# nothing is set",
         "\u{feff}# a mark\n",
     ] {
-        assert_eq!(rt; read_config(rt.alloc(), text), Ok(DEFAULTS), "{text}");
+        assert_eq!(rt; config_in(rt.alloc(), text), Ok(DEFAULTS), "{text}");
     }
 }
 
@@ -48,7 +73,7 @@ fn reads_each_key(rt: HostRuntime) {
         outgoing: 6,
         clock: 7,
     };
-    assert_eq!(rt; read_config(rt.alloc(), text), Ok(expected));
+    assert_eq!(rt; config_in(rt.alloc(), text), Ok(expected));
 }
 
 #[test]
@@ -107,7 +132,7 @@ fn reads_the_ends_of_each_range(rt: HostRuntime) {
         ),
     ];
     for (text, expected) in cases {
-        assert_eq!(rt; read_config(rt.alloc(), text), Ok(expected), "{text}");
+        assert_eq!(rt; config_in(rt.alloc(), text), Ok(expected), "{text}");
     }
 }
 
@@ -135,7 +160,7 @@ fn reads_each_form_of_an_integer(rt: HostRuntime) {
         ("clock = -0", Config { clock: 0, ..of }),
     ];
     for (text, expected) in cases {
-        assert_eq!(rt; read_config(rt.alloc(), text), Ok(expected), "{text}");
+        assert_eq!(rt; config_in(rt.alloc(), text), Ok(expected), "{text}");
     }
 }
 
@@ -163,7 +188,7 @@ fn refuses_numbers_outside_their_range(rt: HostRuntime) {
     ];
     for text in texts {
         assert_eq!(rt;
-            read_config(rt.alloc(), text),
+            config_in(rt.alloc(), text),
             Err(ToolFault::Config),
             "{text}"
         );
@@ -195,7 +220,7 @@ fn refuses_other_keys_and_types(rt: HostRuntime) {
     ];
     for text in texts {
         assert_eq!(rt;
-            read_config(rt.alloc(), text),
+            config_in(rt.alloc(), text),
             Err(ToolFault::Config),
             "{text}"
         );
@@ -218,7 +243,122 @@ fn refuses_what_is_not_toml(rt: HostRuntime) {
     ];
     for text in texts {
         assert_eq!(rt;
-            read_config(rt.alloc(), text),
+            config_in(rt.alloc(), text),
+            Err(ToolFault::Config),
+            "{text}"
+        );
+    }
+}
+
+#[test]
+fn gives_one_memory_of_zeros(rt: HostRuntime) -> Result<(), Fail> {
+    for text in ["", "# nothing is set", "apid = 1"] {
+        let (_, memories) = read_config(rt.alloc(), text)?;
+        assert!(rt; is_filled(&memories, 1, 256, 0), "{text}");
+        assert!(rt; memories.content(0).is_none(), "{text}");
+        assert!(rt; memories.content(2).is_none(), "{text}");
+    }
+    Ok(())
+}
+
+#[test]
+fn fills_each_memory(rt: HostRuntime) -> Result<(), Fail> {
+    let texts = [
+        "memory = [{ id = 7, size = 3, fill = 255 }, { size = 2, id = 0 }]\napid = 4",
+        "apid = 4\n[[memory]]\nid = 7\nfill = 0xff\nsize = 3\n[[memory]]\nid = 0\nsize = 2",
+        "apid = 4\n[[memory]]\nid = 0\nsize = 2\nfill = 0\n[[memory]]\nid = 7\nsize = 3\nfill = 255",
+    ];
+    for text in texts {
+        let (config, memories) = read_config(rt.alloc(), text)?;
+        assert_eq!(rt;
+            config,
+            Config {
+                apid: 4,
+                ..DEFAULTS
+            },
+            "{text}"
+        );
+        assert!(rt; is_filled(&memories, 7, 3, 255), "{text}");
+        assert!(rt; is_filled(&memories, 0, 2, 0), "{text}");
+        assert!(rt; memories.content(1).is_none(), "{text}");
+    }
+    Ok(())
+}
+
+#[test]
+fn reads_the_ends_of_each_memory_range(rt: HostRuntime) -> Result<(), Fail> {
+    let cases = [
+        ("memory = [{ id = 0, size = 1 }]", 0, 1, 0),
+        ("memory = [{ id = 255, size = 1, fill = 0 }]", 255, 1, 0),
+        ("memory = [{ id = 1, size = 1, fill = 255 }]", 1, 1, 255),
+        (
+            "memory = [{ id = 2, size = 1048576, fill = 9 }]",
+            2,
+            1_048_576,
+            9,
+        ),
+    ];
+    for (text, id, size, fill) in cases {
+        let (_, memories) = read_config(rt.alloc(), text)?;
+        assert!(rt; is_filled(&memories, id, size, fill), "{text}");
+    }
+    Ok(())
+}
+
+#[test]
+fn reads_sixteen_memories_and_refuses_more(rt: HostRuntime) -> Result<(), Fail> {
+    let text = memories_text(rt.alloc(), 16)?;
+    let (_, memories) = read_config(rt.alloc(), text.as_str())?;
+    assert!(rt; is_filled(&memories, 15, 1, 0));
+    assert!(rt; memories.content(16).is_none());
+    for count in [17, 256] {
+        let text = memories_text(rt.alloc(), count)?;
+        let refused = config_in(rt.alloc(), text.as_str());
+        assert_eq!(rt; refused, Err(ToolFault::Config), "{count}");
+    }
+    Ok(())
+}
+
+#[test]
+fn refuses_other_memories(rt: HostRuntime) {
+    let texts = [
+        "[memory]",
+        "[memory]\nid = 1\nsize = 1",
+        "memory = {}",
+        "memory = { id = 1, size = 1 }",
+        "memory = 1",
+        "memory = \"\"",
+        "memory = [1]",
+        "memory = [[]]",
+        "memory = [{}]",
+        "memory = [{ size = 1 }]",
+        "memory = [{ id = 1 }]",
+        "memory = [{ id = 1, fill = 1 }]",
+        "memory = [{ id = 1, size = 1, name = 1 }]",
+        "memory = [{ id = 1, size = 1, apid = 100 }]",
+        "memory = [{ id = 1, Size = 1 }]",
+        "memory = [{ id = -1, size = 1 }]",
+        "memory = [{ id = 256, size = 1 }]",
+        "memory = [{ id = 1, size = 0 }]",
+        "memory = [{ id = 1, size = -1 }]",
+        "memory = [{ id = 1, size = 1048577 }]",
+        "memory = [{ id = 1, size = 9223372036854775807 }]",
+        "memory = [{ id = 1, size = 1, fill = -1 }]",
+        "memory = [{ id = 1, size = 1, fill = 256 }]",
+        "memory = [{ id = 1.0, size = 1 }]",
+        "memory = [{ id = 1, size = \"1\" }]",
+        "memory = [{ id = 1, size = 1, fill = true }]",
+        "memory = [{ id = 1, size = 1 }, { id = 1, size = 1 }]",
+        "memory = [{ id = 1, size = 1 }, { id = 2, size = 1 }, { id = 1, size = 2 }]",
+        "memory = [{ id = 1, size = 1 }, { id = 2 }]",
+        "memory = [{ id = 1, size = 1 }, 2]",
+        "id = 1",
+        "memories = [{ id = 1, size = 1 }]",
+        "apid = 2047\n[[memory]]\nid = 1\nsize = 1",
+    ];
+    for text in texts {
+        assert_eq!(rt;
+            config_in(rt.alloc(), text),
             Err(ToolFault::Config),
             "{text}"
         );

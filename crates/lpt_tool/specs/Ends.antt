@@ -1,7 +1,6 @@
 -- How lines and scripts end: what the answer says of what was read and written.
 use Rattle.std.specs.Prelude.{◌≡◌, ◌≢◌, ◌≤◌, ◌<◌, ◌++◌, ◌⊎◌, ℕ, Bool, true, false, List, [], length, Option, Some, None, Result, Ok, Err}
 use Rattle.std.specs.Io.KnownBytes.{Appends, Consumes}
-use Rattle.lpt_node.specs.declared.config.Config.{Config}
 use Rattle.lpt_node.specs.declared.side.Side.{Side}
 use Rattle.lpt_print.specs.Decoding.{decoding}
 use Rattle.lpt_text.specs.declared.reading.End.{End}
@@ -77,33 +76,33 @@ IsOneLine old new =
     (text : List ℕ) × Consumes old new text × (16777216 < length text) × NoLineEndAfter 0 text
 
 -- what was run: a front part of what was read, or the one line that is above both limits
-abbrev pub HasRun : Config → Option (List ℕ) → Option (List ℕ) → (Script → Type 0) → Type 0
-HasRun c old new P =
-    IsFront old new (λ text. P (script_ran c text)) ⊎ (IsOneLine old new × P (unreadable 1))
+abbrev pub HasRun : Shown → Option (List ℕ) → Option (List ℕ) → (Script → Type 0) → Type 0
+HasRun w old new P =
+    IsFront old new (λ text. P (script_ran w text)) ⊎ (IsOneLine old new × P (unreadable 1))
 
 -- How a run ends: what was read of the reader, what the writer gained, and what failed. Ok: all was read,
 -- and the whole text written. Line: the text up to the unreadable line was written, that line's with it.
 -- Read: a read failed or more came than a script may have; the whole lines before that were run. Write, Memory:
 -- the writer gained a front part of the text.
 abbrev pub ScriptEnds :
-    Config → Result ScriptEnd ToolFault
+    Shown → Result ScriptEnd ToolFault
     → (read_before read_after written_before written_after : Option (List ℕ))
     → (read_failed write_failed : Bool) → Type 0
-ScriptEnds c (Ok end) old new before after read_failed write_failed =
-    IsWhole old new (λ text. ((script_ran c text).bad ≡ None) × (end.refused ≡ (script_ran c text).refused)
-    × Appends before after (script_ran c text).text)
-ScriptEnds c (Err (tool.Line n)) old new before after read_failed write_failed =
-    HasRun c old new (λ script. (script.bad ≡ Some n) × Appends before after script.text)
-ScriptEnds c (Err tool.Read) old new before after read_failed write_failed =
-    IsWholeFront old new (λ text. ((script_ran c text).bad ≡ None) × Appends before after (script_ran c text).text
+ScriptEnds w (Ok end) old new before after read_failed write_failed =
+    IsWhole old new (λ text. ((script_ran w text).bad ≡ None) × (end.refused ≡ (script_ran w text).refused)
+    × Appends before after (script_ran w text).text)
+ScriptEnds w (Err (tool.Line n)) old new before after read_failed write_failed =
+    HasRun w old new (λ script. (script.bad ≡ Some n) × Appends before after script.text)
+ScriptEnds w (Err tool.Read) old new before after read_failed write_failed =
+    IsWholeFront old new (λ text. ((script_ran w text).bad ≡ None) × Appends before after (script_ran w text).text
     × ((read_failed ≡ true) ⊎ (IsTooLong old new × (text ≢ []))))
-ScriptEnds c (Err tool.Write) old new before after read_failed write_failed =
-    HasRun c old new (λ script. AppendsPart before after script.text) × (write_failed ≡ true)
-ScriptEnds c (Err tool.Memory) old new before after read_failed write_failed =
-    HasRun c old new (λ script. AppendsPart before after script.text)
-ScriptEnds c (Err tool.Config) old new before after read_failed write_failed =
+ScriptEnds w (Err tool.Write) old new before after read_failed write_failed =
+    HasRun w old new (λ script. AppendsPart before after script.text) × (write_failed ≡ true)
+ScriptEnds w (Err tool.Memory) old new before after read_failed write_failed =
+    HasRun w old new (λ script. AppendsPart before after script.text)
+ScriptEnds w (Err tool.Config) old new before after read_failed write_failed =
     (old ≡ new) × (before ≡ after)
-ScriptEnds c (Err (tool.Threads n)) old new before after read_failed write_failed = ⊥
+ScriptEnds w (Err (tool.Threads n)) old new before after read_failed write_failed = ⊥
 
 -- the same where nothing was refused
 abbrev pub unrefused : Result Unit ToolFault → Result Bool ToolFault

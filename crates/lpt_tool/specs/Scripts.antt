@@ -1,16 +1,18 @@
 -- What the lines of a script do to a world, and what they print.
-use Rattle.std.specs.Prelude.{ℕ, zero, suc, ◌+◌, if◌then◌else◌, is_some, Bool, true, false, List, [], ◌∷◌, ◌++◌, length, slice_get, Option, Some, None}
+use Rattle.std.specs.Prelude.{ℕ, zero, suc, ◌+◌, if◌then◌else◌, is_some, nat_le, Bool, true, false, List, [], ◌∷◌, ◌++◌, length, take, drop, slice_get, Option, Some, None}
 use Rattle.std.specs.Int.{from_bool}
-use Rattle.std.specs.Option.{option_map}
+use Rattle.std.specs.Option.{option_map, option_and_then}
+use Rattle.lpt_memory.specs.Memories.{content_of}
+use Rattle.lpt_packet.specs.declared.direction.Direction.TheVariants.{Up}
 use Rattle.lpt_words.specs.Words.{lines}
-use Rattle.lpt_node.specs.declared.config.Config.{Config}
 use Rattle.lpt_node.specs.declared.side.Side.{Side}
-use Rattle.lpt_print.specs.Printing.{accepted_text, refused_text, releases_text, packet_text, journal_text, unreadable_text}
+use Rattle.lpt_print.specs.Printing.{accepted_text, refused_text, releases_text, packet_text, memory_text, journal_text, unreadable_text}
 use Rattle.lpt_words.specs.declared.grammar.Command.{Command}
 use Rattle.lpt_words.specs.declared.grammar.Command.TheVariants as command
 use Rattle.lpt_words.specs.declared.grammar.Reading.{Reading}
 use Rattle.lpt_words.specs.declared.grammar.Reading.TheVariants.{Skipped, Asks, Unreadable}
 use Rattle.lpt_words.specs.Grammar.{reading_of}
+use Rattle.lpt_words.specs.Loads.{load_packet}
 use Rattle.lpt_world.specs.declared.event.Event.{Event}
 use Rattle.lpt_world.specs.declared.event.Event.TheVariants.{Open, Send, Plain, Finish, Take, Deliver, Tick, Expire}
 use Rattle.lpt_world.specs.declared.fault.StepFault.{StepFault}
@@ -18,7 +20,7 @@ use Rattle.lpt_world.specs.declared.reply.Reply.{Reply}
 use Rattle.lpt_world.specs.Journal.{sent}
 use Rattle.lpt_world.specs.Releases.{releases}
 use Rattle.lpt_world.specs.Replies.{reply}
-use Rattle.lpt_world.specs.Worlds.{Shown, history, refusal_at, with_entry}
+use Rattle.lpt_world.specs.Worlds.{Shown, history, memories_now, refusal_at, with_entry}
 
 -- what a line leaves: the world after it, what it printed, whether an event was refused, and its own
 -- number where it is unreadable
@@ -70,11 +72,22 @@ ticked (suc (suc k)) side w =
 abbrev pub packet_octets : Shown → ℕ → Option (List ℕ)
 packet_octets w n = option_map (λ p. p.octets) (slice_get (sent (history w)) n)
 
+-- so many octets from an address on, where they lie within the content
+abbrev pub octets_from : (address len : ℕ) → List ℕ → Option (List ℕ)
+octets_from address len content =
+    if nat_le (address + len) (length content) then Some (take len (drop address content)) else None
+
+-- so many octets of a memory from an address on, where there is such a memory and they lie within it
+abbrev pub memory_octets : Shown → (id address len : ℕ) → Option (List ℕ)
+memory_octets w id address len =
+    option_and_then (octets_from address len) (content_of id (memories_now w))
+
 -- what a command does
 abbrev pub does : Command → Shown → Ran
 does (command.Open d id m) w = stepped w (Open d id m)
 does (command.Send d id k) w = stepped w (Send d id k)
 does (command.Plain flags service subtype body) w = stepped w (Plain flags service subtype body)
+does (command.Load l) w = stepped w (Open Up l.id (load_packet w.config.apid w.config.source l))
 does (command.Take l n) w = stepped w (Take l n)
 does (command.Deliver l) w = stepped w (Deliver l)
 does (command.Finish d id) w = stepped w (Finish d id)
@@ -83,6 +96,8 @@ does (command.Tick side count) w = ticked count side w
 does (command.Pass l n) w = and_then (stepped w (Take l n)) (λ after. stepped after (Deliver l))
 does command.ShowReleased w = printed w (releases_text (releases w.config (history w)))
 does (command.ShowPacket n) w = printed w (packet_text n (packet_octets w n))
+does (command.ShowMemory id address len) w =
+    printed w (memory_text id address (memory_octets w id address len))
 does command.ShowJournal w = printed w (journal_text (length w.journal))
 
 -- what a line does, by what it says and by its number
@@ -119,6 +134,6 @@ lines_ran (line ∷ more) w n refused =
     let ran = line_ran (reading_of line) n w in
     then_rest ran n refused (lines_ran more) ran.bad
 
--- what a script does to a new world of this configuration
-abbrev pub script_ran : Config → List ℕ → Script
-script_ran c text = lines_ran (lines text) (record { config = c; journal = [] }) 1 0
+-- what a script does to a world
+abbrev pub script_ran : Shown → List ℕ → Script
+script_ran w text = lines_ran (lines text) w 1 0

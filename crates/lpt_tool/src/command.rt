@@ -1,19 +1,20 @@
 //! What a command does to a world and what it prints.
 
 ghost use Rattle.std.specs.Prelude.{◌≡◌, ◌≢◌, ◌<◌, ◌-◌, length, slice_get, IsErrOf, None, IfErr, IfOk, IfSome, OnOk, Err, true, false};
-ghost use Rattle.std.specs.List.{flat_map};
-ghost use Rattle.lpt_print.specs.Printing.{accepted_text, release_text, releases_text};
+ghost use Rattle.lpt_print.specs.Printing.{accepted_text};
 ghost use Rattle.lpt_tool.specs.Ends.{IsTickRefused, LineEnds, TextEnds, unrefused};
 ghost use Rattle.lpt_world.specs.Worlds.{RefusedBy, refusal_at, with_entry};
 ghost use Rattle.lpt_tool.specs.Scripts.{and_then, answered, does, stepped, ticked};
 
+use crate::loading::run_load;
 use crate::printed::{print_accepted, put, put_refused};
+use crate::showing::{show_memory, show_released};
 use lpt_link::Lane;
 use lpt_node::Side;
-use lpt_print::{print_journal, print_none, print_packet, print_release};
+use lpt_print::{print_journal, print_packet};
 use lpt_text::{Sink, ToolFault};
 use lpt_words::Command;
-use lpt_world::{Entry, Event, Release, StepFault, World};
+use lpt_world::{Entry, Event, StepFault, World};
 use std::alloc::Global;
 
 /// The seat of the session, for which scripts ask.
@@ -45,6 +46,7 @@ pub(crate) fn run_command<K: Sink>(
                 out,
             )
         }
+        Command::Load(load) => run_load(alloc, world, &load, out),
         Command::Take(lane, number) => run_event(alloc, world, Event::Take(lane, number), out),
         Command::Deliver(lane) => run_event(alloc, world, Event::Deliver(lane), out),
         Command::Finish(direction, id) => {
@@ -56,6 +58,9 @@ pub(crate) fn run_command<K: Sink>(
         Command::ShowReleased => quietly(show_released(alloc, world.released(), out)),
         Command::ShowPacket(number) => {
             quietly(put(out, print_packet(alloc, number, world.packet(number))))
+        }
+        Command::ShowMemory(id, address, len) => {
+            quietly(show_memory(alloc, world, id, address, len, out))
         }
         Command::ShowJournal => {
             quietly(put(out, print_journal(alloc, world.journal().len() as u64)))
@@ -73,8 +78,8 @@ fn quietly(written: Result<(), ToolFault>) -> Result<bool, ToolFault>
     }
 }
 
-// Asks the world for an event, and prints what it answers.
-fn run_event<K: Sink>(
+/// Asks the world for an event, prints what it answers, and answers whether it was refused.
+pub(crate) fn run_event<K: Sink>(
     alloc: Global,
     world: &mut World,
     event: Event,
@@ -182,32 +187,4 @@ fn tick(world: &mut World, side: Side) -> Result<(), StepFault>
         Ok(_) => Ok(()),
         Err(refused) => Err(refused.fault),
     }
-}
-
-// Prints the released messages, or that there is none.
-fn show_released<K: Sink>(alloc: Global, releases: &[Release], out: &mut K) -> Result<(), ToolFault>
-    ensures ends { TextEnds (releases_text releases.now) result (K.contents out.old) (K.contents out.new) }
-    ensures cause { IsErrOf result ToolFault.Write → K.failed out.new ≡ true }
-    ensures told { result ≢ Err ToolFault.Write → K.failed out.new ≡ K.failed out.old }
-{
-    if releases.is_empty() {
-        put(out, print_none(alloc))
-    } else {
-        put_releases(alloc, releases, out)
-    }
-}
-
-// Prints released messages, one a line.
-fn put_releases<K: Sink>(alloc: Global, releases: &[Release], out: &mut K) -> Result<(), ToolFault>
-    ensures ends { TextEnds (flat_map release_text releases.now) result (K.contents out.old) (K.contents out.new) }
-    ensures cause { IsErrOf result ToolFault.Write → K.failed out.new ≡ true }
-    ensures told { result ≢ Err ToolFault.Write → K.failed out.new ≡ K.failed out.old }
-{
-    for release in releases {
-        match put(out, print_release(alloc, release)) {
-            Ok(()) => {}
-            Err(fault) => return Err(fault),
-        }
-    }
-    Ok(())
 }

@@ -4,22 +4,25 @@
 //! of its own beforehand as its name says, so that each meets another growth of the script's run.
 
 use crate::run_script;
-use crate::tests::USUAL;
+use crate::tests::{USUAL, zeros};
+use lpt_memory::Memories;
 use lpt_text::{Told, ToolFault};
 use std::alloc::Global;
 use std::io::{self, ErrorKind, Write};
 use std::process::Abort;
 
-const SCRIPT: &str = "open up 7 000102030405060708\nsend up 7 1\npass s1 0\nshow packet 0\n";
+const SCRIPT: &str = "open up 7 000102030405060708\nsend up 7 1\npass s1 0\nshow packet 0\n\
+    load 1 0 0 1 0 11111111\nshow memory 1 0 2\n";
 
 /// What that prints.
 const TEXT: &[u8] = b"opened up 7 parts 2\nput 0\ntook 0\nkept up 7 1\n\
-    packet 0 1864c0000012200d090001000700010001020304050607f40d\n";
+    packet 0 1864c0000012200d090001000700010001020304050607f40d\n\
+    opened up 1 parts 4\nmemory 1 0 0000\n";
 
 /// A writer into an array, which takes no memory.
 #[derive(Drop)]
 struct Fixed {
-    held: [u8; 128],
+    held: [u8; 160],
     len: usize,
 }
 
@@ -46,12 +49,18 @@ fn walk(rt: &impl Abort, alloc: Global, own: usize) -> bool {
             return true;
         }
     }
+    let Ok(contents) = zeros(alloc) else {
+        return true;
+    };
+    let Ok(memories) = Memories::new(contents) else {
+        return true;
+    };
     let mut reader = Told::new(SCRIPT.as_bytes());
     let mut out = Told::new(Fixed {
-        held: [0; 128],
+        held: [0; 160],
         len: 0,
     });
-    let ended = run_script(alloc, USUAL, &mut reader, &mut out);
+    let ended = run_script(alloc, USUAL, memories, &mut reader, &mut out);
     let Fixed { held, len } = out.into_inner();
     let written = held.get(..len).unwrap_or(&held);
     match ended {

@@ -4,8 +4,10 @@
 mod command;
 mod decoding;
 mod end;
+mod loading;
 mod printed;
 mod script;
+mod showing;
 
 pub use decoding::decode;
 pub use end::ScriptEnd;

@@ -5,11 +5,12 @@ ghost use Rattle.lpt_tool.specs.Ends.{CutEnds, LineEnds, LinesEnd, RunEnds, Scri
 ghost use Rattle.lpt_tool.specs.Scripts.{line_ran, lines_ran, unreadable};
 ghost use Rattle.lpt_words.specs.Grammar.{reading_of};
 ghost use Rattle.lpt_words.specs.Words.{lines};
-ghost use Rattle.lpt_world.specs.Worlds.{config_fault};
+ghost use Rattle.lpt_world.specs.Worlds.{config_fault, new_world};
 
 use crate::ScriptEnd;
 use crate::command::run_command;
 use crate::printed::put;
+use lpt_memory::Memories;
 use lpt_node::Config;
 use lpt_print::print_unreadable;
 use lpt_text::{End, Sink, Source, ToolFault, read_text, whole_lines};
@@ -17,7 +18,7 @@ use lpt_words::{Reading, read_line, split_line};
 use lpt_world::{ConfigFault, World};
 use std::alloc::Global;
 
-/// Runs a script from a reader on a new world of this configuration, and writes what its lines print.
+/// Runs a script from a reader on a new world of this configuration and these memories, and writes what its lines print.
 ///
 /// The text is read to its end, 16,777,216 octets at most, and then run line by line.
 ///
@@ -28,10 +29,11 @@ use std::alloc::Global;
 pub fn run_script<S: Source, K: Sink>(
     alloc: Global,
     config: Config,
+    memories: Memories,
     reader: &mut S,
     out: &mut K,
 ) -> Result<ScriptEnd, ToolFault>
-    ensures ends { ScriptEnds config result (S.remaining reader.old) (S.remaining reader.new)
+    ensures ends { ScriptEnds (new_world config memories) result (S.remaining reader.old) (S.remaining reader.new)
         (K.contents out.old) (K.contents out.new) (S.failed reader.new) (K.failed out.new) }
     ensures config { IsErrOf result ToolFault.Config ↔ IsSome (config_fault config) }
 
@@ -39,7 +41,7 @@ pub fn run_script<S: Source, K: Sink>(
     ensures told { result ≢ Err ToolFault.Write → K.failed out.new ≡ K.failed out.old }
     ensures read { IsOk result → S.failed reader.new ≡ S.failed reader.old }
 {
-    let mut world = match World::new(alloc, config) {
+    let mut world = match World::new(alloc, config, memories) {
         Ok(world) => world,
         Err(ConfigFault::Memory) => return Err(ToolFault::Memory),
         Err(_) => return Err(ToolFault::Config),

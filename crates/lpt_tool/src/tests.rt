@@ -1,8 +1,11 @@
 //! Whole scripts with the text that they print, written out by hand from the rules of the lines.
 
 use crate::{decode, run_script};
+use lpt_memory::Memories;
 use lpt_node::Config;
+use lpt_packet::Octets;
 use lpt_text::{Told, ToolFault};
+use std::alloc::{AllocError, Global};
 use std::io::{self, ErrorKind, Write};
 use std::test::Fail;
 
@@ -16,6 +19,13 @@ pub(crate) const USUAL: Config = Config {
     outgoing: 8,
     clock: 0,
 };
+
+/// The memories of an empty file: one memory 1 of 256 octets of zero.
+pub(crate) fn zeros(alloc: Global) -> Result<Vec<(u8, Octets)>, AllocError> {
+    let mut contents = Vec::new(alloc);
+    contents.push((1, Octets::from_vec(vec![in alloc; 0; 256]?)))?;
+    Ok(contents)
+}
 
 /// A message of 20 octets, opened and sent in three parts.
 const SENT: &str = "open up 7 000102030405060708090a0b0c0d0e0f10111213\n\
@@ -44,7 +54,13 @@ fn run(
     script.extend_from_slice(second.as_bytes())?;
     let mut reader = Told::new(script.as_slice());
     let mut out = Told::new(Vec::new(alloc));
-    let ended = run_script(alloc, config, &mut reader, &mut out);
+    let ended = run_script(
+        alloc,
+        config,
+        Memories::new(zeros(alloc)?)?,
+        &mut reader,
+        &mut out,
+    );
     Ok((ended.map(|end| end.refused), out.into_inner()))
 }
 
@@ -177,6 +193,41 @@ fn a_plain_request_is_released_as_it_is(rt: HostRuntime) -> Result<(), Fail> {
 }
 
 #[test]
+fn a_load_is_opened_and_memories_are_shown(rt: HostRuntime) -> Result<(), Fail> {
+    // The packet of the load has 27 octets: four parts of 8. So far nothing executes it.
+    let (ended, text) = run(
+        &rt,
+        USUAL,
+        "load 1 0 0 1 0 11111111\nshow memory 1 0 4\nshow memory 1 255 1\nshow memory 1 255 2\n",
+        "show memory 1 256 0\nshow memory 1 257 0\nshow memory 2 0 1\nload 1 0 0 1 0 11\nload 2 0 0 1 0 -\n",
+    )?;
+    assert_eq!(rt; ended, Err(ToolFault::Line(9)));
+    assert_eq!(rt;
+        text.as_slice(),
+        b"opened up 1 parts 4\nmemory 1 0 00000000\nmemory 1 255 00\nmemory 1 255 none\n\
+        memory 1 256 -\nmemory 1 257 none\nmemory 2 0 none\nrefused 41 InUse\nline 9: unreadable\n"
+            .as_slice()
+    );
+    Ok(())
+}
+
+#[test]
+fn a_load_is_released_as_it_was_written(rt: HostRuntime) -> Result<(), Fail> {
+    // Sequence count 5, flags 9, two areas of memory 1; the checksum of abcdef01 is 04a2, of 00 e1f0.
+    let (ended, text) = run(
+        &rt,
+        USUAL,
+        "load 3 5 9 1 16 abcdef01 252 00\nsend up 3 1\nsend up 3 2\nsend up 3 3\nsend up 3 4\nsend up 3 5\n",
+        "pass s1 4\npass s2 3\npass s1 2\npass s2 1\npass s1 0\nshow released\n",
+    )?;
+    assert_eq!(rt; ended, Ok(0));
+    let wanted = b"released up 3 36\n\
+        up 3 1864c005001d29060200010102000000100004abcdef0104a2000000fc000100e1f00e5a\n";
+    assert!(rt; text.as_slice().ends_with(wanted));
+    Ok(())
+}
+
+#[test]
 fn ticks_before_a_refused_one_stay(rt: HostRuntime) -> Result<(), Fail> {
     let late = Config {
         clock: 4_294_967_293,
@@ -247,7 +298,13 @@ fn too_long_scripts_run_their_whole_lines(rt: HostRuntime) -> Result<(), Fail> {
         let script = vec![in alloc; octet; len]?;
         let mut reader = Told::new(script.as_slice());
         let mut out = Told::new(Vec::new(alloc));
-        let ended = run_script(alloc, USUAL, &mut reader, &mut out);
+        let ended = run_script(
+            alloc,
+            USUAL,
+            Memories::new(zeros(alloc)?)?,
+            &mut reader,
+            &mut out,
+        );
         assert_eq!(rt; ended.map(|end| end.refused), wanted);
         assert_eq!(rt; out.into_inner().as_slice(), printed.as_bytes());
     }
@@ -284,7 +341,13 @@ fn a_failed_write_ends_the_run(rt: HostRuntime) -> Result<(), Fail> {
         let mut reader = Told::new(SENT.as_bytes());
         let held = Vec::new(alloc);
         let mut out = Told::new(Full { held, room });
-        let ended = run_script(alloc, USUAL, &mut reader, &mut out);
+        let ended = run_script(
+            alloc,
+            USUAL,
+            Memories::new(zeros(alloc)?)?,
+            &mut reader,
+            &mut out,
+        );
         assert_eq!(rt; ended.map(|end| end.refused), Err(ToolFault::Write));
         assert_eq!(rt;
             out.into_inner().held.as_slice(),

@@ -2,13 +2,16 @@
 use Rattle.std.specs.Prelude.{◌≡◌, ℕ, ◌==◌, Bool, false, if◌then◌else◌, nat_lt, List, [], ◌∷◌, length, ◌⊎◌, Option, Some, None, codes}
 use Rattle.std.specs.Option.{option_map, option_and_then}
 use Rattle.lpt_link.specs.declared.lane.Lane.{Lane}
+use Rattle.lpt_memory.specs.declared.request.Area.{Area}
 use Rattle.lpt_words.specs.declared.grammar.Command.{Command}
 use Rattle.lpt_words.specs.declared.grammar.Command.TheVariants as command
 use Rattle.lpt_words.specs.declared.grammar.Reading.{Reading}
 use Rattle.lpt_words.specs.declared.grammar.Reading.TheVariants.{Skipped, Asks, Unreadable}
+use Rattle.lpt_words.specs.declared.load.Load.{Load}
+use Rattle.lpt_words.specs.Loads.{if_written}
 use Rattle.lpt_words.specs.declared.names.Keyword.{Keyword}
 use Rattle.lpt_words.specs.declared.names.Keyword.TheVariants as key
-use Rattle.lpt_words.specs.Names.{keyword_of, direction_of, lane_of, node_of, u16_of, u8_of, flags_of, packet_number_of, count_of}
+use Rattle.lpt_words.specs.Names.{keyword_of, direction_of, lane_of, node_of, u8_of, u16_of, u32_of, flags_of, packet_number_of, count_of}
 use Rattle.lpt_words.specs.Numbers.{is_word, octets_of}
 use Rattle.lpt_words.specs.Words.{words}
 
@@ -46,6 +49,36 @@ plain_of (f ∷ s ∷ t ∷ m ∷ []) = do
   body ← octets_of m
   Some (command.Plain flags service subtype body)
 plain_of _ = None
+
+-- `ADDR HEX`: an area of a load
+abbrev pub area_of : List ℕ → List ℕ → Option Area
+area_of a m = do
+  address ← u32_of a
+  octets ← octets_of m
+  Some (record { address = address; octets = octets })
+
+-- pairs of words, an area each
+abbrev pub areas_of : List (List ℕ) → Option (List Area)
+areas_of [] = Some []
+areas_of (a ∷ []) = None
+areas_of (a ∷ m ∷ ws) = do
+  first ← area_of a m
+  others ← areas_of ws
+  Some (first ∷ others)
+
+-- the load of these words and areas
+abbrev pub load_with : List ℕ → List ℕ → List ℕ → List ℕ → List Area → Option Load
+load_with i s f m areas = do
+  id ← u16_of i
+  count ← u16_of s
+  flags ← flags_of f
+  memory ← u8_of m
+  if_written (record { id = id; count = count; flags = flags; memory = memory; areas = areas })
+
+-- `load ID SEQ FLAGS MEM ADDR HEX [ADDR HEX ..]`
+abbrev pub load_of : List (List ℕ) → Option Load
+load_of (i ∷ s ∷ f ∷ m ∷ ws) = areas_of ws >>= load_with i s f m
+load_of _ = None
 
 -- `LANE N`
 abbrev pub lane_and_packet_of : List (List ℕ) → Option (Lane × ℕ)
@@ -97,12 +130,28 @@ show_whole_of word =
     else if is_word (codes "journal") word then Some command.ShowJournal
     else None
 
--- those and `show packet N`
+-- `packet N` behind `show`
+abbrev pub show_packet_of : List (List ℕ) → Option Command
+show_packet_of (n ∷ []) = option_map command.ShowPacket (packet_number_of n)
+show_packet_of _ = None
+
+-- `memory ID ADDR LEN` behind `show`
+abbrev pub show_memory_of : List (List ℕ) → Option Command
+show_memory_of (i ∷ a ∷ n ∷ []) = do
+  id ← u8_of i
+  address ← u32_of a
+  len ← u32_of n
+  Some (command.ShowMemory id address len)
+show_memory_of _ = None
+
+-- all of these
 abbrev pub show_of : List (List ℕ) → Option Command
+show_of [] = None
 show_of (w ∷ []) = show_whole_of w
-show_of (w ∷ n ∷ []) =
-    if is_word (codes "packet") w then option_map command.ShowPacket (packet_number_of n) else None
-show_of _ = None
+show_of (w ∷ n ∷ ws) =
+    if is_word (codes "memory") w then show_memory_of (n ∷ ws)
+    else if is_word (codes "packet") w then show_packet_of (n ∷ ws)
+    else None
 
 -- the command of a keyword and the words after it
 abbrev pub arguments_of : Keyword → List (List ℕ) → Option Command
@@ -116,13 +165,17 @@ arguments_of key.Finish ws = finish_of ws
 arguments_of key.Tick ws = tick_of ws
 arguments_of key.Expire ws = expire_of ws
 arguments_of key.Plain ws = plain_of ws
+arguments_of key.Load ws = option_map command.Load (load_of ws)
 
 -- ---- lines
 
--- the first word is `open` or `plain`: a line that takes memory
+-- the first word is `open`, `plain` or `load`: a line that takes memory
 abbrev pub TakesMemory : List (List ℕ) → Type 0
 TakesMemory [] = ⊥
-TakesMemory (w ∷ ws) = (keyword_of w ≡ Some key.Open) ⊎ (keyword_of w ≡ Some key.Plain)
+TakesMemory (w ∷ ws) =
+    (keyword_of w ≡ Some key.Open)
+    ⊎ (keyword_of w ≡ Some key.Plain)
+    ⊎ (keyword_of w ≡ Some key.Load)
 
 -- whether a word begins a comment
 abbrev pub is_comment : List ℕ → Bool

@@ -1,4 +1,5 @@
 pub mod Grammar
+pub mod Loads
 pub mod Numbers
 pub mod Words
 pub mod Names

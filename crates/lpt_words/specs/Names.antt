@@ -24,6 +24,7 @@ keyword_of word =
     else if is_word (codes "tick") word then Some key.Tick
     else if is_word (codes "expire") word then Some key.Expire
     else if is_word (codes "plain") word then Some key.Plain
+    else if is_word (codes "load") word then Some key.Load
     else None
 
 -- the direction that a word names
@@ -50,9 +51,13 @@ u16_of word = number_of 65535 word
 abbrev pub flags_of : List ℕ → Option ℕ
 flags_of word = number_of 15 word
 
--- a service type or a message subtype
+-- a service type, a message subtype or the identifier of a memory
 abbrev pub u8_of : List ℕ → Option ℕ
 u8_of word = number_of 255 word
+
+-- an address in a memory, or how many octets of it
+abbrev pub u32_of : List ℕ → Option ℕ
+u32_of word = number_of 4294967295 word
 
 -- the number of a packet
 abbrev pub packet_number_of : List ℕ → Option ℕ

@@ -2,11 +2,12 @@
 
 ghost use Rattle.std.specs.Prelude.{◌≡◌, ◌⊎◌, IfOk, OnErr};
 ghost use Rattle.lpt_words.specs.Words.{words};
-ghost use Rattle.lpt_words.specs.Grammar.{lane_and_packet_of, open_of, send_of, plain_of, take_of, deliver_of, pass_of, finish_of, tick_of, expire_of, show_of, show_whole_of, arguments_of, is_comment, words_reading, reading_of, TakesMemory};
+ghost use Rattle.lpt_words.specs.Grammar.{lane_and_packet_of, open_of, send_of, plain_of, take_of, deliver_of, pass_of, finish_of, tick_of, expire_of, show_of, show_memory_of, show_whole_of, arguments_of, is_comment, words_reading, reading_of, TakesMemory};
 
+use crate::load::{Load, read_load};
 use crate::names::{
     Keyword, read_count, read_direction, read_flags, read_keyword, read_lane, read_node,
-    read_packet_number, read_u8, read_u16,
+    read_packet_number, read_u8, read_u16, read_u32,
 };
 use crate::numbers::read_hex;
 use crate::words::{LONGEST_LINE, split_word};
@@ -25,6 +26,8 @@ pub enum Command {
     Send(Direction, Name, u16),
     /// `plain FLAGS SERVICE SUBTYPE HEX`: puts a plain request of this body on the link.
     Plain(AckFlags, u8, u8, Octets),
+    /// `load ID SEQ FLAGS MEM ADDR HEX [ADDR HEX ..]`: opens the packet of a load as a message up.
+    Load(Load),
     /// `take LANE N`: takes the packet of this number into the lane's hand.
     Take(Lane, u64),
     /// `deliver LANE`: delivers the packet in the lane's hand.
@@ -41,6 +44,8 @@ pub enum Command {
     ShowReleased,
     /// `show packet N`: prints the octets of the packet of this number.
     ShowPacket(u64),
+    /// `show memory ID ADDR LEN`: prints so many octets of a memory, from an address on.
+    ShowMemory(u8, u32, u32),
     /// `show journal`: prints how long the journal is.
     ShowJournal,
 }
@@ -60,16 +65,18 @@ pub enum Reading {
 ///
 /// A blank line and one whose first word begins with `#` are skipped, whatever else they hold. A
 /// line of more than 140,000 octets is unreadable, even one that would be skipped. The words of a
-/// command are in lower case: DIRECTION is `up` or `down`, LANE is `s1`, `s2`, `g1` or `g2`, NODE is
-/// `craft` or `ground`, ID and K are numbers to 65,535, FLAGS is one to 15, SERVICE and SUBTYPE are
-/// numbers to 255, N is one of at most ten digits, and HEX is as `read_hex` reads it. Nothing may
-/// follow the last word.
-/// Errors: want of memory, only at a line whose first word is `open` or `plain`.
+/// command are in lower case: DIRECTION is `up` or `down`, LANE is `s1`, `s2`, `g1` or `g2`, NODE
+/// is `craft` or `ground`, ID and K are numbers to 65,535, SEQ is one to 16,383, FLAGS one to 15,
+/// SERVICE, SUBTYPE, MEM and the ID of a memory are numbers to 255, ADDR and LEN to 4,294,967,295,
+/// N is one of at most ten digits, and HEX is as `read_hex` reads it. A load has at least one pair
+/// of ADDR and HEX, and is unreadable where it can't be written (`Load::new`).
+/// Nothing may follow the last word.
+/// Errors: want of memory, only at a line whose first word is `open`, `plain` or `load`.
 #[tactic(auto, unfolding(crate::specs::Grammar::reading_of))]
 pub fn read_line(alloc: Global, line: &[u8]) -> Result<Reading, AllocError>
     ensures says { IfOk result (λ r. r ≡ reading_of line.now) }
 
-    // Only the octets of a message or a request take memory.
+    // Only the octets of a message, a request or a load take memory.
     ensures memory { OnErr result (TakesMemory (words line.now)) }
 {
     if line.len() > LONGEST_LINE {
@@ -104,7 +111,8 @@ fn read_arguments(
     rest: &[u8],
 ) -> Result<Option<Command>, AllocError>
     ensures says { IfOk result (λ r. r ≡ arguments_of keyword (words rest.now)) }
-    ensures memory { OnErr result ((keyword ≡ Keyword.Open) ⊎ (keyword ≡ Keyword.Plain)) }
+    ensures memory { OnErr result ((keyword ≡ Keyword.Open) ⊎ (keyword ≡ Keyword.Plain)
+        ⊎ (keyword ≡ Keyword.Load)) }
 {
     match keyword {
         Keyword::Open => read_open(alloc, rest),
@@ -117,6 +125,7 @@ fn read_arguments(
         Keyword::Tick => Ok(read_tick(rest)),
         Keyword::Expire => Ok(read_expire(rest)),
         Keyword::Plain => read_plain(alloc, rest),
+        Keyword::Load => Ok(read_load(alloc, rest)?.map(Command::Load)),
     }
 }
 
@@ -272,15 +281,34 @@ fn read_expire(rest: &[u8]) -> Option<Command>
 fn read_show(rest: &[u8]) -> Option<Command>
     ensures { result ≡ show_of (words rest.now) }
 {
-    let (what, rest) = split_word(rest)?;
-    let Some((packet, rest)) = split_word(rest) else {
+    let (what, more) = split_word(rest)?;
+    let Some((packet, rest)) = split_word(more) else {
         return read_show_whole(what);
     };
+    if what == b"memory".as_slice() {
+        return read_show_memory(more);
+    }
     if split_word(rest).is_some() || what != b"packet".as_slice() {
         return None;
     }
     let packet = read_packet_number(packet)?;
     Some(Command::ShowPacket(packet))
+}
+
+// The words after `show memory`.
+fn read_show_memory(rest: &[u8]) -> Option<Command>
+    ensures { result ≡ show_memory_of (words rest.now) }
+{
+    let (id, rest) = split_word(rest)?;
+    let (address, rest) = split_word(rest)?;
+    let (len, rest) = split_word(rest)?;
+    if split_word(rest).is_some() {
+        return None;
+    }
+    let id = read_u8(id)?;
+    let address = read_u32(address)?;
+    let len = read_u32(len)?;
+    Some(Command::ShowMemory(id, address, len))
 }
 
 // What is shown whole.

@@ -1,15 +1,18 @@
 //! The lines of a script: how a text is cut into lines and words, and what each line asks for.
 //!
 //! A script is text: lines end with a line feed, and the words of a line stand between spaces. This
-//! crate reads lines; it runs and prints nothing.
+//! crate reads lines; it runs and prints nothing. A line is read as a load only where its areas,
+//! which are those of `lpt_memory`, can be written as one.
 #![tactic(auto)]
 
 mod grammar;
+mod load;
 mod names;
 mod numbers;
 mod words;
 
 pub use grammar::{Command, Reading, read_line};
+pub use load::Load;
 pub use numbers::{read_hex, read_number};
 pub use words::{split_line, split_word};
 

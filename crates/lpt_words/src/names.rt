@@ -1,7 +1,7 @@
 //! The words of a line that name something, each by itself.
 
 ghost use Rattle.std.specs.Prelude.{◌≡◌};
-ghost use Rattle.lpt_words.specs.Names.{count_of, direction_of, flags_of, keyword_of, lane_of, node_of, packet_number_of, u16_of, u8_of};
+ghost use Rattle.lpt_words.specs.Names.{count_of, direction_of, flags_of, keyword_of, lane_of, node_of, packet_number_of, u8_of, u16_of, u32_of};
 
 use crate::numbers::read_number;
 use lpt_link::Lane;
@@ -31,6 +31,7 @@ pub(crate) enum Keyword {
     Expire,
     Finish,
     Plain,
+    Load,
 }
 
 // What the first word of a line asks for.
@@ -57,6 +58,8 @@ pub(crate) fn read_keyword(word: &[u8]) -> Option<Keyword>
         Some(Keyword::Expire)
     } else if word == b"plain".as_slice() {
         Some(Keyword::Plain)
+    } else if word == b"load".as_slice() {
+        Some(Keyword::Load)
     } else {
         None
     }
@@ -108,12 +111,20 @@ pub(crate) fn read_flags(word: &[u8]) -> Option<AckFlags>
     AckFlags::new(number as u8)
 }
 
-// A service type or a message subtype.
+// A service type, a message subtype or the identifier of a memory.
 pub(crate) fn read_u8(word: &[u8]) -> Option<u8>
     ensures { result ≡ u8_of word.now }
 {
     let number = read_number(word, u64::from(u8::MAX))?;
     Some(number as u8)
+}
+
+// An address in a memory, or how many octets of it.
+pub(crate) fn read_u32(word: &[u8]) -> Option<u32>
+    ensures { result ≡ u32_of word.now }
+{
+    let number = read_number(word, u64::from(u32::MAX))?;
+    Some(number as u32)
 }
 
 // The number of a packet.

@@ -1,10 +1,12 @@
 //! Lines of scripts with what they say, worked out by hand.
 
-use crate::{Command, Reading, read_hex, read_line, read_number, split_line, split_word};
+use crate::{Command, Load, Reading, read_hex, read_line, read_number, split_line, split_word};
 use lpt_link::Lane;
+use lpt_memory::Area;
 use lpt_node::Side;
 use lpt_packet::{Direction, Octets};
 use lpt_pus::AckFlags;
+use std::alloc::Global;
 use std::test::Fail;
 
 #[test]
@@ -26,6 +28,11 @@ fn reads_each_kind_of_line(rt: HostRuntime) -> Result<(), Fail> {
         ("expire ground", Command::Expire(Side::Ground)),
         ("show released", Command::ShowReleased),
         ("show packet 4294967296", Command::ShowPacket(4_294_967_296)),
+        ("show memory 1 0 4", Command::ShowMemory(1, 0, 4)),
+        (
+            "show memory 255 4294967295 0",
+            Command::ShowMemory(255, 4_294_967_295, 0),
+        ),
         ("show journal", Command::ShowJournal),
     ];
     for (line, command) in cases {
@@ -65,6 +72,74 @@ fn reads_plain_requests(rt: HostRuntime) -> Result<(), Fail> {
     Ok(())
 }
 
+// An area of these octets.
+fn area(alloc: Global, address: u32, octets: &[u8]) -> Result<Area, Fail> {
+    Ok(Area {
+        address,
+        octets: Octets::from_vec(octets.to_vec(alloc)?),
+    })
+}
+
+#[test]
+fn reads_loads(rt: HostRuntime) -> Result<(), Fail> {
+    let one = [area(rt.alloc(), 16, &[0xab, 0xcd, 0xef, 0x01])?];
+    let two = [
+        area(rt.alloc(), 4_294_967_295, &[0x00, 0x01])?,
+        area(rt.alloc(), 0, &[0xff])?,
+    ];
+    let cases = [
+        (
+            "load 7 16383 9 2 16 abcdef01",
+            (7, 16_383, 9, 2),
+            Vec::from_array(rt.alloc(), one)?,
+        ),
+        (
+            " load  65535 0 15 255 4294967295 0001  0 FF ",
+            (65_535, 0, 15, 255),
+            Vec::from_array(rt.alloc(), two)?,
+        ),
+    ];
+    for (line, (id, count, flags, memory), areas) in cases {
+        let flags = AckFlags::new(flags).ok_or("no flags")?;
+        let load = Load::new(id, count, flags, memory, areas).ok_or("no load")?;
+        let reading = read_line(rt.alloc(), line.as_bytes())?;
+        assert_eq!(rt; reading, Reading::Asks(Command::Load(load)), "{line}");
+    }
+    Ok(())
+}
+
+// A load of so many areas of so many octets each, every octet 0.
+fn load_line(alloc: Global, count: usize, octets: usize) -> Result<Vec<u8>, Fail> {
+    let mut line = b"load 7 1 9 2".to_vec(alloc)?;
+    for _ in 0..count {
+        line.extend_from_slice(b" 0 ")?;
+        for _ in 0..octets {
+            line.extend_from_slice(b"00")?;
+        }
+    }
+    Ok(line)
+}
+
+#[test]
+fn a_load_has_at_most_255_areas_and_fits_a_packet(rt: HostRuntime) -> Result<(), Fail> {
+    // A load's packet has 15 octets, and in each area 8 and its own: 15 + 8 + 65,519 = 65,542 are
+    // the most, 15 + 2 * (8 + 32,755) = 65,541, and 15 + 2 * (8 + 32,764) = 65,559.
+    let cases = [
+        (255, 1, true),
+        (256, 1, false),
+        (1, 65_519, true),
+        (2, 32_755, true),
+        (2, 32_756, false),
+        (2, 32_764, false),
+    ];
+    for (count, octets, is_read) in cases {
+        let line = load_line(rt.alloc(), count, octets)?;
+        let reading = read_line(rt.alloc(), &line)?;
+        assert!(rt; matches!(&reading, Reading::Asks(_)) == is_read);
+    }
+    Ok(())
+}
+
 #[test]
 fn skips_comments_and_blank_lines_and_nothing_else(rt: HostRuntime) -> Result<(), Fail> {
     for line in [
@@ -86,7 +161,13 @@ fn skips_comments_and_blank_lines_and_nothing_else(rt: HostRuntime) -> Result<()
         "show packet",
         "show packet 1 2",
         "show released 1",
+        "show memory",
         "show memory 1",
+        "show memory 1 0",
+        "show memory 1 0 4 1",
+        "show memory 256 0 4",
+        "show memory 1 4294967296 4",
+        "show memory 1 0 4294967296",
         "Show journal",
         "shows journal",
         "\t",
@@ -122,6 +203,18 @@ fn skips_comments_and_blank_lines_and_nothing_else(rt: HostRuntime) -> Result<()
         "plain 0 6 256 -",
         "plain 0 6 2 0",
         "plain 0 6 2 - 1",
+        "load",
+        "load 7 1 9 2",
+        "load 7 1 9 2 0",
+        "load 7 1 9 2 0 00 1",
+        "load 7 1 9 2 0 -",
+        "load 7 1 9 2 0 00 1 -",
+        "load 7 1 9 2 0 0",
+        "load 7 1 9 2 4294967296 00",
+        "load 7 1 9 256 0 00",
+        "load 7 1 16 2 0 00",
+        "load 7 16384 9 2 0 00",
+        "load 65536 1 9 2 0 00",
     ];
     for line in unreadable {
         let reading = read_line(rt.alloc(), line.as_bytes())?;

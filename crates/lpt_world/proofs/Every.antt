@@ -19,6 +19,7 @@ use Rattle.lpt_world.specs.Journal.{Recorded, History, hand, arrival_at, in_hand
 use Rattle.lpt_world.specs.Releases.{released_by}
 use Rattle.lpt_node.specs.Configs.{IsConfig}
 use Rattle.lpt_world.specs.Replies.{entry, recorded, refusal, IsEnabled, Legal}
+use Rattle.lpt_world.proofs.MemoryLemmas.{memories_stay}
 use Rattle.lpt_world.specs.Headline.{PartsAreCurrent, EachIsLastOpened, IsSoundDelivery, DeliveriesAreSound, Headline}
 use Rattle.lpt_world.proofs.TestLemmas.{one_passes, no_place}
 use Rattle.lpt_world.proofs.Steps.{IsSound, Owes}
@@ -165,4 +166,5 @@ headline c es good legal =
       messages = each_last c h all.1;
       once = all.1.once;
       deliveries = deliveries c h all.0;
+      memories = λ first. memories_stay c first h;
     }

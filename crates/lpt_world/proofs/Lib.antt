@@ -20,6 +20,7 @@ pub mod Listed
 pub mod ListedSets
 pub mod MadeLemmas
 pub mod MapLemmas
+pub mod MemoryLemmas
 pub mod OnceLemmas
 pub mod OutcomeLemmas
 pub mod PlainEvents

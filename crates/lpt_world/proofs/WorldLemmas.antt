@@ -14,6 +14,7 @@ use Rattle.lpt_link.specs.declared.lane.Lane.{Lane}
 use Rattle.lpt_link.specs.declared.lane.Lane.TheVariants.{S1, S2, G1, G2}
 use Rattle.lpt_link.specs.declared.packet.LinkPacket.{LinkPacket}
 use Rattle.lpt_link.specs.Links.{octets_at, empty_link, hand_of}
+use Rattle.lpt_memory.specs.Memories.{Contents}
 use Rattle.lpt_node.specs.declared.config.Config.{Config}
 use Rattle.lpt_node.specs.declared.telemetry.TelemetryKind.{TelemetryKind}
 use Rattle.lpt_node.specs.declared.telemetry.TelemetryKind.TheVariants.{Accepted, NotAccepted, Started, NotStarted, Completed, Dump, Check, FirstPart, MiddlePart, LastPart, Abort}
@@ -104,17 +105,17 @@ packet_shown e j n k =
 -- ---- calls
 
 -- what the ends refuse is what the world refuses of a seat that there is
-pub refusal_at_shown : (e : Ends) (j : List Entry) (seat : ℕ) (ev : Event) → IsShown e j → seat ≤ 10
-    → refusal_of e.config (state_of e) ev ≡ refusal_at (record { config = e.config; journal = j }) seat ev
-refusal_at_shown e j seat ev k h =
+pub refusal_at_shown : (e : Ends) (first : Contents) (j : List Entry) (seat : ℕ) (ev : Event) → IsShown e j → seat ≤ 10
+    → refusal_of e.config (state_of e) ev ≡ refusal_at (record { config = e.config; first = first; journal = j }) seat ev
+refusal_at_shown e first j seat ev k h =
     let there : nat_lt 10 seat ≡ false = lt_false 10 seat h in
     refusal_agrees e.config (state_of e) (history_of e.config j) ev k.shows
     ∙ sym (ap (λ t. if t then Some NoSuchSeat else refusal e.config (history_of e.config j) ev) there)
 
 -- what the world doesn't refuse the ends don't
-pub free_shown : (e : Ends) (j : List Entry) (seat : ℕ) (ev : Event) → IsShown e j → None ≡ refusal_at (record { config = e.config; journal = j }) seat ev
+pub free_shown : (e : Ends) (first : Contents) (j : List Entry) (seat : ℕ) (ev : Event) → IsShown e j → None ≡ refusal_at (record { config = e.config; first = first; journal = j }) seat ev
     → refusal_of e.config (state_of e) ev ≡ None
-free_shown e j seat ev k h = refusal_agrees e.config (state_of e) (history_of e.config j) ev k.shows ∙ go (nat_lt 10 seat) h where
+free_shown e first j seat ev k h = refusal_agrees e.config (state_of e) (history_of e.config j) ev k.shows ∙ go (nat_lt 10 seat) h where
   go : (t : Bool) → None ≡ (if t then Some NoSuchSeat else refusal e.config (history_of e.config j) ev) → refusal e.config (history_of e.config j) ev ≡ None
   go true f = absurd cc
   go false f = sym f

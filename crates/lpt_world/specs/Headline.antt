@@ -7,6 +7,7 @@ use Rattle.lpt_packet.specs.Names.{Name}
 use Rattle.lpt_part.specs.declared.reason.Reason.{Reason}
 use Rattle.lpt_part.specs.Parts.{Piece}
 use Rattle.lpt_part.specs.Splitting.{part_count}
+use Rattle.lpt_memory.specs.Memories.{Contents}
 use Rattle.lpt_reception.specs.Received.{Kept as KeptPart}
 use Rattle.lpt_link.specs.declared.lane.Lane.{Lane}
 use Rattle.lpt_link.specs.Lanes.{lane_direction}
@@ -23,6 +24,7 @@ use Rattle.lpt_world.specs.Senders.{current}
 use Rattle.lpt_world.specs.Receivers.{heard}
 use Rattle.lpt_world.specs.Delivery.{outcome}
 use Rattle.lpt_world.specs.Releases.{releases}
+use Rattle.lpt_world.specs.Memory.{memories}
 use Rattle.lpt_node.specs.Configs.{IsConfig}
 use Rattle.lpt_world.specs.Replies.{recorded, Legal}
 
@@ -108,15 +110,23 @@ pub record IsSoundDelivery (c : Config) (h : History) (l : Lane) : Type 0 where
 abbrev pub DeliveriesAreSound : Config → History → Type 0
 DeliveriesAreSound c h = (l : Lane) → is_some (hand h l) ≡ true → IsSoundDelivery c h l
 
+-- ---- memories
+
+-- so far nothing is executed, so memories keep their first content
+abbrev pub MemoriesStay : Config → History → Type 0
+MemoriesStay c h = (first : Contents) → memories c first h ≡ first
+
 -- ---- the main theorem
 
 -- Every part on its way or heard is of the message last opened under its name. Each large message
 -- that was released is the one last opened under its name, and that once. Deliveries are sound.
+-- Memories keep their first content.
 pub record Holds (c : Config) (h : History) : Type 0 where
   pub parts : PartsAreCurrent c h
   pub messages : EachIsLastOpened c h
   pub once : AtMostOncePerOpening c h
   pub deliveries : DeliveriesAreSound c h
+  pub memories : MemoriesStay c h
 
 -- it holds of every legal journal, whatever its events, their order and their number
 abbrev pub Headline : Type 0

@@ -7,6 +7,7 @@ pub mod Expiry
 pub mod FaultNames
 pub mod Headline
 pub mod Journal
+pub mod Memory
 pub mod Receivers
 pub mod Releases
 pub mod Replies

@@ -1,5 +1,6 @@
--- A world as its readers show it: its configuration and its journal.
+-- A world as its readers show it: its configuration, the first content of its memories, and its journal.
 use Rattle.std.specs.Prelude.{◌≡◌, ℕ, nat_lt, ◌==◌, ◌||◌, if◌then◌else◌, List, [], ◌∷◌, ◌++◌, map, reverse, Option, Some, None}
+use Rattle.lpt_memory.specs.Memories.{Contents}
 use Rattle.lpt_node.specs.declared.config.Config.{Config}
 use Rattle.lpt_world.specs.declared.config_fault.ConfigFault.{ConfigFault}
 use Rattle.lpt_world.specs.declared.config_fault.ConfigFault.TheVariants as configured
@@ -9,12 +10,18 @@ use Rattle.lpt_world.specs.declared.fault.StepFault.{StepFault}
 use Rattle.lpt_world.specs.declared.fault.StepFault.TheVariants.{NoSuchSeat, Memory}
 use Rattle.lpt_world.specs.declared.reply.Reply.{Reply}
 use Rattle.lpt_world.specs.Journal.{History}
+use Rattle.lpt_world.specs.Memory.{memories}
 use Rattle.lpt_world.specs.Replies.{IsEnabled, recorded, refusal, reply}
 
--- the configuration, and the journal with its oldest entry first
+-- the configuration, the memories as they were first, and the journal with its oldest entry first
 pub record Shown : Type 0 where
   pub config : Config
+  pub first : Contents
   pub journal : List Entry
+
+-- a world in which nothing has happened
+abbrev pub new_world : Config → Contents → Shown
+new_world c first = record { config = c; first = first; journal = [] }
 
 -- the events of a journal, the newest first
 abbrev pub events_of : List Entry → List Event
@@ -27,6 +34,10 @@ history_of c j = recorded c (events_of j)
 -- what a world's journal tells
 abbrev pub history : Shown → History
 history w = history_of w.config w.journal
+
+-- a world's memories now
+abbrev pub memories_now : Shown → Contents
+memories_now w = memories w.config w.first (history w)
 
 -- each entry's event can happen after those before it, and its reply is the one that it gives then
 abbrev pub IsToldAfter : Config → List Event → List Entry → Type 0

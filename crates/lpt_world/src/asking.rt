@@ -2,6 +2,7 @@
 
 use crate::*;
 use lpt_link::Lane::{self, S1};
+use lpt_memory::Memories;
 use lpt_node::{Config, Outcome};
 use lpt_packet::Direction::{self, Up};
 use lpt_packet::{Name, Octets};
@@ -122,9 +123,21 @@ fn message(alloc: Global, octets: usize) -> Result<Octets, AllocError> {
     Ok(Octets::from_vec(items))
 }
 
+/// The identifier and the content of a memory 1 of so many octets of zero.
+pub(crate) fn zeros(alloc: Global, size: usize) -> Result<Vec<(u8, Octets)>, AllocError> {
+    let mut contents = Vec::new(alloc);
+    contents.push((1, Octets::from_vec(vec![in alloc; 0; size]?)))?;
+    Ok(contents)
+}
+
+/// A memory 1 of 256 octets of zero.
+pub(crate) fn memories(alloc: Global) -> Result<Memories, Fail> {
+    Ok(Memories::new(zeros(alloc, 256)?)?)
+}
+
 /// Plays the rows in a new world, and looks at what it shows.
 pub(crate) fn play(rt: &impl Abort, alloc: Global, scene: &Scene) -> Result<(), Fail> {
-    let mut world = World::new(alloc, scene.config)?;
+    let mut world = World::new(alloc, scene.config, memories(alloc)?)?;
     for (number, row) in scene.rows.iter().enumerate() {
         assert!(rt; comes(alloc, &mut world, row)?, "at row {number}");
     }
@@ -213,7 +226,7 @@ fn has_released(alloc: Global, world: &World, wants: &[Message]) -> Result<bool,
 
 /// Runs a new world through the events of the rows, and gives how many it did and why not more.
 pub(crate) fn run(alloc: Global, rows: &[Row]) -> Result<(u64, Option<StepFault>), Fail> {
-    let mut world = World::new(alloc, CONFIG)?;
+    let mut world = World::new(alloc, CONFIG, memories(alloc)?)?;
     let mut events = Vec::new(alloc);
     for row in rows {
         events.push(event(alloc, row.asked)?)?;

@@ -6,7 +6,9 @@
 use super::*;
 use crate::asking::*;
 use crate::tests::PACKET_0;
+use lpt_memory::Memories;
 use lpt_packet::Direction::Up;
+use lpt_packet::Octets;
 use std::alloc::{AllocError, Global};
 use std::process::Abort;
 use std::test::Fail;
@@ -29,14 +31,22 @@ fn stands(alloc: Global, world: &World, done: usize) -> Result<bool, AllocError>
     shows(alloc, world, &scene)
 }
 
-// A world. Where want of memory refuses it, it is made at the second try.
-fn make(rt: &impl Abort, alloc: Global, failed: &mut bool) -> Result<World, ConfigFault> {
-    match World::new(alloc, CONFIG) {
+/// The identifiers and the octets of memories.
+type Contents = Vec<(u8, Octets)>;
+
+// A world of the first memories. Where want of memory refuses it, it is made of the second.
+fn make(
+    rt: &impl Abort,
+    alloc: Global,
+    (first, second): (Contents, Contents),
+    failed: &mut bool,
+) -> Result<World, Fail> {
+    match World::new(alloc, CONFIG, Memories::new(first)?) {
         Ok(world) => Ok(world),
         Err(fault) => {
             *failed = true;
             assert_eq!(rt; fault, ConfigFault::Memory);
-            World::new(alloc, CONFIG)
+            Ok(World::new(alloc, CONFIG, Memories::new(second)?)?)
         }
     }
 }
@@ -76,8 +86,11 @@ fn walk(rt: &impl Abort, alloc: Global, own: usize) -> Result<bool, Fail> {
             return Ok(true);
         }
     }
+    let (Ok(first), Ok(second)) = (zeros(alloc, 256), zeros(alloc, 256)) else {
+        return Ok(true);
+    };
     let mut failed = false;
-    let mut world = make(rt, alloc, &mut failed)?;
+    let mut world = make(rt, alloc, (first, second), &mut failed)?;
     for (done, row) in first_path().iter().enumerate() {
         match comes(rt, alloc, &mut world, done, row, &mut failed)? {
             Some(right) => assert!(rt; right, "at row {done}"),

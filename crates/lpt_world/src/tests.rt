@@ -3,8 +3,10 @@
 use super::*;
 use crate::asking::*;
 use lpt_link::Lane::{G1, S1, S2};
+use lpt_memory::{Memories, Ticket, prepare};
 use lpt_node::{Config, Outcome, Why};
 use lpt_packet::Direction::{Down, Up};
+use lpt_packet::Octets;
 use std::test::Fail;
 
 /// The first packet of the first path: the octets 0 to 7 as part 1 of the message 7.
@@ -48,9 +50,47 @@ fn runs_events_up_to_the_first_that_is_refused(rt: HostRuntime) -> Result<(), Fa
 
 #[test]
 fn knows_its_configuration(rt: HostRuntime) -> Result<(), Fail> {
-    let world = World::new(rt.alloc(), CONFIG)?;
+    let world = World::new(rt.alloc(), CONFIG, memories(rt.alloc())?)?;
     assert!(rt; world.config() == CONFIG);
     laws::headline();
+    Ok(())
+}
+
+#[test]
+fn memories_keep_their_first_content(rt: HostRuntime) -> Result<(), Fail> {
+    let alloc = rt.alloc();
+    let mut areas = Vec::new(alloc);
+    for (id, octets) in [(7, [1, 2, 3]), (3, [4, 5, 6])] {
+        areas.push((id, Octets::from_vec(octets.to_vec(alloc)?)))?;
+    }
+    let mut world = World::new(alloc, CONFIG, Memories::new(areas)?)?;
+    world.step(0, event(alloc, Asked::Open(Up, 7, 20))?)?;
+    for (id, octets) in [(7, Some([1, 2, 3])), (3, Some([4, 5, 6])), (1, None)] {
+        let octets = octets.as_ref().map(|octets| octets.as_slice());
+        assert_eq!(rt; (world.memory(id), world.first(id)), (octets, octets));
+    }
+    Ok(())
+}
+
+#[test]
+fn requests_are_prepared_for_its_shape(rt: HostRuntime) -> Result<(), Fail> {
+    let alloc = rt.alloc();
+    let world = World::new(alloc, CONFIG, memories(alloc)?)?;
+    let same = memories(alloc)?;
+    let others = Memories::new(zeros(alloc, 512)?)?;
+    let message = Octets::from_vec(Vec::new(alloc));
+    match prepare(alloc, &world.shape(alloc)?, 100, Ticket::new(2, 5, message)) {
+        Ok(prepared) => {
+            let is_of = prepared.is_of(2, 5, &[], 100, &same);
+            let is_of_others = prepared.is_of(2, 5, &[], 100, &others);
+            prepared.abandon();
+            assert!(rt; is_of && !is_of_others);
+        }
+        Err(ticket) => {
+            ticket.abandon();
+            Err("no memory")?
+        }
+    }
     Ok(())
 }
 
@@ -234,7 +274,7 @@ fn refuses_for_the_first_reason(rt: HostRuntime) -> Result<(), Fail> {
 }
 
 #[test]
-fn refuses_what_is_out_of_its_range(rt: HostRuntime) {
+fn refuses_what_is_out_of_its_range(rt: HostRuntime) -> Result<(), Fail> {
     // the APID, part size, time-out and limits, and the number of the fault
     for ((apid, part_size, timeout, receptions, outgoing), fault) in [
         ((0, 4, 1, 1, 1), None),
@@ -257,11 +297,12 @@ fn refuses_what_is_out_of_its_range(rt: HostRuntime) {
             outgoing,
             ..CONFIG
         };
-        let came = World::new(rt.alloc(), config)
+        let came = World::new(rt.alloc(), config, memories(rt.alloc())?)
             .err()
             .map(|fault| fault.code());
         assert_eq!(rt; came, fault, "at {config:?}");
     }
+    Ok(())
 }
 
 #[test]

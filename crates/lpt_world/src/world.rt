@@ -1,28 +1,32 @@
-//! The world: two nodes, the link between them, and the journal.
+//! The world: two nodes, the link between them, the memories, and the journal.
 
 ghost use Rattle.std.specs.Prelude.{◌≡◌, ◌≤◌, length, [], take, slice_get, None, IfOk, IfErr, IfSome};
 ghost use Rattle.std.specs.Option.{option_map, option_copied};
 ghost use Rattle.lpt_world.specs.Headline.{Holds, EachIsLastOpened, AtMostOncePerOpening};
 ghost use Rattle.lpt_world.specs.Journal.{sent};
 ghost use Rattle.lpt_world.specs.Releases.{releases};
+ghost use Rattle.lpt_memory.specs.Memories.{content_of, sizes_of};
 ghost use Rattle.lpt_node.specs.Configs.{IsConfig};
 ghost use Rattle.lpt_world.specs.Replies.{IsEvent, reply};
 ghost use Rattle.lpt_world.specs.Senders.{opened};
-ghost use Rattle.lpt_world.specs.Worlds.{IsTold, history, refusal_at, RefusedBy, with_entry, entered, AllAccepted, IsFaultOf, config_fault, ConfigRefusedBy};
+ghost use Rattle.lpt_world.specs.Worlds.{IsTold, new_world, history, memories_now, refusal_at, RefusedBy, with_entry, entered, AllAccepted, IsFaultOf, config_fault, ConfigRefusedBy};
 
 use crate::ends::Ends;
 use crate::{ConfigFault, Entry, Event, Opening, Refused, Release, Reply, RunEnd, StepFault};
+use lpt_memory::{Memories, Shape};
 use lpt_node::Config;
-use std::alloc::Global;
+use std::alloc::{AllocError, Global};
 use std::marker::Model;
 
 /// The greatest seat.
 const LAST_SEAT: u8 = 10;
 
-/// Two nodes, the link between them, and the journal of all events that were accepted.
+/// Two nodes, the link between them, the spacecraft's memories, and the journal of all events that
+/// were accepted.
 #[derive(Drop)]
 pub struct World {
     ends: Ends,
+    first: Memories,
     journal: Vec<Entry>,
 }
 
@@ -33,7 +37,7 @@ impl Model for World {
 
     ghost use Rattle.lpt_world.specs.WorldInside.{IsShown};
 
-    ghost view = { λ w. record { config = w.ends.config; journal = w.journal.items } };
+    ghost view = { λ w. record { config = w.ends.config; first = w.first; journal = w.journal.items } };
 
     ghost invariant = { λ w. IsShown w.ends w.journal.items };
 }
@@ -42,8 +46,9 @@ impl World {
     /// A world in which nothing has happened.
     ///
     /// Errors: the first value of the configuration that is out of its range; want of memory is last.
-    pub fn new(alloc: Global, config: Config) -> Result<World, ConfigFault>
-        ensures ok { IfOk result (λ w. (w.config ≡ config) × (w.journal ≡ [])) }
+    /// The memories are dropped then.
+    pub fn new(alloc: Global, config: Config, memories: Memories) -> Result<World, ConfigFault>
+        ensures ok { IfOk result (λ w. w ≡ new_world config memories) }
         ensures configured { IfOk result (λ w. config_fault config ≡ None) }
         ensures refused { IfErr result (λ f. ConfigRefusedBy (config_fault config) f) }
     {
@@ -54,6 +59,7 @@ impl World {
         match Ends::new(alloc, config) {
             Ok(ends) => Ok(World {
                 ends,
+                first: memories,
                 journal: Vec::new(alloc),
             }),
             Err(_) => Err(ConfigFault::Memory),
@@ -163,7 +169,8 @@ impl World {
 
     /// All accepted events, the oldest first. Each could happen after those before it, and has the
     /// reply that it gives then. Each large message released under a name is byte for byte the one
-    /// last opened under it by the other node, at most once per opening.
+    /// last opened under it by the other node, at most once per opening. Memories keep their first
+    /// content, since nothing is executed so far.
     pub fn journal(&self) -> &[Entry]
         ensures shown { result.now ≡ self.now.journal }
         ensures told { IsTold self.now.config self.now.journal }
@@ -199,9 +206,34 @@ impl World {
         self.ends.link.packet(n)
     }
 
-    /// The configuration.
+    /// The octets of a memory now: its first content, changed by the requests that were executed in
+    /// their order. So far no event executes one. None where there is no such memory.
+    pub fn memory(&self, id: u8) -> Option<&[u8]>
+        ensures { option_map (λ x. x.now) result ≡ content_of id (memories_now self.now) }
+    {
+        self.first(id)
+    }
+
+    /// The octets that a memory had first, or none where there is no such memory.
+    pub fn first(&self, id: u8) -> Option<&[u8]>
+        ensures { option_map (λ x. x.now) result ≡ content_of id self.now.first }
+    {
+        self.first.content(id)
+    }
+
+    /// The identifiers and sizes of the memories, for which requests are prepared.
+    ///
+    /// The only error is want of memory.
+    pub fn shape(&self, alloc: Global) -> Result<Shape, AllocError>
+        ensures { IfOk result (λ s. s ≡ sizes_of self.now.first) }
+    {
+        self.first.shape(alloc)
+    }
+
+    /// The configuration, whose numbers are in their ranges.
     pub fn config(&self) -> Config
-        ensures { result ≡ self.now.config }
+        ensures shown { result ≡ self.now.config }
+        ensures configured { IsConfig result }
     {
         self.ends.config
     }

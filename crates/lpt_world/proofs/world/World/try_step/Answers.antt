@@ -9,13 +9,13 @@ use Rattle.lpt_world.proofs.world.World.try_step.Goals as goal
 
 pub apply-requires : goal.apply-requires
 apply-requires c =
-    free_shown c.self.inside.ends c.self.inside.journal.items c.args.seat c.args.event c.self.invariant
+    free_shown c.self.inside.ends c.self.inside.first c.self.inside.journal.items c.args.seat c.args.event c.self.invariant
     (c.in-None.ensures ∙ sym (ap (λ (w : Shown). refusal_at w c.args.seat c.args.event) c.self.view_is))
 
 pub invariant_of-self-in-Ok : goal.invariant_of-self-in-Ok
 invariant_of-self-in-Ok c =
     let free : refusal_of c.self.inside.ends.config (state_of c.self.inside.ends) c.args.event ≡ None =
-    free_shown c.self.inside.ends c.self.inside.journal.items c.args.seat c.args.event c.self.invariant
+    free_shown c.self.inside.ends c.self.inside.first c.self.inside.journal.items c.args.seat c.args.event c.self.invariant
     (c.in-None.ensures ∙ sym (ap (λ (w : Shown). refusal_at w c.args.seat c.args.event) c.self.view_is)) in
     let place : c.len-place.result ≡ length c.self.inside.journal.items = c.len-place.ensures ∙ c.reserve.new.self.ok.0 ∙ ap length c.reserve.ensures.items in
     rw c.push_reserved.ensures.items (rw c.reserve.ensures.items
@@ -25,7 +25,7 @@ invariant_of-self-in-Ok c =
 pub returns-in-Ok-clause-reply : goal.returns-in-Ok-clause-reply
 returns-in-Ok-clause-reply c =
     let free : refusal_of c.self.inside.ends.config (state_of c.self.inside.ends) c.args.event ≡ None =
-    free_shown c.self.inside.ends c.self.inside.journal.items c.args.seat c.args.event c.self.invariant
+    free_shown c.self.inside.ends c.self.inside.first c.self.inside.journal.items c.args.seat c.args.event c.self.invariant
     (c.in-None.ensures ∙ sym (ap (λ (w : Shown). refusal_at w c.args.seat c.args.event) c.self.view_is)) in
     let place : c.len-place.result ≡ length c.self.inside.journal.items = c.len-place.ensures ∙ c.reserve.new.self.ok.0 ∙ ap length c.reserve.ensures.items in
     reply_shown c.self.inside.ends c.apply.new.self c.self.inside.journal.items c.args.event c.in-Ok.reply c.self.invariant free

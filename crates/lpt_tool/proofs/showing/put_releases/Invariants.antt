@@ -2,7 +2,7 @@ use Rattle.std.proofs.Common.{◌≡◌, take}
 use Rattle.std.specs.Io.KnownBytes.{Appends}
 use Rattle.lpt_print.specs.Printing.{release_text}
 use Rattle.std.specs.List.{flat_map}
-use Rattle.lpt_tool.proofs.command.put_releases.Given as goal
+use Rattle.lpt_tool.proofs.showing.put_releases.Given as goal
 
 abbrev pub invariant-loop-release : goal.invariant-loop-release
 invariant-loop-release g l =

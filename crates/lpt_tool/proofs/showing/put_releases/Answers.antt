@@ -1,7 +1,7 @@
 use Rattle.std.proofs.Common.{rules}
 use Rattle.lpt_tool.proofs.EndLemmas.{texts_next, texts_end}
 use Rattle.lpt_print.specs.Printing.{release_text}
-use Rattle.lpt_tool.proofs.command.put_releases.Goals as goal
+use Rattle.lpt_tool.proofs.showing.put_releases.Goals as goal
 
 -- a release that could not be written
 pub returns-in-Err-clause-ends : goal.returns-in-Err-clause-ends

@@ -1,0 +1,18 @@
+-- The keys of a table.
+use Rattle.std.specs.Prelude.{ℕ, Bool, true, ◌&&◌, nat_eq, List}
+use Rattle.std.specs.List.{list_any}
+use Rattle.std.specs.Cmp.Lexicographic.{pointwise}
+use Rattle.toml.specs.Data.{Members, no_members, member}
+
+-- the key has the letters of the word
+abbrev pub is_word : List ℕ → List ℕ → Bool
+is_word key word = pointwise nat_eq key word
+
+-- the key is one of the words
+abbrev pub is_one_of : List (List ℕ) → List ℕ → Bool
+is_one_of words key = list_any (is_word key) words
+
+-- each key of a table is one of the words
+abbrev pub has_only : List (List ℕ) → Members → Bool
+has_only words no_members = true
+has_only words (member key d more) = is_one_of words key && has_only words more

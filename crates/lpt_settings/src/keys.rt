@@ -1,0 +1,36 @@
+//! The keys of a table.
+
+ghost use Rattle.std.specs.Prelude.{◌≡◌, map, string_bytes};
+ghost use Rattle.std.specs.BTreeMap.{keys};
+ghost use Rattle.std.specs.List.{list_all};
+ghost use Rattle.toml.specs.View.{table_view};
+ghost use Rattle.lpt_settings.specs.Keys.{is_one_of, has_only};
+
+use toml::Table;
+
+// Whether each key of the table is one of the words.
+pub(crate) fn has_only(table: &Table, words: &[&str]) -> bool
+    ensures { result ≡ has_only (map (λ w. w.now) words.now) (table_view table.now) }
+{
+    are_keys_among(table, words)
+}
+
+// Whether each key of the map is one of the words.
+fn are_keys_among(table: &Table, words: &[&str]) -> bool
+    ensures { result ≡ list_all
+        (λ key. is_one_of (map (λ w. w.now) words.now) (string_bytes key)) (keys table.now) }
+{
+    table.keys().all(|key| is_one_of(key.as_str(), words))
+}
+
+// Whether the key is one of the words.
+fn is_one_of(key: &str, words: &[&str]) -> bool
+    ensures { result ≡ is_one_of (map (λ w. w.now) words.now) key.now }
+{
+    for word in words {
+        if key == *word {
+            return true;
+        }
+    }
+    false
+}

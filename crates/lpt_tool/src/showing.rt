@@ -1,0 +1,78 @@
+//! What a world shows, printed.
+
+ghost use Rattle.std.specs.Prelude.{◌≡◌, ◌≢◌, IsErrOf, Err, true, option_map};
+ghost use Rattle.std.specs.Option.{option_and_then};
+ghost use Rattle.std.specs.List.{flat_map};
+ghost use Rattle.lpt_print.specs.Printing.{memory_text, release_text, releases_text};
+ghost use Rattle.lpt_tool.specs.Ends.{TextEnds};
+ghost use Rattle.lpt_tool.specs.Scripts.{memory_octets, octets_from};
+
+use crate::printed::put;
+use lpt_print::{print_memory, print_none, print_release};
+use lpt_text::{Sink, ToolFault};
+use lpt_world::{Release, World};
+use std::alloc::Global;
+
+/// Prints so many octets of a memory from an address on.
+pub(crate) fn show_memory<K: Sink>(
+    alloc: Global,
+    world: &World,
+    id: u8,
+    address: u32,
+    len: u32,
+    out: &mut K,
+) -> Result<(), ToolFault>
+    ensures ends { TextEnds (memory_text id address (memory_octets world.now id address len)) result (K.contents out.old) (K.contents out.new) }
+    ensures cause { IsErrOf result ToolFault.Write → K.failed out.new ≡ true }
+    ensures told { result ≢ Err ToolFault.Write → K.failed out.new ≡ K.failed out.old }
+{
+    let octets = match world.memory(id) {
+        Some(content) => octets_from(content, address, len),
+        None => None,
+    };
+    put(out, print_memory(alloc, id, address, octets))
+}
+
+// So many octets from an address on, where they lie within the content.
+fn octets_from(content: &[u8], address: u32, len: u32) -> Option<&[u8]>
+    ensures { option_map (λ x. x.now) result ≡ octets_from address len content.now }
+{
+    let start = address as usize;
+    let end = start + len as usize;
+    if content.len() < end {
+        return None;
+    }
+    Some(&content[start..end])
+}
+
+/// Prints the released messages, or that there is none.
+pub(crate) fn show_released<K: Sink>(
+    alloc: Global,
+    releases: &[Release],
+    out: &mut K,
+) -> Result<(), ToolFault>
+    ensures ends { TextEnds (releases_text releases.now) result (K.contents out.old) (K.contents out.new) }
+    ensures cause { IsErrOf result ToolFault.Write → K.failed out.new ≡ true }
+    ensures told { result ≢ Err ToolFault.Write → K.failed out.new ≡ K.failed out.old }
+{
+    if releases.is_empty() {
+        put(out, print_none(alloc))
+    } else {
+        put_releases(alloc, releases, out)
+    }
+}
+
+// Prints released messages, one a line.
+fn put_releases<K: Sink>(alloc: Global, releases: &[Release], out: &mut K) -> Result<(), ToolFault>
+    ensures ends { TextEnds (flat_map release_text releases.now) result (K.contents out.old) (K.contents out.new) }
+    ensures cause { IsErrOf result ToolFault.Write → K.failed out.new ≡ true }
+    ensures told { result ≢ Err ToolFault.Write → K.failed out.new ≡ K.failed out.old }
+{
+    for release in releases {
+        match put(out, print_release(alloc, release)) {
+            Ok(()) => {}
+            Err(fault) => return Err(fault),
+        }
+    }
+    Ok(())
+}

@@ -1,0 +1,189 @@
+//! Lines that ask for a load.
+
+ghost use Rattle.std.specs.Prelude.{◌≡◌, option_map, IfOk};
+ghost use Rattle.lpt_words.specs.Grammar.{area_of, areas_of, load_of, load_with};
+ghost use Rattle.lpt_words.specs.Words.{words};
+
+use crate::names::{read_flags, read_u8, read_u16, read_u32};
+use crate::numbers::read_hex;
+use crate::words::split_word;
+use lpt_memory::{Area, load_fault, write_load};
+use lpt_packet::{Name, Octets};
+use lpt_pus::{AckFlags, TcHead};
+use std::alloc::{AllocError, Global};
+use std::marker::Model;
+
+/// The greatest sequence count of a packet.
+const LAST_COUNT: u16 = 16383;
+
+/// A load that a line asks for: a message of ground's that loads areas into a memory. It keeps in its
+/// type that it can be written.
+#[derive(Debug, Drop)]
+pub struct Load {
+    id: Name,
+    count: u16,
+    flags: AckFlags,
+    memory: u8,
+    areas: Vec<Area>,
+}
+
+impl Model for Load {
+    ghost use Rattle.std.specs.Prelude.{◌≡◌, ◌≤◌, None};
+    ghost use Rattle.lpt_memory.specs.Spellings.{write_fault};
+    ghost use Rattle.lpt_words.specs.Loads.{LoadView};
+
+    ghost Value = { LoadView };
+
+    ghost view = { λ a. record {
+      id = a.id;
+      count = a.count;
+      flags = a.flags;
+      memory = a.memory;
+      areas = a.areas.items;
+    } };
+
+    ghost invariant = { λ a. (a.count ≤ 16383) × (write_fault a.areas.items ≡ None) };
+}
+
+impl Load {
+    ghost use Rattle.std.specs.Prelude.{◌≡◌, ◌≤◌, IfOk};
+    ghost use Rattle.lpt_words.specs.Loads.{if_written, load_packet};
+
+    /// The load that message `id` is to be: a packet of this sequence count and these
+    /// acknowledgement flags, which loads the areas into a memory.
+    ///
+    /// `None` where the count is above 16,383 or the areas have a fault (`lpt_memory::load_fault`).
+    pub fn new(id: Name, count: u16, flags: AckFlags, memory: u8, areas: Vec<Area>) -> Option<Load>
+        ensures { result ≡ if_written (record {
+          id = id;
+          count = count;
+          flags = flags;
+          memory = memory;
+          areas = areas.items;
+        }) }
+    {
+        if count > LAST_COUNT || load_fault(&areas).is_some() {
+            return None;
+        }
+        Some(Load {
+            id,
+            count,
+            flags,
+            memory,
+            areas,
+        })
+    }
+
+    /// The identifier of the message.
+    pub fn id(&self) -> Name
+        ensures { result ≡ self.now.id }
+    {
+        self.id
+    }
+
+    /// The packet of the load, with this APID and source: a telecommand of service 6, subtype 2.
+    ///
+    /// The only error is want of memory.
+    pub fn packet(&self, alloc: Global, apid: u16, source: u16) -> Result<Octets, AllocError>
+        requires { apid ≤ 2046 }
+        ensures { IfOk result (λ o. o ≡ load_packet apid source self.now) }
+    {
+        let head = TcHead {
+            apid,
+            count: self.count,
+            flags: self.flags.bits(),
+            service: 6,
+            subtype: 2,
+            source,
+        };
+        write_load(alloc, &head, self.memory, &self.areas).map_err(|_| AllocError)
+    }
+}
+
+impl PartialEq for Load {
+    ghost use Rattle.std.specs.Cmp.{partial_equiv_from_equiv};
+    ghost use Rattle.lpt_words.specs.Loads.{same_load, same_load_equiv};
+
+    ghost eq = { same_load };
+
+    ghost laws = { partial_equiv_from_equiv same_load_equiv };
+
+    fn eq(&self, other: &Load) -> bool {
+        self.id == other.id
+            && self.count == other.count
+            && self.flags == other.flags
+            && self.memory == other.memory
+            && self.areas == other.areas
+    }
+}
+
+impl Eq for Load {
+    ghost use Rattle.lpt_words.specs.Loads.{same_load_equiv};
+
+    ghost laws = { same_load_equiv };
+}
+
+// The words after `load`. The only error is want of memory.
+pub(crate) fn read_load(alloc: Global, rest: &[u8]) -> Result<Option<Load>, AllocError>
+    ensures { IfOk result (λ r. r ≡ load_of (words rest.now)) }
+{
+    let Some((id, rest)) = split_word(rest) else {
+        return Ok(None);
+    };
+    let Some((count, rest)) = split_word(rest) else {
+        return Ok(None);
+    };
+    let Some((flags, rest)) = split_word(rest) else {
+        return Ok(None);
+    };
+    let Some((memory, rest)) = split_word(rest) else {
+        return Ok(None);
+    };
+    let Some(areas) = read_areas(alloc, rest)? else {
+        return Ok(None);
+    };
+    Ok(load_with(id, count, flags, memory, areas))
+}
+
+// The load of these words and areas, where it can be written.
+fn load_with(id: &[u8], count: &[u8], flags: &[u8], memory: &[u8], areas: Vec<Area>) -> Option<Load>
+    ensures { result ≡ load_with id.now count.now flags.now memory.now areas.items }
+{
+    let id = read_u16(id)?;
+    let count = read_u16(count)?;
+    let flags = read_flags(flags)?;
+    let memory = read_u8(memory)?;
+    Load::new(id, count, flags, memory, areas)
+}
+
+// The areas that pairs of words are. The only error is want of memory.
+fn read_areas(alloc: Global, line: &[u8]) -> Result<Option<Vec<Area>>, AllocError>
+    ensures { IfOk result (λ r. option_map (λ v. v.items) r ≡ areas_of (words line.now)) }
+{
+    let mut areas = Vec::new(alloc);
+    let mut rest = line;
+    while let Some((address, more)) = split_word(rest) {
+        let Some((octets, more)) = split_word(more) else {
+            return Ok(None);
+        };
+        let Some(area) = read_area(alloc, address, octets)? else {
+            return Ok(None);
+        };
+        areas.push(area)?;
+        rest = more;
+    }
+    Ok(Some(areas))
+}
+
+// The area of an address and of octets. The only error is want of memory.
+fn read_area(alloc: Global, address: &[u8], octets: &[u8]) -> Result<Option<Area>, AllocError>
+    ensures { IfOk result (λ r. r ≡ area_of address.now octets.now) }
+{
+    let Some(address) = read_u32(address) else {
+        return Ok(None);
+    };
+    let Some(octets) = read_hex(alloc, octets)? else {
+        return Ok(None);
+    };
+    Ok(Some(Area { address, octets }))
+}
