@@ -1,6 +1,7 @@
 pub mod Bursts
 pub mod Codec
 pub mod Found
+pub mod Lookups
 pub mod NameLemmas
 pub mod OctetLists
 pub mod Readings

@@ -1,30 +1,8 @@
--- The checksum's register, bit by bit and octet by octet.
-use Rattle.std.proofs.Common.{◌*◌, ◌/◌, ◌%◌, ◌==◌, Bool, true, false, if◌then◌else◌, bit_xor, ◌≡◌, ℕ, zero, suc, ◌+◌, ◌<◌, ◌≤◌, List, [], ◌∷◌, length, get_or, drop, refl, add-one, arith, drop-cons}
+-- The checksum's register, octet by octet.
+use Rattle.std.proofs.Common.{◌*◌, ◌/◌, ◌%◌, ◌==◌, Bool, true, false, if◌then◌else◌, bit_xor, ◌≡◌, ℕ, ◌+◌, ◌<◌, ◌≤◌, List, [], ◌∷◌, length, get_or, drop, refl, add-one, arith, drop-cons}
 use Rattle.std.proofs.lemmas.List.{drop_all}
 use Rattle.std.proofs.lemmas.Nat.{xor_of_16}
 use Rattle.lpt_packet.specs.Checksums.{shift, bits, shift_all, octets_in, checksum}
-
--- the next bit in
-pub shift_all-next : (r : ℕ) (b : List ℕ) (i : ℕ) → i < length b → shift_all (shift r (get_or b i 0)) (drop (i + 1) b) ≡ shift_all r (drop i b)
-unfolding shift_all
-shift_all-next r b i h = rw (add-one, drop-cons b i 0) refl
-
--- no bit is left
-pub shift_all-end : (r : ℕ) (b : List ℕ) (i : ℕ) → length b ≤ i → shift_all r (drop i b) ≡ r
-unfolding shift_all
-shift_all-end r b i h = rw drop_all refl
-
--- each bit is one
-pub bit_is_small : (n i : ℕ) → get_or (bits n) i 0 < 2
-bit_is_small n zero = omega arith
-bit_is_small n (suc zero) = omega arith
-bit_is_small n (suc (suc zero)) = omega arith
-bit_is_small n (suc (suc (suc zero))) = omega arith
-bit_is_small n (suc (suc (suc (suc zero)))) = omega arith
-bit_is_small n (suc (suc (suc (suc (suc zero))))) = omega arith
-bit_is_small n (suc (suc (suc (suc (suc (suc zero)))))) = omega arith
-bit_is_small n (suc (suc (suc (suc (suc (suc (suc zero))))))) = omega arith
-bit_is_small n (suc (suc (suc (suc (suc (suc (suc (suc i)))))))) = omega arith
 
 -- the next octet in
 pub octets_in-next : (r : ℕ) (b : List ℕ) (i : ℕ) → i < length b → octets_in (shift_all r (bits (get_or b i 0))) (drop (i + 1) b) ≡ octets_in r (drop i b)

@@ -15,15 +15,15 @@ AreBits [] = Unit {0}
 AreBits (b ∷ rest) = (b < 2) × AreBits rest
 
 -- what a shift adds, where the test's outcome is p
-abbrev taken : ℕ → ℕ
+abbrev pub taken : ℕ → ℕ
 taken p = if p == 1 then 4129 else 0
 
 -- 1 where a shift takes the polynomial, else 0
-abbrev test : ℕ → ℕ → ℕ
+abbrev pub test : ℕ → ℕ → ℕ
 test r b = (r / 32768 + b) % 2
 
 -- the exclusive or of two bits
-xor_of_bits : (x y : ℕ) → x < 2 → y < 2 → bit_xor x y ≡ (x + y) % 2
+pub xor_of_bits : (x y : ℕ) → x < 2 → y < 2 → bit_xor x y ≡ (x + y) % 2
 xor_of_bits x y p q = omega (arith, bit_at_xor x y 0, xor_lt 1 x y p q)
 
 chosen : (t : Bool) (m : ℕ) → (if t then bit_xor m 4129 else m) ≡ bit_xor m (if t then 4129 else 0)
@@ -31,7 +31,10 @@ chosen true m = refl
 chosen false m = sym (xor_zero_r m)
 
 -- a shift moves the register, and adds the polynomial where it is taken
-shift_is : (r b : ℕ) → r < 65536 → b < 2 → shift r b ≡ bit_xor (r * 2 % 65536) (taken (test r b))
+pub shift_is : (r b : ℕ)
+    → r < 65536
+    → b < 2
+    → shift r b ≡ bit_xor (r * 2 % 65536) (taken (test r b))
 shift_is r b hr hb =
     let e : bit_xor (r / 32768) b ≡ test r b = xor_of_bits (r / 32768) b (omega arith) hb in
     chosen (bit_xor (r / 32768) b == 1) (r * 2 % 65536)

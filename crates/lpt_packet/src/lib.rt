@@ -12,6 +12,7 @@ mod name;
 mod octets;
 mod packet;
 mod reading;
+mod table;
 mod writing;
 
 pub use checksum::crc16;
