@@ -2,7 +2,7 @@
 use Rattle.std.proofs.Common.{◌≡◌, ◌≢◌, ◌↔◌, IsTrue, ◌∙◌, ap, sym, subst, ℕ, suc, ◌+◌, ◌<◌, ◌==◌, Bool, true, false, List, [], ◌∷◌, ◌++◌, length, take, drop, get_or, set, refl, arith, Some, eq-eqb, cond}
 use Rattle.std.proofs.lemmas.Grind.{common_steps}
 use Rattle.std.proofs.lemmas.Bool.Decides.{nat_tests}
-use Rattle.std.proofs.lemmas.List.{set_split, at_drop_more, get_or_default}
+use Rattle.std.proofs.lemmas.List.{set_split, at_drop_more}
 use Rattle.std.proofs.Math.Seq.{map-set_same}
 use Rattle.lpt_memory.specs.declared.request.Area.{Area}
 use Rattle.lpt_memory.specs.declared.request.AreaRange.{AreaRange}
@@ -60,18 +60,16 @@ RangesFit-octets_of id ranges ms fits =
 -- ---- loads
 
 -- what was put into the memory that was found is a load into all
-pub loaded-found : (id : ℕ) (areas : List Area) (ms : Contents) (i : ℕ) (d e : ℕ × List ℕ)
+pub loaded-found : (id : ℕ) (areas : List Area) (ms : Contents) (i : ℕ) (e : ℕ × List ℕ)
     (put : List ℕ)
     → i < length ms
-    → (get_or ms i d).0 ≡ id
+    → (get_or ms i e).0 ≡ id
     → put ≡ put_all (get_or ms i e).1 areas
     → take i ms ++ loaded id areas (drop i ms) ≡ loaded id areas ms
     → set ms i ((get_or ms i e).0, put) ≡ loaded id areas ms
-loaded-found id areas ms i d e put within found is_put left =
+loaded-found id areas ms i e put within found is_put left =
     let m = get_or ms i e in
-    let same : get_or ms i d ≡ m = get_or_default ms i d e within in
-    let test : (m.0 == id) ≡ true =
-    eq-eqb m.0 id (ap (λ (x : ℕ × List ℕ). x.0) (sym same) ∙ found) in
+    let test : (m.0 == id) ≡ true = eq-eqb m.0 id found in
     let step = at_drop_more (loaded id areas) ms i e within in
     let chosen : loaded id areas (m ∷ drop (i + 1) ms)
     ≡ (m.0, put_all m.1 areas) ∷ drop (i + 1) ms =

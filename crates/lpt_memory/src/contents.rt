@@ -13,16 +13,16 @@ use lpt_packet::Octets;
 use std::alloc::{AllocError, Global};
 
 /// The most memories.
-const MEMORIES: usize = 16;
+const MEMORY_LIMIT: usize = 16;
 
 /// The most octets of a memory.
-const SIZE: usize = 1048576;
+const SIZE_LIMIT: usize = 1048576;
 
 // Whether these can be memories.
 pub(crate) fn are_memories(memories: &[(u8, Octets)]) -> bool
     ensures { result ≡ are_memories memories.now }
 {
-    !memories.is_empty() && memories.len() <= MEMORIES && are_distinct(memories)
+    !memories.is_empty() && memories.len() <= MEMORY_LIMIT && are_distinct(memories)
 }
 
 // Whether each is in its range, and no identifier comes twice.
@@ -31,7 +31,7 @@ fn are_distinct(memories: &[(u8, Octets)]) -> bool
 {
     for i in 0..memories.len() {
         let len = memories[i].1.as_slice().len();
-        if len == 0 || len > SIZE || is_known(&memories[i + 1..], memories[i].0) {
+        if len == 0 || len > SIZE_LIMIT || is_known(&memories[i + 1..], memories[i].0) {
             return false;
         }
     }
@@ -109,9 +109,9 @@ pub(crate) fn load(memories: &mut [(u8, Octets)], id: u8, areas: &[Area])
     ensures loaded { memories.new ≡ loaded id areas.now memories.old }
     ensures sizes { sizes_of memories.new ≡ sizes_of memories.old }
 {
-    for i in 0..memories.len() {
-        if memories[i].0 == id {
-            put_all(&mut memories[i].1, areas);
+    for (known, octets) in memories {
+        if *known == id {
+            put_all(octets, areas);
             return;
         }
     }

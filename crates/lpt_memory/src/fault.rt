@@ -26,7 +26,7 @@ pub enum MemoryFault {
 }
 
 impl MemoryFault {
-    /// The fault's number, 25 to 29.
+    /// The fault's number: 25, 27, 28 or 29.
     pub fn code(self) -> u16
         ensures { result ≡ code_of self }
     {

@@ -7,40 +7,32 @@ ghost use Rattle.lpt_memory.specs.Fields.{front_octet, front_word, front_long, f
 pub(crate) fn octet(bytes: &[u8]) -> Option<(u8, &[u8])>
     ensures { option_map (λ x. (x.0, x.1.now)) result ≡ front_octet bytes.now }
 {
-    if bytes.is_empty() {
-        return None;
-    }
-    Some((bytes[0], &bytes[1..]))
+    let (first, rest) = bytes.split_first()?;
+    Some((*first, rest))
 }
 
 // A number of 16 bits.
 pub(crate) fn word(bytes: &[u8]) -> Option<(u16, &[u8])>
     ensures { option_map (λ x. (x.0, x.1.now)) result ≡ front_word bytes.now }
 {
-    if bytes.len() < 2 {
-        return None;
-    }
-    Some((u16::from_be_bytes([bytes[0], bytes[1]]), &bytes[2..]))
+    let (number, rest) = bytes.split_first_chunk()?;
+    Some((u16::from_be_bytes(*number), rest))
 }
 
 // A number of 32 bits.
 pub(crate) fn long(bytes: &[u8]) -> Option<(u32, &[u8])>
     ensures { option_map (λ x. (x.0, x.1.now)) result ≡ front_long bytes.now }
 {
-    if bytes.len() < 4 {
-        return None;
-    }
-    let value = u32::from_be_bytes([bytes[0], bytes[1], bytes[2], bytes[3]]);
-    Some((value, &bytes[4..]))
+    let (number, rest) = bytes.split_first_chunk()?;
+    Some((u32::from_be_bytes(*number), rest))
 }
 
 // So many octets, at least one.
 pub(crate) fn octets(bytes: &[u8], len: u16) -> Option<(&[u8], &[u8])>
     ensures { option_map (λ x. (x.0.now, x.1.now)) result ≡ front_octets len bytes.now }
 {
-    let len = usize::from(len);
-    if len == 0 || bytes.len() < len {
+    if len == 0 {
         return None;
     }
-    Some((&bytes[..len], &bytes[len..]))
+    bytes.split_at_checked(usize::from(len))
 }

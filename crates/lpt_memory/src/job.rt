@@ -31,6 +31,7 @@ pub struct Reading {
     apid: u16,
     shape: Shape,
     message: Octets,
+    head: Option<TcHead>,
     content: Content,
 }
 
@@ -40,13 +41,15 @@ impl Model for Reading {
 
     ghost Value = { Source };
 
+    ghost use Rattle.lpt_memory.specs.Readings.{IsHeadIn};
     ghost use Rattle.lpt_memory.specs.Meanings.{meaning};
     ghost use Rattle.lpt_memory.specs.Seen.{seen, IsCounted};
 
     ghost view = { λ a. record { apid = a.apid; sizes = a.shape; message = a.message } };
 
     ghost invariant = { λ a. (seen a.content ≡ meaning a.apid a.shape a.message)
-        × IsCounted a.content };
+        × IsCounted a.content
+        × IsHeadIn a.head a.apid a.message };
 }
 
 /// A job whose message was read. It can't be dropped: `reading` or `abandon` spends it.
@@ -87,6 +90,7 @@ impl Ticket {
 /// load is copied once.
 ///
 /// Errors: want of memory, which gives the ticket back.
+#[tactic(auto, unfolding(crate::specs::Meanings::meaning))]
 pub fn prepare(alloc: Global, shape: &Shape, apid: u16, ticket: Ticket) -> Result<Prepared, Ticket>
     ensures { MatchResult result
         (λ p. p ≡ record {
@@ -103,7 +107,9 @@ pub fn prepare(alloc: Global, shape: &Shape, apid: u16, ticket: Ticket) -> Resul
     let Ok(copy) = shape.copy() else {
         return Err(ticket);
     };
-    let Ok(content) = meaning::content(alloc, shape.sizes(), apid, ticket.message.as_slice()) else {
+    let telecommand = meaning::command_in(apid, ticket.message.as_slice());
+    let head = telecommand.map(|(head, _)| head);
+    let Ok(content) = meaning::content(alloc, shape.sizes(), telecommand) else {
         return Err(ticket);
     };
     let Ticket { boot, job, message } = ticket;
@@ -111,58 +117,10 @@ pub fn prepare(alloc: Global, shape: &Shape, apid: u16, ticket: Ticket) -> Resul
         apid,
         shape: copy,
         message,
+        head,
         content,
     };
     Ok(Prepared { boot, job, reading })
-}
-
-impl Prepared {
-    /// The reading of the job's message.
-    pub fn reading(self) -> Reading
-        ensures { result ≡ self.read }
-    {
-        let Prepared {
-            boot: _,
-            job: _,
-            reading,
-        } = self;
-        reading
-    }
-
-    /// Gives the job up. It has no clause: nothing is left of it.
-    pub fn abandon(self) {
-        let Prepared {
-            boot: _,
-            job: _,
-            reading: _,
-        } = self;
-    }
-}
-
-impl Reading {
-    ghost use Rattle.std.specs.Prelude.{◌≡◌, List, ℕ, None, Some, MatchOption};
-    ghost use Rattle.lpt_pus.specs.Commands.{command, command_in};
-    ghost use Rattle.lpt_memory.specs.Readings.{meant};
-    ghost use Rattle.lpt_memory.specs.Seen.{seen, IsCounted};
-
-    /// The head of the telecommand that the message is, or `None` where it is none for the APID:
-    /// its acknowledgement flags, its source, and what its request ID is made of.
-    pub fn head(&self) -> Option<TcHead>
-        ensures { MatchOption result (command_in self.now.apid self.now.message ≡ None)
-            (λ h. (body : List ℕ)
-            × (command_in self.now.apid self.now.message ≡ Some (command h body))) }
-    {
-        let (head, _) = meaning::command_in(self.apid, self.message.as_slice())?;
-        Some(head)
-    }
-
-    // What the message means.
-    pub(crate) fn content(&self) -> &Content
-        ensures seen { seen result.now ≡ meant self.now }
-        ensures counted { IsCounted result.now }
-    {
-        &self.content
-    }
 }
 
 impl Prepared {
@@ -186,5 +144,49 @@ impl Prepared {
             && self.reading.apid == apid
             && memories.has_shape(&self.reading.shape)
             && self.reading.message.as_slice() == message
+    }
+
+    /// The reading of the job's message.
+    pub fn reading(self) -> Reading
+        ensures { result ≡ self.read }
+    {
+        let Prepared {
+            boot: _,
+            job: _,
+            reading,
+        } = self;
+        reading
+    }
+
+    /// Gives the job up. It has no clause: nothing is left of it.
+    pub fn abandon(self) {
+        let Prepared {
+            boot: _,
+            job: _,
+            reading: _,
+        } = self;
+    }
+}
+
+impl Reading {
+    ghost use Rattle.std.specs.Prelude.{◌≡◌};
+    ghost use Rattle.lpt_memory.specs.Readings.{meant, IsHeadIn};
+    ghost use Rattle.lpt_memory.specs.Seen.{seen, IsCounted};
+
+    /// The head of the telecommand that the message is, or `None` where it is none for the APID:
+    /// its acknowledgement flags, its source, and what its request ID is made of. `prepare` has
+    /// read it.
+    pub fn head(&self) -> Option<TcHead>
+        ensures { IsHeadIn result self.now.apid self.now.message }
+    {
+        self.head
+    }
+
+    // What the message means.
+    pub(crate) fn content(&self) -> &Content
+        ensures seen { seen result.now ≡ meant self.now }
+        ensures counted { IsCounted result.now }
+    {
+        &self.content
     }
 }

@@ -1,27 +1,22 @@
 //! What a message means for memories of known identifiers and sizes.
 
-ghost use Rattle.std.specs.Prelude.{◌≡◌, map, option_map, nat_lt, IfOk};
+ghost use Rattle.std.specs.Prelude.{◌≡◌, map, option_map, IfOk};
 ghost use Rattle.lpt_packet.specs.Numbers.{IsOctets};
 ghost use Rattle.lpt_pus.specs.Commands.{command, command_in};
 ghost use Rattle.lpt_memory.specs.Requests.{front_load_area, front_range, request_in};
 ghost use Rattle.lpt_memory.specs.Seen.{load_area, seen, IsCounted};
-ghost use Rattle.lpt_memory.specs.Meanings.{area, size_of, load_fault, range_fault, dump_length, load_meaning, dump_meaning, check_meaning, if_formed, body_meaning, meaning};
+ghost use Rattle.lpt_memory.specs.Meanings.{area, size_of, load_fault, range_fault, load_meaning, dump_meaning, check_meaning, if_formed, body_meaning, command_meaning};
 
 use crate::reading::{load_request, range_request};
+use crate::reply::dump_len;
 use crate::request::{Area, AreaRange, Content, StoredArea};
 use lpt_packet::laws::seen_is_read;
 use lpt_packet::{Octets, Seen, crc16, read_packet};
 use lpt_pus::{TcHead, read_tc};
 use std::alloc::{AllocError, Global};
 
-/// The most octets of a packet.
-const PACKET_LIMIT: usize = 65542;
-
-/// The octets of a packet that answers a dump, besides its areas.
-const DUMP_HEAD: usize = 21;
-
-/// The octets of each area of such an answer, besides those of the memory.
-const DUMP_AREA: usize = 8;
+/// The most octets of a body that answers a dump: its packet has 19 more, and at most 65,542.
+const ANSWER_LIMIT: usize = 65523;
 
 /// The service type of memory management.
 const MEMORY: u8 = 6;
@@ -92,20 +87,6 @@ fn range_fault_in(size: u32, ranges: &[AreaRange]) -> Option<u8>
     None
 }
 
-// Whether the packet that answers a dump would be too long.
-fn is_long(ranges: &[AreaRange]) -> bool
-    ensures { result ≡ nat_lt 65542 (dump_length ranges.now) }
-{
-    let mut total = DUMP_HEAD;
-    for AreaRange { address: _, len } in ranges {
-        total += DUMP_AREA + usize::from(*len);
-        if total > PACKET_LIMIT {
-            return true;
-        }
-    }
-    false
-}
-
 // The areas of a load with copies of their octets. The only error is want of memory.
 fn areas_of(alloc: Global, stored: &[StoredArea<'_>]) -> Result<Vec<Area>, AllocError>
     ensures { IfOk result (λ v. v.items ≡ map area (map load_area stored.now)) }
@@ -153,7 +134,7 @@ fn dump(alloc: Global, sizes: &[(u8, u32)], body: &[u8]) -> Result<Content, Allo
     if let Some(code) = range_fault_in(size, &ranges) {
         return Ok(Content::Code(code));
     }
-    if is_long(&ranges) {
+    if dump_len(&ranges) > ANSWER_LIMIT {
         return Ok(Content::Code(LONG_ANSWER));
     }
     Ok(Content::Dump(memory, ranges))
@@ -220,19 +201,17 @@ pub(crate) fn command_in(apid: u16, octets: &[u8]) -> Option<(TcHead, &[u8])>
     Some((head, body))
 }
 
-// What a message means. The only error is want of memory.
-#[tactic(auto, unfolding(crate::specs::Meanings::meaning))]
+// What a telecommand means, or nothing where there is none. The only error is want of memory.
 pub(crate) fn content(
     alloc: Global,
     sizes: &[(u8, u32)],
-    apid: u16,
-    message: &[u8],
+    telecommand: Option<(TcHead, &[u8])>,
 ) -> Result<Content, AllocError>
-    requires { IsOctets message.now }
-    ensures seen { IfOk result (λ x. seen x ≡ meaning apid sizes.now message.now) }
+    ensures seen { IfOk result (λ x. seen x
+        ≡ command_meaning sizes.now (option_map (λ t. command t.0 t.1.now) telecommand.entry)) }
     ensures counted { IfOk result (λ x. IsCounted x) }
 {
-    let Some((head, body)) = command_in(apid, message) else {
+    let Some((head, body)) = telecommand else {
         return Ok(Content::Silent);
     };
     body_content(alloc, sizes, head.service, head.subtype, body)

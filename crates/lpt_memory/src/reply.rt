@@ -3,11 +3,30 @@
 ghost use Rattle.std.specs.Prelude.{◌≡◌, ◌+◌, ◌<◌, ◌≤◌, ◌∷◌, ◌++◌, length, IfOk, OnOk};
 ghost use Rattle.std.specs.List.{flat_map};
 ghost use Rattle.lpt_memory.specs.Answers.{octets_in, dump_area, check_area};
+ghost use Rattle.lpt_memory.specs.Meanings.{dump_length};
 ghost use Rattle.lpt_memory.specs.Ranges.{RangesFit};
 
 use crate::request::AreaRange;
 use lpt_packet::{Octets, crc16};
 use std::alloc::{AllocError, Global};
+
+/// The octets of an answer's body, besides its areas.
+const BODY_HEAD: usize = 2;
+
+/// The octets of each area in it, besides those of the memory.
+const BODY_AREA: usize = 8;
+
+// How many octets the body that answers a dump has. Its packet has 19 more.
+pub(crate) fn dump_len(ranges: &[AreaRange]) -> usize
+    requires { length ranges.now < 256 }
+    ensures { result + 19 ≡ dump_length ranges.now }
+{
+    let mut len = BODY_HEAD;
+    for range in ranges {
+        len += BODY_AREA + usize::from(range.len);
+    }
+    len
+}
 
 // The octets of a memory in a range.
 fn octets_in<'a>(content: &'a [u8], range: &AreaRange) -> &'a [u8]
@@ -55,7 +74,7 @@ pub(crate) fn dump(
     ensures { IfOk result (λ o.
         o ≡ id ∷ length ranges.now ∷ flat_map (dump_area content.now) ranges.now) }
 {
-    let mut body = Vec::new(alloc);
+    let mut body = Vec::with_capacity(alloc, dump_len(ranges))?;
     body.push(id)?;
     body.push(ranges.len() as u8)?;
     for range in ranges {
@@ -76,7 +95,7 @@ pub(crate) fn check(
     ensures { IfOk result (λ o.
         o ≡ id ∷ length ranges.now ∷ flat_map (check_area content.now) ranges.now) }
 {
-    let mut body = Vec::new(alloc);
+    let mut body = Vec::with_capacity(alloc, BODY_HEAD + BODY_AREA * ranges.len())?;
     body.push(id)?;
     body.push(ranges.len() as u8)?;
     for range in ranges {

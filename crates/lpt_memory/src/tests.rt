@@ -1,6 +1,11 @@
 //! Outside values: requests with faults and without, what they come to, and loads that are written.
 
-use crate::{Area, Effect, Memories, MemoryFault, Ticket, load_fault, prepare, write_load};
+ghost use Rattle.std.specs.Prelude.{◌≡◌, IfOk};
+ghost use Rattle.lpt_memory.specs.Memories.{sizes_of};
+
+use crate::{
+    Area, Effect, Memories, MemoryFault, Prepared, Ticket, laws, load_fault, prepare, write_load,
+};
 use lpt_packet::Octets;
 use lpt_pus::{TcHead, write_tc};
 use std::alloc::Global;
@@ -19,23 +24,36 @@ pub(crate) fn request(alloc: Global, subtype: u8, body: &[u8]) -> Result<Octets,
     Ok(write_tc(alloc, &head, body)?)
 }
 
+// An area of these octets.
+fn area(alloc: Global, address: u32, octets: &[u8]) -> Result<Area, Fail> {
+    Ok(Area {
+        address,
+        octets: Octets::from_vec(octets.to_vec(alloc)?),
+    })
+}
+
+// The message of job 3 of boot 2, read for these memories.
+fn read(alloc: Global, memories: &Memories, message: Octets) -> Result<Prepared, Fail>
+    ensures { IfOk result (λ p. p.read.sizes ≡ sizes_of memories.now) }
+{
+    let shape = memories.shape(alloc)?;
+    match prepare(alloc, &shape, 100, Ticket::new(2, 3, message)) {
+        Ok(prepared) => Ok(prepared),
+        Err(ticket) => {
+            ticket.abandon();
+            Err("no memory")?
+        }
+    }
+}
+
 // What a message comes to.
 pub(crate) fn applied(
     alloc: Global,
     memories: &mut Memories,
     message: Octets,
 ) -> Result<Effect, Fail> {
-    let shape = memories.shape(alloc)?;
-    match prepare(alloc, &shape, 100, Ticket::new(0, 0, message)) {
-        Ok(prepared) => {
-            let reading = prepared.reading();
-            Ok(memories.apply(alloc, &reading)?)
-        }
-        Err(ticket) => {
-            ticket.abandon();
-            Err("no memory")?
-        }
-    }
+    let reading = read(alloc, memories, message)?.reading();
+    Ok(memories.apply(alloc, &reading)?)
 }
 
 // The code of the fault of a request to memory 1 of so many octets, or 0 where it has none.
@@ -171,6 +189,24 @@ fn writes_loads(rt: HostRuntime) -> Result<(), Fail> {
 }
 
 #[test]
+fn writes_the_packet_of_a_load(rt: HostRuntime) -> Result<(), Fail> {
+    // A primary header of 6 octets, a secondary one of 5, memory 1, two areas, each with the
+    // checksum of its octets, and the packet's checksum.
+    let packet = [
+        0x18, 0x64, 0xc0, 0x00, 0x00, 0x1e, 0x20, 0x06, 0x02, 0x00, 0x01, 0x01, 0x02, 0x00, 0x00,
+        0x00, 0xfc, 0x00, 0x04, 0xab, 0xcd, 0xef, 0x01, 0x04, 0xa2, 0x00, 0x00, 0x00, 0x10, 0x00,
+        0x02, 0x00, 0x00, 0x1d, 0x0f, 0xc4, 0xdd,
+    ];
+    let head = TcHead::new(100, 0, 0, 6, 2, 1).ok_or("out of range")?;
+    let mut areas = Vec::new(rt.alloc());
+    areas.push(area(rt.alloc(), 252, &[0xab, 0xcd, 0xef, 0x01])?)?;
+    areas.push(area(rt.alloc(), 16, &[0, 0])?)?;
+    let written = write_load(rt.alloc(), &head, 1, &areas)?;
+    assert!(rt; written.as_slice() == packet.as_slice());
+    Ok(())
+}
+
+#[test]
 fn tells_what_cant_be_written(rt: HostRuntime) -> Result<(), Fail> {
     // Two areas of 32,764 octets: 15 + 2 * (8 + 32,764) = 65,559 octets.
     let long = areas(rt.alloc(), 2, 32764)?;
@@ -186,20 +222,42 @@ fn tells_readings_apart(rt: HostRuntime) -> Result<(), Fail> {
     let memories = memory(alloc, 256)?;
     let other = memory(alloc, 512)?;
     let message = request(alloc, 9, &[1, 1, 0, 0, 0, 0, 0, 2])?;
-    let shape = memories.shape(alloc)?;
-    match prepare(alloc, &shape, 100, Ticket::new(2, 3, message.copy()?)) {
-        Ok(prepared) => {
-            let same = prepared.is_of(2, 3, message.as_slice(), 100, &memories);
-            let boot = prepared.is_of(3, 3, message.as_slice(), 100, &memories);
-            let shape = prepared.is_of(2, 3, message.as_slice(), 100, &other);
-            let head = prepared.reading().head().ok_or("no telecommand")?;
-            assert!(rt; same && !boot && !shape);
-            assert_eq!(rt; head.request().value, 0x1864_c000);
-            Ok(())
-        }
-        Err(ticket) => {
-            ticket.abandon();
-            Err("no memory")?
-        }
-    }
+    let prepared = read(alloc, &memories, message.copy()?)?;
+    let same = prepared.is_of(2, 3, message.as_slice(), 100, &memories);
+    let boot = prepared.is_of(3, 3, message.as_slice(), 100, &memories);
+    let shape = prepared.is_of(2, 3, message.as_slice(), 100, &other);
+    prepared.abandon();
+    assert!(rt; same && !boot && !shape);
+    Ok(())
+}
+
+#[test]
+fn keeps_the_head_of_a_telecommand(rt: HostRuntime) -> Result<(), Fail> {
+    let alloc = rt.alloc();
+    let memories = memory(alloc, 256)?;
+    let check = request(alloc, 9, &[1, 1, 0, 0, 0, 0, 0, 2])?;
+    let reading = read(alloc, &memories, check)?.reading();
+    assert_eq!(rt; reading.head(), TcHead::new(100, 0, 0, 6, 9, 1));
+    let noise = Octets::from_vec([0x18, 0x64, 0xc0].to_vec(alloc)?);
+    let reading = read(alloc, &memories, noise)?.reading();
+    assert_eq!(rt; reading.head(), None);
+    Ok(())
+}
+
+#[test]
+fn gives_a_job_up(rt: HostRuntime) -> Result<(), Fail> {
+    Ticket::new(2, 3, request(rt.alloc(), 1, &[])?).abandon();
+    Ok(())
+}
+
+#[test]
+fn states_its_laws(_rt: HostRuntime) {
+    laws::message_meanings();
+    laws::load_bodies();
+    laws::range_bodies();
+    laws::load_meanings();
+    laws::range_meanings();
+    laws::sizes_stay();
+    laws::later_wins();
+    laws::loads_one_memory();
 }

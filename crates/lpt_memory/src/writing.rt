@@ -20,6 +20,9 @@ const PACKET_LIMIT: usize = 65542;
 /// The octets of a load's packet, besides its areas.
 const LOAD_HEAD: usize = 15;
 
+/// The octets of its body, besides its areas.
+const BODY_HEAD: usize = 2;
+
 /// The octets of each area in it, besides those of the memory.
 const LOAD_AREA: usize = 8;
 
@@ -68,13 +71,25 @@ fn push_area(body: &mut Vec<u8>, area: &Area) -> Result<(), AllocError>
     Ok(())
 }
 
+// How many octets the body of a load has. Its packet has 13 more.
+fn body_len(areas: &[Area]) -> usize
+    requires { write_fault areas.now ≡ None }
+    ensures { result + 13 ≡ load_length areas.now }
+{
+    let mut len = BODY_HEAD;
+    for area in areas {
+        len += LOAD_AREA + area.octets.as_slice().len();
+    }
+    len
+}
+
 // The body of a load. The only error is want of memory.
 fn load_body(alloc: Global, memory: u8, areas: &[Area]) -> Result<Vec<u8>, AllocError>
     requires { write_fault areas.now ≡ None }
     ensures body { IfOk result (λ v. v.items ≡ load_text memory areas.now) }
     ensures addresses { OnOk result (AllByRecursion (λ a. a.address < 2 ^ 32) areas.now) }
 {
-    let mut body = Vec::new(alloc);
+    let mut body = Vec::with_capacity(alloc, body_len(areas))?;
     body.push(memory)?;
     body.push(areas.len() as u8)?;
     for area in areas {
@@ -98,10 +113,10 @@ fn load_packet(
     ensures means { IfOk result (λ o. MeansLoad head.now.apid o memory areas.now) }
 {
     octets_read_again();
+    // A field behind a reference is known to be in its range once it is read.
     let _source = head.source;
     let body = load_body(alloc, memory, areas)?;
-    let octets = tc_octets(alloc, head, &body)?;
-    Ok(octets)
+    tc_octets(alloc, head, &body)
 }
 
 /// The fault for which a load of these areas can't be written, if there is one. It takes no memory.

@@ -4,17 +4,16 @@ use Rattle.lpt_memory.specs.Memories.{Contents, sizes_of, loaded}
 use Rattle.lpt_memory.proofs.MemoriesLemmas.{loaded-found, sizes_of-set}
 use Rattle.lpt_memory.proofs.contents.load.Goals as goal
 
-pub returns-then-memories-i-clause-loaded : goal.returns-then-memories-i-clause-loaded
-returns-then-memories-i-clause-loaded c =
-    let ms = c.loop-i.memories in
-    let within : c.loop-i.i < length ms = omega arith in
-    loaded-found c.args.id c.args.areas.now ms c.loop-i.i c.index-memories-i.result
-    c.index-memories-i-then-memories-i.result c.put_all.new.content
-    within (cc) c.put_all.ensures.put c.loop-i.invariant.loaded
-    ∙ ap (λ (xs : Contents). loaded c.args.id c.args.areas.now xs) c.loop-i.invariant.same
+pub returns-then-known-id-clause-loaded : goal.returns-then-known-id-clause-loaded
+returns-then-known-id-clause-loaded c =
+    let ms = c.loop-known.known-items in
+    let within : c.loop-known.known-index < length ms = omega arith in
+    loaded-found c.args.id c.args.areas.now ms c.loop-known.known-index c.known-item.result
+    c.put_all.new.content within (cc) c.put_all.ensures.put c.loop-known.invariant.loaded
+    ∙ ap (λ (xs : Contents). loaded c.args.id c.args.areas.now xs) c.loop-known.invariant.same
 
-pub returns-then-memories-i-clause-sizes : goal.returns-then-memories-i-clause-sizes
-returns-then-memories-i-clause-sizes c =
-    sizes_of-set c.loop-i.memories c.loop-i.i c.index-memories-i-then-memories-i.result
+pub returns-then-known-id-clause-sizes : goal.returns-then-known-id-clause-sizes
+returns-then-known-id-clause-sizes c =
+    sizes_of-set c.loop-known.known-items c.loop-known.known-index c.known-item.result
     c.put_all.new.content c.put_all.ensures.size
-    ∙ ap (λ (xs : Contents). sizes_of xs) c.loop-i.invariant.same
+    ∙ ap (λ (xs : Contents). sizes_of xs) c.loop-known.invariant.same

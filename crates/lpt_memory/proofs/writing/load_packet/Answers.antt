@@ -1,7 +1,9 @@
 -- The body fits a packet, and its packet is read again as the load.
 use Rattle.std.proofs.Common.{◌≡◌, ◌∙◌, refl, ap, arith, ℕ, ◌<◌, List, length, Some}
+use Rattle.std.proofs.lemmas.Result.{IfOk-weaker}
 use Rattle.lpt_packet.specs.Packets.{spelling}
 use Rattle.lpt_pus.specs.Commands.{Command, CommandFits, command, packet_of, command_in}
+use Rattle.lpt_memory.specs.Ranges.{MeansLoad}
 use Rattle.lpt_memory.specs.Spellings.{load_text}
 use Rattle.lpt_memory.proofs.WritingLemmas.{length-load_text, is_writable, load_spelled, load-meant}
 use Rattle.lpt_memory.proofs.writing.load_packet.Goals as goal
@@ -30,13 +32,15 @@ returns-clause-means c =
       source_fits = source;
       body_fits = omega (arith, length-load_text c.args.memory areas, fits);
     } in
-    let o = c.in_ok-octets.octets in
     let body : c.deref.result.now ≡ text = c.deref.ensures.value ∙ c.in_ok-body.ensures.body in
-    let written : o ≡ spelling (packet_of made) = c.in_ok-octets.ensures
-    ∙ ap (λ (b : List ℕ). spelling (packet_of (command h b))) body in
-    let read : command_in h.apid o ≡ Some made = ap (command_in h.apid) written
-    ∙ c.octets_read_again.ensures.command made in_range in
     let spelled = load_spelled areas c.requires.areas c.in_ok-body.ensures.addresses in
-    λ sizes size known fit.
-    load-meant made o c.args.memory areas sizes size c.requires.service c.requires.subtype refl read
-    spelled known fit
+    IfOk-weaker c.tc_octets.result
+    (λ (o : List ℕ). o ≡ spelling (packet_of (command h c.deref.result.now)))
+    (λ (o : List ℕ). MeansLoad h.apid o c.args.memory areas)
+    (λ o written sizes size known fit.
+    let read : command_in h.apid o ≡ Some made = ap (command_in h.apid)
+    (written ∙ ap (λ (b : List ℕ). spelling (packet_of (command h b))) body)
+    ∙ c.octets_read_again.ensures.command made in_range in
+    load-meant made o c.args.memory areas sizes size c.requires.service c.requires.subtype refl
+    read spelled known fit)
+    c.tc_octets.ensures
