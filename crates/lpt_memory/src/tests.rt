@@ -7,7 +7,7 @@ use crate::{
     Area, Effect, Memories, MemoryFault, Prepared, Ticket, laws, load_fault, prepare, write_load,
 };
 use lpt_packet::Octets;
-use lpt_pus::{TcHead, write_tc};
+use lpt_pus::{TcHead, TmHead, write_tc, write_tm};
 use std::alloc::Global;
 use std::test::Fail;
 
@@ -44,6 +44,12 @@ fn read(alloc: Global, memories: &Memories, message: Octets) -> Result<Prepared,
             Err("no memory")?
         }
     }
+}
+
+// The packet of a report of memory management: sequence count, type counter and time are 0.
+fn report(alloc: Global, subtype: u8, body: &Octets) -> Result<Octets, Fail> {
+    let head = TmHead::new(100, 0, 0, 6, subtype, 0, 1, 0).ok_or("out of range")?;
+    Ok(write_tm(alloc, &head, body.as_slice())?)
 }
 
 // What a message comes to.
@@ -137,6 +143,8 @@ fn each_fault_in_its_order(rt: HostRuntime) -> Result<(), Fail> {
     assert_eq!(rt; code(alloc, 256, 2, &[1, 0])?, 2);
     assert_eq!(rt; code(alloc, 256, 2, &[0])?, 2);
     assert_eq!(rt; code(alloc, 256, 5, &[9, 1, 0, 0, 0, 0, 0, 2])?, 3);
+    let unknown = [9, 1, 0, 0, 0, 0, 0, 1, 0x00, 0xe1, 0xf0];
+    assert_eq!(rt; code(alloc, 256, 2, &unknown)?, 3);
     // A second area with the checksum 1d0e in place of 1d0f: nothing is loaded.
     let body = [
         1, 2, 0, 0, 0, 0, 0, 4, 0xab, 0xcd, 0xef, 0x01, 0x04, 0xa2, 0, 0, 0, 8, 0, 2, 0, 0, 0x1d,
@@ -158,7 +166,9 @@ fn each_fault_in_its_order(rt: HostRuntime) -> Result<(), Fail> {
 fn dumps_fill_a_packet_and_no_more(rt: HostRuntime) -> Result<(), Fail> {
     let alloc = rt.alloc();
     let most = [1, 1, 0, 0, 0, 0, 0xff, 0xe9];
-    assert_eq!(rt; reply(alloc, 131072, 5, &most)?.as_slice().len(), 65523);
+    let body = reply(alloc, 131072, 5, &most)?;
+    assert_eq!(rt; body.as_slice().len(), 65523);
+    assert_eq!(rt; report(alloc, 6, &body)?.as_slice().len(), 65542);
     assert_eq!(rt; code(alloc, 131072, 5, &[1, 1, 0, 0, 0, 0, 0xff, 0xea])?, 6);
     let two = [1, 2, 0, 0, 0, 0, 0x9c, 0x40, 0, 0, 0, 0, 0x9c, 0x40];
     assert_eq!(rt; code(alloc, 131072, 5, &two)?, 6);
@@ -173,6 +183,12 @@ fn answers_dumps_and_checks(rt: HostRuntime) -> Result<(), Fail> {
     assert!(rt; check.as_slice() == [1, 1, 0, 0, 0, 0, 0, 2, 0x1d, 0x0f].as_slice());
     let dump = reply(rt.alloc(), 256, 5, &[1, 1, 0, 0, 0, 0x10, 0, 2])?;
     assert!(rt; dump.as_slice() == [1, 1, 0, 0, 0, 0x10, 0, 2, 0, 0, 0x1d, 0x0f].as_slice());
+    let packet = [
+        0x08, 0x64, 0xc0, 0x00, 0x00, 0x18, 0x20, 0x06, 0x06, 0x00, 0x00, 0x00, 0x01, 0x00, 0x00,
+        0x00, 0x00, 0x01, 0x01, 0x00, 0x00, 0x00, 0x10, 0x00, 0x02, 0x00, 0x00, 0x1d, 0x0f, 0xe7,
+        0x44,
+    ];
+    assert!(rt; report(rt.alloc(), 6, &dump)?.as_slice() == packet.as_slice());
     Ok(())
 }
 
