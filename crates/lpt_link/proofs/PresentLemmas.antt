@@ -8,26 +8,14 @@ use Rattle.std.proofs.lemmas.Option.{slice_get_read, slice_get_within, get_or_fr
 use Rattle.lpt_packet.proofs.NameLemmas.{same_name-refl, same_name-true}
 use Rattle.lpt_packet.specs.Names.{Name, same_name}
 use Rattle.lpt_packet.specs.declared.direction.Direction.{Direction}
-use Rattle.lpt_packet.specs.declared.direction.Direction.TheVariants.{Up, Down}
-use Rattle.lpt_link.specs.declared.lane.Lane.{Lane}
-use Rattle.lpt_link.specs.declared.lane.Lane.TheVariants.{S1, S2, G1, G2}
+use Rattle.lpt_events.specs.declared.lane.Lane.{Lane}
+use Rattle.lpt_events.specs.declared.lane.Lane.TheVariants.{S1, S2, G1, G2}
 use Rattle.lpt_link.specs.declared.packet.LinkPacket.{LinkPacket}
-use Rattle.lpt_link.specs.Lanes.{lanes, same_direction}
+use Rattle.lpt_events.proofs.LaneLemmas.{same_direction-refl, same_direction-true}
+use Rattle.lpt_events.specs.Lanes.{lanes, same_direction}
 use Rattle.lpt_link.specs.Links.{LinkData, is_of, hand_of, hand_has, any_held, any_in_hand, holds, IsPresent}
 
 -- ---- a packet of a transaction
-
--- a direction is the same as itself
-pub same_direction-refl : (a : Direction) → same_direction a a ≡ true
-same_direction-refl Up = refl
-same_direction-refl Down = refl
-
--- directions that are the same are equal
-pub same_direction-true : (a b : Direction) → same_direction a b ≡ true → a ≡ b
-same_direction-true Up Up h = refl
-same_direction-true Up Down h = cc
-same_direction-true Down Up h = cc
-same_direction-true Down Down h = refl
 
 same_tag-true : (tag : Option Name) (id : Name)
     → option_eq same_name tag (Some id) ≡ true

@@ -1,7 +1,7 @@
 -- The hands of the four lanes.
 use Rattle.std.specs.Prelude.{ℕ, Option, None}
-use Rattle.lpt_link.specs.declared.lane.Lane.{Lane}
-use Rattle.lpt_link.specs.declared.lane.Lane.TheVariants.{S1, S2, G1, G2}
+use Rattle.lpt_events.specs.declared.lane.Lane.{Lane}
+use Rattle.lpt_events.specs.declared.lane.Lane.TheVariants.{S1, S2, G1, G2}
 use Rattle.lpt_link.specs.declared.hands.Hands.{Hands}
 
 -- four empty hands

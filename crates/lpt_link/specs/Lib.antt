@@ -1,4 +1,3 @@
 pub mod FaultNames
 pub mod Hands
-pub mod Lanes
 pub mod Links

@@ -7,10 +7,10 @@ use Rattle.lpt_packet.specs.Names.{Name, same_name}
 use Rattle.lpt_link.specs.declared.fault.LinkFault.{LinkFault}
 use Rattle.lpt_link.specs.declared.fault.LinkFault.TheVariants.{NotHeld, HandFull, HandEmpty}
 use Rattle.lpt_link.specs.declared.hands.Hands.{Hands}
-use Rattle.lpt_link.specs.declared.lane.Lane.{Lane}
+use Rattle.lpt_events.specs.declared.lane.Lane.{Lane}
 use Rattle.lpt_link.specs.declared.packet.LinkPacket.{LinkPacket}
 use Rattle.lpt_link.specs.Hands.{no_hands, hand_in, with_hand}
-use Rattle.lpt_link.specs.Lanes.{lanes, lane_direction, same_direction}
+use Rattle.lpt_events.specs.Lanes.{lanes, lane_direction, same_direction}
 
 -- ---- what a link has
 

@@ -8,13 +8,12 @@
 
 mod fault;
 mod hands;
-mod lane;
 pub mod laws;
 mod link;
 mod packet;
 
 pub use fault::LinkFault;
-pub use lane::Lane;
+pub use lpt_events::Lane;
 pub use link::{Link, PutError};
 
 #[cfg(test)]

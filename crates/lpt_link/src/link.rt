@@ -3,7 +3,7 @@
 ghost use Rattle.std.specs.Prelude.{◌≡◌, ◌↔◌, ◌+◌, ◌<◌, ◌≤◌, length, IfOk, IfErr, OnOk, OnErr, IsOk, IsSome, IsTrue, IfNone, IfSome, is_some};
 ghost use Rattle.std.specs.Option.{option_copied};
 ghost use Rattle.std.specs.Result.{result_err};
-ghost use Rattle.lpt_link.specs.Lanes.{lane_direction};
+ghost use Rattle.lpt_events.specs.Lanes.{lane_direction};
 ghost use Rattle.lpt_link.specs.Links.{empty_link, octets_at, is_held, is_held_for, hand_of, hand_has, any_held, any_in_hand, holds, after_put, after_lose, after_take, after_drop, refusal_lose, refusal_take, refusal_drop, IsNumberOf};
 
 use crate::hands::Hands;

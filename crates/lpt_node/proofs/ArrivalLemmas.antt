@@ -16,9 +16,9 @@ use Rattle.lpt_part.specs.declared.kind.Kind.{Kind}
 use Rattle.lpt_part.specs.Splitting.{IsPartSize}
 use Rattle.lpt_node.specs.declared.found.Found.{Found}
 use Rattle.lpt_node.specs.declared.found.Found.TheVariants as found
-use Rattle.lpt_node.specs.declared.side.Side.{Side}
-use Rattle.lpt_node.specs.declared.side.Side.TheVariants.{Ground, Craft}
-use Rattle.lpt_node.specs.Arrivals.{NotRead, Foreign, ARequest, AReport, part_arrival, abort_arrival, carried_kind, command_arrival, report_arrival, telemetry_arrival, packet_arrival, sight_arrival, arrival}
+use Rattle.lpt_events.specs.declared.side.Side.{Side}
+use Rattle.lpt_events.specs.declared.side.Side.TheVariants.{Ground, Craft}
+use Rattle.lpt_events.specs.Arrivals.{NotRead, Foreign, ARequest, AReport, part_arrival, abort_arrival, carried_kind, command_arrival, report_arrival, telemetry_arrival, packet_arrival, sight_arrival, arrival}
 use Rattle.lpt_node.specs.Found.{body_from, IsFound, IsFoundIn}
 
 -- ---- what is seen

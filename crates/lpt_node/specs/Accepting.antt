@@ -1,11 +1,11 @@
 -- What an end does with a packet that is delivered to it.
 use Rattle.std.specs.Prelude.{◌≡◌, length, Some, None}
-use Rattle.lpt_node.specs.declared.side.Side.{Side}
-use Rattle.lpt_node.specs.declared.config.Config.{Config}
+use Rattle.lpt_events.specs.declared.side.Side.{Side}
+use Rattle.lpt_events.specs.declared.config.Config.{Config}
 use Rattle.lpt_node.specs.declared.accepted.Accepted.{Accepted}
-use Rattle.lpt_node.specs.declared.outcome.Outcome.TheVariants as outcome
-use Rattle.lpt_node.specs.declared.outcome.Why.TheVariants as why
-use Rattle.lpt_node.specs.Arrivals.{Arrival, NotRead, AnIdle, Foreign, ARequest, AReport, NoPart, APart, AnAbort}
+use Rattle.lpt_events.specs.declared.outcome.Outcome.TheVariants as outcome
+use Rattle.lpt_events.specs.declared.outcome.Why.TheVariants as why
+use Rattle.lpt_events.specs.Arrivals.{Arrival, NotRead, AnIdle, Foreign, ARequest, AReport, NoPart, APart, AnAbort}
 use Rattle.lpt_node.specs.Nodes.{NodeData, NodeView}
 use Rattle.lpt_node.specs.Origins.{Origin}
 use Rattle.lpt_node.specs.Sending.{closed}

@@ -3,12 +3,12 @@ use Rattle.std.specs.Prelude.{◌≡◌, ℕ, ◌+◌, ◌≤◌, List, length, 
 use Rattle.lpt_packet.specs.Packets.{Fields, fields_at}
 use Rattle.lpt_part.specs.Splitting.{IsPartSize}
 use Rattle.lpt_part.specs.Parts.{piece}
-use Rattle.lpt_node.specs.declared.side.Side.{Side}
+use Rattle.lpt_events.specs.declared.side.Side.{Side}
 use Rattle.lpt_node.specs.declared.found.Found.{Found}
 use Rattle.lpt_node.specs.declared.found.Found.TheVariants as found
 use Rattle.lpt_node.specs.declared.found.Sight.{Sight}
 use Rattle.lpt_node.specs.declared.found.Sight.TheVariants as sight
-use Rattle.lpt_node.specs.Arrivals.{Arrival, NotRead, AnIdle, Foreign, ARequest, AReport, NoPart, APart, AnAbort, part_arrival, abort_arrival, packet_arrival, arrival}
+use Rattle.lpt_events.specs.Arrivals.{Arrival, NotRead, AnIdle, Foreign, ARequest, AReport, NoPart, APart, AnAbort, part_arrival, abort_arrival, packet_arrival, arrival}
 
 -- the body that stands in a packet's data field from a place on
 abbrev pub body_from : List ℕ → ℕ → List ℕ

@@ -1,12 +1,9 @@
 pub mod Accepting
-pub mod Arrivals
 pub mod Asking
 pub mod Codes
-pub mod Configs
 pub mod Counting
 pub mod FaultNames
 pub mod Found
-pub mod MadePackets
 pub mod NodeInside
 pub mod Nodes
 pub mod Origins

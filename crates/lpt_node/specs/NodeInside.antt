@@ -3,7 +3,7 @@ use Rattle.std.specs.Prelude.{◌≡◌, ℕ, None, refl}
 use Rattle.std.specs.Coded.{Coded, code_by, coded×, coded_ℕ, coded_list}
 use Rattle.std.specs.FinMap as map
 use Rattle.lpt_table.specs.Tables.{TableState}
-use Rattle.lpt_node.specs.declared.config.Config.{Config}
+use Rattle.lpt_events.specs.declared.config.Config.{Config}
 use Rattle.lpt_node.specs.Nodes.{Messages, IsConfigured}
 
 -- the part size by which messages are split, and the open messages

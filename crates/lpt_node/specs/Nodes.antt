@@ -8,9 +8,9 @@ use Rattle.lpt_packet.specs.Names.{Name}
 use Rattle.lpt_part.specs.Splitting.{IsPartSize}
 use Rattle.lpt_ledger.specs.Marks.{Marks}
 use Rattle.lpt_table.specs.Tables.{Entries}
-use Rattle.lpt_node.specs.declared.side.Side.{Side}
-use Rattle.lpt_node.specs.declared.side.Side.TheVariants.{Ground, Craft}
-use Rattle.lpt_node.specs.declared.config.Config.{Config}
+use Rattle.lpt_events.specs.declared.side.Side.{Side}
+use Rattle.lpt_events.specs.declared.side.Side.TheVariants.{Ground, Craft}
+use Rattle.lpt_events.specs.declared.config.Config.{Config}
 use Rattle.lpt_node.specs.Counting.{no_types}
 
 -- the messages of the open outgoing transactions, by their names

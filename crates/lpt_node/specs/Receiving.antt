@@ -16,19 +16,19 @@ use Rattle.lpt_reception.specs.Received.{Kept, Parts, with_part, spelled}
 use Rattle.lpt_table.specs.Tables.{Entries, TableState}
 use Rattle.lpt_table.specs.Offering.{OfferKind, parts_at, offered}
 use Rattle.lpt_table.specs.Offering as offering
-use Rattle.lpt_node.specs.declared.side.Side.{Side}
-use Rattle.lpt_node.specs.declared.side.Side.TheVariants.{Ground, Craft}
-use Rattle.lpt_node.specs.declared.config.Config.{Config}
-use Rattle.lpt_node.specs.declared.outcome.Outcome.{Outcome}
-use Rattle.lpt_node.specs.declared.outcome.Outcome.TheVariants as outcome
-use Rattle.lpt_node.specs.declared.outcome.Why.{Why}
-use Rattle.lpt_node.specs.declared.outcome.Why.TheVariants as why
+use Rattle.lpt_events.specs.declared.side.Side.{Side}
+use Rattle.lpt_events.specs.declared.side.Side.TheVariants.{Ground, Craft}
+use Rattle.lpt_events.specs.declared.config.Config.{Config}
+use Rattle.lpt_events.specs.declared.outcome.Outcome.{Outcome}
+use Rattle.lpt_events.specs.declared.outcome.Outcome.TheVariants as outcome
+use Rattle.lpt_events.specs.declared.outcome.Why.{Why}
+use Rattle.lpt_events.specs.declared.outcome.Why.TheVariants as why
 use Rattle.lpt_node.specs.declared.accepted.Accepted.{Accepted}
 use Rattle.lpt_node.specs.declared.taken.Taken.{Taken}
 use Rattle.lpt_node.specs.declared.taken.Taken.TheVariants as taking
 use Rattle.lpt_node.specs.declared.telemetry.TelemetryKind.TheVariants.{Abort}
 use Rattle.lpt_node.specs.Counting.{counter_of}
-use Rattle.lpt_node.specs.MadePackets.{telemetry_made}
+use Rattle.lpt_events.specs.MadePackets.{telemetry_made}
 use Rattle.lpt_node.specs.Nodes.{NodeData}
 use Rattle.lpt_node.specs.Sending.{counted_kind}
 

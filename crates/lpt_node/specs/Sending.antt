@@ -10,15 +10,15 @@ use Rattle.lpt_ledger.specs.declared.state.State.{State}
 use Rattle.lpt_ledger.specs.declared.state.State.TheVariants.{Free, Open, Closed}
 use Rattle.lpt_ledger.specs.Marks.{Opened, Shut}
 use Rattle.lpt_ledger.specs.States.{state_at}
-use Rattle.lpt_node.specs.declared.side.Side.{Side}
-use Rattle.lpt_node.specs.declared.side.Side.TheVariants.{Ground, Craft}
-use Rattle.lpt_node.specs.declared.config.Config.{Config}
+use Rattle.lpt_events.specs.declared.side.Side.{Side}
+use Rattle.lpt_events.specs.declared.side.Side.TheVariants.{Ground, Craft}
+use Rattle.lpt_events.specs.declared.config.Config.{Config}
 use Rattle.lpt_node.specs.declared.fault.NodeFault.{NodeFault}
 use Rattle.lpt_node.specs.declared.fault.NodeFault.TheVariants.{InUse, Short, Long, TooMany, NotOpen, NoSuchPart, Memory}
 use Rattle.lpt_node.specs.declared.telemetry.TelemetryKind.{TelemetryKind}
 use Rattle.lpt_node.specs.declared.telemetry.TelemetryKind.TheVariants.{FirstPart, MiddlePart, LastPart}
 use Rattle.lpt_node.specs.Counting.{counter_of, next_count, next_types}
-use Rattle.lpt_node.specs.MadePackets.{nth_part, part_made}
+use Rattle.lpt_events.specs.MadePackets.{nth_part, part_made}
 use Rattle.lpt_node.specs.Nodes.{Sending, NodeData, direction_from, message_at}
 
 -- why a message of this length isn't taken, under a name of this state, where n are open

@@ -8,8 +8,8 @@ use Rattle.lpt_ledger.specs.declared.state.State.TheVariants.{Free, Open, Closed
 use Rattle.lpt_ledger.specs.Marks.{Marks, Shut}
 use Rattle.lpt_ledger.specs.States.{state_at}
 use Rattle.lpt_table.specs.Deadlines.{due_of}
-use Rattle.lpt_node.specs.declared.side.Side.{Side}
-use Rattle.lpt_node.specs.declared.config.Config.{Config}
+use Rattle.lpt_events.specs.declared.side.Side.{Side}
+use Rattle.lpt_events.specs.declared.config.Config.{Config}
 use Rattle.lpt_node.specs.declared.expired.Expired.{Expired}
 use Rattle.lpt_node.specs.declared.fault.NodeFault.{NodeFault}
 use Rattle.lpt_node.specs.declared.fault.NodeFault.TheVariants.{ClockEnd, NothingDue}

@@ -10,19 +10,16 @@ mod accepted;
 mod accepting;
 mod ask;
 mod asking;
-mod config;
 mod counts;
 mod expired;
 mod fault;
 mod found;
 mod making;
 mod node;
-mod outcome;
 mod outgoing;
 mod parsed;
 mod requesting;
 mod sending;
-mod side;
 mod taken;
 mod taking;
 mod telemetry;
@@ -30,13 +27,11 @@ mod timing;
 
 pub use accepted::Accepted;
 pub use ask::Ask;
-pub use config::Config;
 pub use expired::Expired;
 pub use fault::NodeFault;
 pub use node::Node;
-pub use outcome::{Outcome, Why};
+pub use lpt_events::{Config, Outcome, Side, Why};
 pub use parsed::Parsed;
-pub use side::Side;
 pub use telemetry::TelemetryKind;
 
 #[cfg(test)]

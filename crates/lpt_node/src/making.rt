@@ -5,9 +5,9 @@ ghost use Rattle.std.specs.Option.{option_map};
 ghost use Rattle.lpt_part.specs.Parts.{piece};
 ghost use Rattle.lpt_pus.specs.Telemetry.{telemetry};
 ghost use Rattle.lpt_packet.specs.declared.direction.Direction.TheVariants.{Up};
-ghost use Rattle.lpt_node.specs.Arrivals.{part_subtype};
+ghost use Rattle.lpt_events.specs.Arrivals.{part_subtype};
 ghost use Rattle.lpt_node.specs.Counting.{counter_of, service_of, subtype_of};
-ghost use Rattle.lpt_node.specs.MadePackets.{telemetry_made};
+ghost use Rattle.lpt_events.specs.MadePackets.{telemetry_made};
 ghost use Rattle.lpt_node.specs.Sending.{part_packet, part_telemetry};
 ghost use Rattle.lpt_node.specs.Receiving.{abort_head, abort_report};
 

@@ -5,8 +5,8 @@ ghost use Rattle.lpt_packet.specs.Numbers.{IsOctets};
 ghost use Rattle.lpt_packet.specs.Packets.{APacket, fields, seen};
 ghost use Rattle.lpt_part.specs.Splitting.{IsPartSize};
 ghost use Rattle.lpt_packet.specs.declared.direction.Direction.TheVariants.{Up, Down};
-ghost use Rattle.lpt_node.specs.declared.side.Side.TheVariants.{Ground, Craft};
-ghost use Rattle.lpt_node.specs.Arrivals.{carried_kind};
+ghost use Rattle.lpt_events.specs.declared.side.Side.TheVariants.{Ground, Craft};
+ghost use Rattle.lpt_events.specs.Arrivals.{carried_kind};
 ghost use Rattle.lpt_node.specs.Origins.{arrival_from};
 ghost use Rattle.lpt_node.specs.Found.{body_from, IsFound, IsFoundIn, Shows};
 

@@ -1,7 +1,7 @@
 //! Plain requests: telecommands besides the parts of messages.
 
 ghost use Rattle.std.specs.Prelude.{◌≡◌, ◌+◌, ◌≤◌, length, None, IfOk, IfErr, IfNone, OnOk, OnErr};
-ghost use Rattle.lpt_node.specs.declared.side.Side.TheVariants.{Ground};
+ghost use Rattle.lpt_events.specs.declared.side.Side.TheVariants.{Ground};
 ghost use Rattle.lpt_node.specs.Requests.{refusal_plain, plain_made};
 ghost use Rattle.lpt_node.specs.Sending.{RefusedBy};
 

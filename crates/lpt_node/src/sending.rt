@@ -3,7 +3,7 @@
 ghost use Rattle.std.specs.Prelude.{◌≡◌, ◌≤◌, length, None, Some, IfOk, IfErr, OnOk, OnErr};
 ghost use Rattle.lpt_part.specs.Parts.{piece};
 ghost use Rattle.lpt_part.specs.Splitting.{IsPartSize, part_count};
-ghost use Rattle.lpt_node.specs.MadePackets.{nth_part};
+ghost use Rattle.lpt_events.specs.MadePackets.{nth_part};
 ghost use Rattle.lpt_node.specs.Nodes.{MessageFits};
 ghost use Rattle.lpt_node.specs.Sending.{refusal_open, opened, refusal_send, sent, refusal_finish, closed, RefusedBy};
 

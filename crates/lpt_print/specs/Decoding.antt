@@ -21,7 +21,7 @@ use Rattle.lpt_part.specs.declared.kind.Kind.TheVariants.{First, Middle, Last}
 use Rattle.lpt_part.specs.declared.reason.Reason.{Reason}
 use Rattle.lpt_part.specs.Aborts.{abort_in, reason_code}
 use Rattle.lpt_part.specs.Parts.{Piece, part_in}
-use Rattle.lpt_node.specs.Arrivals.{carried_kind}
+use Rattle.lpt_events.specs.Arrivals.{carried_kind}
 use Rattle.lpt_print.specs.Printing.{line_of, octets_text}
 
 -- what is printed, and whether the octets are faulty

@@ -7,7 +7,7 @@ ghost use Rattle.lpt_packet.specs.declared.direction.Direction.TheVariants.{Up, 
 ghost use Rattle.lpt_pus.specs.Commands.{command, tc_verdict};
 ghost use Rattle.lpt_pus.specs.Telemetry.{telemetry, tm_verdict};
 ghost use Rattle.lpt_part.specs.Splitting.{IsPartSize};
-ghost use Rattle.lpt_node.specs.Arrivals.{carried_kind};
+ghost use Rattle.lpt_events.specs.Arrivals.{carried_kind};
 ghost use Rattle.lpt_print.specs.Decoding.{Says, decoding, tc_decoding, tm_decoding, fault_text, tc_text, tm_text, body_text, kind_text, part_line, abort_line, report_line, tc_carried, tm_carried};
 
 use crate::words::octets_word;

@@ -6,9 +6,9 @@ ghost use Rattle.std.specs.String.{string_bytes};
 ghost use Rattle.lpt_print.specs.Printing.{opened_text, finished_text, expired_text, clock_text, put_text, took_text, outcome_text, refused_text, unreadable_text, journal_text, packet_text, memory_text, release_text, none_text};
 
 use crate::words::{direction_word, octets_word, why_word};
-use lpt_node::Outcome;
+use lpt_events::Outcome;
 use lpt_packet::{Direction, Name};
-use lpt_world::{Release, StepFault};
+use lpt_events::{Release, StepFault};
 use std::alloc::{AllocError, Global};
 
 /// `opened up 7 parts 3`: a message was opened, and has so many parts.

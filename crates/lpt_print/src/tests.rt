@@ -1,11 +1,11 @@
 //! Each text once, written out by hand, and whole packets with what they decode to.
 
 use super::*;
-use lpt_node::{Outcome, Why};
+use lpt_events::{Outcome, Why};
 use lpt_packet::{Direction, Octets, Packet, PacketKind, write_packet};
 use lpt_part::Reason;
 use lpt_pus::{TmHead, write_tm};
-use lpt_world::{Release, StepFault};
+use lpt_events::{Release, StepFault};
 use std::test::Fail;
 
 /// A telecommand with the first part of a message: identifier 7, part 1, octets 00 to 07.

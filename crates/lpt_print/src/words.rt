@@ -4,7 +4,7 @@ ghost use Rattle.std.specs.Prelude.{◌≡◌, IfOk};
 ghost use Rattle.std.specs.String.{string_bytes};
 ghost use Rattle.lpt_print.specs.Printing.{direction_text, octets_text, why_name};
 
-use lpt_node::Why;
+use lpt_events::Why;
 use lpt_packet::Direction;
 use std::alloc::{AllocError, Global};
 

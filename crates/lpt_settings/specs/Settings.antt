@@ -3,7 +3,7 @@ use Rattle.std.specs.Prelude.{ℕ, if◌then◌else◌, List, [], ◌∷◌, cod
 use Rattle.toml.specs.Data.{Members}
 use Rattle.lpt_memory.specs.Fields.{◌>>=◌}
 use Rattle.lpt_memory.specs.Memories.{Contents}
-use Rattle.lpt_node.specs.declared.config.Config.{Config}
+use Rattle.lpt_events.specs.declared.config.Config.{Config}
 use Rattle.lpt_settings.specs.Keys.{has_only}
 use Rattle.lpt_settings.specs.MemoryTables.{memories_of, default_memories}
 use Rattle.lpt_settings.specs.Numbers.{number_at}

@@ -4,14 +4,14 @@ ghost use Rattle.std.specs.Prelude.{◌≡◌, ◌⊎◌, Some, IfSome, IfOk, If
 ghost use Rattle.toml.specs.Errors.{IsBlank};
 ghost use Rattle.toml.specs.Parse.{parse_document};
 ghost use Rattle.toml.specs.View.{table_view};
-ghost use Rattle.lpt_node.specs.Configs.{IsConfig};
+ghost use Rattle.lpt_events.specs.Configs.{IsConfig};
 ghost use Rattle.lpt_settings.specs.Settings.{config_of, settings_of, default_settings};
 
 use crate::keys::has_only;
 use crate::memories::memories;
 use crate::numbers::number;
 use lpt_memory::Memories;
-use lpt_node::Config;
+use lpt_events::Config;
 use lpt_text::ToolFault;
 use std::alloc::{AllocError, Global};
 use toml::Table;

@@ -2,7 +2,7 @@
 
 use crate::read_config;
 use lpt_memory::Memories;
-use lpt_node::Config;
+use lpt_events::Config;
 use lpt_text::ToolFault;
 use std::alloc::Global;
 use std::test::Fail;

@@ -14,9 +14,9 @@ use Rattle.lpt_text.specs.declared.fault.ToolFault.{ToolFault}
 use Rattle.lpt_text.specs.declared.fault.ToolFault.TheVariants as tool
 use Rattle.lpt_tool.specs.Ends.{TextEnds, LineEnds, LinesEnd, unrefused}
 use Rattle.lpt_tool.specs.Scripts.{Ran, Script, unreadable, printed, answered, stepped, stepped_as, joined, unless_refused, and_then, line_ran}
-use Rattle.lpt_world.specs.declared.event.Event.{Event}
-use Rattle.lpt_world.specs.declared.fault.StepFault.{StepFault}
-use Rattle.lpt_world.specs.declared.fault.StepFault.TheVariants.{Memory}
+use Rattle.lpt_events.specs.declared.event.Event.{Event}
+use Rattle.lpt_events.specs.declared.fault.StepFault.{StepFault}
+use Rattle.lpt_events.specs.declared.fault.StepFault.TheVariants.{Memory}
 use Rattle.lpt_world.specs.Worlds.{Shown, refusal_at, with_entry, RefusedBy}
 
 -- ---- printed texts

@@ -1,7 +1,7 @@
 -- How lines and scripts end: what the answer says of what was read and written.
 use Rattle.std.specs.Prelude.{◌≡◌, ◌≢◌, ◌≤◌, ◌<◌, ◌++◌, ◌⊎◌, ℕ, Bool, true, false, List, [], length, Option, Some, None, Result, Ok, Err}
 use Rattle.std.specs.Io.KnownBytes.{Appends, Consumes}
-use Rattle.lpt_node.specs.declared.side.Side.{Side}
+use Rattle.lpt_events.specs.declared.side.Side.{Side}
 use Rattle.lpt_print.specs.Decoding.{decoding}
 use Rattle.lpt_text.specs.declared.reading.End.{End}
 use Rattle.lpt_text.specs.declared.reading.End.TheVariants.{Whole, Failed, TooLong}
@@ -11,9 +11,9 @@ use Rattle.lpt_text.specs.declared.fault.ToolFault.{ToolFault}
 use Rattle.lpt_text.specs.declared.fault.ToolFault.TheVariants as tool
 use Rattle.lpt_tool.specs.declared.end.ScriptEnd.{ScriptEnd}
 use Rattle.lpt_tool.specs.Scripts.{Ran, Script, script_ran, stepped, ticked, unreadable}
-use Rattle.lpt_world.specs.declared.event.Event.TheVariants.{Tick}
-use Rattle.lpt_world.specs.declared.fault.StepFault.{StepFault}
-use Rattle.lpt_world.specs.declared.fault.StepFault.TheVariants.{Memory}
+use Rattle.lpt_events.specs.declared.event.Event.TheVariants.{Tick}
+use Rattle.lpt_events.specs.declared.fault.StepFault.{StepFault}
+use Rattle.lpt_events.specs.declared.fault.StepFault.TheVariants.{Memory}
 use Rattle.lpt_world.specs.Worlds.{Shown, refusal_at}
 
 -- how the writing of a text ends

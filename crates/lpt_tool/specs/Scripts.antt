@@ -5,7 +5,7 @@ use Rattle.std.specs.Option.{option_map, option_and_then}
 use Rattle.lpt_memory.specs.Memories.{content_of}
 use Rattle.lpt_packet.specs.declared.direction.Direction.TheVariants.{Up}
 use Rattle.lpt_words.specs.Words.{lines}
-use Rattle.lpt_node.specs.declared.side.Side.{Side}
+use Rattle.lpt_events.specs.declared.side.Side.{Side}
 use Rattle.lpt_print.specs.Printing.{accepted_text, refused_text, releases_text, packet_text, memory_text, journal_text, unreadable_text}
 use Rattle.lpt_words.specs.declared.grammar.Command.{Command}
 use Rattle.lpt_words.specs.declared.grammar.Command.TheVariants as command
@@ -13,13 +13,13 @@ use Rattle.lpt_words.specs.declared.grammar.Reading.{Reading}
 use Rattle.lpt_words.specs.declared.grammar.Reading.TheVariants.{Skipped, Asks, Unreadable}
 use Rattle.lpt_words.specs.Grammar.{reading_of}
 use Rattle.lpt_words.specs.Loads.{load_packet}
-use Rattle.lpt_world.specs.declared.event.Event.{Event}
-use Rattle.lpt_world.specs.declared.event.Event.TheVariants.{Open, Send, Plain, Finish, Take, Deliver, Tick, Expire}
-use Rattle.lpt_world.specs.declared.fault.StepFault.{StepFault}
-use Rattle.lpt_world.specs.declared.reply.Reply.{Reply}
-use Rattle.lpt_world.specs.Journal.{sent}
-use Rattle.lpt_world.specs.Releases.{releases}
-use Rattle.lpt_world.specs.Replies.{reply}
+use Rattle.lpt_events.specs.declared.event.Event.{Event}
+use Rattle.lpt_events.specs.declared.event.Event.TheVariants.{Open, Send, Plain, Finish, Take, Deliver, Tick, Expire}
+use Rattle.lpt_events.specs.declared.fault.StepFault.{StepFault}
+use Rattle.lpt_events.specs.declared.reply.Reply.{Reply}
+use Rattle.lpt_journal.specs.Journal.{sent}
+use Rattle.lpt_journal.specs.Releases.{releases}
+use Rattle.lpt_journal.specs.Replies.{reply}
 use Rattle.lpt_world.specs.Worlds.{Shown, history, memories_now, refusal_at, with_entry}
 
 -- what a line leaves: the world after it, what it printed, whether an event was refused, and its own

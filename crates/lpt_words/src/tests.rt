@@ -1,9 +1,9 @@
 //! Lines of scripts with what they say, worked out by hand.
 
 use crate::{Command, Load, Reading, read_hex, read_line, read_number, split_line, split_word};
-use lpt_link::Lane;
+use lpt_events::Lane;
 use lpt_memory::Area;
-use lpt_node::Side;
+use lpt_events::Side;
 use lpt_packet::{Direction, Octets};
 use lpt_pus::AckFlags;
 use std::alloc::Global;

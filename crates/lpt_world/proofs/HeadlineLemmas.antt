@@ -1,15 +1,15 @@
 -- A world that shows its journal keeps what holds of every legal journal.
 use Rattle.std.proofs.Common.{◌∙◌, subst, List, [], ◌∷◌}
 use Rattle.std.proofs.lemmas.List.{append-nil}
-use Rattle.lpt_node.specs.declared.config.Config.{Config}
+use Rattle.lpt_events.specs.declared.config.Config.{Config}
 use Rattle.lpt_world.specs.declared.ends.Ends.{Ends}
-use Rattle.lpt_world.specs.declared.entry.Entry.{Entry}
-use Rattle.lpt_world.specs.declared.event.Event.{Event}
-use Rattle.lpt_world.specs.Headline.{Holds}
-use Rattle.lpt_world.specs.Replies.{Legal}
+use Rattle.lpt_events.specs.declared.entry.Entry.{Entry}
+use Rattle.lpt_events.specs.declared.event.Event.{Event}
+use Rattle.lpt_journal.specs.Headline.{Holds}
+use Rattle.lpt_journal.specs.Replies.{Legal}
 use Rattle.lpt_world.specs.WorldInside.{IsShown}
 use Rattle.lpt_world.specs.Worlds.{IsTold, IsToldAfter, events_of, history_of}
-use Rattle.lpt_world.proofs.Every.{headline}
+use Rattle.lpt_journal.proofs.Every.{headline}
 use Rattle.lpt_world.proofs.WorldLemmas.{onto, onto-events_of}
 
 legal_after : (c : Config) (past : List Event) (j : List Entry) → Legal c past → IsToldAfter c past j → Legal c (onto past j)

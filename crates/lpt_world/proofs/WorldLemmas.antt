@@ -4,41 +4,28 @@ use Rattle.std.specs.Option.{option_map}
 use Rattle.std.specs.Prelude.{slice_get}
 use Rattle.std.proofs.lemmas.Option.{slice_get-map}
 use Rattle.std.proofs.lemmas.List.{append-nil, append_assoc, reverse-append, length-reverse}
-use Rattle.std.specs.FinMap as maps
-use Rattle.std.specs.Ordering.{nat_cmp}
-use Rattle.lpt_packet.specs.declared.direction.Direction.{Direction}
-use Rattle.lpt_packet.specs.declared.direction.Direction.TheVariants.{Up, Down}
 use Rattle.lpt_packet.proofs.Readings.{lt_false}
-use Rattle.lpt_reception.specs.Received.{no_parts}
-use Rattle.lpt_link.specs.declared.lane.Lane.{Lane}
-use Rattle.lpt_link.specs.declared.lane.Lane.TheVariants.{S1, S2, G1, G2}
 use Rattle.lpt_link.specs.declared.packet.LinkPacket.{LinkPacket}
-use Rattle.lpt_link.specs.Links.{octets_at, empty_link, hand_of}
+use Rattle.lpt_link.specs.Links.{octets_at}
 use Rattle.lpt_memory.specs.Memories.{Contents}
-use Rattle.lpt_node.specs.declared.config.Config.{Config}
-use Rattle.lpt_node.specs.declared.telemetry.TelemetryKind.{TelemetryKind}
-use Rattle.lpt_node.specs.declared.telemetry.TelemetryKind.TheVariants.{Accepted, NotAccepted, Started, NotStarted, Completed, Dump, Check, FirstPart, MiddlePart, LastPart, Abort}
-use Rattle.lpt_node.specs.Counting.{counter_of, no_types}
-use Rattle.lpt_node.specs.Nodes.{no_data}
+use Rattle.lpt_events.specs.declared.config.Config.{Config}
 use Rattle.lpt_world.specs.declared.ends.Ends.{Ends}
-use Rattle.lpt_world.specs.declared.entry.Entry.{Entry}
-use Rattle.lpt_world.specs.declared.event.Event.{Event}
-use Rattle.lpt_world.specs.declared.fault.StepFault.TheVariants.{NoSuchSeat}
-use Rattle.lpt_world.specs.declared.reply.Reply.{Reply}
+use Rattle.lpt_events.specs.declared.entry.Entry.{Entry}
+use Rattle.lpt_events.specs.declared.event.Event.{Event}
+use Rattle.lpt_events.specs.declared.fault.StepFault.TheVariants.{NoSuchSeat}
+use Rattle.lpt_events.specs.declared.reply.Reply.{Reply}
 use Rattle.lpt_world.specs.EndsInside.{state_of}
-use Rattle.lpt_world.specs.Journal.{History, SentPacket, sent}
-use Rattle.lpt_node.specs.Configs.{IsConfig}
-use Rattle.lpt_world.specs.Replies.{IsEvent, IsEnabled, refusal, reply, entry, recorded}
-use Rattle.lpt_world.specs.Shows.{Shows, ShowsSending, ShowsReceiving, sent_packet}
-use Rattle.lpt_world.specs.State.{State, no_state, after, refusal_of}
+use Rattle.lpt_journal.specs.Journal.{History, SentPacket, sent}
+use Rattle.lpt_events.specs.Configs.{IsConfig}
+use Rattle.lpt_journal.specs.Replies.{IsEvent, IsEnabled, refusal, reply, entry, recorded}
+use Rattle.lpt_machine.specs.Shows.{Shows, sent_packet}
+use Rattle.lpt_machine.specs.State.{State, no_state, after, refusal_of}
 use Rattle.lpt_world.specs.WorldInside.{IsShown, IsWorld}
 use Rattle.lpt_world.specs.Worlds.{IsTold, IsToldAfter, events_of, history_of, refusal_at}
-use Rattle.lpt_world.specs.Receivers.{heard, is_closed, last_tick}
-use Rattle.lpt_world.specs.Senders.{sender, count}
-use Rattle.lpt_world.proofs.CountLemmas.{none_open}
-use Rattle.lpt_world.proofs.Agrees.{shown_after, reply_agrees}
-use Rattle.lpt_world.proofs.LinkLemmas.{map-append, length-map}
-use Rattle.lpt_world.proofs.RefusalLemmas.{refusal_agrees}
+use Rattle.lpt_machine.proofs.Beginning.{shows_none}
+use Rattle.lpt_machine.proofs.Agrees.{shown_after, reply_agrees}
+use Rattle.lpt_machine.proofs.LinkLemmas.{map-append, length-map}
+use Rattle.lpt_machine.proofs.RefusalLemmas.{refusal_agrees}
 
 -- ---- journals
 
@@ -129,49 +116,6 @@ reply_shown e e' j ev r k free done =
     ap (λ (y : State × Reply). y.1) done ∙ ap (λ n. (after c n (state_of e) ev).1) (sym (length-history_of c j)) ∙ reply_agrees c (state_of e) (history_of c j) ev k.shows accepted
 
 -- ---- a new world
-
-no_sending : (c : Config) (d : Direction) → ShowsSending (no_data c).sending (sender [] d) (count [] d)
-no_sending c d = record { ledger = λ id. maps.get-empty nat_cmp id; messages = λ id. maps.get-empty nat_cmp id; count = refl }
-
-no_receiving : (c : Config) (d : Direction) → ShowsReceiving (no_data c).receiving (heard c [] d) (is_closed [] d) (last_tick c [] d)
-no_receiving c d = record {
-  ledger = λ id. maps.get-empty nat_cmp id;
-  entries = λ id. maps.get-empty nat_cmp id ∙ sym (ap (λ t. if t then Some (record { parts = no_parts; last = 0 }) else None) none_open);
-}
-
-no_hand : (l : Lane) → hand_of empty_link l ≡ None
-no_hand S1 = refl
-no_hand S2 = refl
-no_hand G1 = refl
-no_hand G2 = refl
-
-no_counter : (k : TelemetryKind) → counter_of no_types k ≡ 0
-no_counter Accepted = refl
-no_counter NotAccepted = refl
-no_counter Started = refl
-no_counter NotStarted = refl
-no_counter Completed = refl
-no_counter Dump = refl
-no_counter Check = refl
-no_counter FirstPart = refl
-no_counter MiddlePart = refl
-no_counter LastPart = refl
-no_counter Abort = refl
-
--- where nothing has happened, the state shows it
-shows_none : (c : Config) → Shows c (no_state c) []
-shows_none c = record {
-  up_sender = no_sending c Up;
-  down_sender = no_sending c Down;
-  types = record { eleven = refl; counter = no_counter };
-  up_receiver = no_receiving c Up;
-  down_receiver = no_receiving c Down;
-  ground_clock = refl;
-  craft_clock = refl;
-  link = record { packets = refl; marks = λ n. sym (ap (λ t. t && true) (lt_false n 0 (omega arith))); in_hands = no_hand };
-  openings = refl;
-  released = refl;
-}
 
 -- a new world shows the empty journal
 pub shown_new : (e : Ends) (c : Config) → e.config ≡ c → state_of e ≡ no_state c → IsConfig c → IsShown e []

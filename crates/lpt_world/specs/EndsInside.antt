@@ -1,6 +1,6 @@
 -- The ends and the link, as their state.
 use Rattle.lpt_world.specs.declared.ends.Ends.{Ends}
-use Rattle.lpt_world.specs.State.{State}
+use Rattle.lpt_machine.specs.State.{State}
 
 -- what the ends and the link have
 abbrev pub state_of : Ends → State

@@ -1,9 +1,9 @@
 -- What always holds of the ends: each is of its side, and both have the configuration.
 use Rattle.std.specs.Prelude.{◌≡◌}
-use Rattle.lpt_node.specs.declared.config.Config.{Config}
-use Rattle.lpt_node.specs.declared.side.Side.TheVariants.{Ground, Craft}
+use Rattle.lpt_events.specs.declared.config.Config.{Config}
+use Rattle.lpt_events.specs.declared.side.Side.TheVariants.{Ground, Craft}
 use Rattle.lpt_node.specs.Nodes.{NodeView}
-use Rattle.lpt_node.specs.Configs.{IsConfig}
+use Rattle.lpt_events.specs.Configs.{IsConfig}
 
 pub record IsSound (c : Config) (on_ground on_craft : NodeView) : Type 0 where
   pub configured : IsConfig c

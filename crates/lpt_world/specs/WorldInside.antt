@@ -1,11 +1,11 @@
 -- What always holds of a world: its ends and its link show its journal, and the journal is told.
 use Rattle.std.specs.Prelude.{List}
-use Rattle.lpt_node.specs.declared.config.Config.{Config}
+use Rattle.lpt_events.specs.declared.config.Config.{Config}
 use Rattle.lpt_world.specs.declared.ends.Ends.{Ends}
-use Rattle.lpt_world.specs.declared.entry.Entry.{Entry}
+use Rattle.lpt_events.specs.declared.entry.Entry.{Entry}
 use Rattle.lpt_world.specs.EndsInside.{state_of}
-use Rattle.lpt_node.specs.Configs.{IsConfig}
-use Rattle.lpt_world.specs.Shows.{Shows}
+use Rattle.lpt_events.specs.Configs.{IsConfig}
+use Rattle.lpt_machine.specs.Shows.{Shows}
 use Rattle.lpt_world.specs.Worlds.{IsTold, history_of}
 
 -- under this configuration

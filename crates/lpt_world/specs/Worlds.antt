@@ -1,17 +1,17 @@
 -- A world as its readers show it: its configuration, the first content of its memories, and its journal.
 use Rattle.std.specs.Prelude.{◌≡◌, ℕ, nat_lt, ◌==◌, ◌||◌, if◌then◌else◌, List, [], ◌∷◌, ◌++◌, map, reverse, Option, Some, None}
 use Rattle.lpt_memory.specs.Memories.{Contents}
-use Rattle.lpt_node.specs.declared.config.Config.{Config}
-use Rattle.lpt_world.specs.declared.config_fault.ConfigFault.{ConfigFault}
-use Rattle.lpt_world.specs.declared.config_fault.ConfigFault.TheVariants as configured
-use Rattle.lpt_world.specs.declared.entry.Entry.{Entry}
-use Rattle.lpt_world.specs.declared.event.Event.{Event}
-use Rattle.lpt_world.specs.declared.fault.StepFault.{StepFault}
-use Rattle.lpt_world.specs.declared.fault.StepFault.TheVariants.{NoSuchSeat, Memory}
-use Rattle.lpt_world.specs.declared.reply.Reply.{Reply}
-use Rattle.lpt_world.specs.Journal.{History}
-use Rattle.lpt_world.specs.Memory.{memories}
-use Rattle.lpt_world.specs.Replies.{IsEnabled, recorded, refusal, reply}
+use Rattle.lpt_events.specs.declared.config.Config.{Config}
+use Rattle.lpt_events.specs.declared.config_fault.ConfigFault.{ConfigFault}
+use Rattle.lpt_events.specs.declared.config_fault.ConfigFault.TheVariants as configured
+use Rattle.lpt_events.specs.declared.entry.Entry.{Entry}
+use Rattle.lpt_events.specs.declared.event.Event.{Event}
+use Rattle.lpt_events.specs.declared.fault.StepFault.{StepFault}
+use Rattle.lpt_events.specs.declared.fault.StepFault.TheVariants.{NoSuchSeat, Memory}
+use Rattle.lpt_events.specs.declared.reply.Reply.{Reply}
+use Rattle.lpt_journal.specs.Journal.{History}
+use Rattle.lpt_journal.specs.Memory.{memories}
+use Rattle.lpt_journal.specs.Replies.{IsEnabled, recorded, refusal, reply}
 
 -- the configuration, the memories as they were first, and the journal with its oldest entry first
 pub record Shown : Type 0 where

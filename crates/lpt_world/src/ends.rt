@@ -3,15 +3,15 @@
 ghost use Rattle.std.specs.Prelude.{◌≡◌, ◌<◌, IfOk, OnErr, vec_len, None, Some, length};
 ghost use Rattle.std.specs.Option.{option_map};
 ghost use Rattle.std.specs.Vec.{vec_capacity};
-ghost use Rattle.lpt_link.specs.Lanes.{lane_direction};
+ghost use Rattle.lpt_events.specs.Lanes.{lane_direction};
 ghost use Rattle.lpt_link.specs.Links.{after_put, packet_in_hand};
 ghost use Rattle.lpt_node.specs.Accepting.{accepted};
 ghost use Rattle.lpt_node.specs.Asking.{refusal_of as node_refusal};
 ghost use Rattle.lpt_node.specs.Origins.{arrival_from};
 ghost use Rattle.lpt_world.specs.EndsSound.{IsSound};
-ghost use Rattle.lpt_world.specs.Journal.{sender_side, receiver_side};
-ghost use Rattle.lpt_node.specs.Configs.{IsConfig};
-ghost use Rattle.lpt_world.specs.State.{no_state, end_of, refusal_of, after, node_fault, released_of, with_release, link_with, told_with, IsReceived, quiet as quiet_reply, put_one as put_one_reply};
+ghost use Rattle.lpt_events.specs.Sides.{sender_side, receiver_side};
+ghost use Rattle.lpt_events.specs.Configs.{IsConfig};
+ghost use Rattle.lpt_machine.specs.State.{no_state, end_of, refusal_of, after, node_fault, released_of, with_release, link_with, told_with, IsReceived, quiet as quiet_reply, put_one as put_one_reply};
 
 use crate::faults::{of_link, of_node};
 use crate::{Answer, Event, Opening, Puts, Release, Reply, StepFault};

@@ -1,7 +1,7 @@
 //! The faults of a node and of the link, as the world tells them.
 
 ghost use Rattle.std.specs.Prelude.{◌≡◌};
-ghost use Rattle.lpt_world.specs.State.{node_fault, link_fault};
+ghost use Rattle.lpt_machine.specs.State.{node_fault, link_fault};
 
 use crate::StepFault;
 use lpt_link::LinkFault;

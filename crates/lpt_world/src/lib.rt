@@ -1,25 +1,15 @@
 //! The world of two nodes and the link between them, and the journal of all that happened.
 #![tactic(auto)]
 
-mod config_fault;
 mod ends;
-mod entry;
-mod event;
-mod fault;
 mod faults;
-pub mod laws;
-mod refused;
-mod reply;
 mod requesting;
 mod timing;
 mod world;
 
-pub use config_fault::ConfigFault;
-pub use entry::{Entry, Opening, Release};
-pub use event::Event;
-pub use fault::StepFault;
-pub use refused::{Refused, RunEnd};
-pub use reply::{Answer, Puts, Reply};
+pub use lpt_events::{Answer, Entry, Event, Opening, Puts, Release, Reply};
+pub use lpt_events::{ConfigFault, Refused, RunEnd, StepFault};
+pub use lpt_journal::laws;
 pub use world::World;
 
 #[cfg(test)]

@@ -1,7 +1,7 @@
 //! Plain requests, which belong to no transaction.
 
 ghost use Rattle.std.specs.Prelude.{◌≡◌, None, IfOk, OnErr};
-ghost use Rattle.lpt_world.specs.State.{refusal_of, after};
+ghost use Rattle.lpt_machine.specs.State.{refusal_of, after};
 
 use crate::ends::{Ends, put_one, put_reserved};
 use crate::{Answer, Event, Reply};

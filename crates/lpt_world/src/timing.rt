@@ -1,8 +1,8 @@
 //! The nodes' clocks, and receptions that end for their age.
 
 ghost use Rattle.std.specs.Prelude.{◌≡◌, None, IfOk, OnErr};
-ghost use Rattle.lpt_world.specs.Journal.{direction_to};
-ghost use Rattle.lpt_world.specs.State.{end_of, refusal_of, after};
+ghost use Rattle.lpt_events.specs.Sides.{direction_to};
+ghost use Rattle.lpt_machine.specs.State.{end_of, refusal_of, after};
 
 use crate::ends::{Ends, quiet};
 use crate::{Answer, Event, Reply};

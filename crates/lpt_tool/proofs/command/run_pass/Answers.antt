@@ -1,7 +1,7 @@
 use Rattle.std.proofs.Common.{rules}
 use Rattle.lpt_tool.specs.Scripts.{stepped}
 use Rattle.lpt_tool.proofs.EndLemmas.{then_ends, first_ends}
-use Rattle.lpt_world.specs.declared.event.Event.TheVariants.{Take, Deliver}
+use Rattle.lpt_events.specs.declared.event.Event.TheVariants.{Take, Deliver}
 use Rattle.lpt_tool.proofs.command.run_pass.Goals as goal
 
 -- the packet was taken

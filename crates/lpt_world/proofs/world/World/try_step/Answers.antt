@@ -1,8 +1,8 @@
 -- An event that isn't refused is done, and the longer journal is shown.
 use Rattle.std.proofs.Common.{◌≡◌, ◌∙◌, ap, sym, length, None}
 use Rattle.lpt_world.specs.EndsInside.{state_of}
-use Rattle.lpt_world.specs.Replies.{reply}
-use Rattle.lpt_world.specs.State.{refusal_of, after}
+use Rattle.lpt_journal.specs.Replies.{reply}
+use Rattle.lpt_machine.specs.State.{refusal_of, after}
 use Rattle.lpt_world.specs.Worlds.{Shown, refusal_at, history}
 use Rattle.lpt_world.proofs.WorldLemmas.{free_shown, shown_push, reply_shown}
 use Rattle.lpt_world.proofs.world.World.try_step.Goals as goal

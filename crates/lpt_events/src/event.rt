@@ -1,0 +1,53 @@
+//! What can be asked of a world.
+
+ghost use Rattle.std.specs.Prelude.{◌≡◌, IfOk};
+
+use crate::{Lane, Side};
+use lpt_packet::{Direction, Name, Octets};
+use lpt_pus::AckFlags;
+use std::alloc::AllocError;
+
+/// One event: one holding of the world, done whole or refused.
+#[derive(Debug, Drop, PartialEq, Eq)]
+pub enum Event {
+    /// Hands a message of this name to the sender of its direction.
+    Open(Direction, Name, Octets),
+    /// Puts the part of this number of an open message on the link.
+    Send(Direction, Name, u16),
+    /// Puts a plain request on the link, direction up: ground's telecommand of these flags, service
+    /// type, message subtype and body. It belongs to no transaction.
+    Plain(AckFlags, u8, u8, Octets),
+    /// Closes the open sender of this name in its direction and lets its message go.
+    Finish(Direction, Name),
+    /// Takes the held packet of this number into the lane's empty hand.
+    Take(Lane, u64),
+    /// Gives the packet in the lane's hand to the receiving node, and empties the hand.
+    Deliver(Lane),
+    /// Sets the clock of the node on this side one tick on.
+    Tick(Side),
+    /// Ends the reception at the node on this side that is due: of those that took no part for as
+    /// long as the time-out, the one that has waited longest, and of equal ones that of the least
+    /// name. The spacecraft puts a report of it on the link.
+    Expire(Side),
+}
+
+impl Event {
+    /// A copy of the event, its octets on the allocator of this one's. The only error is want of
+    /// memory.
+    pub fn copy(&self) -> Result<Event, AllocError>
+        ensures { IfOk result (λ e. e ≡ self.now) }
+    {
+        Ok(match self {
+            Event::Open(direction, id, message) => Event::Open(*direction, *id, message.copy()?),
+            Event::Send(direction, id, part) => Event::Send(*direction, *id, *part),
+            Event::Plain(flags, service, subtype, body) => {
+                Event::Plain(*flags, *service, *subtype, body.copy()?)
+            }
+            Event::Finish(direction, id) => Event::Finish(*direction, *id),
+            Event::Take(lane, number) => Event::Take(*lane, *number),
+            Event::Deliver(lane) => Event::Deliver(*lane),
+            Event::Tick(side) => Event::Tick(*side),
+            Event::Expire(side) => Event::Expire(*side),
+        })
+    }
+}

@@ -1,0 +1,100 @@
+//! Why a world refuses an event.
+
+ghost use Rattle.std.specs.Prelude.{◌≡◌};
+ghost use Rattle.lpt_events.specs.FaultNames.{code_of, name_of};
+
+use thiserror::Error;
+
+/// The first reason, in the order in which the event's reasons are tested.
+#[derive(Clone, Copy, Debug, PartialEq, Eq, Error)]
+pub enum StepFault {
+    /// The identifier is in use.
+    #[error("the identifier is in use")]
+    InUse,
+    /// The message isn't longer than a part.
+    #[error("the message isn't longer than a part")]
+    Short,
+    /// The message is longer than the longest packet, or the packet of a plain request has more
+    /// octets than the part size and 23.
+    #[error("too long")]
+    Long,
+    /// As many outgoing transactions of the node are open as the limit.
+    #[error("as many outgoing transactions are open as the limit")]
+    TooMany,
+    /// No such outgoing transaction is open.
+    #[error("no such outgoing transaction is open")]
+    NotOpen,
+    /// The message has no part of that number.
+    #[error("the message has no part of that number")]
+    NoSuchPart,
+    /// The link holds no such packet in the lane's direction.
+    #[error("the link holds no such packet in the lane's direction")]
+    NotHeld,
+    /// The lane has a packet in its hand already.
+    #[error("the lane's hand is full")]
+    HandFull,
+    /// The lane has no packet in its hand.
+    #[error("the lane's hand is empty")]
+    HandEmpty,
+    /// No reception is overdue.
+    #[error("no reception is overdue")]
+    NothingDue,
+    /// The clock is at its greatest value.
+    #[error("the clock is at its greatest value")]
+    ClockEnd,
+    /// There is no such seat.
+    #[error("there is no such seat")]
+    NoSuchSeat,
+    /// Want of memory.
+    #[error("want of memory")]
+    Memory,
+    /// The service type and the message subtype are those of a part.
+    #[error("the service type and the message subtype are those of a part")]
+    PartRequest,
+}
+
+impl StepFault {
+    /// The fault's number, 41 to 60.
+    pub fn code(self) -> u16
+        ensures { result ≡ code_of self }
+    {
+        match self {
+            StepFault::InUse => 41,
+            StepFault::Short => 42,
+            StepFault::Long => 43,
+            StepFault::TooMany => 44,
+            StepFault::NotOpen => 45,
+            StepFault::NoSuchPart => 46,
+            StepFault::NotHeld => 47,
+            StepFault::HandFull => 48,
+            StepFault::HandEmpty => 49,
+            StepFault::NothingDue => 50,
+            StepFault::ClockEnd => 56,
+            StepFault::NoSuchSeat => 57,
+            StepFault::Memory => 58,
+            StepFault::PartRequest => 60,
+        }
+    }
+
+    /// The fault's name, as it is printed.
+    pub fn name(self) -> &'static str
+        ensures { result.now ≡ name_of self }
+    {
+        match self {
+            StepFault::InUse => "InUse",
+            StepFault::Short => "Short",
+            StepFault::Long => "Long",
+            StepFault::TooMany => "TooMany",
+            StepFault::NotOpen => "NotOpen",
+            StepFault::NoSuchPart => "NoSuchPart",
+            StepFault::NotHeld => "NotHeld",
+            StepFault::HandFull => "HandFull",
+            StepFault::HandEmpty => "HandEmpty",
+            StepFault::NothingDue => "NothingDue",
+            StepFault::ClockEnd => "ClockEnd",
+            StepFault::NoSuchSeat => "NoSuchSeat",
+            StepFault::Memory => "Memory",
+            StepFault::PartRequest => "PartRequest",
+        }
+    }
+}

@@ -1,0 +1,28 @@
+//! The vocabulary of a pass: what can be asked of a world, what it answers, and what its packets are.
+//!
+//! The configuration, the sides, the lanes, the events, their replies and faults, the outcomes of
+//! deliveries, and the entries of a journal. The definitions say which packets the nodes make, and
+//! what octets are to the node that receives them, whatever that node has kept.
+#![tactic(auto)]
+
+mod config;
+mod config_fault;
+mod entry;
+mod event;
+mod fault;
+mod lane;
+mod outcome;
+mod refused;
+mod reply;
+mod side;
+
+pub use config::Config;
+pub use config_fault::ConfigFault;
+pub use entry::{Entry, Opening, Release};
+pub use event::Event;
+pub use fault::StepFault;
+pub use lane::Lane;
+pub use outcome::{Outcome, Why};
+pub use refused::{Refused, RunEnd};
+pub use reply::{Answer, Puts, Reply};
+pub use side::Side;

@@ -1,0 +1,178 @@
+-- A delivery pays what it owes.
+use Rattle.std.proofs.Common.{◌≡◌, ◌∙◌, ap, sym, subst, refl, ℕ, ◌≤◌, Bool, true, false, inl, inr, length, Option, Some, None, if◌then◌else◌}
+use Rattle.std.specs.List.{slice_get}
+use Rattle.lpt_packet.specs.declared.direction.Direction.{Direction}
+use Rattle.lpt_packet.specs.Names.{Name, same_name}
+use Rattle.lpt_packet.proofs.NameLemmas.{same_name-true}
+use Rattle.lpt_part.specs.declared.reason.Reason.{Reason}
+use Rattle.lpt_part.specs.Parts.{Piece}
+use Rattle.lpt_part.specs.Splitting.{part_count}
+use Rattle.lpt_reception.specs.Received.{no_parts, contradicts}
+use Rattle.lpt_reception.specs.PartsOf.{IsPartOf, IsPartsOf, kept_of}
+use Rattle.lpt_reception.proofs.MessageLemmas.{parts_agree}
+use Rattle.lpt_events.specs.declared.lane.Lane.{Lane}
+use Rattle.lpt_events.specs.Lanes.{lane_direction, same_direction, same_lane}
+use Rattle.lpt_events.specs.declared.config.Config.{Config}
+use Rattle.lpt_events.specs.declared.outcome.Outcome.{Outcome}
+use Rattle.lpt_events.specs.declared.outcome.Outcome.TheVariants.{Kept, Released, Broken}
+use Rattle.lpt_events.specs.declared.side.Side.{Side}
+use Rattle.lpt_events.specs.Arrivals.{APart}
+use Rattle.lpt_events.specs.declared.event.Event.TheVariants.{Deliver}
+use Rattle.lpt_events.specs.declared.reply.Answer.TheVariants.{Delivered}
+use Rattle.lpt_events.specs.declared.entry.Opening.{Opening}
+use Rattle.lpt_events.specs.Sides.{receiver_side}
+use Rattle.lpt_journal.specs.Journal.{SentPacket, History, hand, in_hand}
+use Rattle.lpt_journal.specs.Senders.{current}
+use Rattle.lpt_journal.specs.Receivers.{kept, with_arrival, heard_now, heard}
+use Rattle.lpt_journal.specs.Delivery.{outcome}
+use Rattle.lpt_journal.specs.Replies.{outcome_puts, entry}
+use Rattle.lpt_journal.specs.Headline.{IsPartOfCurrent, kept_piece, IsSoundDelivery}
+use Rattle.lpt_events.proofs.LaneLemmas.{same_direction-true}
+use Rattle.lpt_journal.proofs.TestLemmas.{no_place}
+use Rattle.lpt_journal.proofs.Steps.{IsRead, IsSound, IsHeardNow, Owes}
+use Rattle.lpt_journal.proofs.OutcomeLemmas.{TellsOf, judged_tells}
+use Rattle.lpt_journal.proofs.Soundness.{in_hand_is, hand_current}
+
+-- ---- parts of the current message agree
+
+-- what was heard of a transaction is parts of the message last opened under its name
+pub heard_parts : (c : Config) (h : History) (d : Direction) (id : Name) (o : Opening)
+    → IsSound c h
+    → current h d id ≡ Some o
+    → IsPartsOf o.message c.part_size (heard c h d id)
+heard_parts c h d id o sound e n x had = go (sound.heard d id n x had) where
+  go : IsPartOfCurrent c h d (kept_piece id n x) → IsPartOf o.message c.part_size n x
+  go p =
+      let same : p.opening ≡ o = let now : current h d id ≡ Some p.opening = p.is_current in cc in
+      record {
+        some = p.from_one;
+        within =
+            subst (λ (u : Opening). n ≤ part_count (length u.message) c.part_size) same p.to_last;
+        is = ap kept p.is_part ∙ ap (λ (u : Opening). kept_of u.message c.part_size n) same;
+      }
+
+-- a part in a lane's hand contradicts nothing that was heard
+pub agrees : (c : Config) (h : History) (l : Lane) (n : ℕ) (q : Piece)
+    → IsSound c h
+    → hand h l ≡ Some n
+    → in_hand c h l ≡ APart q
+    → contradicts (heard c h (lane_direction l) q.id) q.number (kept q) ≡ false
+agrees c h l n q sound e is =
+    let p = hand_current c h l n q sound e is in
+    let s = heard c h (lane_direction l) q.id in
+    ap (contradicts s q.number) (ap kept p.is_part)
+    ∙ parts_agree p.opening.message c.part_size s q.number
+    (heard_parts c h (lane_direction l) q.id p.opening sound p.is_current) p.from_one p.to_last
+
+-- ---- what a delivery can be
+
+read_in_hand : (c : Config) (h : History) (l : Lane) (n : ℕ)
+    → IsSound c h
+    → hand h l ≡ Some n
+    → IsRead (in_hand c h l)
+read_in_hand c h l n sound e =
+    let had = sound.hands l n e in
+    subst (λ a. IsRead a) (sym (in_hand_is c h l n e had)) (sound.packets n had.packet had.was_sent)
+
+-- the delivery of what is in a lane's hand is sound
+pub delivery_sound : (c : Config) (h : History) (l : Lane) (n : ℕ)
+    → IsSound c h
+    → hand h l ≡ Some n
+    → IsSoundDelivery c h l
+delivery_sound c h l n sound e =
+    let d = lane_direction l in
+    let a = in_hand c h l in
+    let tells = judged_tells c h d a in
+    let read = read_in_hand c h l n sound e in
+    record {
+      not_broken = λ id reason is.
+          let t = subst (λ o. TellsOf c h d a o) is tells in
+          let no : contradicts (heard c h d t.0.id) t.0.number (kept t.0) ≡ false =
+          agrees c h l n t.0 sound e t.1 in
+          let yes : contradicts (heard c h d t.0.id) t.0.number (kept t.0) ≡ true = t.2 in
+          cc;
+      not_bad_part = λ is. subst (λ b. IsRead b) (subst (λ o. TellsOf c h d a o) is tells) read;
+      not_idle = λ is. subst (λ b. IsRead b) (subst (λ o. TellsOf c h d a o) is tells) read;
+      not_foreign = λ is. subst (λ b. IsRead b) (subst (λ o. TellsOf c h d a o) is tells) read;
+      not_unreadable = λ is. subst (λ b. IsRead b) (subst (λ o. TellsOf c h d a o) is tells) read;
+    }
+
+-- ---- what a delivery owes
+
+-- an outcome that breaks nothing puts nothing
+no_puts : (c : Config) (h : History) (side : Side) (o : Outcome) (k : ℕ) (p : SentPacket)
+    → ((id : Name) (reason : Reason) → ¬ (o ≡ Broken id reason))
+    → slice_get (outcome_puts c h side o) k ≡ Some p
+    → ⊥
+no_puts c h side (Broken id reason) k p not_broken e = not_broken id reason refl
+no_puts c h side o k p not_broken e = no_place k p e
+
+taken_before : (k l : Lane) (before : Option ℕ) (n : ℕ)
+    → (if same_lane k l then None else before) ≡ Some n
+    → before ≡ Some n
+taken_before k l before n = go (same_lane k l) where
+  go : (b : Bool) → (if b then None else before) ≡ Some n → before ≡ Some n
+  go true e = absurd cc
+  go false e = e
+
+hears : (c : Config) (h : History) (l : Lane) (n : ℕ) (d : Direction) (id : Name) (o : Outcome)
+    → hand h l ≡ Some n
+    → TellsOf c h (lane_direction l) (in_hand c h l) o
+    → IsHeardNow c h d id
+    (if same_direction (lane_direction l) d
+    then heard_now (Delivered o) (in_hand c h l) id (heard c h d id) else heard c h d id)
+hears c h l n d id o e tells = go (same_direction (lane_direction l) d) refl o tells where
+  with_name : (b : Bool) → IsHeardNow c h d id (if b then no_parts else heard c h d id)
+  with_name true = inr (inl refl)
+  with_name false = inl refl
+
+  with_part : (b : Bool) (i : Name) (q : Piece)
+      → same_name i id ≡ b
+      → lane_direction l ≡ d
+      → in_hand c h l ≡ APart q
+      → i ≡ q.id
+      → IsHeardNow c h d id
+      (if b then with_arrival (in_hand c h l) (heard c h d id) else heard c h d id)
+  with_part true i q t there is same = inr (inr (record {
+    lane = l;
+    number = n;
+    part = q;
+    goes_there = there;
+    was_taken = e;
+    arrives = is;
+    same_id = sym same ∙ same_name-true i id t;
+    is_added = ap (λ a. with_arrival a (heard c h d id)) is;
+  }))
+  with_part false i q t there is same = inl refl
+
+  go : (b : Bool)
+      → same_direction (lane_direction l) d ≡ b
+      → (o : Outcome)
+      → TellsOf c h (lane_direction l) (in_hand c h l) o
+      → IsHeardNow c h d id (if b then heard_now (Delivered o) (in_hand c h l) id (heard c h d id)
+      else heard c h d id)
+  go false b o tells = inl refl
+  go true b (Kept i k) tells =
+      with_part (same_name i id) i tells.0 refl
+      (same_direction-true (lane_direction l) d b) tells.1 tells.2
+  go true b (Released i len) tells = with_name (same_name i id)
+  go true b (Broken i reason) tells = with_name (same_name i id)
+  go true b o tells = inl refl
+
+-- a delivery pays what it owes
+pub deliver_owes : (c : Config) (h : History) (l : Lane) (n : ℕ)
+    → IsSound c h
+    → hand h l ≡ Some n
+    → Owes c h (entry c h (Deliver l))
+deliver_owes c h l n sound e = record {
+  opens = λ d id o f. absurd cc;
+  retires = λ d id r. absurd cc;
+  puts =
+      λ k p f. absurd (no_puts c h (receiver_side (lane_direction l)) (outcome c h l) k p
+      (delivery_sound c h l n sound e).not_broken f);
+  takes = λ m k f. inl (taken_before l m (hand h m) k f);
+  hears =
+      λ d id. hears c h l n d id (outcome c h l) e
+      (judged_tells c h (lane_direction l) (in_hand c h l));
+  clocks = sound.clocks;
+}

@@ -1,0 +1,248 @@
+-- What the events that open, send, finish and take owe, and that they pay it.
+use Rattle.std.proofs.Common.{◌≡◌, ◌∙◌, ap, sym, subst, refl, ℕ, zero, suc, ◌<◌, ◌≤◌, nat_lt, nat_le, ◌==◌, cond, Bool, true, false, not, ◌&&◌, ◌||◌, ◌⊎◌, inl, inr, List, [], ◌∷◌, length, Option, Some, None, if◌then◌else◌, arith}
+use Rattle.std.specs.List.{slice_get, find}
+use Rattle.std.specs.Option.{is_some}
+use Rattle.lpt_packet.specs.declared.direction.Direction.{Direction}
+use Rattle.lpt_packet.specs.declared.direction.Direction.TheVariants.{Up, Down}
+use Rattle.lpt_packet.specs.Names.{Name}
+use Rattle.lpt_part.specs.Parts.{Piece}
+use Rattle.lpt_part.specs.Splitting.{part_count}
+use Rattle.lpt_part.proofs.SplitLemmas.{part_of-fits}
+use Rattle.lpt_reception.specs.PartsOf.{IsMessage}
+use Rattle.lpt_events.specs.declared.lane.Lane.{Lane}
+use Rattle.lpt_events.specs.Lanes.{lane_direction, same_lane}
+use Rattle.lpt_events.specs.declared.config.Config.{Config}
+use Rattle.lpt_events.specs.declared.side.Side.TheVariants.{Craft}
+use Rattle.lpt_events.specs.Arrivals.{APart, part_subtype}
+use Rattle.lpt_events.specs.MadePackets.{nth_part}
+use Rattle.lpt_events.specs.declared.event.Event.TheVariants.{Open, Send, Finish, Take}
+use Rattle.lpt_events.specs.declared.entry.Opening.{Opening}
+use Rattle.lpt_events.specs.declared.fault.StepFault.TheVariants.{InUse, Short, Long, TooMany, NotOpen, NoSuchPart, NotHeld, HandFull}
+use Rattle.lpt_journal.specs.Journal.{SentPacket, History, is_held, goes, hand, arrival_of}
+use Rattle.lpt_journal.specs.Senders.{is_opening_of, current, is_over, Sender, FreeSender, OpenSender, ClosedSender, sender_of, sender, is_free, is_open, open_count, count, type_counter}
+use Rattle.lpt_journal.specs.Receivers.{clock}
+use Rattle.lpt_events.specs.Configs.{IsConfig}
+use Rattle.lpt_journal.specs.Replies.{part_packet, send_puts, parts_open, refusal, entry}
+use Rattle.lpt_journal.specs.Headline.{IsPartOfCurrent}
+use Rattle.lpt_packet.proofs.Readings.{not_lt}
+use Rattle.lpt_events.proofs.LaneLemmas.{same_lane-true}
+use Rattle.lpt_journal.proofs.TestLemmas.{and_l, and_r, not_false, or_false_l, or_false_r, le_false, not_zero, two_pass, four_pass, no_place}
+use Rattle.lpt_journal.proofs.SentParts.{AreCounts, part_arrives}
+use Rattle.lpt_journal.proofs.Steps.{IsRead, IsSoundPacket, IsSound, IsTaken, Owes, opening_found}
+
+-- ---- opening
+
+-- a free sender has no opening
+free_current : (h : History) (d : Direction) (id : Name)
+    → is_free (sender h d id) ≡ true
+    → current h d id ≡ None
+free_current h d id free = go (current h d id) (is_over h d id) refl free where
+  go : (o : Option Opening) (over : Bool)
+      → current h d id ≡ o
+      → is_free (sender_of o over) ≡ true
+      → current h d id ≡ None
+  go None over e t = e
+  go (Some o) true e t = absurd cc
+  go (Some o) false e t = absurd cc
+
+-- the one opening that is found
+only_opening : (d : Direction) (id : Name) (o u : Opening)
+    → find (is_opening_of d id) (o ∷ []) ≡ Some u
+    → o ≡ u
+only_opening d id o u f = go (is_opening_of d id o) f where
+  go : (b : Bool) → ◌≡◌ {A = Option Opening} (cond b (Some o) None) (Some u) → o ≡ u
+  go true e = cc
+  go false e = absurd cc
+
+-- an opening pays what it owes
+pub open_owes : (c : Config) (h : History) (d : Direction) (id : Name) (m : List ℕ)
+    → IsSound c h
+    → refusal c h (Open d id m) ≡ None
+    → Owes c h (entry c h (Open d id m))
+open_owes c h d id m sound accepted =
+    let o : Opening = record { place = length h; direction = d; id = id; message = m } in
+    let t =
+    four_pass (not (is_free (sender h d id))) (nat_le (length m) c.part_size)
+    (nat_lt 65542 (length m))
+    (nat_le c.outgoing (open_count h d)) InUse Short Long TooMany accepted in
+    let splits : IsMessage m c.part_size =
+    record {
+      long = le_false (length m) c.part_size t.1;
+      short = not_lt 65542 (length m) t.2;
+    } in
+    let free : current h d id ≡ None =
+    free_current h d id (not_false (is_free (sender h d id)) t.0) in
+    record {
+      opens = λ e i u f.
+          let found = opening_found e i (o ∷ []) u f in
+          let same : o ≡ u = only_opening e i o u f in
+          record {
+            free =
+                (λ j. current h (sym found.0 j) (sym found.1 j))
+                ∙ ap (λ (v : Opening). current h v.direction v.id) (sym same) ∙ free;
+            place = ap (λ (v : Opening). v.place) (sym same);
+            splits = subst (λ (v : Opening). IsMessage v.message c.part_size) same splits;
+          };
+      retires = λ e i r. absurd cc;
+      puts = λ k p f. absurd (no_place k p f);
+      takes = λ l n f. inl f;
+      hears = λ e i. inl refl;
+      clocks = sound.clocks;
+    }
+
+-- ---- sending
+
+-- an open sender's message is that of the last opening
+open_current : (h : History) (d : Direction) (id : Name) (m : List ℕ) → sender h d id ≡ OpenSender m
+    → (o : Opening) × (current h d id ≡ Some o) × (o.message ≡ m)
+open_current h d id m e = go (current h d id) (is_over h d id) refl e where
+  go : (o : Option Opening) (over : Bool) → current h d id ≡ o → sender_of o over ≡ OpenSender m
+      → (o : Opening) × (current h d id ≡ Some o) × (o.message ≡ m)
+  go None over is t = absurd cc
+  go (Some o) true is t = absurd cc
+  go (Some o) false is t = (o, is, cc)
+
+-- the part's packet that is made now arrives as that part
+packet_arrives : (c : Config) (h : History) (d : Direction) (id : Name) (m : List ℕ) (k : ℕ)
+    → IsConfig c
+    → IsSound c h
+    → IsMessage m c.part_size
+    → id < 65536
+    → 1 ≤ k
+    → k ≤ part_count (length m) c.part_size
+    → arrival_of c (record {
+      direction = d;
+      octets = part_packet c h d (nth_part c.part_size id m k);
+    }) ≡ APart (nth_part c.part_size id m k)
+packet_arrives c h Up id m k good sound splits i one last =
+    let counts : AreCounts (count h Up) 0 0 =
+    record { count_fits = omega arith; counter_fits = omega arith; time_fits = omega arith } in
+    part_arrives c Up (count h Up) 0 0 (nth_part c.part_size id m k) good counts i
+    (part_of-fits m c.part_size k good.part_size_fits splits.long splits.short one last)
+packet_arrives c h Down id m k good sound splits i one last =
+    let q = nth_part c.part_size id m k in
+    let counter = type_counter h 13 (part_subtype Down q.kind) in
+    let counts : AreCounts (count h Down) counter (clock c h Craft) =
+    record {
+      count_fits = omega arith;
+      counter_fits = omega arith;
+      time_fits = sound.clocks Craft;
+    } in
+    part_arrives c Down (count h Down) counter (clock c h Craft) q good counts i
+    (part_of-fits m c.part_size k good.part_size_fits splits.long splits.short one last)
+
+pub only_element : {A : Type 0} (x : A) (n : ℕ) (y : A) → slice_get (x ∷ []) n ≡ Some y → x ≡ y
+only_element x zero y e = cc
+only_element x (suc n) y e = absurd (no_place n y e)
+
+same_part : {q r : Piece} → APart q ≡ APart r → q ≡ r
+same_part e = cc
+
+-- sending a part pays what it owes
+pub send_owes : (c : Config) (h : History) (d : Direction) (id : Name) (k : ℕ)
+    → IsConfig c
+    → IsSound c h
+    → id < 65536
+    → refusal c h (Send d id k) ≡ None
+    → Owes c h (entry c h (Send d id k))
+send_owes c h d id k good sound i accepted =
+    let t =
+    two_pass (not (is_open (sender h d id)))
+    ((k == 0) || nat_lt (parts_open c (sender h d id)) k) NotOpen NoSuchPart accepted in
+    record {
+      opens = λ e j u f. absurd cc;
+      retires = λ e j r. absurd cc;
+      puts = puts_part (sender h d id) refl t.0 t.1;
+      takes = λ l n f. inl f;
+      hears = λ e j. inl refl;
+      clocks = sound.clocks;
+    }
+  where
+    puts_part : (s : Sender)
+        → sender h d id ≡ s
+        → not (is_open s) ≡ false
+        → ((k == 0) || nat_lt (parts_open c s) k) ≡ false
+        → (n : ℕ) (p : SentPacket)
+        → slice_get (send_puts c h d id k s) n ≡ Some p
+        → IsSoundPacket c (entry c h (Send d id k) ∷ h) p
+    puts_part FreeSender is t u n p f = absurd cc
+    puts_part ClosedSender is t u n p f = absurd cc
+    puts_part (OpenSender m) is t u n p f =
+        let o = open_current h d id m is in
+        let splits : IsMessage m c.part_size =
+        subst (λ b. IsMessage b c.part_size) o.2 (sound.openings d id o.0 o.1).splits in
+        let one : 1 ≤ k =
+        not_zero k (or_false_l (k == 0) (nat_lt (part_count (length m) c.part_size) k) u) in
+        let last : k ≤ part_count (length m) c.part_size =
+        not_lt (part_count (length m) c.part_size) k
+        (or_false_r (k == 0) (nat_lt (part_count (length m) c.part_size) k) u) in
+        let now : IsPartOfCurrent c (entry c h (Send d id k) ∷ h) d (nth_part c.part_size id m k) =
+        record {
+          opening = o.0;
+          is_current = o.1;
+          from_one = one;
+          to_last = subst (λ b. k ≤ part_count (length b) c.part_size) (sym o.2) last;
+          is_part = ap (λ b. nth_part c.part_size id b k) (sym o.2);
+        } in
+        let arrives = packet_arrives c h d id m k good sound splits i one last in
+        subst (λ x. IsSoundPacket c (entry c h (Send d id k) ∷ h) x) (only_element _ n p f)
+        (record {
+          is_read = subst (λ a. IsRead a) (sym arrives) tt;
+          part =
+              λ q e. subst (λ r. IsPartOfCurrent c (entry c h (Send d id k) ∷ h) d r)
+              (same_part (sym arrives ∙ e)) now;
+        })
+
+-- ---- finishing
+
+-- an event that puts, takes and opens nothing pays what it owes
+pub finish_owes : (c : Config) (h : History) (d : Direction) (id : Name)
+    → IsSound c h
+    → Owes c h (entry c h (Finish d id))
+finish_owes c h d id sound = record {
+  opens = λ e j u f. absurd cc;
+  retires = λ e j r. absurd cc;
+  puts = λ k p f. absurd (no_place k p f);
+  takes = λ l n f. inl f;
+  hears = λ e j. inl refl;
+  clocks = sound.clocks;
+}
+
+-- ---- taking
+
+-- taking a packet pays what it owes
+pub take_owes : (c : Config) (h : History) (l : Lane) (n : ℕ)
+    → IsSound c h
+    → refusal c h (Take l n) ≡ None
+    → Owes c h (entry c h (Take l n))
+take_owes c h l n sound accepted =
+    let t =
+    two_pass (is_some (hand h l))
+    (not (is_held h n && goes h (lane_direction l) n)) HandFull NotHeld accepted in
+    let there : (is_held h n && goes h (lane_direction l) n) ≡ true =
+    not_false (is_held h n && goes h (lane_direction l) n) t.1 in
+    record {
+      opens = λ e j u f. absurd cc;
+      retires = λ e j r. absurd cc;
+      puts = λ k p f. absurd (no_place k p f);
+      takes = λ m k f. in_hand_now m k (same_lane l m) refl f there;
+      hears = λ e j. inl refl;
+      clocks = sound.clocks;
+    }
+  where
+    in_hand_now : (m : Lane) (k : ℕ) (b : Bool)
+        → same_lane l m ≡ b
+        → (if b then Some n else hand h m) ≡ Some k
+        → (is_held h n && goes h (lane_direction l) n) ≡ true
+        → (hand h m ≡ Some k) ⊎ IsTaken h m k
+    in_hand_now m k true e f there =
+        let at : n ≡ k = cc in
+        let lane : l ≡ m = same_lane-true l m e in
+        inr (record {
+          was_held =
+              ap (is_held h) (sym at) ∙ and_l (is_held h n) (goes h (lane_direction l) n) there;
+          goes_there =
+              (λ j. goes h (lane_direction (sym lane j)) (sym at j))
+              ∙ and_r (is_held h n) (goes h (lane_direction l) n) there;
+        })
+    in_hand_now m k false e f there = inl f

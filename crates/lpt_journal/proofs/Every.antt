@@ -1,0 +1,170 @@
+-- What holds of every legal journal: each event pays what it owes, so each history is sound.
+use Rattle.std.proofs.Common.{◌≡◌, ◌∙◌, ap, sym, refl, ℕ, true, false, not, List, [], ◌∷◌, Option, Some, None}
+use Rattle.std.specs.List.{slice_get}
+use Rattle.std.specs.Option.{is_some, option_map_or}
+use Rattle.std.specs.FinMap as map
+use Rattle.std.specs.Ordering.{nat_cmp}
+use Rattle.lpt_packet.specs.declared.direction.Direction.{Direction}
+use Rattle.lpt_packet.specs.Names.{Name}
+use Rattle.lpt_part.specs.Parts.{Piece}
+use Rattle.lpt_reception.specs.Received.{no_parts}
+use Rattle.lpt_events.specs.declared.lane.Lane.{Lane}
+use Rattle.lpt_events.specs.Lanes.{lane_direction}
+use Rattle.lpt_events.specs.declared.config.Config.{Config}
+use Rattle.lpt_events.specs.Arrivals.{NotRead, APart}
+use Rattle.lpt_events.specs.declared.event.Event.{Event}
+use Rattle.lpt_events.specs.declared.event.Event.TheVariants.{Open, Send, Plain, Finish, Take, Deliver, Tick, Expire}
+use Rattle.lpt_events.specs.declared.fault.StepFault.TheVariants.{HandEmpty}
+use Rattle.lpt_journal.specs.Journal.{Recorded, History, hand, arrival_at, in_hand}
+use Rattle.lpt_journal.specs.Releases.{released_by}
+use Rattle.lpt_events.specs.Configs.{IsConfig}
+use Rattle.lpt_journal.specs.Replies.{entry, recorded, refusal, IsEnabled, Legal}
+use Rattle.lpt_journal.proofs.MemoryLemmas.{memories_stay}
+use Rattle.lpt_journal.specs.Headline.{PartsAreCurrent, EachIsLastOpened, IsSoundDelivery, DeliveriesAreSound, Headline}
+use Rattle.lpt_journal.proofs.TestLemmas.{one_passes, no_place}
+use Rattle.lpt_journal.proofs.Steps.{IsSound, Owes}
+use Rattle.lpt_journal.proofs.Soundness.{hand_current, sound_step}
+use Rattle.lpt_journal.proofs.Events.{open_owes, send_owes, finish_owes, take_owes}
+use Rattle.lpt_journal.proofs.PlainEvents.{plain_owes}
+use Rattle.lpt_journal.proofs.TimeEvents.{tick_owes, expire_owes}
+use Rattle.lpt_journal.proofs.Deliveries.{delivery_sound, deliver_owes}
+use Rattle.lpt_journal.proofs.Releasing.{OwesReleases, ArePast, opening_is}
+use Rattle.lpt_journal.proofs.OnceLemmas.{past_step}
+use Rattle.lpt_journal.proofs.DeliveredReleases.{deliver_releases}
+
+-- ---- each event
+
+-- a lane that may deliver has something in its hand
+in_its_hand : (o : Option ℕ) → not (is_some o) ≡ false → (n : ℕ) × (o ≡ Some n)
+in_its_hand None e = absurd cc
+in_its_hand (Some n) e = (n, refl)
+
+delivered : (c : Config) (h : History) (l : Lane)
+    → refusal c h (Deliver l) ≡ None
+    → (n : ℕ) × (hand h l ≡ Some n)
+delivered c h l e = in_its_hand (hand h l) (one_passes (not (is_some (hand h l))) HandEmpty e)
+
+-- an event that can happen pays what it owes
+pub owes : (c : Config) (h : History) (e : Event)
+    → IsConfig c
+    → IsSound c h
+    → IsEnabled c h e
+    → Owes c h (entry c h e)
+owes c h (Open d id m) good sound can = open_owes c h d id m sound can.accepted
+owes c h (Send d id k) good sound can = send_owes c h d id k good sound can.in_range.0 can.accepted
+owes c h (Plain flags service subtype body) good sound can =
+    plain_owes c h flags service subtype body good sound can.in_range can.accepted
+owes c h (Finish d id) good sound can = finish_owes c h d id sound
+owes c h (Tick side) good sound can = tick_owes c h side sound can.accepted
+owes c h (Expire side) good sound can = expire_owes c h side good sound
+owes c h (Take l n) good sound can = take_owes c h l n sound can.accepted
+owes c h (Deliver l) good sound can =
+    let n = delivered c h l can.accepted in deliver_owes c h l n.0 sound n.1
+
+-- an event that releases nothing owes nothing for it
+quiet : (c : Config) (h : History) (x : Recorded) → released_by c x h ≡ [] → OwesReleases c h x
+quiet c h x none = record {
+  one = λ k r f. absurd (no_place k r (ap (λ rs. slice_get rs k) (sym none) ∙ f));
+  place = λ k r f. absurd (no_place k r (ap (λ rs. slice_get rs k) (sym none) ∙ f));
+  large = λ k r t f of. absurd (no_place k r (ap (λ rs. slice_get rs k) (sym none) ∙ f));
+}
+
+-- an event that can happen pays what it owes for what it releases
+pub owes_releases : (c : Config) (h : History) (e : Event)
+    → IsConfig c
+    → IsSound c h
+    → IsEnabled c h e
+    → OwesReleases c h (entry c h e)
+owes_releases c h (Deliver l) good sound can =
+    let n = delivered c h l can.accepted in deliver_releases c h l n.0 good sound n.1
+owes_releases c h e good sound can = quiet c h (entry c h e) refl
+
+-- ---- every journal
+
+-- before anything has happened
+sound_start : (c : Config) → IsConfig c → IsSound c []
+sound_start c good = record {
+  openings = λ d id o e. absurd cc;
+  packets = λ n p e. absurd (no_place n p e);
+  held = λ n p q e f is. absurd (no_place n p f);
+  hands = λ l n e. absurd cc;
+  heard =
+      λ d id n x e. absurd (let none : map.get no_parts n ≡ None = map.get-empty nat_cmp n in cc);
+  clocks = λ side. good.clock_fits;
+}
+
+past_start : (c : Config) → ArePast c []
+past_start c = record {
+  each = λ k r t e of. absurd (no_place k r e);
+  closed = λ k r t o u e of was now at. absurd (no_place k r e);
+  once = λ j k r s o u e f is_o is_u same. absurd (no_place j r e);
+}
+
+-- the history of every legal journal is sound, and so are its releases
+pub every : (c : Config) (es : List Event)
+    → IsConfig c
+    → Legal c es
+    → IsSound c (recorded c es) × ArePast c (recorded c es)
+every c [] good legal = (sound_start c good, past_start c)
+every c (e ∷ es) good legal =
+    let h = recorded c es in
+    let had = every c es good legal.0 in
+    let pays = owes c h e good had.0 legal.1 in (
+      sound_step c h (entry c h e) pays had.0,
+      past_step c h (entry c h e) pays had.0 (owes_releases c h e good had.0 legal.1) had.1,
+    )
+
+-- ---- the main theorem
+
+-- a lane with a part in its hand has taken it
+taken : (c : Config) (h : History) (l : Lane) (q : Piece)
+    → in_hand c h l ≡ APart q
+    → (n : ℕ) × (hand h l ≡ Some n)
+taken c h l q e = go (hand h l) refl e where
+  go : (o : Option ℕ)
+      → hand h l ≡ o
+      → option_map_or (arrival_at c h (lane_direction l)) o NotRead ≡ APart q
+      → (n : ℕ) × (hand h l ≡ Some n)
+  go None is k = absurd cc
+  go (Some n) is k = (n, is)
+
+parts_current : (c : Config) (h : History) → IsSound c h → PartsAreCurrent c h
+parts_current c h sound = record {
+  held = sound.held;
+  hands = λ l q e. let n = taken c h l q e in hand_current c h l n.0 q sound n.1 e;
+  heard = sound.heard;
+}
+
+large : (o : Option (Direction × Name)) → is_some o ≡ true → (t : Direction × Name) × (o ≡ Some t)
+large None e = absurd cc
+large (Some t) e = (t, refl)
+
+each_last : (c : Config) (h : History) → ArePast c h → EachIsLastOpened c h
+each_last c h past k r e of =
+    let t = large r.of of in
+    let p = past.each k r t.0 e t.1 in
+    record {
+      place_fits = p.place_fits;
+      opening = p.opening;
+      is_current = opening_is h r t.0 t.1 ∙ p.is_current;
+      is_message = p.is_message;
+    }
+
+deliveries : (c : Config) (h : History) → IsSound c h → DeliveriesAreSound c h
+deliveries c h sound l full = go (hand h l) refl full where
+  go : (o : Option ℕ) → hand h l ≡ o → is_some o ≡ true → IsSoundDelivery c h l
+  go None is k = absurd cc
+  go (Some n) is k = delivery_sound c h l n sound is
+
+-- the main theorem
+pub headline : Headline
+headline c es good legal =
+    let h = recorded c es in
+    let all = every c es good legal in
+    record {
+      parts = parts_current c h all.0;
+      messages = each_last c h all.1;
+      once = all.1.once;
+      deliveries = deliveries c h all.0;
+      memories = λ first. memories_stay c first h;
+    }

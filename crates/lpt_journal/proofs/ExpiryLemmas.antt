@@ -1,0 +1,187 @@
+-- An opening whose reception expired is never released.
+use Rattle.std.proofs.Common.{◌≡◌, ◌∙◌, ap, sym, ℕ, ◌<◌, true, false, inl, inr, List, [], ◌∷◌, length, Some, arith}
+use Rattle.std.specs.List.{slice_get}
+use Rattle.std.specs.Option.{is_some}
+use Rattle.lpt_packet.specs.declared.direction.Direction.{Direction}
+use Rattle.lpt_packet.specs.Names.{Name}
+use Rattle.lpt_events.specs.declared.config.Config.{Config}
+use Rattle.lpt_events.specs.declared.event.Event.{Event}
+use Rattle.lpt_events.specs.declared.entry.Opening.{Opening}
+use Rattle.lpt_events.specs.declared.entry.Release.{Release}
+use Rattle.lpt_journal.specs.Expiries.{Expiry, expiry_at, expiries, opening_of_expiry, NoneIsReleased, NothingIsKept, ExpiryIsFinal}
+use Rattle.lpt_journal.specs.Headline.{IsSameOpening}
+use Rattle.lpt_journal.specs.Journal.{Recorded, History}
+use Rattle.lpt_journal.specs.Receivers.{is_closed}
+use Rattle.lpt_journal.specs.Releases.{released_by, releases}
+use Rattle.lpt_events.specs.Configs.{IsConfig}
+use Rattle.lpt_journal.specs.Replies.{entry, recorded, Legal}
+use Rattle.lpt_journal.specs.Senders.{current}
+use Rattle.lpt_journal.proofs.ClosedLemmas.{unheard_step}
+use Rattle.lpt_journal.proofs.Every.{owes, owes_releases, every}
+use Rattle.lpt_journal.proofs.OnceLemmas.{clash, flipped, old_opening, new_opening}
+use Rattle.lpt_journal.proofs.Releasing.{IsReleaseOf, OwesReleases, IsPast, ArePast, before_old, before_new, opening_is, is_large, closed_stays, was_current, new_past, old_past}
+use Rattle.lpt_journal.proofs.Steps.{IsSound, Owes}
+use Rattle.lpt_journal.proofs.TestLemmas.{no_place, IsOldOrNew, with_all_cases}
+use Rattle.lpt_journal.proofs.ExpiryOwed.{transaction, as_release, IsExpiryOf, owes_expiry}
+
+-- ---- what holds of past expiries
+
+-- an expiry is past: some release in its place would be
+abbrev IsPastExpiry : History → Expiry → Type 0
+IsPastExpiry h e = (m : List ℕ) × IsPast h (as_release e m) (transaction e)
+
+-- each expiry is past, its transaction is closed until opened again, and its opening isn't released
+record AreExpired (c : Config) (h : History) : Type 0 where
+  each : (j : ℕ) (e : Expiry) → slice_get (expiries h) j ≡ Some e → IsPastExpiry h e
+  closed : (j : ℕ) (e : Expiry) (o u : Opening)
+      → slice_get (expiries h) j ≡ Some e
+      → opening_of_expiry h e ≡ Some o
+      → current h e.direction e.id ≡ Some u
+      → u.place ≡ o.place
+      → is_closed h e.direction e.id ≡ true
+  unreleased : NoneIsReleased c h
+
+module _ (c : Config) (h : History) (x : Recorded) (pays : Owes c h x) (sound : IsSound c h)
+    (frees : OwesReleases c h x)
+    (ends_now : (j : ℕ) (e : Expiry)
+    → slice_get (expiry_at (length h) x.reply.answer) j ≡ Some e → IsExpiryOf c h x e)
+    (past : ArePast c h) (gone : AreExpired c h) where
+  each_expired : (j : ℕ) (e : Expiry)
+      → slice_get (expiries (x ∷ h)) j ≡ Some e
+      → IsPastExpiry (x ∷ h) e
+  each_expired j e f =
+      go (with_all_cases (expiries h) (expiry_at (length h) x.reply.answer) j e f) where
+        go : IsOldOrNew (expiries h) (expiry_at (length h) x.reply.answer) j e
+            → IsPastExpiry (x ∷ h) e
+        go (inl old) =
+            let p = gone.each j e old in
+            (p.0, old_past h x (as_release e p.0) (transaction e) p.1)
+        go (inr fresh) =
+            let n = ends_now fresh.0 e fresh.2 in (
+              n.message,
+              new_past c h x (as_release e n.message) (transaction e) sound n.place n.ends_it,
+            )
+
+  -- the opening of an old expiry, and of a new one
+  expired_before : (j : ℕ) (e : Expiry) (o : Opening)
+      → slice_get (expiries h) j ≡ Some e
+      → opening_of_expiry (x ∷ h) e ≡ Some o
+      → opening_of_expiry h e ≡ Some o
+  expired_before j e o f is =
+      let p = (gone.each j e f).1 in
+      let old = before_old h x e.place (omega (arith, p.place_fits)) in
+      ap (λ g. current g e.direction e.id) (sym old) ∙ is
+
+  expired_now_of : (e : Expiry) (o : Opening)
+      → e.place ≡ length h
+      → opening_of_expiry (x ∷ h) e ≡ Some o
+      → current h e.direction e.id ≡ Some o
+  expired_now_of e o place is =
+      ap (λ g. current g e.direction e.id) (sym (before_new h x e.place place)) ∙ is
+
+  closed_expired : (j : ℕ) (e : Expiry) (o u : Opening)
+      → slice_get (expiries (x ∷ h)) j ≡ Some e
+      → opening_of_expiry (x ∷ h) e ≡ Some o
+      → current (x ∷ h) e.direction e.id ≡ Some u
+      → u.place ≡ o.place
+      → is_closed (x ∷ h) e.direction e.id ≡ true
+  closed_expired j e o u f was now at =
+      go (with_all_cases (expiries h) (expiry_at (length h) x.reply.answer) j e f) where
+        go : IsOldOrNew (expiries h) (expiry_at (length h) x.reply.answer) j e
+            → is_closed (x ∷ h) e.direction e.id ≡ true
+        go (inl old) =
+            let p = (gone.each j e old).1 in
+            let first : opening_of_expiry h e ≡ Some o = expired_before j e o old was in
+            let same : p.opening ≡ o =
+            let is : opening_of_expiry h e ≡ Some p.opening = p.is_current in cc in
+            let older : u.place < length h =
+            let q : p.opening.place ≡ o.place =
+            ap (λ (v : Opening). v.place) same in omega (arith, p.was_before) in
+            let w = was_current c h x e.direction e.id u pays now older in
+            closed_stays h x e.direction e.id (gone.closed j e o u old first w.0 at) w.1
+        go (inr fresh) = (ends_now fresh.0 e fresh.2).ends_it.is_ended
+
+  -- a new release hasn't the opening of an old expiry: that transaction is closed
+  expired_clash : (j : ℕ) (e : Expiry) (s : Release) (v : Direction × Name) (o u : Opening)
+      → slice_get (expiries h) j ≡ Some e
+      → IsReleaseOf h x s v
+      → opening_of_expiry h e ≡ Some o
+      → current h v.0 v.1 ≡ Some u
+      → IsSameOpening o u
+      → ⊥
+  expired_clash j e s v o u f fresh was now same =
+      let p = (gone.each j e f).1 in
+      let is : p.opening ≡ o =
+      let a : opening_of_expiry h e ≡ Some p.opening = p.is_current in cc in
+      let known = sound.openings v.0 v.1 u now in
+      let d : e.direction ≡ v.0 =
+      sym p.same_direction ∙ ap (λ (w : Opening). w.direction) is ∙ same.same_direction
+      ∙ known.same_direction in
+      let i : e.id ≡ v.1 =
+      sym p.same_id ∙ ap (λ (w : Opening). w.id) is ∙ same.same_id ∙ known.same_id in
+      let there : current h e.direction e.id ≡ Some u = (λ j. current h (d j) (i j)) ∙ now in
+      let closed : is_closed h e.direction e.id ≡ true =
+      gone.closed j e o u f was there (sym same.same_place) in
+      let open_now : is_closed h v.0 v.1 ≡ false = fresh.was_open in
+      let both : is_closed h e.direction e.id ≡ is_closed h v.0 v.1 =
+      λ j. is_closed h (d j) (i j) in
+      cc
+
+  unreleased_now : NoneIsReleased c (x ∷ h)
+  unreleased_now j k e r o u f g is_o is_u same =
+      go (with_all_cases (expiries h) (expiry_at (length h) x.reply.answer) j e f)
+      (with_all_cases (releases c h) (released_by c x h) k r g) (is_large (x ∷ h) r u is_u) where
+        go : IsOldOrNew (expiries h) (expiry_at (length h) x.reply.answer) j e
+            → IsOldOrNew (releases c h) (released_by c x h) k r
+            → ((t : Direction × Name) × (r.of ≡ Some t))
+            → ⊥
+        go (inl a) (inl b) (t, p) =
+            gone.unreleased j k e r o u a b (expired_before j e o a is_o)
+            (opening_is h r t p ∙ old_opening c h x k r t u past b p is_u) same
+        go (inl a) (inr b) (t, p) =
+            expired_clash j e r t o u a (frees.large b.0 r t b.2 p) (expired_before j e o a is_o)
+            (new_opening h x r t u (frees.place b.0 r b.2) p is_u) same
+        go (inr a) (inl b) (t, p) =
+            let n = ends_now a.0 e a.2 in
+            clash c h x k r (as_release e n.message) t (transaction e) u o sound past b p n.ends_it
+            (old_opening c h x k r t u past b p is_u)
+            (expired_now_of e o n.place is_o) (flipped o u same)
+        go (inr a) (inr b) (t, p) = (ends_now a.0 e a.2).releases_none b.0 r b.2
+
+  expired_step : AreExpired c (x ∷ h)
+  expired_step =
+      record { each = each_expired; closed = closed_expired; unreleased = unreleased_now }
+
+-- ---- every journal
+
+expired_start : (c : Config) → AreExpired c []
+expired_start c = record {
+  each = λ j e f. absurd (no_place j e f);
+  closed = λ j e o u f was now at. absurd (no_place j e f);
+  unreleased = λ j k e r o u f g is_o is_u same. no_place j e f;
+}
+
+every_expired : (c : Config) (es : List Event)
+    → IsConfig c
+    → Legal c es
+    → AreExpired c (recorded c es) × NothingIsKept c (recorded c es)
+every_expired c [] good legal = (expired_start c, λ d id e. absurd cc)
+every_expired c (ev ∷ es) good legal =
+    let h = recorded c es in
+    let had = every c es good legal.0 in
+    let gone = every_expired c es good legal.0 in (
+      expired_step c h (entry c h ev) (owes c h ev good had.0 legal.1) had.0
+          (owes_releases c h ev good had.0 legal.1)
+          (owes_expiry c h ev had.0 gone.1 legal.1.accepted) had.1 gone.0,
+      unheard_step c h ev gone.1,
+    )
+
+-- an opening whose reception expired is never released, and of an ended reception nothing is kept
+pub expiry_is_final : ExpiryIsFinal
+expiry_is_final c es good legal =
+    let all = every_expired c es good legal in
+    record {
+      opened = λ j e f. ap is_some (all.0.each j e f).1.is_current;
+      unreleased = all.0.unreleased;
+      unheard = all.1;
+    }

@@ -1,0 +1,114 @@
+-- What an event owes for the reception that it says has expired, and that it pays it.
+use Rattle.std.proofs.Common.{◌≡◌, ◌∙◌, ap, sym, subst, refl, ℕ, Bool, true, false, not, ◌&&◌, ◌||◌, List, ◌∷◌, length, Option, Some, None}
+use Rattle.std.specs.List.{slice_get}
+use Rattle.std.specs.Option.{is_some}
+use Rattle.lpt_packet.specs.declared.direction.Direction.{Direction}
+use Rattle.lpt_packet.specs.Names.{Name}
+use Rattle.lpt_packet.proofs.NameLemmas.{same_name-refl}
+use Rattle.lpt_events.specs.declared.config.Config.{Config}
+use Rattle.lpt_events.specs.declared.side.Side.{Side}
+use Rattle.lpt_events.specs.declared.side.Side.TheVariants.{Ground, Craft}
+use Rattle.lpt_events.specs.declared.event.Event.{Event}
+use Rattle.lpt_events.specs.declared.event.Event.TheVariants.{Expire}
+use Rattle.lpt_events.specs.declared.fault.StepFault.TheVariants.{NothingDue}
+use Rattle.lpt_events.specs.declared.entry.Release.{Release}
+use Rattle.lpt_journal.specs.Expiries.{Expiry, expiry_at, NothingIsKept}
+use Rattle.lpt_journal.specs.Expiry.{is_overdue, due}
+use Rattle.lpt_events.specs.Sides.{same_side, receiver_side, direction_to}
+use Rattle.lpt_journal.specs.Journal.{Recorded, History}
+use Rattle.lpt_journal.specs.Receivers.{ends, heard, has_parts, last_tick, is_closed}
+use Rattle.lpt_journal.specs.Releases.{released_by}
+use Rattle.lpt_journal.specs.Replies.{expired_now, entry, refusal}
+use Rattle.lpt_journal.proofs.ClosedLemmas.{open_opening}
+use Rattle.lpt_journal.proofs.DueLemmas.{Earliest, earliest_is, overdue_names, in_overdue}
+use Rattle.lpt_journal.proofs.Events.{only_element}
+use Rattle.lpt_journal.proofs.Releasing.{IsReleaseOf}
+use Rattle.lpt_journal.proofs.Steps.{IsSound}
+use Rattle.lpt_journal.proofs.TestLemmas.{and_r, not_false, one_passes, no_place}
+
+-- ---- what an entry owes for what expires
+
+-- the transaction of a reception that expired
+abbrev pub transaction : Expiry → Direction × Name
+transaction e = (e.direction, e.id)
+
+-- a release of this message in place of the expiry
+abbrev pub as_release : Expiry → List ℕ → Release
+as_release e m = record { place = e.place; of = Some (transaction e); message = m }
+
+-- a reception that expires is of an opening, was not ended before, and nothing is released then
+pub record IsExpiryOf (c : Config) (h : History) (x : Recorded) (e : Expiry) : Type 0 where
+  pub place : e.place ≡ length h
+  pub message : List ℕ
+  pub ends_it : IsReleaseOf h x (as_release e message) (transaction e)
+  pub releases_none : (k : ℕ) (r : Release) → slice_get (released_by c x h) k ≡ Some r → ⊥
+
+-- what is due is an open reception
+due_open : (c : Config) (h : History) (d : Direction) (id : Name)
+    → due c h d ≡ Some id
+    → has_parts (heard c h d id) ≡ true
+due_open c h d id e = go (due c h d) (earliest_is (last_tick c h d) (overdue_names c h d)) e where
+  go : (o : Option Name)
+      → Earliest (last_tick c h d) (overdue_names c h d) o
+      → o ≡ Some id
+      → has_parts (heard c h d id) ≡ true
+  go None it k = absurd cc
+  go (Some i) it k =
+      let same : i ≡ id = cc in
+      ap (λ n. has_parts (heard c h d n)) (sym same)
+      ∙ and_r (is_overdue c h d i) (has_parts (heard c h d i)) (sym (in_overdue c h d i) ∙ it.is_in)
+
+receives_there : (side : Side) → same_side side (receiver_side (direction_to side)) ≡ true
+receives_there Ground = refl
+receives_there Craft = refl
+
+open_still : (closed has : Bool) → (closed ≡ true → has ≡ false) → has ≡ true → closed ≡ false
+open_still true has none e = let no : has ≡ false = none refl in absurd cc
+open_still false has none e = refl
+
+-- an event that can happen pays what it owes for what expires
+pub owes_expiry : (c : Config) (h : History) (ev : Event)
+    → IsSound c h
+    → NothingIsKept c h
+    → refusal c h ev ≡ None
+    → (j : ℕ) (e : Expiry)
+    → slice_get (expiry_at (length h) (entry c h ev).reply.answer) j ≡ Some e
+    → IsExpiryOf c h (entry c h ev) e
+owes_expiry c h (Expire side) sound none can j e f =
+    go (due c h (direction_to side)) refl
+    (not_false (is_some (due c h (direction_to side)))
+    (one_passes (not (is_some (due c h (direction_to side)))) NothingDue can)) f where
+      go : (o : Option Name)
+          → due c h (direction_to side) ≡ o
+          → is_some o ≡ true
+          → slice_get (expiry_at (length h) (expired_now (direction_to side) o)) j ≡ Some e
+          → IsExpiryOf c h (entry c h (Expire side)) e
+      go None is t k = absurd cc
+      go (Some id) is t k =
+          let of : record { place = length h; direction = direction_to side; id = id } ≡ e =
+          only_element _ j e k in
+          let has = due_open c h (direction_to side) id is in
+          let opening = open_opening c h (direction_to side) id sound has in
+          let was : is_closed h (direction_to side) id ≡ false =
+          open_still (is_closed h (direction_to side) id)
+          (has_parts (heard c h (direction_to side) id)) (none (direction_to side) id) has in
+          let now : is_closed (entry c h (Expire side) ∷ h) (direction_to side) id ≡ true =
+          ap (λ (o : Option Name).
+          (same_side side (receiver_side (direction_to side))
+          && ends (expired_now (direction_to side) o) id)
+          || is_closed h (direction_to side) id) is
+          ∙ (λ i. (receives_there side i && same_name-refl id i)
+          || is_closed h (direction_to side) id) in
+          subst (λ (y : Expiry). IsExpiryOf c h (entry c h (Expire side)) y) of (record {
+            place = refl;
+            message = opening.0.message;
+            ends_it = record {
+              opening = opening.0;
+              is_current = opening.1;
+              is_message = refl;
+              was_open = was;
+              is_ended = now;
+            };
+            releases_none = λ m r n. no_place m r n;
+          })
+owes_expiry c h ev sound none can j e f = absurd (no_place j e f)

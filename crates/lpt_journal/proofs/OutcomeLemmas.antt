@@ -1,0 +1,100 @@
+-- What an outcome tells of the packet that was delivered.
+use Rattle.std.proofs.Common.{◌≡◌, refl, ℕ, nat_le, Bool, true, false, not, ◌&&◌, length, if◌then◌else◌}
+use Rattle.std.specs.Option.{is_some}
+use Rattle.std.specs.FinMap as map
+use Rattle.lpt_packet.specs.declared.direction.Direction.{Direction}
+use Rattle.lpt_packet.specs.Names.{Name}
+use Rattle.lpt_part.specs.declared.reason.Reason.TheVariants.{Conflict}
+use Rattle.lpt_part.specs.Parts.{Piece}
+use Rattle.lpt_reception.specs.Received.{contradicts, is_whole, spelled}
+use Rattle.lpt_events.specs.declared.config.Config.{Config}
+use Rattle.lpt_events.specs.declared.outcome.Outcome.{Outcome}
+use Rattle.lpt_events.specs.declared.outcome.Outcome.TheVariants.{Kept, Again, Released, Broken, Ignored}
+use Rattle.lpt_events.specs.declared.outcome.Why.TheVariants.{Unreadable, Idle, ForeignApid, BadPart, Closed, NoRoom}
+use Rattle.lpt_events.specs.Arrivals.{Arrival, NotRead, AnIdle, Foreign, ARequest, AReport, NoPart, APart, AnAbort}
+use Rattle.lpt_journal.specs.Journal.{History}
+use Rattle.lpt_journal.specs.Receivers.{kept, with_piece, heard, has_parts, reception_count, is_closed}
+use Rattle.lpt_journal.specs.Delivery.{judged}
+
+-- ---- what an outcome tells
+
+-- the outcome of a part, by its tests
+abbrev pub chosen : (closed full clash again whole : Bool) → Piece → (len : ℕ) → Outcome
+chosen closed full clash again whole q len =
+    if closed then Ignored Closed
+    else if full then Ignored NoRoom
+    else if clash then Broken q.id Conflict
+    else if again then Again q.id q.number
+    else if whole then Released q.id len
+    else Kept q.id q.number
+
+-- a part that was released: its transaction was not closed, and with it all parts are there
+pub record IsReleased (closed whole : Bool) (q : Piece) (i : Name) : Type 0 where
+  pub same_id : i ≡ q.id
+  pub was_open : closed ≡ false
+  pub is_all : whole ≡ true
+
+abbrev Tells : (closed clash whole : Bool) → Piece → Outcome → Type 0
+Tells closed clash whole q (Kept i k) = i ≡ q.id
+Tells closed clash whole q (Released i len) = IsReleased closed whole q i
+Tells closed clash whole q (Broken i reason) = clash ≡ true
+Tells closed clash whole q (Ignored Unreadable) = ⊥
+Tells closed clash whole q (Ignored Idle) = ⊥
+Tells closed clash whole q (Ignored ForeignApid) = ⊥
+Tells closed clash whole q (Ignored BadPart) = ⊥
+Tells closed clash whole q _ = Unit {0}
+
+chosen_tells : (closed full clash again whole : Bool) (q : Piece) (len : ℕ)
+    → Tells closed clash whole q (chosen closed full clash again whole q len)
+chosen_tells true full clash again whole q len = tt
+chosen_tells false true clash again whole q len = tt
+chosen_tells false false true again whole q len = refl
+chosen_tells false false false true whole q len = tt
+chosen_tells false false false false true q len =
+    record { same_id = refl; was_open = refl; is_all = refl }
+chosen_tells false false false false false q len = refl
+
+-- what the outcome of what arrives tells of it
+abbrev pub TellsOf : Config → History → Direction → Arrival → Outcome → Type 0
+TellsOf c h d a (Kept i k) = (q : Piece) × (a ≡ APart q) × (i ≡ q.id)
+TellsOf c h d a (Released i len) =
+    (q : Piece) × (a ≡ APart q) × IsReleased (is_closed h d q.id)
+    (is_whole (with_piece (heard c h d q.id) q)) q i
+TellsOf c h d a (Broken i reason) =
+    (q : Piece) × (a ≡ APart q) × (contradicts (heard c h d q.id) q.number (kept q) ≡ true)
+TellsOf c h d a (Ignored Unreadable) = a ≡ NotRead
+TellsOf c h d a (Ignored Idle) = a ≡ AnIdle
+TellsOf c h d a (Ignored ForeignApid) = a ≡ Foreign
+TellsOf c h d a (Ignored BadPart) = a ≡ NoPart
+TellsOf c h d a _ = Unit {0}
+
+part_tells : (c : Config) (h : History) (d : Direction) (q : Piece) (o : Outcome)
+    → Tells (is_closed h d q.id) (contradicts (heard c h d q.id) q.number (kept q))
+    (is_whole (with_piece (heard c h d q.id) q)) q o
+    → TellsOf c h d (APart q) o
+part_tells c h d q (Kept i k) t = (q, refl, t)
+part_tells c h d q (Released i len) t = (q, refl, t)
+part_tells c h d q (Broken i reason) t = (q, refl, t)
+part_tells c h d q (Ignored Unreadable) t = absurd t
+part_tells c h d q (Ignored Idle) t = absurd t
+part_tells c h d q (Ignored ForeignApid) t = absurd t
+part_tells c h d q (Ignored BadPart) t = absurd t
+part_tells c h d q o t = tt
+
+-- an outcome tells what arrived
+pub judged_tells : (c : Config) (h : History) (d : Direction) (a : Arrival)
+    → TellsOf c h d a (judged c h d a)
+judged_tells c h d NotRead = refl
+judged_tells c h d AnIdle = refl
+judged_tells c h d Foreign = refl
+judged_tells c h d (ARequest b) = tt
+judged_tells c h d (AReport service subtype) = tt
+judged_tells c h d NoPart = refl
+judged_tells c h d (AnAbort id reason) = tt
+judged_tells c h d (APart q) =
+    let s = heard c h d q.id in
+    part_tells c h d q (judged c h d (APart q))
+    (chosen_tells (is_closed h d q.id)
+    (not (has_parts s) && nat_le c.receptions (reception_count c h d))
+    (contradicts s q.number (kept q)) (is_some (map.get s q.number)) (is_whole (with_piece s q)) q
+    (length (spelled (with_piece s q))))

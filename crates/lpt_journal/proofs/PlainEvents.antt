@@ -1,0 +1,46 @@
+-- What a plain request owes, and that it pays it.
+use Rattle.std.proofs.Common.{◌≡◌, ◌∙◌, ap, sym, subst, ℕ, inl, refl, List, [], ◌∷◌, length, None, arith}
+use Rattle.lpt_packet.specs.declared.direction.Direction.TheVariants.{Up}
+use Rattle.lpt_events.specs.declared.config.Config.{Config}
+use Rattle.lpt_events.specs.Arrivals.{ARequest, APart}
+use Rattle.lpt_events.specs.Configs.{IsConfig}
+use Rattle.lpt_events.specs.Requests.{is_part_request, is_too_long}
+use Rattle.lpt_events.specs.declared.event.Event.TheVariants.{Plain}
+use Rattle.lpt_events.specs.declared.fault.StepFault.TheVariants.{PartRequest, Long}
+use Rattle.lpt_journal.specs.Journal.{History, hand}
+use Rattle.lpt_journal.specs.Replies.{plain_packet, plain_puts, IsEvent, refusal, entry}
+use Rattle.lpt_journal.specs.Senders.{made, count}
+use Rattle.lpt_journal.proofs.Events.{only_element}
+use Rattle.lpt_journal.proofs.SentParts.{plain_arrives}
+use Rattle.lpt_journal.proofs.Steps.{IsRead, IsSoundPacket, IsSound, Owes}
+use Rattle.lpt_journal.proofs.TestLemmas.{two_pass}
+
+-- a plain request pays what it owes: its packet is read, and is no part
+pub plain_owes : (c : Config) (h : History) (flags service subtype : ℕ) (body : List ℕ)
+    → IsConfig c
+    → IsSound c h
+    → IsEvent (Plain flags service subtype body)
+    → refusal c h (Plain flags service subtype body) ≡ None
+    → Owes c h (entry c h (Plain flags service subtype body))
+plain_owes c h flags service subtype body good sound fits accepted =
+    let t =
+    two_pass (is_part_request service subtype) (is_too_long c (length body)) PartRequest Long
+    accepted in
+    let packet = plain_packet c h flags service subtype body in
+    let arrives =
+    plain_arrives c (count h Up) flags service subtype body good (omega arith) fits.0 fits.1
+    fits.2 t.0 t.1 in
+    record {
+      opens = λ e j u f. absurd cc;
+      retires = λ e j r. absurd cc;
+      puts = λ k p f.
+          subst (λ x. IsSoundPacket c (entry c h (Plain flags service subtype body) ∷ h) x)
+          (only_element _ k p f)
+          (record {
+            is_read = subst (λ a. IsRead a) (sym arrives) tt;
+            part = λ q e. let no : ARequest packet ≡ APart q = sym arrives ∙ e in absurd cc;
+          });
+      takes = λ l n f. inl f;
+      hears = λ e j. inl refl;
+      clocks = sound.clocks;
+    }

@@ -1,0 +1,173 @@
+-- What holds of a history, and what an entry that comes after it owes for that to hold again.
+use Rattle.std.proofs.Common.{◌&&◌, ◌≡◌, ◌∙◌, refl, ℕ, ◌^◌, ◌<◌, Bool, true, false, ◌⊎◌, List, ◌∷◌, length, Option, Some, None, if◌then◌else◌}
+use Rattle.std.specs.List.{slice_get, find}
+use Rattle.std.specs.Option.{option_or}
+use Rattle.std.specs.FinMap as map
+use Rattle.lpt_packet.specs.declared.direction.Direction.{Direction}
+use Rattle.lpt_packet.specs.Names.{Name, same_name}
+use Rattle.lpt_packet.proofs.NameLemmas.{same_name-true}
+use Rattle.lpt_part.specs.Parts.{Piece}
+use Rattle.lpt_reception.specs.Received.{Kept as KeptPart, Parts, no_parts}
+use Rattle.lpt_reception.specs.PartsOf.{IsMessage}
+use Rattle.lpt_events.specs.declared.lane.Lane.{Lane}
+use Rattle.lpt_events.specs.Lanes.{lane_direction, same_direction}
+use Rattle.lpt_events.specs.declared.config.Config.{Config}
+use Rattle.lpt_events.specs.declared.side.Side.{Side}
+use Rattle.lpt_events.specs.Arrivals.{Arrival, NotRead, AnIdle, Foreign, NoPart, APart}
+use Rattle.lpt_events.specs.declared.entry.Opening.{Opening}
+use Rattle.lpt_journal.specs.Journal.{SentPacket, Recorded, History, sent, is_held, goes, hand, arrival_of, in_hand}
+use Rattle.lpt_journal.specs.Senders.{is_opening_of, retires, current}
+use Rattle.lpt_journal.specs.Receivers.{with_piece, heard, clock}
+use Rattle.lpt_journal.specs.Headline.{IsPartOfCurrent, kept_piece}
+use Rattle.lpt_events.proofs.LaneLemmas.{same_direction-true}
+use Rattle.lpt_journal.proofs.TestLemmas.{and_l, and_r, find_passes}
+
+-- ---- what holds of a history
+
+-- the last opening of a transaction is of it, stands before now, and its message can be split
+pub record IsKnown (c : Config) (h : History) (d : Direction) (id : Name)
+    (o : Opening) : Type 0 where
+  pub same_direction : o.direction ≡ d
+  pub same_id : o.id ≡ id
+  pub place_fits : o.place < length h
+  pub splits : IsMessage o.message c.part_size
+
+-- what arrives is read: not unreadable, idle or foreign, and a part or an abort has its body
+abbrev pub IsRead : Arrival → Type 0
+IsRead NotRead = ⊥
+IsRead AnIdle = ⊥
+IsRead Foreign = ⊥
+IsRead NoPart = ⊥
+IsRead _ = Unit {0}
+
+-- the packet is read, and where it is a part it is one of the message last opened under its name
+pub record IsSoundPacket (c : Config) (h : History) (p : SentPacket) : Type 0 where
+  pub is_read : IsRead (arrival_of c p)
+  pub part : (q : Piece) → arrival_of c p ≡ APart q → IsPartOfCurrent c h p.direction q
+
+-- what a lane has in its hand goes its way, and a part is one of the message last opened
+pub record IsInHand (c : Config) (h : History) (l : Lane) (n : ℕ) : Type 0 where
+  pub packet : SentPacket
+  pub was_sent : slice_get (sent h) n ≡ Some packet
+  pub goes_there : packet.direction ≡ lane_direction l
+  pub part : (q : Piece) → arrival_of c packet ≡ APart q → IsPartOfCurrent c h packet.direction q
+
+-- what holds of the history of every legal journal
+pub record IsSound (c : Config) (h : History) : Type 0 where
+  pub openings : (d : Direction) (id : Name) (o : Opening)
+      → current h d id ≡ Some o
+      → IsKnown c h d id o
+  pub packets : (n : ℕ) (p : SentPacket) → slice_get (sent h) n ≡ Some p → IsRead (arrival_of c p)
+  pub held : (n : ℕ) (p : SentPacket) (q : Piece)
+      → is_held h n ≡ true
+      → slice_get (sent h) n ≡ Some p
+      → arrival_of c p ≡ APart q
+      → IsPartOfCurrent c h p.direction q
+  pub hands : (l : Lane) (n : ℕ) → hand h l ≡ Some n → IsInHand c h l n
+  pub heard : (d : Direction) (id : Name) (n : ℕ) (x : KeptPart)
+      → map.get (heard c h d id) n ≡ Some x
+      → IsPartOfCurrent c h d (kept_piece id n x)
+  pub clocks : (side : Side) → clock c h side < 2 ^ 32
+
+-- ---- what an entry owes
+
+-- an opening is of a free name, at the entry's place, and its message can be split
+pub record IsNew (c : Config) (h : History) (d : Direction) (id : Name) (o : Opening) : Type 0 where
+  pub free : current h d id ≡ None
+  pub place : o.place ≡ length h
+  pub splits : IsMessage o.message c.part_size
+
+-- no part of the transaction is held, in a hand or heard
+pub record IsUnheard (c : Config) (h : History) (d : Direction) (id : Name) : Type 0 where
+  pub held : (n : ℕ) (p : SentPacket) (q : Piece)
+      → is_held h n ≡ true
+      → slice_get (sent h) n ≡ Some p
+      → p.direction ≡ d
+      → arrival_of c p ≡ APart q
+      → ¬ (q.id ≡ id)
+  pub hands : (l : Lane) (n : ℕ) (p : SentPacket) (q : Piece)
+      → hand h l ≡ Some n
+      → slice_get (sent h) n ≡ Some p
+      → p.direction ≡ d
+      → arrival_of c p ≡ APart q
+      → ¬ (q.id ≡ id)
+  pub heard : (n : ℕ) → map.get (heard c h d id) n ≡ None
+
+-- what a lane takes is held and goes its way
+pub record IsTaken (h : History) (l : Lane) (n : ℕ) : Type 0 where
+  pub was_held : is_held h n ≡ true
+  pub goes_there : goes h (lane_direction l) n ≡ true
+
+-- a part that is kept is the one in a lane's hand
+pub record IsKept (c : Config) (h : History) (d : Direction) (id : Name) (s : Parts) : Type 0 where
+  pub lane : Lane
+  pub number : ℕ
+  pub part : Piece
+  pub goes_there : lane_direction lane ≡ d
+  pub was_taken : hand h lane ≡ Some number
+  pub arrives : in_hand c h lane ≡ APart part
+  pub same_id : part.id ≡ id
+  pub is_added : s ≡ with_piece (heard c h d id) part
+
+-- what is kept of a transaction is as it was, or nothing, or has one part more
+abbrev pub IsHeardNow : Config → History → Direction → Name → Parts → Type 0
+IsHeardNow c h d id s = (s ≡ heard c h d id) ⊎ (s ≡ no_parts) ⊎ IsKept c h d id s
+
+-- what an entry owes to the history before it
+pub record Owes (c : Config) (h : History) (x : Recorded) : Type 0 where
+  pub opens : (d : Direction) (id : Name) (o : Opening)
+      → find (is_opening_of d id) x.opens ≡ Some o
+      → IsNew c h d id o
+  pub retires : (d : Direction) (id : Name) → retires x.event d id ≡ true → IsUnheard c h d id
+  pub puts : (k : ℕ) (p : SentPacket) → slice_get x.puts k ≡ Some p → IsSoundPacket c (x ∷ h) p
+  pub takes : (l : Lane) (n : ℕ) → hand (x ∷ h) l ≡ Some n → (hand h l ≡ Some n) ⊎ IsTaken h l n
+  pub hears : (d : Direction) (id : Name) → IsHeardNow c h d id (heard c (x ∷ h) d id)
+  pub clocks : (side : Side) → clock c (x ∷ h) side < 2 ^ 32
+
+-- ---- openings
+
+-- an opening that is found is of the transaction
+pub opening_found : (d : Direction) (id : Name) (os : List Opening) (o : Opening)
+    → find (is_opening_of d id) os ≡ Some o
+    → (o.direction ≡ d) × (o.id ≡ id)
+opening_found d id os o h =
+    let way = same_direction o.direction d in
+    let name = same_name o.id id in
+    let t : (way && name) ≡ true = find_passes (is_opening_of d id) os o h in (
+      same_direction-true o.direction d (and_l way name t),
+      same_name-true o.id id (and_r way name t),
+    )
+
+-- the last opening of a name that isn't retired stays it, since a new one is of a free name
+pub current_stays : (c : Config) (h : History) (x : Recorded) (d : Direction) (id : Name)
+    (o : Opening)
+    → Owes c h x
+    → current h d id ≡ Some o
+    → ¬ (retires x.event d id ≡ true)
+    → current (x ∷ h) d id ≡ Some o
+current_stays c h x d id o owes e stays =
+    go (retires x.event d id) (find (is_opening_of d id) x.opens) refl refl where
+      go : (r : Bool) (f : Option Opening)
+          → retires x.event d id ≡ r
+          → find (is_opening_of d id) x.opens ≡ f
+          → ◌≡◌ {A = Option Opening}
+          (if retires x.event d id then None
+          else option_or (find (is_opening_of d id) x.opens) (current h d id)) (Some o)
+      go true f r i = absurd (stays r)
+      go false (Some u) r i =
+          absurd (let free : current h d id ≡ None = (owes.opens d id u i).free in cc)
+      go false None r i = (λ j. if r j then None else option_or (i j) (current h d id)) ∙ e
+
+-- a part of the message last opened under a name that isn't retired stays one
+pub part_stays : (c : Config) (h : History) (x : Recorded) (d : Direction) (q : Piece)
+    → Owes c h x
+    → IsPartOfCurrent c h d q
+    → ¬ (retires x.event d q.id ≡ true)
+    → IsPartOfCurrent c (x ∷ h) d q
+part_stays c h x d q owes p stays = record {
+  opening = p.opening;
+  is_current = current_stays c h x d q.id p.opening owes p.is_current stays;
+  from_one = p.from_one;
+  to_last = p.to_last;
+  is_part = p.is_part;
+}

@@ -1,0 +1,139 @@
+-- What tests tell, and what lists have at a place.
+use Rattle.std.proofs.Common.{◌≡◌, ◌∙◌, ap, sym, refl, ℕ, zero, suc, ◌+◌, ◌<◌, ◌≤◌, nat_lt, nat_le, ◌==◌, Bool, true, false, cond, not, ◌&&◌, ◌||◌, ◌⊎◌, inl, inr, List, [], ◌∷◌, ◌++◌, length, Option, Some, None, arith, zero-add}
+use Rattle.std.proofs.lemmas.Bool.Decides.{nat_tests}
+use Rattle.std.specs.List.{slice_get, find}
+use Rattle.std.specs.Option.{is_some}
+use Rattle.lpt_events.specs.declared.fault.StepFault.{StepFault}
+use Rattle.lpt_journal.specs.Journal.{with_all}
+use Rattle.lpt_journal.specs.Replies.{first_fault}
+
+-- ---- tests
+
+-- the first part of a test holds
+pub and_l : (a b : Bool) → (a && b) ≡ true → a ≡ true
+and_l true b h = refl
+and_l false b h = absurd cc
+
+-- the second part of a test holds
+pub and_r : (a b : Bool) → (a && b) ≡ true → b ≡ true
+and_r true b h = h
+and_r false b h = absurd cc
+
+-- what is not false is true
+pub not_false : (a : Bool) → not a ≡ false → a ≡ true
+not_false true h = refl
+not_false false h = absurd cc
+
+-- what is not true is false
+pub not_true : (a : Bool) → not a ≡ true → a ≡ false
+not_true true h = absurd cc
+not_true false h = refl
+
+-- where no alternative holds, the first doesn't
+pub or_false_l : (a b : Bool) → (a || b) ≡ false → a ≡ false
+or_false_l true b h = h
+or_false_l false b h = refl
+
+-- where no alternative holds, the second doesn't
+pub or_false_r : (a b : Bool) → (a || b) ≡ false → b ≡ false
+or_false_r true b h = absurd cc
+or_false_r false b h = h
+
+-- where the second alternative holds, one does
+pub or_true_r : (a b : Bool) → b ≡ true → (a || b) ≡ true
+or_true_r true b h = refl
+or_true_r false b h = h
+
+-- a test of numbers that fails
+pub le_false : (a b : ℕ) → nat_le a b ≡ false → b < a
+le_false a b h = grind (arith, nat_tests)
+
+-- a test of numbers that holds
+pub lt_true : (a b : ℕ) → a < b → nat_lt a b ≡ true
+lt_true a b h = grind (arith, nat_tests)
+
+-- a number that isn't 0
+pub not_zero : (n : ℕ) → (n == 0) ≡ false → 1 ≤ n
+not_zero n h = grind (arith, nat_tests)
+
+-- an option that has nothing is empty
+pub none_is : {A : Type 0} (o : Option A) → is_some o ≡ false → o ≡ None
+none_is None h = refl
+none_is (Some x) h = absurd cc
+
+-- ---- refusals
+
+-- where an event isn't refused, none of its line's tests holds
+pub one_passes : (a : Bool) (f : StepFault) → first_fault ((a, f) ∷ []) ≡ None → a ≡ false
+one_passes true f h = absurd cc
+one_passes false f h = refl
+
+-- the same of a line of two
+pub two_pass : (a b : Bool) (f g : StepFault)
+    → first_fault ((a, f) ∷ (b, g) ∷ []) ≡ None
+    → (a ≡ false) × (b ≡ false)
+two_pass true b f g h = absurd cc
+two_pass false true f g h = absurd cc
+two_pass false false f g h = (refl, refl)
+
+-- the same of a line of four
+pub four_pass : (a b c d : Bool) (f g i j : StepFault)
+    → first_fault ((a, f) ∷ (b, g) ∷ (c, i) ∷ (d, j) ∷ []) ≡ None
+    → (a ≡ false) × (b ≡ false) × (c ≡ false) × (d ≡ false)
+four_pass true b c d f g i j h = absurd cc
+four_pass false true c d f g i j h = absurd cc
+four_pass false false true d f g i j h = absurd cc
+four_pass false false false true f g i j h = absurd cc
+four_pass false false false false f g i j h = (refl, refl, refl, refl)
+
+-- ---- lists
+
+-- what is found passes the test
+pub find_passes : {A : Type 0} (test : A → Bool) (xs : List A) (y : A)
+    → find test xs ≡ Some y
+    → test y ≡ true
+find_passes {A = A} test [] y h = absurd cc
+find_passes {A = A} test (x ∷ xs) y h = go (test x) refl (find_passes test xs y) h where
+  go : (b : Bool) → test x ≡ b → (find test xs ≡ Some y → test y ≡ true)
+      → ◌≡◌ {A = Option A} (cond b (Some x) (find test xs)) (Some y) → test y ≡ true
+  go true e rest k = let s : x ≡ y = cc in ap test (sym s) ∙ e
+  go false e rest k = rest k
+
+-- an element stays where it is as the list grows
+pub get-with_all : {A : Type 0} (xs ys : List A) (n : ℕ) (y : A)
+    → slice_get xs n ≡ Some y
+    → slice_get (with_all xs ys) n ≡ Some y
+get-with_all {A = A} xs [] n y h = h
+get-with_all {A = A} xs (z ∷ ys) n y h = go xs n h where
+  go : (xs : List A) (n : ℕ) → slice_get xs n ≡ Some y → slice_get (xs ++ z ∷ ys) n ≡ Some y
+  go [] n h = absurd cc
+  go (x ∷ xs) zero h = h
+  go (x ∷ xs) (suc n) h = go xs n h
+
+-- what a list with others behind it has at a place: an old element, or a new one
+abbrev pub IsOldOrNew : {A : Type 0} → List A → List A → ℕ → A → Type 0
+IsOldOrNew xs ys n y =
+    (slice_get xs n ≡ Some y) ⊎ ((k : ℕ) × (n ≡ length xs + k) × (slice_get ys k ≡ Some y))
+
+one_more : {A : Type 0} (x : A) (xs ys : List A) (n : ℕ) (y : A)
+    → IsOldOrNew xs ys n y
+    → IsOldOrNew (x ∷ xs) ys (suc n) y
+one_more x xs ys n y (inl e) = inl e
+one_more x xs ys n y (inr e) = inr (e.0, let s : n ≡ length xs + e.0 = e.1 in omega arith, e.2)
+
+-- an element of the longer list is an old one or a new one
+pub with_all_cases : {A : Type 0} (xs ys : List A) (n : ℕ) (y : A)
+    → slice_get (with_all xs ys) n ≡ Some y
+    → IsOldOrNew xs ys n y
+with_all_cases {A = A} xs [] n y h = inl h
+with_all_cases {A = A} xs (z ∷ ys) n y h = go xs n h where
+  go : (xs : List A) (n : ℕ)
+      → slice_get (xs ++ z ∷ ys) n ≡ Some y
+      → IsOldOrNew xs (z ∷ ys) n y
+  go [] n h = inr (n, sym (zero-add n), h)
+  go (x ∷ xs) zero h = inl h
+  go (x ∷ xs) (suc n) h = one_more x xs (z ∷ ys) n y (go xs n h)
+
+-- an empty list has nothing
+pub no_place : {A : Type 0} (k : ℕ) (y : A) → slice_get [] k ≡ Some y → ⊥
+no_place k y h = cc

@@ -1,0 +1,120 @@
+-- What ticks and expiry owe, and that they pay it.
+use Rattle.std.proofs.Common.{◌≡◌, ◌∙◌, ap, sym, subst, refl, ℕ, ◌+◌, ◌^◌, ◌<◌, ◌==◌, Bool, true, false, ◌&&◌, inl, inr, ◌∷◌, Option, Some, None, if◌then◌else◌, arith}
+use Rattle.std.specs.List.{slice_get}
+use Rattle.std.proofs.lemmas.Bool.Decides.{nat_tests}
+use Rattle.lpt_packet.specs.declared.direction.Direction.{Direction}
+use Rattle.lpt_packet.specs.declared.direction.Direction.TheVariants.{Down}
+use Rattle.lpt_packet.specs.Names.{Name}
+use Rattle.lpt_part.specs.declared.reason.Reason.{Reason}
+use Rattle.lpt_part.specs.declared.reason.Reason.TheVariants.{Expired as TimedOut}
+use Rattle.lpt_reception.specs.Received.{no_parts}
+use Rattle.lpt_events.specs.declared.config.Config.{Config}
+use Rattle.lpt_events.specs.declared.side.Side.{Side}
+use Rattle.lpt_events.specs.declared.side.Side.TheVariants.{Ground, Craft}
+use Rattle.lpt_events.specs.Arrivals.{APart, AnAbort}
+use Rattle.lpt_events.specs.declared.event.Event.TheVariants.{Tick, Expire}
+use Rattle.lpt_events.specs.declared.fault.StepFault.TheVariants.{ClockEnd}
+use Rattle.lpt_journal.specs.Expiry.{due}
+use Rattle.lpt_events.specs.Sides.{same_side, receiver_side, direction_to}
+use Rattle.lpt_journal.specs.Journal.{History, SentPacket}
+use Rattle.lpt_journal.specs.Receivers.{ends, heard, clock}
+use Rattle.lpt_events.specs.Configs.{IsConfig}
+use Rattle.lpt_journal.specs.Replies.{abort_puts, expiry_puts, refusal, entry}
+use Rattle.lpt_journal.specs.Senders.{count, type_counter}
+use Rattle.lpt_journal.proofs.Events.{only_element}
+use Rattle.lpt_journal.proofs.SentParts.{AreCounts, abort_arrives}
+use Rattle.lpt_journal.proofs.TestLemmas.{one_passes, no_place}
+use Rattle.lpt_journal.proofs.Steps.{IsRead, IsSoundPacket, IsSound, IsHeardNow, Owes}
+
+-- ---- ticks
+
+same_side-true : (a b : Side) → same_side a b ≡ true → a ≡ b
+same_side-true Ground Ground e = refl
+same_side-true Craft Craft e = refl
+same_side-true Ground Craft e = absurd cc
+same_side-true Craft Ground e = absurd cc
+
+-- a clock that isn't at its greatest value can tick
+one_more : (n : ℕ) → n < 2 ^ 32 → (n == 4294967295) ≡ false → n + 1 < 2 ^ 32
+one_more n fits more = grind (arith, nat_tests)
+
+-- a tick pays what it owes
+pub tick_owes : (c : Config) (h : History) (t : Side)
+    → IsSound c h
+    → refusal c h (Tick t) ≡ None
+    → Owes c h (entry c h (Tick t))
+tick_owes c h t sound accepted =
+    let more : (clock c h t == 4294967295) ≡ false =
+    one_passes (clock c h t == 4294967295) ClockEnd accepted in
+    record {
+      opens = λ e j u f. absurd cc;
+      retires = λ e j r. absurd cc;
+      puts = λ k p f. absurd (no_place k p f);
+      takes = λ l n f. inl f;
+      hears = λ e j. inl refl;
+      clocks = λ side. go more side (same_side t side) refl;
+    }
+  where
+    go : (clock c h t == 4294967295) ≡ false
+        → (side : Side) (b : Bool)
+        → same_side t side ≡ b
+        → (if b then clock c h side + 1 else clock c h side) < 2 ^ 32
+    go more side true e =
+        one_more (clock c h side) (sound.clocks side)
+        (ap (λ s. clock c h s == 4294967295) (sym (same_side-true t side e)) ∙ more)
+    go more side false e = sound.clocks side
+
+-- ---- expiry
+
+-- an abortion report is read, and is no part
+report_sound : (c : Config) (h g : History) (id : Name) (reason : Reason) (k : ℕ) (p : SentPacket)
+    → IsConfig c
+    → IsSound c h
+    → slice_get (abort_puts c h Craft id reason) k ≡ Some p
+    → IsSoundPacket c g p
+report_sound c h g id reason k p good sound f =
+    let counter = type_counter h 13 16 in
+    let counts : AreCounts (count h Down) counter (clock c h Craft) =
+    record {
+      count_fits = omega arith;
+      counter_fits = omega arith;
+      time_fits = sound.clocks Craft;
+    } in
+    let it = abort_arrives c (count h Down) counter (clock c h Craft) id reason good counts in
+    subst (λ x. IsSoundPacket c g x) (only_element _ k p f)
+    (record {
+      is_read = subst (λ a. IsRead a) (sym it.1) tt;
+      part = λ q e. let no : AnAbort it.0 reason ≡ APart q = sym it.1 ∙ e in absurd cc;
+    })
+
+puts_report : (c : Config) (h g : History) (side : Side) (o : Option Name) (k : ℕ) (p : SentPacket)
+    → IsConfig c
+    → IsSound c h
+    → slice_get (expiry_puts c h side o) k ≡ Some p
+    → IsSoundPacket c g p
+puts_report c h g side None k p good sound f = absurd (no_place k p f)
+puts_report c h g Ground (Some id) k p good sound f = absurd (no_place k p f)
+puts_report c h g Craft (Some id) k p good sound f =
+    report_sound c h g id TimedOut k p good sound f
+
+-- the end of what is due pays what it owes
+pub expire_owes : (c : Config) (h : History) (side : Side)
+    → IsConfig c
+    → IsSound c h
+    → Owes c h (entry c h (Expire side))
+expire_owes c h side good sound =
+    let x = entry c h (Expire side) in
+    record {
+      opens = λ e j u f. absurd cc;
+      retires = λ e j r. absurd cc;
+      puts = λ k p f. puts_report c h (x ∷ h) side (due c h (direction_to side)) k p good sound f;
+      takes = λ l n f. inl f;
+      hears = λ d id. kept_or_none d id
+          (same_side side (receiver_side d) && ends x.reply.answer id);
+      clocks = sound.clocks;
+    }
+  where
+    kept_or_none : (d : Direction) (id : Name) (b : Bool)
+        → IsHeardNow c h d id (if b then no_parts else heard c h d id)
+    kept_or_none d id true = inr (inl refl)
+    kept_or_none d id false = inl refl

@@ -1,0 +1,6 @@
+-- The lemma says it.
+use Rattle.lpt_journal.proofs.Every.{headline}
+use Rattle.lpt_journal.proofs.laws.headline.Goals as goal
+
+pub returns : goal.returns
+returns c = headline

@@ -1,0 +1,70 @@
+-- The receptions that expired, and what holds of them in every legal journal.
+use Rattle.std.specs.Prelude.{◌≡◌, ℕ, true, false, List, [], ◌∷◌, length, slice_get, Option, Some, is_some}
+use Rattle.lpt_packet.specs.declared.direction.Direction.{Direction}
+use Rattle.lpt_packet.specs.Names.{Name}
+use Rattle.lpt_events.specs.declared.config.Config.{Config}
+use Rattle.lpt_events.specs.declared.event.Event.{Event}
+use Rattle.lpt_events.specs.declared.reply.Answer.{Answer}
+use Rattle.lpt_events.specs.declared.reply.Answer.TheVariants.{Expired}
+use Rattle.lpt_events.specs.declared.entry.Opening.{Opening}
+use Rattle.lpt_events.specs.declared.entry.Release.{Release}
+use Rattle.lpt_journal.specs.Headline.{before, opening_of, IsSameOpening}
+use Rattle.lpt_journal.specs.Journal.{History, with_all}
+use Rattle.lpt_journal.specs.Receivers.{heard, has_parts, is_closed}
+use Rattle.lpt_journal.specs.Releases.{releases}
+use Rattle.lpt_events.specs.Configs.{IsConfig}
+use Rattle.lpt_journal.specs.Replies.{recorded, Legal}
+use Rattle.lpt_journal.specs.Senders.{current}
+
+-- the place of an entry at which a reception expired, and the reception's transaction
+pub record Expiry : Type 0 where
+  pub place : ℕ
+  pub direction : Direction
+  pub id : Name
+
+-- the reception that expired by an answer at this place, where one did
+abbrev pub expiry_at : (place : ℕ) → Answer → List Expiry
+expiry_at place (Expired d id) = record { place = place; direction = d; id = id } ∷ []
+expiry_at place _ = []
+
+-- all receptions that expired, in order of place
+abbrev pub expiries : History → List Expiry
+expiries [] = []
+expiries (x ∷ h) = with_all (expiries h) (expiry_at (length h) x.reply.answer)
+
+-- the opening that was the last one of the transaction when its reception expired
+abbrev pub opening_of_expiry : History → Expiry → Option Opening
+opening_of_expiry h e = current (before e.place h) e.direction e.id
+
+-- each reception that expired was of an opening
+abbrev pub EachHasOpening : History → Type 0
+EachHasOpening h =
+    (j : ℕ) (e : Expiry)
+    → slice_get (expiries h) j ≡ Some e
+    → is_some (opening_of_expiry h e) ≡ true
+
+-- no release is of the opening of a reception that expired
+abbrev pub NoneIsReleased : Config → History → Type 0
+NoneIsReleased c h =
+    (j k : ℕ) (e : Expiry) (r : Release) (o u : Opening)
+    → slice_get (expiries h) j ≡ Some e → slice_get (releases c h) k ≡ Some r
+    → opening_of_expiry h e ≡ Some o → opening_of h r ≡ Some u
+    → ¬ (IsSameOpening o u)
+
+-- of a transaction whose reception has ended nothing is kept
+abbrev pub NothingIsKept : Config → History → Type 0
+NothingIsKept c h =
+    (d : Direction) (id : Name)
+    → is_closed h d id ≡ true
+    → has_parts (heard c h d id) ≡ false
+
+-- an opening whose reception expired is never released, and of an ended reception nothing is kept
+pub record EndsAreFinal (c : Config) (h : History) : Type 0 where
+  pub opened : EachHasOpening h
+  pub unreleased : NoneIsReleased c h
+  pub unheard : NothingIsKept c h
+
+-- it holds of every legal journal
+abbrev pub ExpiryIsFinal : Type 0
+ExpiryIsFinal =
+    (c : Config) (es : List Event) → IsConfig c → Legal c es → EndsAreFinal c (recorded c es)

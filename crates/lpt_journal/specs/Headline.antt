@@ -1,0 +1,133 @@
+-- What holds of every legal journal.
+use Rattle.std.specs.Prelude.{◌≡◌, ℕ, ◌-◌, ◌<◌, ◌≤◌, true, List, length, drop, slice_get, Option, Some, is_some}
+use Rattle.std.specs.Option.{option_and_then}
+use Rattle.std.specs.FinMap as map
+use Rattle.lpt_packet.specs.declared.direction.Direction.{Direction}
+use Rattle.lpt_packet.specs.Names.{Name}
+use Rattle.lpt_part.specs.declared.reason.Reason.{Reason}
+use Rattle.lpt_part.specs.Parts.{Piece}
+use Rattle.lpt_part.specs.Splitting.{part_count}
+use Rattle.lpt_memory.specs.Memories.{Contents}
+use Rattle.lpt_reception.specs.Received.{Kept as KeptPart}
+use Rattle.lpt_events.specs.declared.lane.Lane.{Lane}
+use Rattle.lpt_events.specs.Lanes.{lane_direction}
+use Rattle.lpt_events.specs.declared.config.Config.{Config}
+use Rattle.lpt_events.specs.declared.outcome.Outcome.TheVariants.{Broken, Ignored}
+use Rattle.lpt_events.specs.declared.outcome.Why.TheVariants.{Unreadable, Idle, ForeignApid, BadPart}
+use Rattle.lpt_events.specs.Arrivals.{APart}
+use Rattle.lpt_events.specs.MadePackets.{nth_part}
+use Rattle.lpt_events.specs.declared.event.Event.{Event}
+use Rattle.lpt_events.specs.declared.entry.Opening.{Opening}
+use Rattle.lpt_events.specs.declared.entry.Release.{Release}
+use Rattle.lpt_journal.specs.Journal.{SentPacket, History, sent, is_held, hand, arrival_of, in_hand}
+use Rattle.lpt_journal.specs.Senders.{current}
+use Rattle.lpt_journal.specs.Receivers.{heard}
+use Rattle.lpt_journal.specs.Delivery.{outcome}
+use Rattle.lpt_journal.specs.Releases.{releases}
+use Rattle.lpt_journal.specs.Memory.{memories}
+use Rattle.lpt_events.specs.Configs.{IsConfig}
+use Rattle.lpt_journal.specs.Replies.{recorded, Legal}
+
+-- ---- parts
+
+-- the part is the one of its number of the message last opened under its name in this direction
+pub record IsPartOfCurrent (c : Config) (h : History) (d : Direction) (q : Piece) : Type 0 where
+  pub opening : Opening
+  pub is_current : current h d q.id ≡ Some opening
+  pub from_one : 1 ≤ q.number
+  pub to_last : q.number ≤ part_count (length opening.message) c.part_size
+  pub is_part : q ≡ nth_part c.part_size q.id opening.message q.number
+
+-- a kept part with its name and number
+abbrev pub kept_piece : Name → ℕ → KeptPart → Piece
+kept_piece id n x = record { id = id; number = n; kind = x.kind; octets = x.octets }
+
+-- every part that is held, in a hand or heard is one of the message last opened under its name
+pub record PartsAreCurrent (c : Config) (h : History) : Type 0 where
+  pub held : (n : ℕ) (p : SentPacket) (q : Piece)
+      → is_held h n ≡ true
+      → slice_get (sent h) n ≡ Some p
+      → arrival_of c p ≡ APart q
+      → IsPartOfCurrent c h p.direction q
+  pub hands : (l : Lane) (q : Piece)
+      → in_hand c h l ≡ APart q
+      → IsPartOfCurrent c h (lane_direction l) q
+  pub heard : (d : Direction) (id : Name) (n : ℕ) (x : KeptPart)
+      → map.get (heard c h d id) n ≡ Some x
+      → IsPartOfCurrent c h d (kept_piece id n x)
+
+-- ---- releases
+
+-- the history before a place
+abbrev pub before : ℕ → History → History
+before place h = drop (length h - place) h
+
+-- the opening that was the last one of the released transaction when it was released
+abbrev pub opening_of : History → Release → Option Opening
+opening_of h r = option_and_then (λ t. current (before r.place h) t.0 t.1) r.of
+
+-- the release is of the message last opened under its name in its direction, so by the other node
+pub record IsLastOpened (h : History) (r : Release) : Type 0 where
+  pub place_fits : r.place < length h
+  pub opening : Opening
+  pub is_current : opening_of h r ≡ Some opening
+  pub is_message : r.message ≡ opening.message
+
+-- each large message that was released is the one last opened under its name
+abbrev pub EachIsLastOpened : Config → History → Type 0
+EachIsLastOpened c h =
+    (k : ℕ) (r : Release)
+    → slice_get (releases c h) k ≡ Some r
+    → is_some r.of ≡ true
+    → IsLastOpened h r
+
+-- two openings have one direction, one name and one place
+pub record IsSameOpening (o u : Opening) : Type 0 where
+  pub same_direction : o.direction ≡ u.direction
+  pub same_id : o.id ≡ u.id
+  pub same_place : o.place ≡ u.place
+
+-- no two releases have the same opening
+abbrev pub AtMostOncePerOpening : Config → History → Type 0
+AtMostOncePerOpening c h =
+    (j k : ℕ) (r s : Release) (o u : Opening)
+    → slice_get (releases c h) j ≡ Some r → slice_get (releases c h) k ≡ Some s
+    → opening_of h r ≡ Some o → opening_of h s ≡ Some u
+    → IsSameOpening o u
+    → j ≡ k
+
+-- ---- deliveries
+
+-- what is delivered is read as a part that contradicts nothing, or as a message that is no part
+pub record IsSoundDelivery (c : Config) (h : History) (l : Lane) : Type 0 where
+  pub not_broken : (id : Name) (reason : Reason) → ¬ (outcome c h l ≡ Broken id reason)
+  pub not_bad_part : ¬ (outcome c h l ≡ Ignored BadPart)
+  pub not_idle : ¬ (outcome c h l ≡ Ignored Idle)
+  pub not_foreign : ¬ (outcome c h l ≡ Ignored ForeignApid)
+  pub not_unreadable : ¬ (outcome c h l ≡ Ignored Unreadable)
+
+-- whatever lane has a packet in its hand, its delivery is sound
+abbrev pub DeliveriesAreSound : Config → History → Type 0
+DeliveriesAreSound c h = (l : Lane) → is_some (hand h l) ≡ true → IsSoundDelivery c h l
+
+-- ---- memories
+
+-- so far nothing is executed, so memories keep their first content
+abbrev pub MemoriesStay : Config → History → Type 0
+MemoriesStay c h = (first : Contents) → memories c first h ≡ first
+
+-- ---- the main theorem
+
+-- Every part on its way or heard is of the message last opened under its name. Each large message
+-- that was released is the one last opened under its name, and that once. Deliveries are sound.
+-- Memories keep their first content.
+pub record Holds (c : Config) (h : History) : Type 0 where
+  pub parts : PartsAreCurrent c h
+  pub messages : EachIsLastOpened c h
+  pub once : AtMostOncePerOpening c h
+  pub deliveries : DeliveriesAreSound c h
+  pub memories : MemoriesStay c h
+
+-- it holds of every legal journal, whatever its events, their order and their number
+abbrev pub Headline : Type 0
+Headline = (c : Config) (es : List Event) → IsConfig c → Legal c es → Holds c (recorded c es)

@@ -1,0 +1,10 @@
+pub mod Delivery
+pub mod Expiries
+pub mod Expiry
+pub mod Headline
+pub mod Journal
+pub mod Memory
+pub mod Receivers
+pub mod Releases
+pub mod Replies
+pub mod Senders

@@ -1,0 +1,185 @@
+-- What each event answers, puts and opens, why it is refused, and which journals are legal.
+use Rattle.std.specs.Prelude.{◌≡◌, ℕ, ◌+◌, ◌<◌, nat_lt, nat_le, ◌==◌, Bool, not, ◌&&◌, ◌||◌, if◌then◌else◌, List, [], ◌∷◌, length, Option, Some, None, is_some, ⊤}
+use Rattle.lpt_packet.specs.declared.direction.Direction.{Direction}
+use Rattle.lpt_packet.specs.declared.direction.Direction.TheVariants.{Up, Down}
+use Rattle.lpt_packet.specs.Names.{Name}
+use Rattle.lpt_packet.specs.Numbers.{IsOctets}
+use Rattle.lpt_part.specs.declared.reason.Reason.{Reason}
+use Rattle.lpt_part.specs.declared.reason.Reason.TheVariants as reason
+use Rattle.lpt_part.specs.Parts.{Piece}
+use Rattle.lpt_part.specs.Splitting.{part_count}
+use Rattle.lpt_events.specs.Lanes.{lane_direction}
+use Rattle.lpt_events.specs.declared.config.Config.{Config}
+use Rattle.lpt_events.specs.declared.outcome.Outcome.{Outcome}
+use Rattle.lpt_events.specs.declared.outcome.Outcome.TheVariants.{Broken}
+use Rattle.lpt_events.specs.declared.side.Side.{Side}
+use Rattle.lpt_events.specs.declared.side.Side.TheVariants.{Ground, Craft}
+use Rattle.lpt_events.specs.Arrivals.{part_subtype}
+use Rattle.lpt_events.specs.MadePackets.{nth_part, part_made, abort_made, tc_made}
+use Rattle.lpt_events.specs.Requests.{is_part_request, is_too_long}
+use Rattle.lpt_events.specs.declared.event.Event.{Event}
+use Rattle.lpt_events.specs.declared.event.Event.TheVariants.{Open, Send, Plain, Finish, Take, Deliver, Tick, Expire}
+use Rattle.lpt_events.specs.declared.reply.Answer.{Answer}
+use Rattle.lpt_events.specs.declared.reply.Answer.TheVariants.{Opened, Put, Finished, Took, Delivered, Clock, Expired}
+use Rattle.lpt_events.specs.declared.reply.Puts.{Puts}
+use Rattle.lpt_events.specs.declared.reply.Reply.{Reply}
+use Rattle.lpt_events.specs.declared.entry.Opening.{Opening}
+use Rattle.lpt_events.specs.declared.fault.StepFault.{StepFault}
+use Rattle.lpt_events.specs.declared.fault.StepFault.TheVariants.{InUse, Short, Long, TooMany, NotOpen, NoSuchPart, NotHeld, HandFull, HandEmpty, NothingDue, ClockEnd, PartRequest}
+use Rattle.lpt_events.specs.Sides.{receiver_side, direction_to}
+use Rattle.lpt_journal.specs.Journal.{SentPacket, Recorded, History, sent, is_held, goes, hand}
+use Rattle.lpt_journal.specs.Senders.{Sender, FreeSender, OpenSender, ClosedSender, sender, is_free, is_open, open_count, count, type_counter}
+use Rattle.lpt_journal.specs.Receivers.{clock}
+use Rattle.lpt_journal.specs.Expiry.{due}
+use Rattle.lpt_journal.specs.Delivery.{outcome}
+
+-- ---- replies
+
+-- the end of the reception that is due; where none is, that is refused
+abbrev pub expired_now : Direction → Option Name → Answer
+expired_now d None = Expired d 0
+expired_now d (Some id) = Expired d id
+
+-- what is particular to the event in its reply
+abbrev pub answer : Config → History → Event → Answer
+answer c h (Open d id m) = Opened (part_count (length m) c.part_size)
+answer c h (Send d id k) = Put (length (sent h))
+answer c h (Plain flags service subtype body) = Put (length (sent h))
+answer c h (Finish d id) = Finished
+answer c h (Take l n) = Took n
+answer c h (Deliver l) = Delivered (outcome c h l)
+answer c h (Tick side) = Clock (clock c h side + 1)
+answer c h (Expire side) = expired_now (direction_to side) (due c h (direction_to side))
+
+-- the octets of a part's packet that the sender makes now
+abbrev pub part_packet : Config → History → Direction → Piece → List ℕ
+part_packet c h Up q = part_made c Up (count h Up) 0 0 q
+part_packet c h Down q =
+    part_made c Down (count h Down) (type_counter h 13 (part_subtype Down q.kind))
+    (clock c h Craft) q
+
+-- the packet of part k of an open message; of no other sender, and then sending is refused
+abbrev pub send_puts : Config → History → Direction → Name → ℕ → Sender → List SentPacket
+send_puts c h d id k (OpenSender m) =
+    record { direction = d; octets = part_packet c h d (nth_part c.part_size id m k) } ∷ []
+send_puts c h d id k FreeSender = []
+send_puts c h d id k ClosedSender = []
+
+-- the octets of a plain request's packet that ground makes now
+abbrev pub plain_packet : Config → History → (flags service subtype : ℕ) → List ℕ → List ℕ
+plain_packet c h flags service subtype body = tc_made c (count h Up) flags service subtype body
+
+-- the packet of a plain request
+abbrev pub plain_puts : Config → History → (flags service subtype : ℕ) → List ℕ → List SentPacket
+plain_puts c h flags service subtype body =
+    record { direction = Up; octets = plain_packet c h flags service subtype body } ∷ []
+
+-- the abortion report that the spacecraft puts when it ends a reception so; ground puts none
+abbrev pub abort_puts : Config → History → Side → Name → Reason → List SentPacket
+abort_puts c h Ground id reason = []
+abort_puts c h Craft id reason =
+    record {
+      direction = Down;
+      octets = abort_made c (count h Down) (type_counter h 13 16) (clock c h Craft) id reason;
+    } ∷ []
+
+-- what a delivery with this outcome puts
+abbrev pub outcome_puts : Config → History → Side → Outcome → List SentPacket
+outcome_puts c h side (Broken id reason) = abort_puts c h side id reason
+outcome_puts c h side _ = []
+
+-- what the end of the reception that is due puts; where none is due, it is refused
+abbrev pub expiry_puts : Config → History → Side → Option Name → List SentPacket
+expiry_puts c h side None = []
+expiry_puts c h side (Some id) = abort_puts c h side id reason.Expired
+
+-- the packets that an event puts on the link
+abbrev pub puts : Config → History → Event → List SentPacket
+puts c h (Send d id k) = send_puts c h d id k (sender h d id)
+puts c h (Plain flags service subtype body) = plain_puts c h flags service subtype body
+puts c h (Deliver l) = outcome_puts c h (receiver_side (lane_direction l)) (outcome c h l)
+puts c h (Expire side) = expiry_puts c h side (due c h (direction_to side))
+puts c h _ = []
+
+-- the transactions that an event opens
+abbrev pub opens : Config → History → Event → List Opening
+opens c h (Open d id m) = record { place = length h; direction = d; id = id; message = m } ∷ []
+opens c h _ = []
+
+-- how a reply tells of packets that were put, the first of which got this number
+abbrev pub told : ℕ → List SentPacket → Option Puts
+told first [] = None
+told first (p ∷ ps) = Some (record { first = first; count = length (p ∷ ps) })
+
+-- what an event answers
+abbrev pub reply : Config → History → Event → Reply
+reply c h e = record { answer = answer c h e; puts = told (length (sent h)) (puts c h e) }
+
+-- ---- journals
+
+-- an event with what it gives after this history
+abbrev pub entry : Config → History → Event → Recorded
+entry c h e = record { event = e; reply = reply c h e; puts = puts c h e; opens = opens c h e }
+
+-- the history of a journal, whose newest event stands first
+abbrev pub recorded : Config → List Event → History
+recorded c [] = []
+recorded c (e ∷ es) = let h = recorded c es in entry c h e ∷ h
+
+-- ---- refusals
+
+-- the first fault whose test holds
+abbrev pub first_fault : List (Bool × StepFault) → Option StepFault
+first_fault [] = None
+first_fault (test ∷ tests) = if test.0 then Some test.1 else first_fault tests
+
+-- how many parts an open sender's message has; none else
+abbrev pub parts_open : Config → Sender → ℕ
+parts_open c (OpenSender m) = part_count (length m) c.part_size
+parts_open c _ = 0
+
+-- the reasons for which an event is refused, each with its test, in the order of the tests
+abbrev pub reasons : Config → History → Event → List (Bool × StepFault)
+reasons c h (Open d id m) =
+    (not (is_free (sender h d id)), InUse)
+    ∷ (nat_le (length m) c.part_size, Short)
+    ∷ (nat_lt 65542 (length m), Long)
+    ∷ (nat_le c.outgoing (open_count h d), TooMany) ∷ []
+reasons c h (Send d id k) =
+    (not (is_open (sender h d id)), NotOpen)
+    ∷ ((k == 0) || nat_lt (parts_open c (sender h d id)) k, NoSuchPart) ∷ []
+reasons c h (Plain flags service subtype body) =
+    (is_part_request service subtype, PartRequest)
+    ∷ (is_too_long c (length body), Long) ∷ []
+reasons c h (Finish d id) = (not (is_open (sender h d id)), NotOpen) ∷ []
+reasons c h (Take l n) =
+    (is_some (hand h l), HandFull)
+    ∷ (not (is_held h n && goes h (lane_direction l) n), NotHeld) ∷ []
+reasons c h (Deliver l) = (not (is_some (hand h l)), HandEmpty) ∷ []
+reasons c h (Tick side) = (clock c h side == 4294967295, ClockEnd) ∷ []
+reasons c h (Expire side) = (not (is_some (due c h (direction_to side))), NothingDue) ∷ []
+
+-- why an event is refused, where it is
+abbrev pub refusal : Config → History → Event → Option StepFault
+refusal c h e = first_fault (reasons c h e)
+
+-- ---- legal journals
+
+-- the event's numbers are of their types
+abbrev pub IsEvent : Event → Type 0
+IsEvent (Open d id m) = (id < 65536) × IsOctets m
+IsEvent (Send d id k) = (id < 65536) × (k < 65536)
+IsEvent (Plain flags service subtype body) =
+    (flags < 16) × (service < 256) × (subtype < 256) × IsOctets body
+IsEvent (Finish d id) = id < 65536
+IsEvent _ = ⊤
+
+-- an event can happen after this history
+pub record IsEnabled (c : Config) (h : History) (e : Event) : Type 0 where
+  pub in_range : IsEvent e
+  pub accepted : refusal c h e ≡ None
+
+-- each event can happen after those before it
+abbrev pub Legal : Config → List Event → Type 0
+Legal c [] = ⊤
+Legal c (e ∷ es) = Legal c es × IsEnabled c (recorded c es) e

@@ -1,0 +1,142 @@
+-- The sending ends: which transactions are open, and what each node made.
+use Rattle.std.specs.Prelude.{ℕ, ◌%◌, Bool, true, false, ◌&&◌, ◌||◌, if◌then◌else◌, List, [], ◌∷◌, length, take, drop, map, Option, Some, None}
+use Rattle.std.specs.List.{list_any, filter, find}
+use Rattle.std.specs.Option.{option_or}
+use Rattle.lpt_packet.specs.declared.direction.Direction.{Direction}
+use Rattle.lpt_packet.specs.declared.direction.Direction.TheVariants.{Up, Down}
+use Rattle.lpt_packet.specs.Names.{Name, same_name}
+use Rattle.lpt_packet.specs.Numbers.{same_octets}
+use Rattle.lpt_events.specs.Lanes.{same_direction}
+use Rattle.lpt_events.specs.declared.side.Side.{Side}
+use Rattle.lpt_events.specs.declared.outcome.Outcome.TheVariants.{AbortNoted}
+use Rattle.lpt_events.specs.declared.event.Event.{Event}
+use Rattle.lpt_events.specs.declared.event.Event.TheVariants.{Open, Finish, Deliver}
+use Rattle.lpt_events.specs.declared.reply.Answer.{Answer}
+use Rattle.lpt_events.specs.declared.reply.Answer.TheVariants.{Delivered}
+use Rattle.lpt_events.specs.declared.entry.Opening.{Opening}
+use Rattle.lpt_events.specs.Sides.{sender_side}
+use Rattle.lpt_journal.specs.Journal.{SentPacket, Recorded, History, with_all}
+
+-- ---- openings
+
+-- all openings, in order of place
+abbrev pub opened : History → List Opening
+opened [] = []
+opened (x ∷ h) = with_all (opened h) x.opens
+
+-- whether an opening is of this transaction
+abbrev pub is_opening_of : Direction → Name → Opening → Bool
+is_opening_of d id o = same_direction o.direction d && same_name o.id id
+
+-- whether an event retires the transaction; so far none does
+abbrev pub retires : Event → Direction → Name → Bool
+retires _ d id = false
+
+-- the last opening of the transaction, where it was not retired after that
+abbrev pub current : History → Direction → Name → Option Opening
+current [] d id = None
+current (x ∷ h) d id =
+    if retires x.event d id then None
+    else option_or (find (is_opening_of d id) x.opens) (current h d id)
+
+-- ---- the senders' states
+
+-- whether an answer notes an abortion report of this name
+abbrev pub notes_abort : Answer → Name → Bool
+notes_abort (Delivered (AbortNoted i reason)) id = same_name i id
+notes_abort _ id = false
+
+-- whether an event closes the transaction's sender; an abortion report speaks of what goes up
+abbrev pub closes : Event → Answer → Direction → Name → Bool
+closes (Deliver l) answer d id = same_direction Up d && notes_abort answer id
+closes (Finish e i) answer d id = same_direction e d && same_name i id
+closes _ answer d id = false
+
+-- whether something closed the sender after its last opening
+abbrev pub is_over : History → Direction → Name → Bool
+is_over [] d id = false
+is_over (x ∷ h) d id =
+    if list_any (is_opening_of d id) x.opens then false
+    else closes x.event x.reply.answer d id || is_over h d id
+
+-- the state of a transaction at its sender; an open one has its message
+pub data Sender : Type 0 where
+  FreeSender : Sender
+  OpenSender : (message : List ℕ) → Sender
+  ClosedSender : Sender
+
+-- the state of a sender whose last opening was this
+abbrev pub sender_of : Option Opening → Bool → Sender
+sender_of None over = FreeSender
+sender_of (Some o) true = ClosedSender
+sender_of (Some o) false = OpenSender o.message
+
+-- the sender's state: free with no opening, closed where something closed it after that, else open
+abbrev pub sender : History → Direction → Name → Sender
+sender h d id = sender_of (current h d id) (is_over h d id)
+
+-- whether a sender is free
+abbrev pub is_free : Sender → Bool
+is_free FreeSender = true
+is_free _ = false
+
+-- whether a sender is open
+abbrev pub is_open : Sender → Bool
+is_open (OpenSender m) = true
+is_open _ = false
+
+-- ---- open transactions, counted by name
+
+-- the names in a list, each once
+abbrev pub once : List Name → List Name
+once [] = []
+once (id ∷ ids) = if list_any (same_name id) ids then once ids else id ∷ once ids
+
+-- the names that were opened in this direction
+abbrev pub opened_names : History → Direction → List Name
+opened_names h d = map (λ o. o.id) (filter (λ o. same_direction o.direction d) (opened h))
+
+-- how many outgoing transactions are open
+abbrev pub open_count : History → Direction → ℕ
+open_count h d = length (once (filter (λ id. is_open (sender h d id)) (opened_names h d)))
+
+-- ---- packets made
+
+-- whether an event restarts a node; so far none does
+abbrev pub restarts : Event → Side → Bool
+restarts _ side = false
+
+-- whether a node makes the packets of an event: an opened message brings its own octets
+abbrev pub makes : Event → Bool
+makes (Open d id m) = false
+makes _ = true
+
+-- the octets of the packets that go in this direction
+abbrev pub octets_put : List SentPacket → Direction → List (List ℕ)
+octets_put ps d = map (λ p. p.octets) (filter (λ p. same_direction p.direction d) ps)
+
+-- the messages that are opened in this direction
+abbrev pub messages_opened : List Opening → Direction → List (List ℕ)
+messages_opened os d = map (λ o. o.message) (filter (λ o. same_direction o.direction d) os)
+
+-- the packets that an entry's event made at the node that sends in this direction
+abbrev pub made_by : Recorded → Direction → List (List ℕ)
+made_by x d =
+    if makes x.event then with_all (octets_put x.puts d) (messages_opened x.opens d) else []
+
+-- all packets that the node has made since its last restart
+abbrev pub made : History → Direction → List (List ℕ)
+made [] d = []
+made (x ∷ h) d = if restarts x.event (sender_side d) then [] else with_all (made h d) (made_by x d)
+
+-- the sequence count of the node's next packet
+abbrev pub count : History → Direction → ℕ
+count h d = length (made h d) % 16384
+
+-- whether octets are telemetry of this service and message subtype, which stand at places 7 and 8
+abbrev pub is_report : (service subtype : ℕ) → List ℕ → Bool
+is_report service subtype b = same_octets (take 2 (drop 7 b)) (service ∷ subtype ∷ [])
+
+-- the message type counter of the spacecraft's next telemetry of this service and message subtype
+abbrev pub type_counter : History → (service subtype : ℕ) → ℕ
+type_counter h service subtype = length (filter (is_report service subtype) (made h Down)) % 65536

@@ -1,0 +1,17 @@
+//! What the definitions say of journals, proved of all of them: functions with empty bodies.
+
+ghost use Rattle.lpt_journal.specs.Expiries.{ExpiryIsFinal};
+ghost use Rattle.lpt_journal.specs.Headline.{Headline};
+
+/// Over every legal journal, each part that is held, in a hand or heard is that part of the message
+/// last opened under its name; each large message that was released is byte for byte the one last
+/// opened under its name in its direction, so by the other node, and at most once per opening.
+pub fn headline()
+    ensures { Headline }
+{}
+
+/// Over every legal journal, each reception that expired was of an opening that is never released,
+/// and nothing is kept of a transaction whose reception has ended.
+pub fn expiry_is_final()
+    ensures { ExpiryIsFinal }
+{}

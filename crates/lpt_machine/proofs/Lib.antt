@@ -1,0 +1,13 @@
+pub mod AbortedLemmas
+pub mod Agrees
+pub mod Beginning
+pub mod CraftLanes
+pub mod DeliveryLemmas
+pub mod DueAgrees
+pub mod GroundLanes
+pub mod LinkLemmas
+pub mod MadeLemmas
+pub mod ReceiverLemmas
+pub mod RefusalLemmas
+pub mod SenderLemmas
+pub mod TimeLemmas

@@ -1,0 +1,25 @@
+-- What a state that shows a journal does: what the journal says.
+use Rattle.std.specs.Prelude.{◌≡◌, [], ◌∷◌, length, None}
+use Rattle.lpt_events.specs.declared.config.Config.{Config}
+use Rattle.lpt_events.specs.declared.event.Event.{Event}
+use Rattle.lpt_journal.specs.Journal.{History}
+use Rattle.lpt_journal.specs.Replies.{refusal, reply, entry}
+use Rattle.lpt_machine.specs.Shows.{Shows}
+use Rattle.lpt_machine.specs.State.{State, no_state, refusal_of, after}
+
+-- an event that isn't refused is answered as the journal says, and the longer journal is shown
+pub record GoesOn (c : Config) (s : State) (h : History) (e : Event) : Type 0 where
+  pub answered : (after c (length h) s e).1 ≡ reply c h e
+  pub shown : Shows c (after c (length h) s e).0 (entry c h e ∷ h)
+
+-- where nothing has happened, the empty journal is shown; what shows a journal refuses what the
+-- journal refuses, and goes on with it
+pub record FollowsJournal : Type 0 where
+  pub begins : (c : Config) → Shows c (no_state c) []
+  pub refuses : (c : Config) (s : State) (h : History) (e : Event)
+      → Shows c s h
+      → refusal_of c s e ≡ refusal c h e
+  pub goes_on : (c : Config) (s : State) (h : History) (e : Event)
+      → Shows c s h
+      → refusal c h e ≡ None
+      → GoesOn c s h e

@@ -1,0 +1,221 @@
+-- The two ends and the link between them as plain data, and what each event does to them. Each step is one
+-- of an end's or of the link's.
+use Rattle.std.specs.Prelude.{◌≡◌, ℕ, List, [], ◌∷◌, ◌++◌, length, Option, Some, None}
+use Rattle.std.specs.Option.{option_map, option_map_or}
+use Rattle.lpt_packet.specs.declared.direction.Direction.{Direction}
+use Rattle.lpt_packet.specs.declared.direction.Direction.TheVariants.{Up, Down}
+use Rattle.lpt_packet.specs.Names.{Name}
+use Rattle.lpt_part.specs.Splitting.{part_count}
+use Rattle.lpt_link.specs.declared.fault.LinkFault.{LinkFault}
+use Rattle.lpt_link.specs.declared.fault.LinkFault.TheVariants as link
+use Rattle.lpt_events.specs.declared.lane.Lane.{Lane}
+use Rattle.lpt_link.specs.declared.packet.LinkPacket.{LinkPacket}
+use Rattle.lpt_events.specs.Lanes.{lane_direction}
+use Rattle.lpt_link.specs.Links.{LinkData, empty_link, after_put, after_take as link_after_take, after_drop, packet_in_hand, refusal_take, refusal_drop}
+use Rattle.lpt_node.specs.declared.accepted.Accepted.{Accepted}
+use Rattle.lpt_events.specs.declared.config.Config.{Config}
+use Rattle.lpt_node.specs.declared.expired.Expired.{Expired as Ended}
+use Rattle.lpt_node.specs.declared.fault.NodeFault.{NodeFault}
+use Rattle.lpt_node.specs.declared.fault.NodeFault.TheVariants as node
+use Rattle.lpt_events.specs.declared.outcome.Outcome.{Outcome}
+use Rattle.lpt_events.specs.declared.outcome.Outcome.TheVariants.{Released}
+use Rattle.lpt_events.specs.declared.side.Side.{Side}
+use Rattle.lpt_events.specs.declared.side.Side.TheVariants.{Ground, Craft}
+use Rattle.lpt_node.specs.Accepting.{accepted}
+use Rattle.lpt_events.specs.Arrivals.{Arrival, NotRead}
+use Rattle.lpt_node.specs.Nodes.{NodeData, no_data}
+use Rattle.lpt_node.specs.Requests.{refusal_plain, plain_made}
+use Rattle.lpt_node.specs.Sending.{refusal_open, refusal_send, refusal_finish, opened as node_opened, sent as node_sent, closed as node_closed}
+use Rattle.lpt_node.specs.Times.{refusal_tick, ticked, refusal_expire, expired}
+use Rattle.lpt_events.specs.declared.entry.Opening.{Opening}
+use Rattle.lpt_events.specs.declared.entry.Release.{Release}
+use Rattle.lpt_events.specs.declared.event.Event.{Event}
+use Rattle.lpt_events.specs.declared.event.Event.TheVariants.{Open, Send, Plain, Finish, Take, Deliver, Tick, Expire}
+use Rattle.lpt_events.specs.declared.fault.StepFault.{StepFault}
+use Rattle.lpt_events.specs.declared.fault.StepFault.TheVariants as step
+use Rattle.lpt_events.specs.declared.reply.Answer.{Answer}
+use Rattle.lpt_events.specs.declared.reply.Answer.TheVariants.{Opened, Put, Finished, Took, Delivered, Clock, Expired}
+use Rattle.lpt_events.specs.declared.reply.Reply.{Reply}
+use Rattle.lpt_events.specs.Sides.{sender_side, receiver_side, direction_to}
+use Rattle.lpt_journal.specs.Journal.{arrival_in}
+
+-- both ends, the link, and what was opened and released so far
+pub record State : Type 0 where
+  pub on_ground : NodeData
+  pub on_craft : NodeData
+  pub link : LinkData
+  pub opened : List Opening
+  pub released : List Release
+
+-- nothing has happened
+abbrev pub no_state : Config → State
+no_state c = record { on_ground = no_data c; on_craft = no_data c; link = empty_link; opened = []; released = [] }
+
+-- the end of a side
+abbrev pub end_of : State → Side → NodeData
+end_of s Ground = s.on_ground
+end_of s Craft = s.on_craft
+
+-- the state with this end
+abbrev pub with_end : State → Side → NodeData → State
+with_end s Ground d = record s { on_ground = d }
+with_end s Craft d = record s { on_craft = d }
+
+-- ---- faults
+
+-- a node's fault as the world tells it
+abbrev pub node_fault : NodeFault → StepFault
+node_fault node.InUse = step.InUse
+node_fault node.Short = step.Short
+node_fault node.Long = step.Long
+node_fault node.TooMany = step.TooMany
+node_fault node.NotOpen = step.NotOpen
+node_fault node.NoSuchPart = step.NoSuchPart
+node_fault node.NothingDue = step.NothingDue
+node_fault node.ClockEnd = step.ClockEnd
+node_fault node.Memory = step.Memory
+node_fault node.PartRequest = step.PartRequest
+
+-- the link's fault as the world tells it
+abbrev pub link_fault : LinkFault → StepFault
+link_fault link.NotHeld = step.NotHeld
+link_fault link.HandFull = step.HandFull
+link_fault link.HandEmpty = step.HandEmpty
+link_fault link.Memory = step.Memory
+
+-- why an event is refused
+abbrev pub refusal_of : Config → State → Event → Option StepFault
+refusal_of c s (Open d id m) = option_map node_fault (refusal_open c (end_of s (sender_side d)) id (length m))
+refusal_of c s (Send d id k) = option_map node_fault (refusal_send c (end_of s (sender_side d)) id k)
+refusal_of c s (Plain flags service subtype body) =
+    option_map node_fault (refusal_plain c service subtype (length body))
+refusal_of c s (Finish d id) = option_map node_fault (refusal_finish (end_of s (sender_side d)) id)
+refusal_of c s (Take l n) = option_map link_fault (refusal_take s.link l n)
+refusal_of c s (Deliver l) = option_map link_fault (refusal_drop s.link l)
+refusal_of c s (Tick side) = option_map node_fault (refusal_tick (end_of s side))
+refusal_of c s (Expire side) = option_map node_fault (refusal_expire c (end_of s side))
+
+-- ---- replies
+
+-- the reply of an event that put nothing
+abbrev pub quiet : Answer → Reply
+quiet a = record { answer = a; puts = None }
+
+-- the reply of an event that put one packet, which got this number
+abbrev pub put_one : ℕ → Answer → Reply
+put_one n a = record { answer = a; puts = Some (record { first = n; count = 1 }) }
+
+-- ---- opening, sending and finishing
+
+abbrev pub after_open : Config → ℕ → State → Direction → Name → List ℕ → State × Reply
+after_open c place s d id m = (
+  record (with_end s (sender_side d) (node_opened (end_of s (sender_side d)) id m)) {
+    opened = s.opened ++ record { place = place; direction = d; id = id; message = m } ∷ [];
+  },
+  quiet (Opened (part_count (length m) c.part_size)),
+)
+
+-- a part's packet is put, and its sender is this
+abbrev pub sent_on : State → Direction → Name → NodeData × List ℕ → State × Reply
+sent_on s d id x = (
+  record (with_end s (sender_side d) x.0) { link = after_put s.link d (Some id) x.1 },
+  put_one (length s.link.packets) (Put (length s.link.packets)),
+)
+
+abbrev pub after_send : Config → State → Direction → Name → ℕ → State × Reply
+after_send c s d id k = sent_on s d id (node_sent (sender_side d) c (end_of s (sender_side d)) id k)
+
+-- a plain request's packet is put, and ground is this
+abbrev pub requested_on : State → NodeData × List ℕ → State × Reply
+requested_on s x = (
+  record s { on_ground = x.0; link = after_put s.link Up None x.1 },
+  put_one (length s.link.packets) (Put (length s.link.packets)),
+)
+
+abbrev pub after_plain : Config → State → (flags service subtype : ℕ) → List ℕ → State × Reply
+after_plain c s flags service subtype body =
+    requested_on s (plain_made c s.on_ground flags service subtype body)
+
+-- a sender is closed
+abbrev pub after_finish : State → Direction → Name → State × Reply
+after_finish s d id =
+    (with_end s (sender_side d) (node_closed (end_of s (sender_side d)) id), quiet Finished)
+
+-- ---- taking and delivering
+
+abbrev pub after_take : State → Lane → ℕ → State × Reply
+after_take s l n = (record s { link = link_after_take s.link l n }, quiet (Took n))
+
+-- the link where a report was put, or none
+abbrev pub link_with : LinkData → Option (List ℕ) → LinkData
+link_with v None = v
+link_with v (Some b) = after_put v Down None b
+
+-- the reply of an event that put a report, which got this number, or none
+abbrev pub told_with : ℕ → Answer → Option (List ℕ) → Reply
+told_with n a None = quiet a
+told_with n a (Some b) = put_one n a
+
+-- the transaction of a released message, by the outcome: a plain request has none
+abbrev pub released_of : Direction → Outcome → Option (Direction × Name)
+released_of d (Released id len) = Some (d, id)
+released_of d _ = None
+
+-- the releases with that of a delivery, where it released anything
+abbrev pub with_release : List Release → ℕ → Direction → Outcome → Option (List ℕ) → List Release
+with_release rs place d o None = rs
+with_release rs place d o (Some m) = rs ++ record { place = place; of = released_of d o; message = m } ∷ []
+
+-- the receiver has taken what was in the lane's hand, and answered
+abbrev pub delivered_as : ℕ → State → Lane → NodeData × Accepted → State × Reply
+delivered_as place s l x = (
+  record (with_end s (receiver_side (lane_direction l)) x.0) {
+    link = link_with (after_drop s.link l) x.1.packet;
+    released = with_release s.released place (lane_direction l) x.1.outcome x.1.released;
+  },
+  told_with (length s.link.packets) (Delivered x.1.outcome) x.1.packet,
+)
+
+-- the receiver of a lane has taken what was in its hand: the state after it, and the answer
+abbrev pub IsReceived : State → Lane → State → Accepted → NodeData × Accepted → Type 0
+IsReceived old l new r x = (new ≡ with_end old (receiver_side (lane_direction l)) x.0) × (r ≡ x.1)
+
+-- what the packet in the lane's hand is to its receiver; of an empty hand nothing is delivered
+abbrev pub arrival_held : Config → Direction → Option LinkPacket → Arrival
+arrival_held c d p = option_map_or (λ x. arrival_in c d x.octets) p NotRead
+
+abbrev pub after_deliver : Config → ℕ → State → Lane → State × Reply
+after_deliver c place s l =
+    delivered_as place s l
+    (accepted (receiver_side (lane_direction l)) c (end_of s (receiver_side (lane_direction l)))
+    (arrival_held c (lane_direction l) (packet_in_hand s.link l)))
+
+-- ---- time
+
+-- a node's clock is one tick on
+abbrev pub after_tick : State → Side → State × Reply
+after_tick s side =
+    (with_end s side (ticked (end_of s side)), quiet (Clock (ticked (end_of s side)).clock))
+
+-- a node has ended a reception and answered, and its report is put, where it made one
+abbrev pub expired_as : State → Side → NodeData × Ended → State × Reply
+expired_as s side x = (
+  record (with_end s side x.0) { link = link_with s.link x.1.packet },
+  told_with (length s.link.packets) (Expired (direction_to side) x.1.id) x.1.packet,
+)
+
+abbrev pub after_expire : Config → State → Side → State × Reply
+after_expire c s side = expired_as s side (expired side c (end_of s side))
+
+-- ---- all events
+
+-- what an event at this place makes of the state, and its reply
+abbrev pub after : Config → ℕ → State → Event → State × Reply
+after c place s (Open d id m) = after_open c place s d id m
+after c place s (Send d id k) = after_send c s d id k
+after c place s (Plain flags service subtype body) = after_plain c s flags service subtype body
+after c place s (Finish d id) = after_finish s d id
+after c place s (Take l n) = after_take s l n
+after c place s (Deliver l) = after_deliver c place s l
+after c place s (Tick side) = after_tick s side
+after c place s (Expire side) = after_expire c s side

@@ -1,0 +1,132 @@
+-- Worked passes are legal journals, so what is said of all of them speaks of something.
+use Rattle.std.proofs.Common.{◌≡◌, ◌∙◌, ap, refl, ℕ, zero, suc, ◌<◌, ◌≤◌, nat_lt, Bool, true, not, ◌&&◌, List, [], ◌∷◌, reverse, arith}
+use Rattle.std.proofs.lemmas.Bool.Decides.{nat_tests}
+use Rattle.std.specs.List.{list_all}
+use Rattle.std.specs.Option.{is_some}
+use Rattle.lpt_packet.specs.Checksums.{checksum, octets_in, shift_all}
+use Rattle.lpt_packet.specs.Numbers.{IsOctets}
+use Rattle.lpt_packet.specs.Packets.{seen, spelling}
+use Rattle.lpt_pus.specs.Commands.{tc_field, tc_verdict}
+use Rattle.lpt_part.specs.Parts.{body_of, part_verdict}
+use Rattle.lpt_events.specs.declared.config.Config.{Config}
+use Rattle.lpt_events.specs.Arrivals.{arrival}
+use Rattle.lpt_events.specs.declared.event.Event.{Event}
+use Rattle.lpt_events.specs.declared.event.Event.TheVariants.{Open, Send, Plain, Finish}
+use Rattle.lpt_events.specs.Configs.{IsConfig}
+use Rattle.lpt_journal.specs.Replies.{recorded, refusal, IsEvent, Legal}
+use Rattle.lpt_journal.proofs.TestLemmas.{and_l, and_r, not_true, none_is}
+use Rattle.lpt_worked.proofs.Listed.{recorded_listed, recorded_is, refusal_listed, refusal_is}
+use Rattle.lpt_journal.specs.Expiries.{EndsAreFinal}
+use Rattle.lpt_journal.specs.Headline.{Holds}
+use Rattle.lpt_journal.proofs.Every.{headline}
+use Rattle.lpt_journal.proofs.ExpiryLemmas.{expiry_is_final}
+use Rattle.lpt_worked.specs.Passes.{usual, out_of_order}
+use Rattle.lpt_worked.specs.Passes.{impatient, two_expire}
+
+-- ---- a test of legality
+
+small : (x y : ℕ) → nat_lt x y ≡ true → x < y
+small x y h = grind (arith, nat_tests)
+
+are_octets : (b : List ℕ) → list_all (λ x. nat_lt x 256) b ≡ true → IsOctets b
+are_octets [] h i = omega arith
+are_octets (x ∷ b) h zero = small x 256 (and_l (nat_lt x 256) (list_all (λ x. nat_lt x 256) b) h)
+are_octets (x ∷ b) h (suc i) =
+    are_octets b (and_r (nat_lt x 256) (list_all (λ x. nat_lt x 256) b) h) i
+
+abbrev in_range : Event → Bool
+in_range (Open d id m) = nat_lt id 65536 && list_all (λ x. nat_lt x 256) m
+in_range (Send d id k) = nat_lt id 65536 && nat_lt k 65536
+in_range (Plain flags service subtype body) =
+    nat_lt flags 16
+    && (nat_lt service 256 && (nat_lt subtype 256 && list_all (λ x. nat_lt x 256) body))
+in_range (Finish d id) = nat_lt id 65536
+in_range _ = true
+
+is_event : (e : Event) → in_range e ≡ true → IsEvent e
+is_event (Open d id m) h = (
+  small id 65536 (and_l (nat_lt id 65536) (list_all (λ x. nat_lt x 256) m) h),
+  are_octets m (and_r (nat_lt id 65536) (list_all (λ x. nat_lt x 256) m) h),
+)
+is_event (Send d id k) h = (
+  small id 65536 (and_l (nat_lt id 65536) (nat_lt k 65536) h),
+  small k 65536 (and_r (nat_lt id 65536) (nat_lt k 65536) h),
+)
+is_event (Plain flags service subtype body) h =
+    let octets = list_all (λ x. nat_lt x 256) body in
+    let rest = nat_lt subtype 256 && octets in
+    let behind = and_r (nat_lt flags 16) (nat_lt service 256 && rest) h in
+    let last = and_r (nat_lt service 256) rest behind in (
+      small flags 16 (and_l (nat_lt flags 16) (nat_lt service 256 && rest) h),
+      small service 256 (and_l (nat_lt service 256) rest behind),
+      small subtype 256 (and_l (nat_lt subtype 256) octets last),
+      are_octets body (and_r (nat_lt subtype 256) octets last),
+    )
+is_event (Finish d id) h = small id 65536 h
+is_event e h = tt
+
+-- whether no event is refused, by the lists
+abbrev passes : Config → List Event → Bool
+passes c [] = true
+passes c (e ∷ es) =
+    passes c es && (in_range e && not (is_some (refusal_listed c (recorded_listed c es) e)))
+
+-- a journal in which no event is refused is legal
+pub legal : (c : Config) (es : List Event) → passes c es ≡ true → Legal c es
+legal c [] h = tt
+legal c (e ∷ es) h =
+    let accepted = not (is_some (refusal_listed c (recorded_listed c es) e)) in
+    let now = and_r (passes c es) (in_range e && accepted) h in (
+      legal c es (and_l (passes c es) (in_range e && accepted) h),
+      record {
+        in_range = is_event e (and_l (in_range e) accepted now);
+        accepted = ap (λ g. refusal c g e) (recorded_is c es)
+            ∙ refusal_is c (recorded_listed c es) e
+            ∙ none_is (refusal_listed c (recorded_listed c es) e)
+            (not_true (is_some (refusal_listed c (recorded_listed c es) e))
+            (and_r (in_range e) accepted now));
+      },
+    )
+
+-- ---- two worked passes
+
+usual_with : (timeout : ℕ)
+    → 1 ≤ timeout
+    → timeout ≤ 65535
+    → IsConfig (record usual { timeout = timeout })
+usual_with timeout some fits = record {
+  apid_fits = omega arith;
+  source_fits = omega arith;
+  part_size_fits = (omega arith, omega arith);
+  some_timeout = some;
+  timeout_fits = fits;
+  some_receptions = omega arith;
+  receptions_fit = omega arith;
+  some_outgoing = omega arith;
+  outgoing_fits = omega arith;
+  clock_fits = omega arith;
+}
+
+-- three parts that come in another order
+pub out_of_order-legal : Legal usual (reverse out_of_order)
+unfolding seen spelling checksum octets_in shift_all tc_field tc_verdict body_of part_verdict
+    arrival
+out_of_order-legal = legal usual (reverse out_of_order) refl
+
+-- so what the main theorem says holds of it
+pub out_of_order-holds : Holds usual (recorded usual (reverse out_of_order))
+out_of_order-holds =
+    headline usual (reverse out_of_order) (usual_with 10 (omega arith) (omega arith))
+    out_of_order-legal
+
+-- two receptions that expire
+pub two_expire-legal : Legal impatient (reverse two_expire)
+unfolding seen spelling checksum octets_in shift_all tc_field tc_verdict body_of part_verdict
+    arrival
+two_expire-legal = legal impatient (reverse two_expire) refl
+
+-- so their openings are never released
+pub two_expire-final : EndsAreFinal impatient (recorded impatient (reverse two_expire))
+two_expire-final =
+    expiry_is_final impatient (reverse two_expire) (usual_with 1 (omega arith) (omega arith))
+    two_expire-legal

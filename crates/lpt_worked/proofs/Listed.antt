@@ -1,0 +1,243 @@
+-- The definitions with the kept parts as lists in the order of numbers: these compute.
+use Rattle.std.proofs.Common.{◌≡◌, ◌∙◌, ap, refl, ℕ, ◌==◌, nat_le, Bool, not, ◌&&◌, if◌then◌else◌, List, [], ◌∷◌, length, Option, Some, None}
+use Rattle.std.specs.Option.{is_some}
+use Rattle.std.specs.List.{filter}
+use Rattle.std.specs.FinMap as map
+use Rattle.std.specs.FinMap.{find}
+use Rattle.std.specs.Ordering.{nat_cmp}
+use Rattle.lpt_packet.specs.declared.direction.Direction.{Direction}
+use Rattle.lpt_packet.specs.Names.{Name}
+use Rattle.lpt_part.specs.declared.reason.Reason.TheVariants.{Conflict}
+use Rattle.lpt_part.specs.Parts.{Piece}
+use Rattle.lpt_reception.specs.Received.{Parts, is_whole}
+use Rattle.lpt_events.specs.declared.lane.Lane.{Lane}
+use Rattle.lpt_events.specs.Lanes.{lane_direction}
+use Rattle.lpt_events.specs.declared.config.Config.{Config}
+use Rattle.lpt_events.specs.declared.outcome.Outcome.{Outcome}
+use Rattle.lpt_events.specs.declared.outcome.Outcome.TheVariants.{Kept, Again, Released, PlainReleased, Broken, Ignored}
+use Rattle.lpt_events.specs.declared.outcome.Why.TheVariants.{Closed, NoRoom}
+use Rattle.lpt_events.specs.Arrivals.{Arrival, ARequest, APart}
+use Rattle.lpt_events.specs.declared.event.Event.{Event}
+use Rattle.lpt_events.specs.declared.event.Event.TheVariants.{Deliver, Expire}
+use Rattle.lpt_events.specs.declared.fault.StepFault.{StepFault}
+use Rattle.lpt_events.specs.declared.fault.StepFault.TheVariants.{NothingDue}
+use Rattle.lpt_events.specs.declared.reply.Answer.{Answer}
+use Rattle.lpt_events.specs.declared.reply.Answer.TheVariants.{Delivered}
+use Rattle.lpt_events.specs.declared.reply.Reply.{Reply}
+use Rattle.lpt_events.specs.declared.entry.Release.{Release}
+use Rattle.lpt_events.specs.Sides.{receiver_side, direction_to}
+use Rattle.lpt_journal.specs.Journal.{Recorded, History, SentPacket, with_all, in_hand, sent}
+use Rattle.lpt_journal.specs.Senders.{once}
+use Rattle.lpt_journal.specs.Receivers.{with_piece, heard, has_parts, heard_names, open_names, is_closed, last_tick}
+use Rattle.lpt_journal.specs.Expiry.{is_overdue, earliest, due}
+use Rattle.lpt_journal.specs.Delivery.{judged_part, judged}
+use Rattle.lpt_journal.specs.Releases.{released_now, release_after, released_by, releases}
+use Rattle.lpt_worked.proofs.ListedSets.{Listed, with_listed, contradicts_listed, whole_listed, spelled_listed, entries-with_piece, contradicts_is, whole_is, listed, entries-heard}
+use Rattle.lpt_journal.specs.Replies.{expired_now, answer, outcome_puts, expiry_puts, puts, opens, told, entry, recorded, first_fault, refusal}
+
+-- ---- outcomes
+
+abbrev has_listed : Listed → Bool
+has_listed s = not (length s == 0)
+
+has_parts_is : (s : Parts) → has_parts s ≡ has_listed (map.entries s)
+has_parts_is s = λ i. not (map.len-entries s i == 0)
+
+abbrev judged_list : (limit : ℕ) (closed : Bool) (open_now : ℕ) → Listed → Piece → Outcome
+judged_list limit closed open_now s q =
+    if closed then Ignored Closed
+    else if not (has_listed s) && nat_le limit open_now then Ignored NoRoom
+    else if contradicts_listed s q then Broken q.id Conflict
+    else if is_some (find nat_cmp q.number s) then Again q.id q.number
+    else if whole_listed (with_listed s q)
+    then Released q.id (length (spelled_listed (with_listed s q)))
+    else Kept q.id q.number
+
+judged_part_is : (limit : ℕ) (closed : Bool) (open_now : ℕ) (s : Parts) (q : Piece)
+    → judged_part limit closed open_now s q ≡ judged_list limit closed open_now (map.entries s) q
+judged_part_is limit closed open_now s q =
+    let whole : is_whole (with_piece s q) ≡ whole_listed (with_listed (map.entries s) q) =
+    whole_is (with_piece s q) ∙ ap whole_listed (entries-with_piece s q) in
+    λ i.
+    if closed then Ignored Closed
+    else if not (has_parts_is s i) && nat_le limit open_now then Ignored NoRoom
+    else if contradicts_is s q i then Broken q.id Conflict
+    else if is_some (map.get-entries s q.number i) then Again q.id q.number
+    else if whole i then Released q.id (length (spelled_listed (entries-with_piece s q i)))
+    else Kept q.id q.number
+
+abbrev names_listed : Config → History → Direction → List Name
+names_listed c h d = once (filter (λ id. has_listed (listed c h d id)) (heard_names h d))
+
+abbrev judged_listed : Config → History → Direction → Arrival → Outcome
+judged_listed c h d (APart q) =
+    judged_list c.receptions (is_closed h d q.id) (length (names_listed c h d))
+    (listed c h d q.id) q
+judged_listed c h d a = judged c h d a
+
+-- what becomes of the packet in a lane's hand, by the lists
+abbrev pub outcome_listed : Config → History → Lane → Outcome
+outcome_listed c h l = judged_listed c h (lane_direction l) (in_hand c h l)
+
+judged_is : (c : Config) (h : History) (d : Direction) (a : Arrival)
+    → judged c h d a ≡ judged_listed c h d a
+judged_is c h d (APart q) =
+    let has : (id : Name) → has_parts (heard c h d id) ≡ has_listed (listed c h d id) =
+    λ id. has_parts_is (heard c h d id) ∙ ap has_listed (entries-heard c h d id) in
+    judged_part_is c.receptions (is_closed h d q.id) (length (open_names c h d))
+    (heard c h d q.id) q
+    ∙ (λ i. judged_list c.receptions (is_closed h d q.id)
+    (length (once (filter (λ id. has id i) (heard_names h d)))) (entries-heard c h d q.id i) q)
+judged_is c h d a = refl
+
+-- ---- expiry
+
+names_is : (c : Config) (h : History) (d : Direction) → open_names c h d ≡ names_listed c h d
+names_is c h d =
+    let has : (id : Name) → has_parts (heard c h d id) ≡ has_listed (listed c h d id) =
+    λ id. has_parts_is (heard c h d id) ∙ ap has_listed (entries-heard c h d id) in
+    λ i. once (filter (λ id. has id i) (heard_names h d))
+
+-- the reception that is due, by the lists
+abbrev pub due_listed : Config → History → Direction → Option Name
+due_listed c h d =
+    earliest (last_tick c h d) (filter (is_overdue c h d) (names_listed c h d))
+
+due_is : (c : Config) (h : History) (d : Direction) → due c h d ≡ due_listed c h d
+due_is c h d =
+    ap (λ ids. earliest (last_tick c h d) (filter (is_overdue c h d) ids)) (names_is c h d)
+
+-- why an event is refused, by the lists
+abbrev pub refusal_listed : Config → History → Event → Option StepFault
+refusal_listed c h (Expire side) =
+    first_fault ((not (is_some (due_listed c h (direction_to side))), NothingDue) ∷ [])
+refusal_listed c h e = refusal c h e
+
+-- what refuses an event is the same by the lists
+pub refusal_is : (c : Config) (h : History) (e : Event) → refusal c h e ≡ refusal_listed c h e
+refusal_is c h (Expire side) =
+    ap (λ o. first_fault ((not (is_some o), NothingDue) ∷ [])) (due_is c h (direction_to side))
+refusal_is c h e = refl
+
+-- ---- entries
+
+abbrev answer_listed : Config → History → Event → Answer
+answer_listed c h (Deliver l) = Delivered (outcome_listed c h l)
+answer_listed c h (Expire side) =
+    expired_now (direction_to side) (due_listed c h (direction_to side))
+answer_listed c h e = answer c h e
+
+abbrev puts_listed : Config → History → Event → List SentPacket
+puts_listed c h (Deliver l) =
+    outcome_puts c h (receiver_side (lane_direction l)) (outcome_listed c h l)
+puts_listed c h (Expire side) = expiry_puts c h side (due_listed c h (direction_to side))
+puts_listed c h e = puts c h e
+
+abbrev reply_listed : Config → History → Event → Reply
+reply_listed c h e =
+    record { answer = answer_listed c h e; puts = told (length (sent h)) (puts_listed c h e) }
+
+-- an event with what it gives, by the lists
+abbrev pub entry_listed : Config → History → Event → Recorded
+entry_listed c h e =
+    record { event = e; reply = reply_listed c h e; puts = puts_listed c h e; opens = opens c h e }
+
+-- what is recorded of an event is the same by the lists
+pub entry_is : (c : Config) (h : History) (e : Event) → entry c h e ≡ entry_listed c h e
+entry_is c h (Deliver l) =
+    let o = judged_is c h (lane_direction l) (in_hand c h l) in
+    λ i. record {
+      event = Deliver l;
+      reply =
+          record {
+            answer = Delivered (o i);
+            puts =
+                told (length (sent h)) (outcome_puts c h (receiver_side (lane_direction l)) (o i));
+          };
+      puts = outcome_puts c h (receiver_side (lane_direction l)) (o i);
+      opens = [];
+    }
+entry_is c h (Expire side) =
+    let o = due_is c h (direction_to side) in
+    λ i. record {
+      event = Expire side;
+      reply =
+          record {
+            answer = expired_now (direction_to side) (o i);
+            puts = told (length (sent h)) (expiry_puts c h side (o i));
+          };
+      puts = expiry_puts c h side (o i);
+      opens = [];
+    }
+entry_is c h e = refl
+
+-- the history of a journal, by the lists
+abbrev pub recorded_listed : Config → List Event → History
+recorded_listed c [] = []
+recorded_listed c (e ∷ es) = let h = recorded_listed c es in entry_listed c h e ∷ h
+
+-- the history of a journal is the same by the lists
+pub recorded_is : (c : Config) (es : List Event) → recorded c es ≡ recorded_listed c es
+recorded_is c [] = refl
+recorded_is c (e ∷ es) =
+    let before = recorded_is c es in
+    let now : entry c (recorded c es) e ≡ entry_listed c (recorded_listed c es) e =
+    ap (λ h. entry c h e) before ∙ entry_is c (recorded_listed c es) e in
+    λ i. now i ∷ before i
+
+-- ---- releases
+
+abbrev released_list : (place : ℕ) → Direction → Answer → (Name → Listed) → Arrival → List Release
+released_list place d (Delivered (Released id len)) s (APart q) =
+    record { place = place; of = Some (d, id); message = spelled_listed (with_listed (s id) q) }
+    ∷ []
+released_list place d (Delivered (PlainReleased len)) s (ARequest b) =
+    record { place = place; of = None; message = b } ∷ []
+released_list place d answer s arrived = []
+
+abbrev release_list : Event
+    → (place : ℕ)
+    → Answer
+    → (Direction → Name → Listed)
+    → (Lane → Arrival)
+    → List Release
+release_list (Deliver l) place answer s arrived =
+    released_list place (lane_direction l) answer (s (lane_direction l)) (arrived l)
+release_list _ place answer s arrived = []
+
+-- all releases, by the lists
+abbrev pub releases_listed : Config → History → List Release
+releases_listed c [] = []
+releases_listed c (x ∷ h) =
+    with_all (releases_listed c h)
+    (release_list x.event (length h) x.reply.answer (listed c h) (in_hand c h))
+
+released_is : (place : ℕ) (d : Direction) (o : Answer) (s : Name → Parts) (t : Name → Listed)
+    (a : Arrival)
+    → ((id : Name) → map.entries (s id) ≡ t id)
+    → released_now place d o s a ≡ released_list place d o t a
+released_is place d (Delivered (Released id len)) s t (APart q) is =
+    let e : map.entries (with_piece (s id) q) ≡ with_listed (t id) q =
+    entries-with_piece (s id) q ∙ ap (λ es. with_listed es q) (is id) in
+    λ i. record { place = place; of = Some (d, id); message = spelled_listed (e i) } ∷ []
+released_is place d (Delivered (PlainReleased len)) s t (ARequest b) is = refl
+released_is place d o s t a is = refl
+
+release_is : (e : Event) (place : ℕ) (o : Answer) (s : Direction → Name → Parts)
+    (t : Direction → Name → Listed) (arrived : Lane → Arrival)
+    → ((d : Direction) (id : Name) → map.entries (s d id) ≡ t d id)
+    → release_after e place o s arrived ≡ release_list e place o t arrived
+release_is (Deliver l) place o s t arrived is =
+    released_is place (lane_direction l) o (s (lane_direction l)) (t (lane_direction l)) (arrived l)
+    (is (lane_direction l))
+release_is e place o s t arrived is = refl
+
+-- the releases are the same by the lists
+pub releases_is : (c : Config) (h : History) → releases c h ≡ releases_listed c h
+releases_is c [] = refl
+releases_is c (x ∷ h) =
+    let now : released_by c x h ≡ release_list x.event (length h) x.reply.answer (listed c h)
+    (in_hand c h)
+    = release_is x.event (length h) x.reply.answer (heard c h) (listed c h) (in_hand c h)
+    (entries-heard c h) in
+    λ i. with_all (releases_is c h i) (now i)

@@ -1,0 +1,61 @@
+-- Worked passes: the configurations, the messages and the events.
+use Rattle.std.specs.Prelude.{ℕ, List, [], ◌∷◌}
+use Rattle.lpt_packet.specs.declared.direction.Direction.TheVariants.{Up}
+use Rattle.lpt_events.specs.declared.config.Config.{Config}
+use Rattle.lpt_events.specs.declared.event.Event.{Event}
+use Rattle.lpt_events.specs.declared.event.Event.TheVariants.{Open, Send, Take, Deliver, Tick, Expire}
+use Rattle.lpt_events.specs.declared.lane.Lane.TheVariants.{S1}
+use Rattle.lpt_events.specs.declared.side.Side.TheVariants.{Craft}
+
+-- ---- what passes have in common
+
+-- APID 100, source 1, parts of 8 octets
+abbrev pub usual : Config
+usual =
+    record {
+      apid = 100;
+      source = 1;
+      part_size = 8;
+      timeout = 10;
+      receptions = 8;
+      outgoing = 8;
+      clock = 0;
+    }
+
+-- 20 octets, the numbers from 0
+abbrev pub m20 : List ℕ
+m20 = 0 ∷ 1 ∷ 2 ∷ 3 ∷ 4 ∷ 5 ∷ 6 ∷ 7 ∷ 8 ∷ 9 ∷ 10 ∷ 11 ∷ 12 ∷ 13 ∷ 14 ∷ 15 ∷ 16 ∷ 17 ∷ 18 ∷ 19 ∷ []
+
+-- 16 octets
+abbrev pub m16 : List ℕ
+m16 = 0 ∷ 1 ∷ 2 ∷ 3 ∷ 4 ∷ 5 ∷ 6 ∷ 7 ∷ 8 ∷ 9 ∷ 10 ∷ 11 ∷ 12 ∷ 13 ∷ 14 ∷ 15 ∷ []
+
+-- 9 octets
+abbrev pub m9 : List ℕ
+m9 = 0 ∷ 1 ∷ 2 ∷ 3 ∷ 4 ∷ 5 ∷ 6 ∷ 7 ∷ 8 ∷ []
+
+-- ---- three parts that come in another order
+
+-- the last part is delivered first
+abbrev pub out_of_order : List Event
+out_of_order =
+    Open Up 7 m20
+    ∷ Send Up 7 1 ∷ Send Up 7 2 ∷ Send Up 7 3
+    ∷ Take S1 2 ∷ Deliver S1
+    ∷ Take S1 0 ∷ Deliver S1
+    ∷ Take S1 1 ∷ Deliver S1 ∷ []
+
+-- ---- two receptions with one last tick
+
+-- a time-out of one tick
+abbrev pub impatient : Config
+impatient = record usual { timeout = 1 }
+
+-- two receptions of one last tick expire
+abbrev pub two_expire : List Event
+two_expire =
+    Open Up 9 m9 ∷ Open Up 3 m9
+    ∷ Send Up 9 1 ∷ Send Up 3 1
+    ∷ Take S1 0 ∷ Deliver S1
+    ∷ Take S1 1 ∷ Deliver S1
+    ∷ Tick Craft ∷ Expire Craft ∷ Expire Craft ∷ []
