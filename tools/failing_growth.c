@@ -1,0 +1,24 @@
+// Has one growth of memory fail: that whose number, from 1, is FAILING_GROWTH in the environment.
+//
+// tests/growths loads this before the C library into a program that the kit has built, which takes
+// all its memory by malloc and realloc.
+
+extern void *__libc_malloc(unsigned long size);
+extern void *__libc_realloc(void *old, unsigned long size);
+extern char *getenv(const char *name);
+extern long atol(const char *digits);
+
+// How many growths there are up to the one that fails; 0 once it has failed, -1 before the first.
+static long left = -1;
+
+static int fails(void) {
+    if (left < 0) {
+        const char *number = getenv("FAILING_GROWTH");
+        left = number ? atol(number) : 0;
+    }
+    return left > 0 && --left == 0;
+}
+
+void *malloc(unsigned long size) { return fails() ? 0 : __libc_malloc(size); }
+
+void *realloc(void *old, unsigned long size) { return fails() ? 0 : __libc_realloc(old, size); }
