@@ -30,6 +30,7 @@ use Rattle.lpt_journal.proofs.TimeEvents.{tick_owes, expire_owes}
 use Rattle.lpt_journal.proofs.Deliveries.{delivery_sound, deliver_owes}
 use Rattle.lpt_journal.proofs.Releasing.{OwesReleases, ArePast, opening_is}
 use Rattle.lpt_journal.proofs.OnceLemmas.{past_step}
+use Rattle.lpt_memory.specs.Memories.{Contents}
 use Rattle.lpt_journal.proofs.DeliveredReleases.{deliver_releases}
 
 -- ---- each event
@@ -45,21 +46,21 @@ delivered : (c : Config) (h : History) (l : Lane)
 delivered c h l e = in_its_hand (hand h l) (one_passes (not (is_some (hand h l))) HandEmpty e)
 
 -- an event that can happen pays what it owes
-pub owes : (c : Config) (h : History) (e : Event)
+pub owes : (c : Config) (first : Contents) (h : History) (e : Event)
     → IsConfig c
     → IsSound c h
     → IsEnabled c h e
-    → Owes c h (entry c h e)
-owes c h (Open d id m) good sound can = open_owes c h d id m sound can.accepted
-owes c h (Send d id k) good sound can = send_owes c h d id k good sound can.in_range.0 can.accepted
-owes c h (Plain flags service subtype body) good sound can =
-    plain_owes c h flags service subtype body good sound can.in_range can.accepted
-owes c h (Finish d id) good sound can = finish_owes c h d id sound
-owes c h (Tick side) good sound can = tick_owes c h side sound can.accepted
-owes c h (Expire side) good sound can = expire_owes c h side good sound
-owes c h (Take l n) good sound can = take_owes c h l n sound can.accepted
-owes c h (Deliver l) good sound can =
-    let n = delivered c h l can.accepted in deliver_owes c h l n.0 sound n.1
+    → Owes c h (entry c first h e)
+owes c first h (Open d id m) good sound can = open_owes c first h d id m sound can.accepted
+owes c first h (Send d id k) good sound can = send_owes c first h d id k good sound can.in_range.0 can.accepted
+owes c first h (Plain flags service subtype body) good sound can =
+    plain_owes c first h flags service subtype body good sound can.in_range can.accepted
+owes c first h (Finish d id) good sound can = finish_owes c first h d id sound
+owes c first h (Tick side) good sound can = tick_owes c first h side sound can.accepted
+owes c first h (Expire side) good sound can = expire_owes c first h side good sound
+owes c first h (Take l n) good sound can = take_owes c first h l n sound can.accepted
+owes c first h (Deliver l) good sound can =
+    let n = delivered c h l can.accepted in deliver_owes c first h l n.0 sound n.1
 
 -- an event that releases nothing owes nothing for it
 quiet : (c : Config) (h : History) (x : Recorded) → released_by c x h ≡ [] → OwesReleases c h x
@@ -70,14 +71,14 @@ quiet c h x none = record {
 }
 
 -- an event that can happen pays what it owes for what it releases
-pub owes_releases : (c : Config) (h : History) (e : Event)
+pub owes_releases : (c : Config) (first : Contents) (h : History) (e : Event)
     → IsConfig c
     → IsSound c h
     → IsEnabled c h e
-    → OwesReleases c h (entry c h e)
-owes_releases c h (Deliver l) good sound can =
-    let n = delivered c h l can.accepted in deliver_releases c h l n.0 good sound n.1
-owes_releases c h e good sound can = quiet c h (entry c h e) refl
+    → OwesReleases c h (entry c first h e)
+owes_releases c first h (Deliver l) good sound can =
+    let n = delivered c h l can.accepted in deliver_releases c first h l n.0 good sound n.1
+owes_releases c first h e good sound can = quiet c h (entry c first h e) refl
 
 -- ---- every journal
 
@@ -101,17 +102,17 @@ past_start c = record {
 }
 
 -- the history of every legal journal is sound, and so are its releases
-pub every : (c : Config) (es : List Event)
+pub every : (c : Config) (first : Contents) (es : List Event)
     → IsConfig c
-    → Legal c es
-    → IsSound c (recorded c es) × ArePast c (recorded c es)
-every c [] good legal = (sound_start c good, past_start c)
-every c (e ∷ es) good legal =
-    let h = recorded c es in
-    let had = every c es good legal.0 in
-    let pays = owes c h e good had.0 legal.1 in (
-      sound_step c h (entry c h e) pays had.0,
-      past_step c h (entry c h e) pays had.0 (owes_releases c h e good had.0 legal.1) had.1,
+    → Legal c first es
+    → IsSound c (recorded c first es) × ArePast c (recorded c first es)
+every c first [] good legal = (sound_start c good, past_start c)
+every c first (e ∷ es) good legal =
+    let h = recorded c first es in
+    let had = every c first es good legal.0 in
+    let pays = owes c first h e good had.0 legal.1 in (
+      sound_step c h (entry c first h e) pays had.0,
+      past_step c first h (entry c first h e) pays had.0 (owes_releases c first h e good had.0 legal.1) had.1,
     )
 
 -- ---- the main theorem
@@ -158,13 +159,13 @@ deliveries c h sound l full = go (hand h l) refl full where
 
 -- the main theorem
 pub headline : Headline
-headline c es good legal =
-    let h = recorded c es in
-    let all = every c es good legal in
+headline c first es good legal =
+    let h = recorded c first es in
+    let all = every c first es good legal in
     record {
       parts = parts_current c h all.0;
       messages = each_last c h all.1;
       once = all.1.once;
       deliveries = deliveries c h all.0;
-      memories = λ first. memories_stay c first h;
+      memories = memories_stay c first h;
     }

@@ -13,16 +13,17 @@ use Rattle.lpt_journal.specs.Senders.{made, count}
 use Rattle.lpt_journal.proofs.Events.{only_element}
 use Rattle.lpt_journal.proofs.SentParts.{plain_arrives}
 use Rattle.lpt_journal.proofs.Steps.{IsRead, IsSoundPacket, IsSound, Owes}
+use Rattle.lpt_memory.specs.Memories.{Contents}
 use Rattle.lpt_journal.proofs.TestLemmas.{two_pass}
 
 -- a plain request pays what it owes: its packet is read, and is no part
-pub plain_owes : (c : Config) (h : History) (flags service subtype : ℕ) (body : List ℕ)
+pub plain_owes : (c : Config) (first : Contents) (h : History) (flags service subtype : ℕ) (body : List ℕ)
     → IsConfig c
     → IsSound c h
     → IsEvent (Plain flags service subtype body)
     → refusal c h (Plain flags service subtype body) ≡ None
-    → Owes c h (entry c h (Plain flags service subtype body))
-plain_owes c h flags service subtype body good sound fits accepted =
+    → Owes c h (entry c first h (Plain flags service subtype body))
+plain_owes c first h flags service subtype body good sound fits accepted =
     let t =
     two_pass (is_part_request service subtype) (is_too_long c (length body)) PartRequest Long
     accepted in
@@ -34,7 +35,7 @@ plain_owes c h flags service subtype body good sound fits accepted =
       opens = λ e j u f. absurd cc;
       retires = λ e j r. absurd cc;
       puts = λ k p f.
-          subst (λ x. IsSoundPacket c (entry c h (Plain flags service subtype body) ∷ h) x)
+          subst (λ x. IsSoundPacket c (entry c first h (Plain flags service subtype body) ∷ h) x)
           (only_element _ k p f)
           (record {
             is_read = subst (λ a. IsRead a) (sym arrives) tt;

@@ -113,21 +113,25 @@ DeliveriesAreSound c h = (l : Lane) → is_some (hand h l) ≡ true → IsSoundD
 -- ---- memories
 
 -- so far nothing is executed, so memories keep their first content
-abbrev pub MemoriesStay : Config → History → Type 0
-MemoriesStay c h = (first : Contents) → memories c first h ≡ first
+abbrev pub MemoriesStay : Config → Contents → History → Type 0
+MemoriesStay c first h = memories c first h ≡ first
 
 -- ---- the main theorem
 
 -- Every part on its way or heard is of the message last opened under its name. Each large message
 -- that was released is the one last opened under its name, and that once. Deliveries are sound.
 -- Memories keep their first content.
-pub record Holds (c : Config) (h : History) : Type 0 where
+pub record Holds (c : Config) (first : Contents) (h : History) : Type 0 where
   pub parts : PartsAreCurrent c h
   pub messages : EachIsLastOpened c h
   pub once : AtMostOncePerOpening c h
   pub deliveries : DeliveriesAreSound c h
-  pub memories : MemoriesStay c h
+  pub memories : MemoriesStay c first h
 
 -- it holds of every legal journal, whatever its events, their order and their number
 abbrev pub Headline : Type 0
-Headline = (c : Config) (es : List Event) → IsConfig c → Legal c es → Holds c (recorded c es)
+Headline =
+    (c : Config) (first : Contents) (es : List Event)
+    → IsConfig c
+    → Legal c first es
+    → Holds c first (recorded c first es)
