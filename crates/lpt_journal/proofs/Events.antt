@@ -29,7 +29,7 @@ use Rattle.lpt_events.proofs.LaneLemmas.{same_lane-true}
 use Rattle.lpt_journal.proofs.TestLemmas.{and_l, and_r, not_false, or_false_l, or_false_r, le_false, not_zero, two_pass, four_pass, no_place}
 use Rattle.lpt_journal.proofs.SentParts.{AreCounts, part_arrives}
 use Rattle.lpt_memory.specs.Memories.{Contents}
-use Rattle.lpt_journal.proofs.Steps.{IsRead, IsSoundPacket, IsSound, IsTaken, Owes, opening_found}
+use Rattle.lpt_journal.proofs.Steps.{IsRead, IsSoundPacket, IsSound, IsTaken, Owes, calm_owes, opening_found}
 
 -- ---- opening
 
@@ -150,14 +150,13 @@ send_owes c first h d id k good sound i accepted =
     let t =
     two_pass (not (is_open (sender h d id)))
     ((k == 0) || nat_lt (parts_open c (sender h d id)) k) NotOpen NoSuchPart accepted in
-    record {
-      opens = λ e j u f. absurd cc;
-      retires = λ e j r. absurd cc;
-      puts = puts_part (sender h d id) refl t.0 t.1;
-      takes = λ l n f. inl f;
-      hears = λ e j. inl refl;
-      clocks = sound.clocks;
-    }
+    calm_owes c h (entry c first h (Send d id k)) (record {
+      opens = refl;
+      retires = λ e j. refl;
+      takes = λ l. refl;
+      hears = λ e j. refl;
+      ticks = λ side. refl;
+    }) sound (puts_part (sender h d id) refl t.0 t.1)
   where
     puts_part : (s : Sender)
         → sender h d id ≡ s
@@ -196,18 +195,18 @@ send_owes c first h d id k good sound i accepted =
 
 -- ---- finishing
 
--- an event that puts, takes and opens nothing pays what it owes
+-- closing a sender is calm, and puts nothing
 pub finish_owes : (c : Config) (first : Contents) (h : History) (d : Direction) (id : Name)
     → IsSound c h
     → Owes c h (entry c first h (Finish d id))
-finish_owes c first h d id sound = record {
-  opens = λ e j u f. absurd cc;
-  retires = λ e j r. absurd cc;
-  puts = λ k p f. absurd (no_place k p f);
-  takes = λ l n f. inl f;
-  hears = λ e j. inl refl;
-  clocks = sound.clocks;
-}
+finish_owes c first h d id sound =
+    calm_owes c h (entry c first h (Finish d id)) (record {
+      opens = refl;
+      retires = λ e j. refl;
+      takes = λ l. refl;
+      hears = λ e j. refl;
+      ticks = λ side. refl;
+    }) sound (λ k p f. absurd (no_place k p f))
 
 -- ---- taking
 
