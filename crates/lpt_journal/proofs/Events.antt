@@ -15,7 +15,7 @@ use Rattle.lpt_events.specs.declared.config.Config.{Config}
 use Rattle.lpt_events.specs.declared.side.Side.TheVariants.{Craft}
 use Rattle.lpt_events.specs.Arrivals.{APart, part_subtype}
 use Rattle.lpt_events.specs.MadePackets.{nth_part}
-use Rattle.lpt_events.specs.declared.event.Event.TheVariants.{Open, Send, Finish, Take}
+use Rattle.lpt_events.specs.declared.event.Event.TheVariants.{Open, Send, Finish, Lose, Take}
 use Rattle.lpt_events.specs.declared.entry.Opening.{Opening}
 use Rattle.lpt_events.specs.declared.fault.StepFault.TheVariants.{InUse, Short, Long, TooMany, NotOpen, NoSuchPart, NotHeld, HandFull}
 use Rattle.lpt_journal.specs.Journal.{SentPacket, History, is_held, goes, hand, arrival_of}
@@ -201,6 +201,21 @@ pub finish_owes : (c : Config) (first : Contents) (h : History) (d : Direction) 
     → Owes c h (entry c first h (Finish d id))
 finish_owes c first h d id sound =
     calm_owes c h (entry c first h (Finish d id)) (record {
+      opens = refl;
+      retires = λ e j. refl;
+      takes = λ l. refl;
+      hears = λ e j. refl;
+      ticks = λ side. refl;
+    }) sound (λ k p f. absurd (no_place k p f))
+
+-- ---- losing
+
+-- losing a packet is calm, and puts nothing
+pub lose_owes : (c : Config) (first : Contents) (h : History) (n : ℕ)
+    → IsSound c h
+    → Owes c h (entry c first h (Lose n))
+lose_owes c first h n sound =
+    calm_owes c h (entry c first h (Lose n)) (record {
       opens = refl;
       retires = λ e j. refl;
       takes = λ l. refl;

@@ -13,7 +13,7 @@ use Rattle.lpt_events.specs.Lanes.{lane_direction}
 use Rattle.lpt_events.specs.declared.config.Config.{Config}
 use Rattle.lpt_events.specs.Arrivals.{NotRead, APart}
 use Rattle.lpt_events.specs.declared.event.Event.{Event}
-use Rattle.lpt_events.specs.declared.event.Event.TheVariants.{Open, Send, Plain, Finish, Take, Deliver, Tick, Expire}
+use Rattle.lpt_events.specs.declared.event.Event.TheVariants.{Open, Send, Plain, Finish, Lose, Take, Deliver, Tick, Expire}
 use Rattle.lpt_events.specs.declared.fault.StepFault.TheVariants.{HandEmpty}
 use Rattle.lpt_journal.specs.Journal.{Recorded, History, hand, arrival_at, in_hand}
 use Rattle.lpt_journal.specs.Releases.{released_by}
@@ -24,7 +24,7 @@ use Rattle.lpt_journal.specs.Headline.{PartsAreCurrent, EachIsLastOpened, IsSoun
 use Rattle.lpt_journal.proofs.TestLemmas.{one_passes, no_place}
 use Rattle.lpt_journal.proofs.Steps.{IsSound, Owes}
 use Rattle.lpt_journal.proofs.Soundness.{hand_current, sound_step}
-use Rattle.lpt_journal.proofs.Events.{open_owes, send_owes, finish_owes, take_owes}
+use Rattle.lpt_journal.proofs.Events.{open_owes, send_owes, finish_owes, take_owes, lose_owes}
 use Rattle.lpt_journal.proofs.PlainEvents.{plain_owes}
 use Rattle.lpt_journal.proofs.TimeEvents.{tick_owes, expire_owes}
 use Rattle.lpt_journal.proofs.Deliveries.{delivery_sound, deliver_owes}
@@ -56,6 +56,7 @@ owes c first h (Send d id k) good sound can = send_owes c first h d id k good so
 owes c first h (Plain flags service subtype body) good sound can =
     plain_owes c first h flags service subtype body good sound can.in_range can.accepted
 owes c first h (Finish d id) good sound can = finish_owes c first h d id sound
+owes c first h (Lose n) good sound can = lose_owes c first h n sound
 owes c first h (Tick side) good sound can = tick_owes c first h side sound can.accepted
 owes c first h (Expire side) good sound can = expire_owes c first h side good sound
 owes c first h (Take l n) good sound can = take_owes c first h l n sound can.accepted

@@ -19,9 +19,9 @@ use Rattle.lpt_events.specs.Arrivals.{part_subtype}
 use Rattle.lpt_events.specs.MadePackets.{nth_part, part_made, abort_made, tc_made}
 use Rattle.lpt_events.specs.Requests.{is_part_request, is_too_long}
 use Rattle.lpt_events.specs.declared.event.Event.{Event}
-use Rattle.lpt_events.specs.declared.event.Event.TheVariants.{Open, Send, Plain, Finish, Take, Deliver, Tick, Expire}
+use Rattle.lpt_events.specs.declared.event.Event.TheVariants.{Open, Send, Plain, Finish, Lose, Take, Deliver, Tick, Expire}
 use Rattle.lpt_events.specs.declared.reply.Answer.{Answer}
-use Rattle.lpt_events.specs.declared.reply.Answer.TheVariants.{Opened, Put, Finished, Took, Delivered, Clock, Expired}
+use Rattle.lpt_events.specs.declared.reply.Answer.TheVariants.{Opened, Put, Finished, Lost, Took, Delivered, Clock, Expired}
 use Rattle.lpt_events.specs.declared.reply.Puts.{Puts}
 use Rattle.lpt_events.specs.declared.reply.Reply.{Reply}
 use Rattle.lpt_events.specs.declared.entry.Opening.{Opening}
@@ -47,6 +47,7 @@ answer c first h (Open d id m) = Opened (part_count (length m) c.part_size)
 answer c first h (Send d id k) = Put (length (sent h))
 answer c first h (Plain flags service subtype body) = Put (length (sent h))
 answer c first h (Finish d id) = Finished
+answer c first h (Lose n) = Lost
 answer c first h (Take l n) = Took n
 answer c first h (Deliver l) = Delivered (outcome c h l)
 answer c first h (Tick side) = Clock (clock c h side + 1)
@@ -153,6 +154,7 @@ reasons c h (Plain flags service subtype body) =
     (is_part_request service subtype, PartRequest)
     ∷ (is_too_long c (length body), Long) ∷ []
 reasons c h (Finish d id) = (not (is_open (sender h d id)), NotOpen) ∷ []
+reasons c h (Lose n) = (not (is_held h n), NotHeld) ∷ []
 reasons c h (Take l n) =
     (is_some (hand h l), HandFull)
     ∷ (not (is_held h n && goes h (lane_direction l) n), NotHeld) ∷ []
@@ -173,7 +175,11 @@ IsEvent (Send d id k) = (id < 65536) × (k < 65536)
 IsEvent (Plain flags service subtype body) =
     (flags < 16) × (service < 256) × (subtype < 256) × IsOctets body
 IsEvent (Finish d id) = id < 65536
-IsEvent _ = ⊤
+IsEvent (Lose n) = ⊤
+IsEvent (Take l n) = ⊤
+IsEvent (Deliver l) = ⊤
+IsEvent (Tick side) = ⊤
+IsEvent (Expire side) = ⊤
 
 -- an event can happen after this history
 pub record IsEnabled (c : Config) (h : History) (e : Event) : Type 0 where
