@@ -1,5 +1,5 @@
 -- What holds of every legal journal: each event pays what it owes, so each history is sound.
-use Rattle.std.proofs.Common.{◌≡◌, ◌∙◌, ap, sym, refl, ℕ, true, false, not, List, [], ◌∷◌, Option, Some, None}
+use Rattle.std.proofs.Common.{◌≡◌, ◌∙◌, ap, sym, subst, refl, ℕ, zero, suc, true, false, not, List, [], ◌∷◌, Option, Some, None}
 use Rattle.std.specs.List.{slice_get}
 use Rattle.std.specs.Option.{is_some, option_map_or}
 use Rattle.std.specs.FinMap as map
@@ -15,12 +15,17 @@ use Rattle.lpt_events.specs.Arrivals.{NotRead, APart}
 use Rattle.lpt_events.specs.declared.event.Event.{Event}
 use Rattle.lpt_events.specs.declared.event.Event.TheVariants.{Open, Send, Plain, Finish, Lose, Take, Deliver, Tick, Expire}
 use Rattle.lpt_events.specs.declared.fault.StepFault.TheVariants.{HandEmpty}
+use Rattle.lpt_events.specs.declared.outcome.Outcome.{Outcome}
+use Rattle.lpt_events.specs.declared.reply.Answer.TheVariants.{Delivered}
+use Rattle.lpt_events.specs.Sides.{direction_to}
+use Rattle.lpt_journal.specs.Delivery.{outcome}
 use Rattle.lpt_journal.specs.Journal.{Recorded, History, hand, arrival_at, in_hand}
 use Rattle.lpt_journal.specs.Releases.{released_by}
 use Rattle.lpt_events.specs.Configs.{IsConfig}
-use Rattle.lpt_journal.specs.Replies.{entry, recorded, refusal, IsEnabled, Legal}
+use Rattle.lpt_journal.specs.Expiry.{due}
+use Rattle.lpt_journal.specs.Replies.{answer, expired_now, entry, recorded, refusal, IsEnabled, Legal}
 use Rattle.lpt_journal.proofs.MemoryLemmas.{memories_stay}
-use Rattle.lpt_journal.specs.Headline.{PartsAreCurrent, EachIsLastOpened, IsSoundDelivery, DeliveriesAreSound, Headline}
+use Rattle.lpt_journal.specs.Headline.{PartsAreCurrent, EachIsLastOpened, IsSoundOutcome, IsSoundDelivery, DeliveriesAreSound, DeliveriesWereSound, Headline}
 use Rattle.lpt_journal.proofs.TestLemmas.{one_passes, no_place}
 use Rattle.lpt_journal.proofs.Steps.{IsSound, Owes}
 use Rattle.lpt_journal.proofs.Soundness.{hand_current, sound_step}
@@ -158,6 +163,37 @@ deliveries c h sound l full = go (hand h l) refl full where
   go None is k = absurd cc
   go (Some n) is k = delivery_sound c h l n sound is
 
+-- an event that delivered has delivered what was in a lane's hand
+delivered_sound : (c : Config) (first : Contents) (h : History) (e : Event) (o : Outcome)
+    → IsSound c h
+    → refusal c h e ≡ None
+    → answer c first h e ≡ Delivered o
+    → IsSoundOutcome o
+delivered_sound c first h (Deliver l) o sound can is =
+    let n = delivered c h l can in
+    let same : outcome c h l ≡ o = cc in
+    subst IsSoundOutcome same (delivery_sound c h l n.0 sound n.1)
+delivered_sound c first h (Expire side) o sound can is =
+    absurd (none_delivered (due c h (direction_to side)) is)
+  where
+    none_delivered : (d : Option Name) → expired_now (direction_to side) d ≡ Delivered o → ⊥
+    none_delivered None e = cc
+    none_delivered (Some id) e = cc
+delivered_sound c first h e o sound can is = absurd cc
+
+each_delivered : (c : Config) (first : Contents) (es : List Event)
+    → IsConfig c
+    → Legal c first es
+    → DeliveriesWereSound (recorded c first es)
+each_delivered c first [] good legal k x o f is = absurd (no_place k x f)
+each_delivered c first (e ∷ es) good legal zero x o f is =
+    let h = recorded c first es in
+    let same : entry c first h e ≡ x = cc in
+    delivered_sound c first h e o (every c first es good legal.0).0 legal.1.accepted
+    (ap (λ (y : Recorded). y.reply.answer) same ∙ is)
+each_delivered c first (e ∷ es) good legal (suc k) x o f is =
+    each_delivered c first es good legal.0 k x o f is
+
 -- the main theorem
 pub headline : Headline
 headline c first es good legal =
@@ -168,5 +204,6 @@ headline c first es good legal =
       messages = each_last c h all.1;
       once = all.1.once;
       deliveries = deliveries c h all.0;
+      delivered = each_delivered c first es good legal;
       memories = memories_stay c first h;
     }
