@@ -261,6 +261,7 @@ fn in_range(event: &Event)
         Event::Finish(_, id) => {
             let _id = *id;
         }
+        Event::Lose(_) => {}
         Event::Take(_, _) => {}
         Event::Deliver(_) => {}
         Event::Tick(_) => {}
