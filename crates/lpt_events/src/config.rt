@@ -1,5 +1,9 @@
 //! The configuration, which both ends share and which never changes.
 
+ghost use Rattle.std.specs.Prelude.{◌≡◌, ◌↔◌, None};
+
+use crate::ConfigFault;
+
 /// What is fixed for a whole pass. A world refuses values that are out of their ranges.
 #[derive(Clone, Copy, Debug, PartialEq, Eq)]
 pub struct Config {
@@ -17,4 +21,33 @@ pub struct Config {
     pub outgoing: u32,
     /// The first value of both clocks in ticks.
     pub clock: u32,
+}
+
+impl Config {
+    ghost use Rattle.lpt_events.specs.Configs.{IsConfig, config_fault};
+
+    /// The first value that is out of its range, or none where all are in theirs.
+    pub fn fault(&self) -> Option<ConfigFault>
+        ensures fault { result ≡ config_fault self.now }
+        ensures in_range { (result ≡ None) ↔ IsConfig self.now }
+    {
+        let _source = self.source;
+        let _clock = self.clock;
+        if self.apid > 2046 {
+            return Some(ConfigFault::Apid);
+        }
+        if self.part_size < 4 || self.part_size > 1024 {
+            return Some(ConfigFault::PartSize);
+        }
+        if self.timeout == 0 || self.timeout > 65535 {
+            return Some(ConfigFault::Timeout);
+        }
+        if self.receptions == 0 || self.receptions > 64 {
+            return Some(ConfigFault::Receptions);
+        }
+        if self.outgoing == 0 || self.outgoing > 64 {
+            return Some(ConfigFault::Outgoing);
+        }
+        None
+    }
 }

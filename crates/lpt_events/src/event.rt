@@ -19,6 +19,9 @@ pub enum Event {
     Plain(AckFlags, u8, u8, Octets),
     /// Closes the open sender of this name in its direction and lets its message go.
     Finish(Direction, Name),
+    /// Loses the held packet of this number: the link holds it no more. A lane that has it in its
+    /// hand keeps it.
+    Lose(u64),
     /// Takes the held packet of this number into the lane's empty hand.
     Take(Lane, u64),
     /// Gives the packet in the lane's hand to the receiving node, and empties the hand.
@@ -44,6 +47,7 @@ impl Event {
                 Event::Plain(*flags, *service, *subtype, body.copy()?)
             }
             Event::Finish(direction, id) => Event::Finish(*direction, *id),
+            Event::Lose(number) => Event::Lose(*number),
             Event::Take(lane, number) => Event::Take(*lane, *number),
             Event::Deliver(lane) => Event::Deliver(*lane),
             Event::Tick(side) => Event::Tick(*side),

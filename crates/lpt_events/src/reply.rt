@@ -21,6 +21,8 @@ pub enum Answer {
     Put(u64),
     /// The sender is closed.
     Finished,
+    /// The packet is lost.
+    Lost,
     /// The packet of this number is in the hand.
     Took(u64),
     /// What became of the delivered packet.

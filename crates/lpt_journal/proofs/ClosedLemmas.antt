@@ -29,6 +29,7 @@ use Rattle.lpt_journal.specs.Replies.{entry}
 use Rattle.lpt_journal.specs.Senders.{current}
 use Rattle.lpt_journal.proofs.CountLemmas.{none_open}
 use Rattle.lpt_journal.proofs.OutcomeLemmas.{chosen}
+use Rattle.lpt_memory.specs.Memories.{Contents}
 use Rattle.lpt_journal.proofs.Steps.{IsSound}
 
 -- ---- nothing is kept of a closed transaction
@@ -71,13 +72,13 @@ ended_or_not true over s was e = none_open
 ended_or_not false over s was e = was e
 
 -- nothing is kept of a closed transaction after an event either
-pub unheard_step : (c : Config) (h : History) (e : Event)
+pub unheard_step : (c : Config) (first : Contents) (h : History) (e : Event)
     → NothingIsKept c h
-    → NothingIsKept c (entry c h e ∷ h)
-unheard_step c h (Expire side) none d id over =
-    let t = same_side side (receiver_side d) && ends (entry c h (Expire side)).reply.answer id in
+    → NothingIsKept c (entry c first h e ∷ h)
+unheard_step c first h (Expire side) none d id over =
+    let t = same_side side (receiver_side d) && ends (entry c first h (Expire side)).reply.answer id in
     ended_or_not t (is_closed h d id) (heard c h d id) (none d id) over
-unheard_step c h (Deliver l) none d id over =
+unheard_step c first h (Deliver l) none d id over =
     go (same_direction (lane_direction l) d) refl (outcome c h l) refl over where
       kept_part : (i k : ℕ) (t : Bool)
           → same_name i id ≡ t
@@ -109,7 +110,7 @@ unheard_step c h (Deliver l) none d id over =
       go true way (Broken i reason) is shut =
           ended_or_not (same_name i id) (is_closed h d id) (heard c h d id) (none d id) shut
       go true way o is shut = none d id shut
-unheard_step c h e none d id over = none d id over
+unheard_step c first h e none d id over = none d id over
 
 -- ---- what is kept is of an opening
 

@@ -17,9 +17,9 @@ use Rattle.lpt_reception.specs.Received.{Kept as Kept', Parts, no_parts}
 use Rattle.lpt_events.specs.declared.lane.Lane.{Lane}
 use Rattle.lpt_events.specs.declared.entry.Opening.{Opening}
 use Rattle.lpt_events.specs.declared.event.Event.{Event}
-use Rattle.lpt_events.specs.declared.event.Event.TheVariants.{Open, Send, Plain, Finish, Take, Deliver, Tick, Expire}
+use Rattle.lpt_events.specs.declared.event.Event.TheVariants.{Open, Send, Plain, Finish, Lose, Take, Deliver, Tick, Expire}
 use Rattle.lpt_events.specs.declared.reply.Answer.{Answer}
-use Rattle.lpt_events.specs.declared.reply.Answer.TheVariants.{Opened, Put, Finished, Took, Delivered, Clock, Expired}
+use Rattle.lpt_events.specs.declared.reply.Answer.TheVariants.{Opened, Put, Finished, Lost, Took, Delivered, Clock, Expired}
 use Rattle.lpt_events.specs.Sides.{same_side, receiver_side}
 use Rattle.lpt_journal.specs.Journal.{History, with_all, in_hand}
 use Rattle.lpt_journal.specs.Receivers.{heard, ends, heard_now, heard_after, has_parts, heard_names, names_after, with_kept_name, with_arrival}
@@ -136,6 +136,7 @@ heard_now_named (Delivered (Ignored w)) r id before names was e = was e
 heard_now_named (Opened n) r id before names was e = was e
 heard_now_named (Put n) r id before names was e = was e
 heard_now_named Finished r id before names was e = was e
+heard_now_named Lost r id before names was e = was e
 heard_now_named (Took n) r id before names was e = was e
 heard_now_named (Clock n) r id before names was e = was e
 heard_now_named (Expired d i) r id before names was e = was e
@@ -150,6 +151,7 @@ heard_after_named (Open e i m) a r d id before names was e' = was e'
 heard_after_named (Send e i k) a r d id before names was e' = was e'
 heard_after_named (Plain f s t b) a r d id before names was e' = was e'
 heard_after_named (Finish e i) a r d id before names was e' = was e'
+heard_after_named (Lose n) a r d id before names was e' = was e'
 heard_after_named (Take l n) a r d id before names was e' = was e'
 heard_after_named (Tick s) a r d id before names was e' = was e'
 heard_after_named (Expire s) a r d id before names was e' = go (same_side s (receiver_side d) && ends a id) e' where

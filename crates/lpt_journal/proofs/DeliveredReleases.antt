@@ -31,6 +31,7 @@ use Rattle.lpt_journal.proofs.Steps.{IsSound}
 use Rattle.lpt_journal.proofs.Soundness.{hand_current}
 use Rattle.lpt_journal.proofs.Deliveries.{heard_parts}
 use Rattle.lpt_journal.proofs.OutcomeLemmas.{TellsOf, judged_tells}
+use Rattle.lpt_memory.specs.Memories.{Contents}
 use Rattle.lpt_journal.proofs.Releasing.{OwesReleases}
 
 -- ---- the message
@@ -148,12 +149,12 @@ or_true_l true b h = refl
 or_true_l false b h = absurd cc
 
 -- a delivery pays what it owes for what it releases
-pub deliver_releases : (c : Config) (h : History) (l : Lane) (n : ℕ)
+pub deliver_releases : (c : Config) (first : Contents) (h : History) (l : Lane) (n : ℕ)
     → IsConfig c
     → IsSound c h
     → hand h l ≡ Some n
-    → OwesReleases c h (entry c h (Deliver l))
-deliver_releases c h l n good sound e =
+    → OwesReleases c h (entry c first h (Deliver l))
+deliver_releases c first h l n good sound e =
     let d = lane_direction l in
     record {
       one = λ k r f. (only_one (length h) d (outcome c h l) (heard c h d) (in_hand c h l) k r f).0;

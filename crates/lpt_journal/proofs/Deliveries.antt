@@ -31,6 +31,7 @@ use Rattle.lpt_events.proofs.LaneLemmas.{same_direction-true}
 use Rattle.lpt_journal.proofs.TestLemmas.{no_place}
 use Rattle.lpt_journal.proofs.Steps.{IsRead, IsSound, IsHeardNow, Owes}
 use Rattle.lpt_journal.proofs.OutcomeLemmas.{TellsOf, judged_tells}
+use Rattle.lpt_memory.specs.Memories.{Contents}
 use Rattle.lpt_journal.proofs.Soundness.{in_hand_is, hand_current}
 
 -- ---- parts of the current message agree
@@ -160,11 +161,11 @@ hears c h l n d id o e tells = go (same_direction (lane_direction l) d) refl o t
   go true b o tells = inl refl
 
 -- a delivery pays what it owes
-pub deliver_owes : (c : Config) (h : History) (l : Lane) (n : ℕ)
+pub deliver_owes : (c : Config) (first : Contents) (h : History) (l : Lane) (n : ℕ)
     → IsSound c h
     → hand h l ≡ Some n
-    → Owes c h (entry c h (Deliver l))
-deliver_owes c h l n sound e = record {
+    → Owes c h (entry c first h (Deliver l))
+deliver_owes c first h l n sound e = record {
   opens = λ d id o f. absurd cc;
   retires = λ d id r. absurd cc;
   puts =

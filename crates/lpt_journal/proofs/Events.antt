@@ -15,7 +15,7 @@ use Rattle.lpt_events.specs.declared.config.Config.{Config}
 use Rattle.lpt_events.specs.declared.side.Side.TheVariants.{Craft}
 use Rattle.lpt_events.specs.Arrivals.{APart, part_subtype}
 use Rattle.lpt_events.specs.MadePackets.{nth_part}
-use Rattle.lpt_events.specs.declared.event.Event.TheVariants.{Open, Send, Finish, Take}
+use Rattle.lpt_events.specs.declared.event.Event.TheVariants.{Open, Send, Finish, Lose, Take}
 use Rattle.lpt_events.specs.declared.entry.Opening.{Opening}
 use Rattle.lpt_events.specs.declared.fault.StepFault.TheVariants.{InUse, Short, Long, TooMany, NotOpen, NoSuchPart, NotHeld, HandFull}
 use Rattle.lpt_journal.specs.Journal.{SentPacket, History, is_held, goes, hand, arrival_of}
@@ -28,7 +28,8 @@ use Rattle.lpt_packet.proofs.Readings.{not_lt}
 use Rattle.lpt_events.proofs.LaneLemmas.{same_lane-true}
 use Rattle.lpt_journal.proofs.TestLemmas.{and_l, and_r, not_false, or_false_l, or_false_r, le_false, not_zero, two_pass, four_pass, no_place}
 use Rattle.lpt_journal.proofs.SentParts.{AreCounts, part_arrives}
-use Rattle.lpt_journal.proofs.Steps.{IsRead, IsSoundPacket, IsSound, IsTaken, Owes, opening_found}
+use Rattle.lpt_memory.specs.Memories.{Contents}
+use Rattle.lpt_journal.proofs.Steps.{IsRead, IsSoundPacket, IsSound, IsTaken, Owes, calm_owes, opening_found}
 
 -- ---- opening
 
@@ -55,11 +56,11 @@ only_opening d id o u f = go (is_opening_of d id o) f where
   go false e = absurd cc
 
 -- an opening pays what it owes
-pub open_owes : (c : Config) (h : History) (d : Direction) (id : Name) (m : List ℕ)
+pub open_owes : (c : Config) (first : Contents) (h : History) (d : Direction) (id : Name) (m : List ℕ)
     → IsSound c h
     → refusal c h (Open d id m) ≡ None
-    → Owes c h (entry c h (Open d id m))
-open_owes c h d id m sound accepted =
+    → Owes c h (entry c first h (Open d id m))
+open_owes c first h d id m sound accepted =
     let o : Opening = record { place = length h; direction = d; id = id; message = m } in
     let t =
     four_pass (not (is_free (sender h d id))) (nat_le (length m) c.part_size)
@@ -139,24 +140,23 @@ same_part : {q r : Piece} → APart q ≡ APart r → q ≡ r
 same_part e = cc
 
 -- sending a part pays what it owes
-pub send_owes : (c : Config) (h : History) (d : Direction) (id : Name) (k : ℕ)
+pub send_owes : (c : Config) (first : Contents) (h : History) (d : Direction) (id : Name) (k : ℕ)
     → IsConfig c
     → IsSound c h
     → id < 65536
     → refusal c h (Send d id k) ≡ None
-    → Owes c h (entry c h (Send d id k))
-send_owes c h d id k good sound i accepted =
+    → Owes c h (entry c first h (Send d id k))
+send_owes c first h d id k good sound i accepted =
     let t =
     two_pass (not (is_open (sender h d id)))
     ((k == 0) || nat_lt (parts_open c (sender h d id)) k) NotOpen NoSuchPart accepted in
-    record {
-      opens = λ e j u f. absurd cc;
-      retires = λ e j r. absurd cc;
-      puts = puts_part (sender h d id) refl t.0 t.1;
-      takes = λ l n f. inl f;
-      hears = λ e j. inl refl;
-      clocks = sound.clocks;
-    }
+    calm_owes c h (entry c first h (Send d id k)) (record {
+      opens = refl;
+      retires = λ e j. refl;
+      takes = λ l. refl;
+      hears = λ e j. refl;
+      ticks = λ side. refl;
+    }) sound (puts_part (sender h d id) refl t.0 t.1)
   where
     puts_part : (s : Sender)
         → sender h d id ≡ s
@@ -164,7 +164,7 @@ send_owes c h d id k good sound i accepted =
         → ((k == 0) || nat_lt (parts_open c s) k) ≡ false
         → (n : ℕ) (p : SentPacket)
         → slice_get (send_puts c h d id k s) n ≡ Some p
-        → IsSoundPacket c (entry c h (Send d id k) ∷ h) p
+        → IsSoundPacket c (entry c first h (Send d id k) ∷ h) p
     puts_part FreeSender is t u n p f = absurd cc
     puts_part ClosedSender is t u n p f = absurd cc
     puts_part (OpenSender m) is t u n p f =
@@ -176,7 +176,7 @@ send_owes c h d id k good sound i accepted =
         let last : k ≤ part_count (length m) c.part_size =
         not_lt (part_count (length m) c.part_size) k
         (or_false_r (k == 0) (nat_lt (part_count (length m) c.part_size) k) u) in
-        let now : IsPartOfCurrent c (entry c h (Send d id k) ∷ h) d (nth_part c.part_size id m k) =
+        let now : IsPartOfCurrent c (entry c first h (Send d id k) ∷ h) d (nth_part c.part_size id m k) =
         record {
           opening = o.0;
           is_current = o.1;
@@ -185,37 +185,52 @@ send_owes c h d id k good sound i accepted =
           is_part = ap (λ b. nth_part c.part_size id b k) (sym o.2);
         } in
         let arrives = packet_arrives c h d id m k good sound splits i one last in
-        subst (λ x. IsSoundPacket c (entry c h (Send d id k) ∷ h) x) (only_element _ n p f)
+        subst (λ x. IsSoundPacket c (entry c first h (Send d id k) ∷ h) x) (only_element _ n p f)
         (record {
           is_read = subst (λ a. IsRead a) (sym arrives) tt;
           part =
-              λ q e. subst (λ r. IsPartOfCurrent c (entry c h (Send d id k) ∷ h) d r)
+              λ q e. subst (λ r. IsPartOfCurrent c (entry c first h (Send d id k) ∷ h) d r)
               (same_part (sym arrives ∙ e)) now;
         })
 
 -- ---- finishing
 
--- an event that puts, takes and opens nothing pays what it owes
-pub finish_owes : (c : Config) (h : History) (d : Direction) (id : Name)
+-- closing a sender is calm, and puts nothing
+pub finish_owes : (c : Config) (first : Contents) (h : History) (d : Direction) (id : Name)
     → IsSound c h
-    → Owes c h (entry c h (Finish d id))
-finish_owes c h d id sound = record {
-  opens = λ e j u f. absurd cc;
-  retires = λ e j r. absurd cc;
-  puts = λ k p f. absurd (no_place k p f);
-  takes = λ l n f. inl f;
-  hears = λ e j. inl refl;
-  clocks = sound.clocks;
-}
+    → Owes c h (entry c first h (Finish d id))
+finish_owes c first h d id sound =
+    calm_owes c h (entry c first h (Finish d id)) (record {
+      opens = refl;
+      retires = λ e j. refl;
+      takes = λ l. refl;
+      hears = λ e j. refl;
+      ticks = λ side. refl;
+    }) sound (λ k p f. absurd (no_place k p f))
+
+-- ---- losing
+
+-- losing a packet is calm, and puts nothing
+pub lose_owes : (c : Config) (first : Contents) (h : History) (n : ℕ)
+    → IsSound c h
+    → Owes c h (entry c first h (Lose n))
+lose_owes c first h n sound =
+    calm_owes c h (entry c first h (Lose n)) (record {
+      opens = refl;
+      retires = λ e j. refl;
+      takes = λ l. refl;
+      hears = λ e j. refl;
+      ticks = λ side. refl;
+    }) sound (λ k p f. absurd (no_place k p f))
 
 -- ---- taking
 
 -- taking a packet pays what it owes
-pub take_owes : (c : Config) (h : History) (l : Lane) (n : ℕ)
+pub take_owes : (c : Config) (first : Contents) (h : History) (l : Lane) (n : ℕ)
     → IsSound c h
     → refusal c h (Take l n) ≡ None
-    → Owes c h (entry c h (Take l n))
-take_owes c h l n sound accepted =
+    → Owes c h (entry c first h (Take l n))
+take_owes c first h l n sound accepted =
     let t =
     two_pass (is_some (hand h l))
     (not (is_held h n && goes h (lane_direction l) n)) HandFull NotHeld accepted in

@@ -1,5 +1,5 @@
 -- What holds of every legal journal: each event pays what it owes, so each history is sound.
-use Rattle.std.proofs.Common.{◌≡◌, ◌∙◌, ap, sym, refl, ℕ, true, false, not, List, [], ◌∷◌, Option, Some, None}
+use Rattle.std.proofs.Common.{◌≡◌, ◌∙◌, ap, sym, subst, refl, ℕ, zero, suc, true, false, not, List, [], ◌∷◌, Option, Some, None}
 use Rattle.std.specs.List.{slice_get}
 use Rattle.std.specs.Option.{is_some, option_map_or}
 use Rattle.std.specs.FinMap as map
@@ -13,23 +13,29 @@ use Rattle.lpt_events.specs.Lanes.{lane_direction}
 use Rattle.lpt_events.specs.declared.config.Config.{Config}
 use Rattle.lpt_events.specs.Arrivals.{NotRead, APart}
 use Rattle.lpt_events.specs.declared.event.Event.{Event}
-use Rattle.lpt_events.specs.declared.event.Event.TheVariants.{Open, Send, Plain, Finish, Take, Deliver, Tick, Expire}
+use Rattle.lpt_events.specs.declared.event.Event.TheVariants.{Open, Send, Plain, Finish, Lose, Take, Deliver, Tick, Expire}
 use Rattle.lpt_events.specs.declared.fault.StepFault.TheVariants.{HandEmpty}
+use Rattle.lpt_events.specs.declared.outcome.Outcome.{Outcome}
+use Rattle.lpt_events.specs.declared.reply.Answer.TheVariants.{Delivered}
+use Rattle.lpt_events.specs.Sides.{direction_to}
+use Rattle.lpt_journal.specs.Delivery.{outcome}
 use Rattle.lpt_journal.specs.Journal.{Recorded, History, hand, arrival_at, in_hand}
 use Rattle.lpt_journal.specs.Releases.{released_by}
 use Rattle.lpt_events.specs.Configs.{IsConfig}
-use Rattle.lpt_journal.specs.Replies.{entry, recorded, refusal, IsEnabled, Legal}
+use Rattle.lpt_journal.specs.Expiry.{due}
+use Rattle.lpt_journal.specs.Replies.{answer, expired_now, entry, recorded, refusal, IsEnabled, Legal}
 use Rattle.lpt_journal.proofs.MemoryLemmas.{memories_stay}
-use Rattle.lpt_journal.specs.Headline.{PartsAreCurrent, EachIsLastOpened, IsSoundDelivery, DeliveriesAreSound, Headline}
+use Rattle.lpt_journal.specs.Headline.{PartsAreCurrent, EachIsLastOpened, IsSoundOutcome, IsSoundDelivery, DeliveriesAreSound, DeliveriesWereSound, Headline}
 use Rattle.lpt_journal.proofs.TestLemmas.{one_passes, no_place}
 use Rattle.lpt_journal.proofs.Steps.{IsSound, Owes}
 use Rattle.lpt_journal.proofs.Soundness.{hand_current, sound_step}
-use Rattle.lpt_journal.proofs.Events.{open_owes, send_owes, finish_owes, take_owes}
+use Rattle.lpt_journal.proofs.Events.{open_owes, send_owes, finish_owes, take_owes, lose_owes}
 use Rattle.lpt_journal.proofs.PlainEvents.{plain_owes}
 use Rattle.lpt_journal.proofs.TimeEvents.{tick_owes, expire_owes}
 use Rattle.lpt_journal.proofs.Deliveries.{delivery_sound, deliver_owes}
 use Rattle.lpt_journal.proofs.Releasing.{OwesReleases, ArePast, opening_is}
 use Rattle.lpt_journal.proofs.OnceLemmas.{past_step}
+use Rattle.lpt_memory.specs.Memories.{Contents}
 use Rattle.lpt_journal.proofs.DeliveredReleases.{deliver_releases}
 
 -- ---- each event
@@ -45,21 +51,22 @@ delivered : (c : Config) (h : History) (l : Lane)
 delivered c h l e = in_its_hand (hand h l) (one_passes (not (is_some (hand h l))) HandEmpty e)
 
 -- an event that can happen pays what it owes
-pub owes : (c : Config) (h : History) (e : Event)
+pub owes : (c : Config) (first : Contents) (h : History) (e : Event)
     → IsConfig c
     → IsSound c h
     → IsEnabled c h e
-    → Owes c h (entry c h e)
-owes c h (Open d id m) good sound can = open_owes c h d id m sound can.accepted
-owes c h (Send d id k) good sound can = send_owes c h d id k good sound can.in_range.0 can.accepted
-owes c h (Plain flags service subtype body) good sound can =
-    plain_owes c h flags service subtype body good sound can.in_range can.accepted
-owes c h (Finish d id) good sound can = finish_owes c h d id sound
-owes c h (Tick side) good sound can = tick_owes c h side sound can.accepted
-owes c h (Expire side) good sound can = expire_owes c h side good sound
-owes c h (Take l n) good sound can = take_owes c h l n sound can.accepted
-owes c h (Deliver l) good sound can =
-    let n = delivered c h l can.accepted in deliver_owes c h l n.0 sound n.1
+    → Owes c h (entry c first h e)
+owes c first h (Open d id m) good sound can = open_owes c first h d id m sound can.accepted
+owes c first h (Send d id k) good sound can = send_owes c first h d id k good sound can.in_range.0 can.accepted
+owes c first h (Plain flags service subtype body) good sound can =
+    plain_owes c first h flags service subtype body good sound can.in_range can.accepted
+owes c first h (Finish d id) good sound can = finish_owes c first h d id sound
+owes c first h (Lose n) good sound can = lose_owes c first h n sound
+owes c first h (Tick side) good sound can = tick_owes c first h side sound can.accepted
+owes c first h (Expire side) good sound can = expire_owes c first h side good sound
+owes c first h (Take l n) good sound can = take_owes c first h l n sound can.accepted
+owes c first h (Deliver l) good sound can =
+    let n = delivered c h l can.accepted in deliver_owes c first h l n.0 sound n.1
 
 -- an event that releases nothing owes nothing for it
 quiet : (c : Config) (h : History) (x : Recorded) → released_by c x h ≡ [] → OwesReleases c h x
@@ -70,14 +77,14 @@ quiet c h x none = record {
 }
 
 -- an event that can happen pays what it owes for what it releases
-pub owes_releases : (c : Config) (h : History) (e : Event)
+pub owes_releases : (c : Config) (first : Contents) (h : History) (e : Event)
     → IsConfig c
     → IsSound c h
     → IsEnabled c h e
-    → OwesReleases c h (entry c h e)
-owes_releases c h (Deliver l) good sound can =
-    let n = delivered c h l can.accepted in deliver_releases c h l n.0 good sound n.1
-owes_releases c h e good sound can = quiet c h (entry c h e) refl
+    → OwesReleases c h (entry c first h e)
+owes_releases c first h (Deliver l) good sound can =
+    let n = delivered c h l can.accepted in deliver_releases c first h l n.0 good sound n.1
+owes_releases c first h e good sound can = quiet c h (entry c first h e) refl
 
 -- ---- every journal
 
@@ -101,17 +108,17 @@ past_start c = record {
 }
 
 -- the history of every legal journal is sound, and so are its releases
-pub every : (c : Config) (es : List Event)
+pub every : (c : Config) (first : Contents) (es : List Event)
     → IsConfig c
-    → Legal c es
-    → IsSound c (recorded c es) × ArePast c (recorded c es)
-every c [] good legal = (sound_start c good, past_start c)
-every c (e ∷ es) good legal =
-    let h = recorded c es in
-    let had = every c es good legal.0 in
-    let pays = owes c h e good had.0 legal.1 in (
-      sound_step c h (entry c h e) pays had.0,
-      past_step c h (entry c h e) pays had.0 (owes_releases c h e good had.0 legal.1) had.1,
+    → Legal c first es
+    → IsSound c (recorded c first es) × ArePast c (recorded c first es)
+every c first [] good legal = (sound_start c good, past_start c)
+every c first (e ∷ es) good legal =
+    let h = recorded c first es in
+    let had = every c first es good legal.0 in
+    let pays = owes c first h e good had.0 legal.1 in (
+      sound_step c h (entry c first h e) pays had.0,
+      past_step c first h (entry c first h e) pays had.0 (owes_releases c first h e good had.0 legal.1) had.1,
     )
 
 -- ---- the main theorem
@@ -156,15 +163,47 @@ deliveries c h sound l full = go (hand h l) refl full where
   go None is k = absurd cc
   go (Some n) is k = delivery_sound c h l n sound is
 
+-- an event that delivered has delivered what was in a lane's hand
+delivered_sound : (c : Config) (first : Contents) (h : History) (e : Event) (o : Outcome)
+    → IsSound c h
+    → refusal c h e ≡ None
+    → answer c first h e ≡ Delivered o
+    → IsSoundOutcome o
+delivered_sound c first h (Deliver l) o sound can is =
+    let n = delivered c h l can in
+    let same : outcome c h l ≡ o = cc in
+    subst IsSoundOutcome same (delivery_sound c h l n.0 sound n.1)
+delivered_sound c first h (Expire side) o sound can is =
+    absurd (none_delivered (due c h (direction_to side)) is)
+  where
+    none_delivered : (d : Option Name) → expired_now (direction_to side) d ≡ Delivered o → ⊥
+    none_delivered None e = cc
+    none_delivered (Some id) e = cc
+delivered_sound c first h e o sound can is = absurd cc
+
+each_delivered : (c : Config) (first : Contents) (es : List Event)
+    → IsConfig c
+    → Legal c first es
+    → DeliveriesWereSound (recorded c first es)
+each_delivered c first [] good legal k x o f is = absurd (no_place k x f)
+each_delivered c first (e ∷ es) good legal zero x o f is =
+    let h = recorded c first es in
+    let same : entry c first h e ≡ x = cc in
+    delivered_sound c first h e o (every c first es good legal.0).0 legal.1.accepted
+    (ap (λ (y : Recorded). y.reply.answer) same ∙ is)
+each_delivered c first (e ∷ es) good legal (suc k) x o f is =
+    each_delivered c first es good legal.0 k x o f is
+
 -- the main theorem
 pub headline : Headline
-headline c es good legal =
-    let h = recorded c es in
-    let all = every c es good legal in
+headline c first es good legal =
+    let h = recorded c first es in
+    let all = every c first es good legal in
     record {
       parts = parts_current c h all.0;
       messages = each_last c h all.1;
       once = all.1.once;
       deliveries = deliveries c h all.0;
-      memories = λ first. memories_stay c first h;
+      delivered = each_delivered c first es good legal;
+      memories = memories_stay c first h;
     }

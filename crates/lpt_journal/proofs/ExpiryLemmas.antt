@@ -22,6 +22,7 @@ use Rattle.lpt_journal.proofs.OnceLemmas.{clash, flipped, old_opening, new_openi
 use Rattle.lpt_journal.proofs.Releasing.{IsReleaseOf, OwesReleases, IsPast, ArePast, before_old, before_new, opening_is, is_large, closed_stays, was_current, new_past, old_past}
 use Rattle.lpt_journal.proofs.Steps.{IsSound, Owes}
 use Rattle.lpt_journal.proofs.TestLemmas.{no_place, IsOldOrNew, with_all_cases}
+use Rattle.lpt_memory.specs.Memories.{Contents}
 use Rattle.lpt_journal.proofs.ExpiryOwed.{transaction, as_release, IsExpiryOf, owes_expiry}
 
 -- ---- what holds of past expiries
@@ -91,14 +92,14 @@ module _ (c : Config) (h : History) (x : Recorded) (pays : Owes c h x) (sound : 
             → is_closed (x ∷ h) e.direction e.id ≡ true
         go (inl old) =
             let p = (gone.each j e old).1 in
-            let first : opening_of_expiry h e ≡ Some o = expired_before j e o old was in
+            let first_is : opening_of_expiry h e ≡ Some o = expired_before j e o old was in
             let same : p.opening ≡ o =
             let is : opening_of_expiry h e ≡ Some p.opening = p.is_current in cc in
             let older : u.place < length h =
             let q : p.opening.place ≡ o.place =
             ap (λ (v : Opening). v.place) same in omega (arith, p.was_before) in
             let w = was_current c h x e.direction e.id u pays now older in
-            closed_stays h x e.direction e.id (gone.closed j e o u old first w.0 at) w.1
+            closed_stays h x e.direction e.id (gone.closed j e o u old first_is w.0 at) w.1
         go (inr fresh) = (ends_now fresh.0 e fresh.2).ends_it.is_ended
 
   -- a new release hasn't the opening of an old expiry: that transaction is closed
@@ -161,25 +162,25 @@ expired_start c = record {
   unreleased = λ j k e r o u f g is_o is_u same. no_place j e f;
 }
 
-every_expired : (c : Config) (es : List Event)
+every_expired : (c : Config) (first : Contents) (es : List Event)
     → IsConfig c
-    → Legal c es
-    → AreExpired c (recorded c es) × NothingIsKept c (recorded c es)
-every_expired c [] good legal = (expired_start c, λ d id e. absurd cc)
-every_expired c (ev ∷ es) good legal =
-    let h = recorded c es in
-    let had = every c es good legal.0 in
-    let gone = every_expired c es good legal.0 in (
-      expired_step c h (entry c h ev) (owes c h ev good had.0 legal.1) had.0
-          (owes_releases c h ev good had.0 legal.1)
-          (owes_expiry c h ev had.0 gone.1 legal.1.accepted) had.1 gone.0,
-      unheard_step c h ev gone.1,
+    → Legal c first es
+    → AreExpired c (recorded c first es) × NothingIsKept c (recorded c first es)
+every_expired c first [] good legal = (expired_start c, λ d id e. absurd cc)
+every_expired c first (ev ∷ es) good legal =
+    let h = recorded c first es in
+    let had = every c first es good legal.0 in
+    let gone = every_expired c first es good legal.0 in (
+      expired_step c h (entry c first h ev) (owes c first h ev good had.0 legal.1) had.0
+          (owes_releases c first h ev good had.0 legal.1)
+          (owes_expiry c first h ev had.0 gone.1 legal.1.accepted) had.1 gone.0,
+      unheard_step c first h ev gone.1,
     )
 
 -- an opening whose reception expired is never released, and of an ended reception nothing is kept
 pub expiry_is_final : ExpiryIsFinal
-expiry_is_final c es good legal =
-    let all = every_expired c es good legal in
+expiry_is_final c first es good legal =
+    let all = every_expired c first es good legal in
     record {
       opened = λ j e f. ap is_some (all.0.each j e f).1.is_current;
       unreleased = all.0.unreleased;

@@ -24,6 +24,7 @@ use Rattle.lpt_journal.proofs.DueLemmas.{Earliest, earliest_is, overdue_names, i
 use Rattle.lpt_journal.proofs.Events.{only_element}
 use Rattle.lpt_journal.proofs.Releasing.{IsReleaseOf}
 use Rattle.lpt_journal.proofs.Steps.{IsSound}
+use Rattle.lpt_memory.specs.Memories.{Contents}
 use Rattle.lpt_journal.proofs.TestLemmas.{and_r, not_false, one_passes, no_place}
 
 -- ---- what an entry owes for what expires
@@ -67,14 +68,14 @@ open_still true has none e = let no : has ≡ false = none refl in absurd cc
 open_still false has none e = refl
 
 -- an event that can happen pays what it owes for what expires
-pub owes_expiry : (c : Config) (h : History) (ev : Event)
+pub owes_expiry : (c : Config) (first : Contents) (h : History) (ev : Event)
     → IsSound c h
     → NothingIsKept c h
     → refusal c h ev ≡ None
     → (j : ℕ) (e : Expiry)
-    → slice_get (expiry_at (length h) (entry c h ev).reply.answer) j ≡ Some e
-    → IsExpiryOf c h (entry c h ev) e
-owes_expiry c h (Expire side) sound none can j e f =
+    → slice_get (expiry_at (length h) (entry c first h ev).reply.answer) j ≡ Some e
+    → IsExpiryOf c h (entry c first h ev) e
+owes_expiry c first h (Expire side) sound none can j e f =
     go (due c h (direction_to side)) refl
     (not_false (is_some (due c h (direction_to side)))
     (one_passes (not (is_some (due c h (direction_to side)))) NothingDue can)) f where
@@ -82,7 +83,7 @@ owes_expiry c h (Expire side) sound none can j e f =
           → due c h (direction_to side) ≡ o
           → is_some o ≡ true
           → slice_get (expiry_at (length h) (expired_now (direction_to side) o)) j ≡ Some e
-          → IsExpiryOf c h (entry c h (Expire side)) e
+          → IsExpiryOf c h (entry c first h (Expire side)) e
       go None is t k = absurd cc
       go (Some id) is t k =
           let of : record { place = length h; direction = direction_to side; id = id } ≡ e =
@@ -92,14 +93,14 @@ owes_expiry c h (Expire side) sound none can j e f =
           let was : is_closed h (direction_to side) id ≡ false =
           open_still (is_closed h (direction_to side) id)
           (has_parts (heard c h (direction_to side) id)) (none (direction_to side) id) has in
-          let now : is_closed (entry c h (Expire side) ∷ h) (direction_to side) id ≡ true =
+          let now : is_closed (entry c first h (Expire side) ∷ h) (direction_to side) id ≡ true =
           ap (λ (o : Option Name).
           (same_side side (receiver_side (direction_to side))
           && ends (expired_now (direction_to side) o) id)
           || is_closed h (direction_to side) id) is
           ∙ (λ i. (receives_there side i && same_name-refl id i)
           || is_closed h (direction_to side) id) in
-          subst (λ (y : Expiry). IsExpiryOf c h (entry c h (Expire side)) y) of (record {
+          subst (λ (y : Expiry). IsExpiryOf c h (entry c first h (Expire side)) y) of (record {
             place = refl;
             message = opening.0.message;
             ends_it = record {
@@ -111,4 +112,4 @@ owes_expiry c h (Expire side) sound none can j e f =
             };
             releases_none = λ m r n. no_place m r n;
           })
-owes_expiry c h ev sound none can j e f = absurd (no_place j e f)
+owes_expiry c first h ev sound none can j e f = absurd (no_place j e f)

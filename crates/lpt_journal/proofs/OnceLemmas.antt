@@ -13,6 +13,7 @@ use Rattle.lpt_journal.specs.Releases.{released_by, releases}
 use Rattle.lpt_journal.specs.Headline.{opening_of, IsSameOpening, AtMostOncePerOpening}
 use Rattle.lpt_journal.proofs.TestLemmas.{IsOldOrNew, with_all_cases}
 use Rattle.lpt_journal.proofs.Steps.{IsSound, Owes}
+use Rattle.lpt_memory.specs.Memories.{Contents}
 use Rattle.lpt_journal.proofs.Releasing.{IsReleaseOf, OwesReleases, opening_then, ArePast, before_old, before_new, opening_is, is_large, each_step, closed_step}
 
 -- ---- once per opening
@@ -110,14 +111,14 @@ once_step c h x sound owes past j k r s o u e f is_o is_u same =
           omega (arith, a.1, b.1)
 
 -- what holds of past releases holds again after an entry that pays what it owes
-pub past_step : (c : Config) (h : History) (x : Recorded)
+pub past_step : (c : Config) (first : Contents) (h : History) (x : Recorded)
     → Owes c h x
     → IsSound c h
     → OwesReleases c h x
     → ArePast c h
     → ArePast c (x ∷ h)
-past_step c h x pays sound owes past = record {
+past_step c first h x pays sound owes past = record {
   each = each_step c h x sound owes past;
-  closed = closed_step c h x pays sound owes past;
+  closed = closed_step c first h x pays sound owes past;
   once = once_step c h x sound owes past;
 }

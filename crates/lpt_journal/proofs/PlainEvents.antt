@@ -12,17 +12,18 @@ use Rattle.lpt_journal.specs.Replies.{plain_packet, plain_puts, IsEvent, refusal
 use Rattle.lpt_journal.specs.Senders.{made, count}
 use Rattle.lpt_journal.proofs.Events.{only_element}
 use Rattle.lpt_journal.proofs.SentParts.{plain_arrives}
-use Rattle.lpt_journal.proofs.Steps.{IsRead, IsSoundPacket, IsSound, Owes}
+use Rattle.lpt_journal.proofs.Steps.{IsRead, IsSoundPacket, IsSound, Owes, calm_owes}
+use Rattle.lpt_memory.specs.Memories.{Contents}
 use Rattle.lpt_journal.proofs.TestLemmas.{two_pass}
 
 -- a plain request pays what it owes: its packet is read, and is no part
-pub plain_owes : (c : Config) (h : History) (flags service subtype : ℕ) (body : List ℕ)
+pub plain_owes : (c : Config) (first : Contents) (h : History) (flags service subtype : ℕ) (body : List ℕ)
     → IsConfig c
     → IsSound c h
     → IsEvent (Plain flags service subtype body)
     → refusal c h (Plain flags service subtype body) ≡ None
-    → Owes c h (entry c h (Plain flags service subtype body))
-plain_owes c h flags service subtype body good sound fits accepted =
+    → Owes c h (entry c first h (Plain flags service subtype body))
+plain_owes c first h flags service subtype body good sound fits accepted =
     let t =
     two_pass (is_part_request service subtype) (is_too_long c (length body)) PartRequest Long
     accepted in
@@ -30,17 +31,16 @@ plain_owes c h flags service subtype body good sound fits accepted =
     let arrives =
     plain_arrives c (count h Up) flags service subtype body good (omega arith) fits.0 fits.1
     fits.2 t.0 t.1 in
-    record {
-      opens = λ e j u f. absurd cc;
-      retires = λ e j r. absurd cc;
-      puts = λ k p f.
-          subst (λ x. IsSoundPacket c (entry c h (Plain flags service subtype body) ∷ h) x)
-          (only_element _ k p f)
-          (record {
-            is_read = subst (λ a. IsRead a) (sym arrives) tt;
-            part = λ q e. let no : ARequest packet ≡ APart q = sym arrives ∙ e in absurd cc;
-          });
-      takes = λ l n f. inl f;
-      hears = λ e j. inl refl;
-      clocks = sound.clocks;
-    }
+    calm_owes c h (entry c first h (Plain flags service subtype body)) (record {
+      opens = refl;
+      retires = λ e j. refl;
+      takes = λ l. refl;
+      hears = λ e j. refl;
+      ticks = λ side. refl;
+    }) sound
+    (λ k p f. subst (λ x. IsSoundPacket c (entry c first h (Plain flags service subtype body) ∷ h) x)
+    (only_element _ k p f)
+    (record {
+      is_read = subst (λ a. IsRead a) (sym arrives) tt;
+      part = λ q e. let no : ARequest packet ≡ APart q = sym arrives ∙ e in absurd cc;
+    }))

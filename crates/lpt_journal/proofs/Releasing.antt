@@ -18,6 +18,7 @@ use Rattle.lpt_journal.specs.Receivers.{ends, closed_after, is_closed}
 use Rattle.lpt_journal.specs.Releases.{released_by, releases}
 use Rattle.lpt_journal.specs.Headline.{before, opening_of, AtMostOncePerOpening}
 use Rattle.lpt_journal.proofs.TestLemmas.{or_true_r, IsOldOrNew, with_all_cases}
+use Rattle.lpt_memory.specs.Memories.{Contents}
 use Rattle.lpt_journal.proofs.Steps.{IsSound, IsKnown, Owes}
 
 -- ---- what an entry owes for what it releases
@@ -202,7 +203,7 @@ each_step c h x sound owes past k r t e of =
           (owes.large fresh.0 r t fresh.2 of)
 
 -- a released transaction is closed after an entry, until it is opened again
-pub closed_step : (c : Config) (h : History) (x : Recorded)
+pub closed_step : (c : Config) (first : Contents) (h : History) (x : Recorded)
     → Owes c h x
     → IsSound c h
     → OwesReleases c h x
@@ -214,7 +215,7 @@ pub closed_step : (c : Config) (h : History) (x : Recorded)
     → current (x ∷ h) t.0 t.1 ≡ Some u
     → u.place ≡ o.place
     → is_closed (x ∷ h) t.0 t.1 ≡ true
-closed_step c h x pays sound owes past k r t o u e of was now at =
+closed_step c first h x pays sound owes past k r t o u e of was now at =
     go (with_all_cases (releases c h) (released_by c x h) k r e) where
       go : IsOldOrNew (releases c h) (released_by c x h) k r
           → is_closed (x ∷ h) t.0 t.1 ≡ true

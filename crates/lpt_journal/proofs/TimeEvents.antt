@@ -24,6 +24,7 @@ use Rattle.lpt_journal.specs.Senders.{count, type_counter}
 use Rattle.lpt_journal.proofs.Events.{only_element}
 use Rattle.lpt_journal.proofs.SentParts.{AreCounts, abort_arrives}
 use Rattle.lpt_journal.proofs.TestLemmas.{one_passes, no_place}
+use Rattle.lpt_memory.specs.Memories.{Contents}
 use Rattle.lpt_journal.proofs.Steps.{IsRead, IsSoundPacket, IsSound, IsHeardNow, Owes}
 
 -- ---- ticks
@@ -39,11 +40,11 @@ one_more : (n : ℕ) → n < 2 ^ 32 → (n == 4294967295) ≡ false → n + 1 < 
 one_more n fits more = grind (arith, nat_tests)
 
 -- a tick pays what it owes
-pub tick_owes : (c : Config) (h : History) (t : Side)
+pub tick_owes : (c : Config) (first : Contents) (h : History) (t : Side)
     → IsSound c h
     → refusal c h (Tick t) ≡ None
-    → Owes c h (entry c h (Tick t))
-tick_owes c h t sound accepted =
+    → Owes c h (entry c first h (Tick t))
+tick_owes c first h t sound accepted =
     let more : (clock c h t == 4294967295) ≡ false =
     one_passes (clock c h t == 4294967295) ClockEnd accepted in
     record {
@@ -98,12 +99,12 @@ puts_report c h g Craft (Some id) k p good sound f =
     report_sound c h g id TimedOut k p good sound f
 
 -- the end of what is due pays what it owes
-pub expire_owes : (c : Config) (h : History) (side : Side)
+pub expire_owes : (c : Config) (first : Contents) (h : History) (side : Side)
     → IsConfig c
     → IsSound c h
-    → Owes c h (entry c h (Expire side))
-expire_owes c h side good sound =
-    let x = entry c h (Expire side) in
+    → Owes c h (entry c first h (Expire side))
+expire_owes c first h side good sound =
+    let x = entry c first h (Expire side) in
     record {
       opens = λ e j u f. absurd cc;
       retires = λ e j r. absurd cc;

@@ -2,6 +2,7 @@
 use Rattle.std.specs.Prelude.{◌≡◌, ℕ, true, false, List, [], ◌∷◌, length, slice_get, Option, Some, is_some}
 use Rattle.lpt_packet.specs.declared.direction.Direction.{Direction}
 use Rattle.lpt_packet.specs.Names.{Name}
+use Rattle.lpt_memory.specs.Memories.{Contents}
 use Rattle.lpt_events.specs.declared.config.Config.{Config}
 use Rattle.lpt_events.specs.declared.event.Event.{Event}
 use Rattle.lpt_events.specs.declared.reply.Answer.{Answer}
@@ -67,4 +68,7 @@ pub record EndsAreFinal (c : Config) (h : History) : Type 0 where
 -- it holds of every legal journal
 abbrev pub ExpiryIsFinal : Type 0
 ExpiryIsFinal =
-    (c : Config) (es : List Event) → IsConfig c → Legal c es → EndsAreFinal c (recorded c es)
+    (c : Config) (first : Contents) (es : List Event)
+    → IsConfig c
+    → Legal c first es
+    → EndsAreFinal c (recorded c first es)

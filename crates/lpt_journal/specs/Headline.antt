@@ -12,6 +12,7 @@ use Rattle.lpt_reception.specs.Received.{Kept as KeptPart}
 use Rattle.lpt_events.specs.declared.lane.Lane.{Lane}
 use Rattle.lpt_events.specs.Lanes.{lane_direction}
 use Rattle.lpt_events.specs.declared.config.Config.{Config}
+use Rattle.lpt_events.specs.declared.outcome.Outcome.{Outcome}
 use Rattle.lpt_events.specs.declared.outcome.Outcome.TheVariants.{Broken, Ignored}
 use Rattle.lpt_events.specs.declared.outcome.Why.TheVariants.{Unreadable, Idle, ForeignApid, BadPart}
 use Rattle.lpt_events.specs.Arrivals.{APart}
@@ -19,7 +20,8 @@ use Rattle.lpt_events.specs.MadePackets.{nth_part}
 use Rattle.lpt_events.specs.declared.event.Event.{Event}
 use Rattle.lpt_events.specs.declared.entry.Opening.{Opening}
 use Rattle.lpt_events.specs.declared.entry.Release.{Release}
-use Rattle.lpt_journal.specs.Journal.{SentPacket, History, sent, is_held, hand, arrival_of, in_hand}
+use Rattle.lpt_events.specs.declared.reply.Answer.TheVariants.{Delivered}
+use Rattle.lpt_journal.specs.Journal.{SentPacket, Recorded, History, sent, is_held, hand, arrival_of, in_hand}
 use Rattle.lpt_journal.specs.Senders.{current}
 use Rattle.lpt_journal.specs.Receivers.{heard}
 use Rattle.lpt_journal.specs.Delivery.{outcome}
@@ -98,13 +100,25 @@ AtMostOncePerOpening c h =
 
 -- ---- deliveries
 
--- what is delivered is read as a part that contradicts nothing, or as a message that is no part
-pub record IsSoundDelivery (c : Config) (h : History) (l : Lane) : Type 0 where
-  pub not_broken : (id : Name) (reason : Reason) → ¬ (outcome c h l ≡ Broken id reason)
-  pub not_bad_part : ¬ (outcome c h l ≡ Ignored BadPart)
-  pub not_idle : ¬ (outcome c h l ≡ Ignored Idle)
-  pub not_foreign : ¬ (outcome c h l ≡ Ignored ForeignApid)
-  pub not_unreadable : ¬ (outcome c h l ≡ Ignored Unreadable)
+-- what was delivered is read as a part that contradicts nothing, or as a message that is no part
+pub record IsSoundOutcome (o : Outcome) : Type 0 where
+  pub not_broken : (id : Name) (reason : Reason) → ¬ (o ≡ Broken id reason)
+  pub not_bad_part : ¬ (o ≡ Ignored BadPart)
+  pub not_idle : ¬ (o ≡ Ignored Idle)
+  pub not_foreign : ¬ (o ≡ Ignored ForeignApid)
+  pub not_unreadable : ¬ (o ≡ Ignored Unreadable)
+
+-- what would become of the packet in a lane's hand is sound
+abbrev pub IsSoundDelivery : Config → History → Lane → Type 0
+IsSoundDelivery c h l = IsSoundOutcome (outcome c h l)
+
+-- each delivery that happened was sound
+abbrev pub DeliveriesWereSound : History → Type 0
+DeliveriesWereSound h =
+    (k : ℕ) (x : Recorded) (o : Outcome)
+    → slice_get h k ≡ Some x
+    → x.reply.answer ≡ Delivered o
+    → IsSoundOutcome o
 
 -- whatever lane has a packet in its hand, its delivery is sound
 abbrev pub DeliveriesAreSound : Config → History → Type 0
@@ -113,21 +127,27 @@ DeliveriesAreSound c h = (l : Lane) → is_some (hand h l) ≡ true → IsSoundD
 -- ---- memories
 
 -- so far nothing is executed, so memories keep their first content
-abbrev pub MemoriesStay : Config → History → Type 0
-MemoriesStay c h = (first : Contents) → memories c first h ≡ first
+abbrev pub MemoriesStay : Config → Contents → History → Type 0
+MemoriesStay c first h = memories c first h ≡ first
 
 -- ---- the main theorem
 
 -- Every part on its way or heard is of the message last opened under its name. Each large message
--- that was released is the one last opened under its name, and that once. Deliveries are sound.
+-- that was released is the one last opened under its name, and that once. Deliveries are and were
+-- sound.
 -- Memories keep their first content.
-pub record Holds (c : Config) (h : History) : Type 0 where
+pub record Holds (c : Config) (first : Contents) (h : History) : Type 0 where
   pub parts : PartsAreCurrent c h
   pub messages : EachIsLastOpened c h
   pub once : AtMostOncePerOpening c h
   pub deliveries : DeliveriesAreSound c h
-  pub memories : MemoriesStay c h
+  pub delivered : DeliveriesWereSound h
+  pub memories : MemoriesStay c first h
 
 -- it holds of every legal journal, whatever its events, their order and their number
 abbrev pub Headline : Type 0
-Headline = (c : Config) (es : List Event) → IsConfig c → Legal c es → Holds c (recorded c es)
+Headline =
+    (c : Config) (first : Contents) (es : List Event)
+    → IsConfig c
+    → Legal c first es
+    → Holds c first (recorded c first es)

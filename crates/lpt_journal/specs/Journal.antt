@@ -1,7 +1,7 @@
 -- The history that a journal tells: each event with what it gave. The link and the lanes' hands.
 --
 -- A history has its newest event first. What it says of anything is a short recursion from there.
-use Rattle.std.specs.Prelude.{ℕ, nat_lt, Bool, true, false, not, ◌&&◌, ◌||◌, if◌then◌else◌, List, [], ◌∷◌, ◌++◌, length, slice_get, Option, Some, None}
+use Rattle.std.specs.Prelude.{ℕ, nat_lt, ◌==◌, Bool, true, false, not, ◌&&◌, ◌||◌, if◌then◌else◌, List, [], ◌∷◌, ◌++◌, length, slice_get, Option, Some, None}
 use Rattle.std.specs.Option.{option_map_or}
 use Rattle.lpt_packet.specs.declared.direction.Direction.{Direction}
 use Rattle.lpt_events.specs.declared.lane.Lane.{Lane}
@@ -10,7 +10,7 @@ use Rattle.lpt_events.specs.Sides.{receiver_side}
 use Rattle.lpt_events.specs.declared.config.Config.{Config}
 use Rattle.lpt_events.specs.Arrivals.{Arrival, NotRead, arrival}
 use Rattle.lpt_events.specs.declared.event.Event.{Event}
-use Rattle.lpt_events.specs.declared.event.Event.TheVariants.{Take, Deliver}
+use Rattle.lpt_events.specs.declared.event.Event.TheVariants.{Lose, Take, Deliver}
 use Rattle.lpt_events.specs.declared.reply.Reply.{Reply}
 use Rattle.lpt_events.specs.declared.entry.Opening.{Opening}
 
@@ -42,8 +42,9 @@ abbrev pub sent : History → List SentPacket
 sent [] = []
 sent (x ∷ h) = with_all (sent h) x.puts
 
--- whether an event loses the packet numbered n; so far none does
+-- whether an event loses the packet numbered n
 abbrev pub loses : Event → ℕ → Bool
+loses (Lose k) n = n == k
 loses _ n = false
 
 -- whether the packet numbered n was lost

@@ -4,6 +4,7 @@ use Rattle.lpt_packet.specs.declared.direction.Direction.{Direction}
 use Rattle.lpt_packet.specs.declared.direction.Direction.TheVariants.{Up, Down}
 use Rattle.lpt_packet.specs.Names.{Name}
 use Rattle.lpt_packet.specs.Numbers.{IsOctets}
+use Rattle.lpt_memory.specs.Memories.{Contents}
 use Rattle.lpt_part.specs.declared.reason.Reason.{Reason}
 use Rattle.lpt_part.specs.declared.reason.Reason.TheVariants as reason
 use Rattle.lpt_part.specs.Parts.{Piece}
@@ -18,9 +19,9 @@ use Rattle.lpt_events.specs.Arrivals.{part_subtype}
 use Rattle.lpt_events.specs.MadePackets.{nth_part, part_made, abort_made, tc_made}
 use Rattle.lpt_events.specs.Requests.{is_part_request, is_too_long}
 use Rattle.lpt_events.specs.declared.event.Event.{Event}
-use Rattle.lpt_events.specs.declared.event.Event.TheVariants.{Open, Send, Plain, Finish, Take, Deliver, Tick, Expire}
+use Rattle.lpt_events.specs.declared.event.Event.TheVariants.{Open, Send, Plain, Finish, Lose, Take, Deliver, Tick, Expire}
 use Rattle.lpt_events.specs.declared.reply.Answer.{Answer}
-use Rattle.lpt_events.specs.declared.reply.Answer.TheVariants.{Opened, Put, Finished, Took, Delivered, Clock, Expired}
+use Rattle.lpt_events.specs.declared.reply.Answer.TheVariants.{Opened, Put, Finished, Lost, Took, Delivered, Clock, Expired}
 use Rattle.lpt_events.specs.declared.reply.Puts.{Puts}
 use Rattle.lpt_events.specs.declared.reply.Reply.{Reply}
 use Rattle.lpt_events.specs.declared.entry.Opening.{Opening}
@@ -41,15 +42,16 @@ expired_now d None = Expired d 0
 expired_now d (Some id) = Expired d id
 
 -- what is particular to the event in its reply
-abbrev pub answer : Config → History → Event → Answer
-answer c h (Open d id m) = Opened (part_count (length m) c.part_size)
-answer c h (Send d id k) = Put (length (sent h))
-answer c h (Plain flags service subtype body) = Put (length (sent h))
-answer c h (Finish d id) = Finished
-answer c h (Take l n) = Took n
-answer c h (Deliver l) = Delivered (outcome c h l)
-answer c h (Tick side) = Clock (clock c h side + 1)
-answer c h (Expire side) = expired_now (direction_to side) (due c h (direction_to side))
+abbrev pub answer : Config → Contents → History → Event → Answer
+answer c first h (Open d id m) = Opened (part_count (length m) c.part_size)
+answer c first h (Send d id k) = Put (length (sent h))
+answer c first h (Plain flags service subtype body) = Put (length (sent h))
+answer c first h (Finish d id) = Finished
+answer c first h (Lose n) = Lost
+answer c first h (Take l n) = Took n
+answer c first h (Deliver l) = Delivered (outcome c h l)
+answer c first h (Tick side) = Clock (clock c h side + 1)
+answer c first h (Expire side) = expired_now (direction_to side) (due c h (direction_to side))
 
 -- the octets of a part's packet that the sender makes now
 abbrev pub part_packet : Config → History → Direction → Piece → List ℕ
@@ -94,17 +96,17 @@ expiry_puts c h side None = []
 expiry_puts c h side (Some id) = abort_puts c h side id reason.Expired
 
 -- the packets that an event puts on the link
-abbrev pub puts : Config → History → Event → List SentPacket
-puts c h (Send d id k) = send_puts c h d id k (sender h d id)
-puts c h (Plain flags service subtype body) = plain_puts c h flags service subtype body
-puts c h (Deliver l) = outcome_puts c h (receiver_side (lane_direction l)) (outcome c h l)
-puts c h (Expire side) = expiry_puts c h side (due c h (direction_to side))
-puts c h _ = []
+abbrev pub puts : Config → Contents → History → Event → List SentPacket
+puts c first h (Send d id k) = send_puts c h d id k (sender h d id)
+puts c first h (Plain flags service subtype body) = plain_puts c h flags service subtype body
+puts c first h (Deliver l) = outcome_puts c h (receiver_side (lane_direction l)) (outcome c h l)
+puts c first h (Expire side) = expiry_puts c h side (due c h (direction_to side))
+puts c first h _ = []
 
 -- the transactions that an event opens
-abbrev pub opens : Config → History → Event → List Opening
-opens c h (Open d id m) = record { place = length h; direction = d; id = id; message = m } ∷ []
-opens c h _ = []
+abbrev pub opens : Config → Contents → History → Event → List Opening
+opens c first h (Open d id m) = record { place = length h; direction = d; id = id; message = m } ∷ []
+opens c first h _ = []
 
 -- how a reply tells of packets that were put, the first of which got this number
 abbrev pub told : ℕ → List SentPacket → Option Puts
@@ -112,19 +114,19 @@ told first [] = None
 told first (p ∷ ps) = Some (record { first = first; count = length (p ∷ ps) })
 
 -- what an event answers
-abbrev pub reply : Config → History → Event → Reply
-reply c h e = record { answer = answer c h e; puts = told (length (sent h)) (puts c h e) }
+abbrev pub reply : Config → Contents → History → Event → Reply
+reply c first h e = record { answer = answer c first h e; puts = told (length (sent h)) (puts c first h e) }
 
 -- ---- journals
 
 -- an event with what it gives after this history
-abbrev pub entry : Config → History → Event → Recorded
-entry c h e = record { event = e; reply = reply c h e; puts = puts c h e; opens = opens c h e }
+abbrev pub entry : Config → Contents → History → Event → Recorded
+entry c first h e = record { event = e; reply = reply c first h e; puts = puts c first h e; opens = opens c first h e }
 
 -- the history of a journal, whose newest event stands first
-abbrev pub recorded : Config → List Event → History
-recorded c [] = []
-recorded c (e ∷ es) = let h = recorded c es in entry c h e ∷ h
+abbrev pub recorded : Config → Contents → List Event → History
+recorded c first [] = []
+recorded c first (e ∷ es) = let h = recorded c first es in entry c first h e ∷ h
 
 -- ---- refusals
 
@@ -152,6 +154,7 @@ reasons c h (Plain flags service subtype body) =
     (is_part_request service subtype, PartRequest)
     ∷ (is_too_long c (length body), Long) ∷ []
 reasons c h (Finish d id) = (not (is_open (sender h d id)), NotOpen) ∷ []
+reasons c h (Lose n) = (not (is_held h n), NotHeld) ∷ []
 reasons c h (Take l n) =
     (is_some (hand h l), HandFull)
     ∷ (not (is_held h n && goes h (lane_direction l) n), NotHeld) ∷ []
@@ -172,7 +175,11 @@ IsEvent (Send d id k) = (id < 65536) × (k < 65536)
 IsEvent (Plain flags service subtype body) =
     (flags < 16) × (service < 256) × (subtype < 256) × IsOctets body
 IsEvent (Finish d id) = id < 65536
-IsEvent _ = ⊤
+IsEvent (Lose n) = ⊤
+IsEvent (Take l n) = ⊤
+IsEvent (Deliver l) = ⊤
+IsEvent (Tick side) = ⊤
+IsEvent (Expire side) = ⊤
 
 -- an event can happen after this history
 pub record IsEnabled (c : Config) (h : History) (e : Event) : Type 0 where
@@ -180,6 +187,6 @@ pub record IsEnabled (c : Config) (h : History) (e : Event) : Type 0 where
   pub accepted : refusal c h e ≡ None
 
 -- each event can happen after those before it
-abbrev pub Legal : Config → List Event → Type 0
-Legal c [] = ⊤
-Legal c (e ∷ es) = Legal c es × IsEnabled c (recorded c es) e
+abbrev pub Legal : Config → Contents → List Event → Type 0
+Legal c first [] = ⊤
+Legal c first (e ∷ es) = Legal c first es × IsEnabled c (recorded c first es) e

@@ -11,7 +11,7 @@ use Rattle.lpt_link.specs.declared.fault.LinkFault.TheVariants as link
 use Rattle.lpt_events.specs.declared.lane.Lane.{Lane}
 use Rattle.lpt_link.specs.declared.packet.LinkPacket.{LinkPacket}
 use Rattle.lpt_events.specs.Lanes.{lane_direction}
-use Rattle.lpt_link.specs.Links.{LinkData, empty_link, after_put, after_take as link_after_take, after_drop, packet_in_hand, refusal_take, refusal_drop}
+use Rattle.lpt_link.specs.Links.{LinkData, empty_link, after_put, after_lose, after_take as link_after_take, after_drop, packet_in_hand, refusal_lose, refusal_take, refusal_drop}
 use Rattle.lpt_node.specs.declared.accepted.Accepted.{Accepted}
 use Rattle.lpt_events.specs.declared.config.Config.{Config}
 use Rattle.lpt_node.specs.declared.expired.Expired.{Expired as Ended}
@@ -30,11 +30,11 @@ use Rattle.lpt_node.specs.Times.{refusal_tick, ticked, refusal_expire, expired}
 use Rattle.lpt_events.specs.declared.entry.Opening.{Opening}
 use Rattle.lpt_events.specs.declared.entry.Release.{Release}
 use Rattle.lpt_events.specs.declared.event.Event.{Event}
-use Rattle.lpt_events.specs.declared.event.Event.TheVariants.{Open, Send, Plain, Finish, Take, Deliver, Tick, Expire}
+use Rattle.lpt_events.specs.declared.event.Event.TheVariants.{Open, Send, Plain, Finish, Lose, Take, Deliver, Tick, Expire}
 use Rattle.lpt_events.specs.declared.fault.StepFault.{StepFault}
 use Rattle.lpt_events.specs.declared.fault.StepFault.TheVariants as step
 use Rattle.lpt_events.specs.declared.reply.Answer.{Answer}
-use Rattle.lpt_events.specs.declared.reply.Answer.TheVariants.{Opened, Put, Finished, Took, Delivered, Clock, Expired}
+use Rattle.lpt_events.specs.declared.reply.Answer.TheVariants.{Opened, Put, Finished, Lost, Took, Delivered, Clock, Expired}
 use Rattle.lpt_events.specs.declared.reply.Reply.{Reply}
 use Rattle.lpt_events.specs.Sides.{sender_side, receiver_side, direction_to}
 use Rattle.lpt_journal.specs.Journal.{arrival_in}
@@ -90,6 +90,7 @@ refusal_of c s (Send d id k) = option_map node_fault (refusal_send c (end_of s (
 refusal_of c s (Plain flags service subtype body) =
     option_map node_fault (refusal_plain c service subtype (length body))
 refusal_of c s (Finish d id) = option_map node_fault (refusal_finish (end_of s (sender_side d)) id)
+refusal_of c s (Lose n) = option_map link_fault (refusal_lose s.link n)
 refusal_of c s (Take l n) = option_map link_fault (refusal_take s.link l n)
 refusal_of c s (Deliver l) = option_map link_fault (refusal_drop s.link l)
 refusal_of c s (Tick side) = option_map node_fault (refusal_tick (end_of s side))
@@ -140,6 +141,12 @@ after_plain c s flags service subtype body =
 abbrev pub after_finish : State → Direction → Name → State × Reply
 after_finish s d id =
     (with_end s (sender_side d) (node_closed (end_of s (sender_side d)) id), quiet Finished)
+
+-- ---- losing
+
+-- the link has lost a packet
+abbrev pub after_losing : State → ℕ → State × Reply
+after_losing s n = (record s { link = after_lose s.link n }, quiet Lost)
 
 -- ---- taking and delivering
 
@@ -215,6 +222,7 @@ after c place s (Open d id m) = after_open c place s d id m
 after c place s (Send d id k) = after_send c s d id k
 after c place s (Plain flags service subtype body) = after_plain c s flags service subtype body
 after c place s (Finish d id) = after_finish s d id
+after c place s (Lose n) = after_losing s n
 after c place s (Take l n) = after_take s l n
 after c place s (Deliver l) = after_deliver c place s l
 after c place s (Tick side) = after_tick s side

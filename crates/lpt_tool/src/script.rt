@@ -5,7 +5,8 @@ ghost use Rattle.lpt_tool.specs.Ends.{CutEnds, LineEnds, LinesEnd, RunEnds, Scri
 ghost use Rattle.lpt_tool.specs.Scripts.{line_ran, lines_ran, unreadable};
 ghost use Rattle.lpt_words.specs.Grammar.{reading_of};
 ghost use Rattle.lpt_words.specs.Words.{lines};
-ghost use Rattle.lpt_world.specs.Worlds.{config_fault, new_world};
+ghost use Rattle.lpt_events.specs.Configs.{config_fault};
+ghost use Rattle.lpt_world.specs.Worlds.{new_world};
 
 use crate::ScriptEnd;
 use crate::command::run_command;

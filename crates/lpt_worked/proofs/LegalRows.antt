@@ -20,7 +20,7 @@ use Rattle.lpt_journal.specs.Expiries.{EndsAreFinal}
 use Rattle.lpt_journal.specs.Headline.{Holds}
 use Rattle.lpt_journal.proofs.Every.{headline}
 use Rattle.lpt_journal.proofs.ExpiryLemmas.{expiry_is_final}
-use Rattle.lpt_worked.specs.Passes.{usual, out_of_order}
+use Rattle.lpt_worked.specs.Passes.{usual, out_of_order, usual_memories}
 use Rattle.lpt_worked.specs.Passes.{impatient, two_expire}
 
 -- ---- a test of legality
@@ -72,7 +72,7 @@ passes c (e ∷ es) =
     passes c es && (in_range e && not (is_some (refusal_listed c (recorded_listed c es) e)))
 
 -- a journal in which no event is refused is legal
-pub legal : (c : Config) (es : List Event) → passes c es ≡ true → Legal c es
+pub legal : (c : Config) (es : List Event) → passes c es ≡ true → Legal c usual_memories es
 legal c [] h = tt
 legal c (e ∷ es) h =
     let accepted = not (is_some (refusal_listed c (recorded_listed c es) e)) in
@@ -108,25 +108,25 @@ usual_with timeout some fits = record {
 }
 
 -- three parts that come in another order
-pub out_of_order-legal : Legal usual (reverse out_of_order)
+pub out_of_order-legal : Legal usual usual_memories (reverse out_of_order)
 unfolding seen spelling checksum octets_in shift_all tc_field tc_verdict body_of part_verdict
     arrival
 out_of_order-legal = legal usual (reverse out_of_order) refl
 
 -- so what the main theorem says holds of it
-pub out_of_order-holds : Holds usual (recorded usual (reverse out_of_order))
+pub out_of_order-holds : Holds usual usual_memories (recorded usual usual_memories (reverse out_of_order))
 out_of_order-holds =
-    headline usual (reverse out_of_order) (usual_with 10 (omega arith) (omega arith))
+    headline usual usual_memories (reverse out_of_order) (usual_with 10 (omega arith) (omega arith))
     out_of_order-legal
 
 -- two receptions that expire
-pub two_expire-legal : Legal impatient (reverse two_expire)
+pub two_expire-legal : Legal impatient usual_memories (reverse two_expire)
 unfolding seen spelling checksum octets_in shift_all tc_field tc_verdict body_of part_verdict
     arrival
 two_expire-legal = legal impatient (reverse two_expire) refl
 
 -- so their openings are never released
-pub two_expire-final : EndsAreFinal impatient (recorded impatient (reverse two_expire))
+pub two_expire-final : EndsAreFinal impatient (recorded impatient usual_memories (reverse two_expire))
 two_expire-final =
-    expiry_is_final impatient (reverse two_expire) (usual_with 1 (omega arith) (omega arith))
+    expiry_is_final impatient usual_memories (reverse two_expire) (usual_with 1 (omega arith) (omega arith))
     two_expire-legal

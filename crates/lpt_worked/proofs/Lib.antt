@@ -1,6 +1,7 @@
 pub mod LegalRows
 pub mod Listed
 pub mod ListedSets
+pub mod LossRows
 pub mod PlainRows
 pub mod Played
 pub mod Rows

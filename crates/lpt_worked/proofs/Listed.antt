@@ -33,6 +33,7 @@ use Rattle.lpt_journal.specs.Expiry.{is_overdue, earliest, due}
 use Rattle.lpt_journal.specs.Delivery.{judged_part, judged}
 use Rattle.lpt_journal.specs.Releases.{released_now, release_after, released_by, releases}
 use Rattle.lpt_worked.proofs.ListedSets.{Listed, with_listed, contradicts_listed, whole_listed, spelled_listed, entries-with_piece, contradicts_is, whole_is, listed, entries-heard}
+use Rattle.lpt_worked.specs.Passes.{usual_memories}
 use Rattle.lpt_journal.specs.Replies.{expired_now, answer, outcome_puts, expiry_puts, puts, opens, told, entry, recorded, first_fault, refusal}
 
 -- ---- outcomes
@@ -125,13 +126,13 @@ abbrev answer_listed : Config → History → Event → Answer
 answer_listed c h (Deliver l) = Delivered (outcome_listed c h l)
 answer_listed c h (Expire side) =
     expired_now (direction_to side) (due_listed c h (direction_to side))
-answer_listed c h e = answer c h e
+answer_listed c h e = answer c usual_memories h e
 
 abbrev puts_listed : Config → History → Event → List SentPacket
 puts_listed c h (Deliver l) =
     outcome_puts c h (receiver_side (lane_direction l)) (outcome_listed c h l)
 puts_listed c h (Expire side) = expiry_puts c h side (due_listed c h (direction_to side))
-puts_listed c h e = puts c h e
+puts_listed c h e = puts c usual_memories h e
 
 abbrev reply_listed : Config → History → Event → Reply
 reply_listed c h e =
@@ -140,10 +141,10 @@ reply_listed c h e =
 -- an event with what it gives, by the lists
 abbrev pub entry_listed : Config → History → Event → Recorded
 entry_listed c h e =
-    record { event = e; reply = reply_listed c h e; puts = puts_listed c h e; opens = opens c h e }
+    record { event = e; reply = reply_listed c h e; puts = puts_listed c h e; opens = opens c usual_memories h e }
 
 -- what is recorded of an event is the same by the lists
-pub entry_is : (c : Config) (h : History) (e : Event) → entry c h e ≡ entry_listed c h e
+pub entry_is : (c : Config) (h : History) (e : Event) → entry c usual_memories h e ≡ entry_listed c h e
 entry_is c h (Deliver l) =
     let o = judged_is c h (lane_direction l) (in_hand c h l) in
     λ i. record {
@@ -177,12 +178,12 @@ recorded_listed c [] = []
 recorded_listed c (e ∷ es) = let h = recorded_listed c es in entry_listed c h e ∷ h
 
 -- the history of a journal is the same by the lists
-pub recorded_is : (c : Config) (es : List Event) → recorded c es ≡ recorded_listed c es
+pub recorded_is : (c : Config) (es : List Event) → recorded c usual_memories es ≡ recorded_listed c es
 recorded_is c [] = refl
 recorded_is c (e ∷ es) =
     let before = recorded_is c es in
-    let now : entry c (recorded c es) e ≡ entry_listed c (recorded_listed c es) e =
-    ap (λ h. entry c h e) before ∙ entry_is c (recorded_listed c es) e in
+    let now : entry c usual_memories (recorded c usual_memories es) e ≡ entry_listed c (recorded_listed c es) e =
+    ap (λ h. entry c usual_memories h e) before ∙ entry_is c (recorded_listed c es) e in
     λ i. now i ∷ before i
 
 -- ---- releases

@@ -18,7 +18,7 @@ use Rattle.lpt_journal.specs.Replies.{Legal}
 use Rattle.lpt_worked.proofs.LegalRows.{legal}
 use Rattle.lpt_worked.proofs.Listed.{releases_is}
 use Rattle.lpt_worked.proofs.Played.{Refuses, played, played_listed, played_is, gives, puts_packet}
-use Rattle.lpt_worked.specs.Passes.{usual, m20}
+use Rattle.lpt_worked.specs.Passes.{usual, m20, usual_memories}
 
 -- the body of a request to load four octets
 abbrev load : List ℕ
@@ -65,6 +65,6 @@ abbrev accepted : List Event
 accepted = Plain 0 6 2 load ∷ Take S1 0 ∷ Deliver S1 ∷ Plain 15 13 12 [] ∷ []
 
 -- it is a legal journal, so what is said of all of them holds of it
-pub accepted-legal : Legal usual (reverse accepted)
+pub accepted-legal : Legal usual usual_memories (reverse accepted)
 unfolding seen spelling checksum octets_in shift_all tc_field tc_verdict arrival
 accepted-legal = legal usual (reverse accepted) refl

@@ -8,6 +8,7 @@ use Rattle.lpt_events.specs.declared.reply.Answer.TheVariants.{Put}
 use Rattle.lpt_events.specs.declared.reply.Reply.{Reply}
 use Rattle.lpt_journal.specs.Journal.{Recorded, History}
 use Rattle.lpt_journal.specs.Replies.{entry, refusal}
+use Rattle.lpt_worked.specs.Passes.{usual_memories}
 use Rattle.lpt_worked.proofs.Listed.{entry_listed, entry_is, refusal_listed, refusal_is}
 
 -- what an event gives: its reply, or why it is refused
@@ -39,7 +40,7 @@ played_by make refuses c h (e ∷ es) = elim (refuses c h e) [
 
 -- these events, the oldest first, on an empty journal
 abbrev pub played : Config → List Event → Played
-played c es = played_by entry refusal c [] es
+played c es = played_by (λ c h e. entry c usual_memories h e) refusal c [] es
 
 -- the same, by the lists
 abbrev pub played_listed : Config → List Event → Played

@@ -1,5 +1,7 @@
 -- Worked passes: the configurations, the messages and the events.
 use Rattle.std.specs.Prelude.{ℕ, List, [], ◌∷◌}
+use Rattle.std.specs.Prelude.{replicate}
+use Rattle.lpt_memory.specs.Memories.{Contents}
 use Rattle.lpt_packet.specs.declared.direction.Direction.TheVariants.{Up}
 use Rattle.lpt_events.specs.declared.config.Config.{Config}
 use Rattle.lpt_events.specs.declared.event.Event.{Event}
@@ -21,6 +23,10 @@ usual =
       outgoing = 8;
       clock = 0;
     }
+
+-- one memory 1 of 256 octets of 0
+abbrev pub usual_memories : Contents
+usual_memories = (1, replicate 256 0) ∷ []
 
 -- 20 octets, the numbers from 0
 abbrev pub m20 : List ℕ

@@ -2,14 +2,14 @@
 
 ghost use Rattle.std.specs.Prelude.{reverse};
 ghost use Rattle.lpt_journal.specs.Replies.{Legal};
-ghost use Rattle.lpt_worked.specs.Passes.{usual, impatient, out_of_order, two_expire};
+ghost use Rattle.lpt_worked.specs.Passes.{usual, impatient, out_of_order, two_expire, usual_memories};
 
 /// A message of three parts is delivered with its last part first, and released.
 pub fn out_of_order_is_legal()
-    ensures { Legal usual (reverse out_of_order) }
+    ensures { Legal usual usual_memories (reverse out_of_order) }
 {}
 
 /// Two receptions expire, one after the other.
 pub fn two_expire_is_legal()
-    ensures { Legal impatient (reverse two_expire) }
+    ensures { Legal impatient usual_memories (reverse two_expire) }
 {}

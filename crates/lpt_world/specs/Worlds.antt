@@ -1,9 +1,7 @@
 -- A world as its readers show it: its configuration, the first content of its memories, and its journal.
-use Rattle.std.specs.Prelude.{◌≡◌, ℕ, nat_lt, ◌==◌, ◌||◌, if◌then◌else◌, List, [], ◌∷◌, ◌++◌, map, reverse, Option, Some, None}
+use Rattle.std.specs.Prelude.{◌≡◌, ℕ, nat_lt, if◌then◌else◌, List, [], ◌∷◌, ◌++◌, map, reverse, Option, Some, None}
 use Rattle.lpt_memory.specs.Memories.{Contents}
 use Rattle.lpt_events.specs.declared.config.Config.{Config}
-use Rattle.lpt_events.specs.declared.config_fault.ConfigFault.{ConfigFault}
-use Rattle.lpt_events.specs.declared.config_fault.ConfigFault.TheVariants as configured
 use Rattle.lpt_events.specs.declared.entry.Entry.{Entry}
 use Rattle.lpt_events.specs.declared.event.Event.{Event}
 use Rattle.lpt_events.specs.declared.fault.StepFault.{StepFault}
@@ -81,20 +79,3 @@ AllAccepted w seat (e ∷ es) =
 abbrev pub IsFaultOf : Shown → ℕ → Option Event → StepFault → Type 0
 IsFaultOf w seat None fault = ⊥
 IsFaultOf w seat (Some e) fault = RefusedBy (refusal_at w seat e) fault
-
--- ---- configurations
-
--- the first range that a configuration leaves
-abbrev pub config_fault : Config → Option ConfigFault
-config_fault c =
-    if nat_lt 2046 c.apid then Some configured.Apid
-    else if nat_lt c.part_size 4 || nat_lt 1024 c.part_size then Some configured.PartSize
-    else if (c.timeout == 0) || nat_lt 65535 c.timeout then Some configured.Timeout
-    else if (c.receptions == 0) || nat_lt 64 c.receptions then Some configured.Receptions
-    else if (c.outgoing == 0) || nat_lt 64 c.outgoing then Some configured.Outgoing
-    else None
-
--- the fault is the first range that is left, or want of memory where none is
-abbrev pub ConfigRefusedBy : Option ConfigFault → ConfigFault → Type 0
-ConfigRefusedBy (Some first) fault = fault ≡ first
-ConfigRefusedBy None fault = fault ≡ configured.Memory

@@ -69,6 +69,7 @@ impl Ends {
                 self.ask(Side::Ground, ask)
             }
             Event::Finish(direction, id) => self.ask(sender(*direction), Ask::Finish(*id)),
+            Event::Lose(n) => self.refusal_lose(*n),
             Event::Take(lane, n) => self.link.refusal_take(*lane, *n).map(of_link),
             Event::Deliver(lane) => self.link.refusal_drop(*lane).map(of_link),
             Event::Tick(side) => self.ask(*side, Ask::Tick),
@@ -102,6 +103,7 @@ impl Ends {
                 self.plain(*flags, *service, *subtype, body)
             }
             Event::Finish(direction, id) => Ok(self.finish(*direction, *id)),
+            Event::Lose(n) => Ok(self.lose(*n)),
             Event::Take(lane, n) => Ok(self.take(*lane, *n)),
             Event::Deliver(lane) => self.deliver(place, *lane),
             Event::Tick(side) => Ok(self.tick(*side)),
@@ -181,6 +183,29 @@ impl Ends {
         };
         match finished {
             Ok(()) => quiet(Answer::Finished),
+            Err(_) => unreachable!(),
+        }
+    }
+
+    // Why the link would not lose a packet.
+    fn refusal_lose(&self, n: u64) -> Option<StepFault>
+        ensures { result ≡ refusal_of self.now.config (state_of self.now) (Event.Lose n) }
+    {
+        if self.link.is_held(n) {
+            None
+        } else {
+            Some(StepFault::NotHeld)
+        }
+    }
+
+    // Loses a held packet.
+    fn lose(&mut self, n: u64) -> Reply
+        requires { refusal_of self.old.config (state_of self.old) (Event.Lose n) ≡ None }
+        ensures ok { (state_of self.new, result) ≡ after self.old.config 0 (state_of self.old) (Event.Lose n) }
+        ensures config { self.new.config ≡ self.old.config }
+    {
+        match self.link.lose(n) {
+            Ok(()) => quiet(Answer::Lost),
             Err(_) => unreachable!(),
         }
     }

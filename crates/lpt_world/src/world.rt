@@ -6,10 +6,10 @@ ghost use Rattle.lpt_journal.specs.Headline.{Holds, EachIsLastOpened, AtMostOnce
 ghost use Rattle.lpt_journal.specs.Journal.{sent};
 ghost use Rattle.lpt_journal.specs.Releases.{releases};
 ghost use Rattle.lpt_memory.specs.Memories.{content_of, sizes_of};
-ghost use Rattle.lpt_events.specs.Configs.{IsConfig};
+ghost use Rattle.lpt_events.specs.Configs.{IsConfig, config_fault, ConfigRefusedBy};
 ghost use Rattle.lpt_journal.specs.Replies.{IsEvent, reply};
 ghost use Rattle.lpt_journal.specs.Senders.{opened};
-ghost use Rattle.lpt_world.specs.Worlds.{IsTold, new_world, history, memories_now, refusal_at, RefusedBy, with_entry, entered, AllAccepted, IsFaultOf, config_fault, ConfigRefusedBy};
+ghost use Rattle.lpt_world.specs.Worlds.{IsTold, new_world, history, memories_now, refusal_at, RefusedBy, with_entry, entered, AllAccepted, IsFaultOf};
 
 use crate::ends::Ends;
 use crate::{ConfigFault, Entry, Event, Opening, Refused, Release, Reply, RunEnd, StepFault};
@@ -52,7 +52,7 @@ impl World {
         ensures configured { IfOk result (λ w. config_fault config ≡ None) }
         ensures refused { IfErr result (λ f. ConfigRefusedBy (config_fault config) f) }
     {
-        match first_range_left(&config) {
+        match config.fault() {
             Some(fault) => return Err(fault),
             None => {}
         }
@@ -239,31 +239,6 @@ impl World {
     }
 }
 
-// The first value of a configuration that is out of its range.
-fn first_range_left(config: &Config) -> Option<ConfigFault>
-    ensures fault { result ≡ config_fault config.now }
-    ensures configured { result ≡ None → IsConfig config.now }
-{
-    let _source = config.source;
-    let _clock = config.clock;
-    if config.apid > 2046 {
-        return Some(ConfigFault::Apid);
-    }
-    if config.part_size < 4 || config.part_size > 1024 {
-        return Some(ConfigFault::PartSize);
-    }
-    if config.timeout == 0 || config.timeout > 65535 {
-        return Some(ConfigFault::Timeout);
-    }
-    if config.receptions == 0 || config.receptions > 64 {
-        return Some(ConfigFault::Receptions);
-    }
-    if config.outgoing == 0 || config.outgoing > 64 {
-        return Some(ConfigFault::Outgoing);
-    }
-    None
-}
-
 // The numbers and octets of an event are in the ranges of their types.
 fn in_range(event: &Event)
     ensures { IsEvent event.now }
@@ -286,6 +261,7 @@ fn in_range(event: &Event)
         Event::Finish(_, id) => {
             let _id = *id;
         }
+        Event::Lose(_) => {}
         Event::Take(_, _) => {}
         Event::Deliver(_) => {}
         Event::Tick(_) => {}
