@@ -3,7 +3,7 @@
 ghost use Rattle.std.specs.Prelude.{◌≡◌, [], IfOk};
 ghost use Rattle.std.specs.Option.{option_map};
 ghost use Rattle.lpt_part.specs.Parts.{piece};
-ghost use Rattle.lpt_pus.specs.Telemetry.{telemetry};
+ghost use Rattle.lpt_pus.specs.Telemetry.{telemetry, as_written};
 ghost use Rattle.lpt_packet.specs.declared.direction.Direction.TheVariants.{Up};
 ghost use Rattle.lpt_events.specs.Arrivals.{part_subtype};
 ghost use Rattle.lpt_node.specs.Counting.{counter_of, service_of, subtype_of};
@@ -42,7 +42,7 @@ impl Node {
 
     // The head of the next report of an abortion, which the spacecraft alone makes.
     pub(crate) fn abort_head(&self) -> Option<TmHead>
-        ensures { option_map (λ h. telemetry h []) result ≡ abort_head self.now.side self.now.config self.now.at }
+        ensures { option_map (λ h. as_written (telemetry h [])) result ≡ abort_head self.now.side self.now.config self.now.at }
     {
         match self.side {
             Side::Ground => None,
@@ -104,7 +104,7 @@ pub(crate) fn abort_report(
     id: Name,
     reason: Reason,
 ) -> Result<Option<Octets>, AllocError>
-    ensures { IfOk result (λ o. o ≡ abort_report (option_map (λ h. telemetry h []) head) id reason) }
+    ensures { IfOk result (λ o. o ≡ abort_report (option_map (λ h. as_written (telemetry h [])) head) id reason) }
 {
     match head {
         None => Ok(None),

@@ -36,6 +36,10 @@ telemetry h body = record {
   body = body;
 }
 
+-- what is written of telemetry: its status is 0
+abbrev pub as_written : Telemetry → Telemetry
+as_written t = record t { status = 0 }
+
 -- all that a telemetry message says is in its range
 pub record TelemetryFits (t : Telemetry) : Type 0 where
   pub head_fits : TmFits t.apid t.count t.status

@@ -131,6 +131,14 @@ fn reads_and_writes_telemetry(rt: HostRuntime) -> Result<(), Fail> {
 }
 
 #[test]
+fn writes_status_0(rt: HostRuntime) -> Result<(), Fail> {
+    let head = TmHead::new(100, 0, 5, 13, 16, 0, 1, 19).ok_or("out of range")?;
+    let written = write_tm(rt.alloc(), &head, &[0, 7, 1])?;
+    assert!(rt; written.as_slice() == ABORT_EXPIRED.as_slice());
+    Ok(())
+}
+
+#[test]
 fn refuses_by_the_first_test(rt: HostRuntime) {
     // Version 1 throughout: the type comes first, then the header's length.
     let field = [0x10, 13, 9, 0, 1, 0, 1, 0, 0, 0, 0];

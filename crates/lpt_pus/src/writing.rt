@@ -4,7 +4,7 @@ ghost use Rattle.std.specs.Prelude.{◌≡◌, ◌+◌, ◌≤◌, ◌++◌, len
 ghost use Rattle.lpt_packet.specs.Packets.{spelling};
 ghost use Rattle.lpt_pus.specs.Commands.{command, packet_of};
 ghost use Rattle.lpt_pus.specs.Messages.{Writes, fields_of};
-ghost use Rattle.lpt_pus.specs.Telemetry.{telemetry, tm_packet_of};
+ghost use Rattle.lpt_pus.specs.Telemetry.{telemetry, as_written, tm_packet_of};
 
 use crate::{PusFault, TcHead, TmHead};
 use lpt_packet::{Octets, Packet, PacketKind, write_packet};
@@ -47,12 +47,13 @@ pub fn tc_octets(alloc: Global, head: &TcHead, body: &[u8]) -> Result<Octets, Al
     packet_octets(alloc, PacketKind::Tc, head.apid, head.count, &header, body)
 }
 
-/// The octets of a telemetry message's whole packet.
+/// The octets of a telemetry message's whole packet. The status is written as 0, whatever the
+/// head's is.
 ///
 /// Errors: `TooLong` where the packet would have more than 65,542 octets, which is found before
 /// any memory is taken; `Memory` where memory runs out.
 pub fn write_tm(alloc: Global, head: &TmHead, body: &[u8]) -> Result<Octets, PusFault>
-    ensures { Writes result (spelling (tm_packet_of (telemetry head.now body.now))) }
+    ensures { Writes result (spelling (tm_packet_of (as_written (telemetry head.now body.now)))) }
 {
     if body.len() > TM_BODY_LIMIT {
         return Err(PusFault::TooLong);
@@ -61,16 +62,16 @@ pub fn write_tm(alloc: Global, head: &TmHead, body: &[u8]) -> Result<Octets, Pus
 }
 
 /// The octets of a telemetry message's whole packet, for a body that is known to fit: at most
-/// 65,523 octets. The only error is want of memory.
+/// 65,523 octets. The status is written as 0. The only error is want of memory.
 pub fn tm_octets(alloc: Global, head: &TmHead, body: &[u8]) -> Result<Octets, AllocError>
     requires { length body.now ≤ 65523 }
-    ensures { IfOk result (λ o. o ≡ spelling (tm_packet_of (telemetry head.now body.now))) }
+    ensures { IfOk result (λ o. o ≡ spelling (tm_packet_of (as_written (telemetry head.now body.now)))) }
 {
     let counter = head.counter.to_be_bytes();
     let destination = head.destination.to_be_bytes();
     let time = head.time.to_be_bytes();
     let header = [
-        0x20 + head.status,
+        0x20,
         head.service,
         head.subtype,
         counter[0],
