@@ -23,6 +23,3 @@ pub use octets::Octets;
 pub use packet::{Packet, PacketKind, Seen};
 pub use reading::read_packet;
 pub use writing::write_packet;
-
-#[cfg(test)]
-mod tests;

@@ -26,6 +26,3 @@ pub use reading::read_part;
 pub use reason::Reason;
 pub use splitting::{count, slice};
 pub use writing::write_part;
-
-#[cfg(test)]
-mod tests;

@@ -24,6 +24,3 @@ pub use request::RequestId;
 pub use tc_head::TcHead;
 pub use tm_head::TmHead;
 pub use writing::{tc_octets, tm_octets, write_tc, write_tm};
-
-#[cfg(test)]
-mod tests;
