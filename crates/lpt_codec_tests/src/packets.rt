@@ -1,7 +1,9 @@
 //! Checksums of ECSS-E-ST-70-41C, whole packets, and what damage to them gives.
 
 use crate::vectors::{FIRST_PART, LAST_PART, PACKETS};
-use lpt_packet::{Octets, Packet, PacketKind, Seen, crc16, read_packet, write_packet};
+use lpt_packet::{
+    Octets, Packet, PacketKind, Seen, crc16, read_packet, write_packet, write_pieces,
+};
 use std::alloc::{AllocError, Global};
 use std::test::Fail;
 
@@ -72,6 +74,15 @@ fn five_packets_are_read_and_written(rt: HostRuntime) -> Result<(), Fail> {
     };
     assert!(rt; last.kind == PacketKind::Tc);
     assert!(rt; last.apid == 100 && last.count == 2 && last.field.len() == 13);
+    Ok(())
+}
+
+#[test]
+fn pieces_make_a_packet(rt: HostRuntime) -> Result<(), Fail> {
+    let kind = PacketKind::Tc;
+    let (header, front, rest) = (&LAST_PART[6..11], &LAST_PART[11..15], &LAST_PART[15..19]);
+    let written = write_pieces(rt.alloc(), kind, 100, 2, header, front, rest)?;
+    assert!(rt; written.as_slice() == LAST_PART.as_slice());
     Ok(())
 }
 

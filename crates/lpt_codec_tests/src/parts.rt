@@ -1,8 +1,11 @@
 //! Parts and abortion reports: worked values. The bodies are those of a first part, a last part and an abortion report.
 
+use crate::vectors::{ABORT_EXPIRED, FIRST_PART};
 use lpt_part::{
-    Kind, Part, PartFault, Reason, count, read_abort, read_part, slice, write_abort, write_part,
+    Kind, Part, PartFault, Reason, abort_octets, count, read_abort, read_part, slice, write_abort,
+    write_part,
 };
+use lpt_pus::{TcHead, TmHead, tc_pieces, tm_pieces};
 use std::alloc::{AllocError, Global};
 use std::test::Fail;
 
@@ -132,5 +135,18 @@ fn reads_and_writes_abortion_reports(rt: HostRuntime) -> Result<(), Fail> {
             "{wrong:?}"
         );
     }
+    Ok(())
+}
+
+#[test]
+fn makes_packets_of_parts_and_reports(rt: HostRuntime) -> Result<(), Fail> {
+    let part = Part::new(7, 1, Kind::First, &OCTETS, 8).ok_or("no part")?;
+    let head = TcHead::new(100, 0, 0, 13, 9, 1).ok_or("out of range")?;
+    let written = tc_pieces(rt.alloc(), &head, &part.header(), part.octets)?;
+    assert!(rt; written.as_slice() == FIRST_PART.as_slice());
+    let head = TmHead::new(100, 0, 0, 13, 16, 0, 1, 19).ok_or("out of range")?;
+    let body = abort_octets(7, Reason::Expired);
+    let written = tm_pieces(rt.alloc(), &head, &body, &[])?;
+    assert!(rt; written.as_slice() == ABORT_EXPIRED.as_slice());
     Ok(())
 }

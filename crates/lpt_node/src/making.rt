@@ -13,8 +13,8 @@ ghost use Rattle.lpt_node.specs.Receiving.{abort_head, abort_report};
 
 use crate::{Node, Side, TelemetryKind};
 use lpt_packet::{Name, Octets};
-use lpt_part::{Kind, Part, Reason, write_abort, write_part};
-use lpt_pus::{TcHead, TmHead, tc_octets, tm_octets};
+use lpt_part::{Kind, Part, Reason, abort_octets};
+use lpt_pus::{TcHead, TmHead, tc_pieces, tm_octets, tm_pieces};
 use std::alloc::{AllocError, Global};
 
 /// The service type of large packet transfer.
@@ -54,7 +54,7 @@ impl Node {
     pub(crate) fn part_packet(&self, part: &Part<'_>) -> Result<Octets, AllocError>
         ensures { IfOk result (λ o. o ≡ part_packet self.now.side self.now.config self.now.at (piece part.now)) }
     {
-        let body = write_part(self.alloc, part)?;
+        let header = part.header();
         match self.side {
             Side::Ground => {
                 let head = TcHead {
@@ -65,11 +65,11 @@ impl Node {
                     subtype: subtype_of_part(part.kind),
                     source: self.config.source,
                 };
-                tc_octets(self.alloc, &head, body.as_slice())
+                tc_pieces(self.alloc, &head, &header, part.octets)
             }
             Side::Craft => {
                 let head = self.head(telemetry_of(part.kind));
-                tm_octets(self.alloc, &head, body.as_slice())
+                tm_pieces(self.alloc, &head, &header, part.octets)
             }
         }
     }
@@ -109,8 +109,8 @@ pub(crate) fn abort_report(
     match head {
         None => Ok(None),
         Some(head) => {
-            let body = write_abort(alloc, id, reason)?;
-            Ok(Some(tm_octets(alloc, &head, body.as_slice())?))
+            let body = abort_octets(id, reason);
+            Ok(Some(tm_octets(alloc, &head, &body)?))
         }
     }
 }

@@ -22,4 +22,4 @@ pub use name::Name;
 pub use octets::Octets;
 pub use packet::{Packet, PacketKind, Seen};
 pub use reading::read_packet;
-pub use writing::write_packet;
+pub use writing::{write_packet, write_pieces};

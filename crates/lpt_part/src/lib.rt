@@ -18,7 +18,7 @@ mod reason;
 mod splitting;
 mod writing;
 
-pub use abort::{read_abort, write_abort};
+pub use abort::{abort_octets, read_abort, write_abort};
 pub use fault::PartFault;
 pub use kind::Kind;
 pub use part::Part;

@@ -3,10 +3,10 @@ use Rattle.std.specs.Prelude.{◌≡◌, ℕ, ◌+◌, ◌/◌, ◌%◌, ◌<◌
 use Rattle.lpt_packet.specs.declared.packet.PacketKind.{PacketKind}
 use Rattle.lpt_packet.specs.declared.packet.PacketKind.TheVariants.{Tm, Tc}
 use Rattle.lpt_packet.specs.Numbers.{be, word_at}
-use Rattle.lpt_packet.specs.Packets.{Fields, APacket, seen}
+use Rattle.lpt_packet.specs.Packets.{Fields, fields_of, APacket, seen}
 use Rattle.lpt_pus.specs.declared.fault.PusFault.{PusFault}
 use Rattle.lpt_pus.specs.declared.tc_head.TcHead.{TcHead}
-use Rattle.lpt_pus.specs.Messages.{fields_of, tested, for_apid, in_packet}
+use Rattle.lpt_pus.specs.Messages.{tested, for_apid, in_packet}
 use Rattle.lpt_pus.specs.Ranges.{TcFits}
 
 -- what a telecommand says

@@ -5,15 +5,6 @@ use Rattle.lpt_packet.specs.Packets.{Fields, Sight, IdlePacket, APacket}
 use Rattle.lpt_pus.specs.declared.fault.PusFault.{PusFault}
 use Rattle.lpt_pus.specs.declared.fault.PusFault.TheVariants.{PusVersion, WrongType, ShortHeader, TooLong, Memory}
 
--- the fields of a packet
-abbrev pub fields_of : PacketKind → ℕ → ℕ → List ℕ → Fields
-fields_of kind apid count octets = record {
-  kind = kind;
-  apid = apid;
-  count = count;
-  octets = octets;
-}
-
 -- the message, or the first test that its packet fails: the packet type, then the header's
 -- length, then the PUS version
 abbrev pub tested : {X : Type 0} → Bool → Bool → Bool → X → Result X PusFault

@@ -23,4 +23,4 @@ pub use reading::{read_tc, read_tm};
 pub use request::RequestId;
 pub use tc_head::TcHead;
 pub use tm_head::TmHead;
-pub use writing::{tc_octets, tm_octets, write_tc, write_tm};
+pub use writing::{tc_octets, tc_pieces, tm_octets, tm_pieces, write_tc, write_tm};
