@@ -10,6 +10,7 @@ use Rattle.lpt_packet.specs.declared.packet.Seen.TheVariants as seen_as
 use Rattle.lpt_packet.specs.Ranges.{InRange}
 use Rattle.lpt_packet.specs.Numbers.{be, word_at, same_octets}
 use Rattle.lpt_packet.specs.Checksums.{checksum}
+use Rattle.lpt_packet.specs.Sizes.{longest_packet}
 
 -- a packet's fields, without where its data field lies in memory
 pub record Fields : Type 0 where
@@ -101,7 +102,7 @@ is_idle b = nat_le 7 (length b) && (word_at b 0 / 8192 == 0) && (word_at b 0 % 2
 
 -- whether the fields at their places are in their ranges and spell the octets
 abbrev pub is_packet : List ℕ → Bool
-is_packet b = nat_le (length b) 65542 && nat_le (word_at b 0 % 2048) 2046 && same_octets b (spelling (fields_at b))
+is_packet b = nat_le (length b) longest_packet && nat_le (word_at b 0 % 2048) 2046 && same_octets b (spelling (fields_at b))
 
 -- what octets are, where they are a packet or idle
 unfoldable pub seen : List ℕ → Option Sight

@@ -2,7 +2,9 @@
 
 ghost use Rattle.std.specs.Prelude.{◌≡◌, ◌+◌, ◌≤◌, ◌++◌, length, IfOk};
 ghost use Rattle.lpt_packet.specs.Packets.{fields, fields_of, header_of, sealed, spelling};
+ghost use Rattle.lpt_packet.specs.Sizes.{longest_field};
 
+use crate::sizes::{ERROR_CONTROL, PRIMARY_HEADER};
 use crate::{Octets, Packet, PacketKind, crc16};
 use std::alloc::{AllocError, Global};
 
@@ -33,7 +35,7 @@ pub fn write_pieces(
 ) -> Result<Octets, AllocError>
     requires apid { apid ≤ 2046 }
     requires count { count ≤ 16383 }
-    requires field { length header.now + length front.now + length rest.now ≤ 65534 }
+    requires field { length header.now + length front.now + length rest.now ≤ longest_field }
     ensures { IfOk result (λ o. o
         ≡ spelling (fields_of kind apid count (header.now ++ front.now ++ rest.now))) }
 {
@@ -43,10 +45,10 @@ pub fn write_pieces(
 }
 
 // The primary header of a packet whose data field has so many octets.
-fn primary_header(kind: PacketKind, apid: u16, count: u16, len: usize) -> [u8; 6]
+fn primary_header(kind: PacketKind, apid: u16, count: u16, len: usize) -> [u8; PRIMARY_HEADER]
     requires apid { apid ≤ 2046 }
     requires count { count ≤ 16383 }
-    requires len { len ≤ 65534 }
+    requires len { len ≤ longest_field }
     ensures { result ≡ header_of kind apid count len }
 {
     let packet_type = match kind {
@@ -62,15 +64,18 @@ fn primary_header(kind: PacketKind, apid: u16, count: u16, len: usize) -> [u8; 6
 // The pieces, one behind the other, and their checksum.
 fn sealed_octets(
     alloc: Global,
-    primary: &[u8; 6],
+    primary: &[u8; PRIMARY_HEADER],
     header: &[u8],
     front: &[u8],
     rest: &[u8],
 ) -> Result<Octets, AllocError>
-    requires { length header.now + length front.now + length rest.now ≤ 65534 }
+    requires { length header.now + length front.now + length rest.now ≤ longest_field }
     ensures { IfOk result (λ o. o ≡ sealed (primary.now ++ header.now ++ front.now ++ rest.now)) }
 {
-    let mut octets = Vec::with_capacity(alloc, header.len() + front.len() + rest.len() + 8)?;
+    let mut octets = Vec::with_capacity(
+        alloc,
+        PRIMARY_HEADER + header.len() + front.len() + rest.len() + ERROR_CONTROL,
+    )?;
     octets.extend_from_slice(primary)?;
     octets.extend_from_slice(header)?;
     octets.extend_from_slice(front)?;

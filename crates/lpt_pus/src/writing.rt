@@ -4,18 +4,13 @@ ghost use Rattle.std.specs.Prelude.{◌≡◌, ◌+◌, ◌≤◌, ◌++◌, len
 ghost use Rattle.lpt_packet.specs.Packets.{spelling};
 ghost use Rattle.lpt_pus.specs.Commands.{command, packet_of};
 ghost use Rattle.lpt_pus.specs.Messages.{Writes};
+ghost use Rattle.lpt_pus.specs.Sizes.{longest_tc_body, longest_tm_body};
 ghost use Rattle.lpt_pus.specs.Telemetry.{telemetry, as_written, tm_packet_of};
 
+use crate::sizes::{LONGEST_TC_BODY, LONGEST_TM_BODY};
 use crate::{PusFault, TcHead, TmHead};
 use lpt_packet::{Octets, PacketKind, write_pieces};
 use std::alloc::{AllocError, Global};
-
-/// The most octets of a telecommand's body: a packet has at most 65,542 octets, 8 of them besides
-/// its data field, and the secondary header has 5.
-const TC_BODY_LIMIT: usize = 65529;
-
-/// The most octets of a telemetry message's body: the secondary header has 11.
-const TM_BODY_LIMIT: usize = 65523;
 
 /// The octets of a telecommand's whole packet.
 ///
@@ -24,7 +19,7 @@ const TM_BODY_LIMIT: usize = 65523;
 pub fn write_tc(alloc: Global, head: &TcHead, body: &[u8]) -> Result<Octets, PusFault>
     ensures { Writes result (spelling (packet_of (command head.now body.now))) }
 {
-    if body.len() > TC_BODY_LIMIT {
+    if body.len() > LONGEST_TC_BODY {
         return Err(PusFault::TooLong);
     }
     tc_octets(alloc, head, body).map_err(|_| PusFault::Memory)
@@ -33,7 +28,7 @@ pub fn write_tc(alloc: Global, head: &TcHead, body: &[u8]) -> Result<Octets, Pus
 /// The octets of a telecommand's whole packet, for a body that is known to fit: at most 65,529
 /// octets. The only error is want of memory.
 pub fn tc_octets(alloc: Global, head: &TcHead, body: &[u8]) -> Result<Octets, AllocError>
-    requires { length body.now ≤ 65529 }
+    requires { length body.now ≤ longest_tc_body }
     ensures { IfOk result (λ o. o ≡ spelling (packet_of (command head.now body.now))) }
 {
     tc_pieces(alloc, head, &[], body)
@@ -47,7 +42,7 @@ pub fn tc_pieces(
     front: &[u8],
     rest: &[u8],
 ) -> Result<Octets, AllocError>
-    requires { length front.now + length rest.now ≤ 65529 }
+    requires { length front.now + length rest.now ≤ longest_tc_body }
     ensures { IfOk result (λ o. o
         ≡ spelling (packet_of (command head.now (front.now ++ rest.now)))) }
 {
@@ -71,7 +66,7 @@ pub fn tc_pieces(
 pub fn write_tm(alloc: Global, head: &TmHead, body: &[u8]) -> Result<Octets, PusFault>
     ensures { Writes result (spelling (tm_packet_of (as_written (telemetry head.now body.now)))) }
 {
-    if body.len() > TM_BODY_LIMIT {
+    if body.len() > LONGEST_TM_BODY {
         return Err(PusFault::TooLong);
     }
     tm_octets(alloc, head, body).map_err(|_| PusFault::Memory)
@@ -80,7 +75,7 @@ pub fn write_tm(alloc: Global, head: &TmHead, body: &[u8]) -> Result<Octets, Pus
 /// The octets of a telemetry message's whole packet, for a body that is known to fit: at most
 /// 65,523 octets. The status is written as 0. The only error is want of memory.
 pub fn tm_octets(alloc: Global, head: &TmHead, body: &[u8]) -> Result<Octets, AllocError>
-    requires { length body.now ≤ 65523 }
+    requires { length body.now ≤ longest_tm_body }
     ensures { IfOk result (λ o. o ≡ spelling (tm_packet_of (as_written (telemetry head.now body.now)))) }
 {
     tm_pieces(alloc, head, &[], body)
@@ -95,7 +90,7 @@ pub fn tm_pieces(
     front: &[u8],
     rest: &[u8],
 ) -> Result<Octets, AllocError>
-    requires { length front.now + length rest.now ≤ 65523 }
+    requires { length front.now + length rest.now ≤ longest_tm_body }
     ensures { IfOk result (λ o. o ≡ spelling (tm_packet_of
         (as_written (telemetry head.now (front.now ++ rest.now))))) }
 {

@@ -5,8 +5,8 @@ use Rattle.lpt_pus.specs.Telemetry.{telemetry, as_written, tm_packet_of}
 use Rattle.lpt_pus.proofs.TelemetryLemmas.{length-spelling_tm}
 use Rattle.lpt_pus.proofs.writing.write_tm.Goals as goal
 
-pub returns-then-body-gt-TM_BODY_LIMIT : goal.returns-then-body-gt-TM_BODY_LIMIT
-returns-then-body-gt-TM_BODY_LIMIT c =
+pub returns-then-body-gt-LONGEST_TM_BODY : goal.returns-then-body-gt-LONGEST_TM_BODY
+returns-then-body-gt-LONGEST_TM_BODY c =
     let written = as_written (telemetry c.args.head.now c.args.body.now) in
     omega (arith, length-spelling_tm written)
 
