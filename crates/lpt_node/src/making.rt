@@ -3,7 +3,7 @@
 ghost use Rattle.std.specs.Prelude.{◌≡◌, [], IfOk};
 ghost use Rattle.std.specs.Option.{option_map};
 ghost use Rattle.lpt_part.specs.Parts.{piece};
-ghost use Rattle.lpt_pus.specs.Telemetry.{telemetry};
+ghost use Rattle.lpt_pus.specs.Telemetry.{telemetry, as_written};
 ghost use Rattle.lpt_packet.specs.declared.direction.Direction.TheVariants.{Up};
 ghost use Rattle.lpt_events.specs.Arrivals.{part_subtype};
 ghost use Rattle.lpt_node.specs.Counting.{counter_of, service_of, subtype_of};
@@ -13,8 +13,8 @@ ghost use Rattle.lpt_node.specs.Receiving.{abort_head, abort_report};
 
 use crate::{Node, Side, TelemetryKind};
 use lpt_packet::{Name, Octets};
-use lpt_part::{Kind, Part, Reason, write_abort, write_part};
-use lpt_pus::{TcHead, TmHead, tc_octets, tm_octets};
+use lpt_part::{Kind, Part, Reason, abort_octets};
+use lpt_pus::{TcHead, TmHead, tc_pieces, tm_octets, tm_pieces};
 use std::alloc::{AllocError, Global};
 
 /// The service type of large packet transfer.
@@ -42,7 +42,7 @@ impl Node {
 
     // The head of the next report of an abortion, which the spacecraft alone makes.
     pub(crate) fn abort_head(&self) -> Option<TmHead>
-        ensures { option_map (λ h. telemetry h []) result ≡ abort_head self.now.side self.now.config self.now.at }
+        ensures { option_map (λ h. as_written (telemetry h [])) result ≡ abort_head self.now.side self.now.config self.now.at }
     {
         match self.side {
             Side::Ground => None,
@@ -54,7 +54,7 @@ impl Node {
     pub(crate) fn part_packet(&self, part: &Part<'_>) -> Result<Octets, AllocError>
         ensures { IfOk result (λ o. o ≡ part_packet self.now.side self.now.config self.now.at (piece part.now)) }
     {
-        let body = write_part(self.alloc, part)?;
+        let header = part.header();
         match self.side {
             Side::Ground => {
                 let head = TcHead {
@@ -65,11 +65,11 @@ impl Node {
                     subtype: subtype_of_part(part.kind),
                     source: self.config.source,
                 };
-                tc_octets(self.alloc, &head, body.as_slice())
+                tc_pieces(self.alloc, &head, &header, part.octets)
             }
             Side::Craft => {
                 let head = self.head(telemetry_of(part.kind));
-                tm_octets(self.alloc, &head, body.as_slice())
+                tm_pieces(self.alloc, &head, &header, part.octets)
             }
         }
     }
@@ -104,13 +104,13 @@ pub(crate) fn abort_report(
     id: Name,
     reason: Reason,
 ) -> Result<Option<Octets>, AllocError>
-    ensures { IfOk result (λ o. o ≡ abort_report (option_map (λ h. telemetry h []) head) id reason) }
+    ensures { IfOk result (λ o. o ≡ abort_report (option_map (λ h. as_written (telemetry h [])) head) id reason) }
 {
     match head {
         None => Ok(None),
         Some(head) => {
-            let body = write_abort(alloc, id, reason)?;
-            Ok(Some(tm_octets(alloc, &head, body.as_slice())?))
+            let body = abort_octets(id, reason);
+            Ok(Some(tm_octets(alloc, &head, &body)?))
         }
     }
 }

@@ -3,7 +3,7 @@
 ghost use Rattle.std.specs.Prelude.{◌≡◌, [], None, IfOk, OnOk, OnErr, IsSomeAnd};
 ghost use Rattle.std.specs.Option.{option_map};
 ghost use Rattle.lpt_part.specs.Parts.{piece};
-ghost use Rattle.lpt_pus.specs.Telemetry.{telemetry};
+ghost use Rattle.lpt_pus.specs.Telemetry.{telemetry, as_written};
 ghost use Rattle.lpt_reception.specs.Received.{spelled, all_of};
 ghost use Rattle.lpt_table.specs.Offering.{put_back};
 ghost use Rattle.lpt_node.specs.declared.taken.Taken.TheVariants as taking;
@@ -32,7 +32,7 @@ pub(crate) fn take(
     requires p { part.now.p ≡ table.old.p }
     requires settled { table.old.out ≡ None }
     ensures ok { IfOk result (λ t. (table.new, t)
-        ≡ taken (option_map (λ h. telemetry h []) head) table.old (piece part.now) now) }
+        ≡ taken (option_map (λ h. as_written (telemetry h [])) head) table.old (piece part.now) now) }
     ensures short { IfOk result IsShort }
     ensures kept { IsSameTable table.old table.new }
     ensures err { OnErr result (table.new ≡ table.old) }
@@ -81,7 +81,7 @@ fn abort(
     requires out { IsSomeAnd table.old.out (λ o. o.0 ≡ id) }
     requires id { broken.before.id ≡ id }
     requires p { broken.before.p ≡ table.old.p }
-    ensures ok { IfOk result (λ t. t ≡ taking.Broken (abort_report (option_map (λ h. telemetry h []) head) id broken.reason)) }
+    ensures ok { IfOk result (λ t. t ≡ taking.Broken (abort_report (option_map (λ h. as_written (telemetry h [])) head) id broken.reason)) }
     ensures settled { OnOk result (table.new ≡ settled table.old) }
     ensures err { OnErr result (table.new ≡ put_back table.old broken.before) }
 {

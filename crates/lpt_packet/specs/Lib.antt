@@ -5,3 +5,4 @@ pub mod Names
 pub mod Numbers
 pub mod Packets
 pub mod Ranges
+pub mod Sizes

@@ -10,6 +10,7 @@ use Rattle.lpt_packet.specs.declared.packet.Seen.TheVariants as seen_as
 use Rattle.lpt_packet.specs.Ranges.{InRange}
 use Rattle.lpt_packet.specs.Numbers.{be, word_at, same_octets}
 use Rattle.lpt_packet.specs.Checksums.{checksum}
+use Rattle.lpt_packet.specs.Sizes.{longest_packet}
 
 -- a packet's fields, without where its data field lies in memory
 pub record Fields : Type 0 where
@@ -18,9 +19,18 @@ pub record Fields : Type 0 where
   pub count : ℕ
   pub octets : List ℕ
 
+-- the fields of this kind, APID, sequence count and data field
+abbrev pub fields_of : PacketKind → ℕ → ℕ → List ℕ → Fields
+fields_of kind apid count octets = record {
+  kind = kind;
+  apid = apid;
+  count = count;
+  octets = octets;
+}
+
 -- the fields of a packet
 abbrev pub fields : Packet → Fields
-fields p = record { kind = p.kind; apid = p.apid; count = p.count; octets = p.field.now }
+fields p = fields_of p.kind p.apid p.count p.field.now
 
 -- 0 for telemetry, 1 for a telecommand
 abbrev pub packet_type : PacketKind → ℕ
@@ -28,9 +38,15 @@ packet_type Tm = 0
 packet_type Tc = 1
 
 -- version 3 bits, 0; type 1; secondary header flag 1, set; APID 11; sequence flags 2, both set;
--- sequence count 14; data length 16, the octets after these six less one
+-- sequence count 14; data length 16, the octets after these six less one: a data field of so many
+-- octets, and the checksum
+abbrev pub header_of : PacketKind → (apid count len : ℕ) → List ℕ
+header_of kind apid count len =
+    be (packet_type kind * 4096 + 2048 + apid) 2 ++ be (49152 + count) 2 ++ be (len + 1) 2
+
+-- the primary header of these fields
 abbrev pub header : Fields → List ℕ
-header f = be (packet_type f.kind * 4096 + 2048 + f.apid) 2 ++ be (49152 + f.count) 2 ++ be (length f.octets + 1) 2
+header f = header_of f.kind f.apid f.count (length f.octets)
 
 -- octets with their packet error control behind them
 abbrev pub sealed : List ℕ → List ℕ
@@ -86,7 +102,7 @@ is_idle b = nat_le 7 (length b) && (word_at b 0 / 8192 == 0) && (word_at b 0 % 2
 
 -- whether the fields at their places are in their ranges and spell the octets
 abbrev pub is_packet : List ℕ → Bool
-is_packet b = nat_le (length b) 65542 && nat_le (word_at b 0 % 2048) 2046 && same_octets b (spelling (fields_at b))
+is_packet b = nat_le (length b) longest_packet && nat_le (word_at b 0 % 2048) 2046 && same_octets b (spelling (fields_at b))
 
 -- what octets are, where they are a packet or idle
 unfoldable pub seen : List ℕ → Option Sight

@@ -12,6 +12,7 @@ mod name;
 mod octets;
 mod packet;
 mod reading;
+mod sizes;
 mod table;
 mod writing;
 
@@ -22,7 +23,5 @@ pub use name::Name;
 pub use octets::Octets;
 pub use packet::{Packet, PacketKind, Seen};
 pub use reading::read_packet;
-pub use writing::write_packet;
-
-#[cfg(test)]
-mod tests;
+pub use sizes::{ERROR_CONTROL, LONGEST_FIELD, LONGEST_PACKET, PRIMARY_HEADER};
+pub use writing::{write_packet, write_pieces};

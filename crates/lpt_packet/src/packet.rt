@@ -4,6 +4,8 @@ ghost use Rattle.std.specs.Prelude.{◌≡◌, ◌↔◌, IsSome, IfSome};
 ghost use Rattle.lpt_packet.specs.Ranges.{InRange};
 ghost use Rattle.lpt_packet.specs.Numbers.{IsOctets};
 
+use crate::sizes::LONGEST_FIELD;
+
 /// The packet type: telemetry or telecommand (CCSDS 133.0-B).
 #[derive(Clone, Copy, Debug, PartialEq, Eq)]
 pub enum PacketKind {
@@ -36,7 +38,7 @@ impl<'a> Packet<'a> {
         ensures fits { IsSome result ↔ InRange apid count field.now }
         ensures fields { IfSome result (λ p. (p.kind ≡ kind) × (p.apid ≡ apid) × (p.count ≡ count) × (p.field.now ≡ field.now)) }
     {
-        if apid > 2046 || count > 16383 || field.len() > 65534 {
+        if apid > 2046 || count > 16383 || field.len() > LONGEST_FIELD {
             return None;
         }
         Some(Packet {

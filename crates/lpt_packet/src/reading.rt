@@ -4,6 +4,7 @@ ghost use Rattle.std.specs.Prelude.{◌≡◌, ◌+◌, ◌<◌, length, Ok, IfO
 ghost use Rattle.lpt_packet.specs.Numbers.{word_at};
 ghost use Rattle.lpt_packet.specs.Packets.{Fields, IdlePacket, APacket, sight, IsSight, IsPacket, IsIdle, verdict, Gives};
 
+use crate::sizes::{ERROR_CONTROL, PRIMARY_HEADER};
 use crate::{Packet, PacketFault, PacketKind, Seen, crc16};
 
 /// Reads octets as a space packet (CCSDS 133.0-B, with a packet error control in every packet).
@@ -55,7 +56,7 @@ fn first_fault_or_sight(bytes: &[u8]) -> Result<Seen<'_>, PacketFault>
     if bytes.len() < 8 {
         return Err(PacketFault::Checksum);
     }
-    let end = bytes.len() - 2;
+    let end = bytes.len() - ERROR_CONTROL;
     if crc16(&bytes[..end]) != word(bytes, end) {
         return Err(PacketFault::Checksum);
     }
@@ -64,7 +65,7 @@ fn first_fault_or_sight(bytes: &[u8]) -> Result<Seen<'_>, PacketFault>
     } else {
         PacketKind::Tm
     };
-    let field = &bytes[6..end];
+    let field = &bytes[PRIMARY_HEADER..end];
     Ok(Seen::Packet(Packet {
         kind,
         apid: first & 0x07ff,

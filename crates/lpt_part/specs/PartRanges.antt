@@ -1,5 +1,6 @@
 -- Which numbers and lengths a part of a kind may have.
 use Rattle.std.specs.Prelude.{ℕ, ◌+◌, ◌-◌, ◌*◌, ◌≤◌}
+use Rattle.lpt_packet.specs.Sizes.{longest_packet}
 use Rattle.lpt_part.specs.declared.kind.Kind.{Kind}
 use Rattle.lpt_part.specs.declared.kind.Kind.TheVariants.{First, Middle, Last}
 
@@ -30,7 +31,7 @@ pub record NumberFits (kind : Kind) (number : ℕ) : Type 0 where
 pub record LengthFits (kind : Kind) (number len p : ℕ) : Type 0 where
   pub least : least_length kind p ≤ len
   pub greatest : len ≤ p
-  pub end : (number - 1) * p + len ≤ 65542
+  pub end : (number - 1) * p + len ≤ longest_packet
 
 -- for parts of p octets there is a part of this kind, number and length
 pub record PartFits (kind : Kind) (number len p : ℕ) : Type 0 where

@@ -3,6 +3,7 @@ use Rattle.std.specs.Prelude.{◌≡◌, ℕ, ◌+◌, ◌-◌, ◌*◌, ◌<◌
 use Rattle.std.specs.Result.{result_ok}
 use Rattle.lpt_packet.specs.Names.{Name}
 use Rattle.lpt_packet.specs.Numbers.{be, word_at}
+use Rattle.lpt_packet.specs.Sizes.{longest_packet}
 use Rattle.lpt_part.specs.declared.kind.Kind.{Kind}
 use Rattle.lpt_part.specs.declared.kind.Kind.TheVariants.{First, Middle, Last}
 use Rattle.lpt_part.specs.declared.fault.PartFault.{PartFault}
@@ -39,7 +40,7 @@ number_test kind number =
 -- whether a part of this kind and number may have so many octets
 abbrev pub length_test : Kind → ℕ → ℕ → ℕ → Bool
 length_test kind number len p =
-    nat_le (least_length kind p) len && nat_le len p && nat_le ((number - 1) * p + len) 65542
+    nat_le (least_length kind p) len && nat_le len p && nat_le ((number - 1) * p + len) longest_packet
 
 -- the part that stands at a body's places
 abbrev pub piece_at : Kind → List ℕ → Piece

@@ -43,12 +43,18 @@ fn fault_or_abort(body: &[u8]) -> Result<(Name, Reason), PartFault>
 }
 
 /// The body of an abortion report. The only error is want of memory.
-#[tactic(auto, unfolding(crate::specs::Aborts::abort_body))]
 pub fn write_abort(alloc: Global, id: Name, reason: Reason) -> Result<Octets, AllocError>
     ensures { IfOk result (λ o. o ≡ abort_body id reason) }
 {
-    let mut body = Vec::with_capacity(alloc, 3)?;
-    body.extend_from_slice(&id.to_be_bytes())?;
-    body.push(reason.code())?;
+    let body = abort_octets(id, reason).to_vec(alloc)?;
     Ok(Octets::from_vec(body))
+}
+
+/// The three octets of an abortion report's body.
+#[tactic(auto, unfolding(crate::specs::Aborts::abort_body))]
+pub fn abort_octets(id: Name, reason: Reason) -> [u8; 3]
+    ensures { result ≡ abort_body id reason }
+{
+    let id = id.to_be_bytes();
+    [id[0], id[1], reason.code()]
 }

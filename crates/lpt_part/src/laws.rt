@@ -3,6 +3,7 @@
 
 ghost use Rattle.std.specs.Prelude.{◌≡◌, ◌↔◌, ℕ, ◌*◌, ◌<◌, ◌≤◌, List, length, take, Ok, Some};
 ghost use Rattle.lpt_packet.specs.Numbers.{IsOctets};
+ghost use Rattle.lpt_packet.specs.Sizes.{longest_packet};
 ghost use Rattle.lpt_part.specs.declared.reason.Reason.{Reason};
 ghost use Rattle.lpt_part.specs.PartRanges.{PartFits};
 ghost use Rattle.lpt_part.specs.Splitting.{IsPartSize, part_count, part_of, kind_at, parts_joined};
@@ -12,12 +13,12 @@ ghost use Rattle.lpt_part.specs.Aborts.{abort_body, IsAbort, abort_verdict, abor
 /// A message that is longer than a part and no longer than the longest space packet has 2 to
 /// 16,386 parts, each of which has the number and the length that its kind asks for.
 pub fn parts_fit()
-    ensures fits { (m : List ℕ) (p k : ℕ) → IsPartSize p → p < length m → length m ≤ 65542
+    ensures fits { (m : List ℕ) (p k : ℕ) → IsPartSize p → p < length m → length m ≤ longest_packet
         → 1 ≤ k → k ≤ part_count (length m) p
         → PartFits (kind_at k (part_count (length m) p)) k (length (part_of m p k)) p }
-    ensures count { (len p : ℕ) → IsPartSize p → p < len → len ≤ 65542
+    ensures count { (len p : ℕ) → IsPartSize p → p < len → len ≤ longest_packet
         → (2 ≤ part_count len p) × (part_count len p ≤ 16386) }
-    ensures number { (len p k : ℕ) → IsPartSize p → p < len → len ≤ 65542
+    ensures number { (len p k : ℕ) → IsPartSize p → p < len → len ≤ longest_packet
         → k ≤ part_count len p → k < 65536 }
 {}
 

@@ -18,7 +18,7 @@ mod reason;
 mod splitting;
 mod writing;
 
-pub use abort::{read_abort, write_abort};
+pub use abort::{abort_octets, read_abort, write_abort};
 pub use fault::PartFault;
 pub use kind::Kind;
 pub use part::Part;
@@ -26,6 +26,3 @@ pub use reading::read_part;
 pub use reason::Reason;
 pub use splitting::{count, slice};
 pub use writing::write_part;
-
-#[cfg(test)]
-mod tests;

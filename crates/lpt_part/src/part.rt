@@ -6,10 +6,7 @@ ghost use Rattle.lpt_part.specs.Splitting.{IsPartSize};
 ghost use Rattle.lpt_part.specs.PartRanges.{NumberFits, LengthFits, PartFits};
 
 use crate::Kind;
-use lpt_packet::Name;
-
-/// The most octets that a message has: those of the longest space packet.
-const LONGEST_MESSAGE: usize = 65542;
+use lpt_packet::{LONGEST_PACKET, Name};
 
 /// A part of a large message. Its octets are borrowed, from the message or from the body that it
 /// was read from.
@@ -74,5 +71,5 @@ pub(crate) fn length_fits(kind: Kind, number: u16, len: usize, p: u32) -> bool
         Kind::Last => 1,
     };
     let before = usize::from(number).saturating_sub(1) * p;
-    least <= len && len <= p && before + len <= LONGEST_MESSAGE
+    least <= len && len <= p && before + len <= LONGEST_PACKET
 }

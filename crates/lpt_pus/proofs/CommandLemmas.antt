@@ -6,10 +6,10 @@ use Rattle.std.proofs.lemmas.Grind.{common_steps}
 use Rattle.lpt_packet.specs.declared.packet.PacketKind.{PacketKind}
 use Rattle.lpt_packet.specs.declared.packet.PacketKind.TheVariants.{Tm, Tc}
 use Rattle.lpt_packet.specs.Numbers.{be, IsOctets}
-use Rattle.lpt_packet.specs.Packets.{Fields, spelling, APacket, seen}
+use Rattle.lpt_packet.specs.Packets.{Fields, fields_of, spelling, APacket, seen}
 use Rattle.lpt_packet.specs.Ranges.{InRange}
 use Rattle.lpt_pus.specs.declared.fault.PusFault.{PusFault}
-use Rattle.lpt_pus.specs.Messages.{fields_of, for_apid, in_packet, Gives}
+use Rattle.lpt_pus.specs.Messages.{for_apid, in_packet, Gives}
 use Rattle.lpt_pus.specs.Commands.{Command, CommandFits, tc_field, packet_of, IsCommand, command_at, is_tc, tc_verdict, command_in, IsCommandIn}
 use Rattle.lpt_pus.proofs.MessageLemmas.{tested-ok, for_apid-some, for_apid-again, in_packet-some}
 use Rattle.lpt_packet.proofs.Codec.{length-spelling, word_cells}

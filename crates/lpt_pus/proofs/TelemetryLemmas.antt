@@ -6,11 +6,11 @@ use Rattle.std.proofs.lemmas.Grind.{common_steps}
 use Rattle.lpt_packet.specs.declared.packet.PacketKind.{PacketKind}
 use Rattle.lpt_packet.specs.declared.packet.PacketKind.TheVariants.{Tm, Tc}
 use Rattle.lpt_packet.specs.Numbers.{be, IsOctets}
-use Rattle.lpt_packet.specs.Packets.{Fields, spelling, APacket, seen}
+use Rattle.lpt_packet.specs.Packets.{Fields, fields_of, spelling, APacket, seen}
 use Rattle.lpt_packet.specs.Ranges.{InRange}
 use Rattle.lpt_pus.specs.declared.fault.PusFault.{PusFault}
-use Rattle.lpt_pus.specs.Messages.{fields_of, for_apid, in_packet, Gives}
-use Rattle.lpt_pus.specs.Telemetry.{Telemetry, TelemetryFits, tm_field, tm_packet_of, IsTelemetry, telemetry_at, is_tm, tm_verdict, telemetry_in, IsTelemetryIn}
+use Rattle.lpt_pus.specs.Messages.{for_apid, in_packet, Gives}
+use Rattle.lpt_pus.specs.Telemetry.{Telemetry, TelemetryFits, as_written, tm_field, tm_packet_of, IsTelemetry, telemetry_at, is_tm, tm_verdict, telemetry_in, IsTelemetryIn}
 use Rattle.lpt_pus.proofs.MessageLemmas.{tested-ok, for_apid-some, for_apid-again, in_packet-some}
 use Rattle.lpt_packet.proofs.Codec.{length-spelling, word_cells}
 use Rattle.lpt_pus.proofs.LongLemmas.{be-long}
@@ -34,6 +34,22 @@ InRange-tm_packet_of t h = record {
   apid_fits = h.head_fits.apid_fits;
   count_fits = h.head_fits.count_fits;
   field_fits = omega (arith, length-tm_field t);
+}
+
+-- with status 0 it is in its ranges too
+pub TelemetryFits-as_written : (t : Telemetry) → TelemetryFits t → TelemetryFits (as_written t)
+TelemetryFits-as_written t h = record {
+  head_fits = record {
+    apid_fits = h.head_fits.apid_fits;
+    count_fits = h.head_fits.count_fits;
+    status_fits = omega arith;
+  };
+  service_fits = h.service_fits;
+  subtype_fits = h.subtype_fits;
+  counter_fits = h.counter_fits;
+  destination_fits = h.destination_fits;
+  time_fits = h.time_fits;
+  body_fits = h.body_fits;
 }
 
 -- ---- reading what was written

@@ -3,11 +3,12 @@ use Rattle.std.specs.Prelude.{◌≡◌, ℕ, ◌+◌, ◌/◌, ◌%◌, ◌<◌
 use Rattle.lpt_packet.specs.declared.packet.PacketKind.{PacketKind}
 use Rattle.lpt_packet.specs.declared.packet.PacketKind.TheVariants.{Tm, Tc}
 use Rattle.lpt_packet.specs.Numbers.{be, word_at}
-use Rattle.lpt_packet.specs.Packets.{Fields, APacket, seen}
+use Rattle.lpt_packet.specs.Packets.{Fields, fields_of, APacket, seen}
 use Rattle.lpt_pus.specs.declared.fault.PusFault.{PusFault}
 use Rattle.lpt_pus.specs.declared.tc_head.TcHead.{TcHead}
-use Rattle.lpt_pus.specs.Messages.{fields_of, tested, for_apid, in_packet}
+use Rattle.lpt_pus.specs.Messages.{tested, for_apid, in_packet}
 use Rattle.lpt_pus.specs.Ranges.{TcFits}
+use Rattle.lpt_pus.specs.Sizes.{tc_header, longest_tc_body}
 
 -- what a telecommand says
 pub record Command : Type 0 where
@@ -37,7 +38,7 @@ pub record CommandFits (c : Command) : Type 0 where
   pub service_fits : c.service < 256
   pub subtype_fits : c.subtype < 256
   pub source_fits : c.source < 65536
-  pub body_fits : length c.body ≤ 65529
+  pub body_fits : length c.body ≤ longest_tc_body
 
 -- PUS version 4 bits, 2; acknowledgement flags 4; service type 8; message subtype 8;
 -- source ID 16; then the body
@@ -62,7 +63,7 @@ command_at f = record {
   service = slice_index f.octets 1;
   subtype = slice_index f.octets 2;
   source = word_at f.octets 3;
-  body = drop 5 f.octets;
+  body = drop tc_header f.octets;
 }
 
 -- whether a packet's type is TC
@@ -73,7 +74,7 @@ is_tc Tm = false
 -- the telecommand that a packet is, or the first test that it fails
 unfoldable pub tc_verdict : Fields → Result Command PusFault
 tc_verdict f =
-    tested (is_tc f.kind) (nat_le 5 (length f.octets)) (slice_index f.octets 0 / 16 == 2)
+    tested (is_tc f.kind) (nat_le tc_header (length f.octets)) (slice_index f.octets 0 / 16 == 2)
     (command_at f)
 
 -- the telecommand that octets are, where they are the packet of one with this APID

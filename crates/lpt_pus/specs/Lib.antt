@@ -3,4 +3,5 @@ pub mod FaultNames
 pub mod Messages
 pub mod Numbers
 pub mod Ranges
+pub mod Sizes
 pub mod Telemetry

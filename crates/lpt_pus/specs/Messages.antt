@@ -2,17 +2,9 @@
 use Rattle.std.specs.Prelude.{◌≡◌, ℕ, ◌<◌, ◌≤◌, ◌==◌, Bool, if◌then◌else◌, List, length, Option, Some, None, Result, Ok, Err}
 use Rattle.lpt_packet.specs.declared.packet.PacketKind.{PacketKind}
 use Rattle.lpt_packet.specs.Packets.{Fields, Sight, IdlePacket, APacket}
+use Rattle.lpt_packet.specs.Sizes.{longest_packet}
 use Rattle.lpt_pus.specs.declared.fault.PusFault.{PusFault}
 use Rattle.lpt_pus.specs.declared.fault.PusFault.TheVariants.{PusVersion, WrongType, ShortHeader, TooLong, Memory}
-
--- the fields of a packet
-abbrev pub fields_of : PacketKind → ℕ → ℕ → List ℕ → Fields
-fields_of kind apid count octets = record {
-  kind = kind;
-  apid = apid;
-  count = count;
-  octets = octets;
-}
 
 -- the message, or the first test that its packet fails: the packet type, then the header's
 -- length, then the PUS version
@@ -44,9 +36,9 @@ Gives view (Err e) v = v ≡ Err e
 -- what a writer made is these octets; they are too long exactly where they are more than a packet
 -- has; otherwise memory may have run out
 abbrev pub Writes : Result (List ℕ) PusFault → List ℕ → Type 0
-Writes (Ok o) s = (length s ≤ 65542) × (o ≡ s)
-Writes (Err TooLong) s = 65542 < length s
-Writes (Err Memory) s = length s ≤ 65542
+Writes (Ok o) s = (length s ≤ longest_packet) × (o ≡ s)
+Writes (Err TooLong) s = longest_packet < length s
+Writes (Err Memory) s = length s ≤ longest_packet
 Writes (Err PusVersion) s = ⊥
 Writes (Err WrongType) s = ⊥
 Writes (Err ShortHeader) s = ⊥

@@ -3,12 +3,13 @@ use Rattle.std.specs.Prelude.{◌≡◌, ℕ, ◌+◌, ◌/◌, ◌%◌, ◌^◌
 use Rattle.lpt_packet.specs.declared.packet.PacketKind.{PacketKind}
 use Rattle.lpt_packet.specs.declared.packet.PacketKind.TheVariants.{Tm, Tc}
 use Rattle.lpt_packet.specs.Numbers.{be, word_at}
-use Rattle.lpt_packet.specs.Packets.{Fields, APacket, seen}
+use Rattle.lpt_packet.specs.Packets.{Fields, fields_of, APacket, seen}
 use Rattle.lpt_pus.specs.declared.fault.PusFault.{PusFault}
 use Rattle.lpt_pus.specs.declared.tm_head.TmHead.{TmHead}
 use Rattle.lpt_pus.specs.Numbers.{long_at}
-use Rattle.lpt_pus.specs.Messages.{fields_of, tested, for_apid, in_packet}
+use Rattle.lpt_pus.specs.Messages.{tested, for_apid, in_packet}
 use Rattle.lpt_pus.specs.Ranges.{TmFits}
+use Rattle.lpt_pus.specs.Sizes.{tm_header, longest_tm_body}
 
 -- what a telemetry message says
 pub record Telemetry : Type 0 where
@@ -36,6 +37,10 @@ telemetry h body = record {
   body = body;
 }
 
+-- what is written of telemetry: its status is 0
+abbrev pub as_written : Telemetry → Telemetry
+as_written t = record t { status = 0 }
+
 -- all that a telemetry message says is in its range
 pub record TelemetryFits (t : Telemetry) : Type 0 where
   pub head_fits : TmFits t.apid t.count t.status
@@ -44,7 +49,7 @@ pub record TelemetryFits (t : Telemetry) : Type 0 where
   pub counter_fits : t.counter < 65536
   pub destination_fits : t.destination < 65536
   pub time_fits : t.time < 2 ^ 32
-  pub body_fits : length t.body ≤ 65523
+  pub body_fits : length t.body ≤ longest_tm_body
 
 -- PUS version 4 bits, 2; time reference status 4; service type 8; message subtype 8;
 -- message type counter 16; destination ID 16; time 32; then the body
@@ -73,7 +78,7 @@ telemetry_at f = record {
   counter = word_at f.octets 3;
   destination = word_at f.octets 5;
   time = long_at f.octets 7;
-  body = drop 11 f.octets;
+  body = drop tm_header f.octets;
 }
 
 -- whether a packet's type is TM
@@ -84,7 +89,7 @@ is_tm Tc = false
 -- the telemetry that a packet is, or the first test that it fails
 unfoldable pub tm_verdict : Fields → Result Telemetry PusFault
 tm_verdict f =
-    tested (is_tm f.kind) (nat_le 11 (length f.octets)) (slice_index f.octets 0 / 16 == 2)
+    tested (is_tm f.kind) (nat_le tm_header (length f.octets)) (slice_index f.octets 0 / 16 == 2)
     (telemetry_at f)
 
 -- the telemetry that octets are, where they are the packet of it with this APID

@@ -6,7 +6,7 @@ ghost use Rattle.lpt_packet.specs.Numbers.{IsOctets};
 ghost use Rattle.lpt_packet.specs.Packets.{Fields, spelling};
 ghost use Rattle.lpt_packet.specs.Ranges.{InRange};
 ghost use Rattle.lpt_pus.specs.Commands.{Command, CommandFits, packet_of, IsCommand, tc_verdict, command_in, IsCommandIn};
-ghost use Rattle.lpt_pus.specs.Telemetry.{Telemetry, TelemetryFits, tm_packet_of, IsTelemetry, tm_verdict, telemetry_in, IsTelemetryIn};
+ghost use Rattle.lpt_pus.specs.Telemetry.{Telemetry, TelemetryFits, as_written, tm_packet_of, IsTelemetry, tm_verdict, telemetry_in, IsTelemetryIn};
 
 /// A message in its ranges is read again from the packet that spells it.
 pub fn read_again()
@@ -45,10 +45,13 @@ pub fn in_octets()
         → (telemetry_in apid b ≡ Some t) ↔ IsTelemetryIn apid b t }
 {}
 
-/// A message in its ranges is read again from the octets of its packet.
+/// A message in its ranges is read again from the octets of its packet; what is written of
+/// telemetry, with status 0.
 pub fn octets_read_again()
     ensures command { (c : Command) → CommandFits c
         → command_in c.apid (spelling (packet_of c)) ≡ Some c }
     ensures telemetry { (t : Telemetry) → TelemetryFits t
         → telemetry_in t.apid (spelling (tm_packet_of t)) ≡ Some t }
+    ensures written { (t : Telemetry) → TelemetryFits t
+        → telemetry_in t.apid (spelling (tm_packet_of (as_written t))) ≡ Some (as_written t) }
 {}

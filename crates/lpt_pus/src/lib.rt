@@ -13,6 +13,7 @@ mod fault;
 pub mod laws;
 mod reading;
 mod request;
+mod sizes;
 mod tc_head;
 mod tm_head;
 mod writing;
@@ -21,9 +22,7 @@ pub use ack_flags::AckFlags;
 pub use fault::PusFault;
 pub use reading::{read_tc, read_tm};
 pub use request::RequestId;
+pub use sizes::{LONGEST_TC_BODY, LONGEST_TM_BODY, TC_HEADER, TM_HEADER};
 pub use tc_head::TcHead;
 pub use tm_head::TmHead;
-pub use writing::{tc_octets, tm_octets, write_tc, write_tm};
-
-#[cfg(test)]
-mod tests;
+pub use writing::{tc_octets, tc_pieces, tm_octets, tm_pieces, write_tc, write_tm};

@@ -6,14 +6,9 @@ ghost use Rattle.lpt_pus.specs.Messages.{Gives};
 ghost use Rattle.lpt_pus.specs.Commands.{Command, command, IsCommand, tc_verdict};
 ghost use Rattle.lpt_pus.specs.Telemetry.{Telemetry, telemetry, IsTelemetry, tm_verdict};
 
+use crate::sizes::{TC_HEADER, TM_HEADER};
 use crate::{PusFault, TcHead, TmHead};
 use lpt_packet::{Packet, PacketKind};
-
-/// The octets of a telecommand's secondary header.
-const TC_HEADER: usize = 5;
-
-/// The octets of a telemetry packet's secondary header.
-const TM_HEADER: usize = 11;
 
 /// The PUS version number of ECSS-E-ST-70-41C.
 const PUS_VERSION: u8 = 2;

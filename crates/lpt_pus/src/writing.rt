@@ -3,19 +3,14 @@
 ghost use Rattle.std.specs.Prelude.{◌≡◌, ◌+◌, ◌≤◌, ◌++◌, length, IfOk};
 ghost use Rattle.lpt_packet.specs.Packets.{spelling};
 ghost use Rattle.lpt_pus.specs.Commands.{command, packet_of};
-ghost use Rattle.lpt_pus.specs.Messages.{Writes, fields_of};
-ghost use Rattle.lpt_pus.specs.Telemetry.{telemetry, tm_packet_of};
+ghost use Rattle.lpt_pus.specs.Messages.{Writes};
+ghost use Rattle.lpt_pus.specs.Sizes.{longest_tc_body, longest_tm_body};
+ghost use Rattle.lpt_pus.specs.Telemetry.{telemetry, as_written, tm_packet_of};
 
+use crate::sizes::{LONGEST_TC_BODY, LONGEST_TM_BODY};
 use crate::{PusFault, TcHead, TmHead};
-use lpt_packet::{Octets, Packet, PacketKind, write_packet};
+use lpt_packet::{Octets, PacketKind, write_pieces};
 use std::alloc::{AllocError, Global};
-
-/// The most octets of a telecommand's body: a packet has at most 65,542 octets, 8 of them besides
-/// its data field, and the secondary header has 5.
-const TC_BODY_LIMIT: usize = 65529;
-
-/// The most octets of a telemetry message's body: the secondary header has 11.
-const TM_BODY_LIMIT: usize = 65523;
 
 /// The octets of a telecommand's whole packet.
 ///
@@ -24,7 +19,7 @@ const TM_BODY_LIMIT: usize = 65523;
 pub fn write_tc(alloc: Global, head: &TcHead, body: &[u8]) -> Result<Octets, PusFault>
     ensures { Writes result (spelling (packet_of (command head.now body.now))) }
 {
-    if body.len() > TC_BODY_LIMIT {
+    if body.len() > LONGEST_TC_BODY {
         return Err(PusFault::TooLong);
     }
     tc_octets(alloc, head, body).map_err(|_| PusFault::Memory)
@@ -33,8 +28,23 @@ pub fn write_tc(alloc: Global, head: &TcHead, body: &[u8]) -> Result<Octets, Pus
 /// The octets of a telecommand's whole packet, for a body that is known to fit: at most 65,529
 /// octets. The only error is want of memory.
 pub fn tc_octets(alloc: Global, head: &TcHead, body: &[u8]) -> Result<Octets, AllocError>
-    requires { length body.now ≤ 65529 }
+    requires { length body.now ≤ longest_tc_body }
     ensures { IfOk result (λ o. o ≡ spelling (packet_of (command head.now body.now))) }
+{
+    tc_pieces(alloc, head, &[], body)
+}
+
+/// The octets of a telecommand's whole packet, for a body in two pieces, each of which is copied
+/// once: together at most 65,529 octets. The only error is want of memory.
+pub fn tc_pieces(
+    alloc: Global,
+    head: &TcHead,
+    front: &[u8],
+    rest: &[u8],
+) -> Result<Octets, AllocError>
+    requires { length front.now + length rest.now ≤ longest_tc_body }
+    ensures { IfOk result (λ o. o
+        ≡ spelling (packet_of (command head.now (front.now ++ rest.now)))) }
 {
     let source = head.source.to_be_bytes();
     let header = [
@@ -44,33 +54,51 @@ pub fn tc_octets(alloc: Global, head: &TcHead, body: &[u8]) -> Result<Octets, Al
         source[0],
         source[1],
     ];
-    packet_octets(alloc, PacketKind::Tc, head.apid, head.count, &header, body)
+    let kind = PacketKind::Tc;
+    write_pieces(alloc, kind, head.apid, head.count, &header, front, rest)
 }
 
-/// The octets of a telemetry message's whole packet.
+/// The octets of a telemetry message's whole packet. The status is written as 0, whatever the
+/// head's is.
 ///
 /// Errors: `TooLong` where the packet would have more than 65,542 octets, which is found before
 /// any memory is taken; `Memory` where memory runs out.
 pub fn write_tm(alloc: Global, head: &TmHead, body: &[u8]) -> Result<Octets, PusFault>
-    ensures { Writes result (spelling (tm_packet_of (telemetry head.now body.now))) }
+    ensures { Writes result (spelling (tm_packet_of (as_written (telemetry head.now body.now)))) }
 {
-    if body.len() > TM_BODY_LIMIT {
+    if body.len() > LONGEST_TM_BODY {
         return Err(PusFault::TooLong);
     }
     tm_octets(alloc, head, body).map_err(|_| PusFault::Memory)
 }
 
 /// The octets of a telemetry message's whole packet, for a body that is known to fit: at most
-/// 65,523 octets. The only error is want of memory.
+/// 65,523 octets. The status is written as 0. The only error is want of memory.
 pub fn tm_octets(alloc: Global, head: &TmHead, body: &[u8]) -> Result<Octets, AllocError>
-    requires { length body.now ≤ 65523 }
-    ensures { IfOk result (λ o. o ≡ spelling (tm_packet_of (telemetry head.now body.now))) }
+    requires { length body.now ≤ longest_tm_body }
+    ensures { IfOk result (λ o. o ≡ spelling (tm_packet_of (as_written (telemetry head.now body.now)))) }
+{
+    tm_pieces(alloc, head, &[], body)
+}
+
+/// The octets of a telemetry message's whole packet, for a body in two pieces, each of which is
+/// copied once: together at most 65,523 octets. The status is written as 0. The only error is
+/// want of memory.
+pub fn tm_pieces(
+    alloc: Global,
+    head: &TmHead,
+    front: &[u8],
+    rest: &[u8],
+) -> Result<Octets, AllocError>
+    requires { length front.now + length rest.now ≤ longest_tm_body }
+    ensures { IfOk result (λ o. o ≡ spelling (tm_packet_of
+        (as_written (telemetry head.now (front.now ++ rest.now))))) }
 {
     let counter = head.counter.to_be_bytes();
     let destination = head.destination.to_be_bytes();
     let time = head.time.to_be_bytes();
     let header = [
-        0x20 + head.status,
+        0x20,
         head.service,
         head.subtype,
         counter[0],
@@ -82,31 +110,6 @@ pub fn tm_octets(alloc: Global, head: &TmHead, body: &[u8]) -> Result<Octets, Al
         time[2],
         time[3],
     ];
-    packet_octets(alloc, PacketKind::Tm, head.apid, head.count, &header, body)
-}
-
-// The octets of a packet whose data field is a secondary header and a body.
-fn packet_octets(
-    alloc: Global,
-    kind: PacketKind,
-    apid: u16,
-    count: u16,
-    header: &[u8],
-    body: &[u8],
-) -> Result<Octets, AllocError>
-    requires apid { apid ≤ 2046 }
-    requires count { count ≤ 16383 }
-    requires field { length header.now + length body.now ≤ 65534 }
-    ensures { IfOk result (λ o. o ≡ spelling (fields_of kind apid count (header.now ++ body.now))) }
-{
-    let mut field = Vec::with_capacity(alloc, header.len() + body.len())?;
-    field.extend_from_slice(header)?;
-    field.extend_from_slice(body)?;
-    let packet = Packet {
-        kind,
-        apid,
-        count,
-        field: &field,
-    };
-    write_packet(alloc, &packet)
+    let kind = PacketKind::Tm;
+    write_pieces(alloc, kind, head.apid, head.count, &header, front, rest)
 }

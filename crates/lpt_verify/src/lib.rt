@@ -17,6 +17,3 @@ pub use code::FailureCode;
 pub use reading::read_report;
 pub use report::{EncodedReport, Report, Reports};
 pub use writing::reports;
-
-#[cfg(test)]
-mod tests;

@@ -5,8 +5,8 @@ use Rattle.lpt_pus.specs.Commands.{command, packet_of}
 use Rattle.lpt_pus.proofs.CommandLemmas.{length-spelling_tc}
 use Rattle.lpt_pus.proofs.writing.write_tc.Goals as goal
 
-pub returns-then-body-gt-TC_BODY_LIMIT : goal.returns-then-body-gt-TC_BODY_LIMIT
-returns-then-body-gt-TC_BODY_LIMIT c =
+pub returns-then-body-gt-LONGEST_TC_BODY : goal.returns-then-body-gt-LONGEST_TC_BODY
+returns-then-body-gt-LONGEST_TC_BODY c =
     let written = command c.args.head.now c.args.body.now in
     omega (arith, length-spelling_tc written)
 

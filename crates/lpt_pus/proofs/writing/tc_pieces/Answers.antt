@@ -1,7 +1,7 @@
 -- The data field is the header and the body.
 use Rattle.lpt_pus.specs.Commands.{tc_field}
-use Rattle.lpt_pus.proofs.writing.tc_octets.Goals as goal
+use Rattle.lpt_pus.proofs.writing.tc_pieces.Goals as goal
 
 pub returns : goal.returns
 unfolding tc_field
-returns c = rw c.to_be_bytes-source.ensures at c.packet_octets.ensures
+returns c = rw c.to_be_bytes-source.ensures at c.write_pieces.ensures

@@ -1,6 +1,6 @@
 -- The data field is the header and the body.
 use Rattle.lpt_pus.specs.Telemetry.{tm_field}
-use Rattle.lpt_pus.proofs.writing.tm_octets.Goals as goal
+use Rattle.lpt_pus.proofs.writing.tm_pieces.Goals as goal
 
 pub returns : goal.returns
 unfolding tm_field
@@ -8,4 +8,4 @@ returns c =
     let counter = c.to_be_bytes-counter.ensures in
     let destination = c.to_be_bytes-destination.ensures in
     let time = c.to_be_bytes-time.ensures in
-    rw (counter, destination, time) at c.packet_octets.ensures
+    rw (counter, destination, time) at c.write_pieces.ensures

@@ -1,39 +1,10 @@
-//! Packets from outside, read and written again, and what is refused.
+//! Telecommands and telemetry: packets from outside, read and written again, and what is refused.
 
-use crate::{AckFlags, PusFault, TcHead, TmHead, read_tc, read_tm, write_tc, write_tm};
+use crate::vectors::{ABORT_EXPIRED, ACCEPTANCE_REPORT, DUMP_TWO_OCTETS, FIRST_PART, LAST_PART};
 use lpt_packet::{Packet, PacketKind, Seen, read_packet};
+use lpt_pus::{AckFlags, PusFault, TcHead, TmHead, read_tc, read_tm, write_tc, write_tm};
 use std::alloc::Global;
 use std::test::Fail;
-
-// TC[13,9]: the first part of a transaction 7.
-const FIRST_PART: [u8; 25] = [
-    0x18, 0x64, 0xc0, 0x00, 0x00, 0x12, 0x20, 0x0d, 0x09, 0x00, 0x01, 0x00, 0x07, 0x00, 0x01, 0x00,
-    0x01, 0x02, 0x03, 0x04, 0x05, 0x06, 0x07, 0xf4, 0x0d,
-];
-
-// TC[13,11]: its last part.
-const LAST_PART: [u8; 21] = [
-    0x18, 0x64, 0xc0, 0x02, 0x00, 0x0e, 0x20, 0x0d, 0x0b, 0x00, 0x01, 0x00, 0x07, 0x00, 0x03, 0x10,
-    0x11, 0x12, 0x13, 0x13, 0x9b,
-];
-
-// TM[13,16]: the transaction 7 was given up at time 19.
-const ABORT_EXPIRED: [u8; 22] = [
-    0x08, 0x64, 0xc0, 0x00, 0x00, 0x0f, 0x20, 0x0d, 0x10, 0x00, 0x00, 0x00, 0x01, 0x00, 0x00, 0x00,
-    0x13, 0x00, 0x07, 0x01, 0x4e, 0x97,
-];
-
-// TM[1,1]: a telecommand was accepted.
-const ACCEPTANCE_REPORT: [u8; 23] = [
-    0x08, 0x64, 0xc0, 0x00, 0x00, 0x10, 0x20, 0x01, 0x01, 0x00, 0x00, 0x00, 0x01, 0x00, 0x00, 0x00,
-    0x00, 0x18, 0x64, 0xc0, 0x00, 0xb2, 0xb1,
-];
-
-// TM[6,6]: two octets of memory.
-const DUMP_TWO_OCTETS: [u8; 31] = [
-    0x08, 0x64, 0xc0, 0x00, 0x00, 0x18, 0x20, 0x06, 0x06, 0x00, 0x00, 0x00, 0x01, 0x00, 0x00, 0x00,
-    0x00, 0x01, 0x01, 0x00, 0x00, 0x00, 0x10, 0x00, 0x02, 0x00, 0x00, 0x1d, 0x0f, 0xe7, 0x44,
-];
 
 // The packet that octets are.
 fn packet_in(octets: &[u8]) -> Result<Packet<'_>, Fail> {
@@ -111,22 +82,47 @@ fn tm_length(alloc: Global, zeros: usize) -> Result<Option<usize>, Fail> {
 
 #[test]
 fn reads_and_writes_telecommands(rt: HostRuntime) -> Result<(), Fail> {
-    let first = TcHead::new(100, 0, 0, 13, 9, 1);
-    assert!(rt; is_telecommand(rt.alloc(), &FIRST_PART, first)?);
-    let last = TcHead::new(100, 2, 0, 13, 11, 1);
-    assert!(rt; is_telecommand(rt.alloc(), &LAST_PART, last)?);
-    assert_eq!(rt; first.ok_or("out of range")?.request().value, 0x1864_c000);
+    let cases = [
+        (FIRST_PART.as_slice(), TcHead::new(100, 0, 0, 13, 9, 1)),
+        (LAST_PART.as_slice(), TcHead::new(100, 2, 0, 13, 11, 1)),
+    ];
+    for (octets, head) in cases {
+        let same = is_telecommand(rt.alloc(), octets, head)?;
+        assert!(rt; same);
+    }
+    let first = TcHead::new(100, 0, 0, 13, 9, 1).ok_or("out of range")?;
+    assert!(rt; first.request().value == 0x1864_c000);
     Ok(())
 }
 
 #[test]
 fn reads_and_writes_telemetry(rt: HostRuntime) -> Result<(), Fail> {
-    let abort = TmHead::new(100, 0, 0, 13, 16, 0, 1, 19);
-    assert!(rt; is_telemetry(rt.alloc(), &ABORT_EXPIRED, abort)?);
-    let acceptance = TmHead::new(100, 0, 0, 1, 1, 0, 1, 0);
-    assert!(rt; is_telemetry(rt.alloc(), &ACCEPTANCE_REPORT, acceptance)?);
-    let dump = TmHead::new(100, 0, 0, 6, 6, 0, 1, 0);
-    assert!(rt; is_telemetry(rt.alloc(), &DUMP_TWO_OCTETS, dump)?);
+    let cases = [
+        (
+            ABORT_EXPIRED.as_slice(),
+            TmHead::new(100, 0, 0, 13, 16, 0, 1, 19),
+        ),
+        (
+            ACCEPTANCE_REPORT.as_slice(),
+            TmHead::new(100, 0, 0, 1, 1, 0, 1, 0),
+        ),
+        (
+            DUMP_TWO_OCTETS.as_slice(),
+            TmHead::new(100, 0, 0, 6, 6, 0, 1, 0),
+        ),
+    ];
+    for (octets, head) in cases {
+        let same = is_telemetry(rt.alloc(), octets, head)?;
+        assert!(rt; same);
+    }
+    Ok(())
+}
+
+#[test]
+fn writes_status_0(rt: HostRuntime) -> Result<(), Fail> {
+    let head = TmHead::new(100, 0, 5, 13, 16, 0, 1, 19).ok_or("out of range")?;
+    let written = write_tm(rt.alloc(), &head, &[0, 7, 1])?;
+    assert!(rt; written.as_slice() == ABORT_EXPIRED.as_slice());
     Ok(())
 }
 
@@ -134,27 +130,44 @@ fn reads_and_writes_telemetry(rt: HostRuntime) -> Result<(), Fail> {
 fn refuses_by_the_first_test(rt: HostRuntime) {
     // Version 1 throughout: the type comes first, then the header's length.
     let field = [0x10, 13, 9, 0, 1, 0, 1, 0, 0, 0, 0];
-    assert_eq!(rt; tc_fault(PacketKind::Tm, &field[..4]), Some(12));
-    assert_eq!(rt; tc_fault(PacketKind::Tc, &field[..4]), Some(13));
-    assert_eq!(rt; tc_fault(PacketKind::Tc, &field[..5]), Some(11));
-    assert_eq!(rt; tm_fault(PacketKind::Tc, &field[..10]), Some(12));
-    assert_eq!(rt; tm_fault(PacketKind::Tm, &field[..10]), Some(13));
-    assert_eq!(rt; tm_fault(PacketKind::Tm, &field), Some(11));
-    assert_eq!(rt; PusFault::WrongType.name(), "WrongType");
+    let commands = [
+        (PacketKind::Tm, 4, 12),
+        (PacketKind::Tc, 4, 13),
+        (PacketKind::Tc, 5, 11),
+    ];
+    for (kind, len, number) in commands {
+        assert!(rt; tc_fault(kind, &field[..len]) == Some(number), "{number}");
+    }
+    let telemetry = [
+        (PacketKind::Tc, 10, 12),
+        (PacketKind::Tm, 10, 13),
+        (PacketKind::Tm, 11, 11),
+    ];
+    for (kind, len, number) in telemetry {
+        assert!(rt; tm_fault(kind, &field[..len]) == Some(number), "{number}");
+    }
+    assert!(rt; PusFault::WrongType.name() == "WrongType");
 }
 
 #[test]
 fn fills_a_packet_and_no_more(rt: HostRuntime) -> Result<(), Fail> {
-    assert_eq!(rt; tc_length(rt.alloc(), 65529)?, Some(65542));
-    assert_eq!(rt; tc_length(rt.alloc(), 65530)?, None);
-    assert_eq!(rt; tm_length(rt.alloc(), 65523)?, Some(65542));
-    assert_eq!(rt; tm_length(rt.alloc(), 65524)?, None);
+    for (zeros, length) in [(65529, Some(65542)), (65530, None)] {
+        let written = tc_length(rt.alloc(), zeros)?;
+        assert!(rt; written == length, "{zeros}");
+    }
+    for (zeros, length) in [(65523, Some(65542)), (65524, None)] {
+        let written = tm_length(rt.alloc(), zeros)?;
+        assert!(rt; written == length, "{zeros}");
+    }
     Ok(())
 }
 
 #[test]
 fn there_are_four_flags(rt: HostRuntime) {
     for (bits, wanted) in [(0, Some(0)), (15, Some(15)), (16, None)] {
-        assert_eq!(rt; AckFlags::new(bits).map(|flags| flags.bits()), wanted);
+        assert!(rt;
+            AckFlags::new(bits).map(|flags| flags.bits()) == wanted,
+            "{bits}"
+        );
     }
 }
