@@ -2,7 +2,7 @@
 //! begins 18 64 c0 00.
 
 use super::*;
-use lpt_pus::RequestId;
+use lpt_pus::{FailureCode, RequestId};
 use std::alloc::Global;
 use std::test::Fail;
 
