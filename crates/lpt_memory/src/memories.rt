@@ -3,7 +3,7 @@
 ghost use Rattle.std.specs.Prelude.{◌≡◌};
 
 use crate::request::Content;
-use crate::{Effect, MemoryFault, Reading, Shape, contents};
+use crate::{Effect, MemoryFault, Reading, ReplyKind, Shape, contents};
 use lpt_packet::Octets;
 use std::alloc::{AllocError, Global};
 use std::marker::Model;
@@ -47,6 +47,14 @@ impl Memories {
             return Err(MemoryFault::BadMemories);
         }
         Ok(Memories { items: memories })
+    }
+
+    /// A copy. The only error is want of memory.
+    pub fn copy(&self) -> Result<Memories, AllocError>
+        ensures { IfOk result (λ m. m ≡ self.now) }
+    {
+        let items = contents::copy(*self.items.allocator(), &self.items)?;
+        Ok(Memories { items })
     }
 
     /// The identifiers and sizes. The only error is want of memory.
@@ -97,11 +105,11 @@ impl Memories {
             }
             Content::Dump(id, ranges) => {
                 let body = contents::dump(alloc, &self.items, *id, ranges)?;
-                Ok(Effect::Reply(body))
+                Ok(Effect::Reply(ReplyKind::Dump, body))
             }
             Content::Check(id, ranges) => {
                 let body = contents::check(alloc, &self.items, *id, ranges)?;
-                Ok(Effect::Reply(body))
+                Ok(Effect::Reply(ReplyKind::Check, body))
             }
         }
     }
