@@ -1,4 +1,4 @@
--- How long the answers to dumps and checks are.
+-- How long the answers to dumps and checks are, and that they are what was asked.
 use Rattle.std.proofs.Common.{◌≡◌, ◌∙◌, ap, refl, ℕ, ◌+◌, ◌*◌, ◌≤◌, List, [], ◌∷◌, length, drop, sum_by, arith}
 use Rattle.std.specs.List.{flat_map}
 use Rattle.std.proofs.lemmas.List.{length-append, length-take, length-drop}
@@ -7,10 +7,12 @@ use Rattle.std.proofs.lemmas.List.Sums.{sum_by-cons}
 use Rattle.lpt_packet.specs.Checksums.{checksum}
 use Rattle.lpt_packet.specs.Numbers.{be}
 use Rattle.lpt_memory.specs.declared.request.AreaRange.{AreaRange}
-use Rattle.lpt_memory.specs.Answers.{octets_in, dump_area, check_area, octets_of, dump_body, check_body}
-use Rattle.lpt_memory.specs.Meanings.{dump_length}
+use Rattle.lpt_memory.specs.declared.asks.Asks.TheVariants.{Reply}
+use Rattle.lpt_memory.specs.declared.asks.ReplyKind.TheVariants as kinds
+use Rattle.lpt_memory.specs.Answers.{octets_in, dump_area, check_area, octets_of, dump_body, check_body, answer, asked, asked_by}
+use Rattle.lpt_memory.specs.Meanings.{Meaning, Silent, Fault, Load, Dump, Check, dump_length}
 use Rattle.lpt_memory.specs.Memories.{Contents, sizes_of}
-use Rattle.lpt_memory.specs.Ranges.{RangesFit, ReadFits}
+use Rattle.lpt_memory.specs.Ranges.{RangesFit, ReadFits, MeaningFits}
 use Rattle.lpt_memory.proofs.MemoriesLemmas.{RangesFit-octets_of}
 
 length-dump_area : (content : List ℕ) (r : AreaRange)
@@ -58,3 +60,15 @@ length-check_areas content (r ∷ rest) =
 pub length-check_body : (id : ℕ) (ranges : List AreaRange) (ms : Contents)
     → length (check_body id ranges ms) ≡ 2 + 8 * length ranges
 length-check_body id ranges ms = omega (arith, length-check_areas (octets_of id ms) ranges)
+
+-- what is answered was asked so
+pub asked_by-answer : (m : Meaning) (ms : Contents)
+    → MeaningFits (sizes_of ms) m
+    → asked_by (answer m ms) ≡ asked m
+asked_by-answer Silent ms fits = refl
+asked_by-answer (Fault code) ms fits = refl
+asked_by-answer (Load id areas) ms fits = refl
+asked_by-answer (Dump id ranges) ms fits =
+    ap (Reply kinds.Dump) (omega (arith, length-dump_body id ranges ms fits.0))
+asked_by-answer (Check id ranges) ms fits =
+    ap (Reply kinds.Check) (length-check_body id ranges ms)

@@ -1,8 +1,11 @@
--- What a message can mean: a request is within its memory, and a fault's code is one of 1 to 6.
+-- What a message can mean: a request is within its memory, and a fault's code is one of the first six.
 use Rattle.std.proofs.Common.{◌≡◌, ℕ, ◌≤◌, ◌==◌, nat_lt, Bool, true, false, List, [], ◌∷◌, map, refl, arith, Option, Some, None, if◌then◌else◌, nat_lt}
 use Rattle.std.proofs.lemmas.Grind.{common_steps}
 use Rattle.std.proofs.lemmas.Bool.{ltb-false}
 use Rattle.std.proofs.lemmas.Bool.Decides.{nat_tests}
+use Rattle.lpt_pus.specs.declared.failure_code.FailureCode.{FailureCode}
+use Rattle.lpt_pus.specs.declared.failure_code.FailureCode.TheVariants.{UnknownRequest, OutOfRange, WrongChecksum, ReplyTooLong}
+use Rattle.lpt_pus.specs.Codes.{number_of}
 use Rattle.lpt_pus.specs.Commands.{Command, command_in}
 use Rattle.lpt_memory.specs.declared.request.AreaRange.{AreaRange}
 use Rattle.lpt_memory.specs.Requests.{LoadArea, Request, front_load_area, front_range, request_in}
@@ -15,8 +18,8 @@ either P true x y p q = p
 either P false x y p q = q
 
 -- a fault, or what holds where there is none
-unless-fits : (sizes : Sizes) (fault : Option ℕ) (m : Meaning)
-    → ((code : ℕ) → fault ≡ Some code → (1 ≤ code) × (code ≤ 6))
+unless-fits : (sizes : Sizes) (fault : Option FailureCode) (m : Meaning)
+    → ((code : FailureCode) → fault ≡ Some code → number_of code ≤ 6)
     → (fault ≡ None → MeaningFits sizes m)
     → MeaningFits sizes (unless fault m)
 unless-fits sizes (Some code) m f g = f code refl
@@ -24,13 +27,12 @@ unless-fits sizes None m f g = g refl
 
 -- ---- loads
 
-load_fault-coded : (size : ℕ) (areas : List LoadArea) (code : ℕ)
+load_fault-coded : (size : ℕ) (areas : List LoadArea) (code : FailureCode)
     → load_fault size areas ≡ Some code
-    → (1 ≤ code) × (code ≤ 6)
+    → number_of code ≤ 6
 load_fault-coded size [] code e = absurd cc
 load_fault-coded size (a ∷ rest) code e =
-    let tail : load_fault size rest ≡ Some code → (1 ≤ code)
-    × (code ≤ 6) = load_fault-coded size rest code in
+    let tail : load_fault size rest ≡ Some code → number_of code ≤ 6 = load_fault-coded size rest code in
     grind (arith, common_steps, nat_tests)
 
 load_fault-none : (size : ℕ) (areas : List LoadArea)
@@ -52,13 +54,12 @@ load-fits sizes size r known =
 
 -- ---- dumps and checks
 
-range_fault-coded : (size : ℕ) (ranges : List AreaRange) (code : ℕ)
+range_fault-coded : (size : ℕ) (ranges : List AreaRange) (code : FailureCode)
     → range_fault size ranges ≡ Some code
-    → (1 ≤ code) × (code ≤ 6)
+    → number_of code ≤ 6
 range_fault-coded size [] code e = absurd cc
 range_fault-coded size (r ∷ rest) code e =
-    let tail : range_fault size rest ≡ Some code → (1 ≤ code)
-    × (code ≤ 6) = range_fault-coded size rest code in
+    let tail : range_fault size rest ≡ Some code → number_of code ≤ 6 = range_fault-coded size rest code in
     grind (arith, common_steps, nat_tests)
 
 range_fault-none : (size : ℕ) (ranges : List AreaRange)
@@ -72,8 +73,8 @@ range_fault-none size (r ∷ rest) e =
 dump_chosen : (sizes : Sizes) (id : ℕ) (ranges : List AreaRange) (long : Bool)
     → nat_lt 65542 (dump_length ranges) ≡ long
     → ReadFits sizes id ranges
-    → MeaningFits sizes (if long then Fault 6 else Dump id ranges)
-dump_chosen sizes id ranges true e fits = (omega arith, omega arith)
+    → MeaningFits sizes (if long then Fault ReplyTooLong else Dump id ranges)
+dump_chosen sizes id ranges true e fits = omega arith
 dump_chosen sizes id ranges false e fits = (fits, ltb-false _ _ e)
 
 dump-fits : (sizes : Sizes) (size : ℕ) (r : Request AreaRange)
@@ -81,7 +82,7 @@ dump-fits : (sizes : Sizes) (size : ℕ) (r : Request AreaRange)
     → MeaningFits sizes (dump_meaning size r)
 dump-fits sizes size r known =
     unless-fits sizes (range_fault size r.areas)
-    (if nat_lt 65542 (dump_length r.areas) then Fault 6 else Dump r.memory r.areas)
+    (if nat_lt 65542 (dump_length r.areas) then Fault ReplyTooLong else Dump r.memory r.areas)
     (range_fault-coded size r.areas)
     (λ e. dump_chosen sizes r.memory r.areas (nat_lt 65542 (dump_length r.areas)) refl
     (record { size = size; known = known; fit = range_fault-none size r.areas e }))
@@ -100,7 +101,7 @@ in_memory-fits : {A : Type 0} (sizes : Sizes) (means : ℕ → Request A → Mea
     (found : Option ℕ)
     → ((size : ℕ) → found ≡ Some size → MeaningFits sizes (means size r))
     → MeaningFits sizes (in_memory means r found)
-in_memory-fits sizes means r None f = (omega arith, omega arith)
+in_memory-fits sizes means r None f = omega arith
 in_memory-fits sizes means r (Some size) f = f size refl
 
 if_formed-fits : {A : Type 0} (sizes : Sizes) (means : ℕ → Request A → Meaning)
@@ -108,7 +109,7 @@ if_formed-fits : {A : Type 0} (sizes : Sizes) (means : ℕ → Request A → Mea
     → ((size : ℕ) (r : Request A) → size_of r.memory sizes ≡ Some size
     → MeaningFits sizes (means size r))
     → MeaningFits sizes (if_formed sizes means read)
-if_formed-fits sizes means None f = (omega arith, omega arith)
+if_formed-fits sizes means None f = omega arith
 if_formed-fits sizes means (Some r) f =
     in_memory-fits sizes means r (size_of r.memory sizes) (λ size known. f size r known)
 
@@ -116,7 +117,7 @@ body_meaning-fits : (sizes : Sizes) (service subtype : ℕ) (body : List ℕ)
     → MeaningFits sizes (body_meaning sizes service subtype body)
 unfolding body_meaning
 body_meaning-fits sizes service subtype body =
-    let unknown : MeaningFits sizes (Fault 1) = (omega arith, omega arith) in
+    let unknown : MeaningFits sizes (Fault UnknownRequest) = omega arith in
     let load = if_formed-fits sizes load_meaning (request_in front_load_area body)
     (load-fits sizes) in
     let dump = if_formed-fits sizes dump_meaning (request_in front_range body) (dump-fits sizes) in

@@ -10,6 +10,7 @@ use Rattle.std.proofs.lemmas.List.Sums.{sum_by-cons}
 use Rattle.lpt_packet.specs.Checksums.{checksum}
 use Rattle.lpt_packet.specs.Numbers.{be}
 use Rattle.lpt_packet.proofs.Registers.{checksum-fits}
+use Rattle.lpt_pus.specs.declared.failure_code.FailureCode.{FailureCode}
 use Rattle.lpt_pus.specs.Commands.{Command, command_in}
 use Rattle.lpt_memory.specs.declared.request.Area.{Area}
 use Rattle.lpt_memory.specs.Requests.{LoadArea, Request, front_load_area, request_in}
@@ -147,6 +148,6 @@ load-meant c o memory areas sizes size service subtype body read fits known fit 
     ∙ ap (λ (s : ℕ). body_meaning sizes 6 s c.body) subtype
     ∙ ap (λ (b : List ℕ). body_meaning sizes 6 2 b) body
     ∙ formed
-    ∙ ap (λ (f : Option ℕ). unless f (Load memory (map area (map stored areas))))
+    ∙ ap (λ (f : Option FailureCode). unless f (Load memory (map area (map stored areas))))
     (load_fault-stored size areas fit)
     ∙ ap (λ (xs : List Area). Load memory xs) (area-stored areas)

@@ -1,8 +1,12 @@
 -- What a message is answered.
-use Rattle.std.specs.Prelude.{ℕ, ◌≤◌, List, [], ◌∷◌, ◌++◌, length, take, drop, unwrap_or}
+use Rattle.std.specs.Prelude.{ℕ, ◌+◌, ◌*◌, ◌≤◌, List, [], ◌∷◌, ◌++◌, length, take, drop, sum_by, unwrap_or}
 use Rattle.std.specs.List.{flat_map}
 use Rattle.lpt_packet.specs.Numbers.{be}
 use Rattle.lpt_packet.specs.Checksums.{checksum}
+use Rattle.lpt_pus.specs.Codes.{number_of}
+use Rattle.lpt_memory.specs.declared.asks.Asks.{Asks}
+use Rattle.lpt_memory.specs.declared.asks.Asks.TheVariants as asks
+use Rattle.lpt_memory.specs.declared.asks.ReplyKind.TheVariants as kinds
 use Rattle.lpt_memory.specs.declared.request.AreaRange.{AreaRange}
 use Rattle.lpt_memory.specs.declared.effect.Effect.{Effect}
 use Rattle.lpt_memory.specs.declared.effect.Effect.TheVariants as effects
@@ -39,8 +43,8 @@ abbrev pub answer : Meaning → Contents → Effect
 answer Silent ms = effects.Silent
 answer (Fault code) ms = effects.Code code
 answer (Load id areas) ms = effects.Done
-answer (Dump id ranges) ms = effects.Reply (dump_body id ranges ms)
-answer (Check id ranges) ms = effects.Reply (check_body id ranges ms)
+answer (Dump id ranges) ms = effects.Reply kinds.Dump (dump_body id ranges ms)
+answer (Check id ranges) ms = effects.Reply kinds.Check (check_body id ranges ms)
 
 -- it has no reply, so that it takes no memory
 abbrev pub HasNoReply : Meaning → Type 0
@@ -50,10 +54,26 @@ HasNoReply (Load id areas) = Unit {0}
 HasNoReply (Dump id ranges) = ⊥
 HasNoReply (Check id ranges) = ⊥
 
--- a code that is answered is one of 1 to 6, and a reply fits a packet: telemetry has 19 octets
+-- a code that is answered is one of the first six, and a reply fits a packet: telemetry has 19 octets
 -- besides its body
 abbrev pub AnswerFits : Effect → Type 0
 AnswerFits effects.Silent = Unit {0}
-AnswerFits (effects.Code code) = (1 ≤ code) × (code ≤ 6)
+AnswerFits (effects.Code code) = number_of code ≤ 6
 AnswerFits effects.Done = Unit {0}
-AnswerFits (effects.Reply body) = length body ≤ 65523
+AnswerFits (effects.Reply kind body) = length body ≤ 65523
+
+-- what a message asks, by what it means; a reply has 2 octets, and 8 in each area; a dump has those
+-- of the memory besides
+abbrev pub asked : Meaning → Asks
+asked Silent = asks.Silent
+asked (Fault code) = asks.Fault code
+asked (Load id areas) = asks.Load
+asked (Dump id ranges) = asks.Reply kinds.Dump (2 + sum_by (λ r. 8 + r.len) ranges)
+asked (Check id ranges) = asks.Reply kinds.Check (2 + 8 * length ranges)
+
+-- what was asked, by what is answered
+abbrev pub asked_by : Effect → Asks
+asked_by effects.Silent = asks.Silent
+asked_by (effects.Code code) = asks.Fault code
+asked_by effects.Done = asks.Load
+asked_by (effects.Reply kind body) = asks.Reply kind (length body)

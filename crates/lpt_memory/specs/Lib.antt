@@ -7,6 +7,7 @@ pub mod MemoriesInside
 pub mod Overlaps
 pub mod Ranges
 pub mod Readings
+pub mod ReplyKinds
 pub mod Requests
 pub mod Seen
 pub mod Spellings

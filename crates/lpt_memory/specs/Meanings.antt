@@ -1,6 +1,8 @@
 -- What a message means for memories of these identifiers and sizes.
 use Rattle.std.specs.Prelude.{ℕ, ◌+◌, List, [], ◌∷◌, length, map, sum_by, Option, Some, None, nat_lt, ◌==◌, if◌then◌else◌}
 use Rattle.lpt_packet.specs.Checksums.{checksum}
+use Rattle.lpt_pus.specs.declared.failure_code.FailureCode.{FailureCode}
+use Rattle.lpt_pus.specs.declared.failure_code.FailureCode.TheVariants.{UnknownRequest, MalformedBody, UnknownMemory, OutOfRange, WrongChecksum, ReplyTooLong}
 use Rattle.lpt_pus.specs.Commands.{Command, command_in}
 use Rattle.lpt_memory.specs.declared.request.Area.{Area}
 use Rattle.lpt_memory.specs.declared.request.AreaRange.{AreaRange}
@@ -9,7 +11,7 @@ use Rattle.lpt_memory.specs.Requests.{LoadArea, Request, front_load_area, front_
 -- no telecommand, one with a fault of this code, or a request
 pub data Meaning : Type 0 where
   Silent : Meaning
-  Fault : (code : ℕ) → Meaning
+  Fault : (code : FailureCode) → Meaning
   Load : (memory : ℕ) → (areas : List Area) → Meaning
   Dump : (memory : ℕ) → (ranges : List AreaRange) → Meaning
   Check : (memory : ℕ) → (ranges : List AreaRange) → Meaning
@@ -23,19 +25,19 @@ abbrev pub size_of : ℕ → Sizes → Option ℕ
 size_of id [] = None
 size_of id (m ∷ ms) = if m.0 == id then Some m.1 else size_of id ms
 
--- the first fault of a load's areas: 4 an area out of range, 5 a wrong checksum, area by area
-abbrev pub load_fault : ℕ → List LoadArea → Option ℕ
+-- the first fault of a load's areas: one out of range, or a wrong checksum, area by area
+abbrev pub load_fault : ℕ → List LoadArea → Option FailureCode
 load_fault size [] = None
 load_fault size (a ∷ rest) =
-    if nat_lt size (a.address + length a.octets) then Some 4
+    if nat_lt size (a.address + length a.octets) then Some OutOfRange
     else if checksum a.octets == a.checksum then load_fault size rest
-    else Some 5
+    else Some WrongChecksum
 
--- the first fault of ranges: 4 a range that isn't within the memory
-abbrev pub range_fault : ℕ → List AreaRange → Option ℕ
+-- the first fault of ranges: one that isn't within the memory
+abbrev pub range_fault : ℕ → List AreaRange → Option FailureCode
 range_fault size [] = None
 range_fault size (r ∷ rest) =
-    if nat_lt size (r.address + r.len) then Some 4 else range_fault size rest
+    if nat_lt size (r.address + r.len) then Some OutOfRange else range_fault size rest
 
 -- an area of a load, without its checksum
 abbrev pub area : LoadArea → Area
@@ -46,7 +48,7 @@ abbrev pub dump_length : List AreaRange → ℕ
 dump_length ranges = 21 + sum_by (λ r. 8 + r.len) ranges
 
 -- the fault of this code, or else this
-abbrev pub unless : Option ℕ → Meaning → Meaning
+abbrev pub unless : Option FailureCode → Meaning → Meaning
 unless (Some code) m = Fault code
 unless None m = m
 
@@ -54,39 +56,39 @@ unless None m = m
 abbrev pub load_meaning : ℕ → Request LoadArea → Meaning
 load_meaning size r = unless (load_fault size r.areas) (Load r.memory (map area r.areas))
 
--- a dump, the first fault of its ranges, or 6 an answer that is longer than a packet can be
+-- a dump, the first fault of its ranges, or that its answer is longer than a packet can be
 abbrev pub dump_meaning : ℕ → Request AreaRange → Meaning
 dump_meaning size r =
     unless (range_fault size r.areas)
-    (if nat_lt 65542 (dump_length r.areas) then Fault 6 else Dump r.memory r.areas)
+    (if nat_lt 65542 (dump_length r.areas) then Fault ReplyTooLong else Dump r.memory r.areas)
 
 -- a check, or the first fault of its ranges
 abbrev pub check_meaning : ℕ → Request AreaRange → Meaning
 check_meaning size r = unless (range_fault size r.areas) (Check r.memory r.areas)
 
--- what a request means in a memory of this size, or 3 where there is no such memory
+-- what a request means in a memory of this size, or that there is no such memory
 abbrev pub in_memory : {A : Type 0} → (ℕ → Request A → Meaning) → Request A → Option ℕ → Meaning
-in_memory means r None = Fault 3
+in_memory means r None = Fault UnknownMemory
 in_memory means r (Some size) = means size r
 
--- what a body means, or 2 where it is malformed
+-- what a body means, or that it is malformed
 abbrev pub if_formed : {A : Type 0}
     → Sizes
     → (ℕ → Request A → Meaning)
     → Option (Request A)
     → Meaning
-if_formed sizes means None = Fault 2
+if_formed sizes means None = Fault MalformedBody
 if_formed sizes means (Some r) = in_memory means r (size_of r.memory sizes)
 
--- what the body of a telecommand means, or 1 where its service and subtype are none of these
+-- what the body of a telecommand means, or that its service and subtype are none of these
 unfoldable pub body_meaning : Sizes → ℕ → ℕ → List ℕ → Meaning
 body_meaning sizes service subtype body =
     if service == 6 then
     (if subtype == 2 then if_formed sizes load_meaning (request_in front_load_area body)
     else if subtype == 5 then if_formed sizes dump_meaning (request_in front_range body)
     else if subtype == 9 then if_formed sizes check_meaning (request_in front_range body)
-    else Fault 1)
-    else Fault 1
+    else Fault UnknownRequest)
+    else Fault UnknownRequest
 
 -- what a telecommand means
 abbrev pub command_meaning : Sizes → Option Command → Meaning

@@ -1,5 +1,6 @@
 -- What lies within memories.
 use Rattle.std.specs.Prelude.{◌≡◌, ℕ, ◌+◌, ◌≤◌, List, [], ◌∷◌, length, Some}
+use Rattle.lpt_pus.specs.Codes.{number_of}
 use Rattle.lpt_memory.specs.declared.request.Area.{Area}
 use Rattle.lpt_memory.specs.declared.request.AreaRange.{AreaRange}
 use Rattle.lpt_memory.specs.Meanings.{Meaning, Silent, Fault, Load, Dump, Check, Sizes, size_of, dump_length, meaning}
@@ -27,10 +28,10 @@ pub record ReadFits (sizes : Sizes) (id : ℕ) (ranges : List AreaRange) : Type 
   pub fit : RangesFit size ranges
 
 -- a request is within its memory, and the answer to a dump within a packet; a fault's code is one
--- of 1 to 6
+-- of the first six
 abbrev pub MeaningFits : Sizes → Meaning → Type 0
 MeaningFits sizes Silent = Unit {0}
-MeaningFits sizes (Fault code) = (1 ≤ code) × (code ≤ 6)
+MeaningFits sizes (Fault code) = number_of code ≤ 6
 MeaningFits sizes (Load id areas) = LoadFits sizes id areas
 MeaningFits sizes (Dump id ranges) = ReadFits sizes id ranges × (dump_length ranges ≤ 65542)
 MeaningFits sizes (Check id ranges) = ReadFits sizes id ranges

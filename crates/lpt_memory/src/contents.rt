@@ -62,6 +62,20 @@ pub(crate) fn content_in(memories: &[(u8, Octets)], id: u8) -> Option<&[u8]>
     None
 }
 
+// A copy. The only error is want of memory.
+pub(crate) fn copy(
+    alloc: Global,
+    memories: &[(u8, Octets)],
+) -> Result<Vec<(u8, Octets)>, AllocError>
+    ensures { IfOk result (λ v. v.items ≡ memories.now) }
+{
+    let mut copies = Vec::with_capacity(alloc, memories.len())?;
+    for (id, octets) in memories {
+        copies.push((*id, octets.copy()?))?;
+    }
+    Ok(copies)
+}
+
 // The identifiers and sizes. The only error is want of memory.
 pub(crate) fn sizes_of(
     alloc: Global,

@@ -3,7 +3,7 @@
 ghost use Rattle.std.specs.Prelude.{◌≡◌, MatchResult};
 
 use crate::request::Content;
-use crate::{Memories, Shape, meaning};
+use crate::{Asks, Memories, Shape, meaning, reply};
 use lpt_packet::Octets;
 use lpt_pus::TcHead;
 use std::alloc::Global;
@@ -76,6 +76,27 @@ impl Ticket {
         Ticket { boot, job, message }
     }
 
+    /// The boot that the job is of.
+    pub fn boot(&self) -> u64
+        ensures { result ≡ self.now.boot }
+    {
+        self.boot
+    }
+
+    /// The job's number in its boot.
+    pub fn job(&self) -> u64
+        ensures { result ≡ self.now.job }
+    {
+        self.job
+    }
+
+    /// The job's message.
+    pub fn message(&self) -> &[u8]
+        ensures { result.now ≡ self.now.message }
+    {
+        self.message.as_slice()
+    }
+
     /// Gives the job up. It has no clause: nothing is left of the ticket.
     pub fn abandon(self) {
         let Ticket {
@@ -127,6 +148,20 @@ impl Prepared {
     ghost use Rattle.std.specs.Prelude.{◌↔◌, IsTrue};
     ghost use Rattle.lpt_memory.specs.Memories.{sizes_of};
 
+    /// The boot that the job is of.
+    pub fn boot(&self) -> u64
+        ensures { result ≡ self.now.boot }
+    {
+        self.boot
+    }
+
+    /// The job's number in its boot.
+    pub fn job(&self) -> u64
+        ensures { result ≡ self.now.job }
+    {
+        self.job
+    }
+
     /// Whether it is the reading of this job's message, for this APID and memories of this shape.
     pub fn is_of(&self, boot: u64, job: u64, message: &[u8], apid: u16, memories: &Memories) -> bool
         ensures { IsTrue result ↔ (self.now ≡ record {
@@ -170,6 +205,8 @@ impl Prepared {
 
 impl Reading {
     ghost use Rattle.std.specs.Prelude.{◌≡◌};
+    ghost use Rattle.lpt_memory.specs.Answers.{answer, asked, asked_by};
+    ghost use Rattle.lpt_memory.specs.Memories.{Contents, sizes_of};
     ghost use Rattle.lpt_memory.specs.Readings.{meant, IsHeadIn};
     ghost use Rattle.lpt_memory.specs.Seen.{seen, IsCounted};
 
@@ -180,6 +217,19 @@ impl Reading {
         ensures { IsHeadIn result self.now.apid self.now.message }
     {
         self.head
+    }
+
+    /// What the message asks of memories of its shape, before anything is changed: nothing, a fault,
+    /// a load, or a reply and its length. `Memories::apply` does and answers no other thing. It takes
+    /// no memory.
+    pub fn asks(&self) -> Asks
+        ensures meant { result ≡ asked (meant self.now) }
+
+        // What any memories of that shape answer was asked so, the reply's length included.
+        ensures answer { (ms : Contents) → self.now.sizes ≡ sizes_of ms
+            → asked_by (answer (meant self.now) ms) ≡ result }
+    {
+        reply::asked(self.content())
     }
 
     // What the message means.

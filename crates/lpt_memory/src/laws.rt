@@ -2,6 +2,7 @@
 
 ghost use Rattle.std.specs.Prelude.{◌≡◌, ◌≢◌, ℕ, ◌-◌, List, ◌∷◌, ◌++◌, length, slice_index, Some, None, map, nat_lt, if◌then◌else◌};
 ghost use Rattle.lpt_packet.specs.Numbers.{IsOctets};
+ghost use Rattle.lpt_pus.specs.declared.failure_code.FailureCode.TheVariants.{UnknownRequest, MalformedBody, UnknownMemory, ReplyTooLong};
 ghost use Rattle.lpt_pus.specs.Commands.{Command, command_in};
 ghost use Rattle.lpt_memory.specs.declared.request.AreaRange.{AreaRange};
 ghost use Rattle.lpt_memory.specs.Requests.{LoadArea, Request, front_load_area, front_range, request_in};
@@ -13,7 +14,8 @@ ghost use Rattle.lpt_memory.specs.Ranges.{AreasFit};
 ghost use Rattle.lpt_memory.specs.Meanings.{Sizes, Silent, Fault, Load, Dump, Check, size_of, load_fault, range_fault, dump_length, area, unless, body_meaning, meaning};
 
 /// What a message means, by what its octets are: nothing where they are no telecommand of this
-/// APID, 1 where its service and subtype are none that is known, else what its body means.
+/// APID, an unknown request where its service and subtype are none that is known, else what its
+/// body means.
 pub fn message_meanings()
     ensures silent { (apid : ℕ) (sizes : Sizes) (message : List ℕ)
         → command_in apid message ≡ None → meaning apid sizes message ≡ Silent }
@@ -21,10 +23,10 @@ pub fn message_meanings()
         → command_in apid message ≡ Some c
         → meaning apid sizes message ≡ body_meaning sizes c.service c.subtype c.body }
     ensures service { (sizes : Sizes) (service subtype : ℕ) (body : List ℕ)
-        → service ≢ 6 → body_meaning sizes service subtype body ≡ Fault 1 }
+        → service ≢ 6 → body_meaning sizes service subtype body ≡ Fault UnknownRequest }
     ensures subtype { (sizes : Sizes) (subtype : ℕ) (body : List ℕ)
         → subtype ≢ 2 → subtype ≢ 5 → subtype ≢ 9
-        → body_meaning sizes 6 subtype body ≡ Fault 1 }
+        → body_meaning sizes 6 subtype body ≡ Fault UnknownRequest }
 {}
 
 /// The body of a load is read exactly where it is spelled so.
@@ -47,17 +49,17 @@ pub fn range_bodies()
         → (body ≡ body_text range_text r.memory r.areas) × AreAreas RangeFits r.areas }
 {}
 
-/// What a load means, by the spelling of its body: 2 where it has none, 3 where the memory is
-/// unknown, else the first fault of its areas, or the load.
+/// What a load means, by the spelling of its body: malformed where it has none; an unknown memory;
+/// else the first fault of its areas, or the load.
 pub fn load_meanings()
     ensures malformed { (sizes : Sizes) (body : List ℕ) → IsOctets body
         → ((memory : ℕ) (areas : List LoadArea) → AreAreas LoadAreaFits areas
         → ¬ (body ≡ body_text load_area_text memory areas))
-        → body_meaning sizes 6 2 body ≡ Fault 2 }
+        → body_meaning sizes 6 2 body ≡ Fault MalformedBody }
     ensures unknown { (sizes : Sizes) (memory : ℕ) (areas : List LoadArea)
         → AreAreas LoadAreaFits areas
         → size_of memory sizes ≡ None
-        → body_meaning sizes 6 2 (body_text load_area_text memory areas) ≡ Fault 3 }
+        → body_meaning sizes 6 2 (body_text load_area_text memory areas) ≡ Fault UnknownMemory }
     ensures known { (sizes : Sizes) (memory size : ℕ) (areas : List LoadArea)
         → AreAreas LoadAreaFits areas
         → size_of memory sizes ≡ Some size
@@ -65,25 +67,25 @@ pub fn load_meanings()
         ≡ unless (load_fault size areas) (Load memory (map area areas)) }
 {}
 
-/// What a dump or a check means, by the spelling of its body: 2 where it has none, 3 where the
-/// memory is unknown, else 4 for a range that isn't within it; then 6 for a dump whose answer is
-/// too long; else the dump or the check.
+/// What a dump or a check means, by the spelling of its body: malformed where it has none; an
+/// unknown memory; else a range that isn't within it; then a dump whose answer is too long; else
+/// the dump or the check.
 pub fn range_meanings()
     ensures malformed { (sizes : Sizes) (body : List ℕ) → IsOctets body
         → ((memory : ℕ) (ranges : List AreaRange) → AreAreas RangeFits ranges
         → ¬ (body ≡ body_text range_text memory ranges))
-        → (body_meaning sizes 6 5 body ≡ Fault 2) × (body_meaning sizes 6 9 body ≡ Fault 2) }
+        → (body_meaning sizes 6 5 body ≡ Fault MalformedBody) × (body_meaning sizes 6 9 body ≡ Fault MalformedBody) }
     ensures unknown { (sizes : Sizes) (memory : ℕ) (ranges : List AreaRange)
         → AreAreas RangeFits ranges
         → size_of memory sizes ≡ None
-        → (body_meaning sizes 6 5 (body_text range_text memory ranges) ≡ Fault 3)
-        × (body_meaning sizes 6 9 (body_text range_text memory ranges) ≡ Fault 3) }
+        → (body_meaning sizes 6 5 (body_text range_text memory ranges) ≡ Fault UnknownMemory)
+        × (body_meaning sizes 6 9 (body_text range_text memory ranges) ≡ Fault UnknownMemory) }
     ensures dump { (sizes : Sizes) (memory size : ℕ) (ranges : List AreaRange)
         → AreAreas RangeFits ranges
         → size_of memory sizes ≡ Some size
         → body_meaning sizes 6 5 (body_text range_text memory ranges)
         ≡ unless (range_fault size ranges)
-        (if nat_lt 65542 (dump_length ranges) then Fault 6 else Dump memory ranges) }
+        (if nat_lt 65542 (dump_length ranges) then Fault ReplyTooLong else Dump memory ranges) }
     ensures check { (sizes : Sizes) (memory size : ℕ) (ranges : List AreaRange)
         → AreAreas RangeFits ranges
         → size_of memory sizes ≡ Some size

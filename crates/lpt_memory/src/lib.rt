@@ -12,6 +12,7 @@
 //! project's own.
 #![tactic(auto)]
 
+mod asks;
 mod contents;
 mod effect;
 mod fault;
@@ -26,6 +27,7 @@ mod request;
 mod shape;
 mod writing;
 
+pub use asks::{Asks, ReplyKind};
 pub use effect::Effect;
 pub use fault::MemoryFault;
 pub use job::{Prepared, Reading, Ticket, prepare};
@@ -33,8 +35,3 @@ pub use memories::Memories;
 pub use request::Area;
 pub use shape::Shape;
 pub use writing::{load_fault, write_load};
-
-#[cfg(test)]
-mod pieces;
-#[cfg(test)]
-mod tests;

@@ -12,7 +12,7 @@ use crate::reply::dump_len;
 use crate::request::{Area, AreaRange, Content, StoredArea};
 use lpt_packet::laws::seen_is_read;
 use lpt_packet::{Octets, Seen, crc16, read_packet};
-use lpt_pus::{TcHead, read_tc};
+use lpt_pus::{FailureCode, TcHead, read_tc};
 use std::alloc::{AllocError, Global};
 
 /// The most octets of a body that answers a dump: its packet has 19 more, and at most 65,542.
@@ -30,24 +30,6 @@ const DUMP: u8 = 5;
 /// The message subtype of a check of raw memory.
 const CHECK: u8 = 9;
 
-/// The code of a service or subtype that is none of these.
-const UNKNOWN_REQUEST: u8 = 1;
-
-/// The code of a malformed body.
-const MALFORMED: u8 = 2;
-
-/// The code of a memory that there isn't.
-const UNKNOWN_MEMORY: u8 = 3;
-
-/// The code of an area that isn't within its memory.
-const OUT_OF_RANGE: u8 = 4;
-
-/// The code of an area whose checksum isn't that of its octets.
-const WRONG_CHECKSUM: u8 = 5;
-
-/// The code of a dump whose answer would be longer than a packet can be.
-const LONG_ANSWER: u8 = 6;
-
 // The size of a memory.
 fn size_in(sizes: &[(u8, u32)], id: u8) -> Option<u32>
     ensures { result ≡ size_of id sizes.now }
@@ -61,27 +43,27 @@ fn size_in(sizes: &[(u8, u32)], id: u8) -> Option<u32>
 }
 
 // The first fault of the areas of a load.
-fn load_fault_in(size: u32, areas: &[StoredArea<'_>]) -> Option<u8>
+fn load_fault_in(size: u32, areas: &[StoredArea<'_>]) -> Option<FailureCode>
     ensures { result ≡ load_fault size (map load_area areas.now) }
 {
     for area in areas {
         if area.address as usize + area.octets.len() > size as usize {
-            return Some(OUT_OF_RANGE);
+            return Some(FailureCode::OutOfRange);
         }
         if crc16(area.octets) != area.checksum {
-            return Some(WRONG_CHECKSUM);
+            return Some(FailureCode::WrongChecksum);
         }
     }
     None
 }
 
 // The first fault of ranges.
-fn range_fault_in(size: u32, ranges: &[AreaRange]) -> Option<u8>
+fn range_fault_in(size: u32, ranges: &[AreaRange]) -> Option<FailureCode>
     ensures { result ≡ range_fault size ranges.now }
 {
     for AreaRange { address, len } in ranges {
         if *address as usize + usize::from(*len) > size as usize {
-            return Some(OUT_OF_RANGE);
+            return Some(FailureCode::OutOfRange);
         }
     }
     None
@@ -108,10 +90,10 @@ fn load(alloc: Global, sizes: &[(u8, u32)], body: &[u8]) -> Result<Content, Allo
     ensures counted { IfOk result (λ x. IsCounted x) }
 {
     let Some((memory, areas)) = load_request(alloc, body)? else {
-        return Ok(Content::Code(MALFORMED));
+        return Ok(Content::Code(FailureCode::MalformedBody));
     };
     let Some(size) = size_in(sizes, memory) else {
-        return Ok(Content::Code(UNKNOWN_MEMORY));
+        return Ok(Content::Code(FailureCode::UnknownMemory));
     };
     if let Some(code) = load_fault_in(size, &areas) {
         return Ok(Content::Code(code));
@@ -126,16 +108,16 @@ fn dump(alloc: Global, sizes: &[(u8, u32)], body: &[u8]) -> Result<Content, Allo
     ensures counted { IfOk result (λ x. IsCounted x) }
 {
     let Some((memory, ranges)) = range_request(alloc, body)? else {
-        return Ok(Content::Code(MALFORMED));
+        return Ok(Content::Code(FailureCode::MalformedBody));
     };
     let Some(size) = size_in(sizes, memory) else {
-        return Ok(Content::Code(UNKNOWN_MEMORY));
+        return Ok(Content::Code(FailureCode::UnknownMemory));
     };
     if let Some(code) = range_fault_in(size, &ranges) {
         return Ok(Content::Code(code));
     }
     if dump_len(&ranges) > ANSWER_LIMIT {
-        return Ok(Content::Code(LONG_ANSWER));
+        return Ok(Content::Code(FailureCode::ReplyTooLong));
     }
     Ok(Content::Dump(memory, ranges))
 }
@@ -147,10 +129,10 @@ fn check(alloc: Global, sizes: &[(u8, u32)], body: &[u8]) -> Result<Content, All
     ensures counted { IfOk result (λ x. IsCounted x) }
 {
     let Some((memory, ranges)) = range_request(alloc, body)? else {
-        return Ok(Content::Code(MALFORMED));
+        return Ok(Content::Code(FailureCode::MalformedBody));
     };
     let Some(size) = size_in(sizes, memory) else {
-        return Ok(Content::Code(UNKNOWN_MEMORY));
+        return Ok(Content::Code(FailureCode::UnknownMemory));
     };
     if let Some(code) = range_fault_in(size, &ranges) {
         return Ok(Content::Code(code));
@@ -172,13 +154,13 @@ fn body_content(
     ensures counted { IfOk result (λ x. IsCounted x) }
 {
     if service != MEMORY {
-        return Ok(Content::Code(UNKNOWN_REQUEST));
+        return Ok(Content::Code(FailureCode::UnknownRequest));
     }
     match subtype {
         LOAD => load(alloc, sizes, body),
         DUMP => dump(alloc, sizes, body),
         CHECK => check(alloc, sizes, body),
-        _ => Ok(Content::Code(UNKNOWN_REQUEST)),
+        _ => Ok(Content::Code(FailureCode::UnknownRequest)),
     }
 }
 

@@ -3,13 +3,13 @@
 ghost use Rattle.std.specs.Prelude.{◌≡◌};
 
 use crate::request::Content;
-use crate::{Effect, MemoryFault, Reading, Shape, contents};
+use crate::{Effect, MemoryFault, Reading, ReplyKind, Shape, contents};
 use lpt_packet::Octets;
 use std::alloc::{AllocError, Global};
 use std::marker::Model;
 
 /// The memories of a node: 1 to 16 with distinct identifiers, of 1 to 1,048,576 octets each, in the
-/// order in which they were given.
+/// order in which they were given. They keep the allocator of the vector that they were made of.
 #[derive(Debug, Drop)]
 pub struct Memories {
     items: Vec<(u8, Octets)>,
@@ -49,11 +49,20 @@ impl Memories {
         Ok(Memories { items: memories })
     }
 
+    /// A copy. The only error is want of memory.
+    pub fn copy(&self) -> Result<Memories, AllocError>
+        ensures { IfOk result (λ m. m ≡ self.now) }
+    {
+        Ok(Memories {
+            items: contents::copy(self.alloc(), &self.items)?,
+        })
+    }
+
     /// The identifiers and sizes. The only error is want of memory.
-    pub fn shape(&self, alloc: Global) -> Result<Shape, AllocError>
+    pub fn shape(&self) -> Result<Shape, AllocError>
         ensures { IfOk result (λ s. s ≡ sizes_of self.now) }
     {
-        Ok(Shape::of(contents::sizes_of(alloc, &self.items)?))
+        Ok(Shape::of(contents::sizes_of(self.alloc(), &self.items)?))
     }
 
     /// The octets of a memory, or `None` where there is no such memory.
@@ -61,6 +70,11 @@ impl Memories {
         ensures { option_map (λ x. x.now) result ≡ content_of id self.now }
     {
         contents::content_in(&self.items, id)
+    }
+
+    // The allocator, that of the vector that they were made of.
+    fn alloc(&self) -> Global {
+        *self.items.allocator()
     }
 
     // Whether they have this shape.
@@ -74,7 +88,7 @@ impl Memories {
     ///
     /// The only error is want of memory, for the answer to a dump or a check. It leaves the
     /// memories as they were.
-    pub fn apply(&mut self, alloc: Global, reading: &Reading) -> Result<Effect, AllocError>
+    pub fn apply(&mut self, reading: &Reading) -> Result<Effect, AllocError>
         requires { reading.now.sizes ≡ sizes_of self.old }
         // What it answers, and what it makes of the memories.
         ensures answer { IfOk result (λ e. e ≡ answer (meant reading.now) self.old) }
@@ -96,12 +110,12 @@ impl Memories {
                 Ok(Effect::Done)
             }
             Content::Dump(id, ranges) => {
-                let body = contents::dump(alloc, &self.items, *id, ranges)?;
-                Ok(Effect::Reply(body))
+                let body = contents::dump(self.alloc(), &self.items, *id, ranges)?;
+                Ok(Effect::Reply(ReplyKind::Dump, body))
             }
             Content::Check(id, ranges) => {
-                let body = contents::check(alloc, &self.items, *id, ranges)?;
-                Ok(Effect::Reply(body))
+                let body = contents::check(self.alloc(), &self.items, *id, ranges)?;
+                Ok(Effect::Reply(ReplyKind::Check, body))
             }
         }
     }

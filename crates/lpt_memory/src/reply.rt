@@ -1,12 +1,14 @@
-//! The bodies that answer dumps and checks.
+//! The bodies that answer dumps and checks, and how long they are.
 
-ghost use Rattle.std.specs.Prelude.{◌≡◌, ◌+◌, ◌<◌, ◌≤◌, ◌∷◌, ◌++◌, length, IfOk, OnOk};
+ghost use Rattle.std.specs.Prelude.{◌≡◌, ◌+◌, ◌*◌, ◌<◌, ◌≤◌, ◌∷◌, ◌++◌, length, IfOk, OnOk};
 ghost use Rattle.std.specs.List.{flat_map};
-ghost use Rattle.lpt_memory.specs.Answers.{octets_in, dump_area, check_area};
+ghost use Rattle.lpt_memory.specs.Answers.{octets_in, dump_area, check_area, asked};
 ghost use Rattle.lpt_memory.specs.Meanings.{dump_length};
 ghost use Rattle.lpt_memory.specs.Ranges.{RangesFit};
+ghost use Rattle.lpt_memory.specs.Seen.{seen, IsCounted};
 
-use crate::request::AreaRange;
+use crate::request::{AreaRange, Content};
+use crate::{Asks, ReplyKind};
 use lpt_packet::{Octets, crc16};
 use std::alloc::{AllocError, Global};
 
@@ -26,6 +28,28 @@ pub(crate) fn dump_len(ranges: &[AreaRange]) -> usize
         len += BODY_AREA + usize::from(range.len);
     }
     len
+}
+
+// How many octets the body that answers a check has.
+fn check_len(ranges: &[AreaRange]) -> usize
+    requires { length ranges.now < 256 }
+    ensures { result ≡ 2 + 8 * length ranges.now }
+{
+    BODY_HEAD + BODY_AREA * ranges.len()
+}
+
+// What is asked by content of a message.
+pub(crate) fn asked(content: &Content) -> Asks
+    requires { IsCounted content.now }
+    ensures { result ≡ asked (seen content.now) }
+{
+    match content {
+        Content::Silent => Asks::Silent,
+        Content::Code(code) => Asks::Fault(*code),
+        Content::Load(_, _) => Asks::Load,
+        Content::Dump(_, ranges) => Asks::Reply(ReplyKind::Dump, dump_len(ranges)),
+        Content::Check(_, ranges) => Asks::Reply(ReplyKind::Check, check_len(ranges)),
+    }
 }
 
 // The octets of a memory in a range.
@@ -95,7 +119,7 @@ pub(crate) fn check(
     ensures { IfOk result (λ o.
         o ≡ id ∷ length ranges.now ∷ flat_map (check_area content.now) ranges.now) }
 {
-    let mut body = Vec::with_capacity(alloc, BODY_HEAD + BODY_AREA * ranges.len())?;
+    let mut body = Vec::with_capacity(alloc, check_len(ranges))?;
     body.push(id)?;
     body.push(ranges.len() as u8)?;
     for range in ranges {

@@ -1,6 +1,7 @@
 //! Requests and their areas.
 
 use lpt_packet::Octets;
+use lpt_pus::FailureCode;
 
 /// Octets, and the place in a memory that they go to.
 #[derive(Debug, Drop, PartialEq, Eq)]
@@ -32,7 +33,7 @@ pub(crate) struct StoredArea<'a> {
 #[derive(Debug, Drop)]
 pub(crate) enum Content {
     Silent,
-    Code(u8),
+    Code(FailureCode),
     Load(u8, Vec<Area>),
     Dump(u8, Vec<AreaRange>),
     Check(u8, Vec<AreaRange>),

@@ -1,3 +1,4 @@
+pub mod Codes
 pub mod Commands
 pub mod FaultNames
 pub mod Messages

@@ -9,6 +9,7 @@
 #![tactic(auto)]
 
 mod ack_flags;
+mod failure_code;
 mod fault;
 pub mod laws;
 mod reading;
@@ -19,6 +20,7 @@ mod tm_head;
 mod writing;
 
 pub use ack_flags::AckFlags;
+pub use failure_code::FailureCode;
 pub use fault::PusFault;
 pub use reading::{read_tc, read_tm};
 pub use request::RequestId;

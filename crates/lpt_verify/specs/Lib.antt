@@ -1,3 +1,2 @@
-pub mod Codes
 pub mod Reading
 pub mod Reports

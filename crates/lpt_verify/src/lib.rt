@@ -7,13 +7,11 @@
 //! Reading takes no memory.
 #![tactic(auto)]
 
-mod code;
 pub mod laws;
 mod reading;
 mod report;
 mod writing;
 
-pub use code::FailureCode;
 pub use reading::read_report;
 pub use report::{EncodedReport, Report, Reports};
 pub use writing::reports;

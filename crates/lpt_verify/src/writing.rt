@@ -1,12 +1,12 @@
 //! The reports of a request.
 
-ghost use Rattle.std.specs.Prelude.{◌≡◌, [], Some, None, IfOk, option_map};
-ghost use Rattle.lpt_verify.specs.Codes.{number_of};
+ghost use Rattle.std.specs.Prelude.{◌≡◌, ◌≤◌, ◌↔◌, IsTrue, [], Some, None, IfOk, option_map};
+ghost use Rattle.lpt_pus.specs.Codes.{number_of};
 ghost use Rattle.lpt_verify.specs.Reports.{IsFlag, asks, success, failure, reports_before, reports_after};
 
-use crate::{EncodedReport, FailureCode, Reports};
+use crate::{EncodedReport, Reports};
 use lpt_packet::Octets;
-use lpt_pus::RequestId;
+use lpt_pus::{FailureCode, RequestId};
 use std::alloc::{AllocError, Global};
 
 // The acknowledgement flags.
@@ -86,7 +86,7 @@ fn failed(
     ensures after { IfOk result (λ r. r.after.items ≡ []) }
 {
     let mut before = Vec::new(alloc);
-    if code.is_of_acceptance() {
+    if is_of_acceptance(code) {
         before.push(failure(alloc, request, NOT_ACCEPTED, code)?)?;
     } else {
         if is_asked(flags, ACCEPTANCE) {
@@ -98,6 +98,16 @@ fn failed(
         before,
         after: Vec::new(alloc),
     })
+}
+
+// Whether it is the acceptance that failed; else it is the start of execution.
+fn is_of_acceptance(code: FailureCode) -> bool
+    ensures { IsTrue result ↔ (number_of code ≤ 2) }
+{
+    matches!(
+        code,
+        FailureCode::UnknownRequest | FailureCode::MalformedBody
+    )
 }
 
 // Whether a sum of flags has this one.

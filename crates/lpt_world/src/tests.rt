@@ -79,7 +79,7 @@ fn requests_are_prepared_for_its_shape(rt: HostRuntime) -> Result<(), Fail> {
     let same = memories(alloc)?;
     let others = Memories::new(zeros(alloc, 512)?)?;
     let message = Octets::from_vec(Vec::new(alloc));
-    match prepare(alloc, &world.shape(alloc)?, 100, Ticket::new(2, 5, message)) {
+    match prepare(alloc, &world.shape()?, 100, Ticket::new(2, 5, message)) {
         Ok(prepared) => {
             let is_of = prepared.is_of(2, 5, &[], 100, &same);
             let is_of_others = prepared.is_of(2, 5, &[], 100, &others);

@@ -224,10 +224,10 @@ impl World {
     /// The identifiers and sizes of the memories, for which requests are prepared.
     ///
     /// The only error is want of memory.
-    pub fn shape(&self, alloc: Global) -> Result<Shape, AllocError>
+    pub fn shape(&self) -> Result<Shape, AllocError>
         ensures { IfOk result (λ s. s ≡ sizes_of self.now.first) }
     {
-        self.first.shape(alloc)
+        self.first.shape()
     }
 
     /// The configuration, whose numbers are in their ranges.

@@ -1,7 +1,7 @@
 -- The numbers of the failure codes.
 use Rattle.std.specs.Prelude.{ℕ}
-use Rattle.lpt_verify.specs.declared.code.FailureCode.{FailureCode}
-use Rattle.lpt_verify.specs.declared.code.FailureCode.TheVariants.{UnknownRequest, MalformedBody, UnknownMemory, OutOfRange, WrongChecksum, ReplyTooLong, NoFreeIdentifier, TooManyOpen}
+use Rattle.lpt_pus.specs.declared.failure_code.FailureCode.{FailureCode}
+use Rattle.lpt_pus.specs.declared.failure_code.FailureCode.TheVariants.{UnknownRequest, MalformedBody, UnknownMemory, OutOfRange, WrongChecksum, ReplyTooLong, NoFreeIdentifier, TooManyOpen}
 
 -- the failure code's number
 abbrev pub number_of : FailureCode → ℕ

@@ -1,7 +1,7 @@
 //! Why a request failed.
 
-ghost use Rattle.std.specs.Prelude.{◌≡◌, ◌≤◌, ◌↔◌, IsTrue, IsSome, IfSome};
-ghost use Rattle.lpt_verify.specs.Codes.{number_of};
+ghost use Rattle.std.specs.Prelude.{◌≡◌, ◌≤◌, ◌↔◌, IsSome, IfSome};
+ghost use Rattle.lpt_pus.specs.Codes.{number_of};
 
 /// Why the acceptance of a request, or the start of its execution, failed.
 ///
@@ -59,15 +59,5 @@ impl FailureCode {
             FailureCode::NoFreeIdentifier => 7,
             FailureCode::TooManyOpen => 8,
         }
-    }
-
-    // Whether it is the acceptance that failed; else it is the start of execution.
-    pub(crate) fn is_of_acceptance(self) -> bool
-        ensures { IsTrue result ↔ (number_of self ≤ 2) }
-    {
-        matches!(
-            self,
-            FailureCode::UnknownRequest | FailureCode::MalformedBody
-        )
     }
 }
