@@ -1,8 +1,8 @@
 //! Verification reports: worked values. The request is the telecommand of APID 100 and sequence count 0, whose packet
 //! begins 18 64 c0 00.
 
-use lpt_pus::RequestId;
-use lpt_verify::{EncodedReport, FailureCode, read_report, reports};
+use lpt_pus::{FailureCode, RequestId};
+use lpt_verify::{EncodedReport, read_report, reports};
 use std::alloc::Global;
 use std::test::Fail;
 

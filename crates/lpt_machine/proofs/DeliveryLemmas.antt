@@ -33,7 +33,7 @@ use Rattle.lpt_machine.specs.State.{arrival_held}
 abbrev pub made_of : (full contra again whole : Bool) → TableState → Name → (before with_it : Parts) → ℕ → OfferKind × TableState
 made_of full contra again whole t id before with_it now =
     if full then (NoRoom, t)
-    else if contra then (Conflict, taken_out t id)
+    else if contra then (Conflict reason.Conflict, taken_out t id)
     else if again then (Again, with_entry t id before now)
     else if whole then (Whole, taken_out t id)
     else (Kept, with_entry t id with_it now)

@@ -10,11 +10,11 @@ use Rattle.lpt_reception.specs.declared.kept_list.Place.TheVariants.{Gap}
 use Rattle.lpt_reception.specs.Received.{Kept, Received, with_part, is_whole, spelled}
 use Rattle.lpt_reception.specs.Answers.{IsNew}
 use Rattle.lpt_reception.specs.KeptParts.{kept_in, IsGap}
-use Rattle.lpt_reception.specs.PartsOf.{AllFit}
+use Rattle.lpt_reception.specs.PartsOf.{AllFit, IsMessageOf}
 use Rattle.lpt_reception.specs.Soundness.{set_of, IsConsistent, IsSound, IsPlace, IsEnding}
 use Rattle.lpt_reception.proofs.AddLemmas.{agree_with, fit_with}
 use Rattle.lpt_reception.proofs.ListLemmas.{set_of-insert, IsSound-insert}
-use Rattle.lpt_reception.proofs.WholeLemmas.{whole_message}
+use Rattle.lpt_reception.proofs.WholeLemmas.{whole_message, whole_split}
 
 -- a reception with this list of parts
 abbrev pub received : ℕ → ℕ → List KeptPart → Received
@@ -44,40 +44,49 @@ new_copy ks n x k number kept new =
 
 -- ---- a part that ends a reception
 
--- what the whole spells is no longer than the longest packet
-short_whole : (r : Received) (id p : ℕ) (ks : List KeptPart) (n : ℕ) (x : Kept)
+-- all its parts are those of the message that they spell
+whole_of : (r : Received) (id p : ℕ) (ks : List KeptPart) (n : ℕ) (x : Kept)
     → received id p ks ≡ r
     → IsSound p ks
     → IsEnding r n x
-    → length (spelled (with_part r.parts n x)) ≤ 65542
-short_whole r id p ks n x is sound end =
-    let fit = subst (λ (s : Received). AllFit s.p s.parts) is sound.fit in
-    let size = subst (λ (s : Received). IsPartSize s.p) is sound.size in
-    (whole_message r.p (with_part r.parts n x) size (fit_with r.p r.parts n x fit end.fits)
-    (agree_with r.parts n x end.new.agrees) end.whole).short
+    → IsMessageOf (with_part r.parts n x) r.p (spelled (with_part r.parts n x))
+whole_of r id p ks n x is sound end =
+    let s = with_part r.parts n x in
+    let fit =
+    fit_with r.p r.parts n x (subst (λ (q : Received). AllFit q.p q.parts) is sound.fit) end.fits in
+    let size = subst (λ (q : Received). IsPartSize q.p) is sound.size in
+    let agree = agree_with r.parts n x end.new.agrees in
+    record {
+      message = whole_message r.p s size fit agree end.whole;
+      split = whole_split r.p s size fit agree end.whole;
+    }
 
-short_of_same : (o : Result (List ℕ) AllocError) (m : List ℕ)
+if_same : (P : List ℕ → Type 0) (o : Result (List ℕ) AllocError) (m : List ℕ)
     → IfOk o (λ w. w ≡ m)
-    → length m ≤ 65542
-    → IfOk o (λ w. length w ≤ 65542)
-short_of_same (Ok w) m same short = subst (λ (l : List ℕ). length l ≤ 65542) (sym same) short
-short_of_same (Err e) m same short = tt
+    → P m
+    → IfOk o P
+if_same P (Ok w) m same h = subst P (sym same) h
+if_same P (Err e) m same h = tt
 
 -- so is a message that was joined from its list
-pub short_joined : (r : Received) (id p : ℕ) (ks ls : List KeptPart) (n : ℕ) (x : Kept)
-    (o : Result (List ℕ) AllocError)
-    → received id p ks ≡ r
-    → IsSound p ks
-    → IsEnding r n x
-    → ls ≡ ks
-    → IfOk o (λ m. m ≡ spelled (with_part (set_of ls) n x))
-    → IfOk o (λ m. length m ≤ 65542)
-short_joined r id p ks ls n x o is sound end same joined =
-    let m = spelled (with_part (set_of ls) n x) in
-    short_of_same o m joined
-    (subst (λ (l : List KeptPart). length (spelled (with_part (set_of l) n x)) ≤ 65542) (sym same)
-    (subst (λ (s : Received). length (spelled (with_part s.parts n x)) ≤ 65542) (sym is)
-    (short_whole r id p ks n x is sound end)))
+module _ (r : Received) (id p : ℕ) (ks ls : List KeptPart) (n : ℕ) (x : Kept)
+    (o : Result (List ℕ) AllocError) (is : received id p ks ≡ r) (sound : IsSound p ks)
+    (end : IsEnding r n x) (same : ls ≡ ks)
+    (joined : IfOk o (λ m. m ≡ spelled (with_part (set_of ls) n x))) where
+  of_joined : (P : List ℕ → Type 0) → P (spelled (with_part r.parts n x)) → IfOk o P
+  of_joined P h =
+      if_same P o (spelled (with_part (set_of ls) n x)) joined
+      (subst (λ (l : List KeptPart). P (spelled (with_part (set_of l) n x))) (sym same)
+      (subst (λ (s : Received). P (spelled (with_part s.parts n x))) (sym is) h))
+
+  pub split_joined : IfOk o (IsMessageOf (with_part r.parts n x) r.p)
+  split_joined =
+      of_joined (IsMessageOf (with_part r.parts n x) r.p) (whole_of r id p ks n x is sound end)
+
+  -- and no longer than the longest packet
+  pub short_joined : IfOk o (λ m. length m ≤ 65542)
+  short_joined =
+      of_joined (λ m. length m ≤ 65542) (whole_of r id p ks n x is sound end).message.short
 
 -- ---- a part that is added
 

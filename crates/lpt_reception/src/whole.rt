@@ -1,6 +1,7 @@
 //! A reception of which all parts are there.
 
 ghost use Rattle.std.specs.Prelude.{◌≡◌, ◌≤◌, length, IfOk, MatchResult};
+ghost use Rattle.lpt_reception.specs.PartsOf.{IsMessageOf};
 ghost use Rattle.lpt_reception.specs.Received.{spelled, all_of};
 
 use crate::Filling;
@@ -44,6 +45,9 @@ impl Whole {
     pub fn joined(&self) -> Result<Octets, AllocError>
         ensures message { IfOk result (λ m. m ≡ spelled (all_of self.now)) }
         ensures short { IfOk result (λ m. length m ≤ 65542) }
+
+        // To split it gives exactly these parts.
+        ensures split { IfOk result (IsMessageOf (all_of self.now) self.now.before.p) }
     {
         let before = &self.before;
         join(*before.parts.allocator(), &before.parts, &self.ending)
@@ -55,6 +59,9 @@ impl Whole {
     pub fn release(self) -> Result<Octets, Whole>
         ensures message { MatchResult result (λ m. m ≡ spelled (all_of self)) (λ w. w ≡ self) }
         ensures short { IfOk result (λ m. length m ≤ 65542) }
+
+        // To split it gives exactly these parts.
+        ensures split { IfOk result (IsMessageOf (all_of self) self.before.p) }
     {
         match self.joined() {
             Ok(message) => {
