@@ -22,11 +22,11 @@ IsWhole old new P =
 abbrev pub EndsLine : List ℕ → Type 0
 EndsLine text = (text ≡ []) ⊎ ((line : List ℕ) × (text ≡ line ++ 10 ∷ []))
 
--- the text is a front part of what was read, all of it or whole lines
+-- the text is a front part of what was read: whole lines, or all that there was to read
 abbrev pub IsFront : Option (List ℕ) → Option (List ℕ) → (List ℕ → Type 0) → Type 0
 IsFront old new P =
     (text : List ℕ) × (more : List ℕ) × Consumes old new (text ++ more)
-    × ((more ≡ []) ⊎ EndsLine text) × (length text ≤ 16777216) × P text
+    × (((more ≡ []) × IsAtEnd new) ⊎ EndsLine text) × (length text ≤ 16777216) × P text
 
 -- more was read than a text may have
 abbrev pub IsTooLong : Option (List ℕ) → Option (List ℕ) → Type 0

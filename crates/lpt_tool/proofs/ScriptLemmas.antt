@@ -1,6 +1,6 @@
 -- How the ending of a script follows from what was read and from the ending of its lines.
 use Rattle.std.proofs.Common.{◌≡◌, ◌≢◌, ◌≤◌, ℕ, List, [], length, Option, Result, Ok, Err, Bool, true, refl, sym, subst, append-nil, arith, inl, inr, ◌⊎◌, Some, None}
-use Rattle.std.specs.Io.KnownBytes.{Consumes}
+use Rattle.std.specs.Io.KnownBytes.{Consumes, IsAtEnd}
 use Rattle.lpt_text.specs.Reading.{ReadTo, NoLineEndAfter, IsFront, IsTooLong}
 use Rattle.lpt_text.specs.declared.reading.End.{End}
 use Rattle.lpt_text.specs.declared.reading.End.TheVariants.{Whole, Failed, TooLong}
@@ -21,11 +21,12 @@ memory_ends w read old new before failed wrote p =
 -- all was read
 all_read : (old new : Option (List ℕ)) (text : List ℕ) (P : List ℕ → Type 0)
     → Consumes old new text
+    → IsAtEnd new
     → length text ≤ 16777216
     → P text
     → IsFront old new P
-all_read old new text P p bound holds =
-    (text, [], subst (Consumes old new) (sym (append-nil text)) p, inl refl, bound, holds)
+all_read old new text P p at_end bound holds =
+    (text, [], subst (Consumes old new) (sym (append-nil text)) p, inl (refl, at_end), bound, holds)
 
 -- the whole lines of what was read
 front_read : (old new : Option (List ℕ)) (text front : List ℕ) (P : List ℕ → Type 0)
@@ -54,16 +55,17 @@ script_done w TooLong text refused old new a b before failed wrote p (inr q) =
 -- the whole of a text, run to a fault
 whole_fault : (w : Shown) (text : List ℕ) (fault : ToolFault) (old new a b : Option (List ℕ)) (failed wrote : Bool)
     → Consumes old new text
+    → IsAtEnd new
     → length text ≤ 16777216
     → LinesEnd (script_ran w text) (Err fault) a b
     → (fault ≡ tool.Write → wrote ≡ true)
     → ScriptEnds w (Err fault) old new a b failed wrote
-whole_fault w text (tool.Line k) old new a b failed wrote p bound q cause = inl (all_read old new text _ p bound q)
-whole_fault w text tool.Write old new a b failed wrote p bound q cause = (inl (all_read old new text _ p bound q), cause refl)
-whole_fault w text tool.Memory old new a b failed wrote p bound q cause = inl (all_read old new text _ p bound q)
-whole_fault w text tool.Read old new a b failed wrote p bound q cause = absurd q
-whole_fault w text tool.Config old new a b failed wrote p bound q cause = absurd q
-whole_fault w text (tool.Threads k) old new a b failed wrote p bound q cause = absurd q
+whole_fault w text (tool.Line k) old new a b failed wrote p at_end bound q cause = inl (all_read old new text _ p at_end bound q)
+whole_fault w text tool.Write old new a b failed wrote p at_end bound q cause = (inl (all_read old new text _ p at_end bound q), cause refl)
+whole_fault w text tool.Memory old new a b failed wrote p at_end bound q cause = inl (all_read old new text _ p at_end bound q)
+whole_fault w text tool.Read old new a b failed wrote p at_end bound q cause = absurd q
+whole_fault w text tool.Config old new a b failed wrote p at_end bound q cause = absurd q
+whole_fault w text (tool.Threads k) old new a b failed wrote p at_end bound q cause = absurd q
 
 -- the whole lines of a text that was cut, run to a fault or to the cut
 cut_fault : (w : Shown) (text front : List ℕ) (fault : ToolFault) (old new a b : Option (List ℕ)) (failed wrote : Bool)
@@ -101,7 +103,7 @@ pub script_fault : (w : Shown) (end : End) (text : List ℕ) (fault : ToolFault)
     → (fault ≡ tool.Write → wrote ≡ true)
     → ScriptEnds w (Err fault) old new a b failed wrote
 script_fault w Whole text fault old new a b before failed wrote p q cause =
-    whole_fault w text fault old new a b failed wrote p.0 p.2 q cause
+    whole_fault w text fault old new a b failed wrote p.0 p.1 p.2 q cause
 script_fault w Failed text fault old new a b before failed wrote p q cause =
     cut_fault w text q.0 fault old new a b failed wrote p.0 q.1 (inl p.1) q.2 cause
 script_fault w TooLong text fault old new a b before failed wrote p (inl q) cause =
