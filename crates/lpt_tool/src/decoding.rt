@@ -11,7 +11,8 @@ use std::alloc::Global;
 /// Writes what octets are as a packet, for the part size `p` (4 to 1,024 octets), and answers whether
 /// that is a fault.
 ///
-/// Errors: `Write` where a write failed or took nothing; `Memory`.
+/// Errors: `Write` where a write failed or took nothing, after a front part of the text; `Memory`,
+/// before anything was written.
 pub fn decode<K: Sink>(alloc: Global, octets: &[u8], p: u32, out: &mut K) -> Result<bool, ToolFault>
     requires { IsPartSize p }
     ensures ends { DecodeEnds p octets.now result (K.contents out.old) (K.contents out.new) }
