@@ -1,7 +1,6 @@
 //! Growths that fail: a short script, where one growth of memory fails.
 //!
-//! `rt try --test --fail-alloc N` has the Nth growth of each test fail. A test makes as many growths
-//! of its own beforehand as its name says, so that each meets another growth of the script's run.
+//! `tests/growths` has each growth fail in turn, in the tests as they are built.
 
 use crate::usual::{USUAL, zeros};
 use lpt_text::{Told, ToolFault};
@@ -40,14 +39,8 @@ impl Write for Fixed {
     }
 }
 
-// Runs the script after so many growths of its own, and gives whether a growth failed. The run ends
-// well, or for want of memory, and then what was written is a front part of the text.
-fn walk(rt: &impl Abort, alloc: Global, own: usize) -> bool {
-    for _ in 0..own {
-        if [0u8].to_vec(alloc).is_err() {
-            return true;
-        }
-    }
+// Runs the script, and gives whether a growth failed. The run ends well, or for want of memory, and then what was written is a front part of the text.
+fn walk(rt: &impl Abort, alloc: Global) -> bool {
     let Ok(memories) = zeros(alloc) else {
         return true;
     };
@@ -73,65 +66,10 @@ fn walk(rt: &impl Abort, alloc: Global, own: usize) -> bool {
 
 #[test]
 fn no_growth_fails(rt: HostRuntime) {
-    assert!(rt; !walk(&rt, rt.alloc(), 0));
+    assert!(rt; !walk(&rt, rt.alloc()));
 }
 
 #[test]
-fn after_0(rt: HostRuntime) {
-    walk(&rt, rt.alloc(), 0);
-}
-
-#[test]
-fn after_1(rt: HostRuntime) {
-    walk(&rt, rt.alloc(), 1);
-}
-
-#[test]
-fn after_2(rt: HostRuntime) {
-    walk(&rt, rt.alloc(), 2);
-}
-
-#[test]
-fn after_3(rt: HostRuntime) {
-    walk(&rt, rt.alloc(), 3);
-}
-
-#[test]
-fn after_4(rt: HostRuntime) {
-    walk(&rt, rt.alloc(), 4);
-}
-
-#[test]
-fn after_5(rt: HostRuntime) {
-    walk(&rt, rt.alloc(), 5);
-}
-
-#[test]
-fn after_6(rt: HostRuntime) {
-    walk(&rt, rt.alloc(), 6);
-}
-
-#[test]
-fn after_7(rt: HostRuntime) {
-    walk(&rt, rt.alloc(), 7);
-}
-
-#[test]
-fn after_8(rt: HostRuntime) {
-    walk(&rt, rt.alloc(), 8);
-}
-
-#[test]
-fn after_9(rt: HostRuntime) {
-    walk(&rt, rt.alloc(), 9);
-}
-
-#[test]
-fn after_10(rt: HostRuntime) {
-    walk(&rt, rt.alloc(), 10);
-}
-
-#[test]
-fn after_11(rt: HostRuntime) {
-    walk(&rt, rt.alloc(), 11);
+fn each_growth_may_fail(rt: HostRuntime) {
+    walk(&rt, rt.alloc());
 }
