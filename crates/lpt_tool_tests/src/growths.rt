@@ -39,7 +39,8 @@ impl Write for Fixed {
     }
 }
 
-// Runs the script, and gives whether a growth failed. The run ends well, or for want of memory, and then what was written is a front part of the text.
+// Runs the script, and gives whether a growth failed. The run ends well, or for want of memory, and
+// then what was written is a front part of the text.
 fn walk(rt: &impl Abort, alloc: Global) -> bool {
     let Ok(memories) = zeros(alloc) else {
         return true;
