@@ -38,6 +38,3 @@ pub use outcome::{Outcome, Why};
 pub use parsed::Parsed;
 pub use side::Side;
 pub use telemetry::TelemetryKind;
-
-#[cfg(test)]
-mod tests;

@@ -21,10 +21,3 @@ pub use fault::StepFault;
 pub use refused::{Refused, RunEnd};
 pub use reply::{Answer, Puts, Reply};
 pub use world::World;
-
-#[cfg(test)]
-mod asking;
-#[cfg(test)]
-mod growths;
-#[cfg(test)]
-mod tests;
