@@ -2,7 +2,6 @@
 use Rattle.std.proofs.Common.{◌≡◌, ◌∙◌, ap, sym, ℕ, Option, None, Result, Ok, Err}
 use Rattle.std.specs.Result.{IfOk, OnOk, OnErr}
 use Rattle.lpt_packet.specs.Names.{Name}
-use Rattle.lpt_part.specs.declared.reason.Reason.TheVariants.{Conflict}
 use Rattle.lpt_part.specs.Parts.{Piece}
 use Rattle.lpt_pus.specs.Telemetry.{Telemetry}
 use Rattle.lpt_reception.specs.Received.{Received, Ended, BrokenOff, all_of, spelled}
@@ -44,16 +43,13 @@ taken-whole (Err x) head old mid new q now w is out e all = tt
 
 -- a broken reception came out
 pub taken-broken : {E : Type 0} (r : Result Taken E) (head : Option Telemetry) (old mid new : TableState) (q : Piece) (now : ℕ) (b : BrokenOff)
-    → IfOk r (λ t. t ≡ taking.Broken (abort_report head q.id b.reason))
+    → IfOk r (λ t. t ≡ taking.Broken b.reason (abort_report head q.id b.reason))
     → OnOk r (new ≡ settled mid)
-    → offered old q.id q.number (kept_of q) now ≡ (offering.Conflict, mid)
-    → b ≡ record { before = received_at old q.id; reason = Conflict }
+    → offered old q.id q.number (kept_of q) now ≡ (offering.Conflict b.reason, mid)
     → IfOk r (λ t. ◌≡◌ {A = TableState × Taken} (new, t) (taken head old q now))
-taken-broken (Ok t) head old mid new q now b is out e all =
-    (λ i. (out i, is i))
-    ∙ ap (λ (b : BrokenOff). (settled mid, taking.Broken (abort_report head q.id b.reason))) all
-    ∙ taken-offered head old mid q now offering.Conflict e
-taken-broken (Err x) head old mid new q now b is out e all = tt
+taken-broken (Ok t) head old mid new q now b is out e =
+    (λ i. (out i, is i)) ∙ taken-offered head old mid q now (offering.Conflict b.reason) e
+taken-broken (Err x) head old mid new q now b is out e = tt
 
 -- what came out is put back
 pub put_back-same : {X E : Type 0} (r : Result X E) (old mid new : TableState) (id : Name) (before : Received)

@@ -5,7 +5,6 @@ use Rattle.lpt_packet.specs.Names.{Name}
 use Rattle.lpt_packet.specs.Packets.{spelling}
 use Rattle.lpt_pus.specs.Telemetry.{Telemetry, tm_packet_of}
 use Rattle.lpt_part.specs.declared.reason.Reason.{Reason}
-use Rattle.lpt_part.specs.declared.reason.Reason.TheVariants.{Conflict}
 use Rattle.lpt_part.specs.Parts.{Piece}
 use Rattle.lpt_part.specs.Aborts.{abort_body}
 use Rattle.lpt_ledger.specs.declared.state.State.{State}
@@ -64,7 +63,7 @@ taken_as head id parts offering.Kept = taking.Kept
 taken_as head id parts offering.Again = taking.Again
 taken_as head id parts offering.NoRoom = taking.NoRoom
 taken_as head id parts offering.Whole = taking.Whole (spelled parts)
-taken_as head id parts offering.Conflict = taking.Broken (abort_report head id Conflict)
+taken_as head id parts (offering.Conflict reason) = taking.Broken reason (abort_report head id reason)
 
 -- the receptions after an offer, and what it came to
 abbrev pub taken_from : Option Telemetry → Name → Parts → OfferKind × TableState → TableState × Taken
@@ -87,7 +86,7 @@ IsShort taking.Kept = Unit {0}
 IsShort taking.Again = Unit {0}
 IsShort taking.NoRoom = Unit {0}
 IsShort (taking.Whole m) = length m ≤ 65542
-IsShort (taking.Broken packet) = Unit {0}
+IsShort (taking.Broken reason packet) = Unit {0}
 
 -- an outcome alone
 abbrev pub noted : Outcome → Accepted
@@ -118,8 +117,8 @@ after_taken d id number es taking.Again = (with_entries d es, noted (outcome.Aga
 after_taken d id number es taking.NoRoom = (with_entries d es, ignored why.NoRoom)
 after_taken d id number es (taking.Whole m) =
     (ended d id es, record { outcome = outcome.Released id (length m); packet = None; released = Some m })
-after_taken d id number es (taking.Broken packet) =
-    (with_report (ended d id es) packet, record { outcome = outcome.Broken id Conflict; packet = packet; released = None })
+after_taken d id number es (taking.Broken reason packet) =
+    (with_report (ended d id es) packet, record { outcome = outcome.Broken id reason; packet = packet; released = None })
 
 -- the same, of both together
 abbrev pub after_take : NodeData → Piece → TableState × Taken → NodeData × Accepted

@@ -11,7 +11,7 @@ use crate::taken::Taken;
 use crate::taking::take;
 use crate::{Accepted, Node, Outcome, Parsed, TelemetryKind, Why};
 use lpt_ledger::State;
-use lpt_part::{Part, Reason};
+use lpt_part::Part;
 use std::alloc::AllocError;
 
 impl Node {
@@ -76,13 +76,13 @@ impl Node {
                     released: Some(message),
                 })
             }
-            Taken::Broken(packet) => {
+            Taken::Broken(reason, packet) => {
                 let _ = self.receivers.shut(part.id);
                 if packet.is_some() {
                     self.counts.step_kind(TelemetryKind::Abort);
                 }
                 Ok(Accepted {
-                    outcome: Outcome::Broken(part.id, Reason::Conflict),
+                    outcome: Outcome::Broken(part.id, reason),
                     packet,
                     released: None,
                 })

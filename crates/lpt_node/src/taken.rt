@@ -1,6 +1,7 @@
 //! What the open receptions make of a part.
 
 use lpt_packet::Octets;
+use lpt_part::Reason;
 
 /// What the open receptions make of a part.
 #[derive(Drop)]
@@ -13,6 +14,6 @@ pub(crate) enum Taken {
     NoRoom,
     /// With it the message is whole.
     Whole(Octets),
-    /// It broke the reception off. The spacecraft has a report of it to send.
-    Broken(Option<Octets>),
+    /// It broke the reception off, for this reason. The spacecraft has a report of it to send.
+    Broken(Reason, Option<Octets>),
 }

@@ -81,15 +81,15 @@ fn abort(
     requires out { IsSomeAnd table.old.out (λ o. o.0 ≡ id) }
     requires id { broken.before.id ≡ id }
     requires p { broken.before.p ≡ table.old.p }
-    ensures ok { IfOk result (λ t. t ≡ taking.Broken (abort_report (option_map (λ h. telemetry h []) head) id broken.reason)) }
+    ensures ok { IfOk result (λ t. t ≡ taking.Broken broken.reason (abort_report (option_map (λ h. telemetry h []) head) id broken.reason)) }
     ensures settled { OnOk result (table.new ≡ settled table.old) }
     ensures err { OnErr result (table.new ≡ put_back table.old broken.before) }
 {
     match abort_report(alloc, head, id, broken.reason()) {
         Ok(report) => {
-            let _ = broken.abort();
+            let reason = broken.abort();
             table.settle(id);
-            Ok(Taken::Broken(report))
+            Ok(Taken::Broken(reason, report))
         }
         Err(AllocError) => {
             table.put_back(broken.back());

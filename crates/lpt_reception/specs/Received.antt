@@ -8,6 +8,7 @@ use Rattle.lpt_packet.specs.Numbers.{same_octets}
 use Rattle.lpt_part.specs.declared.kind.Kind.{Kind}
 use Rattle.lpt_part.specs.declared.kind.Kind.TheVariants.{Last}
 use Rattle.lpt_part.specs.declared.reason.Reason.{Reason}
+use Rattle.lpt_part.specs.declared.reason.Reason.TheVariants as reason
 use Rattle.lpt_part.specs.Parts.{same_kind}
 
 -- a part that was kept, without its number
@@ -55,6 +56,10 @@ is_overrun s =
 -- below another's
 abbrev pub contradicts : Parts → ℕ → Kept → Bool
 contradicts s n x = differs (map.get s n) x || is_overrun (with_part s n x)
+
+-- why a part that contradicts a set breaks its reception off
+abbrev pub break_reason : Reason
+break_reason = reason.Conflict
 
 -- whether a part of this number and a part of each number below it, from 1 on, are there
 abbrev pub has_all_to : Parts → ℕ → Bool

@@ -155,6 +155,7 @@ module _ (old new : TableState) (id n now : ℕ) (x : KeptPart) where
   offers_offered Again h = rw (h.0, h.1.0, h.1.1, h.2)
   offers_offered (Whole v) h =
       rw (h.0, h.1.0.agrees, h.1.0.absent, h.1.1, h.2.now, h.2.was)
-  offers_offered (Conflict b) h = rw (h.0, h.1.0, h.2.now, h.2.was)
+  offers_offered (Conflict b) h =
+      rw (h.0, h.1.0, h.2.now, h.2.was, ap (λ (x : BrokenOff). x.reason) h.1.1)
   offers_offered NoRoom h = rw (h.0, h.1)
   offers_offered Memory h = tt

@@ -3,7 +3,8 @@ use Rattle.std.specs.Prelude.{◌≡◌, ℕ, Bool, if◌then◌else◌, not, �
 use Rattle.std.specs.Option.{option_map}
 use Rattle.std.specs.FinMap as map
 use Rattle.lpt_packet.specs.Names.{Name}
-use Rattle.lpt_reception.specs.Received.{Kept as KeptPart, Parts, Received, no_parts, with_part, contradicts, is_whole}
+use Rattle.lpt_part.specs.declared.reason.Reason.{Reason}
+use Rattle.lpt_reception.specs.Received.{Kept as KeptPart, Parts, Received, no_parts, with_part, contradicts, break_reason, is_whole}
 use Rattle.lpt_table.specs.Tables.{TableEntry, TableState}
 
 -- whether a reception of this name is open
@@ -52,7 +53,7 @@ pub data OfferKind : Type 0 where
   Kept : OfferKind
   Again : OfferKind
   Whole : OfferKind
-  Conflict : OfferKind
+  Conflict : Reason → OfferKind
   NoRoom : OfferKind
 
 -- the reception of a name, if one is open, is taken out, and its last tick is remembered
@@ -68,7 +69,7 @@ taken_out t id =
 unfoldable pub offered : TableState → Name → ℕ → KeptPart → ℕ → OfferKind × TableState
 offered t id n x now =
     if is_full t id then (NoRoom, t)
-    else if contradicts (parts_at t id) n x then (Conflict, taken_out t id)
+    else if contradicts (parts_at t id) n x then (Conflict break_reason, taken_out t id)
     else if is_some (map.get (parts_at t id) n) then (Again, with_entry t id (parts_at t id) now)
     else if is_whole (with_part (parts_at t id) n x) then (Whole, taken_out t id)
     else (Kept, with_entry t id (with_part (parts_at t id) n x) now)

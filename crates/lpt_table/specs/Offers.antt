@@ -51,6 +51,6 @@ abbrev pub kind_of : Offer → Option OfferKind
 kind_of Kept = Some kind.Kept
 kind_of Again = Some kind.Again
 kind_of (Whole w) = Some kind.Whole
-kind_of (Conflict b) = Some kind.Conflict
+kind_of (Conflict b) = Some (kind.Conflict b.reason)
 kind_of NoRoom = Some kind.NoRoom
 kind_of Memory = None

@@ -50,7 +50,6 @@ returns-in-Conflict-clause-ok c =
     c.abort.ensures.ok
     c.abort.ensures.settled
     c.in-Conflict.ensures.offered
-    c.in-Conflict.ensures.answer.1.1
 
 pub returns-in-Conflict-clause-err : goal.returns-in-Conflict-clause-err
 returns-in-Conflict-clause-err c =
