@@ -9,7 +9,7 @@ use Rattle.lpt_packet.specs.Names.{Name, same_name}
 use Rattle.lpt_packet.proofs.NameLemmas.{same_name-true}
 use Rattle.lpt_part.specs.Parts.{Piece}
 use Rattle.lpt_reception.specs.Received.{Kept as KeptPart, Parts, no_parts, contradicts, is_whole, spelled}
-use Rattle.lpt_reception.proofs.EntryLemmas.{found_first}
+use Rattle.lpt_packet.proofs.EntryLemmas.{found_first}
 use Rattle.lpt_events.proofs.LaneLemmas.{same_direction-true}
 use Rattle.lpt_events.specs.Lanes.{lane_direction, same_direction}
 use Rattle.lpt_events.specs.declared.config.Config.{Config}

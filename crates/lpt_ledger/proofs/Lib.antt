@@ -1,3 +1,3 @@
-pub mod ClosingLemmas
-pub mod FirstLemmas
-pub mod MarksLemmas
+mod ClosingLemmas
+mod FirstLemmas
+mod MarksLemmas

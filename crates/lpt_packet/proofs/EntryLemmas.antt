@@ -1,4 +1,5 @@
--- Lists of entries whose numbers rise: what is found in them, and what a test of each tells.
+-- Lists of entries whose keys are numbers and rise, as a finite map has them: what is found in them, and
+-- what a test of each tells.
 use Rattle.std.proofs.Common.{Less, Equal, Greater, ◌≡◌, ◌≢◌, ◌∙◌, ap, sym, refl, inl, inr, ◌⊎◌, ℕ, ◌<◌, Bool, true, false, cond, ◌&&◌, ◌||◌, T, List, [], ◌∷◌, Some, arith}
 use Rattle.std.specs.List.{list_any}
 use Rattle.std.specs.Ordering.{nat_cmp, is_lt}

@@ -1,5 +1,6 @@
 pub mod Bursts
 pub mod Codec
+pub mod EntryLemmas
 pub mod Found
 pub mod Lookups
 pub mod NameLemmas

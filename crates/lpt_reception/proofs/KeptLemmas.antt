@@ -13,7 +13,7 @@ use Rattle.std.proofs.lemmas.Bool.Decides.{eqb_tells}
 use Rattle.lpt_packet.specs.Numbers.{same_octets}
 use Rattle.lpt_reception.specs.declared.kept.KeptPart.{KeptPart}
 use Rattle.lpt_reception.specs.KeptParts.{kept_in, entry, entries_of, IsGap}
-use Rattle.lpt_reception.proofs.EntryLemmas.{put_in_front, put_behind, found_first, found_behind, low_first, low_rest, up_low, up_rest}
+use Rattle.lpt_packet.proofs.EntryLemmas.{put_in_front, put_behind, found_first, found_behind, low_first, low_rest, up_low, up_rest}
 
 -- ---- octets
 

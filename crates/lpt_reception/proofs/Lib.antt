@@ -1,13 +1,12 @@
-pub mod AddLemmas
-pub mod CutLemmas
-pub mod EntryLemmas
-pub mod KeptLemmas
-pub mod ListLemmas
+mod AddLemmas
+mod CutLemmas
+mod KeptLemmas
+mod ListLemmas
 pub mod MessageLemmas
-pub mod PairLemmas
-pub mod ReceptionLemmas
-pub mod RunLemmas
-pub mod SetLemmas
-pub mod StartLemmas
-pub mod TestLemmas
-pub mod WholeLemmas
+mod PairLemmas
+mod ReceptionLemmas
+mod RunLemmas
+mod SetLemmas
+mod StartLemmas
+mod TestLemmas
+mod WholeLemmas

@@ -9,7 +9,7 @@ use Rattle.std.proofs.lemmas.Bool.{eq-eqb, ne_eqb, ltb-false, le-ltb}
 use Rattle.std.proofs.lemmas.Bool.Decides.{eqb_tells}
 use Rattle.lpt_reception.specs.Received.{Kept, Parts, no_parts, with_part, is_last, is_overrun}
 use Rattle.lpt_reception.proofs.TestLemmas.{second_fails, fails_together}
-use Rattle.lpt_reception.proofs.EntryLemmas.{none_passes, passes_none, passes_some}
+use Rattle.lpt_packet.proofs.EntryLemmas.{none_passes, passes_none, passes_some}
 
 -- ---- a test of each part
 

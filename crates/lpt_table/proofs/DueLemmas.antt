@@ -7,7 +7,7 @@ use Rattle.std.specs.FinMap.Entries.{find, is_sorted}
 use Rattle.std.specs.Ordering.{nat_cmp}
 use Rattle.std.proofs.Common.{sym, ◌∙◌, ap, arith, inl, inr, ltb-true, ltb-false, leb-true, leb-false}
 use Rattle.lpt_packet.specs.Names.{Name, name_before}
-use Rattle.lpt_reception.proofs.EntryLemmas.{found_first, found_cases, found_above, found_still, up_low, up_rest}
+use Rattle.lpt_packet.proofs.EntryLemmas.{found_first, found_cases, found_above, found_still, up_low, up_rest}
 use Rattle.lpt_table.specs.Deadlines.{IsDue, sooner, soonest, due_of}
 use Rattle.lpt_table.specs.Tables.{TableEntry, TableState}
 
