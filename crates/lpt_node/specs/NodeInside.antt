@@ -4,7 +4,8 @@ use Rattle.std.specs.Coded.{Coded, code_by, coded×, coded_ℕ, coded_list}
 use Rattle.std.specs.FinMap as map
 use Rattle.lpt_table.specs.Tables.{TableState}
 use Rattle.lpt_events.specs.declared.config.Config.{Config}
-use Rattle.lpt_node.specs.Nodes.{Messages, IsConfigured}
+use Rattle.lpt_events.specs.Configs.{IsConfig}
+use Rattle.lpt_node.specs.Nodes.{Messages}
 
 -- the part size by which messages are split, and the open messages
 pub record OpenMessages : Type 0 where
@@ -30,6 +31,6 @@ pub record IsTable (c : Config) (t : TableState) : Type 0 where
 
 -- what always holds of an end: its configuration is in range, table and open messages are for it
 pub record IsSound (c : Config) (t : TableState) (o : OpenMessages) : Type 0 where
-  pub configured : IsConfigured c
+  pub configured : IsConfig c
   pub table : IsTable c t
   pub messages : o.p ≡ c.part_size

@@ -5,7 +5,6 @@ use Rattle.std.specs.Ordering.{nat_cmp}
 use Rattle.lpt_packet.specs.declared.direction.Direction.{Direction}
 use Rattle.lpt_packet.specs.declared.direction.Direction.TheVariants.{Up, Down}
 use Rattle.lpt_packet.specs.Names.{Name}
-use Rattle.lpt_part.specs.Splitting.{IsPartSize}
 use Rattle.lpt_ledger.specs.Marks.{Marks}
 use Rattle.lpt_table.specs.Tables.{Entries}
 use Rattle.lpt_events.specs.declared.side.Side.{Side}
@@ -56,11 +55,6 @@ direction_from Craft = Down
 pub record MessageFits (p len : ℕ) : Type 0 where
   pub least : p < len
   pub greatest : len ≤ 65542
-
--- the configured APID and part size are in their ranges
-pub record IsConfigured (c : Config) : Type 0 where
-  pub apid : c.apid ≤ 2046
-  pub part_size : IsPartSize c.part_size
 
 -- the message of an open outgoing transaction
 abbrev pub message_at : NodeData → Name → Option (List ℕ)

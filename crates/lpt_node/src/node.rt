@@ -3,7 +3,8 @@
 ghost use Rattle.std.specs.Prelude.{◌≡◌, IfOk, is_some};
 ghost use Rattle.std.specs.FinMap as map;
 ghost use Rattle.lpt_ledger.specs.States.{state_at};
-ghost use Rattle.lpt_node.specs.Nodes.{IsConfigured, new_node};
+ghost use Rattle.lpt_events.specs.Configs.{IsConfig};
+ghost use Rattle.lpt_node.specs.Nodes.{new_node};
 
 use crate::counts::Counts;
 use crate::outgoing::Outgoing;
@@ -63,7 +64,7 @@ impl Model for Node {
 impl Node {
     /// An end at which nothing has happened. The only error is want of memory.
     pub fn new(alloc: Global, side: Side, config: &Config) -> Result<Node, AllocError>
-        requires { IsConfigured config.now }
+        requires { IsConfig config.now }
         ensures { IfOk result (λ n. n ≡ new_node side config.now) }
     {
         let senders = Ledger::new(alloc)?;

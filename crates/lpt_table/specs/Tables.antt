@@ -1,11 +1,20 @@
 -- The receptions that are open at one end, and the ticks at which they last took a part.
-use Rattle.std.specs.Prelude.{ℕ, Option, None, refl}
+use Rattle.std.specs.Prelude.{ℕ, ◌≤◌, Option, None, refl}
 use Rattle.std.specs.Coded.{Coded, code_by, coded×, coded_ℕ, coded_option}
 use Rattle.std.specs.FinMap as map
 use Rattle.std.specs.Ordering.{nat_cmp}
 use Rattle.lpt_packet.specs.Names.{Name}
+use Rattle.lpt_part.specs.Splitting.{IsPartSize}
 use Rattle.lpt_reception.specs.Codes.{coded_kept}
 use Rattle.lpt_reception.specs.Received.{Parts}
+
+-- so many receptions may be open, a time-out has so many ticks, and parts have so many octets
+pub record IsTableSize (limit timeout p : ℕ) : Type 0 where
+  pub some_receptions : 1 ≤ limit
+  pub receptions_fit : limit ≤ 64
+  pub some_timeout : 1 ≤ timeout
+  pub timeout_fits : timeout ≤ 65535
+  pub part_size_fits : IsPartSize p
 
 -- an open reception: the parts that were kept, and the tick at which it last took a part
 pub record TableEntry : Type 0 where

@@ -5,7 +5,7 @@ ghost use Rattle.std.specs.FinMap as map;
 ghost use Rattle.lpt_table.specs.Deadlines.{IsDue, due_of};
 ghost use Rattle.lpt_table.specs.EntryLists.{IsWithout};
 ghost use Rattle.lpt_table.specs.Offering.{is_open, offered, put_back, with_entry};
-ghost use Rattle.lpt_table.specs.Tables.{TableState, no_receptions};
+ghost use Rattle.lpt_table.specs.Tables.{IsTableSize, TableState, no_receptions};
 
 use crate::Offer;
 use crate::entries::{Entry, EntryList};
@@ -58,10 +58,11 @@ impl Table {
     ghost use Rattle.lpt_table.specs.Offers.{Offers, Its, kind_of};
     ghost use Rattle.lpt_table.specs.EntriesOf.{entry_in};
 
-    /// A table with places for `limit` receptions, in which none is open. A reception is overdue
-    /// when it took no part for `timeout` ticks. Parts are of `p` octets. The only error is want of
-    /// memory.
+    /// A table with places for `limit` receptions, 1 to 64, in which none is open. A reception is
+    /// overdue when it took no part for `timeout` ticks, 1 to 65,535. Parts are of `p` octets, 4 to
+    /// 1024. The only error is want of memory.
     pub fn new(alloc: Global, limit: u32, timeout: u32, p: u32) -> Result<Table, AllocError>
+        requires { IsTableSize limit timeout p }
         ensures { IfOk result (λ t. t ≡ no_receptions limit timeout p) }
     {
         Ok(Table {
