@@ -1,3 +1,4 @@
 mod ClosingLemmas
 mod FirstLemmas
 mod MarksLemmas
+mod NextLemmas

@@ -1,12 +1,12 @@
 //! The ledger of the identifiers of one end.
 
-ghost use Rattle.std.specs.Prelude.{◌≡◌, ◌≢◌, None, Some, IfOk, IfErr, OnOk, OnErr, length, map as mapped, position};
+ghost use Rattle.std.specs.Prelude.{◌≡◌, ◌≢◌, ◌≤◌, ◌==◌, if◌then◌else◌, suc, None, Some, IfOk, IfErr, OnOk, OnErr, length, map as mapped, position};
 ghost use Rattle.std.specs.FinMap as map;
 ghost use Rattle.lpt_ledger.specs.Marks.{Opened, Shut, all_closed};
 ghost use Rattle.lpt_ledger.specs.States.{state_at, is_free, closed_state};
 ghost use Rattle.lpt_ledger.specs.Refusals.{refusal_open, refusal_close, refusal_shut, refusal_retire};
-ghost use Rattle.lpt_ledger.specs.LeastFree.{least_free_in, IsLeastFree};
-ghost use Rattle.lpt_ledger.specs.LedgerInside.{marks, with_state};
+ghost use Rattle.lpt_ledger.specs.LeastFree.{name_count, least_free_in, IsLeastFree};
+ghost use Rattle.lpt_ledger.specs.LedgerInside.{marks, with_state, next_after, AreTaken};
 
 use crate::{LedgerFault, State};
 use lpt_packet::Name;
@@ -21,13 +21,13 @@ const NAMES: usize = 65_536;
 pub struct Ledger {
     // The state of each identifier, at the identifier's place.
     states: Vec<State>,
+    // No identifier below it is free.
+    next: usize,
 }
 
 impl Model for Ledger {
-    ghost use Rattle.std.specs.Prelude.{◌≡◌, length};
     ghost use Rattle.lpt_ledger.specs.Marks.{Marks, coded_marks};
-    ghost use Rattle.lpt_ledger.specs.LeastFree.{name_count};
-    ghost use Rattle.lpt_ledger.specs.LedgerInside.{marks};
+    ghost use Rattle.lpt_ledger.specs.LedgerInside.{marks, IsKept};
 
     ghost Value = { Marks };
 
@@ -35,7 +35,7 @@ impl Model for Ledger {
 
     ghost view = { λ a. marks a.states.items };
 
-    ghost invariant = { λ a. length a.states.items ≡ name_count };
+    ghost invariant = { λ a. IsKept a.next a.states.items };
 }
 
 impl Ledger {
@@ -47,6 +47,7 @@ impl Ledger {
     {
         Ok(Ledger {
             states: free_states(alloc, NAMES)?,
+            next: 0,
         })
     }
 
@@ -62,7 +63,7 @@ impl Ledger {
         ensures least { IsLeastFree self.now result }
         ensures value { result ≡ least_free_in self.now }
     {
-        let place = first_free(&self.states)?;
+        let place = first_free_from(&self.states, self.next)?;
         Some(place as Name)
     }
 
@@ -162,6 +163,7 @@ impl Ledger {
     {
         let place = usize::from(id);
         self.states[place] = state;
+        self.next = next_after(self.next, place, state);
     }
 }
 
@@ -178,6 +180,38 @@ fn first_free(states: &[State]) -> Option<usize>
     ensures { result ≡ position is_free states.now }
 {
     states.iter().position(|state| *state == State::Free)
+}
+
+// The same, where none below `next` is.
+fn first_free_from(states: &[State], next: usize) -> Option<usize>
+    requires within { next ≤ length states.now }
+    requires taken { AreTaken next states.now }
+    ensures { result ≡ position is_free states.now }
+{
+    match first_free(&states[next..]) {
+        Some(at) => Some(next + at),
+        None => None,
+    }
+}
+
+// The place below which none is free, once a place has this state.
+fn next_after(next: usize, place: usize, state: State) -> usize
+    requires { next ≤ name_count }
+    ensures { result ≡ next_after next place state }
+{
+    match state {
+        State::Free => { if place < next { place } else { next } }
+        State::Open => past(next, place),
+        State::Closed => past(next, place),
+    }
+}
+
+// The place after `next` where it is this one, else `next`.
+fn past(next: usize, place: usize) -> usize
+    requires { next ≤ name_count }
+    ensures { result ≡ (if place == next then suc next else next) }
+{
+    if place == next { next + 1 } else { next }
 }
 
 // Closes each place that is open.
