@@ -1,5 +1,5 @@
 -- Front parts of a text, and texts appended one after another.
-use Rattle.std.proofs.Common.{◌≡◌, ℕ, ◌+◌, ◌≤◌, List, [], ◌++◌, Option, None, Some, unwrap_or, length, take, drop, min, sym, ap, subst, arith, take-add, take-append-drop, append_assoc, ◌∙◌}
+use Rattle.std.proofs.Common.{◌≡◌, ℕ, ◌+◌, ◌≤◌, List, [], ◌++◌, Option, None, Some, unwrap_or, length, take, drop, min, sym, ap, subst, arith, take_all, take-add, take-append-drop, append_assoc, ◌∙◌}
 use Rattle.std.proofs.Math.Seq.{take-append-add}
 use Rattle.std.proofs.lemmas.List.{take-append-le, take_min}
 use Rattle.std.proofs.KnownBytes.{Appends-nil, Appends-trans}
@@ -49,20 +49,17 @@ pub part_of_nothing : (a b : Option (List ℕ)) (text : List ℕ)
     → AppendsPart a b text
 part_of_nothing a b text nothing = (0, nothing)
 
+-- a text appended is a front part of itself
+pub part_whole : (a b : Option (List ℕ)) (text : List ℕ)
+    → Appends a b text
+    → AppendsPart a b text
+part_whole a b text all =
+    let whole : take (length text) text ≡ text = take_all (length text) text (omega arith) in
+    (length text, subst (Appends a b) (sym whole) all)
+
 -- nothing done is a front part of anything
 pub part_unchanged : (a : Option (List ℕ)) (text : List ℕ) → AppendsPart a a text
 part_unchanged a text = part_of_nothing a a text (Appends-nil a)
-
--- a front part of a front part of a text, and what follows it there
-pub front_of_front : (n m : ℕ) (text : List ℕ)
-    → (more : List ℕ) × (text ≡ take n (take m text) ++ more)
-front_of_front n m text =
-    let within = sym (take-append-drop n (take m text)) in
-    let whole = sym (take-append-drop m text) in (
-      drop n (take m text) ++ drop m text,
-      whole ∙ ap (λ front. front ++ drop m text) within
-          ∙ append_assoc (take n (take m text)) (drop n (take m text)) (drop m text),
-    )
 
 -- ---- counts
 

@@ -1,4 +1,5 @@
 pub mod FaultNames
+pub mod Lines
 pub mod Reading
 pub mod Streams
 pub mod ToldInside

@@ -1,6 +1,7 @@
--- How a text is read, and which part of it is whole lines.
-use Rattle.std.specs.Prelude.{◌≡◌, ℕ, ◌≤◌, ◌<◌, ◌⊎◌, [], ◌∷◌, ◌++◌, ◌≢◌, slice_index, Bool, true, List, length, Option}
+-- How a text is read, and which part of it is lines.
+use Rattle.std.specs.Prelude.{◌≡◌, ℕ, ◌≤◌, ◌<◌, ◌⊎◌, [], ◌∷◌, ◌++◌, ◌+◌, Bool, true, List, length, Option, None}
 use Rattle.std.specs.Io.KnownBytes.{Consumes, IsAtEnd}
+use Rattle.lpt_text.specs.Lines.{line_end}
 use Rattle.lpt_text.specs.declared.reading.End.{End}
 use Rattle.lpt_text.specs.declared.reading.End.TheVariants.{Whole, Failed, TooLong}
 
@@ -22,23 +23,27 @@ IsWhole old new P =
 abbrev pub EndsLine : List ℕ → Type 0
 EndsLine text = (text ≡ []) ⊎ ((line : List ℕ) × (text ≡ line ++ 10 ∷ []))
 
--- the text is a front part of what was read: whole lines, or all that there was to read
+-- the text is lines, and so much of one more that this is longer than a line may be
+abbrev pub EndsLong : List ℕ → Type 0
+EndsLong text =
+    (front : List ℕ) × (line : List ℕ) × (text ≡ front ++ line) × EndsLine front
+    × (line_end line ≡ None) × (140000 < length line)
+
+-- the text is a front part of what was read: lines, perhaps with so much of one more that this is
+-- too long, or all that there was to read
 abbrev pub IsFront : Option (List ℕ) → Option (List ℕ) → (List ℕ → Type 0) → Type 0
 IsFront old new P =
     (text : List ℕ) × (more : List ℕ) × Consumes old new (text ++ more)
-    × (((more ≡ []) × IsAtEnd new) ⊎ EndsLine text) × (length text ≤ 16777216) × P text
+    × (((more ≡ []) × IsAtEnd new) ⊎ (EndsLine text ⊎ EndsLong text))
+    × (length text ≤ 16777216) × P text
 
--- more was read than a text may have
-abbrev pub IsTooLong : Option (List ℕ) → Option (List ℕ) → Type 0
-IsTooLong old new = (text : List ℕ) × Consumes old new text × (16777216 < length text)
-
--- within the limit no line ends from this place on
-abbrev pub NoLineEndAfter : ℕ → List ℕ → Type 0
-NoLineEndAfter n text = (k : ℕ) → n ≤ k → k < 16777216 → k < length text → slice_index text k ≢ 10
-
--- the text is the whole lines that were read within the limit
-abbrev pub IsWholeFront : Option (List ℕ) → Option (List ℕ) → (List ℕ → Type 0) → Type 0
-IsWholeFront old new P =
-    (text : List ℕ) × (more : List ℕ) × Consumes old new (text ++ more)
-    × EndsLine text × (length text ≤ 16777216) × NoLineEndAfter (length text) (text ++ more)
+-- the text is the lines that were read before a read failed, or before more came than a text may
+-- have; the line that this cuts isn't too long so far
+abbrev pub IsCutFront : Option (List ℕ) → Option (List ℕ) → Bool → (List ℕ → Type 0) → Type 0
+IsCutFront old new failed P =
+    (text : List ℕ) × (cut : List ℕ) × (over : List ℕ) × Consumes old new (text ++ (cut ++ over))
+    × EndsLine text × (line_end cut ≡ None) × (length cut ≤ 140000)
+    × (length text + length cut ≤ 16777216)
+    × (((over ≡ []) × (failed ≡ true))
+    ⊎ ((length text + length cut ≡ 16777216) × (0 < length over)))
     × P text

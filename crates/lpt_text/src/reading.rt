@@ -1,18 +1,18 @@
-//! A text read to its end, and the whole lines of it.
+//! A text read to its end.
 
-ghost use Rattle.std.specs.Prelude.{◌≡◌, ◌≢◌, ◌⊎◌, ◌≤◌, ◌<◌, ◌-◌, ◌++◌, ℕ, List, length, slice_index, IfOk, IfErr};
+ghost use Rattle.std.specs.Prelude.{◌≡◌, ℕ, List, IfOk, IfErr};
 ghost use Rattle.std.specs.Io.KnownBytes.{Consumes};
-ghost use Rattle.lpt_text.specs.Reading.{ReadTo, EndsLine, NoLineEndAfter};
+ghost use Rattle.lpt_text.specs.Reading.{ReadTo};
 
 use crate::fault::ToolFault;
 use crate::stream::Source;
 use std::alloc::Global;
 
 /// The most octets that a text may have.
-const LIMIT: usize = 16_777_216;
+pub(crate) const LIMIT: usize = 16_777_216;
 
 /// How many octets are asked for at a time.
-const CHUNK: usize = 4096;
+pub(crate) const CHUNK: usize = 4096;
 
 /// Where the reading of a text ended.
 #[derive(Clone, Copy, Debug, PartialEq, Eq)]
@@ -52,34 +52,4 @@ pub fn read_text<S: Source>(alloc: Global, reader: &mut S) -> Result<(Vec<u8>, E
         }
     }
     Ok((text, End::TooLong))
-}
-
-/// How many octets at the front of `text` are whole lines: up to the last line end, or none.
-pub fn whole_lines_len(text: &[u8]) -> usize
-    ensures bound { result ≤ length text.now }
-    ensures ends { (result ≡ 0) ⊎ (slice_index text.now (result - 1) ≡ 10) }
-
-    // No line ends after it.
-    ensures last { (k : ℕ) → result ≤ k → k < length text.now → slice_index text.now k ≢ 10 }
-{
-    let mut end = 0;
-    for (i, octet) in text.iter().enumerate() {
-        if *octet == b'\n' {
-            end = i + 1;
-        }
-    }
-    end
-}
-
-/// The whole lines within the first 16,777,216 octets of `text`.
-pub fn whole_lines(text: &[u8]) -> &[u8]
-    ensures front { (more : List ℕ) × (text.now ≡ result.now ++ more) }
-    ensures ends { EndsLine result.now }
-    ensures bound { length result.now ≤ 16777216 }
-
-    // It leaves no line out that ends within the limit.
-    ensures last { NoLineEndAfter (length result.now) text.now }
-{
-    let within = &text[..text.len().min(LIMIT)];
-    &within[..whole_lines_len(within)]
 }

@@ -2,7 +2,7 @@
 
 ghost use Rattle.std.specs.Prelude.{◌≡◌, ◌≤◌, ◌<◌, ℕ, List, Bool, true, false, length, take, Option, MatchOption, IfSome, IfErr, OnOk};
 ghost use Rattle.std.specs.Io.KnownBytes.{Keeps, Appends, Consumes, IsAtEnd};
-ghost use Rattle.lpt_text.specs.Streams.{read_failed, write_failed, AppendsPart};
+ghost use Rattle.lpt_text.specs.Streams.{read_failed, write_failed, flush_failed, AppendsPart};
 ghost use Rattle.lpt_text.specs.ToldInside.{inner_of, has_failed};
 
 use crate::fault::ToolFault;
@@ -45,6 +45,12 @@ pub trait Sink {
         ensures bytes { MatchOption result (Keeps (contents self.old) (contents self.new))
             (λ n. Appends (contents self.old) (contents self.new) (take n buf.now)) }
         ensures cause { failed self.new ≡ write_failed result (failed self.old) };
+
+    /// Passes on what the sink has kept back of what was written, and answers whether it could. If
+    /// not, the sink has failed from then on.
+    fn flush(&mut self) -> bool
+        ensures bytes { Keeps (contents self.old) (contents self.new) }
+        ensures cause { failed self.new ≡ flush_failed result (failed self.old) };
 }
 
 /// A reader or a writer of std, with whether it has failed.
@@ -117,6 +123,14 @@ impl<W: io::Write> Sink for Told<W> {
             }
         }
     }
+
+    fn flush(&mut self) -> bool {
+        let flushed = self.inner.flush().is_ok();
+        if !flushed {
+            self.failed = true;
+        }
+        flushed
+    }
 }
 
 /// Writes a whole text, however little each write takes.
@@ -141,4 +155,19 @@ pub fn write_out<K: Sink>(out: &mut K, text: &[u8]) -> Result<(), ToolFault>
         at += taken;
     }
     Ok(())
+}
+
+/// Has a sink pass on what it has kept back of what was written.
+///
+/// Errors: `Write` where it couldn't.
+pub fn flush_out<K: Sink>(out: &mut K) -> Result<(), ToolFault>
+    ensures same { Keeps (K.contents out.old) (K.contents out.new) }
+    ensures told { OnOk result (K.failed out.new ≡ K.failed out.old) }
+    ensures fault { IfErr result (λ e. (e ≡ ToolFault.Write) × (K.failed out.new ≡ true)) }
+{
+    if out.flush() {
+        Ok(())
+    } else {
+        Err(ToolFault::Write)
+    }
 }

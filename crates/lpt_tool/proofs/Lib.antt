@@ -1,4 +1,5 @@
 mod EndLemmas
 mod LineLemmas
-mod ScriptLemmas
+mod RunEnds
+mod RunLemmas
 mod TickLemmas

@@ -1,14 +1,21 @@
 -- How a script's ending follows from those of its lines.
-use Rattle.std.proofs.Common.{◌≡◌, ℕ, ◌+◌, List, ◌∷◌, ◌++◌, Option, None, Some, Ok, Err, Bool, refl, sym, ap, ◌∙◌, subst, append_assoc}
+use Rattle.std.proofs.Common.{◌≡◌, ℕ, ◌+◌, ◌<◌, List, [], ◌∷◌, ◌++◌, length, Option, None, Some, Result, Ok, Err, Bool, refl, sym, ap, ◌∙◌, subst, append_assoc, append-nil, arith}
 use Rattle.std.specs.Int.{from_bool}
 use Rattle.std.proofs.KnownBytes.{Appends-trans}
 use Rattle.std.specs.Io.KnownBytes.{Appends}
+use Rattle.std.proofs.lemmas.Bool.Decides.{nat_tests}
+use Rattle.std.proofs.KnownBytes.{Appends-nil}
+use Rattle.lpt_text.specs.Lines.{line_end}
 use Rattle.lpt_text.specs.Streams.{AppendsPart}
 use Rattle.lpt_text.specs.declared.fault.ToolFault.{ToolFault}
 use Rattle.lpt_text.specs.declared.fault.ToolFault.TheVariants as tool
 use Rattle.lpt_tool.specs.Ends.{LineEnds, LinesEnd}
 use Rattle.lpt_tool.specs.Scripts.{Ran, Script, behind, then_rest, lines_ran, line_ran}
 use Rattle.lpt_text.proofs.StreamLemmas.{part_after, part_of_front}
+use Rattle.lpt_tool.specs.declared.end.ScriptEnd.{ScriptEnd}
+use Rattle.lpt_words.proofs.Pieces.{lines-nowhere}
+use Rattle.lpt_words.specs.Words.{lines}
+use Rattle.lpt_words.specs.declared.grammar.Reading.TheVariants.{Unreadable}
 use Rattle.lpt_words.specs.Grammar.{reading_of}
 use Rattle.lpt_world.specs.Worlds.{Shown}
 
@@ -23,7 +30,7 @@ pub record Goes (all : Script) (rest : List (List ℕ)) (w : Shown) (n refused :
   pub follows : all ≡ behind done (lines_ran rest w n refused)
 
 -- the line's text follows what was written
-line_first : (all : Script) (line : List ℕ) (more : List (List ℕ)) (w : Shown) (n refused : ℕ) (a b : Option (List ℕ))
+pub line_first : (all : Script) (line : List ℕ) (more : List (List ℕ)) (w : Shown) (n refused : ℕ) (a b : Option (List ℕ))
     → (goes : Goes all (line ∷ more) w n refused a b)
     → (line_ran (reading_of line) n w).bad ≡ None
     → all ≡ behind (goes.done ++ (line_ran (reading_of line) n w).text)
@@ -98,3 +105,81 @@ line_fault all rest more line w v n refused fault a b c goes at ends = by_fault 
     by_fault tool.Read p = p
     by_fault tool.Config p = p
     by_fault (tool.Threads k) p = p
+
+-- ---- the end of all lines
+
+-- where no line is left, all are done
+goes_end : (all : Script) (w : Shown) (n refused : ℕ) (a b : Option (List ℕ))
+    → Goes all [] w n refused a b
+    → LinesEnd all (Ok (record { refused = refused })) a b
+goes_end all w n refused a b goes = (
+  ap (λ s. s.bad) goes.follows,
+  sym (ap (λ s. s.refused) goes.follows),
+  subst (Appends a b) (sym (ap (λ s. s.text) goes.follows ∙ append-nil goes.done)) goes.written,
+)
+
+-- the lines from here on end all
+pub rest_ends : (all : Script) (done : List ℕ) (rest : List (List ℕ)) (w : Shown) (n refused : ℕ) (r : Result ScriptEnd ToolFault) (a b c : Option (List ℕ))
+    → Appends a b done
+    → all ≡ behind done (lines_ran rest w n refused)
+    → LinesEnd (lines_ran rest w n refused) r b c
+    → LinesEnd all r a c
+rest_ends all done rest w n refused (Ok end) a b c p is q = (
+  ap (λ s. s.bad) is ∙ q.0,
+  q.1 ∙ sym (ap (λ s. s.refused) is),
+  subst (λ s. Appends a c s.text) (sym is) (Appends-trans a b c done (lines_ran rest w n refused).text p q.2),
+)
+rest_ends all done rest w n refused (Err (tool.Line k)) a b c p is q = (
+  ap (λ s. s.bad) is ∙ q.0,
+  subst (λ s. Appends a c s.text) (sym is) (Appends-trans a b c done (lines_ran rest w n refused).text p q.1),
+)
+rest_ends all done rest w n refused (Err tool.Write) a b c p is q =
+    subst (λ s. AppendsPart a c s.text) (sym is) (part_after a b c done (lines_ran rest w n refused).text p q)
+rest_ends all done rest w n refused (Err tool.Memory) a b c p is q =
+    subst (λ s. AppendsPart a c s.text) (sym is) (part_after a b c done (lines_ran rest w n refused).text p q)
+rest_ends all done rest w n refused (Err tool.Read) a b c p is q = q
+rest_ends all done rest w n refused (Err tool.Config) a b c p is q = q
+rest_ends all done rest w n refused (Err (tool.Threads k)) a b c p is q = q
+
+-- ---- the last line, which lacks its line end
+
+-- it is to be done, and nothing is written yet
+last_goes : (line : List ℕ) (w : Shown) (n refused : ℕ) (b : Option (List ℕ))
+    → Goes (lines_ran (lines line) w n refused) (lines line) w n refused b b
+last_goes line w n refused b = record { done = []; written = Appends-nil b; follows = refl }
+
+-- it ended well
+pub last_done : (line : List ℕ) (w v : Shown) (n refused : ℕ) (f : Bool) (b c : Option (List ℕ))
+    → line_end line ≡ None
+    → 0 < length line
+    → LineEnds (line_ran (reading_of line) n w) (Ok f) v b c
+    → LinesEnd (lines_ran (lines line) w n refused) (Ok (record { refused = refused + from_bool f })) b c
+last_done line w v n refused f b c none some ends =
+    let all = lines_ran (lines line) w n refused in
+    goes_end all v (n + 1) (refused + from_bool f) b c
+    (line_done all (lines line) [] line w v n refused f b b c (last_goes line w n refused b) (lines-nowhere line none some) ends)
+
+-- it ended by a fault
+pub last_fault : (line : List ℕ) (w v : Shown) (n refused : ℕ) (fault : ToolFault) (b c : Option (List ℕ))
+    → line_end line ≡ None
+    → 0 < length line
+    → LineEnds (line_ran (reading_of line) n w) (Err fault) v b c
+    → LinesEnd (lines_ran (lines line) w n refused) (Err fault) b c
+last_fault line w v n refused fault b c none some ends =
+    line_fault (lines_ran (lines line) w n refused) (lines line) [] line w v n refused fault b b c
+    (last_goes line w n refused b) (lines-nowhere line none some) ends
+
+-- it is too long
+too_long : (line : List ℕ) → 140000 < length line → reading_of line ≡ Unreadable
+unfolding reading_of
+too_long line long = grind (arith, nat_tests)
+
+-- then it is unreadable
+pub long_bad : (line : List ℕ) (w : Shown) (n refused : ℕ)
+    → line_end line ≡ None
+    → 140000 < length line
+    → (lines_ran (lines line) w n refused).bad ≡ Some n
+long_bad line w n refused none long =
+    let one = lines-nowhere line none (omega arith) in
+    ap (λ x. (lines_ran x w n refused).bad) one
+    ∙ ap (λ x. (then_rest (line_ran x n w) n refused (lines_ran []) (line_ran x n w).bad).bad) (too_long line long)

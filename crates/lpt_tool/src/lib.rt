@@ -12,8 +12,3 @@ mod showing;
 pub use decoding::decode;
 pub use end::ScriptEnd;
 pub use script::run_script;
-
-#[cfg(test)]
-mod growths;
-#[cfg(test)]
-mod tests;

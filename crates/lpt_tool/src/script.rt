@@ -1,7 +1,8 @@
 //! Scripts: lines of text that ask a world for events, or show what is in it.
 
-ghost use Rattle.std.specs.Prelude.{◌≡◌, ◌≢◌, ◌↔◌, IsErrOf, IsOk, IsSome, Err, true};
-ghost use Rattle.lpt_tool.specs.Ends.{CutEnds, LineEnds, LinesEnd, RunEnds, ScriptEnds};
+ghost use Rattle.std.specs.Prelude.{◌≡◌, ◌≢◌, ◌↔◌, ◌+◌, ◌<◌, ◌^◌, IsErrOf, IsOk, IsSome, Err, None, true};
+ghost use Rattle.lpt_text.specs.Lines.{line_end};
+ghost use Rattle.lpt_tool.specs.Ends.{LineEnds, LinesEnd, ScriptEnds};
 ghost use Rattle.lpt_tool.specs.Scripts.{line_ran, lines_ran, unreadable};
 ghost use Rattle.lpt_words.specs.Grammar.{reading_of};
 ghost use Rattle.lpt_words.specs.Words.{lines};
@@ -13,19 +14,22 @@ use crate::printed::put;
 use lpt_memory::Memories;
 use lpt_node::Config;
 use lpt_print::print_unreadable;
-use lpt_text::{End, Sink, Source, ToolFault, read_text, whole_lines};
-use lpt_words::{Reading, read_line, split_line};
+use lpt_text::{LineBuffer, Sink, Source, ToolFault};
+use lpt_words::{Reading, ended, read_line};
 use lpt_world::{ConfigFault, World};
 use std::alloc::Global;
 
-/// Runs a script from a reader on a new world of this configuration and these memories, and writes what its lines print.
+/// Runs a script from a reader on a new world of this configuration and these memories, and writes
+/// what its lines print.
 ///
-/// The text is read to its end, 16,777,216 octets at most, and then run line by line.
+/// Each line is run as it comes: before more is read, every whole line that came has been run, and
+/// `out` has passed on what it printed. A script has 16,777,216 octets at most; what it takes of
+/// memory depends on its longest line, and on the journal of its world.
 ///
 /// Errors: `Config` for a configuration out of its ranges, before anything is read; `Line` at the
-/// first unreadable line, which ends the run (a first line that alone is longer than a text may be
-/// is one); `Read` where a read failed or the text is longer, after the whole lines before that;
-/// `Write` where a write failed or took nothing; `Memory`.
+/// first unreadable line, which ends the run; `Read` where a read failed or more octets came than a
+/// script may have, after the lines before that, unless the line that this cuts is too long already
+/// and so unreadable; `Write` where a write failed or took nothing; `Memory`.
 pub fn run_script<S: Source, K: Sink>(
     alloc: Global,
     config: Config,
@@ -41,83 +45,70 @@ pub fn run_script<S: Source, K: Sink>(
     ensures told { result ≢ Err ToolFault.Write → K.failed out.new ≡ K.failed out.old }
     ensures read { IsOk result → S.failed reader.new ≡ S.failed reader.old }
 {
-    let mut world = match World::new(alloc, config, memories) {
-        Ok(world) => world,
-        Err(ConfigFault::Memory) => return Err(ToolFault::Memory),
-        Err(_) => return Err(ToolFault::Config),
-    };
-    let (text, end) = match read_text(alloc, reader) {
-        Ok(read) => read,
-        Err(fault) => return Err(fault),
-    };
-    match run_read(alloc, &mut world, text.as_slice(), end, out) {
-        Ok(refused) => Ok(ScriptEnd { refused }),
-        Err(fault) => Err(fault),
+    match World::new(alloc, config, memories) {
+        Ok(mut world) => run_lines(alloc, &mut world, reader, out),
+        Err(ConfigFault::Memory) => Err(ToolFault::Memory),
+        Err(_) => Err(ToolFault::Config),
     }
 }
 
-// Runs what was read, by how the reading ended, and counts the refused lines.
-fn run_read<K: Sink>(
+// Runs the lines that a reader gives, the first of which has number 1, and counts those of which an
+// event was refused.
+fn run_lines<S: Source, K: Sink>(
     alloc: Global,
     world: &mut World,
-    text: &[u8],
-    end: End,
+    reader: &mut S,
     out: &mut K,
-) -> Result<u64, ToolFault>
-    ensures ends { RunEnds (λ read. lines_ran (lines read) world.old 1 0) end text.now result (K.contents out.old) (K.contents out.new) }
-    ensures cause { IsErrOf result ToolFault.Write → K.failed out.new ≡ true }
+) -> Result<ScriptEnd, ToolFault>
+    ensures ends { ScriptEnds world.old result (S.remaining reader.old) (S.remaining reader.new)
+        (K.contents out.old) (K.contents out.new) (S.failed reader.new) (K.failed out.new) }
+    ensures config { result ≢ Err ToolFault.Config }
     ensures told { result ≢ Err ToolFault.Write → K.failed out.new ≡ K.failed out.old }
+    ensures read { IsOk result → S.failed reader.new ≡ S.failed reader.old }
 {
-    match end {
-        End::Whole => run_lines(alloc, world, text, out),
-        End::Failed => Err(run_front(alloc, world, whole_lines(text), out)),
-        End::TooLong => {
-            let front = whole_lines(text);
-            if front.is_empty() {
-                Err(end_unreadable(alloc, 1, out))
-            } else {
-                Err(run_front(alloc, world, front, out))
-            }
-        }
-    }
-}
-
-// Runs the whole lines of a text of which more could not be read, and gives the fault that this ends by.
-fn run_front<K: Sink>(alloc: Global, world: &mut World, front: &[u8], out: &mut K) -> ToolFault
-    ensures ends { CutEnds (lines_ran (lines front.now) world.old 1 0) (Err result) (K.contents out.old) (K.contents out.new) }
-    ensures cause { result ≡ ToolFault.Write → K.failed out.new ≡ true }
-    ensures told { result ≢ ToolFault.Write → K.failed out.new ≡ K.failed out.old }
-{
-    match run_lines(alloc, world, front, out) {
-        Ok(_) => ToolFault::Read,
-        Err(fault) => fault,
-    }
-}
-
-// Runs the lines of a text, the first of which has number 1, and counts those of which an event was
-// refused.
-fn run_lines<K: Sink>(
-    alloc: Global,
-    world: &mut World,
-    text: &[u8],
-    out: &mut K,
-) -> Result<u64, ToolFault>
-    ensures ends { LinesEnd (lines_ran (lines text.now) world.old 1 0) result (K.contents out.old) (K.contents out.new) }
-    ensures cause { IsErrOf result ToolFault.Write → K.failed out.new ≡ true }
-    ensures told { result ≢ Err ToolFault.Write → K.failed out.new ≡ K.failed out.old }
-{
-    let mut rest = text;
+    let mut lines = LineBuffer::new(alloc);
     let mut number = 1;
     let mut refused = 0;
-    while let Some((line, more)) = split_line(rest) {
-        match run_line(alloc, world, line, number, out) {
+    loop {
+        let len = match lines.find_line(reader, out) {
+            Ok(Some(len)) => len,
+            Ok(None) => return run_last(alloc, world, lines.held(), number, refused, out),
+            Err(fault) => return Err(fault),
+        };
+        match run_line(alloc, world, ended(&lines.held()[..len]), number, out) {
             Ok(was_refused) => refused += u64::from(was_refused),
             Err(fault) => return Err(fault),
         }
+        lines.skip(len + 1);
         number += 1;
-        rest = more;
     }
-    Ok(refused)
+}
+
+// Runs what follows the last line end, which is a line where it isn't empty; so many lines were
+// refused before.
+fn run_last<K: Sink>(
+    alloc: Global,
+    world: &mut World,
+    last: &[u8],
+    number: u64,
+    refused: u64,
+    out: &mut K,
+) -> Result<ScriptEnd, ToolFault>
+    requires one { line_end last.now ≡ None }
+    requires fits { refused + 1 < 2 ^ 64 }
+    ensures ends { LinesEnd (lines_ran (lines last.now) world.old number refused) result (K.contents out.old) (K.contents out.new) }
+    ensures cause { IsErrOf result ToolFault.Write → K.failed out.new ≡ true }
+    ensures told { result ≢ Err ToolFault.Write → K.failed out.new ≡ K.failed out.old }
+{
+    if last.is_empty() {
+        return Ok(ScriptEnd { refused });
+    }
+    match run_line(alloc, world, last, number, out) {
+        Ok(was_refused) => Ok(ScriptEnd {
+            refused: refused + u64::from(was_refused),
+        }),
+        Err(fault) => Err(fault),
+    }
 }
 
 // Runs a line, and answers whether an event of it was refused.

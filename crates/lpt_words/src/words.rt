@@ -68,8 +68,9 @@ fn first_place(text: &[u8], octet: u8) -> Option<usize>
     text.iter().position(|b| *b == octet)
 }
 
-// The line that a line feed ends.
-fn ended(piece: &[u8]) -> &[u8]
+/// The line that a line feed ends: the octets before it, without one carriage return directly
+/// before it; what has more than 140,000 octets with that keeps it, and is too long to be read.
+pub fn ended(piece: &[u8]) -> &[u8]
     ensures { result.now ≡ ended_line piece.now }
 {
     if piece.len() > LONGEST_LINE {

@@ -1,16 +1,18 @@
-use Rattle.std.proofs.Common.{◌≡◌, ◌≤◌, ◌+◌, length}
-use Rattle.lpt_words.specs.Words.{lines}
-use Rattle.lpt_tool.specs.Scripts.{lines_ran}
-use Rattle.lpt_tool.proofs.LineLemmas.{Goes}
+use Rattle.std.proofs.Common.{◌≡◌, ◌+◌, length}
+use Rattle.lpt_text.specs.Lines.{held, room_of}
+use Rattle.lpt_tool.proofs.RunLemmas.{Runs}
 use Rattle.lpt_tool.proofs.script.run_lines.Given as goal
 
-abbrev pub invariant-loop-line : goal.invariant-loop-line
-invariant-loop-line g l =
-    Goes (lines_ran (lines l.fn.text) l.fn.world 1 0) (lines l.rest) l.world l.number l.refused
-    (g.K.Sink.contents l.fn.out) (g.K.Sink.contents l.out)
-    × (g.K.Sink.failed l.out ≡ g.K.Sink.failed l.fn.out)
-    × (l.number + length l.rest ≤ 1 + length l.fn.text)
-    × (l.refused + 1 ≤ l.number)
+-- all that was passed over was run
+abbrev pub invariant-loop-len : goal.invariant-loop-len
+invariant-loop-len g l = record {
+  runs : Runs l.fn.world l.world l.number l.refused (held l.lines) (room_of l.lines)
+      (g.S.Source.remaining l.fn.reader) (g.S.Source.remaining l.reader)
+      (g.K.Sink.contents l.fn.out) (g.K.Sink.contents l.out);
+  told : g.S.Source.failed l.reader ≡ g.S.Source.failed l.fn.reader;
+  written : g.K.Sink.failed l.out ≡ g.K.Sink.failed l.fn.out;
+}
 
-abbrev pub decreases-loop-line : goal.decreases-loop-line
-decreases-loop-line g l = length l.rest
+-- each line takes some of what is held, and each read some of the room
+abbrev pub decreases-loop-len : goal.decreases-loop-len
+decreases-loop-len g l = length (held l.lines) + room_of l.lines

@@ -1,6 +1,6 @@
 //! Texts through readers and writers that give, take and fail in their own ways.
 
-use crate::{End, Told, ToolFault, read_text, whole_lines, write_out};
+use lpt_text::{End, LineBuffer, Told, ToolFault, flush_out, read_text, write_out};
 use std::io::{self, ErrorKind, Read, Write};
 use std::test::Fail;
 
@@ -49,7 +49,7 @@ impl Read for Breaking {
 }
 
 #[test]
-fn writes_whole_texts_or_a_front_part(rt: HostRuntime) -> Result<(), Fail> {
+fn writes_whole_texts_or_a_front_part(rt: HostRuntime) {
     // The size of a write, the writer's room, whether it fails past it, and the octets it holds.
     let cases = [
         (1, 100, false, Ok(()), 32),
@@ -66,23 +66,27 @@ fn writes_whole_texts_or_a_front_part(rt: HostRuntime) -> Result<(), Fail> {
             room,
             breaks,
         });
-        assert_eq!(rt; write_out(&mut out, SCRIPT), expected, "{step} of {room}");
-        assert_eq!(rt;
-            Some(out.inner().held.as_slice()),
-            SCRIPT.get(..len),
+        let ended = write_out(&mut out, SCRIPT);
+        let held = Some(out.inner().held.as_slice());
+        assert!(rt;
+            ended == expected && held == SCRIPT.get(..len),
             "{step} of {room}"
         );
     }
-    Ok(())
+}
+
+#[test]
+fn flushes_a_writer(rt: HostRuntime) {
+    let mut out = Told::new(Vec::new(rt.alloc()));
+    assert!(rt; flush_out(&mut out) == Ok(()));
 }
 
 #[test]
 fn reads_to_the_end(rt: HostRuntime) -> Result<(), Fail> {
     let mut reader = Told::new(SCRIPT);
     let (text, end) = read_text(rt.alloc(), &mut reader)?;
-    assert_eq!(rt; text.as_slice(), SCRIPT);
-    assert_eq!(rt; end, End::Whole);
-    assert_eq!(rt; reader.into_inner().len(), 0);
+    assert!(rt; text.as_slice() == SCRIPT && end == End::Whole);
+    assert!(rt; reader.into_inner().is_empty());
     Ok(())
 }
 
@@ -90,8 +94,7 @@ fn reads_to_the_end(rt: HostRuntime) -> Result<(), Fail> {
 fn keeps_what_came_before_a_fault(rt: HostRuntime) -> Result<(), Fail> {
     let mut reader = Told::new(Breaking { has_read: false });
     let (text, end) = read_text(rt.alloc(), &mut reader)?;
-    assert_eq!(rt; text.as_slice(), b"x".as_slice());
-    assert_eq!(rt; end, End::Failed);
+    assert!(rt; text.as_slice() == b"x".as_slice() && end == End::Failed);
     Ok(())
 }
 
@@ -104,36 +107,31 @@ fn reads_up_to_16777216_octets(rt: HostRuntime) -> Result<(), Fail> {
     ];
     for (len, expected) in cases {
         let mut reader = Told::new(io::repeat(b'\n').take(len));
-        let (text, end) = read_text(rt.alloc(), &mut reader)?;
-        assert_eq!(rt; end, expected, "{len} octets");
-        assert_eq!(rt;
-            whole_lines(&text).len(),
-            text.len().min(16_777_216),
-            "{len} octets"
-        );
+        let (_, end) = read_text(rt.alloc(), &mut reader)?;
+        assert!(rt; end == expected, "{len} octets");
     }
     Ok(())
 }
 
 #[test]
-fn cuts_to_whole_lines(rt: HostRuntime) {
-    let cases: [(&[u8], &[u8]); 5] = [
-        (b"", b""),
-        (b"show journal", b""),
-        (b"\n", b"\n"),
-        (b"tick craft\r\nshow jour", b"tick craft\r\n"),
-        (b"\n\ntick craft\n", b"\n\ntick craft\n"),
-    ];
-    for (text, expected) in cases {
-        assert_eq!(rt; whole_lines(text), expected);
+fn finds_lines_one_after_another(rt: HostRuntime) -> Result<(), Fail> {
+    let mut reader = Told::new(b"show\n\nlast".as_slice());
+    let mut out = Told::new(Vec::new(rt.alloc()));
+    let mut lines = LineBuffer::new(rt.alloc());
+    for expected in [Some(4), Some(0), None] {
+        let found = lines.find_line(&mut reader, &mut out)?;
+        assert!(rt; found == expected);
+        lines.skip(found.map_or(0, |len| len + 1));
     }
+    assert!(rt; lines.held() == b"last".as_slice());
+    Ok(())
 }
 
 #[test]
 fn prints_the_numbers_of_faults(rt: HostRuntime) -> Result<(), Fail> {
     let line = format!(in rt.alloc(); "{}", ToolFault::Line(12))?;
-    assert_eq!(rt; line.as_str(), "line 12 is unreadable");
     let threads = format!(in rt.alloc(); "{}", ToolFault::Threads(58))?;
-    assert_eq!(rt; threads.as_str(), "a run of threads ended by fault 58");
+    assert!(rt; line.as_str() == "line 12 is unreadable");
+    assert!(rt; threads.as_str() == "a run of threads ended by fault 58");
     Ok(())
 }

@@ -3,10 +3,10 @@
 //! `rt try --test --fail-alloc N` has the Nth growth of each test fail. A test makes as many growths
 //! of its own beforehand as its name says, so that each meets another growth of the script's run.
 
-use crate::run_script;
-use crate::tests::{USUAL, zeros};
+use crate::usual::{USUAL, contents};
 use lpt_memory::Memories;
 use lpt_text::{Told, ToolFault};
+use lpt_tool::run_script;
 use std::alloc::Global;
 use std::io::{self, ErrorKind, Write};
 use std::process::Abort;
@@ -49,7 +49,7 @@ fn walk(rt: &impl Abort, alloc: Global, own: usize) -> bool {
             return true;
         }
     }
-    let Ok(contents) = zeros(alloc) else {
+    let Ok(contents) = contents(alloc) else {
         return true;
     };
     let Ok(memories) = Memories::new(contents) else {

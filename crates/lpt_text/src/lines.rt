@@ -1,0 +1,153 @@
+//! The lines of a text, found as it comes.
+
+ghost use Rattle.std.specs.Prelude.{◌≤◌, length};
+
+use crate::fault::ToolFault;
+use crate::line_end::first_line_end;
+use crate::reading::{CHUNK, LIMIT};
+use crate::stream::{Sink, Source, flush_out};
+use std::alloc::Global;
+
+/// The most octets of a line, without its line end.
+const LONGEST_LINE: usize = 140_000;
+
+/// The octets of a text that were read and not passed over yet.
+///
+/// A text has at most 16,777,216 octets. What it takes of memory depends on its longest line alone,
+/// and of a line no more is read than shows that it has more than 140,000 octets.
+#[derive(Drop)]
+pub struct LineBuffer {
+    octets: Vec<u8>,
+    // How many of them were passed over.
+    start: usize,
+    // How many more the text may have.
+    room: usize,
+    ghost within: { start ≤ length octets.items },
+}
+
+impl LineBuffer {
+    ghost use Rattle.std.specs.Prelude.{◌≡◌, ◌≢◌, ◌+◌, ◌++◌, [], drop, true, Err, IfErr, OnOk, OnErr, IsErrOf};
+    ghost use Rattle.std.specs.Io.KnownBytes.{Keeps};
+    ghost use Rattle.lpt_text.specs.Lines.{held, room_of, Fills, FindsLine};
+
+    /// A text of which nothing was read.
+    pub fn new(alloc: Global) -> Self
+        ensures held { held result ≡ [] }
+        ensures room { room_of result ≡ 16777216 }
+    {
+        LineBuffer {
+            octets: Vec::new(alloc),
+            start: 0,
+            room: LIMIT,
+        }
+    }
+
+    /// The octets that were read and not passed over yet.
+    pub fn held(&self) -> &[u8]
+        ensures { result.now ≡ held self.now }
+    {
+        &self.octets[self.start..]
+    }
+
+    /// Passes over so many of the octets that are held.
+    pub fn skip(&mut self, count: usize)
+        requires { count ≤ length (held self.old) }
+        ensures held { held self.new ≡ drop count (held self.old) }
+        ensures room { room_of self.new ≡ room_of self.old }
+    {
+        self.start += count;
+    }
+
+    /// Reads up to a line end, and gives its place among the octets that are held, which then has
+    /// none before it.
+    ///
+    /// There is none where the text ends, or where more than 140,000 octets are held without one.
+    /// Before each read `out` passes on what it has kept back, so whoever waits for it has it.
+    ///
+    /// Errors: `Read` where a read failed, or where more octets came than a text may have; `Write`
+    /// where `out` failed; `Memory`, with which some octets of the text are lost.
+    pub fn find_line<S: Source, K: Sink>(
+        &mut self,
+        source: &mut S,
+        out: &mut K,
+    ) -> Result<Option<usize>, ToolFault>
+        ensures finds { FindsLine result self.old self.new (S.remaining source.old)
+            (S.remaining source.new) (S.failed source.old) (S.failed source.new) }
+
+        // What was written stays.
+        ensures same { Keeps (K.contents out.old) (K.contents out.new) }
+        ensures cause { IsErrOf result ToolFault.Write → K.failed out.new ≡ true }
+        ensures told { result ≢ Err ToolFault.Write → K.failed out.new ≡ K.failed out.old }
+    {
+        let mut searched = 0;
+        loop {
+            match first_line_end(&self.held()[searched..]) {
+                Some(place) => return Ok(Some(searched + place)),
+                None => searched = self.held().len(),
+            }
+            if searched > LONGEST_LINE {
+                return Ok(None);
+            }
+            match flush_out(out) {
+                Ok(()) => {}
+                Err(fault) => return Err(fault),
+            }
+            match self.fill(source) {
+                Ok(more) => {
+                    if !more {
+                        return Ok(None);
+                    }
+                }
+                Err(fault) => return Err(fault),
+            }
+        }
+    }
+
+    // Reads some octets behind those that are held, and answers whether there were any.
+    fn fill<S: Source>(&mut self, source: &mut S) -> Result<bool, ToolFault>
+        ensures { Fills result self.old self.new (S.remaining source.old) (S.remaining source.new)
+            (S.failed source.old) (S.failed source.new) }
+    {
+        let mut chunk = [0; CHUNK];
+        let asked = self.room.clamp(1, CHUNK);
+        let Some(count) = source.read(&mut chunk[..asked]) else {
+            return Err(ToolFault::Read);
+        };
+        if count == 0 {
+            return Ok(false);
+        }
+        if self.room == 0 {
+            return Err(ToolFault::Read);
+        }
+        match self.push(&chunk[..count]) {
+            Ok(()) => Ok(true),
+            Err(fault) => Err(fault),
+        }
+    }
+
+    // Holds octets behind the rest.
+    fn push(&mut self, octets: &[u8]) -> Result<(), ToolFault>
+        requires { length octets.now ≤ room_of self.old }
+        ensures held { OnOk result (held self.new ≡ held self.old ++ octets.now) }
+        ensures room { OnOk result (room_of self.new + length octets.now ≡ room_of self.old) }
+        ensures fault { IfErr result (λ e. e ≡ ToolFault.Memory) }
+    {
+        self.compact();
+        if self.octets.extend_from_slice(octets).is_err() {
+            return Err(ToolFault::Memory);
+        }
+        self.room -= octets.len();
+        Ok(())
+    }
+
+    // Gives up the octets that were passed over.
+    fn compact(&mut self)
+        ensures held { held self.new ≡ held self.old }
+        ensures room { room_of self.new ≡ room_of self.old }
+    {
+        let left = self.octets.len() - self.start;
+        self.octets.rotate_left(self.start);
+        self.octets.truncate(left);
+        self.start = 0;
+    }
+}

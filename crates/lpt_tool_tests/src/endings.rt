@@ -1,0 +1,154 @@
+//! How a run ends where the script is too long, a read fails or a write fails.
+
+use crate::usual::{USUAL, ran, zeros};
+use lpt_text::{Told, ToolFault};
+use lpt_tool::run_script;
+use std::alloc::Global;
+use std::io::{self, ErrorKind, Read, Write};
+use std::test::Fail;
+
+/// A message of 20 octets, opened and sent in three parts.
+const SENT: &str = "open up 7 000102030405060708090a0b0c0d0e0f10111213\n\
+    send up 7 1\nsend up 7 2\nsend up 7 3\n";
+
+/// What that prints.
+const SENT_TEXT: &str = "opened up 7 parts 3\nput 0\nput 1\nput 2\n";
+
+/// The limit of a script, and the least line that is too long.
+const LIMIT: u64 = 16_777_216;
+
+const TOO_LONG: u64 = 140_001;
+
+#[test]
+fn a_script_has_16777216_octets_at_most(rt: HostRuntime) -> Result<(), Fail> {
+    // Line ends, then so many octets of a comment, and whether that is cut or too long.
+    let unreadable = Err(ToolFault::Line(16_637_216));
+    let cases = [
+        (LIMIT, 0, Ok(0)),
+        (LIMIT + 1, 0, Err(ToolFault::Read)),
+        (LIMIT - 140_000, 140_000, Ok(0)),
+        (LIMIT - 140_000, TOO_LONG, Err(ToolFault::Read)),
+        (LIMIT - TOO_LONG, TOO_LONG, unreadable),
+        (LIMIT - TOO_LONG, TOO_LONG + 1, unreadable),
+        (0, LIMIT + 1, Err(ToolFault::Line(1))),
+    ];
+    for (ends, comment, expected) in cases {
+        let script = io::repeat(b'\n')
+            .take(ends)
+            .chain(io::repeat(b'#').take(comment));
+        let memories = zeros(rt.alloc())?;
+        let (ended, text) = ran(rt.alloc(), USUAL, memories, script);
+        let told = !text.is_empty();
+        let is_line = matches!(&ended, Err(ToolFault::Line(_)));
+        assert!(rt;
+            ended == expected && told == is_line,
+            "{ends} and {comment}"
+        );
+    }
+    Ok(())
+}
+
+/// A reader that gives few octets at a time, and fails behind the last.
+#[derive(Drop)]
+struct Breaking {
+    text: &'static [u8],
+    step: usize,
+}
+
+impl Read for Breaking {
+    fn read(&mut self, buf: &mut [u8]) -> io::Result<usize> {
+        let count = buf.len().min(self.step).min(self.text.len());
+        if count == 0 {
+            return Err(io::Error::from(ErrorKind::BrokenPipe));
+        }
+        buf[..count].copy_from_slice(&self.text[..count]);
+        self.text = &self.text[count..];
+        Ok(count)
+    }
+}
+
+#[test]
+fn a_failed_read_ends_the_run_behind_whole_lines(rt: HostRuntime) -> Result<(), Fail> {
+    let cases: [(&[u8], usize, &[u8]); 4] = [
+        (b"", 1, b""),
+        (b"show journal", 1, b""),
+        (b"show journal\nshow journal", 1, b"journal 0\n"),
+        (
+            b"show journal\nshow journal\n",
+            20,
+            b"journal 0\njournal 0\n",
+        ),
+    ];
+    for (text, step, printed) in cases {
+        let memories = zeros(rt.alloc())?;
+        let (ended, got) = ran(rt.alloc(), USUAL, memories, Breaking { text, step });
+        assert!(rt;
+            ended == Err(ToolFault::Read) && got.as_slice() == printed,
+            "{step}"
+        );
+    }
+    Ok(())
+}
+
+/// A writer that takes so many octets, and fails from then on, or at the first flush.
+#[derive(Drop)]
+struct Full {
+    held: Vec<u8>,
+    room: usize,
+    flushes: bool,
+}
+
+impl Write for Full {
+    fn write(&mut self, buf: &[u8]) -> io::Result<usize> {
+        let count = buf.len().min(self.room);
+        if count == 0 {
+            return Err(io::Error::from(ErrorKind::BrokenPipe));
+        }
+        self.held.extend_from_slice(&buf[..count])?;
+        self.room -= count;
+        Ok(count)
+    }
+
+    fn flush(&mut self) -> io::Result<()> {
+        if self.flushes {
+            Ok(())
+        } else {
+            Err(io::Error::from(ErrorKind::BrokenPipe))
+        }
+    }
+}
+
+// What a writer holds once the script of the message has failed with it, or nothing of it else.
+fn written(alloc: Global, room: usize, flushes: bool) -> Result<Option<Vec<u8>>, Fail> {
+    let memories = zeros(alloc)?;
+    let held = Vec::new(alloc);
+    let mut reader = Told::new(SENT.as_bytes());
+    let mut out = Told::new(Full {
+        held,
+        room,
+        flushes,
+    });
+    let ended = run_script(alloc, USUAL, memories, &mut reader, &mut out);
+    let Full { held, .. } = out.into_inner();
+    Ok(match ended {
+        Err(ToolFault::Write) => Some(held),
+        _ => None,
+    })
+}
+
+#[test]
+fn a_failed_write_ends_the_run(rt: HostRuntime) -> Result<(), Fail> {
+    for room in 0..SENT_TEXT.len() {
+        let held = written(rt.alloc(), room, true)?;
+        let got = held.as_ref().map(|held| held.as_slice());
+        assert!(rt; got == SENT_TEXT.as_bytes().get(..room), "{room}");
+    }
+    Ok(())
+}
+
+#[test]
+fn a_failed_flush_ends_the_run_before_a_read(rt: HostRuntime) -> Result<(), Fail> {
+    let held = written(rt.alloc(), 1000, false)?;
+    assert!(rt; held.is_some_and(|held| held.is_empty()));
+    Ok(())
+}
