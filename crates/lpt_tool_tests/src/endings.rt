@@ -22,14 +22,10 @@ const TOO_LONG: u64 = 140_001;
 #[test]
 fn a_script_has_16777216_octets_at_most(rt: HostRuntime) -> Result<(), Fail> {
     // Line ends, then so many octets of a comment, and whether that is cut or too long.
-    let unreadable = Err(ToolFault::Line(16_637_216));
     let cases = [
         (LIMIT, 0, Ok(0)),
         (LIMIT + 1, 0, Err(ToolFault::Read)),
-        (LIMIT - 140_000, 140_000, Ok(0)),
-        (LIMIT - 140_000, TOO_LONG, Err(ToolFault::Read)),
-        (LIMIT - TOO_LONG, TOO_LONG, unreadable),
-        (LIMIT - TOO_LONG, TOO_LONG + 1, unreadable),
+        (LIMIT - TOO_LONG, TOO_LONG + 1, Err(ToolFault::Line(16_637_216))),
         (0, LIMIT + 1, Err(ToolFault::Line(1))),
     ];
     for (ends, comment, expected) in cases {

@@ -2,7 +2,8 @@
 //!
 //! `tests/growths` has each growth fail in turn, in the tests as they are built.
 
-use crate::usual::{USUAL, zeros};
+use crate::usual::{USUAL, contents};
+use lpt_memory::Memories;
 use lpt_text::{Told, ToolFault};
 use lpt_tool::run_script;
 use std::alloc::Global;
@@ -42,7 +43,10 @@ impl Write for Fixed {
 // Runs the script, and gives whether a growth failed. The run ends well, or for want of memory, and
 // then what was written is a front part of the text.
 fn walk(rt: &impl Abort, alloc: Global) -> bool {
-    let Ok(memories) = zeros(alloc) else {
+    let Ok(contents) = contents(alloc) else {
+        return true;
+    };
+    let Ok(memories) = Memories::new(contents) else {
         return true;
     };
     let mut reader = Told::new(SCRIPT.as_bytes());

@@ -5,7 +5,7 @@ use lpt_node::Config;
 use lpt_packet::Octets;
 use lpt_text::{Told, ToolFault};
 use lpt_tool::run_script;
-use std::alloc::Global;
+use std::alloc::{AllocError, Global};
 use std::io::Read;
 use std::test::Fail;
 
@@ -20,12 +20,16 @@ pub(crate) const USUAL: Config = Config {
     clock: 0,
 };
 
-/// The memories of an empty file: one memory 1 of 256 octets of zero.
-pub(crate) fn zeros(alloc: Global) -> Result<Memories, Fail> {
-    let octets = Octets::from_vec(vec![in alloc; 0; 256]?);
+/// What the memories of an empty file hold: one memory 1 of 256 octets of zero.
+pub(crate) fn contents(alloc: Global) -> Result<Vec<(u8, Octets)>, AllocError> {
     let mut contents = Vec::new(alloc);
-    contents.push((1, octets))?;
-    Ok(Memories::new(contents)?)
+    contents.push((1, Octets::from_vec(vec![in alloc; 0; 256]?)))?;
+    Ok(contents)
+}
+
+/// The memories of an empty file.
+pub(crate) fn zeros(alloc: Global) -> Result<Memories, Fail> {
+    Ok(Memories::new(contents(alloc)?)?)
 }
 
 /// Runs a script, and gives how many lines were refused, or the fault, with the text that it wrote.
