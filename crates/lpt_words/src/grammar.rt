@@ -11,8 +11,7 @@ use crate::names::{
 };
 use crate::numbers::read_hex;
 use crate::words::{LONGEST_LINE, split_word};
-use lpt_events::Lane;
-use lpt_events::Side;
+use lpt_events::{Lane, Side};
 use lpt_packet::{Direction, Name, Octets};
 use lpt_pus::AckFlags;
 use std::alloc::{AllocError, Global};
