@@ -105,7 +105,14 @@ answer_text (Deliver l) (Delivered o) = outcome_text (lane_direction l) o
 answer_text (Finish d id) Finished = finished_text d id
 answer_text (Tick side) (Clock t) = clock_text t
 answer_text (Expire side) (Expired d id) = expired_text d id
-answer_text _ _ = []
+answer_text (Open d id m) _ = []
+answer_text (Send d id k) _ = []
+answer_text (Plain flags service subtype body) _ = []
+answer_text (Take l n) _ = []
+answer_text (Deliver l) _ = []
+answer_text (Finish d id) _ = []
+answer_text (Tick side) _ = []
+answer_text (Expire side) _ = []
 
 -- what an accepted event prints
 abbrev pub accepted_text : Event → Reply → List ℕ

@@ -3,13 +3,44 @@
 ghost use Rattle.std.specs.Prelude.{◌≡◌, IfOk};
 ghost use Rattle.std.specs.Option.{option_copied};
 ghost use Rattle.std.specs.String.{string_bytes};
-ghost use Rattle.lpt_print.specs.Printing.{opened_text, finished_text, expired_text, clock_text, put_text, took_text, outcome_text, refused_text, unreadable_text, journal_text, packet_text, memory_text, release_text, none_text};
+ghost use Rattle.lpt_print.specs.Printing.{accepted_text, opened_text, finished_text, expired_text, clock_text, put_text, took_text, outcome_text, refused_text, unreadable_text, journal_text, packet_text, memory_text, release_text, none_text};
 
 use crate::words::{direction_word, octets_word, why_word};
-use lpt_events::Outcome;
+use lpt_events::{Answer, Event, Outcome, Release, Reply, StepFault};
 use lpt_packet::{Direction, Name};
-use lpt_events::{Release, StepFault};
 use std::alloc::{AllocError, Global};
+
+/// What an accepted event prints by its reply: the text of its own answer, and nothing for another.
+pub fn print_accepted(alloc: Global, event: &Event, reply: &Reply) -> Result<String, AllocError>
+    ensures { IfOk result (λ t. string_bytes t ≡ accepted_text event.now reply.now) }
+{
+    match (event, reply.answer) {
+        (Event::Open(direction, id, _), Answer::Opened(parts)) => {
+            print_opened(alloc, *direction, *id, parts)
+        }
+        (Event::Send(_, _, _), Answer::Put(number)) => print_put(alloc, number),
+        (Event::Plain(_, _, _, _), Answer::Put(number)) => print_put(alloc, number),
+        (Event::Take(_, _), Answer::Took(number)) => print_took(alloc, number),
+        (Event::Deliver(lane), Answer::Delivered(outcome)) => {
+            print_outcome(alloc, lane.direction(), outcome)
+        }
+        (Event::Finish(direction, id), Answer::Finished) => print_finished(alloc, *direction, *id),
+        (Event::Tick(_), Answer::Clock(ticks)) => print_clock(alloc, ticks),
+        (Event::Expire(_), Answer::Expired(direction, id)) => print_expired(alloc, direction, id),
+        // Each event by its name, so that a new one is missed here.
+        (
+            Event::Open(_, _, _)
+            | Event::Send(_, _, _)
+            | Event::Plain(_, _, _, _)
+            | Event::Take(_, _)
+            | Event::Deliver(_)
+            | Event::Finish(_, _)
+            | Event::Tick(_)
+            | Event::Expire(_),
+            _,
+        ) => Ok(String::new(alloc)),
+    }
+}
 
 /// `opened up 7 parts 3`: a message was opened, and has so many parts.
 pub fn print_opened(

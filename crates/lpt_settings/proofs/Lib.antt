@@ -1,2 +1,3 @@
+pub mod JudgeLemmas
 pub mod MemoryLemmas
 pub mod TableLemmas

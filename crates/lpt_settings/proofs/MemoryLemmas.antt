@@ -24,7 +24,7 @@ length-first (Some m) (Some others) n ms rest e =
     omega (arith, sym (ap length same), rest others refl)
 
 -- each item gives one memory
-length-each_memory : (vs : List Value) (ms : Contents)
+pub length-each_memory : (vs : List Value) (ms : Contents)
     → each_memory (items_view vs) ≡ Some ms
     → length ms ≡ length vs
 length-each_memory [] ms e = let same : [] ≡ ms = cc in sym (ap length same)

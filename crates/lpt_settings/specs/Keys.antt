@@ -4,13 +4,9 @@ use Rattle.std.specs.List.{list_any}
 use Rattle.std.specs.Cmp.Lexicographic.{pointwise}
 use Rattle.toml.specs.Data.{Members, no_members, member}
 
--- the key has the letters of the word
-abbrev pub is_word : List ℕ → List ℕ → Bool
-is_word key word = pointwise nat_eq key word
-
 -- the key is one of the words
 abbrev pub is_one_of : List (List ℕ) → List ℕ → Bool
-is_one_of words key = list_any (is_word key) words
+is_one_of words key = list_any (pointwise nat_eq key) words
 
 -- each key of a table is one of the words
 abbrev pub has_only : List (List ℕ) → Members → Bool

@@ -1,5 +1,8 @@
 -- The memories that a table describes.
-use Rattle.std.specs.Prelude.{ℕ, if◌then◌else◌, List, [], ◌∷◌, replicate, codes, Option, Some, None}
+use Rattle.std.specs.Prelude.{ℕ, Bool, false, ◌==◌, if◌then◌else◌, List, [], ◌∷◌, replicate, codes, Option, Some, None}
+use Rattle.std.specs.List.{list_any}
+use Rattle.toml.specs.declared.value.Value.{Value}
+use Rattle.toml.specs.View.{view}
 use Rattle.toml.specs.Data.{Data, Items, no_items, item, Members, get_member, as_array, as_table}
 use Rattle.lpt_memory.specs.Fields.{◌>>=◌}
 use Rattle.lpt_memory.specs.Memories.{Contents, are_memories}
@@ -35,6 +38,15 @@ each_memory (item d more) = do
 -- these, where they can be memories
 abbrev pub if_memories : Contents → Option Contents
 if_memories ms = if are_memories ms then Some ms else None
+
+-- whether there is a memory, of this identifier
+abbrev pub is_id : ℕ → Option (ℕ × List ℕ) → Bool
+is_id id None = false
+is_id id (Some m) = m.0 == id
+
+-- whether one of the values describes a memory of this identifier
+abbrev pub has_id : ℕ → List Value → Bool
+has_id id values = list_any (λ v. is_id id (memory_of (view v))) values
 
 -- the memories of a value that is an array of tables
 abbrev pub listed : Data → Option Contents

@@ -8,6 +8,21 @@ ghost use Rattle.lpt_settings.specs.Keys.{is_one_of, has_only};
 
 use toml::Table;
 
+/// The keys of a configuration.
+pub(crate) const KEYS: [&str; 8] = [
+    "apid",
+    "source",
+    "part_size",
+    "timeout",
+    "receptions",
+    "outgoing",
+    "clock",
+    "memory",
+];
+
+/// The keys of a memory.
+pub(crate) const MEMORY_KEYS: [&str; 3] = ["id", "size", "fill"];
+
 // Whether each key of the table is one of the words.
 pub(crate) fn has_only(table: &Table, words: &[&str]) -> bool
     ensures { result ≡ has_only (map (λ w. w.now) words.now) (table_view table.now) }
@@ -21,6 +36,16 @@ fn are_keys_among(table: &Table, words: &[&str]) -> bool
         (λ key. is_one_of (map (λ w. w.now) words.now) (string_bytes key)) (keys table.now) }
 {
     table.keys().all(|key| is_one_of(key.as_str(), words))
+}
+
+// The first key of the table that is none of the words, if there is one.
+pub(crate) fn unknown_key<'t>(table: &'t Table, words: &[&str]) -> Option<&'t str> {
+    for key in table.keys() {
+        if !is_one_of(key.as_str(), words) {
+            return Some(key.as_str());
+        }
+    }
+    None
 }
 
 // Whether the key is one of the words.

@@ -25,12 +25,17 @@
 //! in `read_table`, one more line in `read_numbers`, and the same in the specs.
 #![tactic(auto)]
 
+mod complaint;
 mod keys;
 mod memories;
 mod numbers;
+mod place;
 mod settings;
+mod wrong;
 
+pub use complaint::{Complaint, why_refused};
 pub use settings::read_config;
+pub use wrong::Reason;
 
 #[cfg(test)]
 mod tests;

@@ -1,11 +1,13 @@
 //! The memories that a table describes.
 
-ghost use Rattle.std.specs.Prelude.{◌≡◌, replicate, Some, option_map, IfOk};
-ghost use Rattle.toml.specs.View.{view, table_view};
-ghost use Rattle.lpt_settings.specs.MemoryTables.{memory_of, if_memories, listed, default_memories, memories_of};
+ghost use Rattle.std.specs.Prelude.{◌≡◌, ◌≤◌, ◌&&◌, nat_le, replicate, Some, is_ok, is_some, option_map, option_and_then, IfOk};
+ghost use Rattle.std.specs.Result.{result_ok};
+ghost use Rattle.toml.specs.View.{view, items_view, table_view};
+ghost use Rattle.lpt_settings.specs.MemoryTables.{memory_of, each_memory, if_memories, listed, default_memories, memories_of, is_id, has_id};
 
-use crate::keys::has_only;
+use crate::keys::{MEMORY_KEYS, has_only};
 use crate::numbers::number;
+use crate::wrong::{Reason, Wrong};
 use lpt_memory::Memories;
 use lpt_packet::Octets;
 use std::alloc::{AllocError, Global};
@@ -22,9 +24,72 @@ struct Filled {
     fill: u8,
 }
 
+/// Judges what is at the key `memory`, and takes no memory for it.
+pub(crate) fn judge_memories(table: &Table) -> Result<(), Wrong>
+    ensures { is_ok result ≡ is_some (memories_of (table_view table.now)) }
+{
+    match table.get("memory") {
+        Some(value) => judge_listed(value),
+        None => Ok(()),
+    }
+}
+
+// Judges a value that should be an array of tables.
+fn judge_listed(value: &Value) -> Result<(), Wrong>
+    ensures { is_ok result ≡ is_some (listed (view value.now)) }
+{
+    match value.as_array() {
+        Some(values) => judge_values(values),
+        None => Err(Wrong::at("memory", Reason::NotArray)),
+    }
+}
+
+// Judges values that should be tables of memories.
+fn judge_values(values: &[Value]) -> Result<(), Wrong>
+    ensures { is_ok result ≡ is_some (option_and_then if_memories (each_memory (items_view values.now))) }
+{
+    if !is_count(values.len()) {
+        return Err(Wrong::at("memory", Reason::Count));
+    }
+    for (place, value) in values.iter().enumerate() {
+        let memory = match described(value) {
+            Ok(memory) => memory,
+            Err(wrong) => return Err(wrong.in_memory(place)),
+        };
+        if has_id(&values[place + 1..], memory.id) {
+            return Err(Wrong::at("id", Reason::Twice).in_memory(place));
+        }
+    }
+    Ok(())
+}
+
+// Whether there can be so many memories.
+fn is_count(len: usize) -> bool
+    ensures { result ≡ (nat_le 1 len && nat_le len 16) }
+{
+    (1..=MEMORIES).contains(&len)
+}
+
+// Whether one of the values describes a memory of this identifier.
+fn has_id(values: &[Value], id: u8) -> bool
+    ensures { result ≡ has_id id values.now }
+{
+    values.iter().any(|value| is_of_id(value, id))
+}
+
+// Whether the value describes a memory of this identifier.
+fn is_of_id(value: &Value, id: u8) -> bool
+    ensures { result ≡ is_id id (memory_of (view value.now)) }
+{
+    match described(value) {
+        Ok(memory) => memory.id == id,
+        Err(_) => false,
+    }
+}
+
 /// The memories at the key `memory`, or the default where the key is absent.
 ///
-/// `None` where the value at the key is refused. The only error is want of memory.
+/// `None` where the value at the key is refused. The only error is want of memory, where it isn't.
 pub(crate) fn memories(alloc: Global, table: &Table) -> Result<Option<Memories>, AllocError>
     ensures { IfOk result (λ m. m ≡ memories_of (table_view table.now)) }
 {
@@ -76,7 +141,7 @@ fn if_memories(memories: Vec<(u8, Octets)>) -> Option<Memories>
 fn memory(alloc: Global, value: &Value) -> Result<Option<(u8, Octets)>, AllocError>
     ensures { IfOk result (λ m. m ≡ memory_of (view value.now)) }
 {
-    let Some(memory) = described(value) else {
+    let Ok(memory) = described(value) else {
         return Ok(None);
     };
     let octets = filled_octets(alloc, memory.size, memory.fill)?;
@@ -90,18 +155,23 @@ fn filled_octets(alloc: Global, size: usize, fill: u8) -> Result<Octets, AllocEr
     Ok(Octets::from_vec(vec![in alloc; fill; size]?))
 }
 
-// What a table says of a memory; `None` for another value.
-fn described(value: &Value) -> Option<Filled>
-    ensures { option_map (λ m. (m.id, replicate m.size m.fill)) result ≡ memory_of (view value.now) }
+// What a table says of a memory.
+fn described(value: &Value) -> Result<Filled, Wrong>
+    ensures value { option_map (λ m. (m.id, replicate m.size m.fill)) (result_ok result)
+        ≡ memory_of (view value.now) }
+    ensures least { IfOk result (λ m. 1 ≤ m.size) }
+    ensures greatest { IfOk result (λ m. m.size ≤ 1048576) }
 {
-    let table = value.as_table()?;
-    if !has_only(table, &["id", "size", "fill"]) {
-        return None;
+    let Some(table) = value.as_table() else {
+        return Err(Wrong::at("", Reason::NotTable));
+    };
+    if !has_only(table, &MEMORY_KEYS) {
+        return Err(Wrong::at("", Reason::Unknown));
     }
     let id = number(table, "id", 0, 255, None)?;
     let size = number(table, "size", 1, 1048576, None)?;
     let fill = number(table, "fill", 0, 255, Some(0))?;
-    Some(Filled {
+    Ok(Filled {
         id: id as u8,
         size: size as usize,
         fill: fill as u8,

@@ -1,17 +1,19 @@
 //! The settings read from the text of a configuration file.
 
-ghost use Rattle.std.specs.Prelude.{◌≡◌, ◌⊎◌, Some, IfSome, IfOk, IfErr, MatchResult, option_and_then};
+ghost use Rattle.std.specs.Prelude.{◌≡◌, ◌⊎◌, Some, IsSome, IfSome, IfOk, IfErr, OnErr, MatchResult, option_map, option_and_then};
+ghost use Rattle.std.specs.Result.{result_ok};
 ghost use Rattle.toml.specs.Errors.{IsBlank};
 ghost use Rattle.toml.specs.Parse.{parse_document};
 ghost use Rattle.toml.specs.View.{table_view};
 ghost use Rattle.lpt_events.specs.Configs.{IsConfig};
 ghost use Rattle.lpt_settings.specs.Settings.{config_of, settings_of, default_settings};
 
-use crate::keys::has_only;
-use crate::memories::memories;
+use crate::keys::{KEYS, has_only};
+use crate::memories::{judge_memories, memories};
 use crate::numbers::number;
-use lpt_memory::Memories;
+use crate::wrong::{Reason, Wrong};
 use lpt_events::Config;
+use lpt_memory::Memories;
 use lpt_text::ToolFault;
 use std::alloc::{AllocError, Global};
 use toml::Table;
@@ -21,7 +23,8 @@ use toml::Table;
 ///
 /// Errors: `Config` where the text isn't TOML, a key isn't known or is missing, a value has another
 /// type or is out of its range, the memories are too many or none or have an identifier twice, and
-/// where the reader of TOML wants memory; `Memory` where there is none for the memories.
+/// where the reader of TOML wants memory; `Memory` where there is none for the memories that a text
+/// describes which isn't refused for anything else.
 pub fn read_config(alloc: Global, text: &str) -> Result<(Config, Memories), ToolFault>
     // The text is a TOML document, and the settings are what its table means.
     ensures ok { IfOk result (λ s. option_and_then settings_of (parse_document text.now) ≡ Some s) }
@@ -30,6 +33,10 @@ pub fn read_config(alloc: Global, text: &str) -> Result<(Config, Memories), Tool
     // White space and comments alone give the defaults, if there is memory for them.
     ensures blank { IsBlank text.now
         → MatchResult result (λ s. s ≡ default_settings) (λ e. e ≡ ToolFault.Memory) }
+
+    // All of the text is judged before memory is taken for the memories.
+    ensures memory { IfErr result (λ e. e ≡ ToolFault.Memory
+        → IsSome (option_and_then settings_of (parse_document text.now))) }
 
     // No clause says when else it succeeds, since the reader of TOML may want memory.
     ensures fault { IfErr result (λ e. (e ≡ ToolFault.Config) ⊎ (e ≡ ToolFault.Memory)) }
@@ -44,25 +51,14 @@ pub fn read_config(alloc: Global, text: &str) -> Result<(Config, Memories), Tool
     }
 }
 
-// The settings that a table means; `None` where it is refused. The only error is want of memory.
+// The settings that a table means; `None` where it is refused. The only error is want of memory,
+// where it isn't.
 fn read_table(alloc: Global, table: &Table) -> Result<Option<(Config, Memories)>, AllocError>
     ensures value { IfOk result (λ s. s ≡ settings_of (table_view table.now)) }
     ensures ranges { IfOk result (λ s. IfSome s (λ x. IsConfig x.0)) }
+    ensures asked { OnErr result (IsSome (settings_of (table_view table.now))) }
 {
-    let known = [
-        "apid",
-        "source",
-        "part_size",
-        "timeout",
-        "receptions",
-        "outgoing",
-        "clock",
-        "memory",
-    ];
-    if !has_only(table, &known) {
-        return Ok(None);
-    }
-    let Some(config) = read_numbers(table) else {
+    let Ok(config) = judge(table) else {
         return Ok(None);
     };
     let Some(memories) = memories(alloc, table)? else {
@@ -71,10 +67,23 @@ fn read_table(alloc: Global, table: &Table) -> Result<Option<(Config, Memories)>
     Ok(Some((config, memories)))
 }
 
-// The configuration that the numbers of a table mean; `None` where one is refused.
-fn read_numbers(table: &Table) -> Option<Config>
-    ensures value { result ≡ config_of (table_view table.now) }
-    ensures ranges { IfSome result IsConfig }
+// Judges all of a table, and takes no memory: its configuration, or the first thing that is wrong.
+pub(crate) fn judge(table: &Table) -> Result<Config, Wrong>
+    ensures value { result_ok result ≡ option_map (λ s. s.0) (settings_of (table_view table.now)) }
+    ensures ranges { IfOk result IsConfig }
+{
+    if !has_only(table, &KEYS) {
+        return Err(Wrong::at("", Reason::Unknown));
+    }
+    let config = read_numbers(table)?;
+    judge_memories(table)?;
+    Ok(config)
+}
+
+// The configuration that the numbers of a table mean.
+fn read_numbers(table: &Table) -> Result<Config, Wrong>
+    ensures value { result_ok result ≡ config_of (table_view table.now) }
+    ensures ranges { IfOk result IsConfig }
 {
     let apid = number(table, "apid", 0, 2046, Some(100))?;
     let source = number(table, "source", 0, 65535, Some(1))?;
@@ -83,7 +92,7 @@ fn read_numbers(table: &Table) -> Option<Config>
     let receptions = number(table, "receptions", 1, 64, Some(8))?;
     let outgoing = number(table, "outgoing", 1, 64, Some(8))?;
     let clock = number(table, "clock", 0, u32::MAX, Some(0))?;
-    Some(Config {
+    Ok(Config {
         apid: apid as u16,
         source: source as u16,
         part_size,

@@ -1,2 +1,4 @@
+pub mod Hexes
+pub mod LoadLemmas
 pub mod Pieces
 pub mod Spellings

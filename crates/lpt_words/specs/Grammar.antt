@@ -1,8 +1,10 @@
 -- What each line of a script asks for.
-use Rattle.std.specs.Prelude.{◌≡◌, ℕ, ◌==◌, Bool, false, if◌then◌else◌, nat_lt, List, [], ◌∷◌, length, ◌⊎◌, Option, Some, None, codes}
+use Rattle.std.specs.Prelude.{◌≡◌, ℕ, ◌==◌, Bool, false, not, is_some, if◌then◌else◌, nat_le, nat_lt, List, [], ◌∷◌, length, ◌⊎◌, Option, Some, None, codes, ⊤}
 use Rattle.std.specs.Option.{option_map, option_and_then}
 use Rattle.lpt_events.specs.declared.lane.Lane.{Lane}
 use Rattle.lpt_memory.specs.declared.request.Area.{Area}
+use Rattle.lpt_memory.specs.Fields.{◌>>=◌}
+use Rattle.lpt_memory.specs.Spellings.{write_fault}
 use Rattle.lpt_words.specs.declared.grammar.Command.{Command}
 use Rattle.lpt_words.specs.declared.grammar.Command.TheVariants as command
 use Rattle.lpt_words.specs.declared.grammar.Reading.{Reading}
@@ -16,11 +18,6 @@ use Rattle.lpt_words.specs.Numbers.{is_word, octets_of}
 use Rattle.lpt_words.specs.Words.{words}
 
 -- ---- the words after the first, a definition a kind of line
-
--- the second step, where the first gave a value
-infixl 10 ◌>>=◌
-abbrev pub ◌>>=◌ : {A B : Type 0} → Option A → (A → Option B) → Option B
-o >>= f = option_and_then f o
 
 -- `open DIRECTION ID HEX`
 abbrev pub open_of : List (List ℕ) → Option Command
@@ -79,6 +76,16 @@ load_with i s f m areas = do
 abbrev pub load_of : List (List ℕ) → Option Load
 load_of (i ∷ s ∷ f ∷ m ∷ ws) = areas_of ws >>= load_with i s f m
 load_of _ = None
+
+-- whether there are areas, and a load of them can be written
+abbrev pub can_be_loaded : Option (List Area) → Bool
+can_be_loaded None = false
+can_be_loaded (Some areas) = not (is_some (write_fault areas))
+
+-- whether there is a number, and it can be the sequence count of a packet
+abbrev pub counts : Option ℕ → Bool
+counts None = false
+counts (Some n) = nat_le n 16383
 
 -- `LANE N`
 abbrev pub lane_and_packet_of : List (List ℕ) → Option (Lane × ℕ)
@@ -168,6 +175,12 @@ arguments_of key.Plain ws = plain_of ws
 arguments_of key.Load ws = option_map command.Load (load_of ws)
 
 -- ---- lines
+
+-- a line asks for something
+abbrev pub IsAsked : Reading → Type 0
+IsAsked (Asks c) = ⊤
+IsAsked Skipped = ⊥
+IsAsked Unreadable = ⊥
 
 -- the first word is `open`, `plain` or `load`: a line that takes memory
 abbrev pub TakesMemory : List (List ℕ) → Type 0

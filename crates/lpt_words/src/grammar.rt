@@ -1,8 +1,8 @@
 //! What each line of a script asks for.
 
-ghost use Rattle.std.specs.Prelude.{◌≡◌, ◌⊎◌, IfOk, OnErr};
+ghost use Rattle.std.specs.Prelude.{◌≡◌, ◌⊎◌, IsSome, IfOk, OnErr};
 ghost use Rattle.lpt_words.specs.Words.{words};
-ghost use Rattle.lpt_words.specs.Grammar.{lane_and_packet_of, open_of, send_of, plain_of, take_of, deliver_of, pass_of, finish_of, tick_of, expire_of, show_of, show_memory_of, show_whole_of, arguments_of, is_comment, words_reading, reading_of, TakesMemory};
+ghost use Rattle.lpt_words.specs.Grammar.{lane_and_packet_of, open_of, send_of, plain_of, take_of, deliver_of, pass_of, finish_of, tick_of, expire_of, show_of, show_memory_of, show_whole_of, arguments_of, is_comment, words_reading, reading_of, IsAsked, TakesMemory};
 
 use crate::load::{Load, read_load};
 use crate::names::{
@@ -11,8 +11,7 @@ use crate::names::{
 };
 use crate::numbers::read_hex;
 use crate::words::{LONGEST_LINE, split_word};
-use lpt_events::Lane;
-use lpt_events::Side;
+use lpt_events::{Lane, Side};
 use lpt_packet::{Direction, Name, Octets};
 use lpt_pus::AckFlags;
 use std::alloc::{AllocError, Global};
@@ -71,12 +70,13 @@ pub enum Reading {
 /// N is one of at most ten digits, and HEX is as `read_hex` reads it. A load has at least one pair
 /// of ADDR and HEX, and is unreadable where it can't be written (`Load::new`).
 /// Nothing may follow the last word.
-/// Errors: want of memory, only at a line whose first word is `open`, `plain` or `load`.
+/// Errors: want of memory, only at a line that asks for an `open`, a `plain` or a `load`.
 #[tactic(auto, unfolding(crate::specs::Grammar::reading_of))]
 pub fn read_line(alloc: Global, line: &[u8]) -> Result<Reading, AllocError>
     ensures says { IfOk result (λ r. r ≡ reading_of line.now) }
 
-    // Only the octets of a message, a request or a load take memory.
+    // Only the octets of a message, a request or a load take memory, once all else is judged.
+    ensures asked { OnErr result (IsAsked (reading_of line.now)) }
     ensures memory { OnErr result (TakesMemory (words line.now)) }
 {
     if line.len() > LONGEST_LINE {
@@ -111,6 +111,7 @@ fn read_arguments(
     rest: &[u8],
 ) -> Result<Option<Command>, AllocError>
     ensures says { IfOk result (λ r. r ≡ arguments_of keyword (words rest.now)) }
+    ensures asked { OnErr result (IsSome (arguments_of keyword (words rest.now))) }
     ensures memory { OnErr result ((keyword ≡ Keyword.Open) ⊎ (keyword ≡ Keyword.Plain)
         ⊎ (keyword ≡ Keyword.Load)) }
 {
@@ -131,7 +132,8 @@ fn read_arguments(
 
 // The words after `open`.
 fn read_open(alloc: Global, rest: &[u8]) -> Result<Option<Command>, AllocError>
-    ensures { IfOk result (λ r. r ≡ open_of (words rest.now)) }
+    ensures says { IfOk result (λ r. r ≡ open_of (words rest.now)) }
+    ensures asked { OnErr result (IsSome (open_of (words rest.now))) }
 {
     let Some((direction, rest)) = split_word(rest) else {
         return Ok(None);
@@ -175,7 +177,8 @@ fn read_send(rest: &[u8]) -> Option<Command>
 
 // The words after `plain`.
 fn read_plain(alloc: Global, rest: &[u8]) -> Result<Option<Command>, AllocError>
-    ensures { IfOk result (λ r. r ≡ plain_of (words rest.now)) }
+    ensures says { IfOk result (λ r. r ≡ plain_of (words rest.now)) }
+    ensures asked { OnErr result (IsSome (plain_of (words rest.now))) }
 {
     let Some((flags, rest)) = split_word(rest) else {
         return Ok(None);

@@ -1,11 +1,12 @@
 //! Lines that ask for a load.
 
-ghost use Rattle.std.specs.Prelude.{◌≡◌, option_map, IfOk};
-ghost use Rattle.lpt_words.specs.Grammar.{area_of, areas_of, load_of, load_with};
+ghost use Rattle.std.specs.Prelude.{◌≡◌, ◌+◌, ◌≤◌, length, is_some, option_map, option_and_then, IsSome, IfOk, IfSome, OnErr};
+ghost use Rattle.lpt_words.specs.Grammar.{area_of, areas_of, load_of, load_with, can_be_loaded, counts};
+ghost use Rattle.lpt_words.specs.Names.{u16_of};
 ghost use Rattle.lpt_words.specs.Words.{words};
 
 use crate::names::{read_flags, read_u8, read_u16, read_u32};
-use crate::numbers::read_hex;
+use crate::numbers::{octets_spelled, read_hex};
 use crate::words::split_word;
 use lpt_memory::{Area, load_fault, write_load};
 use lpt_packet::{Name, Octets};
@@ -15,6 +16,15 @@ use std::marker::Model;
 
 /// The greatest sequence count of a packet.
 const LAST_COUNT: u16 = 16383;
+
+/// The most octets that the areas of a load have in its packet: all but 15 of the longest one.
+const ROOM: usize = 65_527;
+
+/// The octets that an area has in the packet besides its own.
+const AREA_HEADER: usize = 8;
+
+/// The most areas of a load.
+const MOST_AREAS: u16 = 255;
 
 /// A load that a line asks for: a message of ground's that loads areas into a memory. It keeps in its
 /// type that it can be written.
@@ -123,9 +133,11 @@ impl Eq for Load {
     ghost laws = { same_load_equiv };
 }
 
-// The words after `load`. The only error is want of memory.
+// The words after `load`. The only error is want of memory, where they are a load.
+#[tactic(auto, using(crate::proofs::Hexes::none_of))]
 pub(crate) fn read_load(alloc: Global, rest: &[u8]) -> Result<Option<Load>, AllocError>
-    ensures { IfOk result (λ r. r ≡ load_of (words rest.now)) }
+    ensures says { IfOk result (λ r. r ≡ load_of (words rest.now)) }
+    ensures asked { OnErr result (IsSome (load_of (words rest.now))) }
 {
     let Some((id, rest)) = split_word(rest) else {
         return Ok(None);
@@ -139,10 +151,70 @@ pub(crate) fn read_load(alloc: Global, rest: &[u8]) -> Result<Option<Load>, Allo
     let Some((memory, rest)) = split_word(rest) else {
         return Ok(None);
     };
+    // All of the line is judged before memory is taken for its areas.
+    if !is_load(id, count, flags, memory, rest) {
+        return Ok(None);
+    }
     let Some(areas) = read_areas(alloc, rest)? else {
         return Ok(None);
     };
     Ok(load_with(id, count, flags, memory, areas))
+}
+
+// Whether these words, with the pairs of words in `areas`, are a load.
+#[tactic(auto, using(crate::proofs::LoadLemmas::is_load_parts))]
+fn is_load(id: &[u8], count: &[u8], flags: &[u8], memory: &[u8], areas: &[u8]) -> bool
+    ensures { result ≡ is_some (option_and_then
+        (load_with id.now count.now flags.now memory.now) (areas_of (words areas.now))) }
+{
+    read_u16(id).is_some()
+        && read_flags(flags).is_some()
+        && read_u8(memory).is_some()
+        && is_count(count)
+        && are_areas(areas)
+}
+
+// Whether a word is the sequence count of a packet.
+fn is_count(word: &[u8]) -> bool
+    ensures { result ≡ counts (u16_of word.now) }
+{
+    match read_u16(word) {
+        Some(count) => count <= LAST_COUNT,
+        None => false,
+    }
+}
+
+// Whether pairs of words are areas that a load can have.
+fn are_areas(line: &[u8]) -> bool
+    ensures { result ≡ can_be_loaded (areas_of (words line.now)) }
+{
+    let mut room = ROOM;
+    let mut left = MOST_AREAS;
+    let mut rest = line;
+    while let Some((address, more)) = split_word(rest) {
+        let Some((octets, more)) = split_word(more) else {
+            return false;
+        };
+        let Some(len) = area_len(address, octets) else {
+            return false;
+        };
+        if len == 0 || left == 0 || room < AREA_HEADER + len {
+            return false;
+        }
+        room -= AREA_HEADER + len;
+        left -= 1;
+        rest = more;
+    }
+    left < MOST_AREAS
+}
+
+// How many octets the area of an address and of octets has.
+fn area_len(address: &[u8], octets: &[u8]) -> Option<usize>
+    ensures len { result ≡ option_map (λ a. length a.octets) (area_of address.now octets.now) }
+    ensures bound { IfSome result (λ n. n + n ≤ length octets.now) }
+{
+    let _address = read_u32(address)?;
+    octets_spelled(octets)
 }
 
 // The load of these words and areas, where it can be written.

@@ -4,8 +4,7 @@ ghost use Rattle.std.specs.Prelude.{◌≡◌};
 ghost use Rattle.lpt_words.specs.Names.{count_of, direction_of, flags_of, keyword_of, lane_of, node_of, packet_number_of, u8_of, u16_of, u32_of};
 
 use crate::numbers::read_number;
-use lpt_events::Lane;
-use lpt_events::Side;
+use lpt_events::{Lane, Side};
 use lpt_packet::Direction;
 use lpt_pus::AckFlags;
 

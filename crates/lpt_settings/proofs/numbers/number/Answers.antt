@@ -14,4 +14,4 @@ pub returns-in-None-clause-value : goal.returns-in-None-clause-value
 returns-in-None-clause-value c =
     let entries = c.args.table.now.entries in
     let found = table_get c.get.result c.args.key.now entries c.get.ensures.value in
-    rw (← rw c.in-None.is at found) refl
+    c.or_missing.ensures ∙ rw (← rw c.in-None.is at found) refl

@@ -1,0 +1,9 @@
+use Rattle.std.proofs.Common.{◌≤◌, length}
+use Rattle.lpt_settings.proofs.place.without_blanks.Given as goal
+
+-- only blanks are passed
+abbrev pub invariant-loop-rest : goal.invariant-loop-rest
+invariant-loop-rest l = length l.rest ≤ length l.line
+
+abbrev pub decreases-loop-rest : goal.decreases-loop-rest
+decreases-loop-rest l = length l.rest

@@ -1,0 +1,106 @@
+//! What is told of a configuration that is refused.
+
+ghost use Rattle.std.specs.Prelude.{◌≡◌, not, is_some, option_and_then, IfOk};
+ghost use Rattle.toml.specs.Parse.{parse_document};
+ghost use Rattle.lpt_settings.specs.Settings.{settings_of};
+
+use crate::keys::{KEYS, MEMORY_KEYS, unknown_key};
+use crate::place::{line_at, line_of};
+use crate::settings::judge;
+use crate::wrong::{Reason, Wrong};
+use std::alloc::{AllocError, Global};
+use std::fmt;
+use toml::Table;
+
+/// What is wrong with a configuration file, where, and why.
+///
+/// As a text it names the place and the reason, as in `apid: not from 0 to 2046`,
+/// `memory 2: size: not an integer` with the second memory, and `not TOML`.
+#[derive(Debug, Drop)]
+pub struct Complaint {
+    line: Option<usize>,
+    place: String,
+    reason: Reason,
+}
+
+impl Complaint {
+    /// The line, counted from 1. `None` where no line begins with the key, as where escapes spell it.
+    pub fn line(&self) -> Option<usize> {
+        self.line
+    }
+
+    /// Why the configuration is refused.
+    pub fn reason(&self) -> Reason {
+        self.reason
+    }
+}
+
+impl fmt::Display for Complaint {
+    fn fmt<W: fmt::Write>(&self, f: &mut fmt::Formatter<W>) -> fmt::Result {
+        f.write_str(self.place.as_str())?;
+        let reason = self.reason;
+        write!(f, "{reason}")
+    }
+}
+
+/// The first thing for which `read_config` refuses a text; `None` where it means settings.
+///
+/// The only error is want of memory.
+pub fn why_refused(alloc: Global, text: &str) -> Result<Option<Complaint>, AllocError>
+    // There is one exactly where the text isn't a TOML document, or its table means no settings.
+    ensures found { IfOk result (λ c. not (is_some c)
+        ≡ is_some (option_and_then settings_of (parse_document text.now))) }
+{
+    match toml::table_from_str(alloc, text) {
+        Ok(table) => match judge(&table) {
+            Ok(_) => Ok(None),
+            Err(wrong) => Ok(Some(told(alloc, text, &table, wrong)?)),
+        },
+        Err(error) => {
+            let Some(span) = error.span() else {
+                return Err(AllocError);
+            };
+            Ok(Some(Complaint {
+                line: Some(line_at(text, span.start)),
+                place: String::new(alloc),
+                reason: Reason::NotToml,
+            }))
+        }
+    }
+}
+
+// The same with its place in the text.
+fn told(alloc: Global, text: &str, table: &Table, wrong: Wrong) -> Result<Complaint, AllocError> {
+    let key = match wrong.reason {
+        Reason::Unknown => unknown(table, wrong.memory).unwrap_or(""),
+        _ => wrong.key,
+    };
+    Ok(Complaint {
+        line: line_of(text, wrong.memory, key),
+        place: print_place(alloc, wrong.memory, key)?,
+        reason: wrong.reason,
+    })
+}
+
+// The key that there isn't, in the table of the memory of this place, or at the top.
+fn unknown(table: &Table, memory: Option<usize>) -> Option<&str> {
+    let Some(place) = memory else {
+        return unknown_key(table, &KEYS);
+    };
+    let value = table.get("memory")?.as_array()?.get(place)?;
+    unknown_key(value.as_table()?, &MEMORY_KEYS)
+}
+
+// The memory and the key, where there are any.
+fn print_place(alloc: Global, memory: Option<usize>, key: &str) -> Result<String, AllocError> {
+    let mut text = String::new(alloc);
+    if let Some(place) = memory {
+        let number = place.saturating_add(1);
+        text.push_str(format!(in alloc; "memory {number}: ")?.as_str())?;
+    }
+    if !key.is_empty() {
+        text.push_str(key)?;
+        text.push_str(": ")?;
+    }
+    Ok(text)
+}

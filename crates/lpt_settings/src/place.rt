@@ -1,0 +1,90 @@
+//! Where something stands in the text of a configuration file, as its lines begin.
+
+ghost use Rattle.std.specs.Prelude.{◌≤◌, length};
+
+// The line of the octet of this place, counted from 1.
+pub(crate) fn line_at(text: &str, place: usize) -> usize {
+    let before = text.as_bytes().iter().take(place);
+    before
+        .filter(|octet| **octet == b'\n')
+        .count()
+        .saturating_add(1)
+}
+
+// The line of a key, counted from 1: at the top, or in the memory of this place.
+pub(crate) fn line_of(text: &str, memory: Option<usize>, key: &str) -> Option<usize> {
+    match memory {
+        None => line_at_top(text, key.as_bytes()),
+        Some(place) => line_in_memory(text, place, key.as_bytes()),
+    }
+}
+
+// The line of a key at the top: one before the first header, or the first header that names it.
+fn line_at_top(text: &str, key: &[u8]) -> Option<usize> {
+    let mut at_top = true;
+    for (index, line) in text.lines().enumerate() {
+        let line = line.as_bytes();
+        let header = is_header(line);
+        at_top = at_top && !header;
+        if (at_top || header) && first_key(line) == key {
+            return Some(index.saturating_add(1));
+        }
+    }
+    None
+}
+
+// The line of a key of the memory of this place, or else the line with which that memory begins.
+fn line_in_memory(text: &str, place: usize, key: &[u8]) -> Option<usize> {
+    let mut begun = 0usize;
+    let mut found = None;
+    for (index, line) in text.lines().enumerate() {
+        let line = line.as_bytes();
+        let number = index.saturating_add(1);
+        let is_memory = first_key(line) == b"memory".as_slice();
+        if is_header(line) {
+            if found.is_some() {
+                return found;
+            }
+            if is_memory && begun == place {
+                found = Some(number);
+            }
+            begun = begun.saturating_add(usize::from(is_memory));
+        } else if found.is_some() && first_key(line) == key {
+            return Some(number);
+        } else if begun == 0 && is_memory {
+            return Some(number);
+        }
+    }
+    found
+}
+
+// Whether a line is the header of a table.
+fn is_header(line: &[u8]) -> bool {
+    matches!(without_blanks(line), [b'[', ..])
+}
+
+// The key that a line begins with, without the blanks, brackets and quotes before it.
+fn first_key(line: &[u8]) -> &[u8] {
+    let mut rest = without_blanks(line);
+    while let [b'[' | b'"' | b'\'', more @ ..] = rest {
+        rest = without_blanks(more);
+    }
+    match rest.iter().position(|octet| !is_key_octet(*octet)) {
+        Some(end) => &rest[..end],
+        None => rest,
+    }
+}
+
+fn without_blanks(line: &[u8]) -> &[u8]
+    ensures { length result.now ≤ length line.now }
+{
+    let mut rest = line;
+    while let [b' ' | b'\t', more @ ..] = rest {
+        rest = more;
+    }
+    rest
+}
+
+fn is_key_octet(octet: u8) -> bool {
+    octet.is_ascii_alphanumeric() || octet == b'_' || octet == b'-'
+}
