@@ -33,6 +33,3 @@ pub use node::Node;
 pub use lpt_events::{Config, Outcome, Side, Why};
 pub use parsed::Parsed;
 pub use telemetry::TelemetryKind;
-
-#[cfg(test)]
-mod tests;

@@ -11,10 +11,3 @@ pub use lpt_events::{Answer, Entry, Event, Opening, Puts, Release, Reply};
 pub use lpt_events::{ConfigFault, Refused, RunEnd, StepFault};
 pub use lpt_journal::laws;
 pub use world::World;
-
-#[cfg(test)]
-mod asking;
-#[cfg(test)]
-mod growths;
-#[cfg(test)]
-mod tests;

@@ -3,13 +3,13 @@
 //! `rt try --test --fail-alloc N` has the Nth growth of each test fail. A test makes as many growths
 //! of its own beforehand as its name says, so that each meets another growth of the path.
 
-use super::*;
-use crate::asking::*;
-use crate::tests::PACKET_0;
+use crate::packets::FIRST_UP;
+use crate::scenes::*;
 use lpt_memory::Memories;
 use lpt_packet::Direction::Up;
 use lpt_packet::Octets;
-use std::alloc::{AllocError, Global};
+use lpt_world::{ConfigFault, Refused, Reply, StepFault, World};
+use std::alloc::Global;
 use std::process::Abort;
 use std::test::Fail;
 
@@ -19,62 +19,79 @@ fn once(shown: bool, messages: &[Message]) -> &[Message] {
 }
 
 // Whether a world shows the first events of the first path, so many, and nothing else.
-fn stands(alloc: Global, world: &World, done: usize) -> Result<bool, AllocError> {
+fn stands(world: &World, done: usize) -> bool {
     let rows = first_path();
     let scene = Scene {
         config: CONFIG,
         rows: rows.get(..done).unwrap_or(&rows),
         opened: once(done > 0, &[(0, Up, 7, 20)]),
         released: once(done > 9, &[(9, Up, 7, 20)]),
-        packets: &[(0, (done > 1).then_some(PACKET_0.as_slice()))],
+        packets: &[(0, (done > 1).then_some(FIRST_UP.as_slice()))],
     };
-    shows(alloc, world, &scene)
+    shows(world, &scene)
 }
 
 /// The identifiers and the octets of memories.
 type Contents = Vec<(u8, Octets)>;
 
-// A world of the first memories. Where want of memory refuses it, it is made of the second.
+// A world of the first memories, and whether a growth failed. Where want of memory refuses it, it is
+// made of the second.
 fn make(
     rt: &impl Abort,
     alloc: Global,
-    (first, second): (Contents, Contents),
-    failed: &mut bool,
-) -> Result<World, Fail> {
-    match World::new(alloc, CONFIG, Memories::new(first)?) {
-        Ok(world) => Ok(world),
+    first: Contents,
+    second: Contents,
+) -> Result<(World, bool), Fail> {
+    let memories = Memories::new(first)?;
+    match World::new(alloc, CONFIG, memories) {
+        Ok(world) => Ok((world, false)),
         Err(fault) => {
-            *failed = true;
-            assert_eq!(rt; fault, ConfigFault::Memory);
-            Ok(World::new(alloc, CONFIG, Memories::new(second)?)?)
+            assert!(rt; fault == ConfigFault::Memory);
+            make_again(alloc, second)
         }
     }
 }
 
-// Steps a world through a row of the first path, and gives whether its answer is right. Where want
-// of memory refuses the event, it has come back and the world is as it was, and it is accepted at
-// the second try. Gives nothing where a growth of the test's own fails.
-fn comes(
-    rt: &impl Abort,
-    alloc: Global,
-    world: &mut World,
-    done: usize,
-    row: &Row,
-    failed: &mut bool,
-) -> Result<Option<bool>, Fail> {
-    let Ok(first) = event(alloc, row.asked) else {
-        return Ok(None);
+fn make_again(alloc: Global, second: Contents) -> Result<(World, bool), Fail> {
+    let memories = Memories::new(second)?;
+    Ok((World::new(alloc, CONFIG, memories)?, true))
+}
+
+// What came of a row of the first path.
+#[derive(Clone, Copy, PartialEq, Eq)]
+enum Came {
+    /// A growth of the test's own failed.
+    Nothing,
+    /// The event was answered, and whether the answer was right.
+    Answered(bool),
+    /// A growth failed. The event came back and the world was as it was; the event was accepted at
+    /// the second try, and whether all that was right.
+    AtTheSecondTry(bool),
+}
+
+// Steps a world through a row of the first path.
+fn comes(alloc: Global, world: &mut World, done: usize, row: &Row) -> Came {
+    let Ok(asked) = event(alloc, row.asked) else {
+        return Came::Nothing;
     };
-    match world.step(row.seat, first) {
-        Ok(reply) => Ok(Some(row.want == Ok(reply.answer))),
+    match world.step(row.seat, asked) {
+        Ok(reply) => Came::Answered(row.want == Ok(reply.answer)),
         Err(refused) => {
-            *failed = true;
-            assert!(rt; refused.fault == StepFault::Memory && refused.at == done as u64);
-            assert!(rt; refused.event == event(alloc, row.asked)?);
-            assert!(rt; stands(alloc, world, done)?);
-            let reply = world.step(row.seat, refused.event)?;
-            Ok(Some(row.want == Ok(reply.answer)))
+            let right = refused.fault == StepFault::Memory
+                && refused.at == done as u64
+                && is_asked(&refused.event, row.asked)
+                && stands(world, done);
+            let again = world.step(row.seat, refused.event);
+            Came::AtTheSecondTry(right && answers(again, row))
         }
+    }
+}
+
+// Whether an event was accepted with the answer of its row.
+fn answers(came: Result<Reply, Refused>, row: &Row) -> bool {
+    match came {
+        Ok(reply) => row.want == Ok(reply.answer),
+        Err(_) => false,
     }
 }
 
@@ -89,19 +106,24 @@ fn walk(rt: &impl Abort, alloc: Global, own: usize) -> Result<bool, Fail> {
     let (Ok(first), Ok(second)) = (zeros(alloc, 256), zeros(alloc, 256)) else {
         return Ok(true);
     };
-    let mut failed = false;
-    let mut world = make(rt, alloc, (first, second), &mut failed)?;
+    let (mut world, failed) = make(rt, alloc, first, second)?;
+    Ok(walks(rt, alloc, &mut world, failed))
+}
+
+fn walks(rt: &impl Abort, alloc: Global, world: &mut World, failed: bool) -> bool {
+    let mut failed = failed;
     for (done, row) in first_path().iter().enumerate() {
-        match comes(rt, alloc, &mut world, done, row, &mut failed)? {
-            Some(right) => assert!(rt; right, "at row {done}"),
-            None => return Ok(true),
+        match comes(alloc, world, done, row) {
+            Came::Nothing => return true,
+            Came::Answered(right) => assert!(rt; right, "at row {done}"),
+            Came::AtTheSecondTry(right) => {
+                assert!(rt; right, "at row {done}");
+                failed = true;
+            }
         }
     }
-    match stands(alloc, &world, 10) {
-        Ok(right) => assert!(rt; right),
-        Err(_) => return Ok(true),
-    }
-    Ok(failed)
+    assert!(rt; stands(world, 10));
+    failed
 }
 
 // The walk, whichever growth fails.

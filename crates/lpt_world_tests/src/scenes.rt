@@ -1,11 +1,11 @@
 //! What the tests ask of worlds, row by row, and how they look at what comes.
 
-use crate::*;
 use lpt_link::Lane::{self, S1};
 use lpt_memory::Memories;
 use lpt_node::{Config, Outcome};
 use lpt_packet::Direction::{self, Up};
 use lpt_packet::{Name, Octets};
+use lpt_world::{Answer, Entry, Event, Opening, Puts, Release, Reply, StepFault, World};
 use std::alloc::{AllocError, Global};
 use std::process::Abort;
 use std::test::Fail;
@@ -123,6 +123,31 @@ fn message(alloc: Global, octets: usize) -> Result<Octets, AllocError> {
     Ok(Octets::from_vec(items))
 }
 
+// Whether these octets are the message of so many.
+fn is_message(message: &Octets, octets: usize) -> bool {
+    for (place, octet) in message.as_slice().iter().enumerate() {
+        if usize::from(*octet) != place % 256 {
+            return false;
+        }
+    }
+    message.as_slice().len() == octets
+}
+
+/// Whether an event is the one that is asked for.
+pub(crate) fn is_asked(event: &Event, asked: Asked) -> bool {
+    match asked {
+        Asked::Open(direction, id, octets) => match event {
+            Event::Open(way, name, message) => {
+                *way == direction && *name == id && is_message(message, octets)
+            }
+            _ => false,
+        },
+        Asked::Send(direction, id, part) => *event == Event::Send(direction, id, part),
+        Asked::Take(lane, number) => *event == Event::Take(lane, number),
+        Asked::Deliver(lane) => *event == Event::Deliver(lane),
+    }
+}
+
 /// The identifier and the content of a memory 1 of so many octets of zero.
 pub(crate) fn zeros(alloc: Global, size: usize) -> Result<Vec<(u8, Octets)>, AllocError> {
     let mut contents = Vec::new(alloc);
@@ -135,37 +160,45 @@ pub(crate) fn memories(alloc: Global) -> Result<Memories, Fail> {
     Ok(Memories::new(zeros(alloc, 256)?)?)
 }
 
+/// A world in which nothing has happened, with a memory 1 of 256 octets of zero.
+pub(crate) fn new_world(alloc: Global, config: Config) -> Result<World, Fail> {
+    Ok(World::new(alloc, config, memories(alloc)?)?)
+}
+
 /// Plays the rows in a new world, and looks at what it shows.
 pub(crate) fn play(rt: &impl Abort, alloc: Global, scene: &Scene) -> Result<(), Fail> {
-    let mut world = World::new(alloc, scene.config, memories(alloc)?)?;
+    let mut world = new_world(alloc, scene.config)?;
+    plays(rt, alloc, &mut world, scene)
+}
+
+fn plays(rt: &impl Abort, alloc: Global, world: &mut World, scene: &Scene) -> Result<(), Fail> {
     for (number, row) in scene.rows.iter().enumerate() {
-        assert!(rt; comes(alloc, &mut world, row)?, "at row {number}");
+        let asked = event(alloc, row.asked)?;
+        assert!(rt; comes(world, row, asked), "at row {number}");
     }
-    assert!(rt; shows(alloc, &world, scene)?);
+    assert!(rt; shows(world, scene));
     Ok(())
 }
 
 // Whether a row is answered as it says. What is refused comes back, with the journal's length.
-fn comes(alloc: Global, world: &mut World, row: &Row) -> Result<bool, AllocError> {
+fn comes(world: &mut World, row: &Row, asked: Event) -> bool {
     let at = world.journal().len() as u64;
-    let event_asked = event(alloc, row.asked)?;
-    match world.step(row.seat, event_asked) {
-        Ok(reply) => Ok(row.want == Ok(reply.answer)),
+    match world.step(row.seat, asked) {
+        Ok(reply) => row.want == Ok(reply.answer),
         Err(refused) => {
-            let back = refused.event == event(alloc, row.asked)?;
-            Ok(row.want == Err(refused.fault) && refused.at == at && back)
+            row.want == Err(refused.fault)
+                && refused.at == at
+                && is_asked(&refused.event, row.asked)
         }
     }
 }
 
 /// Whether a world shows what the scene says: journal, openings, releases and packets.
-pub(crate) fn shows(alloc: Global, world: &World, scene: &Scene) -> Result<bool, AllocError> {
-    Ok(
-        has_packets(world, scene.packets)
-            && is_told(alloc, world, scene.rows)?
-            && has_opened(alloc, world, scene.opened)?
-            && has_released(alloc, world, scene.released)?,
-    )
+pub(crate) fn shows(world: &World, scene: &Scene) -> bool {
+    has_packets(world, scene.packets)
+        && is_told(world.journal(), scene.rows)
+        && has_opened(world.opened(), scene.opened)
+        && has_released(world.released(), scene.released)
 }
 
 // Whether these packets are there, or not there.
@@ -179,58 +212,48 @@ fn has_packets(world: &World, packets: &[(u64, Option<&[u8]>)]) -> bool {
 }
 
 // Whether the journal has the accepted rows, and nothing else.
-fn is_told(alloc: Global, world: &World, rows: &[Row]) -> Result<bool, AllocError> {
+fn is_told(journal: &[Entry], rows: &[Row]) -> bool {
     let mut place = 0;
     for row in rows {
         if let Ok(answer) = row.want {
-            match world.journal().get(place) {
-                Some(entry) if tells(alloc, entry, row, answer)? => place += 1,
-                _ => return Ok(false),
+            match journal.get(place) {
+                Some(entry) if tells(entry, row, answer) => place += 1,
+                _ => return false,
             }
         }
     }
-    Ok(world.journal().len() == place)
+    journal.len() == place
 }
 
 // Whether an entry has a row's seat, event and reply.
-fn tells(alloc: Global, entry: &Entry, row: &Row, answer: Answer) -> Result<bool, AllocError> {
+fn tells(entry: &Entry, row: &Row, answer: Answer) -> bool {
     let puts = match answer {
         Answer::Put(first) => Some(Puts { first, count: 1 }),
         _ => None,
     };
-    let reply = Reply { answer, puts };
-    Ok(entry.seat == row.seat && entry.reply == reply && entry.event == event(alloc, row.asked)?)
+    entry.seat == row.seat
+        && entry.reply == Reply { answer, puts }
+        && is_asked(&entry.event, row.asked)
 }
 
 // Whether these messages were opened, and no others.
-fn has_opened(alloc: Global, world: &World, wants: &[Message]) -> Result<bool, AllocError> {
-    for (opening, (place, direction, id, octets)) in world.opened().iter().zip(wants) {
+fn has_opened(opened: &[Opening], wants: &[Message]) -> bool {
+    for (opening, (place, direction, id, octets)) in opened.iter().zip(wants) {
         let of = (opening.place, opening.direction, opening.id);
-        if of != (*place, *direction, *id) || opening.message != message(alloc, *octets)? {
-            return Ok(false);
+        if of != (*place, *direction, *id) || !is_message(&opening.message, *octets) {
+            return false;
         }
     }
-    Ok(world.opened().len() == wants.len())
+    opened.len() == wants.len()
 }
 
 // Whether these messages were released, and no others.
-fn has_released(alloc: Global, world: &World, wants: &[Message]) -> Result<bool, AllocError> {
-    for (release, (place, direction, id, octets)) in world.released().iter().zip(wants) {
+fn has_released(released: &[Release], wants: &[Message]) -> bool {
+    for (release, (place, direction, id, octets)) in released.iter().zip(wants) {
         let of = (release.place, release.of);
-        if of != (*place, Some((*direction, *id))) || release.message != message(alloc, *octets)? {
-            return Ok(false);
+        if of != (*place, Some((*direction, *id))) || !is_message(&release.message, *octets) {
+            return false;
         }
     }
-    Ok(world.released().len() == wants.len())
-}
-
-/// Runs a new world through the events of the rows, and gives how many it did and why not more.
-pub(crate) fn run(alloc: Global, rows: &[Row]) -> Result<(u64, Option<StepFault>), Fail> {
-    let mut world = World::new(alloc, CONFIG, memories(alloc)?)?;
-    let mut events = Vec::new(alloc);
-    for row in rows {
-        events.push(event(alloc, row.asked)?)?;
-    }
-    let end = world.run(events.as_slice());
-    Ok((end.done, end.refused))
+    released.len() == wants.len()
 }

@@ -1,0 +1,28 @@
+//! Tests of nodes and worlds: worked rows, what no clause says, and growths of memory that fail.
+//!
+//! They stand in a crate of their own, so that the libraries are proved without them. A function that
+//! makes a node or a world makes one fallible call with it, its last; what else can fail is done
+//! before, or by a function that borrows it. Each way out of a function drops what it owns, which is
+//! proved each time.
+#![tactic(auto)]
+
+#[cfg(test)]
+mod counting;
+#[cfg(test)]
+mod growths;
+#[cfg(test)]
+mod packets;
+#[cfg(test)]
+mod paths;
+#[cfg(test)]
+mod readers;
+#[cfg(test)]
+mod receiving;
+#[cfg(test)]
+mod refusals;
+#[cfg(test)]
+mod scenes;
+#[cfg(test)]
+mod sending;
+#[cfg(test)]
+mod stations;

@@ -1,0 +1,127 @@
+//! What else is asked of worlds: their configuration and memories, copies of events, runs.
+
+use crate::scenes::*;
+use crate::stations::octets_of;
+use lpt_memory::{Memories, Shape, Ticket, prepare};
+use lpt_node::Config;
+use lpt_packet::Direction::Up;
+use lpt_packet::Octets;
+use lpt_world::{StepFault, World, laws};
+use std::alloc::{AllocError, Global};
+use std::process::Abort;
+use std::test::Fail;
+
+#[test]
+fn runs_events_up_to_the_first_that_is_refused(rt: HostRuntime) -> Result<(), Fail> {
+    let alloc = rt.alloc();
+    let whole = run(alloc, &first_path())?;
+    assert!(rt; whole == (10, None));
+    let rows = [opens(Up, 7, 20, 3), sends(Up, 8, 1, 0), sends(Up, 7, 1, 0)];
+    let front = run(alloc, &rows)?;
+    assert!(rt; front == (1, Some(StepFault::NotOpen)));
+    Ok(())
+}
+
+// Runs a new world through the events of the rows, and gives how many it did and why not more.
+fn run(alloc: Global, rows: &[Row]) -> Result<(u64, Option<StepFault>), Fail> {
+    let mut world = new_world(alloc, CONFIG)?;
+    runs(alloc, &mut world, rows)
+}
+
+fn runs(alloc: Global, world: &mut World, rows: &[Row]) -> Result<(u64, Option<StepFault>), Fail> {
+    let mut events = Vec::new(alloc);
+    for row in rows {
+        events.push(event(alloc, row.asked)?)?;
+    }
+    let end = world.run(events.as_slice());
+    Ok((end.done, end.refused))
+}
+
+#[test]
+fn knows_its_configuration(rt: HostRuntime) -> Result<(), Fail> {
+    let config = config_of_a_world(rt.alloc())?;
+    assert!(rt; config == CONFIG);
+    laws::headline();
+    Ok(())
+}
+
+fn config_of_a_world(alloc: Global) -> Result<Config, Fail> {
+    let world = new_world(alloc, CONFIG)?;
+    Ok(world.config())
+}
+
+#[test]
+fn memories_keep_their_first_content(rt: HostRuntime) -> Result<(), Fail> {
+    let alloc = rt.alloc();
+    let memories = Memories::new(two_contents(alloc)?)?;
+    let mut world = World::new(alloc, CONFIG, memories)?;
+    keeps(&rt, alloc, &mut world)
+}
+
+// The identifiers and contents of memories 7 and 3, of three octets each.
+fn two_contents(alloc: Global) -> Result<Vec<(u8, Octets)>, AllocError> {
+    let mut contents = Vec::new(alloc);
+    contents.push((7, octets_of(alloc, &[1, 2, 3])?))?;
+    contents.push((3, octets_of(alloc, &[4, 5, 6])?))?;
+    Ok(contents)
+}
+
+fn keeps(rt: &impl Abort, alloc: Global, world: &mut World) -> Result<(), Fail> {
+    let opening = event(alloc, Asked::Open(Up, 7, 20))?;
+    assert!(rt; world.step(0, opening).is_ok());
+    for (id, octets) in [(7, Some([1, 2, 3])), (3, Some([4, 5, 6])), (1, None)] {
+        let octets = octets.as_ref().map(|octets| octets.as_slice());
+        assert!(rt;
+            world.memory(id) == octets && world.first(id) == octets,
+            "memory {id}"
+        );
+    }
+    Ok(())
+}
+
+#[test]
+fn requests_are_prepared_for_its_shape(rt: HostRuntime) -> Result<(), Fail> {
+    let (same, other) = (is_prepared(rt.alloc(), 256)?, is_prepared(rt.alloc(), 512)?);
+    assert!(rt; same && !other);
+    Ok(())
+}
+
+// Whether a message that is prepared for a world's shape is prepared for a memory of so many octets.
+fn is_prepared(alloc: Global, size: usize) -> Result<bool, Fail> {
+    let shape = shape_of_a_world(alloc)?;
+    let memories = Memories::new(zeros(alloc, size)?)?;
+    is_prepared_for(alloc, &shape, &memories)
+}
+
+fn shape_of_a_world(alloc: Global) -> Result<Shape, Fail> {
+    let world = new_world(alloc, CONFIG)?;
+    shape_of(alloc, &world)
+}
+
+fn shape_of(alloc: Global, world: &World) -> Result<Shape, Fail> {
+    Ok(world.shape(alloc)?)
+}
+
+// Whether an empty message that is prepared for this shape is prepared for these memories.
+fn is_prepared_for(alloc: Global, shape: &Shape, memories: &Memories) -> Result<bool, Fail> {
+    let message = Octets::from_vec(Vec::new(alloc));
+    match prepare(alloc, shape, 100, Ticket::new(2, 5, message)) {
+        Ok(prepared) => {
+            let is_of = prepared.is_of(2, 5, &[], 100, memories);
+            prepared.abandon();
+            Ok(is_of)
+        }
+        Err(ticket) => {
+            ticket.abandon();
+            Err("no memory".into())
+        }
+    }
+}
+
+#[test]
+fn copies_events(rt: HostRuntime) -> Result<(), Fail> {
+    let opening = event(rt.alloc(), Asked::Open(Up, 7, 20))?;
+    let copy = opening.copy()?;
+    assert!(rt; copy == opening && is_asked(&copy, Asked::Open(Up, 7, 20)));
+    Ok(())
+}

@@ -1,0 +1,102 @@
+//! What the tests ask of nodes, and how they look at what comes.
+
+ghost use Rattle.std.specs.Prelude.{◌≡◌};
+ghost use Rattle.lpt_part.specs.Splitting.{IsPartSize};
+
+use lpt_node::{Accepted, Config, Node, Parsed, Side};
+use lpt_packet::{Name, Octets};
+use std::alloc::{AllocError, Global};
+use std::process::Abort;
+use std::test::Fail;
+
+/// The configuration of both ends.
+pub(crate) const PASS: Config = Config {
+    apid: 100,
+    source: 1,
+    part_size: 8,
+    timeout: 10,
+    receptions: 2,
+    outgoing: 2,
+    clock: 9,
+};
+
+/// One end, and for what its packets are read.
+#[derive(Drop)]
+pub(crate) struct Station {
+    pub(crate) node: Node,
+    side: Side,
+    config: Config,
+    ghost side_is: { node.side ≡ side },
+    ghost config_is: { node.config ≡ config },
+    ghost part_size: { IsPartSize config.part_size },
+}
+
+impl Station {
+    /// A new end. The configuration has to be in its ranges.
+    pub(crate) fn new(
+        rt: &impl Abort,
+        alloc: Global,
+        side: Side,
+        config: Config,
+    ) -> Result<Station, AllocError> {
+        assert!(rt; config.apid <= 2046 && config.part_size >= 4 && config.part_size <= 1024);
+        assert!(rt; config.timeout >= 1 && config.timeout <= 65535);
+        assert!(rt; config.receptions >= 1 && config.receptions <= 64);
+        assert!(rt; config.outgoing >= 1 && config.outgoing <= 64);
+        Ok(Station {
+            node: Node::new(alloc, side, &config)?,
+            side,
+            config,
+        })
+    }
+
+    /// Takes a message to be sent, and gives the fault's number, or 0 where it is taken.
+    pub(crate) fn opens(&mut self, id: Name, message: Octets) -> u16 {
+        match self.node.open(id, message) {
+            Ok(()) => 0,
+            Err((fault, _)) => fault.code(),
+        }
+    }
+
+    /// What it answers to octets that are delivered to it.
+    pub(crate) fn hears(&mut self, octets: Octets) -> Result<Accepted, AllocError> {
+        let Config {
+            apid,
+            part_size,
+            ..
+        } = self.config;
+        let parsed = Parsed::read(octets, self.side, apid, part_size);
+        self.node.accept(&parsed)
+    }
+}
+
+/// The octets, as a message or a packet has them.
+pub(crate) fn octets_of(alloc: Global, octets: &[u8]) -> Result<Octets, AllocError> {
+    Ok(Octets::from_vec(octets.to_vec(alloc)?))
+}
+
+/// Whether there are octets, and they are these.
+pub(crate) fn is(octets: &Option<Octets>, wanted: &[u8]) -> bool {
+    octets.as_ref().is_some_and(|it| it.as_slice() == wanted)
+}
+
+/// The packet of a part of a message that a new node sends first.
+pub(crate) fn packet_of(
+    alloc: Global,
+    side: Side,
+    id: Name,
+    message: &[u8],
+    part: u16,
+) -> Result<Octets, Fail> {
+    let message = octets_of(alloc, message)?;
+    let mut node = Node::new(alloc, side, &PASS)?;
+    first_packet(&mut node, id, message, part)
+}
+
+// The packet of a part of a message that is opened.
+fn first_packet(node: &mut Node, id: Name, message: Octets, part: u16) -> Result<Octets, Fail> {
+    match node.open(id, message) {
+        Ok(()) => Ok(node.send_part(id, part)?),
+        Err(_) => Err("not opened".into()),
+    }
+}
