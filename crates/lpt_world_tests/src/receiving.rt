@@ -4,7 +4,7 @@ use crate::packets::*;
 use crate::stations::*;
 use lpt_ledger::State;
 use lpt_node::Outcome::{self, *};
-use lpt_node::{Config, Node, NodeFault, Side, Why};
+use lpt_node::{Config, NodeFault, Side, Why};
 use lpt_packet::{Name, Octets};
 use lpt_part::Reason;
 use std::alloc::{AllocError, Global};
@@ -129,21 +129,17 @@ fn waits(rt: &impl Abort, alloc: Global, station: &mut Station) -> Result<(), Fa
     let rows: [Row; 2] = [(9, &MESSAGE, 1, Kept(9, 1)), (7, &MESSAGE, 1, Kept(7, 1))];
     hears(rt, alloc, station, Side::Craft, &rows)?;
     for _ in 0..10 {
-        assert!(rt; expires(&mut station.node) == Err(NodeFault::NothingDue));
-        assert!(rt; station.node.tick().is_ok());
+        assert!(rt; station.node.expire().err() == Some(NodeFault::NothingDue));
+        station.node.tick()?;
     }
     assert!(rt; station.node.clock() == 19);
-    assert!(rt; expires(&mut station.node) == Ok((7, true)));
+    let seven = station.node.expire()?;
+    assert!(rt; seven.id == 7 && is(&seven.packet, &EXPIRED));
     let late: [Row; 1] = [(7, &MESSAGE, 2, Ignored(Why::Closed))];
     hears(rt, alloc, station, Side::Craft, &late)?;
-    assert!(rt; expires(&mut station.node) == Ok((9, false)));
+    let nine = station.node.expire()?;
+    assert!(rt; nine.id == 9);
     Ok(())
-}
-
-// The name of the reception that is given up, and whether its report is that of transaction 7.
-fn expires(node: &mut Node) -> Result<(Name, bool), NodeFault> {
-    let expired = node.expire()?;
-    Ok((expired.id, is(&expired.packet, &EXPIRED)))
 }
 
 /// A packet that comes to a node of this side, APID and part size, and what becomes of it.
