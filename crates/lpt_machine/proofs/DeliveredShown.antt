@@ -34,13 +34,13 @@ use Rattle.lpt_journal.proofs.OutcomeLemmas.{chosen}
 use Rattle.lpt_machine.specs.State.{State, end_of, with_end, put_report, add_release, delivered_on, after_deliver}
 use Rattle.lpt_machine.specs.Shows.{Shows, ShowsReceiving}
 use Rattle.lpt_machine.specs.Views.{Views, ReceivingView, views, view_of, with_view, receiving_view}
-use Rattle.lpt_machine.proofs.DeliveryLemmas.{delivery, part_agrees, arrival_agrees}
+use Rattle.lpt_machine.proofs.ArrivalsAgree.{delivery, part_agrees, arrival_agrees}
 use Rattle.lpt_machine.proofs.Fields.{with_link, with_released, with_receiving, with_sending}
-use Rattle.lpt_machine.proofs.LinkLemmas.{link_dropped}
+use Rattle.lpt_machine.proofs.LinkShown.{link_dropped}
 use Rattle.lpt_machine.proofs.NoAborts.{in_hand_no_abort}
-use Rattle.lpt_machine.proofs.ReceiverLemmas.{kept_shown, again_shown, ended_shown, some_parts}
+use Rattle.lpt_machine.proofs.ReceivingShown.{kept_shown, again_shown, ended_shown, some_parts}
 use Rattle.lpt_machine.proofs.ReportShown.{report_shown}
-use Rattle.lpt_machine.proofs.SenderLemmas.{closed_shown}
+use Rattle.lpt_machine.proofs.SendingShown.{closed_shown}
 
 -- ---- what is shown
 

@@ -23,8 +23,8 @@ use Rattle.lpt_machine.proofs.DeliveredShown.{delivered_shown}
 use Rattle.lpt_machine.proofs.DueShown.{due_shown}
 use Rattle.lpt_machine.proofs.ExpiredShown.{expired_shown, with_expiry}
 use Rattle.lpt_machine.proofs.Fields.{with_sending, with_clock, with_link, with_opened, sending_at}
-use Rattle.lpt_machine.proofs.LinkLemmas.{link_taken}
-use Rattle.lpt_machine.proofs.SenderLemmas.{opened_shown, closed_shown, sent_shown, plain_shown}
+use Rattle.lpt_machine.proofs.LinkShown.{link_taken}
+use Rattle.lpt_machine.proofs.SendingShown.{opened_shown, closed_shown, sent_shown, plain_shown}
 
 -- the opening of a message after a journal
 abbrev opening : History → Direction → Name → List ℕ → Opening

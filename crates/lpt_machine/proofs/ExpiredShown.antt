@@ -15,7 +15,7 @@ use Rattle.lpt_machine.specs.Shows.{Shows}
 use Rattle.lpt_machine.specs.State.{State, end_of, expired_on}
 use Rattle.lpt_machine.specs.Views.{views}
 use Rattle.lpt_machine.proofs.Fields.{with_receiving}
-use Rattle.lpt_machine.proofs.ReceiverLemmas.{given_up_shown}
+use Rattle.lpt_machine.proofs.ReceivingShown.{given_up_shown}
 use Rattle.lpt_machine.proofs.ReportShown.{report_shown}
 
 -- the journal with the end of a reception, or of none

@@ -38,10 +38,10 @@ use Rattle.lpt_journal.proofs.TestLemmas.{not_false, two_pass}
 use Rattle.lpt_machine.specs.Shows.{Shows, ShowsReceiving}
 use Rattle.lpt_machine.specs.State.{State, after, end_of, as_list, put_some, expired_on, quiet, put_one}
 use Rattle.lpt_machine.specs.Views.{views, receiving_view}
-use Rattle.lpt_machine.proofs.DeliveryLemmas.{delivery, part_agrees, arrival_agrees}
+use Rattle.lpt_machine.proofs.ArrivalsAgree.{delivery, part_agrees, arrival_agrees}
 use Rattle.lpt_machine.proofs.DueShown.{due_shown}
 use Rattle.lpt_machine.proofs.Fields.{receiving_at, clock_at}
-use Rattle.lpt_machine.proofs.LinkLemmas.{as_many_packets}
+use Rattle.lpt_machine.proofs.LinkShown.{as_many_packets}
 
 -- a reply with this answer and these packets, the first of which got this number
 abbrev reply_with : ℕ → Answer → List SentPacket → Reply

@@ -17,8 +17,8 @@ use Rattle.lpt_machine.specs.Shows.{Shows}
 use Rattle.lpt_machine.specs.State.{State}
 use Rattle.lpt_machine.specs.Views.{Views, EndView}
 use Rattle.lpt_machine.proofs.Fields.{with_sending, with_link}
-use Rattle.lpt_machine.proofs.LinkLemmas.{link_more}
-use Rattle.lpt_machine.proofs.MadeLemmas.{report_made, is_report-made}
+use Rattle.lpt_machine.proofs.LinkShown.{link_more}
+use Rattle.lpt_machine.proofs.MadeShown.{report_made, is_report-made}
 
 -- the report that the spacecraft makes
 abbrev made_at : Config → NodeData → Name → Reason → List ℕ

@@ -18,7 +18,7 @@ use Rattle.lpt_journal.specs.Journal.{with_all}
 use Rattle.lpt_journal.specs.Senders.{is_report}
 use Rattle.lpt_machine.specs.Shows.{ShowsReports, ShowsSending}
 use Rattle.lpt_machine.specs.Views.{SendingView}
-use Rattle.lpt_machine.proofs.LinkLemmas.{with_all-more}
+use Rattle.lpt_machine.proofs.LinkShown.{with_all-more}
 
 -- ---- sequence counts
 

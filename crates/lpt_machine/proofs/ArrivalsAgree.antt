@@ -28,7 +28,7 @@ use Rattle.lpt_journal.specs.Receivers.{kept, with_piece, heard, has_parts, is_c
 use Rattle.lpt_machine.specs.Shows.{Shows, ShowsReceiving, closed_mark, sent_packet}
 use Rattle.lpt_machine.specs.State.{State, arrival_held}
 use Rattle.lpt_machine.specs.Views.{views, receiving_view}
-use Rattle.lpt_machine.proofs.ReceiverLemmas.{full_shown, parts_shown}
+use Rattle.lpt_machine.proofs.ReceivingShown.{full_shown, parts_shown}
 
 -- ---- a part
 

@@ -33,8 +33,8 @@ use Rattle.lpt_machine.specs.State.{State, end_of, sent_on, after_plain}
 use Rattle.lpt_machine.specs.Shows.{Shows, ShowsSending, mark_of, message_of}
 use Rattle.lpt_machine.specs.Views.{Views, SendingView, views, sending_view}
 use Rattle.lpt_machine.proofs.Fields.{with_sending, with_link}
-use Rattle.lpt_machine.proofs.LinkLemmas.{link_more}
-use Rattle.lpt_machine.proofs.MadeLemmas.{command_made, report_made, is_report-made, IsReportOf}
+use Rattle.lpt_machine.proofs.LinkShown.{link_more}
+use Rattle.lpt_machine.proofs.MadeShown.{command_made, report_made, is_report-made, IsReportOf}
 
 -- ---- opening
 
