@@ -6,20 +6,21 @@ use Rattle.lpt_journal.specs.Journal.{History}
 use Rattle.lpt_journal.specs.Replies.{refusal, reply, entry}
 use Rattle.lpt_machine.specs.Shows.{Shows}
 use Rattle.lpt_machine.specs.State.{State, no_state, refusal_of, after}
+use Rattle.lpt_machine.specs.Views.{views}
 
 -- an event that isn't refused is answered as the journal says, and the longer journal is shown
 pub record GoesOn (c : Config) (s : State) (h : History) (e : Event) : Type 0 where
   pub answered : (after c (length h) s e).1 ≡ reply c h e
-  pub shown : Shows c (after c (length h) s e).0 (entry c h e ∷ h)
+  pub shown : Shows (after c (length h) s e).0 (views c (entry c h e ∷ h))
 
 -- where nothing has happened, the empty journal is shown; what shows a journal refuses what the
 -- journal refuses, and goes on with it
 pub record FollowsJournal : Type 0 where
-  pub begins : (c : Config) → Shows c (no_state c) []
+  pub begins : (c : Config) → Shows (no_state c) (views c [])
   pub refuses : (c : Config) (s : State) (h : History) (e : Event)
-      → Shows c s h
+      → Shows s (views c h)
       → refusal_of c s e ≡ refusal c h e
   pub goes_on : (c : Config) (s : State) (h : History) (e : Event)
-      → Shows c s h
+      → Shows s (views c h)
       → refusal c h e ≡ None
       → GoesOn c s h e

@@ -1,3 +1,4 @@
 pub mod GoesOn
 pub mod Shows
 pub mod State
+pub mod Views

@@ -1,24 +1,24 @@
--- The state of the ends and the link shows a journal: each field is what the journal says of it.
-use Rattle.std.specs.Prelude.{◌≡◌, ℕ, Bool, true, false, if◌then◌else◌, List, length, map, Option, Some, None}
+-- The state of the ends and the link shows a view: each field is what the view says of it.
+use Rattle.std.specs.Prelude.{◌≡◌, ℕ, ◌%◌, ◌≤◌, nat_lt, Bool, true, false, not, ◌&&◌, if◌then◌else◌, List, length, map, Option, Some, None}
+use Rattle.std.specs.List.{filter}
 use Rattle.std.specs.FinMap as maps
-use Rattle.lpt_packet.specs.declared.direction.Direction.TheVariants.{Up, Down}
 use Rattle.lpt_packet.specs.Names.{Name}
 use Rattle.lpt_ledger.specs.Marks.{Mark, Opened, Shut}
 use Rattle.lpt_events.specs.declared.lane.Lane.{Lane}
-use Rattle.lpt_link.specs.declared.packet.LinkPacket.{LinkPacket}
-use Rattle.lpt_link.specs.Links.{LinkData, is_held as link_holds, hand_of}
-use Rattle.lpt_events.specs.declared.config.Config.{Config}
+use Rattle.lpt_events.specs.declared.side.Side.{Side}
 use Rattle.lpt_events.specs.declared.side.Side.TheVariants.{Ground, Craft}
+use Rattle.lpt_link.specs.declared.packet.LinkPacket.{LinkPacket}
+use Rattle.lpt_link.specs.Links.{LinkData, is_held, hand_of}
 use Rattle.lpt_node.specs.declared.telemetry.TelemetryKind.{TelemetryKind}
 use Rattle.lpt_node.specs.Counting.{counter_of, service_of, subtype_of}
-use Rattle.lpt_node.specs.Nodes.{Sending, Receiving}
+use Rattle.lpt_node.specs.Nodes.{Sending, Receiving, NodeData}
 use Rattle.lpt_reception.specs.Received.{Parts}
 use Rattle.lpt_table.specs.Tables.{TableEntry}
-use Rattle.lpt_journal.specs.Journal.{SentPacket, History, sent, is_held, hand}
-use Rattle.lpt_journal.specs.Receivers.{heard, has_parts, is_closed, clock, last_tick}
-use Rattle.lpt_journal.specs.Releases.{releases}
-use Rattle.lpt_journal.specs.Senders.{Sender, FreeSender, OpenSender, ClosedSender, sender, opened, count, type_counter}
+use Rattle.lpt_journal.specs.Journal.{SentPacket}
+use Rattle.lpt_journal.specs.Receivers.{has_parts}
+use Rattle.lpt_journal.specs.Senders.{Sender, FreeSender, OpenSender, ClosedSender, is_report}
 use Rattle.lpt_machine.specs.State.{State}
+use Rattle.lpt_machine.specs.Views.{SendingView, ReceivingView, EndView, LinkView, Views}
 
 -- ---- what a field shows
 
@@ -49,32 +49,42 @@ sent_packet p = record { direction = p.direction; octets = p.octets }
 
 -- ---- the fields
 
-pub record ShowsSending (v : Sending) (senders : Name → Sender) (next : ℕ) : Type 0 where
-  pub ledger : (id : Name) → maps.get v.ledger id ≡ mark_of (senders id)
-  pub messages : (id : Name) → maps.get v.messages id ≡ message_of (senders id)
-  pub count : v.count ≡ next
-
-pub record ShowsTypes (types : List ℕ) (counters : ℕ → ℕ → ℕ) : Type 0 where
+-- each counter is the number of the reports of its kind among the made packets, in 16 bits
+pub record ShowsReports (types : List ℕ) (made : List (List ℕ)) : Type 0 where
   pub eleven : length types ≡ 11
-  pub counter : (k : TelemetryKind) → counter_of types k ≡ counters (service_of k) (subtype_of k)
+  pub counter : (k : TelemetryKind)
+      → counter_of types k ≡ length (filter (is_report (service_of k) (subtype_of k)) made) % 65536
 
-pub record ShowsReceiving (v : Receiving) (parts : Name → Parts) (closed : Name → Bool) (last : Name → ℕ) : Type 0 where
-  pub ledger : (id : Name) → maps.get v.ledger id ≡ closed_mark (closed id)
-  pub entries : (id : Name) → maps.get v.entries id ≡ entry_of (parts id) (last id)
+-- the spacecraft's message type counters; ground makes no telemetry
+abbrev pub ShowsTypes : Side → List ℕ → List (List ℕ) → Type 0
+ShowsTypes Ground types made = Unit {0}
+ShowsTypes Craft types made = ShowsReports types made
 
-pub record ShowsLink (v : LinkData) (puts : List SentPacket) (held : ℕ → Bool) (hands : Lane → Option ℕ) : Type 0 where
-  pub packets : map sent_packet v.packets ≡ puts
-  pub marks : (n : ℕ) → link_holds v n ≡ held n
-  pub in_hands : (l : Lane) → hand_of v l ≡ hands l
+pub record ShowsSending (side : Side) (x : Sending) (y : SendingView) : Type 0 where
+  pub ledger : (id : Name) → maps.get x.ledger id ≡ mark_of (y.senders id)
+  pub messages : (id : Name) → maps.get x.messages id ≡ message_of (y.senders id)
+  pub count : x.count ≡ length y.made % 16384
+  pub types : ShowsTypes side x.types y.made
 
-pub record Shows (c : Config) (s : State) (h : History) : Type 0 where
-  pub up_sender : ShowsSending s.on_ground.sending (sender h Up) (count h Up)
-  pub down_sender : ShowsSending s.on_craft.sending (sender h Down) (count h Down)
-  pub types : ShowsTypes s.on_craft.sending.types (type_counter h)
-  pub up_receiver : ShowsReceiving s.on_craft.receiving (heard c h Up) (is_closed h Up) (last_tick c h Up)
-  pub down_receiver : ShowsReceiving s.on_ground.receiving (heard c h Down) (is_closed h Down) (last_tick c h Down)
-  pub ground_clock : s.on_ground.clock ≡ clock c h Ground
-  pub craft_clock : s.on_craft.clock ≡ clock c h Craft
-  pub link : ShowsLink s.link (sent h) (is_held h) (hand h)
-  pub openings : s.opened ≡ opened h
-  pub released : s.released ≡ releases c h
+pub record ShowsReceiving (x : Receiving) (y : ReceivingView) : Type 0 where
+  pub ledger : (id : Name) → maps.get x.ledger id ≡ closed_mark (y.closed id)
+  pub entries : (id : Name) → maps.get x.entries id ≡ entry_of (y.parts id) (y.last id)
+
+pub record ShowsEnd (side : Side) (d : NodeData) (y : EndView) : Type 0 where
+  pub sending : ShowsSending side d.sending y.sending
+  pub receiving : ShowsReceiving d.receiving y.receiving
+  pub clock : d.clock ≡ y.clock
+
+-- a packet is held where it was put and isn't lost; none is lost before it is put
+pub record ShowsLink (x : LinkData) (y : LinkView) : Type 0 where
+  pub packets : map sent_packet x.packets ≡ y.sent
+  pub held : (n : ℕ) → is_held x n ≡ (nat_lt n (length y.sent) && not (y.lost n))
+  pub lost_before : (n : ℕ) → length y.sent ≤ n → y.lost n ≡ false
+  pub hands : (l : Lane) → hand_of x l ≡ y.hands l
+
+pub record Shows (s : State) (v : Views) : Type 0 where
+  pub ground : ShowsEnd Ground s.on_ground v.ground
+  pub craft : ShowsEnd Craft s.on_craft v.craft
+  pub link : ShowsLink s.link v.link
+  pub opened : s.opened ≡ v.opened
+  pub released : s.released ≡ v.released

@@ -1,5 +1,5 @@
--- The two ends and the link between them as plain data, and what each event does to them. Each step is one
--- of an end's or of the link's.
+-- The two ends and the link between them as plain data, and what each event does to them. Each step
+-- is one of an end's or of the link's.
 use Rattle.std.specs.Prelude.{◌≡◌, ℕ, List, [], ◌∷◌, ◌++◌, length, Option, Some, None}
 use Rattle.std.specs.Option.{option_map, option_map_or}
 use Rattle.lpt_packet.specs.declared.direction.Direction.{Direction}
@@ -49,7 +49,13 @@ pub record State : Type 0 where
 
 -- nothing has happened
 abbrev pub no_state : Config → State
-no_state c = record { on_ground = no_data c; on_craft = no_data c; link = empty_link; opened = []; released = [] }
+no_state c = record {
+  on_ground = no_data c;
+  on_craft = no_data c;
+  link = empty_link;
+  opened = [];
+  released = [];
+}
 
 -- the end of a side
 abbrev pub end_of : State → Side → NodeData
@@ -85,8 +91,10 @@ link_fault link.Memory = step.Memory
 
 -- why an event is refused
 abbrev pub refusal_of : Config → State → Event → Option StepFault
-refusal_of c s (Open d id m) = option_map node_fault (refusal_open c (end_of s (sender_side d)) id (length m))
-refusal_of c s (Send d id k) = option_map node_fault (refusal_send c (end_of s (sender_side d)) id k)
+refusal_of c s (Open d id m) =
+    option_map node_fault (refusal_open c (end_of s (sender_side d)) id (length m))
+refusal_of c s (Send d id k) =
+    option_map node_fault (refusal_send c (end_of s (sender_side d)) id k)
 refusal_of c s (Plain flags service subtype body) =
     option_map node_fault (refusal_plain c service subtype (length body))
 refusal_of c s (Finish d id) = option_map node_fault (refusal_finish (end_of s (sender_side d)) id)
@@ -153,15 +161,25 @@ after_losing s n = (record s { link = after_lose s.link n }, quiet Lost)
 abbrev pub after_take : State → Lane → ℕ → State × Reply
 after_take s l n = (record s { link = link_after_take s.link l n }, quiet (Took n))
 
--- the link where a report was put, or none
-abbrev pub link_with : LinkData → Option (List ℕ) → LinkData
-link_with v None = v
-link_with v (Some b) = after_put v Down None b
+-- what there is, as a list
+abbrev pub as_list : {A : Type 0} → Option A → List A
+as_list None = []
+as_list (Some x) = x ∷ []
 
--- the reply of an event that put a report, which got this number, or none
-abbrev pub told_with : ℕ → Answer → Option (List ℕ) → Reply
-told_with n a None = quiet a
-told_with n a (Some b) = put_one n a
+-- the link where packets of these octets were put, the first of them first
+abbrev pub put_all : LinkData → Direction → Option Name → List (List ℕ) → LinkData
+put_all v d tag [] = v
+put_all v d tag (b ∷ bs) = put_all (after_put v d tag b) d tag bs
+
+-- the link where a report was put, or none
+abbrev pub put_report : LinkData → Option (List ℕ) → LinkData
+put_report v packet = put_all v Down None (as_list packet)
+
+-- the reply of an event that put packets of these octets, the first of which got this number
+abbrev pub put_some : ℕ → Answer → List (List ℕ) → Reply
+put_some n a [] = quiet a
+put_some n a (b ∷ bs) =
+    record { answer = a; puts = Some (record { first = n; count = length (b ∷ bs) }) }
 
 -- the transaction of a released message, by the outcome: a plain request has none
 abbrev pub released_of : Direction → Outcome → Option (Direction × Name)
@@ -169,23 +187,24 @@ released_of d (Released id len) = Some (d, id)
 released_of d _ = None
 
 -- the releases with that of a delivery, where it released anything
-abbrev pub with_release : List Release → ℕ → Direction → Outcome → Option (List ℕ) → List Release
-with_release rs place d o None = rs
-with_release rs place d o (Some m) = rs ++ record { place = place; of = released_of d o; message = m } ∷ []
+abbrev pub add_release : List Release → ℕ → Direction → Outcome → Option (List ℕ) → List Release
+add_release rs place d o None = rs
+add_release rs place d o (Some m) =
+    rs ++ record { place = place; of = released_of d o; message = m } ∷ []
 
 -- the receiver has taken what was in the lane's hand, and answered
-abbrev pub delivered_as : ℕ → State → Lane → NodeData × Accepted → State × Reply
-delivered_as place s l x = (
+abbrev pub delivered_on : ℕ → State → Lane → NodeData × Accepted → State × Reply
+delivered_on place s l x = (
   record (with_end s (receiver_side (lane_direction l)) x.0) {
-    link = link_with (after_drop s.link l) x.1.packet;
-    released = with_release s.released place (lane_direction l) x.1.outcome x.1.released;
+    link = put_report (after_drop s.link l) x.1.packet;
+    released = add_release s.released place (lane_direction l) x.1.outcome x.1.released;
   },
-  told_with (length s.link.packets) (Delivered x.1.outcome) x.1.packet,
+  put_some (length s.link.packets) (Delivered x.1.outcome) (as_list x.1.packet),
 )
 
 -- the receiver of a lane has taken what was in its hand: the state after it, and the answer
-abbrev pub IsReceived : State → Lane → State → Accepted → NodeData × Accepted → Type 0
-IsReceived old l new r x = (new ≡ with_end old (receiver_side (lane_direction l)) x.0) × (r ≡ x.1)
+abbrev pub IsAccepted : State → Lane → State → Accepted → NodeData × Accepted → Type 0
+IsAccepted old l new r x = (new ≡ with_end old (receiver_side (lane_direction l)) x.0) × (r ≡ x.1)
 
 -- what the packet in the lane's hand is to its receiver; of an empty hand nothing is delivered
 abbrev pub arrival_held : Config → Direction → Option LinkPacket → Arrival
@@ -193,7 +212,7 @@ arrival_held c d p = option_map_or (λ x. arrival_in c d x.octets) p NotRead
 
 abbrev pub after_deliver : Config → ℕ → State → Lane → State × Reply
 after_deliver c place s l =
-    delivered_as place s l
+    delivered_on place s l
     (accepted (receiver_side (lane_direction l)) c (end_of s (receiver_side (lane_direction l)))
     (arrival_held c (lane_direction l) (packet_in_hand s.link l)))
 
@@ -205,14 +224,14 @@ after_tick s side =
     (with_end s side (ticked (end_of s side)), quiet (Clock (ticked (end_of s side)).clock))
 
 -- a node has ended a reception and answered, and its report is put, where it made one
-abbrev pub expired_as : State → Side → NodeData × Ended → State × Reply
-expired_as s side x = (
-  record (with_end s side x.0) { link = link_with s.link x.1.packet },
-  told_with (length s.link.packets) (Expired (direction_to side) x.1.id) x.1.packet,
+abbrev pub expired_on : State → Side → NodeData × Ended → State × Reply
+expired_on s side x = (
+  record (with_end s side x.0) { link = put_report s.link x.1.packet },
+  put_some (length s.link.packets) (Expired (direction_to side) x.1.id) (as_list x.1.packet),
 )
 
 abbrev pub after_expire : Config → State → Side → State × Reply
-after_expire c s side = expired_as s side (expired side c (end_of s side))
+after_expire c s side = expired_on s side (expired side c (end_of s side))
 
 -- ---- all events
 

@@ -11,7 +11,7 @@ ghost use Rattle.lpt_node.specs.Origins.{arrival_from};
 ghost use Rattle.lpt_world.specs.EndsSound.{IsSound};
 ghost use Rattle.lpt_events.specs.Sides.{sender_side, receiver_side};
 ghost use Rattle.lpt_events.specs.Configs.{IsConfig};
-ghost use Rattle.lpt_machine.specs.State.{no_state, end_of, refusal_of, after, node_fault, released_of, with_release, link_with, told_with, IsReceived, quiet as quiet_reply, put_one as put_one_reply};
+ghost use Rattle.lpt_machine.specs.State.{no_state, end_of, refusal_of, after, node_fault, released_of, add_release, as_list, put_report, put_some, IsAccepted, quiet as quiet_reply, put_one as put_one_reply};
 
 use crate::faults::{of_link, of_node};
 use crate::{Answer, Event, Opening, Puts, Release, Reply, StepFault};
@@ -248,7 +248,7 @@ impl Ends {
         requires side { parsed.now.side ≡ receiver_side (lane_direction lane) }
         requires apid { parsed.now.apid ≡ self.old.config.apid }
         requires part_size { parsed.now.p ≡ self.old.config.part_size }
-        ensures ok { IfOk result (λ r. IsReceived (state_of self.old) lane (state_of self.new) r
+        ensures ok { IfOk result (λ r. IsAccepted (state_of self.old) lane (state_of self.new) r
             (accepted (receiver_side (lane_direction lane)) self.old.config
             (end_of (state_of self.old) (receiver_side (lane_direction lane))) (arrival_from parsed.now))) }
         ensures err { OnErr result (state_of self.new ≡ state_of self.old) }
@@ -272,7 +272,7 @@ impl Ends {
     )
         requires { vec_len self.old.released < vec_capacity self.old.released }
         ensures state { state_of self.new ≡ record (state_of self.old) {
-          released = with_release self.old.released.items place direction outcome released;
+          released = add_release self.old.released.items place direction outcome released;
         } }
         ensures config { self.new.config ≡ self.old.config }
         ensures link { self.new.link ≡ self.old.link }
@@ -289,8 +289,8 @@ impl Ends {
     // Puts a node's report on the link, where it made one, and answers.
     pub(crate) fn report(&mut self, answer: Answer, packet: Option<Octets>) -> Reply
         requires { 0 < self.old.link.spare }
-        ensures state { state_of self.new ≡ record (state_of self.old) { link = link_with self.old.link.at packet } }
-        ensures reply { result ≡ told_with (length self.old.link.at.packets) answer packet }
+        ensures state { state_of self.new ≡ record (state_of self.old) { link = put_report self.old.link.at packet } }
+        ensures reply { result ≡ put_some (length self.old.link.at.packets) answer (as_list packet) }
         ensures config { self.new.config ≡ self.old.config }
     {
         match packet {

@@ -12,17 +12,23 @@ use Rattle.lpt_events.specs.declared.config.Config.{Config}
 use Rattle.lpt_node.specs.Nodes.{Receiving}
 use Rattle.lpt_node.specs.Receiving.{table_of}
 use Rattle.lpt_journal.specs.Expiry.{is_overdue, due}
-use Rattle.lpt_events.specs.Sides.{receiver_side}
+use Rattle.lpt_events.specs.Sides.{receiver_side, direction_to}
+use Rattle.lpt_events.specs.declared.side.Side.{Side}
+use Rattle.lpt_events.specs.declared.side.Side.TheVariants.{Ground, Craft}
+use Rattle.lpt_node.specs.Times.{due as node_due}
+use Rattle.lpt_packet.specs.declared.direction.Direction.TheVariants.{Up, Down}
 use Rattle.lpt_journal.specs.Journal.{History}
 use Rattle.lpt_journal.specs.Receivers.{heard, has_parts, clock, last_tick}
-use Rattle.lpt_machine.specs.Shows.{ShowsReceiving}
+use Rattle.lpt_machine.specs.Shows.{Shows, ShowsReceiving}
+use Rattle.lpt_machine.specs.State.{State, end_of}
+use Rattle.lpt_machine.specs.Views.{views, receiving_view}
 use Rattle.lpt_journal.proofs.TestLemmas.{and_l, and_r}
 use Rattle.lpt_journal.proofs.DueLemmas.{Earliest, earliest_is, overdue_names, in_overdue, le_true, true_le}
 
 -- ---- what is due
 
-module _ (c : Config) (h : History) (d : Direction) (v : Receiving) (closed : Name → Bool) (now : ℕ)
-    (k : ShowsReceiving v (heard c h d) closed (last_tick c h d))
+module _ (c : Config) (h : History) (d : Direction) (v : Receiving) (now : ℕ)
+    (k : ShowsReceiving v (receiving_view c h d))
     (clocks : now ≡ clock c h (receiver_side d)) where
   -- an open reception of the table
   shown_entry : (id : Name) (e : TableEntry)
@@ -82,8 +88,17 @@ module _ (c : Config) (h : History) (d : Direction) (v : Receiving) (closed : Na
       )
 
   -- the table's reception that is due is the journal's
-  pub due_agrees : due_of (table_of c v.entries) now ≡ due c h d
+  due_agrees : due_of (table_of c v.entries) now ≡ due c h d
   due_agrees =
       due_unique (table_of c v.entries) now (due_of (table_of c v.entries) now) (due c h d)
       (due_of_is (table_of c v.entries) now)
       (is_due (due c h d) (earliest_is (last_tick c h d) (overdue_names c h d)))
+
+-- what is due at an end is what the journal says
+pub due_shown : (c : Config) (s : State) (h : History) (side : Side)
+    → Shows s (views c h)
+    → node_due c (end_of s side) ≡ due c h (direction_to side)
+due_shown c s h Ground k =
+    due_agrees c h Down s.on_ground.receiving s.on_ground.clock k.ground.receiving k.ground.clock
+due_shown c s h Craft k =
+    due_agrees c h Up s.on_craft.receiving s.on_craft.clock k.craft.receiving k.craft.clock

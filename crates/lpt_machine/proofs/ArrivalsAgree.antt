@@ -1,0 +1,122 @@
+-- What the receiver makes of a part goes by the journal's tests; hands have what the journal says.
+use Rattle.std.proofs.Common.{◌≡◌, ◌∙◌, ap, sym, refl, ℕ, nat_le, Bool, not, ◌&&◌, if◌then◌else◌, Option, Some, None, is_some}
+use Rattle.std.specs.Option.{option_map, option_map_or, option_and_then}
+use Rattle.std.specs.Prelude.{slice_get}
+use Rattle.std.proofs.lemmas.Option.{slice_get-map}
+use Rattle.std.specs.FinMap as maps
+use Rattle.lpt_packet.specs.declared.direction.Direction.{Direction}
+use Rattle.lpt_packet.specs.Names.{Name}
+use Rattle.lpt_part.specs.Parts.{Piece}
+use Rattle.lpt_pus.specs.Telemetry.{Telemetry}
+use Rattle.lpt_ledger.specs.States.{state_of}
+use Rattle.lpt_events.specs.declared.lane.Lane.{Lane}
+use Rattle.lpt_link.specs.declared.packet.LinkPacket.{LinkPacket}
+use Rattle.lpt_events.specs.Lanes.{lane_direction}
+use Rattle.lpt_events.specs.Sides.{receiver_side}
+use Rattle.lpt_link.specs.Links.{packet_in_hand}
+use Rattle.lpt_node.specs.declared.accepted.Accepted.{Accepted}
+use Rattle.lpt_events.specs.declared.config.Config.{Config}
+use Rattle.lpt_events.specs.declared.side.Side.{Side}
+use Rattle.lpt_events.specs.Arrivals.{NotRead}
+use Rattle.lpt_node.specs.Nodes.{NodeData}
+use Rattle.lpt_node.specs.Receiving.{taken, taken_from, after_take, by_state, abort_head, table_of, parted}
+use Rattle.lpt_reception.specs.Received.{Parts, contradicts, is_whole}
+use Rattle.lpt_table.specs.Offering.{OfferKind, Kept, Again, Whole, Conflict, NoRoom, offered, is_full, parts_at, taken_out, with_entry}
+use Rattle.lpt_table.specs.Tables.{TableState}
+use Rattle.lpt_journal.specs.Journal.{History, hand, arrival_in, arrival_at, in_hand}
+use Rattle.lpt_journal.specs.Receivers.{kept, with_piece, heard, has_parts, is_closed, reception_count}
+use Rattle.lpt_machine.specs.Shows.{Shows, ShowsReceiving, closed_mark, sent_packet}
+use Rattle.lpt_machine.specs.State.{State, arrival_held}
+use Rattle.lpt_machine.specs.Views.{views, receiving_view}
+use Rattle.lpt_machine.proofs.ReceivingShown.{full_shown, parts_shown}
+
+-- ---- a part
+
+-- what an offer comes to, and the table after it, by the table's tests
+abbrev made_of : (full contra again whole : Bool)
+    → TableState
+    → Name
+    → (before with_it : Parts)
+    → ℕ
+    → OfferKind × TableState
+made_of full contra again whole t id before with_it now =
+    if full then (NoRoom, t)
+    else if contra then (Conflict, taken_out t id)
+    else if again then (Again, with_entry t id before now)
+    else if whole then (Whole, taken_out t id)
+    else (Kept, with_entry t id with_it now)
+
+-- the receiver after a part, and its answer, by all tests
+abbrev pub delivery : (closed full contra again whole : Bool)
+    → Option Telemetry
+    → NodeData
+    → TableState
+    → Piece
+    → (before with_it : Parts)
+    → NodeData × Accepted
+delivery closed full contra again whole head d t q before with_it =
+    by_state (state_of (closed_mark closed)) d
+    (after_take d q
+    (taken_from head q.id with_it (made_of full contra again whole t q.id before with_it d.clock)))
+
+-- the receiver's step goes by the tests
+part_delivered : (side : Side) (c : Config) (d : NodeData) (q : Piece) (closed full : Bool)
+    (before : Parts)
+    → maps.get d.receiving.ledger q.id ≡ closed_mark closed
+    → is_full (table_of c d.receiving.entries) q.id ≡ full
+    → parts_at (table_of c d.receiving.entries) q.id ≡ before
+    → parted side c d q
+    ≡ delivery closed full (contradicts before q.number (kept q))
+    (is_some (maps.get before q.number)) (is_whole (with_piece before q)) (abort_head side c d) d
+    (table_of c d.receiving.entries) q before (with_piece before q)
+unfolding taken offered
+part_delivered side c d q closed full before e1 e2 e3 =
+    λ i. by_state (state_of (e1 i)) d
+    (after_take d q (taken_from (abort_head side c d) q.id (with_piece (e3 i) q)
+    (made_of (e2 i) (contradicts (e3 i) q.number (kept q)) (is_some (maps.get (e3 i) q.number))
+    (is_whole (with_piece (e3 i) q)) (table_of c d.receiving.entries) q.id (e3 i)
+    (with_piece (e3 i) q) d.clock)))
+
+-- the same, by what the journal says of the part's transaction
+abbrev pub delivery_told : Config → History → Direction → NodeData → Piece → NodeData × Accepted
+delivery_told c h w d q =
+    let s = heard c h w q.id in
+    delivery (is_closed h w q.id)
+    (not (has_parts s) && nat_le c.receptions (reception_count c h w))
+    (contradicts s q.number (kept q)) (is_some (maps.get s q.number)) (is_whole (with_piece s q))
+    (abort_head (receiver_side w) c d) d (table_of c d.receiving.entries) q s (with_piece s q)
+
+pub part_agrees : (c : Config) (h : History) (w : Direction) (d : NodeData) (q : Piece)
+    → ShowsReceiving d.receiving (receiving_view c h w)
+    → parted (receiver_side w) c d q ≡ delivery_told c h w d q
+part_agrees c h w d q own =
+    part_delivered (receiver_side w) c d q _ _ _ (own.ledger q.id) (full_shown c h w q.id own)
+    (parts_shown c q.id own)
+
+-- ---- what is in a hand
+
+-- what the link has in a lane's hand is to its receiver what the journal says
+pub arrival_agrees : (c : Config) (s : State) (h : History) (l : Lane)
+    → Shows s (views c h)
+    → arrival_held c (lane_direction l) (packet_in_hand s.link l) ≡ in_hand c h l
+arrival_agrees c s h l k =
+    ap (λ o. arrival_held c w (option_and_then (slice_get s.link.packets) o)) (k.link.hands l)
+    ∙ go (hand h l) where
+      w : Direction
+      w = lane_direction l
+
+      put : (o : Option LinkPacket)
+          → option_map_or (λ x. arrival_in c w x.octets) o NotRead
+          ≡ option_map_or (λ p. arrival_in c w p.octets) (option_map sent_packet o) NotRead
+      put None = refl
+      put (Some p) = refl
+
+      go : (o : Option ℕ)
+          → arrival_held c w (option_and_then (slice_get s.link.packets) o)
+          ≡ option_map_or (arrival_at c h w) o NotRead
+      go None = refl
+      go (Some n) =
+          put (slice_get s.link.packets n)
+          ∙ ap (λ o. option_map_or (λ p. arrival_in c w p.octets) o NotRead)
+          (sym (slice_get-map sent_packet s.link.packets n)
+          ∙ ap (λ ps. slice_get ps n) k.link.packets)

@@ -1,0 +1,135 @@
+-- A state shows a view with one field changed where the state has that field changed as well.
+use Rattle.std.specs.Prelude.{◌≡◌, ℕ, List}
+use Rattle.lpt_packet.specs.declared.direction.Direction.{Direction}
+use Rattle.lpt_packet.specs.declared.direction.Direction.TheVariants.{Up, Down}
+use Rattle.lpt_events.specs.declared.config.Config.{Config}
+use Rattle.lpt_events.specs.declared.entry.Opening.{Opening}
+use Rattle.lpt_events.specs.declared.entry.Release.{Release}
+use Rattle.lpt_events.specs.declared.side.Side.{Side}
+use Rattle.lpt_events.specs.declared.side.Side.TheVariants.{Ground, Craft}
+use Rattle.lpt_events.specs.Sides.{sender_side, receiver_side}
+use Rattle.lpt_link.specs.Links.{LinkData}
+use Rattle.lpt_node.specs.Nodes.{NodeData, Sending, Receiving}
+use Rattle.lpt_journal.specs.Journal.{History}
+use Rattle.lpt_journal.specs.Receivers.{clock}
+use Rattle.lpt_machine.specs.Shows.{Shows, ShowsEnd, ShowsLink, ShowsSending, ShowsReceiving}
+use Rattle.lpt_machine.specs.State.{State, end_of, with_end}
+use Rattle.lpt_machine.specs.Views.{Views, EndView, LinkView, SendingView, ReceivingView, view_of, with_view, views, sending_view, receiving_view}
+
+-- ---- fields that are read
+
+-- the end of a side is shown
+pub end_at : {s : State} {v : Views} (side : Side)
+    → Shows s v
+    → ShowsEnd side (end_of s side) (view_of v side)
+end_at Ground k = k.ground
+end_at Craft k = k.craft
+
+-- what is sent in a direction is shown at the end that sends in it
+pub sending_at : (c : Config) {s : State} (h : History) (w : Direction)
+    → Shows s (views c h)
+    → ShowsSending (sender_side w) (end_of s (sender_side w)).sending (sending_view h w)
+sending_at c h Up k = k.ground.sending
+sending_at c h Down k = k.craft.sending
+
+-- what is received in a direction is shown at the end that receives in it
+pub receiving_at : (c : Config) {s : State} (h : History) (w : Direction)
+    → Shows s (views c h)
+    → ShowsReceiving (end_of s (receiver_side w)).receiving (receiving_view c h w)
+receiving_at c h Up k = k.craft.receiving
+receiving_at c h Down k = k.ground.receiving
+
+-- the clock of an end is shown
+pub clock_at : (c : Config) {s : State} (h : History) (side : Side)
+    → Shows s (views c h)
+    → (end_of s side).clock ≡ clock c h side
+clock_at c h Ground k = k.ground.clock
+clock_at c h Craft k = k.craft.clock
+
+-- ---- fields that change
+
+pub with_link : {s : State} {v : Views} {x : LinkData} {y : LinkView}
+    → Shows s v
+    → ShowsLink x y
+    → Shows (record s { link = x }) (record v { link = y })
+with_link k f = record {
+  ground = k.ground;
+  craft = k.craft;
+  link = f;
+  opened = k.opened;
+  released = k.released;
+}
+
+pub with_opened : {s : State} {v : Views} {os os' : List Opening}
+    → Shows s v
+    → os ≡ os'
+    → Shows (record s { opened = os }) (record v { opened = os' })
+with_opened k f = record {
+  ground = k.ground;
+  craft = k.craft;
+  link = k.link;
+  opened = f;
+  released = k.released;
+}
+
+pub with_released : {s : State} {v : Views} {rs rs' : List Release}
+    → Shows s v
+    → rs ≡ rs'
+    → Shows (record s { released = rs }) (record v { released = rs' })
+with_released k f = record {
+  ground = k.ground;
+  craft = k.craft;
+  link = k.link;
+  opened = k.opened;
+  released = f;
+}
+
+-- one end
+with_side : {s : State} {v : Views} (side : Side) {d : NodeData} {y : EndView}
+    → Shows s v
+    → ShowsEnd side d y
+    → Shows (with_end s side d) (with_view v side y)
+with_side Ground k f = record {
+  ground = f;
+  craft = k.craft;
+  link = k.link;
+  opened = k.opened;
+  released = k.released;
+}
+with_side Craft k f = record {
+  ground = k.ground;
+  craft = f;
+  link = k.link;
+  opened = k.opened;
+  released = k.released;
+}
+
+-- what an end sends
+pub with_sending : {s : State} {v : Views} (side : Side) {x : Sending} {y : SendingView}
+    → Shows s v
+    → ShowsSending side x y
+    → Shows (with_end s side (record (end_of s side) { sending = x }))
+    (with_view v side (record (view_of v side) { sending = y }))
+with_sending side k f =
+    let own = end_at side k in
+    with_side side k (record { sending = f; receiving = own.receiving; clock = own.clock })
+
+-- what an end receives
+pub with_receiving : {s : State} {v : Views} (side : Side) {x : Receiving} {y : ReceivingView}
+    → Shows s v
+    → ShowsReceiving x y
+    → Shows (with_end s side (record (end_of s side) { receiving = x }))
+    (with_view v side (record (view_of v side) { receiving = y }))
+with_receiving side k f =
+    let own = end_at side k in
+    with_side side k (record { sending = own.sending; receiving = f; clock = own.clock })
+
+-- an end's clock
+pub with_clock : {s : State} {v : Views} (side : Side) {n n' : ℕ}
+    → Shows s v
+    → n ≡ n'
+    → Shows (with_end s side (record (end_of s side) { clock = n }))
+    (with_view v side (record (view_of v side) { clock = n' }))
+with_clock side k f =
+    let own = end_at side k in
+    with_side side k (record { sending = own.sending; receiving = own.receiving; clock = f })

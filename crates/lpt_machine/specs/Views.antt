@@ -1,0 +1,89 @@
+-- All that a journal says of both ends, of the link and of what was opened and released.
+use Rattle.std.specs.Prelude.{ℕ, Bool, List, Option}
+use Rattle.lpt_packet.specs.declared.direction.Direction.{Direction}
+use Rattle.lpt_packet.specs.declared.direction.Direction.TheVariants.{Up, Down}
+use Rattle.lpt_packet.specs.Names.{Name}
+use Rattle.lpt_reception.specs.Received.{Parts}
+use Rattle.lpt_events.specs.declared.config.Config.{Config}
+use Rattle.lpt_events.specs.declared.entry.Opening.{Opening}
+use Rattle.lpt_events.specs.declared.entry.Release.{Release}
+use Rattle.lpt_events.specs.declared.lane.Lane.{Lane}
+use Rattle.lpt_events.specs.declared.side.Side.{Side}
+use Rattle.lpt_events.specs.declared.side.Side.TheVariants.{Ground, Craft}
+use Rattle.lpt_journal.specs.Journal.{SentPacket, History, sent, is_lost, hand}
+use Rattle.lpt_journal.specs.Receivers.{heard, is_closed, last_tick, clock}
+use Rattle.lpt_journal.specs.Releases.{releases}
+use Rattle.lpt_journal.specs.Senders.{Sender, sender, made, opened}
+
+-- ---- views
+
+-- the state of each sender of an end, and the octets of all packets that the end has made
+pub record SendingView : Type 0 where
+  pub senders : Name → Sender
+  pub made : List (List ℕ)
+
+-- of each transaction that an end receives: the kept parts, whether it is closed, the last tick
+pub record ReceivingView : Type 0 where
+  pub parts : Name → Parts
+  pub closed : Name → Bool
+  pub last : Name → ℕ
+
+-- one end; its clock is in ticks
+pub record EndView : Type 0 where
+  pub sending : SendingView
+  pub receiving : ReceivingView
+  pub clock : ℕ
+
+-- the packets that were put on the link, which of them were lost, and the lanes' hands
+pub record LinkView : Type 0 where
+  pub sent : List SentPacket
+  pub lost : ℕ → Bool
+  pub hands : Lane → Option ℕ
+
+pub record Views : Type 0 where
+  pub ground : EndView
+  pub craft : EndView
+  pub link : LinkView
+  pub opened : List Opening
+  pub released : List Release
+
+-- ---- what a journal says
+
+-- what is sent in a direction
+abbrev pub sending_view : History → Direction → SendingView
+sending_view h d = record { senders = sender h d; made = made h d }
+
+-- what is received in a direction
+abbrev pub receiving_view : Config → History → Direction → ReceivingView
+receiving_view c h d =
+    record { parts = heard c h d; closed = is_closed h d; last = last_tick c h d }
+
+-- all of it
+abbrev pub views : Config → History → Views
+views c h = record {
+  ground = record {
+    sending = sending_view h Up;
+    receiving = receiving_view c h Down;
+    clock = clock c h Ground;
+  };
+  craft = record {
+    sending = sending_view h Down;
+    receiving = receiving_view c h Up;
+    clock = clock c h Craft;
+  };
+  link = record { sent = sent h; lost = is_lost h; hands = hand h };
+  opened = opened h;
+  released = releases c h;
+}
+
+-- ---- one end
+
+-- the end of a side
+abbrev pub view_of : Views → Side → EndView
+view_of v Ground = v.ground
+view_of v Craft = v.craft
+
+-- the views with this end
+abbrev pub with_view : Views → Side → EndView → Views
+with_view v Ground y = record v { ground = y }
+with_view v Craft y = record v { craft = y }
