@@ -20,7 +20,7 @@ use Rattle.lpt_events.specs.declared.side.Side.{Side}
 use Rattle.lpt_events.specs.Arrivals.{NotRead}
 use Rattle.lpt_node.specs.Nodes.{NodeData}
 use Rattle.lpt_node.specs.Receiving.{taken, taken_from, after_take, by_state, abort_head, table_of, parted}
-use Rattle.lpt_reception.specs.Received.{Parts, contradicts, is_whole}
+use Rattle.lpt_reception.specs.Received.{Parts, contradicts, break_reason, is_whole}
 use Rattle.lpt_table.specs.Offering.{OfferKind, Kept, Again, Whole, Conflict, NoRoom, offered, is_full, parts_at, taken_out, with_entry}
 use Rattle.lpt_table.specs.Tables.{TableState}
 use Rattle.lpt_journal.specs.Journal.{History, hand, arrival_in, arrival_at, in_hand}
@@ -41,7 +41,7 @@ abbrev made_of : (full contra again whole : Bool)
     → OfferKind × TableState
 made_of full contra again whole t id before with_it now =
     if full then (NoRoom, t)
-    else if contra then (Conflict, taken_out t id)
+    else if contra then (Conflict break_reason, taken_out t id)
     else if again then (Again, with_entry t id before now)
     else if whole then (Whole, taken_out t id)
     else (Kept, with_entry t id with_it now)

@@ -40,6 +40,7 @@ use Rattle.lpt_machine.proofs.LinkShown.{link_dropped}
 use Rattle.lpt_machine.proofs.NoAborts.{in_hand_no_abort}
 use Rattle.lpt_machine.proofs.ReceivingShown.{kept_shown, again_shown, ended_shown, some_parts}
 use Rattle.lpt_machine.proofs.ReportShown.{report_shown}
+use Rattle.lpt_memory.specs.Memories.{Contents}
 use Rattle.lpt_machine.proofs.SendingShown.{closed_shown}
 
 -- ---- what is shown
@@ -219,32 +220,32 @@ dropped : (c : Config) (s : State) (h : History) (l : Lane)
 dropped c s h l k = with_link k (link_dropped l k.link)
 
 -- what is in the hand is delivered
-in_lane : (c : Config) (s : State) (h : History) (l : Lane)
+in_lane : (c : Config) (first : Contents) (s : State) (h : History) (l : Lane)
     → Shows s (views c h)
     → Shows
     (delivered_on (length h) s l
     (accepted (receiver_side (lane_direction l)) c (end_of s (receiver_side (lane_direction l)))
     (in_hand c h l))).0
-    (views c (entry c h (Deliver l) ∷ h))
-in_lane c s h S1 k =
+    (views c (entry c first h (Deliver l) ∷ h))
+in_lane c first s h S1 k =
     any c h _ _ (dropped c s h S1 k) Up k.craft.receiving k.craft.clock (in_hand c h S1)
     (λ up id reason. in_hand_no_abort c h S1 id reason up)
-in_lane c s h S2 k =
+in_lane c first s h S2 k =
     any c h _ _ (dropped c s h S2 k) Up k.craft.receiving k.craft.clock (in_hand c h S2)
     (λ up id reason. in_hand_no_abort c h S2 id reason up)
-in_lane c s h G1 k =
+in_lane c first s h G1 k =
     any c h _ _ (dropped c s h G1 k) Down k.ground.receiving k.ground.clock (in_hand c h G1)
     (λ up id reason. in_hand_no_abort c h G1 id reason up)
-in_lane c s h G2 k =
+in_lane c first s h G2 k =
     any c h _ _ (dropped c s h G2 k) Down k.ground.receiving k.ground.clock (in_hand c h G2)
     (λ up id reason. in_hand_no_abort c h G2 id reason up)
 
 -- a lane delivers
-pub delivered_shown : (c : Config) (s : State) (h : History) (l : Lane)
+pub delivered_shown : (c : Config) (first : Contents) (s : State) (h : History) (l : Lane)
     → Shows s (views c h)
-    → Shows (after_deliver c (length h) s l).0 (views c (entry c h (Deliver l) ∷ h))
-delivered_shown c s h l k =
+    → Shows (after_deliver c (length h) s l).0 (views c (entry c first h (Deliver l) ∷ h))
+delivered_shown c first s h l k =
     let side = receiver_side (lane_direction l) in
     subst (λ (a : Arrival).
     Shows (delivered_on (length h) s l (accepted side c (end_of s side) a)).0
-    (views c (entry c h (Deliver l) ∷ h))) (sym (arrival_agrees c s h l k)) (in_lane c s h l k)
+    (views c (entry c first h (Deliver l) ∷ h))) (sym (arrival_agrees c s h l k)) (in_lane c first s h l k)

@@ -9,6 +9,6 @@ pub follows : FollowsJournal
 follows = record {
   begins = shows_none;
   refuses = refusal_shown;
-  goes_on = λ c s h e k free.
-      record { answered = reply_shown c s h e k free; shown = event_shown c s h e k free };
+  goes_on = λ c first s h e k free.
+      record { answered = reply_shown c first s h e k free; shown = event_shown c first s h e k free };
 }

@@ -1,5 +1,5 @@
 -- The link shows its packets, marks and hands after each change.
-use Rattle.std.proofs.Common.{◌≡◌, ◌∙◌, ap, sym, subst, refl, ℕ, zero, suc, ◌+◌, ◌≤◌, ◌==◌, nat_lt, Bool, true, false, not, ◌&&◌, if◌then◌else◌, List, [], ◌∷◌, ◌++◌, length, map, Option, Some, None, arith, length-append, append_assoc}
+use Rattle.std.proofs.Common.{◌≡◌, ◌∙◌, ap, sym, subst, refl, ℕ, zero, suc, ◌+◌, ◌<◌, ◌≤◌, ◌==◌, nat_lt, Bool, true, false, not, ◌&&◌, ◌||◌, if◌then◌else◌, List, [], ◌∷◌, ◌++◌, length, map, Option, Some, None, arith, length-append, append_assoc}
 use Rattle.std.specs.Option.{option_map_or}
 use Rattle.std.specs.Prelude.{slice_get}
 use Rattle.std.proofs.lemmas.Bool.Decides.{nat_tests}
@@ -9,7 +9,7 @@ use Rattle.lpt_packet.specs.Names.{Name}
 use Rattle.lpt_events.specs.declared.lane.Lane.{Lane}
 use Rattle.lpt_events.specs.declared.lane.Lane.TheVariants.{S1, S2, G1, G2}
 use Rattle.lpt_link.specs.declared.packet.LinkPacket.{LinkPacket}
-use Rattle.lpt_link.specs.Links.{LinkData, hand_of, after_put, after_take, after_drop}
+use Rattle.lpt_link.specs.Links.{LinkData, hand_of, with_lost, after_put, after_lose, after_take, after_drop}
 use Rattle.lpt_events.specs.declared.event.Event.TheVariants.{Take, Deliver}
 use Rattle.lpt_journal.specs.Journal.{SentPacket, with_all, hand_after}
 use Rattle.lpt_machine.specs.Shows.{ShowsLink, sent_packet}
@@ -132,6 +132,63 @@ link_more {x = x} {y = y} d tag b b' e k =
       lost_before = λ n late. k.lost_before n (omega arith);
       hands = k.hands;
     }
+
+-- ---- a packet that is lost
+
+-- losing a packet changes its mark alone
+sent-with_lost : (xs : List LinkPacket) (n : ℕ)
+    → map sent_packet (with_lost xs n) ≡ map sent_packet xs
+sent-with_lost [] n = refl
+sent-with_lost (p ∷ xs) zero = refl
+sent-with_lost (p ∷ xs) (suc n) = ap (λ ps. sent_packet p ∷ ps) (sent-with_lost xs n)
+
+zero_suc : (n : ℕ) → (zero == suc n) ≡ false
+zero_suc n = grind (arith, nat_tests)
+
+suc_zero : (n : ℕ) → (suc n == zero) ≡ false
+suc_zero n = grind (arith, nat_tests)
+
+-- the lost packet is held no more, and the others as before
+held-with_lost : (xs : List LinkPacket) (n m : ℕ)
+    → option_map_or (λ q. q.held) (slice_get (with_lost xs n) m) false
+    ≡ (not (m == n) && option_map_or (λ q. q.held) (slice_get xs m) false)
+held-with_lost [] n m = sym (none (not (m == n))) where
+  none : (t : Bool) → (t && false) ≡ false
+  none true = refl
+  none false = refl
+held-with_lost (p ∷ xs) zero zero = refl
+held-with_lost (p ∷ xs) zero (suc m) =
+    sym (ap (λ t. not t && option_map_or (λ q. q.held) (slice_get xs m) false) (suc_zero m))
+held-with_lost (p ∷ xs) (suc n) zero = sym (ap (λ t. not t && p.held) (zero_suc n))
+held-with_lost (p ∷ xs) (suc n) (suc m) =
+    held-with_lost xs n m
+    ∙ sym (ap (λ t. not t && option_map_or (λ q. q.held) (slice_get xs m) false) (same_suc m n))
+
+lost_too : (below now before : Bool)
+    → (not now && (below && not before)) ≡ (below && not (now || before))
+lost_too true true before = refl
+lost_too true false before = refl
+lost_too false true before = refl
+lost_too false false before = refl
+
+not_there : (m n len : ℕ) → n < len → len ≤ m → (m == n) ≡ false
+not_there m n len there late = grind (arith, nat_tests)
+
+-- a packet that was put is lost
+pub link_lost : {x : LinkData} {y : LinkView} (n : ℕ)
+    → n < length y.sent
+    → ShowsLink x y
+    → ShowsLink (after_lose x n) (record y { lost = λ m. (m == n) || y.lost m })
+link_lost {x = x} {y = y} n there k = record {
+  packets = sent-with_lost x.packets n ∙ k.packets;
+  held = λ m.
+      held-with_lost x.packets n m
+      ∙ ap (λ t. not (m == n) && t) (k.held m)
+      ∙ lost_too (nat_lt m (length y.sent)) (m == n) (y.lost m);
+  lost_before = λ m late.
+      (λ i. not_there m n (length y.sent) there late i || y.lost m) ∙ k.lost_before m late;
+  hands = k.hands;
+}
 
 -- ---- lists of packets
 

@@ -22,7 +22,7 @@ use Rattle.lpt_events.specs.Requests.{is_part_request, is_too_long}
 use Rattle.lpt_node.specs.Sending.{refusal_open_in, refusal_send_of, refusal_finish_in}
 use Rattle.lpt_node.specs.Times.{refusal_expire_of}
 use Rattle.lpt_events.specs.declared.event.Event.{Event}
-use Rattle.lpt_events.specs.declared.event.Event.TheVariants.{Open, Send, Plain, Finish, Take, Deliver, Tick, Expire}
+use Rattle.lpt_events.specs.declared.event.Event.TheVariants.{Open, Send, Plain, Finish, Lose, Take, Deliver, Tick, Expire}
 use Rattle.lpt_events.specs.declared.fault.StepFault.TheVariants.{InUse, Short, Long, TooMany, NotOpen, NoSuchPart, NotHeld, HandFull, HandEmpty, NothingDue, ClockEnd, PartRequest}
 use Rattle.lpt_journal.specs.Journal.{History, sent, is_held, goes, hand}
 use Rattle.lpt_journal.specs.Receivers.{clock}
@@ -129,6 +129,12 @@ held_agrees c s h d n k =
     held_for d (slice_get s.link.packets n)
     ∙ (λ i. k.link.held n i && option_map_or (λ p. same_direction p.direction d) (packet i) false)
 
+by_mark : (held : Bool)
+    → option_map link_fault (if held then None else Some link.NotHeld)
+    ≡ first_fault ((not held, NotHeld) ∷ [])
+by_mark true = refl
+by_mark false = refl
+
 by_hand : (full held : Bool)
     → option_map link_fault
     (if full then Some link.HandFull else if held then None else Some link.NotHeld)
@@ -177,6 +183,9 @@ refusal_shown c s h (Finish d id) k =
     ap (λ m. option_map node_fault (refusal_finish_in (state_of m)))
     ((sending_at c h d k).ledger id)
     ∙ refuses_finish (sender h d id)
+refusal_shown c s h (Lose n) k =
+    (λ i. option_map link_fault (if k.link.held n i then None else Some link.NotHeld))
+    ∙ by_mark (is_held h n)
 refusal_shown c s h (Take l n) k =
     let w = lane_direction l in
     (λ i. option_map link_fault

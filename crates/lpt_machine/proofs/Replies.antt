@@ -11,7 +11,7 @@ use Rattle.lpt_events.specs.declared.config.Config.{Config}
 use Rattle.lpt_events.specs.declared.side.Side.{Side}
 use Rattle.lpt_events.specs.declared.side.Side.TheVariants.{Ground, Craft}
 use Rattle.lpt_events.specs.declared.event.Event.{Event}
-use Rattle.lpt_events.specs.declared.event.Event.TheVariants.{Open, Send, Plain, Finish, Take, Deliver, Tick, Expire}
+use Rattle.lpt_events.specs.declared.event.Event.TheVariants.{Open, Send, Plain, Finish, Lose, Take, Deliver, Tick, Expire}
 use Rattle.lpt_events.specs.declared.fault.StepFault.TheVariants.{NotOpen, NoSuchPart}
 use Rattle.lpt_events.specs.declared.outcome.Outcome.{Outcome}
 use Rattle.lpt_events.specs.declared.outcome.Outcome.TheVariants.{Broken}
@@ -41,6 +41,7 @@ use Rattle.lpt_machine.specs.Views.{views, receiving_view}
 use Rattle.lpt_machine.proofs.ArrivalsAgree.{delivery, part_agrees, arrival_agrees}
 use Rattle.lpt_machine.proofs.DueShown.{due_shown}
 use Rattle.lpt_machine.proofs.Fields.{receiving_at, clock_at}
+use Rattle.lpt_memory.specs.Memories.{Contents}
 use Rattle.lpt_machine.proofs.LinkShown.{as_many_packets}
 
 -- a reply with this answer and these packets, the first of which got this number
@@ -119,27 +120,28 @@ reply_expired c h side d n (Some id) =
 
 -- ---- all events
 
-pub reply_shown : (c : Config) (s : State) (h : History) (e : Event)
+pub reply_shown : (c : Config) (first : Contents) (s : State) (h : History) (e : Event)
     → Shows s (views c h)
     → refusal c h e ≡ None
-    → (after c (length h) s e).1 ≡ reply c h e
-reply_shown c s h (Open d id m) k e = refl
-reply_shown c s h (Send d id n) k e =
+    → (after c (length h) s e).1 ≡ reply c first h e
+reply_shown c first s h (Open d id m) k e = refl
+reply_shown c first s h (Send d id n) k e =
     ap (λ j. put_one j (Put j)) (as_many_packets k.link)
     ∙ reply_sent c h d id n (length (sent h)) (sender h d id)
     (not_false (is_open (sender h d id)) (two_pass _ _ NotOpen NoSuchPart e).0)
-reply_shown c s h (Plain flags service subtype body) k e =
+reply_shown c first s h (Plain flags service subtype body) k e =
     ap (λ j. put_one j (Put j)) (as_many_packets k.link)
-reply_shown c s h (Finish d id) k e = refl
-reply_shown c s h (Take l n) k e = refl
-reply_shown c s h (Tick side) k e = ap (λ n. quiet (Clock (n + 1))) (clock_at c h side k)
-reply_shown c s h (Expire side) k e =
+reply_shown c first s h (Finish d id) k e = refl
+reply_shown c first s h (Lose n) k e = refl
+reply_shown c first s h (Take l n) k e = refl
+reply_shown c first s h (Tick side) k e = ap (λ n. quiet (Clock (n + 1))) (clock_at c h side k)
+reply_shown c first s h (Expire side) k e =
     ap (λ (o : Option Name). (expired_on s side (expired_of side c (end_of s side) o)).1)
     (due_shown c s h side k)
     ∙ reply_expired c h side (end_of s side) (length s.link.packets) (due c h (direction_to side))
     ∙ ap (λ (n : ℕ). reply_with n (expired_now (direction_to side) (due c h (direction_to side)))
     (expiry_puts c h side (due c h (direction_to side)))) (as_many_packets k.link)
-reply_shown c s h (Deliver l) k e =
+reply_shown c first s h (Deliver l) k e =
     let w = lane_direction l in
     let side = receiver_side w in
     ap (λ (a : Arrival). reply_to (length s.link.packets) (accepted side c (end_of s side) a))

@@ -2,6 +2,7 @@
 use Rattle.std.specs.Prelude.{◌≡◌, [], ◌∷◌, length, None}
 use Rattle.lpt_events.specs.declared.config.Config.{Config}
 use Rattle.lpt_events.specs.declared.event.Event.{Event}
+use Rattle.lpt_memory.specs.Memories.{Contents}
 use Rattle.lpt_journal.specs.Journal.{History}
 use Rattle.lpt_journal.specs.Replies.{refusal, reply, entry}
 use Rattle.lpt_machine.specs.Shows.{Shows}
@@ -9,9 +10,9 @@ use Rattle.lpt_machine.specs.State.{State, no_state, refusal_of, after}
 use Rattle.lpt_machine.specs.Views.{views}
 
 -- an event that isn't refused is answered as the journal says, and the longer journal is shown
-pub record GoesOn (c : Config) (s : State) (h : History) (e : Event) : Type 0 where
-  pub answered : (after c (length h) s e).1 ≡ reply c h e
-  pub shown : Shows (after c (length h) s e).0 (views c (entry c h e ∷ h))
+pub record GoesOn (c : Config) (first : Contents) (s : State) (h : History) (e : Event) : Type 0 where
+  pub answered : (after c (length h) s e).1 ≡ reply c first h e
+  pub shown : Shows (after c (length h) s e).0 (views c (entry c first h e ∷ h))
 
 -- where nothing has happened, the empty journal is shown; what shows a journal refuses what the
 -- journal refuses, and goes on with it
@@ -20,7 +21,7 @@ pub record FollowsJournal : Type 0 where
   pub refuses : (c : Config) (s : State) (h : History) (e : Event)
       → Shows s (views c h)
       → refusal_of c s e ≡ refusal c h e
-  pub goes_on : (c : Config) (s : State) (h : History) (e : Event)
+  pub goes_on : (c : Config) (first : Contents) (s : State) (h : History) (e : Event)
       → Shows s (views c h)
       → refusal c h e ≡ None
-      → GoesOn c s h e
+      → GoesOn c first s h e
