@@ -11,14 +11,14 @@ module _ (seat : ℕ) (e : Event) where
   accepted_with w [] n k is all free = absurd (omega arith)
   accepted_with w (x ∷ xs) zero k is all free = (ap (λ y. refusal_at w seat y) (sym is) ∙ free, tt)
   accepted_with w (x ∷ xs) (suc n) k is all free =
-      (all.0, accepted_with (with_entry w seat x (reply w.config (history w) x)) xs n (omega arith) is all.1 free)
+      (all.0, accepted_with (with_entry w seat x (reply w.config w.first (history w) x)) xs n (omega arith) is all.1 free)
 
   entered_with : (w : Shown) (es : List Event) (n : ℕ) → n < length es → e ≡ slice_index_or es n e
-      → with_entry (entered w seat (take n es)) seat e (reply (entered w seat (take n es)).config (history (entered w seat (take n es))) e)
+      → with_entry (entered w seat (take n es)) seat e (reply (entered w seat (take n es)).config (entered w seat (take n es)).first (history (entered w seat (take n es))) e)
       ≡ entered w seat (take (suc n) es)
   entered_with w [] n k is = absurd (omega arith)
-  entered_with w (x ∷ xs) zero k is = ap (λ y. with_entry w seat y (reply w.config (history w) y)) is
-  entered_with w (x ∷ xs) (suc n) k is = entered_with (with_entry w seat x (reply w.config (history w) x)) xs n (omega arith) is
+  entered_with w (x ∷ xs) zero k is = ap (λ y. with_entry w seat y (reply w.config w.first (history w) y)) is
+  entered_with w (x ∷ xs) (suc n) k is = entered_with (with_entry w seat x (reply w.config w.first (history w) x)) xs n (omega arith) is
 
   -- where the event stands in the list
   pub got : (es : List Event) (n : ℕ) → n < length es → e ≡ slice_index_or es n e → slice_get es n ≡ Some e
@@ -33,11 +33,11 @@ pub record IsRun (w v : Shown) (es : List Event) (n : ℕ) : Type 0 where
 
 -- the run with one event more
 pub run_on : (w v v' : Shown) (es : List Event) (n : ℕ) (e : Event) → n < length es → e ≡ slice_index_or es n e → IsRun w v es n
-    → refusal_at v 0 e ≡ None → v' ≡ with_entry v 0 e (reply v.config (history v) e)
+    → refusal_at v 0 e ≡ None → v' ≡ with_entry v 0 e (reply v.config v.first (history v) e)
     → IsRun w v' es (n + 1)
 run_on w v v' es n e k is run free next = let one : suc n ≡ n + 1 = omega arith in subst (IsRun w v' es) one (record {
   accepted = accepted_with 0 e w es n k is run.accepted (subst (λ (u : Shown). refusal_at u 0 e ≡ None) run.entered free);
-  entered = next ∙ ap (λ (u : Shown). with_entry u 0 e (reply u.config (history u) e)) run.entered ∙ entered_with 0 e w es n k is;
+  entered = next ∙ ap (λ (u : Shown). with_entry u 0 e (reply u.config u.first (history u) e)) run.entered ∙ entered_with 0 e w es n k is;
 })
 
 -- a run of all of them

@@ -39,14 +39,14 @@ events_of-push j x =
     ap reverse (map-append (λ (y : Entry). y.event) j (x ∷ []))
     ∙ reverse-append (events j) (x.event ∷ [])
 
-length-recorded : (c : Config) (es : List Event) → length (recorded c es) ≡ length es
-length-recorded c [] = refl
-length-recorded c (e ∷ es) = ap (λ n. suc n) (length-recorded c es)
+length-recorded : (c : Config) (first : Contents) (es : List Event) → length (recorded c first es) ≡ length es
+length-recorded c first [] = refl
+length-recorded c first (e ∷ es) = ap (λ n. suc n) (length-recorded c first es)
 
 -- a history has as many events as its journal has entries
-pub length-history_of : (c : Config) (j : List Entry) → length (history_of c j) ≡ length j
-length-history_of c j =
-    length-recorded c (events_of j)
+pub length-history_of : (c : Config) (first : Contents) (j : List Entry) → length (history_of c first j) ≡ length j
+length-history_of c first j =
+    length-recorded c first (events_of j)
     ∙ length-reverse (events j)
     ∙ length-map j (λ (y : Entry). y.event)
 
@@ -62,76 +62,76 @@ onto-events_of past (x ∷ xs) =
     ∙ sym (ap (λ es. es ++ past) (reverse-append (x.event ∷ []) (events xs))
     ∙ append_assoc (reverse (events xs)) (x.event ∷ []) past)
 
-told_push : (c : Config) (past : List Event) (j : List Entry) (x : Entry)
-    → IsToldAfter c past j
-    → IsEnabled c (recorded c (onto past j)) x.event
-    → x.reply ≡ reply c (recorded c (onto past j)) x.event
-    → IsToldAfter c past (j ++ x ∷ [])
-told_push c past [] x told enabled is = (enabled, is, tt)
-told_push c past (y ∷ ys) x told enabled is =
-    (told.0, told.1, told_push c (y.event ∷ past) ys x told.2 enabled is)
+told_push : (c : Config) (first : Contents) (past : List Event) (j : List Entry) (x : Entry)
+    → IsToldAfter c first past j
+    → IsEnabled c (recorded c first (onto past j)) x.event
+    → x.reply ≡ reply c first (recorded c first (onto past j)) x.event
+    → IsToldAfter c first past (j ++ x ∷ [])
+told_push c first past [] x told enabled is = (enabled, is, tt)
+told_push c first past (y ∷ ys) x told enabled is =
+    (told.0, told.1, told_push c first (y.event ∷ past) ys x told.2 enabled is)
 
 -- ---- what the ends do
 
 -- what the ends don't refuse the journal doesn't
-accepted_shown : (e : Ends) (j : List Entry) (ev : Event)
-    → IsShown e j
+accepted_shown : (e : Ends) (first : Contents) (j : List Entry) (ev : Event)
+    → IsShown e first j
     → refusal_of e.config (state_of e) ev ≡ None
-    → refusal e.config (history_of e.config j) ev ≡ None
-accepted_shown e j ev k free =
-    sym (follows.refuses e.config (state_of e) (history_of e.config j) ev k.shows) ∙ free
+    → refusal e.config (history_of e.config first j) ev ≡ None
+accepted_shown e first j ev k free =
+    sym (follows.refuses e.config (state_of e) (history_of e.config first j) ev k.shows) ∙ free
 
 -- the reply of the ends is the journal's
-pub reply_shown : (e e' : Ends) (j : List Entry) (ev : Event) (r : Reply)
-    → IsShown e j
+pub reply_shown : (e e' : Ends) (first : Contents) (j : List Entry) (ev : Event) (r : Reply)
+    → IsShown e first j
     → refusal_of e.config (state_of e) ev ≡ None
     → ◌≡◌ {A = State × Reply} (state_of e', r) (after e.config (length j) (state_of e) ev)
-    → r ≡ reply e.config (history_of e.config j) ev
-reply_shown e e' j ev r k free done =
+    → r ≡ reply e.config first (history_of e.config first j) ev
+reply_shown e e' first j ev r k free done =
     let c = e.config in
-    let goes = follows.goes_on c (state_of e) (history_of c j) ev k.shows (accepted_shown e j ev k free) in
+    let goes = follows.goes_on c first (state_of e) (history_of c first j) ev k.shows (accepted_shown e first j ev k free) in
     ap (λ (y : State × Reply). y.1) done
-    ∙ ap (λ n. (after c n (state_of e) ev).1) (sym (length-history_of c j))
+    ∙ ap (λ n. (after c n (state_of e) ev).1) (sym (length-history_of c first j))
     ∙ goes.answered
 
 -- a world that has done an event shows it
-pub shown_push : (e e' : Ends) (j : List Entry) (x : Entry)
-    → IsShown e j
+pub shown_push : (e e' : Ends) (first : Contents) (j : List Entry) (x : Entry)
+    → IsShown e first j
     → IsEvent x.event
     → refusal_of e.config (state_of e) x.event ≡ None
     → ◌≡◌ {A = State × Reply} (state_of e', x.reply) (after e.config (length j) (state_of e) x.event)
     → e'.config ≡ e.config
-    → IsShown e' (j ++ x ∷ [])
-shown_push e e' j x k ranged free done same =
+    → IsShown e' first (j ++ x ∷ [])
+shown_push e e' first j x k ranged free done same =
     let c = e.config in
-    let h : History = history_of c j in
-    let accepted : refusal c h x.event ≡ None = accepted_shown e j x.event k free in
-    let goes = follows.goes_on c (state_of e) h x.event k.shows accepted in
+    let h : History = history_of c first j in
+    let accepted : refusal c h x.event ≡ None = accepted_shown e first j x.event k free in
+    let goes = follows.goes_on c first (state_of e) h x.event k.shows accepted in
     let state : (after c (length h) (state_of e) x.event).0 ≡ state_of e' =
-    ap (λ n. (after c n (state_of e) x.event).0) (length-history_of c j)
+    ap (λ n. (after c n (state_of e) x.event).0) (length-history_of c first j)
     ∙ sym (ap (λ (y : State × Reply). y.0) done) in
-    let longer : history_of c (j ++ x ∷ []) ≡ entry c h x.event ∷ h =
-    ap (recorded c) (events_of-push j x) in
+    let longer : history_of c first (j ++ x ∷ []) ≡ entry c first h x.event ∷ h =
+    ap (recorded c first) (events_of-push j x) in
     let past : onto [] j ≡ events_of j = onto-events_of [] j ∙ append-nil (events_of j) in
-    let shows : Shows (state_of e') (views c (history_of c (j ++ x ∷ []))) =
+    let shows : Shows (state_of e') (views c (history_of c first (j ++ x ∷ []))) =
     subst (λ (g : History). Shows (state_of e') (views c g)) (sym longer)
-    (subst (λ (s : State). Shows s (views c (entry c h x.event ∷ h))) state goes.shown) in
-    let enabled : IsEnabled c (recorded c (onto [] j)) x.event =
-    subst (λ (es : List Event). IsEnabled c (recorded c es) x.event) (sym past)
+    (subst (λ (s : State). Shows s (views c (entry c first h x.event ∷ h))) state goes.shown) in
+    let enabled : IsEnabled c (recorded c first (onto [] j)) x.event =
+    subst (λ (es : List Event). IsEnabled c (recorded c first es) x.event) (sym past)
     (record { in_range = ranged; accepted = accepted }) in
-    let told : IsTold c (j ++ x ∷ []) =
-    told_push c [] j x k.told enabled
-    (reply_shown e e' j x.event x.reply k free done
-    ∙ ap (λ es. reply c (recorded c es) x.event) (sym past)) in
-    subst (λ (d : Config). IsWorld d e' (j ++ x ∷ [])) (sym same)
+    let told : IsTold c first (j ++ x ∷ []) =
+    told_push c first [] j x k.told enabled
+    (reply_shown e e' first j x.event x.reply k free done
+    ∙ ap (λ es. reply c first (recorded c first es) x.event) (sym past)) in
+    subst (λ (d : Config). IsWorld d first e' (j ++ x ∷ [])) (sym same)
     (record { configured = k.configured; shows = shows; told = told })
 
 -- the octets of a packet are what the journal says
-pub packet_shown : (e : Ends) (j : List Entry) (n : ℕ)
-    → IsShown e j
+pub packet_shown : (e : Ends) (first : Contents) (j : List Entry) (n : ℕ)
+    → IsShown e first j
     → octets_at e.link.at n
-    ≡ option_map (λ p. p.octets) (slice_get (sent (history_of e.config j)) n)
-packet_shown e j n k =
+    ≡ option_map (λ p. p.octets) (slice_get (sent (history_of e.config first j)) n)
+packet_shown e first j n k =
     go (slice_get e.link.at.packets n)
     ∙ ap (λ o. option_map (λ (p : SentPacket). p.octets) o)
     (sym (slice_get-map sent_packet e.link.at.packets n)
@@ -146,24 +146,24 @@ packet_shown e j n k =
 
 -- what the ends refuse is what the world refuses of a seat that there is
 pub refusal_at_shown : (e : Ends) (first : Contents) (j : List Entry) (seat : ℕ) (ev : Event)
-    → IsShown e j
+    → IsShown e first j
     → seat ≤ 10
     → refusal_of e.config (state_of e) ev
     ≡ refusal_at (record { config = e.config; first = first; journal = j }) seat ev
 refusal_at_shown e first j seat ev k h =
-    let past = history_of e.config j in
+    let past = history_of e.config first j in
     let there : nat_lt 10 seat ≡ false = lt_false 10 seat h in
     follows.refuses e.config (state_of e) past ev k.shows
     ∙ sym (ap (λ t. if t then Some NoSuchSeat else refusal e.config past ev) there)
 
 -- what the world doesn't refuse the ends don't
 pub free_shown : (e : Ends) (first : Contents) (j : List Entry) (seat : ℕ) (ev : Event)
-    → IsShown e j
+    → IsShown e first j
     → None ≡ refusal_at (record { config = e.config; first = first; journal = j }) seat ev
     → refusal_of e.config (state_of e) ev ≡ None
 free_shown e first j seat ev k h =
-    follows.refuses e.config (state_of e) (history_of e.config j) ev k.shows
-    ∙ go (nat_lt 10 seat) (refusal e.config (history_of e.config j) ev) h where
+    follows.refuses e.config (state_of e) (history_of e.config first j) ev k.shows
+    ∙ go (nat_lt 10 seat) (refusal e.config (history_of e.config first j) ev) h where
       go : (t : Bool) (r : Option StepFault) → None ≡ (if t then Some NoSuchSeat else r) → r ≡ None
       go true r f = absurd cc
       go false r f = sym f
@@ -171,12 +171,12 @@ free_shown e first j seat ev k h =
 -- ---- a new world
 
 -- a new world shows the empty journal
-pub shown_new : (e : Ends) (c : Config)
+pub shown_new : (e : Ends) (c : Config) (first : Contents)
     → e.config ≡ c
     → state_of e ≡ no_state c
     → IsConfig c
-    → IsShown e []
-shown_new e c same state configured =
+    → IsShown e first []
+shown_new e c first same state configured =
     let shows = subst (λ (s : State). Shows s (views c [])) (sym state) (follows.begins c) in
-    subst (λ (d : Config). IsWorld d e []) (sym same)
+    subst (λ (d : Config). IsWorld d first e []) (sym same)
     (record { configured = configured; shows = shows; told = tt })

@@ -5,16 +5,17 @@ use Rattle.lpt_world.specs.declared.ends.Ends.{Ends}
 use Rattle.lpt_events.specs.declared.entry.Entry.{Entry}
 use Rattle.lpt_world.specs.EndsInside.{state_of}
 use Rattle.lpt_events.specs.Configs.{IsConfig}
+use Rattle.lpt_memory.specs.Memories.{Contents}
 use Rattle.lpt_machine.specs.Shows.{Shows}
 use Rattle.lpt_machine.specs.Views.{views}
 use Rattle.lpt_world.specs.Worlds.{IsTold, history_of}
 
--- under this configuration
-pub record IsWorld (c : Config) (e : Ends) (j : List Entry) : Type 0 where
+-- under this configuration, over this first content of the memories
+pub record IsWorld (c : Config) (first : Contents) (e : Ends) (j : List Entry) : Type 0 where
   pub configured : IsConfig c
-  pub shows : Shows (state_of e) (views c (history_of c j))
-  pub told : IsTold c j
+  pub shows : Shows (state_of e) (views c (history_of c first j))
+  pub told : IsTold c first j
 
--- under that of the ends
-abbrev pub IsShown : Ends → List Entry → Type 0
-IsShown e j = IsWorld e.config e j
+-- under the configuration of the ends
+abbrev pub IsShown : Ends → Contents → List Entry → Type 0
+IsShown e first j = IsWorld e.config first e j

@@ -25,29 +25,29 @@ new_world c first = record { config = c; first = first; journal = [] }
 abbrev pub events_of : List Entry → List Event
 events_of j = reverse (map (λ x. x.event) j)
 
--- what a journal tells under a configuration
-abbrev pub history_of : Config → List Entry → History
-history_of c j = recorded c (events_of j)
+-- what a journal tells under a configuration, over the first content of memories
+abbrev pub history_of : Config → Contents → List Entry → History
+history_of c first j = recorded c first (events_of j)
 
 -- what a world's journal tells
 abbrev pub history : Shown → History
-history w = history_of w.config w.journal
+history w = history_of w.config w.first w.journal
 
 -- a world's memories now
 abbrev pub memories_now : Shown → Contents
 memories_now w = memories w.config w.first (history w)
 
 -- each entry's event can happen after those before it, and its reply is the one that it gives then
-abbrev pub IsToldAfter : Config → List Event → List Entry → Type 0
-IsToldAfter c past [] = Unit {0}
-IsToldAfter c past (x ∷ xs) =
-    IsEnabled c (recorded c past) x.event
-    × (x.reply ≡ reply c (recorded c past) x.event)
-    × IsToldAfter c (x.event ∷ past) xs
+abbrev pub IsToldAfter : Config → Contents → List Event → List Entry → Type 0
+IsToldAfter c first past [] = Unit {0}
+IsToldAfter c first past (x ∷ xs) =
+    IsEnabled c (recorded c first past) x.event
+    × (x.reply ≡ reply c first (recorded c first past) x.event)
+    × IsToldAfter c first (x.event ∷ past) xs
 
 -- a journal from its beginning
-abbrev pub IsTold : Config → List Entry → Type 0
-IsTold c j = IsToldAfter c [] j
+abbrev pub IsTold : Config → Contents → List Entry → Type 0
+IsTold c first j = IsToldAfter c first [] j
 
 -- why a world refuses a seat's event: there are seats 0 to 10
 abbrev pub refusal_at : Shown → ℕ → Event → Option StepFault
@@ -67,13 +67,13 @@ with_entry w seat e r = record w { journal = w.journal ++ record { seat = seat; 
 -- the world after these events of one seat, each of which was accepted
 abbrev pub entered : Shown → ℕ → List Event → Shown
 entered w seat [] = w
-entered w seat (e ∷ es) = entered (with_entry w seat e (reply w.config (history w) e)) seat es
+entered w seat (e ∷ es) = entered (with_entry w seat e (reply w.config w.first (history w) e)) seat es
 
 -- each of these events is accepted after those before it
 abbrev pub AllAccepted : Shown → ℕ → List Event → Type 0
 AllAccepted w seat [] = Unit {0}
 AllAccepted w seat (e ∷ es) =
-    (refusal_at w seat e ≡ None) × AllAccepted (with_entry w seat e (reply w.config (history w) e)) seat es
+    (refusal_at w seat e ≡ None) × AllAccepted (with_entry w seat e (reply w.config w.first (history w) e)) seat es
 
 -- the fault of the event, if there is one
 abbrev pub IsFaultOf : Shown → ℕ → Option Event → StepFault → Type 0

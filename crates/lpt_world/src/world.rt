@@ -39,7 +39,7 @@ impl Model for World {
 
     ghost view = { λ w. record { config = w.ends.config; first = w.first; journal = w.journal.items } };
 
-    ghost invariant = { λ w. IsShown w.ends w.journal.items };
+    ghost invariant = { λ w. IsShown w.ends w.first w.journal.items };
 }
 
 impl World {
@@ -73,7 +73,7 @@ impl World {
     pub fn step(&mut self, seat: u8, event: Event) -> Result<Reply, Refused>
         // Accepted exactly where it can happen, want of memory aside; the reply is the journal's.
         ensures enabled { IfOk result (λ r. refusal_at self.old seat event ≡ None) }
-        ensures reply { IfOk result (λ r. r ≡ reply self.old.config (history self.old) event) }
+        ensures reply { IfOk result (λ r. r ≡ reply self.old.config self.old.first (history self.old) event) }
         ensures entered { IfOk result (λ r. self.new ≡ with_entry self.old seat event r) }
 
         ensures refused { IfErr result (λ e. RefusedBy (refusal_at self.old seat event) e.fault) }
@@ -91,7 +91,7 @@ impl World {
     // The same, with the fault and the event where it is refused.
     fn try_step(&mut self, seat: u8, event: Event) -> Result<Reply, (StepFault, Event)>
         ensures enabled { IfOk result (λ r. refusal_at self.old seat event ≡ None) }
-        ensures reply { IfOk result (λ r. r ≡ reply self.old.config (history self.old) event) }
+        ensures reply { IfOk result (λ r. r ≡ reply self.old.config self.old.first (history self.old) event) }
         ensures entered { IfOk result (λ r. self.new ≡ with_entry self.old seat event r) }
         ensures refused { IfErr result (λ e. RefusedBy (refusal_at self.old seat event) e.0) }
         ensures back { IfErr result (λ e. e.1 ≡ event) }
@@ -140,7 +140,7 @@ impl World {
     // Steps seat 0 through a copy of the event, and gives the fault where it is refused.
     fn step_copy(&mut self, event: &Event) -> Option<StepFault>
         ensures accepted { result ≡ None → refusal_at self.old 0 event.now ≡ None }
-        ensures entered { result ≡ None → self.new ≡ with_entry self.old 0 event.now (reply self.old.config (history self.old) event.now) }
+        ensures entered { result ≡ None → self.new ≡ with_entry self.old 0 event.now (reply self.old.config self.old.first (history self.old) event.now) }
         ensures refused { IfSome result (λ f. RefusedBy (refusal_at self.old 0 event.now) f) }
         ensures unchanged { IfSome result (λ f. self.new ≡ self.old) }
     {
@@ -173,10 +173,10 @@ impl World {
     /// content, since nothing is executed so far.
     pub fn journal(&self) -> &[Entry]
         ensures shown { result.now ≡ self.now.journal }
-        ensures told { IsTold self.now.config self.now.journal }
+        ensures told { IsTold self.now.config self.now.first self.now.journal }
         ensures configured { IsConfig self.now.config }
         // What holds of every journal, whatever the link did and the nodes were asked.
-        ensures headline { Holds self.now.config (history self.now) }
+        ensures headline { Holds self.now.config self.now.first (history self.now) }
     {
         self.journal.as_slice()
     }

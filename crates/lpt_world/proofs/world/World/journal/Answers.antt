@@ -7,5 +7,5 @@ use Rattle.lpt_world.proofs.world.World.journal.Goals as goal
 
 pub returns-clause-headline : goal.returns-clause-headline
 returns-clause-headline c =
-    subst (λ (w : Shown). Holds w.config (history w)) c.self.view_is
-    (shown_holds c.self.inside.ends c.self.inside.journal.items c.self.invariant)
+    subst (λ (w : Shown). Holds w.config w.first (history w)) c.self.view_is
+    (shown_holds c.self.inside.ends c.self.inside.first c.self.inside.journal.items c.self.invariant)

@@ -19,7 +19,7 @@ invariant_of-self-in-Ok c =
     (c.in-None.ensures ∙ sym (ap (λ (w : Shown). refusal_at w c.args.seat c.args.event) c.self.view_is)) in
     let place : c.len-place.result ≡ length c.self.inside.journal.items = c.len-place.ensures ∙ c.reserve.new.self.ok.0 ∙ ap length c.reserve.ensures.items in
     rw c.push_reserved.ensures.items (rw c.reserve.ensures.items
-    (shown_push c.self.inside.ends c.apply.new.self c.self.inside.journal.items _ c.self.invariant c.in_range.ensures free
+    (shown_push c.self.inside.ends c.apply.new.self c.self.inside.first c.self.inside.journal.items _ c.self.invariant c.in_range.ensures free
     (c.in-Ok.ensures.ok ∙ ap (λ n. after c.self.inside.ends.config n (state_of c.self.inside.ends) c.args.event) place) c.in-Ok.ensures.config))
 
 pub returns-in-Ok-clause-reply : goal.returns-in-Ok-clause-reply
@@ -28,6 +28,6 @@ returns-in-Ok-clause-reply c =
     free_shown c.self.inside.ends c.self.inside.first c.self.inside.journal.items c.args.seat c.args.event c.self.invariant
     (c.in-None.ensures ∙ sym (ap (λ (w : Shown). refusal_at w c.args.seat c.args.event) c.self.view_is)) in
     let place : c.len-place.result ≡ length c.self.inside.journal.items = c.len-place.ensures ∙ c.reserve.new.self.ok.0 ∙ ap length c.reserve.ensures.items in
-    reply_shown c.self.inside.ends c.apply.new.self c.self.inside.journal.items c.args.event c.in-Ok.reply c.self.invariant free
+    reply_shown c.self.inside.ends c.apply.new.self c.self.inside.first c.self.inside.journal.items c.args.event c.in-Ok.reply c.self.invariant free
     (c.in-Ok.ensures.ok ∙ ap (λ n. after c.self.inside.ends.config n (state_of c.self.inside.ends) c.args.event) place)
-    ∙ ap (λ (w : Shown). reply w.config (history w) c.args.event) c.self.view_is
+    ∙ ap (λ (w : Shown). reply w.config w.first (history w) c.args.event) c.self.view_is
