@@ -14,10 +14,10 @@ use Rattle.lpt_events.specs.declared.outcome.Why.{Why}
 use Rattle.lpt_events.specs.declared.outcome.Why.TheVariants.{Unreadable, Idle, ForeignApid, BadPart, Closed, NoRoom}
 use Rattle.lpt_events.specs.declared.entry.Release.{Release}
 use Rattle.lpt_events.specs.declared.event.Event.{Event}
-use Rattle.lpt_events.specs.declared.event.Event.TheVariants.{Open, Send, Plain, Finish, Take, Deliver, Tick, Expire}
+use Rattle.lpt_events.specs.declared.event.Event.TheVariants.{Open, Send, Plain, Finish, Lose, Take, Deliver, Tick, Expire}
 use Rattle.lpt_events.specs.declared.fault.StepFault.{StepFault}
 use Rattle.lpt_events.specs.declared.reply.Answer.{Answer}
-use Rattle.lpt_events.specs.declared.reply.Answer.TheVariants.{Opened, Put, Finished, Took, Delivered, Clock, Expired}
+use Rattle.lpt_events.specs.declared.reply.Answer.TheVariants.{Opened, Put, Finished, Lost, Took, Delivered, Clock, Expired}
 use Rattle.lpt_events.specs.declared.reply.Reply.{Reply}
 use Rattle.lpt_events.specs.FaultNames.{code_of, name_of}
 
@@ -61,6 +61,10 @@ transaction_line word d id n = line_of (word ∷ direction_text d ∷ decimal id
 abbrev pub named_line : List ℕ → Direction → Name → List ℕ
 named_line word d id = line_of (word ∷ direction_text d ∷ decimal id ∷ [])
 
+-- the packet of this number is lost
+abbrev pub lost_text : ℕ → List ℕ
+lost_text n = line_of (codes "lost" ∷ decimal n ∷ [])
+
 -- the sender of this transaction was closed
 abbrev pub finished_text : Direction → Name → List ℕ
 finished_text d id = named_line (codes "finished") d id
@@ -100,6 +104,7 @@ abbrev pub answer_text : Event → Answer → List ℕ
 answer_text (Open d id m) (Opened parts) = opened_text d id parts
 answer_text (Send d id k) (Put n) = put_text n
 answer_text (Plain flags service subtype body) (Put n) = put_text n
+answer_text (Lose n) Lost = lost_text n
 answer_text (Take l n) (Took k) = took_text k
 answer_text (Deliver l) (Delivered o) = outcome_text (lane_direction l) o
 answer_text (Finish d id) Finished = finished_text d id
@@ -108,6 +113,7 @@ answer_text (Expire side) (Expired d id) = expired_text d id
 answer_text (Open d id m) _ = []
 answer_text (Send d id k) _ = []
 answer_text (Plain flags service subtype body) _ = []
+answer_text (Lose n) _ = []
 answer_text (Take l n) _ = []
 answer_text (Deliver l) _ = []
 answer_text (Finish d id) _ = []

@@ -3,7 +3,7 @@
 ghost use Rattle.std.specs.Prelude.{◌≡◌, IfOk};
 ghost use Rattle.std.specs.Option.{option_copied};
 ghost use Rattle.std.specs.String.{string_bytes};
-ghost use Rattle.lpt_print.specs.Printing.{accepted_text, opened_text, finished_text, expired_text, clock_text, put_text, took_text, outcome_text, refused_text, unreadable_text, journal_text, packet_text, memory_text, release_text, none_text};
+ghost use Rattle.lpt_print.specs.Printing.{accepted_text, opened_text, finished_text, lost_text, expired_text, clock_text, put_text, took_text, outcome_text, refused_text, unreadable_text, journal_text, packet_text, memory_text, release_text, none_text};
 
 use crate::words::{direction_word, octets_word, why_word};
 use lpt_events::{Answer, Event, Outcome, Release, Reply, StepFault};
@@ -20,6 +20,7 @@ pub fn print_accepted(alloc: Global, event: &Event, reply: &Reply) -> Result<Str
         }
         (Event::Send(_, _, _), Answer::Put(number)) => print_put(alloc, number),
         (Event::Plain(_, _, _, _), Answer::Put(number)) => print_put(alloc, number),
+        (Event::Lose(number), Answer::Lost) => print_lost(alloc, *number),
         (Event::Take(_, _), Answer::Took(number)) => print_took(alloc, number),
         (Event::Deliver(lane), Answer::Delivered(outcome)) => {
             print_outcome(alloc, lane.direction(), outcome)
@@ -32,6 +33,7 @@ pub fn print_accepted(alloc: Global, event: &Event, reply: &Reply) -> Result<Str
             Event::Open(_, _, _)
             | Event::Send(_, _, _)
             | Event::Plain(_, _, _, _)
+            | Event::Lose(_)
             | Event::Take(_, _)
             | Event::Deliver(_)
             | Event::Finish(_, _)
@@ -67,6 +69,13 @@ pub fn print_took(alloc: Global, n: u64) -> Result<String, AllocError>
     ensures { IfOk result (λ t. string_bytes t ≡ took_text n) }
 {
     format!(in alloc; "took {n}\n")
+}
+
+/// `lost 0`: the packet of this number is lost.
+pub fn print_lost(alloc: Global, n: u64) -> Result<String, AllocError>
+    ensures { IfOk result (λ t. string_bytes t ≡ lost_text n) }
+{
+    format!(in alloc; "lost {n}\n")
 }
 
 /// `finished up 7`: the sender of this transaction was closed.

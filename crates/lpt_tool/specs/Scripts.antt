@@ -14,7 +14,7 @@ use Rattle.lpt_words.specs.declared.grammar.Reading.TheVariants.{Skipped, Asks, 
 use Rattle.lpt_words.specs.Grammar.{reading_of}
 use Rattle.lpt_words.specs.Loads.{load_packet}
 use Rattle.lpt_events.specs.declared.event.Event.{Event}
-use Rattle.lpt_events.specs.declared.event.Event.TheVariants.{Open, Send, Plain, Finish, Take, Deliver, Tick, Expire}
+use Rattle.lpt_events.specs.declared.event.Event.TheVariants.{Open, Send, Plain, Finish, Lose, Take, Deliver, Tick, Expire}
 use Rattle.lpt_events.specs.declared.fault.StepFault.{StepFault}
 use Rattle.lpt_events.specs.declared.reply.Reply.{Reply}
 use Rattle.lpt_journal.specs.Journal.{sent}
@@ -36,7 +36,7 @@ printed w text = record { world = w; text = text; refused = false; bad = None }
 
 -- what an event that isn't refused answers
 abbrev pub answered : Shown → Event → Reply
-answered w e = reply w.config (history w) e
+answered w e = reply w.config w.first (history w) e
 
 -- one event, by the reason for which it is refused: a refused one changes nothing
 abbrev pub stepped_as : Shown → Event → Option StepFault → Ran
@@ -88,6 +88,7 @@ does (command.Open d id m) w = stepped w (Open d id m)
 does (command.Send d id k) w = stepped w (Send d id k)
 does (command.Plain flags service subtype body) w = stepped w (Plain flags service subtype body)
 does (command.Load l) w = stepped w (Open Up l.id (load_packet w.config.apid w.config.source l))
+does (command.Lose n) w = stepped w (Lose n)
 does (command.Take l n) w = stepped w (Take l n)
 does (command.Deliver l) w = stepped w (Deliver l)
 does (command.Finish d id) w = stepped w (Finish d id)

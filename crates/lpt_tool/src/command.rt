@@ -7,11 +7,11 @@ ghost use Rattle.lpt_world.specs.Worlds.{RefusedBy, refusal_at, with_entry};
 ghost use Rattle.lpt_tool.specs.Scripts.{and_then, answered, does, stepped, ticked};
 
 use crate::loading::run_load;
-use crate::printed::{print_accepted, put, put_refused};
+use crate::printed::{put, put_refused};
 use crate::showing::{show_memory, show_released};
 use lpt_link::Lane;
 use lpt_node::Side;
-use lpt_print::{print_journal, print_packet};
+use lpt_print::{print_accepted, print_journal, print_packet};
 use lpt_text::{Sink, ToolFault};
 use lpt_words::Command;
 use lpt_world::{Entry, Event, StepFault, World};
@@ -47,6 +47,7 @@ pub(crate) fn run_command<K: Sink>(
             )
         }
         Command::Load(load) => run_load(alloc, world, &load, out),
+        Command::Lose(number) => run_event(alloc, world, Event::Lose(number), out),
         Command::Take(lane, number) => run_event(alloc, world, Event::Take(lane, number), out),
         Command::Deliver(lane) => run_event(alloc, world, Event::Deliver(lane), out),
         Command::Finish(direction, id) => {

@@ -95,6 +95,11 @@ lane_and_packet_of (l ∷ n ∷ []) = do
   Some (lane, packet)
 lane_and_packet_of _ = None
 
+-- `lose N`
+abbrev pub lose_of : List (List ℕ) → Option Command
+lose_of (n ∷ []) = option_map command.Lose (packet_number_of n)
+lose_of _ = None
+
 -- `take LANE N`
 abbrev pub take_of : List (List ℕ) → Option Command
 take_of ws = option_map (λ p. command.Take p.0 p.1) (lane_and_packet_of ws)
@@ -164,6 +169,7 @@ show_of (w ∷ n ∷ ws) =
 abbrev pub arguments_of : Keyword → List (List ℕ) → Option Command
 arguments_of key.Open ws = open_of ws
 arguments_of key.Send ws = send_of ws
+arguments_of key.Lose ws = lose_of ws
 arguments_of key.Take ws = take_of ws
 arguments_of key.Deliver ws = deliver_of ws
 arguments_of key.Pass ws = pass_of ws

@@ -2,7 +2,7 @@
 
 ghost use Rattle.std.specs.Prelude.{◌≡◌, ◌⊎◌, IsSome, IfOk, OnErr};
 ghost use Rattle.lpt_words.specs.Words.{words};
-ghost use Rattle.lpt_words.specs.Grammar.{lane_and_packet_of, open_of, send_of, plain_of, take_of, deliver_of, pass_of, finish_of, tick_of, expire_of, show_of, show_memory_of, show_whole_of, arguments_of, is_comment, words_reading, reading_of, IsAsked, TakesMemory};
+ghost use Rattle.lpt_words.specs.Grammar.{lane_and_packet_of, open_of, send_of, plain_of, lose_of, take_of, deliver_of, pass_of, finish_of, tick_of, expire_of, show_of, show_memory_of, show_whole_of, arguments_of, is_comment, words_reading, reading_of, IsAsked, TakesMemory};
 
 use crate::load::{Load, read_load};
 use crate::names::{
@@ -27,6 +27,8 @@ pub enum Command {
     Plain(AckFlags, u8, u8, Octets),
     /// `load ID SEQ FLAGS MEM ADDR HEX [ADDR HEX ..]`: opens the packet of a load as a message up.
     Load(Load),
+    /// `lose N`: loses the held packet of this number.
+    Lose(u64),
     /// `take LANE N`: takes the packet of this number into the lane's hand.
     Take(Lane, u64),
     /// `deliver LANE`: delivers the packet in the lane's hand.
@@ -118,6 +120,7 @@ fn read_arguments(
     match keyword {
         Keyword::Open => read_open(alloc, rest),
         Keyword::Send => Ok(read_send(rest)),
+        Keyword::Lose => Ok(read_lose(rest)),
         Keyword::Take => Ok(read_take(rest)),
         Keyword::Deliver => Ok(read_deliver(rest)),
         Keyword::Pass => Ok(read_pass(rest)),
@@ -236,6 +239,17 @@ fn read_pass(rest: &[u8]) -> Option<Command>
 {
     let (lane, packet) = read_lane_and_packet(rest)?;
     Some(Command::Pass(lane, packet))
+}
+
+// The words after `lose`.
+fn read_lose(rest: &[u8]) -> Option<Command>
+    ensures { result ≡ lose_of (words rest.now) }
+{
+    let (number, rest) = split_word(rest)?;
+    if split_word(rest).is_some() {
+        return None;
+    }
+    Some(Command::Lose(read_packet_number(number)?))
 }
 
 // The words after `finish`.

@@ -22,6 +22,7 @@ const MOST_TICKS: u64 = 100_000;
 pub(crate) enum Keyword {
     Open,
     Send,
+    Lose,
     Take,
     Deliver,
     Pass,
@@ -41,6 +42,8 @@ pub(crate) fn read_keyword(word: &[u8]) -> Option<Keyword>
         Some(Keyword::Open)
     } else if word == b"send".as_slice() {
         Some(Keyword::Send)
+    } else if word == b"lose".as_slice() {
+        Some(Keyword::Lose)
     } else if word == b"take".as_slice() {
         Some(Keyword::Take)
     } else if word == b"deliver".as_slice() {
