@@ -16,6 +16,3 @@ pub use printing::{
     print_none, print_opened, print_outcome, print_packet, print_put, print_refused, print_release,
     print_took, print_unreadable,
 };
-
-#[cfg(test)]
-mod tests;

@@ -36,6 +36,3 @@ mod wrong;
 pub use complaint::{Complaint, why_refused};
 pub use settings::read_config;
 pub use wrong::Reason;
-
-#[cfg(test)]
-mod tests;

@@ -15,6 +15,3 @@ pub use grammar::{Command, Reading, read_line};
 pub use load::Load;
 pub use numbers::{read_hex, read_number};
 pub use words::{ended, split_line, split_word};
-
-#[cfg(test)]
-mod tests;

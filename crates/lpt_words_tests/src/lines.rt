@@ -1,11 +1,10 @@
 //! Lines of scripts with what they say, worked out by hand.
 
-use crate::{Command, Load, Reading, read_hex, read_line, read_number, split_line, split_word};
-use lpt_events::Lane;
+use lpt_events::{Lane, Side};
 use lpt_memory::Area;
-use lpt_events::Side;
 use lpt_packet::{Direction, Octets};
 use lpt_pus::AckFlags;
+use lpt_words::{Command, Load, Reading, read_hex, read_line, read_number, split_line, split_word};
 use std::alloc::Global;
 use std::test::Fail;
 
@@ -37,7 +36,7 @@ fn reads_each_kind_of_line(rt: HostRuntime) -> Result<(), Fail> {
     ];
     for (line, command) in cases {
         let reading = read_line(rt.alloc(), line.as_bytes())?;
-        assert_eq!(rt; reading, Reading::Asks(command), "{line}");
+        assert!(rt; reading == Reading::Asks(command), "{line}");
     }
     Ok(())
 }
@@ -54,10 +53,10 @@ fn reads_the_octets_of_a_message(rt: HostRuntime) -> Result<(), Fail> {
         let message = Octets::from_vec(octets.to_vec(rt.alloc())?);
         let reading = read_line(rt.alloc(), line.as_bytes())?;
         let open = Command::Open(Direction::Down, 7, message);
-        assert_eq!(rt; reading, Reading::Asks(open), "{line}");
+        assert!(rt; reading == Reading::Asks(open), "{line}");
     }
     for word in ["", "0", "abc", "0g", "0x", "--", "00 "] {
-        assert_eq!(rt; read_hex(rt.alloc(), word.as_bytes())?, None, "{word}");
+        assert!(rt; read_hex(rt.alloc(), word.as_bytes())? == None, "{word}");
     }
     Ok(())
 }
@@ -68,7 +67,7 @@ fn reads_plain_requests(rt: HostRuntime) -> Result<(), Fail> {
     let body = Octets::from_vec(vec![in rt.alloc(); 0x01, 0xff]?);
     let reading = read_line(rt.alloc(), b"plain 15 255 0 01fF".as_slice())?;
     let plain = Command::Plain(flags, 255, 0, body);
-    assert_eq!(rt; reading, Reading::Asks(plain));
+    assert!(rt; reading == Reading::Asks(plain));
     Ok(())
 }
 
@@ -103,7 +102,7 @@ fn reads_loads(rt: HostRuntime) -> Result<(), Fail> {
         let flags = AckFlags::new(flags).ok_or("no flags")?;
         let load = Load::new(id, count, flags, memory, areas).ok_or("no load")?;
         let reading = read_line(rt.alloc(), line.as_bytes())?;
-        assert_eq!(rt; reading, Reading::Asks(Command::Load(load)), "{line}");
+        assert!(rt; reading == Reading::Asks(Command::Load(load)), "{line}");
     }
     Ok(())
 }
@@ -151,7 +150,7 @@ fn skips_comments_and_blank_lines_and_nothing_else(rt: HostRuntime) -> Result<()
         "#\t\r",
     ] {
         let reading = read_line(rt.alloc(), line.as_bytes())?;
-        assert_eq!(rt; reading, Reading::Skipped, "{line}");
+        assert!(rt; reading == Reading::Skipped, "{line}");
     }
     let unreadable = [
         "show",
@@ -218,7 +217,7 @@ fn skips_comments_and_blank_lines_and_nothing_else(rt: HostRuntime) -> Result<()
     ];
     for line in unreadable {
         let reading = read_line(rt.alloc(), line.as_bytes())?;
-        assert_eq!(rt; reading, Reading::Unreadable, "{line}");
+        assert!(rt; reading == Reading::Unreadable, "{line}");
     }
     Ok(())
 }
@@ -227,12 +226,9 @@ fn skips_comments_and_blank_lines_and_nothing_else(rt: HostRuntime) -> Result<()
 fn a_line_has_at_most_140_000_octets(rt: HostRuntime) -> Result<(), Fail> {
     let mut line = vec![in rt.alloc(); b' '; 139_999]?;
     line.push(b'#')?;
-    assert_eq!(rt; read_line(rt.alloc(), line.as_slice())?, Reading::Skipped);
+    assert!(rt; read_line(rt.alloc(), line.as_slice())? == Reading::Skipped);
     line.push(b' ')?;
-    assert_eq!(rt;
-        read_line(rt.alloc(), line.as_slice())?,
-        Reading::Unreadable
-    );
+    assert!(rt; read_line(rt.alloc(), line.as_slice())? == Reading::Unreadable);
     // The carriage return that a line feed drops counts.
     for (spaces, reading) in [(139_998, Reading::Skipped), (139_999, Reading::Unreadable)] {
         let mut text = vec![in rt.alloc(); b' '; spaces]?;
@@ -240,7 +236,7 @@ fn a_line_has_at_most_140_000_octets(rt: HostRuntime) -> Result<(), Fail> {
             text.push(*octet)?;
         }
         let (line, _) = split_line(text.as_slice()).ok_or("no line")?;
-        assert_eq!(rt; read_line(rt.alloc(), line)?, reading, "{spaces}");
+        assert!(rt; read_line(rt.alloc(), line)? == reading, "{spaces}");
     }
     Ok(())
 }
@@ -250,14 +246,14 @@ fn cuts_a_text_into_lines_and_a_line_into_words(rt: HostRuntime) -> Result<(), F
     let mut rest = b"show journal\r\n\n\r\na\rb\r\r\n \nlast\r".as_slice();
     for line in ["show journal", "", "", "a\rb\r", " ", "last\r"] {
         let (first, more) = split_line(rest).ok_or("no line is left")?;
-        assert_eq!(rt; first, line.as_bytes());
+        assert!(rt; first == line.as_bytes());
         rest = more;
     }
     assert!(rt; split_line(rest).is_none());
     let mut rest = b"  take  s1\t 7 ".as_slice();
     for word in ["take", "s1\t", "7"] {
         let (first, more) = split_word(rest).ok_or("no word is left")?;
-        assert_eq!(rt; first, word.as_bytes());
+        assert!(rt; first == word.as_bytes());
         rest = more;
     }
     assert!(rt; split_word(rest).is_none());
@@ -280,6 +276,6 @@ fn reads_numbers_of_one_to_ten_digits(rt: HostRuntime) {
         ("1:", u64::MAX, None),
     ];
     for (word, greatest, number) in cases {
-        assert_eq!(rt; read_number(word.as_bytes(), greatest), number, "{word}");
+        assert!(rt; read_number(word.as_bytes(), greatest) == number, "{word}");
     }
 }

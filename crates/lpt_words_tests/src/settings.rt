@@ -1,8 +1,8 @@
 //! Configurations that are read, and texts that are refused.
 
-use crate::read_config;
-use lpt_memory::Memories;
 use lpt_events::Config;
+use lpt_memory::Memories;
+use lpt_settings::read_config;
 use lpt_text::ToolFault;
 use std::alloc::Global;
 use std::test::Fail;
@@ -49,7 +49,7 @@ fn gives_the_defaults_of_blank_texts(rt: HostRuntime) {
         "# nothing is set",
         "\u{feff}# a mark\n",
     ] {
-        assert_eq!(rt; config_in(rt.alloc(), text), Ok(DEFAULTS), "{text}");
+        assert!(rt; config_in(rt.alloc(), text) == Ok(DEFAULTS), "{text}");
     }
 }
 
@@ -73,7 +73,7 @@ fn reads_each_key(rt: HostRuntime) {
         outgoing: 6,
         clock: 7,
     };
-    assert_eq!(rt; config_in(rt.alloc(), text), Ok(expected));
+    assert!(rt; config_in(rt.alloc(), text) == Ok(expected));
 }
 
 #[test]
@@ -132,7 +132,7 @@ fn reads_the_ends_of_each_range(rt: HostRuntime) {
         ),
     ];
     for (text, expected) in cases {
-        assert_eq!(rt; config_in(rt.alloc(), text), Ok(expected), "{text}");
+        assert!(rt; config_in(rt.alloc(), text) == Ok(expected), "{text}");
     }
 }
 
@@ -160,7 +160,7 @@ fn reads_each_form_of_an_integer(rt: HostRuntime) {
         ("clock = -0", Config { clock: 0, ..of }),
     ];
     for (text, expected) in cases {
-        assert_eq!(rt; config_in(rt.alloc(), text), Ok(expected), "{text}");
+        assert!(rt; config_in(rt.alloc(), text) == Ok(expected), "{text}");
     }
 }
 
@@ -187,9 +187,8 @@ fn refuses_numbers_outside_their_range(rt: HostRuntime) {
         "source = 65_536",
     ];
     for text in texts {
-        assert_eq!(rt;
-            config_in(rt.alloc(), text),
-            Err(ToolFault::Config),
+        assert!(rt;
+            config_in(rt.alloc(), text) == Err(ToolFault::Config),
             "{text}"
         );
     }
@@ -219,9 +218,8 @@ fn refuses_other_keys_and_types(rt: HostRuntime) {
         "clock = 2026-01-01",
     ];
     for text in texts {
-        assert_eq!(rt;
-            config_in(rt.alloc(), text),
-            Err(ToolFault::Config),
+        assert!(rt;
+            config_in(rt.alloc(), text) == Err(ToolFault::Config),
             "{text}"
         );
     }
@@ -242,9 +240,8 @@ fn refuses_what_is_not_toml(rt: HostRuntime) {
         "\0",
     ];
     for text in texts {
-        assert_eq!(rt;
-            config_in(rt.alloc(), text),
-            Err(ToolFault::Config),
+        assert!(rt;
+            config_in(rt.alloc(), text) == Err(ToolFault::Config),
             "{text}"
         );
     }
@@ -270,12 +267,12 @@ fn fills_each_memory(rt: HostRuntime) -> Result<(), Fail> {
     ];
     for text in texts {
         let (config, memories) = read_config(rt.alloc(), text)?;
-        assert_eq!(rt;
-            config,
-            Config {
-                apid: 4,
-                ..DEFAULTS
-            },
+        assert!(rt;
+            config
+                == Config {
+                    apid: 4,
+                    ..DEFAULTS
+                },
             "{text}"
         );
         assert!(rt; is_filled(&memories, 7, 3, 255), "{text}");
@@ -314,7 +311,7 @@ fn reads_sixteen_memories_and_refuses_more(rt: HostRuntime) -> Result<(), Fail> 
     for count in [17, 256] {
         let text = memories_text(rt.alloc(), count)?;
         let refused = config_in(rt.alloc(), text.as_str());
-        assert_eq!(rt; refused, Err(ToolFault::Config), "{count}");
+        assert!(rt; refused == Err(ToolFault::Config), "{count}");
     }
     Ok(())
 }
@@ -357,9 +354,8 @@ fn refuses_other_memories(rt: HostRuntime) {
         "apid = 2047\n[[memory]]\nid = 1\nsize = 1",
     ];
     for text in texts {
-        assert_eq!(rt;
-            config_in(rt.alloc(), text),
-            Err(ToolFault::Config),
+        assert!(rt;
+            config_in(rt.alloc(), text) == Err(ToolFault::Config),
             "{text}"
         );
     }
