@@ -13,6 +13,3 @@ mod state;
 pub use fault::LedgerFault;
 pub use ledger::Ledger;
 pub use state::State;
-
-#[cfg(test)]
-mod tests;

@@ -15,6 +15,3 @@ mod packet;
 pub use fault::LinkFault;
 pub use lpt_events::Lane;
 pub use link::{Link, PutError};
-
-#[cfg(test)]
-mod tests;

@@ -17,6 +17,3 @@ pub use broken::Broken;
 pub use filling::Filling;
 pub use step::Step;
 pub use whole::Whole;
-
-#[cfg(test)]
-mod tests;

@@ -16,6 +16,3 @@ mod table;
 
 pub use offer::Offer;
 pub use table::Table;
-
-#[cfg(test)]
-mod tests;
