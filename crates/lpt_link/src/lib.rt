@@ -13,5 +13,5 @@ mod link;
 mod packet;
 
 pub use fault::LinkFault;
-pub use lpt_events::Lane;
 pub use link::{Link, PutError};
+pub use lpt_events::Lane;

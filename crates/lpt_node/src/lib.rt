@@ -29,7 +29,7 @@ pub use accepted::Accepted;
 pub use ask::Ask;
 pub use expired::Expired;
 pub use fault::NodeFault;
-pub use node::Node;
 pub use lpt_events::{Config, Outcome, Side, Why};
+pub use node::Node;
 pub use parsed::Parsed;
 pub use telemetry::TelemetryKind;

@@ -25,7 +25,11 @@ fn a_script_has_16777216_octets_at_most(rt: HostRuntime) -> Result<(), Fail> {
     let cases = [
         (LIMIT, 0, Ok(0)),
         (LIMIT + 1, 0, Err(ToolFault::Read)),
-        (LIMIT - TOO_LONG, TOO_LONG + 1, Err(ToolFault::Line(16_637_216))),
+        (
+            LIMIT - TOO_LONG,
+            TOO_LONG + 1,
+            Err(ToolFault::Line(16_637_216)),
+        ),
         (0, LIMIT + 1, Err(ToolFault::Line(1))),
     ];
     for (ends, comment, expected) in cases {

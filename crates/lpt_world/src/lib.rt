@@ -7,7 +7,8 @@ mod requesting;
 mod timing;
 mod world;
 
-pub use lpt_events::{Answer, Entry, Event, Opening, Puts, Release, Reply};
-pub use lpt_events::{ConfigFault, Refused, RunEnd, StepFault};
+pub use lpt_events::{
+    Answer, ConfigFault, Entry, Event, Opening, Puts, Refused, Release, Reply, RunEnd, StepFault,
+};
 pub use lpt_journal::laws;
 pub use world::World;
