@@ -47,6 +47,21 @@ fn meant<'a>(matches: &ArgMatches<'a>) -> Option<Asked<'a>> {
     Some(Asked { command, config })
 }
 
+/// What stands below the help of the program.
+const MORE: &str = "\
+Examples:
+  lpt run examples/first_path.script    run the script of that file
+  lpt run - --config settings.toml      run the one on standard input, line by line
+  lpt decode 07ffc000000000             say what these octets are as a packet
+
+Statuses:
+  0  all was done
+  1  all was done; an event was refused, or the octets are no packet
+  2  the words, a line of the script, HEX or the configuration can't be read
+  3  a file can't be read, the output can't be written, or memory is wanting
+
+docs/SCRIPT.md tells the script language and the configuration, docs/lpt.1 is this as a page.";
+
 // The program and its two commands, as clap reads them.
 fn program<'a>(alloc: Global) -> Result<clap::Command<'a>, AllocError> {
     let script = word(
@@ -60,7 +75,8 @@ fn program<'a>(alloc: Global) -> Result<clap::Command<'a>, AllocError> {
     clap::Command::new(alloc, "lpt")
         .version("0.1.0")
         .about("Large packet transfer: two nodes and the link between them")
-        .disable_help_subcommand(true)
+        .after_help(MORE)
+        .propagate_version(true)
         .arg_required_else_help(true)
         .subcommand_required(true)
         .subcommand(run)?

@@ -3,6 +3,8 @@
 ghost use Rattle.std.specs.Prelude.{IfOk};
 ghost use Rattle.lpt_part.specs.Splitting.{IsPartSize};
 
+use crate::end::Failure;
+use crate::watched::Watched;
 use lpt_memory::Memories;
 use lpt_node::Config;
 use lpt_settings::read_config;
@@ -19,27 +21,46 @@ const LONGEST_FILE: usize = 1_048_576;
 ///
 /// Errors: `Read` where the file can't be opened or read; `Config` where it has more than 1,048,576
 /// octets, isn't UTF-8 or is refused; `Memory`.
-pub fn read(rt: &HostRuntime, path: Option<&str>) -> Result<(Config, Memories), ToolFault>
+pub fn read(rt: &HostRuntime, path: Option<&str>) -> Result<(Config, Memories), Failure>
     ensures { IfOk result (λ s. IsPartSize s.0.part_size) }
 {
-    let octets = match path {
-        Some(path) => read_file(rt, path)?,
-        None => Vec::new(rt.alloc()),
+    let Some(path) = path else {
+        return Ok(read_config(rt.alloc(), "")?);
     };
+    let octets = read_file(rt, path)?;
     match str::from_utf8(octets.as_slice()) {
-        Ok(text) => read_config(rt.alloc(), text),
-        Err(_) => Err(ToolFault::Config),
+        Ok(text) => match read_config(rt.alloc(), text) {
+            Ok(read) => Ok(read),
+            Err(fault) => Err(Failure::from(fault)),
+        },
+        Err(error) => {
+            let octet = error.valid_up_to().saturating_add(1);
+            let place = format!(in rt.alloc(); "{path}: octet {octet} isn't UTF-8");
+            Err(Failure::at(ToolFault::Config, place))
+        }
     }
 }
 
-fn read_file(rt: &HostRuntime, path: &str) -> Result<Vec<u8>, ToolFault> {
-    let Ok(file) = File::open(rt, path) else {
-        return Err(ToolFault::Read);
+fn read_file(rt: &HostRuntime, path: &str) -> Result<Vec<u8>, Failure> {
+    let file = match File::open(rt, path) {
+        Ok(file) => file,
+        Err(error) => {
+            let place = format!(in rt.alloc(); "{path}: {error}");
+            return Err(Failure::at(ToolFault::Read, place));
+        }
     };
-    let mut source = Told::new(file.take(LONGEST_FILE as u64 + 1));
-    match read_text(rt.alloc(), &mut source)? {
-        (_, End::Failed) => Err(ToolFault::Read),
-        (octets, _) if octets.len() > LONGEST_FILE => Err(ToolFault::Config),
-        (octets, _) => Ok(octets),
+    let mut source = Told::new(Watched::new(file.take(LONGEST_FILE as u64 + 1)));
+    let (octets, end) = read_text(rt.alloc(), &mut source)?;
+    if octets.len() > LONGEST_FILE {
+        let place = format!(in rt.alloc(); "{path}: more than {LONGEST_FILE} octets");
+        return Err(Failure::at(ToolFault::Config, place));
+    }
+    match (end, source.inner().error()) {
+        (End::Failed, Some(error)) => {
+            let place = format!(in rt.alloc(); "{path}: {error}");
+            Err(Failure::at(ToolFault::Read, place))
+        }
+        (End::Failed, None) => Err(Failure::from(ToolFault::Read)),
+        _ => Ok(octets),
     }
 }

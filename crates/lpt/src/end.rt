@@ -2,6 +2,7 @@
 
 use clap::error::ErrorKind;
 use lpt_text::ToolFault;
+use std::alloc::AllocError;
 
 /// What the program's status tells.
 #[derive(Clone, Copy, Debug, PartialEq, Eq)]
@@ -16,18 +17,62 @@ pub enum Status {
     Failed = 3,
 }
 
-/// The status by which the program ends, after standard error was told what it must be told.
+/// Why the program ends before its work is done.
+#[derive(Debug, Drop)]
+pub struct Failure {
+    fault: ToolFault,
+    // Where it is, and what is wrong there, where that is known.
+    place: Option<String>,
+}
+
+impl Failure {
+    /// A fault with where it is and what is wrong there. Where there is no memory for that, it is
+    /// told without.
+    pub fn at(fault: ToolFault, place: Result<String, AllocError>) -> Self {
+        Failure {
+            fault,
+            place: place.ok(),
+        }
+    }
+}
+
+impl From<ToolFault> for Failure {
+    fn from(fault: ToolFault) -> Self {
+        Failure { fault, place: None }
+    }
+}
+
+/// The status by which the program ends, after standard error was told what it must be told: a line
+/// that names the fault, and one that says where it is and what is wrong there, where that is known.
 ///
 /// An unreadable line has been told on standard output, in its place.
-pub fn told(rt: &impl Eprint, ended: Result<Status, ToolFault>) -> Status {
-    match ended {
-        Ok(status) => status,
-        Err(ToolFault::Line(_)) => Status::Unreadable,
-        Err(ToolFault::Config) => {
+pub fn told(rt: &impl Eprint, ended: Result<Status, Failure>) -> Status {
+    let failure = match ended {
+        Ok(status) => return status,
+        Err(failure) => failure,
+    };
+    let status = named(rt, failure.fault);
+    if let Some(place) = &failure.place {
+        tell_place(rt, place.as_str());
+    }
+    status
+}
+
+/// Says on standard error where a fault is, and what is wrong there.
+pub fn tell_place(rt: &impl Eprint, place: &str) {
+    let _ = rt.eprint("lpt: ");
+    let _ = rt.eprintln(place);
+}
+
+// Names a fault on standard error, and gives the status that it ends by.
+fn named(rt: &impl Eprint, fault: ToolFault) -> Status {
+    match fault {
+        ToolFault::Line(_) => Status::Unreadable,
+        ToolFault::Config => {
             let _ = rt.eprintln("config refused");
             Status::Unreadable
         }
-        Err(fault) => {
+        fault => {
             let _ = rt.eprintln(fault.name());
             Status::Failed
         }
@@ -38,7 +83,7 @@ pub fn told(rt: &impl Eprint, ended: Result<Status, ToolFault>) -> Status {
 /// that was printed: a usage fault, or the help or the version that was asked for.
 pub fn explained<R: Print + Eprint>(rt: &R, error: &clap::Error) -> Status {
     if error.kind() == ErrorKind::OutOfMemory {
-        return told(rt, Err(ToolFault::Memory));
+        return named(rt, ToolFault::Memory);
     }
     let printed = error.print(rt);
     if error.use_stderr() {
@@ -46,6 +91,6 @@ pub fn explained<R: Print + Eprint>(rt: &R, error: &clap::Error) -> Status {
     }
     match printed {
         Ok(()) => Status::Done,
-        Err(_) => told(rt, Err(ToolFault::Write)),
+        Err(_) => named(rt, ToolFault::Write),
     }
 }

@@ -7,10 +7,11 @@
 mod command_line;
 mod configuration;
 mod end;
+mod watched;
 mod work;
 
 use command_line::{Asked, Command, read_words};
-use end::Status;
+use end::{Failure, Status};
 use lpt_text::ToolFault;
 use std::process::ExitCode;
 use std::{env, io};
@@ -30,7 +31,7 @@ fn given_words(rt: &HostRuntime) -> Result<Vec<String>, Status> {
     let words = match env::args(rt) {
         Ok(words) => words,
         Err(error) if error.kind() == io::ErrorKind::OutOfMemory => {
-            return Err(end::told(rt, Err(ToolFault::Memory)));
+            return Err(end::told(rt, Err(Failure::from(ToolFault::Memory))));
         }
         Err(_) => {
             let _ = rt.eprintln("error: a word of the command line isn't text");
@@ -39,7 +40,7 @@ fn given_words(rt: &HostRuntime) -> Result<Vec<String>, Status> {
     };
     match words.collect(rt.alloc()) {
         Ok(words) => Ok(words),
-        Err(_) => Err(end::told(rt, Err(ToolFault::Memory))),
+        Err(_) => Err(end::told(rt, Err(Failure::from(ToolFault::Memory)))),
     }
 }
 
@@ -52,7 +53,7 @@ fn serve(rt: &HostRuntime, words: &[String]) -> Status {
 }
 
 // Reads the configuration, and does the command.
-fn done(rt: &HostRuntime, asked: &Asked<'_>) -> Result<Status, ToolFault> {
+fn done(rt: &HostRuntime, asked: &Asked<'_>) -> Result<Status, Failure> {
     let (config, memories) = configuration::read(rt, asked.config)?;
     match asked.command {
         Command::Run(script) => work::run(rt, config, memories, script),

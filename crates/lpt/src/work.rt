@@ -2,7 +2,8 @@
 
 ghost use Rattle.lpt_part.specs.Splitting.{IsPartSize};
 
-use crate::end::Status;
+use crate::end::{Failure, Status, tell_place};
+use crate::watched::Watched;
 use lpt_memory::Memories;
 use lpt_node::Config;
 use lpt_text::{Told, ToolFault};
@@ -23,13 +24,16 @@ pub fn run(
     config: Config,
     memories: Memories,
     script: &str,
-) -> Result<Status, ToolFault> {
+) -> Result<Status, Failure> {
     if script == "-" {
-        return run_from(rt, config, memories, rt.reader());
+        return run_from(rt, config, memories, rt.reader(), "standard input");
     }
     match File::open(rt, script) {
-        Ok(file) => run_from(rt, config, memories, file),
-        Err(_) => Err(ToolFault::Read),
+        Ok(file) => run_from(rt, config, memories, file, script),
+        Err(error) => {
+            let place = format!(in rt.alloc(); "{script}: {error}");
+            Err(Failure::at(ToolFault::Read, place))
+        }
     }
 }
 
@@ -37,16 +41,16 @@ pub fn run(
 ///
 /// Errors: `Write` where a write failed, `Memory`. Words that aren't octets are no error here: they
 /// are told on standard error, and the status says so.
-pub fn decode(rt: &HostRuntime, config: Config, hex: &str) -> Result<Status, ToolFault>
+pub fn decode(rt: &HostRuntime, config: Config, hex: &str) -> Result<Status, Failure>
     requires { IsPartSize config.part_size }
 {
     let octets = match read_hex(rt.alloc(), hex.as_bytes()) {
         Ok(Some(octets)) => octets,
         Ok(None) => {
-            let _ = rt.eprintln("hex refused");
+            refuse_hex(rt, hex);
             return Ok(Status::Unreadable);
         }
-        Err(_) => return Err(ToolFault::Memory),
+        Err(_) => return Err(Failure::from(ToolFault::Memory)),
     };
     let mut out = output(rt)?;
     let decoded = lpt_tool::decode(rt.alloc(), octets.as_slice(), config.part_size, &mut out);
@@ -54,18 +58,45 @@ pub fn decode(rt: &HostRuntime, config: Config, hex: &str) -> Result<Status, Too
     Ok(status_of(decoded?))
 }
 
-// Runs the script that a reader gives.
+// Says on standard error that a word isn't octets, and where.
+fn refuse_hex(rt: &HostRuntime, hex: &str) {
+    let _ = rt.eprintln("hex refused");
+    let digits = hex.len();
+    let place = match hex.bytes().position(|octet| !octet.is_ascii_hexdigit()) {
+        Some(before) => {
+            let place = before.saturating_add(1);
+            format!(in rt.alloc(); "HEX: octet {place} of the word isn't a hexadecimal digit")
+        }
+        None => format!(in rt.alloc(); "HEX: {digits} digits, and an octet has two"),
+    };
+    if let Ok(place) = place {
+        tell_place(rt, place.as_str());
+    }
+}
+
+// Runs the script that a reader of this name gives.
 fn run_from<R: Read + Drop>(
     rt: &HostRuntime,
     config: Config,
     memories: Memories,
     reader: R,
-) -> Result<Status, ToolFault> {
-    let mut source = Told::new(reader);
+    name: &str,
+) -> Result<Status, Failure> {
+    let mut source = Told::new(Watched::new(reader));
     let mut out = output(rt)?;
     let ran = lpt_tool::run_script(rt.alloc(), config, memories, &mut source, &mut out);
     flush(out)?;
-    Ok(status_of(ran?.refused > 0))
+    match ran {
+        Ok(end) => Ok(status_of(end.refused > 0)),
+        Err(ToolFault::Read) => {
+            let place = match source.inner().error() {
+                Some(error) => format!(in rt.alloc(); "{name}: {error}"),
+                None => format!(in rt.alloc(); "{name}: more than 16777216 octets"),
+            };
+            Err(Failure::at(ToolFault::Read, place))
+        }
+        Err(fault) => Err(Failure::from(fault)),
+    }
 }
 
 // The status of work that was done, by whether something of it was refused.
