@@ -7,8 +7,9 @@ use crate::end::Failure;
 use crate::watched::Watched;
 use lpt_memory::Memories;
 use lpt_node::Config;
-use lpt_settings::read_config;
+use lpt_settings::{read_config, why_refused};
 use lpt_text::{End, Told, ToolFault, read_text};
+use std::alloc::{AllocError, Global};
 use std::fs::File;
 use std::io::Read;
 use std::str;
@@ -31,6 +32,10 @@ pub fn read(rt: &HostRuntime, path: Option<&str>) -> Result<(Config, Memories), 
     match str::from_utf8(octets.as_slice()) {
         Ok(text) => match read_config(rt.alloc(), text) {
             Ok(read) => Ok(read),
+            Err(ToolFault::Config) => {
+                let place = complaint(rt.alloc(), path, text);
+                Err(Failure::at(ToolFault::Config, place))
+            }
             Err(fault) => Err(Failure::from(fault)),
         },
         Err(error) => {
@@ -38,6 +43,17 @@ pub fn read(rt: &HostRuntime, path: Option<&str>) -> Result<(Config, Memories), 
             let place = format!(in rt.alloc(); "{path}: octet {octet} isn't UTF-8");
             Err(Failure::at(ToolFault::Config, place))
         }
+    }
+}
+
+// Where the text of the file at this path is refused, and why.
+fn complaint(alloc: Global, path: &str, text: &str) -> Result<String, AllocError> {
+    match why_refused(alloc, text)? {
+        Some(complaint) => match complaint.line() {
+            Some(line) => format!(in alloc; "{path}:{line}: {complaint}"),
+            None => format!(in alloc; "{path}: {complaint}"),
+        },
+        None => format!(in alloc; "{path}: refused"),
     }
 }
 
