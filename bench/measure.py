@@ -85,6 +85,11 @@ def short_lines():
         lines.append(line)
 
 
+def long_lines():
+    """16 MiB in 256 long lines: comments."""
+    return ["#" + "0" * 65534] * 256
+
+
 def run(words, script):
     """Runs a program once: its status, how much it wrote, and the seconds that it took."""
     read, write = os.pipe()
@@ -130,6 +135,7 @@ def print_scripts(program, folder, runs):
         (repeats, None),
         (eight_messages, None),
         (short_lines, None),
+        (long_lines, None),
         (loads, GREATEST_MEMORY),
         (shown_memory, GREATEST_MEMORY),
     ]:
