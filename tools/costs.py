@@ -33,11 +33,10 @@ TICKS = os.sysconf("SC_CLK_TCK")
 def processes():
     """Each process, by its number: its parent, its start, and its processor seconds.
 
-    The seconds are its own and those of the processes that it has waited for. Parents come before
-    their children, so that a child that ends meanwhile isn't counted twice.
+    The seconds are its own and those of the processes that it has waited for.
     """
     found = {}
-    for pid in sorted(int(name) for name in os.listdir("/proc") if name.isdigit()):
+    for pid in (int(name) for name in os.listdir("/proc") if name.isdigit()):
         try:
             with open(f"/proc/{pid}/stat", encoding="utf-8", errors="replace") as file:
                 # The name, in parentheses, may have spaces.
@@ -63,6 +62,20 @@ def work_of(pid):
     return crate, "edits" if folder.startswith("rt-edit-") else kind
 
 
+def below(top, found):
+    """The numbers of the processes below this one, each after its parent.
+
+    Numbers say nothing of who began whom: in a long run the system begins them again.
+    """
+    children = {}
+    for pid, (parent, _, _) in found.items():
+        children.setdefault(parent, []).append(pid)
+    numbers = list(children.get(top, []))
+    for pid in numbers:
+        numbers += children.get(pid, [])
+    return numbers
+
+
 class Watch:
     """What the prover's processes below this one have used."""
 
@@ -73,11 +86,9 @@ class Watch:
     def look(self):
         """Looks at the processes once."""
         found = processes()
-        below, top, now = {os.getpid()}, {}, {}
-        for pid, (parent, start, seconds) in found.items():
-            if parent not in below:
-                continue
-            below.add(pid)
+        top, now = {}, {}
+        for pid in below(os.getpid(), found):
+            parent, start, seconds = found[pid]
             if parent in top:
                 top[pid] = top[parent]
             elif (pid, start) in self.work or self.begins(pid, start):

@@ -23,7 +23,8 @@ use Rattle.lpt_events.specs.declared.entry.Opening.{Opening}
 use Rattle.lpt_journal.specs.Delivery.{judged, outcome}
 use Rattle.lpt_journal.specs.Expiries.{NothingIsKept}
 use Rattle.lpt_events.specs.Sides.{same_side, receiver_side}
-use Rattle.lpt_journal.specs.Journal.{History, in_hand}
+use Rattle.lpt_journal.specs.Journal.{History}
+use Rattle.lpt_journal.specs.Hands.{in_hand}
 use Rattle.lpt_journal.specs.Receivers.{kept, with_piece, with_arrival, ends, heard_now, heard, has_parts, reception_count, is_closed}
 use Rattle.lpt_journal.specs.Replies.{entry}
 use Rattle.lpt_journal.specs.Senders.{current}

@@ -21,7 +21,8 @@ use Rattle.lpt_events.specs.declared.event.Event.TheVariants.{Open, Send, Plain,
 use Rattle.lpt_events.specs.declared.reply.Answer.{Answer}
 use Rattle.lpt_events.specs.declared.reply.Answer.TheVariants.{Opened, Put, Finished, Lost, Took, Delivered, Clock, Expired}
 use Rattle.lpt_events.specs.Sides.{same_side, receiver_side}
-use Rattle.lpt_journal.specs.Journal.{History, with_all, in_hand}
+use Rattle.lpt_journal.specs.Journal.{History, with_all}
+use Rattle.lpt_journal.specs.Hands.{in_hand}
 use Rattle.lpt_journal.specs.Receivers.{heard, ends, heard_now, heard_after, has_parts, heard_names, names_after, with_kept_name, with_arrival}
 use Rattle.lpt_journal.specs.Senders.{sender, sender_of, is_open, is_opening_of, current, is_over, opened, opened_names}
 

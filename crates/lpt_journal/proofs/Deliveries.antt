@@ -21,7 +21,8 @@ use Rattle.lpt_events.specs.declared.event.Event.TheVariants.{Deliver}
 use Rattle.lpt_events.specs.declared.reply.Answer.TheVariants.{Delivered}
 use Rattle.lpt_events.specs.declared.entry.Opening.{Opening}
 use Rattle.lpt_events.specs.Sides.{receiver_side}
-use Rattle.lpt_journal.specs.Journal.{SentPacket, History, hand, in_hand}
+use Rattle.lpt_journal.specs.Journal.{SentPacket, History}
+use Rattle.lpt_journal.specs.Hands.{hand, in_hand}
 use Rattle.lpt_journal.specs.Senders.{current}
 use Rattle.lpt_journal.specs.Receivers.{kept, with_arrival, heard_now, heard}
 use Rattle.lpt_journal.specs.Delivery.{outcome}

@@ -6,7 +6,7 @@ use Rattle.lpt_packet.specs.declared.direction.Direction.{Direction}
 use Rattle.lpt_packet.specs.Names.{Name, same_name}
 use Rattle.lpt_packet.proofs.NameLemmas.{same_name-refl, same_name-true}
 use Rattle.lpt_events.specs.declared.config.Config.{Config}
-use Rattle.lpt_journal.specs.Expiry.{is_overdue, comes_first, first_of_two, earliest}
+use Rattle.lpt_journal.specs.Due.{is_overdue, comes_first, first_of_two, earliest}
 use Rattle.lpt_journal.specs.Journal.{History}
 use Rattle.lpt_journal.specs.Receivers.{heard, has_parts, open_names, heard_names}
 use Rattle.lpt_journal.specs.Senders.{once}

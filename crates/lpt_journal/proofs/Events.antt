@@ -18,11 +18,14 @@ use Rattle.lpt_events.specs.MadePackets.{nth_part}
 use Rattle.lpt_events.specs.declared.event.Event.TheVariants.{Open, Send, Finish, Lose, Take}
 use Rattle.lpt_events.specs.declared.entry.Opening.{Opening}
 use Rattle.lpt_events.specs.declared.fault.StepFault.TheVariants.{InUse, Short, Long, TooMany, NotOpen, NoSuchPart, NotHeld, HandFull}
-use Rattle.lpt_journal.specs.Journal.{SentPacket, History, is_held, goes, hand, arrival_of}
+use Rattle.lpt_journal.specs.Journal.{SentPacket, History}
+use Rattle.lpt_journal.specs.Link.{is_held, goes}
+use Rattle.lpt_journal.specs.Hands.{hand, arrival_of}
 use Rattle.lpt_journal.specs.Senders.{is_opening_of, current, is_over, Sender, FreeSender, OpenSender, ClosedSender, sender_of, sender, is_free, is_open, open_count, count, type_counter}
 use Rattle.lpt_journal.specs.Receivers.{clock}
 use Rattle.lpt_events.specs.Configs.{IsConfig}
-use Rattle.lpt_journal.specs.Replies.{part_packet, send_puts, parts_open, refusal, entry}
+use Rattle.lpt_journal.specs.Replies.{part_packet, send_puts, entry}
+use Rattle.lpt_journal.specs.Refusals.{parts_open, refusal}
 use Rattle.lpt_journal.specs.Headline.{IsPartOfCurrent}
 use Rattle.lpt_packet.proofs.Readings.{not_lt}
 use Rattle.lpt_events.proofs.LaneLemmas.{same_lane-true}

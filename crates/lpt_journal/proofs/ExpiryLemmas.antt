@@ -14,10 +14,11 @@ use Rattle.lpt_journal.specs.Journal.{Recorded, History}
 use Rattle.lpt_journal.specs.Receivers.{is_closed}
 use Rattle.lpt_journal.specs.Releases.{released_by, releases}
 use Rattle.lpt_events.specs.Configs.{IsConfig}
-use Rattle.lpt_journal.specs.Replies.{entry, recorded, Legal}
+use Rattle.lpt_journal.specs.Replies.{entry, recorded}
+use Rattle.lpt_journal.specs.Legal.{Legal}
 use Rattle.lpt_journal.specs.Senders.{current}
 use Rattle.lpt_journal.proofs.ClosedLemmas.{unheard_step}
-use Rattle.lpt_journal.proofs.Every.{owes, owes_releases, every}
+use Rattle.lpt_journal.proofs.HeadlineLemmas.{owes, owes_releases, every}
 use Rattle.lpt_journal.proofs.OnceLemmas.{clash, flipped, old_opening, new_opening}
 use Rattle.lpt_journal.proofs.Releasing.{IsReleaseOf, OwesReleases, IsPast, ArePast, before_old, before_new, opening_is, is_large, closed_stays, was_current, new_past, old_past}
 use Rattle.lpt_journal.proofs.Steps.{IsSound, Owes}

@@ -13,12 +13,13 @@ use Rattle.lpt_events.specs.declared.event.Event.TheVariants.{Expire}
 use Rattle.lpt_events.specs.declared.fault.StepFault.TheVariants.{NothingDue}
 use Rattle.lpt_events.specs.declared.entry.Release.{Release}
 use Rattle.lpt_journal.specs.Expiries.{Expiry, expiry_at, NothingIsKept}
-use Rattle.lpt_journal.specs.Expiry.{is_overdue, due}
+use Rattle.lpt_journal.specs.Due.{is_overdue, due}
 use Rattle.lpt_events.specs.Sides.{same_side, receiver_side, direction_to}
 use Rattle.lpt_journal.specs.Journal.{Recorded, History}
 use Rattle.lpt_journal.specs.Receivers.{ends, heard, has_parts, last_tick, is_closed}
 use Rattle.lpt_journal.specs.Releases.{released_by}
-use Rattle.lpt_journal.specs.Replies.{expired_now, entry, refusal}
+use Rattle.lpt_journal.specs.Replies.{expired_now, entry}
+use Rattle.lpt_journal.specs.Refusals.{refusal}
 use Rattle.lpt_journal.proofs.ClosedLemmas.{open_opening}
 use Rattle.lpt_journal.proofs.DueLemmas.{Earliest, earliest_is, overdue_names, in_overdue}
 use Rattle.lpt_journal.proofs.Events.{only_element}

@@ -4,11 +4,11 @@ pub mod DeliveredReleases
 pub mod Deliveries
 pub mod DueLemmas
 pub mod Events
-pub mod Every
 pub mod ExpiryLemmas
 pub mod ExpiryOwed
+pub mod HeadlineLemmas
+pub mod JobLemmas
 pub mod MapLemmas
-pub mod MemoryLemmas
 pub mod OnceLemmas
 pub mod OutcomeLemmas
 pub mod PlainEvents

@@ -7,8 +7,11 @@ use Rattle.lpt_events.specs.Configs.{IsConfig}
 use Rattle.lpt_events.specs.Requests.{is_part_request, is_too_long}
 use Rattle.lpt_events.specs.declared.event.Event.TheVariants.{Plain}
 use Rattle.lpt_events.specs.declared.fault.StepFault.TheVariants.{PartRequest, Long}
-use Rattle.lpt_journal.specs.Journal.{History, hand}
-use Rattle.lpt_journal.specs.Replies.{plain_packet, plain_puts, IsEvent, refusal, entry}
+use Rattle.lpt_journal.specs.Journal.{History}
+use Rattle.lpt_journal.specs.Hands.{hand}
+use Rattle.lpt_journal.specs.Replies.{plain_packet, plain_puts, entry}
+use Rattle.lpt_journal.specs.Legal.{IsEvent}
+use Rattle.lpt_journal.specs.Refusals.{refusal}
 use Rattle.lpt_journal.specs.Senders.{made, count}
 use Rattle.lpt_journal.proofs.Events.{only_element}
 use Rattle.lpt_journal.proofs.SentParts.{plain_arrives}

@@ -28,7 +28,7 @@ use Rattle.lpt_events.specs.declared.side.Side.TheVariants.{Ground, Craft}
 use Rattle.lpt_events.specs.Arrivals.{NotRead, Foreign, ARequest, NoPart, APart, AnAbort, report_arrival, part_subtype, carried_kind, part_arrival, command_arrival, telemetry_arrival, packet_arrival, sight_arrival, arrival}
 use Rattle.lpt_events.specs.MadePackets.{command_made, telemetry_made, part_made, abort_made, tc_made}
 use Rattle.lpt_events.specs.Requests.{is_part_request, is_too_long}
-use Rattle.lpt_journal.specs.Journal.{arrival_in}
+use Rattle.lpt_journal.specs.Hands.{arrival_in}
 use Rattle.lpt_events.specs.Configs.{IsConfig}
 use Rattle.lpt_journal.proofs.TestLemmas.{none_is}
 

@@ -16,7 +16,9 @@ use Rattle.lpt_events.specs.Lanes.{lane_direction, same_direction}
 use Rattle.lpt_events.specs.declared.config.Config.{Config}
 use Rattle.lpt_events.specs.Arrivals.{NotRead, APart}
 use Rattle.lpt_events.specs.declared.entry.Opening.{Opening}
-use Rattle.lpt_journal.specs.Journal.{SentPacket, Recorded, History, sent, loses, is_lost, is_held, goes, hand, arrival_in, arrival_of, arrival_at, in_hand}
+use Rattle.lpt_journal.specs.Journal.{SentPacket, Recorded, History}
+use Rattle.lpt_journal.specs.Link.{sent, loses, is_lost, is_held, goes}
+use Rattle.lpt_journal.specs.Hands.{hand, arrival_in, arrival_of, arrival_at, in_hand}
 use Rattle.lpt_journal.specs.Senders.{is_opening_of, retires, current}
 use Rattle.lpt_journal.specs.Receivers.{kept, with_piece, heard}
 use Rattle.lpt_journal.specs.Headline.{IsPartOfCurrent, kept_piece}

@@ -15,7 +15,9 @@ use Rattle.lpt_events.specs.declared.config.Config.{Config}
 use Rattle.lpt_events.specs.declared.side.Side.{Side}
 use Rattle.lpt_events.specs.Arrivals.{Arrival, NotRead, AnIdle, Foreign, NoPart, APart}
 use Rattle.lpt_events.specs.declared.entry.Opening.{Opening}
-use Rattle.lpt_journal.specs.Journal.{SentPacket, Recorded, History, sent, is_held, goes, hand, arrival_of, in_hand}
+use Rattle.lpt_journal.specs.Journal.{SentPacket, Recorded, History}
+use Rattle.lpt_journal.specs.Link.{sent, is_held, goes}
+use Rattle.lpt_journal.specs.Hands.{hand, arrival_of, in_hand}
 use Rattle.lpt_journal.specs.Senders.{is_opening_of, retires, current}
 use Rattle.lpt_journal.specs.Receivers.{with_piece, heard, clock}
 use Rattle.lpt_journal.specs.Headline.{IsPartOfCurrent, kept_piece}

@@ -5,7 +5,7 @@ use Rattle.std.specs.List.{slice_get, find}
 use Rattle.std.specs.Option.{is_some}
 use Rattle.lpt_events.specs.declared.fault.StepFault.{StepFault}
 use Rattle.lpt_journal.specs.Journal.{with_all}
-use Rattle.lpt_journal.specs.Replies.{first_fault}
+use Rattle.lpt_journal.specs.Refusals.{first_fault}
 
 -- ---- tests
 

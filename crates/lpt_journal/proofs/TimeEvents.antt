@@ -14,12 +14,13 @@ use Rattle.lpt_events.specs.declared.side.Side.TheVariants.{Ground, Craft}
 use Rattle.lpt_events.specs.Arrivals.{APart, AnAbort}
 use Rattle.lpt_events.specs.declared.event.Event.TheVariants.{Tick, Expire}
 use Rattle.lpt_events.specs.declared.fault.StepFault.TheVariants.{ClockEnd}
-use Rattle.lpt_journal.specs.Expiry.{due}
+use Rattle.lpt_journal.specs.Due.{due}
 use Rattle.lpt_events.specs.Sides.{same_side, receiver_side, direction_to}
 use Rattle.lpt_journal.specs.Journal.{History, SentPacket}
 use Rattle.lpt_journal.specs.Receivers.{ends, heard, clock}
 use Rattle.lpt_events.specs.Configs.{IsConfig}
-use Rattle.lpt_journal.specs.Replies.{abort_puts, expiry_puts, refusal, entry}
+use Rattle.lpt_journal.specs.Replies.{abort_puts, expiry_puts, entry}
+use Rattle.lpt_journal.specs.Refusals.{refusal}
 use Rattle.lpt_journal.specs.Senders.{count, type_counter}
 use Rattle.lpt_journal.proofs.Events.{only_element}
 use Rattle.lpt_journal.proofs.SentParts.{AreCounts, abort_arrives}

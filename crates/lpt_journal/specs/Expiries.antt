@@ -14,7 +14,8 @@ use Rattle.lpt_journal.specs.Journal.{History, with_all}
 use Rattle.lpt_journal.specs.Receivers.{heard, has_parts, is_closed}
 use Rattle.lpt_journal.specs.Releases.{releases}
 use Rattle.lpt_events.specs.Configs.{IsConfig}
-use Rattle.lpt_journal.specs.Replies.{recorded, Legal}
+use Rattle.lpt_journal.specs.Replies.{recorded}
+use Rattle.lpt_journal.specs.Legal.{Legal}
 use Rattle.lpt_journal.specs.Senders.{current}
 
 -- the place of an entry at which a reception expired, and the reception's transaction

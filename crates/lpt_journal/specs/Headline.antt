@@ -21,14 +21,17 @@ use Rattle.lpt_events.specs.declared.event.Event.{Event}
 use Rattle.lpt_events.specs.declared.entry.Opening.{Opening}
 use Rattle.lpt_events.specs.declared.entry.Release.{Release}
 use Rattle.lpt_events.specs.declared.reply.Answer.TheVariants.{Delivered}
-use Rattle.lpt_journal.specs.Journal.{SentPacket, Recorded, History, sent, is_held, hand, arrival_of, in_hand}
+use Rattle.lpt_journal.specs.Journal.{SentPacket, Recorded, History}
+use Rattle.lpt_journal.specs.Link.{sent, is_held}
+use Rattle.lpt_journal.specs.Hands.{hand, arrival_of, in_hand}
 use Rattle.lpt_journal.specs.Senders.{current}
 use Rattle.lpt_journal.specs.Receivers.{heard}
 use Rattle.lpt_journal.specs.Delivery.{outcome}
 use Rattle.lpt_journal.specs.Releases.{releases}
-use Rattle.lpt_journal.specs.Memory.{memories}
+use Rattle.lpt_journal.specs.Jobs.{memories}
 use Rattle.lpt_events.specs.Configs.{IsConfig}
-use Rattle.lpt_journal.specs.Replies.{recorded, Legal}
+use Rattle.lpt_journal.specs.Replies.{recorded}
+use Rattle.lpt_journal.specs.Legal.{Legal}
 
 -- ---- parts
 

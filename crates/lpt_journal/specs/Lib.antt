@@ -1,10 +1,14 @@
 pub mod Delivery
+pub mod Due
 pub mod Expiries
-pub mod Expiry
+pub mod Hands
 pub mod Headline
+pub mod Jobs
 pub mod Journal
-pub mod Memory
+pub mod Legal
+pub mod Link
 pub mod Receivers
+pub mod Refusals
 pub mod Releases
 pub mod Replies
 pub mod Senders

@@ -17,7 +17,8 @@ use Rattle.lpt_events.specs.declared.event.Event.TheVariants.{Deliver, Tick, Exp
 use Rattle.lpt_events.specs.declared.reply.Answer.{Answer}
 use Rattle.lpt_events.specs.declared.reply.Answer.TheVariants.{Delivered, Expired}
 use Rattle.lpt_events.specs.Sides.{same_side, receiver_side}
-use Rattle.lpt_journal.specs.Journal.{History, in_hand}
+use Rattle.lpt_journal.specs.Journal.{History}
+use Rattle.lpt_journal.specs.Hands.{in_hand}
 use Rattle.lpt_journal.specs.Senders.{once}
 
 -- ---- what was kept

@@ -13,7 +13,8 @@ use Rattle.lpt_events.specs.declared.event.Event.TheVariants.{Deliver}
 use Rattle.lpt_events.specs.declared.reply.Answer.{Answer}
 use Rattle.lpt_events.specs.declared.reply.Answer.TheVariants.{Delivered}
 use Rattle.lpt_events.specs.declared.entry.Release.{Release}
-use Rattle.lpt_journal.specs.Journal.{Recorded, History, with_all, in_hand}
+use Rattle.lpt_journal.specs.Journal.{Recorded, History, with_all}
+use Rattle.lpt_journal.specs.Hands.{in_hand}
 use Rattle.lpt_journal.specs.Receivers.{with_piece, heard}
 
 -- what a delivery at this place releases: the message that the parts spell, or the telecommand

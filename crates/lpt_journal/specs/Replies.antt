@@ -1,9 +1,8 @@
--- What each event answers, puts and opens, why it is refused, and which journals are legal.
-use Rattle.std.specs.Prelude.{◌≡◌, ℕ, ◌+◌, ◌<◌, nat_lt, nat_le, ◌==◌, Bool, not, ◌&&◌, ◌||◌, if◌then◌else◌, List, [], ◌∷◌, length, Option, Some, None, is_some, ⊤}
+-- What each event answers, puts and opens.
+use Rattle.std.specs.Prelude.{ℕ, ◌+◌, List, [], ◌∷◌, length, Option, Some, None}
 use Rattle.lpt_packet.specs.declared.direction.Direction.{Direction}
 use Rattle.lpt_packet.specs.declared.direction.Direction.TheVariants.{Up, Down}
 use Rattle.lpt_packet.specs.Names.{Name}
-use Rattle.lpt_packet.specs.Numbers.{IsOctets}
 use Rattle.lpt_memory.specs.Memories.{Contents}
 use Rattle.lpt_part.specs.declared.reason.Reason.{Reason}
 use Rattle.lpt_part.specs.declared.reason.Reason.TheVariants as reason
@@ -17,7 +16,6 @@ use Rattle.lpt_events.specs.declared.side.Side.{Side}
 use Rattle.lpt_events.specs.declared.side.Side.TheVariants.{Ground, Craft}
 use Rattle.lpt_events.specs.Arrivals.{part_subtype}
 use Rattle.lpt_events.specs.MadePackets.{nth_part, part_made, abort_made, tc_made}
-use Rattle.lpt_events.specs.Requests.{is_part_request, is_too_long}
 use Rattle.lpt_events.specs.declared.event.Event.{Event}
 use Rattle.lpt_events.specs.declared.event.Event.TheVariants.{Open, Send, Plain, Finish, Lose, Take, Deliver, Tick, Expire}
 use Rattle.lpt_events.specs.declared.reply.Answer.{Answer}
@@ -25,16 +23,13 @@ use Rattle.lpt_events.specs.declared.reply.Answer.TheVariants.{Opened, Put, Fini
 use Rattle.lpt_events.specs.declared.reply.Puts.{Puts}
 use Rattle.lpt_events.specs.declared.reply.Reply.{Reply}
 use Rattle.lpt_events.specs.declared.entry.Opening.{Opening}
-use Rattle.lpt_events.specs.declared.fault.StepFault.{StepFault}
-use Rattle.lpt_events.specs.declared.fault.StepFault.TheVariants.{InUse, Short, Long, TooMany, NotOpen, NoSuchPart, NotHeld, HandFull, HandEmpty, NothingDue, ClockEnd, PartRequest}
 use Rattle.lpt_events.specs.Sides.{receiver_side, direction_to}
-use Rattle.lpt_journal.specs.Journal.{SentPacket, Recorded, History, sent, is_held, goes, hand}
-use Rattle.lpt_journal.specs.Senders.{Sender, FreeSender, OpenSender, ClosedSender, sender, is_free, is_open, open_count, count, type_counter}
+use Rattle.lpt_journal.specs.Journal.{SentPacket, Recorded, History}
+use Rattle.lpt_journal.specs.Link.{sent}
+use Rattle.lpt_journal.specs.Senders.{Sender, FreeSender, OpenSender, ClosedSender, sender, count, type_counter}
 use Rattle.lpt_journal.specs.Receivers.{clock}
-use Rattle.lpt_journal.specs.Expiry.{due}
+use Rattle.lpt_journal.specs.Due.{due}
 use Rattle.lpt_journal.specs.Delivery.{outcome}
-
--- ---- replies
 
 -- the end of the reception that is due; where none is, that is refused
 abbrev pub expired_now : Direction → Option Name → Answer
@@ -97,16 +92,27 @@ expiry_puts c h side (Some id) = abort_puts c h side id reason.Expired
 
 -- the packets that an event puts on the link
 abbrev pub puts : Config → Contents → History → Event → List SentPacket
+puts c first h (Open d id m) = []
 puts c first h (Send d id k) = send_puts c h d id k (sender h d id)
 puts c first h (Plain flags service subtype body) = plain_puts c h flags service subtype body
+puts c first h (Finish d id) = []
+puts c first h (Lose n) = []
+puts c first h (Take l n) = []
 puts c first h (Deliver l) = outcome_puts c h (receiver_side (lane_direction l)) (outcome c h l)
+puts c first h (Tick side) = []
 puts c first h (Expire side) = expiry_puts c h side (due c h (direction_to side))
-puts c first h _ = []
 
 -- the transactions that an event opens
 abbrev pub opens : Config → Contents → History → Event → List Opening
 opens c first h (Open d id m) = record { place = length h; direction = d; id = id; message = m } ∷ []
-opens c first h _ = []
+opens c first h (Send d id k) = []
+opens c first h (Plain flags service subtype body) = []
+opens c first h (Finish d id) = []
+opens c first h (Lose n) = []
+opens c first h (Take l n) = []
+opens c first h (Deliver l) = []
+opens c first h (Tick side) = []
+opens c first h (Expire side) = []
 
 -- how a reply tells of packets that were put, the first of which got this number
 abbrev pub told : ℕ → List SentPacket → Option Puts
@@ -117,7 +123,7 @@ told first (p ∷ ps) = Some (record { first = first; count = length (p ∷ ps) 
 abbrev pub reply : Config → Contents → History → Event → Reply
 reply c first h e = record { answer = answer c first h e; puts = told (length (sent h)) (puts c first h e) }
 
--- ---- journals
+-- ---- recorded
 
 -- an event with what it gives after this history
 abbrev pub entry : Config → Contents → History → Event → Recorded
@@ -127,66 +133,3 @@ entry c first h e = record { event = e; reply = reply c first h e; puts = puts c
 abbrev pub recorded : Config → Contents → List Event → History
 recorded c first [] = []
 recorded c first (e ∷ es) = let h = recorded c first es in entry c first h e ∷ h
-
--- ---- refusals
-
--- the first fault whose test holds
-abbrev pub first_fault : List (Bool × StepFault) → Option StepFault
-first_fault [] = None
-first_fault (test ∷ tests) = if test.0 then Some test.1 else first_fault tests
-
--- how many parts an open sender's message has; none else
-abbrev pub parts_open : Config → Sender → ℕ
-parts_open c (OpenSender m) = part_count (length m) c.part_size
-parts_open c _ = 0
-
--- the reasons for which an event is refused, each with its test, in the order of the tests
-abbrev pub reasons : Config → History → Event → List (Bool × StepFault)
-reasons c h (Open d id m) =
-    (not (is_free (sender h d id)), InUse)
-    ∷ (nat_le (length m) c.part_size, Short)
-    ∷ (nat_lt 65542 (length m), Long)
-    ∷ (nat_le c.outgoing (open_count h d), TooMany) ∷ []
-reasons c h (Send d id k) =
-    (not (is_open (sender h d id)), NotOpen)
-    ∷ ((k == 0) || nat_lt (parts_open c (sender h d id)) k, NoSuchPart) ∷ []
-reasons c h (Plain flags service subtype body) =
-    (is_part_request service subtype, PartRequest)
-    ∷ (is_too_long c (length body), Long) ∷ []
-reasons c h (Finish d id) = (not (is_open (sender h d id)), NotOpen) ∷ []
-reasons c h (Lose n) = (not (is_held h n), NotHeld) ∷ []
-reasons c h (Take l n) =
-    (is_some (hand h l), HandFull)
-    ∷ (not (is_held h n && goes h (lane_direction l) n), NotHeld) ∷ []
-reasons c h (Deliver l) = (not (is_some (hand h l)), HandEmpty) ∷ []
-reasons c h (Tick side) = (clock c h side == 4294967295, ClockEnd) ∷ []
-reasons c h (Expire side) = (not (is_some (due c h (direction_to side))), NothingDue) ∷ []
-
--- why an event is refused, where it is
-abbrev pub refusal : Config → History → Event → Option StepFault
-refusal c h e = first_fault (reasons c h e)
-
--- ---- legal journals
-
--- the event's numbers are of their types
-abbrev pub IsEvent : Event → Type 0
-IsEvent (Open d id m) = (id < 65536) × IsOctets m
-IsEvent (Send d id k) = (id < 65536) × (k < 65536)
-IsEvent (Plain flags service subtype body) =
-    (flags < 16) × (service < 256) × (subtype < 256) × IsOctets body
-IsEvent (Finish d id) = id < 65536
-IsEvent (Lose n) = ⊤
-IsEvent (Take l n) = ⊤
-IsEvent (Deliver l) = ⊤
-IsEvent (Tick side) = ⊤
-IsEvent (Expire side) = ⊤
-
--- an event can happen after this history
-pub record IsEnabled (c : Config) (h : History) (e : Event) : Type 0 where
-  pub in_range : IsEvent e
-  pub accepted : refusal c h e ≡ None
-
--- each event can happen after those before it
-abbrev pub Legal : Config → Contents → List Event → Type 0
-Legal c first [] = ⊤
-Legal c first (e ∷ es) = Legal c first es × IsEnabled c (recorded c first es) e

@@ -10,7 +10,7 @@ use Rattle.lpt_events.specs.Lanes.{same_direction}
 use Rattle.lpt_events.specs.declared.side.Side.{Side}
 use Rattle.lpt_events.specs.declared.outcome.Outcome.TheVariants.{AbortNoted}
 use Rattle.lpt_events.specs.declared.event.Event.{Event}
-use Rattle.lpt_events.specs.declared.event.Event.TheVariants.{Open, Finish, Deliver}
+use Rattle.lpt_events.specs.declared.event.Event.TheVariants.{Open, Send, Plain, Finish, Lose, Take, Deliver, Tick, Expire}
 use Rattle.lpt_events.specs.declared.reply.Answer.{Answer}
 use Rattle.lpt_events.specs.declared.reply.Answer.TheVariants.{Delivered}
 use Rattle.lpt_events.specs.declared.entry.Opening.{Opening}
@@ -109,7 +109,14 @@ restarts _ side = false
 -- whether a node makes the packets of an event: an opened message brings its own octets
 abbrev pub makes : Event → Bool
 makes (Open d id m) = false
-makes _ = true
+makes (Send d id k) = true
+makes (Plain flags service subtype body) = true
+makes (Finish d id) = true
+makes (Lose n) = true
+makes (Take l n) = true
+makes (Deliver l) = true
+makes (Tick side) = true
+makes (Expire side) = true
 
 -- the octets of the packets that go in this direction
 abbrev pub octets_put : List SentPacket → Direction → List (List ℕ)

@@ -23,7 +23,8 @@ use Rattle.lpt_node.specs.Receiving.{taken, taken_from, after_take, by_state, ab
 use Rattle.lpt_reception.specs.Received.{Parts, contradicts, break_reason, is_whole}
 use Rattle.lpt_table.specs.Offering.{OfferKind, Kept, Again, Whole, Conflict, NoRoom, offered, is_full, parts_at, taken_out, with_entry}
 use Rattle.lpt_table.specs.Tables.{TableState}
-use Rattle.lpt_journal.specs.Journal.{History, hand, arrival_in, arrival_at, in_hand}
+use Rattle.lpt_journal.specs.Journal.{History}
+use Rattle.lpt_journal.specs.Hands.{hand, arrival_in, arrival_at, in_hand}
 use Rattle.lpt_journal.specs.Receivers.{kept, with_piece, heard, has_parts, is_closed, reception_count}
 use Rattle.lpt_machine.specs.Shows.{Shows, ShowsReceiving, closed_mark, sent_packet}
 use Rattle.lpt_machine.specs.State.{State, arrival_held}

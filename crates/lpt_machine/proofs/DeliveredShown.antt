@@ -25,7 +25,9 @@ use Rattle.lpt_reception.specs.Received.{contradicts, is_whole, spelled}
 use Rattle.lpt_events.specs.declared.event.Event.TheVariants.{Deliver}
 use Rattle.lpt_events.specs.declared.reply.Answer.TheVariants.{Delivered}
 use Rattle.lpt_journal.specs.Delivery.{judged}
-use Rattle.lpt_journal.specs.Journal.{History, SentPacket, with_all, sent, is_lost, hand, hand_after, in_hand}
+use Rattle.lpt_journal.specs.Journal.{History, SentPacket, with_all}
+use Rattle.lpt_journal.specs.Link.{sent, is_lost}
+use Rattle.lpt_journal.specs.Hands.{hand, hand_after, in_hand}
 use Rattle.lpt_journal.specs.Receivers.{kept, with_piece, heard, heard_now, ends, takes, has_parts, is_closed, last_tick, clock, reception_count}
 use Rattle.lpt_journal.specs.Releases.{releases, released_now}
 use Rattle.lpt_journal.specs.Replies.{outcome_puts, entry}

@@ -11,7 +11,7 @@ use Rattle.lpt_table.proofs.DueLemmas.{due_of_is, due_unique}
 use Rattle.lpt_events.specs.declared.config.Config.{Config}
 use Rattle.lpt_node.specs.Nodes.{Receiving}
 use Rattle.lpt_node.specs.Receiving.{table_of}
-use Rattle.lpt_journal.specs.Expiry.{is_overdue, due}
+use Rattle.lpt_journal.specs.Due.{is_overdue, due}
 use Rattle.lpt_events.specs.Sides.{receiver_side, direction_to}
 use Rattle.lpt_events.specs.declared.side.Side.{Side}
 use Rattle.lpt_events.specs.declared.side.Side.TheVariants.{Ground, Craft}

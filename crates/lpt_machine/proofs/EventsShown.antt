@@ -12,9 +12,11 @@ use Rattle.lpt_events.specs.declared.fault.StepFault.TheVariants.{NotOpen, NoSuc
 use Rattle.lpt_events.specs.declared.side.Side.TheVariants.{Ground, Craft}
 use Rattle.lpt_events.specs.Sides.{direction_to}
 use Rattle.lpt_node.specs.Times.{expired_of}
-use Rattle.lpt_journal.specs.Expiry.{due}
-use Rattle.lpt_journal.specs.Journal.{History, sent, is_held, is_lost}
-use Rattle.lpt_journal.specs.Replies.{entry, reply, refusal}
+use Rattle.lpt_journal.specs.Due.{due}
+use Rattle.lpt_journal.specs.Journal.{History}
+use Rattle.lpt_journal.specs.Link.{sent, is_held, is_lost}
+use Rattle.lpt_journal.specs.Replies.{entry, reply}
+use Rattle.lpt_journal.specs.Refusals.{refusal}
 use Rattle.lpt_journal.specs.Senders.{sender, is_open}
 use Rattle.lpt_journal.proofs.TestLemmas.{and_l, not_false, one_passes, two_pass}
 use Rattle.lpt_machine.specs.Shows.{Shows}

@@ -15,7 +15,9 @@ use Rattle.lpt_events.specs.Lanes.{lane_direction}
 use Rattle.lpt_events.specs.declared.config.Config.{Config}
 use Rattle.lpt_events.specs.declared.side.Side.TheVariants.{Craft}
 use Rattle.lpt_events.specs.Arrivals.{NotRead, Foreign, ARequest, NoPart, APart, AnAbort, arrival, sight_arrival, packet_arrival, command_arrival, carried_kind, part_arrival}
-use Rattle.lpt_journal.specs.Journal.{History, SentPacket, sent, hand, in_hand, arrival_at, arrival_in}
+use Rattle.lpt_journal.specs.Journal.{History, SentPacket}
+use Rattle.lpt_journal.specs.Link.{sent}
+use Rattle.lpt_journal.specs.Hands.{hand, in_hand, arrival_at, arrival_in}
 
 part_no_abort : (o : Option Piece) (id : Name) (reason : Reason)
     → option_map_or APart o NoPart ≢ AnAbort id reason

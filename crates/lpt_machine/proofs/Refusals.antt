@@ -24,10 +24,12 @@ use Rattle.lpt_node.specs.Times.{refusal_expire_of}
 use Rattle.lpt_events.specs.declared.event.Event.{Event}
 use Rattle.lpt_events.specs.declared.event.Event.TheVariants.{Open, Send, Plain, Finish, Lose, Take, Deliver, Tick, Expire}
 use Rattle.lpt_events.specs.declared.fault.StepFault.TheVariants.{InUse, Short, Long, TooMany, NotOpen, NoSuchPart, NotHeld, HandFull, HandEmpty, NothingDue, ClockEnd, PartRequest}
-use Rattle.lpt_journal.specs.Journal.{History, sent, is_held, goes, hand}
+use Rattle.lpt_journal.specs.Journal.{History}
+use Rattle.lpt_journal.specs.Link.{sent, is_held, goes}
+use Rattle.lpt_journal.specs.Hands.{hand}
 use Rattle.lpt_journal.specs.Receivers.{clock}
-use Rattle.lpt_journal.specs.Expiry.{due}
-use Rattle.lpt_journal.specs.Replies.{refusal, first_fault, parts_open}
+use Rattle.lpt_journal.specs.Due.{due}
+use Rattle.lpt_journal.specs.Refusals.{refusal, first_fault, parts_open}
 use Rattle.lpt_journal.specs.Senders.{Sender, FreeSender, OpenSender, ClosedSender, sender, is_free, is_open, open_count, opened_names}
 use Rattle.lpt_machine.specs.State.{State, node_fault, link_fault, refusal_of}
 use Rattle.lpt_machine.specs.Shows.{Shows, ShowsSending, mark_of, message_of, sent_packet}

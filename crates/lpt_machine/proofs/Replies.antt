@@ -28,10 +28,13 @@ use Rattle.lpt_node.specs.Times.{expired_of}
 use Rattle.lpt_reception.specs.Received.{Parts, contradicts, is_whole, spelled}
 use Rattle.lpt_table.specs.Tables.{TableState}
 use Rattle.lpt_journal.specs.Delivery.{judged, outcome}
-use Rattle.lpt_journal.specs.Expiry.{due}
-use Rattle.lpt_journal.specs.Journal.{History, SentPacket, sent, in_hand}
+use Rattle.lpt_journal.specs.Due.{due}
+use Rattle.lpt_journal.specs.Journal.{History, SentPacket}
+use Rattle.lpt_journal.specs.Link.{sent}
+use Rattle.lpt_journal.specs.Hands.{in_hand}
 use Rattle.lpt_journal.specs.Receivers.{kept, with_piece, heard, has_parts, is_closed, reception_count}
-use Rattle.lpt_journal.specs.Replies.{expired_now, abort_puts, expiry_puts, outcome_puts, send_puts, told, reply, refusal}
+use Rattle.lpt_journal.specs.Replies.{expired_now, abort_puts, expiry_puts, outcome_puts, send_puts, told, reply}
+use Rattle.lpt_journal.specs.Refusals.{refusal}
 use Rattle.lpt_journal.specs.Senders.{Sender, FreeSender, OpenSender, ClosedSender, sender, is_open}
 use Rattle.lpt_journal.proofs.OutcomeLemmas.{chosen}
 use Rattle.lpt_journal.proofs.TestLemmas.{not_false, two_pass}

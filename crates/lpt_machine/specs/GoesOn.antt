@@ -4,7 +4,8 @@ use Rattle.lpt_events.specs.declared.config.Config.{Config}
 use Rattle.lpt_events.specs.declared.event.Event.{Event}
 use Rattle.lpt_memory.specs.Memories.{Contents}
 use Rattle.lpt_journal.specs.Journal.{History}
-use Rattle.lpt_journal.specs.Replies.{refusal, reply, entry}
+use Rattle.lpt_journal.specs.Refusals.{refusal}
+use Rattle.lpt_journal.specs.Replies.{reply, entry}
 use Rattle.lpt_machine.specs.Shows.{Shows}
 use Rattle.lpt_machine.specs.State.{State, no_state, refusal_of, after}
 use Rattle.lpt_machine.specs.Views.{views}

@@ -37,7 +37,7 @@ use Rattle.lpt_events.specs.declared.reply.Answer.{Answer}
 use Rattle.lpt_events.specs.declared.reply.Answer.TheVariants.{Opened, Put, Finished, Lost, Took, Delivered, Clock, Expired}
 use Rattle.lpt_events.specs.declared.reply.Reply.{Reply}
 use Rattle.lpt_events.specs.Sides.{sender_side, receiver_side, direction_to}
-use Rattle.lpt_journal.specs.Journal.{arrival_in}
+use Rattle.lpt_journal.specs.Hands.{arrival_in}
 
 -- both ends, the link, and what was opened and released so far
 pub record State : Type 0 where

@@ -17,7 +17,7 @@ use Rattle.lpt_events.specs.declared.event.Event.{Event}
 use Rattle.lpt_events.specs.declared.event.Event.TheVariants.{Open, Send, Plain, Finish, Lose, Take, Deliver, Tick, Expire}
 use Rattle.lpt_events.specs.declared.fault.StepFault.{StepFault}
 use Rattle.lpt_events.specs.declared.reply.Reply.{Reply}
-use Rattle.lpt_journal.specs.Journal.{sent}
+use Rattle.lpt_journal.specs.Link.{sent}
 use Rattle.lpt_journal.specs.Releases.{releases}
 use Rattle.lpt_journal.specs.Replies.{reply}
 use Rattle.lpt_world.specs.Worlds.{Shown, history, memories_now, refusal_at, with_entry}
@@ -83,28 +83,28 @@ memory_octets w id address len =
     option_and_then (octets_from address len) (content_of id (memories_now w))
 
 -- what a command does
-abbrev pub does : Command → Shown → Ran
-does (command.Open d id m) w = stepped w (Open d id m)
-does (command.Send d id k) w = stepped w (Send d id k)
-does (command.Plain flags service subtype body) w = stepped w (Plain flags service subtype body)
-does (command.Load l) w = stepped w (Open Up l.id (load_packet w.config.apid w.config.source l))
-does (command.Lose n) w = stepped w (Lose n)
-does (command.Take l n) w = stepped w (Take l n)
-does (command.Deliver l) w = stepped w (Deliver l)
-does (command.Finish d id) w = stepped w (Finish d id)
-does (command.Expire side) w = stepped w (Expire side)
-does (command.Tick side count) w = ticked count side w
-does (command.Pass l n) w = and_then (stepped w (Take l n)) (λ after. stepped after (Deliver l))
-does command.ShowReleased w = printed w (releases_text (releases w.config (history w)))
-does (command.ShowPacket n) w = printed w (packet_text n (packet_octets w n))
-does (command.ShowMemory id address len) w =
+abbrev pub command_ran : Command → Shown → Ran
+command_ran (command.Open d id m) w = stepped w (Open d id m)
+command_ran (command.Send d id k) w = stepped w (Send d id k)
+command_ran (command.Plain flags service subtype body) w = stepped w (Plain flags service subtype body)
+command_ran (command.Load l) w = stepped w (Open Up l.id (load_packet w.config.apid w.config.source l))
+command_ran (command.Lose n) w = stepped w (Lose n)
+command_ran (command.Take l n) w = stepped w (Take l n)
+command_ran (command.Deliver l) w = stepped w (Deliver l)
+command_ran (command.Finish d id) w = stepped w (Finish d id)
+command_ran (command.Expire side) w = stepped w (Expire side)
+command_ran (command.Tick side count) w = ticked count side w
+command_ran (command.Pass l n) w = and_then (stepped w (Take l n)) (λ after. stepped after (Deliver l))
+command_ran command.ShowReleased w = printed w (releases_text (releases w.config (history w)))
+command_ran (command.ShowPacket n) w = printed w (packet_text n (packet_octets w n))
+command_ran (command.ShowMemory id address len) w =
     printed w (memory_text id address (memory_octets w id address len))
-does command.ShowJournal w = printed w (journal_text (length w.journal))
+command_ran command.ShowJournal w = printed w (journal_text (length w.journal))
 
 -- what a line does, by what it says and by its number
 abbrev pub line_ran : Reading → ℕ → Shown → Ran
 line_ran Skipped n w = printed w []
-line_ran (Asks c) n w = does c w
+line_ran (Asks c) n w = command_ran c w
 line_ran Unreadable n w = record { world = w; text = unreadable_text n; refused = false; bad = Some n }
 
 -- what a script leaves: its text, how many lines were refused, and the number of the unreadable line
@@ -135,6 +135,6 @@ lines_ran (line ∷ more) w n refused =
     let ran = line_ran (reading_of line) n w in
     then_rest ran n refused (lines_ran more) ran.bad
 
--- what a script does to a world
+-- what a script command_ran to a world
 abbrev pub script_ran : Shown → List ℕ → Script
 script_ran w text = lines_ran (lines text) w 1 0

@@ -4,7 +4,7 @@ ghost use Rattle.std.specs.Prelude.{◌≡◌, ◌≢◌, ◌<◌, ◌-◌, leng
 ghost use Rattle.lpt_print.specs.Printing.{accepted_text};
 ghost use Rattle.lpt_tool.specs.Ends.{IsTickRefused, LineEnds, TextEnds, unrefused};
 ghost use Rattle.lpt_world.specs.Worlds.{RefusedBy, refusal_at, with_entry};
-ghost use Rattle.lpt_tool.specs.Scripts.{and_then, answered, does, stepped, ticked};
+ghost use Rattle.lpt_tool.specs.Scripts.{and_then, answered, command_ran, stepped, ticked};
 
 use crate::loading::run_load;
 use crate::printed::{put, put_refused};
@@ -27,7 +27,7 @@ pub(crate) fn run_command<K: Sink>(
     command: Command,
     out: &mut K,
 ) -> Result<bool, ToolFault>
-    ensures ends { LineEnds (does command world.old) result world.new (K.contents out.old) (K.contents out.new) }
+    ensures ends { LineEnds (command_ran command world.old) result world.new (K.contents out.old) (K.contents out.new) }
     ensures cause { IsErrOf result ToolFault.Write → K.failed out.new ≡ true }
     ensures told { result ≢ Err ToolFault.Write → K.failed out.new ≡ K.failed out.old }
 {

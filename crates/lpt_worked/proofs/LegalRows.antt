@@ -13,12 +13,14 @@ use Rattle.lpt_events.specs.Arrivals.{arrival}
 use Rattle.lpt_events.specs.declared.event.Event.{Event}
 use Rattle.lpt_events.specs.declared.event.Event.TheVariants.{Open, Send, Plain, Finish}
 use Rattle.lpt_events.specs.Configs.{IsConfig}
-use Rattle.lpt_journal.specs.Replies.{recorded, refusal, IsEvent, Legal}
+use Rattle.lpt_journal.specs.Replies.{recorded}
+use Rattle.lpt_journal.specs.Refusals.{refusal}
+use Rattle.lpt_journal.specs.Legal.{IsEvent, Legal}
 use Rattle.lpt_journal.proofs.TestLemmas.{and_l, and_r, not_true, none_is}
 use Rattle.lpt_worked.proofs.Listed.{recorded_listed, recorded_is, refusal_listed, refusal_is}
 use Rattle.lpt_journal.specs.Expiries.{EndsAreFinal}
 use Rattle.lpt_journal.specs.Headline.{Holds}
-use Rattle.lpt_journal.proofs.Every.{headline}
+use Rattle.lpt_journal.proofs.HeadlineLemmas.{headline}
 use Rattle.lpt_journal.proofs.ExpiryLemmas.{expiry_is_final}
 use Rattle.lpt_worked.specs.Passes.{usual, out_of_order, usual_memories}
 use Rattle.lpt_worked.specs.Passes.{impatient, two_expire}

@@ -26,15 +26,18 @@ use Rattle.lpt_events.specs.declared.reply.Answer.TheVariants.{Delivered}
 use Rattle.lpt_events.specs.declared.reply.Reply.{Reply}
 use Rattle.lpt_events.specs.declared.entry.Release.{Release}
 use Rattle.lpt_events.specs.Sides.{receiver_side, direction_to}
-use Rattle.lpt_journal.specs.Journal.{Recorded, History, SentPacket, with_all, in_hand, sent}
+use Rattle.lpt_journal.specs.Journal.{Recorded, History, SentPacket, with_all}
+use Rattle.lpt_journal.specs.Hands.{in_hand}
+use Rattle.lpt_journal.specs.Link.{sent}
 use Rattle.lpt_journal.specs.Senders.{once}
 use Rattle.lpt_journal.specs.Receivers.{with_piece, heard, has_parts, heard_names, open_names, is_closed, last_tick}
-use Rattle.lpt_journal.specs.Expiry.{is_overdue, earliest, due}
+use Rattle.lpt_journal.specs.Due.{is_overdue, earliest, due}
 use Rattle.lpt_journal.specs.Delivery.{judged_part, judged}
 use Rattle.lpt_journal.specs.Releases.{released_now, release_after, released_by, releases}
 use Rattle.lpt_worked.proofs.ListedSets.{Listed, with_listed, contradicts_listed, whole_listed, spelled_listed, entries-with_piece, contradicts_is, whole_is, listed, entries-heard}
 use Rattle.lpt_worked.specs.Passes.{usual_memories}
-use Rattle.lpt_journal.specs.Replies.{expired_now, answer, outcome_puts, expiry_puts, puts, opens, told, entry, recorded, first_fault, refusal}
+use Rattle.lpt_journal.specs.Replies.{expired_now, answer, outcome_puts, expiry_puts, puts, opens, told, entry, recorded}
+use Rattle.lpt_journal.specs.Refusals.{first_fault, refusal}
 
 -- ---- outcomes
 

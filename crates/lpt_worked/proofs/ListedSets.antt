@@ -20,7 +20,8 @@ use Rattle.lpt_events.specs.declared.event.Event.TheVariants.{Deliver, Expire}
 use Rattle.lpt_events.specs.declared.reply.Answer.{Answer}
 use Rattle.lpt_events.specs.declared.reply.Answer.TheVariants.{Delivered}
 use Rattle.lpt_events.specs.Sides.{same_side, receiver_side}
-use Rattle.lpt_journal.specs.Journal.{History, in_hand}
+use Rattle.lpt_journal.specs.Journal.{History}
+use Rattle.lpt_journal.specs.Hands.{in_hand}
 use Rattle.lpt_journal.specs.Receivers.{kept, with_piece, with_arrival, ends, heard_now, heard_after, heard}
 use Rattle.lpt_journal.specs.Replies.{answer}
 

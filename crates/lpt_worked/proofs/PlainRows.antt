@@ -12,9 +12,9 @@ use Rattle.lpt_events.specs.declared.event.Event.{Event}
 use Rattle.lpt_events.specs.declared.event.Event.TheVariants.{Plain, Take, Deliver}
 use Rattle.lpt_events.specs.declared.fault.StepFault.TheVariants.{PartRequest, Long}
 use Rattle.lpt_events.specs.declared.reply.Answer.TheVariants.{Took, Delivered}
-use Rattle.lpt_journal.specs.Journal.{sent}
+use Rattle.lpt_journal.specs.Link.{sent}
 use Rattle.lpt_journal.specs.Releases.{releases}
-use Rattle.lpt_journal.specs.Replies.{Legal}
+use Rattle.lpt_journal.specs.Legal.{Legal}
 use Rattle.lpt_worked.proofs.LegalRows.{legal}
 use Rattle.lpt_worked.proofs.Listed.{releases_is}
 use Rattle.lpt_worked.proofs.Played.{Refuses, played, played_listed, played_is, gives, puts_packet}

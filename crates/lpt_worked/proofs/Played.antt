@@ -7,7 +7,8 @@ use Rattle.lpt_events.specs.declared.reply.Answer.{Answer}
 use Rattle.lpt_events.specs.declared.reply.Answer.TheVariants.{Put}
 use Rattle.lpt_events.specs.declared.reply.Reply.{Reply}
 use Rattle.lpt_journal.specs.Journal.{Recorded, History}
-use Rattle.lpt_journal.specs.Replies.{entry, refusal}
+use Rattle.lpt_journal.specs.Replies.{entry}
+use Rattle.lpt_journal.specs.Refusals.{refusal}
 use Rattle.lpt_worked.specs.Passes.{usual_memories}
 use Rattle.lpt_worked.proofs.Listed.{entry_listed, entry_is, refusal_listed, refusal_is}
 

@@ -15,7 +15,7 @@ use Rattle.lpt_events.specs.declared.event.Event.{Event}
 use Rattle.lpt_events.specs.declared.event.Event.TheVariants.{Open, Send, Finish, Take, Deliver}
 use Rattle.lpt_events.specs.declared.fault.StepFault.TheVariants.{InUse, NotOpen, NoSuchPart}
 use Rattle.lpt_events.specs.declared.reply.Answer.TheVariants.{Opened, Finished, Took, Delivered}
-use Rattle.lpt_journal.specs.Journal.{sent}
+use Rattle.lpt_journal.specs.Link.{sent}
 use Rattle.lpt_journal.specs.Releases.{releases}
 use Rattle.lpt_worked.specs.Passes.{usual, m20, m16, m9, out_of_order}
 use Rattle.lpt_worked.proofs.Listed.{releases_is}

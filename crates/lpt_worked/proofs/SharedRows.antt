@@ -16,9 +16,9 @@ use Rattle.lpt_events.specs.declared.event.Event.{Event}
 use Rattle.lpt_events.specs.declared.event.Event.TheVariants.{Open, Send, Take, Deliver}
 use Rattle.lpt_events.specs.declared.fault.StepFault.TheVariants.{InUse, Short, Long, TooMany, NotOpen, NoSuchPart, NotHeld, HandFull, HandEmpty}
 use Rattle.lpt_events.specs.declared.reply.Answer.TheVariants.{Opened, Took, Delivered}
-use Rattle.lpt_journal.specs.Journal.{sent}
+use Rattle.lpt_journal.specs.Link.{sent}
 use Rattle.lpt_journal.specs.Releases.{releases}
-use Rattle.lpt_journal.specs.Replies.{first_fault, refusal}
+use Rattle.lpt_journal.specs.Refusals.{first_fault, refusal}
 use Rattle.lpt_worked.proofs.Listed.{releases_is}
 use Rattle.lpt_worked.specs.Passes.{usual, m20, m9}
 use Rattle.lpt_worked.proofs.Played.{Refuses, played, played_listed, played_is, gives, puts_packet}

@@ -19,7 +19,7 @@ use Rattle.lpt_events.specs.declared.event.Event.{Event}
 use Rattle.lpt_events.specs.declared.event.Event.TheVariants.{Open, Send, Take, Deliver, Tick, Expire}
 use Rattle.lpt_events.specs.declared.fault.StepFault.TheVariants.{NotOpen, NothingDue, ClockEnd}
 use Rattle.lpt_events.specs.declared.reply.Answer.TheVariants.{Opened, Took, Delivered, Clock, Expired}
-use Rattle.lpt_journal.specs.Journal.{sent}
+use Rattle.lpt_journal.specs.Link.{sent}
 use Rattle.lpt_worked.specs.Passes.{usual, m20, m9, impatient, two_expire}
 use Rattle.lpt_worked.proofs.Played.{Given, Gives, Refuses, played, played_is, gives, puts_packet}
 

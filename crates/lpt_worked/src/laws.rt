@@ -1,7 +1,7 @@
 //! Passes that are legal journals: functions with empty bodies.
 
 ghost use Rattle.std.specs.Prelude.{reverse};
-ghost use Rattle.lpt_journal.specs.Replies.{Legal};
+ghost use Rattle.lpt_journal.specs.Legal.{Legal};
 ghost use Rattle.lpt_worked.specs.Passes.{usual, impatient, out_of_order, two_expire, usual_memories};
 
 /// A message of three parts is delivered with its last part first, and released.

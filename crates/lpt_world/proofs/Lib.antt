@@ -1,3 +1,3 @@
-pub mod HeadlineLemmas
 pub mod RunLemmas
+pub mod ToldLemmas
 pub mod WorldLemmas

@@ -16,9 +16,12 @@ use Rattle.lpt_events.specs.declared.fault.StepFault.{StepFault}
 use Rattle.lpt_events.specs.declared.fault.StepFault.TheVariants.{NoSuchSeat}
 use Rattle.lpt_events.specs.declared.reply.Reply.{Reply}
 use Rattle.lpt_world.specs.EndsInside.{state_of}
-use Rattle.lpt_journal.specs.Journal.{History, SentPacket, sent}
+use Rattle.lpt_journal.specs.Journal.{History, SentPacket}
+use Rattle.lpt_journal.specs.Link.{sent}
 use Rattle.lpt_events.specs.Configs.{IsConfig}
-use Rattle.lpt_journal.specs.Replies.{IsEvent, IsEnabled, refusal, reply, entry, recorded}
+use Rattle.lpt_journal.specs.Legal.{IsEvent, IsEnabled}
+use Rattle.lpt_journal.specs.Refusals.{refusal}
+use Rattle.lpt_journal.specs.Replies.{reply, entry, recorded}
 use Rattle.lpt_machine.specs.Shows.{Shows, sent_packet}
 use Rattle.lpt_machine.specs.State.{State, no_state, after, refusal_of}
 use Rattle.lpt_machine.specs.Views.{views}

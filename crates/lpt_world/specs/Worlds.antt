@@ -8,8 +8,10 @@ use Rattle.lpt_events.specs.declared.fault.StepFault.{StepFault}
 use Rattle.lpt_events.specs.declared.fault.StepFault.TheVariants.{NoSuchSeat, Memory}
 use Rattle.lpt_events.specs.declared.reply.Reply.{Reply}
 use Rattle.lpt_journal.specs.Journal.{History}
-use Rattle.lpt_journal.specs.Memory.{memories}
-use Rattle.lpt_journal.specs.Replies.{IsEnabled, recorded, refusal, reply}
+use Rattle.lpt_journal.specs.Jobs.{memories}
+use Rattle.lpt_journal.specs.Legal.{IsEnabled}
+use Rattle.lpt_journal.specs.Replies.{recorded, reply}
+use Rattle.lpt_journal.specs.Refusals.{refusal}
 
 -- the configuration, the memories as they were first, and the journal with its oldest entry first
 pub record Shown : Type 0 where

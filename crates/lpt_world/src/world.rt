@@ -3,11 +3,12 @@
 ghost use Rattle.std.specs.Prelude.{◌≡◌, ◌≤◌, length, [], take, slice_get, None, IfOk, IfErr, IfSome};
 ghost use Rattle.std.specs.Option.{option_map, option_copied};
 ghost use Rattle.lpt_journal.specs.Headline.{Holds, EachIsLastOpened, AtMostOncePerOpening};
-ghost use Rattle.lpt_journal.specs.Journal.{sent};
+ghost use Rattle.lpt_journal.specs.Link.{sent};
 ghost use Rattle.lpt_journal.specs.Releases.{releases};
 ghost use Rattle.lpt_memory.specs.Memories.{content_of, sizes_of};
 ghost use Rattle.lpt_events.specs.Configs.{IsConfig, config_fault, ConfigRefusedBy};
-ghost use Rattle.lpt_journal.specs.Replies.{IsEvent, reply};
+ghost use Rattle.lpt_journal.specs.Legal.{IsEvent};
+ghost use Rattle.lpt_journal.specs.Replies.{reply};
 ghost use Rattle.lpt_journal.specs.Senders.{opened};
 ghost use Rattle.lpt_world.specs.Worlds.{IsTold, new_world, history, memories_now, refusal_at, RefusedBy, with_entry, entered, AllAccepted, IsFaultOf};
 

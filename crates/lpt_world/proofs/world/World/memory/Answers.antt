@@ -2,7 +2,7 @@
 use Rattle.std.proofs.Common.{◌∙◌, ap, sym}
 use Rattle.lpt_memory.specs.Memories.{content_of}
 use Rattle.lpt_world.specs.Worlds.{history}
-use Rattle.lpt_journal.proofs.MemoryLemmas.{memories_stay}
+use Rattle.lpt_journal.proofs.JobLemmas.{memories_stay}
 use Rattle.lpt_world.proofs.world.World.memory.Goals as goal
 
 pub returns : goal.returns

@@ -2,7 +2,7 @@
 use Rattle.std.proofs.Common.{subst}
 use Rattle.lpt_journal.specs.Headline.{EachIsLastOpened, AtMostOncePerOpening}
 use Rattle.lpt_world.specs.Worlds.{Shown, history}
-use Rattle.lpt_world.proofs.HeadlineLemmas.{shown_holds}
+use Rattle.lpt_world.proofs.ToldLemmas.{shown_holds}
 use Rattle.lpt_world.proofs.world.World.released.Goals as goal
 
 pub returns-clause-last_opened : goal.returns-clause-last_opened

@@ -7,10 +7,10 @@ use Rattle.lpt_world.specs.declared.ends.Ends.{Ends}
 use Rattle.lpt_events.specs.declared.entry.Entry.{Entry}
 use Rattle.lpt_events.specs.declared.event.Event.{Event}
 use Rattle.lpt_journal.specs.Headline.{Holds}
-use Rattle.lpt_journal.specs.Replies.{Legal}
+use Rattle.lpt_journal.specs.Legal.{Legal}
 use Rattle.lpt_world.specs.WorldInside.{IsShown}
 use Rattle.lpt_world.specs.Worlds.{IsTold, IsToldAfter, events_of, history_of}
-use Rattle.lpt_journal.proofs.Every.{headline}
+use Rattle.lpt_journal.proofs.HeadlineLemmas.{headline}
 use Rattle.lpt_world.proofs.WorldLemmas.{onto, onto-events_of}
 
 legal_after : (c : Config) (first : Contents) (past : List Event) (j : List Entry)

@@ -19,12 +19,15 @@ use Rattle.lpt_events.specs.declared.outcome.Outcome.{Outcome}
 use Rattle.lpt_events.specs.declared.reply.Answer.TheVariants.{Delivered}
 use Rattle.lpt_events.specs.Sides.{direction_to}
 use Rattle.lpt_journal.specs.Delivery.{outcome}
-use Rattle.lpt_journal.specs.Journal.{Recorded, History, hand, arrival_at, in_hand}
+use Rattle.lpt_journal.specs.Journal.{Recorded, History}
+use Rattle.lpt_journal.specs.Hands.{hand, arrival_at, in_hand}
 use Rattle.lpt_journal.specs.Releases.{released_by}
 use Rattle.lpt_events.specs.Configs.{IsConfig}
-use Rattle.lpt_journal.specs.Expiry.{due}
-use Rattle.lpt_journal.specs.Replies.{answer, expired_now, entry, recorded, refusal, IsEnabled, Legal}
-use Rattle.lpt_journal.proofs.MemoryLemmas.{memories_stay}
+use Rattle.lpt_journal.specs.Due.{due}
+use Rattle.lpt_journal.specs.Replies.{answer, expired_now, entry, recorded}
+use Rattle.lpt_journal.specs.Refusals.{refusal}
+use Rattle.lpt_journal.specs.Legal.{IsEnabled, Legal}
+use Rattle.lpt_journal.proofs.JobLemmas.{memories_stay}
 use Rattle.lpt_journal.specs.Headline.{PartsAreCurrent, EachIsLastOpened, IsSoundOutcome, IsSoundDelivery, DeliveriesAreSound, DeliveriesWereSound, Headline}
 use Rattle.lpt_journal.proofs.TestLemmas.{one_passes, no_place}
 use Rattle.lpt_journal.proofs.Steps.{IsSound, Owes}

@@ -1,0 +1,33 @@
+-- Which journals are legal.
+use Rattle.std.specs.Prelude.{◌≡◌, ◌<◌, List, [], ◌∷◌, None, ⊤}
+use Rattle.lpt_packet.specs.Numbers.{IsOctets}
+use Rattle.lpt_memory.specs.Memories.{Contents}
+use Rattle.lpt_events.specs.declared.config.Config.{Config}
+use Rattle.lpt_events.specs.declared.event.Event.{Event}
+use Rattle.lpt_events.specs.declared.event.Event.TheVariants.{Open, Send, Plain, Finish, Lose, Take, Deliver, Tick, Expire}
+use Rattle.lpt_journal.specs.Journal.{History}
+use Rattle.lpt_journal.specs.Replies.{recorded}
+use Rattle.lpt_journal.specs.Refusals.{refusal}
+
+-- the event's numbers are of their types
+abbrev pub IsEvent : Event → Type 0
+IsEvent (Open d id m) = (id < 65536) × IsOctets m
+IsEvent (Send d id k) = (id < 65536) × (k < 65536)
+IsEvent (Plain flags service subtype body) =
+    (flags < 16) × (service < 256) × (subtype < 256) × IsOctets body
+IsEvent (Finish d id) = id < 65536
+IsEvent (Lose n) = ⊤
+IsEvent (Take l n) = ⊤
+IsEvent (Deliver l) = ⊤
+IsEvent (Tick side) = ⊤
+IsEvent (Expire side) = ⊤
+
+-- an event can happen after this history
+pub record IsEnabled (c : Config) (h : History) (e : Event) : Type 0 where
+  pub in_range : IsEvent e
+  pub accepted : refusal c h e ≡ None
+
+-- each event can happen after those before it
+abbrev pub Legal : Config → Contents → List Event → Type 0
+Legal c first [] = ⊤
+Legal c first (e ∷ es) = Legal c first es × IsEnabled c (recorded c first es) e

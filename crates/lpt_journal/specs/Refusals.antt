@@ -1,0 +1,53 @@
+-- Why an event is refused.
+use Rattle.std.specs.Prelude.{ℕ, nat_lt, nat_le, ◌==◌, Bool, not, ◌&&◌, ◌||◌, if◌then◌else◌, List, [], ◌∷◌, length, Option, Some, None, is_some}
+use Rattle.lpt_part.specs.Splitting.{part_count}
+use Rattle.lpt_events.specs.Lanes.{lane_direction}
+use Rattle.lpt_events.specs.declared.config.Config.{Config}
+use Rattle.lpt_events.specs.Requests.{is_part_request, is_too_long}
+use Rattle.lpt_events.specs.declared.event.Event.{Event}
+use Rattle.lpt_events.specs.declared.event.Event.TheVariants.{Open, Send, Plain, Finish, Lose, Take, Deliver, Tick, Expire}
+use Rattle.lpt_events.specs.declared.fault.StepFault.{StepFault}
+use Rattle.lpt_events.specs.declared.fault.StepFault.TheVariants.{InUse, Short, Long, TooMany, NotOpen, NoSuchPart, NotHeld, HandFull, HandEmpty, NothingDue, ClockEnd, PartRequest}
+use Rattle.lpt_events.specs.Sides.{direction_to}
+use Rattle.lpt_journal.specs.Journal.{History}
+use Rattle.lpt_journal.specs.Link.{is_held, goes}
+use Rattle.lpt_journal.specs.Hands.{hand}
+use Rattle.lpt_journal.specs.Senders.{Sender, OpenSender, sender, is_free, is_open, open_count}
+use Rattle.lpt_journal.specs.Receivers.{clock}
+use Rattle.lpt_journal.specs.Due.{due}
+
+-- the first fault whose test holds
+abbrev pub first_fault : List (Bool × StepFault) → Option StepFault
+first_fault [] = None
+first_fault (test ∷ tests) = if test.0 then Some test.1 else first_fault tests
+
+-- how many parts an open sender's message has; none else
+abbrev pub parts_open : Config → Sender → ℕ
+parts_open c (OpenSender m) = part_count (length m) c.part_size
+parts_open c _ = 0
+
+-- the reasons for which an event is refused, each with its test, in the order of the tests
+abbrev pub reasons : Config → History → Event → List (Bool × StepFault)
+reasons c h (Open d id m) =
+    (not (is_free (sender h d id)), InUse)
+    ∷ (nat_le (length m) c.part_size, Short)
+    ∷ (nat_lt 65542 (length m), Long)
+    ∷ (nat_le c.outgoing (open_count h d), TooMany) ∷ []
+reasons c h (Send d id k) =
+    (not (is_open (sender h d id)), NotOpen)
+    ∷ ((k == 0) || nat_lt (parts_open c (sender h d id)) k, NoSuchPart) ∷ []
+reasons c h (Plain flags service subtype body) =
+    (is_part_request service subtype, PartRequest)
+    ∷ (is_too_long c (length body), Long) ∷ []
+reasons c h (Finish d id) = (not (is_open (sender h d id)), NotOpen) ∷ []
+reasons c h (Lose n) = (not (is_held h n), NotHeld) ∷ []
+reasons c h (Take l n) =
+    (is_some (hand h l), HandFull)
+    ∷ (not (is_held h n && goes h (lane_direction l) n), NotHeld) ∷ []
+reasons c h (Deliver l) = (not (is_some (hand h l)), HandEmpty) ∷ []
+reasons c h (Tick side) = (clock c h side == 4294967295, ClockEnd) ∷ []
+reasons c h (Expire side) = (not (is_some (due c h (direction_to side))), NothingDue) ∷ []
+
+-- why an event is refused, where it is
+abbrev pub refusal : Config → History → Event → Option StepFault
+refusal c h e = first_fault (reasons c h e)
