@@ -3,28 +3,21 @@
 ghost use Rattle.std.specs.Prelude.{◌≡◌, [], true, false, IfOk};
 ghost use Rattle.std.specs.String.{string_bytes};
 ghost use Rattle.lpt_packet.specs.Packets.{fields};
-ghost use Rattle.lpt_packet.specs.declared.direction.Direction.TheVariants.{Up, Down};
 ghost use Rattle.lpt_pus.specs.Commands.{command, tc_verdict};
 ghost use Rattle.lpt_pus.specs.Telemetry.{telemetry, tm_verdict};
 ghost use Rattle.lpt_part.specs.Splitting.{IsPartSize};
-ghost use Rattle.lpt_events.specs.Arrivals.{carried_kind};
 ghost use Rattle.lpt_print.specs.Decoding.{Says, decoding, tc_decoding, tm_decoding, fault_text, tc_text, tm_text, body_text, kind_text, part_line, abort_line, report_line, tc_carried, tm_carried};
 
 use crate::words::octets_word;
-use lpt_packet::{Packet, PacketKind, Seen, read_packet};
-use lpt_part::{Kind, read_abort, read_part};
+use lpt_events::part_kind;
+use lpt_packet::{Direction, Packet, PacketKind, Seen, read_packet};
+use lpt_part::{ABORT, Kind, TRANSFER, read_abort, read_part};
 use lpt_pus::{TcHead, TmHead, read_tc, read_tm};
 use lpt_verify::read_report;
 use std::alloc::{AllocError, Global};
 
 /// The service type of request verification (ECSS-E-ST-70-41C).
 const VERIFICATION: u8 = 1;
-
-/// The service type of large packet transfer (ECSS-E-ST-70-41C).
-const TRANSFER: u8 = 13;
-
-/// The message subtype of the report that a reception was broken off.
-const ABORT: u8 = 16;
 
 /// What octets are, as a text, and whether they fail a test.
 #[derive(Debug, Drop)]
@@ -169,7 +162,7 @@ fn print_tc_carried(alloc: Global, head: &TcHead, body: &[u8], p: u32) -> Result
     requires { IsPartSize p }
     ensures { IfOk result (λ t. string_bytes t ≡ tc_carried p (command head.now body.now)) }
 {
-    match kind_up(head.service, head.subtype) {
+    match part_kind(Direction::Up, head.service, head.subtype) {
         Some(kind) => print_part(alloc, kind, body, p),
         None => Ok(String::new(alloc)),
     }
@@ -180,7 +173,7 @@ fn print_tm_carried(alloc: Global, head: &TmHead, body: &[u8], p: u32) -> Result
     requires { IsPartSize p }
     ensures { IfOk result (λ t. string_bytes t ≡ tm_carried p (telemetry head.now body.now)) }
 {
-    match kind_down(head.service, head.subtype) {
+    match part_kind(Direction::Down, head.service, head.subtype) {
         Some(kind) => print_part(alloc, kind, body, p),
         None => match (head.service, head.subtype) {
             (VERIFICATION, subtype) => print_report(alloc, subtype, body),
@@ -238,29 +231,5 @@ fn kind_word(kind: Kind) -> &'static str
         Kind::First => "first",
         Kind::Middle => "middle",
         Kind::Last => "last",
-    }
-}
-
-// The kind of part that a telecommand carries.
-fn kind_up(service: u8, subtype: u8) -> Option<Kind>
-    ensures { result ≡ carried_kind Up service subtype }
-{
-    match (service, subtype) {
-        (TRANSFER, 9) => Some(Kind::First),
-        (TRANSFER, 10) => Some(Kind::Middle),
-        (TRANSFER, 11) => Some(Kind::Last),
-        _ => None,
-    }
-}
-
-// The kind of part that telemetry carries.
-fn kind_down(service: u8, subtype: u8) -> Option<Kind>
-    ensures { result ≡ carried_kind Down service subtype }
-{
-    match (service, subtype) {
-        (TRANSFER, 1) => Some(Kind::First),
-        (TRANSFER, 2) => Some(Kind::Middle),
-        (TRANSFER, 3) => Some(Kind::Last),
-        _ => None,
     }
 }
