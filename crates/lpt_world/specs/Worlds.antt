@@ -1,5 +1,7 @@
 -- A world as its readers show it: its configuration, the first content of its memories, and its journal.
 use Rattle.std.specs.Prelude.{◌≡◌, ℕ, nat_lt, if◌then◌else◌, List, [], ◌∷◌, ◌++◌, map, reverse, Option, Some, None}
+use Rattle.lpt_ledger.specs.declared.state.State.{State}
+use Rattle.lpt_ledger.specs.declared.state.State.TheVariants.{Free, Open, Closed}
 use Rattle.lpt_memory.specs.Memories.{Contents}
 use Rattle.lpt_events.specs.declared.config.Config.{Config}
 use Rattle.lpt_events.specs.declared.entry.Entry.{Entry}
@@ -8,6 +10,7 @@ use Rattle.lpt_events.specs.declared.fault.StepFault.{StepFault}
 use Rattle.lpt_events.specs.declared.fault.StepFault.TheVariants.{NoSuchSeat, Memory}
 use Rattle.lpt_events.specs.declared.reply.Reply.{Reply}
 use Rattle.lpt_journal.specs.Journal.{History}
+use Rattle.lpt_journal.specs.Senders.{Sender, FreeSender, OpenSender, ClosedSender}
 use Rattle.lpt_journal.specs.Jobs.{memories}
 use Rattle.lpt_journal.specs.Legal.{IsEnabled}
 use Rattle.lpt_journal.specs.Replies.{recorded, reply}
@@ -50,6 +53,12 @@ IsToldAfter c first past (x ∷ xs) =
 -- a journal from its beginning
 abbrev pub IsTold : Config → Contents → List Entry → Type 0
 IsTold c first j = IsToldAfter c first [] j
+
+-- a sender's state, without its message
+abbrev pub state_shown : Sender → State
+state_shown FreeSender = Free
+state_shown (OpenSender m) = Open
+state_shown ClosedSender = Closed
 
 -- why a world refuses a seat's event: there are seats 0 to 10
 abbrev pub refusal_at : Shown → ℕ → Event → Option StepFault

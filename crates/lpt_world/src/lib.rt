@@ -3,6 +3,7 @@
 
 mod ends;
 mod faults;
+mod readers;
 mod requesting;
 mod timing;
 mod world;
@@ -11,4 +12,5 @@ pub use lpt_events::{
     Answer, ConfigFault, Entry, Event, Opening, Puts, Refused, Release, Reply, RunEnd, StepFault,
 };
 pub use lpt_journal::laws;
+pub use lpt_ledger::State;
 pub use world::World;

@@ -26,9 +26,9 @@ const LAST_SEAT: u8 = 10;
 /// were accepted.
 #[derive(Drop)]
 pub struct World {
-    ends: Ends,
-    first: Memories,
-    journal: Vec<Entry>,
+    pub(crate) ends: Ends,
+    pub(crate) first: Memories,
+    pub(crate) journal: Vec<Entry>,
 }
 
 impl Model for World {
@@ -166,77 +166,6 @@ impl World {
             return Some(StepFault::NoSuchSeat);
         }
         self.ends.refusal(event)
-    }
-
-    /// All accepted events, the oldest first. Each could happen after those before it, and has the
-    /// reply that it gives then. Each large message released under a name is byte for byte the one
-    /// last opened under it by the other node, at most once per opening. Memories keep their first
-    /// content, since nothing is executed so far.
-    pub fn journal(&self) -> &[Entry]
-        ensures shown { result.now ≡ self.now.journal }
-        ensures told { IsTold self.now.config self.now.first self.now.journal }
-        ensures configured { IsConfig self.now.config }
-        // What holds of every journal, whatever the link did and the nodes were asked.
-        ensures headline { Holds self.now.config self.now.first (history self.now) }
-    {
-        self.journal.as_slice()
-    }
-
-    /// All openings, in order of place.
-    pub fn opened(&self) -> &[Opening]
-        ensures { result.now ≡ opened (history self.now) }
-    {
-        self.ends.opened.as_slice()
-    }
-
-    /// All releases, in order of place. Each large message is byte for byte the one last opened
-    /// under its name by the other node, at most once per opening.
-    pub fn released(&self) -> &[Release]
-        ensures all { result.now ≡ releases self.now.config (history self.now) }
-        ensures last_opened { EachIsLastOpened self.now.config (history self.now) }
-        ensures once { AtMostOncePerOpening self.now.config (history self.now) }
-    {
-        self.ends.released.as_slice()
-    }
-
-    /// The octets of the packet of this number, whether the link still holds it or not; none where
-    /// fewer packets were put.
-    pub fn packet(&self, n: u64) -> Option<&[u8]>
-        ensures { option_copied result ≡ option_map (λ p. p.octets) (slice_get (sent (history self.now)) n) }
-    {
-        self.ends.link.packet(n)
-    }
-
-    /// The octets of a memory now: its first content, changed by the requests that were executed in
-    /// their order. So far no event executes one. None where there is no such memory.
-    pub fn memory(&self, id: u8) -> Option<&[u8]>
-        ensures { option_map (λ x. x.now) result ≡ content_of id (memories_now self.now) }
-    {
-        self.first(id)
-    }
-
-    /// The octets that a memory had first, or none where there is no such memory.
-    pub fn first(&self, id: u8) -> Option<&[u8]>
-        ensures { option_map (λ x. x.now) result ≡ content_of id self.now.first }
-    {
-        self.first.content(id)
-    }
-
-    /// The identifiers and sizes of the memories, for which requests are prepared.
-    ///
-    /// The only error is want of memory.
-    pub fn shape(&self) -> Result<Shape, AllocError>
-        ensures { IfOk result (λ s. s ≡ sizes_of self.now.first) }
-    {
-        self.first.shape()
-    }
-
-    /// The configuration, whose numbers are in their ranges.
-    pub fn config(&self) -> Config
-        ensures shown { result ≡ self.now.config }
-        ensures configured { IsConfig result }
-    {
-        self.ends.config
     }
 }
 

@@ -2,11 +2,12 @@
 
 use crate::scenes::*;
 use crate::stations::octets_of;
+use lpt_link::Lane;
 use lpt_memory::{Memories, Shape, Ticket, prepare};
-use lpt_node::Config;
-use lpt_packet::Direction::Up;
+use lpt_node::{Config, Side};
+use lpt_packet::Direction::{Down, Up};
 use lpt_packet::Octets;
-use lpt_world::{StepFault, World, laws};
+use lpt_world::{State, StepFault, World, laws};
 use std::alloc::{AllocError, Global};
 use std::process::Abort;
 use std::test::Fail;
@@ -48,6 +49,29 @@ fn knows_its_configuration(rt: HostRuntime) -> Result<(), Fail> {
 fn config_of_a_world(alloc: Global) -> Result<Config, Fail> {
     let world = new_world(alloc, CONFIG)?;
     Ok(world.config())
+}
+
+#[test]
+fn shows_the_link_and_the_ends(rt: HostRuntime) -> Result<(), Fail> {
+    let alloc = rt.alloc();
+    let mut world = new_world(alloc, CONFIG)?;
+    shows_what_was_put(&rt, alloc, &mut world)
+}
+
+fn shows_what_was_put(rt: &impl Abort, alloc: Global, world: &mut World) -> Result<(), Fail> {
+    let rows = [
+        opens(Up, 7, 20, 3),
+        sends(Up, 7, 1, 0),
+        sends(Up, 7, 2, 1),
+        takes(Lane::S1, 1),
+    ];
+    let ran = runs(alloc, world, &rows);
+    assert!(rt; world.packets() == 2 && world.is_held(1) && !world.is_held(2));
+    assert!(rt; world.hand(Lane::S1) == Some(1) && world.hand(Lane::G1).is_none());
+    assert!(rt; world.sender(Up, 7) == State::Open && world.sender(Down, 7) == State::Free);
+    assert!(rt; world.clock(Side::Craft) == CONFIG.clock);
+    ran?;
+    Ok(())
 }
 
 #[test]

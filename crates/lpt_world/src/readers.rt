@@ -1,0 +1,135 @@
+//! What a world shows: its journal, and what follows from that.
+
+ghost use Rattle.std.specs.Prelude.{◌≡◌, length, slice_get, IfOk};
+ghost use Rattle.std.specs.Option.{option_map, option_copied};
+ghost use Rattle.lpt_journal.specs.Hands.{hand};
+ghost use Rattle.lpt_journal.specs.Headline.{Holds, EachIsLastOpened, AtMostOncePerOpening};
+ghost use Rattle.lpt_journal.specs.Link.{sent, is_held};
+ghost use Rattle.lpt_journal.specs.Receivers.{clock};
+ghost use Rattle.lpt_journal.specs.Releases.{releases};
+ghost use Rattle.lpt_journal.specs.Senders.{opened, sender};
+ghost use Rattle.lpt_memory.specs.Memories.{content_of, sizes_of};
+ghost use Rattle.lpt_events.specs.Configs.{IsConfig};
+ghost use Rattle.lpt_world.specs.Worlds.{IsTold, history, memories_now, state_shown};
+
+use crate::{Entry, Opening, Release, World};
+use lpt_ledger::State;
+use lpt_link::Lane;
+use lpt_memory::Shape;
+use lpt_node::{Config, Side};
+use lpt_packet::{Direction, Name};
+use std::alloc::AllocError;
+
+impl World {
+    /// All accepted events, the oldest first. Each could happen after those before it, and has the
+    /// reply that it gives then. Each large message released under a name is byte for byte the one
+    /// last opened under it by the other node, at most once per opening. Memories keep their first
+    /// content, since nothing is executed so far.
+    pub fn journal(&self) -> &[Entry]
+        ensures shown { result.now ≡ self.now.journal }
+        ensures told { IsTold self.now.config self.now.first self.now.journal }
+        ensures configured { IsConfig self.now.config }
+        // What holds of every journal, whatever the link did and the nodes were asked.
+        ensures headline { Holds self.now.config self.now.first (history self.now) }
+    {
+        self.journal.as_slice()
+    }
+
+    /// All openings, in order of place.
+    pub fn opened(&self) -> &[Opening]
+        ensures { result.now ≡ opened (history self.now) }
+    {
+        self.ends.opened.as_slice()
+    }
+
+    /// All releases, in order of place. Each large message is byte for byte the one last opened
+    /// under its name by the other node, at most once per opening.
+    pub fn released(&self) -> &[Release]
+        ensures all { result.now ≡ releases self.now.config (history self.now) }
+        ensures last_opened { EachIsLastOpened self.now.config (history self.now) }
+        ensures once { AtMostOncePerOpening self.now.config (history self.now) }
+    {
+        self.ends.released.as_slice()
+    }
+
+    /// The octets of the packet of this number, whether the link still holds it or not; none where
+    /// fewer packets were put.
+    pub fn packet(&self, n: u64) -> Option<&[u8]>
+        ensures { option_copied result ≡ option_map (λ p. p.octets) (slice_get (sent (history self.now)) n) }
+    {
+        self.ends.link.packet(n)
+    }
+
+    /// The octets of a memory now: its first content, changed by the requests that were executed in
+    /// their order. So far no event executes one. None where there is no such memory.
+    pub fn memory(&self, id: u8) -> Option<&[u8]>
+        ensures { option_map (λ x. x.now) result ≡ content_of id (memories_now self.now) }
+    {
+        self.first(id)
+    }
+
+    /// The octets that a memory had first, or none where there is no such memory.
+    pub fn first(&self, id: u8) -> Option<&[u8]>
+        ensures { option_map (λ x. x.now) result ≡ content_of id self.now.first }
+    {
+        self.first.content(id)
+    }
+
+    /// The identifiers and sizes of the memories, for which requests are prepared.
+    ///
+    /// The only error is want of memory.
+    pub fn shape(&self) -> Result<Shape, AllocError>
+        ensures { IfOk result (λ s. s ≡ sizes_of self.now.first) }
+    {
+        self.first.shape()
+    }
+
+    /// The configuration, whose numbers are in their ranges.
+    pub fn config(&self) -> Config
+        ensures shown { result ≡ self.now.config }
+        ensures configured { IsConfig result }
+    {
+        self.ends.config
+    }
+
+    /// How many packets were put on the link so far; they are numbered from 0.
+    pub fn packets(&self) -> u64
+        ensures { result ≡ length (sent (history self.now)) }
+    {
+        self.ends.link.packets()
+    }
+
+    /// Whether the link holds the packet of this number: it was put, and isn't lost.
+    pub fn is_held(&self, n: u64) -> bool
+        ensures { result ≡ is_held (history self.now) n }
+    {
+        self.ends.link.is_held(n)
+    }
+
+    /// The number of the packet in a lane's hand, where there is one.
+    pub fn hand(&self, lane: Lane) -> Option<u64>
+        ensures { result ≡ hand (history self.now) lane }
+    {
+        self.ends.link.hand(lane)
+    }
+
+    /// The state of a transaction at the node that sends in this direction.
+    pub fn sender(&self, direction: Direction, id: Name) -> State
+        ensures { result ≡ state_shown (sender (history self.now) direction id) }
+    {
+        match direction {
+            Direction::Up => self.ends.on_ground.sender(id),
+            Direction::Down => self.ends.on_craft.sender(id),
+        }
+    }
+
+    /// The clock of a node, in ticks.
+    pub fn clock(&self, side: Side) -> u32
+        ensures { result ≡ clock self.now.config (history self.now) side }
+    {
+        match side {
+            Side::Ground => self.ends.on_ground.clock(),
+            Side::Craft => self.ends.on_craft.clock(),
+        }
+    }
+}
