@@ -1,2 +1,3 @@
+pub mod IndexLemmas
 pub mod PacketLists
 pub mod PresentLemmas
