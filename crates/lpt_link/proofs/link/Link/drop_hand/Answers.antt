@@ -4,7 +4,9 @@ use Rattle.std.proofs.lemmas.Option.{slice_get_read}
 use Rattle.lpt_link.specs.declared.packet.LinkPacket.{LinkPacket}
 use Rattle.lpt_link.specs.Links.{LinkData, hand_of, after_drop, IsNumberOf}
 use Rattle.lpt_events.specs.Lanes.{lane_direction}
-use Rattle.lpt_link.proofs.IndexLemmas.{drop_counts, hand_sound, index_less}
+use Rattle.lpt_link.proofs.CountLemmas.{drop_counts}
+use Rattle.lpt_link.proofs.HandLemmas.{hand_sound}
+use Rattle.lpt_link.proofs.IndexLemmas.{index_less}
 use Rattle.lpt_link.proofs.link.Link.drop_hand.Goals as goal
 
 pub invariant_of-self : goal.invariant_of-self

@@ -4,7 +4,9 @@ use Rattle.lpt_link.specs.declared.packet.LinkPacket.{LinkPacket}
 use Rattle.lpt_link.specs.Links.{LinkData, LinkView, is_held, after_lose}
 use Rattle.std.proofs.Common.{rules}
 use Rattle.lpt_link.proofs.PacketLists.{set-with_lost}
-use Rattle.lpt_link.proofs.IndexLemmas.{lose_counts, lose_sound, index_less, index_room}
+use Rattle.lpt_link.proofs.CountLemmas.{lose_counts}
+use Rattle.lpt_link.proofs.HandLemmas.{lose_sound}
+use Rattle.lpt_link.proofs.IndexLemmas.{index_less, index_room}
 use Rattle.lpt_link.proofs.link.Link.lose.Goals as goal
 
 pub remove-requires : goal.remove-requires

@@ -1,7 +1,9 @@
 -- A packet that is put is counted once more.
 use Rattle.std.proofs.Common.{arith}
 use Rattle.lpt_link.specs.Links.{LinkData, after_put}
-use Rattle.lpt_link.proofs.IndexLemmas.{present_few, put_counts, put_sound, index_more}
+use Rattle.lpt_link.proofs.CountLemmas.{put_counts}
+use Rattle.lpt_link.proofs.HandLemmas.{put_sound}
+use Rattle.lpt_link.proofs.IndexLemmas.{present_few, index_more}
 use Rattle.lpt_link.proofs.link.Link.put.Goals as goal
 
 pub add-requires : goal.add-requires

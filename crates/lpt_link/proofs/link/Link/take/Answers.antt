@@ -4,7 +4,9 @@ use Rattle.std.proofs.lemmas.Option.{slice_get_read}
 use Rattle.lpt_link.specs.declared.packet.LinkPacket.{LinkPacket}
 use Rattle.lpt_link.specs.Links.{LinkData, LinkView, is_held_for, refusal_take, after_take}
 use Rattle.lpt_events.specs.Lanes.{lane_direction}
-use Rattle.lpt_link.proofs.IndexLemmas.{present_few, take_counts, hand_sound, index_more, empty_hand, found_within, taken_number}
+use Rattle.lpt_link.proofs.CountLemmas.{take_counts}
+use Rattle.lpt_link.proofs.HandLemmas.{hand_sound, empty_hand, found_within, taken_number}
+use Rattle.lpt_link.proofs.IndexLemmas.{present_few, index_more}
 use Rattle.lpt_link.proofs.link.Link.take.Goals as goal
 
 pub add-requires : goal.add-requires
