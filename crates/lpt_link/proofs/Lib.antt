@@ -1,2 +1,5 @@
+pub mod CountLemmas
+pub mod HandLemmas
+pub mod IndexLemmas
 pub mod PacketLists
 pub mod PresentLemmas

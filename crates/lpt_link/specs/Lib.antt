@@ -1,3 +1,5 @@
+pub mod Counts
 pub mod FaultNames
 pub mod Hands
 pub mod Links
+pub mod LinksInside

@@ -11,6 +11,7 @@ mod hands;
 pub mod laws;
 mod link;
 mod packet;
+mod tags;
 
 pub use fault::LinkFault;
 pub use link::{Link, PutError};

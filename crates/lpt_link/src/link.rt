@@ -4,10 +4,11 @@ ghost use Rattle.std.specs.Prelude.{◌≡◌, ◌↔◌, ◌+◌, ◌<◌, ◌�
 ghost use Rattle.std.specs.Option.{option_copied};
 ghost use Rattle.std.specs.Result.{result_err};
 ghost use Rattle.lpt_events.specs.Lanes.{lane_direction};
-ghost use Rattle.lpt_link.specs.Links.{empty_link, octets_at, is_held, is_held_for, hand_of, hand_has, any_held, any_in_hand, holds, after_put, after_lose, after_take, after_drop, refusal_lose, refusal_take, refusal_drop, IsNumberOf};
+ghost use Rattle.lpt_link.specs.Links.{empty_link, octets_at, is_held, is_held_for, hand_of, holds, after_put, after_lose, after_take, after_drop, refusal_lose, refusal_take, refusal_drop, IsNumberOf};
 
 use crate::hands::Hands;
 use crate::packet::LinkPacket;
+use crate::tags::Tags;
 use crate::{Lane, LinkFault};
 use lpt_packet::{Direction, Name, Octets};
 use std::alloc::{AllocError, Global};
@@ -17,17 +18,19 @@ use thiserror::Error;
 /// For how many packets a new link has room.
 const FIRST_ROOM: usize = 16;
 
-/// The link: its packets and the lanes' hands.
+/// The link: its packets and the lanes' hands, and how many of both are of each transaction.
 #[derive(Debug, Drop)]
 pub struct Link {
     packets: Vec<LinkPacket>,
     hands: Hands,
+    tags: Tags,
 }
 
 impl Model for Link {
     ghost use Rattle.std.specs.Prelude.{◌-◌};
     ghost use Rattle.std.specs.Vec.{vec_len, vec_capacity};
     ghost use Rattle.lpt_link.specs.Links.{LinkView, IsSound};
+    ghost use Rattle.lpt_link.specs.LinksInside.{IsIndex};
 
     ghost Value = { LinkView };
 
@@ -36,7 +39,8 @@ impl Model for Link {
       spare = vec_capacity l.packets - vec_len l.packets;
     } };
 
-    ghost invariant = { λ l. IsSound (record { packets = l.packets.items; hands = l.hands }) };
+    ghost invariant = { λ l. IsSound (record { packets = l.packets.items; hands = l.hands })
+        × IsIndex l.tags.counts.items (record { packets = l.packets.items; hands = l.hands }) };
 }
 
 /// Why a packet wasn't put, and its octets.
@@ -57,6 +61,7 @@ impl Link {
         Ok(Link {
             packets: Vec::with_capacity(alloc, FIRST_ROOM)?,
             hands: Hands::empty(),
+            tags: Tags::new(alloc)?,
         })
     }
 
@@ -123,7 +128,7 @@ impl Link {
     pub fn holds(&self, direction: Direction, id: Name) -> bool
         ensures { result ≡ holds self.now.at direction id }
     {
-        self.any_held(direction, id) || self.any_in_hand(direction, id)
+        self.tags.of(direction, id) > 0
     }
 
     /// Makes room for `n` packets more, so that so many can be put without taking memory.
@@ -163,7 +168,10 @@ impl Link {
             held: true,
         };
         match self.packets.push(packet) {
-            Ok(()) => Ok(number),
+            Ok(()) => {
+                self.tags.add(direction, tag);
+                Ok(number)
+            }
             Err(failed) => Err(PutError {
                 fault: LinkFault::Memory,
                 octets: failed.value.octets,
@@ -184,6 +192,8 @@ impl Link {
         if !self.is_held(n) {
             return Err(LinkFault::NotHeld);
         }
+        let packet = &self.packets[n as usize];
+        self.tags.remove(packet.direction, packet.tag);
         self.packets[n as usize].held = false;
         Ok(())
     }
@@ -201,6 +211,8 @@ impl Link {
         if let Some(fault) = self.refusal_take(lane, n) {
             return Err(fault);
         }
+        let packet = &self.packets[n as usize];
+        self.tags.add(packet.direction, packet.tag);
         self.hands.put(lane, Some(n));
         Ok(())
     }
@@ -216,6 +228,8 @@ impl Link {
         ensures err { OnErr result (self.new.at ≡ self.old.at) }
     {
         let number = self.hands.of(lane).ok_or(LinkFault::HandEmpty)?;
+        let taken = &self.packets[number as usize];
+        self.tags.remove(taken.direction, taken.tag);
         self.hands.put(lane, None);
         Ok(number)
     }
@@ -227,33 +241,5 @@ impl Link {
         self.packets
             .get(n as usize)
             .is_some_and(|packet| packet.held && packet.direction == direction)
-    }
-
-    // Whether the packet in the lane's hand is a part of this transaction.
-    fn hand_has(&self, direction: Direction, id: Name, lane: Lane) -> bool
-        ensures { result ≡ hand_has self.now.at direction id lane }
-    {
-        self.hands
-            .of(lane)
-            .and_then(|n| self.packets.get(n as usize))
-            .is_some_and(|packet| packet.is_of(direction, id))
-    }
-
-    // Whether a held packet is a part of this transaction.
-    fn any_held(&self, direction: Direction, id: Name) -> bool
-        ensures { result ≡ any_held self.now.at direction id }
-    {
-        self.packets
-            .iter()
-            .any(|packet| packet.held && packet.is_of(direction, id))
-    }
-
-    // Whether a packet in a hand is.
-    fn any_in_hand(&self, direction: Direction, id: Name) -> bool
-        ensures { result ≡ any_in_hand self.now.at direction id }
-    {
-        Lane::ALL
-            .iter()
-            .any(|lane| self.hand_has(direction, id, *lane))
     }
 }

@@ -1,7 +1,5 @@
 //! A packet on the link.
 
-ghost use Rattle.std.specs.Prelude.{◌≡◌};
-
 use lpt_packet::{Direction, Name, Octets};
 
 /// A packet that was put on the link.
@@ -15,15 +13,4 @@ pub(crate) struct LinkPacket {
     pub(crate) octets: Octets,
     /// Whether the link still holds it.
     pub(crate) held: bool,
-}
-
-impl LinkPacket {
-    ghost use Rattle.lpt_link.specs.Links.{is_of};
-
-    // Whether the packet is a part of this transaction.
-    pub(crate) fn is_of(&self, direction: Direction, id: Name) -> bool
-        ensures { result ≡ is_of direction id self.now }
-    {
-        self.direction == direction && self.tag == Some(id)
-    }
 }

@@ -5,7 +5,7 @@ use Rattle.lpt_packet.specs.Checksums.{shift, bits, shift_all, octets_in, checks
 use Rattle.lpt_packet.specs.Bursts.{all_bits, DifferInBurst}
 use Rattle.lpt_packet.specs.Numbers.{be}
 use Rattle.lpt_packet.specs.Packets.{Fields, IsPacket, sealed, spelling, header}
-use Rattle.lpt_packet.proofs.Registers.{shift_all-fits, checksum-fits}
+use Rattle.lpt_packet.proofs.Registers.{octets_in-append, shift_all-fits, checksum-fits}
 use Rattle.lpt_packet.proofs.Shifts.{AreBits, shift_all-append, injective, apart}
 
 -- ---- octets as bits
@@ -78,11 +78,6 @@ octet_out r n h e =
       slide (r * 64 % 65536) (n / 2 % 2) (r * 128 % 65536) (omega arith) (omega arith),
       slide (r * 128 % 65536) (n % 2) (r * 256 % 65536) (omega arith) (omega arith),
     ) refl
-
-octets_in-append : (r : ℕ) (a b : List ℕ) → octets_in r (a ++ b) ≡ octets_in (octets_in r a) b
-unfolding octets_in
-octets_in-append r [] b = refl
-octets_in-append r (x ∷ a) b = octets_in-append (shift_all r (bits x)) a b
 
 -- so a register's own two octets leave none of it
 both_out : (r : ℕ) → r < 65536 → octets_in r (be r 2) ≡ 0

@@ -9,3 +9,4 @@ pub mod Readings
 pub mod Registers
 pub mod Shifts
 pub mod SightLemmas
+pub mod Slices

@@ -14,11 +14,11 @@ doubled_sum : (r s : ℕ) → bit_xor r s * 2 ≡ bit_xor (r * 2) (s * 2)
 doubled_sum r s = grind (arith, xor_block 1 r s 0 0 (omega arith) (omega arith))
 
 -- to move a sum is to move both
-moved_sum : (r s : ℕ) → bit_xor r s * 2 % 65536 ≡ bit_xor (r * 2 % 65536) (s * 2 % 65536)
+pub moved_sum : (r s : ℕ) → bit_xor r s * 2 % 65536 ≡ bit_xor (r * 2 % 65536) (s * 2 % 65536)
 moved_sum r s = ap (λ (n : ℕ). n % 65536) (doubled_sum r s) ∙ xor_mod (r * 2) (s * 2) 16
 
 -- the bit that falls out of one register is as good as one that comes into the other
-test_sum : (r s b : ℕ)
+pub test_sum : (r s b : ℕ)
     → r < 65536
     → s < 65536
     → test (bit_xor r s) b ≡ test s ((r / 32768 + b) % 2)

@@ -1,8 +1,14 @@
 -- The checksum's register, octet by octet.
-use Rattle.std.proofs.Common.{◌*◌, ◌/◌, ◌%◌, ◌==◌, Bool, true, false, if◌then◌else◌, bit_xor, ◌≡◌, ℕ, ◌+◌, ◌<◌, ◌≤◌, List, [], ◌∷◌, length, get_or, drop, refl, add-one, arith, drop-cons}
+use Rattle.std.proofs.Common.{◌*◌, ◌/◌, ◌%◌, ◌==◌, Bool, true, false, if◌then◌else◌, bit_xor, ◌≡◌, ℕ, ◌+◌, ◌<◌, ◌≤◌, List, [], ◌∷◌, ◌++◌, length, get_or, drop, refl, add-one, arith, drop-cons}
 use Rattle.std.proofs.lemmas.List.{drop_all}
 use Rattle.std.proofs.lemmas.Nat.{xor_of_16}
 use Rattle.lpt_packet.specs.Checksums.{shift, bits, shift_all, octets_in, checksum}
+
+-- some octets and then others
+pub octets_in-append : (r : ℕ) (a b : List ℕ) → octets_in r (a ++ b) ≡ octets_in (octets_in r a) b
+unfolding octets_in
+octets_in-append r [] b = refl
+octets_in-append r (x ∷ a) b = octets_in-append (shift_all r (bits x)) a b
 
 -- the next octet in
 pub octets_in-next : (r : ℕ) (b : List ℕ) (i : ℕ) → i < length b → octets_in (shift_all r (bits (get_or b i 0))) (drop (i + 1) b) ≡ octets_in r (drop i b)

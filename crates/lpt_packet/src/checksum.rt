@@ -1,7 +1,7 @@
-//! The packet error control (CCSDS 133.0-B; the CRC of ECSS-E-ST-70-41C), one octet at a time.
+//! The packet error control (CCSDS 133.0-B; the CRC of ECSS-E-ST-70-41C), eight octets at a time.
 
 ghost use Rattle.std.specs.Prelude.{◌≡◌, ◌∷◌, []};
-ghost use Rattle.lpt_packet.specs.Checksums.{bits, shift_all, checksum};
+ghost use Rattle.lpt_packet.specs.Checksums.{bits, shift_all, octets_in, checksum};
 
 use crate::table::of_octet;
 
@@ -11,7 +11,24 @@ fn octet_in(register: u16, octet: u8) -> u16
     ensures { result ≡ shift_all register (bits octet) }
 {
     let upper = (register >> 8) as u8;
-    (register << 8) ^ of_octet(upper ^ octet)
+    (register << 8) ^ of_octet(upper ^ octet, 0)
+}
+
+// Shifts eight octets in. The register falls out with the first two of them, which it is added to;
+// then what each makes of a register of zeros, with the others behind it, is added without carry.
+fn eight_in(register: u16, octets: &[u8; 8]) -> u16
+    ensures { result ≡ octets_in register octets.now }
+{
+    let upper = (register >> 8) as u8;
+    let lower = (register % 256) as u8;
+    of_octet(upper ^ octets[0], 7)
+        ^ of_octet(lower ^ octets[1], 6)
+        ^ of_octet(octets[2], 5)
+        ^ of_octet(octets[3], 4)
+        ^ of_octet(octets[4], 3)
+        ^ of_octet(octets[5], 2)
+        ^ of_octet(octets[6], 1)
+        ^ of_octet(octets[7], 0)
 }
 
 /// The checksum of these octets: a register of sixteen ones, into which each octet is shifted
@@ -20,7 +37,12 @@ pub fn crc16(octets: &[u8]) -> u16
     ensures { result ≡ checksum octets.now }
 {
     let mut register = 0xffff;
-    for octet in octets {
+    let mut left = octets;
+    while let Some((eight, others)) = left.split_first_chunk::<8>() {
+        register = eight_in(register, eight);
+        left = others;
+    }
+    for octet in left {
         register = octet_in(register, *octet);
     }
     register

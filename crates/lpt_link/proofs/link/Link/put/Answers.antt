@@ -1,0 +1,26 @@
+-- A packet that is put is counted once more.
+use Rattle.std.proofs.Common.{arith}
+use Rattle.lpt_link.specs.Links.{LinkData, after_put}
+use Rattle.lpt_link.proofs.CountLemmas.{put_counts}
+use Rattle.lpt_link.proofs.HandLemmas.{put_sound}
+use Rattle.lpt_link.proofs.IndexLemmas.{present_few, index_more}
+use Rattle.lpt_link.proofs.link.Link.put.Goals as goal
+
+pub add-requires : goal.add-requires
+add-requires c = λ id fits.
+    let items = c.self.inside.packets in
+    let d : LinkData = record { packets = items.items; hands = c.self.inside.hands } in
+    omega (arith, items.ok, items.small, c.self.invariant.1 c.args.direction id fits, present_few d c.args.direction id)
+
+pub invariant_of-self : goal.invariant_of-self
+invariant_of-self c =
+    let d : LinkData = record { packets = c.self.inside.packets.items; hands = c.self.inside.hands } in
+    let goes = c.args.direction in
+    let tag = c.args.tag in
+    let octets = c.args.octets in
+    rw c.in-Ok.ensures.items (
+      put_sound d goes tag octets c.self.invariant.0,
+      index_more goes tag c.self.inside.tags.counts.items c.add.new.self.counts.items d
+          (after_put d goes tag octets) c.self.invariant.1 c.add.ensures
+          (put_counts d goes tag octets c.self.invariant.0),
+    )
