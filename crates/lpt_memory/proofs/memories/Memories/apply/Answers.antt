@@ -7,7 +7,7 @@ use Rattle.lpt_memory.specs.Meanings.{Sizes, Fault, Load, Dump, Check, dump_leng
 use Rattle.lpt_memory.specs.Memories.{Contents, sizes_of}
 use Rattle.lpt_memory.specs.Ranges.{LoadFits, ReadFits, MeaningFits}
 use Rattle.lpt_memory.specs.Readings.{meant}
-use Rattle.lpt_memory.specs.Seen.{seen}
+use Rattle.lpt_memory.specs.Seen.{body_of, seen, areas_in, AreWithin, IsWithin}
 use Rattle.lpt_memory.proofs.AnswerLemmas.{length-dump_body, length-check_body}
 use Rattle.lpt_memory.proofs.MeaningLemmas.{meaning-fits}
 use Rattle.lpt_memory.proofs.memories.Memories.apply.Goals as goal
@@ -47,20 +47,34 @@ dump_short sizes ms id items ranges body same is fits made =
     in
     omega (arith, long, short, ap (λ (b : List ℕ). length b) made)
 
-pub load-requires : goal.load-requires
-load-requires c =
+pub load-requires-clause-within : goal.load-requires-clause-within
+load-requires-clause-within c =
+    let body = body_of c.args.reading.now.message in
+    let within = subst (IsWithin body) c.in-Load.is c.content.ensures.within in
+    subst (λ (b : List ℕ). AreWithin (length b) c.deref.result.now) (sym c.body.ensures)
+    (subst (AreWithin (length body)) (sym c.deref.ensures.value) within)
+
+pub load-requires-clause-fit : goal.load-requires-clause-fit
+load-requires-clause-fit c =
     let r = c.args.reading.now in
     let i = c.in-Load in
-    let is : meant r ≡ Load i.id i.areas.items = sym c.content.ensures.seen ∙ ap seen i.is in
-    load_within r.sizes c.deref_mut.result.now i.id i.areas.items c.deref.result.now (cc)
-    c.deref.ensures.value
+    let body = body_of r.message in
+    let is : meant r ≡ Load i.id (areas_in body i.areas.items) =
+    sym c.content.ensures.seen ∙ ap (seen body) i.is
+    in
+    let same : areas_in c.body.result.now c.deref.result.now ≡ areas_in body i.areas.items =
+    ap (λ (b : List ℕ). areas_in b c.deref.result.now) c.body.ensures
+    ∙ ap (areas_in body) c.deref.ensures.value
+    in
+    load_within r.sizes c.deref_mut.result.now i.id (areas_in body i.areas.items)
+    (areas_in c.body.result.now c.deref.result.now) (cc) same
     (subst (MeaningFits r.sizes) is (meaning-fits r.apid r.sizes r.message))
 
 pub dump-requires-clause-fit : goal.dump-requires-clause-fit
 dump-requires-clause-fit c =
     let r = c.args.reading.now in
     let i = c.in-Dump in
-    let is : meant r ≡ Dump i.id i.ranges.items = sym c.content.ensures.seen ∙ ap seen i.is in
+    let is : meant r ≡ Dump i.id i.ranges.items = sym c.content.ensures.seen ∙ ap (seen (body_of r.message)) i.is in
     let fits = subst (MeaningFits r.sizes) is (meaning-fits r.apid r.sizes r.message) in
     read_within r.sizes c.deref-in-Dump.result.now i.id i.ranges.items c.deref-in-Dump-2.result.now
     (cc) c.deref-in-Dump-2.ensures.value fits.0
@@ -69,7 +83,7 @@ pub check-requires-clause-fit : goal.check-requires-clause-fit
 check-requires-clause-fit c =
     let r = c.args.reading.now in
     let i = c.in-Check in
-    let is : meant r ≡ Check i.id i.ranges.items = sym c.content.ensures.seen ∙ ap seen i.is in
+    let is : meant r ≡ Check i.id i.ranges.items = sym c.content.ensures.seen ∙ ap (seen (body_of r.message)) i.is in
     read_within r.sizes c.deref-in-Check.result.now i.id i.ranges.items
     c.deref-in-Check-2.result.now
     (cc) c.deref-in-Check-2.ensures.value
@@ -78,14 +92,14 @@ check-requires-clause-fit c =
 pub returns-in-Code-clause-fits : goal.returns-in-Code-clause-fits
 returns-in-Code-clause-fits c =
     let r = c.args.reading.now in
-    let is : meant r ≡ Fault c.in-Code.code = sym c.content.ensures.seen ∙ ap seen c.in-Code.is in
+    let is : meant r ≡ Fault c.in-Code.code = sym c.content.ensures.seen ∙ ap (seen (body_of r.message)) c.in-Code.is in
     subst (MeaningFits r.sizes) is (meaning-fits r.apid r.sizes r.message)
 
 pub returns-in_ok-body-in-Dump-clause-fits : goal.returns-in_ok-body-in-Dump-clause-fits
 returns-in_ok-body-in-Dump-clause-fits c =
     let r = c.args.reading.now in
     let i = c.in-Dump in
-    let is : meant r ≡ Dump i.id i.ranges.items = sym c.content.ensures.seen ∙ ap seen i.is in
+    let is : meant r ≡ Dump i.id i.ranges.items = sym c.content.ensures.seen ∙ ap (seen (body_of r.message)) i.is in
     dump_short r.sizes c.deref-in-Dump.result.now i.id i.ranges.items c.deref-in-Dump-2.result.now
     c.in_ok-body-in-Dump.body (cc) c.deref-in-Dump-2.ensures.value
     (subst (MeaningFits r.sizes) is (meaning-fits r.apid r.sizes r.message))
