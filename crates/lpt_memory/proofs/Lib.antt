@@ -5,5 +5,6 @@ pub mod FieldLemmas
 pub mod LoopLemmas
 pub mod MeaningLemmas
 pub mod MemoriesLemmas
+pub mod PlaceLemmas
 pub mod PutLemmas
 pub mod WritingLemmas

@@ -6,9 +6,10 @@ ghost use Rattle.lpt_memory.specs.Memories.{content_of, sizes_of, are_distinct, 
 ghost use Rattle.lpt_memory.specs.Answers.{octets_of, dump_body, check_body};
 ghost use Rattle.lpt_memory.specs.Ranges.{AreasFit, LoadFits, ReadFits};
 ghost use Rattle.lpt_memory.specs.MemoriesInside.{same_sizes};
+ghost use Rattle.lpt_memory.specs.Seen.{areas_in, AreWithin};
 
 use crate::reply;
-use crate::request::{Area, AreaRange};
+use crate::request::{AreaRange, StoredArea};
 use lpt_packet::Octets;
 use std::alloc::{AllocError, Global};
 
@@ -107,25 +108,27 @@ pub(crate) fn have_sizes(memories: &[(u8, Octets)], sizes: &[(u8, u32)]) -> bool
 }
 
 // Puts areas over a memory, one after the other.
-fn put_all(content: &mut Octets, areas: &[Area])
-    requires { AreasFit (length content.old) areas.now }
-    ensures put { content.new ≡ put_all content.old areas.now }
+fn put_all(content: &mut Octets, body: &[u8], areas: &[StoredArea])
+    requires within { AreWithin (length body.now) areas.now }
+    requires fit { AreasFit (length content.old) (areas_in body.now areas.now) }
+    ensures put { content.new ≡ put_all content.old (areas_in body.now areas.now) }
     ensures size { length content.new ≡ length content.old }
 {
     for area in areas {
-        content.overwrite(area.address as usize, area.octets.as_slice());
+        content.overwrite(area.address as usize, area.octets(body));
     }
 }
 
-// Loads areas into a memory.
-pub(crate) fn load(memories: &mut [(u8, Octets)], id: u8, areas: &[Area])
-    requires { LoadFits (sizes_of memories.old) id areas.now }
-    ensures loaded { memories.new ≡ loaded id areas.now memories.old }
+// Loads areas of a body into a memory.
+pub(crate) fn load(memories: &mut [(u8, Octets)], id: u8, body: &[u8], areas: &[StoredArea])
+    requires within { AreWithin (length body.now) areas.now }
+    requires fit { LoadFits (sizes_of memories.old) id (areas_in body.now areas.now) }
+    ensures loaded { memories.new ≡ loaded id (areas_in body.now areas.now) memories.old }
     ensures sizes { sizes_of memories.new ≡ sizes_of memories.old }
 {
     for (known, octets) in memories {
         if *known == id {
-            put_all(octets, areas);
+            put_all(octets, body, areas);
             return;
         }
     }

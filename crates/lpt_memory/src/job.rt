@@ -43,11 +43,12 @@ impl Model for Reading {
 
     ghost use Rattle.lpt_memory.specs.Readings.{IsHeadIn};
     ghost use Rattle.lpt_memory.specs.Meanings.{meaning};
-    ghost use Rattle.lpt_memory.specs.Seen.{seen, IsCounted};
+    ghost use Rattle.lpt_memory.specs.Seen.{body_of, seen, IsWithin, IsCounted};
 
     ghost view = { λ a. record { apid = a.apid; sizes = a.shape; message = a.message } };
 
-    ghost invariant = { λ a. (seen a.content ≡ meaning a.apid a.shape a.message)
+    ghost invariant = { λ a. (seen (body_of a.message) a.content ≡ meaning a.apid a.shape a.message)
+        × IsWithin (body_of a.message) a.content
         × IsCounted a.content
         × IsHeadIn a.head a.apid a.message };
 }
@@ -107,8 +108,8 @@ impl Ticket {
     }
 }
 
-/// Reads the message of a job, for memories of this shape at a node with this APID. Each octet of a
-/// load is copied once.
+/// Reads the message of a job, for memories of this shape at a node with this APID. The message
+/// isn't copied: the reading owns it, and has the areas of a load by their places.
 ///
 /// Errors: want of memory, which gives the ticket back.
 #[tactic(auto, unfolding(crate::specs::Meanings::meaning))]
@@ -128,9 +129,10 @@ pub fn prepare(alloc: Global, shape: &Shape, apid: u16, ticket: Ticket) -> Resul
     let Ok(copy) = shape.copy() else {
         return Err(ticket);
     };
-    let telecommand = meaning::command_in(apid, ticket.message.as_slice());
-    let head = telecommand.map(|(head, _)| head);
-    let Ok(content) = meaning::content(alloc, shape.sizes(), telecommand) else {
+    let octets = ticket.message.as_slice();
+    let head = meaning::head_in(apid, octets);
+    let body = meaning::body_of(octets);
+    let Ok(content) = meaning::content(alloc, shape.sizes(), head, body) else {
         return Err(ticket);
     };
     let Ticket { boot, job, message } = ticket;
@@ -208,7 +210,7 @@ impl Reading {
     ghost use Rattle.lpt_memory.specs.Answers.{answer, asked, asked_by};
     ghost use Rattle.lpt_memory.specs.Memories.{Contents, sizes_of};
     ghost use Rattle.lpt_memory.specs.Readings.{meant, IsHeadIn};
-    ghost use Rattle.lpt_memory.specs.Seen.{seen, IsCounted};
+    ghost use Rattle.lpt_memory.specs.Seen.{body_of, seen, IsWithin, IsCounted};
 
     /// The head of the telecommand that the message is, or `None` where it is none for the APID:
     /// its acknowledgement flags, its source, and what its request ID is made of. `prepare` has
@@ -232,9 +234,17 @@ impl Reading {
         reply::asked(self.content())
     }
 
+    // What stands where the message has its body.
+    pub(crate) fn body(&self) -> &[u8]
+        ensures { result.now ≡ body_of self.now.message }
+    {
+        meaning::body_of(self.message.as_slice())
+    }
+
     // What the message means.
     pub(crate) fn content(&self) -> &Content
-        ensures seen { seen result.now ≡ meant self.now }
+        ensures seen { seen (body_of self.now.message) result.now ≡ meant self.now }
+        ensures within { IsWithin (body_of self.now.message) result.now }
         ensures counted { IsCounted result.now }
     {
         &self.content

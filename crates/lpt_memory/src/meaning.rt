@@ -1,22 +1,25 @@
 //! What a message means for memories of known identifiers and sizes.
 
-ghost use Rattle.std.specs.Prelude.{◌≡◌, map, option_map, IfOk};
+ghost use Rattle.std.specs.Prelude.{◌≡◌, length, map, option_map, IfOk};
 ghost use Rattle.lpt_packet.specs.Numbers.{IsOctets};
 ghost use Rattle.lpt_pus.specs.Commands.{command, command_in};
 ghost use Rattle.lpt_memory.specs.Requests.{front_load_area, front_range, request_in};
-ghost use Rattle.lpt_memory.specs.Seen.{load_area, seen, IsCounted};
-ghost use Rattle.lpt_memory.specs.Meanings.{area, size_of, load_fault, range_fault, load_meaning, dump_meaning, check_meaning, if_formed, body_meaning, command_meaning};
+ghost use Rattle.lpt_memory.specs.Seen.{body_of, load_area, AreWithin, seen, IsWithin, IsCounted};
+ghost use Rattle.lpt_memory.specs.Meanings.{size_of, load_fault, range_fault, load_meaning, dump_meaning, check_meaning, if_formed, body_meaning, command_meaning};
 
 use crate::reading::{load_request, range_request};
 use crate::reply::dump_len;
-use crate::request::{Area, AreaRange, Content, StoredArea};
+use crate::request::{AreaRange, Content, StoredArea};
 use lpt_packet::laws::seen_is_read;
-use lpt_packet::{Octets, Seen, crc16, read_packet};
-use lpt_pus::{FailureCode, TcHead, read_tc};
+use lpt_packet::{ERROR_CONTROL, PRIMARY_HEADER, Seen, crc16, read_packet};
+use lpt_pus::{FailureCode, TC_HEADER, TcHead, read_tc};
 use std::alloc::{AllocError, Global};
 
 /// The most octets of a body that answers a dump: its packet has 19 more, and at most 65,542.
 const ANSWER_LIMIT: usize = 65523;
+
+/// The octets of a telecommand's packet before its body.
+const HEADERS: usize = PRIMARY_HEADER + TC_HEADER;
 
 /// The service type of memory management.
 const MEMORY: u8 = 6;
@@ -43,14 +46,16 @@ fn size_in(sizes: &[(u8, u32)], id: u8) -> Option<u32>
 }
 
 // The first fault of the areas of a load.
-fn load_fault_in(size: u32, areas: &[StoredArea<'_>]) -> Option<FailureCode>
-    ensures { result ≡ load_fault size (map load_area areas.now) }
+fn load_fault_in(size: u32, body: &[u8], areas: &[StoredArea]) -> Option<FailureCode>
+    requires { AreWithin (length body.now) areas.now }
+    ensures { result ≡ load_fault size (map (load_area body.now) areas.now) }
 {
     for area in areas {
-        if area.address as usize + area.octets.len() > size as usize {
+        let octets = area.octets(body);
+        if area.address as usize + octets.len() > size as usize {
             return Some(FailureCode::OutOfRange);
         }
-        if crc16(area.octets) != area.checksum {
+        if crc16(octets) != area.checksum {
             return Some(FailureCode::WrongChecksum);
         }
     }
@@ -69,24 +74,11 @@ fn range_fault_in(size: u32, ranges: &[AreaRange]) -> Option<FailureCode>
     None
 }
 
-// The areas of a load with copies of their octets. The only error is want of memory.
-fn areas_of(alloc: Global, stored: &[StoredArea<'_>]) -> Result<Vec<Area>, AllocError>
-    ensures { IfOk result (λ v. v.items ≡ map area (map load_area stored.now)) }
-{
-    let mut areas = Vec::with_capacity(alloc, stored.len())?;
-    for from in stored {
-        areas.push(Area {
-            address: from.address,
-            octets: Octets::from_vec(from.octets.to_vec(alloc)?),
-        })?;
-    }
-    Ok(areas)
-}
-
 // What the body of a load means. The only error is want of memory.
 fn load(alloc: Global, sizes: &[(u8, u32)], body: &[u8]) -> Result<Content, AllocError>
     ensures seen { IfOk result (λ x.
-        seen x ≡ if_formed sizes.now load_meaning (request_in front_load_area body.now)) }
+        seen body.now x ≡ if_formed sizes.now load_meaning (request_in front_load_area body.now)) }
+    ensures within { IfOk result (λ x. IsWithin body.now x) }
     ensures counted { IfOk result (λ x. IsCounted x) }
 {
     let Some((memory, areas)) = load_request(alloc, body)? else {
@@ -95,16 +87,17 @@ fn load(alloc: Global, sizes: &[(u8, u32)], body: &[u8]) -> Result<Content, Allo
     let Some(size) = size_in(sizes, memory) else {
         return Ok(Content::Code(FailureCode::UnknownMemory));
     };
-    if let Some(code) = load_fault_in(size, &areas) {
+    if let Some(code) = load_fault_in(size, body, &areas) {
         return Ok(Content::Code(code));
     }
-    Ok(Content::Load(memory, areas_of(alloc, &areas)?))
+    Ok(Content::Load(memory, areas))
 }
 
 // What the body of a dump means. The only error is want of memory.
 fn dump(alloc: Global, sizes: &[(u8, u32)], body: &[u8]) -> Result<Content, AllocError>
     ensures seen { IfOk result (λ x.
-        seen x ≡ if_formed sizes.now dump_meaning (request_in front_range body.now)) }
+        seen body.now x ≡ if_formed sizes.now dump_meaning (request_in front_range body.now)) }
+    ensures within { IfOk result (λ x. IsWithin body.now x) }
     ensures counted { IfOk result (λ x. IsCounted x) }
 {
     let Some((memory, ranges)) = range_request(alloc, body)? else {
@@ -125,7 +118,8 @@ fn dump(alloc: Global, sizes: &[(u8, u32)], body: &[u8]) -> Result<Content, Allo
 // What the body of a check means. The only error is want of memory.
 fn check(alloc: Global, sizes: &[(u8, u32)], body: &[u8]) -> Result<Content, AllocError>
     ensures seen { IfOk result (λ x.
-        seen x ≡ if_formed sizes.now check_meaning (request_in front_range body.now)) }
+        seen body.now x ≡ if_formed sizes.now check_meaning (request_in front_range body.now)) }
+    ensures within { IfOk result (λ x. IsWithin body.now x) }
     ensures counted { IfOk result (λ x. IsCounted x) }
 {
     let Some((memory, ranges)) = range_request(alloc, body)? else {
@@ -150,7 +144,9 @@ fn body_content(
     subtype: u8,
     body: &[u8],
 ) -> Result<Content, AllocError>
-    ensures seen { IfOk result (λ x. seen x ≡ body_meaning sizes.now service subtype body.now) }
+    ensures seen { IfOk result (λ x.
+        seen body.now x ≡ body_meaning sizes.now service subtype body.now) }
+    ensures within { IfOk result (λ x. IsWithin body.now x) }
     ensures counted { IfOk result (λ x. IsCounted x) }
 {
     if service != MEMORY {
@@ -164,36 +160,47 @@ fn body_content(
     }
 }
 
-// The telecommand that octets are, where they are the packet of one with this APID.
+// What stands where a telecommand has its body: behind its headers, before its packet's checksum.
+pub(crate) fn body_of(message: &[u8]) -> &[u8]
+    ensures { result.now ≡ body_of message.now }
+{
+    let end = message.len().saturating_sub(ERROR_CONTROL);
+    message[..end].get(HEADERS..).unwrap_or(&[])
+}
+
+// The head of the telecommand that octets are, where they are the packet of one with this APID.
 #[tactic(auto, unfolding(lpt_pus::specs::Commands::command_in))]
-pub(crate) fn command_in(apid: u16, octets: &[u8]) -> Option<(TcHead, &[u8])>
+pub(crate) fn head_in(apid: u16, octets: &[u8]) -> Option<TcHead>
     requires { IsOctets octets.now }
-    ensures { option_map (λ x. command x.0 x.1.now) result ≡ command_in apid octets.now }
+    ensures { option_map (λ h. command h (body_of octets.now)) result ≡ command_in apid octets.now }
 {
     seen_is_read();
     let Ok(Seen::Packet(packet)) = read_packet(octets) else {
         return None;
     };
-    let Ok((head, body)) = read_tc(&packet) else {
+    let Ok((head, _)) = read_tc(&packet) else {
         return None;
     };
     if head.apid != apid {
         return None;
     }
-    Some((head, body))
+    Some(head)
 }
 
-// What a telecommand means, or nothing where there is none. The only error is want of memory.
+// What the telecommand that a message is means, or nothing where it is none. The only error is
+// want of memory.
 pub(crate) fn content(
     alloc: Global,
     sizes: &[(u8, u32)],
-    telecommand: Option<(TcHead, &[u8])>,
+    head: Option<TcHead>,
+    body: &[u8],
 ) -> Result<Content, AllocError>
-    ensures seen { IfOk result (λ x. seen x
-        ≡ command_meaning sizes.now (option_map (λ t. command t.0 t.1.now) telecommand.entry)) }
+    ensures seen { IfOk result (λ x. seen body.now x
+        ≡ command_meaning sizes.now (option_map (λ h. command h body.now) head)) }
+    ensures within { IfOk result (λ x. IsWithin body.now x) }
     ensures counted { IfOk result (λ x. IsCounted x) }
 {
-    let Some((head, body)) = telecommand else {
+    let Some(head) = head else {
         return Ok(Content::Silent);
     };
     body_content(alloc, sizes, head.service, head.subtype, body)

@@ -106,7 +106,7 @@ impl Memories {
             Content::Silent => Ok(Effect::Silent),
             Content::Code(code) => Ok(Effect::Code(*code)),
             Content::Load(id, areas) => {
-                contents::load(&mut self.items, *id, areas);
+                contents::load(&mut self.items, *id, reading.body(), areas);
                 Ok(Effect::Done)
             }
             Content::Dump(id, ranges) => {

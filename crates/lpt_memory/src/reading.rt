@@ -1,18 +1,28 @@
 //! Reading requests: the bodies of loads, dumps and checks, and what they mean.
 
-ghost use Rattle.std.specs.Prelude.{◌≡◌, ◌<◌, length, map, option_map, IfOk, IfSome};
+ghost use Rattle.std.specs.Prelude.{◌≡◌, ◌+◌, ◌<◌, ◌≤◌, length, drop, map, option_map, IfOk, IfSome};
 ghost use Rattle.lpt_memory.specs.Requests.{front_head, front_load_area, front_range, request_in};
 ghost use Rattle.lpt_memory.specs.Fields.{all_areas};
-ghost use Rattle.lpt_memory.specs.Seen.{load_area};
+ghost use Rattle.lpt_memory.specs.Seen.{load_area, AreWithin};
 
 use crate::fields::{long, octet, octets, word};
 use crate::request::{AreaRange, StoredArea};
 use std::alloc::{AllocError, Global};
 
+/// The octets of a body before its areas: the memory, and their number.
+const BODY_HEAD: usize = 2;
+
+/// The octets of an area of a load before its own: the address, and their number.
+const AREA_HEAD: usize = 6;
+
+/// The octets of its checksum.
+const CHECKSUM: usize = 2;
+
 // The memory, the number of areas, and what is behind them.
 #[tactic(auto, unfolding(crate::specs::Requests::front_head))]
 fn head(body: &[u8]) -> Option<(u8, u8, &[u8])>
-    ensures { option_map (λ x. (x.0, x.1, x.2.now)) result ≡ front_head body.now }
+    ensures value { option_map (λ x. (x.0, x.1, x.2.now)) result ≡ front_head body.now }
+    ensures behind { IfSome result (λ x. (2 ≤ length body.now) × (x.2.now ≡ drop 2 body.now)) }
 {
     let (memory, rest) = octet(body)?;
     let (count, rest) = octet(rest)?;
@@ -22,21 +32,27 @@ fn head(body: &[u8]) -> Option<(u8, u8, &[u8])>
     Some((memory, count, rest))
 }
 
-// The area of a load that stands first, and what is behind it.
+// The area of a load that stands at a place of the body, and the place behind it.
 #[tactic(auto, unfolding(crate::specs::Requests::front_load_area))]
-fn stored_area(bytes: &[u8]) -> Option<(StoredArea<'_>, &[u8])>
-    ensures { option_map (λ x. (load_area x.0, x.1.now)) result ≡ front_load_area bytes.now }
+fn stored_area(body: &[u8], at: usize) -> Option<(StoredArea, usize)>
+    requires { at ≤ length body.now }
+    ensures value { option_map (λ x. (load_area body.now x.0, drop x.1 body.now)) result
+        ≡ front_load_area (drop at body.now) }
+    ensures within { IfSome result (λ x. x.0.from + x.0.len ≤ length body.now) }
+    ensures behind { IfSome result (λ x. x.1 ≤ length body.now) }
 {
-    let (address, rest) = long(bytes)?;
+    let (address, rest) = long(&body[at..])?;
     let (len, rest) = word(rest)?;
-    let (octets, rest) = octets(rest, len)?;
-    let (checksum, rest) = word(rest)?;
+    let (_, rest) = octets(rest, len)?;
+    let (checksum, _) = word(rest)?;
+    let from = at + AREA_HEAD;
     let area = StoredArea {
         address,
-        octets,
+        from,
+        len,
         checksum,
     };
-    Some((area, rest))
+    Some((area, from + usize::from(len) + CHECKSUM))
 }
 
 // The range that stands first, and what is behind it.
@@ -52,25 +68,29 @@ fn range(bytes: &[u8]) -> Option<(AreaRange, &[u8])>
     Some((AreaRange { address, len }, rest))
 }
 
-// So many areas of a load, with nothing behind them. The only error is want of memory.
+// So many areas of a load, from a place of the body on, with nothing behind them. The only error
+// is want of memory.
 fn stored_areas(
     alloc: Global,
     count: u8,
-    bytes: &[u8],
-) -> Result<Option<Vec<StoredArea<'_>>>, AllocError>
-    ensures { IfOk result (λ r. option_map (λ v. map load_area v.items) r
-        ≡ all_areas front_load_area count bytes.now) }
+    body: &[u8],
+    from: usize,
+) -> Result<Option<Vec<StoredArea>>, AllocError>
+    requires { from ≤ length body.now }
+    ensures value { IfOk result (λ r. option_map (λ v. map (load_area body.now) v.items) r
+        ≡ all_areas front_load_area count (drop from body.now)) }
+    ensures within { IfOk result (λ r. IfSome r (λ v. AreWithin (length body.now) v.items)) }
 {
     let mut areas = Vec::with_capacity(alloc, usize::from(count))?;
-    let mut rest = bytes;
+    let mut at = from;
     for _ in 0..count {
-        let Some((area, behind)) = stored_area(rest) else {
+        let Some((area, behind)) = stored_area(body, at) else {
             return Ok(None);
         };
         areas.push(area)?;
-        rest = behind;
+        at = behind;
     }
-    if !rest.is_empty() {
+    if !body[at..].is_empty() {
         return Ok(None);
     }
     Ok(Some(areas))
@@ -97,20 +117,21 @@ fn ranges(alloc: Global, count: u8, bytes: &[u8]) -> Result<Option<Vec<AreaRange
     Ok(Some(ranges))
 }
 
-// The request that a load's body is, its octets borrowed. The only error is want of memory.
+// The request that a load's body is, its octets by their places. The only error is want of memory.
 #[tactic(auto, unfolding(crate::specs::Requests::request_in))]
 pub(crate) fn load_request(
     alloc: Global,
     body: &[u8],
-) -> Result<Option<(u8, Vec<StoredArea<'_>>)>, AllocError>
-    ensures { IfOk result (λ r.
-        option_map (λ x. record { memory = x.0; areas = map load_area x.1.items }) r
+) -> Result<Option<(u8, Vec<StoredArea>)>, AllocError>
+    ensures value { IfOk result (λ r.
+        option_map (λ x. record { memory = x.0; areas = map (load_area body.now) x.1.items }) r
         ≡ request_in front_load_area body.now) }
+    ensures within { IfOk result (λ r. IfSome r (λ x. AreWithin (length body.now) x.1.items)) }
 {
-    let Some((memory, count, rest)) = head(body) else {
+    let Some((memory, count, _)) = head(body) else {
         return Ok(None);
     };
-    let Some(areas) = stored_areas(alloc, count, rest)? else {
+    let Some(areas) = stored_areas(alloc, count, body, BODY_HEAD)? else {
         return Ok(None);
     };
     Ok(Some((memory, areas)))

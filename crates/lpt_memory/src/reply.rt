@@ -1,6 +1,6 @@
 //! The bodies that answer dumps and checks, and how long they are.
 
-ghost use Rattle.std.specs.Prelude.{◌≡◌, ◌+◌, ◌*◌, ◌<◌, ◌≤◌, ◌∷◌, ◌++◌, length, IfOk, OnOk};
+ghost use Rattle.std.specs.Prelude.{◌≡◌, ℕ, List, ◌+◌, ◌*◌, ◌<◌, ◌≤◌, ◌∷◌, ◌++◌, length, IfOk, OnOk};
 ghost use Rattle.std.specs.List.{flat_map};
 ghost use Rattle.lpt_memory.specs.Answers.{octets_in, dump_area, check_area, asked};
 ghost use Rattle.lpt_memory.specs.Meanings.{dump_length};
@@ -38,10 +38,10 @@ fn check_len(ranges: &[AreaRange]) -> usize
     BODY_HEAD + BODY_AREA * ranges.len()
 }
 
-// What is asked by content of a message.
+// What is asked by content of a message, whatever its body is.
 pub(crate) fn asked(content: &Content) -> Asks
     requires { IsCounted content.now }
-    ensures { result ≡ asked (seen content.now) }
+    ensures { (body : List ℕ) → result ≡ asked (seen body content.now) }
 {
     match content {
         Content::Silent => Asks::Silent,

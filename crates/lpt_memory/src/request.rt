@@ -1,5 +1,8 @@
 //! Requests and their areas.
 
+ghost use Rattle.std.specs.Prelude.{◌≡◌, ◌+◌, ◌≤◌, length};
+ghost use Rattle.lpt_memory.specs.Seen.{octets_at};
+
 use lpt_packet::Octets;
 use lpt_pus::FailureCode;
 
@@ -21,12 +24,23 @@ pub struct AreaRange {
     pub len: u16,
 }
 
-/// An area of a load, as it stands in the body, borrowed from there.
+/// An area of a load, its octets by their place in the body.
 #[derive(Clone, Copy, Debug)]
-pub(crate) struct StoredArea<'a> {
+pub(crate) struct StoredArea {
     pub address: u32,
-    pub octets: &'a [u8],
+    pub from: usize,
+    pub len: u16,
     pub checksum: u16,
+}
+
+impl StoredArea {
+    // The area's octets, in the body that it stands in.
+    pub(crate) fn octets<'a>(&self, body: &'a [u8]) -> &'a [u8]
+        requires { self.now.from + self.now.len ≤ length body.now }
+        ensures { result.now ≡ octets_at body.now self.now }
+    {
+        &body[self.from..self.from + usize::from(self.len)]
+    }
 }
 
 /// What a message means: nothing at all, a fault's code, or a memory and its areas.
@@ -34,7 +48,7 @@ pub(crate) struct StoredArea<'a> {
 pub(crate) enum Content {
     Silent,
     Code(FailureCode),
-    Load(u8, Vec<Area>),
+    Load(u8, Vec<StoredArea>),
     Dump(u8, Vec<AreaRange>),
     Check(u8, Vec<AreaRange>),
 }
