@@ -11,7 +11,8 @@ use Rattle.lpt_link.proofs.link.Link.drop_hand.Goals as goal
 
 pub invariant_of-self : goal.invariant_of-self
 invariant_of-self c =
-    let d : LinkData = record { packets = c.self.inside.packets.items; hands = c.self.inside.hands } in
+    let link = c.self.inside in
+    let d : LinkData = record { packets = link.packets.items; hands = link.hands } in
     let lane = c.args.lane in
     let n = c.in_ok-number.number in
     let p : LinkPacket = c.index-taken.result.now in
