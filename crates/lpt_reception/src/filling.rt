@@ -6,15 +6,14 @@ ghost use Rattle.lpt_reception.specs.Received.{no_parts, with_part, is_whole};
 use crate::kept::KeptPart;
 use crate::kept_list::{Place, completes, place_of};
 use crate::{Broken, Step, Whole};
-use lpt_packet::Name;
-use lpt_part::{Part, Reason};
+use lpt_part::{Part, Reason, TransactionId};
 use std::alloc::{AllocError, Global};
 use std::marker::Model;
 
 /// A reception that waits for parts. It may be let go.
 #[derive(Drop)]
 pub struct Filling {
-    id: Name,
+    id: TransactionId,
     p: u32,
     // In the order of their numbers.
     pub(crate) parts: Vec<KeptPart>,
@@ -62,7 +61,7 @@ impl Filling {
     }
 
     /// The identifier of the transaction.
-    pub fn id(&self) -> Name
+    pub fn id(&self) -> TransactionId
         ensures { result ≡ self.now.id }
     {
         self.id
