@@ -1,12 +1,14 @@
 mod AddLemmas
+mod BufferLemmas
 mod CutLemmas
-mod KeptLemmas
-mod ListLemmas
+mod MarkLemmas
 pub mod MessageLemmas
 mod PairLemmas
-mod ReceptionLemmas
+mod PlaceLemmas
 mod RunLemmas
 mod SetLemmas
+mod ShapeLemmas
 mod StartLemmas
+mod StoredLemmas
 mod TestLemmas
 mod WholeLemmas
