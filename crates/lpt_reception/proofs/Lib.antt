@@ -1,6 +1,7 @@
 mod AddLemmas
 mod BufferLemmas
 mod CutLemmas
+mod EndingLemmas
 mod MarkLemmas
 pub mod MessageLemmas
 mod PairLemmas
@@ -9,6 +10,7 @@ mod RunLemmas
 mod SetLemmas
 mod ShapeLemmas
 mod StartLemmas
+mod StoreLemmas
 mod StoredLemmas
 mod TestLemmas
 mod WholeLemmas

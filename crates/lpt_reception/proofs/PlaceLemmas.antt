@@ -1,10 +1,10 @@
 -- What a part is to those that were kept, and whether these are all.
-use Rattle.std.proofs.Common.{◌≡◌, ◌≢◌, ◌∙◌, ap, sym, subst, refl, inl, inr, ℕ, ◌<◌, ◌≤◌, ◌==◌, Bool, true, false, not, ◌&&◌, ◌||◌, nat_eq, List, [], ◌∷◌, length, Some, None, arith, if◌then◌else◌}
+use Rattle.std.proofs.Common.{◌≡◌, ◌≢◌, ◌∙◌, ap, sym, subst, refl, inl, inr, ℕ, ◌≤◌, ◌==◌, Bool, true, false, not, ◌&&◌, ◌||◌, nat_eq, List, [], ◌∷◌, length, Some, arith, if◌then◌else◌}
 use Rattle.std.specs.Prelude.{nat_lt}
 use Rattle.std.specs.Cmp.Lexicographic.{pointwise}
 use Rattle.std.specs.FinMap as map
 use Rattle.std.specs.List.{list_any}
-use Rattle.std.proofs.lemmas.Bool.{cases_lt, true_from_ne_false, false_from_ne_true, true≢false, not-false, and_parts, or_parts, or_from, eq-eqb, ne_eqb, ltb-false, le-ltb, both_ways}
+use Rattle.std.proofs.lemmas.Bool.{cases_lt, true_from_ne_false, true≢false, not-false, and_parts, or_parts, or_from, eq-eqb, ne_eqb, ltb-false, le-ltb, both_ways}
 use Rattle.lpt_packet.specs.Numbers.{same_octets}
 use Rattle.lpt_part.specs.declared.kind.Kind.TheVariants.{Middle, Last}
 use Rattle.lpt_part.specs.Splitting.{kind_at}
@@ -15,11 +15,11 @@ use Rattle.lpt_reception.specs.PartsOf.{IsPartsOf, IsMessageOf}
 use Rattle.lpt_reception.specs.Received.{Kept, Parts, with_part, same_kept, differs, is_last, is_overrun, contradicts, is_whole, spelled}
 use Rattle.lpt_reception.specs.Stored.{top, last_in, part_in, parts_in, IsShape, IsStored}
 use Rattle.lpt_reception.proofs.TestLemmas.{same_tests, second_fails, fails_together}
-use Rattle.lpt_reception.proofs.SetLemmas.{none_there, there_none, get_added, get_other, added_cases, with_part_again, EndsAtLast, ends_at_last, no_overrun}
+use Rattle.lpt_reception.proofs.SetLemmas.{none_there, there_none, get_added, get_other, added_cases, with_part_again, ends_at_last, no_overrun}
 use Rattle.lpt_reception.proofs.PairLemmas.{CountsFromOne, whole_by_count}
 use Rattle.lpt_reception.proofs.MessageLemmas.{same_kept-refl, same_kept-true, last_number, parts_spell}
 use Rattle.lpt_reception.proofs.WholeLemmas.{later_kind, whole_message, whole_split}
-use Rattle.lpt_reception.proofs.StoredLemmas.{get_marked, get_unmarked, get_cases, unmarked}
+use Rattle.lpt_reception.proofs.StoredLemmas.{get_marked, get_unmarked, get_cases}
 
 -- octets that are equal one by one are the same
 pub pointwise_same : (a b : List ℕ) → pointwise nat_eq a b ≡ same_octets a b

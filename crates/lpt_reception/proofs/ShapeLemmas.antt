@@ -1,5 +1,5 @@
 -- The marks and octets after a part was added, or taken out of a whole: they agree still.
-use Rattle.std.proofs.Common.{◌≡◌, ◌≢◌, ◌∙◌, ap, sym, subst, refl, inl, inr, ◌⊎◌, ℕ, suc, ◌+◌, ◌-◌, ◌*◌, ◌<◌, ◌≤◌, Bool, true, false, ◌||◌, if◌then◌else◌, List, [], length, take, drop, get_or, Some, arith}
+use Rattle.std.proofs.Common.{◌≡◌, ◌≢◌, ◌∙◌, ap, sym, refl, inl, inr, ℕ, suc, ◌+◌, ◌-◌, ◌*◌, ◌<◌, ◌≤◌, Bool, true, false, ◌||◌, if◌then◌else◌, List, length, take, get_or, arith}
 use Rattle.std.proofs.lemmas.Bool.{cases_lt, cases_eq, false_from_ne_true, true≢false, ne_eqb}
 use Rattle.std.proofs.Math.Nat.{mul-le-mul_right}
 use Rattle.lpt_part.specs.declared.kind.Kind.TheVariants.{Middle, Last}
@@ -27,10 +27,23 @@ behind n p some =
 pub in_front : (q n p : ℕ) → q < n → q * p ≤ (n - 1) * p
 in_front q n p less = mul-le-mul_right p (omega arith)
 
+-- so a part below the highest ends within the octets
+pub room_below : (n len p : ℕ)
+    → IsPartSize p
+    → 1 ≤ n
+    → n < part_count len p
+    → n * p ≤ len
+room_below n len p size some less =
+    let t : ℕ = part_count len p in
+    let le = in_front n t p less in
+    let end = behind t p (omega arith) in
+    let least : t * p < len + p = omega arith in
+    omega arith
+
 -- ---- kinds
 
 -- the kind of a part that isn't the last
-inner_kind : (q k l : ℕ) → q ≢ k → q ≢ l → kind_at q k ≡ kind_at q l
+pub inner_kind : (q k l : ℕ) → q ≢ k → q ≢ l → kind_at q k ≡ kind_at q l
 inner_kind q k l one other = elim (cases_eq q 1) [
   | inl same ↦ ap (λ m. kind_at m k) same ∙ sym (ap (λ m. kind_at m l) same)
   | inr later ↦
@@ -40,12 +53,12 @@ inner_kind q k l one other = elim (cases_eq q 1) [
 ]
 
 -- a number other than the highest isn't the last one
-not_last_of : (ended : Bool) (t q : ℕ) → 1 ≤ q → q ≢ t → q ≢ last_in ended t
+pub not_last_of : (ended : Bool) (t q : ℕ) → 1 ≤ q → q ≢ t → q ≢ last_in ended t
 not_last_of true t q some other = other
 not_last_of false t q some other = λ same. absurd (omega arith)
 
 -- nor is any where none has come
-none_last : (ended : Bool) (t q : ℕ) → ended ≡ false → 1 ≤ q → q ≢ last_in ended t
+pub none_last : (ended : Bool) (t q : ℕ) → ended ≡ false → 1 ≤ q → q ≢ last_in ended t
 none_last true t q none some = absurd cc
 none_last false t q none some = λ same. absurd (omega arith)
 
@@ -130,12 +143,7 @@ module _ (p : ℕ) (ended : Bool) (marks ms octets : List ℕ) (n : ℕ) (x : Ke
     whole_part = (sized_of_fits x.kind n (length x.octets) p t shape.size fits within.last).2 inside
 
     room : n * p ≤ length octets
-    room =
-        let le = in_front n t p inside in
-        let end = behind t p (omega arith) in
-        let size = shape.size in
-        let least : t * p < length octets + p = omega arith in
-        omega arith
+    room = room_below n (length octets) p shape.size some inside
 
     same_length : length ys ≡ length octets
     same_length =

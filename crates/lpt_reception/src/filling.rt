@@ -39,7 +39,7 @@ impl Filling {
     ghost use Rattle.lpt_reception.specs.Answers.{kept, IsNew, Answers};
 
     /// A reception with its first part, for parts of `p` octets. The only error is want of memory.
-    #[tactic(auto, using(crate::proofs::StartLemmas::not_whole_alone, crate::proofs::StartLemmas::new_alone))]
+    #[tactic(auto, using(crate::proofs::StartLemmas::not_whole_alone))]
     pub fn start(alloc: Global, part: &Part<'_>, p: u32) -> Result<Filling, AllocError>
         requires { part.now.p ≡ p }
         ensures started { IfOk result (λ f. f ≡ record {
@@ -103,7 +103,8 @@ impl Filling {
         ensures short { IfOk result (λ m. length m ≤ 65542) }
         ensures split { IfOk result (IsMessageOf self.now.parts self.now.p) }
     {
-        Ok(Octets::from_vec(self.store.octets.clone()?))
+        let octets = &self.store.octets;
+        Ok(Octets::from_vec(octets.to_vec(*octets.allocator())?))
     }
 
     /// The message, where all parts are there.

@@ -2,14 +2,15 @@
 
 ghost use Rattle.std.specs.Prelude.{◌≡◌, ℕ, ◌+◌, ◌<◌, ◌≤◌, true, length, OnOk, OnErr, IsSome};
 ghost use Rattle.std.specs.FinMap as map;
+ghost use Rattle.lpt_part.specs.Parts.{same_kind};
 ghost use Rattle.lpt_part.specs.Splitting.{IsPartSize, kind_at};
 ghost use Rattle.lpt_reception.specs.Answers.{kept, IsNew};
 ghost use Rattle.lpt_reception.specs.Marks.{is_marked};
-ghost use Rattle.lpt_reception.specs.Received.{no_parts, with_part, same_kept, is_whole};
+ghost use Rattle.lpt_reception.specs.Received.{no_parts, with_part, same_kept, is_last, is_whole};
 ghost use Rattle.lpt_reception.specs.Stored.{top, last_number, kept_at, stored, overruns, written, zeroed, IsSound, IsPlace};
 
-use crate::marks::{is_marked, mark, reserve, unmark};
-use lpt_part::{Kind, Part, count};
+use crate::marks::Marks;
+use lpt_part::{Kind, Part, count, slice};
 use std::alloc::{AllocError, Global};
 
 /// The parts that were kept.
@@ -19,7 +20,7 @@ pub(crate) struct Store {
     // the part of the highest number.
     pub(crate) octets: Vec<u8>,
     // The numbers of the parts.
-    marks: Vec<u64>,
+    marks: Marks,
     // How many parts there are.
     so_many: u32,
     // Whether the part of the highest number is the last one.
@@ -39,12 +40,12 @@ pub(crate) enum Place {
 impl Store {
     /// Nothing is kept.
     pub(crate) fn new(alloc: Global) -> Store
-        ensures empty { (p : ℕ) → stored p result ≡ no_parts }
+        ensures empty { (p : ℕ) → IsPartSize p → stored p result ≡ no_parts }
         ensures sound { (p : ℕ) → IsPartSize p → IsSound p result }
     {
         Store {
             octets: Vec::new(alloc),
-            marks: Vec::new(alloc),
+            marks: Marks::new(alloc),
             so_many: 0,
             ended: false,
         }
@@ -55,7 +56,7 @@ impl Store {
         requires { IsSound part.now.p self.now }
         ensures { IsPlace (stored part.now.p self.now) part.now.number (kept part.now) result }
     {
-        if is_marked(&self.marks, part.number) {
+        if self.marks.has(part.number) {
             if self.holds(part) {
                 Place::Known
             } else {
@@ -92,16 +93,15 @@ impl Store {
     }
 
     // Whether the part of this number that was kept is the same.
-    #[tactic(auto, using(crate::proofs::PlaceLemmas::pointwise_same))]
     fn holds(&self, part: &Part<'_>) -> bool
         requires sound { IsSound part.now.p self.now }
-        requires marked { is_marked self.now.marks.items part.now.number ≡ true }
+        requires marked { is_marked self.now.marks.words.items part.now.number ≡ true }
         ensures { result ≡ same_kept (kept_at part.now.p self.now part.now.number) (kept part.now) }
     {
-        let size = part.p as usize;
-        let start = (part.number - 1) as usize * size;
-        let end = self.octets.len().min(start + size);
-        self.kind_of(part.number, part.p) == part.kind && &self.octets[start..end] == part.octets
+        let Some(octets) = slice(&self.octets, part.p, part.number as u32) else {
+            unreachable!()
+        };
+        same_kind(self.kind_of(part.number, part.p), part.kind) && octets == part.octets
     }
 
     // Whether the last part's number is below the new part's, or the new part is a last one below
@@ -112,7 +112,7 @@ impl Store {
     {
         let number = part.number as u32;
         let top = self.top(part.p);
-        (self.ended && top < number) || (part.kind == Kind::Last && number < top)
+        (self.ended && top < number) || (is_last(part) && number < top)
     }
 
     /// Adds a new part. Want of memory leaves the parts as they were.
@@ -125,13 +125,11 @@ impl Store {
         ensures err { OnErr result (stored part.now.p self.new ≡ stored part.now.p self.old) }
     {
         let start = (part.number - 1) as usize * part.p as usize;
-        reserve(&mut self.marks, part.number)?;
+        self.marks.reserve(part.number)?;
         write_at(&mut self.octets, start, part.octets)?;
-        mark(&mut self.marks, part.number);
+        self.marks.set(part.number);
         self.so_many += 1;
-        if part.kind == Kind::Last {
-            self.ended = true;
-        }
+        self.ended |= is_last(part);
         Ok(())
     }
 
@@ -165,15 +163,29 @@ impl Store {
         ensures without { stored p self.new ≡ map.remove (stored p self.old) number }
     {
         let start = (number - 1) as usize * p as usize;
-        if number as u32 == self.top(p) {
+        let top = self.top(p);
+        self.marks.clear(number);
+        self.so_many -= 1;
+        if number as u32 == top {
             self.octets.truncate(start);
             self.ended = false;
         } else {
             zero_at(&mut self.octets, start, p as usize);
         }
-        unmark(&mut self.marks, number);
-        self.so_many -= 1;
     }
+}
+
+// Whether a part is the last one.
+fn is_last(part: &Part<'_>) -> bool
+    ensures { result ≡ is_last (kept part.now) }
+{
+    same_kind(part.kind, Kind::Last)
+}
+
+fn same_kind(a: Kind, b: Kind) -> bool
+    ensures { result ≡ same_kind a b }
+{
+    a == b
 }
 
 // Writes octets from a place on, behind zeros where the buffer ends before it. Want of memory
