@@ -3,7 +3,7 @@ use Rattle.std.proofs.Common.{◌≡◌, ◌∙◌, ap, sym, refl, ℕ, ◌+◌,
 use Rattle.std.specs.Prelude.{IfOk, Some, slice_index, ◌↔◌}
 use Rattle.std.specs.Result.{result_ok}
 use Rattle.lpt_part.proofs.ResultLemmas.{result_ok-some}
-use Rattle.lpt_packet.specs.Names.{Name}
+use Rattle.lpt_part.specs.Identifiers.{TransactionId}
 use Rattle.lpt_packet.specs.Numbers.{be, word_at, IsOctets}
 use Rattle.lpt_part.specs.declared.fault.PartFault.{PartFault}
 use Rattle.lpt_part.specs.declared.fault.PartFault.TheVariants.{AbortBody}
@@ -36,7 +36,7 @@ IsAbort-read b id reason h =
 -- ---- what is read
 
 -- the verdict over the answers of its tests
-abbrev chain : Bool → Bool → Bool → Bool → ℕ → Result (Name × Reason) PartFault
+abbrev chain : Bool → Bool → Bool → Bool → ℕ → Result (TransactionId × Reason) PartFault
 chain long one two three id =
     if long then
     (if one then Ok (id, Expired)
@@ -54,14 +54,14 @@ record Passed (len code n id : ℕ) (reason : Reason) : Type 0 where
 passed : (len code n id : ℕ) (said reason : Reason)
     → len ≡ 3
     → code ≡ reason_code said
-    → ◌≡◌ {A = Result (Name × Reason) PartFault} (Ok (n, said)) (Ok (id, reason))
+    → ◌≡◌ {A = Result (TransactionId × Reason) PartFault} (Ok (n, said)) (Ok (id, reason))
     → Passed len code n id reason
 passed len code n id said reason l e h =
-    let pair : ◌≡◌ {A = Name × Reason} (n, said) (id, reason) = cc in
+    let pair : ◌≡◌ {A = TransactionId × Reason} (n, said) (id, reason) = cc in
     record {
       len_is = l;
-      code_is = e ∙ ap (λ (x : Name × Reason). reason_code x.1) pair;
-      id_is = ap (λ (x : Name × Reason). x.0) pair;
+      code_is = e ∙ ap (λ (x : TransactionId × Reason). reason_code x.1) pair;
+      id_is = ap (λ (x : TransactionId × Reason). x.0) pair;
     }
 
 chain_passed : (long one two three : Bool) (len code n id : ℕ) (reason : Reason)
@@ -133,7 +133,7 @@ abort_in-IsAbort b id reason o = (
 -- ---- the reader's answer
 
 -- what a reader that gives the verdict answers is a report
-pub abort_is_found : (b : List ℕ) (r : Result (Name × Reason) PartFault)
+pub abort_is_found : (b : List ℕ) (r : Result (TransactionId × Reason) PartFault)
     → IsOctets b
     → r ≡ abort_verdict b
     → IfOk r (λ x. IsAbort b x.0 x.1)

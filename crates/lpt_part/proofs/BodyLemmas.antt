@@ -5,7 +5,7 @@ use Rattle.std.specs.Result.{result_ok}
 use Rattle.lpt_part.proofs.ResultLemmas.{result_ok-some}
 use Rattle.std.proofs.lemmas.Bool.Decides.{nat_tests}
 use Rattle.std.proofs.lemmas.Grind.{common_steps}
-use Rattle.lpt_packet.specs.Names.{Name}
+use Rattle.lpt_part.specs.Identifiers.{TransactionId}
 use Rattle.lpt_packet.specs.Numbers.{be, word_at, IsOctets}
 use Rattle.lpt_part.specs.declared.kind.Kind.{Kind}
 use Rattle.lpt_part.specs.declared.kind.Kind.TheVariants.{First, Middle, Last}
@@ -58,7 +58,7 @@ unfolding body_of
 length-body_of q = omega arith
 
 -- a piece of these fields
-piece_of : Kind → List ℕ → Name → ℕ → Piece
+piece_of : Kind → List ℕ → TransactionId → ℕ → Piece
 piece_of kind octets id number =
     record { id = id; number = number; kind = kind; octets = octets }
 

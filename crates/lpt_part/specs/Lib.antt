@@ -1,5 +1,6 @@
 pub mod Aborts
 pub mod FaultNames
+pub mod Identifiers
 pub mod PartRanges
 pub mod Parts
 pub mod Splitting

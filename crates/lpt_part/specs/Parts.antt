@@ -1,7 +1,7 @@
 -- The bodies of parts, and the first fault of those that are none.
 use Rattle.std.specs.Prelude.{◌≡◌, ℕ, ◌+◌, ◌-◌, ◌*◌, ◌<◌, ◌==◌, ◌&&◌, nat_lt, nat_le, Bool, true, false, if◌then◌else◌, List, ◌++◌, length, drop, Option, Result, Ok, Err}
 use Rattle.std.specs.Result.{result_ok}
-use Rattle.lpt_packet.specs.Names.{Name}
+use Rattle.lpt_part.specs.Identifiers.{TransactionId}
 use Rattle.lpt_packet.specs.Numbers.{be, word_at}
 use Rattle.lpt_packet.specs.Sizes.{longest_packet}
 use Rattle.lpt_part.specs.declared.kind.Kind.{Kind}
@@ -13,7 +13,7 @@ use Rattle.lpt_part.specs.PartRanges.{PartFits, least_number, greatest_number, l
 
 -- a part, without where its octets lie in memory
 pub record Piece : Type 0 where
-  pub id : Name
+  pub id : TransactionId
   pub number : ℕ
   pub kind : Kind
   pub octets : List ℕ

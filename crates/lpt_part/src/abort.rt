@@ -4,15 +4,15 @@ ghost use Rattle.std.specs.Prelude.{◌≡◌, ℕ, Ok, IfOk};
 ghost use Rattle.lpt_part.specs.declared.reason.Reason.{Reason};
 ghost use Rattle.lpt_part.specs.Aborts.{IsAbort, abort_body, abort_verdict};
 
-use crate::{PartFault, Reason};
-use lpt_packet::{Name, Octets};
+use crate::{PartFault, Reason, TransactionId};
+use lpt_packet::Octets;
 use std::alloc::{AllocError, Global};
 
 /// Reads the body of an abortion report: the transaction identifier (16 bits) and the failure
 /// reason (8 bits).
 ///
 /// Errors: `AbortBody`, other than 3 octets, or a failure reason that is none of 1, 2 and 3.
-pub fn read_abort(body: &[u8]) -> Result<(Name, Reason), PartFault>
+pub fn read_abort(body: &[u8]) -> Result<(TransactionId, Reason), PartFault>
     // What is read is what the octets are.
     ensures found { IfOk result (λ x. IsAbort body.now x.0 x.1) }
     // Each abortion report is read.
@@ -26,7 +26,7 @@ pub fn read_abort(body: &[u8]) -> Result<(Name, Reason), PartFault>
 
 // The test of a body, and what stands at its places.
 #[tactic(auto, unfolding(crate::specs::Aborts::abort_verdict))]
-fn fault_or_abort(body: &[u8]) -> Result<(Name, Reason), PartFault>
+fn fault_or_abort(body: &[u8]) -> Result<(TransactionId, Reason), PartFault>
     ensures { result ≡ abort_verdict body.now }
 {
     if body.len() != 3 {
@@ -43,7 +43,7 @@ fn fault_or_abort(body: &[u8]) -> Result<(Name, Reason), PartFault>
 }
 
 /// The body of an abortion report. The only error is want of memory.
-pub fn write_abort(alloc: Global, id: Name, reason: Reason) -> Result<Octets, AllocError>
+pub fn write_abort(alloc: Global, id: TransactionId, reason: Reason) -> Result<Octets, AllocError>
     ensures { IfOk result (λ o. o ≡ abort_body id reason) }
 {
     let body = abort_octets(id, reason).to_vec(alloc)?;
@@ -52,7 +52,7 @@ pub fn write_abort(alloc: Global, id: Name, reason: Reason) -> Result<Octets, Al
 
 /// The three octets of an abortion report's body.
 #[tactic(auto, unfolding(crate::specs::Aborts::abort_body))]
-pub fn abort_octets(id: Name, reason: Reason) -> [u8; 3]
+pub fn abort_octets(id: TransactionId, reason: Reason) -> [u8; 3]
     ensures { result ≡ abort_body id reason }
 {
     let id = id.to_be_bytes();

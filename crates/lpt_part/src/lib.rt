@@ -10,6 +10,7 @@
 
 mod abort;
 mod fault;
+mod identifier;
 mod kind;
 pub mod laws;
 mod message_types;
@@ -21,6 +22,7 @@ mod writing;
 
 pub use abort::{abort_octets, read_abort, write_abort};
 pub use fault::PartFault;
+pub use identifier::TransactionId;
 pub use kind::Kind;
 pub use message_types::{ABORT, TRANSFER};
 pub use part::Part;

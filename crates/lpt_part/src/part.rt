@@ -5,15 +5,15 @@ ghost use Rattle.lpt_packet.specs.Numbers.{IsOctets};
 ghost use Rattle.lpt_part.specs.Splitting.{IsPartSize};
 ghost use Rattle.lpt_part.specs.PartRanges.{NumberFits, LengthFits, PartFits};
 
-use crate::Kind;
-use lpt_packet::{LONGEST_PACKET, Name};
+use crate::{Kind, TransactionId};
+use lpt_packet::LONGEST_PACKET;
 
 /// A part of a large message. Its octets are borrowed, from the message or from the body that it
 /// was read from.
 #[derive(Clone, Copy, Debug)]
 pub struct Part<'a> {
     /// The transaction identifier, 0 to 65,535.
-    pub id: Name,
+    pub id: TransactionId,
     /// The part sequence number, counted from 1.
     pub number: u16,
     /// First, intermediate or last.
@@ -31,7 +31,13 @@ impl<'a> Part<'a> {
     /// A part of these fields, for parts of `p` octets, or `None` where there is no such part:
     /// the number is 0, a first part's number isn't 1, another's is 1, or `octets` is too short
     /// or too long for a part of this kind and number.
-    pub fn new(id: Name, number: u16, kind: Kind, octets: &'a [u8], p: u32) -> Option<Part<'a>>
+    pub fn new(
+        id: TransactionId,
+        number: u16,
+        kind: Kind,
+        octets: &'a [u8],
+        p: u32,
+    ) -> Option<Part<'a>>
         requires { IsPartSize p }
         ensures fits { IsSome result ↔ PartFits kind number (length octets.now) p }
         ensures fields { IfSome result (λ t. (t.id ≡ id) × (t.number ≡ number) × (t.kind ≡ kind)

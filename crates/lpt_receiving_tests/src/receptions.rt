@@ -1,6 +1,7 @@
-//! Receptions of short messages in parts of 8 octets, and of the longest in 1,025 parts of 64.
+//! Receptions of short messages in parts of 8 octets, and of the longest in 1,025 parts of 64 and in
+//! 8,193 parts of 8.
 
-ghost use Rattle.std.specs.Prelude.{◌≡◌, IfOk};
+ghost use Rattle.std.specs.Prelude.{◌≡◌, ◌≤◌, IfOk};
 ghost use Rattle.lpt_part.specs.Splitting.{IsPartSize};
 
 use lpt_packet::Octets;
@@ -72,16 +73,17 @@ fn offer_of(filling: Filling, message: &[u8], number: u16, p: u32) -> (Said, Fil
 }
 
 // Offers parts `from` to `to` of the message, and answers to how many it said this.
-fn fill(filling: Filling, message: &[u8], from: u16, to: u16, want: Said) -> (u32, Filling)
+fn fill(filling: Filling, message: &[u8], from: u16, to: u16, p: u32, want: Said) -> (u32, Filling)
     requires id { filling.id ≡ 7 }
-    requires p { filling.p ≡ 64 }
+    requires p { filling.p ≡ p }
+    requires size { IsPartSize p }
     ensures id { result.1.id ≡ 7 }
-    ensures p { result.1.p ≡ 64 }
+    ensures p { result.1.p ≡ p }
 {
     let mut filling = filling;
     let mut so_many = 0u32;
     for number in from..=to {
-        let (said, next) = offer_of(filling, message, number, 64);
+        let (said, next) = offer_of(filling, message, number, p);
         filling = next;
         if said == want {
             so_many = so_many.saturating_add(1);
@@ -306,39 +308,54 @@ fn longest(alloc: Global) -> Result<Vec<u8>, AllocError> {
     Ok(message)
 }
 
-// The last part came first, and then all but one. That one makes it whole; what is given back has
-// the others.
-fn fill_up(rt: &impl Abort, filling: Filling, message: &[u8]) -> Filling
+// The last part came first, and then the others, of which the last but one makes it whole. What is
+// given back has all but that one.
+fn fill_up(rt: &impl Abort, filling: Filling, message: &[u8], last: u16, p: u32) -> Filling
     requires id { filling.id ≡ 7 }
-    requires p { filling.p ≡ 64 }
+    requires p { filling.p ≡ p }
+    requires size { IsPartSize p }
+    requires three { 3 ≤ last }
     ensures id { result.id ≡ 7 }
-    ensures p { result.p ≡ 64 }
+    ensures p { result.p ≡ p }
 {
-    let (first, filling) = offer_of(filling, message, 1, 64);
-    let (kept, filling) = fill(filling, message, 2, 1_023, Said::Kept);
-    let (whole, filling) = offer_of(filling, message, 1_024, 64);
-    let (again, filling) = fill(filling, message, 1, 1_025, Said::Again);
-    assert!(rt; first == Said::Kept && kept == 1_022);
-    assert!(rt; whole == Said::Whole && again == 1_024);
+    let (first, filling) = offer_of(filling, message, 1, p);
+    let (kept, filling) = fill(filling, message, 2, last - 2, p, Said::Kept);
+    let (whole, filling) = offer_of(filling, message, last - 1, p);
+    let (again, filling) = fill(filling, message, 1, last, p, Said::Again);
+    let others = u32::from(last) - 1;
+    assert!(rt; first == Said::Kept && kept == others - 2);
+    assert!(rt; whole == Said::Whole && again == others);
     filling
+}
+
+// The message comes in so many parts of `p` octets, the last one first.
+fn check_last_part_first(
+    rt: &impl Abort,
+    alloc: Global,
+    message: &[u8],
+    last: u16,
+    p: u32,
+) -> Result<(), Fail>
+    requires size { IsPartSize p }
+    requires three { 3 ≤ last }
+{
+    let octets = slice(message, p, u32::from(last)).ok_or("none")?;
+    let end = sized(p, last, Kind::Last, octets)?;
+    let octets = slice(message, p, u32::from(last - 1)).ok_or("none")?;
+    let missing = sized(p, last - 1, Kind::Middle, octets)?;
+    let filling = Filling::start(alloc, &end, p)?;
+    check_message(
+        rt,
+        fill_up(rt, filling, message, last, p),
+        &missing,
+        message,
+    )
 }
 
 #[test]
 fn the_longest_message_comes_last_part_first(rt: HostRuntime) -> Result<(), Fail> {
     let message = longest(rt.alloc())?;
-    assert!(rt; count(65_542, 64) == 1_025);
-    let last = sized(
-        64,
-        1_025,
-        Kind::Last,
-        slice(&message, 64, 1_025).ok_or("none")?,
-    )?;
-    let missing = sized(
-        64,
-        1_024,
-        Kind::Middle,
-        slice(&message, 64, 1_024).ok_or("none")?,
-    )?;
-    let filling = Filling::start(rt.alloc(), &last, 64)?;
-    check_message(&rt, fill_up(&rt, filling, &message), &missing, &message)
+    assert!(rt; count(65_542, 64) == 1_025 && count(65_542, 8) == 8_193);
+    check_last_part_first(&rt, rt.alloc(), &message, 1_025, 64)?;
+    check_last_part_first(&rt, rt.alloc(), &message, 8_193, 8)
 }

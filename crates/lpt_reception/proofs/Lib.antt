@@ -1,12 +1,16 @@
 mod AddLemmas
+mod BufferLemmas
 mod CutLemmas
-mod KeptLemmas
-mod ListLemmas
+mod EndingLemmas
+mod MarkLemmas
 pub mod MessageLemmas
 mod PairLemmas
-mod ReceptionLemmas
+mod PlaceLemmas
 mod RunLemmas
 mod SetLemmas
+mod ShapeLemmas
 mod StartLemmas
+mod StoreLemmas
+mod StoredLemmas
 mod TestLemmas
 mod WholeLemmas

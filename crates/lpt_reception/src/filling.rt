@@ -1,23 +1,23 @@
 //! A reception that waits for parts.
 
-ghost use Rattle.std.specs.Prelude.{◌≡◌, false, IfOk};
-ghost use Rattle.lpt_reception.specs.Received.{no_parts, with_part, is_whole};
+ghost use Rattle.std.specs.Prelude.{◌≡◌, ◌≤◌, true, false, length, IfOk, IsSome};
+ghost use Rattle.std.specs.FinMap as map;
+ghost use Rattle.lpt_reception.specs.PartsOf.{IsMessageOf};
+ghost use Rattle.lpt_reception.specs.Received.{no_parts, with_part, is_whole, spelled};
 
-use crate::kept::KeptPart;
-use crate::kept_list::{Place, completes, place_of};
+use crate::store::{Place, Store};
 use crate::{Broken, Step, Whole};
-use lpt_packet::Name;
-use lpt_part::{Part, Reason};
+use lpt_packet::Octets;
+use lpt_part::{Part, Reason, TransactionId};
 use std::alloc::{AllocError, Global};
 use std::marker::Model;
 
 /// A reception that waits for parts. It may be let go.
 #[derive(Drop)]
 pub struct Filling {
-    id: Name,
+    id: TransactionId,
     p: u32,
-    // In the order of their numbers.
-    pub(crate) parts: Vec<KeptPart>,
+    store: Store,
 }
 
 impl Model for Filling {
@@ -28,11 +28,11 @@ impl Model for Filling {
 
     ghost coded = { coded_received };
 
-    ghost use Rattle.lpt_reception.specs.Soundness.{set_of, IsSound};
+    ghost use Rattle.lpt_reception.specs.Stored.{stored, IsSound};
 
-    ghost view = { λ a. record { id = a.id; p = a.p; parts = set_of a.parts.items } };
+    ghost view = { λ a. record { id = a.id; p = a.p; parts = stored a.p a.store } };
 
-    ghost invariant = { λ a. IsSound a.p a.parts.items };
+    ghost invariant = { λ a. IsSound a.p a.store };
 }
 
 impl Filling {
@@ -52,17 +52,17 @@ impl Filling {
         ensures alone { IsNew no_parts part.now.number (kept part.now) }
         ensures not_whole { is_whole (with_part no_parts part.now.number (kept part.now)) ≡ false }
     {
-        let mut parts = Vec::new(alloc);
-        parts.push(KeptPart::copy_of(alloc, part)?)?;
+        let mut store = Store::new(alloc);
+        store.add(part)?;
         Ok(Filling {
             id: part.id,
             p,
-            parts,
+            store,
         })
     }
 
     /// The identifier of the transaction.
-    pub fn id(&self) -> Name
+    pub fn id(&self) -> TransactionId
         ensures { result ≡ self.now.id }
     {
         self.id
@@ -74,7 +74,7 @@ impl Filling {
         requires p { part.now.p ≡ self.p }
         ensures { Answers self part.now.number (kept part.now) result }
     {
-        let at = match place_of(&self.parts, part) {
+        match self.store.place_of(part) {
             Place::Clash => {
                 return Step::Conflict(Broken {
                     before: self,
@@ -82,20 +82,49 @@ impl Filling {
                 });
             }
             Place::Known => return Step::Again(self),
-            Place::Gap(at) => at,
-        };
-        let Ok(kept) = KeptPart::copy_of(*self.parts.allocator(), part) else {
+            Place::New => {}
+        }
+        let Ok(()) = self.store.add(part) else {
             return Step::NoMemory(self);
         };
-        if completes(&self.parts, &kept) {
+        if self.store.is_whole(self.p) {
             return Step::Whole(Whole {
-                before: self,
-                ending: kept,
+                all: self,
+                number: part.number,
             });
         }
-        let Ok(()) = self.parts.insert(at, kept) else {
-            return Step::NoMemory(self);
-        };
         Step::Filling(self)
+    }
+
+    /// A copy of the message, where all parts are there. The only error is want of memory.
+    pub(crate) fn joined(&self) -> Result<Octets, AllocError>
+        requires { is_whole self.now.parts ≡ true }
+        ensures message { IfOk result (λ m. m ≡ spelled self.now.parts) }
+        ensures short { IfOk result (λ m. length m ≤ 65542) }
+        ensures split { IfOk result (IsMessageOf self.now.parts self.now.p) }
+    {
+        let octets = &self.store.octets;
+        Ok(Octets::from_vec(octets.to_vec(*octets.allocator())?))
+    }
+
+    /// The message, where all parts are there.
+    pub(crate) fn into_message(self) -> Octets
+        requires { is_whole self.parts ≡ true }
+        ensures message { result ≡ spelled self.parts }
+        ensures short { length result ≤ 65542 }
+        ensures split { IsMessageOf self.parts self.p result }
+    {
+        let Filling { id: _, p: _, store } = self;
+        Octets::from_vec(store.into_octets())
+    }
+
+    /// The reception without one of its parts, where all parts are there.
+    pub(crate) fn without(mut self, number: u16) -> Filling
+        requires whole { is_whole self.parts ≡ true }
+        requires there { IsSome (map.get self.parts number) }
+        ensures { result ≡ record self { parts = map.remove self.parts number } }
+    {
+        self.store.take_out(number, self.p);
+        self
     }
 }

@@ -1,0 +1,212 @@
+//! What a reception keeps of its parts: their octets in one buffer, and a mark for each.
+
+ghost use Rattle.std.specs.Prelude.{◌≡◌, ℕ, ◌+◌, ◌<◌, ◌≤◌, true, length, OnOk, OnErr, IsSome};
+ghost use Rattle.std.specs.FinMap as map;
+ghost use Rattle.lpt_part.specs.Parts.{same_kind};
+ghost use Rattle.lpt_part.specs.Splitting.{IsPartSize, kind_at};
+ghost use Rattle.lpt_reception.specs.Answers.{kept, IsNew};
+ghost use Rattle.lpt_reception.specs.Marks.{is_marked};
+ghost use Rattle.lpt_reception.specs.Received.{no_parts, with_part, same_kept, is_last, is_whole};
+ghost use Rattle.lpt_reception.specs.Stored.{top, last_number, kept_at, stored, overruns, written, zeroed, IsSound, IsPlace};
+
+use crate::marks::Marks;
+use lpt_part::{Kind, Part, count, slice};
+use std::alloc::{AllocError, Global};
+
+/// The parts that were kept.
+#[derive(Drop)]
+pub(crate) struct Store {
+    // The octets of each part at its place, and zeros for parts that are missing. They end with
+    // the part of the highest number.
+    pub(crate) octets: Vec<u8>,
+    // The numbers of the parts.
+    marks: Marks,
+    // How many parts there are.
+    so_many: u32,
+    // Whether the part of the highest number is the last one.
+    ended: bool,
+}
+
+/// What a part is to those that were kept.
+pub(crate) enum Place {
+    /// It contradicts them.
+    Clash,
+    /// It is one of them.
+    Known,
+    /// It is new.
+    New,
+}
+
+impl Store {
+    /// Nothing is kept.
+    pub(crate) fn new(alloc: Global) -> Store
+        ensures empty { (p : ℕ) → IsPartSize p → stored p result ≡ no_parts }
+        ensures sound { (p : ℕ) → IsPartSize p → IsSound p result }
+    {
+        Store {
+            octets: Vec::new(alloc),
+            marks: Marks::new(alloc),
+            so_many: 0,
+            ended: false,
+        }
+    }
+
+    /// What a part is to those that were kept.
+    pub(crate) fn place_of(&self, part: &Part<'_>) -> Place
+        requires { IsSound part.now.p self.now }
+        ensures { IsPlace (stored part.now.p self.now) part.now.number (kept part.now) result }
+    {
+        if self.marks.has(part.number) {
+            if self.holds(part) {
+                Place::Known
+            } else {
+                Place::Clash
+            }
+        } else if self.is_overrun_by(part) {
+            Place::Clash
+        } else {
+            Place::New
+        }
+    }
+
+    // The highest number of a part, 0 where there is none.
+    fn top(&self, p: u32) -> u32
+        requires { IsSound p self.now }
+        ensures { result ≡ top p self.now.octets.items }
+    {
+        count(self.octets.len() as u32, p)
+    }
+
+    // The kind of a part that was kept.
+    fn kind_of(&self, number: u16, p: u32) -> Kind
+        requires sound { IsSound p self.now }
+        requires numbered { 1 ≤ number }
+        ensures { result ≡ kind_at number (last_number p self.now) }
+    {
+        if number == 1 {
+            Kind::First
+        } else if self.ended && number as u32 == self.top(p) {
+            Kind::Last
+        } else {
+            Kind::Middle
+        }
+    }
+
+    // Whether the part of this number that was kept is the same.
+    fn holds(&self, part: &Part<'_>) -> bool
+        requires sound { IsSound part.now.p self.now }
+        requires marked { is_marked self.now.marks.words.items part.now.number ≡ true }
+        ensures { result ≡ same_kept (kept_at part.now.p self.now part.now.number) (kept part.now) }
+    {
+        let Some(octets) = slice(&self.octets, part.p, part.number as u32) else {
+            unreachable!()
+        };
+        same_kind(self.kind_of(part.number, part.p), part.kind) && octets == part.octets
+    }
+
+    // Whether the last part's number is below the new part's, or the new part is a last one below
+    // another.
+    fn is_overrun_by(&self, part: &Part<'_>) -> bool
+        requires { IsSound part.now.p self.now }
+        ensures { result ≡ overruns part.now.p self.now part.now.number (kept part.now) }
+    {
+        let number = part.number as u32;
+        let top = self.top(part.p);
+        (self.ended && top < number) || (is_last(part) && number < top)
+    }
+
+    /// Adds a new part. Want of memory leaves the parts as they were.
+    pub(crate) fn add(&mut self, part: &Part<'_>) -> Result<(), AllocError>
+        requires sound { IsSound part.now.p self.old }
+        requires new { IsNew (stored part.now.p self.old) part.now.number (kept part.now) }
+        ensures sound { IsSound part.now.p self.new }
+        ensures ok { OnOk result (stored part.now.p self.new
+            ≡ with_part (stored part.now.p self.old) part.now.number (kept part.now)) }
+        ensures err { OnErr result (stored part.now.p self.new ≡ stored part.now.p self.old) }
+    {
+        let start = (part.number - 1) as usize * part.p as usize;
+        self.marks.reserve(part.number)?;
+        write_at(&mut self.octets, start, part.octets)?;
+        self.marks.set(part.number);
+        self.so_many += 1;
+        self.ended |= is_last(part);
+        Ok(())
+    }
+
+    /// Whether all parts are there.
+    pub(crate) fn is_whole(&self, p: u32) -> bool
+        requires { IsSound p self.now }
+        ensures { result ≡ is_whole (stored p self.now) }
+    {
+        self.ended && self.so_many == self.top(p)
+    }
+
+    /// The octets.
+    pub(crate) fn into_octets(self) -> Vec<u8>
+        ensures { result.items ≡ self.octets.items }
+    {
+        let Store {
+            octets,
+            marks: _,
+            so_many: _,
+            ended: _,
+        } = self;
+        octets
+    }
+
+    /// Takes a part out of a whole message, and leaves what was there before it came.
+    pub(crate) fn take_out(&mut self, number: u16, p: u32)
+        requires sound { IsSound p self.old }
+        requires whole { is_whole (stored p self.old) ≡ true }
+        requires there { IsSome (map.get (stored p self.old) number) }
+        ensures sound { IsSound p self.new }
+        ensures without { stored p self.new ≡ map.remove (stored p self.old) number }
+    {
+        let start = (number - 1) as usize * p as usize;
+        let top = self.top(p);
+        self.marks.clear(number);
+        self.so_many -= 1;
+        if number as u32 == top {
+            self.octets.truncate(start);
+            self.ended = false;
+        } else {
+            zero_at(&mut self.octets, start, p as usize);
+        }
+    }
+}
+
+// Whether a part is the last one.
+fn is_last(part: &Part<'_>) -> bool
+    ensures { result ≡ is_last (kept part.now) }
+{
+    same_kind(part.kind, Kind::Last)
+}
+
+fn same_kind(a: Kind, b: Kind) -> bool
+    ensures { result ≡ same_kind a b }
+{
+    a == b
+}
+
+// Writes octets from a place on, behind zeros where the buffer ends before it. Want of memory
+// leaves the buffer as it was.
+fn write_at(buffer: &mut Vec<u8>, start: usize, octets: &[u8]) -> Result<(), AllocError>
+    requires { start + length octets.now < 4294967296 }
+    ensures ok { OnOk result (buffer.new.items ≡ written buffer.old.items start octets.now) }
+    ensures err { OnErr result (buffer.new.items ≡ buffer.old.items) }
+{
+    let end = start + octets.len();
+    if buffer.len() < end {
+        buffer.resize(end, 0)?;
+    }
+    buffer[start..end].copy_from_slice(octets);
+    Ok(())
+}
+
+// Writes so many zeros from a place on.
+fn zero_at(buffer: &mut Vec<u8>, start: usize, so_many: usize)
+    requires { start + so_many ≤ length buffer.old.items }
+    ensures { buffer.new.items ≡ zeroed buffer.old.items start so_many }
+{
+    buffer[start..start + so_many].fill(0);
+}
