@@ -31,9 +31,11 @@ one_if b = cond b 1 0
 
 -- whether a packet in a hand is a part of the transaction
 abbrev has : List LinkPacket → Direction → Name → Option ℕ → Bool
-has ps direction id hand = option_map_or (is_of direction id) (option_and_then (slice_get ps) hand) false
+has ps direction id hand =
+    option_map_or (is_of direction id) (option_and_then (slice_get ps) hand) false
 
-has_pushed : (d : LinkData) (q : LinkPacket) (goes direction : Direction) (id : Name) (hand : Option ℕ)
+has_pushed : (d : LinkData) (q : LinkPacket)
+    (goes direction : Direction) (id : Name) (hand : Option ℕ)
     → IfSome hand (IsNumberOf d goes)
     → has (d.packets ++ q ∷ []) direction id hand ≡ has d.packets direction id hand
 has_pushed d q goes direction id None h = refl
@@ -68,7 +70,8 @@ held_lost : (direction : Direction) (id : Name) (ps : List LinkPacket) (n : ℕ)
     → slice_get ps n ≡ Some p
     → p.held ≡ true
     → count_by (λ q. q.held && is_of direction id q) ps
-    ≡ count_by (λ q. q.held && is_of direction id q) (with_lost ps n) + cond (is_of direction id p) 1 0
+    ≡ count_by (λ q. q.held && is_of direction id q) (with_lost ps n)
+    + cond (is_of direction id p) 1 0
 held_lost direction id [] n p e h = absurd cc
 held_lost direction id (q ∷ ps) zero p e h =
     let worth : LinkPacket → ℕ = λ r. one_if (r.held && is_of direction id r) in
@@ -127,7 +130,8 @@ swapped worth hands G1 hand = omega arith
 swapped worth hands G2 hand = omega arith
 
 -- a packet in a hand is worth 1 to its transaction
-worth_one : (direction : Direction) (id : Name) (ps : List LinkPacket) (n : ℕ) (p : LinkPacket) (hand : Option ℕ)
+worth_one : (direction : Direction) (id : Name) (ps : List LinkPacket)
+    (n : ℕ) (p : LinkPacket) (hand : Option ℕ)
     → hand ≡ Some n
     → slice_get ps n ≡ Some p
     → one_if (has ps direction id hand) ≡ one_of p.direction p.tag direction id

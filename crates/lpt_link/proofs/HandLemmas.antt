@@ -48,7 +48,8 @@ taken_number d goes n p is held =
     let way = and_parts p.held (same_direction p.direction goes) passes in
     record {
       was_put = slice_get_within d.packets n p is;
-      goes = ap (option_map (λ q. q.direction)) is ∙ ap Some (same_direction-true p.direction goes way.1);
+      goes = ap (option_map (λ q. q.direction)) is
+          ∙ ap Some (same_direction-true p.direction goes way.1);
     }
 
 -- a lane that may take has an empty hand
@@ -103,7 +104,8 @@ hand_sound d lane hand sound is other =
     (hand_in (with_hand d.hands lane hand) other)
     (each_hand (λ l h. IfSome h (IsNumberOf d (lane_direction l))) d.hands lane hand is sound other)
 
-put_number : (d : LinkData) (goes : Direction) (tag : Option Name) (octets : List ℕ) (lane : Direction) (hand : Option ℕ)
+put_number : (d : LinkData) (goes : Direction) (tag : Option Name) (octets : List ℕ)
+    (lane : Direction) (hand : Option ℕ)
     → IfSome hand (IsNumberOf d lane)
     → IfSome hand (IsNumberOf (after_put d goes tag octets) lane)
 put_number d goes tag octets lane None h = tt

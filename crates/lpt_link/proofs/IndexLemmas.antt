@@ -76,7 +76,8 @@ index_less goes tag old new d after index more moved direction id fits =
     (more direction id fits) (index direction id fits) (moved direction id)
 
 -- a number that there is, less what it is moved by
-pub index_room : (counts : List ℕ) (d after : LinkData) (goes : Direction) (tag : Option Name) (id : Name)
+pub index_room : (counts : List ℕ) (d after : LinkData)
+    (goes : Direction) (tag : Option Name) (id : Name)
     → IsIndex counts d
     → IsMoved goes tag after d
     → id < 65536

@@ -11,13 +11,14 @@ use Rattle.lpt_link.proofs.link.Link.drop_hand.Goals as goal
 
 pub invariant_of-self : goal.invariant_of-self
 invariant_of-self c =
-    let d : LinkData = record { packets = c.self.inside.packets.items; hands = c.self.inside.hands } in
+    let link = c.self.inside in
+    let d : LinkData = record { packets = link.packets.items; hands = link.hands } in
     let lane = c.args.lane in
     let n = c.in_ok-number.number in
     let p : LinkPacket = c.index-taken.result.now in
     let has : hand_of d lane ≡ Some n = sym c.of.ensures ∙ c.in_ok-number.ensures.ok_part in
     let number : IsNumberOf d (lane_direction lane) n =
-    subst (λ hand. IfSome hand (IsNumberOf d (lane_direction lane))) has (c.self.invariant.0 lane) in
+    subst (λ h. IfSome h (IsNumberOf d (lane_direction lane))) has (c.self.invariant.0 lane) in
     let is : slice_get d.packets n ≡ Some p =
     slice_get_read d.packets (length d.packets) n p refl number.was_put c.index-taken.ensures in
     rw c.put.ensures (

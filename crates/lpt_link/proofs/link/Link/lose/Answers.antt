@@ -11,17 +11,24 @@ use Rattle.lpt_link.proofs.link.Link.lose.Goals as goal
 
 pub remove-requires : goal.remove-requires
 remove-requires c = λ id fits.
-    let d : LinkData = record { packets = c.self.inside.packets.items; hands = c.self.inside.hands } in
+    let link = c.self.inside in
+    let d : LinkData = record { packets = link.packets.items; hands = link.hands } in
     let p : LinkPacket = c.index-packet.result.now in
-    let held = ap (λ (v : LinkView). is_held v.at c.args.n) c.self.view_is ∙ sym c.is_held.ensures ∙ c.if-not-is_held.false in
-    index_room c.self.inside.tags.counts.items d (after_lose d c.args.n) p.direction p.tag id c.self.invariant.1
+    let held = ap (λ (v : LinkView). is_held v.at c.args.n) c.self.view_is
+    ∙ sym c.is_held.ensures
+    ∙ c.if-not-is_held.false in
+    index_room link.tags.counts.items d (after_lose d c.args.n) p.direction p.tag id
+    c.self.invariant.1
     (lose_counts d c.args.n p c.index-packet.ensures held) fits
 
 pub invariant_of-self : goal.invariant_of-self
 invariant_of-self c =
-    let d : LinkData = record { packets = c.self.inside.packets.items; hands = c.self.inside.hands } in
+    let link = c.self.inside in
+    let d : LinkData = record { packets = link.packets.items; hands = link.hands } in
     let p : LinkPacket = c.index-packet.result.now in
-    let held = ap (λ (v : LinkView). is_held v.at c.args.n) c.self.view_is ∙ sym c.is_held.ensures ∙ c.if-not-is_held.false in
+    let held = ap (λ (v : LinkView). is_held v.at c.args.n) c.self.view_is
+    ∙ sym c.is_held.ensures
+    ∙ c.if-not-is_held.false in
     rw (set-with_lost d.packets c.args.n c.index_mut.result.now c.index_mut.ensures.value) (
       lose_sound d c.args.n c.self.invariant.0,
       index_less p.direction p.tag c.self.inside.tags.counts.items c.remove.new.self.counts.items d

@@ -10,11 +10,13 @@ pub add-requires : goal.add-requires
 add-requires c = λ id fits.
     let items = c.self.inside.packets in
     let d : LinkData = record { packets = items.items; hands = c.self.inside.hands } in
-    omega (arith, items.ok, items.small, c.self.invariant.1 c.args.direction id fits, present_few d c.args.direction id)
+    let goes = c.args.direction in
+    omega (arith, items.ok, items.small, c.self.invariant.1 goes id fits, present_few d goes id)
 
 pub invariant_of-self : goal.invariant_of-self
 invariant_of-self c =
-    let d : LinkData = record { packets = c.self.inside.packets.items; hands = c.self.inside.hands } in
+    let link = c.self.inside in
+    let d : LinkData = record { packets = link.packets.items; hands = link.hands } in
     let goes = c.args.direction in
     let tag = c.args.tag in
     let octets = c.args.octets in

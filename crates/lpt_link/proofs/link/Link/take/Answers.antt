@@ -18,18 +18,22 @@ add-requires c = λ id fits.
 
 pub invariant_of-self : goal.invariant_of-self
 invariant_of-self c =
-    let d : LinkData = record { packets = c.self.inside.packets.items; hands = c.self.inside.hands } in
+    let link = c.self.inside in
+    let d : LinkData = record { packets = link.packets.items; hands = link.hands } in
     let lane = c.args.lane in
     let n = c.args.n in
     let p : LinkPacket = c.index-packet.result.now in
     let free : refusal_take d lane n ≡ None =
-    ap (λ (v : LinkView). refusal_take v.at lane n) c.self.view_is ∙ sym c.in_default.ensures.value in
-    let held : is_held_for d (lane_direction lane) n ≡ true =
-    ap (λ (v : LinkView). is_held_for v.at (lane_direction lane) n) c.self.view_is ∙ c.in_default.ensures.held in
+    ap (λ (v : LinkView). refusal_take v.at lane n) c.self.view_is
+    ∙ sym c.in_default.ensures.value in
+    let goes = lane_direction lane in
+    let held : is_held_for d goes n ≡ true =
+    ap (λ (v : LinkView). is_held_for v.at goes n) c.self.view_is ∙ c.in_default.ensures.held in
     let is : slice_get d.packets n ≡ Some p =
-    slice_get_read d.packets (length d.packets) n p refl (found_within _ d.packets n held) c.index-packet.ensures in
+    slice_get_read d.packets (length d.packets) n p refl (found_within _ d.packets n held)
+    c.index-packet.ensures in
     rw c.put.ensures (
-      hand_sound d lane (Some n) c.self.invariant.0 (taken_number d (lane_direction lane) n p is held),
+      hand_sound d lane (Some n) c.self.invariant.0 (taken_number d goes n p is held),
       index_more p.direction p.tag c.self.inside.tags.counts.items c.add.new.self.counts.items d
           (after_take d lane n) c.self.invariant.1 c.add.ensures
           (take_counts d lane n p (empty_hand d lane n free) is),
