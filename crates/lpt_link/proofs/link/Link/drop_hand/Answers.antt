@@ -18,7 +18,7 @@ invariant_of-self c =
     let p : LinkPacket = c.index-taken.result.now in
     let has : hand_of d lane ≡ Some n = sym c.of.ensures ∙ c.in_ok-number.ensures.ok_part in
     let number : IsNumberOf d (lane_direction lane) n =
-    subst (λ hand. IfSome hand (IsNumberOf d (lane_direction lane))) has (c.self.invariant.0 lane) in
+    subst (λ h. IfSome h (IsNumberOf d (lane_direction lane))) has (c.self.invariant.0 lane) in
     let is : slice_get d.packets n ≡ Some p =
     slice_get_read d.packets (length d.packets) n p refl number.was_put c.index-taken.ensures in
     rw c.put.ensures (
