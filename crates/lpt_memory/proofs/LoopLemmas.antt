@@ -12,7 +12,7 @@ with_front-none (Some x) = refl
 with_front-none None = refl
 
 -- one more thing in front
-with_front-more : {A : Type 0} (front : List A) (x : A) (read : Option (List A))
+pub with_front-more : {A : Type 0} (front : List A) (x : A) (read : Option (List A))
     → with_front front (read >>= λ others. Some (x ∷ others)) ≡ with_front (front ++ x ∷ []) read
 with_front-more front x (Some others) = ap Some (sym (append_assoc front (x ∷ []) others))
 with_front-more front x None = refl

@@ -12,11 +12,8 @@ use crate::reply::dump_len;
 use crate::request::{AreaRange, Content, StoredArea};
 use lpt_packet::laws::seen_is_read;
 use lpt_packet::{ERROR_CONTROL, PRIMARY_HEADER, Seen, crc16, read_packet};
-use lpt_pus::{FailureCode, TC_HEADER, TcHead, read_tc};
+use lpt_pus::{FailureCode, LONGEST_TM_BODY, TC_HEADER, TcHead, read_tc};
 use std::alloc::{AllocError, Global};
-
-/// The most octets of a body that answers a dump: its packet has 19 more, and at most 65,542.
-const ANSWER_LIMIT: usize = 65523;
 
 /// The octets of a telecommand's packet before its body.
 const HEADERS: usize = PRIMARY_HEADER + TC_HEADER;
@@ -109,7 +106,7 @@ fn dump(alloc: Global, sizes: &[(u8, u32)], body: &[u8]) -> Result<Content, Allo
     if let Some(code) = range_fault_in(size, &ranges) {
         return Ok(Content::Code(code));
     }
-    if dump_len(&ranges) > ANSWER_LIMIT {
+    if dump_len(&ranges) > LONGEST_TM_BODY {
         return Ok(Content::Code(FailureCode::ReplyTooLong));
     }
     Ok(Content::Dump(memory, ranges))

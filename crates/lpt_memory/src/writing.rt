@@ -9,13 +9,10 @@ ghost use Rattle.lpt_memory.specs.Ranges.{MeansLoad};
 ghost use Rattle.lpt_memory.specs.Spellings.{load_area_text, stored, load_text, load_length, any_empty, write_fault};
 
 use crate::{Area, MemoryFault};
-use lpt_packet::{Octets, crc16};
+use lpt_packet::{LONGEST_PACKET, Octets, crc16};
 use lpt_pus::laws::octets_read_again;
 use lpt_pus::{TcHead, tc_octets};
 use std::alloc::{AllocError, Global};
-
-/// The most octets of a packet.
-const PACKET_LIMIT: usize = 65542;
 
 /// The octets of a load's packet, besides its areas.
 const LOAD_HEAD: usize = 15;
@@ -36,7 +33,7 @@ fn is_long(areas: &[Area]) -> bool
     let mut total = LOAD_HEAD;
     for area in areas {
         total += LOAD_AREA + area.octets.as_slice().len();
-        if total > PACKET_LIMIT {
+        if total > LONGEST_PACKET {
             return true;
         }
     }

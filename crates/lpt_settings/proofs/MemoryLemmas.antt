@@ -8,7 +8,7 @@ use Rattle.toml.specs.View.{view, items_view}
 use Rattle.toml.proofs.Views.{items_view-drop}
 use Rattle.lpt_memory.specs.Fields.{◌>>=◌}
 use Rattle.lpt_memory.specs.Memories.{Contents, are_memories}
-use Rattle.lpt_memory.proofs.LoopLemmas.{with_front}
+use Rattle.lpt_memory.proofs.LoopLemmas.{with_front, with_front-more}
 use Rattle.lpt_settings.specs.MemoryTables.{memory_of, each_memory, if_memories, listed, default_memories}
 
 -- ---- how many there are
@@ -52,11 +52,6 @@ each_memory-many vs many =
 
 -- ---- the memories so far
 
-with_front-one : (front : Contents) (m : ℕ × List ℕ) (read : Option Contents)
-    → with_front front (read >>= λ others. Some (m ∷ others)) ≡ with_front (front ++ m ∷ []) read
-with_front-one front m None = refl
-with_front-one front m (Some others) = ap Some (sym (append_assoc front (m ∷ []) others))
-
 -- a memory that is described goes behind those before it
 pub each_memory-next : (front : Contents) (vs : List Value) (i : ℕ) (d : Value) (m : ℕ × List ℕ)
     → i < length vs
@@ -67,7 +62,7 @@ each_memory-next front vs i d m within is =
     let more = each_memory (items_view (drop (i + 1) vs)) in
     ap (λ ds. with_front front (each_memory ds)) (items_view-drop vs i d within)
     ∙ ap (λ r. with_front front (r >>= λ first. more >>= λ others. Some (first ∷ others))) is
-    ∙ with_front-one front m more
+    ∙ with_front-more front m more
 
 -- where one isn't described, none are
 pub each_memory-none : (front : Contents) (vs : List Value) (i : ℕ) (d : Value)
