@@ -2,8 +2,10 @@ mod AddLemmas
 mod BufferLemmas
 mod CutLemmas
 mod EndingLemmas
+mod LessLemmas
 mod MarkLemmas
 pub mod MessageLemmas
+mod NumberLemmas
 mod PairLemmas
 mod PlaceLemmas
 mod RunLemmas
@@ -14,3 +16,4 @@ mod StoreLemmas
 mod StoredLemmas
 mod TestLemmas
 mod WholeLemmas
+mod WholeStoreLemmas

@@ -3,7 +3,7 @@ use Rattle.std.proofs.Common.{rules, ◌≡◌, ◌∙◌, ap, sym, subst, ℕ, 
 use Rattle.lpt_reception.specs.PartsOf.{IsMessageOf}
 use Rattle.lpt_reception.specs.Received.{Received, is_whole, spelled}
 use Rattle.lpt_reception.specs.Stored.{stored}
-use Rattle.lpt_reception.proofs.PlaceLemmas.{spelled_whole, message_whole}
+use Rattle.lpt_reception.proofs.WholeStoreLemmas.{spelled_whole, message_whole}
 use Rattle.lpt_reception.proofs.filling.Filling.joined.Goals as goal
 
 pub returns-clause-message : goal.returns-clause-message
