@@ -1,10 +1,12 @@
-//! Tests of `lpt_memory`, apart from it so that it is proved without them.
+//! Tests of `lpt_memory` and `lpt_jobs`, apart from them so that they are proved without them.
 #![tactic(auto)]
 
 #[cfg(test)]
 mod jobs;
 #[cfg(test)]
 mod pieces;
+#[cfg(test)]
+mod queues;
 #[cfg(test)]
 mod requests;
 #[cfg(test)]

@@ -1,0 +1,187 @@
+//! The queue.
+
+ghost use Rattle.std.specs.Prelude.{◌≡◌, ◌+◌, ◌<◌, ◌≤◌, ◌^◌, ◌∷◌, length, IsSome, IsTrue, OnOk};
+ghost use Rattle.std.specs.Option.{option_map, option_copied};
+ghost use Rattle.lpt_jobs.specs.declared.job.Mark.TheVariants.{Committed};
+ghost use Rattle.lpt_jobs.specs.Jobs.{no_jobs, numbered, job_at, unclaimed, is_claimed, head, head_of, is_ready, after_push, after_claim, after_commit, without_front, AreInOrder};
+
+use crate::Front;
+use crate::job::{Job, Mark};
+use lpt_memory::Reading;
+use lpt_packet::Octets;
+use std::alloc::{AllocError, Global};
+use std::collections::VecDeque;
+use std::marker::Model;
+
+/// The jobs that aren't executed yet, each with its message and how far it has come.
+#[derive(Debug, Drop)]
+pub struct JobQueue {
+    // The number of the job at the front, or of the next one where there is none.
+    first: u64,
+    // The oldest first.
+    jobs: VecDeque<Job>,
+    // How many at the front were claimed. All others wait.
+    claimed: usize,
+}
+
+impl Model for JobQueue {
+    ghost use Rattle.std.specs.Prelude.{◌-◌};
+    ghost use Rattle.std.specs.VecDeque.{deque_len, deque_capacity};
+    ghost use Rattle.lpt_jobs.specs.Jobs.{QueueView};
+    ghost use Rattle.lpt_jobs.specs.JobsInside.{IsKept};
+
+    ghost Value = { QueueView };
+
+    ghost view = { λ q. record {
+      at = record { first = q.first; jobs = q.jobs.items };
+      spare = deque_capacity q.jobs - deque_len q.jobs;
+    } };
+
+    ghost invariant = { λ q. IsKept q.first q.jobs.items q.claimed };
+}
+
+impl JobQueue {
+    /// No jobs, in a boot that hasn't numbered one. It takes no memory.
+    pub fn new(alloc: Global) -> JobQueue
+        ensures { result.at ≡ no_jobs }
+    {
+        JobQueue {
+            first: 0,
+            jobs: VecDeque::new(alloc),
+            claimed: 0,
+        }
+    }
+
+    /// How many jobs have got a number in this boot, executed ones among them. It is the number of
+    /// the next job.
+    pub fn numbered(&self) -> u64
+        ensures { result ≡ numbered self.now.at }
+    {
+        self.first + self.jobs.len() as u64
+    }
+
+    /// How many jobs aren't executed yet.
+    pub fn len(&self) -> usize
+        ensures { result ≡ length self.now.at.jobs }
+    {
+        self.jobs.len()
+    }
+
+    /// The number and the message of the oldest job that waits. `None` where none does.
+    pub fn unclaimed(&self) -> Option<(u64, &Octets)>
+        ensures value { option_map (λ x. (x.0, x.1.now)) result ≡ unclaimed self.now.at }
+
+        // Behind the oldest job that waits, all wait.
+        ensures order { AreInOrder self.now.at.jobs }
+    {
+        let job = self.jobs.get(self.claimed)?;
+        Some((self.first + self.claimed as u64, &job.message))
+    }
+
+    /// Whether the job of this number is claimed, and no reading of it committed. A number that no
+    /// job has now is answered with no.
+    pub fn is_claimed(&self, number: u64) -> bool
+        ensures { result ≡ is_claimed self.now.at number }
+    {
+        match self.job(number) {
+            Some(job) => matches!(&job.mark, Mark::Claimed),
+            None => false,
+        }
+    }
+
+    /// What stands at the front.
+    pub fn front(&self) -> Front<'_>
+        ensures { head result ≡ head_of self.now.at.jobs }
+    {
+        let Some(job) = self.jobs.front() else {
+            return Front::Empty;
+        };
+        match &job.mark {
+            Mark::Waiting => Front::NotReady,
+            Mark::Claimed => Front::NotReady,
+            Mark::Committed(reading) => Front::Ready(reading),
+        }
+    }
+
+    /// Makes room for one job more.
+    ///
+    /// Errors: want of memory alone. Then nothing has changed.
+    pub fn reserve(&mut self) -> Result<(), AllocError>
+        ensures ok { OnOk result (0 < self.new.spare) }
+        ensures same { self.new.at ≡ self.old.at }
+        ensures spare { self.old.spare ≤ self.new.spare }
+    {
+        self.jobs.reserve(1)
+    }
+
+    /// Adds the job of a released message, with the next number. It takes the room of one job, which
+    /// must be there, and no memory.
+    pub fn push_reserved(&mut self, message: Octets)
+        requires room { 0 < self.old.spare }
+        requires numbers { numbered self.old.at + 1 < 2 ^ 64 }
+        ensures at { self.new.at ≡ after_push self.old.at message }
+        ensures spare { self.new.spare + 1 ≡ self.old.spare }
+    {
+        self.jobs.push_back_reserved(Job {
+            message,
+            mark: Mark::Waiting,
+        });
+    }
+
+    /// Marks the oldest job that waits as claimed.
+    pub fn claim(&mut self)
+        requires { IsSome (unclaimed self.old.at) }
+        ensures at { self.new.at ≡ after_claim self.old.at }
+        ensures spare { self.new.spare ≡ self.old.spare }
+    {
+        self.jobs[self.claimed].mark = Mark::Claimed;
+        self.claimed += 1;
+    }
+
+    /// Commits a reading of the job of this number, which must be claimed.
+    pub fn commit(&mut self, number: u64, reading: Reading)
+        requires { IsTrue (is_claimed self.old.at number) }
+        ensures at { self.new.at ≡ after_commit self.old.at number reading }
+        ensures spare { self.new.spare ≡ self.old.spare }
+    {
+        let place = (number - self.first) as usize;
+        self.jobs[place].mark = Mark::Committed(reading);
+    }
+
+    /// Takes the job at the front out, which must be ready: its message and its reading.
+    pub fn pop_front(&mut self) -> (Octets, Reading)
+        requires { IsTrue (is_ready (head_of self.old.at.jobs)) }
+        ensures front { self.old.at.jobs
+            ≡ record { message = result.0; mark = Committed result.1 } ∷ self.new.at.jobs }
+        ensures at { self.new.at ≡ without_front self.old.at }
+        ensures spare { self.new.spare ≡ self.old.spare + 1 }
+    {
+        let Some(Job { message, mark }) = self.jobs.pop_front() else {
+            unreachable!()
+        };
+        let Mark::Committed(reading) = mark else {
+            unreachable!()
+        };
+        self.first += 1;
+        self.claimed -= 1;
+        (message, reading)
+    }
+
+    /// Drops all jobs, and begins their numbers at 0 again.
+    pub fn clear(&mut self)
+        ensures at { self.new.at ≡ no_jobs }
+        ensures spare { self.old.spare ≤ self.new.spare }
+    {
+        self.first = 0;
+        self.jobs.clear();
+        self.claimed = 0;
+    }
+
+    // The job of this number.
+    fn job(&self, number: u64) -> Option<&Job>
+        ensures { option_copied result ≡ job_at self.now.at number }
+    {
+        let place = number.checked_sub(self.first)?;
+        self.jobs.get(place as usize)
+    }
+}

@@ -1,0 +1,120 @@
+//! A queue of jobs, from release to execution.
+
+ghost use Rattle.std.specs.Prelude.{◌≡◌};
+ghost use Rattle.lpt_jobs.specs.Jobs.{head_of, is_ready};
+
+use crate::scenes::{memory, reading, request};
+use lpt_jobs::{Front, JobQueue, laws};
+use lpt_memory::Memories;
+use std::alloc::Global;
+use std::process::Abort;
+use std::test::Fail;
+
+/// The body of a check of two octets.
+const FIRST: [u8; 8] = [1, 1, 0, 0, 0, 0, 0, 2];
+
+/// The body of a check of the three octets behind them.
+const SECOND: [u8; 8] = [1, 1, 0, 0, 0, 2, 0, 3];
+
+// Adds the job of a check with this body. The answer is whether there was room for it.
+fn release(alloc: Global, queue: &mut JobQueue, body: &[u8]) -> Result<bool, Fail> {
+    let message = request(alloc, 9, body)?;
+    if queue.numbered() == u64::MAX || queue.reserve().is_err() {
+        return Ok(false);
+    }
+    queue.push_reserved(message);
+    Ok(true)
+}
+
+// Claims the oldest job that waits. The answer is its number.
+fn claim(queue: &mut JobQueue) -> Option<u64> {
+    let (number, _) = queue.unclaimed()?;
+    queue.claim();
+    Some(number)
+}
+
+// Commits the reading of a check with this body. The answer is whether the job was claimed.
+fn commit(
+    alloc: Global,
+    queue: &mut JobQueue,
+    memories: &Memories,
+    number: u64,
+    body: &[u8],
+) -> Result<bool, Fail> {
+    if !queue.is_claimed(number) {
+        return Ok(false);
+    }
+    let message = request(alloc, 9, body)?;
+    let reading = reading(alloc, memories, message)?;
+    queue.commit(number, reading);
+    Ok(true)
+}
+
+// Takes the job at the front out. The answer is whether it was ready, and a check with this body.
+fn pop(alloc: Global, queue: &mut JobQueue, body: &[u8]) -> Result<bool, Fail> {
+    let expected = request(alloc, 9, body)?;
+    if !front_is_ready(queue) {
+        return Ok(false);
+    }
+    let (message, _) = queue.pop_front();
+    Ok(message == expected)
+}
+
+// Whether the job at the front can be executed.
+fn front_is_ready(queue: &JobQueue) -> bool
+    ensures { result ≡ is_ready (head_of queue.now.at.jobs) }
+{
+    matches!(queue.front(), Front::Ready(_))
+}
+
+// Two jobs are claimed in order, read the other way round, and executed in order.
+fn run(
+    rt: &impl Abort,
+    alloc: Global,
+    queue: &mut JobQueue,
+    memories: &Memories,
+) -> Result<(), Fail> {
+    assert!(rt; release(alloc, queue, &FIRST)? && release(alloc, queue, &SECOND)?);
+    assert!(rt; queue.numbered() == 2 && queue.len() == 2);
+    let claims = (claim(queue), claim(queue), claim(queue));
+    assert!(rt; claims == (Some(0), Some(1), None));
+    assert!(rt; commit(alloc, queue, memories, 1, &SECOND)?);
+    assert!(rt; matches!(queue.front(), Front::NotReady));
+    assert!(rt; commit(alloc, queue, memories, 0, &FIRST)?);
+    assert!(rt; !commit(alloc, queue, memories, 0, &FIRST)?);
+    assert!(rt; pop(alloc, queue, &FIRST)? && pop(alloc, queue, &SECOND)?);
+    assert!(rt; matches!(queue.front(), Front::Empty));
+    assert!(rt; queue.numbered() == 2 && queue.len() == 0);
+    Ok(())
+}
+
+#[test]
+fn executes_jobs_in_the_order_of_their_release(rt: HostRuntime) -> Result<(), Fail> {
+    let memories = memory(rt.alloc(), 256)?;
+    let mut queue = JobQueue::new(rt.alloc());
+    run(&rt, rt.alloc(), &mut queue, &memories)
+}
+
+// A queue that is cleared numbers its jobs from 0 again.
+fn restart(rt: &impl Abort, alloc: Global, queue: &mut JobQueue) -> Result<(), Fail> {
+    assert!(rt; release(alloc, queue, &FIRST)? && release(alloc, queue, &SECOND)?);
+    assert!(rt; claim(queue) == Some(0));
+    queue.clear();
+    assert!(rt; queue.numbered() == 0 && queue.len() == 0 && !queue.is_claimed(0));
+    assert!(rt; release(alloc, queue, &SECOND)?);
+    assert!(rt; matches!(queue.front(), Front::NotReady));
+    assert!(rt; claim(queue) == Some(0));
+    Ok(())
+}
+
+#[test]
+fn numbers_jobs_from_0_again_once_it_is_cleared(rt: HostRuntime) -> Result<(), Fail> {
+    let mut queue = JobQueue::new(rt.alloc());
+    restart(&rt, rt.alloc(), &mut queue)
+}
+
+#[test]
+fn states_its_laws(_rt: HostRuntime) {
+    laws::claims_go_in_order();
+    laws::keeps_messages();
+}
