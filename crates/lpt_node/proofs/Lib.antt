@@ -1,4 +1,4 @@
 pub mod ArrivalLemmas
 pub mod BodyLemmas
 pub mod OutgoingLemmas
-pub mod TakenLemmas
+pub mod ReceiverLemmas

@@ -8,9 +8,7 @@ ghost use Rattle.lpt_node.specs.Receiving.{ignored, noted, parted};
 
 use crate::found::Sight;
 use crate::taken::Taken;
-use crate::taking::take;
 use crate::{Accepted, Node, Outcome, Parsed, TelemetryKind, Why};
-use lpt_ledger::State;
 use lpt_part::Part;
 use std::alloc::AllocError;
 
@@ -58,26 +56,18 @@ impl Node {
 
         ensures err { OnErr result (self.new.at ≡ self.old.at) }
     {
-        match self.receivers.state(part.id) {
-            State::Free => {}
-            State::Open => return Ok(ignored(Why::Closed)),
-            State::Closed => return Ok(ignored(Why::Closed)),
-        }
         let head = self.abort_head();
-        match take(self.alloc, &mut self.table, head, part, self.clock)? {
+        match self.receiver.accept(head, part, self.clock)? {
+            Taken::Closed => Ok(ignored(Why::Closed)),
             Taken::Kept => Ok(noted(Outcome::Kept(part.id, part.number))),
             Taken::Again => Ok(noted(Outcome::Again(part.id, part.number))),
             Taken::NoRoom => Ok(ignored(Why::NoRoom)),
-            Taken::Whole(message) => {
-                let _ = self.receivers.shut(part.id);
-                Ok(Accepted {
-                    outcome: Outcome::Released(part.id, message.as_slice().len() as u32),
-                    packet: None,
-                    released: Some(message),
-                })
-            }
+            Taken::Whole(message) => Ok(Accepted {
+                outcome: Outcome::Released(part.id, message.as_slice().len() as u32),
+                packet: None,
+                released: Some(message),
+            }),
             Taken::Broken(reason, packet) => {
-                let _ = self.receivers.shut(part.id);
                 if packet.is_some() {
                     self.counts.step_kind(TelemetryKind::Abort);
                 }

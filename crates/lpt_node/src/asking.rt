@@ -95,7 +95,7 @@ impl Node {
     fn refusal_expire(&self) -> Option<NodeFault>
         ensures { result ≡ refusal_expire self.now.config self.now.at }
     {
-        match self.table.due(self.clock) {
+        match self.receiver.due(self.clock) {
             None => Some(NodeFault::NothingDue),
             Some(_) => None,
         }

@@ -9,7 +9,8 @@ ghost use Rattle.lpt_events.specs.Arrivals.{part_subtype};
 ghost use Rattle.lpt_node.specs.Counting.{counter_of, service_of, subtype_of};
 ghost use Rattle.lpt_events.specs.MadePackets.{telemetry_made};
 ghost use Rattle.lpt_node.specs.Sending.{part_packet, part_telemetry};
-ghost use Rattle.lpt_node.specs.Receiving.{abort_head, abort_report};
+ghost use Rattle.lpt_node.specs.Receivers.{abort_report};
+ghost use Rattle.lpt_node.specs.Receiving.{abort_head};
 
 use crate::{Node, Side, TelemetryKind};
 use lpt_packet::{Name, Octets};

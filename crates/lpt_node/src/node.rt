@@ -8,10 +8,10 @@ ghost use Rattle.lpt_node.specs.Nodes.{new_node};
 
 use crate::counts::Counts;
 use crate::outgoing::Outgoing;
+use crate::receiver::Receiver;
 use crate::{Config, Side};
 use lpt_ledger::{Ledger, State};
 use lpt_packet::Name;
-use lpt_table::Table;
 use std::alloc::{AllocError, Global};
 use std::marker::Model;
 
@@ -19,7 +19,7 @@ use std::marker::Model;
 ///
 /// The sender's and the receiver's ledger know each transaction name as free, open or closed. The
 /// messages of open outgoing transactions are kept until these are closed. A receiver's name is
-/// closed when its reception ends, and is open in no ledger.
+/// closed when its reception ends.
 #[derive(Drop)]
 pub struct Node {
     pub(crate) alloc: Global,
@@ -28,8 +28,7 @@ pub struct Node {
     pub(crate) senders: Ledger,
     pub(crate) outgoing: Outgoing,
     pub(crate) counts: Counts,
-    pub(crate) receivers: Ledger,
-    pub(crate) table: Table,
+    pub(crate) receiver: Receiver,
     pub(crate) clock: u32,
 }
 
@@ -53,12 +52,12 @@ impl Model for Node {
           count = a.counts.count;
           types = a.counts.types;
         };
-        receiving = record { ledger = a.receivers; entries = a.table.entries };
+        receiving = record { ledger = a.receiver.ledger; entries = a.receiver.entries };
         clock = a.clock;
       };
     } };
 
-    ghost invariant = { λ a. IsSound a.config a.table a.outgoing };
+    ghost invariant = { λ a. IsSound a.config a.receiver a.outgoing };
 }
 
 impl Node {
@@ -67,18 +66,22 @@ impl Node {
         requires { IsConfig config.now }
         ensures { IfOk result (λ n. n ≡ new_node side config.now) }
     {
+        let Config {
+            part_size,
+            timeout,
+            receptions,
+            ..
+        } = *config;
         let senders = Ledger::new(alloc)?;
-        let receivers = Ledger::new(alloc)?;
-        let table = Table::new(alloc, config.receptions, config.timeout, config.part_size)?;
+        let receiver = Receiver::new(alloc, receptions, timeout, part_size)?;
         Ok(Node {
             alloc,
             side,
             config: *config,
             senders,
-            outgoing: Outgoing::new(alloc, config.part_size),
+            outgoing: Outgoing::new(alloc, part_size),
             counts: Counts::new(),
-            receivers,
-            table,
+            receiver,
             clock: config.clock,
         })
     }
@@ -101,6 +104,6 @@ impl Node {
     pub fn is_open_reception(&self, id: Name) -> bool
         ensures { result ≡ is_some (map.get self.now.at.receiving.entries id) }
     {
-        self.table.is_open(id)
+        self.receiver.is_open(id)
     }
 }

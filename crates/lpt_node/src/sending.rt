@@ -39,8 +39,10 @@ impl Node {
             Ok(()) => {}
             Err(message) => return Err((NodeFault::Memory, message)),
         }
-        let _ = self.senders.open(id);
-        Ok(())
+        match self.senders.open(id) {
+            Ok(()) => Ok(()),
+            Err(_) => unreachable!(),
+        }
     }
 
     /// Makes the packet that carries part `k` of an open message; parts are counted from 1.

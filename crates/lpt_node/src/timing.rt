@@ -4,9 +4,7 @@ ghost use Rattle.std.specs.Prelude.{◌≡◌, None, Some, IfOk, IfErr, OnOk, On
 ghost use Rattle.lpt_node.specs.Sending.{RefusedBy};
 ghost use Rattle.lpt_node.specs.Times.{refusal_tick, ticked, refusal_expire, expired};
 
-use crate::making::abort_report;
 use crate::{Expired, Node, NodeFault, TelemetryKind};
-use lpt_part::Reason;
 
 impl Node {
     /// Sets the clock one tick on.
@@ -45,15 +43,13 @@ impl Node {
         ensures refused { IfErr result (λ e. RefusedBy (refusal_expire self.old.config self.old.at) e) }
         ensures err { OnErr result (self.new.at ≡ self.old.at) }
     {
-        let Some(id) = self.table.due(self.clock) else {
+        let Some(id) = self.receiver.due(self.clock) else {
             return Err(NodeFault::NothingDue);
         };
         let head = self.abort_head();
-        let Ok(packet) = abort_report(self.alloc, head, id, Reason::Expired) else {
+        let Ok(packet) = self.receiver.expire(head, id) else {
             return Err(NodeFault::Memory);
         };
-        self.table.expire(id);
-        let _ = self.receivers.shut(id);
         if packet.is_some() {
             self.counts.step_kind(TelemetryKind::Abort);
         }
