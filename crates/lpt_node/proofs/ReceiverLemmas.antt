@@ -1,24 +1,27 @@
 -- What a receiver makes of a part, by what its table answered; names stay tied.
-use Rattle.std.proofs.Common.{◌≡◌, ◌∙◌, ap, sym, subst, refl, ℕ, Bool, true, false, cond, Option, Some, None, is_some, Result, Ok, Err}
+use Rattle.std.proofs.Common.{if◌then◌else◌, ◌≡◌, ◌∙◌, ap, sym, subst, refl, ℕ, Bool, true, false, cond, Option, Some, None, is_some, Result, Ok, Err}
 use Rattle.std.specs.Ordering.{nat_cmp}
 use Rattle.std.specs.Cmp.{nat_cmp_total, unsigned_tied}
 use Rattle.std.specs.FinMap as map
 use Rattle.std.specs.Result.{IfOk, OnOk, OnErr}
 use Rattle.lpt_packet.specs.Names.{Name, same_name}
 use Rattle.lpt_packet.proofs.NameLemmas.{same_name-true}
+use Rattle.lpt_part.specs.declared.reason.Reason.{Reason}
 use Rattle.lpt_part.specs.Parts.{Piece}
 use Rattle.lpt_pus.specs.Telemetry.{Telemetry}
 use Rattle.lpt_ledger.specs.declared.state.State.{State}
 use Rattle.lpt_ledger.specs.declared.state.State.TheVariants.{Free, Open, Closed}
 use Rattle.lpt_ledger.specs.Marks.{Marks, Shut}
 use Rattle.lpt_ledger.specs.States.{state_of, state_at, is_free}
-use Rattle.lpt_reception.specs.Received.{Received, Ended, BrokenOff, all_of, spelled}
+use Rattle.lpt_reception.specs.Received.{Received, Ended, BrokenOff, all_of, break_reason, is_whole, spelled}
 use Rattle.lpt_table.specs.Offering as offering
-use Rattle.lpt_table.specs.Offering.{OfferKind, TakesOut, offered, put_back, received_at}
+use Rattle.lpt_table.specs.Offering.{OfferKind, TakesOut, offered, parts_at, put_back, received_at, taken_out, with_entry}
+use Rattle.lpt_table.specs.declared.offer.Offer.TheVariants.{Memory}
+use Rattle.lpt_table.specs.Offers.{Offers}
 use Rattle.lpt_table.specs.Tables.{Entries, TableEntry, TableState, no_receptions}
 use Rattle.lpt_node.specs.declared.taken.Taken.{Taken}
 use Rattle.lpt_node.specs.declared.taken.Taken.TheVariants as taking
-use Rattle.lpt_node.specs.Receivers.{ReceiverState, IsTied, AllTied, IsReceiver, abort_report, after_offer, ended, if_free, kept_of, parts_with, received, received_from}
+use Rattle.lpt_node.specs.Receivers.{ReceiverState, IsTied, AllTied, IsReceiver, abort_report, after_offer, ended, grows, if_free, kept_of, parts_with, received, received_from}
 
 -- ---- names stay tied
 
@@ -184,6 +187,65 @@ module _ (head : Option Telemetry) (m : Marks) (old mid : TableState) (q : Piece
           (λ i. (view (a i) ((s ∙ ap (λ (t : TableState). record t { out = None }) out.now) i), is i))
           ∙ received-offered (offering.Conflict b.reason) e
       by_answer (Err x) a s is = tt
+
+-- ---- want of memory
+
+-- what holds of all results holds of errors
+on_err : {X E : Type 0} (r : Result X E) (P : Type 0) → P → OnErr r P
+on_err (Ok x) P p = tt
+on_err (Err x) P p = p
+
+module _ (head : Option Telemetry) (m : Marks) (old mid : TableState) (q : Piece) (now : ℕ)
+    (seen : ReceiverState) (is : view m old ≡ seen) (sound : IsReceiver m old)
+    (free : state_at m q.id ≡ Free) where
+  as_offered : (kind : OfferKind)
+      → offered old q.id q.number (kept_of q) now ≡ (kind, mid)
+      → grows (after_offer head (view m old) q.id (parts_with old q) kind mid.entries).1
+      ≡ grows (received head seen q now).1
+  as_offered kind e =
+      ap (λ (x : ReceiverState × Taken). grows x.1)
+      (received-offered head m old mid q now seen is sound free kind e)
+
+  -- a message is let out
+  pub grows-whole : {X E : Type 0} (r : Result X E)
+      → offered old q.id q.number (kept_of q) now ≡ (offering.Whole, mid)
+      → OnErr r (grows (received head seen q now).1 ≡ true)
+  grows-whole r e = on_err r _ (sym (as_offered offering.Whole e))
+
+  -- a report is made
+  pub grows-broken : {X E : Type 0} (r : Result X E) (reason : Reason)
+      → OnErr r (is_some (abort_report head q.id reason) ≡ true)
+      → offered old q.id q.number (kept_of q) now ≡ (offering.Conflict reason, mid)
+      → OnErr r (grows (received head seen q now).1 ≡ true)
+  grows-broken (Ok x) reason made e = tt
+  grows-broken (Err x) reason made e = sym (as_offered (offering.Conflict reason) e) ∙ made
+
+  -- what an offer comes to, by the table's tests
+  abbrev made : (full contra again whole : Bool) → OfferKind × TableState
+  made full contra again whole =
+      if full then (offering.NoRoom, old)
+      else if contra then (offering.Conflict break_reason, taken_out old q.id)
+      else if again then (offering.Again, with_entry old q.id (parts_at old q.id) now)
+      else if whole then (offering.Whole, taken_out old q.id)
+      else (offering.Kept, with_entry old q.id (parts_with old q) now)
+
+  abbrev grows_as : OfferKind × TableState → Bool
+  grows_as o = grows (received_from head (view m old) q.id (parts_with old q) o).1
+
+  kept_or_whole : (whole : Bool) → grows_as (made false false false whole) ≡ true
+  kept_or_whole true = refl
+  kept_or_whole false = refl
+
+  -- a part is kept, or ends its message
+  pub grows-kept : Offers old q.id q.number (kept_of q) now Memory mid
+      → grows (received head seen q now).1 ≡ true
+  unfolding offered
+  grows-kept h =
+      let o = offered old q.id q.number (kept_of q) now in
+      sym (ap (λ (x : ReceiverState × Taken). grows x.1)
+      (received-offered head m old o.1 q now seen is sound free o.0 refl))
+      ∙ (λ i. grows_as (made (h.0 i) (h.1.0.agrees i) (is_some (h.1.0.absent i)) (is_whole (parts_with old q))))
+      ∙ kept_or_whole (is_whole (parts_with old q))
 
 -- ---- what always holds
 

@@ -1,5 +1,5 @@
 -- What receives at one end, and what it makes of a part that is delivered to it.
-use Rattle.std.specs.Prelude.{◌≡◌, ℕ, ◌≤◌, if◌then◌else◌, List, length, Option, Some, None, refl}
+use Rattle.std.specs.Prelude.{Bool, true, false, is_some, ◌≡◌, ℕ, ◌≤◌, if◌then◌else◌, List, length, Option, Some, None, refl}
 use Rattle.std.specs.Coded.{Coded, code_by, coded×, coded_ℕ}
 use Rattle.std.specs.FinMap as map
 use Rattle.lpt_packet.specs.Names.{Name}
@@ -124,6 +124,15 @@ pub record IsSameReceiver (old new : ReceiverState) : Type 0 where
   pub limit : new.limit ≡ old.limit
   pub timeout : new.timeout ≡ old.timeout
   pub p : new.p ≡ old.p
+
+-- whether memory is taken for it: a part is kept, a message let out, or a report made
+abbrev pub grows : Taken → Bool
+grows taking.Closed = false
+grows taking.Kept = true
+grows taking.Again = false
+grows taking.NoRoom = false
+grows (taking.Whole m) = true
+grows (taking.Broken reason packet) = is_some packet
 
 -- a message that was taken as whole is no longer than a packet
 abbrev pub IsShort : Taken → Type 0

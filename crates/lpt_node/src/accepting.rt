@@ -1,8 +1,8 @@
 //! Receiving packets.
 
-ghost use Rattle.std.specs.Prelude.{◌≡◌, IfOk, OnErr};
+ghost use Rattle.std.specs.Prelude.{◌≡◌, true, IfOk, OnErr};
 ghost use Rattle.lpt_part.specs.Parts.{piece};
-ghost use Rattle.lpt_node.specs.Accepting.{accepted, IsFor};
+ghost use Rattle.lpt_node.specs.Accepting.{accepted, grows, IsFor};
 ghost use Rattle.lpt_node.specs.Origins.{arrival_from};
 ghost use Rattle.lpt_node.specs.Receiving.{ignored, noted, parted};
 
@@ -25,6 +25,9 @@ impl Node {
         ensures side { self.new.side ≡ self.old.side }
         ensures config { self.new.config ≡ self.old.config }
 
+        // Memory is wanting only where a part is kept, a message released or a report made.
+        ensures memory { OnErr result
+            (grows (accepted self.old.side self.old.config self.old.at (arrival_from parsed.now)).1 ≡ true) }
         ensures err { OnErr result (self.new.at ≡ self.old.at) }
     {
         match parsed.sight() {
@@ -54,6 +57,8 @@ impl Node {
         ensures side { self.new.side ≡ self.old.side }
         ensures config { self.new.config ≡ self.old.config }
 
+        ensures memory { OnErr result
+            (grows (parted self.old.side self.old.config self.old.at (piece part.now)).1 ≡ true) }
         ensures err { OnErr result (self.new.at ≡ self.old.at) }
     {
         let head = self.abort_head();

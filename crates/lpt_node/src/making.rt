@@ -1,6 +1,6 @@
 //! The packets that a node makes.
 
-ghost use Rattle.std.specs.Prelude.{◌≡◌, [], IfOk};
+ghost use Rattle.std.specs.Prelude.{◌≡◌, [], true, is_some, IfOk, OnErr};
 ghost use Rattle.std.specs.Option.{option_map};
 ghost use Rattle.lpt_part.specs.Parts.{piece};
 ghost use Rattle.lpt_pus.specs.Telemetry.{telemetry, as_written};
@@ -105,7 +105,10 @@ pub(crate) fn abort_report(
     id: Name,
     reason: Reason,
 ) -> Result<Option<Octets>, AllocError>
-    ensures { IfOk result (λ o. o ≡ abort_report (option_map (λ h. as_written (telemetry h [])) head) id reason) }
+    ensures report { IfOk result (λ o. o ≡ abort_report (option_map (λ h. as_written (telemetry h [])) head) id reason) }
+
+    // Memory is taken for a report alone.
+    ensures memory { OnErr result (is_some (abort_report (option_map (λ h. as_written (telemetry h [])) head) id reason) ≡ true) }
 {
     match head {
         None => Ok(None),

@@ -13,7 +13,7 @@ ghost use Rattle.lpt_table.specs.Deadlines.{due_of};
 ghost use Rattle.lpt_table.specs.Offering.{put_back};
 ghost use Rattle.lpt_table.specs.Tables.{IsTableSize};
 ghost use Rattle.lpt_node.specs.declared.taken.Taken.TheVariants as taking;
-ghost use Rattle.lpt_node.specs.Receivers.{abort_report, ended, received, table_in, IsSameReceiver, IsShort};
+ghost use Rattle.lpt_node.specs.Receivers.{abort_report, ended, grows, received, table_in, IsSameReceiver, IsShort};
 
 use crate::making::abort_report;
 use crate::taken::Taken;
@@ -114,6 +114,9 @@ impl Receiver {
 
         ensures same { IsSameReceiver self.old self.new }
 
+        // Memory is wanting only where some is taken.
+        ensures memory { OnErr result
+            (grows (received (option_map (λ h. as_written (telemetry h [])) head) self.old (piece part.now) now).1 ≡ true) }
         ensures err { OnErr result (self.new ≡ self.old) }
     {
         if self.ledger.state(part.id) != State::Free {
@@ -154,6 +157,9 @@ impl Receiver {
 
         ensures same { IsSameReceiver self.old self.new }
 
+        // Memory is wanting only where a report is made.
+        ensures memory { OnErr result
+            (is_some (abort_report (option_map (λ h. as_written (telemetry h [])) head) id why.Expired) ≡ true) }
         ensures err { OnErr result (self.new ≡ self.old) }
     {
         let report = abort_report(self.alloc, head, id, Reason::Expired)?;
@@ -215,6 +221,8 @@ fn abort(
     ensures shut { OnOk result (ledger.new ≡ map.insert ledger.old id Shut) }
     ensures settled { OnOk result (table.new ≡ record table.old { out = None }) }
 
+    ensures memory { OnErr result
+        (is_some (abort_report (option_map (λ h. as_written (telemetry h [])) head) id broken.reason) ≡ true) }
     ensures unshut { OnErr result (ledger.new ≡ ledger.old) }
     ensures back { OnErr result (table.new ≡ put_back table.old broken.before) }
 {

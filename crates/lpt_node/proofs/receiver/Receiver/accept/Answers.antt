@@ -4,7 +4,7 @@ use Rattle.std.specs.Option.{option_map}
 use Rattle.lpt_part.specs.Parts.{piece}
 use Rattle.lpt_pus.specs.Telemetry.{telemetry, as_written}
 use Rattle.lpt_reception.specs.Received.{Ended, BrokenOff}
-use Rattle.lpt_node.proofs.ReceiverLemmas.{received-closed, received-kept, received-again, received-no_room, received-whole, received-broken, sound-kept, sound-out}
+use Rattle.lpt_node.proofs.ReceiverLemmas.{received-closed, received-kept, received-again, received-no_room, received-whole, received-broken, grows-kept, grows-whole, grows-broken, sound-kept, sound-out}
 use Rattle.lpt_node.proofs.receiver.Receiver.accept.Goals as goal
 
 pub returns-then-ne-clause-ok : goal.returns-then-ne-clause-ok
@@ -113,4 +113,34 @@ returns-in-Conflict-clause-ok c =
     c.in-Conflict.ensures.answer.2
     c.in-Conflict.broken
     c.abort.ensures.ok
+    c.in-Conflict.ensures.offered
+
+pub returns-in-Memory-clause-memory : goal.returns-in-Memory-clause-memory
+returns-in-Memory-clause-memory c =
+    grows-kept (option_map (λ h. as_written (telemetry h [])) c.args.head) c.self.inside.ledger c.self.inside.table c.offer.new.self
+    (piece c.args.part.now) c.args.now c.args.self.now
+    c.self.view_is
+    c.self.invariant
+    (search rules)
+    c.in-Memory.ensures.answer
+
+pub returns-in-Whole-clause-memory : goal.returns-in-Whole-clause-memory
+returns-in-Whole-clause-memory c =
+    grows-whole (option_map (λ h. as_written (telemetry h [])) c.args.head) c.self.inside.ledger c.self.inside.table c.offer.new.self
+    (piece c.args.part.now) c.args.now c.args.self.now
+    c.self.view_is
+    c.self.invariant
+    (search rules)
+    c.release.result
+    c.in-Whole.ensures.offered
+
+pub returns-in-Conflict-clause-memory : goal.returns-in-Conflict-clause-memory
+returns-in-Conflict-clause-memory c =
+    grows-broken (option_map (λ h. as_written (telemetry h [])) c.args.head) c.self.inside.ledger c.self.inside.table c.offer.new.self
+    (piece c.args.part.now) c.args.now c.args.self.now
+    c.self.view_is
+    c.self.invariant
+    (search rules)
+    c.abort.result c.in-Conflict.broken.reason
+    c.abort.ensures.memory
     c.in-Conflict.ensures.offered
