@@ -1,7 +1,5 @@
 -- What a receiver makes of a part, by what its table answered; names stay tied.
-use Rattle.std.proofs.Common.{if◌then◌else◌, ◌≡◌, ◌∙◌, ap, sym, subst, refl, ℕ, Bool, true, false, cond, Option, Some, None, is_some, Result, Ok, Err}
-use Rattle.std.specs.Ordering.{nat_cmp}
-use Rattle.std.specs.Cmp.{nat_cmp_total, unsigned_tied}
+use Rattle.std.proofs.Common.{nat_cmp, if◌then◌else◌, ◌≡◌, ◌∙◌, ap, sym, subst, refl, ℕ, Bool, true, false, cond, Option, Some, None, is_some, Result, Ok, Err}
 use Rattle.std.specs.FinMap as map
 use Rattle.std.specs.Result.{IfOk, OnOk, OnErr}
 use Rattle.lpt_packet.specs.Names.{Name, same_name}
@@ -19,21 +17,12 @@ use Rattle.lpt_table.specs.Offering.{OfferKind, TakesOut, offered, parts_at, put
 use Rattle.lpt_table.specs.declared.offer.Offer.TheVariants.{Memory}
 use Rattle.lpt_table.specs.Offers.{Offers}
 use Rattle.lpt_table.specs.Tables.{Entries, TableEntry, TableState, no_receptions}
+use Rattle.lpt_node.proofs.MapLemmas.{get_insert, get_remove}
 use Rattle.lpt_node.specs.declared.taken.Taken.{Taken}
 use Rattle.lpt_node.specs.declared.taken.Taken.TheVariants as taking
 use Rattle.lpt_node.specs.Receivers.{ReceiverState, IsTied, AllTied, IsReceiver, abort_report, after_offer, ended, grows, if_free, kept_of, parts_with, received, received_from}
 
 -- ---- names stay tied
-
-get_insert : {A : Type 0} (m : map.FinMap nat_cmp A) (id : Name) (x : A) (q : Name)
-    → map.get (map.insert m id x) q ≡ cond (same_name q id) (Some x) (map.get m q)
-get_insert m id x q =
-    map.get-insert nat_cmp_total m id x q ∙ ap (λ b. cond b (Some x) (map.get m q)) (unsigned_tied q id)
-
-get_remove : {A : Type 0} (m : map.FinMap nat_cmp A) (id q : Name)
-    → map.get (map.remove m id) q ≡ cond (same_name q id) None (map.get m q)
-get_remove m id q =
-    map.get-remove nat_cmp_total m id q ∙ ap (λ b. cond b None (map.get m q)) (unsigned_tied q id)
 
 -- a part was kept under a free name
 pub tied-insert : (m : Marks) (es : Entries) (id : Name) (e : TableEntry)

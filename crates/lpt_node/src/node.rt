@@ -1,10 +1,10 @@
 //! One end of the link.
 
-ghost use Rattle.std.specs.Prelude.{◌≡◌, IfOk, is_some};
+ghost use Rattle.std.specs.Prelude.{◌≡◌, IsTrue, IfOk, is_some};
 ghost use Rattle.std.specs.FinMap as map;
 ghost use Rattle.lpt_ledger.specs.States.{state_at};
 ghost use Rattle.lpt_events.specs.Configs.{IsConfig};
-ghost use Rattle.lpt_node.specs.Nodes.{new_node};
+ghost use Rattle.lpt_node.specs.Nodes.{new_node, is_open, message_at};
 
 use crate::counts::Counts;
 use crate::outgoing::Outgoing;
@@ -57,7 +57,7 @@ impl Model for Node {
       };
     } };
 
-    ghost invariant = { λ a. IsSound a.config a.receiver a.outgoing };
+    ghost invariant = { λ a. IsSound a.config a.senders a.receiver a.outgoing };
 }
 
 impl Node {
@@ -95,14 +95,20 @@ impl Node {
 
     /// The state of an outgoing transaction.
     pub fn sender(&self, id: Name) -> State
-        ensures { result ≡ state_at self.now.at.sending.ledger id }
+        ensures state { result ≡ state_at self.now.at.sending.ledger id }
+
+        // A message is kept exactly where the transaction is open.
+        ensures kept { is_some (message_at self.now.at id) ≡ is_open result }
     {
         self.senders.state(id)
     }
 
     /// Whether a reception of this name is open.
     pub fn is_open_reception(&self, id: Name) -> bool
-        ensures { result ≡ is_some (map.get self.now.at.receiving.entries id) }
+        ensures open { result ≡ is_some (map.get self.now.at.receiving.entries id) }
+
+        // The name of an open reception is free.
+        ensures free { IsTrue result → state_at self.now.at.receiving.ledger id ≡ State.Free }
     {
         self.receiver.is_open(id)
     }

@@ -1,6 +1,6 @@
 //! What receives at one end: the state of each name, and the open receptions.
 
-ghost use Rattle.std.specs.Prelude.{◌≡◌, [], true, None, is_some, IfSome, IsSomeAnd, IfOk, OnOk, OnErr};
+ghost use Rattle.std.specs.Prelude.{◌≡◌, [], true, IsTrue, None, is_some, IfSome, IsSomeAnd, IfOk, OnOk, OnErr};
 ghost use Rattle.std.specs.FinMap as map;
 ghost use Rattle.std.specs.Option.{option_map};
 ghost use Rattle.lpt_part.specs.declared.reason.Reason.TheVariants as why;
@@ -84,7 +84,10 @@ impl Receiver {
 
     /// Whether a reception of this name is open.
     pub(crate) fn is_open(&self, id: Name) -> bool
-        ensures { result ≡ is_some (map.get self.now.entries id) }
+        ensures open { result ≡ is_some (map.get self.now.entries id) }
+
+        // The name of an open reception is free.
+        ensures free { IsTrue result → state_at self.now.ledger id ≡ State.Free }
     {
         self.table.is_open(id)
     }
