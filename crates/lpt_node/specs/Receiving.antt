@@ -62,10 +62,16 @@ after_taken d id number (taking.Broken reason packet) =
 abbrev pub after_received : NodeData → Piece → ReceiverState × Taken → NodeData × Accepted
 after_received d q x = after_taken (with_receiver d x.0) q.id q.number x.1
 
--- the head of the next report of an abortion: the spacecraft makes it, and ground makes none
+-- the head of the next report of an abortion, by the counts and the clock: the spacecraft makes it, and
+-- ground makes none
+abbrev pub abort_head_at : Side → Config → (count : ℕ) → (types : List ℕ) → (clock : ℕ) → Option Telemetry
+abort_head_at Ground c count types clock = None
+abort_head_at Craft c count types clock =
+    Some (telemetry_made c count (counter_of types Abort) clock 13 16 [])
+
+-- the same, of an end
 abbrev pub abort_head : Side → Config → NodeData → Option Telemetry
-abort_head Ground c d = None
-abort_head Craft c d = Some (telemetry_made c d.sending.count (counter_of d.sending.types Abort) d.clock 13 16 [])
+abort_head side c d = abort_head_at side c d.sending.count d.sending.types d.clock
 
 -- a part is delivered: the end after it, and the answer
 abbrev pub parted : Side → Config → NodeData → Piece → NodeData × Accepted

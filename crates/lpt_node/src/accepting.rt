@@ -61,7 +61,8 @@ impl Node {
             (grows (parted self.old.side self.old.config self.old.at (piece part.now)).1 ≡ true) }
         ensures err { OnErr result (self.new.at ≡ self.old.at) }
     {
-        let head = self.abort_head();
+        let mut counts = self.counts;
+        let head = self.abort_head(&counts);
         match self.receiver.accept(head, part, self.clock)? {
             Taken::Closed => Ok(ignored(Why::Closed)),
             Taken::Kept => Ok(noted(Outcome::Kept(part.id, part.number))),
@@ -74,8 +75,9 @@ impl Node {
             }),
             Taken::Broken(reason, packet) => {
                 if packet.is_some() {
-                    self.counts.step_kind(TelemetryKind::Abort);
+                    counts.step_kind(TelemetryKind::Abort);
                 }
+                self.counts = counts;
                 Ok(Accepted {
                     outcome: Outcome::Broken(part.id, reason),
                     packet,

@@ -49,13 +49,15 @@ impl Node {
         let Some(id) = self.receiver.due(self.clock) else {
             return Err(NodeFault::NothingDue);
         };
-        let head = self.abort_head();
+        let mut counts = self.counts;
+        let head = self.abort_head(&counts);
         let Ok(packet) = self.receiver.expire(head, id) else {
             return Err(NodeFault::Memory);
         };
         if packet.is_some() {
-            self.counts.step_kind(TelemetryKind::Abort);
+            counts.step_kind(TelemetryKind::Abort);
         }
+        self.counts = counts;
         Ok(Expired { id, packet })
     }
 }
