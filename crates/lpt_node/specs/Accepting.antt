@@ -30,17 +30,17 @@ pub record IsFor (n : NodeView) (o : Origin) : Type 0 where
   pub apid : o.apid ≡ n.config.apid
   pub p : o.p ≡ n.config.part_size
 
--- whether memory is taken for an outcome: a part is kept, or a message released
-abbrev pub keeps_or_releases : Outcome → Bool
-keeps_or_releases (outcome.Kept id number) = true
-keeps_or_releases (outcome.Again id number) = false
-keeps_or_releases (outcome.Released id len) = true
-keeps_or_releases (outcome.PlainReleased len) = true
-keeps_or_releases (outcome.ReportNoted service subtype) = false
-keeps_or_releases (outcome.AbortNoted id reason) = false
-keeps_or_releases (outcome.Broken id reason) = false
-keeps_or_releases (outcome.Ignored w) = false
+-- whether memory is taken for an outcome: a part is kept, or a message joined
+abbrev pub keeps_or_joins : Outcome → Bool
+keeps_or_joins (outcome.Kept id number) = true
+keeps_or_joins (outcome.Again id number) = false
+keeps_or_joins (outcome.Released id len) = true
+keeps_or_joins (outcome.PlainReleased len) = false
+keeps_or_joins (outcome.ReportNoted service subtype) = false
+keeps_or_joins (outcome.AbortNoted id reason) = false
+keeps_or_joins (outcome.Broken id reason) = false
+keeps_or_joins (outcome.Ignored w) = false
 
 -- whether memory is taken for an answer: for its outcome, or for a report
 abbrev pub grows : Accepted → Bool
-grows r = keeps_or_releases r.outcome || is_some r.packet
+grows r = keeps_or_joins r.outcome || is_some r.packet

@@ -1,6 +1,6 @@
 //! Receiving packets.
 
-ghost use Rattle.std.specs.Prelude.{◌≡◌, true, IfOk, OnErr};
+ghost use Rattle.std.specs.Prelude.{◌≡◌, true, IfOk, IfErr, OnErr};
 ghost use Rattle.lpt_part.specs.Parts.{piece};
 ghost use Rattle.lpt_node.specs.Accepting.{accepted, grows, IsFor};
 ghost use Rattle.lpt_node.specs.Origins.{arrival_from};
@@ -16,32 +16,41 @@ impl Node {
     /// Takes a packet that was delivered to this end, and answers what became of it.
     ///
     /// A part is kept until all parts of its message are there; then the message is released. The
-    /// only error is want of memory, and then nothing has changed.
-    pub fn accept(&mut self, parsed: &Parsed) -> Result<Accepted, AllocError>
-        requires { IsFor self.old parsed.now }
+    /// octets of a plain request are handed on as they are.
+    ///
+    /// The only error is want of memory. The packet is handed back then, and nothing has changed.
+    pub fn accept(&mut self, parsed: Parsed) -> Result<Accepted, Parsed>
+        requires { IsFor self.old parsed }
         ensures ok { IfOk result (λ r. (self.new.at, r)
-            ≡ accepted self.old.side self.old.config self.old.at (arrival_from parsed.now)) }
+            ≡ accepted self.old.side self.old.config self.old.at (arrival_from parsed)) }
 
         ensures side { self.new.side ≡ self.old.side }
         ensures config { self.new.config ≡ self.old.config }
 
-        // Memory is wanting only where a part is kept, a message released or a report made.
+        // Memory is wanting only where a part is kept, a message joined or a report made.
         ensures memory { OnErr result
-            (grows (accepted self.old.side self.old.config self.old.at (arrival_from parsed.now)).1 ≡ true) }
+            (grows (accepted self.old.side self.old.config self.old.at (arrival_from parsed)).1 ≡ true) }
+        ensures back { IfErr result (λ p. p ≡ parsed) }
         ensures err { OnErr result (self.new.at ≡ self.old.at) }
     {
         match parsed.sight() {
             Sight::Unreadable => Ok(ignored(Why::Unreadable)),
             Sight::Idle => Ok(ignored(Why::Idle)),
             Sight::Foreign => Ok(ignored(Why::ForeignApid)),
-            Sight::Request(octets) => Ok(Accepted {
-                outcome: Outcome::PlainReleased(octets.as_slice().len() as u32),
-                packet: None,
-                released: Some(octets.copy()?),
-            }),
+            Sight::Request => {
+                let octets = parsed.into_octets();
+                Ok(Accepted {
+                    outcome: Outcome::PlainReleased(octets.as_slice().len() as u32),
+                    packet: None,
+                    released: Some(octets),
+                })
+            }
             Sight::Report(service, subtype) => Ok(noted(Outcome::ReportNoted(service, subtype))),
             Sight::BadPart => Ok(ignored(Why::BadPart)),
-            Sight::Part(part) => self.accept_part(&part),
+            Sight::Part(part) => match self.accept_part(&part) {
+                Ok(accepted) => Ok(accepted),
+                Err(AllocError) => Err(parsed),
+            },
             Sight::Abort(id, reason) => {
                 self.close(id);
                 Ok(noted(Outcome::AbortNoted(id, reason)))
