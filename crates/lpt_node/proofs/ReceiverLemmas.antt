@@ -256,9 +256,9 @@ pub sound-out : {X E : Type 0} (r : Result X E) (m after : Marks) (old mid new :
     → OnOk r (after ≡ map.insert m id Shut)
     → OnOk r (new ≡ record mid { out = None })
     → OnErr r (after ≡ m)
-    → OnErr r (new ≡ put_back mid before)
+    → OnErr r (new ≡ put_back mid id before.parts)
     → before ≡ received_at old id
-    → put_back mid (received_at old id) ≡ old
+    → put_back mid id (parts_at old id) ≡ old
     → IsReceiver after new
 sound-out (Ok x) m after old mid new id before sound out a b c d is law =
     let table : new ≡ record old { entries = map.remove old.entries id; out = None } =
@@ -267,7 +267,7 @@ sound-out (Ok x) m after old mid new id before sound out a b c d is law =
     (subst (λ (m : Marks). IsReceiver m (record old { entries = map.remove old.entries id; out = None }))
     (sym a) (record { settled = refl; tied = tied-ended m old.entries id sound.tied }))
 sound-out (Err x) m after old mid new id before sound out a b c d is law =
-    subst (λ (t : TableState). IsReceiver after t) (sym (d ∙ ap (put_back mid) is ∙ law))
+    subst (λ (t : TableState). IsReceiver after t) (sym (d ∙ ap (λ (s : Received). put_back mid id s.parts) is ∙ law))
     (subst (λ (m : Marks). IsReceiver m old) (sym c) sound)
 
 -- what came out is put back
@@ -275,13 +275,13 @@ pub put_back-same : {X E : Type 0} (r : Result X E) (m after : Marks) (old mid n
     (id : Name) (before : Received) (seen : ReceiverState)
     → view m old ≡ seen
     → OnErr r (after ≡ m)
-    → OnErr r (new ≡ put_back mid before)
+    → OnErr r (new ≡ put_back mid id before.parts)
     → before ≡ received_at old id
-    → put_back mid (received_at old id) ≡ old
+    → put_back mid id (parts_at old id) ≡ old
     → OnErr r (view after new ≡ seen)
 put_back-same (Ok x) m after old mid new id before seen v a b is law = tt
 put_back-same (Err x) m after old mid new id before seen v a b is law =
-    (λ i. view (a i) ((b ∙ ap (put_back mid) is ∙ law) i)) ∙ v
+    (λ i. view (a i) ((b ∙ ap (λ (s : Received). put_back mid id s.parts) is ∙ law) i)) ∙ v
 
 -- a reception ended for its age
 pub sound-expired : (m after : Marks) (old new : TableState) (id : Name)

@@ -190,7 +190,7 @@ fn release(
     ensures short { IfOk result IsShort }
 
     ensures unshut { OnErr result (ledger.new ≡ ledger.old) }
-    ensures back { OnErr result (table.new ≡ put_back table.old whole.before) }
+    ensures back { OnErr result (table.new ≡ put_back table.old id whole.before.parts) }
 {
     match whole.release() {
         Ok(message) => {
@@ -199,7 +199,7 @@ fn release(
             Ok(Taken::Whole(message))
         }
         Err(whole) => {
-            table.put_back(whole.back());
+            table.put_back(id, whole.back());
             Err(AllocError)
         }
     }
@@ -227,7 +227,7 @@ fn abort(
     ensures memory { OnErr result
         (is_some (abort_report (option_map (λ h. as_written (telemetry h [])) head) id broken.reason) ≡ true) }
     ensures unshut { OnErr result (ledger.new ≡ ledger.old) }
-    ensures back { OnErr result (table.new ≡ put_back table.old broken.before) }
+    ensures back { OnErr result (table.new ≡ put_back table.old id broken.before.parts) }
 {
     match abort_report(alloc, head, id, broken.reason()) {
         Ok(report) => {
@@ -237,7 +237,7 @@ fn abort(
             Ok(Taken::Broken(reason, report))
         }
         Err(AllocError) => {
-            table.put_back(broken.back());
+            table.put_back(id, broken.back());
             Err(AllocError)
         }
     }
