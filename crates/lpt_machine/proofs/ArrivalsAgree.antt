@@ -19,7 +19,8 @@ use Rattle.lpt_events.specs.declared.config.Config.{Config}
 use Rattle.lpt_events.specs.declared.side.Side.{Side}
 use Rattle.lpt_events.specs.Arrivals.{NotRead}
 use Rattle.lpt_node.specs.Nodes.{NodeData}
-use Rattle.lpt_node.specs.Receiving.{taken, taken_from, after_take, by_state, abort_head, table_of, parted}
+use Rattle.lpt_node.specs.Receivers.{ReceiverState, table_in, received, received_from, if_free}
+use Rattle.lpt_node.specs.Receiving.{after_received, receiver_of, abort_head, parted}
 use Rattle.lpt_reception.specs.Received.{Parts, contradicts, break_reason, is_whole}
 use Rattle.lpt_table.specs.Offering.{OfferKind, Kept, Again, Whole, Conflict, NoRoom, offered, is_full, parts_at, taken_out, with_entry}
 use Rattle.lpt_table.specs.Tables.{TableState}
@@ -47,36 +48,38 @@ made_of full contra again whole t id before with_it now =
     else if whole then (Whole, taken_out t id)
     else (Kept, with_entry t id with_it now)
 
--- the receiver after a part, and its answer, by all tests
+-- the end after a part, and its answer, by all tests
 abbrev pub delivery : (closed full contra again whole : Bool)
     → Option Telemetry
     → NodeData
-    → TableState
+    → ReceiverState
     → Piece
     → (before with_it : Parts)
     → NodeData × Accepted
-delivery closed full contra again whole head d t q before with_it =
-    by_state (state_of (closed_mark closed)) d
-    (after_take d q
-    (taken_from head q.id with_it (made_of full contra again whole t q.id before with_it d.clock)))
+delivery closed full contra again whole head d r q before with_it =
+    after_received d q
+    (if_free (state_of (closed_mark closed)) r
+    (received_from head r q.id with_it
+    (made_of full contra again whole (table_in r) q.id before with_it d.clock)))
 
--- the receiver's step goes by the tests
+-- the end's step goes by the tests
 part_delivered : (side : Side) (c : Config) (d : NodeData) (q : Piece) (closed full : Bool)
     (before : Parts)
     → maps.get d.receiving.ledger q.id ≡ closed_mark closed
-    → is_full (table_of c d.receiving.entries) q.id ≡ full
-    → parts_at (table_of c d.receiving.entries) q.id ≡ before
+    → is_full (table_in (receiver_of c d.receiving)) q.id ≡ full
+    → parts_at (table_in (receiver_of c d.receiving)) q.id ≡ before
     → parted side c d q
     ≡ delivery closed full (contradicts before q.number (kept q))
     (is_some (maps.get before q.number)) (is_whole (with_piece before q)) (abort_head side c d) d
-    (table_of c d.receiving.entries) q before (with_piece before q)
-unfolding taken offered
+    (receiver_of c d.receiving) q before (with_piece before q)
+unfolding received offered
 part_delivered side c d q closed full before e1 e2 e3 =
-    λ i. by_state (state_of (e1 i)) d
-    (after_take d q (taken_from (abort_head side c d) q.id (with_piece (e3 i) q)
+    let r = receiver_of c d.receiving in
+    λ i. after_received d q
+    (if_free (state_of (e1 i)) r
+    (received_from (abort_head side c d) r q.id (with_piece (e3 i) q)
     (made_of (e2 i) (contradicts (e3 i) q.number (kept q)) (is_some (maps.get (e3 i) q.number))
-    (is_whole (with_piece (e3 i) q)) (table_of c d.receiving.entries) q.id (e3 i)
-    (with_piece (e3 i) q) d.clock)))
+    (is_whole (with_piece (e3 i) q)) (table_in r) q.id (e3 i) (with_piece (e3 i) q) d.clock)))
 
 -- the same, by what the journal says of the part's transaction
 abbrev pub delivery_told : Config → History → Direction → NodeData → Piece → NodeData × Accepted
@@ -85,7 +88,7 @@ delivery_told c h w d q =
     delivery (is_closed h w q.id)
     (not (has_parts s) && nat_le c.receptions (reception_count c h w))
     (contradicts s q.number (kept q)) (is_some (maps.get s q.number)) (is_whole (with_piece s q))
-    (abort_head (receiver_side w) c d) d (table_of c d.receiving.entries) q s (with_piece s q)
+    (abort_head (receiver_side w) c d) d (receiver_of c d.receiving) q s (with_piece s q)
 
 pub part_agrees : (c : Config) (h : History) (w : Direction) (d : NodeData) (q : Piece)
     → ShowsReceiving d.receiving (receiving_view c h w)

@@ -20,7 +20,7 @@ use Rattle.lpt_events.specs.declared.side.Side.TheVariants.{Ground}
 use Rattle.lpt_node.specs.Accepting.{accepted}
 use Rattle.lpt_events.specs.Arrivals.{Arrival, NotRead, AnIdle, Foreign, ARequest, AReport, NoPart, APart, AnAbort}
 use Rattle.lpt_node.specs.Nodes.{NodeData, Receiving}
-use Rattle.lpt_node.specs.Receiving.{abort_head, table_of}
+use Rattle.lpt_node.specs.Receiving.{abort_head, receiver_of}
 use Rattle.lpt_reception.specs.Received.{contradicts, is_whole, spelled}
 use Rattle.lpt_events.specs.declared.event.Event.TheVariants.{Deliver}
 use Rattle.lpt_events.specs.declared.reply.Answer.TheVariants.{Delivered}
@@ -149,7 +149,7 @@ PartShown c h s hands w q closed full contra again whole =
     Shows
     (received_as (length h) w s
     (delivery closed full contra again whole (abort_head (receiver_side w) c d) d
-    (table_of c d.receiving.entries) q parts with_it))
+    (receiver_of c d.receiving) q parts with_it))
     (outcome_view c h w hands (APart q)
     (chosen closed full contra again whole q (length (spelled with_it))))
 

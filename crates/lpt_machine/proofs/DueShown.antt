@@ -10,7 +10,8 @@ use Rattle.lpt_table.specs.Tables.{TableEntry}
 use Rattle.lpt_table.proofs.DueLemmas.{due_of_is, due_unique}
 use Rattle.lpt_events.specs.declared.config.Config.{Config}
 use Rattle.lpt_node.specs.Nodes.{Receiving}
-use Rattle.lpt_node.specs.Receiving.{table_of}
+use Rattle.lpt_node.specs.Receivers.{table_in}
+use Rattle.lpt_node.specs.Receiving.{receiver_of}
 use Rattle.lpt_journal.specs.Due.{is_overdue, due}
 use Rattle.lpt_events.specs.Sides.{receiver_side, direction_to}
 use Rattle.lpt_events.specs.declared.side.Side.{Side}
@@ -60,7 +61,7 @@ module _ (c : Config) (h : History) (d : Direction) (v : Receiving) (now : ℕ)
 
   is_due : (o : Option Name)
       → Earliest (last_tick c h d) (overdue_names c h d) o
-      → IsDue (table_of c v.entries) now o
+      → IsDue (table_in (receiver_of c v)) now o
   is_due None none = λ id e g late.
       let yes = overdue_shown id e g late in
       let no : list_any (same_name id) (overdue_names c h d) ≡ false = none id in
@@ -88,10 +89,10 @@ module _ (c : Config) (h : History) (d : Direction) (v : Receiving) (now : ℕ)
       )
 
   -- the table's reception that is due is the journal's
-  due_agrees : due_of (table_of c v.entries) now ≡ due c h d
+  due_agrees : due_of (table_in (receiver_of c v)) now ≡ due c h d
   due_agrees =
-      due_unique (table_of c v.entries) now (due_of (table_of c v.entries) now) (due c h d)
-      (due_of_is (table_of c v.entries) now)
+      due_unique (table_in (receiver_of c v)) now (due_of (table_in (receiver_of c v)) now) (due c h d)
+      (due_of_is (table_in (receiver_of c v)) now)
       (is_due (due c h d) (earliest_is (last_tick c h d) (overdue_names c h d)))
 
 -- what is due at an end is what the journal says

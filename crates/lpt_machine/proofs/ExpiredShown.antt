@@ -15,7 +15,7 @@ use Rattle.lpt_machine.specs.Shows.{Shows}
 use Rattle.lpt_machine.specs.State.{State, end_of, expired_on}
 use Rattle.lpt_machine.specs.Views.{views}
 use Rattle.lpt_machine.proofs.Fields.{with_receiving}
-use Rattle.lpt_machine.proofs.ReceivingShown.{given_up_shown}
+use Rattle.lpt_machine.proofs.ReceivingShown.{ended_shown}
 use Rattle.lpt_machine.proofs.ReportShown.{report_shown}
 
 -- the journal with the end of a reception, or of none
@@ -36,6 +36,6 @@ pub expired_shown : (c : Config) (s : State) (h : History) (side : Side) (p : Op
     (views c (with_expiry c h side o p))
 expired_shown c s h side p None some k = absurd cc
 expired_shown c s h Ground p (Some id) some k =
-    with_receiving Ground k (given_up_shown id k.ground.receiving)
+    with_receiving Ground k (ended_shown id k.ground.receiving)
 expired_shown c s h Craft p (Some id) some k =
-    report_shown c id reason.Expired (with_receiving Craft k (given_up_shown id k.craft.receiving))
+    report_shown c id reason.Expired (with_receiving Craft k (ended_shown id k.craft.receiving))

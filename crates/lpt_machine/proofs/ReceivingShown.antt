@@ -8,11 +8,10 @@ use Rattle.lpt_packet.proofs.NameLemmas.{same_name-true}
 use Rattle.lpt_packet.proofs.Readings.{true_eq, eq_true, eq_false}
 use Rattle.lpt_part.specs.Parts.{Piece}
 use Rattle.lpt_ledger.specs.Marks.{Shut}
-use Rattle.lpt_ledger.specs.States.{state_of, state_at}
 use Rattle.lpt_events.specs.declared.config.Config.{Config}
 use Rattle.lpt_node.specs.Nodes.{Receiving}
-use Rattle.lpt_node.specs.Receiving.{table_of}
-use Rattle.lpt_node.specs.Times.{shut_by}
+use Rattle.lpt_node.specs.Receivers.{table_in}
+use Rattle.lpt_node.specs.Receiving.{receiver_of}
 use Rattle.lpt_reception.specs.Received.{Parts, no_parts}
 use Rattle.lpt_table.specs.Offering.{is_full, parts_at, parts_of}
 use Rattle.lpt_table.specs.Tables.{TableEntry}
@@ -48,13 +47,13 @@ is_some-entry_of s last = go (record { parts = s; last = last }) (has_parts s) w
 -- the parts under a name are those that the journal says were kept
 pub parts_shown : {x : Receiving} {y : ReceivingView} (c : Config) (id : Name)
     → ShowsReceiving x y
-    → parts_at (table_of c x.entries) id ≡ y.parts id
+    → parts_at (table_in (receiver_of c x)) id ≡ y.parts id
 parts_shown {y = y} c id k = ap parts_of (k.entries id) ∙ parts_of-entry_of (y.parts id) (y.last id)
 
 -- the table is full for a name where the journal says that there is no room
 pub full_shown : {x : Receiving} (c : Config) (h : History) (d : Direction) (id : Name)
     → ShowsReceiving x (receiving_view c h d)
-    → is_full (table_of c x.entries) id
+    → is_full (table_in (receiver_of c x)) id
     ≡ (not (has_parts (heard c h d id)) && nat_le c.receptions (reception_count c h d))
 full_shown {x = x} c h d id k =
     let there : (q : Name) → is_some (maps.get x.entries q) ≡ has_parts (heard c h d q) =
@@ -178,31 +177,3 @@ ended_shown {x = x} {y = y} n k = record {
       sym (ap (λ t. if t then Some (record { parts = no_parts; last = y.last id }) else None)
       none_open)
   go id false = refl
-
--- a reception was given up for its age; its name may have been closed already
-pub given_up_shown : {x : Receiving} {y : ReceivingView} (n : Name)
-    → ShowsReceiving x y
-    → ShowsReceiving
-    (record {
-      ledger = shut_by (state_at x.ledger n) x.ledger n;
-      entries = maps.remove x.entries n;
-    })
-    (ended_view y n)
-given_up_shown {x = x} {y = y} n k = record {
-  ledger = λ id.
-      (λ i. maps.get (shut_by (state_of (k.ledger n i)) x.ledger n) id) ∙ go id (y.closed n) refl;
-  entries = (ended_shown n k).entries;
-} where
-  still : (id : Name) (t : Bool)
-      → same_name n id ≡ t
-      → y.closed n ≡ true
-      → closed_mark (y.closed id) ≡ closed_mark (t || y.closed id)
-  still id true d e = ap closed_mark (ap y.closed (sym (same_name-true n id d)) ∙ e)
-  still id false d e = refl
-
-  go : (id : Name) (t : Bool)
-      → y.closed n ≡ t
-      → maps.get (shut_by (state_of (closed_mark t)) x.ledger n) id
-      ≡ closed_mark (same_name n id || y.closed id)
-  go id true e = k.ledger id ∙ still id (same_name n id) refl e
-  go id false e = (ended_shown n k).ledger id

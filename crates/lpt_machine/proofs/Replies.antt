@@ -23,10 +23,10 @@ use Rattle.lpt_events.specs.Lanes.{lane_direction}
 use Rattle.lpt_events.specs.Sides.{receiver_side, direction_to}
 use Rattle.lpt_node.specs.Accepting.{accepted}
 use Rattle.lpt_node.specs.Nodes.{NodeData}
-use Rattle.lpt_node.specs.Receiving.{abort_head, abort_report, table_of}
+use Rattle.lpt_node.specs.Receivers.{ReceiverState, abort_report}
+use Rattle.lpt_node.specs.Receiving.{abort_head, receiver_of}
 use Rattle.lpt_node.specs.Times.{expired_of}
 use Rattle.lpt_reception.specs.Received.{Parts, contradicts, is_whole, spelled}
-use Rattle.lpt_table.specs.Tables.{TableState}
 use Rattle.lpt_journal.specs.Delivery.{judged, outcome}
 use Rattle.lpt_journal.specs.Due.{due}
 use Rattle.lpt_journal.specs.Journal.{History, SentPacket}
@@ -78,7 +78,7 @@ reply_to n x = put_some n (Delivered x.1.outcome) (as_list x.1.packet)
 abbrev reply_told : Config → History → Side → ℕ → Outcome → Reply
 reply_told c h side n o = reply_with n (Delivered o) (outcome_puts c h side o)
 
-told_part : (c : Config) (h : History) (side : Side) (n : ℕ) (d : NodeData) (t : TableState)
+told_part : (c : Config) (h : History) (side : Side) (n : ℕ) (d : NodeData) (t : ReceiverState)
     (q : Piece) (before with_it : Parts) (closed full contra again whole : Bool)
     → reply_to n
     (delivery closed full contra again whole (abort_head side c d) d t q before with_it)
@@ -106,7 +106,7 @@ reply_delivered c h w d n own (AnAbort id r) = refl
 reply_delivered c h w d n own (APart q) =
     let s = heard c h w q.id in
     ap (reply_to n) (part_agrees c h w d q own)
-    ∙ told_part c h (receiver_side w) n d (table_of c d.receiving.entries) q s (with_piece s q)
+    ∙ told_part c h (receiver_side w) n d (receiver_of c d.receiving) q s (with_piece s q)
     (is_closed h w q.id) (not (has_parts s) && nat_le c.receptions (reception_count c h w))
     (contradicts s q.number (kept q)) (is_some (maps.get s q.number)) (is_whole (with_piece s q))
 

@@ -1,4 +1,6 @@
 pub mod ArrivalLemmas
 pub mod BodyLemmas
+pub mod MapLemmas
 pub mod OutgoingLemmas
-pub mod TakenLemmas
+pub mod ReceiverLemmas
+pub mod SenderLemmas

@@ -146,34 +146,18 @@ IsOutgoing-without p id os s = record {
 
 -- ---- a message is added
 
--- without the messages of a name there is none
-pub none-without : (id : ℕ) (os : List OpenMessage) → map.find nat_cmp id (mapped named (without id os)) ≡ None
-none-without id os = named-without id id os ∙ same (id == id) _ (grind (arith, nat_tests))
-  where
-    same : (b : Bool) (x : Option (List ℕ)) → b ≡ true → cond b None x ≡ None
-    same true x e = refl
-    same false x e = cc
-
 map-end : (os : List OpenMessage) (o : OpenMessage) → mapped named (os ++ o ∷ []) ≡ mapped named os ++ named o ∷ []
 map-end [] o = refl
 map-end (x ∷ os) o = ap (λ es. named x ∷ es) (map-end os o)
 
--- to put a message in the place of those of its name is to insert it
+-- to add a message of a new name is to insert it
 pub messages_of-insert : (os : List OpenMessage) (o : OpenMessage)
-    → messages_of (without o.id os ++ o ∷ []) ≡ map.insert (messages_of os) o.id o.message
-messages_of-insert os o =
-    ap map.from_entries (map-end (without o.id os) o)
-    ∙ map.from_entries_push nat_cmp_total map.nat_cmp-IsAntisymmetric (mapped named (without o.id os)) o.id o.message (none-without o.id os)
-    ∙ ap (λ m. map.insert m o.id o.message) (messages_of-without o.id os)
-    ∙ map.same_map nat_cmp_total map.nat_cmp-IsAntisymmetric _ _
-    (λ q. map.get-insert nat_cmp_total (map.remove (messages_of os) o.id) o.id o.message q
-    ∙ ap (λ x. cond (eq_by_cmp nat_cmp q o.id) (Some o.message) x) (map.get-remove nat_cmp_total (messages_of os) o.id q)
-    ∙ twice (eq_by_cmp nat_cmp q o.id) (Some o.message) (map.get (messages_of os) q)
-    ∙ sym (map.get-insert nat_cmp_total (messages_of os) o.id o.message q))
-  where
-    twice : (b : Bool) (x y : Option (List ℕ)) → cond b x (cond b None y) ≡ cond b x y
-    twice true x y = refl
-    twice false x y = refl
+    → map.get (messages_of os) o.id ≡ None
+    → messages_of (os ++ o ∷ []) ≡ map.insert (messages_of os) o.id o.message
+messages_of-insert os o none =
+    ap map.from_entries (map-end os o)
+    ∙ map.from_entries_push nat_cmp_total map.nat_cmp-IsAntisymmetric (mapped named os) o.id o.message
+    (sym (map.get-from_entries nat_cmp_total (mapped named os) o.id) ∙ none)
 
 found_end : (q : ℕ) (os : List OpenMessage) (o : OpenMessage)
     → map.find nat_cmp q (mapped named os) ≡ None
@@ -217,14 +201,16 @@ pub AllFit-end : (p : ℕ) (os : List OpenMessage) (o : OpenMessage)
 AllFit-end p [] o fs f = (f, tt)
 AllFit-end p (x ∷ os) o fs f = (fs.0, AllFit-end p os o fs.1 f)
 
--- what always holds of the list holds with a message in the place of those of its name
+-- what always holds of the list holds with a message of a new name
 pub IsOutgoing-insert : (p : ℕ) (os : List OpenMessage) (o : OpenMessage)
     → MessageFits p (length o.message)
+    → map.get (messages_of os) o.id ≡ None
     → IsOutgoing p os
-    → IsOutgoing p (without o.id os ++ o ∷ [])
-IsOutgoing-insert p os o f s = record {
-  distinct = AllDistinct-end (without o.id os) o (none-without o.id os) (AllDistinct-without o.id os s.distinct);
-  fits = AllFit-end p (without o.id os) o (AllFit-without p o.id os s.fits) f;
+    → IsOutgoing p (os ++ o ∷ [])
+IsOutgoing-insert p os o f none s = record {
+  distinct =
+      AllDistinct-end os o (sym (map.get-from_entries nat_cmp_total (mapped named os) o.id) ∙ none) s.distinct;
+  fits = AllFit-end p os o s.fits f;
 }
 
 -- ---- the length of a message
@@ -267,12 +253,13 @@ view-without p id os new seen is e =
     ∙ ap (λ (m : Messages). record { p = p; messages = m }) (messages_of-without id os)
     ∙ ap (λ (o : OpenMessages). record o { messages = map.remove o.messages id }) is
 
--- what is seen of a list with a message in the place of those of its name
+-- what is seen of a list with a message of a new name
 pub view-insert : (p : ℕ) (os new : List OpenMessage) (o : OpenMessage) (seen : OpenMessages)
     → record { p = p; messages = messages_of os } ≡ seen
-    → new ≡ without o.id os ++ o ∷ []
+    → map.get (messages_of os) o.id ≡ None
+    → new ≡ os ++ o ∷ []
     → record { p = p; messages = messages_of new } ≡ record seen { messages = map.insert seen.messages o.id o.message }
-view-insert p os new o seen is e =
+view-insert p os new o seen is none e =
     ap (λ (xs : List OpenMessage). record { p = p; messages = messages_of xs }) e
-    ∙ ap (λ (m : Messages). record { p = p; messages = m }) (messages_of-insert os o)
+    ∙ ap (λ (m : Messages). record { p = p; messages = m }) (messages_of-insert os o none)
     ∙ ap (λ (s : OpenMessages). record s { messages = map.insert s.messages o.id o.message }) is

@@ -1,8 +1,9 @@
 -- What an end does with a packet that is delivered to it.
-use Rattle.std.specs.Prelude.{◌≡◌, length, Some, None}
+use Rattle.std.specs.Prelude.{◌≡◌, Bool, true, false, ◌||◌, length, Some, None, is_some}
 use Rattle.lpt_events.specs.declared.side.Side.{Side}
 use Rattle.lpt_events.specs.declared.config.Config.{Config}
 use Rattle.lpt_node.specs.declared.accepted.Accepted.{Accepted}
+use Rattle.lpt_events.specs.declared.outcome.Outcome.{Outcome}
 use Rattle.lpt_events.specs.declared.outcome.Outcome.TheVariants as outcome
 use Rattle.lpt_events.specs.declared.outcome.Why.TheVariants as why
 use Rattle.lpt_events.specs.Arrivals.{Arrival, NotRead, AnIdle, Foreign, ARequest, AReport, NoPart, APart, AnAbort}
@@ -28,3 +29,18 @@ pub record IsFor (n : NodeView) (o : Origin) : Type 0 where
   pub side : o.side ≡ n.side
   pub apid : o.apid ≡ n.config.apid
   pub p : o.p ≡ n.config.part_size
+
+-- whether memory is taken for an outcome: a part is kept, or a message joined
+abbrev pub keeps_or_joins : Outcome → Bool
+keeps_or_joins (outcome.Kept id number) = true
+keeps_or_joins (outcome.Again id number) = false
+keeps_or_joins (outcome.Released id len) = true
+keeps_or_joins (outcome.PlainReleased len) = false
+keeps_or_joins (outcome.ReportNoted service subtype) = false
+keeps_or_joins (outcome.AbortNoted id reason) = false
+keeps_or_joins (outcome.Broken id reason) = false
+keeps_or_joins (outcome.Ignored w) = false
+
+-- whether memory is taken for an answer: for its outcome, or for a report
+abbrev pub grows : Accepted → Bool
+grows r = keeps_or_joins r.outcome || is_some r.packet

@@ -45,13 +45,13 @@ pub record IsFoundIn (side : Side) (fields : Fields) (b : List ℕ) (f : Found) 
   pub within : IsWithin b f
   pub is : (p : ℕ) → arrival_found p b f ≡ packet_arrival side p b fields
 
--- what is shown of an arrival, for this part size
-abbrev pub Shows : ℕ → Sight → Arrival → Type 0
-Shows p sight.Unreadable a = a ≡ NotRead
-Shows p sight.Idle a = a ≡ AnIdle
-Shows p sight.Foreign a = a ≡ Foreign
-Shows p (sight.Request octets) a = (a ≡ ARequest octets.now) × (length octets.now ≤ 65542)
-Shows p (sight.Report service subtype) a = a ≡ AReport service subtype
-Shows p sight.BadPart a = a ≡ NoPart
-Shows p (sight.Part part) a = (a ≡ APart (piece part)) × (part.p ≡ p)
-Shows p (sight.Abort id reason) a = a ≡ AnAbort id reason
+-- what is shown of octets that are this arrival, for this part size
+abbrev pub Shows : ℕ → List ℕ → Sight → Arrival → Type 0
+Shows p b sight.Unreadable a = a ≡ NotRead
+Shows p b sight.Idle a = a ≡ AnIdle
+Shows p b sight.Foreign a = a ≡ Foreign
+Shows p b sight.Request a = (a ≡ ARequest b) × (length b ≤ 65542)
+Shows p b (sight.Report service subtype) a = a ≡ AReport service subtype
+Shows p b sight.BadPart a = a ≡ NoPart
+Shows p b (sight.Part part) a = (a ≡ APart (piece part)) × (part.p ≡ p)
+Shows p b (sight.Abort id reason) a = a ≡ AnAbort id reason

@@ -8,6 +8,7 @@ pub mod NodeInside
 pub mod Nodes
 pub mod Origins
 pub mod OutgoingLists
+pub mod Receivers
 pub mod Receiving
 pub mod Requests
 pub mod Sending

@@ -1,11 +1,14 @@
 -- What always holds of an end, and how it keeps its open messages: in a list, the newest last.
-use Rattle.std.specs.Prelude.{◌≡◌, ℕ, None, refl}
+use Rattle.std.specs.Prelude.{◌≡◌, ℕ, is_some, refl}
 use Rattle.std.specs.Coded.{Coded, code_by, coded×, coded_ℕ, coded_list}
 use Rattle.std.specs.FinMap as map
-use Rattle.lpt_table.specs.Tables.{TableState}
+use Rattle.lpt_packet.specs.Names.{Name}
+use Rattle.lpt_ledger.specs.Marks.{Marks}
+use Rattle.lpt_ledger.specs.States.{state_at}
 use Rattle.lpt_events.specs.declared.config.Config.{Config}
 use Rattle.lpt_events.specs.Configs.{IsConfig}
-use Rattle.lpt_node.specs.Nodes.{Messages}
+use Rattle.lpt_node.specs.Nodes.{Messages, is_open}
+use Rattle.lpt_node.specs.Receivers.{ReceiverState}
 
 -- the part size by which messages are split, and the open messages
 pub record OpenMessages : Type 0 where
@@ -22,15 +25,20 @@ coded_open_messages =
     code_by (ℕ × Messages) (coded× coded_ℕ coded_messages)
     (λ o. (o.p, o.messages)) (λ q. record { p = q.0; messages = q.1 }) (λ _. refl)
 
--- the table is the configuration's, and no reception is out of it
-pub record IsTable (c : Config) (t : TableState) : Type 0 where
-  pub limit : t.limit ≡ c.receptions
-  pub timeout : t.timeout ≡ c.timeout
-  pub p : t.p ≡ c.part_size
-  pub out : t.out ≡ None
+-- the receiver is the configuration's
+pub record IsConfigured (c : Config) (r : ReceiverState) : Type 0 where
+  pub limit : r.limit ≡ c.receptions
+  pub timeout : r.timeout ≡ c.timeout
+  pub p : r.p ≡ c.part_size
 
--- what always holds of an end: its configuration is in range, table and open messages are for it
-pub record IsSound (c : Config) (t : TableState) (o : OpenMessages) : Type 0 where
+-- a message is kept exactly where the sender is open
+abbrev pub AreKept : Marks → Messages → Type 0
+AreKept m messages = (id : Name) → is_some (map.get messages id) ≡ is_open (state_at m id)
+
+-- what always holds of an end: its configuration is in range, receiver and open messages are for it,
+-- and the messages are those of the open senders
+pub record IsSound (c : Config) (m : Marks) (r : ReceiverState) (o : OpenMessages) : Type 0 where
   pub configured : IsConfig c
-  pub table : IsTable c t
+  pub receiver : IsConfigured c r
   pub messages : o.p ≡ c.part_size
+  pub kept : AreKept m o.messages

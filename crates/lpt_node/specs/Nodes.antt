@@ -5,6 +5,8 @@ use Rattle.std.specs.Ordering.{nat_cmp}
 use Rattle.lpt_packet.specs.declared.direction.Direction.{Direction}
 use Rattle.lpt_packet.specs.declared.direction.Direction.TheVariants.{Up, Down}
 use Rattle.lpt_packet.specs.Names.{Name}
+use Rattle.lpt_ledger.specs.declared.state.State.{State}
+use Rattle.lpt_ledger.specs.declared.state.State.TheVariants.{Free, Open, Closed}
 use Rattle.lpt_ledger.specs.Marks.{Marks}
 use Rattle.lpt_table.specs.Tables.{Entries}
 use Rattle.lpt_events.specs.declared.side.Side.{Side}
@@ -55,6 +57,12 @@ direction_from Craft = Down
 pub record MessageFits (p len : ℕ) : Type 0 where
   pub least : p < len
   pub greatest : len ≤ 65542
+
+-- whether a transaction is open
+abbrev pub is_open : State → Bool
+is_open Free = false
+is_open Open = true
+is_open Closed = false
 
 -- the message of an open outgoing transaction
 abbrev pub message_at : NodeData → Name → Option (List ℕ)

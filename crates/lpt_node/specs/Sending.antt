@@ -67,15 +67,24 @@ counted s = record s { count = next_count s.count }
 abbrev pub counted_kind : Sending → TelemetryKind → Sending
 counted_kind s kind = record s { count = next_count s.count; types = next_types s.types kind }
 
+-- the message type counters once a part of this kind was sent: ground makes no telemetry
+abbrev pub part_types : Side → List ℕ → Kind → List ℕ
+part_types Ground types kind = types
+part_types Craft types kind = next_types types (part_telemetry kind)
+
 -- a packet that carries a part of this kind was made
 abbrev pub counted_part : Side → Sending → Kind → Sending
-counted_part Ground s kind = counted s
-counted_part Craft s kind = counted_kind s (part_telemetry kind)
+counted_part side s kind =
+    record s { count = next_count s.count; types = part_types side s.types kind }
 
 -- the packet that carries a part: a telecommand from ground, telemetry from the spacecraft
+abbrev pub part_packet_at : Side → Config → (count : ℕ) → (types : List ℕ) → (clock : ℕ) → Piece → List ℕ
+part_packet_at side c count types clock q =
+    part_made c (direction_from side) count (counter_of types (part_telemetry q.kind)) clock q
+
+-- the same, of an end
 abbrev pub part_packet : Side → Config → NodeData → Piece → List ℕ
-part_packet side c d q =
-    part_made c (direction_from side) d.sending.count (counter_of d.sending.types (part_telemetry q.kind)) d.clock q
+part_packet side c d q = part_packet_at side c d.sending.count d.sending.types d.clock q
 
 -- a part is sent: the end after it, and the packet
 abbrev pub sent_piece : Side → Config → NodeData → Piece → NodeData × List ℕ

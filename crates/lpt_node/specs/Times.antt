@@ -1,12 +1,7 @@
 -- The clock of an end, and what is given up for its age.
 use Rattle.std.specs.Prelude.{ℕ, ◌+◌, ◌==◌, if◌then◌else◌, List, Option, Some, None}
-use Rattle.std.specs.FinMap as map
 use Rattle.lpt_packet.specs.Names.{Name}
 use Rattle.lpt_part.specs.declared.reason.Reason.TheVariants as reason
-use Rattle.lpt_ledger.specs.declared.state.State.{State}
-use Rattle.lpt_ledger.specs.declared.state.State.TheVariants.{Free, Open, Closed}
-use Rattle.lpt_ledger.specs.Marks.{Marks, Shut}
-use Rattle.lpt_ledger.specs.States.{state_at}
 use Rattle.lpt_table.specs.Deadlines.{due_of}
 use Rattle.lpt_events.specs.declared.side.Side.{Side}
 use Rattle.lpt_events.specs.declared.config.Config.{Config}
@@ -14,7 +9,8 @@ use Rattle.lpt_node.specs.declared.expired.Expired.{Expired}
 use Rattle.lpt_node.specs.declared.fault.NodeFault.{NodeFault}
 use Rattle.lpt_node.specs.declared.fault.NodeFault.TheVariants.{ClockEnd, NothingDue}
 use Rattle.lpt_node.specs.Nodes.{NodeData}
-use Rattle.lpt_node.specs.Receiving.{table_of, abort_head, abort_report, with_report}
+use Rattle.lpt_node.specs.Receivers.{table_in, ended, abort_report}
+use Rattle.lpt_node.specs.Receiving.{receiver_of, with_receiver, with_report, abort_head}
 
 -- why the clock doesn't tick
 abbrev pub refusal_tick : NodeData → Option NodeFault
@@ -26,7 +22,7 @@ ticked d = record d { clock = d.clock + 1 }
 
 -- the name of the reception that is due
 abbrev pub due : Config → NodeData → Option Name
-due c d = due_of (table_of c d.receiving.entries) d.clock
+due c d = due_of (table_in (receiver_of c d.receiving)) d.clock
 
 -- why no reception is given up, where this is due
 abbrev pub refusal_expire_of : Option Name → Option NodeFault
@@ -37,29 +33,17 @@ refusal_expire_of (Some id) = None
 abbrev pub refusal_expire : Config → NodeData → Option NodeFault
 refusal_expire c d = refusal_expire_of (due c d)
 
--- a name is closed where its state is free
-abbrev pub shut_by : State → Marks → Name → Marks
-shut_by Free m id = map.insert m id Shut
-shut_by Open m id = m
-shut_by Closed m id = m
-
--- the end with the reception of a name given up
-abbrev pub given_up : NodeData → Name → NodeData
-given_up d id = record d {
-  receiving = record {
-    ledger = shut_by (state_at d.receiving.ledger id) d.receiving.ledger id;
-    entries = map.remove d.receiving.entries id;
-  };
-}
-
 -- the reception of a name is given up with this report, or none
-abbrev pub expired_with : NodeData → Name → Option (List ℕ) → NodeData × Expired
-expired_with d id packet = (with_report (given_up d id) packet, record { id = id; packet = packet })
+abbrev pub expired_with : Config → NodeData → Name → Option (List ℕ) → NodeData × Expired
+expired_with c d id packet = (
+  with_report (with_receiver d (ended (receiver_of c d.receiving) id)) packet,
+  record { id = id; packet = packet },
+)
 
 -- the reception that is due is given up; where none is nothing is, and the call is refused
 abbrev pub expired_of : Side → Config → NodeData → Option Name → NodeData × Expired
 expired_of side c d None = (d, record { id = 0; packet = None })
-expired_of side c d (Some id) = expired_with d id (abort_report (abort_head side c d) id reason.Expired)
+expired_of side c d (Some id) = expired_with c d id (abort_report (abort_head side c d) id reason.Expired)
 
 -- a reception is given up for its age: the end after it, and the answer
 abbrev pub expired : Side → Config → NodeData → NodeData × Expired

@@ -1,16 +1,14 @@
 //! Receiving packets.
 
-ghost use Rattle.std.specs.Prelude.{◌≡◌, IfOk, OnErr};
+ghost use Rattle.std.specs.Prelude.{◌≡◌, true, IfOk, IfErr, OnErr};
 ghost use Rattle.lpt_part.specs.Parts.{piece};
-ghost use Rattle.lpt_node.specs.Accepting.{accepted, IsFor};
+ghost use Rattle.lpt_node.specs.Accepting.{accepted, grows, IsFor};
 ghost use Rattle.lpt_node.specs.Origins.{arrival_from};
 ghost use Rattle.lpt_node.specs.Receiving.{ignored, noted, parted};
 
 use crate::found::Sight;
 use crate::taken::Taken;
-use crate::taking::take;
 use crate::{Accepted, Node, Outcome, Parsed, TelemetryKind, Why};
-use lpt_ledger::State;
 use lpt_part::Part;
 use std::alloc::AllocError;
 
@@ -18,29 +16,41 @@ impl Node {
     /// Takes a packet that was delivered to this end, and answers what became of it.
     ///
     /// A part is kept until all parts of its message are there; then the message is released. The
-    /// only error is want of memory, and then nothing has changed.
-    pub fn accept(&mut self, parsed: &Parsed) -> Result<Accepted, AllocError>
-        requires { IsFor self.old parsed.now }
+    /// octets of a plain request are handed on as they are.
+    ///
+    /// The only error is want of memory. The packet is handed back then, and nothing has changed.
+    pub fn accept(&mut self, parsed: Parsed) -> Result<Accepted, Parsed>
+        requires { IsFor self.old parsed }
         ensures ok { IfOk result (λ r. (self.new.at, r)
-            ≡ accepted self.old.side self.old.config self.old.at (arrival_from parsed.now)) }
+            ≡ accepted self.old.side self.old.config self.old.at (arrival_from parsed)) }
 
         ensures side { self.new.side ≡ self.old.side }
         ensures config { self.new.config ≡ self.old.config }
 
+        // Memory is wanting only where a part is kept, a message joined or a report made.
+        ensures memory { OnErr result
+            (grows (accepted self.old.side self.old.config self.old.at (arrival_from parsed)).1 ≡ true) }
+        ensures back { IfErr result (λ p. p ≡ parsed) }
         ensures err { OnErr result (self.new.at ≡ self.old.at) }
     {
         match parsed.sight() {
             Sight::Unreadable => Ok(ignored(Why::Unreadable)),
             Sight::Idle => Ok(ignored(Why::Idle)),
             Sight::Foreign => Ok(ignored(Why::ForeignApid)),
-            Sight::Request(octets) => Ok(Accepted {
-                outcome: Outcome::PlainReleased(octets.as_slice().len() as u32),
-                packet: None,
-                released: Some(octets.copy()?),
-            }),
+            Sight::Request => {
+                let octets = parsed.into_octets();
+                Ok(Accepted {
+                    outcome: Outcome::PlainReleased(octets.as_slice().len() as u32),
+                    packet: None,
+                    released: Some(octets),
+                })
+            }
             Sight::Report(service, subtype) => Ok(noted(Outcome::ReportNoted(service, subtype))),
             Sight::BadPart => Ok(ignored(Why::BadPart)),
-            Sight::Part(part) => self.accept_part(&part),
+            Sight::Part(part) => match self.accept_part(&part) {
+                Ok(accepted) => Ok(accepted),
+                Err(AllocError) => Err(parsed),
+            },
             Sight::Abort(id, reason) => {
                 self.close(id);
                 Ok(noted(Outcome::AbortNoted(id, reason)))
@@ -56,31 +66,27 @@ impl Node {
         ensures side { self.new.side ≡ self.old.side }
         ensures config { self.new.config ≡ self.old.config }
 
+        ensures memory { OnErr result
+            (grows (parted self.old.side self.old.config self.old.at (piece part.now)).1 ≡ true) }
         ensures err { OnErr result (self.new.at ≡ self.old.at) }
     {
-        match self.receivers.state(part.id) {
-            State::Free => {}
-            State::Open => return Ok(ignored(Why::Closed)),
-            State::Closed => return Ok(ignored(Why::Closed)),
-        }
-        let head = self.abort_head();
-        match take(self.alloc, &mut self.table, head, part, self.clock)? {
+        let mut counts = self.counts;
+        let head = self.abort_head(&counts);
+        match self.receiver.accept(head, part, self.clock)? {
+            Taken::Closed => Ok(ignored(Why::Closed)),
             Taken::Kept => Ok(noted(Outcome::Kept(part.id, part.number))),
             Taken::Again => Ok(noted(Outcome::Again(part.id, part.number))),
             Taken::NoRoom => Ok(ignored(Why::NoRoom)),
-            Taken::Whole(message) => {
-                let _ = self.receivers.shut(part.id);
-                Ok(Accepted {
-                    outcome: Outcome::Released(part.id, message.as_slice().len() as u32),
-                    packet: None,
-                    released: Some(message),
-                })
-            }
+            Taken::Whole(message) => Ok(Accepted {
+                outcome: Outcome::Released(part.id, message.as_slice().len() as u32),
+                packet: None,
+                released: Some(message),
+            }),
             Taken::Broken(reason, packet) => {
-                let _ = self.receivers.shut(part.id);
                 if packet.is_some() {
-                    self.counts.step_kind(TelemetryKind::Abort);
+                    counts.step_kind(TelemetryKind::Abort);
                 }
+                self.counts = counts;
                 Ok(Accepted {
                     outcome: Outcome::Broken(part.id, reason),
                     packet,

@@ -1,6 +1,7 @@
 //! Why a node would refuse a call.
 
 ghost use Rattle.std.specs.Prelude.{◌≡◌, IfNone};
+ghost use Rattle.lpt_ledger.specs.States.{state_at};
 ghost use Rattle.lpt_node.specs.Asking.{refusal_of};
 ghost use Rattle.lpt_node.specs.Nodes.{MessageFits};
 ghost use Rattle.lpt_node.specs.Sending.{refusal_open, refusal_send, refusal_finish};
@@ -34,6 +35,7 @@ impl Node {
     pub(crate) fn refusal_open(&self, id: Name, length: usize) -> Option<NodeFault>
         ensures value { result ≡ refusal_open self.now.config self.now.at id length }
         ensures fits { IfNone result (MessageFits self.now.config.part_size length) }
+        ensures free { IfNone result (state_at self.now.at.sending.ledger id ≡ State.Free) }
     {
         match self.senders.state(id) {
             State::Free => {}
@@ -95,7 +97,7 @@ impl Node {
     fn refusal_expire(&self) -> Option<NodeFault>
         ensures { result ≡ refusal_expire self.now.config self.now.at }
     {
-        match self.table.due(self.clock) {
+        match self.receiver.due(self.clock) {
             None => Some(NodeFault::NothingDue),
             Some(_) => None,
         }

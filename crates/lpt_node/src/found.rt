@@ -1,6 +1,6 @@
 //! What was found in a packet's octets.
 
-use lpt_packet::{Name, Octets};
+use lpt_packet::Name;
 use lpt_part::{Kind, Part, Reason};
 
 /// What was found in a packet's octets. Of a part and of an abortion report it is the place in the
@@ -32,8 +32,8 @@ pub(crate) enum Sight<'a> {
     Idle,
     /// A packet of another APID.
     Foreign,
-    /// A telecommand that carries no part: the whole packet.
-    Request(&'a Octets),
+    /// A telecommand that carries no part.
+    Request,
     /// Telemetry of this service type and message subtype that is neither a part nor the report
     /// of an abortion.
     Report(u8, u8),

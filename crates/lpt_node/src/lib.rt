@@ -18,10 +18,10 @@ mod making;
 mod node;
 mod outgoing;
 mod parsed;
+mod receiver;
 mod requesting;
 mod sending;
 mod taken;
-mod taking;
 mod telemetry;
 mod timing;
 

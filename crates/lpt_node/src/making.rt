@@ -1,16 +1,18 @@
-//! The packets that a node makes.
+//! The packets that a node makes, from a copy of its counts that it stores at the end of a call.
 
-ghost use Rattle.std.specs.Prelude.{◌≡◌, [], IfOk};
+ghost use Rattle.std.specs.Prelude.{◌≡◌, [], true, is_some, IfOk, OnOk, OnErr};
 ghost use Rattle.std.specs.Option.{option_map};
 ghost use Rattle.lpt_part.specs.Parts.{piece};
 ghost use Rattle.lpt_pus.specs.Telemetry.{telemetry, as_written};
 ghost use Rattle.lpt_packet.specs.declared.direction.Direction.TheVariants.{Up};
 ghost use Rattle.lpt_events.specs.Arrivals.{part_subtype};
-ghost use Rattle.lpt_node.specs.Counting.{counter_of, service_of, subtype_of};
+ghost use Rattle.lpt_node.specs.Counting.{counter_of, next_count, service_of, subtype_of};
 ghost use Rattle.lpt_events.specs.MadePackets.{telemetry_made};
-ghost use Rattle.lpt_node.specs.Sending.{part_packet, part_telemetry};
-ghost use Rattle.lpt_node.specs.Receiving.{abort_head, abort_report};
+ghost use Rattle.lpt_node.specs.Sending.{part_packet_at, part_telemetry, part_types};
+ghost use Rattle.lpt_node.specs.Receivers.{abort_report};
+ghost use Rattle.lpt_node.specs.Receiving.{abort_head_at};
 
+use crate::counts::Counts;
 use crate::{Node, Side, TelemetryKind};
 use lpt_packet::{Name, Octets};
 use lpt_part::{Kind, Part, Reason, abort_octets};
@@ -21,55 +23,69 @@ use std::alloc::{AllocError, Global};
 const TRANSFER: u8 = 13;
 
 impl Node {
-    // The head of the next telemetry of a kind.
-    fn head(&self, kind: TelemetryKind) -> TmHead
+    // The head of the next telemetry of a kind, by these counts.
+    fn head(&self, counts: &Counts, kind: TelemetryKind) -> TmHead
         ensures { telemetry result []
-            ≡ telemetry_made self.now.config self.now.at.sending.count
-            (counter_of self.now.at.sending.types kind) self.now.at.clock
+            ≡ telemetry_made self.now.config counts.now.count
+            (counter_of counts.now.types kind) self.now.at.clock
             (service_of kind) (subtype_of kind) [] }
     {
         TmHead {
             apid: self.config.apid,
-            count: self.counts.count,
+            count: counts.count,
             status: 0,
             service: kind.service(),
             subtype: kind.subtype(),
-            counter: self.counts.counter(kind),
+            counter: counts.counter(kind),
             destination: self.config.source,
             time: self.clock,
         }
     }
 
-    // The head of the next report of an abortion, which the spacecraft alone makes.
-    pub(crate) fn abort_head(&self) -> Option<TmHead>
-        ensures { option_map (λ h. as_written (telemetry h [])) result ≡ abort_head self.now.side self.now.config self.now.at }
+    // The head of the next report of an abortion, by these counts: the spacecraft alone makes it.
+    pub(crate) fn abort_head(&self, counts: &Counts) -> Option<TmHead>
+        ensures { option_map (λ h. as_written (telemetry h [])) result
+            ≡ abort_head_at self.now.side self.now.config counts.now.count counts.now.types self.now.at.clock }
     {
         match self.side {
             Side::Ground => None,
-            Side::Craft => Some(self.head(TelemetryKind::Abort)),
+            Side::Craft => Some(self.head(counts, TelemetryKind::Abort)),
         }
     }
 
-    // The packet that carries a part.
-    pub(crate) fn part_packet(&self, part: &Part<'_>) -> Result<Octets, AllocError>
-        ensures { IfOk result (λ o. o ≡ part_packet self.now.side self.now.config self.now.at (piece part.now)) }
+    // Makes the packet that carries a part, and counts it. The only error is want of memory.
+    pub(crate) fn part_packet(
+        &self,
+        counts: &mut Counts,
+        part: &Part<'_>,
+    ) -> Result<Octets, AllocError>
+        ensures packet { IfOk result (λ o. o ≡ part_packet_at self.now.side self.now.config
+            counts.old.count counts.old.types self.now.at.clock (piece part.now)) }
+        ensures count { OnOk result (counts.new.count ≡ next_count counts.old.count) }
+        ensures types { OnOk result (counts.new.types
+            ≡ part_types self.now.side counts.old.types part.now.kind) }
     {
         let header = part.header();
         match self.side {
             Side::Ground => {
                 let head = TcHead {
                     apid: self.config.apid,
-                    count: self.counts.count,
+                    count: counts.count,
                     flags: 0,
                     service: TRANSFER,
                     subtype: subtype_of_part(part.kind),
                     source: self.config.source,
                 };
-                tc_pieces(self.alloc, &head, &header, part.octets)
+                let packet = tc_pieces(self.alloc, &head, &header, part.octets)?;
+                counts.step();
+                Ok(packet)
             }
             Side::Craft => {
-                let head = self.head(telemetry_of(part.kind));
-                tm_pieces(self.alloc, &head, &header, part.octets)
+                let kind = telemetry_of(part.kind);
+                let head = self.head(counts, kind);
+                let packet = tm_pieces(self.alloc, &head, &header, part.octets)?;
+                counts.step_kind(kind);
+                Ok(packet)
             }
         }
     }
@@ -87,7 +103,7 @@ fn subtype_of_part(kind: Kind) -> u8
 }
 
 // The telemetry that carries a part of this kind.
-pub(crate) fn telemetry_of(kind: Kind) -> TelemetryKind
+fn telemetry_of(kind: Kind) -> TelemetryKind
     ensures { result ≡ part_telemetry kind }
 {
     match kind {
@@ -104,7 +120,10 @@ pub(crate) fn abort_report(
     id: Name,
     reason: Reason,
 ) -> Result<Option<Octets>, AllocError>
-    ensures { IfOk result (λ o. o ≡ abort_report (option_map (λ h. as_written (telemetry h [])) head) id reason) }
+    ensures report { IfOk result (λ o. o ≡ abort_report (option_map (λ h. as_written (telemetry h [])) head) id reason) }
+
+    // Memory is taken for a report alone.
+    ensures memory { OnErr result (is_some (abort_report (option_map (λ h. as_written (telemetry h [])) head) id reason) ≡ true) }
 {
     match head {
         None => Ok(None),

@@ -1,17 +1,17 @@
 //! One end of the link.
 
-ghost use Rattle.std.specs.Prelude.{◌≡◌, IfOk, is_some};
+ghost use Rattle.std.specs.Prelude.{◌≡◌, IsTrue, IfOk, is_some};
 ghost use Rattle.std.specs.FinMap as map;
 ghost use Rattle.lpt_ledger.specs.States.{state_at};
 ghost use Rattle.lpt_events.specs.Configs.{IsConfig};
-ghost use Rattle.lpt_node.specs.Nodes.{new_node};
+ghost use Rattle.lpt_node.specs.Nodes.{new_node, is_open, message_at};
 
 use crate::counts::Counts;
 use crate::outgoing::Outgoing;
+use crate::receiver::Receiver;
 use crate::{Config, Side};
 use lpt_ledger::{Ledger, State};
 use lpt_packet::Name;
-use lpt_table::Table;
 use std::alloc::{AllocError, Global};
 use std::marker::Model;
 
@@ -19,7 +19,7 @@ use std::marker::Model;
 ///
 /// The sender's and the receiver's ledger know each transaction name as free, open or closed. The
 /// messages of open outgoing transactions are kept until these are closed. A receiver's name is
-/// closed when its reception ends, and is open in no ledger.
+/// closed when its reception ends.
 #[derive(Drop)]
 pub struct Node {
     pub(crate) alloc: Global,
@@ -28,8 +28,7 @@ pub struct Node {
     pub(crate) senders: Ledger,
     pub(crate) outgoing: Outgoing,
     pub(crate) counts: Counts,
-    pub(crate) receivers: Ledger,
-    pub(crate) table: Table,
+    pub(crate) receiver: Receiver,
     pub(crate) clock: u32,
 }
 
@@ -53,12 +52,12 @@ impl Model for Node {
           count = a.counts.count;
           types = a.counts.types;
         };
-        receiving = record { ledger = a.receivers; entries = a.table.entries };
+        receiving = record { ledger = a.receiver.ledger; entries = a.receiver.entries };
         clock = a.clock;
       };
     } };
 
-    ghost invariant = { λ a. IsSound a.config a.table a.outgoing };
+    ghost invariant = { λ a. IsSound a.config a.senders a.receiver a.outgoing };
 }
 
 impl Node {
@@ -67,18 +66,22 @@ impl Node {
         requires { IsConfig config.now }
         ensures { IfOk result (λ n. n ≡ new_node side config.now) }
     {
+        let Config {
+            part_size,
+            timeout,
+            receptions,
+            ..
+        } = *config;
         let senders = Ledger::new(alloc)?;
-        let receivers = Ledger::new(alloc)?;
-        let table = Table::new(alloc, config.receptions, config.timeout, config.part_size)?;
+        let receiver = Receiver::new(alloc, receptions, timeout, part_size)?;
         Ok(Node {
             alloc,
             side,
             config: *config,
             senders,
-            outgoing: Outgoing::new(alloc, config.part_size),
+            outgoing: Outgoing::new(alloc, part_size),
             counts: Counts::new(),
-            receivers,
-            table,
+            receiver,
             clock: config.clock,
         })
     }
@@ -92,15 +95,21 @@ impl Node {
 
     /// The state of an outgoing transaction.
     pub fn sender(&self, id: Name) -> State
-        ensures { result ≡ state_at self.now.at.sending.ledger id }
+        ensures state { result ≡ state_at self.now.at.sending.ledger id }
+
+        // A message is kept exactly where the transaction is open.
+        ensures kept { is_some (message_at self.now.at id) ≡ is_open result }
     {
         self.senders.state(id)
     }
 
     /// Whether a reception of this name is open.
     pub fn is_open_reception(&self, id: Name) -> bool
-        ensures { result ≡ is_some (map.get self.now.at.receiving.entries id) }
+        ensures open { result ≡ is_some (map.get self.now.at.receiving.entries id) }
+
+        // The name of an open reception is free.
+        ensures free { IsTrue result → state_at self.now.at.receiving.ledger id ≡ State.Free }
     {
-        self.table.is_open(id)
+        self.receiver.is_open(id)
     }
 }

@@ -68,10 +68,10 @@ impl Outgoing {
         message_in(&self.messages, id)
     }
 
-    /// Adds a message, in place of the one of its name. Where there is no memory for it, it is
-    /// handed back.
+    /// Adds a message of a name that has none. Where there is no memory for it, it is handed back.
     pub(crate) fn insert(&mut self, id: Name, message: Octets) -> Result<(), Octets>
-        requires { MessageFits self.old.p (length message) }
+        requires fits { MessageFits self.old.p (length message) }
+        requires absent { map.get self.old.messages id ≡ None }
         ensures ok { OnOk result (self.new ≡ record self.old { messages = map.insert self.old.messages id message }) }
 
         ensures back { IfErr result (λ m. m ≡ message) }
@@ -80,7 +80,6 @@ impl Outgoing {
         if self.messages.reserve(1).is_err() {
             return Err(message);
         }
-        remove_from(&mut self.messages, id);
         self.messages.push_reserved(OpenMessage { id, message });
         Ok(())
     }

@@ -80,15 +80,29 @@ impl Parsed {
         self.octets.as_slice() == octets && self.side == side && self.apid == apid && self.p == p
     }
 
+    // The octets that it was read from.
+    pub(crate) fn into_octets(self) -> Octets
+        ensures { result ≡ self.octets }
+    {
+        let Parsed {
+            octets,
+            side: _,
+            apid: _,
+            p: _,
+            found: _,
+        } = self;
+        octets
+    }
+
     // What it shows.
     pub(crate) fn sight(&self) -> Sight<'_>
-        ensures { Shows self.now.p result (arrival_from self.now) }
+        ensures { Shows self.now.p self.now.octets result (arrival_from self.now) }
     {
         match self.found {
             Found::Unreadable => Sight::Unreadable,
             Found::Idle => Sight::Idle,
             Found::Foreign => Sight::Foreign,
-            Found::Request => Sight::Request(&self.octets),
+            Found::Request => Sight::Request,
             Found::Report(service, subtype) => Sight::Report(service, subtype),
             Found::Part(kind, from) => {
                 match read_part(kind, body_from(self.octets.as_slice(), from), self.p) {

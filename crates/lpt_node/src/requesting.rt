@@ -42,9 +42,10 @@ impl Node {
             Some(fault) => return Err(fault),
             None => {}
         }
+        let mut counts = self.counts;
         let head = TcHead {
             apid: self.config.apid,
-            count: self.counts.count,
+            count: counts.count,
             flags: flags.bits(),
             service,
             subtype,
@@ -53,7 +54,8 @@ impl Node {
         let Ok(packet) = tc_octets(self.alloc, &head, body) else {
             return Err(NodeFault::Memory);
         };
-        self.counts.step();
+        counts.step();
+        self.counts = counts;
         Ok(packet)
     }
 

@@ -7,8 +7,7 @@ ghost use Rattle.lpt_events.specs.MadePackets.{nth_part};
 ghost use Rattle.lpt_node.specs.Nodes.{MessageFits};
 ghost use Rattle.lpt_node.specs.Sending.{refusal_open, opened, refusal_send, sent, refusal_finish, closed, RefusedBy};
 
-use crate::making::telemetry_of;
-use crate::{Node, NodeFault, Side};
+use crate::{Node, NodeFault};
 use lpt_packet::{Name, Octets};
 use lpt_part::laws::parts_fit;
 use lpt_part::{Kind, Part, count, slice};
@@ -39,8 +38,10 @@ impl Node {
             Ok(()) => {}
             Err(message) => return Err((NodeFault::Memory, message)),
         }
-        let _ = self.senders.open(id);
-        Ok(())
+        match self.senders.open(id) {
+            Ok(()) => Ok(()),
+            Err(_) => unreachable!(),
+        }
     }
 
     /// Makes the packet that carries part `k` of an open message; parts are counted from 1.
@@ -65,14 +66,11 @@ impl Node {
             return Err(NodeFault::NotOpen);
         };
         let part = part_at(message, self.config.part_size, id, k);
-        let kind = part.kind;
-        let Ok(packet) = self.part_packet(&part) else {
+        let mut counts = self.counts;
+        let Ok(packet) = self.part_packet(&mut counts, &part) else {
             return Err(NodeFault::Memory);
         };
-        match self.side {
-            Side::Ground => self.counts.step(),
-            Side::Craft => self.counts.step_kind(telemetry_of(kind)),
-        }
+        self.counts = counts;
         Ok(packet)
     }
 

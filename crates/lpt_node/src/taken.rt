@@ -1,11 +1,13 @@
-//! What the open receptions make of a part.
+//! What a receiver makes of a part.
 
 use lpt_packet::Octets;
 use lpt_part::Reason;
 
-/// What the open receptions make of a part.
+/// What a receiver makes of a part.
 #[derive(Drop)]
 pub(crate) enum Taken {
+    /// The reception of its transaction has ended.
+    Closed,
     /// It was added.
     Kept,
     /// It had been kept before.

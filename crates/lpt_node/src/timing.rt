@@ -1,12 +1,10 @@
 //! The clock, and receptions that took no part for too long.
 
-ghost use Rattle.std.specs.Prelude.{◌≡◌, None, Some, IfOk, IfErr, OnOk, OnErr};
+ghost use Rattle.std.specs.Prelude.{◌≡◌, true, is_some, None, Some, IfOk, IfErr, OnOk, OnErr};
 ghost use Rattle.lpt_node.specs.Sending.{RefusedBy};
 ghost use Rattle.lpt_node.specs.Times.{refusal_tick, ticked, refusal_expire, expired};
 
-use crate::making::abort_report;
 use crate::{Expired, Node, NodeFault, TelemetryKind};
-use lpt_part::Reason;
 
 impl Node {
     /// Sets the clock one tick on.
@@ -43,20 +41,23 @@ impl Node {
         ensures config { self.new.config ≡ self.old.config }
 
         ensures refused { IfErr result (λ e. RefusedBy (refusal_expire self.old.config self.old.at) e) }
+        // Memory is wanting only where a report is made.
+        ensures memory { OnErr result (refusal_expire self.old.config self.old.at ≡ None
+            → is_some (expired self.old.side self.old.config self.old.at).1.packet ≡ true) }
         ensures err { OnErr result (self.new.at ≡ self.old.at) }
     {
-        let Some(id) = self.table.due(self.clock) else {
+        let Some(id) = self.receiver.due(self.clock) else {
             return Err(NodeFault::NothingDue);
         };
-        let head = self.abort_head();
-        let Ok(packet) = abort_report(self.alloc, head, id, Reason::Expired) else {
+        let mut counts = self.counts;
+        let head = self.abort_head(&counts);
+        let Ok(packet) = self.receiver.expire(head, id) else {
             return Err(NodeFault::Memory);
         };
-        self.table.expire(id);
-        let _ = self.receivers.shut(id);
         if packet.is_some() {
-            self.counts.step_kind(TelemetryKind::Abort);
+            counts.step_kind(TelemetryKind::Abort);
         }
+        self.counts = counts;
         Ok(Expired { id, packet })
     }
 }

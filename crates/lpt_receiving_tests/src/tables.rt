@@ -54,7 +54,7 @@ fn offer(table: &mut Table, id: Name, number: u16, kind: Kind, octets: &[u8], no
                 Came::Released(message.as_slice().len())
             }
             Err(whole) => {
-                table.put_back(whole.back());
+                table.put_back(id, whole.back());
                 Came::PutBack
             }
         },
@@ -77,11 +77,11 @@ fn offer_in_vain(table: &mut Table, id: Name, number: u16, octets: &[u8], now: u
         Offer::NoRoom => Came::NoRoom,
         Offer::Memory => Came::Memory,
         Offer::Conflict(broken) => {
-            table.put_back(broken.back());
+            table.put_back(id, broken.back());
             Came::PutBack
         }
         Offer::Whole(whole) => {
-            table.put_back(whole.back());
+            table.put_back(id, whole.back());
             Came::PutBack
         }
     }

@@ -12,7 +12,7 @@ use Rattle.std.proofs.lemmas.List.{map-append, take-map, drop-map, length-map}
 use Rattle.std.proofs.lemmas.List.Edits.{length-remove, length-insert}
 use Rattle.std.proofs.lemmas.List.Elements.{All-append, All-cons, All-take, All-drop}
 use Rattle.lpt_table.specs.declared.entries.Entry.{Entry}
-use Rattle.lpt_table.specs.EntriesOf.{entry_in, named, entries_of, map_of, IsOfSize, IsListed, IsEntry}
+use Rattle.lpt_table.specs.EntriesOf.{entry_in, named, entries_of, map_of, IsIts, IsListed, IsEntry}
 use Rattle.lpt_table.specs.EntryLists.{Listing}
 use Rattle.lpt_table.specs.Places.{place}
 use Rattle.lpt_table.specs.Tables.{TableEntry, Entries}
@@ -113,9 +113,9 @@ module _ (id : ℕ) (xs : List Entry) (at : ℕ) (h : InOrder xs)
   pub found-within : at < length xs
   found-within = omega (arith, found.within, length-map xs named)
 
-  -- it is what the map has under the name, of that name and the part size
+  -- it is what the map has under the name, under that name and of the part size
   pub found-entry : (p : ℕ) (e : Entry)
-      → All (IsOfSize p) xs
+      → All (IsIts p) xs
       → e ≡ slice_index_or xs at e
       → IsEntry (maps.get (map_of xs) id) id p e
   found-entry p e all q =
@@ -125,7 +125,7 @@ module _ (id : ℕ) (xs : List Entry) (at : ℕ) (h : InOrder xs)
       record {
         found = get-map_of id xs h ∙ found.value (named e) ∙ ap (λ x. Some x.1) here;
         named = sym (nat_cmp-IsAntisymmetric _ _ (found.key (named e)) ∙ ap (λ x. x.0) here);
-        of_size = ap (λ (x : Entry). x.filling.p) q ∙ all at e found-within;
+        its = subst (IsIts p) (sym q) (all at e found-within);
       }
 
   -- removing it from the list removes the name from the map
@@ -150,9 +150,9 @@ module _ (id : ℕ) (xs : List Entry) (at : ℕ) (h : InOrder xs)
       → IsListed limit p capacity (remove xs at)
   found-listed limit p capacity l = record {
     sorted = found-sorted;
-    of_size = All-append (IsOfSize p) (take at xs) (drop (suc at) xs)
-        (All-take (IsOfSize p) at xs l.of_size)
-        (All-drop (IsOfSize p) (suc at) xs l.of_size);
+    its = All-append (IsIts p) (take at xs) (drop (suc at) xs)
+        (All-take (IsIts p) at xs l.its)
+        (All-drop (IsIts p) (suc at) xs l.its);
     within = omega (arith, length-remove xs at found-within, l.within);
     places = l.places;
   }
@@ -181,7 +181,7 @@ module _ (id : ℕ) (xs : List Entry) (at : ℕ) (h : InOrder xs)
       ∙ sym (remove-from_sorted nat_cmp_total nat_cmp-IsAntisymmetric id (entries_of xs) h)
 
   -- an entry of the name, and room for it
-  module _ (e : Entry) (q : e.filling.id ≡ id) where
+  module _ (e : Entry) (q : e.id ≡ id) where
     put-is : put nat_cmp id (entry_in e) (entries_of xs) ≡ entries_of (insert xs at e)
     put-is =
         absent.more (entry_in e) ∙ ap (λ k. insert (entries_of xs) at (k, entry_in e)) (sym q)
@@ -212,15 +212,15 @@ module _ (id : ℕ) (xs : List Entry) (at : ℕ) (h : InOrder xs)
     -- the list is sound with it, where there is a place for it
     pub absent-listed : (limit p capacity more : ℕ)
         → IsListed limit p capacity xs
-        → e.filling.p ≡ p
+        → IsIts p e
         → length xs < limit
         → capacity ≤ more
         → IsListed limit p more (insert xs at e)
     absent-listed limit p capacity more l size room grown = record {
       sorted = absent-sorted;
-      of_size = All-append (IsOfSize p) (take at xs) (e ∷ drop at xs)
-          (All-take (IsOfSize p) at xs l.of_size)
-          (All-cons (IsOfSize p) e (drop at xs) size (All-drop (IsOfSize p) at xs l.of_size));
+      its = All-append (IsIts p) (take at xs) (e ∷ drop at xs)
+          (All-take (IsIts p) at xs l.its)
+          (All-cons (IsIts p) e (drop at xs) size (All-drop (IsIts p) at xs l.its));
       within = omega (arith, length-insert xs at e absent-within, room);
       places = omega (arith, l.places, grown);
     }

@@ -50,9 +50,9 @@ same_again t id e was =
 pub put_back-takes_out : (old new : TableState) (id : Name)
     → old.out ≡ None
     → TakesOut old new id
-    → put_back new (received_at old id) ≡ old
+    → put_back new id (parts_at old id) ≡ old
 put_back-takes_out old new id settled h =
-    ap (λ (t : TableState). put_back t (received_at old id)) h.now
+    ap (λ (t : TableState). put_back t id (parts_at old id)) h.now
     ∙ ap (λ (t : TableState). record t { out = None })
     (put_again old id (entry (parts_at old id) h.entry.last) ∙ same_again old id h.entry h.was)
     ∙ ap (λ o. record old { out = o }) (sym settled)
@@ -85,25 +85,25 @@ module _ (t r new : TableState) (id n now : ℕ) (x : KeptPart) (e : Entry)
 
   pub offers_kept : (f : Received)
       → Answers e.filling n x (step.Filling f)
-      → new ≡ with_entry r f.id f.parts now
+      → new ≡ with_entry r id f.parts now
       → Offers t id n x now Kept new
   offers_kept f a is =
       let b = subst (λ (s : Received). Answers s n x (step.Filling f)) same a in (
         not_full,
         (b.0, b.1, refl),
-        is ∙ ap (λ (f : Received). with_entry r f.id f.parts now) b.2
+        is ∙ ap (λ (f : Received). with_entry r id f.parts now) b.2
             ∙ renewed (with_part (parts_at t id) n x) now,
       )
 
   pub offers_again : (f : Received)
       → Answers e.filling n x (step.Again f)
-      → new ≡ with_entry r f.id f.parts now
+      → new ≡ with_entry r id f.parts now
       → Offers t id n x now Again new
   offers_again f a is =
       let b = subst (λ (s : Received). Answers s n x (step.Again f)) same a in (
         not_full,
         (b.0, b.1, refl),
-        is ∙ ap (λ (f : Received). with_entry r f.id f.parts now) b.2 ∙ renewed (parts_at t id) now,
+        is ∙ ap (λ (f : Received). with_entry r id f.parts now) b.2 ∙ renewed (parts_at t id) now,
       )
 
   pub offers_whole : (v : Ended)
@@ -122,13 +122,13 @@ module _ (t r new : TableState) (id n now : ℕ) (x : KeptPart) (e : Entry)
 
   pub offers_memory : (f : Received)
       → Answers e.filling n x (step.NoMemory f)
-      → new ≡ with_entry r f.id f.parts e.last
+      → new ≡ with_entry r id f.parts e.last
       → Offers t id n x now Memory new
   offers_memory f a is =
       let b = subst (λ (s : Received). Answers s n x (step.NoMemory f)) same a in (
         not_full,
         (b.0, refl),
-        is ∙ ap (λ (f : Received). with_entry r f.id f.parts e.last) b.1
+        is ∙ ap (λ (f : Received). with_entry r id f.parts e.last) b.1
             ∙ renewed (parts_at t id) e.last ∙ same_again t id (entry_in e) w.was,
       )
 

@@ -44,9 +44,9 @@ abbrev pub last_out : Option (Name × ℕ) → ℕ
 last_out None = 0
 last_out (Some o) = o.1
 
--- the reception that is out is put back under its old last tick
-abbrev pub put_back : TableState → Received → TableState
-put_back t s = record (with_entry t s.id s.parts (last_out t.out)) { out = None }
+-- the reception that is out is put back with these parts, under its name and its old last tick
+abbrev pub put_back : TableState → Name → Parts → TableState
+put_back t id parts = record (with_entry t id parts (last_out t.out)) { out = None }
 
 -- what an offer comes to, want of memory aside
 pub data OfferKind : Type 0 where

@@ -10,9 +10,10 @@ use lpt_reception::Filling;
 use std::alloc::{AllocError, Global};
 use std::marker::Model;
 
-/// An open reception, and the tick at which it last took a part.
+/// An open reception under its name, and the tick at which it last took a part.
 #[derive(Drop)]
 pub(crate) struct Entry {
+    pub(crate) id: Name,
     pub(crate) filling: Filling,
     pub(crate) last: u32,
 }
@@ -41,7 +42,7 @@ impl Model for EntryList {
 }
 
 impl EntryList {
-    ghost use Rattle.lpt_table.specs.EntriesOf.{entry_in, IsEntry};
+    ghost use Rattle.lpt_table.specs.EntriesOf.{entry_in, IsIts, IsEntry};
 
     /// A list with places for `limit` receptions, all free. The only error is want of memory.
     pub(crate) fn new(alloc: Global, limit: u32, p: u32) -> Result<EntryList, AllocError>
@@ -93,14 +94,14 @@ impl EntryList {
     /// Puts a reception into the list, which has a free place and none of its name.
     pub(crate) fn put(&mut self, entry: Entry)
         requires room { map.len self.old.entries < self.old.limit }
-        requires absent { map.get self.old.entries entry.filling.id ≡ None }
-        requires p { entry.filling.p ≡ self.old.p }
+        requires absent { map.get self.old.entries entry.id ≡ None }
+        requires its { IsIts self.old.p entry }
         ensures value { self.new ≡ record self.old {
-          entries = map.insert self.old.entries entry.filling.id (entry_in entry);
+          entries = map.insert self.old.entries entry.id (entry_in entry);
         } }
         ensures len { map.len self.new.entries ≡ map.len self.old.entries + 1 }
     {
-        let Err(at) = place_of(&self.items, entry.filling.id()) else {
+        let Err(at) = place_of(&self.items, entry.id) else {
             unreachable!()
         };
         match self.items.insert(at, entry) {

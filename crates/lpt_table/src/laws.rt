@@ -3,7 +3,7 @@
 ghost use Rattle.std.specs.Prelude.{◌≡◌, ℕ, Option, None};
 ghost use Rattle.lpt_packet.specs.Names.{Name};
 ghost use Rattle.lpt_table.specs.Deadlines.{IsDue, due_of};
-ghost use Rattle.lpt_table.specs.Offering.{TakesOut, put_back, received_at};
+ghost use Rattle.lpt_table.specs.Offering.{TakesOut, put_back, parts_at};
 ghost use Rattle.lpt_table.specs.Tables.{TableState};
 
 /// What is computed as due is due, and no other answer is.
@@ -16,5 +16,5 @@ pub fn one_is_due()
 /// To put a reception back as it was when it was taken out undoes the taking out.
 pub fn put_back_undoes()
     ensures { (old new : TableState) (id : Name) → old.out ≡ None → TakesOut old new id
-        → put_back new (received_at old id) ≡ old }
+        → put_back new id (parts_at old id) ≡ old }
 {}

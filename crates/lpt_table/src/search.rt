@@ -15,7 +15,7 @@ pub(crate) fn place_of(entries: &[Entry], id: Name) -> Result<usize, usize>
     ensures { result ≡ place nat_cmp id (entries_of entries.now) }
 {
     for (at, entry) in entries.iter().enumerate() {
-        match id.cmp(&entry.filling.id()) {
+        match id.cmp(&entry.id) {
             Ordering::Less => return Err(at),
             Ordering::Equal => return Ok(at),
             Ordering::Greater => {}
@@ -36,7 +36,7 @@ pub(crate) fn soonest_in(entries: &[Entry], timeout: u32, now: u32) -> Option<(N
             Some((_, last)) => entry.last < last,
         };
         if overdue && sooner {
-            best = Some((entry.filling.id(), entry.last));
+            best = Some((entry.id, entry.last));
         }
     }
     best

@@ -56,7 +56,7 @@ impl Model for Table {
 impl Table {
     ghost use Rattle.lpt_reception.specs.Answers.{kept};
     ghost use Rattle.lpt_table.specs.Offers.{Offers, Its, kind_of};
-    ghost use Rattle.lpt_table.specs.EntriesOf.{entry_in};
+    ghost use Rattle.lpt_table.specs.EntriesOf.{entry_in, IsIts};
 
     /// A table with places for `limit` receptions, 1 to 64, in which none is open. A reception is
     /// overdue when it took no part for `timeout` ticks, 1 to 65,535. Parts are of `p` octets, 4 to
@@ -102,21 +102,25 @@ impl Table {
     fn offer_to(&mut self, entry: Entry, part: &Part<'_>, now: u32) -> Offer
         requires part { part.now.p ≡ self.old.p }
         requires settled { self.old.out ≡ None }
-        requires named { entry.filling.id ≡ part.now.id }
-        requires of_size { entry.filling.p ≡ self.old.p }
+        requires named { entry.id ≡ part.now.id }
+        requires its { IsIts self.old.p entry }
         requires absent { map.get self.old.entries part.now.id ≡ None }
         requires room { map.len self.old.entries < self.old.limit }
         ensures { (t : TableState) → IsWithout t self.old part.now.id (entry_in entry)
             → Offers t part.now.id part.now.number (kept part.now) now result self.new }
     {
-        let Entry { filling, last } = entry;
+        let Entry {
+            id: _,
+            filling,
+            last,
+        } = entry;
         match filling.accept(part) {
             Step::Filling(filling) => {
-                self.keep(filling, now);
+                self.keep(part.id, filling, now);
                 Offer::Kept
             }
             Step::Again(filling) => {
-                self.keep(filling, now);
+                self.keep(part.id, filling, now);
                 Offer::Again
             }
             Step::Whole(whole) => {
@@ -128,7 +132,7 @@ impl Table {
                 Offer::Conflict(broken)
             }
             Step::NoMemory(filling) => {
-                self.keep(filling, last);
+                self.keep(part.id, filling, last);
                 Offer::Memory
             }
         }
@@ -146,22 +150,23 @@ impl Table {
         }
         match Filling::start(self.alloc, part, part.p) {
             Ok(filling) => {
-                self.keep(filling, now);
+                self.keep(part.id, filling, now);
                 Offer::Kept
             }
             Err(AllocError) => Offer::Memory,
         }
     }
 
-    // Keeps a reception, for which there is a place, under a last tick.
-    fn keep(&mut self, filling: Filling, last: u32)
+    // Keeps a reception, for which there is a place, under its name and a last tick.
+    fn keep(&mut self, id: Name, filling: Filling, last: u32)
         requires settled { self.old.out ≡ None }
-        requires absent { map.get self.old.entries filling.id ≡ None }
+        requires absent { map.get self.old.entries id ≡ None }
         requires room { map.len self.old.entries < self.old.limit }
+        requires id { filling.id ≡ id }
         requires p { filling.p ≡ self.old.p }
-        ensures { self.new ≡ with_entry self.old filling.id filling.parts last }
+        ensures { self.new ≡ with_entry self.old id filling.parts last }
     {
-        self.receptions.put(Entry { filling, last });
+        self.receptions.put(Entry { id, filling, last });
     }
 
     // Remembers the last tick of a reception that was taken out, and keeps its place.
@@ -183,15 +188,16 @@ impl Table {
         self.out = None;
     }
 
-    /// Puts the reception that is out back, as `filling`, under its old last tick. It takes no
-    /// memory.
-    pub fn put_back(&mut self, filling: Filling)
-        requires out { IsSomeAnd self.old.out (λ o. o.0 ≡ filling.id) }
+    /// Puts the reception that is out, which is that of `id`, back as `filling`, under its old last
+    /// tick. It takes no memory.
+    pub fn put_back(&mut self, id: Name, filling: Filling)
+        requires out { IsSomeAnd self.old.out (λ o. o.0 ≡ id) }
+        requires id { filling.id ≡ id }
         requires p { filling.p ≡ self.old.p }
-        ensures { self.new ≡ put_back self.old filling }
+        ensures { self.new ≡ put_back self.old id filling.parts }
     {
         if let Some((_, last)) = self.out.take() {
-            self.keep(filling, last);
+            self.keep(id, filling, last);
         }
     }
 

@@ -237,28 +237,32 @@ impl Ends {
             outcome,
             packet,
             released,
-        } = self.receive(lane, &parsed)?;
+        } = self.receive(lane, parsed)?;
         let _ = self.link.drop_hand(lane);
         self.note_release(place, lane.direction(), outcome, released);
         Ok(self.report(Answer::Delivered(outcome), packet))
     }
 
     // Gives the receiver of a lane what was in its hand.
-    fn receive(&mut self, lane: Lane, parsed: &Parsed) -> Result<Accepted, AllocError>
-        requires side { parsed.now.side ≡ receiver_side (lane_direction lane) }
-        requires apid { parsed.now.apid ≡ self.old.config.apid }
-        requires part_size { parsed.now.p ≡ self.old.config.part_size }
+    fn receive(&mut self, lane: Lane, parsed: Parsed) -> Result<Accepted, AllocError>
+        requires side { parsed.side ≡ receiver_side (lane_direction lane) }
+        requires apid { parsed.apid ≡ self.old.config.apid }
+        requires part_size { parsed.p ≡ self.old.config.part_size }
         ensures ok { IfOk result (λ r. IsAccepted (state_of self.old) lane (state_of self.new) r
             (accepted (receiver_side (lane_direction lane)) self.old.config
-            (end_of (state_of self.old) (receiver_side (lane_direction lane))) (arrival_from parsed.now))) }
+            (end_of (state_of self.old) (receiver_side (lane_direction lane))) (arrival_from parsed))) }
         ensures err { OnErr result (state_of self.new ≡ state_of self.old) }
         ensures config { self.new.config ≡ self.old.config }
         ensures link { self.new.link ≡ self.old.link }
         ensures released { self.new.released ≡ self.old.released }
     {
-        match lane.direction() {
+        let accepted = match lane.direction() {
             Direction::Up => self.on_craft.accept(parsed),
             Direction::Down => self.on_ground.accept(parsed),
+        };
+        match accepted {
+            Ok(accepted) => Ok(accepted),
+            Err(_) => Err(AllocError),
         }
     }
 

@@ -66,7 +66,10 @@ impl Station {
             ..
         } = self.config;
         let parsed = Parsed::read(octets, self.side, apid, part_size);
-        self.node.accept(&parsed)
+        match self.node.accept(parsed) {
+            Ok(accepted) => Ok(accepted),
+            Err(_) => Err(AllocError),
+        }
     }
 }
 

@@ -1,6 +1,5 @@
 -- The body is short.
-use Rattle.std.proofs.Common.{◌≡◌, ap, length, arith}
-use Rattle.lpt_part.specs.Aborts.{abort_body}
+use Rattle.std.proofs.Common.{ap, length, arith}
 use Rattle.lpt_node.proofs.BodyLemmas.{length-abort_body}
 use Rattle.lpt_node.proofs.making.abort_report.Goals as goal
 

@@ -42,7 +42,7 @@ returns-in-Ok-clause-entry c =
     c.self.view_is
     (found-entry c.args.id c.self.inside.items.items c.in-Ok.at
     c.self.invariant.sorted (placed c)
-    c.self.inside.p c.remove.result c.self.invariant.of_size c.remove.ensures.value)
+    c.self.inside.p c.remove.result c.self.invariant.its c.remove.ensures.value)
 
 pub returns-in-Ok-clause-len : goal.returns-in-Ok-clause-len
 returns-in-Ok-clause-len c =

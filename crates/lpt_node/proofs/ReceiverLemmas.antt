@@ -1,0 +1,311 @@
+-- What a receiver makes of a part, by what its table answered; names stay tied.
+use Rattle.std.proofs.Common.{nat_cmp, if◌then◌else◌, ◌≡◌, ◌∙◌, ap, sym, subst, refl, ℕ, Bool, true, false, cond, Option, Some, None, is_some, Result, Ok, Err}
+use Rattle.std.specs.FinMap as map
+use Rattle.std.specs.Result.{IfOk, OnOk, OnErr}
+use Rattle.lpt_packet.specs.Names.{Name, same_name}
+use Rattle.lpt_packet.proofs.NameLemmas.{same_name-true}
+use Rattle.lpt_part.specs.declared.reason.Reason.{Reason}
+use Rattle.lpt_part.specs.Parts.{Piece}
+use Rattle.lpt_pus.specs.Telemetry.{Telemetry}
+use Rattle.lpt_ledger.specs.declared.state.State.{State}
+use Rattle.lpt_ledger.specs.declared.state.State.TheVariants.{Free, Open, Closed}
+use Rattle.lpt_ledger.specs.Marks.{Marks, Shut}
+use Rattle.lpt_ledger.specs.States.{state_of, state_at, is_free}
+use Rattle.lpt_reception.specs.Received.{Received, Ended, BrokenOff, all_of, break_reason, is_whole, spelled}
+use Rattle.lpt_table.specs.Offering as offering
+use Rattle.lpt_table.specs.Offering.{OfferKind, TakesOut, offered, parts_at, put_back, received_at, taken_out, with_entry}
+use Rattle.lpt_table.specs.declared.offer.Offer.TheVariants.{Memory}
+use Rattle.lpt_table.specs.Offers.{Offers}
+use Rattle.lpt_table.specs.Tables.{Entries, TableEntry, TableState, no_receptions}
+use Rattle.lpt_node.proofs.MapLemmas.{get_insert, get_remove}
+use Rattle.lpt_node.specs.declared.taken.Taken.{Taken}
+use Rattle.lpt_node.specs.declared.taken.Taken.TheVariants as taking
+use Rattle.lpt_node.specs.Receivers.{ReceiverState, IsTied, AllTied, IsReceiver, abort_report, after_offer, ended, grows, if_free, kept_of, parts_with, received, received_from}
+
+-- ---- names stay tied
+
+-- a part was kept under a free name
+pub tied-insert : (m : Marks) (es : Entries) (id : Name) (e : TableEntry)
+    → state_at m id ≡ Free
+    → AllTied m es
+    → AllTied m (map.insert es id e)
+tied-insert m es id e free all q =
+    subst (IsTied (state_at m q)) (sym (get_insert es id e q)) (go (same_name q id) refl) where
+      go : (b : Bool)
+          → same_name q id ≡ b
+          → IsTied (state_at m q) (cond b (Some e) (map.get es q))
+      go true same =
+          subst (λ s. IsTied s (Some e)) (sym (ap (state_at m) (same_name-true q id same) ∙ free)) tt
+      go false other = all q
+
+-- a reception has ended
+pub tied-ended : (m : Marks) (es : Entries) (id : Name)
+    → AllTied m es
+    → AllTied (map.insert m id Shut) (map.remove es id)
+tied-ended m es id all q =
+    subst (IsTied (state_at (map.insert m id Shut) q)) (sym (get_remove es id q))
+    (subst (λ o. IsTied (state_of o) (cond (same_name q id) None (map.get es q)))
+    (sym (get_insert m id Shut q)) (go (same_name q id)))
+  where
+    go : (b : Bool)
+        → IsTied (state_of (cond b (Some Shut) (map.get m q))) (cond b None (map.get es q))
+    go true = refl
+    go false = all q
+
+-- the name of an open reception is free
+pub tied-free : (s : State) (e : Option TableEntry) → IsTied s e → is_some e ≡ true → s ≡ Free
+tied-free Free e tied some = refl
+tied-free Open e tied some = absurd tied
+tied-free Closed e tied some = cc
+
+-- ---- an offer
+
+-- what is seen of a ledger and a table
+abbrev pub view : Marks → TableState → ReceiverState
+view m t =
+    record { limit = t.limit; timeout = t.timeout; p = t.p; ledger = m; entries = t.entries }
+
+not_free : (s : State) → (s ≡ Free → ⊥) → is_free s ≡ false
+not_free Free other = absurd (other refl)
+not_free Open other = refl
+not_free Closed other = refl
+
+-- a part whose name isn't free is left alone
+pub received-closed : (head : Option Telemetry) (r : ReceiverState) (q : Piece) (now : ℕ)
+    → (state_at r.ledger q.id ≡ Free → ⊥)
+    → (r, taking.Closed) ≡ received head r q now
+unfolding received
+received-closed head r q now other =
+    ap (λ (free : Bool). cond free
+    (received_from head r q.id (parts_with (record {
+      limit = r.limit;
+      timeout = r.timeout;
+      p = r.p;
+      entries = r.entries;
+      out = None;
+    }) q) (offered (record {
+      limit = r.limit;
+      timeout = r.timeout;
+      p = r.p;
+      entries = r.entries;
+      out = None;
+    }) q.id q.number (kept_of q) now)) (r, taking.Closed))
+    (sym (not_free (state_at r.ledger q.id) other))
+
+module _ (head : Option Telemetry) (m : Marks) (old mid : TableState) (q : Piece) (now : ℕ)
+    (seen : ReceiverState) (is : view m old ≡ seen) (sound : IsReceiver m old)
+    (free : state_at m q.id ≡ Free) where
+  -- what is made of the part is what is made of the offer
+  received-offered : (kind : OfferKind)
+      → offered old q.id q.number (kept_of q) now ≡ (kind, mid)
+      → after_offer head (view m old) q.id (parts_with old q) kind mid.entries
+      ≡ received head seen q now
+  unfolding received
+  received-offered kind e =
+      let table : record old { out = None } ≡ old = λ i. record old { out = sym sound.settled i } in
+      sym ((λ i. if_free (free i) (view m old)
+      (received_from head (view m old) q.id (parts_with (table i) q)
+      (offered (table i) q.id q.number (kept_of q) now)))
+      ∙ ap (λ (o : OfferKind × TableState). received_from head (view m old) q.id (parts_with old q) o) e)
+      ∙ ap (λ (r : ReceiverState). received head r q now) is
+
+  -- the receptions alone have changed
+  within : (es : Entries)
+      → mid ≡ record old { entries = es }
+      → view m mid ≡ record (view m old) { entries = mid.entries }
+  within es e =
+      ap (λ (t : TableState). view m t) e
+      ∙ ap (λ (t : TableState). record (view m old) { entries = t.entries }) (sym e)
+
+  -- the part was kept
+  pub received-kept : (es : Entries)
+      → offered old q.id q.number (kept_of q) now ≡ (offering.Kept, mid)
+      → mid ≡ record old { entries = es }
+      → (view m mid, taking.Kept) ≡ received head seen q now
+  received-kept es e new =
+      (λ i. (within es new i, taking.Kept)) ∙ received-offered offering.Kept e
+
+  -- the part had been kept
+  pub received-again : (es : Entries)
+      → offered old q.id q.number (kept_of q) now ≡ (offering.Again, mid)
+      → mid ≡ record old { entries = es }
+      → (view m mid, taking.Again) ≡ received head seen q now
+  received-again es e new =
+      (λ i. (within es new i, taking.Again)) ∙ received-offered offering.Again e
+
+  -- there was no room
+  pub received-no_room : offered old q.id q.number (kept_of q) now ≡ (offering.NoRoom, mid)
+      → mid ≡ old
+      → (view m mid, taking.NoRoom) ≡ received head seen q now
+  received-no_room e new =
+      ap (λ (t : TableState). (view m t, taking.NoRoom)) new ∙ received-offered offering.NoRoom e
+
+  module _ {E : Type 0} (r : Result Taken E) (after : Marks) (new : TableState)
+      (shut : OnOk r (after ≡ map.insert m q.id Shut))
+      (settled : OnOk r (new ≡ record mid { out = None })) (out : TakesOut old mid q.id) where
+    -- a whole message came out
+    pub received-whole : (w : Ended)
+        → IfOk r (λ t. t ≡ taking.Whole (spelled (all_of w)))
+        → offered old q.id q.number (kept_of q) now ≡ (offering.Whole, mid)
+        → w ≡ record { before = received_at old q.id; number = q.number; kept = kept_of q }
+        → IfOk r (λ t. ◌≡◌ {A = ReceiverState × Taken} (view after new, t) (received head seen q now))
+    received-whole w answer e all = by_answer r shut settled answer where
+      by_answer : (r : Result Taken E)
+          → OnOk r (after ≡ map.insert m q.id Shut)
+          → OnOk r (new ≡ record mid { out = None })
+          → IfOk r (λ t. t ≡ taking.Whole (spelled (all_of w)))
+          → IfOk r (λ t. ◌≡◌ {A = ReceiverState × Taken} (view after new, t) (received head seen q now))
+      by_answer (Ok t) a b is =
+          (λ i. (view (a i) ((b ∙ ap (λ (t : TableState). record t { out = None }) out.now) i), is i))
+          ∙ ap (λ (w : Ended). (ended (view m old) q.id, taking.Whole (spelled (all_of w)))) all
+          ∙ received-offered offering.Whole e
+      by_answer (Err x) a b is = tt
+
+    -- a reception that was broken off came out
+    pub received-broken : (b : BrokenOff)
+        → IfOk r (λ t. t ≡ taking.Broken b.reason (abort_report head q.id b.reason))
+        → offered old q.id q.number (kept_of q) now ≡ (offering.Conflict b.reason, mid)
+        → IfOk r (λ t. ◌≡◌ {A = ReceiverState × Taken} (view after new, t) (received head seen q now))
+    received-broken b answer e = by_answer r shut settled answer where
+      by_answer : (r : Result Taken E)
+          → OnOk r (after ≡ map.insert m q.id Shut)
+          → OnOk r (new ≡ record mid { out = None })
+          → IfOk r (λ t. t ≡ taking.Broken b.reason (abort_report head q.id b.reason))
+          → IfOk r (λ t. ◌≡◌ {A = ReceiverState × Taken} (view after new, t) (received head seen q now))
+      by_answer (Ok t) a s is =
+          (λ i. (view (a i) ((s ∙ ap (λ (t : TableState). record t { out = None }) out.now) i), is i))
+          ∙ received-offered (offering.Conflict b.reason) e
+      by_answer (Err x) a s is = tt
+
+-- ---- want of memory
+
+-- what holds of all results holds of errors
+on_err : {X E : Type 0} (r : Result X E) (P : Type 0) → P → OnErr r P
+on_err (Ok x) P p = tt
+on_err (Err x) P p = p
+
+module _ (head : Option Telemetry) (m : Marks) (old mid : TableState) (q : Piece) (now : ℕ)
+    (seen : ReceiverState) (is : view m old ≡ seen) (sound : IsReceiver m old)
+    (free : state_at m q.id ≡ Free) where
+  as_offered : (kind : OfferKind)
+      → offered old q.id q.number (kept_of q) now ≡ (kind, mid)
+      → grows (after_offer head (view m old) q.id (parts_with old q) kind mid.entries).1
+      ≡ grows (received head seen q now).1
+  as_offered kind e =
+      ap (λ (x : ReceiverState × Taken). grows x.1)
+      (received-offered head m old mid q now seen is sound free kind e)
+
+  -- a message is let out
+  pub grows-whole : {X E : Type 0} (r : Result X E)
+      → offered old q.id q.number (kept_of q) now ≡ (offering.Whole, mid)
+      → OnErr r (grows (received head seen q now).1 ≡ true)
+  grows-whole r e = on_err r _ (sym (as_offered offering.Whole e))
+
+  -- a report is made
+  pub grows-broken : {X E : Type 0} (r : Result X E) (reason : Reason)
+      → OnErr r (is_some (abort_report head q.id reason) ≡ true)
+      → offered old q.id q.number (kept_of q) now ≡ (offering.Conflict reason, mid)
+      → OnErr r (grows (received head seen q now).1 ≡ true)
+  grows-broken (Ok x) reason made e = tt
+  grows-broken (Err x) reason made e = sym (as_offered (offering.Conflict reason) e) ∙ made
+
+  -- what an offer comes to, by the table's tests
+  abbrev made : (full contra again whole : Bool) → OfferKind × TableState
+  made full contra again whole =
+      if full then (offering.NoRoom, old)
+      else if contra then (offering.Conflict break_reason, taken_out old q.id)
+      else if again then (offering.Again, with_entry old q.id (parts_at old q.id) now)
+      else if whole then (offering.Whole, taken_out old q.id)
+      else (offering.Kept, with_entry old q.id (parts_with old q) now)
+
+  abbrev grows_as : OfferKind × TableState → Bool
+  grows_as o = grows (received_from head (view m old) q.id (parts_with old q) o).1
+
+  kept_or_whole : (whole : Bool) → grows_as (made false false false whole) ≡ true
+  kept_or_whole true = refl
+  kept_or_whole false = refl
+
+  -- a part is kept, or ends its message
+  pub grows-kept : Offers old q.id q.number (kept_of q) now Memory mid
+      → grows (received head seen q now).1 ≡ true
+  unfolding offered
+  grows-kept h =
+      let o = offered old q.id q.number (kept_of q) now in
+      sym (ap (λ (x : ReceiverState × Taken). grows x.1)
+      (received-offered head m old o.1 q now seen is sound free o.0 refl))
+      ∙ (λ i. grows_as (made (h.0 i) (h.1.0.agrees i) (is_some (h.1.0.absent i)) (is_whole (parts_with old q))))
+      ∙ kept_or_whole (is_whole (parts_with old q))
+
+-- ---- what always holds
+
+-- the receptions changed, and names stay tied
+pub sound-kept : (m : Marks) (old new : TableState) (id : Name) (e : TableEntry)
+    → IsReceiver m old
+    → state_at m id ≡ Free
+    → new ≡ record old { entries = map.insert old.entries id e }
+    → IsReceiver m new
+sound-kept m old new id e sound free is =
+    subst (λ (t : TableState). IsReceiver m t) (sym is)
+    (record { settled = sound.settled; tied = tied-insert m old.entries id e free sound.tied })
+
+-- a reception ended, or was put back
+pub sound-out : {X E : Type 0} (r : Result X E) (m after : Marks) (old mid new : TableState)
+    (id : Name) (before : Received)
+    → IsReceiver m old
+    → TakesOut old mid id
+    → OnOk r (after ≡ map.insert m id Shut)
+    → OnOk r (new ≡ record mid { out = None })
+    → OnErr r (after ≡ m)
+    → OnErr r (new ≡ put_back mid id before.parts)
+    → before ≡ received_at old id
+    → put_back mid id (parts_at old id) ≡ old
+    → IsReceiver after new
+sound-out (Ok x) m after old mid new id before sound out a b c d is law =
+    let table : new ≡ record old { entries = map.remove old.entries id; out = None } =
+    b ∙ ap (λ (t : TableState). record t { out = None }) out.now in
+    subst (λ (t : TableState). IsReceiver after t) (sym table)
+    (subst (λ (m : Marks). IsReceiver m (record old { entries = map.remove old.entries id; out = None }))
+    (sym a) (record { settled = refl; tied = tied-ended m old.entries id sound.tied }))
+sound-out (Err x) m after old mid new id before sound out a b c d is law =
+    subst (λ (t : TableState). IsReceiver after t) (sym (d ∙ ap (λ (s : Received). put_back mid id s.parts) is ∙ law))
+    (subst (λ (m : Marks). IsReceiver m old) (sym c) sound)
+
+-- what came out is put back
+pub put_back-same : {X E : Type 0} (r : Result X E) (m after : Marks) (old mid new : TableState)
+    (id : Name) (before : Received) (seen : ReceiverState)
+    → view m old ≡ seen
+    → OnErr r (after ≡ m)
+    → OnErr r (new ≡ put_back mid id before.parts)
+    → before ≡ received_at old id
+    → put_back mid id (parts_at old id) ≡ old
+    → OnErr r (view after new ≡ seen)
+put_back-same (Ok x) m after old mid new id before seen v a b is law = tt
+put_back-same (Err x) m after old mid new id before seen v a b is law =
+    (λ i. view (a i) ((b ∙ ap (λ (s : Received). put_back mid id s.parts) is ∙ law) i)) ∙ v
+
+-- a reception ended for its age
+pub sound-expired : (m after : Marks) (old new : TableState) (id : Name)
+    → IsReceiver m old
+    → after ≡ map.insert m id Shut
+    → new ≡ record old { entries = map.remove old.entries id }
+    → IsReceiver after new
+sound-expired m after old new id sound shut is =
+    subst (λ (t : TableState). IsReceiver after t) (sym is)
+    (subst (λ (m : Marks). IsReceiver m (record old { entries = map.remove old.entries id }))
+    (sym shut)
+    (record { settled = sound.settled; tied = tied-ended m old.entries id sound.tied }))
+
+-- nothing has happened
+pub sound-new : (limit timeout p : ℕ) (m : Marks) (t : TableState)
+    → m ≡ map.empty
+    → t ≡ no_receptions limit timeout p
+    → IsReceiver m t
+sound-new limit timeout p m t a b =
+    subst (λ (t : TableState). IsReceiver m t) (sym b)
+    (subst (λ (m : Marks). IsReceiver m (no_receptions limit timeout p)) (sym a)
+    (record { settled = refl; tied = λ q. nothing q }))
+  where
+    nothing : (q : Name) → IsTied (state_at map.empty q) (map.get (no_receptions limit timeout p).entries q)
+    nothing q =
+        subst (λ o. IsTied (state_of o) (map.get (no_receptions limit timeout p).entries q))
+        (sym (map.get-empty nat_cmp q)) tt

@@ -1,0 +1,93 @@
+-- A message is kept exactly where its sender is open.
+use Rattle.std.proofs.Common.{◌≡◌, ◌∙◌, ap, sym, subst, refl, Bool, true, false, cond, Option, Some, None, is_some, List, ℕ}
+use Rattle.std.specs.Ordering.{nat_cmp}
+use Rattle.std.specs.FinMap as map
+use Rattle.lpt_packet.specs.Names.{Name, same_name}
+use Rattle.lpt_ledger.specs.Marks.{Marks, Mark, Opened, Shut}
+use Rattle.lpt_ledger.specs.States.{state_of}
+use Rattle.lpt_node.specs.Nodes.{Messages, is_open}
+use Rattle.lpt_events.specs.declared.config.Config.{Config}
+use Rattle.lpt_events.specs.Configs.{IsConfig}
+use Rattle.lpt_node.specs.NodeInside.{OpenMessages, AreKept, IsConfigured, IsSound}
+use Rattle.lpt_node.specs.Receivers.{ReceiverState}
+use Rattle.lpt_node.proofs.MapLemmas.{get_insert, get_remove}
+
+-- what is under a name in both maps, where it is this
+abbrev Tied : Option Mark → Option (List ℕ) → Type 0
+Tied x m = is_some m ≡ is_open (state_of x)
+
+either : (b : Bool) (x y : Option Mark) (m n : Option (List ℕ)) → Tied x m → Tied y n → Tied (cond b x y) (cond b m n)
+either true x y m n a b = a
+either false x y m n a b = b
+
+-- a sender was opened with its message
+pub kept-opened : (m : Marks) (ms : Messages) (id : Name) (x : List ℕ)
+    → AreKept m ms
+    → AreKept (map.insert m id Opened) (map.insert ms id x)
+kept-opened m ms id x all q =
+    subst (λ o. is_some (map.get (map.insert ms id x) q) ≡ is_open (state_of o)) (sym (get_insert m id Opened q))
+    (subst (λ n. is_some n ≡ is_open (state_of (cond (same_name q id) (Some Opened) (map.get m q)))) (sym (get_insert ms id x q))
+    (either (same_name q id) (Some Opened) (map.get m q) (Some x) (map.get ms q) refl (all q)))
+
+-- a sender was closed, and its message let go
+pub kept-closed : (m : Marks) (ms : Messages) (id : Name)
+    → AreKept m ms
+    → AreKept (map.insert m id Shut) (map.remove ms id)
+kept-closed m ms id all q =
+    subst (λ o. is_some (map.get (map.remove ms id) q) ≡ is_open (state_of o)) (sym (get_insert m id Shut q))
+    (subst (λ n. is_some n ≡ is_open (state_of (cond (same_name q id) (Some Shut) (map.get m q)))) (sym (get_remove ms id q))
+    (either (same_name q id) (Some Shut) (map.get m q) None (map.get ms q) refl (all q)))
+
+-- nothing was opened
+pub kept-none : AreKept map.empty map.empty
+kept-none q =
+    subst (λ o. is_some (map.get nothing q) ≡ is_open (state_of o)) (sym (map.get-empty nat_cmp q))
+    (ap is_some (map.get-empty nat_cmp q))
+  where
+    nothing : Messages
+    nothing = map.empty
+
+-- ---- what always holds of an end
+
+-- a message was opened
+pub sound-opened : (c : Config) (m after : Marks) (r : ReceiverState) (o new : OpenMessages) (id : Name) (x : List ℕ)
+    → IsSound c m r o
+    → after ≡ map.insert m id Opened
+    → new ≡ record o { messages = map.insert o.messages id x }
+    → IsSound c after r new
+sound-opened c m after r o new id x s a b = record {
+  configured = s.configured;
+  receiver = s.receiver;
+  messages = ap (λ (o : OpenMessages). o.p) b ∙ s.messages;
+  kept = subst (λ (n : OpenMessages). AreKept after n.messages) (sym b)
+      (subst (λ (m : Marks). AreKept m (map.insert o.messages id x)) (sym a) (kept-opened m o.messages id x s.kept));
+}
+
+-- a sender was closed
+pub sound-closed : (c : Config) (m after : Marks) (r : ReceiverState) (o new : OpenMessages) (id : Name)
+    → IsSound c m r o
+    → after ≡ map.insert m id Shut
+    → new ≡ record o { messages = map.remove o.messages id }
+    → IsSound c after r new
+sound-closed c m after r o new id s a b = record {
+  configured = s.configured;
+  receiver = s.receiver;
+  messages = ap (λ (o : OpenMessages). o.p) b ∙ s.messages;
+  kept = subst (λ (n : OpenMessages). AreKept after n.messages) (sym b)
+      (subst (λ (m : Marks). AreKept m (map.remove o.messages id)) (sym a) (kept-closed m o.messages id s.kept));
+}
+
+-- nothing has happened
+pub sound-new : (c : Config) (m : Marks) (r : ReceiverState) (o : OpenMessages)
+    → IsConfig c
+    → IsConfigured c r
+    → m ≡ map.empty
+    → o ≡ record { p = c.part_size; messages = map.empty }
+    → IsSound c m r o
+sound-new c m r o configured receiver a b = record {
+  configured = configured;
+  receiver = receiver;
+  messages = ap (λ (o : OpenMessages). o.p) b;
+  kept = subst (λ (n : OpenMessages). AreKept m n.messages) (sym b)
+      (subst (λ (m : Marks). AreKept m map.empty) (sym a) kept-none);
+}
