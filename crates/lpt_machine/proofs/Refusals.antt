@@ -31,7 +31,8 @@ use Rattle.lpt_journal.specs.Receivers.{clock}
 use Rattle.lpt_journal.specs.Due.{due}
 use Rattle.lpt_journal.specs.Refusals.{refusal, first_fault, parts_open}
 use Rattle.lpt_journal.specs.Senders.{Sender, FreeSender, OpenSender, ClosedSender, sender, is_free, is_open, open_count, opened_names}
-use Rattle.lpt_machine.specs.State.{State, node_fault, link_fault, refusal_of}
+use Rattle.lpt_node.specs.Faults.{node_fault}
+use Rattle.lpt_machine.specs.State.{State, link_fault, refusal_of}
 use Rattle.lpt_machine.specs.Shows.{Shows, ShowsSending, mark_of, message_of, sent_packet}
 use Rattle.lpt_machine.specs.Views.{views, sending_view}
 use Rattle.lpt_journal.proofs.MapLemmas.{len_once}

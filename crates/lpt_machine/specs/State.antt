@@ -15,13 +15,12 @@ use Rattle.lpt_link.specs.Links.{LinkData, empty_link, after_put, after_lose, af
 use Rattle.lpt_node.specs.declared.accepted.Accepted.{Accepted}
 use Rattle.lpt_events.specs.declared.config.Config.{Config}
 use Rattle.lpt_node.specs.declared.expired.Expired.{Expired as Ended}
-use Rattle.lpt_node.specs.declared.fault.NodeFault.{NodeFault}
-use Rattle.lpt_node.specs.declared.fault.NodeFault.TheVariants as node
 use Rattle.lpt_events.specs.declared.outcome.Outcome.{Outcome}
 use Rattle.lpt_events.specs.declared.outcome.Outcome.TheVariants.{Released}
 use Rattle.lpt_events.specs.declared.side.Side.{Side}
 use Rattle.lpt_events.specs.declared.side.Side.TheVariants.{Ground, Craft}
 use Rattle.lpt_node.specs.Accepting.{accepted}
+use Rattle.lpt_node.specs.Faults.{node_fault}
 use Rattle.lpt_events.specs.Arrivals.{Arrival, NotRead}
 use Rattle.lpt_node.specs.Nodes.{NodeData, no_data}
 use Rattle.lpt_node.specs.Requests.{refusal_plain, plain_made}
@@ -68,19 +67,6 @@ with_end s Ground d = record s { on_ground = d }
 with_end s Craft d = record s { on_craft = d }
 
 -- ---- faults
-
--- a node's fault as the world tells it
-abbrev pub node_fault : NodeFault → StepFault
-node_fault node.InUse = step.InUse
-node_fault node.Short = step.Short
-node_fault node.Long = step.Long
-node_fault node.TooMany = step.TooMany
-node_fault node.NotOpen = step.NotOpen
-node_fault node.NoSuchPart = step.NoSuchPart
-node_fault node.NothingDue = step.NothingDue
-node_fault node.ClockEnd = step.ClockEnd
-node_fault node.Memory = step.Memory
-node_fault node.PartRequest = step.PartRequest
 
 -- the link's fault as the world tells it
 abbrev pub link_fault : LinkFault → StepFault

@@ -2,7 +2,7 @@ pub mod Accepting
 pub mod Asking
 pub mod Codes
 pub mod Counting
-pub mod FaultNames
+pub mod Faults
 pub mod Found
 pub mod NodeInside
 pub mod Nodes

@@ -9,11 +9,8 @@ ghost use Rattle.lpt_node.specs.Times.{refusal_tick, refusal_expire};
 
 use crate::{Ask, Node, NodeFault};
 use lpt_ledger::State;
-use lpt_packet::Name;
+use lpt_packet::{LONGEST_PACKET, Name};
 use lpt_part::count;
-
-/// The most octets that a message has: those of the longest space packet.
-const LONGEST_MESSAGE: usize = 65542;
 
 impl Node {
     /// The first reason why this call would be refused now, or `None` where only want of memory
@@ -45,7 +42,7 @@ impl Node {
         if length <= self.config.part_size as usize {
             return Some(NodeFault::Short);
         }
-        if length > LONGEST_MESSAGE {
+        if length > LONGEST_PACKET {
             return Some(NodeFault::Long);
         }
         if self.outgoing.len() >= self.config.outgoing as usize {

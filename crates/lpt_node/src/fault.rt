@@ -1,8 +1,10 @@
 //! Why a node refuses a call.
 
 ghost use Rattle.std.specs.Prelude.{◌≡◌};
-ghost use Rattle.lpt_node.specs.FaultNames.{code_of, name_of};
+ghost use Rattle.lpt_events.specs.FaultNames.{code_of, name_of};
+ghost use Rattle.lpt_node.specs.Faults.{node_fault};
 
+use lpt_events::StepFault;
 use thiserror::Error;
 
 /// The first reason, in the order in which they are tested.
@@ -41,39 +43,35 @@ pub enum NodeFault {
 }
 
 impl NodeFault {
-    /// The fault's number.
-    pub fn code(self) -> u16
-        ensures { result ≡ code_of self }
+    /// The fault as a world tells it.
+    pub fn in_step(self) -> StepFault
+        ensures { result ≡ node_fault self }
     {
         match self {
-            NodeFault::InUse => 41,
-            NodeFault::Short => 42,
-            NodeFault::Long => 43,
-            NodeFault::TooMany => 44,
-            NodeFault::NotOpen => 45,
-            NodeFault::NoSuchPart => 46,
-            NodeFault::NothingDue => 50,
-            NodeFault::ClockEnd => 56,
-            NodeFault::Memory => 58,
-            NodeFault::PartRequest => 60,
+            NodeFault::InUse => StepFault::InUse,
+            NodeFault::Short => StepFault::Short,
+            NodeFault::Long => StepFault::Long,
+            NodeFault::TooMany => StepFault::TooMany,
+            NodeFault::NotOpen => StepFault::NotOpen,
+            NodeFault::NoSuchPart => StepFault::NoSuchPart,
+            NodeFault::NothingDue => StepFault::NothingDue,
+            NodeFault::ClockEnd => StepFault::ClockEnd,
+            NodeFault::Memory => StepFault::Memory,
+            NodeFault::PartRequest => StepFault::PartRequest,
         }
+    }
+
+    /// The fault's number, which is the one that a world gives it.
+    pub fn code(self) -> u16
+        ensures { result ≡ code_of (node_fault self) }
+    {
+        self.in_step().code()
     }
 
     /// The fault's name, as it is printed.
     pub fn name(self) -> &'static str
-        ensures { result.now ≡ name_of self }
+        ensures { result.now ≡ name_of (node_fault self) }
     {
-        match self {
-            NodeFault::InUse => "InUse",
-            NodeFault::Short => "Short",
-            NodeFault::Long => "Long",
-            NodeFault::TooMany => "TooMany",
-            NodeFault::NotOpen => "NotOpen",
-            NodeFault::NoSuchPart => "NoSuchPart",
-            NodeFault::NothingDue => "NothingDue",
-            NodeFault::ClockEnd => "ClockEnd",
-            NodeFault::Memory => "Memory",
-            NodeFault::PartRequest => "PartRequest",
-        }
+        self.in_step().name()
     }
 }

@@ -15,12 +15,9 @@ ghost use Rattle.lpt_node.specs.Receiving.{abort_head_at};
 use crate::counts::Counts;
 use crate::{Node, Side, TelemetryKind};
 use lpt_packet::{Name, Octets};
-use lpt_part::{Kind, Part, Reason, abort_octets};
+use lpt_part::{Kind, Part, Reason, TRANSFER, abort_octets};
 use lpt_pus::{TcHead, TmHead, tc_pieces, tm_octets, tm_pieces};
 use std::alloc::{AllocError, Global};
-
-/// The service type of large packet transfer.
-const TRANSFER: u8 = 13;
 
 impl Node {
     // The head of the next telemetry of a kind, by these counts.

@@ -4,32 +4,19 @@ ghost use Rattle.std.specs.Prelude.{◌≡◌, ◌↔◌, ◌+◌, ◌≤◌, �
 ghost use Rattle.lpt_packet.specs.Numbers.{IsOctets};
 ghost use Rattle.lpt_packet.specs.Packets.{APacket, fields, seen};
 ghost use Rattle.lpt_part.specs.Splitting.{IsPartSize};
-ghost use Rattle.lpt_packet.specs.declared.direction.Direction.TheVariants.{Up, Down};
 ghost use Rattle.lpt_events.specs.declared.side.Side.TheVariants.{Ground, Craft};
-ghost use Rattle.lpt_events.specs.Arrivals.{carried_kind};
 ghost use Rattle.lpt_node.specs.Origins.{arrival_from};
 ghost use Rattle.lpt_node.specs.Found.{body_from, IsFound, IsFoundIn, Shows};
 
 use crate::Side;
 use crate::found::{Found, Sight};
+use lpt_events::part_kind;
 use lpt_packet::laws::seen_is_read;
-use lpt_packet::{Octets, Packet, Seen, read_packet};
-use lpt_part::{Kind, read_abort, read_part};
+use lpt_packet::{Direction, Octets, Packet, Seen, read_packet};
+use lpt_part::{ABORT, TRANSFER, read_abort, read_part};
 use lpt_pus::laws::bodies;
-use lpt_pus::{read_tc, read_tm};
+use lpt_pus::{TC_HEADER, TM_HEADER, read_tc, read_tm};
 use std::marker::Model;
-
-/// The octets of a telecommand's secondary header, behind which its body stands.
-const TC_HEADER: usize = 5;
-
-/// The octets of a telemetry packet's secondary header, behind which its body stands.
-const TM_HEADER: usize = 11;
-
-/// The service type of large packet transfer.
-const TRANSFER: u8 = 13;
-
-/// The message subtype of the report that a reception was broken off.
-const ABORT: u8 = 16;
 
 /// A delivered packet with what it is to an end of the link, so far as that depends on no state.
 #[derive(Debug, Drop)]
@@ -157,7 +144,7 @@ fn found_in_uplink(packet: &Packet<'_>) -> Found
     let Ok((head, _)) = read_tc(packet) else {
         return Found::Unreadable;
     };
-    match carried_up(head.service, head.subtype) {
+    match part_kind(Direction::Up, head.service, head.subtype) {
         Some(kind) => Found::Part(kind, TC_HEADER),
         None => Found::Request,
     }
@@ -172,7 +159,7 @@ fn found_in_downlink(packet: &Packet<'_>) -> Found
     let Ok((head, _)) = read_tm(packet) else {
         return Found::Unreadable;
     };
-    match carried_down(head.service, head.subtype) {
+    match part_kind(Direction::Down, head.service, head.subtype) {
         Some(kind) => Found::Part(kind, TM_HEADER),
         None => {
             if head.service == TRANSFER && head.subtype == ABORT {
@@ -181,29 +168,5 @@ fn found_in_downlink(packet: &Packet<'_>) -> Found
                 Found::Report(head.service, head.subtype)
             }
         }
-    }
-}
-
-// The kind of part that a telecommand carries.
-pub(crate) fn carried_up(service: u8, subtype: u8) -> Option<Kind>
-    ensures { result ≡ carried_kind Up service subtype }
-{
-    match (service, subtype) {
-        (TRANSFER, 9) => Some(Kind::First),
-        (TRANSFER, 10) => Some(Kind::Middle),
-        (TRANSFER, 11) => Some(Kind::Last),
-        _ => None,
-    }
-}
-
-// The kind of part that telemetry carries.
-fn carried_down(service: u8, subtype: u8) -> Option<Kind>
-    ensures { result ≡ carried_kind Down service subtype }
-{
-    match (service, subtype) {
-        (TRANSFER, 1) => Some(Kind::First),
-        (TRANSFER, 2) => Some(Kind::Middle),
-        (TRANSFER, 3) => Some(Kind::Last),
-        _ => None,
     }
 }

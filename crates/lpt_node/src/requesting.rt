@@ -5,9 +5,9 @@ ghost use Rattle.lpt_events.specs.declared.side.Side.TheVariants.{Ground};
 ghost use Rattle.lpt_node.specs.Requests.{refusal_plain, plain_made};
 ghost use Rattle.lpt_node.specs.Sending.{RefusedBy};
 
-use crate::parsed::carried_up;
 use crate::{Node, NodeFault};
-use lpt_packet::Octets;
+use lpt_events::part_kind;
+use lpt_packet::{Direction, Octets};
 use lpt_pus::{AckFlags, TcHead, tc_octets};
 
 /// How many octets a plain request's body may have more than a part.
@@ -64,7 +64,7 @@ impl Node {
         ensures value { result ≡ refusal_plain self.now.config service subtype length }
         ensures fits { IfNone result (length ≤ 1034) }
     {
-        match carried_up(service, subtype) {
+        match part_kind(Direction::Up, service, subtype) {
             Some(_) => return Some(NodeFault::PartRequest),
             None => {}
         }

@@ -7,16 +7,17 @@ ghost use Rattle.lpt_events.specs.Lanes.{lane_direction};
 ghost use Rattle.lpt_link.specs.Links.{after_put, packet_in_hand};
 ghost use Rattle.lpt_node.specs.Accepting.{accepted};
 ghost use Rattle.lpt_node.specs.Asking.{refusal_of as node_refusal};
+ghost use Rattle.lpt_node.specs.Faults.{node_fault};
 ghost use Rattle.lpt_node.specs.Origins.{arrival_from};
 ghost use Rattle.lpt_world.specs.EndsSound.{IsSound};
 ghost use Rattle.lpt_events.specs.Sides.{sender_side, receiver_side};
 ghost use Rattle.lpt_events.specs.Configs.{IsConfig};
-ghost use Rattle.lpt_machine.specs.State.{no_state, end_of, refusal_of, after, node_fault, released_of, add_release, as_list, put_report, put_some, IsAccepted, quiet as quiet_reply, put_one as put_one_reply};
+ghost use Rattle.lpt_machine.specs.State.{no_state, end_of, refusal_of, after, released_of, add_release, as_list, put_report, put_some, IsAccepted, quiet as quiet_reply, put_one as put_one_reply};
 
-use crate::faults::{of_link, of_node};
+use crate::faults::of_link;
 use crate::{Answer, Event, Opening, Puts, Release, Reply, StepFault};
 use lpt_link::{Lane, Link};
-use lpt_node::{Accepted, Ask, Config, Node, Outcome, Parsed, Side};
+use lpt_node::{Accepted, Ask, Config, Node, NodeFault, Outcome, Parsed, Side};
 use lpt_packet::{Direction, Name, Octets};
 use lpt_part::count;
 use std::alloc::{AllocError, Global};
@@ -83,8 +84,8 @@ impl Ends {
             (node_refusal self.now.config (end_of (state_of self.now) side) ask) }
     {
         match side {
-            Side::Ground => self.on_ground.refusal(&ask).map(of_node),
-            Side::Craft => self.on_craft.refusal(&ask).map(of_node),
+            Side::Ground => self.on_ground.refusal(&ask).map(NodeFault::in_step),
+            Side::Craft => self.on_craft.refusal(&ask).map(NodeFault::in_step),
         }
     }
 
