@@ -4,3 +4,4 @@ pub mod MapLemmas
 pub mod OutgoingLemmas
 pub mod ReceiverLemmas
 pub mod SenderLemmas
+pub mod TiedLemmas

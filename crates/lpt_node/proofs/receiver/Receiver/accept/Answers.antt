@@ -4,7 +4,8 @@ use Rattle.std.specs.Option.{option_map}
 use Rattle.lpt_part.specs.Parts.{piece}
 use Rattle.lpt_pus.specs.Telemetry.{telemetry, as_written}
 use Rattle.lpt_reception.specs.Received.{Ended, BrokenOff}
-use Rattle.lpt_node.proofs.ReceiverLemmas.{received-closed, received-kept, received-again, received-no_room, received-whole, received-broken, grows-kept, grows-whole, grows-broken, sound-kept, sound-out}
+use Rattle.lpt_node.proofs.ReceiverLemmas.{received-closed, received-kept, received-again, received-no_room, received-whole, received-broken, grows-kept, grows-whole, grows-broken}
+use Rattle.lpt_node.proofs.TiedLemmas.{sound-kept, sound-out}
 use Rattle.lpt_node.proofs.receiver.Receiver.accept.Goals as goal
 
 pub returns-then-ne-clause-ok : goal.returns-then-ne-clause-ok

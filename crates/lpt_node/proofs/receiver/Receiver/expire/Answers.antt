@@ -1,5 +1,5 @@
 -- The reception has ended, and names stay tied.
-use Rattle.lpt_node.proofs.ReceiverLemmas.{sound-expired}
+use Rattle.lpt_node.proofs.TiedLemmas.{sound-expired}
 use Rattle.lpt_node.proofs.receiver.Receiver.expire.Goals as goal
 
 pub invariant_of-self : goal.invariant_of-self

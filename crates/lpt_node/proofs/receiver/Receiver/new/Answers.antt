@@ -1,5 +1,5 @@
 -- No name is closed, and no reception is open.
-use Rattle.lpt_node.proofs.ReceiverLemmas.{sound-new}
+use Rattle.lpt_node.proofs.TiedLemmas.{sound-new}
 use Rattle.lpt_node.proofs.receiver.Receiver.new.Goals as goal
 
 pub invariant_of-result : goal.invariant_of-result

@@ -1,0 +1,105 @@
+-- Names stay tied to their receptions, so that a receiver is sound after each change.
+use Rattle.std.proofs.Common.{nat_cmp, ◌≡◌, ◌∙◌, ap, sym, subst, refl, ℕ, Bool, true, false, cond, Some, None, Result, Ok, Err}
+use Rattle.std.specs.FinMap as map
+use Rattle.std.specs.Result.{OnOk, OnErr}
+use Rattle.lpt_packet.specs.Names.{Name, same_name}
+use Rattle.lpt_packet.proofs.NameLemmas.{same_name-true}
+use Rattle.lpt_ledger.specs.declared.state.State.TheVariants.{Free}
+use Rattle.lpt_ledger.specs.Marks.{Marks, Shut}
+use Rattle.lpt_ledger.specs.States.{state_of, state_at}
+use Rattle.lpt_reception.specs.Received.{Received}
+use Rattle.lpt_table.specs.Offering.{TakesOut, parts_at, put_back, received_at}
+use Rattle.lpt_table.specs.Tables.{Entries, TableEntry, TableState, no_receptions}
+use Rattle.lpt_node.proofs.MapLemmas.{get_insert, get_remove}
+use Rattle.lpt_node.specs.Receivers.{IsTied, AllTied, IsReceiver}
+
+-- ---- names stay tied
+
+-- a part was kept under a free name
+pub tied-insert : (m : Marks) (es : Entries) (id : Name) (e : TableEntry)
+    → state_at m id ≡ Free
+    → AllTied m es
+    → AllTied m (map.insert es id e)
+tied-insert m es id e free all q =
+    subst (IsTied (state_at m q)) (sym (get_insert es id e q)) (go (same_name q id) refl) where
+      go : (b : Bool)
+          → same_name q id ≡ b
+          → IsTied (state_at m q) (cond b (Some e) (map.get es q))
+      go true same =
+          subst (λ s. IsTied s (Some e)) (sym (ap (state_at m) (same_name-true q id same) ∙ free)) tt
+      go false other = all q
+
+-- a reception has ended
+pub tied-ended : (m : Marks) (es : Entries) (id : Name)
+    → AllTied m es
+    → AllTied (map.insert m id Shut) (map.remove es id)
+tied-ended m es id all q =
+    subst (IsTied (state_at (map.insert m id Shut) q)) (sym (get_remove es id q))
+    (subst (λ o. IsTied (state_of o) (cond (same_name q id) None (map.get es q)))
+    (sym (get_insert m id Shut q)) (go (same_name q id)))
+  where
+    go : (b : Bool)
+        → IsTied (state_of (cond b (Some Shut) (map.get m q))) (cond b None (map.get es q))
+    go true = refl
+    go false = all q
+
+-- ---- what always holds
+
+-- the receptions changed, and names stay tied
+pub sound-kept : (m : Marks) (old new : TableState) (id : Name) (e : TableEntry)
+    → IsReceiver m old
+    → state_at m id ≡ Free
+    → new ≡ record old { entries = map.insert old.entries id e }
+    → IsReceiver m new
+sound-kept m old new id e sound free is =
+    subst (λ (t : TableState). IsReceiver m t) (sym is)
+    (record { settled = sound.settled; tied = tied-insert m old.entries id e free sound.tied })
+
+-- a reception ended, or was put back
+pub sound-out : {X E : Type 0} (r : Result X E) (m after : Marks) (old mid new : TableState)
+    (id : Name) (before : Received)
+    → IsReceiver m old
+    → TakesOut old mid id
+    → OnOk r (after ≡ map.insert m id Shut)
+    → OnOk r (new ≡ record mid { out = None })
+    → OnErr r (after ≡ m)
+    → OnErr r (new ≡ put_back mid id before.parts)
+    → before ≡ received_at old id
+    → put_back mid id (parts_at old id) ≡ old
+    → IsReceiver after new
+sound-out (Ok x) m after old mid new id before sound out a b c d is law =
+    let table : new ≡ record old { entries = map.remove old.entries id; out = None } =
+    b ∙ ap (λ (t : TableState). record t { out = None }) out.now in
+    subst (λ (t : TableState). IsReceiver after t) (sym table)
+    (subst (λ (m : Marks). IsReceiver m (record old { entries = map.remove old.entries id; out = None }))
+    (sym a) (record { settled = refl; tied = tied-ended m old.entries id sound.tied }))
+sound-out (Err x) m after old mid new id before sound out a b c d is law =
+    subst (λ (t : TableState). IsReceiver after t) (sym (d ∙ ap (λ (s : Received). put_back mid id s.parts) is ∙ law))
+    (subst (λ (m : Marks). IsReceiver m old) (sym c) sound)
+
+-- a reception ended for its age
+pub sound-expired : (m after : Marks) (old new : TableState) (id : Name)
+    → IsReceiver m old
+    → after ≡ map.insert m id Shut
+    → new ≡ record old { entries = map.remove old.entries id }
+    → IsReceiver after new
+sound-expired m after old new id sound shut is =
+    subst (λ (t : TableState). IsReceiver after t) (sym is)
+    (subst (λ (m : Marks). IsReceiver m (record old { entries = map.remove old.entries id }))
+    (sym shut)
+    (record { settled = sound.settled; tied = tied-ended m old.entries id sound.tied }))
+
+-- nothing has happened
+pub sound-new : (limit timeout p : ℕ) (m : Marks) (t : TableState)
+    → m ≡ map.empty
+    → t ≡ no_receptions limit timeout p
+    → IsReceiver m t
+sound-new limit timeout p m t a b =
+    subst (λ (t : TableState). IsReceiver m t) (sym b)
+    (subst (λ (m : Marks). IsReceiver m (no_receptions limit timeout p)) (sym a)
+    (record { settled = refl; tied = λ q. nothing q }))
+  where
+    nothing : (q : Name) → IsTied (state_at map.empty q) (map.get (no_receptions limit timeout p).entries q)
+    nothing q =
+        subst (λ o. IsTied (state_of o) (map.get (no_receptions limit timeout p).entries q))
+        (sym (map.get-empty nat_cmp q)) tt
