@@ -27,10 +27,13 @@ pub struct JobQueue {
 impl Model for JobQueue {
     ghost use Rattle.std.specs.Prelude.{◌-◌};
     ghost use Rattle.std.specs.VecDeque.{deque_len, deque_capacity};
+    ghost use Rattle.lpt_jobs.specs.Codes.{coded_queue};
     ghost use Rattle.lpt_jobs.specs.Jobs.{QueueView};
     ghost use Rattle.lpt_jobs.specs.JobsInside.{IsKept};
 
     ghost Value = { QueueView };
+
+    ghost coded = { coded_queue };
 
     ghost view = { λ q. record {
       at = record { first = q.first; jobs = q.jobs.items };
