@@ -31,7 +31,8 @@ mark_with (Some (Some r)) = Committed r
 -- the code of a mark
 abbrev pub coded_mark : Coded Mark
 coded_mark =
-    code_by (Option (Option Source)) (coded_option (coded_option coded_source)) committed_in mark_with
+    code_by (Option (Option Source)) (coded_option (coded_option coded_source))
+    committed_in mark_with
     (λ m. elim m as (λ x. mark_with (committed_in x) ≡ x)
     [ Waiting ↦ refl | Claimed ↦ refl | Committed r ↦ refl ])
 

@@ -117,8 +117,8 @@ impl JobQueue {
         self.jobs.reserve(1)
     }
 
-    /// Adds the job of a released message, with the next number. It takes the room of one job, which
-    /// must be there, and no memory.
+    /// Adds the job of a released message, with the next number. It takes the room of one job,
+    /// which must be there, and no memory.
     pub fn push_reserved(&mut self, message: Octets)
         requires room { 0 < self.old.spare }
         requires numbers { numbered self.old.at + 1 < 2 ^ 64 }
