@@ -178,9 +178,10 @@ kept-claim first jobs claimed j kept some is =
     let more : claimed_in (set jobs n j) ≡ n + 1
     = claimed_in-claim jobs j kept.order (omega (arith, kept.count)) is in
     let same : set jobs claimed j ≡ set jobs n j = ap (λ (i : ℕ). set jobs i j) kept.count in
+    let order = order-set jobs n j kept.order (omega arith) (omega arith) in
     record {
       count = ap (λ i. i + 1) kept.count ∙ sym more ∙ ap claimed_in (sym same);
-      order = subst AreInOrder (sym same) (order-set jobs n j kept.order (omega arith) (omega arith));
+      order = subst AreInOrder (sym same) order;
       numbers = omega (arith, length-set jobs claimed j);
     }
 

@@ -27,10 +27,13 @@ pub struct JobQueue {
 impl Model for JobQueue {
     ghost use Rattle.std.specs.Prelude.{◌-◌};
     ghost use Rattle.std.specs.VecDeque.{deque_len, deque_capacity};
+    ghost use Rattle.lpt_jobs.specs.Codes.{coded_queue};
     ghost use Rattle.lpt_jobs.specs.Jobs.{QueueView};
     ghost use Rattle.lpt_jobs.specs.JobsInside.{IsKept};
 
     ghost Value = { QueueView };
+
+    ghost coded = { coded_queue };
 
     ghost view = { λ q. record {
       at = record { first = q.first; jobs = q.jobs.items };
@@ -114,8 +117,8 @@ impl JobQueue {
         self.jobs.reserve(1)
     }
 
-    /// Adds the job of a released message, with the next number. It takes the room of one job, which
-    /// must be there, and no memory.
+    /// Adds the job of a released message, with the next number. It takes the room of one job,
+    /// which must be there, and no memory.
     pub fn push_reserved(&mut self, message: Octets)
         requires room { 0 < self.old.spare }
         requires numbers { numbered self.old.at + 1 < 2 ^ 64 }
