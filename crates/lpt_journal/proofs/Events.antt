@@ -4,7 +4,7 @@ use Rattle.std.specs.List.{slice_get, find}
 use Rattle.std.specs.Option.{is_some}
 use Rattle.lpt_packet.specs.declared.direction.Direction.{Direction}
 use Rattle.lpt_packet.specs.declared.direction.Direction.TheVariants.{Up, Down}
-use Rattle.lpt_packet.specs.Names.{Name}
+use Rattle.lpt_packet.specs.Names.{Name, IsName}
 use Rattle.lpt_part.specs.Parts.{Piece}
 use Rattle.lpt_part.specs.Splitting.{part_count}
 use Rattle.lpt_part.proofs.SplitLemmas.{part_of-fits}
@@ -111,7 +111,7 @@ packet_arrives : (c : Config) (h : History) (d : Direction) (id : Name) (m : Lis
     → IsConfig c
     → IsSound c h
     → IsMessage m c.part_size
-    → id < 65536
+    → IsName id
     → 1 ≤ k
     → k ≤ part_count (length m) c.part_size
     → arrival_of c (record {
@@ -146,7 +146,7 @@ same_part e = cc
 pub send_owes : (c : Config) (first : Contents) (h : History) (d : Direction) (id : Name) (k : ℕ)
     → IsConfig c
     → IsSound c h
-    → id < 65536
+    → IsName id
     → refusal c h (Send d id k) ≡ None
     → Owes c h (entry c first h (Send d id k))
 send_owes c first h d id k good sound i accepted =

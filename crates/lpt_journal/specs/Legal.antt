@@ -1,5 +1,6 @@
 -- Which journals are legal.
 use Rattle.std.specs.Prelude.{◌≡◌, ◌<◌, List, [], ◌∷◌, None, ⊤}
+use Rattle.lpt_packet.specs.Names.{IsName}
 use Rattle.lpt_packet.specs.Numbers.{IsOctets}
 use Rattle.lpt_memory.specs.Memories.{Contents}
 use Rattle.lpt_events.specs.declared.config.Config.{Config}
@@ -11,11 +12,11 @@ use Rattle.lpt_journal.specs.Refusals.{refusal}
 
 -- the event's numbers are of their types
 abbrev pub IsEvent : Event → Type 0
-IsEvent (Open d id m) = (id < 65536) × IsOctets m
-IsEvent (Send d id k) = (id < 65536) × (k < 65536)
+IsEvent (Open d id m) = IsName id × IsOctets m
+IsEvent (Send d id k) = IsName id × (k < 65536)
 IsEvent (Plain flags service subtype body) =
     (flags < 16) × (service < 256) × (subtype < 256) × IsOctets body
-IsEvent (Finish d id) = id < 65536
+IsEvent (Finish d id) = IsName id
 IsEvent (Lose n) = ⊤
 IsEvent (Take l n) = ⊤
 IsEvent (Deliver l) = ⊤

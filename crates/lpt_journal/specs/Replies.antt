@@ -2,7 +2,7 @@
 use Rattle.std.specs.Prelude.{ℕ, ◌+◌, List, [], ◌∷◌, length, Option, Some, None}
 use Rattle.lpt_packet.specs.declared.direction.Direction.{Direction}
 use Rattle.lpt_packet.specs.declared.direction.Direction.TheVariants.{Up, Down}
-use Rattle.lpt_packet.specs.Names.{Name}
+use Rattle.lpt_packet.specs.Names.{Name, no_name}
 use Rattle.lpt_memory.specs.Memories.{Contents}
 use Rattle.lpt_part.specs.declared.reason.Reason.{Reason}
 use Rattle.lpt_part.specs.declared.reason.Reason.TheVariants as reason
@@ -33,7 +33,7 @@ use Rattle.lpt_journal.specs.Delivery.{outcome}
 
 -- the end of the reception that is due; where none is, that is refused
 abbrev pub expired_now : Direction → Option Name → Answer
-expired_now d None = Expired d 0
+expired_now d None = Expired d no_name
 expired_now d (Some id) = Expired d id
 
 -- what is particular to the event in its reply

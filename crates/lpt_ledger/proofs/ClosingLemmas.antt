@@ -2,9 +2,9 @@
 use Rattle.std.proofs.Common.{◌≡◌, ◌≢◌, ◌∙◌, refl, sym, ap, ℕ, zero, suc, ◌+◌, ◌<◌, Bool, true, false, cond, List, [], ◌∷◌, ◌++◌, take, drop, length, get_or, map as mapped, Option, Some, None, arith, add-one}
 use Rattle.std.proofs.Math.ListN.{set, get_or-map}
 use Rattle.std.specs.FinMap.{get, entries, find, get-entries, get-from_entries}
-use Rattle.std.specs.Ordering.{nat_cmp, eq_by_cmp}
-use Rattle.std.specs.Cmp.{nat_cmp_total}
-use Rattle.lpt_packet.specs.Names.{Name}
+use Rattle.lpt_packet.proofs.NameLemmas.{name_cmp_total}
+use Rattle.std.specs.Ordering.{eq_by_cmp}
+use Rattle.lpt_packet.specs.Names.{Name, name_cmp}
 use Rattle.lpt_ledger.specs.declared.state.State.{State}
 use Rattle.lpt_ledger.specs.declared.state.State.TheVariants.{Free, Open, Closed}
 use Rattle.lpt_ledger.specs.Marks.{Mark, Opened, Shut, Marks, shut_mark, all_closed}
@@ -20,19 +20,19 @@ all_shut es = mapped (λ (e : Name × Mark). (e.0, Shut)) es
 
 -- what is found among them
 find-shut : (q : Name) (es : List (Name × Mark))
-    → find nat_cmp q (all_shut es) ≡ shut_mark (find nat_cmp q es)
+    → find name_cmp q (all_shut es) ≡ shut_mark (find name_cmp q es)
 find-shut q [] = refl
 find-shut q (e ∷ es) =
-    let rest = find nat_cmp q es in
-    let shut = find nat_cmp q (all_shut es) in
+    let rest = find name_cmp q es in
+    let shut = find name_cmp q (all_shut es) in
     let same : Bool → Type 0 = λ b. cond b (Some Shut) shut ≡ shut_mark (cond b (Some e.1) rest) in
-    elim (eq_by_cmp nat_cmp q e.0) as same [ true ↦ refl | false ↦ find-shut q es ]
+    elim (eq_by_cmp name_cmp q e.0) as same [ true ↦ refl | false ↦ find-shut q es ]
 
 -- the mark of each identifier once all are closed
 pub get-all_closed : (m : Marks) (q : Name) → get (all_closed m) q ≡ shut_mark (get m q)
 unfolding all_closed
 get-all_closed m q =
-    get-from_entries nat_cmp_total (all_shut (entries m)) q
+    get-from_entries name_cmp_total (all_shut (entries m)) q
     ∙ find-shut q (entries m)
     ∙ ap shut_mark (sym (get-entries m q))
 

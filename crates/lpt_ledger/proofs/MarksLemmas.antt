@@ -3,10 +3,9 @@ use Rattle.std.proofs.Common.{◌≡◌, ◌∙◌, refl, sym, ap, ℕ, zero, su
 use Rattle.std.proofs.Math.ListN.{set, replicate}
 use Rattle.std.proofs.lemmas.Bool.Decides.{nat_tests, eqb_tells}
 use Rattle.std.proofs.lemmas.Grind.{get_or-set_at}
-use Rattle.std.specs.FinMap.{get, empty, find, from_entries, get-insert, get-remove, get-from_entries, same_map, nat_cmp-IsAntisymmetric}
-use Rattle.std.specs.Ordering.{nat_cmp}
-use Rattle.std.specs.Cmp.{nat_cmp_total, unsigned_tied}
-use Rattle.lpt_packet.specs.Names.{Name}
+use Rattle.lpt_packet.proofs.NameLemmas.{name_cmp-IsAntisymmetric, name_cmp_total, name_tied}
+use Rattle.std.specs.FinMap.{get, empty, find, from_entries, get-insert, get-remove, get-from_entries, same_map}
+use Rattle.lpt_packet.specs.Names.{Name, name_cmp}
 use Rattle.lpt_ledger.specs.declared.state.State.{State}
 use Rattle.lpt_ledger.specs.declared.state.State.TheVariants.{Free, Open, Closed}
 use Rattle.lpt_ledger.specs.Marks.{Mark, Opened, Shut, Marks}
@@ -28,24 +27,24 @@ below_false q k h = grind (arith, nat_tests)
 -- at an identifier before or after the one that is marked
 find-marked_other : (q k : ℕ) (o : Option Mark) (es : List (Name × Mark))
     → (q == k) ≡ false
-    → find nat_cmp q (marked k o es) ≡ find nat_cmp q es
+    → find name_cmp q (marked k o es) ≡ find name_cmp q es
 find-marked_other q k None es h = refl
 find-marked_other q k (Some x) es h =
-    ap (λ (b : Bool). cond b (Some x) (find nat_cmp q es)) (unsigned_tied q k ∙ h)
+    ap (λ (b : Bool). cond b (Some x) (find name_cmp q es)) (name_tied q k ∙ h)
 
 -- at the identifier that is marked
 find-marked_same : (q k : ℕ) (o : Option Mark) (es : List (Name × Mark))
     → (q == k) ≡ true
-    → find nat_cmp q es ≡ None
-    → find nat_cmp q (marked k o es) ≡ o
+    → find name_cmp q es ≡ None
+    → find name_cmp q (marked k o es) ≡ o
 find-marked_same q k None es h none = none
 find-marked_same q k (Some x) es h none =
-    ap (λ (b : Bool). cond b (Some x) (find nat_cmp q es)) (unsigned_tied q k ∙ h)
+    ap (λ (b : Bool). cond b (Some x) (find name_cmp q es)) (name_tied q k ∙ h)
 
 -- nothing is found before the first place
 find-marks_from_before : (q k : ℕ) (states : List State)
     → q < k
-    → find nat_cmp q (marks_from k states) ≡ None
+    → find name_cmp q (marks_from k states) ≡ None
 unfolding marks_from
 find-marks_from_before q k [] h = refl
 find-marks_from_before q k (s ∷ rest) h =
@@ -55,7 +54,7 @@ find-marks_from_before q k (s ∷ rest) h =
 -- at a place the mark of its state is found
 find-marks_from : (q k i : ℕ) (states : List State)
     → q ≡ k + i
-    → find nat_cmp q (marks_from k states) ≡ mark_of (get_or states i Free)
+    → find name_cmp q (marks_from k states) ≡ mark_of (get_or states i Free)
 unfolding marks_from
 find-marks_from q k i [] e = refl
 find-marks_from q k zero (s ∷ rest) e =
@@ -72,7 +71,7 @@ pub get-marks : (states : List State) (q : Name)
     → get (marks states) q ≡ mark_of (get_or states q Free)
 unfolding marks
 get-marks states q =
-    get-from_entries nat_cmp_total (marks_from 0 states) q
+    get-from_entries name_cmp_total (marks_from 0 states) q
     ∙ find-marks_from q 0 q states (omega arith)
 
 -- a state's mark stands for it
@@ -88,7 +87,7 @@ state_at-marks states q = ap state_of (get-marks states q) ∙ state_of-mark_of 
 
 -- marks that show the same are the same
 pub same_marks : (m n : Marks) → ((q : Name) → get m q ≡ get n q) → m ≡ n
-same_marks m n same = same_map nat_cmp_total nat_cmp-IsAntisymmetric m n same
+same_marks m n same = same_map name_cmp_total name_cmp-IsAntisymmetric m n same
 
 -- ---- one state is set
 
@@ -96,13 +95,13 @@ same_marks m n same = same_map nat_cmp_total nat_cmp-IsAntisymmetric m n same
 get-with_state : (m : Marks) (id : Name) (s : State) (q : Name)
     → get (with_state m id s) q ≡ cond (q == id) (mark_of s) (get m q)
 get-with_state m id Free q =
-    get-remove nat_cmp_total m id q ∙ ap (λ (b : Bool). cond b None (get m q)) (unsigned_tied q id)
+    get-remove name_cmp_total m id q ∙ ap (λ (b : Bool). cond b None (get m q)) (name_tied q id)
 get-with_state m id Open q =
-    get-insert nat_cmp_total m id Opened q
-    ∙ ap (λ (b : Bool). cond b (Some Opened) (get m q)) (unsigned_tied q id)
+    get-insert name_cmp_total m id Opened q
+    ∙ ap (λ (b : Bool). cond b (Some Opened) (get m q)) (name_tied q id)
 get-with_state m id Closed q =
-    get-insert nat_cmp_total m id Shut q
-    ∙ ap (λ (b : Bool). cond b (Some Shut) (get m q)) (unsigned_tied q id)
+    get-insert name_cmp_total m id Shut q
+    ∙ ap (λ (b : Bool). cond b (Some Shut) (get m q)) (name_tied q id)
 
 -- the same of a list of states
 get_or-set_cond : (states : List State) (id : ℕ) (s : State) (q : ℕ)
@@ -141,4 +140,4 @@ marks_from-replicate k (suc n) = marks_from-replicate (suc k) n
 pub marks-replicate : (n : ℕ) → marks (replicate n Free) ≡ empty
 unfolding marks
 marks-replicate n =
-    ap (λ (es : List (Name × Mark)). from_entries {R = nat_cmp} es) (marks_from-replicate 0 n)
+    ap (λ (es : List (Name × Mark)). from_entries {R = name_cmp} es) (marks_from-replicate 0 n)

@@ -1,7 +1,7 @@
 -- What a ledger is seen as: a mark for each identifier that isn't free.
 use Rattle.std.specs.Prelude.{◌≡◌, Bool, true, false, Option, Some, None, map as mapped, refl}
 use Rattle.std.specs.FinMap as map
-use Rattle.std.specs.Ordering.{nat_cmp}
+use Rattle.lpt_packet.specs.Names.{name_cmp}
 use Rattle.std.specs.Coded.{Coded, code_by, coded_ℕ, coded_bool}
 
 -- an identifier that isn't free is open or closed
@@ -27,7 +27,7 @@ coded_mark =
 
 -- the marks of the identifiers that aren't free
 abbrev pub Marks : Type 0
-Marks = map.FinMap nat_cmp Mark
+Marks = map.FinMap name_cmp Mark
 
 -- the code of a ledger's marks
 abbrev pub coded_marks : Coded Marks

@@ -1,7 +1,7 @@
 -- Where nothing has happened, the state shows the empty journal.
 use Rattle.std.proofs.Common.{arith, ◌&&◌, true, if◌then◌else◌, ◌≡◌, ◌∙◌, ap, sym, refl, [], None, Some}
 use Rattle.std.specs.FinMap as maps
-use Rattle.std.specs.Ordering.{nat_cmp}
+use Rattle.lpt_packet.specs.Names.{name_cmp}
 use Rattle.lpt_packet.specs.declared.direction.Direction.{Direction}
 use Rattle.lpt_packet.specs.declared.direction.Direction.TheVariants.{Up, Down}
 use Rattle.lpt_packet.proofs.Readings.{lt_false}
@@ -25,8 +25,8 @@ no_sending : (c : Config) (side : Side) (d : Direction)
     → ShowsTypes side no_types []
     → ShowsSending side (no_data c).sending (sending_view [] d)
 no_sending c side d types = record {
-  ledger = λ id. maps.get-empty nat_cmp id;
-  messages = λ id. maps.get-empty nat_cmp id;
+  ledger = λ id. maps.get-empty name_cmp id;
+  messages = λ id. maps.get-empty name_cmp id;
   count = refl;
   types = types;
 }
@@ -34,9 +34,9 @@ no_sending c side d types = record {
 no_receiving : (c : Config) (d : Direction)
     → ShowsReceiving (no_data c).receiving (receiving_view c [] d)
 no_receiving c d = record {
-  ledger = λ id. maps.get-empty nat_cmp id;
+  ledger = λ id. maps.get-empty name_cmp id;
   entries = λ id.
-      maps.get-empty nat_cmp id
+      maps.get-empty name_cmp id
       ∙ sym (ap (λ t. if t then Some (record { parts = no_parts; last = 0 }) else None) none_open);
 }
 

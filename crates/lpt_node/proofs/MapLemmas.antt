@@ -1,18 +1,17 @@
 -- What is under a name in a finite map after a change, by comparison of names.
 use Rattle.std.proofs.Common.{◌≡◌, ◌∙◌, ap, cond, Some, None}
-use Rattle.std.specs.Ordering.{nat_cmp}
-use Rattle.std.specs.Cmp.{nat_cmp_total, unsigned_tied}
+use Rattle.lpt_packet.proofs.NameLemmas.{name_cmp_total, name_tied}
 use Rattle.std.specs.FinMap as map
-use Rattle.lpt_packet.specs.Names.{Name, same_name}
+use Rattle.lpt_packet.specs.Names.{Name, same_name, name_cmp}
 
 -- the value that was put under a name, and each other name's own
-pub get_insert : {A : Type 0} (m : map.FinMap nat_cmp A) (id : Name) (x : A) (q : Name)
+pub get_insert : {A : Type 0} (m : map.FinMap name_cmp A) (id : Name) (x : A) (q : Name)
     → map.get (map.insert m id x) q ≡ cond (same_name q id) (Some x) (map.get m q)
 get_insert m id x q =
-    map.get-insert nat_cmp_total m id x q ∙ ap (λ b. cond b (Some x) (map.get m q)) (unsigned_tied q id)
+    map.get-insert name_cmp_total m id x q ∙ ap (λ b. cond b (Some x) (map.get m q)) (name_tied q id)
 
 -- nothing under a name that was taken out, and each other name's own
-pub get_remove : {A : Type 0} (m : map.FinMap nat_cmp A) (id q : Name)
+pub get_remove : {A : Type 0} (m : map.FinMap name_cmp A) (id q : Name)
     → map.get (map.remove m id) q ≡ cond (same_name q id) None (map.get m q)
 get_remove m id q =
-    map.get-remove nat_cmp_total m id q ∙ ap (λ b. cond b None (map.get m q)) (unsigned_tied q id)
+    map.get-remove name_cmp_total m id q ∙ ap (λ b. cond b None (map.get m q)) (name_tied q id)

@@ -4,8 +4,9 @@ use Rattle.std.specs.List.{filter, find}
 use Rattle.std.specs.Prelude.{map as mapped}
 use Rattle.std.specs.Borrow.{Bor}
 use Rattle.std.specs.Option.{option_map, IfSome}
-use Rattle.std.specs.Ordering.{nat_cmp, eq_by_cmp}
-use Rattle.std.specs.Cmp.{nat_cmp_total, unsigned_tied}
+use Rattle.lpt_packet.proofs.NameLemmas.{name_cmp-IsAntisymmetric, name_cmp_total, name_tied}
+use Rattle.lpt_packet.specs.Names.{name_cmp}
+use Rattle.std.specs.Ordering.{eq_by_cmp}
 use Rattle.std.specs.FinMap as map
 use Rattle.std.proofs.lemmas.Bool.Decides.{nat_tests}
 use Rattle.lpt_node.specs.declared.outgoing.OpenMessage.{OpenMessage}
@@ -31,26 +32,26 @@ step true o x = refl
 step false o x = refl
 
 -- the entry of a name is the first message of that name
-pub find-named : (id : ℕ) (os : List OpenMessage) → map.find nat_cmp id (mapped named os) ≡ found id os
+pub find-named : (id : ℕ) (os : List OpenMessage) → map.find name_cmp id (mapped named os) ≡ found id os
 find-named id [] = refl
 find-named id (o ∷ os) =
-    ap (λ b. cond b (Some o.message) (map.find nat_cmp id (mapped named os))) (unsigned_tied id o.id ∙ eq_comm id o.id)
+    ap (λ b. cond b (Some o.message) (map.find name_cmp id (mapped named os))) (name_tied id o.id ∙ eq_comm id o.id)
     ∙ ap (λ x. cond (o.id == id) (Some o.message) x) (find-named id os)
     ∙ sym (step (o.id == id) o (find (λ o. o.id == id) os))
 
 -- the map's message of a name is the first message of that name
 pub get-messages_of : (id : ℕ) (os : List OpenMessage) → map.get (messages_of os) id ≡ found id os
-get-messages_of id os = map.get-from_entries nat_cmp_total (mapped named os) id ∙ find-named id os
+get-messages_of id os = map.get-from_entries name_cmp_total (mapped named os) id ∙ find-named id os
 
 -- ---- how many there are
 
 -- a map has as many messages as the list, where no two of these have one name
 pub len-messages_of : (os : List OpenMessage) → AllDistinct os → map.len (messages_of os) ≡ length os
-len-messages_of [] d = map.len-empty nat_cmp (List ℕ)
+len-messages_of [] d = map.len-empty name_cmp (List ℕ)
 len-messages_of (o ∷ os) d =
-    map.len-insert nat_cmp_total (messages_of os) o.id o.message
+    map.len-insert name_cmp_total (messages_of os) o.id o.message
     ∙ ap (λ x. cond (is_some x) (map.len (messages_of os)) (map.len (messages_of os) + 1))
-    (map.get-from_entries nat_cmp_total (mapped named os) o.id ∙ d.0)
+    (map.get-from_entries name_cmp_total (mapped named os) o.id ∙ d.0)
     ∙ ap (λ n. n + 1) (len-messages_of os d.1)
     ∙ add-one (length os)
 
@@ -84,7 +85,7 @@ find-without id q (o ∷ os) =
 
 -- what a list without a name's messages finds, as a map does
 pub named-without : (id q : ℕ) (os : List OpenMessage)
-    → map.find nat_cmp q (mapped named (without id os)) ≡ cond (q == id) None (map.find nat_cmp q (mapped named os))
+    → map.find name_cmp q (mapped named (without id os)) ≡ cond (q == id) None (map.find name_cmp q (mapped named os))
 named-without id q os =
     find-named q (without id os)
     ∙ ap (option_map (λ (o : OpenMessage). o.message)) (find-without id q os)
@@ -99,19 +100,19 @@ named-without id q os =
 -- to take the messages of a name out is to remove the name
 pub messages_of-without : (id : ℕ) (os : List OpenMessage) → messages_of (without id os) ≡ map.remove (messages_of os) id
 messages_of-without id os =
-    map.same_map nat_cmp_total map.nat_cmp-IsAntisymmetric _ _
-    (λ q. map.get-from_entries nat_cmp_total (mapped named (without id os)) q
+    map.same_map name_cmp_total name_cmp-IsAntisymmetric _ _
+    (λ q. map.get-from_entries name_cmp_total (mapped named (without id os)) q
     ∙ named-without id q os
-    ∙ ap (λ x. cond (q == id) None x) (sym (map.get-from_entries nat_cmp_total (mapped named os) q))
-    ∙ ap (λ b. cond b None (map.get (messages_of os) q)) (sym (unsigned_tied q id))
-    ∙ sym (map.get-remove nat_cmp_total (messages_of os) id q))
+    ∙ ap (λ x. cond (q == id) None x) (sym (map.get-from_entries name_cmp_total (mapped named os) q))
+    ∙ ap (λ b. cond b None (map.get (messages_of os) q)) (sym (name_tied q id))
+    ∙ sym (map.get-remove name_cmp_total (messages_of os) id q))
 
 none_kept : (b : Bool) (x : Option (List ℕ)) → x ≡ None → cond b None x ≡ None
 none_kept true x e = refl
 none_kept false x e = e
 
 kept_distinct : (id : ℕ) (b : Bool) (o : OpenMessage) (os : List OpenMessage)
-    → map.find nat_cmp o.id (mapped named (without id os)) ≡ None
+    → map.find name_cmp o.id (mapped named (without id os)) ≡ None
     → AllDistinct (without id os)
     → AllDistinct (cond b (o ∷ without id os) (without id os))
 kept_distinct id true o os n d = (n, d)
@@ -156,37 +157,37 @@ pub messages_of-insert : (os : List OpenMessage) (o : OpenMessage)
     → messages_of (os ++ o ∷ []) ≡ map.insert (messages_of os) o.id o.message
 messages_of-insert os o none =
     ap map.from_entries (map-end os o)
-    ∙ map.from_entries_push nat_cmp_total map.nat_cmp-IsAntisymmetric (mapped named os) o.id o.message
-    (sym (map.get-from_entries nat_cmp_total (mapped named os) o.id) ∙ none)
+    ∙ map.from_entries_push name_cmp_total name_cmp-IsAntisymmetric (mapped named os) o.id o.message
+    (sym (map.get-from_entries name_cmp_total (mapped named os) o.id) ∙ none)
 
 found_end : (q : ℕ) (os : List OpenMessage) (o : OpenMessage)
-    → map.find nat_cmp q (mapped named os) ≡ None
+    → map.find name_cmp q (mapped named os) ≡ None
     → (q == o.id) ≡ false
-    → map.find nat_cmp q (mapped named (os ++ o ∷ [])) ≡ None
-found_end q [] o n d = ap (λ b. cond b (Some o.message) None) (unsigned_tied q o.id ∙ d)
-found_end q (x ∷ os) o n d = behind (eq_by_cmp nat_cmp q x.id) _ _ _ n (λ n. found_end q os o n d)
+    → map.find name_cmp q (mapped named (os ++ o ∷ [])) ≡ None
+found_end q [] o n d = ap (λ b. cond b (Some o.message) None) (name_tied q o.id ∙ d)
+found_end q (x ∷ os) o n d = behind (eq_by_cmp name_cmp q x.id) _ _ _ n (λ n. found_end q os o n d)
   where
     behind : (b : Bool) (m : Option (List ℕ)) (r s : Option (List ℕ)) → cond b m r ≡ None → (r ≡ None → s ≡ None) → cond b m s ≡ None
     behind true m r s e f = e
     behind false m r s e f = f e
 
-other : (id : ℕ) (x : OpenMessage) (os : List OpenMessage) → map.find nat_cmp id (mapped named (x ∷ os)) ≡ None → (x.id == id) ≡ false
-other id x os n = eq_comm x.id id ∙ sym (unsigned_tied id x.id) ∙ untied (eq_by_cmp nat_cmp id x.id) n
+other : (id : ℕ) (x : OpenMessage) (os : List OpenMessage) → map.find name_cmp id (mapped named (x ∷ os)) ≡ None → (x.id == id) ≡ false
+other id x os n = eq_comm x.id id ∙ sym (name_tied id x.id) ∙ untied (eq_by_cmp name_cmp id x.id) n
   where
-    untied : (b : Bool) → cond b (Some x.message) (map.find nat_cmp id (mapped named os)) ≡ None → b ≡ false
+    untied : (b : Bool) → cond b (Some x.message) (map.find name_cmp id (mapped named os)) ≡ None → b ≡ false
     untied true e = cc
     untied false e = refl
 
-rest : (id : ℕ) (x : OpenMessage) (os : List OpenMessage) → map.find nat_cmp id (mapped named (x ∷ os)) ≡ None → map.find nat_cmp id (mapped named os) ≡ None
-rest id x os n = untied (eq_by_cmp nat_cmp id x.id) n
+rest : (id : ℕ) (x : OpenMessage) (os : List OpenMessage) → map.find name_cmp id (mapped named (x ∷ os)) ≡ None → map.find name_cmp id (mapped named os) ≡ None
+rest id x os n = untied (eq_by_cmp name_cmp id x.id) n
   where
-    untied : (b : Bool) → cond b (Some x.message) (map.find nat_cmp id (mapped named os)) ≡ None → map.find nat_cmp id (mapped named os) ≡ None
+    untied : (b : Bool) → cond b (Some x.message) (map.find name_cmp id (mapped named os)) ≡ None → map.find name_cmp id (mapped named os) ≡ None
     untied true e = cc
     untied false e = e
 
 -- names stay distinct where a message of a new name is added
 pub AllDistinct-end : (os : List OpenMessage) (o : OpenMessage)
-    → map.find nat_cmp o.id (mapped named os) ≡ None
+    → map.find name_cmp o.id (mapped named os) ≡ None
     → AllDistinct os
     → AllDistinct (os ++ o ∷ [])
 AllDistinct-end [] o n d = (refl, tt)
@@ -209,7 +210,7 @@ pub IsOutgoing-insert : (p : ℕ) (os : List OpenMessage) (o : OpenMessage)
     → IsOutgoing p (os ++ o ∷ [])
 IsOutgoing-insert p os o f none s = record {
   distinct =
-      AllDistinct-end os o (sym (map.get-from_entries nat_cmp_total (mapped named os) o.id) ∙ none) s.distinct;
+      AllDistinct-end os o (sym (map.get-from_entries name_cmp_total (mapped named os) o.id) ∙ none) s.distinct;
   fits = AllFit-end p os o s.fits f;
 }
 

@@ -1,8 +1,7 @@
 -- A message is kept exactly where its sender is open.
 use Rattle.std.proofs.Common.{◌≡◌, ◌∙◌, ap, sym, subst, refl, Bool, true, false, cond, Option, Some, None, is_some, List, ℕ}
-use Rattle.std.specs.Ordering.{nat_cmp}
 use Rattle.std.specs.FinMap as map
-use Rattle.lpt_packet.specs.Names.{Name, same_name}
+use Rattle.lpt_packet.specs.Names.{Name, same_name, name_cmp}
 use Rattle.lpt_ledger.specs.Marks.{Marks, Mark, Opened, Shut}
 use Rattle.lpt_ledger.specs.States.{state_of}
 use Rattle.lpt_node.specs.Nodes.{Messages, is_open}
@@ -41,8 +40,8 @@ kept-closed m ms id all q =
 -- nothing was opened
 pub kept-none : AreKept map.empty map.empty
 kept-none q =
-    subst (λ o. is_some (map.get nothing q) ≡ is_open (state_of o)) (sym (map.get-empty nat_cmp q))
-    (ap is_some (map.get-empty nat_cmp q))
+    subst (λ o. is_some (map.get nothing q) ≡ is_open (state_of o)) (sym (map.get-empty name_cmp q))
+    (ap is_some (map.get-empty name_cmp q))
   where
     nothing : Messages
     nothing = map.empty

@@ -1,8 +1,8 @@
 -- Names stay tied to their receptions, so that a receiver is sound after each change.
-use Rattle.std.proofs.Common.{nat_cmp, ◌≡◌, ◌∙◌, ap, sym, subst, refl, ℕ, Bool, true, false, cond, Some, None, Result, Ok, Err}
+use Rattle.std.proofs.Common.{◌≡◌, ◌∙◌, ap, sym, subst, refl, ℕ, Bool, true, false, cond, Some, None, Result, Ok, Err}
 use Rattle.std.specs.FinMap as map
 use Rattle.std.specs.Result.{OnOk, OnErr}
-use Rattle.lpt_packet.specs.Names.{Name, same_name}
+use Rattle.lpt_packet.specs.Names.{Name, same_name, name_cmp}
 use Rattle.lpt_packet.proofs.NameLemmas.{same_name-true}
 use Rattle.lpt_ledger.specs.declared.state.State.TheVariants.{Free}
 use Rattle.lpt_ledger.specs.Marks.{Marks, Shut}
@@ -102,4 +102,4 @@ sound-new limit timeout p m t a b =
     nothing : (q : Name) → IsTied (state_at map.empty q) (map.get (no_receptions limit timeout p).entries q)
     nothing q =
         subst (λ o. IsTied (state_of o) (map.get (no_receptions limit timeout p).entries q))
-        (sym (map.get-empty nat_cmp q)) tt
+        (sym (map.get-empty name_cmp q)) tt

@@ -1,10 +1,9 @@
 -- One end of the link as plain data.
 use Rattle.std.specs.Prelude.{ℕ, ◌<◌, ◌≤◌, Bool, true, false, List, Option}
 use Rattle.std.specs.FinMap as map
-use Rattle.std.specs.Ordering.{nat_cmp}
 use Rattle.lpt_packet.specs.declared.direction.Direction.{Direction}
 use Rattle.lpt_packet.specs.declared.direction.Direction.TheVariants.{Up, Down}
-use Rattle.lpt_packet.specs.Names.{Name}
+use Rattle.lpt_packet.specs.Names.{Name, name_cmp}
 use Rattle.lpt_ledger.specs.declared.state.State.{State}
 use Rattle.lpt_ledger.specs.declared.state.State.TheVariants.{Free, Open, Closed}
 use Rattle.lpt_ledger.specs.Marks.{Marks}
@@ -16,7 +15,7 @@ use Rattle.lpt_node.specs.Counting.{no_types}
 
 -- the messages of the open outgoing transactions, by their names
 abbrev pub Messages : Type 0
-Messages = map.FinMap nat_cmp (List ℕ)
+Messages = map.FinMap name_cmp (List ℕ)
 
 -- what an end keeps to send: the state of each name, the open messages, the packet sequence count
 -- and the message type counters

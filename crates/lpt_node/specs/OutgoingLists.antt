@@ -1,8 +1,7 @@
 -- The list in which the open messages are kept, the newest last.
 use Rattle.std.specs.Prelude.{◌≡◌, ℕ, List, [], ◌∷◌, length, map as mapped, None}
 use Rattle.std.specs.FinMap as map
-use Rattle.std.specs.Ordering.{nat_cmp}
-use Rattle.lpt_packet.specs.Names.{Name}
+use Rattle.lpt_packet.specs.Names.{Name, name_cmp}
 use Rattle.lpt_node.specs.declared.outgoing.OpenMessage.{OpenMessage}
 use Rattle.lpt_node.specs.Nodes.{Messages, MessageFits}
 
@@ -17,7 +16,7 @@ messages_of os = map.from_entries (mapped named os)
 -- no two of them have one name
 abbrev pub AllDistinct : List OpenMessage → Type 0
 AllDistinct [] = Unit {0}
-AllDistinct (o ∷ os) = (map.find nat_cmp o.id (mapped named os) ≡ None) × AllDistinct os
+AllDistinct (o ∷ os) = (map.find name_cmp o.id (mapped named os) ≡ None) × AllDistinct os
 
 -- each has a length that a message may have
 abbrev pub AllFit : ℕ → List OpenMessage → Type 0

@@ -1,5 +1,7 @@
 -- How a transaction is named within a direction.
-use Rattle.std.specs.Prelude.{ℕ, ◌==◌, nat_lt, Bool}
+use Rattle.std.specs.Prelude.{ℕ, ◌<◌, ◌==◌, nat_lt, Bool}
+use Rattle.std.specs.declared.cmp.Ordering.{Ordering}
+use Rattle.std.specs.Ordering.{nat_cmp}
 
 -- a transaction identifier
 abbrev pub Name : Type 0
@@ -12,3 +14,15 @@ same_name a b = a == b
 -- whether one name stands before another
 abbrev pub name_before : Name → Name → Bool
 name_before a b = nat_lt a b
+
+-- how names are ordered
+abbrev pub name_cmp : Name → Name → Ordering
+name_cmp = nat_cmp
+
+-- a number is a name
+abbrev pub IsName : Name → Type 0
+IsName id = id < 65536
+
+-- the name that is told where there is none
+abbrev pub no_name : Name
+no_name = 0

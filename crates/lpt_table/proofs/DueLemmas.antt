@@ -4,9 +4,8 @@ use Rattle.std.specs.Option.{option_map}
 use Rattle.std.specs.FinMap as map
 use Rattle.std.specs.FinMap.{get-entries, entries_sorted}
 use Rattle.std.specs.FinMap.Entries.{find, is_sorted}
-use Rattle.std.specs.Ordering.{nat_cmp}
 use Rattle.std.proofs.Common.{sym, ◌∙◌, ap, arith, inl, inr, ltb-true, ltb-false, leb-true, leb-false}
-use Rattle.lpt_packet.specs.Names.{Name, name_before}
+use Rattle.lpt_packet.specs.Names.{Name, name_before, name_cmp}
 use Rattle.lpt_packet.proofs.EntryLemmas.{found_first, found_cases, found_above, found_still, up_low, up_rest}
 use Rattle.lpt_table.specs.Deadlines.{IsDue, sooner, soonest, due_of}
 use Rattle.lpt_table.specs.Tables.{TableEntry, TableState}
@@ -16,17 +15,17 @@ use Rattle.lpt_table.specs.Tables.{TableEntry, TableState}
 -- an overdue reception of the list with the least last tick, and of equal ones the least name
 record IsSoonest (timeout now : ℕ) (es : List (Name × TableEntry)) (b : Name × ℕ) : Type 0 where
   entry : TableEntry
-  here : find nat_cmp b.0 es ≡ Some entry
+  here : find name_cmp b.0 es ≡ Some entry
   last : entry.last ≡ b.1
   overdue : b.1 + timeout ≤ now
   oldest : (q : Name) (f : TableEntry)
-      → find nat_cmp q es ≡ Some f → f.last + timeout ≤ now → b.1 ≤ f.last
+      → find name_cmp q es ≡ Some f → f.last + timeout ≤ now → b.1 ≤ f.last
   least : (q : Name) (f : TableEntry)
-      → find nat_cmp q es ≡ Some f → f.last ≡ b.1 → ¬ (q < b.0)
+      → find name_cmp q es ≡ Some f → f.last ≡ b.1 → ¬ (q < b.0)
 
 abbrev Soonest : ℕ → ℕ → List (Name × TableEntry) → Option (Name × ℕ) → Type 0
 Soonest timeout now es None =
-    (q : Name) (f : TableEntry) → find nat_cmp q es ≡ Some f → ¬ (f.last + timeout ≤ now)
+    (q : Name) (f : TableEntry) → find name_cmp q es ≡ Some f → ¬ (f.last + timeout ≤ now)
 Soonest timeout now es (Some b) = IsSoonest timeout now es b
 
 -- of equal entries the last ticks are equal
@@ -34,7 +33,7 @@ same_last : (x y : TableEntry) → x ≡ y → x.last ≡ y.last
 same_last x y p = ap (λ (x : TableEntry). x.last) p
 
 module _ (timeout now : ℕ) (e : Name × TableEntry) (es : List (Name × TableEntry))
-    (up : T (is_sorted nat_cmp (e ∷ es))) where
+    (up : T (is_sorted name_cmp (e ∷ es))) where
   -- the first is not overdue, or one behind it is sooner
   stays : (b : Name × ℕ)
       → (e.1.last + timeout ≤ now → b.1 < e.1.last)
@@ -64,7 +63,7 @@ module _ (timeout now : ℕ) (e : Name × TableEntry) (es : List (Name × TableE
   -- the first is overdue, and none behind it is sooner
   wins : e.1.last + timeout ≤ now
       → ((q : Name) (f : TableEntry)
-      → find nat_cmp q es ≡ Some f → f.last + timeout ≤ now → e.1.last ≤ f.last)
+      → find name_cmp q es ≡ Some f → f.last + timeout ≤ now → e.1.last ≤ f.last)
       → IsSoonest timeout now (e ∷ es) (e.0, e.1.last)
   wins late h = record {
     entry = e.1;
@@ -106,7 +105,7 @@ module _ (timeout now : ℕ) (e : Name × TableEntry) (es : List (Name × TableE
 
 -- what is computed of a list is the soonest of it
 soonest_is : (timeout now : ℕ) (es : List (Name × TableEntry))
-    → T (is_sorted nat_cmp es)
+    → T (is_sorted name_cmp es)
     → Soonest timeout now es (soonest timeout now es)
 soonest_is timeout now [] up = λ q f g. absurd cc
 soonest_is timeout now (e ∷ es) up =

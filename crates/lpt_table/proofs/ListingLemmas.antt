@@ -2,10 +2,10 @@
 use Rattle.std.specs.Prelude.{◌≡◌, ℕ, suc, ◌+◌, ◌≤◌, ◌<◌, true, false, T, List, [], ◌∷◌, length, take, drop, Some, None, Result, Ok, Err, slice_index_or, is_ok, is_some}
 use Rattle.std.specs.List.{All, insert, remove}
 use Rattle.std.specs.FinMap as maps
-use Rattle.std.specs.FinMap.{get-from_sorted, nat_cmp-IsAntisymmetric}
+use Rattle.lpt_packet.proofs.NameLemmas.{name_cmp-IsAntisymmetric, name_cmp_total}
+use Rattle.lpt_packet.specs.Names.{name_cmp}
+use Rattle.std.specs.FinMap.{get-from_sorted}
 use Rattle.std.specs.FinMap.Entries.{put, is_sorted, is_sorted-put, is_sorted-where_key}
-use Rattle.std.specs.Ordering.{nat_cmp}
-use Rattle.std.specs.Cmp.{nat_cmp_total}
 use Rattle.std.proofs.Common.{sym, ◌∙◌, ap, subst, arith}
 use Rattle.std.proofs.Math.ListN.{get_or-map}
 use Rattle.std.proofs.lemmas.List.{map-append, take-map, drop-map, length-map}
@@ -23,11 +23,11 @@ use Rattle.lpt_table.proofs.PlaceLemmas.{is_other, IsPlace, Found, Absent, place
 
 -- whether the names of a list rise
 abbrev pub InOrder : List Entry → Type 0
-InOrder xs = T (is_sorted nat_cmp (entries_of xs))
+InOrder xs = T (is_sorted name_cmp (entries_of xs))
 
 -- where a name stands in a list, or where it belongs
 abbrev pub PlaceIs : ℕ → List Entry → Result ℕ ℕ → Type 0
-PlaceIs id xs r = place nat_cmp id (entries_of xs) ≡ r
+PlaceIs id xs r = place name_cmp id (entries_of xs) ≡ r
 
 -- the map that is read off a list of entries
 abbrev read_off : List (ℕ × TableEntry) → Entries
@@ -35,16 +35,16 @@ read_off es = maps.from_sorted es
 
 -- the list of no receptions is the empty map
 pub map_of-nil : map_of [] ≡ maps.empty
-map_of-nil = from_sorted-nil nat_cmp
+map_of-nil = from_sorted-nil name_cmp
 
 -- as many receptions are open as the list has
 pub len-map_of : (xs : List Entry) → InOrder xs → maps.len (map_of xs) ≡ length xs
-len-map_of xs h = len-from_sorted nat_cmp (entries_of xs) h ∙ length-map xs named
+len-map_of xs h = len-from_sorted name_cmp (entries_of xs) h ∙ length-map xs named
 
 get-map_of : (id : ℕ) (xs : List Entry)
     → InOrder xs
-    → maps.get (map_of xs) id ≡ maps.find nat_cmp id (entries_of xs)
-get-map_of id xs h = get-from_sorted nat_cmp (entries_of xs) id h
+    → maps.get (map_of xs) id ≡ maps.find name_cmp id (entries_of xs)
+get-map_of id xs h = get-from_sorted name_cmp (entries_of xs) id h
 
 -- a list with so many places, of this part size, with these receptions
 abbrev pub listing : ℕ → ℕ → Entries → Listing
@@ -73,10 +73,10 @@ free limit p xs now h is room =
 -- a name has a place of its own where the map has something under it
 pub is_ok-place : (id : ℕ) (xs : List Entry)
     → InOrder xs
-    → is_ok (place nat_cmp id (entries_of xs)) ≡ is_some (maps.get (map_of xs) id)
+    → is_ok (place name_cmp id (entries_of xs)) ≡ is_some (maps.get (map_of xs) id)
 is_ok-place id xs h =
-    is_ok-IsPlace nat_cmp id (entries_of xs) (place nat_cmp id (entries_of xs))
-    (place_is nat_cmp nat_cmp_total id (entries_of xs) h)
+    is_ok-IsPlace name_cmp id (entries_of xs) (place name_cmp id (entries_of xs))
+    (place_is name_cmp name_cmp_total id (entries_of xs) h)
     ∙ ap is_some (sym (get-map_of id xs h))
 
 -- and none where it has nothing
@@ -99,15 +99,15 @@ entries_insert xs i e = simp (map-append, take-map, drop-map)
 
 module _ (id : ℕ) (xs : List Entry) (at : ℕ) (h : InOrder xs)
     (is : PlaceIs id xs (Ok at)) where
-  found : Found nat_cmp id (entries_of xs) at
+  found : Found name_cmp id (entries_of xs) at
   found =
-      subst (IsPlace nat_cmp id (entries_of xs)) is
-      (place_is nat_cmp nat_cmp_total id (entries_of xs) h)
+      subst (IsPlace name_cmp id (entries_of xs)) is
+      (place_is name_cmp name_cmp_total id (entries_of xs) h)
 
   found-sorted : InOrder (remove xs at)
   found-sorted =
-      subst (λ es. T (is_sorted nat_cmp es)) (found.rest ∙ sym (entries_remove xs at))
-      (is_sorted-where_key nat_cmp (is_other nat_cmp id) (entries_of xs) h)
+      subst (λ es. T (is_sorted name_cmp es)) (found.rest ∙ sym (entries_remove xs at))
+      (is_sorted-where_key name_cmp (is_other name_cmp id) (entries_of xs) h)
 
   -- the place is one of the list
   pub found-within : at < length xs
@@ -124,7 +124,7 @@ module _ (id : ℕ) (xs : List Entry) (at : ℕ) (h : InOrder xs)
       in
       record {
         found = get-map_of id xs h ∙ found.value (named e) ∙ ap (λ x. Some x.1) here;
-        named = sym (nat_cmp-IsAntisymmetric _ _ (found.key (named e)) ∙ ap (λ x. x.0) here);
+        named = sym (name_cmp-IsAntisymmetric _ _ (found.key (named e)) ∙ ap (λ x. x.0) here);
         its = subst (IsIts p) (sym q) (all at e found-within);
       }
 
@@ -132,7 +132,7 @@ module _ (id : ℕ) (xs : List Entry) (at : ℕ) (h : InOrder xs)
   pub found-rest : map_of (remove xs at) ≡ maps.remove (map_of xs) id
   found-rest =
       ap read_off (entries_remove xs at ∙ sym found.rest)
-      ∙ sym (remove-from_sorted nat_cmp_total nat_cmp-IsAntisymmetric id (entries_of xs) h)
+      ∙ sym (remove-from_sorted name_cmp_total name_cmp-IsAntisymmetric id (entries_of xs) h)
 
   -- which has one less
   pub found-len : maps.len (map_of (remove xs at)) + 1 ≡ maps.len (map_of xs)
@@ -161,10 +161,10 @@ module _ (id : ℕ) (xs : List Entry) (at : ℕ) (h : InOrder xs)
 
 module _ (id : ℕ) (xs : List Entry) (at : ℕ) (h : InOrder xs)
     (is : PlaceIs id xs (Err at)) where
-  absent : Absent nat_cmp id (entries_of xs) at
+  absent : Absent name_cmp id (entries_of xs) at
   absent =
-      subst (IsPlace nat_cmp id (entries_of xs)) is
-      (place_is nat_cmp nat_cmp_total id (entries_of xs) h)
+      subst (IsPlace name_cmp id (entries_of xs)) is
+      (place_is name_cmp name_cmp_total id (entries_of xs) h)
 
   -- the place is in the list or at its end
   pub absent-within : at ≤ length xs
@@ -178,25 +178,25 @@ module _ (id : ℕ) (xs : List Entry) (at : ℕ) (h : InOrder xs)
   pub absent-rest : map_of xs ≡ maps.remove (map_of xs) id
   absent-rest =
       ap read_off (sym absent.rest)
-      ∙ sym (remove-from_sorted nat_cmp_total nat_cmp-IsAntisymmetric id (entries_of xs) h)
+      ∙ sym (remove-from_sorted name_cmp_total name_cmp-IsAntisymmetric id (entries_of xs) h)
 
   -- an entry of the name, and room for it
   module _ (e : Entry) (q : e.id ≡ id) where
-    put-is : put nat_cmp id (entry_in e) (entries_of xs) ≡ entries_of (insert xs at e)
+    put-is : put name_cmp id (entry_in e) (entries_of xs) ≡ entries_of (insert xs at e)
     put-is =
         absent.more (entry_in e) ∙ ap (λ k. insert (entries_of xs) at (k, entry_in e)) (sym q)
         ∙ sym (entries_insert xs at e)
 
     absent-sorted : InOrder (insert xs at e)
     absent-sorted =
-        subst (λ es. T (is_sorted nat_cmp es)) put-is
-        (is_sorted-put nat_cmp nat_cmp_total id (entry_in e) (entries_of xs) h)
+        subst (λ es. T (is_sorted name_cmp es)) put-is
+        (is_sorted-put name_cmp name_cmp_total id (entry_in e) (entries_of xs) h)
 
     -- putting it into the list there puts it into the map
     pub absent-more : map_of (insert xs at e) ≡ maps.insert (map_of xs) id (entry_in e)
     absent-more =
         ap read_off (sym put-is)
-        ∙ sym (insert-from_sorted nat_cmp_total nat_cmp-IsAntisymmetric id (entry_in e)
+        ∙ sym (insert-from_sorted name_cmp_total name_cmp-IsAntisymmetric id (entry_in e)
         (entries_of xs) h)
 
     -- which has one more

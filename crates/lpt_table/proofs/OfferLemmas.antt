@@ -1,8 +1,7 @@
 -- What the answer of a reception makes of the table that it was taken out of.
 use Rattle.std.specs.Prelude.{◌≡◌, ℕ, false, not, ◌&&◌, nat_le, Some, None, is_some, IfSome, refl}
 use Rattle.std.specs.FinMap as map
-use Rattle.std.specs.FinMap.{nat_cmp-IsAntisymmetric}
-use Rattle.std.specs.Cmp.{nat_cmp_total}
+use Rattle.lpt_packet.proofs.NameLemmas.{name_cmp-IsAntisymmetric, name_cmp_total}
 use Rattle.std.proofs.Common.{sym, ◌∙◌, ap, subst}
 use Rattle.lpt_packet.specs.Names.{Name}
 use Rattle.lpt_reception.specs.declared.step.Step.TheVariants as step
@@ -22,7 +21,7 @@ use Rattle.lpt_table.proofs.MapLemmas.{insert-remove, insert-same, get-removed}
 
 -- nothing is under a name that was removed
 pub get-without : (m : Entries) (id : Name) → map.get (map.remove m id) id ≡ None
-get-without m id = get-removed nat_cmp_total nat_cmp-IsAntisymmetric m id
+get-without m id = get-removed name_cmp_total name_cmp-IsAntisymmetric m id
 
 abbrev with_entries : TableState → Entries → TableState
 with_entries t m = record t { entries = m }
@@ -35,7 +34,7 @@ put_again : (t : TableState) (id : Name) (e : TableEntry)
     → with_entries t (map.insert (map.remove t.entries id) id e)
     ≡ with_entries t (map.insert t.entries id e)
 put_again t id e =
-    ap (with_entries t) (insert-remove nat_cmp_total nat_cmp-IsAntisymmetric t.entries id e)
+    ap (with_entries t) (insert-remove name_cmp_total name_cmp-IsAntisymmetric t.entries id e)
 
 -- what is kept under a name is put under it again
 same_again : (t : TableState) (id : Name) (e : TableEntry)
@@ -43,7 +42,7 @@ same_again : (t : TableState) (id : Name) (e : TableEntry)
     → with_entry t id (parts_at t id) e.last ≡ t
 same_again t id e was =
     ap (with_entries t)
-    (insert-same nat_cmp_total nat_cmp-IsAntisymmetric t.entries id (entry (parts_at t id) e.last)
+    (insert-same name_cmp_total name_cmp-IsAntisymmetric t.entries id (entry (parts_at t id) e.last)
     (was ∙ ap (λ s. Some (entry s e.last)) (ap parts_of (sym was))))
 
 -- a reception that is put back as it was leaves the table as it was

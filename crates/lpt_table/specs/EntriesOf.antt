@@ -2,8 +2,7 @@
 use Rattle.std.specs.Prelude.{◌≡◌, ℕ, ◌≤◌, T, List, map, length, Option, Some}
 use Rattle.std.specs.List.{All}
 use Rattle.std.specs.FinMap as maps
-use Rattle.std.specs.Ordering.{nat_cmp}
-use Rattle.lpt_packet.specs.Names.{Name}
+use Rattle.lpt_packet.specs.Names.{Name, name_cmp}
 use Rattle.lpt_table.specs.declared.entries.Entry.{Entry}
 use Rattle.lpt_table.specs.Tables.{TableEntry, Entries}
 
@@ -30,7 +29,7 @@ pub record IsIts (p : ℕ) (e : Entry) : Type 0 where
 
 -- the names rise, each reception is of the part size and of its name, and there are as many places as the limit
 pub record IsListed (limit p capacity : ℕ) (es : List Entry) : Type 0 where
-  pub sorted : T (maps.is_sorted nat_cmp (entries_of es))
+  pub sorted : T (maps.is_sorted name_cmp (entries_of es))
   pub its : All (IsIts p) es
   pub within : length es ≤ limit
   pub places : limit ≤ capacity

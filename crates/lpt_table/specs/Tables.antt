@@ -2,8 +2,7 @@
 use Rattle.std.specs.Prelude.{ℕ, ◌≤◌, Option, None, refl}
 use Rattle.std.specs.Coded.{Coded, code_by, coded×, coded_ℕ, coded_option}
 use Rattle.std.specs.FinMap as map
-use Rattle.std.specs.Ordering.{nat_cmp}
-use Rattle.lpt_packet.specs.Names.{Name}
+use Rattle.lpt_packet.specs.Names.{Name, name_cmp}
 use Rattle.lpt_part.specs.Splitting.{IsPartSize}
 use Rattle.lpt_reception.specs.Codes.{coded_kept}
 use Rattle.lpt_reception.specs.Received.{Parts}
@@ -23,7 +22,7 @@ pub record TableEntry : Type 0 where
 
 -- the open receptions, by their names
 abbrev pub Entries : Type 0
-Entries = map.FinMap nat_cmp TableEntry
+Entries = map.FinMap name_cmp TableEntry
 
 -- how many receptions may be open, the time-out in ticks, the part size, the open receptions, and
 -- the name and last tick of the reception that is out

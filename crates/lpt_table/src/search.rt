@@ -1,7 +1,7 @@
 //! Searching a list of open receptions.
 
 ghost use Rattle.std.specs.Prelude.{◌≡◌};
-ghost use Rattle.std.specs.Ordering.{nat_cmp};
+ghost use Rattle.lpt_packet.specs.Names.{name_cmp};
 ghost use Rattle.lpt_table.specs.Deadlines.{soonest};
 ghost use Rattle.lpt_table.specs.EntriesOf.{entries_of};
 ghost use Rattle.lpt_table.specs.Places.{place};
@@ -12,7 +12,7 @@ use std::cmp::Ordering;
 
 // The place of the reception of this name, or where it belongs.
 pub(crate) fn place_of(entries: &[Entry], id: Name) -> Result<usize, usize>
-    ensures { result ≡ place nat_cmp id (entries_of entries.now) }
+    ensures { result ≡ place name_cmp id (entries_of entries.now) }
 {
     for (at, entry) in entries.iter().enumerate() {
         match id.cmp(&entry.id) {

@@ -1,4 +1,5 @@
-use Rattle.std.proofs.Common.{◌∙◌, ap, sym, nat_cmp}
+use Rattle.lpt_packet.specs.Names.{name_cmp}
+use Rattle.std.proofs.Common.{◌∙◌, ap, sym}
 use Rattle.std.specs.FinMap as map
 use Rattle.lpt_table.specs.Deadlines.{soonest}
 use Rattle.lpt_table.specs.EntriesOf.{entries_of}
@@ -11,6 +12,6 @@ returns c =
     c.soonest_in.ensures
     ∙ ap (λ es. soonest c.args.timeout c.args.now (entries_of es)) c.deref.ensures.value
     ∙ ap (soonest c.args.timeout c.args.now)
-    (sym (map.entries-from_sorted nat_cmp (entries_of c.self.inside.items.items)
+    (sym (map.entries-from_sorted name_cmp (entries_of c.self.inside.items.items)
     c.self.invariant.sorted))
     ∙ ap (λ (l : Listing). soonest c.args.timeout c.args.now (map.entries l.entries)) c.self.view_is

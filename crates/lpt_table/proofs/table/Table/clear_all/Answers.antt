@@ -1,4 +1,5 @@
-use Rattle.std.proofs.Common.{◌∙◌, ap, subst, sym, arith, nat_cmp, ◌+◌, ◌≤◌, ℕ, Option}
+use Rattle.lpt_packet.specs.Names.{name_cmp}
+use Rattle.std.proofs.Common.{◌∙◌, ap, subst, sym, arith, ◌+◌, ◌≤◌, ℕ, Option}
 use Rattle.std.specs.FinMap as map
 use Rattle.lpt_table.specs.EntryLists.{Listing, how_many_out, IsAway}
 use Rattle.lpt_table.specs.Tables.{TableEntry, TableState}
@@ -9,7 +10,7 @@ pub invariant_of-self : goal.invariant_of-self
 invariant_of-self c =
     let len =
     ap (λ (l : Listing). map.len l.entries) c.clear.ensures
-    ∙ map.len-empty nat_cmp TableEntry
+    ∙ map.len-empty name_cmp TableEntry
     in
     let settled = ap (λ (t : TableState). t.out) c.self.view_is ∙ c.requires.settled in
     subst (λ (o : Option (ℕ × ℕ)).

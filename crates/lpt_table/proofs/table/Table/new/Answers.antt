@@ -1,4 +1,5 @@
-use Rattle.std.proofs.Common.{◌∙◌, ap, arith, nat_cmp}
+use Rattle.lpt_packet.specs.Names.{name_cmp}
+use Rattle.std.proofs.Common.{◌∙◌, ap, arith}
 use Rattle.std.specs.FinMap as map
 use Rattle.lpt_table.specs.EntryLists.{Listing}
 use Rattle.lpt_table.specs.Tables.{TableEntry}
@@ -9,6 +10,6 @@ pub invariant_of-result : goal.invariant_of-result
 invariant_of-result c =
     let len =
     ap (λ (l : Listing). map.len l.entries) c.in_ok-new.ensures
-    ∙ map.len-empty nat_cmp TableEntry
+    ∙ map.len-empty name_cmp TableEntry
     in
     (omega (arith, len), tt)
