@@ -1,6 +1,7 @@
 """Makes scripts, runs the program on each, and prints what that took. Then does so with requests.
 
-measure.py PROGRAM REQUESTS FOLDER RUNS: REQUESTS is the program that measures requests.
+measure.py PROGRAM REQUESTS FOLDER RUNS [OTHER]: REQUESTS is the program that measures requests.
+OTHER is another build of PROGRAM, which is then measured on the same scripts, in turn with it.
 """
 
 import os
@@ -19,6 +20,9 @@ id = 1
 size = 1048576
 """
 
+# The smallest parts that there can be, of which a message has the most.
+SMALLEST_PARTS = "part_size = 4\n"
+
 # The most octets of an area whose load, of this one area, is a packet of 65,542 octets.
 LONGEST_AREA = 65519
 
@@ -28,15 +32,29 @@ def octets(seed, length):
     return random.Random(seed).randbytes(length).hex()
 
 
-def one_message():
-    """The longest message there is, its parts delivered in a shuffled order."""
-    parts = 8193
-    order = list(range(parts))
-    random.Random(1).shuffle(order)
+def message_in(order):
+    """The longest message there is, its parts delivered in this order."""
     lines = [f"open up 7 {octets(7, 65542)}"]
-    lines += [f"send up 7 {k}" for k in range(1, parts + 1)]
+    lines += [f"send up 7 {k}" for k in range(1, len(order) + 1)]
     lines += [f"pass s1 {n}" for n in order]
     return lines + ["show released"]
+
+
+def in_order():
+    """The longest message there is, its parts delivered in their order."""
+    return message_in(range(8193))
+
+
+def backwards():
+    """The same message, its parts delivered in the opposite order."""
+    return message_in(range(8192, -1, -1))
+
+
+def shuffled():
+    """The same message, its parts delivered in a shuffled order."""
+    order = list(range(8193))
+    random.Random(1).shuffle(order)
+    return message_in(order)
 
 
 def repeats():
@@ -45,6 +63,16 @@ def repeats():
     lines = [f"open up 7 {octets(7, 65542)}"]
     lines += [f"send up 7 {k}" for k in range(1, parts + 1)]
     return lines + [f"pass s1 {n}" for n in range(parts - 1)] * 20
+
+
+def one_part_again():
+    """16 MiB: the longest message in parts of 4 octets, all but one delivered, and one of them again."""
+    parts = 16386
+    lines = [f"open up 7 {octets(7, 65542)}"]
+    lines += [f"send up 7 {k}" for k in range(1, parts + 1)]
+    lines += [f"pass s1 {n}" for n in range(parts - 1)]
+    left = 16777216 - sum(len(line) + 1 for line in lines)
+    return lines + ["pass s1 9"] * (left // 10)
 
 
 def eight_messages():
@@ -117,22 +145,41 @@ def peak(words, script, folder):
         return int(file.read()) * 1024
 
 
-def measure(words, script, runs):
-    """The median seconds of some runs, each of which must end well, and how much each wrote."""
-    taken = [run(words, script) for _ in range(runs)]
-    for status, written, _ in taken:
-        if status != 0 or written != taken[0][1]:
-            sys.exit(f"{words} on {script}: status {status}, {written} octets written")
-    return statistics.median(seconds for _, _, seconds in taken), taken[0][1]
+def measure(programs, words, script, runs):
+    """The median seconds of some runs of each program, in turn, and how much each run wrote."""
+    taken = {program: [] for program in programs}
+    lengths = set()
+    for _ in range(runs):
+        for program in programs:
+            status, written, seconds = run([program, *words], script)
+            if status != 0:
+                sys.exit(f"{program} {words} on {script}: status {status}")
+            taken[program].append(seconds)
+            lengths.add(written)
+    if len(lengths) > 1:
+        sys.exit(f"{words} on {script}: {sorted(lengths)} octets written")
+    return [statistics.median(taken[program]) for program in programs], lengths.pop()
 
 
-def print_scripts(program, folder, runs):
+def beside(seconds, memory):
+    """What the other build took, where there is one: two columns more."""
+    return "".join(f" {s:.4f} | {m / 1e6:.1f} |" for s, m in zip(seconds[1:], memory[1:]))
+
+
+def print_scripts(programs, folder, runs):
     """Prints a table, a line a workload: its script, and its configuration where it has one."""
-    print("| Workload | Lines | Octets | Printed | Seconds | Lines/s | MB/s | Peak MB |")
-    print("|---|--:|--:|--:|--:|--:|--:|--:|")
+    more = len(programs) - 1
+    print(
+        "| Workload | Lines | Octets | Printed | Seconds | Lines/s | MB/s | Peak MB |"
+        + " Other build's seconds | Its peak MB |" * more
+    )
+    print("|---|--:|--:|--:|--:|--:|--:|--:|" + "--:|--:|" * more)
     for workload, config in [
-        (one_message, None),
+        (in_order, None),
+        (backwards, None),
+        (shuffled, None),
         (repeats, None),
+        (one_part_again, SMALLEST_PARTS),
         (eight_messages, None),
         (short_lines, None),
         (long_lines, None),
@@ -144,25 +191,34 @@ def print_scripts(program, folder, runs):
             count = file.write("\n".join(workload()) + "\n")
         with open(script, encoding="ascii") as file:
             lines = sum(1 for _ in file)
-        words = [program, "run", "-"]
+        words = ["run", "-"]
         if config is not None:
             with open(script + ".toml", "w", encoding="ascii") as file:
                 file.write(config)
             words += ["--config", script + ".toml"]
-        seconds, written = measure(words, script, runs)
+        seconds, written = measure(programs, words, script, runs)
+        memory = [peak([program, *words], script, folder) for program in programs]
         print(
             f"| {workload.__doc__.rstrip('.')} | {lines:,} | {count:,} | {written:,} "
-            f"| {seconds:.3f} | {lines / seconds:,.0f} | {count / seconds / 1e6:.1f} "
-            f"| {peak(words, script, folder) / 1e6:.1f} |",
+            f"| {seconds[0]:.3f} | {lines / seconds[0]:,.0f} | {count / seconds[0] / 1e6:.1f} "
+            f"| {memory[0] / 1e6:.1f} |" + beside(seconds, memory),
             flush=True,
         )
-    for name, words in [
-        ("Start-up: `--version`", [program, "--version"]),
-        ("`/bin/true`, to compare", ["/bin/true"]),
-    ]:
-        seconds, _ = measure(words, os.devnull, 100)
-        memory = peak(words, os.devnull, folder) / 1e6
-        print(f"| {name} | | | | {seconds:.4f} | | | {memory:.1f} |")
+    print_start(programs, folder)
+
+
+def print_start(programs, folder):
+    """Prints what it takes to start, and what it takes to start nearly nothing."""
+    seconds, _ = measure(programs, ["--version"], os.devnull, 100)
+    memory = [peak([program, "--version"], os.devnull, folder) for program in programs]
+    print(
+        f"| Start-up: `--version` | | | | {seconds[0]:.4f} | | | {memory[0] / 1e6:.1f} |"
+        + beside(seconds, memory)
+    )
+    seconds, _ = measure(["/bin/true"], [], os.devnull, 100)
+    memory = peak(["/bin/true"], os.devnull, folder) / 1e6
+    more = " | |" * (len(programs) - 1)
+    print(f"| `/bin/true`, to compare | | | | {seconds[0]:.4f} | | | {memory:.1f} |" + more)
 
 
 def print_requests(program, runs):
@@ -183,7 +239,7 @@ def print_requests(program, runs):
 def main():
     """Prints the tables."""
     program, requests, folder, runs = *sys.argv[1:4], int(sys.argv[4])
-    print_scripts(program, folder, runs)
+    print_scripts([program, *sys.argv[5:6]], folder, runs)
     print()
     print_requests(requests, runs)
 
