@@ -6,3 +6,5 @@ pub mod Lanes
 pub mod MadePackets
 pub mod Requests
 pub mod Sides
+pub mod TelemetryKinds
+pub mod Workers

@@ -2,7 +2,7 @@
 
 ghost use Rattle.std.specs.Prelude.{◌≡◌, IfOk};
 
-use crate::{Lane, Side};
+use crate::{Lane, Side, Worker};
 use lpt_packet::{Direction, Name, Octets};
 use lpt_pus::AckFlags;
 use std::alloc::AllocError;
@@ -32,6 +32,13 @@ pub enum Event {
     /// long as the time-out, the one that has waited longest, and of equal ones that of the least
     /// name. The spacecraft puts a report of it on the link.
     Expire(Side),
+    /// Gives a worker that has none the oldest released request that no worker has claimed.
+    Claim(Worker),
+    /// The worker has read its request, and hands the reading in.
+    Commit(Worker),
+    /// Executes the oldest released request, once its reading was handed in. The spacecraft puts
+    /// its reports on the link, and opens a report of data that is too long for a packet there.
+    Apply,
 }
 
 impl Event {
@@ -52,6 +59,9 @@ impl Event {
             Event::Deliver(lane) => Event::Deliver(*lane),
             Event::Tick(side) => Event::Tick(*side),
             Event::Expire(side) => Event::Expire(*side),
+            Event::Claim(worker) => Event::Claim(*worker),
+            Event::Commit(worker) => Event::Commit(*worker),
+            Event::Apply => Event::Apply,
         })
     }
 }

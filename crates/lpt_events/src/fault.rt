@@ -30,15 +30,21 @@ pub enum StepFault {
     /// The link holds no such packet in the lane's direction.
     #[error("the link holds no such packet in the lane's direction")]
     NotHeld,
-    /// The lane has a packet in its hand already.
-    #[error("the lane's hand is full")]
+    /// The lane has a packet in its hand already, or the worker a request.
+    #[error("the lane has a packet in its hand already, or the worker a request")]
     HandFull,
-    /// The lane has no packet in its hand.
-    #[error("the lane's hand is empty")]
+    /// The lane has no packet in its hand, or the worker no request.
+    #[error("the lane has no packet in its hand, or the worker no request")]
     HandEmpty,
     /// No reception is overdue.
     #[error("no reception is overdue")]
     NothingDue,
+    /// There is no request to claim, or none to execute.
+    #[error("there is no request to claim, or none to execute")]
+    NoJob,
+    /// No reading of the oldest request was handed in.
+    #[error("no reading of the oldest request was handed in")]
+    NotReady,
     /// The clock is at its greatest value.
     #[error("the clock is at its greatest value")]
     ClockEnd,
@@ -69,6 +75,8 @@ impl StepFault {
             StepFault::HandFull => 48,
             StepFault::HandEmpty => 49,
             StepFault::NothingDue => 50,
+            StepFault::NoJob => 51,
+            StepFault::NotReady => 52,
             StepFault::ClockEnd => 56,
             StepFault::NoSuchSeat => 57,
             StepFault::Memory => 58,
@@ -91,6 +99,8 @@ impl StepFault {
             StepFault::HandFull => "HandFull",
             StepFault::HandEmpty => "HandEmpty",
             StepFault::NothingDue => "NothingDue",
+            StepFault::NoJob => "NoJob",
+            StepFault::NotReady => "NotReady",
             StepFault::ClockEnd => "ClockEnd",
             StepFault::NoSuchSeat => "NoSuchSeat",
             StepFault::Memory => "Memory",

@@ -1,10 +1,11 @@
 //! The vocabulary of a pass: what can be asked of a world, what it answers, and what its packets are.
 //!
-//! The configuration, the sides, the lanes, the events, their replies and faults, the outcomes of
-//! deliveries, and the entries of a journal. The definitions say which packets the nodes make, and
+//! The configuration, the sides, the lanes, the workers, the events, their replies and faults, the
+//! outcomes of deliveries, the kinds of telemetry, and the entries of a journal. The definitions say which packets the nodes make, and
 //! what octets are to the node that receives them, whatever that node has kept.
 #![tactic(auto)]
 
+mod applied;
 mod config;
 mod config_fault;
 mod entry;
@@ -16,7 +17,10 @@ mod outcome;
 mod refused;
 mod reply;
 mod side;
+mod telemetry;
+mod worker;
 
+pub use applied::Applied;
 pub use config::Config;
 pub use config_fault::ConfigFault;
 pub use entry::{Entry, Opening, Release};
@@ -28,3 +32,5 @@ pub use outcome::{Outcome, Why};
 pub use refused::{Refused, RunEnd};
 pub use reply::{Answer, Puts, Reply};
 pub use side::Side;
+pub use telemetry::TelemetryKind;
+pub use worker::Worker;

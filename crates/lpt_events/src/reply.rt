@@ -1,6 +1,6 @@
 //! What an accepted event answers.
 
-use crate::Outcome;
+use crate::{Applied, Outcome};
 use lpt_packet::{Direction, Name};
 
 /// What an event that was accepted gave.
@@ -31,6 +31,12 @@ pub enum Answer {
     Clock(u32),
     /// The reception of this direction and name was ended for its age.
     Expired(Direction, Name),
+    /// The worker has the request of this boot and this number in it.
+    Claimed(u64, u64),
+    /// The reading of the request of this boot and this number in it was handed in.
+    Committed(u64, u64),
+    /// What became of the request that was executed.
+    Applied(Applied),
 }
 
 /// Packets that one event put on the link, one after another.

@@ -12,8 +12,8 @@ use Rattle.lpt_events.specs.declared.lane.Lane.TheVariants.{S1}
 use Rattle.lpt_events.specs.declared.side.Side.{Side}
 use Rattle.lpt_events.specs.declared.side.Side.TheVariants.{Ground, Craft}
 use Rattle.lpt_link.specs.Links.{empty_link, hand_of}
-use Rattle.lpt_node.specs.declared.telemetry.TelemetryKind.{TelemetryKind}
-use Rattle.lpt_node.specs.declared.telemetry.TelemetryKind.TheVariants.{Accepted}
+use Rattle.lpt_events.specs.declared.telemetry.TelemetryKind.{TelemetryKind}
+use Rattle.lpt_events.specs.declared.telemetry.TelemetryKind.TheVariants.{Accepted}
 use Rattle.lpt_node.specs.Counting.{counter_of, no_types}
 use Rattle.lpt_node.specs.Nodes.{no_data}
 use Rattle.lpt_journal.proofs.CountLemmas.{none_open}

@@ -8,9 +8,10 @@ use Rattle.lpt_pus.specs.Telemetry.{tm_field}
 use Rattle.lpt_events.specs.declared.config.Config.{Config}
 use Rattle.lpt_events.specs.declared.side.Side.{Side}
 use Rattle.lpt_events.specs.declared.side.Side.TheVariants.{Ground, Craft}
-use Rattle.lpt_node.specs.declared.telemetry.TelemetryKind.{TelemetryKind}
-use Rattle.lpt_node.specs.declared.telemetry.TelemetryKind.TheVariants.{Accepted}
-use Rattle.lpt_node.specs.Counting.{service_of, subtype_of, place_of, next_count, next_types, counter_of}
+use Rattle.lpt_events.specs.declared.telemetry.TelemetryKind.{TelemetryKind}
+use Rattle.lpt_events.specs.declared.telemetry.TelemetryKind.TheVariants.{Accepted}
+use Rattle.lpt_events.specs.TelemetryKinds.{service_of, subtype_of, place_of}
+use Rattle.lpt_node.specs.Counting.{next_count, next_types, counter_of}
 use Rattle.lpt_node.specs.Nodes.{Sending}
 use Rattle.lpt_node.specs.Sending.{counted, counted_kind}
 use Rattle.lpt_events.specs.MadePackets.{tm_made}

@@ -8,7 +8,7 @@ use Rattle.lpt_events.specs.declared.config.Config.{Config}
 use Rattle.lpt_events.specs.declared.side.Side.TheVariants.{Craft}
 use Rattle.lpt_events.specs.MadePackets.{abort_made}
 use Rattle.lpt_link.specs.Links.{after_put}
-use Rattle.lpt_node.specs.declared.telemetry.TelemetryKind.TheVariants.{Abort}
+use Rattle.lpt_events.specs.declared.telemetry.TelemetryKind.TheVariants.{Abort}
 use Rattle.lpt_node.specs.Counting.{counter_of}
 use Rattle.lpt_node.specs.Nodes.{NodeData}
 use Rattle.lpt_node.specs.Sending.{counted_kind}

@@ -21,7 +21,8 @@ use Rattle.lpt_events.specs.declared.side.Side.TheVariants.{Ground, Craft}
 use Rattle.lpt_events.specs.Arrivals.{part_subtype}
 use Rattle.lpt_events.specs.MadePackets.{part_made, nth_part, tc_made}
 use Rattle.lpt_events.specs.Sides.{sender_side}
-use Rattle.lpt_node.specs.Counting.{service_of, subtype_of, counter_of}
+use Rattle.lpt_events.specs.TelemetryKinds.{service_of, subtype_of}
+use Rattle.lpt_node.specs.Counting.{counter_of}
 use Rattle.lpt_node.specs.Nodes.{Sending}
 use Rattle.lpt_node.specs.Sending.{sent_of, part_packet, part_telemetry, opened_in, closed_in, closed_by}
 use Rattle.lpt_journal.specs.Journal.{History}

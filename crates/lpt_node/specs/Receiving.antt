@@ -13,7 +13,7 @@ use Rattle.lpt_events.specs.declared.outcome.Why.TheVariants as why
 use Rattle.lpt_node.specs.declared.accepted.Accepted.{Accepted}
 use Rattle.lpt_node.specs.declared.taken.Taken.{Taken}
 use Rattle.lpt_node.specs.declared.taken.Taken.TheVariants as taking
-use Rattle.lpt_node.specs.declared.telemetry.TelemetryKind.TheVariants.{Abort}
+use Rattle.lpt_events.specs.declared.telemetry.TelemetryKind.TheVariants.{Abort}
 use Rattle.lpt_node.specs.Counting.{counter_of}
 use Rattle.lpt_events.specs.MadePackets.{telemetry_made}
 use Rattle.lpt_node.specs.Nodes.{Receiving, NodeData}

@@ -15,8 +15,8 @@ use Rattle.lpt_events.specs.declared.side.Side.TheVariants.{Ground, Craft}
 use Rattle.lpt_events.specs.declared.config.Config.{Config}
 use Rattle.lpt_node.specs.declared.fault.NodeFault.{NodeFault}
 use Rattle.lpt_node.specs.declared.fault.NodeFault.TheVariants.{InUse, Short, Long, TooMany, NotOpen, NoSuchPart, Memory}
-use Rattle.lpt_node.specs.declared.telemetry.TelemetryKind.{TelemetryKind}
-use Rattle.lpt_node.specs.declared.telemetry.TelemetryKind.TheVariants.{FirstPart, MiddlePart, LastPart}
+use Rattle.lpt_events.specs.declared.telemetry.TelemetryKind.{TelemetryKind}
+use Rattle.lpt_events.specs.declared.telemetry.TelemetryKind.TheVariants.{FirstPart, MiddlePart, LastPart}
 use Rattle.lpt_node.specs.Counting.{counter_of, next_count, next_types}
 use Rattle.lpt_events.specs.MadePackets.{nth_part, part_made}
 use Rattle.lpt_node.specs.Nodes.{Sending, NodeData, direction_from, message_at}

@@ -22,14 +22,12 @@ mod receiver;
 mod requesting;
 mod sending;
 mod taken;
-mod telemetry;
 mod timing;
 
 pub use accepted::Accepted;
 pub use ask::Ask;
 pub use expired::Expired;
 pub use fault::NodeFault;
-pub use lpt_events::{Config, Outcome, Side, Why};
+pub use lpt_events::{Config, Outcome, Side, TelemetryKind, Why};
 pub use node::Node;
 pub use parsed::Parsed;
-pub use telemetry::TelemetryKind;

@@ -1,7 +1,7 @@
 //! The kinds of telemetry that the spacecraft makes.
 
 ghost use Rattle.std.specs.Prelude.{◌≡◌, ◌≤◌};
-ghost use Rattle.lpt_node.specs.Counting.{service_of, subtype_of, place_of};
+ghost use Rattle.lpt_events.specs.TelemetryKinds.{service_of, subtype_of, place_of};
 
 /// A kind of telemetry that the spacecraft makes: a message type (ECSS-E-ST-70-41C).
 #[derive(Clone, Copy, Debug, PartialEq, Eq)]
@@ -69,8 +69,8 @@ impl TelemetryKind {
         }
     }
 
-    // The place of this kind's counter.
-    pub(crate) fn place(self) -> usize
+    /// The place of this kind among all, from 0.
+    pub fn place(self) -> usize
         ensures place { result ≡ place_of self }
         ensures within { result ≤ 10 }
     {

@@ -1,0 +1,48 @@
+-- The reports of an execution, in their order.
+use Rattle.std.specs.Prelude.{ℕ, ◌==◌, if◌then◌else◌, List, [], ◌∷◌, ◌++◌, map, Option, Some, None}
+use Rattle.std.specs.Option.{option_map_or}
+use Rattle.lpt_packet.specs.Numbers.{long_at}
+use Rattle.lpt_pus.specs.Codes.{number_of}
+use Rattle.lpt_pus.specs.Commands.{command_in}
+use Rattle.lpt_verify.specs.declared.report.EncodedReport.{EncodedReport}
+use Rattle.lpt_verify.specs.Reports.{reports_before, reports_after}
+use Rattle.lpt_events.specs.declared.telemetry.TelemetryKind.{TelemetryKind}
+use Rattle.lpt_events.specs.declared.telemetry.TelemetryKind.TheVariants.{Accepted, NotAccepted, Started, NotStarted, Completed}
+use Rattle.lpt_execution.specs.declared.ending.Ending.{Ending}
+use Rattle.lpt_execution.specs.declared.ending.Ending.TheVariants.{Silent, Refused, Carried}
+use Rattle.lpt_execution.specs.declared.ending.Report.{Report}
+
+-- the kind of the verification report of this message subtype, one of 1, 2, 3, 4 and 7
+abbrev pub verification_kind : ℕ → TelemetryKind
+verification_kind subtype =
+    if subtype == 1 then Accepted
+    else if subtype == 2 then NotAccepted
+    else if subtype == 3 then Started
+    else if subtype == 4 then NotStarted
+    else Completed
+
+-- a verification report to be sent
+abbrev pub verification : EncodedReport → Report
+verification e = record { kind = verification_kind e.subtype; body = e.body }
+
+-- the report of data, where there is one
+abbrev pub data_report : Option Report → List Report
+data_report None = []
+data_report (Some report) = report ∷ []
+
+-- the reports of a request of this number and these flags: where it is carried out, the report of
+-- data stands between those of acceptance and start and that of completion
+abbrev pub reports_of : (request flags : ℕ) → Ending → List Report
+reports_of request flags Silent = []
+reports_of request flags (Refused code) =
+    map verification (reports_before request flags (Some (number_of code)))
+reports_of request flags (Carried r) =
+    map verification (reports_before request flags None)
+    ++ data_report r
+    ++ map verification (reports_after request flags None)
+
+-- the reports of a message: its number is that of its first four octets; what is no telecommand
+-- with this APID has none
+abbrev pub message_reports : (apid : ℕ) → List ℕ → Ending → List Report
+message_reports apid m end =
+    option_map_or (λ c. reports_of (long_at m 0) c.flags end) (command_in apid m) []
