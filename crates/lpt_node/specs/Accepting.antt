@@ -1,5 +1,5 @@
 -- What an end does with a packet that is delivered to it.
-use Rattle.std.specs.Prelude.{◌≡◌, Bool, true, false, ◌||◌, length, Some, None, is_some}
+use Rattle.std.specs.Prelude.{◌≡◌, ◌+◌, ◌<◌, ◌^◌, Bool, true, false, ◌||◌, length, Some, None, is_some}
 use Rattle.lpt_events.specs.declared.side.Side.{Side}
 use Rattle.lpt_events.specs.declared.config.Config.{Config}
 use Rattle.lpt_node.specs.declared.accepted.Accepted.{Accepted}
@@ -7,40 +7,44 @@ use Rattle.lpt_events.specs.declared.outcome.Outcome.{Outcome}
 use Rattle.lpt_events.specs.declared.outcome.Outcome.TheVariants as outcome
 use Rattle.lpt_events.specs.declared.outcome.Why.TheVariants as why
 use Rattle.lpt_events.specs.Arrivals.{Arrival, NotRead, AnIdle, Foreign, ARequest, AReport, NoPart, APart, AnAbort}
+use Rattle.lpt_jobs.specs.Jobs.{numbered}
 use Rattle.lpt_node.specs.Nodes.{NodeData, NodeView}
 use Rattle.lpt_node.specs.Origins.{Origin}
 use Rattle.lpt_node.specs.Sending.{closed}
-use Rattle.lpt_node.specs.Receiving.{noted, ignored, parted}
+use Rattle.lpt_node.specs.Receiving.{noted, ignored, with_job, parted}
 
 -- a packet is delivered: the end after it, and the answer
 abbrev pub accepted : Side → Config → NodeData → Arrival → NodeData × Accepted
 accepted side c d NotRead = (d, ignored why.Unreadable)
 accepted side c d AnIdle = (d, ignored why.Idle)
 accepted side c d Foreign = (d, ignored why.ForeignApid)
-accepted side c d (ARequest b) =
-    (d, record { outcome = outcome.PlainReleased (length b); packet = None; released = Some b })
+accepted side c d (ARequest b) = (
+  with_job side d b,
+  record { outcome = outcome.PlainReleased (length b); packet = None; released = Some b },
+)
 accepted side c d (AReport service subtype) = (d, noted (outcome.ReportNoted service subtype))
 accepted side c d NoPart = (d, ignored why.BadPart)
 accepted side c d (AnAbort id reason) = (closed d id, noted (outcome.AbortNoted id reason))
 accepted side c d (APart q) = parted side c d q
 
--- the packet was read for this end
+-- the packet was read for this end, and there is a number for one job more
 pub record IsFor (n : NodeView) (o : Origin) : Type 0 where
   pub side : o.side ≡ n.side
   pub apid : o.apid ≡ n.config.apid
   pub p : o.p ≡ n.config.part_size
+  pub numbers : numbered n.at.jobs + 1 < 2 ^ 64
 
--- whether memory is taken for an outcome: a part is kept, or a message joined
-abbrev pub keeps_or_joins : Outcome → Bool
-keeps_or_joins (outcome.Kept id number) = true
-keeps_or_joins (outcome.Again id number) = false
-keeps_or_joins (outcome.Released id len) = true
-keeps_or_joins (outcome.PlainReleased len) = false
-keeps_or_joins (outcome.ReportNoted service subtype) = false
-keeps_or_joins (outcome.AbortNoted id reason) = false
-keeps_or_joins (outcome.Broken id reason) = false
-keeps_or_joins (outcome.Ignored w) = false
+-- whether memory is taken for an outcome: a part is kept, or a message released
+abbrev pub keeps_or_releases : Outcome → Bool
+keeps_or_releases (outcome.Kept id number) = true
+keeps_or_releases (outcome.Again id number) = false
+keeps_or_releases (outcome.Released id len) = true
+keeps_or_releases (outcome.PlainReleased len) = true
+keeps_or_releases (outcome.ReportNoted service subtype) = false
+keeps_or_releases (outcome.AbortNoted id reason) = false
+keeps_or_releases (outcome.Broken id reason) = false
+keeps_or_releases (outcome.Ignored w) = false
 
 -- whether memory is taken for an answer: for its outcome, or for a report
 abbrev pub grows : Accepted → Bool
-grows r = keeps_or_joins r.outcome || is_some r.packet
+grows r = keeps_or_releases r.outcome || is_some r.packet

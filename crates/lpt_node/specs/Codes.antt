@@ -6,6 +6,8 @@ use Rattle.lpt_table.specs.Tables.{Entries, coded_entries}
 use Rattle.lpt_events.specs.declared.side.Side.{Side}
 use Rattle.lpt_events.specs.declared.side.Side.TheVariants.{Ground, Craft}
 use Rattle.lpt_events.specs.declared.config.Config.{Config}
+use Rattle.lpt_jobs.specs.Codes.{coded_jobs}
+use Rattle.lpt_jobs.specs.Jobs.{Jobs}
 use Rattle.lpt_node.specs.Nodes.{Messages, Sending, Receiving, NodeData, NodeView, is_craft}
 use Rattle.lpt_node.specs.NodeInside.{coded_messages}
 use Rattle.lpt_node.specs.Origins.{Origin}
@@ -55,9 +57,16 @@ coded_receiving =
 -- the code of what changes at one end
 abbrev pub coded_data : Coded NodeData
 coded_data =
-    code_by (Sending × (Receiving × ℕ)) (coded× coded_sending (coded× coded_receiving coded_ℕ))
-    (λ d. (d.sending, (d.receiving, d.clock)))
-    (λ q. record { sending = q.0; receiving = q.1.0; clock = q.1.1 })
+    code_by (Sending × (Receiving × (ℕ × (ℕ × Jobs))))
+    (coded× coded_sending (coded× coded_receiving (coded× coded_ℕ (coded× coded_ℕ coded_jobs))))
+    (λ d. (d.sending, (d.receiving, (d.clock, (d.boot, d.jobs)))))
+    (λ q. record {
+      sending = q.0;
+      receiving = q.1.0;
+      clock = q.1.1.0;
+      boot = q.1.1.1.0;
+      jobs = q.1.1.1.1;
+    })
     (λ _. refl)
 
 -- the code of one end

@@ -4,6 +4,7 @@ pub mod Codes
 pub mod Counting
 pub mod Faults
 pub mod Found
+pub mod Jobs
 pub mod NodeInside
 pub mod Nodes
 pub mod Origins

@@ -12,6 +12,7 @@ use Rattle.lpt_events.specs.declared.side.Side.{Side}
 use Rattle.lpt_events.specs.declared.side.Side.TheVariants.{Ground, Craft}
 use Rattle.lpt_events.specs.declared.config.Config.{Config}
 use Rattle.lpt_node.specs.Counting.{no_types}
+use Rattle.lpt_jobs.specs.Jobs.{Jobs, no_jobs}
 
 -- the messages of the open outgoing transactions, by their names
 abbrev pub Messages : Type 0
@@ -30,11 +31,14 @@ pub record Receiving : Type 0 where
   pub ledger : Marks
   pub entries : Entries
 
--- what changes at one end; the clock is in ticks
+-- what changes at one end; the clock is in ticks; the jobs are the requests that were released in
+-- this boot and not executed, and ground has none
 pub record NodeData : Type 0 where
   pub sending : Sending
   pub receiving : Receiving
   pub clock : ℕ
+  pub boot : ℕ
+  pub jobs : Jobs
 
 -- one end: which it is, its configuration, and what changes
 pub record NodeView : Type 0 where
@@ -73,6 +77,8 @@ no_data c = record {
   sending = record { ledger = map.empty; messages = map.empty; count = 0; types = no_types };
   receiving = record { ledger = map.empty; entries = map.empty };
   clock = c.clock;
+  boot = 0;
+  jobs = no_jobs;
 }
 
 -- a new end

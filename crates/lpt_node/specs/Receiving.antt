@@ -16,6 +16,7 @@ use Rattle.lpt_node.specs.declared.taken.Taken.TheVariants as taking
 use Rattle.lpt_events.specs.declared.telemetry.TelemetryKind.TheVariants.{Abort}
 use Rattle.lpt_node.specs.Counting.{counter_of}
 use Rattle.lpt_events.specs.MadePackets.{telemetry_made}
+use Rattle.lpt_jobs.specs.Jobs.{after_push}
 use Rattle.lpt_node.specs.Nodes.{Receiving, NodeData}
 use Rattle.lpt_node.specs.Receivers.{ReceiverState, received}
 use Rattle.lpt_node.specs.Sending.{counted_kind}
@@ -47,20 +48,27 @@ abbrev pub with_report : NodeData → Option (List ℕ) → NodeData
 with_report d None = d
 with_report d (Some o) = record d { sending = counted_kind d.sending Abort }
 
+-- a message is released: at the spacecraft it becomes a job, on ground it does not
+abbrev pub with_job : Side → NodeData → List ℕ → NodeData
+with_job Ground d m = d
+with_job Craft d m = record d { jobs = after_push d.jobs m }
+
 -- the end and its answer, by what its receiver made of a part
-abbrev pub after_taken : NodeData → Name → ℕ → Taken → NodeData × Accepted
-after_taken d id number taking.Closed = (d, ignored why.Closed)
-after_taken d id number taking.Kept = (d, noted (outcome.Kept id number))
-after_taken d id number taking.Again = (d, noted (outcome.Again id number))
-after_taken d id number taking.NoRoom = (d, ignored why.NoRoom)
-after_taken d id number (taking.Whole m) =
-    (d, record { outcome = outcome.Released id (length m); packet = None; released = Some m })
-after_taken d id number (taking.Broken reason packet) =
+abbrev pub after_taken : Side → NodeData → Name → ℕ → Taken → NodeData × Accepted
+after_taken side d id number taking.Closed = (d, ignored why.Closed)
+after_taken side d id number taking.Kept = (d, noted (outcome.Kept id number))
+after_taken side d id number taking.Again = (d, noted (outcome.Again id number))
+after_taken side d id number taking.NoRoom = (d, ignored why.NoRoom)
+after_taken side d id number (taking.Whole m) = (
+  with_job side d m,
+  record { outcome = outcome.Released id (length m); packet = None; released = Some m },
+)
+after_taken side d id number (taking.Broken reason packet) =
     (with_report d packet, record { outcome = outcome.Broken id reason; packet = packet; released = None })
 
 -- the same, with the receiver after it
-abbrev pub after_received : NodeData → Piece → ReceiverState × Taken → NodeData × Accepted
-after_received d q x = after_taken (with_receiver d x.0) q.id q.number x.1
+abbrev pub after_received : Side → NodeData → Piece → ReceiverState × Taken → NodeData × Accepted
+after_received side d q x = after_taken side (with_receiver d x.0) q.id q.number x.1
 
 -- the head of the next report of an abortion, by the counts and the clock: the spacecraft makes it, and
 -- ground makes none
@@ -75,4 +83,4 @@ abort_head side c d = abort_head_at side c d.sending.count d.sending.types d.clo
 
 -- a part is delivered: the end after it, and the answer
 abbrev pub parted : Side → Config → NodeData → Piece → NodeData × Accepted
-parted side c d q = after_received d q (received (abort_head side c d) (receiver_of c d.receiving) q d.clock)
+parted side c d q = after_received side d q (received (abort_head side c d) (receiver_of c d.receiving) q d.clock)

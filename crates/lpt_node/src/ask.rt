@@ -18,4 +18,8 @@ pub enum Ask {
     Tick,
     /// To give the reception up that is due.
     Expire,
+    /// To claim the oldest job that waits.
+    Claim,
+    /// To execute the oldest job.
+    Apply,
 }

@@ -3,11 +3,13 @@
 ghost use Rattle.std.specs.Prelude.{◌≡◌, IfNone};
 ghost use Rattle.lpt_ledger.specs.States.{state_at};
 ghost use Rattle.lpt_node.specs.Asking.{refusal_of};
+ghost use Rattle.lpt_node.specs.Jobs.{refusal_claim, refusal_apply};
 ghost use Rattle.lpt_node.specs.Nodes.{MessageFits};
 ghost use Rattle.lpt_node.specs.Sending.{refusal_open, refusal_send, refusal_finish};
 ghost use Rattle.lpt_node.specs.Times.{refusal_tick, refusal_expire};
 
 use crate::{Ask, Node, NodeFault};
+use lpt_jobs::Front;
 use lpt_ledger::State;
 use lpt_packet::{LONGEST_PACKET, Name};
 use lpt_part::count;
@@ -25,6 +27,8 @@ impl Node {
             Ask::Finish(id) => self.refusal_finish(id),
             Ask::Tick => self.refusal_tick(),
             Ask::Expire => self.refusal_expire(),
+            Ask::Claim => self.refusal_claim(),
+            Ask::Apply => self.refusal_apply(),
         }
     }
 
@@ -97,6 +101,27 @@ impl Node {
         match self.receiver.due(self.clock) {
             None => Some(NodeFault::NothingDue),
             Some(_) => None,
+        }
+    }
+
+    // Why no job is claimed.
+    pub(crate) fn refusal_claim(&self) -> Option<NodeFault>
+        ensures { result ≡ refusal_claim self.now.at }
+    {
+        match self.jobs.unclaimed() {
+            None => Some(NodeFault::NoJob),
+            Some(_) => None,
+        }
+    }
+
+    // Why no job is executed.
+    pub(crate) fn refusal_apply(&self) -> Option<NodeFault>
+        ensures { result ≡ refusal_apply self.now.at }
+    {
+        match self.jobs.front() {
+            Front::Empty => Some(NodeFault::NoJob),
+            Front::NotReady => Some(NodeFault::NotReady),
+            Front::Ready(_) => None,
         }
     }
 }

@@ -31,6 +31,12 @@ pub enum NodeFault {
     /// No reception is overdue.
     #[error("no reception is overdue")]
     NothingDue,
+    /// There is no job to claim, or none to execute.
+    #[error("there is no job to claim, or none to execute")]
+    NoJob,
+    /// No reading of the oldest job was handed in.
+    #[error("no reading of the oldest job was handed in")]
+    NotReady,
     /// The clock is at its greatest value.
     #[error("the clock is at its greatest value")]
     ClockEnd,
@@ -55,6 +61,8 @@ impl NodeFault {
             NodeFault::NotOpen => StepFault::NotOpen,
             NodeFault::NoSuchPart => StepFault::NoSuchPart,
             NodeFault::NothingDue => StepFault::NothingDue,
+            NodeFault::NoJob => StepFault::NoJob,
+            NodeFault::NotReady => StepFault::NotReady,
             NodeFault::ClockEnd => StepFault::ClockEnd,
             NodeFault::Memory => StepFault::Memory,
             NodeFault::PartRequest => StepFault::PartRequest,

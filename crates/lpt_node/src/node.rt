@@ -10,6 +10,7 @@ use crate::counts::Counts;
 use crate::outgoing::Outgoing;
 use crate::receiver::Receiver;
 use crate::{Config, Side};
+use lpt_jobs::JobQueue;
 use lpt_ledger::{Ledger, State};
 use lpt_packet::Name;
 use std::alloc::{AllocError, Global};
@@ -30,6 +31,10 @@ pub struct Node {
     pub(crate) counts: Counts,
     pub(crate) receiver: Receiver,
     pub(crate) clock: u32,
+    // How many times it was started anew.
+    pub(crate) boot: u64,
+    // The released requests that aren't executed yet; on ground none.
+    pub(crate) jobs: JobQueue,
 }
 
 impl Model for Node {
@@ -54,6 +59,8 @@ impl Model for Node {
         };
         receiving = record { ledger = a.receiver.ledger; entries = a.receiver.entries };
         clock = a.clock;
+        boot = a.boot;
+        jobs = a.jobs.at;
       };
     } };
 
@@ -83,6 +90,8 @@ impl Node {
             counts: Counts::new(),
             receiver,
             clock: config.clock,
+            boot: 0,
+            jobs: JobQueue::new(alloc),
         })
     }
 

@@ -1,0 +1,90 @@
+//! Jobs: the requests that were released, claimed by workers, and executed in order of release.
+
+ghost use Rattle.std.specs.Prelude.{◌≡◌, IsTrue, None, IfOk, IfErr, OnOk, OnErr};
+ghost use Rattle.lpt_jobs.specs.Jobs.{is_claimed, numbered};
+ghost use Rattle.lpt_node.specs.Jobs.{refusal_claim, claimed, committed, refusal_apply, executed, execution, IsReadFor};
+ghost use Rattle.lpt_node.specs.Sending.{RefusedBy};
+
+use crate::{Executed, Node, NodeFault};
+use lpt_memory::{Memories, Reading, Ticket};
+
+impl Node {
+    /// How many times the node was started anew.
+    pub fn boot(&self) -> u64
+        ensures { result ≡ self.now.at.boot }
+    {
+        self.boot
+    }
+
+    /// How many jobs have got a number in this boot, executed ones among them.
+    pub fn jobs(&self) -> u64
+        ensures { result ≡ numbered self.now.at.jobs }
+    {
+        self.jobs.numbered()
+    }
+
+    /// Gives the oldest job that waits to a worker, with a copy of its message.
+    ///
+    /// Errors, with nothing changed, the first that applies: `NoJob`, none waits; `Memory`.
+    pub fn claim(&mut self) -> Result<Ticket, NodeFault>
+        ensures enabled { OnOk result (refusal_claim self.old.at ≡ None) }
+        ensures ok { IfOk result (λ t. (self.new.at, t) ≡ claimed self.old.at) }
+
+        ensures side { self.new.side ≡ self.old.side }
+        ensures config { self.new.config ≡ self.old.config }
+
+        ensures refused { IfErr result (λ e. RefusedBy (refusal_claim self.old.at) e) }
+        ensures err { OnErr result (self.new.at ≡ self.old.at) }
+    {
+        let Some((number, message)) = self.jobs.unclaimed() else {
+            return Err(NodeFault::NoJob);
+        };
+        let Ok(message) = message.copy() else {
+            return Err(NodeFault::Memory);
+        };
+        self.jobs.claim();
+        Ok(Ticket::new(self.boot, number, message))
+    }
+
+    /// Takes the reading of a job of this boot and number, and answers whether it counts: it does in
+    /// the job's own boot alone. A job of this boot must be claimed, and no reading of it handed in.
+    pub fn commit(&mut self, boot: u64, job: u64, reading: Reading) -> bool
+        requires { boot ≡ self.old.at.boot → IsTrue (is_claimed self.old.at.jobs job) }
+        ensures committed { (self.new.at, result) ≡ committed self.old.at boot job reading }
+
+        ensures side { self.new.side ≡ self.old.side }
+        ensures config { self.new.config ≡ self.old.config }
+    {
+        if boot != self.boot {
+            return false;
+        }
+        self.jobs.commit(job, reading);
+        true
+    }
+
+    /// Executes the oldest job, whose reading must be for these memories and the node's APID: does
+    /// what it asks of them, makes its reports, and lets the job go. A report of data that is too
+    /// long for a packet on the link is opened under the least free name.
+    ///
+    /// Errors, with node and memories unchanged, the first that applies: `NoJob`, there is none;
+    /// `NotReady`, no reading of the oldest was handed in; `Memory`.
+    pub fn apply_front(&mut self, memories: &mut Memories) -> Result<Executed, NodeFault>
+        requires { IsReadFor self.old memories.old }
+        ensures enabled { OnOk result (refusal_apply self.old.at ≡ None) }
+        ensures ok { IfOk result (λ r. ((self.new.at, execution r), memories.new)
+            ≡ executed self.old.config self.old.at memories.old) }
+
+        ensures side { self.new.side ≡ self.old.side }
+        ensures config { self.new.config ≡ self.old.config }
+
+        ensures refused { IfErr result (λ e. RefusedBy (refusal_apply self.old.at) e) }
+        ensures err { OnErr result (self.new.at ≡ self.old.at) }
+        ensures kept { OnErr result (memories.new ≡ memories.old) }
+    {
+        let _ = memories;
+        match self.refusal_apply() {
+            Some(fault) => Err(fault),
+            None => Err(NodeFault::Memory),
+        }
+    }
+}
