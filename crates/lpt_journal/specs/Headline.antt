@@ -1,5 +1,7 @@
 -- What holds of every legal journal.
-use Rattle.std.specs.Prelude.{◌≡◌, ℕ, ◌-◌, ◌<◌, ◌≤◌, true, List, length, drop, slice_get, Option, Some, is_some}
+use Rattle.std.specs.Prelude.{◌≡◌, ℕ, ◌-◌, ◌<◌, ◌≤◌, true, List, length, drop, map, slice_get, Option, Some, is_some, Contains}
+use Rattle.std.specs.List.{filter}
+use Rattle.std.specs.List.Sorted.{IsStrictlyIncreasing}
 use Rattle.std.specs.Option.{option_and_then}
 use Rattle.std.specs.FinMap as map
 use Rattle.lpt_packet.specs.declared.direction.Direction.{Direction}
@@ -28,7 +30,7 @@ use Rattle.lpt_journal.specs.Senders.{current}
 use Rattle.lpt_journal.specs.Receivers.{heard}
 use Rattle.lpt_journal.specs.Delivery.{outcome}
 use Rattle.lpt_journal.specs.Releases.{releases}
-use Rattle.lpt_journal.specs.Jobs.{memories}
+use Rattle.lpt_journal.specs.Jobs.{went_up, executed, left_by, memories}
 use Rattle.lpt_events.specs.Configs.{IsConfig}
 use Rattle.lpt_journal.specs.Replies.{recorded}
 use Rattle.lpt_journal.specs.Legal.{Legal}
@@ -129,23 +131,32 @@ DeliveriesAreSound c h = (l : Lane) → is_some (hand h l) ≡ true → IsSoundD
 
 -- ---- memories
 
--- so far nothing is executed, so memories keep their first content
-abbrev pub MemoriesStay : Config → Contents → History → Type 0
-MemoriesStay c first h = memories c first h ≡ first
+-- each request that was executed is one that the spacecraft released
+abbrev pub EachWasReleased : Config → History → Type 0
+EachWasReleased c h =
+    (k : ℕ) (r : Release)
+    → slice_get (executed c h) k ≡ Some r
+    → Contains (filter (λ x. went_up x.of) (releases c h)) r
+
+-- The requests were executed in order of release, none of them twice: their places rise from each to
+-- the next. The memories are what they leave of the first content, one after the other.
+pub record MemoriesFollow (c : Config) (first : Contents) (h : History) : Type 0 where
+  pub released : EachWasReleased c h
+  pub in_order : IsStrictlyIncreasing (map (λ r. r.place) (executed c h))
+  pub left : memories c first h ≡ left_by c.apid (map (λ r. r.message) (executed c h)) first
 
 -- ---- the main theorem
 
 -- Every part on its way or heard is of the message last opened under its name. Each large message
 -- that was released is the one last opened under its name, and that once. Deliveries are and were
--- sound.
--- Memories keep their first content.
+-- sound. The memories are their first content, changed by the executed requests in order of release.
 pub record Holds (c : Config) (first : Contents) (h : History) : Type 0 where
   pub parts : PartsAreCurrent c h
   pub messages : EachIsLastOpened c h
   pub once : AtMostOncePerOpening c h
   pub deliveries : DeliveriesAreSound c h
   pub delivered : DeliveriesWereSound h
-  pub memories : MemoriesStay c first h
+  pub memories : MemoriesFollow c first h
 
 -- it holds of every legal journal, whatever its events, their order and their number
 abbrev pub Headline : Type 0

@@ -1,15 +1,114 @@
--- The requests that the spacecraft node executes, and its memories: their first content, changed by
--- these requests.
-use Rattle.std.specs.Prelude.{ℕ, List, [], ◌∷◌, map}
+-- The requests that the spacecraft node releases and executes, the workers that read them, and the
+-- memories: their first content, changed by the executed requests.
+use Rattle.std.specs.Prelude.{ℕ, ◌+◌, ◌==◌, Bool, true, false, ◌||◌, if◌then◌else◌, List, [], ◌∷◌, map, slice_get, Option, Some, None}
+use Rattle.std.specs.List.{filter}
+use Rattle.lpt_packet.specs.declared.direction.Direction.{Direction}
+use Rattle.lpt_packet.specs.declared.direction.Direction.TheVariants.{Up}
+use Rattle.lpt_packet.specs.Names.{Name}
 use Rattle.lpt_memory.specs.Meanings.{meaning}
 use Rattle.lpt_memory.specs.Memories.{Contents, sizes_of, effect}
+use Rattle.lpt_events.specs.Lanes.{same_direction}
+use Rattle.lpt_events.specs.Workers.{same_worker}
 use Rattle.lpt_events.specs.declared.config.Config.{Config}
 use Rattle.lpt_events.specs.declared.entry.Release.{Release}
+use Rattle.lpt_events.specs.declared.event.Event.{Event}
+use Rattle.lpt_events.specs.declared.event.Event.TheVariants.{Claim, Commit, Apply}
+use Rattle.lpt_events.specs.declared.reply.Answer.{Answer}
+use Rattle.lpt_events.specs.declared.reply.Answer.TheVariants.{Claimed, Committed}
+use Rattle.lpt_events.specs.declared.side.Side.{Side}
+use Rattle.lpt_events.specs.declared.side.Side.TheVariants.{Craft}
+use Rattle.lpt_events.specs.declared.worker.Worker.{Worker}
 use Rattle.lpt_journal.specs.Journal.{Recorded, History, with_all}
+use Rattle.lpt_journal.specs.Releases.{released_by}
+use Rattle.lpt_journal.specs.Senders.{restarts}
 
--- the released requests that an entry executes after this history; so far no event executes one
+-- ---- boots and jobs
+
+-- how many times a node was started anew
+abbrev pub boot : History → Side → ℕ
+boot [] side = 0
+boot (x ∷ h) side = if restarts x.event side then boot h side + 1 else boot h side
+
+-- whether what was released came up, so that the spacecraft released it; all plain requests do
+abbrev pub went_up : Option (Direction × Name) → Bool
+went_up None = true
+went_up (Some t) = same_direction t.0 Up
+
+-- the jobs: what the spacecraft has released since its last restart, numbered from 0 in this order
+abbrev pub jobs : Config → History → List Release
+jobs c [] = []
+jobs c (x ∷ h) =
+    if restarts x.event Craft then []
+    else with_all (jobs c h) (filter (λ r. went_up r.of) (released_by c x h))
+
+-- how many jobs were claimed after an event
+abbrev pub claimed_after : Event → ℕ → ℕ
+claimed_after (Claim w) before = before + 1
+claimed_after _ before = before
+
+-- how many jobs were claimed since the spacecraft's last restart; they are the oldest
+abbrev pub claimed : History → ℕ
+claimed [] = 0
+claimed (x ∷ h) = if restarts x.event Craft then 0 else claimed_after x.event (claimed h)
+
+-- how many jobs were executed after an event
+abbrev pub applied_after : Event → ℕ → ℕ
+applied_after Apply before = before + 1
+applied_after _ before = before
+
+-- how many jobs were executed since the spacecraft's last restart; they are the oldest
+abbrev pub applied : History → ℕ
+applied [] = 0
+applied (x ∷ h) = if restarts x.event Craft then 0 else applied_after x.event (applied h)
+
+-- ---- tickets and commits
+
+-- a job by the boot in which it was released, and its number in it
+pub record JobName : Type 0 where
+  pub boot : ℕ
+  pub job : ℕ
+
+-- the job that an answer gives to a worker
+abbrev pub job_given : Answer → Option JobName
+job_given (Claimed boot job) = Some (record { boot = boot; job = job })
+job_given _ = None
+
+-- the job that a worker has after an event
+abbrev pub ticket_after : Event → Answer → Worker → Option JobName → Option JobName
+ticket_after (Claim v) answer w before = if same_worker v w then job_given answer else before
+ticket_after (Commit v) answer w before = if same_worker v w then None else before
+ticket_after _ answer w before = before
+
+-- the job that a worker claimed last, where it committed none after that
+abbrev pub ticket : History → Worker → Option JobName
+ticket [] w = None
+ticket (x ∷ h) w = ticket_after x.event x.reply.answer w (ticket h w)
+
+-- whether an answer says that the reading of the job of this number was handed in
+abbrev pub commits : Answer → ℕ → Bool
+commits (Committed boot n) job = n == job
+commits _ job = false
+
+-- whether the reading of the job of this number was handed in since the spacecraft's last restart
+abbrev pub is_committed : History → ℕ → Bool
+is_committed [] job = false
+is_committed (x ∷ h) job =
+    if restarts x.event Craft then false else commits x.reply.answer job || is_committed h job
+
+-- ---- execution
+
+-- the oldest job that isn't executed
+abbrev pub front_job : Config → History → Option Release
+front_job c h = slice_get (jobs c h) (applied h)
+
+-- what an event executes, where this job is the oldest
+abbrev pub executed_now : Event → Option Release → List Release
+executed_now Apply (Some r) = r ∷ []
+executed_now _ front = []
+
+-- the released requests that an entry executes after this history
 abbrev pub executed_by : Config → Recorded → History → List Release
-executed_by c x h = []
+executed_by c x h = executed_now x.event (front_job c h)
 
 -- the released requests that were executed, in their order
 abbrev pub executed : Config → History → List Release

@@ -5,7 +5,7 @@ use Rattle.lpt_packet.specs.Numbers.{IsOctets}
 use Rattle.lpt_memory.specs.Memories.{Contents}
 use Rattle.lpt_events.specs.declared.config.Config.{Config}
 use Rattle.lpt_events.specs.declared.event.Event.{Event}
-use Rattle.lpt_events.specs.declared.event.Event.TheVariants.{Open, Send, Plain, Finish, Lose, Take, Deliver, Tick, Expire}
+use Rattle.lpt_events.specs.declared.event.Event.TheVariants.{Open, Send, Plain, Finish, Lose, Take, Deliver, Tick, Expire, Claim, Commit, Apply}
 use Rattle.lpt_journal.specs.Journal.{History}
 use Rattle.lpt_journal.specs.Replies.{recorded}
 use Rattle.lpt_journal.specs.Refusals.{refusal}
@@ -22,6 +22,9 @@ IsEvent (Take l n) = ⊤
 IsEvent (Deliver l) = ⊤
 IsEvent (Tick side) = ⊤
 IsEvent (Expire side) = ⊤
+IsEvent (Claim w) = ⊤
+IsEvent (Commit w) = ⊤
+IsEvent Apply = ⊤
 
 -- an event can happen after this history
 pub record IsEnabled (c : Config) (h : History) (e : Event) : Type 0 where

@@ -1,5 +1,6 @@
 pub mod Delivery
 pub mod Due
+pub mod Executions
 pub mod Expiries
 pub mod Hands
 pub mod Headline

@@ -17,9 +17,9 @@ use Rattle.lpt_events.specs.declared.side.Side.TheVariants.{Ground, Craft}
 use Rattle.lpt_events.specs.Arrivals.{part_subtype}
 use Rattle.lpt_events.specs.MadePackets.{nth_part, part_made, abort_made, tc_made}
 use Rattle.lpt_events.specs.declared.event.Event.{Event}
-use Rattle.lpt_events.specs.declared.event.Event.TheVariants.{Open, Send, Plain, Finish, Lose, Take, Deliver, Tick, Expire}
+use Rattle.lpt_events.specs.declared.event.Event.TheVariants.{Open, Send, Plain, Finish, Lose, Take, Deliver, Tick, Expire, Claim, Commit, Apply}
 use Rattle.lpt_events.specs.declared.reply.Answer.{Answer}
-use Rattle.lpt_events.specs.declared.reply.Answer.TheVariants.{Opened, Put, Finished, Lost, Took, Delivered, Clock, Expired}
+use Rattle.lpt_events.specs.declared.reply.Answer.TheVariants.{Opened, Put, Finished, Lost, Took, Delivered, Clock, Expired, Claimed, Committed, Applied}
 use Rattle.lpt_events.specs.declared.reply.Puts.{Puts}
 use Rattle.lpt_events.specs.declared.reply.Reply.{Reply}
 use Rattle.lpt_events.specs.declared.entry.Opening.{Opening}
@@ -30,11 +30,18 @@ use Rattle.lpt_journal.specs.Senders.{Sender, FreeSender, OpenSender, ClosedSend
 use Rattle.lpt_journal.specs.Receivers.{clock}
 use Rattle.lpt_journal.specs.Due.{due}
 use Rattle.lpt_journal.specs.Delivery.{outcome}
+use Rattle.lpt_journal.specs.Executions.{front_applied, front_puts, front_opens}
+use Rattle.lpt_journal.specs.Jobs.{JobName, boot, claimed, ticket}
 
 -- the end of the reception that is due; where none is, that is refused
 abbrev pub expired_now : Direction → Option Name → Answer
 expired_now d None = Expired d no_name
 expired_now d (Some id) = Expired d id
+
+-- the commit of this job; where a worker has none, that is refused
+abbrev pub committed_now : Option JobName → Answer
+committed_now None = Committed 0 0
+committed_now (Some t) = Committed t.boot t.job
 
 -- what is particular to the event in its reply
 abbrev pub answer : Config → Contents → History → Event → Answer
@@ -47,6 +54,9 @@ answer c first h (Take l n) = Took n
 answer c first h (Deliver l) = Delivered (outcome c h l)
 answer c first h (Tick side) = Clock (clock c h side + 1)
 answer c first h (Expire side) = expired_now (direction_to side) (due c h (direction_to side))
+answer c first h (Claim w) = Claimed (boot h Craft) (claimed h)
+answer c first h (Commit w) = committed_now (ticket h w)
+answer c first h Apply = Applied (front_applied c first h)
 
 -- the octets of a part's packet that the sender makes now
 abbrev pub part_packet : Config → History → Direction → Piece → List ℕ
@@ -101,6 +111,9 @@ puts c first h (Take l n) = []
 puts c first h (Deliver l) = outcome_puts c h (receiver_side (lane_direction l)) (outcome c h l)
 puts c first h (Tick side) = []
 puts c first h (Expire side) = expiry_puts c h side (due c h (direction_to side))
+puts c first h (Claim w) = []
+puts c first h (Commit w) = []
+puts c first h Apply = front_puts c first h
 
 -- the transactions that an event opens
 abbrev pub opens : Config → Contents → History → Event → List Opening
@@ -113,6 +126,9 @@ opens c first h (Take l n) = []
 opens c first h (Deliver l) = []
 opens c first h (Tick side) = []
 opens c first h (Expire side) = []
+opens c first h (Claim w) = []
+opens c first h (Commit w) = []
+opens c first h Apply = front_opens c first h
 
 -- how a reply tells of packets that were put, the first of which got this number
 abbrev pub told : ℕ → List SentPacket → Option Puts

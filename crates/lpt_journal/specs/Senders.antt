@@ -6,11 +6,12 @@ use Rattle.lpt_packet.specs.declared.direction.Direction.{Direction}
 use Rattle.lpt_packet.specs.declared.direction.Direction.TheVariants.{Up, Down}
 use Rattle.lpt_packet.specs.Names.{Name, same_name}
 use Rattle.lpt_packet.specs.Numbers.{same_octets}
+use Rattle.lpt_ledger.specs.LeastFree.{name_count, first_of_numbers}
 use Rattle.lpt_events.specs.Lanes.{same_direction}
 use Rattle.lpt_events.specs.declared.side.Side.{Side}
 use Rattle.lpt_events.specs.declared.outcome.Outcome.TheVariants.{AbortNoted}
 use Rattle.lpt_events.specs.declared.event.Event.{Event}
-use Rattle.lpt_events.specs.declared.event.Event.TheVariants.{Open, Send, Plain, Finish, Lose, Take, Deliver, Tick, Expire}
+use Rattle.lpt_events.specs.declared.event.Event.TheVariants.{Open, Send, Plain, Finish, Lose, Take, Deliver, Tick, Expire, Claim, Commit, Apply}
 use Rattle.lpt_events.specs.declared.reply.Answer.{Answer}
 use Rattle.lpt_events.specs.declared.reply.Answer.TheVariants.{Delivered}
 use Rattle.lpt_events.specs.declared.entry.Opening.{Opening}
@@ -100,6 +101,10 @@ opened_names h d = map (λ o. o.id) (filter (λ o. same_direction o.direction d)
 abbrev pub open_count : History → Direction → ℕ
 open_count h d = length (once (filter (λ id. is_open (sender h d id)) (opened_names h d)))
 
+-- the least identifier whose transaction is free at its sender
+abbrev pub least_free : History → Direction → Option Name
+least_free h d = first_of_numbers name_count 0 (λ id. is_free (sender h d id))
+
 -- ---- packets made
 
 -- whether an event restarts a node; so far none does
@@ -117,6 +122,9 @@ makes (Take l n) = true
 makes (Deliver l) = true
 makes (Tick side) = true
 makes (Expire side) = true
+makes (Claim w) = true
+makes (Commit w) = true
+makes Apply = true
 
 -- the octets of the packets that go in this direction
 abbrev pub octets_put : List SentPacket → Direction → List (List ℕ)
@@ -136,14 +144,23 @@ abbrev pub made : History → Direction → List (List ℕ)
 made [] d = []
 made (x ∷ h) d = if restarts x.event (sender_side d) then [] else with_all (made h d) (made_by x d)
 
+-- the sequence count of the next packet of a node that has made these: 14 bits
+abbrev pub count_after : List (List ℕ) → ℕ
+count_after packets = length packets % 16384
+
 -- the sequence count of the node's next packet
 abbrev pub count : History → Direction → ℕ
-count h d = length (made h d) % 16384
+count h d = count_after (made h d)
 
 -- whether octets are telemetry of this service and message subtype, which stand at places 7 and 8
 abbrev pub is_report : (service subtype : ℕ) → List ℕ → Bool
 is_report service subtype b = same_octets (take 2 (drop 7 b)) (service ∷ subtype ∷ [])
 
+-- the message type counter of the next telemetry of this service and message subtype, where these
+-- packets were made: 16 bits
+abbrev pub counter_after : List (List ℕ) → (service subtype : ℕ) → ℕ
+counter_after packets service subtype = length (filter (is_report service subtype) packets) % 65536
+
 -- the message type counter of the spacecraft's next telemetry of this service and message subtype
 abbrev pub type_counter : History → (service subtype : ℕ) → ℕ
-type_counter h service subtype = length (filter (is_report service subtype) (made h Down)) % 65536
+type_counter h service subtype = counter_after (made h Down) service subtype

@@ -1,0 +1,92 @@
+-- What the execution of the oldest request answers, puts and opens.
+use Rattle.std.specs.Prelude.{ℕ, nat_lt, List, [], ◌∷◌, length, map, Option, Some, None, is_some}
+use Rattle.std.specs.Option.{option_map_or}
+use Rattle.lpt_packet.specs.declared.direction.Direction.TheVariants.{Down}
+use Rattle.lpt_packet.specs.Names.{Name}
+use Rattle.lpt_memory.specs.declared.effect.Effect.{Effect}
+use Rattle.lpt_memory.specs.Answers.{answer}
+use Rattle.lpt_memory.specs.Meanings.{meaning}
+use Rattle.lpt_memory.specs.Memories.{Contents, sizes_of}
+use Rattle.lpt_events.specs.TelemetryKinds.{service_of, subtype_of}
+use Rattle.lpt_events.specs.MadePackets.{tm_made}
+use Rattle.lpt_events.specs.declared.applied.Applied.{Applied}
+use Rattle.lpt_events.specs.declared.config.Config.{Config}
+use Rattle.lpt_events.specs.declared.entry.Opening.{Opening}
+use Rattle.lpt_events.specs.declared.side.Side.TheVariants.{Craft}
+use Rattle.lpt_execution.specs.declared.ending.Ending.{Ending}
+use Rattle.lpt_execution.specs.declared.ending.Ending.TheVariants.{Silent}
+use Rattle.lpt_execution.specs.declared.ending.Report.{Report}
+use Rattle.lpt_execution.specs.Endings.{ending}
+use Rattle.lpt_execution.specs.Reporting.{message_reports, link_packets, large_packets, opened_of, applied_of}
+use Rattle.lpt_journal.specs.Journal.{SentPacket, History, with_all}
+use Rattle.lpt_journal.specs.Jobs.{front_job, memories}
+use Rattle.lpt_journal.specs.Receivers.{clock}
+use Rattle.lpt_journal.specs.Senders.{least_free, open_count, made, count_after, counter_after}
+
+-- what a message comes to, executed over these memories
+abbrev pub effect_of : Config → Contents → List ℕ → Effect
+effect_of c ms m = answer (meaning c.apid (sizes_of ms) m) ms
+
+-- how the execution of a message ends now
+abbrev pub ending_of : Config → Contents → History → List ℕ → Ending
+ending_of c first h m =
+    ending c.part_size (is_some (least_free h Down)) (nat_lt (open_count h Down) c.outgoing)
+    (effect_of c (memories c first h) m)
+
+-- how the execution of the oldest request ends now; where there is none, it is refused
+abbrev pub front_ending : Config → Contents → History → Ending
+front_ending c first h = option_map_or (λ r. ending_of c first h r.message) (front_job c h) Silent
+
+-- its reports
+abbrev pub front_reports : Config → Contents → History → List Report
+front_reports c first h =
+    option_map_or (λ r. message_reports c.apid r.message (ending_of c first h r.message))
+    (front_job c h) []
+
+-- the packet of a report that the spacecraft makes after these, at this time
+abbrev pub report_after : Config → (packets : List (List ℕ)) → (time : ℕ) → Report → List ℕ
+report_after c packets time r =
+    tm_made c (count_after packets)
+    (counter_after packets (service_of r.kind) (subtype_of r.kind)) time
+    (service_of r.kind) (subtype_of r.kind) r.body
+
+-- reports with the packets that the spacecraft makes of them, one after the other
+abbrev pub reports_after : Config
+    → (packets : List (List ℕ))
+    → (time : ℕ)
+    → List Report
+    → List (Report × List ℕ)
+reports_after c packets time [] = []
+reports_after c packets time (r ∷ rs) =
+    (r, report_after c packets time r)
+    ∷ reports_after c (with_all packets (report_after c packets time r ∷ [])) time rs
+
+-- the reports of the oldest request's execution, with their packets
+abbrev pub front_packets : Config → Contents → History → List (Report × List ℕ)
+front_packets c first h =
+    reports_after c (made h Down) (clock c h Craft) (front_reports c first h)
+
+-- the report of data that is opened, as it is too long for the link: its name and its packet
+abbrev pub front_opened : Config → Contents → History → Option (Name × List ℕ)
+front_opened c first h =
+    opened_of (least_free h Down) (large_packets c.part_size (front_packets c first h))
+
+-- what the execution answers
+abbrev pub front_applied : Config → Contents → History → Applied
+front_applied c first h = applied_of (front_ending c first h) (front_opened c first h)
+
+-- what it puts on the link
+abbrev pub front_puts : Config → Contents → History → List SentPacket
+front_puts c first h =
+    map (λ b. record { direction = Down; octets = b })
+    (link_packets c.part_size (front_packets c first h))
+
+-- the opening of a name and a message that go down
+abbrev pub opened_down : (place : ℕ) → Option (Name × List ℕ) → List Opening
+opened_down place None = []
+opened_down place (Some x) =
+    record { place = place; direction = Down; id = x.0; message = x.1 } ∷ []
+
+-- what it opens
+abbrev pub front_opens : Config → Contents → History → List Opening
+front_opens c first h = opened_down (length h) (front_opened c first h)
