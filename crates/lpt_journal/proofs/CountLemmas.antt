@@ -17,9 +17,9 @@ use Rattle.lpt_reception.specs.Received.{Kept as Kept', Parts, no_parts}
 use Rattle.lpt_events.specs.declared.lane.Lane.{Lane}
 use Rattle.lpt_events.specs.declared.entry.Opening.{Opening}
 use Rattle.lpt_events.specs.declared.event.Event.{Event}
-use Rattle.lpt_events.specs.declared.event.Event.TheVariants.{Open, Send, Plain, Finish, Lose, Take, Deliver, Tick, Expire}
+use Rattle.lpt_events.specs.declared.event.Event.TheVariants.{Open, Send, Plain, Finish, Lose, Take, Deliver, Tick, Expire, Claim, Commit, Apply}
 use Rattle.lpt_events.specs.declared.reply.Answer.{Answer}
-use Rattle.lpt_events.specs.declared.reply.Answer.TheVariants.{Opened, Put, Finished, Lost, Took, Delivered, Clock, Expired}
+use Rattle.lpt_events.specs.declared.reply.Answer.TheVariants.{Opened, Put, Finished, Lost, Took, Delivered, Clock, Expired, Claimed, Committed, Applied}
 use Rattle.lpt_events.specs.Sides.{same_side, receiver_side}
 use Rattle.lpt_journal.specs.Journal.{History, with_all}
 use Rattle.lpt_journal.specs.Hands.{in_hand}
@@ -141,6 +141,9 @@ heard_now_named Lost r id before names was e = was e
 heard_now_named (Took n) r id before names was e = was e
 heard_now_named (Clock n) r id before names was e = was e
 heard_now_named (Expired d i) r id before names was e = was e
+heard_now_named (Claimed b n) r id before names was e = was e
+heard_now_named (Committed b n) r id before names was e = was e
+heard_now_named (Applied a) r id before names was e = was e
 
 heard_after_named : (ev : Event) (a : Answer) (r : Lane → Arrival) (d : Direction) (id : Name) (before : Parts) (names : List Name) → (has_parts before ≡ true → list_any (same_name id) names ≡ true)
     → has_parts (heard_after ev a r d id before) ≡ true → list_any (same_name id) (names_after ev a d names) ≡ true
@@ -155,6 +158,9 @@ heard_after_named (Finish e i) a r d id before names was e' = was e'
 heard_after_named (Lose n) a r d id before names was e' = was e'
 heard_after_named (Take l n) a r d id before names was e' = was e'
 heard_after_named (Tick s) a r d id before names was e' = was e'
+heard_after_named (Claim w) a r d id before names was e' = was e'
+heard_after_named (Commit w) a r d id before names was e' = was e'
+heard_after_named Apply a r d id before names was e' = was e'
 heard_after_named (Expire s) a r d id before names was e' = go (same_side s (receiver_side d) && ends a id) e' where
   go : (t : Bool) → has_parts (if t then no_parts else before) ≡ true → list_any (same_name id) names ≡ true
   go true f = let k : true ≡ false = sym f ∙ none_open in absurd cc
