@@ -6,23 +6,28 @@ use Rattle.lpt_memory.specs.Memories.{Contents}
 use Rattle.lpt_journal.specs.Journal.{History}
 use Rattle.lpt_journal.specs.Refusals.{refusal}
 use Rattle.lpt_journal.specs.Replies.{reply, entry}
-use Rattle.lpt_machine.specs.Shows.{Shows}
-use Rattle.lpt_machine.specs.State.{State, no_state, refusal_of, after}
-use Rattle.lpt_machine.specs.Views.{views}
+use Rattle.lpt_journal.specs.Jobs.{ticket}
+use Rattle.lpt_machine.specs.Shows.{Shows, JobsFit}
+use Rattle.lpt_machine.specs.State.{State, no_state, refusal_of, IsReady, after}
+use Rattle.lpt_machine.specs.Views.{jobs_view, views}
 
--- an event that isn't refused is answered as the journal says, and the longer journal is shown
+-- an event that isn't refused can be done, is answered as the journal says, and the longer journal is
+-- shown
 pub record GoesOn (c : Config) (first : Contents) (s : State) (h : History) (e : Event) : Type 0 where
+  pub ready : IsReady c s e
   pub answered : (after c (length h) s e).1 ≡ reply c first h e
-  pub shown : Shows (after c (length h) s e).0 (views c (entry c first h e ∷ h))
+  pub shown : Shows (after c (length h) s e).0 (views c first (entry c first h e ∷ h))
 
--- where nothing has happened, the empty journal is shown; what shows a journal refuses what the
--- journal refuses, and goes on with it
+-- where nothing has happened, the empty journal is shown; what shows a journal whose jobs fit refuses
+-- what the journal refuses, and goes on with it
 pub record FollowsJournal : Type 0 where
-  pub begins : (c : Config) → Shows (no_state c) (views c [])
-  pub refuses : (c : Config) (s : State) (h : History) (e : Event)
-      → Shows s (views c h)
+  pub begins : (c : Config) (first : Contents) → Shows (no_state c first) (views c first [])
+  pub refuses : (c : Config) (first : Contents) (s : State) (h : History) (e : Event)
+      → Shows s (views c first h)
+      → JobsFit (jobs_view c first h) (ticket h)
       → refusal_of c s e ≡ refusal c h e
   pub goes_on : (c : Config) (first : Contents) (s : State) (h : History) (e : Event)
-      → Shows s (views c h)
+      → Shows s (views c first h)
+      → JobsFit (jobs_view c first h) (ticket h)
       → refusal c h e ≡ None
       → GoesOn c first s h e

@@ -1,4 +1,5 @@
 pub mod GoesOn
 pub mod Shows
 pub mod State
+pub mod Tickets
 pub mod Views

@@ -1,6 +1,7 @@
 -- The state of the ends and the link shows a view: each field is what the view says of it.
-use Rattle.std.specs.Prelude.{◌≡◌, ℕ, ◌%◌, ◌≤◌, nat_lt, Bool, true, false, not, ◌&&◌, if◌then◌else◌, List, length, map, Option, Some, None}
+use Rattle.std.specs.Prelude.{◌≡◌, ℕ, suc, ◌%◌, ◌<◌, ◌≤◌, nat_lt, Bool, true, false, not, ◌&&◌, if◌then◌else◌, List, [], ◌∷◌, length, map, drop, slice_get, Option, Some, None}
 use Rattle.std.specs.List.{filter}
+use Rattle.std.specs.Option.{option_map}
 use Rattle.std.specs.FinMap as maps
 use Rattle.lpt_packet.specs.Names.{Name}
 use Rattle.lpt_ledger.specs.Marks.{Mark, Opened, Shut}
@@ -15,11 +16,19 @@ use Rattle.lpt_node.specs.Counting.{counter_of}
 use Rattle.lpt_node.specs.Nodes.{Sending, Receiving, NodeData}
 use Rattle.lpt_reception.specs.Received.{Parts}
 use Rattle.lpt_table.specs.Tables.{TableEntry}
+use Rattle.lpt_events.specs.declared.worker.Worker.{Worker}
+use Rattle.lpt_memory.specs.Memories.{sizes_of}
+use Rattle.lpt_memory.specs.Readings.{Job as Ticket}
+use Rattle.lpt_jobs.specs.declared.job.Job.{Job}
+use Rattle.lpt_jobs.specs.declared.job.Mark.{Mark as JobMark}
+use Rattle.lpt_jobs.specs.declared.job.Mark.TheVariants.{Waiting, Claimed, Committed}
+use Rattle.lpt_journal.specs.Jobs.{JobName}
 use Rattle.lpt_journal.specs.Journal.{SentPacket}
 use Rattle.lpt_journal.specs.Receivers.{has_parts}
 use Rattle.lpt_journal.specs.Senders.{Sender, FreeSender, OpenSender, ClosedSender, is_report}
 use Rattle.lpt_machine.specs.State.{State}
-use Rattle.lpt_machine.specs.Views.{SendingView, ReceivingView, EndView, LinkView, Views}
+use Rattle.lpt_machine.specs.Tickets.{ticket_of}
+use Rattle.lpt_machine.specs.Views.{SendingView, ReceivingView, EndView, LinkView, JobsView, Views}
 
 -- ---- what a field shows
 
@@ -83,9 +92,55 @@ pub record ShowsLink (x : LinkData) (y : LinkView) : Type 0 where
   pub lost_before : (n : ℕ) → length y.sent ≤ n → y.lost n ≡ false
   pub hands : (l : Lane) → hand_of x l ≡ y.hands l
 
+-- the mark of the job of this number and message
+abbrev pub mark_at : JobsView → ℕ → List ℕ → JobMark
+mark_at v n m =
+    if nat_lt n v.claimed then
+    (if v.committed n then Committed (record { apid = v.apid; sizes = v.sizes; message = m })
+    else Claimed)
+    else Waiting
+
+-- the jobs of these messages, the first of which has the number n
+abbrev pub jobs_from : JobsView → ℕ → List (List ℕ) → List Job
+jobs_from v n [] = []
+jobs_from v n (m ∷ ms) = record { message = m; mark = mark_at v n m } ∷ jobs_from v (suc n) ms
+
+-- the queue has the jobs that aren't executed
+pub record ShowsJobs (d : NodeData) (v : JobsView) : Type 0 where
+  pub boot : d.boot ≡ v.boot
+  pub first : d.jobs.first ≡ v.applied
+  pub jobs : d.jobs.jobs ≡ jobs_from v v.applied (drop v.applied v.messages)
+
+-- a worker has this job; in the boot that goes on it has the job's message
+pub record ShowsTicket (t : Option Ticket) (v : JobsView) (of : Option JobName) : Type 0 where
+  pub name : option_map (λ x. record { boot = x.boot; job = x.job }) t ≡ of
+  pub message : (x : Ticket)
+      → t ≡ Some x
+      → x.boot ≡ v.boot
+      → slice_get v.messages x.job ≡ Some x.message
+
 pub record Shows (s : State) (v : Views) : Type 0 where
   pub ground : ShowsEnd Ground s.on_ground v.ground
   pub craft : ShowsEnd Craft s.on_craft v.craft
   pub link : ShowsLink s.link v.link
+  pub jobs : ShowsJobs s.on_craft v.jobs
+  pub tickets : (w : Worker) → ShowsTicket (ticket_of s.tickets w) v.jobs (v.tickets w)
+  pub memories : s.memories ≡ v.memories
+  pub sizes : sizes_of v.memories ≡ v.jobs.sizes
   pub opened : s.opened ≡ v.opened
   pub released : s.released ≡ v.released
+
+-- ---- what holds of the jobs in every legal journal
+
+-- the job of this number was claimed, and neither committed nor executed
+pub record IsOut (v : JobsView) (n : ℕ) : Type 0 where
+  pub not_executed : v.applied ≤ n
+  pub is_claimed : n < v.claimed
+  pub not_committed : v.committed n ≡ false
+
+-- jobs are claimed before they are executed or committed, and a worker's job of this boot is out
+pub record JobsFit (v : JobsView) (tickets : Worker → Option JobName) : Type 0 where
+  pub executed : v.applied ≤ v.claimed
+  pub claimed : v.claimed ≤ length v.messages
+  pub committed : (n : ℕ) → v.committed n ≡ true → n < v.claimed
+  pub out : (w : Worker) (t : JobName) → tickets w ≡ Some t → t.boot ≡ v.boot → IsOut v t.job

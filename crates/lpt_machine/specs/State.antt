@@ -1,6 +1,6 @@
 -- The two ends and the link between them as plain data, and what each event does to them. Each step
 -- is one of an end's or of the link's.
-use Rattle.std.specs.Prelude.{◌≡◌, ℕ, List, [], ◌∷◌, ◌++◌, length, Option, Some, None}
+use Rattle.std.specs.Prelude.{◌≡◌, ℕ, List, [], ◌∷◌, ◌++◌, length, IfSome, IsTrue, Option, Some, None}
 use Rattle.std.specs.Option.{option_map, option_map_or}
 use Rattle.lpt_packet.specs.declared.direction.Direction.{Direction}
 use Rattle.lpt_packet.specs.declared.direction.Direction.TheVariants.{Up, Down}
@@ -22,6 +22,11 @@ use Rattle.lpt_events.specs.declared.side.Side.TheVariants.{Ground, Craft}
 use Rattle.lpt_node.specs.Accepting.{accepted}
 use Rattle.lpt_node.specs.Faults.{node_fault}
 use Rattle.lpt_events.specs.Arrivals.{Arrival, NotRead}
+use Rattle.lpt_events.specs.declared.worker.Worker.{Worker}
+use Rattle.lpt_memory.specs.Memories.{Contents, sizes_of}
+use Rattle.lpt_memory.specs.Readings.{Job, Source}
+use Rattle.lpt_jobs.specs.Jobs.{head_of, is_claimed}
+use Rattle.lpt_node.specs.Jobs.{Execution, FrontIsFor, refusal_claim, claimed, committed, refusal_apply, executed}
 use Rattle.lpt_node.specs.Nodes.{NodeData, no_data}
 use Rattle.lpt_node.specs.Requests.{refusal_plain, plain_made}
 use Rattle.lpt_node.specs.Sending.{refusal_open, refusal_send, refusal_finish, opened as node_opened, sent as node_sent, closed as node_closed}
@@ -29,29 +34,35 @@ use Rattle.lpt_node.specs.Times.{refusal_tick, ticked, refusal_expire, expired}
 use Rattle.lpt_events.specs.declared.entry.Opening.{Opening}
 use Rattle.lpt_events.specs.declared.entry.Release.{Release}
 use Rattle.lpt_events.specs.declared.event.Event.{Event}
-use Rattle.lpt_events.specs.declared.event.Event.TheVariants.{Open, Send, Plain, Finish, Lose, Take, Deliver, Tick, Expire}
+use Rattle.lpt_events.specs.declared.event.Event.TheVariants.{Open, Send, Plain, Finish, Lose, Take, Deliver, Tick, Expire, Claim, Commit, Apply}
 use Rattle.lpt_events.specs.declared.fault.StepFault.{StepFault}
 use Rattle.lpt_events.specs.declared.fault.StepFault.TheVariants as step
 use Rattle.lpt_events.specs.declared.reply.Answer.{Answer}
-use Rattle.lpt_events.specs.declared.reply.Answer.TheVariants.{Opened, Put, Finished, Lost, Took, Delivered, Clock, Expired}
+use Rattle.lpt_events.specs.declared.reply.Answer.TheVariants.{Opened, Put, Finished, Lost, Took, Delivered, Clock, Expired, Claimed, Committed, Applied}
 use Rattle.lpt_events.specs.declared.reply.Reply.{Reply}
 use Rattle.lpt_events.specs.Sides.{sender_side, receiver_side, direction_to}
 use Rattle.lpt_journal.specs.Hands.{arrival_in}
+use Rattle.lpt_machine.specs.Tickets.{Tickets, no_tickets, ticket_of, with_ticket}
 
--- both ends, the link, and what was opened and released so far
+-- both ends, the link, the jobs that workers have, the memories, and what was opened and released so
+-- far
 pub record State : Type 0 where
   pub on_ground : NodeData
   pub on_craft : NodeData
   pub link : LinkData
+  pub tickets : Tickets
+  pub memories : Contents
   pub opened : List Opening
   pub released : List Release
 
--- nothing has happened
-abbrev pub no_state : Config → State
-no_state c = record {
+-- nothing has happened, and these are the memories' first contents
+abbrev pub no_state : Config → Contents → State
+no_state c first = record {
   on_ground = no_data c;
   on_craft = no_data c;
   link = empty_link;
+  tickets = no_tickets;
+  memories = first;
   opened = [];
   released = [];
 }
@@ -75,6 +86,16 @@ link_fault link.HandFull = step.HandFull
 link_fault link.HandEmpty = step.HandEmpty
 link_fault link.Memory = step.Memory
 
+-- why a worker that has this job, or none, gets none
+abbrev pub refusal_claim_by : NodeData → Option Job → Option StepFault
+refusal_claim_by d (Some t) = Some step.HandFull
+refusal_claim_by d None = option_map node_fault (refusal_claim d)
+
+-- why a worker that has this job, or none, hands no reading in
+abbrev pub refusal_commit_of : Option Job → Option StepFault
+refusal_commit_of (Some t) = None
+refusal_commit_of None = Some step.HandEmpty
+
 -- why an event is refused
 abbrev pub refusal_of : Config → State → Event → Option StepFault
 refusal_of c s (Open d id m) =
@@ -89,6 +110,9 @@ refusal_of c s (Take l n) = option_map link_fault (refusal_take s.link l n)
 refusal_of c s (Deliver l) = option_map link_fault (refusal_drop s.link l)
 refusal_of c s (Tick side) = option_map node_fault (refusal_tick (end_of s side))
 refusal_of c s (Expire side) = option_map node_fault (refusal_expire c (end_of s side))
+refusal_of c s (Claim w) = refusal_claim_by s.on_craft (ticket_of s.tickets w)
+refusal_of c s (Commit w) = refusal_commit_of (ticket_of s.tickets w)
+refusal_of c s Apply = option_map node_fault (refusal_apply s.on_craft)
 
 -- ---- replies
 
@@ -221,6 +245,57 @@ after_expire c s side = expired_on s side (expired side c (end_of s side))
 
 -- ---- all events
 
+-- ---- jobs
+
+-- a worker has claimed a job, and the spacecraft is this
+abbrev pub claimed_on : State → Worker → NodeData × Job → State × Reply
+claimed_on s w x = (
+  record s { on_craft = x.0; tickets = with_ticket s.tickets w (Some x.1) },
+  quiet (Claimed x.1.boot x.1.job),
+)
+
+-- what the message of a job is read for
+abbrev pub read_for : Config → State → Job → Source
+read_for c s t = record { apid = c.apid; sizes = sizes_of s.memories; message = t.message }
+
+-- a worker hands in the reading of the job that it has; with none, that is refused
+abbrev pub committed_on : Config → State → Worker → Option Job → State × Reply
+committed_on c s w None = (s, quiet (Committed 0 0))
+committed_on c s w (Some t) = (
+  record s {
+    on_craft = (committed s.on_craft t.boot t.job (read_for c s t)).0;
+    tickets = with_ticket s.tickets w None;
+  },
+  quiet (Committed t.boot t.job),
+)
+
+-- the openings with that of a report of data, where one was opened
+abbrev pub add_opening : List Opening → ℕ → Option (Name × List ℕ) → List Opening
+add_opening os place None = os
+add_opening os place (Some x) =
+    os ++ record { place = place; direction = Down; id = x.0; message = x.1 } ∷ []
+
+-- the spacecraft has executed a job, and answered; these are the memories after it
+abbrev pub executed_on : ℕ → State → (NodeData × Execution) × Contents → State × Reply
+executed_on place s x = (
+  record s {
+    on_craft = x.0.0;
+    link = put_all s.link Down None x.0.1.packets;
+    memories = x.1;
+    opened = add_opening s.opened place x.0.1.opened;
+  },
+  put_some (length s.link.packets) (Applied x.0.1.applied) x.0.1.packets,
+)
+
+-- what the nodes ask for besides: a job that is committed in its own boot was claimed and not
+-- committed, and the reading that is executed was made for these memories
+abbrev pub IsReady : Config → State → Event → Type 0
+IsReady c s (Commit w) =
+    IfSome (ticket_of s.tickets w)
+    (λ t. t.boot ≡ s.on_craft.boot → IsTrue (is_claimed s.on_craft.jobs t.job))
+IsReady c s Apply = FrontIsFor (head_of s.on_craft.jobs.jobs) c.apid s.memories
+IsReady c s e = Unit {0}
+
 -- what an event at this place makes of the state, and its reply
 abbrev pub after : Config → ℕ → State → Event → State × Reply
 after c place s (Open d id m) = after_open c place s d id m
@@ -232,3 +307,6 @@ after c place s (Take l n) = after_take s l n
 after c place s (Deliver l) = after_deliver c place s l
 after c place s (Tick side) = after_tick s side
 after c place s (Expire side) = after_expire c s side
+after c place s (Claim w) = claimed_on s w (claimed s.on_craft)
+after c place s (Commit w) = committed_on c s w (ticket_of s.tickets w)
+after c place s Apply = executed_on place s (executed c s.on_craft s.memories)

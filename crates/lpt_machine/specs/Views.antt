@@ -1,8 +1,10 @@
 -- All that a journal says of both ends, of the link and of what was opened and released.
-use Rattle.std.specs.Prelude.{ℕ, Bool, List, Option}
+use Rattle.std.specs.Prelude.{ℕ, Bool, List, map, Option}
 use Rattle.lpt_packet.specs.declared.direction.Direction.{Direction}
 use Rattle.lpt_packet.specs.declared.direction.Direction.TheVariants.{Up, Down}
 use Rattle.lpt_packet.specs.Names.{Name}
+use Rattle.lpt_memory.specs.Meanings.{Sizes}
+use Rattle.lpt_memory.specs.Memories.{Contents, sizes_of}
 use Rattle.lpt_reception.specs.Received.{Parts}
 use Rattle.lpt_events.specs.declared.config.Config.{Config}
 use Rattle.lpt_events.specs.declared.entry.Opening.{Opening}
@@ -10,6 +12,8 @@ use Rattle.lpt_events.specs.declared.entry.Release.{Release}
 use Rattle.lpt_events.specs.declared.lane.Lane.{Lane}
 use Rattle.lpt_events.specs.declared.side.Side.{Side}
 use Rattle.lpt_events.specs.declared.side.Side.TheVariants.{Ground, Craft}
+use Rattle.lpt_events.specs.declared.worker.Worker.{Worker}
+use Rattle.lpt_journal.specs.Jobs.{JobName, boot, jobs, claimed, applied, ticket, is_committed, memories}
 use Rattle.lpt_journal.specs.Journal.{SentPacket, History}
 use Rattle.lpt_journal.specs.Link.{sent, is_lost}
 use Rattle.lpt_journal.specs.Hands.{hand}
@@ -42,10 +46,24 @@ pub record LinkView : Type 0 where
   pub lost : ℕ → Bool
   pub hands : Lane → Option ℕ
 
+-- the spacecraft's boot; the messages of its jobs, of which so many were executed and claimed; which
+-- of them were committed; and for which APID and sizes of memories they are read
+pub record JobsView : Type 0 where
+  pub boot : ℕ
+  pub messages : List (List ℕ)
+  pub applied : ℕ
+  pub claimed : ℕ
+  pub committed : ℕ → Bool
+  pub apid : ℕ
+  pub sizes : Sizes
+
 pub record Views : Type 0 where
   pub ground : EndView
   pub craft : EndView
   pub link : LinkView
+  pub jobs : JobsView
+  pub tickets : Worker → Option JobName
+  pub memories : Contents
   pub opened : List Opening
   pub released : List Release
 
@@ -60,9 +78,21 @@ abbrev pub receiving_view : Config → History → Direction → ReceivingView
 receiving_view c h d =
     record { parts = heard c h d; closed = is_closed h d; last = last_tick c h d }
 
+-- the jobs
+abbrev pub jobs_view : Config → Contents → History → JobsView
+jobs_view c first h = record {
+  boot = boot h Craft;
+  messages = map (λ r. r.message) (jobs c h);
+  applied = applied h;
+  claimed = claimed h;
+  committed = is_committed h;
+  apid = c.apid;
+  sizes = sizes_of first;
+}
+
 -- all of it
-abbrev pub views : Config → History → Views
-views c h = record {
+abbrev pub views : Config → Contents → History → Views
+views c first h = record {
   ground = record {
     sending = sending_view h Up;
     receiving = receiving_view c h Down;
@@ -74,6 +104,9 @@ views c h = record {
     clock = clock c h Craft;
   };
   link = record { sent = sent h; lost = is_lost h; hands = hand h };
+  jobs = jobs_view c first h;
+  tickets = ticket h;
+  memories = memories c first h;
   opened = opened h;
   released = releases c h;
 }
