@@ -12,12 +12,15 @@ use Rattle.lpt_events.specs.declared.outcome.Outcome.{Outcome}
 use Rattle.lpt_events.specs.declared.outcome.Outcome.TheVariants.{Kept, Again, Released, PlainReleased, ReportNoted, AbortNoted, Broken, Ignored}
 use Rattle.lpt_events.specs.declared.outcome.Why.{Why}
 use Rattle.lpt_events.specs.declared.outcome.Why.TheVariants.{Unreadable, Idle, ForeignApid, BadPart, Closed, NoRoom}
+use Rattle.lpt_pus.specs.Codes.{number_of}
+use Rattle.lpt_events.specs.declared.applied.Applied.{Applied}
+use Rattle.lpt_events.specs.declared.applied.Applied.TheVariants.{Done, Silent, Code}
 use Rattle.lpt_events.specs.declared.entry.Release.{Release}
 use Rattle.lpt_events.specs.declared.event.Event.{Event}
-use Rattle.lpt_events.specs.declared.event.Event.TheVariants.{Open, Send, Plain, Finish, Lose, Take, Deliver, Tick, Expire}
+use Rattle.lpt_events.specs.declared.event.Event.TheVariants.{Open, Send, Plain, Finish, Lose, Take, Deliver, Tick, Expire, Claim, Commit, Apply}
 use Rattle.lpt_events.specs.declared.fault.StepFault.{StepFault}
 use Rattle.lpt_events.specs.declared.reply.Answer.{Answer}
-use Rattle.lpt_events.specs.declared.reply.Answer.TheVariants.{Opened, Put, Finished, Lost, Took, Delivered, Clock, Expired}
+use Rattle.lpt_events.specs.declared.reply.Answer.TheVariants.{Opened, Put, Finished, Lost, Took, Delivered, Clock, Expired, Claimed, Committed, Applied as AppliedTo}
 use Rattle.lpt_events.specs.declared.reply.Reply.{Reply}
 use Rattle.lpt_events.specs.FaultNames.{code_of, name_of}
 
@@ -73,6 +76,26 @@ finished_text d id = named_line (codes "finished") d id
 abbrev pub expired_text : Direction → Name → List ℕ
 expired_text d id = named_line (codes "expired") d id
 
+-- a word and a job, by its boot and its number in it
+abbrev pub job_line : List ℕ → (boot job : ℕ) → List ℕ
+job_line word boot job = line_of (word ∷ decimal boot ∷ decimal job ∷ [])
+
+-- a worker has this job
+abbrev pub claimed_text : (boot job : ℕ) → List ℕ
+claimed_text boot job = job_line (codes "claimed") boot job
+
+-- the reading of this job was handed in
+abbrev pub committed_text : (boot job : ℕ) → List ℕ
+committed_text boot job = job_line (codes "committed") boot job
+
+-- a request was executed; the report of data that was opened has this identifier
+abbrev pub applied_text : Applied → List ℕ
+applied_text (Done None) = line_of (codes "applied" ∷ codes "done" ∷ [])
+applied_text (Done (Some id)) =
+    line_of (codes "applied" ∷ codes "done" ∷ codes "down" ∷ decimal id ∷ [])
+applied_text Silent = line_of (codes "applied" ∷ codes "silent" ∷ [])
+applied_text (Code code) = line_of (codes "applied" ∷ codes "code" ∷ decimal (number_of code) ∷ [])
+
 -- a clock has this value now
 abbrev pub clock_text : ℕ → List ℕ
 clock_text t = line_of (codes "clock" ∷ decimal t ∷ [])
@@ -110,6 +133,9 @@ answer_text (Deliver l) (Delivered o) = outcome_text (lane_direction l) o
 answer_text (Finish d id) Finished = finished_text d id
 answer_text (Tick side) (Clock t) = clock_text t
 answer_text (Expire side) (Expired d id) = expired_text d id
+answer_text (Claim w) (Claimed boot job) = claimed_text boot job
+answer_text (Commit w) (Committed boot job) = committed_text boot job
+answer_text Apply (AppliedTo applied) = applied_text applied
 answer_text (Open d id m) _ = []
 answer_text (Send d id k) _ = []
 answer_text (Plain flags service subtype body) _ = []
@@ -119,6 +145,9 @@ answer_text (Deliver l) _ = []
 answer_text (Finish d id) _ = []
 answer_text (Tick side) _ = []
 answer_text (Expire side) _ = []
+answer_text (Claim w) _ = []
+answer_text (Commit w) _ = []
+answer_text Apply _ = []
 
 -- what an accepted event prints
 abbrev pub accepted_text : Event → Reply → List ℕ

@@ -3,10 +3,10 @@
 ghost use Rattle.std.specs.Prelude.{◌≡◌, IfOk};
 ghost use Rattle.std.specs.Option.{option_copied};
 ghost use Rattle.std.specs.String.{string_bytes};
-ghost use Rattle.lpt_print.specs.Printing.{accepted_text, opened_text, finished_text, lost_text, expired_text, clock_text, put_text, took_text, outcome_text, refused_text, unreadable_text, journal_text, packet_text, memory_text, release_text, none_text};
+ghost use Rattle.lpt_print.specs.Printing.{accepted_text, opened_text, finished_text, lost_text, expired_text, claimed_text, committed_text, applied_text, clock_text, put_text, took_text, outcome_text, refused_text, unreadable_text, journal_text, packet_text, memory_text, release_text, none_text};
 
 use crate::words::{direction_word, octets_word, why_word};
-use lpt_events::{Answer, Event, Outcome, Release, Reply, StepFault};
+use lpt_events::{Answer, Applied, Event, Outcome, Release, Reply, StepFault};
 use lpt_packet::{Direction, Name};
 use std::alloc::{AllocError, Global};
 
@@ -28,6 +28,9 @@ pub fn print_accepted(alloc: Global, event: &Event, reply: &Reply) -> Result<Str
         (Event::Finish(direction, id), Answer::Finished) => print_finished(alloc, *direction, *id),
         (Event::Tick(_), Answer::Clock(ticks)) => print_clock(alloc, ticks),
         (Event::Expire(_), Answer::Expired(direction, id)) => print_expired(alloc, direction, id),
+        (Event::Claim(_), Answer::Claimed(boot, job)) => print_claimed(alloc, boot, job),
+        (Event::Commit(_), Answer::Committed(boot, job)) => print_committed(alloc, boot, job),
+        (Event::Apply, Answer::Applied(applied)) => print_applied(alloc, applied),
         // Each event by its name, so that a new one is missed here.
         (
             Event::Open(_, _, _)
@@ -38,7 +41,10 @@ pub fn print_accepted(alloc: Global, event: &Event, reply: &Reply) -> Result<Str
             | Event::Deliver(_)
             | Event::Finish(_, _)
             | Event::Tick(_)
-            | Event::Expire(_),
+            | Event::Expire(_)
+            | Event::Claim(_)
+            | Event::Commit(_)
+            | Event::Apply,
             _,
         ) => Ok(String::new(alloc)),
     }
@@ -92,6 +98,36 @@ pub fn print_expired(alloc: Global, direction: Direction, id: Name) -> Result<St
 {
     let direction = direction_word(direction);
     format!(in alloc; "expired {direction} {id}\n")
+}
+
+/// `claimed 0 3`: a worker has the job of this boot and this number in it.
+pub fn print_claimed(alloc: Global, boot: u64, job: u64) -> Result<String, AllocError>
+    ensures { IfOk result (λ t. string_bytes t ≡ claimed_text boot job) }
+{
+    format!(in alloc; "claimed {boot} {job}\n")
+}
+
+/// `committed 0 3`: the reading of the job of this boot and this number in it was handed in.
+pub fn print_committed(alloc: Global, boot: u64, job: u64) -> Result<String, AllocError>
+    ensures { IfOk result (λ t. string_bytes t ≡ committed_text boot job) }
+{
+    format!(in alloc; "committed {boot} {job}\n")
+}
+
+/// `applied done`, `applied done down 0` with the identifier of the report of data that was opened,
+/// `applied silent`, or `applied code 4` with the number of the fault: a request was executed.
+pub fn print_applied(alloc: Global, applied: Applied) -> Result<String, AllocError>
+    ensures { IfOk result (λ t. string_bytes t ≡ applied_text applied) }
+{
+    match applied {
+        Applied::Done(None) => String::from_str(alloc, "applied done\n"),
+        Applied::Done(Some(id)) => format!(in alloc; "applied done down {id}\n"),
+        Applied::Silent => String::from_str(alloc, "applied silent\n"),
+        Applied::Code(code) => {
+            let code = code.number();
+            format!(in alloc; "applied code {code}\n")
+        }
+    }
 }
 
 /// `clock 10`: a clock has this value now, in ticks.

@@ -13,7 +13,7 @@ use Rattle.lpt_words.specs.declared.load.Load.{Load}
 use Rattle.lpt_words.specs.Loads.{if_written}
 use Rattle.lpt_words.specs.declared.names.Keyword.{Keyword}
 use Rattle.lpt_words.specs.declared.names.Keyword.TheVariants as key
-use Rattle.lpt_words.specs.Names.{keyword_of, direction_of, lane_of, node_of, u8_of, u16_of, u32_of, flags_of, packet_number_of, count_of}
+use Rattle.lpt_words.specs.Names.{keyword_of, direction_of, lane_of, node_of, u8_of, u16_of, u32_of, flags_of, packet_number_of, worker_of, count_of}
 use Rattle.lpt_words.specs.Numbers.{is_word, octets_of}
 use Rattle.lpt_words.specs.Words.{words}
 
@@ -135,6 +135,21 @@ abbrev pub expire_of : List (List ℕ) → Option Command
 expire_of (n ∷ []) = option_map command.Expire (node_of n)
 expire_of _ = None
 
+-- `claim WORKER`
+abbrev pub claim_of : List (List ℕ) → Option Command
+claim_of (w ∷ []) = option_map command.Claim (worker_of w)
+claim_of _ = None
+
+-- `commit WORKER`
+abbrev pub commit_of : List (List ℕ) → Option Command
+commit_of (w ∷ []) = option_map command.Commit (worker_of w)
+commit_of _ = None
+
+-- `apply` or `work`: no word follows
+abbrev pub alone_of : Command → List (List ℕ) → Option Command
+alone_of c [] = Some c
+alone_of c _ = None
+
 -- `show released` and `show journal`
 abbrev pub show_whole_of : List ℕ → Option Command
 show_whole_of word =
@@ -179,6 +194,10 @@ arguments_of key.Tick ws = tick_of ws
 arguments_of key.Expire ws = expire_of ws
 arguments_of key.Plain ws = plain_of ws
 arguments_of key.Load ws = option_map command.Load (load_of ws)
+arguments_of key.Claim ws = claim_of ws
+arguments_of key.Commit ws = commit_of ws
+arguments_of key.Apply ws = alone_of command.Apply ws
+arguments_of key.Work ws = alone_of command.Work ws
 
 -- ---- lines
 

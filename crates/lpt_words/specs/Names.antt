@@ -7,6 +7,8 @@ use Rattle.lpt_events.specs.declared.lane.Lane.{Lane}
 use Rattle.lpt_events.specs.declared.lane.Lane.TheVariants.{S1, S2, G1, G2}
 use Rattle.lpt_events.specs.declared.side.Side.{Side}
 use Rattle.lpt_events.specs.declared.side.Side.TheVariants.{Ground, Craft}
+use Rattle.lpt_events.specs.declared.worker.Worker.{Worker}
+use Rattle.lpt_events.specs.declared.worker.Worker.TheVariants.{W1, W2}
 use Rattle.lpt_words.specs.declared.names.Keyword.{Keyword}
 use Rattle.lpt_words.specs.declared.names.Keyword.TheVariants as key
 use Rattle.lpt_words.specs.Numbers.{is_word, number_of}
@@ -26,6 +28,10 @@ keyword_of word =
     else if is_word (codes "expire") word then Some key.Expire
     else if is_word (codes "plain") word then Some key.Plain
     else if is_word (codes "load") word then Some key.Load
+    else if is_word (codes "claim") word then Some key.Claim
+    else if is_word (codes "commit") word then Some key.Commit
+    else if is_word (codes "apply") word then Some key.Apply
+    else if is_word (codes "work") word then Some key.Work
     else None
 
 -- the direction that a word names
@@ -69,6 +75,13 @@ abbrev pub node_of : List ℕ → Option Side
 node_of word =
     if is_word (codes "craft") word then Some Craft
     else if is_word (codes "ground") word then Some Ground
+    else None
+
+-- the worker that a word names
+abbrev pub worker_of : List ℕ → Option Worker
+worker_of word =
+    if is_word (codes "w1") word then Some W1
+    else if is_word (codes "w2") word then Some W2
     else None
 
 -- how many ticks, 1 to 100,000

@@ -2,16 +2,16 @@
 
 ghost use Rattle.std.specs.Prelude.{◌≡◌, ◌⊎◌, IsSome, IfOk, OnErr};
 ghost use Rattle.lpt_words.specs.Words.{words};
-ghost use Rattle.lpt_words.specs.Grammar.{lane_and_packet_of, open_of, send_of, plain_of, lose_of, take_of, deliver_of, pass_of, finish_of, tick_of, expire_of, show_of, show_memory_of, show_whole_of, arguments_of, is_comment, words_reading, reading_of, IsAsked, TakesMemory};
+ghost use Rattle.lpt_words.specs.Grammar.{alone_of, arguments_of, claim_of, commit_of, deliver_of, expire_of, finish_of, is_comment, lane_and_packet_of, lose_of, open_of, pass_of, plain_of, reading_of, send_of, show_memory_of, show_of, show_whole_of, take_of, tick_of, words_reading, IsAsked, TakesMemory};
 
 use crate::load::{Load, read_load};
 use crate::names::{
     Keyword, read_count, read_direction, read_flags, read_keyword, read_lane, read_node,
-    read_packet_number, read_u8, read_u16, read_u32,
+    read_packet_number, read_u8, read_u16, read_u32, read_worker,
 };
 use crate::numbers::read_hex;
 use crate::words::{LONGEST_LINE, split_word};
-use lpt_events::{Lane, Side};
+use lpt_events::{Lane, Side, Worker};
 use lpt_packet::{Direction, Name, Octets};
 use lpt_pus::AckFlags;
 use std::alloc::{AllocError, Global};
@@ -41,6 +41,14 @@ pub enum Command {
     Tick(Side, u32),
     /// `expire NODE`: ends the node's oldest overdue reception.
     Expire(Side),
+    /// `claim WORKER`: gives a worker the oldest request that none has claimed.
+    Claim(Worker),
+    /// `commit WORKER`: hands in the reading of the worker's request.
+    Commit(Worker),
+    /// `apply`: executes the oldest request.
+    Apply,
+    /// `work`: claims and commits a request with the first worker, and executes the oldest.
+    Work,
     /// `show released`: prints the messages that were released.
     ShowReleased,
     /// `show packet N`: prints the octets of the packet of this number.
@@ -67,7 +75,7 @@ pub enum Reading {
 /// A blank line and one whose first word begins with `#` are skipped, whatever else they hold. A
 /// line of more than 140,000 octets is unreadable, even one that would be skipped. The words of a
 /// command are in lower case: DIRECTION is `up` or `down`, LANE is `s1`, `s2`, `g1` or `g2`, NODE
-/// is `craft` or `ground`, ID and K are numbers to 65,535, SEQ is one to 16,383, FLAGS one to 15,
+/// is `craft` or `ground`, WORKER is `w1` or `w2`, ID and K are numbers to 65,535, SEQ is one to 16,383, FLAGS one to 15,
 /// SERVICE, SUBTYPE, MEM and the ID of a memory are numbers to 255, ADDR and LEN to 4,294,967,295,
 /// N is one of at most ten digits, and HEX is as `read_hex` reads it. A load has at least one pair
 /// of ADDR and HEX, and is unreadable where it can't be written (`Load::new`).
@@ -130,6 +138,10 @@ fn read_arguments(
         Keyword::Expire => Ok(read_expire(rest)),
         Keyword::Plain => read_plain(alloc, rest),
         Keyword::Load => Ok(read_load(alloc, rest)?.map(Command::Load)),
+        Keyword::Claim => Ok(read_claim(rest)),
+        Keyword::Commit => Ok(read_commit(rest)),
+        Keyword::Apply => Ok(read_alone(rest, Command::Apply)),
+        Keyword::Work => Ok(read_alone(rest, Command::Work)),
     }
 }
 
@@ -292,6 +304,40 @@ fn read_expire(rest: &[u8]) -> Option<Command>
     }
     let node = read_node(node)?;
     Some(Command::Expire(node))
+}
+
+// The words after `claim`.
+fn read_claim(rest: &[u8]) -> Option<Command>
+    ensures { result ≡ claim_of (words rest.now) }
+{
+    let (worker, rest) = split_word(rest)?;
+    if split_word(rest).is_some() {
+        return None;
+    }
+    let worker = read_worker(worker)?;
+    Some(Command::Claim(worker))
+}
+
+// The words after `commit`.
+fn read_commit(rest: &[u8]) -> Option<Command>
+    ensures { result ≡ commit_of (words rest.now) }
+{
+    let (worker, rest) = split_word(rest)?;
+    if split_word(rest).is_some() {
+        return None;
+    }
+    let worker = read_worker(worker)?;
+    Some(Command::Commit(worker))
+}
+
+// A command whose keyword stands alone.
+fn read_alone(rest: &[u8], command: Command) -> Option<Command>
+    ensures { result ≡ alone_of command (words rest.now) }
+{
+    match split_word(rest) {
+        None => Some(command),
+        Some(_) => None,
+    }
 }
 
 // The words after `show`.

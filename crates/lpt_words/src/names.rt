@@ -1,10 +1,10 @@
 //! The words of a line that name something, each by itself.
 
 ghost use Rattle.std.specs.Prelude.{◌≡◌};
-ghost use Rattle.lpt_words.specs.Names.{count_of, direction_of, flags_of, keyword_of, lane_of, node_of, packet_number_of, u8_of, u16_of, u32_of};
+ghost use Rattle.lpt_words.specs.Names.{count_of, direction_of, flags_of, keyword_of, lane_of, node_of, packet_number_of, u8_of, u16_of, u32_of, worker_of};
 
 use crate::numbers::read_number;
-use lpt_events::{Lane, Side};
+use lpt_events::{Lane, Side, Worker};
 use lpt_packet::Direction;
 use lpt_pus::AckFlags;
 
@@ -32,6 +32,10 @@ pub(crate) enum Keyword {
     Finish,
     Plain,
     Load,
+    Claim,
+    Commit,
+    Apply,
+    Work,
 }
 
 // What the first word of a line asks for.
@@ -62,6 +66,14 @@ pub(crate) fn read_keyword(word: &[u8]) -> Option<Keyword>
         Some(Keyword::Plain)
     } else if word == b"load".as_slice() {
         Some(Keyword::Load)
+    } else if word == b"claim".as_slice() {
+        Some(Keyword::Claim)
+    } else if word == b"commit".as_slice() {
+        Some(Keyword::Commit)
+    } else if word == b"apply".as_slice() {
+        Some(Keyword::Apply)
+    } else if word == b"work".as_slice() {
+        Some(Keyword::Work)
     } else {
         None
     }
@@ -144,6 +156,19 @@ pub(crate) fn read_node(word: &[u8]) -> Option<Side>
         Some(Side::Craft)
     } else if word == b"ground".as_slice() {
         Some(Side::Ground)
+    } else {
+        None
+    }
+}
+
+// A worker.
+pub(crate) fn read_worker(word: &[u8]) -> Option<Worker>
+    ensures { result ≡ worker_of word.now }
+{
+    if word == b"w1".as_slice() {
+        Some(Worker::W1)
+    } else if word == b"w2".as_slice() {
+        Some(Worker::W2)
     } else {
         None
     }

@@ -1,4 +1,4 @@
-use Rattle.std.proofs.Common.{◌≡◌, true, is_some, option_map, Option, Some, None, Result, Ok, Err, IsSome, OnErr, refl}
+use Rattle.std.proofs.Common.{option_map, Option, Some, None, Result, Ok, Err, IsSome, OnErr, refl}
 use Rattle.lpt_words.specs.declared.grammar.Command.TheVariants as command
 use Rattle.lpt_words.specs.Grammar.{arguments_of, load_of}
 use Rattle.lpt_words.specs.Words.{words}
