@@ -35,7 +35,7 @@ returns-in_err-command-clause-asked c =
     let short : nat_lt 140000 (length line) ≡ false = le-ltb 140000 (length line) c.if-line-gt-LONGEST_LINE.false in
     let words_are : words line ≡ word ∷ rest = c.in-Some.ensures.words in
     let no_comment : is_comment word ≡ false = search in
-    let named : keyword_of word ≡ Some key = c.in-Some-read_keyword.ensures in
+    let named : keyword_of word ≡ Some key = sym c.in-Some-read_keyword.ensures in
     let is : reading_of line ≡ asked (arguments_of key rest) = says line word rest key short words_are no_comment named in
     on_err c.from_residual.result (IsAsked (reading_of line))
     (subst IsAsked (sym is) (asks (arguments_of key rest) c.in_err-command.ensures.asked))
