@@ -1,4 +1,5 @@
 pub mod EndsInside
 pub mod EndsSound
+pub mod TicketsInside
 pub mod WorldInside
 pub mod Worlds

@@ -12,11 +12,13 @@ ghost use Rattle.lpt_node.specs.Origins.{arrival_from};
 ghost use Rattle.lpt_world.specs.EndsSound.{IsSound};
 ghost use Rattle.lpt_events.specs.Sides.{sender_side, receiver_side};
 ghost use Rattle.lpt_events.specs.Configs.{IsConfig};
-ghost use Rattle.lpt_machine.specs.State.{no_state, end_of, refusal_of, after, released_of, add_release, as_list, put_report, put_some, IsAccepted, quiet as quiet_reply, put_one as put_one_reply};
+ghost use Rattle.lpt_machine.specs.State.{no_state, end_of, refusal_of, after, released_of, add_release, as_list, put_report, put_some, IsAccepted, IsReady, quiet as quiet_reply, put_one as put_one_reply};
 
 use crate::faults::of_link;
+use crate::tickets::Tickets;
 use crate::{Answer, Event, Opening, Puts, Release, Reply, StepFault};
 use lpt_link::{Lane, Link};
+use lpt_memory::Memories;
 use lpt_node::{Accepted, Ask, Config, Node, NodeFault, Outcome, Parsed, Side};
 use lpt_packet::{Direction, Name, Octets};
 use lpt_part::count;
@@ -30,18 +32,24 @@ pub(crate) struct Ends {
     pub(crate) on_ground: Node,
     pub(crate) on_craft: Node,
     pub(crate) link: Link,
+    pub(crate) tickets: Tickets,
+    pub(crate) memories: Memories,
     pub(crate) opened: Vec<Opening>,
     pub(crate) released: Vec<Release>,
-    ghost sound: { IsSound config on_ground on_craft },
+    ghost sound: { IsSound config on_ground on_craft (vec_len released) },
 }
 
 impl Ends {
     ghost use Rattle.lpt_world.specs.EndsInside.{state_of};
 
     /// Ends at which nothing has happened.
-    pub(crate) fn new(alloc: Global, config: Config) -> Result<Ends, AllocError>
+    pub(crate) fn new(
+        alloc: Global,
+        config: Config,
+        memories: Memories,
+    ) -> Result<Ends, AllocError>
         requires { IsConfig config }
-        ensures { IfOk result (λ e. (e.config ≡ config) × (state_of e ≡ no_state config)) }
+        ensures { IfOk result (λ e. (e.config ≡ config) × (state_of e ≡ no_state config memories)) }
     {
         let on_ground = Node::new(alloc, Side::Ground, &config)?;
         let on_craft = Node::new(alloc, Side::Craft, &config)?;
@@ -51,6 +59,8 @@ impl Ends {
             on_ground,
             on_craft,
             link: Link::new(alloc)?,
+            tickets: Tickets::new(),
+            memories,
             opened: Vec::new(alloc),
             released: Vec::new(alloc),
         })
@@ -75,11 +85,14 @@ impl Ends {
             Event::Deliver(lane) => self.link.refusal_drop(*lane).map(of_link),
             Event::Tick(side) => self.ask(*side, Ask::Tick),
             Event::Expire(side) => self.ask(*side, Ask::Expire),
+            Event::Claim(worker) => self.refusal_claim(*worker),
+            Event::Commit(worker) => self.refusal_commit(*worker),
+            Event::Apply => self.ask(Side::Craft, Ask::Apply),
         }
     }
 
     // Why the node on a side would refuse a call.
-    fn ask(&self, side: Side, ask: Ask) -> Option<StepFault>
+    pub(crate) fn ask(&self, side: Side, ask: Ask) -> Option<StepFault>
         ensures { result ≡ option_map node_fault
             (node_refusal self.now.config (end_of (state_of self.now) side) ask) }
     {
@@ -92,7 +105,8 @@ impl Ends {
     /// Does an event that isn't refused, whole. The only error is want of memory, and then nothing has
     /// changed.
     pub(crate) fn apply(&mut self, place: u64, event: &Event) -> Result<Reply, AllocError>
-        requires { refusal_of self.old.config (state_of self.old) event.now ≡ None }
+        requires free { refusal_of self.old.config (state_of self.old) event.now ≡ None }
+        requires ready { IsReady self.old.config (state_of self.old) event.now }
         ensures ok { IfOk result (λ r. (state_of self.new, r) ≡ after self.old.config place (state_of self.old) event.now) }
         ensures err { OnErr result (state_of self.new ≡ state_of self.old) }
         ensures config { self.new.config ≡ self.old.config }
@@ -109,6 +123,9 @@ impl Ends {
             Event::Deliver(lane) => self.deliver(place, *lane),
             Event::Tick(side) => Ok(self.tick(*side)),
             Event::Expire(side) => self.expire(*side),
+            Event::Claim(worker) => self.claim(*worker),
+            Event::Commit(worker) => self.commit(*worker),
+            Event::Apply => self.execute(place),
         }
     }
 

@@ -5,7 +5,9 @@ mod ends;
 mod faults;
 mod readers;
 mod requesting;
+mod tickets;
 mod timing;
+mod working;
 mod world;
 
 pub use lpt_events::{

@@ -23,8 +23,9 @@ use std::alloc::AllocError;
 impl World {
     /// All accepted events, the oldest first. Each could happen after those before it, and has the
     /// reply that it gives then. Each large message released under a name is byte for byte the one
-    /// last opened under it by the other node, at most once per opening. Memories keep their first
-    /// content, since nothing is executed so far.
+    /// last opened under it by the other node, at most once per opening. The memories are their
+    /// first content, changed by the executed requests in order of release, each of which was
+    /// released by the spacecraft and executed once.
     pub fn journal(&self) -> &[Entry]
         ensures shown { result.now ≡ self.now.journal }
         ensures told { IsTold self.now.config self.now.first self.now.journal }
@@ -60,12 +61,12 @@ impl World {
         self.ends.link.packet(n)
     }
 
-    /// The octets of a memory now: its first content, changed by the requests that were executed in
-    /// their order. So far no event executes one. None where there is no such memory.
+    /// The octets of a memory now: its first content, changed by the requests that were executed, in
+    /// the order in which the spacecraft released them. None where there is no such memory.
     pub fn memory(&self, id: u8) -> Option<&[u8]>
         ensures { option_map (λ x. x.now) result ≡ content_of id (memories_now self.now) }
     {
-        self.first(id)
+        self.ends.memories.content(id)
     }
 
     /// The octets that a memory had first, or none where there is no such memory.

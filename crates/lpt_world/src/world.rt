@@ -57,7 +57,10 @@ impl World {
             Some(fault) => return Err(fault),
             None => {}
         }
-        match Ends::new(alloc, config) {
+        let Ok(copy) = memories.copy() else {
+            return Err(ConfigFault::Memory);
+        };
+        match Ends::new(alloc, config, copy) {
             Ok(ends) => Ok(World {
                 ends,
                 first: memories,
@@ -196,5 +199,8 @@ fn in_range(event: &Event)
         Event::Deliver(_) => {}
         Event::Tick(_) => {}
         Event::Expire(_) => {}
+        Event::Claim(_) => {}
+        Event::Commit(_) => {}
+        Event::Apply => {}
     }
 }

@@ -1,0 +1,64 @@
+//! The jobs that the workers have.
+
+ghost use Rattle.std.specs.Prelude.{◌≡◌, is_some, None};
+ghost use Rattle.std.specs.Option.{option_map};
+ghost use Rattle.lpt_machine.specs.Tickets.{no_tickets, ticket_of, with_ticket};
+ghost use Rattle.lpt_world.specs.TicketsInside.{job_of, tickets_of};
+
+use lpt_events::Worker;
+use lpt_packet::Octets;
+
+/// A job that a worker has: its boot, its number in that boot, and its message.
+#[derive(Debug, Drop)]
+pub(crate) struct HeldJob {
+    pub(crate) boot: u64,
+    pub(crate) job: u64,
+    pub(crate) message: Octets,
+}
+
+/// The job that each worker has.
+#[derive(Debug, Drop)]
+pub(crate) struct Tickets {
+    w1: Option<HeldJob>,
+    w2: Option<HeldJob>,
+}
+
+impl Tickets {
+    /// No worker has a job.
+    pub(crate) fn new() -> Tickets
+        ensures { tickets_of result ≡ no_tickets }
+    {
+        Tickets { w1: None, w2: None }
+    }
+
+    /// Whether a worker has a job.
+    pub(crate) fn has(&self, worker: Worker) -> bool
+        ensures { result ≡ is_some (ticket_of (tickets_of self.now) worker) }
+    {
+        match worker {
+            Worker::W1 => self.w1.is_some(),
+            Worker::W2 => self.w2.is_some(),
+        }
+    }
+
+    /// Gives a job to a worker, or none.
+    pub(crate) fn set(&mut self, worker: Worker, job: Option<HeldJob>)
+        ensures { tickets_of self.new ≡ with_ticket (tickets_of self.old) worker (option_map job_of job) }
+    {
+        match worker {
+            Worker::W1 => self.w1 = job,
+            Worker::W2 => self.w2 = job,
+        }
+    }
+
+    /// Takes a worker's job away.
+    pub(crate) fn take(&mut self, worker: Worker) -> Option<HeldJob>
+        ensures job { option_map job_of result ≡ ticket_of (tickets_of self.old) worker }
+        ensures tickets { tickets_of self.new ≡ with_ticket (tickets_of self.old) worker None }
+    {
+        match worker {
+            Worker::W1 => self.w1.take(),
+            Worker::W2 => self.w2.take(),
+        }
+    }
+}
