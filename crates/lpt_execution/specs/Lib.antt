@@ -1,2 +1,4 @@
 pub mod Endings
+pub mod Ranges
+pub mod Replies
 pub mod Reporting

@@ -6,6 +6,13 @@
 //! gives them these.
 #![tactic(auto)]
 
+mod applied;
 mod ending;
+mod executing;
+pub mod laws;
+mod reporting;
 
+pub use applied::applied_with;
 pub use ending::{Ending, Report};
+pub use executing::{ending_of, is_small, load, reply_fault};
+pub use reporting::reports;

@@ -9,7 +9,8 @@ use lpt_pus::TcHead;
 use std::alloc::Global;
 use std::marker::Model;
 
-/// A job that a worker has taken. It can't be dropped: `prepare` or `abandon` spends it.
+/// A job that a worker has taken. It can't be dropped: `prepare`, `into_message` or `abandon` spends
+/// it.
 #[derive(Debug)]
 pub struct Ticket {
     boot: u64,
@@ -96,6 +97,18 @@ impl Ticket {
         ensures { result.now ≡ self.now.message }
     {
         self.message.as_slice()
+    }
+
+    /// The job's message, for which the ticket is given up.
+    pub fn into_message(self) -> Octets
+        ensures { result ≡ self.message }
+    {
+        let Ticket {
+            boot: _,
+            job: _,
+            message,
+        } = self;
+        message
     }
 
     /// Gives the job up. It has no clause: nothing is left of the ticket.

@@ -70,6 +70,7 @@ fn keeps_the_head_of_a_telecommand(rt: HostRuntime) -> Result<(), Fail> {
 #[test]
 fn gives_a_job_up(rt: HostRuntime) -> Result<(), Fail> {
     let message = request(rt.alloc(), 9, &CHECK)?;
+    let message = Ticket::new(2, 3, message).into_message();
     let ticket = Ticket::new(2, 3, message);
     let named = ticket.boot() == 2 && ticket.job() == 3;
     let len = ticket.message().len();

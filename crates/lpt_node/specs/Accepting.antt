@@ -1,5 +1,5 @@
 -- What an end does with a packet that is delivered to it.
-use Rattle.std.specs.Prelude.{◌≡◌, ◌+◌, ◌<◌, ◌^◌, Bool, true, false, ◌||◌, length, Some, None, is_some}
+use Rattle.std.specs.Prelude.{◌≡◌, ◌+◌, ◌<◌, ◌^◌, Bool, true, false, ◌||◌, is_some}
 use Rattle.lpt_events.specs.declared.side.Side.{Side}
 use Rattle.lpt_events.specs.declared.config.Config.{Config}
 use Rattle.lpt_node.specs.declared.accepted.Accepted.{Accepted}
@@ -11,17 +11,14 @@ use Rattle.lpt_jobs.specs.Jobs.{numbered}
 use Rattle.lpt_node.specs.Nodes.{NodeData, NodeView}
 use Rattle.lpt_node.specs.Origins.{Origin}
 use Rattle.lpt_node.specs.Sending.{closed}
-use Rattle.lpt_node.specs.Receiving.{noted, ignored, with_job, parted}
+use Rattle.lpt_node.specs.Receiving.{noted, ignored, plain_released, with_job, parted}
 
 -- a packet is delivered: the end after it, and the answer
 abbrev pub accepted : Side → Config → NodeData → Arrival → NodeData × Accepted
 accepted side c d NotRead = (d, ignored why.Unreadable)
 accepted side c d AnIdle = (d, ignored why.Idle)
 accepted side c d Foreign = (d, ignored why.ForeignApid)
-accepted side c d (ARequest b) = (
-  with_job side d b,
-  record { outcome = outcome.PlainReleased (length b); packet = None; released = Some b },
-)
+accepted side c d (ARequest b) = (with_job side d b, plain_released b)
 accepted side c d (AReport service subtype) = (d, noted (outcome.ReportNoted service subtype))
 accepted side c d NoPart = (d, ignored why.BadPart)
 accepted side c d (AnAbort id reason) = (closed d id, noted (outcome.AbortNoted id reason))

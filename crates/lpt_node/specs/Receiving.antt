@@ -16,7 +16,7 @@ use Rattle.lpt_node.specs.declared.taken.Taken.TheVariants as taking
 use Rattle.lpt_events.specs.declared.telemetry.TelemetryKind.TheVariants.{Abort}
 use Rattle.lpt_node.specs.Counting.{counter_of}
 use Rattle.lpt_events.specs.MadePackets.{telemetry_made}
-use Rattle.lpt_jobs.specs.Jobs.{after_push}
+use Rattle.lpt_jobs.specs.Jobs.{Jobs, after_push}
 use Rattle.lpt_node.specs.Nodes.{Receiving, NodeData}
 use Rattle.lpt_node.specs.Receivers.{ReceiverState, received}
 use Rattle.lpt_node.specs.Sending.{counted_kind}
@@ -39,6 +39,11 @@ with_receiver d r = record d { receiving = record { ledger = r.ledger; entries =
 abbrev pub noted : Outcome → Accepted
 noted o = record { outcome = o; packet = None; released = None }
 
+-- a plain request is released
+abbrev pub plain_released : List ℕ → Accepted
+plain_released b =
+    record { outcome = outcome.PlainReleased (length b); packet = None; released = Some b }
+
 -- nothing was made of a packet
 abbrev pub ignored : Why → Accepted
 ignored w = noted (outcome.Ignored w)
@@ -48,10 +53,23 @@ abbrev pub with_report : NodeData → Option (List ℕ) → NodeData
 with_report d None = d
 with_report d (Some o) = record d { sending = counted_kind d.sending Abort }
 
--- a message is released: at the spacecraft it becomes a job, on ground it does not
+-- the jobs once a message is released: at the spacecraft it becomes one, on ground it does not
+abbrev pub jobs_with : Side → Jobs → List ℕ → Jobs
+jobs_with Ground q m = q
+jobs_with Craft q m = after_push q m
+
+-- the end where a message is released
 abbrev pub with_job : Side → NodeData → List ℕ → NodeData
-with_job Ground d m = d
-with_job Craft d m = record d { jobs = after_push d.jobs m }
+with_job side d m = record d { jobs = jobs_with side d.jobs m }
+
+-- the jobs, by what a receiver made of a part
+abbrev pub jobs_after : Side → Jobs → Taken → Jobs
+jobs_after side q taking.Closed = q
+jobs_after side q taking.Kept = q
+jobs_after side q taking.Again = q
+jobs_after side q taking.NoRoom = q
+jobs_after side q (taking.Whole m) = jobs_with side q m
+jobs_after side q (taking.Broken reason packet) = q
 
 -- the end and its answer, by what its receiver made of a part
 abbrev pub after_taken : Side → NodeData → Name → ℕ → Taken → NodeData × Accepted

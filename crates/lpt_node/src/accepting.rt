@@ -1,14 +1,17 @@
 //! Receiving packets.
 
-ghost use Rattle.std.specs.Prelude.{◌≡◌, true, IfOk, IfErr, OnErr};
+ghost use Rattle.std.specs.Prelude.{◌≡◌, ◌+◌, ◌<◌, ◌^◌, length, true, IfOk, IfErr, OnOk, OnErr};
+ghost use Rattle.lpt_jobs.specs.Jobs.{numbered};
 ghost use Rattle.lpt_part.specs.Parts.{piece};
 ghost use Rattle.lpt_node.specs.Accepting.{accepted, grows, IsFor};
 ghost use Rattle.lpt_node.specs.Origins.{arrival_from};
-ghost use Rattle.lpt_node.specs.Receiving.{ignored, noted, parted};
+ghost use Rattle.lpt_node.specs.Receiving.{ignored, noted, parted, plain_released, with_job};
 
 use crate::found::Sight;
 use crate::taken::Taken;
-use crate::{Accepted, Node, Outcome, Parsed, TelemetryKind, Why};
+use crate::working::add_job;
+use crate::{Accepted, Node, Outcome, Parsed, Side, TelemetryKind, Why};
+use lpt_packet::Octets;
 use lpt_part::Part;
 use std::alloc::AllocError;
 
@@ -16,7 +19,8 @@ impl Node {
     /// Takes a packet that was delivered to this end, and answers what became of it.
     ///
     /// A part is kept until all parts of its message are there; then the message is released. The
-    /// octets of a plain request are handed on as they are.
+    /// octets of a plain request are released as they are. At the spacecraft a message that is
+    /// released becomes a job.
     ///
     /// The only error is want of memory. The packet is handed back then, and nothing has changed.
     pub fn accept(&mut self, parsed: Parsed) -> Result<Accepted, Parsed>
@@ -37,14 +41,10 @@ impl Node {
             Sight::Unreadable => Ok(ignored(Why::Unreadable)),
             Sight::Idle => Ok(ignored(Why::Idle)),
             Sight::Foreign => Ok(ignored(Why::ForeignApid)),
-            Sight::Request => {
-                let octets = parsed.into_octets();
-                Ok(Accepted {
-                    outcome: Outcome::PlainReleased(octets.as_slice().len() as u32),
-                    packet: None,
-                    released: Some(octets),
-                })
-            }
+            Sight::Request => match self.add_plain(parsed.octets()) {
+                Ok(()) => Ok(plain_released(parsed.into_octets())),
+                Err(AllocError) => Err(parsed),
+            },
             Sight::Report(service, subtype) => Ok(noted(Outcome::ReportNoted(service, subtype))),
             Sight::BadPart => Ok(ignored(Why::BadPart)),
             Sight::Part(part) => match self.accept_part(&part) {
@@ -58,9 +58,26 @@ impl Node {
         }
     }
 
+    // Makes a job of a plain request, at the spacecraft alone.
+    fn add_plain(&mut self, octets: &Octets) -> Result<(), AllocError>
+        requires { numbered self.old.at.jobs + 1 < 2 ^ 64 }
+        ensures ok { OnOk result (self.new.at ≡ with_job self.old.side self.old.at octets.now) }
+
+        ensures side { self.new.side ≡ self.old.side }
+        ensures config { self.new.config ≡ self.old.config }
+
+        ensures err { OnErr result (self.new.at ≡ self.old.at) }
+    {
+        match self.side {
+            Side::Ground => Ok(()),
+            Side::Craft => add_job(&mut self.jobs, octets.copy()?),
+        }
+    }
+
     // Takes a part.
     fn accept_part(&mut self, part: &Part<'_>) -> Result<Accepted, AllocError>
-        requires { part.now.p ≡ self.old.config.part_size }
+        requires p { part.now.p ≡ self.old.config.part_size }
+        requires numbers { numbered self.old.at.jobs + 1 < 2 ^ 64 }
         ensures ok { IfOk result (λ r. (self.new.at, r) ≡ parted self.old.side self.old.config self.old.at (piece part.now)) }
 
         ensures side { self.new.side ≡ self.old.side }
@@ -72,7 +89,11 @@ impl Node {
     {
         let mut counts = self.counts;
         let head = self.abort_head(&counts);
-        match self.receiver.accept(head, part, self.clock)? {
+        let (side, clock) = (self.side, self.clock);
+        match self
+            .receiver
+            .accept(side, &mut self.jobs, head, part, clock)?
+        {
             Taken::Closed => Ok(ignored(Why::Closed)),
             Taken::Kept => Ok(noted(Outcome::Kept(part.id, part.number))),
             Taken::Again => Ok(noted(Outcome::Again(part.id, part.number))),
@@ -94,6 +115,18 @@ impl Node {
                 })
             }
         }
+    }
+}
+
+// A plain request is released.
+fn plain_released(octets: Octets) -> Accepted
+    requires { length octets < 4294967296 }
+    ensures { result ≡ plain_released octets }
+{
+    Accepted {
+        outcome: Outcome::PlainReleased(octets.as_slice().len() as u32),
+        packet: None,
+        released: Some(octets),
     }
 }
 

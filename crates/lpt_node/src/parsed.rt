@@ -67,6 +67,13 @@ impl Parsed {
         self.octets.as_slice() == octets && self.side == side && self.apid == apid && self.p == p
     }
 
+    // The octets that it was read from, borrowed.
+    pub(crate) fn octets(&self) -> &Octets
+        ensures { result.now ≡ self.now.octets }
+    {
+        &self.octets
+    }
+
     // The octets that it was read from.
     pub(crate) fn into_octets(self) -> Octets
         ensures { result ≡ self.octets }

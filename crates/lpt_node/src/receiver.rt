@@ -1,6 +1,6 @@
 //! What receives at one end: the state of each name, and the open receptions.
 
-ghost use Rattle.std.specs.Prelude.{◌≡◌, [], true, IsTrue, None, is_some, IfSome, IsSomeAnd, IfOk, OnOk, OnErr};
+ghost use Rattle.std.specs.Prelude.{◌≡◌, ◌+◌, ◌<◌, ◌^◌, [], true, IsTrue, None, is_some, IfSome, IsSomeAnd, IfOk, OnOk, OnErr};
 ghost use Rattle.std.specs.FinMap as map;
 ghost use Rattle.std.specs.Option.{option_map};
 ghost use Rattle.lpt_part.specs.declared.reason.Reason.TheVariants as why;
@@ -12,11 +12,16 @@ ghost use Rattle.lpt_reception.specs.Received.{spelled, all_of};
 ghost use Rattle.lpt_table.specs.Deadlines.{due_of};
 ghost use Rattle.lpt_table.specs.Offering.{put_back};
 ghost use Rattle.lpt_table.specs.Tables.{IsTableSize};
+ghost use Rattle.lpt_jobs.specs.Jobs.{numbered};
 ghost use Rattle.lpt_node.specs.declared.taken.Taken.TheVariants as taking;
 ghost use Rattle.lpt_node.specs.Receivers.{abort_report, ended, grows, received, table_in, IsSameReceiver, IsShort};
+ghost use Rattle.lpt_node.specs.Receiving.{jobs_after, jobs_with};
 
+use crate::Side;
 use crate::making::abort_report;
 use crate::taken::Taken;
+use crate::working::add_job;
+use lpt_jobs::JobQueue;
 use lpt_ledger::{Ledger, State};
 use lpt_packet::{Name, Octets};
 use lpt_part::{Part, Reason};
@@ -100,19 +105,24 @@ impl Receiver {
         self.table.due(now)
     }
 
-    /// Takes a part at this tick. A message that is whole is joined and its reception ended; one
-    /// that is broken off is ended with a report of it, where reports have a head.
+    /// Takes a part at this tick. A message that is whole is joined and its reception ended; at the
+    /// spacecraft it becomes a job. One that is broken off is ended with a report of it, where
+    /// reports have a head.
     ///
     /// The only error is want of memory, and then nothing has changed.
     pub(crate) fn accept(
         &mut self,
+        side: Side,
+        jobs: &mut JobQueue,
         head: Option<TmHead>,
         part: &Part<'_>,
         now: u32,
     ) -> Result<Taken, AllocError>
-        requires { part.now.p ≡ self.old.p }
+        requires p { part.now.p ≡ self.old.p }
+        requires numbers { numbered jobs.old.at + 1 < 2 ^ 64 }
         ensures ok { IfOk result (λ t. (self.new, t)
             ≡ received (option_map (λ h. as_written (telemetry h [])) head) self.old (piece part.now) now) }
+        ensures jobs { IfOk result (λ t. jobs.new.at ≡ jobs_after side jobs.old.at t) }
         ensures short { IfOk result IsShort }
 
         ensures same { IsSameReceiver self.old self.new }
@@ -121,6 +131,7 @@ impl Receiver {
         ensures memory { OnErr result
             (grows (received (option_map (λ h. as_written (telemetry h [])) head) self.old (piece part.now) now).1 ≡ true) }
         ensures err { OnErr result (self.new ≡ self.old) }
+        ensures no_job { OnErr result (jobs.new.at ≡ jobs.old.at) }
     {
         if self.ledger.state(part.id) != State::Free {
             return Ok(Taken::Closed);
@@ -131,7 +142,16 @@ impl Receiver {
             Offer::Again => Ok(Taken::Again),
             Offer::NoRoom => Ok(Taken::NoRoom),
             Offer::Memory => Err(AllocError),
-            Offer::Whole(whole) => release(&mut self.ledger, &mut self.table, part.id, whole),
+            Offer::Whole(whole) => {
+                release(
+                    side,
+                    jobs,
+                    &mut self.ledger,
+                    &mut self.table,
+                    part.id,
+                    whole,
+                )
+            }
             Offer::Conflict(broken) => {
                 abort(
                     self.alloc,
@@ -172,9 +192,11 @@ impl Receiver {
     }
 }
 
-// Ends a reception of which all parts are there, with its message. It is put back where there is no
-// memory for that.
+// Ends a reception of which all parts are there, with its message, which becomes a job at the
+// spacecraft. It is put back where there is no memory for that.
 fn release(
+    side: Side,
+    jobs: &mut JobQueue,
     ledger: &mut Ledger,
     table: &mut Table,
     id: Name,
@@ -184,14 +206,21 @@ fn release(
     requires out { IsSomeAnd table.old.out (λ o. o.0 ≡ id) }
     requires id { whole.before.id ≡ id }
     requires p { whole.before.p ≡ table.old.p }
+    requires numbers { numbered jobs.old.at + 1 < 2 ^ 64 }
     ensures ok { IfOk result (λ t. t ≡ taking.Whole (spelled (all_of whole))) }
+    ensures jobs { OnOk result (jobs.new.at ≡ jobs_with side jobs.old.at (spelled (all_of whole))) }
     ensures shut { OnOk result (ledger.new ≡ map.insert ledger.old id Shut) }
     ensures settled { OnOk result (table.new ≡ record table.old { out = None }) }
     ensures short { IfOk result IsShort }
 
     ensures unshut { OnErr result (ledger.new ≡ ledger.old) }
     ensures back { OnErr result (table.new ≡ put_back table.old id whole.before.parts) }
+    ensures no_job { OnErr result (jobs.new.at ≡ jobs.old.at) }
 {
+    if add_whole(side, jobs, &whole).is_err() {
+        table.put_back(id, whole.back());
+        return Err(AllocError);
+    }
     match whole.release() {
         Ok(message) => {
             shut(ledger, id);
@@ -202,6 +231,18 @@ fn release(
             table.put_back(id, whole.back());
             Err(AllocError)
         }
+    }
+}
+
+// Makes a job of a whole message, at the spacecraft alone. The only error is want of memory.
+fn add_whole(side: Side, jobs: &mut JobQueue, whole: &Whole) -> Result<(), AllocError>
+    requires { numbered jobs.old.at + 1 < 2 ^ 64 }
+    ensures ok { OnOk result (jobs.new.at ≡ jobs_with side jobs.old.at (spelled (all_of whole.now))) }
+    ensures err { OnErr result (jobs.new.at ≡ jobs.old.at) }
+{
+    match side {
+        Side::Ground => Ok(()),
+        Side::Craft => add_job(jobs, whole.joined()?),
     }
 }
 

@@ -1,12 +1,15 @@
 //! Jobs: the requests that were released, claimed by workers, and executed in order of release.
 
-ghost use Rattle.std.specs.Prelude.{◌≡◌, IsTrue, None, IfOk, IfErr, OnOk, OnErr};
-ghost use Rattle.lpt_jobs.specs.Jobs.{is_claimed, numbered};
+ghost use Rattle.std.specs.Prelude.{◌≡◌, ◌+◌, ◌<◌, ◌^◌, IsTrue, None, IfOk, IfErr, OnOk, OnErr};
+ghost use Rattle.lpt_jobs.specs.Jobs.{after_push, is_claimed, numbered};
 ghost use Rattle.lpt_node.specs.Jobs.{refusal_claim, claimed, committed, refusal_apply, executed, execution, IsReadFor};
 ghost use Rattle.lpt_node.specs.Sending.{RefusedBy};
 
 use crate::{Executed, Node, NodeFault};
+use lpt_jobs::JobQueue;
 use lpt_memory::{Memories, Reading, Ticket};
+use lpt_packet::Octets;
+use std::alloc::AllocError;
 
 impl Node {
     /// How many times the node was started anew.
@@ -87,4 +90,15 @@ impl Node {
             None => Err(NodeFault::Memory),
         }
     }
+}
+
+// Adds the job of a released message. The only error is want of memory.
+pub(crate) fn add_job(jobs: &mut JobQueue, message: Octets) -> Result<(), AllocError>
+    requires { numbered jobs.old.at + 1 < 2 ^ 64 }
+    ensures ok { OnOk result (jobs.new.at ≡ after_push jobs.old.at message) }
+    ensures err { OnErr result (jobs.new.at ≡ jobs.old.at) }
+{
+    jobs.reserve()?;
+    jobs.push_reserved(message);
+    Ok(())
 }
