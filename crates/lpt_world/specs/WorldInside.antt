@@ -13,7 +13,7 @@ use Rattle.lpt_world.specs.Worlds.{IsTold, history_of}
 -- under this configuration, over this first content of the memories
 pub record IsWorld (c : Config) (first : Contents) (e : Ends) (j : List Entry) : Type 0 where
   pub configured : IsConfig c
-  pub shows : Shows (state_of e) (views c (history_of c first j))
+  pub shows : Shows (state_of e) (views c first (history_of c first j))
   pub told : IsTold c first j
 
 -- under the configuration of the ends

@@ -1,9 +1,10 @@
 //! Both ends, the link between them, and what was opened and released: all that an event changes.
 
-ghost use Rattle.std.specs.Prelude.{◌≡◌, ◌<◌, IfOk, OnErr, vec_len, None, Some, length};
+ghost use Rattle.std.specs.Prelude.{◌≡◌, ◌+◌, ◌<◌, ◌≤◌, ◌^◌, IfOk, OnErr, vec_len, None, Some, length};
 ghost use Rattle.std.specs.Option.{option_map};
 ghost use Rattle.std.specs.Vec.{vec_capacity};
 ghost use Rattle.lpt_events.specs.Lanes.{lane_direction};
+ghost use Rattle.lpt_jobs.specs.Jobs.{numbered};
 ghost use Rattle.lpt_link.specs.Links.{after_put, packet_in_hand};
 ghost use Rattle.lpt_node.specs.Accepting.{accepted};
 ghost use Rattle.lpt_node.specs.Asking.{refusal_of as node_refusal};
@@ -36,7 +37,7 @@ pub(crate) struct Ends {
     pub(crate) memories: Memories,
     pub(crate) opened: Vec<Opening>,
     pub(crate) released: Vec<Release>,
-    ghost sound: { IsSound config on_ground on_craft (vec_len released) },
+    ghost sound: { IsSound config on_ground on_craft },
 }
 
 impl Ends {
@@ -107,6 +108,7 @@ impl Ends {
     pub(crate) fn apply(&mut self, place: u64, event: &Event) -> Result<Reply, AllocError>
         requires free { refusal_of self.old.config (state_of self.old) event.now ≡ None }
         requires ready { IsReady self.old.config (state_of self.old) event.now }
+        requires numbers { numbered self.old.on_craft.at.jobs + 1 < 2 ^ 64 }
         ensures ok { IfOk result (λ r. (state_of self.new, r) ≡ after self.old.config place (state_of self.old) event.now) }
         ensures err { OnErr result (state_of self.new ≡ state_of self.old) }
         ensures config { self.new.config ≡ self.old.config }
@@ -242,7 +244,8 @@ impl Ends {
 
     // Delivers what is in a lane's hand.
     fn deliver(&mut self, place: u64, lane: Lane) -> Result<Reply, AllocError>
-        requires { refusal_of self.old.config (state_of self.old) (Event.Deliver lane) ≡ None }
+        requires free { refusal_of self.old.config (state_of self.old) (Event.Deliver lane) ≡ None }
+        requires numbers { numbered self.old.on_craft.at.jobs + 1 < 2 ^ 64 }
         ensures ok { IfOk result (λ r. (state_of self.new, r)
             ≡ after self.old.config place (state_of self.old) (Event.Deliver lane)) }
         ensures err { OnErr result (state_of self.new ≡ state_of self.old) }
@@ -266,6 +269,7 @@ impl Ends {
         requires side { parsed.side ≡ receiver_side (lane_direction lane) }
         requires apid { parsed.apid ≡ self.old.config.apid }
         requires part_size { parsed.p ≡ self.old.config.part_size }
+        requires numbers { numbered self.old.on_craft.at.jobs + 1 < 2 ^ 64 }
         ensures ok { IfOk result (λ r. IsAccepted (state_of self.old) lane (state_of self.new) r
             (accepted (receiver_side (lane_direction lane)) self.old.config
             (end_of (state_of self.old) (receiver_side (lane_direction lane))) (arrival_from parsed))) }
@@ -382,6 +386,7 @@ pub(crate) fn put_reserved(
 ) -> u64
     requires { 0 < link.old.spare }
     ensures at { link.new.at ≡ after_put link.old.at direction tag octets }
+    ensures spare { link.old.spare ≤ link.new.spare + 1 }
     ensures number { result ≡ length link.old.at.packets }
 {
     match link.put(direction, tag, octets) {

@@ -2,20 +2,20 @@
 
 ghost use Rattle.std.specs.Prelude.{◌≡◌, ◌≤◌, None, IfOk, OnErr, length, vec_len};
 ghost use Rattle.lpt_packet.specs.declared.direction.Direction.TheVariants.{Down};
-ghost use Rattle.lpt_machine.specs.State.{add_opening, after, put_all, refusal_of, IsReady};
+ghost use Rattle.lpt_machine.specs.State.{after, put_all, put_some, refusal_of, IsReady};
 
-use crate::ends::{Ends, put_one, put_reserved, quiet};
+use crate::ends::{Ends, put_reserved, quiet};
 use crate::tickets::HeldJob;
 use crate::{Answer, Event, Opening, Puts, Reply, StepFault};
 use lpt_events::Worker;
 use lpt_link::Link;
 use lpt_memory::{Ticket, prepare};
 use lpt_node::{Ask, Executed, Side};
-use lpt_packet::{Direction, Name, Octets};
+use lpt_packet::{Direction, Octets};
 use std::alloc::AllocError;
 
 /// The most packets that one execution puts on the link.
-const REPORTS: usize = 4;
+const REPORTS: u64 = 4;
 
 impl Ends {
     ghost use Rattle.lpt_world.specs.EndsInside.{state_of};
