@@ -5,3 +5,4 @@ pub mod OutgoingLemmas
 pub mod ReceiverLemmas
 pub mod SenderLemmas
 pub mod TiedLemmas
+pub mod ExecutionLemmas

@@ -5,6 +5,7 @@ pub mod Counting
 pub mod Faults
 pub mod Found
 pub mod Jobs
+pub mod Executions
 pub mod NodeInside
 pub mod Nodes
 pub mod Origins

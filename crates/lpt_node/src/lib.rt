@@ -12,6 +12,7 @@ mod ask;
 mod asking;
 mod counts;
 mod executed;
+mod executing;
 mod expired;
 mod fault;
 mod found;

@@ -1,6 +1,6 @@
 //! The packets that a node makes, from a copy of its counts that it stores at the end of a call.
 
-ghost use Rattle.std.specs.Prelude.{◌≡◌, [], true, is_some, IfOk, OnOk, OnErr};
+ghost use Rattle.std.specs.Prelude.{◌≡◌, ◌+◌, length, [], true, is_some, IfOk, OnOk, OnErr};
 ghost use Rattle.std.specs.Option.{option_map};
 ghost use Rattle.lpt_part.specs.Parts.{piece};
 ghost use Rattle.lpt_pus.specs.Telemetry.{telemetry, as_written};
@@ -9,14 +9,19 @@ ghost use Rattle.lpt_events.specs.Arrivals.{part_subtype};
 ghost use Rattle.lpt_events.specs.TelemetryKinds.{service_of, subtype_of};
 ghost use Rattle.lpt_node.specs.Counting.{counter_of, next_count};
 ghost use Rattle.lpt_events.specs.MadePackets.{telemetry_made};
-ghost use Rattle.lpt_node.specs.Sending.{part_packet_at, part_telemetry, part_types};
+ghost use Rattle.lpt_execution.specs.Ranges.{ReportFits};
+ghost use Rattle.lpt_node.specs.Executions.{with_counts};
+ghost use Rattle.lpt_node.specs.Jobs.{report_packet};
+ghost use Rattle.lpt_node.specs.Sending.{counted_kind, part_packet_at, part_telemetry, part_types};
 ghost use Rattle.lpt_node.specs.Receivers.{abort_report};
 ghost use Rattle.lpt_node.specs.Receiving.{abort_head_at};
 
 use crate::counts::Counts;
 use crate::{Node, Side, TelemetryKind};
+use lpt_execution::Report;
 use lpt_packet::{Name, Octets};
 use lpt_part::{Kind, Part, Reason, TRANSFER, abort_octets};
+use lpt_pus::laws::lengths;
 use lpt_pus::{TcHead, TmHead, tc_pieces, tm_octets, tm_pieces};
 use std::alloc::{AllocError, Global};
 
@@ -49,6 +54,26 @@ impl Node {
             Side::Ground => None,
             Side::Craft => Some(self.head(counts, TelemetryKind::Abort)),
         }
+    }
+
+    // Makes the packet of a report, and counts it. The only error is want of memory.
+    pub(crate) fn report_packet(
+        &self,
+        counts: &mut Counts,
+        report: &Report,
+    ) -> Result<Octets, AllocError>
+        requires { ReportFits report.now }
+        ensures packet { IfOk result (λ o. o ≡ report_packet self.now.config
+            (with_counts self.now.at.sending counts.old) self.now.at.clock report.now) }
+        ensures length { IfOk result (λ o. length o ≡ length report.now.body + 19) }
+        ensures counts { OnOk result (with_counts self.now.at.sending counts.new
+            ≡ counted_kind (with_counts self.now.at.sending counts.old) report.now.kind) }
+    {
+        lengths();
+        let head = self.head(counts, report.kind);
+        let packet = tm_octets(self.alloc, &head, report.body.as_slice())?;
+        counts.step_kind(report.kind);
+        Ok(packet)
     }
 
     // Makes the packet that carries a part, and counts it. The only error is want of memory.

@@ -5,8 +5,10 @@ ghost use Rattle.lpt_jobs.specs.Jobs.{after_push, is_claimed, numbered};
 ghost use Rattle.lpt_node.specs.Jobs.{refusal_claim, claimed, committed, refusal_apply, executed, execution, IsReadFor};
 ghost use Rattle.lpt_node.specs.Sending.{RefusedBy};
 
+use crate::executing::Made;
 use crate::{Executed, Node, NodeFault};
-use lpt_jobs::JobQueue;
+use lpt_execution::{applied_with, load};
+use lpt_jobs::{Front, JobQueue};
 use lpt_memory::{Memories, Reading, Ticket};
 use lpt_packet::Octets;
 use std::alloc::AllocError;
@@ -84,11 +86,31 @@ impl Node {
         ensures err { OnErr result (self.new.at ≡ self.old.at) }
         ensures kept { OnErr result (memories.new ≡ memories.old) }
     {
-        let _ = memories;
-        match self.refusal_apply() {
-            Some(fault) => Err(fault),
-            None => Err(NodeFault::Memory),
-        }
+        let reading = match self.jobs.front() {
+            Front::Empty => return Err(NodeFault::NoJob),
+            Front::NotReady => return Err(NodeFault::NotReady),
+            Front::Ready(reading) => reading,
+        };
+        // All that takes memory comes first, and the new message last of it.
+        let Ok((applied, made)) = self.execution(memories, reading) else {
+            return Err(NodeFault::Memory);
+        };
+        let Made {
+            counts,
+            packets,
+            large,
+        } = made;
+        let Ok(opened) = self.open_first(large) else {
+            return Err(NodeFault::Memory);
+        };
+        self.counts = counts;
+        let (_, reading) = self.jobs.pop_front();
+        load(memories, &reading);
+        Ok(Executed {
+            applied: applied_with(applied, &opened),
+            packets,
+            opened,
+        })
     }
 }
 

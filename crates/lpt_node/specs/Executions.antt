@@ -1,0 +1,22 @@
+-- What is made for an execution before anything is changed.
+use Rattle.std.specs.Prelude.{ℕ, List}
+use Rattle.lpt_memory.specs.Memories.{Contents}
+use Rattle.lpt_memory.specs.Readings.{Source}
+use Rattle.lpt_events.specs.declared.config.Config.{Config}
+use Rattle.lpt_execution.specs.declared.ending.Report.{Report}
+use Rattle.lpt_execution.specs.Reporting.{message_reports}
+use Rattle.lpt_node.specs.declared.counts.Counts.{Counts}
+use Rattle.lpt_node.specs.Jobs.{ending_at, report_packets}
+use Rattle.lpt_node.specs.Nodes.{Sending, NodeData}
+
+-- what an end keeps to send, with these counts
+abbrev pub with_counts : Sending → Counts → Sending
+with_counts s counts = record s { count = counts.count; types = counts.types }
+
+-- the reports of the execution of a reading
+abbrev pub reports_at : Config → NodeData → Contents → Source → List Report
+reports_at c d ms r = message_reports r.apid r.message (ending_at c d ms r)
+
+-- the same, with their packets
+abbrev pub made_at : Config → NodeData → Contents → Source → List (Report × List ℕ)
+made_at c d ms r = report_packets c d.sending d.clock (reports_at c d ms r)
