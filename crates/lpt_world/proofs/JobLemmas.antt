@@ -1,61 +1,23 @@
--- Ground has no jobs, and an execution puts four packets on the link at most.
-use Rattle.std.proofs.Common.{◌≡◌, ap, refl, ◌≤◌, ℕ, suc, Bool, true, false, if◌then◌else◌, nat_le, List, [], ◌∷◌, ◌++◌, length, map, Option, Some, None}
+-- An execution puts four packets on the link at most.
+use Rattle.std.proofs.Common.{arith, ◌≡◌, ap, refl, ◌≤◌, ◌+◌, ℕ, suc, Bool, true, false, if◌then◌else◌, nat_le, List, [], ◌∷◌, ◌++◌, length, map, Option, Some, None}
 use Rattle.std.proofs.lemmas.List.{length-append, length-map}
 use Rattle.std.specs.List.{filter}
 use Rattle.std.specs.Option.{option_map_or}
-use Rattle.lpt_packet.specs.Names.{Name}
 use Rattle.lpt_pus.specs.Codes.{number_of}
 use Rattle.lpt_pus.specs.Commands.{Command, command_in}
 use Rattle.lpt_pus.specs.Numbers.{long_at}
 use Rattle.lpt_memory.specs.Memories.{Contents}
 use Rattle.lpt_verify.specs.Reports.{success_if, failure, asks, accepted as acceptance, started, completed}
-use Rattle.lpt_events.specs.Arrivals.{Arrival, NotRead, AnIdle, Foreign, ARequest, AReport, NoPart, APart, AnAbort}
 use Rattle.lpt_events.specs.declared.config.Config.{Config}
-use Rattle.lpt_events.specs.declared.side.Side.TheVariants.{Ground}
 use Rattle.lpt_execution.specs.declared.ending.Ending.{Ending}
 use Rattle.lpt_execution.specs.declared.ending.Ending.TheVariants.{Silent, Refused, Carried}
 use Rattle.lpt_execution.specs.declared.ending.Report.{Report}
 use Rattle.lpt_execution.specs.Endings.{is_small}
 use Rattle.lpt_execution.specs.Reporting.{verification, data_report, reports_of, message_reports, link_packets}
 use Rattle.lpt_jobs.specs.Jobs.{Head, NoJob as NoHead, NotReady, Ready, head_of}
-use Rattle.lpt_node.specs.declared.taken.Taken.{Taken}
-use Rattle.lpt_node.specs.declared.taken.Taken.TheVariants as taking
-use Rattle.lpt_node.specs.Accepting.{accepted}
 use Rattle.lpt_node.specs.Jobs.{report_packets, ending_at, executed_of, executed}
 use Rattle.lpt_node.specs.Nodes.{Sending, NodeData}
-use Rattle.lpt_node.specs.Receiving.{after_taken, abort_head, receiver_of, with_receiver}
-use Rattle.lpt_node.specs.Receivers.{ReceiverState, received}
 use Rattle.lpt_node.specs.Sending.{counted_kind}
-
--- ---- jobs
-
--- on ground there are none
-ground_taken : (d : NodeData) (id : Name) (k : ℕ) (t : Taken)
-    → (after_taken Ground d id k t).0.jobs ≡ d.jobs
-ground_taken d id k taking.Closed = refl
-ground_taken d id k taking.Kept = refl
-ground_taken d id k taking.Again = refl
-ground_taken d id k taking.NoRoom = refl
-ground_taken d id k (taking.Whole m) = refl
-ground_taken d id k (taking.Broken reason None) = refl
-ground_taken d id k (taking.Broken reason (Some o)) = refl
-
-pub ground_accepted : (c : Config) (d : NodeData) (a : Arrival)
-    → (accepted Ground c d a).0.jobs ≡ d.jobs
-ground_accepted c d NotRead = refl
-ground_accepted c d AnIdle = refl
-ground_accepted c d Foreign = refl
-ground_accepted c d (ARequest b) = refl
-ground_accepted c d (AReport s t) = refl
-ground_accepted c d NoPart = refl
-ground_accepted c d (AnAbort id reason) = refl
-ground_accepted c d (APart q) =
-    go (received (abort_head Ground c d) (receiver_of c d.receiving) q d.clock) where
-      go : (x : ReceiverState × Taken)
-          → (after_taken Ground (with_receiver d x.0) q.id q.number x.1).0.jobs ≡ d.jobs
-      go x = ground_taken (with_receiver d x.0) q.id q.number x.1
-
--- ---- executions
 
 -- a report that may be asked for is one at most
 one_if : (b : Bool) (request subtype : ℕ) → length (success_if b request subtype) ≤ 1
@@ -77,9 +39,11 @@ few_of request flags (Refused code) = go (nat_le (number_of code) 2) where
 few_of request flags (Carried r) =
     let before = acceptance request flags ++ started request flags in
     let after = completed request flags in
-    omega (arith,
-    length-append (map verification before) (data_report r ++ map verification after),
-    length-append (data_report r) (map verification after),
+    let all : length (reports_of request flags (Carried r))
+        ≡ length (map verification before ++ data_report r) + length (map verification after) =
+    length-append (map verification before ++ data_report r) (map verification after) in
+    omega (arith, all,
+    length-append (map verification before) (data_report r),
     length-map before verification, length-map after verification,
     length-append (acceptance request flags) (started request flags),
     one_if (asks flags 1) request 1, one_if (asks flags 2) request 3, one_if (asks flags 8) request 7,
@@ -97,11 +61,12 @@ few_reports apid m end = go (command_in apid m) where
 -- no more packets go on the link than reports were made
 link_few : (p : ℕ) (made : List (Report × List ℕ)) → length (link_packets p made) ≤ length made
 link_few p [] = omega arith
-link_few p (x ∷ xs) = go (is_small p (length x.0.body)) where
+link_few p (x ∷ xs) = go (is_small p (length x.0.body)) (link_few p xs) where
   go : (b : Bool)
+      → length (link_packets p xs) ≤ length xs
       → length (map (λ (y : Report × List ℕ). y.1) (if b then x ∷ filter (λ (y : Report × List ℕ). is_small p (length y.0.body)) xs else filter (λ (y : Report × List ℕ). is_small p (length y.0.body)) xs)) ≤ suc (length xs)
-  go true = omega (arith, link_few p xs)
-  go false = omega (arith, link_few p xs)
+  go true few = omega (arith, few)
+  go false few = omega (arith, few)
 
 length-report_packets : (c : Config) (s : Sending) (clock : ℕ) (rs : List Report)
     → length (report_packets c s clock rs) ≡ length rs
