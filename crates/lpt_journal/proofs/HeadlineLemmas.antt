@@ -13,7 +13,7 @@ use Rattle.lpt_events.specs.Lanes.{lane_direction}
 use Rattle.lpt_events.specs.declared.config.Config.{Config}
 use Rattle.lpt_events.specs.Arrivals.{NotRead, APart}
 use Rattle.lpt_events.specs.declared.event.Event.{Event}
-use Rattle.lpt_events.specs.declared.event.Event.TheVariants.{Open, Send, Plain, Finish, Lose, Take, Deliver, Tick, Expire}
+use Rattle.lpt_events.specs.declared.event.Event.TheVariants.{Open, Send, Plain, Finish, Lose, Take, Deliver, Tick, Expire, Claim, Commit, Apply}
 use Rattle.lpt_events.specs.declared.fault.StepFault.TheVariants.{HandEmpty}
 use Rattle.lpt_events.specs.declared.outcome.Outcome.{Outcome}
 use Rattle.lpt_events.specs.declared.reply.Answer.TheVariants.{Delivered}
@@ -21,19 +21,21 @@ use Rattle.lpt_events.specs.Sides.{direction_to}
 use Rattle.lpt_journal.specs.Delivery.{outcome}
 use Rattle.lpt_journal.specs.Journal.{Recorded, History}
 use Rattle.lpt_journal.specs.Hands.{hand, arrival_at, in_hand}
+use Rattle.lpt_journal.specs.Jobs.{JobName, ticket}
 use Rattle.lpt_journal.specs.Releases.{released_by}
 use Rattle.lpt_events.specs.Configs.{IsConfig}
 use Rattle.lpt_journal.specs.Due.{due}
-use Rattle.lpt_journal.specs.Replies.{answer, expired_now, entry, recorded}
+use Rattle.lpt_journal.specs.Replies.{answer, expired_now, committed_now, entry, recorded}
 use Rattle.lpt_journal.specs.Refusals.{refusal}
 use Rattle.lpt_journal.specs.Legal.{IsEnabled, Legal}
-use Rattle.lpt_journal.proofs.JobLemmas.{memories_stay}
+use Rattle.lpt_journal.proofs.JobLemmas.{memories_follow}
 use Rattle.lpt_journal.specs.Headline.{PartsAreCurrent, EachIsLastOpened, IsSoundOutcome, IsSoundDelivery, DeliveriesAreSound, DeliveriesWereSound, Headline}
 use Rattle.lpt_journal.proofs.TestLemmas.{one_passes, no_place}
 use Rattle.lpt_journal.proofs.Steps.{IsSound, Owes}
 use Rattle.lpt_journal.proofs.Soundness.{hand_current, sound_step}
 use Rattle.lpt_journal.proofs.Events.{open_owes, send_owes, finish_owes, take_owes, lose_owes}
 use Rattle.lpt_journal.proofs.PlainEvents.{plain_owes}
+use Rattle.lpt_journal.proofs.WorkEvents.{claim_owes, commit_owes}
 use Rattle.lpt_journal.proofs.TimeEvents.{tick_owes, expire_owes}
 use Rattle.lpt_journal.proofs.Deliveries.{delivery_sound, deliver_owes}
 use Rattle.lpt_journal.proofs.Releasing.{OwesReleases, ArePast, opening_is}
@@ -67,6 +69,8 @@ owes c first h (Finish d id) good sound can = finish_owes c first h d id sound
 owes c first h (Lose n) good sound can = lose_owes c first h n sound
 owes c first h (Tick side) good sound can = tick_owes c first h side sound can.accepted
 owes c first h (Expire side) good sound can = expire_owes c first h side good sound
+owes c first h (Claim w) good sound can = claim_owes c first h w sound
+owes c first h (Commit w) good sound can = commit_owes c first h w sound
 owes c first h (Take l n) good sound can = take_owes c first h l n sound can.accepted
 owes c first h (Deliver l) good sound can =
     let n = delivered c h l can.accepted in deliver_owes c first h l n.0 sound n.1
@@ -182,6 +186,10 @@ delivered_sound c first h (Expire side) o sound can is =
     none_delivered : (d : Option Name) → expired_now (direction_to side) d ≡ Delivered o → ⊥
     none_delivered None e = cc
     none_delivered (Some id) e = cc
+delivered_sound c first h (Commit w) o sound can is = absurd (none_delivered (ticket h w) is) where
+  none_delivered : (t : Option JobName) → committed_now t ≡ Delivered o → ⊥
+  none_delivered None e = cc
+  none_delivered (Some t) e = cc
 delivered_sound c first h e o sound can is = absurd cc
 
 each_delivered : (c : Config) (first : Contents) (es : List Event)
@@ -208,5 +216,5 @@ headline c first es good legal =
       once = all.1.once;
       deliveries = deliveries c h all.0;
       delivered = each_delivered c first es good legal;
-      memories = memories_stay c first h;
+      memories = memories_follow c first h;
     }

@@ -17,4 +17,6 @@ pub mod SentParts
 pub mod Soundness
 pub mod Steps
 pub mod TestLemmas
+pub mod TicketLemmas
 pub mod TimeEvents
+pub mod WorkEvents
