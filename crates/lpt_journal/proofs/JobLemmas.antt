@@ -2,7 +2,7 @@
 use Rattle.std.proofs.Common.{◌≡◌, ◌∙◌, ap, sym, subst, refl, ℕ, zero, suc, ◌+◌, ◌<◌, ◌≤◌, Bool, true, false, ◌⊎◌, inl, inr, if◌then◌else◌, List, [], ◌∷◌, ◌++◌, length, map, Option, Some, None, arith}
 use Rattle.std.specs.List.{slice_get, slice_index, filter, Contains}
 use Rattle.std.specs.List.Sorted.{IsStrictlyIncreasing}
-use Rattle.std.proofs.lemmas.List.Elements.{Contains-append_left, Contains-append_right}
+use Rattle.std.proofs.lemmas.List.Elements.{Contains-append_left, Contains-append_right, filter-append}
 use Rattle.std.proofs.lemmas.Option.{slice_get_within}
 use Rattle.lpt_memory.specs.Memories.{Contents}
 use Rattle.lpt_packet.specs.declared.direction.Direction.{Direction}
@@ -87,10 +87,14 @@ contains_at (x ∷ xs) zero y e = (0, omega arith, let same : x ≡ y = cc in sa
 contains_at (x ∷ xs) (suc k) y e =
     let rest = contains_at xs k y e in (suc rest.0, (let within = rest.1 in omega arith), rest.2)
 
+none_behind : {A : Type 0} (xs : List A) → xs ≡ xs ++ []
+none_behind [] = refl
+none_behind (x ∷ xs) = ap (λ ys. x ∷ ys) (none_behind xs)
+
 filter_all : {A : Type 0} (p : A → Bool) (xs ys : List A)
     → filter p (with_all xs ys) ≡ filter p xs ++ filter p ys
-filter_all p xs [] = sym (append_none (filter p xs))
-filter_all p xs (y ∷ ys) = filter_append p xs (y ∷ ys)
+filter_all p xs [] = none_behind (filter p xs)
+filter_all p xs (y ∷ ys) = filter-append p xs (y ∷ ys)
 
 -- what was released is so after an entry
 still_released : (c : Config) (x : Recorded) (h : History) (r : Release)
@@ -106,11 +110,12 @@ job_released : (c : Config) (h : History) (k : ℕ) (r : Release)
     → Contains (came_up (releases c h)) r
 job_released c [] k r e = absurd (no_place k r e)
 job_released c (x ∷ h) k r e =
-    go (with_all_cases (jobs c h) (came_up (released_by c x h)) k r e) where
-      go : IsOldOrNew (jobs c h) (came_up (released_by c x h)) k r
+    go (job_released c h k r) (with_all_cases (jobs c h) (came_up (released_by c x h)) k r e) where
+      go : (slice_get (jobs c h) k ≡ Some r → Contains (came_up (releases c h)) r)
+          → IsOldOrNew (jobs c h) (came_up (released_by c x h)) k r
           → Contains (came_up (releases c (x ∷ h))) r
-      go (inl old) = still_released c x h r (job_released c h k r old)
-      go (inr fresh) =
+      go before (inl old) = still_released c x h r (before old)
+      go before (inr fresh) =
           subst (λ rs. Contains rs r)
           (sym (filter_all (λ r. went_up r.of) (releases c h) (released_by c x h)))
           (Contains-append_right (came_up (releases c h)) (came_up (released_by c x h)) r
@@ -120,10 +125,13 @@ job_released c (x ∷ h) k r e =
 executed_released : (c : Config) (h : History) → EachWasReleased c h
 executed_released c [] k r e = absurd (no_place k r e)
 executed_released c (x ∷ h) k r e =
-    still_released c x h r (go (with_all_cases (executed c h) (executed_by c x h) k r e)) where
-      go : IsOldOrNew (executed c h) (executed_by c x h) k r → Contains (came_up (releases c h)) r
-      go (inl old) = executed_released c h k r old
-      go (inr fresh) =
+    still_released c x h r
+    (go (executed_released c h k r) (with_all_cases (executed c h) (executed_by c x h) k r e)) where
+      go : (slice_get (executed c h) k ≡ Some r → Contains (came_up (releases c h)) r)
+          → IsOldOrNew (executed c h) (executed_by c x h) k r
+          → Contains (came_up (releases c h)) r
+      go before (inl old) = before old
+      go before (inr fresh) =
           job_released c h (applied h) r
           (new_executed x.event (front_job c h) fresh.0 r fresh.2).2
 
