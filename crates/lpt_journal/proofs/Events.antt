@@ -37,7 +37,7 @@ use Rattle.lpt_journal.proofs.Steps.{IsRead, IsSoundPacket, IsSound, IsTaken, Ow
 -- ---- opening
 
 -- a free sender has no opening
-free_current : (h : History) (d : Direction) (id : Name)
+pub free_current : (h : History) (d : Direction) (id : Name)
     → is_free (sender h d id) ≡ true
     → current h d id ≡ None
 free_current h d id free = go (current h d id) (is_over h d id) refl free where
@@ -50,7 +50,7 @@ free_current h d id free = go (current h d id) (is_over h d id) refl free where
   go (Some o) false e t = absurd cc
 
 -- the one opening that is found
-only_opening : (d : Direction) (id : Name) (o u : Opening)
+pub only_opening : (d : Direction) (id : Name) (o u : Opening)
     → find (is_opening_of d id) (o ∷ []) ≡ Some u
     → o ≡ u
 only_opening d id o u f = go (is_opening_of d id o) f where

@@ -14,6 +14,7 @@ pub mod OutcomeLemmas
 pub mod PlainEvents
 pub mod Releasing
 pub mod SentParts
+pub mod SentReports
 pub mod Soundness
 pub mod Steps
 pub mod TestLemmas
