@@ -97,7 +97,7 @@ open_owes c first h d id m sound accepted =
 -- ---- sending
 
 -- an open sender's message is that of the last opening
-open_current : (h : History) (d : Direction) (id : Name) (m : List ℕ) → sender h d id ≡ OpenSender m
+pub open_current : (h : History) (d : Direction) (id : Name) (m : List ℕ) → sender h d id ≡ OpenSender m
     → (o : Opening) × (current h d id ≡ Some o) × (o.message ≡ m)
 open_current h d id m e = go (current h d id) (is_over h d id) refl e where
   go : (o : Option Opening) (over : Bool) → current h d id ≡ o → sender_of o over ≡ OpenSender m

@@ -1,3 +1,4 @@
+pub mod AnswerLengths
 pub mod ClosedLemmas
 pub mod CountLemmas
 pub mod DeliveredReleases
@@ -9,6 +10,7 @@ pub mod ExpiryOwed
 pub mod HeadlineLemmas
 pub mod JobLemmas
 pub mod MapLemmas
+pub mod OctetLemmas
 pub mod OnceLemmas
 pub mod OutcomeLemmas
 pub mod PlainEvents
@@ -20,4 +22,5 @@ pub mod Steps
 pub mod TestLemmas
 pub mod TicketLemmas
 pub mod TimeEvents
+pub mod UpOctets
 pub mod WorkEvents
