@@ -10,6 +10,7 @@ pub mod ExpiryOwed
 pub mod HeadlineLemmas
 pub mod JobLemmas
 pub mod MapLemmas
+pub mod NewJobs
 pub mod OctetLemmas
 pub mod OnceLemmas
 pub mod OutcomeLemmas
@@ -21,6 +22,7 @@ pub mod Soundness
 pub mod Steps
 pub mod TestLemmas
 pub mod TicketLemmas
+pub mod TicketSteps
 pub mod TimeEvents
 pub mod UpOctets
 pub mod WorkEvents

@@ -1,5 +1,5 @@
 -- What ground's packets are made of: octets; and a request arrives as the octets that it is.
-use Rattle.std.proofs.Common.{◌≡◌, ◌∙◌, ap, sym, refl, ℕ, zero, suc, ◌+◌, ◌-◌, ◌*◌, ◌<◌, ◌==◌, ◌&&◌, Bool, true, false, if◌then◌else◌, List, [], ◌∷◌, ◌++◌, length, drop, take, Option, Some, None, arith}
+use Rattle.std.proofs.Common.{◌≡◌, refl, ℕ, zero, suc, ◌+◌, ◌-◌, ◌*◌, ◌<◌, ◌==◌, ◌&&◌, Bool, true, false, if◌then◌else◌, List, [], ◌∷◌, ◌++◌, length, drop, Option, Some, None, arith}
 use Rattle.std.specs.Option.{option_map_or}
 use Rattle.std.specs.Result.{result_ok}
 use Rattle.lpt_packet.specs.declared.direction.Direction.TheVariants.{Up, Down}
@@ -15,11 +15,10 @@ use Rattle.lpt_part.specs.declared.kind.Kind.TheVariants.{First}
 use Rattle.lpt_part.specs.declared.reason.Reason.{Reason}
 use Rattle.lpt_part.specs.Aborts.{abort_in}
 use Rattle.lpt_part.specs.Parts.{Piece, part_in, body_of}
-use Rattle.lpt_part.specs.Splitting.{part_of}
 use Rattle.lpt_events.specs.declared.config.Config.{Config}
 use Rattle.lpt_events.specs.declared.side.Side.{Side}
 use Rattle.lpt_events.specs.declared.side.Side.TheVariants.{Ground, Craft}
-use Rattle.lpt_events.specs.Arrivals.{Arrival, NotRead, AnIdle, Foreign, ARequest, AReport, NoPart, APart, AnAbort, carried_kind, part_arrival, abort_arrival, command_arrival, report_arrival, telemetry_arrival, packet_arrival, sight_arrival, arrival, part_subtype}
+use Rattle.lpt_events.specs.Arrivals.{NotRead, Foreign, ARequest, AReport, NoPart, APart, AnAbort, carried_kind, part_arrival, abort_arrival, command_arrival, report_arrival, telemetry_arrival, packet_arrival, sight_arrival, arrival, part_subtype}
 use Rattle.lpt_events.specs.MadePackets.{nth_part, command_made, tc_made, part_made}
 
 -- ---- octets

@@ -1,7 +1,6 @@
 -- The reports of an execution: their packets arrive as reports, and how long they are.
 use Rattle.std.proofs.Common.{◌≡◌, ◌∙◌, ap, refl, ℕ, ◌+◌, ◌^◌, ◌<◌, ◌≤◌, ◌==◌, nat_le, Bool, true, false, ◌&&◌, if◌then◌else◌, not, List, [], ◌∷◌, ◌++◌, length, map, Option, Some, None, arith}
-use Rattle.std.proofs.lemmas.Bool.Decides.{nat_tests}
-use Rattle.std.specs.List.{AllByRecursion, filter}
+use Rattle.std.specs.List.{AllByRecursion}
 use Rattle.std.specs.Option.{option_map_or}
 use Rattle.lpt_packet.specs.declared.direction.Direction.TheVariants.{Down}
 use Rattle.lpt_pus.specs.declared.failure_code.FailureCode.{FailureCode}
@@ -13,7 +12,7 @@ use Rattle.lpt_pus.proofs.TelemetryLemmas.{length-spelling_tm}
 use Rattle.lpt_part.specs.declared.kind.Kind.{Kind}
 use Rattle.lpt_part.specs.declared.kind.Kind.TheVariants.{First, Middle, Last}
 use Rattle.lpt_verify.specs.declared.report.EncodedReport.{EncodedReport}
-use Rattle.lpt_verify.specs.Reports.{success, success_if, asks, failure, accepted, started, completed, reports_before, reports_after}
+use Rattle.lpt_verify.specs.Reports.{success_if, asks, failure, accepted, started, completed, reports_before, reports_after}
 use Rattle.lpt_memory.specs.Answers.{AnswerFits}
 use Rattle.lpt_memory.specs.declared.asks.ReplyKind.{ReplyKind}
 use Rattle.lpt_memory.specs.declared.asks.ReplyKind.TheVariants as reply
@@ -29,12 +28,12 @@ use Rattle.lpt_events.specs.Configs.{IsConfig}
 use Rattle.lpt_execution.specs.declared.ending.Ending.{Ending}
 use Rattle.lpt_execution.specs.declared.ending.Ending.TheVariants.{Silent, Refused, Carried}
 use Rattle.lpt_execution.specs.declared.ending.Report.{Report}
-use Rattle.lpt_execution.specs.Endings.{reply_fault, reply_report, replied, ending}
-use Rattle.lpt_execution.specs.Reporting.{verification_kind, verification, data_report, reports_of, message_reports}
+use Rattle.lpt_execution.specs.Endings.{reply_fault, replied, ending}
+use Rattle.lpt_execution.specs.Reporting.{verification, data_report, reports_of, message_reports}
 use Rattle.lpt_journal.specs.Journal.{with_all}
 use Rattle.lpt_journal.specs.Hands.{arrival_in}
 use Rattle.lpt_journal.specs.Senders.{count_after, counter_after}
-use Rattle.lpt_journal.specs.Executions.{report_after} 
+use Rattle.lpt_journal.specs.Executions.{report_after}
 use Rattle.lpt_journal.specs.Executions as executions
 use Rattle.lpt_journal.proofs.SentParts.{AreCounts, telemetry_arrives}
 

@@ -1,5 +1,5 @@
 -- In every legal journal what goes up is octets: messages, packets and released requests.
-use Rattle.std.proofs.Common.{◌≡◌, ◌∙◌, ap, sym, subst, refl, ℕ, zero, suc, ◌<◌, Bool, true, false, if◌then◌else◌, inl, inr, List, [], ◌∷◌, length, map, Option, Some, None, arith}
+use Rattle.std.proofs.Common.{◌≡◌, ◌∙◌, ap, sym, subst, refl, ℕ, zero, suc, true, inl, inr, List, [], ◌∷◌, length, map, Option, Some, None}
 use Rattle.std.specs.List.{slice_get, find, filter}
 use Rattle.std.specs.Option.{option_or}
 use Rattle.lpt_packet.specs.declared.direction.Direction.{Direction}
@@ -7,12 +7,10 @@ use Rattle.lpt_packet.specs.declared.direction.Direction.TheVariants.{Up, Down}
 use Rattle.lpt_packet.specs.Names.{Name}
 use Rattle.lpt_packet.specs.Numbers.{IsOctets}
 use Rattle.lpt_part.specs.declared.reason.Reason.{Reason}
-use Rattle.lpt_reception.specs.Received.{Parts}
 use Rattle.lpt_memory.specs.Memories.{Contents}
-use Rattle.lpt_events.specs.Lanes.{lane_direction, same_direction}
+use Rattle.lpt_events.specs.Lanes.{lane_direction}
 use Rattle.lpt_events.proofs.LaneLemmas.{same_direction-true}
-use Rattle.lpt_events.specs.Arrivals.{Arrival, ARequest, APart}
-use Rattle.lpt_events.specs.Configs.{IsConfig}
+use Rattle.lpt_events.specs.Arrivals.{ARequest}
 use Rattle.lpt_events.specs.Sides.{receiver_side, direction_to}
 use Rattle.lpt_events.specs.declared.config.Config.{Config}
 use Rattle.lpt_events.specs.declared.entry.Opening.{Opening}
@@ -21,8 +19,7 @@ use Rattle.lpt_events.specs.declared.event.Event.{Event}
 use Rattle.lpt_events.specs.declared.event.Event.TheVariants.{Open, Send, Plain, Deliver, Expire, Apply}
 use Rattle.lpt_events.specs.declared.lane.Lane.{Lane}
 use Rattle.lpt_events.specs.declared.outcome.Outcome.{Outcome}
-use Rattle.lpt_events.specs.declared.outcome.Outcome.TheVariants.{Released, PlainReleased, Broken}
-use Rattle.lpt_events.specs.declared.reply.Answer.TheVariants.{Delivered}
+use Rattle.lpt_events.specs.declared.outcome.Outcome.TheVariants.{Broken}
 use Rattle.lpt_events.specs.declared.side.Side.{Side}
 use Rattle.lpt_events.specs.declared.side.Side.TheVariants.{Ground, Craft}
 use Rattle.lpt_execution.specs.Reporting.{link_packets}
@@ -35,15 +32,16 @@ use Rattle.lpt_journal.specs.Journal.{SentPacket, Recorded, History}
 use Rattle.lpt_journal.specs.Legal.{IsEnabled}
 use Rattle.lpt_journal.specs.Link.{sent}
 use Rattle.lpt_journal.specs.Receivers.{heard}
-use Rattle.lpt_journal.specs.Releases.{released_now, released_by}
+use Rattle.lpt_journal.specs.Releases.{released_by}
 use Rattle.lpt_journal.specs.Replies.{send_puts, abort_puts, outcome_puts, expiry_puts, puts, opens, entry}
 use Rattle.lpt_journal.specs.Senders.{Sender, FreeSender, OpenSender, ClosedSender, sender, is_opening_of, current, count}
+use Rattle.lpt_journal.proofs.DeliveredReleases.{plain_is}
 use Rattle.lpt_journal.proofs.Events.{only_opening, only_element, open_current}
 use Rattle.lpt_journal.proofs.OctetLemmas.{made_octets, part_octets, request_is}
 use Rattle.lpt_journal.proofs.Releasing.{OwesReleases}
 use Rattle.lpt_journal.proofs.Soundness.{in_hand_is}
-use Rattle.lpt_journal.proofs.Steps.{IsSound, opening_found}
-use Rattle.lpt_journal.proofs.TestLemmas.{IsOldOrNew, with_all_cases, no_place}
+use Rattle.lpt_journal.proofs.Steps.{IsSound}
+use Rattle.lpt_journal.proofs.TestLemmas.{passed, IsOldOrNew, with_all_cases, no_place}
 
 -- what goes up is octets
 pub record AreUpOctets (c : Config) (h : History) : Type 0 where
@@ -167,46 +165,6 @@ hand_octets c h l n b sound had e is =
     (sym (in_hand_is c h l n e it) ∙ is) in
     subst (λ o. IsOctets o) read.1
     (had.packets n it.packet it.was_sent (up_from it.packet.direction read.0))
-
--- what is released of no transaction is the request that arrived
-plain_is : (place : ℕ) (d : Direction) (o : Outcome) (s : Name → Parts) (a : Arrival) (k : ℕ)
-    (r : Release)
-    → slice_get (released_now place d (Delivered o) s a) k ≡ Some r
-    → r.of ≡ None
-    → a ≡ ARequest r.message
-plain_is place d (Released id len) s (APart q) zero r e none =
-    absurd (let of : Some (d, id) ≡ r.of = ap (λ (o : Option Release). option_of o) e in cc)
-  where
-    option_of : Option Release → Option (Direction × Name)
-    option_of (Some r) = r.of
-    option_of None = None
-plain_is place d (Released id len) s (APart q) (suc k) r e none = absurd (no_place k r e)
-plain_is place d (PlainReleased len) s (ARequest b) zero r e none =
-    let same : record { place = place; of = None; message = b } ≡ r = cc in
-    ap (λ (w : Release). ARequest w.message) same
-plain_is place d (PlainReleased len) s (ARequest b) (suc k) r e none = absurd (no_place k r e)
-plain_is place d o s a k r e none = absurd (no_place k r e)
-
--- an element that passes a test is one of the list
-passed : {A : Type 0} (p : A → Bool) (xs : List A) (k : ℕ) (y : A)
-    → slice_get (filter p xs) k ≡ Some y
-    → (j : ℕ) × (slice_get xs j ≡ Some y) × (p y ≡ true)
-passed p [] k y e = absurd (no_place k y e)
-passed {A} p (x ∷ xs) k y e = go (p x) refl k e (passed p xs) where
-  later : (j : ℕ) × (slice_get xs j ≡ Some y) × (p y ≡ true)
-      → (j : ℕ) × (slice_get (x ∷ xs) j ≡ Some y) × (p y ≡ true)
-  later (j, f, t) = (suc j, f, t)
-
-  go : (b : Bool)
-      → p x ≡ b
-      → (k : ℕ)
-      → slice_get (if b then x ∷ filter p xs else filter p xs) k ≡ Some y
-      → ((k : ℕ) (y : A) → slice_get (filter p xs) k ≡ Some y
-      → (j : ℕ) × (slice_get xs j ≡ Some y) × (p y ≡ true))
-      → (j : ℕ) × (slice_get (x ∷ xs) j ≡ Some y) × (p y ≡ true)
-  go true t zero f rest = let same : x ≡ y = cc in (0, f, ap p (sym same) ∙ t)
-  go true t (suc k) f rest = later (rest k y f)
-  go false t k f rest = later (rest k y f)
 
 went_up-of : (t : Direction × Name) → went_up (Some t) ≡ true → t.0 ≡ Up
 went_up-of t e = same_direction-true t.0 Up e

@@ -1,5 +1,5 @@
 -- What claims, commits and executions owe, and that they pay it.
-use Rattle.std.proofs.Common.{◌≡◌, ◌∙◌, ap, sym, subst, refl, ℕ, zero, suc, ◌+◌, nat_le, nat_lt, ◌≤◌, ◌<◌, Bool, true, false, not, if◌then◌else◌, inl, List, [], ◌∷◌, length, map, Option, Some, None, arith}
+use Rattle.std.proofs.Common.{◌≡◌, ◌∙◌, ap, sym, subst, refl, ℕ, zero, suc, ◌+◌, nat_lt, ◌≤◌, ◌<◌, Bool, true, false, not, if◌then◌else◌, inl, List, [], ◌∷◌, length, map, Option, Some, None, arith}
 use Rattle.std.proofs.lemmas.Bool.Decides.{nat_tests}
 use Rattle.std.specs.List.{slice_get, find, filter, AllByRecursion}
 use Rattle.std.specs.Option.{is_some, option_map_or}
@@ -7,7 +7,7 @@ use Rattle.lpt_packet.specs.declared.direction.Direction.{Direction}
 use Rattle.lpt_packet.specs.declared.direction.Direction.TheVariants.{Down}
 use Rattle.lpt_packet.specs.Names.{Name}
 use Rattle.lpt_reception.specs.PartsOf.{IsMessage}
-use Rattle.lpt_ledger.specs.LeastFree.{name_count, first_of_numbers}
+use Rattle.lpt_ledger.specs.LeastFree.{name_count}
 use Rattle.lpt_ledger.proofs.FirstLemmas.{IsFirst, IsFirst-first_of_numbers}
 use Rattle.lpt_memory.specs.Answers.{AnswerFits}
 use Rattle.lpt_memory.specs.Memories.{Contents}
