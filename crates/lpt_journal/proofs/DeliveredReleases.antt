@@ -84,6 +84,27 @@ only_one place d (PlainReleased len) s (ARequest b) zero r e = (
 only_one place d (PlainReleased len) s (ARequest b) (suc k) r e = absurd (no_place k r e)
 only_one place d o s a k r e = absurd (no_place k r e)
 
+-- what is released of no transaction is the request that arrived
+pub plain_is : (place : ℕ) (d : Direction) (o : Outcome) (s : Name → Parts) (a : Arrival) (k : ℕ)
+    (r : Release)
+    → slice_get (released_now place d (Delivered o) s a) k ≡ Some r
+    → r.of ≡ None
+    → a ≡ ARequest r.message
+plain_is place d (Released id len) s (APart q) zero r e none =
+    absurd (let made : record {
+      place = place;
+      of = Some (d, id);
+      message = spelled (with_piece (s id) q);
+    } ≡ r =
+    cc in
+    let some : Some (d, id) ≡ r.of = ap (λ (w : Release). w.of) made in cc)
+plain_is place d (Released id len) s (APart q) (suc k) r e none = absurd (no_place k r e)
+plain_is place d (PlainReleased len) s (ARequest b) zero r e none =
+    let same : record { place = place; of = None; message = b } ≡ r = cc in
+    ap (λ (w : Release). ARequest w.message) same
+plain_is place d (PlainReleased len) s (ARequest b) (suc k) r e none = absurd (no_place k r e)
+plain_is place d o s a k r e none = absurd (no_place k r e)
+
 -- what a large release of a delivery with this outcome tells
 record IsTold (c : Config) (h : History) (l : Lane) (o : Outcome) (r : Release)
     (t : Direction × Name) : Type 0 where

@@ -1,5 +1,5 @@
 -- What the events that open, send, finish and take owe, and that they pay it.
-use Rattle.std.proofs.Common.{◌≡◌, ◌∙◌, ap, sym, subst, refl, ℕ, zero, suc, ◌<◌, ◌≤◌, nat_lt, nat_le, ◌==◌, cond, Bool, true, false, not, ◌&&◌, ◌||◌, ◌⊎◌, inl, inr, List, [], ◌∷◌, length, Option, Some, None, if◌then◌else◌, arith}
+use Rattle.std.proofs.Common.{◌≡◌, ◌∙◌, ap, sym, subst, refl, ℕ, zero, suc, ◌≤◌, nat_lt, nat_le, ◌==◌, cond, Bool, true, false, not, ◌&&◌, ◌||◌, ◌⊎◌, inl, inr, List, [], ◌∷◌, length, Option, Some, None, if◌then◌else◌, arith}
 use Rattle.std.specs.List.{slice_get, find}
 use Rattle.std.specs.Option.{is_some}
 use Rattle.lpt_packet.specs.declared.direction.Direction.{Direction}
@@ -37,7 +37,7 @@ use Rattle.lpt_journal.proofs.Steps.{IsRead, IsSoundPacket, IsSound, IsTaken, Ow
 -- ---- opening
 
 -- a free sender has no opening
-free_current : (h : History) (d : Direction) (id : Name)
+pub free_current : (h : History) (d : Direction) (id : Name)
     → is_free (sender h d id) ≡ true
     → current h d id ≡ None
 free_current h d id free = go (current h d id) (is_over h d id) refl free where
@@ -50,7 +50,7 @@ free_current h d id free = go (current h d id) (is_over h d id) refl free where
   go (Some o) false e t = absurd cc
 
 -- the one opening that is found
-only_opening : (d : Direction) (id : Name) (o u : Opening)
+pub only_opening : (d : Direction) (id : Name) (o u : Opening)
     → find (is_opening_of d id) (o ∷ []) ≡ Some u
     → o ≡ u
 only_opening d id o u f = go (is_opening_of d id o) f where
@@ -97,7 +97,7 @@ open_owes c first h d id m sound accepted =
 -- ---- sending
 
 -- an open sender's message is that of the last opening
-open_current : (h : History) (d : Direction) (id : Name) (m : List ℕ) → sender h d id ≡ OpenSender m
+pub open_current : (h : History) (d : Direction) (id : Name) (m : List ℕ) → sender h d id ≡ OpenSender m
     → (o : Opening) × (current h d id ≡ Some o) × (o.message ≡ m)
 open_current h d id m e = go (current h d id) (is_over h d id) refl e where
   go : (o : Option Opening) (over : Bool) → current h d id ≡ o → sender_of o over ≡ OpenSender m

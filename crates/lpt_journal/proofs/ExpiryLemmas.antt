@@ -172,7 +172,7 @@ every_expired c first (ev ∷ es) good legal =
     let h = recorded c first es in
     let had = every c first es good legal.0 in
     let gone = every_expired c first es good legal.0 in (
-      expired_step c h (entry c first h ev) (owes c first h ev good had.0 legal.1) had.0
+      expired_step c h (entry c first h ev) (owes c first h ev good had.0 had.2 legal.1) had.0
           (owes_releases c first h ev good had.0 legal.1)
           (owes_expiry c first h ev had.0 gone.1 legal.1.accepted) had.1 gone.0,
       unheard_step c first h ev gone.1,

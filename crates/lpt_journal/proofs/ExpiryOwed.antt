@@ -9,16 +9,17 @@ use Rattle.lpt_events.specs.declared.config.Config.{Config}
 use Rattle.lpt_events.specs.declared.side.Side.{Side}
 use Rattle.lpt_events.specs.declared.side.Side.TheVariants.{Ground, Craft}
 use Rattle.lpt_events.specs.declared.event.Event.{Event}
-use Rattle.lpt_events.specs.declared.event.Event.TheVariants.{Expire}
+use Rattle.lpt_events.specs.declared.event.Event.TheVariants.{Expire, Commit}
 use Rattle.lpt_events.specs.declared.fault.StepFault.TheVariants.{NothingDue}
 use Rattle.lpt_events.specs.declared.entry.Release.{Release}
 use Rattle.lpt_journal.specs.Expiries.{Expiry, expiry_at, NothingIsKept}
 use Rattle.lpt_journal.specs.Due.{is_overdue, due}
 use Rattle.lpt_events.specs.Sides.{same_side, receiver_side, direction_to}
 use Rattle.lpt_journal.specs.Journal.{Recorded, History}
+use Rattle.lpt_journal.specs.Jobs.{JobName, ticket}
 use Rattle.lpt_journal.specs.Receivers.{ends, heard, has_parts, last_tick, is_closed}
 use Rattle.lpt_journal.specs.Releases.{released_by}
-use Rattle.lpt_journal.specs.Replies.{expired_now, entry}
+use Rattle.lpt_journal.specs.Replies.{expired_now, committed_now, entry}
 use Rattle.lpt_journal.specs.Refusals.{refusal}
 use Rattle.lpt_journal.proofs.ClosedLemmas.{open_opening}
 use Rattle.lpt_journal.proofs.DueLemmas.{Earliest, earliest_is, overdue_names, in_overdue}
@@ -68,6 +69,13 @@ open_still : (closed has : Bool) → (closed ≡ true → has ≡ false) → has
 open_still true has none e = let no : has ≡ false = none refl in absurd cc
 open_still false has none e = refl
 
+-- a commit says nothing of expiry
+none_expires : (t : Option JobName) (place j : ℕ) (e : Expiry)
+    → slice_get (expiry_at place (committed_now t)) j ≡ Some e
+    → ⊥
+none_expires None place j e f = no_place j e f
+none_expires (Some t) place j e f = no_place j e f
+
 -- an event that can happen pays what it owes for what expires
 pub owes_expiry : (c : Config) (first : Contents) (h : History) (ev : Event)
     → IsSound c h
@@ -113,4 +121,6 @@ owes_expiry c first h (Expire side) sound none can j e f =
             };
             releases_none = λ m r n. no_place m r n;
           })
+owes_expiry c first h (Commit w) sound none can j e f =
+    absurd (none_expires (ticket h w) (length h) j e f)
 owes_expiry c first h ev sound none can j e f = absurd (no_place j e f)

@@ -13,7 +13,7 @@ use Rattle.lpt_events.specs.Lanes.{lane_direction}
 use Rattle.lpt_events.specs.declared.config.Config.{Config}
 use Rattle.lpt_events.specs.Arrivals.{NotRead, APart}
 use Rattle.lpt_events.specs.declared.event.Event.{Event}
-use Rattle.lpt_events.specs.declared.event.Event.TheVariants.{Open, Send, Plain, Finish, Lose, Take, Deliver, Tick, Expire}
+use Rattle.lpt_events.specs.declared.event.Event.TheVariants.{Open, Send, Plain, Finish, Lose, Take, Deliver, Tick, Expire, Claim, Commit, Apply}
 use Rattle.lpt_events.specs.declared.fault.StepFault.TheVariants.{HandEmpty}
 use Rattle.lpt_events.specs.declared.outcome.Outcome.{Outcome}
 use Rattle.lpt_events.specs.declared.reply.Answer.TheVariants.{Delivered}
@@ -21,19 +21,23 @@ use Rattle.lpt_events.specs.Sides.{direction_to}
 use Rattle.lpt_journal.specs.Delivery.{outcome}
 use Rattle.lpt_journal.specs.Journal.{Recorded, History}
 use Rattle.lpt_journal.specs.Hands.{hand, arrival_at, in_hand}
+use Rattle.lpt_journal.specs.Jobs.{JobName, applied, ticket, memories}
 use Rattle.lpt_journal.specs.Releases.{released_by}
 use Rattle.lpt_events.specs.Configs.{IsConfig}
 use Rattle.lpt_journal.specs.Due.{due}
-use Rattle.lpt_journal.specs.Replies.{answer, expired_now, entry, recorded}
+use Rattle.lpt_journal.specs.Replies.{answer, expired_now, committed_now, entry, recorded}
 use Rattle.lpt_journal.specs.Refusals.{refusal}
 use Rattle.lpt_journal.specs.Legal.{IsEnabled, Legal}
-use Rattle.lpt_journal.proofs.JobLemmas.{memories_stay}
+use Rattle.lpt_journal.proofs.JobLemmas.{memories_follow}
 use Rattle.lpt_journal.specs.Headline.{PartsAreCurrent, EachIsLastOpened, IsSoundOutcome, IsSoundDelivery, DeliveriesAreSound, DeliveriesWereSound, Headline}
 use Rattle.lpt_journal.proofs.TestLemmas.{one_passes, no_place}
 use Rattle.lpt_journal.proofs.Steps.{IsSound, Owes}
 use Rattle.lpt_journal.proofs.Soundness.{hand_current, sound_step}
 use Rattle.lpt_journal.proofs.Events.{open_owes, send_owes, finish_owes, take_owes, lose_owes}
 use Rattle.lpt_journal.proofs.PlainEvents.{plain_owes}
+use Rattle.lpt_journal.proofs.WorkEvents.{claim_owes, commit_owes, apply_owes}
+use Rattle.lpt_journal.proofs.UpOctets.{AreUpOctets, up_octets_start, up_octets_step}
+use Rattle.lpt_journal.proofs.AnswerLengths.{answer_fits}
 use Rattle.lpt_journal.proofs.TimeEvents.{tick_owes, expire_owes}
 use Rattle.lpt_journal.proofs.Deliveries.{delivery_sound, deliver_owes}
 use Rattle.lpt_journal.proofs.Releasing.{OwesReleases, ArePast, opening_is}
@@ -53,23 +57,36 @@ delivered : (c : Config) (h : History) (l : Lane)
     → (n : ℕ) × (hand h l ≡ Some n)
 delivered c h l e = in_its_hand (hand h l) (one_passes (not (is_some (hand h l))) HandEmpty e)
 
+full : (c : Config) (h : History) (e : Event)
+    → refusal c h e ≡ None
+    → (l : Lane)
+    → e ≡ Deliver l
+    → (n : ℕ) × (hand h l ≡ Some n)
+full c h e can l is = delivered c h l (ap (refusal c h) (sym is) ∙ can)
+
 -- an event that can happen pays what it owes
 pub owes : (c : Config) (first : Contents) (h : History) (e : Event)
     → IsConfig c
     → IsSound c h
+    → AreUpOctets c h
     → IsEnabled c h e
     → Owes c h (entry c first h e)
-owes c first h (Open d id m) good sound can = open_owes c first h d id m sound can.accepted
-owes c first h (Send d id k) good sound can = send_owes c first h d id k good sound can.in_range.0 can.accepted
-owes c first h (Plain flags service subtype body) good sound can =
+owes c first h (Open d id m) good sound up can = open_owes c first h d id m sound can.accepted
+owes c first h (Send d id k) good sound up can = send_owes c first h d id k good sound can.in_range.0 can.accepted
+owes c first h (Plain flags service subtype body) good sound up can =
     plain_owes c first h flags service subtype body good sound can.in_range can.accepted
-owes c first h (Finish d id) good sound can = finish_owes c first h d id sound
-owes c first h (Lose n) good sound can = lose_owes c first h n sound
-owes c first h (Tick side) good sound can = tick_owes c first h side sound can.accepted
-owes c first h (Expire side) good sound can = expire_owes c first h side good sound
-owes c first h (Take l n) good sound can = take_owes c first h l n sound can.accepted
-owes c first h (Deliver l) good sound can =
+owes c first h (Finish d id) good sound up can = finish_owes c first h d id sound
+owes c first h (Lose n) good sound up can = lose_owes c first h n sound
+owes c first h (Tick side) good sound up can = tick_owes c first h side sound can.accepted
+owes c first h (Expire side) good sound up can = expire_owes c first h side good sound
+owes c first h (Claim w) good sound up can = claim_owes c first h w sound
+owes c first h (Commit w) good sound up can = commit_owes c first h w sound
+owes c first h (Take l n) good sound up can = take_owes c first h l n sound can.accepted
+owes c first h (Deliver l) good sound up can =
     let n = delivered c h l can.accepted in deliver_owes c first h l n.0 sound n.1
+owes c first h Apply good sound up can =
+    apply_owes c first h good sound
+    (λ r e. answer_fits c.apid (memories c first h) r.message (up.requests (applied h) r e))
 
 -- an event that releases nothing owes nothing for it
 quiet : (c : Config) (h : History) (x : Recorded) → released_by c x h ≡ [] → OwesReleases c h x
@@ -110,18 +127,21 @@ past_start c = record {
   once = λ j k r s o u e f is_o is_u same. absurd (no_place j r e);
 }
 
--- the history of every legal journal is sound, and so are its releases
+-- the history of every legal journal is sound, and so are its releases; what goes up is octets
 pub every : (c : Config) (first : Contents) (es : List Event)
     → IsConfig c
     → Legal c first es
     → IsSound c (recorded c first es) × ArePast c (recorded c first es)
-every c first [] good legal = (sound_start c good, past_start c)
+    × AreUpOctets c (recorded c first es)
+every c first [] good legal = (sound_start c good, past_start c, up_octets_start c)
 every c first (e ∷ es) good legal =
     let h = recorded c first es in
     let had = every c first es good legal.0 in
-    let pays = owes c first h e good had.0 legal.1 in (
+    let pays = owes c first h e good had.0 had.2 legal.1 in
+    let frees = owes_releases c first h e good had.0 legal.1 in (
       sound_step c h (entry c first h e) pays had.0,
-      past_step c first h (entry c first h e) pays had.0 (owes_releases c first h e good had.0 legal.1) had.1,
+      past_step c first h (entry c first h e) pays had.0 frees had.1,
+      up_octets_step c first h e had.0 legal.1 frees (full c h e legal.1.accepted) had.2,
     )
 
 -- ---- the main theorem
@@ -182,6 +202,10 @@ delivered_sound c first h (Expire side) o sound can is =
     none_delivered : (d : Option Name) → expired_now (direction_to side) d ≡ Delivered o → ⊥
     none_delivered None e = cc
     none_delivered (Some id) e = cc
+delivered_sound c first h (Commit w) o sound can is = absurd (none_delivered (ticket h w) is) where
+  none_delivered : (t : Option JobName) → committed_now t ≡ Delivered o → ⊥
+  none_delivered None e = cc
+  none_delivered (Some t) e = cc
 delivered_sound c first h e o sound can is = absurd cc
 
 each_delivered : (c : Config) (first : Contents) (es : List Event)
@@ -208,5 +232,5 @@ headline c first es good legal =
       once = all.1.once;
       deliveries = deliveries c h all.0;
       delivered = each_delivered c first es good legal;
-      memories = memories_stay c first h;
+      memories = memories_follow c first h;
     }

@@ -1,3 +1,4 @@
+pub mod AnswerLengths
 pub mod ClosedLemmas
 pub mod CountLemmas
 pub mod DeliveredReleases
@@ -9,12 +10,19 @@ pub mod ExpiryOwed
 pub mod HeadlineLemmas
 pub mod JobLemmas
 pub mod MapLemmas
+pub mod NewJobs
+pub mod OctetLemmas
 pub mod OnceLemmas
 pub mod OutcomeLemmas
 pub mod PlainEvents
 pub mod Releasing
 pub mod SentParts
+pub mod SentReports
 pub mod Soundness
 pub mod Steps
 pub mod TestLemmas
+pub mod TicketLemmas
+pub mod TicketSteps
 pub mod TimeEvents
+pub mod UpOctets
+pub mod WorkEvents

@@ -85,7 +85,8 @@ command_arrives apid p c fits e =
     ∙ ap (λ r. option_map_or (command_arrival p (spelling (packet_of c))) (result_ok r) NotRead)
     (tc_verdict-packet_of c fits)
 
-telemetry_arrives : (apid p : ℕ) (t : Telemetry)
+-- telemetry that fits arrives as it is read
+pub telemetry_arrives : (apid p : ℕ) (t : Telemetry)
     → TelemetryFits t
     → t.apid ≡ apid
     → arrival Ground apid p (spelling (tm_packet_of t)) ≡ telemetry_arrival p t

@@ -1,7 +1,7 @@
 -- What tests tell, and what lists have at a place.
-use Rattle.std.proofs.Common.{◌≡◌, ◌∙◌, ap, sym, refl, ℕ, zero, suc, ◌+◌, ◌<◌, ◌≤◌, nat_lt, nat_le, ◌==◌, Bool, true, false, cond, not, ◌&&◌, ◌||◌, ◌⊎◌, inl, inr, List, [], ◌∷◌, ◌++◌, length, Option, Some, None, arith, zero-add}
+use Rattle.std.proofs.Common.{◌≡◌, ◌∙◌, ap, sym, refl, ℕ, zero, suc, ◌+◌, ◌<◌, ◌≤◌, nat_lt, nat_le, ◌==◌, Bool, true, false, cond, if◌then◌else◌, not, ◌&&◌, ◌||◌, ◌⊎◌, inl, inr, List, [], ◌∷◌, ◌++◌, length, Option, Some, None, arith, zero-add}
 use Rattle.std.proofs.lemmas.Bool.Decides.{nat_tests}
-use Rattle.std.specs.List.{slice_get, find}
+use Rattle.std.specs.List.{slice_get, find, filter}
 use Rattle.std.specs.Option.{is_some}
 use Rattle.lpt_events.specs.declared.fault.StepFault.{StepFault}
 use Rattle.lpt_journal.specs.Journal.{with_all}
@@ -137,3 +137,24 @@ with_all_cases {A = A} xs (z ∷ ys) n y h = go xs n h where
 -- an empty list has nothing
 pub no_place : {A : Type 0} (k : ℕ) (y : A) → slice_get [] k ≡ Some y → ⊥
 no_place k y h = cc
+
+-- an element that passes a test is one of the list
+pub passed : {A : Type 0} (p : A → Bool) (xs : List A) (k : ℕ) (y : A)
+    → slice_get (filter p xs) k ≡ Some y
+    → (j : ℕ) × (slice_get xs j ≡ Some y) × (p y ≡ true)
+passed p [] k y e = absurd (no_place k y e)
+passed {A} p (x ∷ xs) k y e = go (p x) refl k e (passed p xs) where
+  later : (j : ℕ) × (slice_get xs j ≡ Some y) × (p y ≡ true)
+      → (j : ℕ) × (slice_get (x ∷ xs) j ≡ Some y) × (p y ≡ true)
+  later (j, f, t) = (suc j, f, t)
+
+  go : (b : Bool)
+      → p x ≡ b
+      → (k : ℕ)
+      → slice_get (if b then x ∷ filter p xs else filter p xs) k ≡ Some y
+      → ((k : ℕ) (y : A) → slice_get (filter p xs) k ≡ Some y
+      → (j : ℕ) × (slice_get xs j ≡ Some y) × (p y ≡ true))
+      → (j : ℕ) × (slice_get (x ∷ xs) j ≡ Some y) × (p y ≡ true)
+  go true t zero f rest = let same : x ≡ y = cc in (0, f, ap p (sym same) ∙ t)
+  go true t (suc k) f rest = later (rest k y f)
+  go false t k f rest = later (rest k y f)

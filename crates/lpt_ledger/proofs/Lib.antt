@@ -1,4 +1,4 @@
 mod ClosingLemmas
-mod FirstLemmas
+pub mod FirstLemmas
 mod MarksLemmas
 mod NextLemmas

@@ -1,0 +1,206 @@
+-- What claims, commits and executions owe, and that they pay it.
+use Rattle.std.proofs.Common.{◌≡◌, ◌∙◌, ap, sym, subst, refl, ℕ, zero, suc, ◌+◌, nat_lt, ◌≤◌, ◌<◌, Bool, true, false, not, if◌then◌else◌, inl, List, [], ◌∷◌, length, map, Option, Some, None, arith}
+use Rattle.std.proofs.lemmas.Bool.Decides.{nat_tests}
+use Rattle.std.specs.List.{slice_get, find, filter, AllByRecursion}
+use Rattle.std.specs.Option.{is_some, option_map_or}
+use Rattle.lpt_packet.specs.declared.direction.Direction.{Direction}
+use Rattle.lpt_packet.specs.declared.direction.Direction.TheVariants.{Down}
+use Rattle.lpt_packet.specs.Names.{Name}
+use Rattle.lpt_reception.specs.PartsOf.{IsMessage}
+use Rattle.lpt_ledger.specs.LeastFree.{name_count}
+use Rattle.lpt_ledger.proofs.FirstLemmas.{IsFirst, IsFirst-first_of_numbers}
+use Rattle.lpt_memory.specs.Answers.{AnswerFits}
+use Rattle.lpt_memory.specs.Memories.{Contents}
+use Rattle.lpt_events.specs.declared.config.Config.{Config}
+use Rattle.lpt_events.specs.Arrivals.{AReport, APart}
+use Rattle.lpt_events.specs.Configs.{IsConfig}
+use Rattle.lpt_events.specs.TelemetryKinds.{service_of, subtype_of}
+use Rattle.lpt_events.specs.declared.entry.Opening.{Opening}
+use Rattle.lpt_events.specs.declared.entry.Release.{Release}
+use Rattle.lpt_events.specs.declared.event.Event.TheVariants.{Claim, Commit, Apply}
+use Rattle.lpt_events.specs.declared.side.Side.TheVariants.{Craft}
+use Rattle.lpt_events.specs.declared.worker.Worker.{Worker}
+use Rattle.lpt_execution.specs.Endings.{is_small}
+use Rattle.lpt_execution.specs.Reporting.{message_reports, link_packets, large_packets, opened_of}
+use Rattle.lpt_execution.specs.declared.ending.Report.{Report}
+use Rattle.lpt_journal.specs.Executions.{effect_of, ending_of, front_reports, front_packets, opened_down}
+use Rattle.lpt_journal.specs.Jobs.{front_job, memories}
+use Rattle.lpt_journal.specs.Journal.{SentPacket, History}
+use Rattle.lpt_journal.specs.Receivers.{clock}
+use Rattle.lpt_journal.specs.Replies.{entry}
+use Rattle.lpt_journal.specs.Senders.{is_opening_of, sender, is_free, least_free, open_count, current, made}
+use Rattle.lpt_journal.proofs.Events.{free_current, only_opening}
+use Rattle.lpt_journal.proofs.SentReports.{IsSendable, IsReportMade, all_made, message_sendable, ending_fits}
+use Rattle.lpt_journal.proofs.Steps.{IsRead, IsSoundPacket, IsSound, IsNew, Owes, calm_owes, opening_found}
+use Rattle.lpt_journal.proofs.TestLemmas.{no_place}
+
+-- ---- claims and commits
+
+-- a claim is calm, and puts nothing
+pub claim_owes : (c : Config) (first : Contents) (h : History) (w : Worker)
+    → IsSound c h
+    → Owes c h (entry c first h (Claim w))
+claim_owes c first h w sound =
+    calm_owes c h (entry c first h (Claim w)) (record {
+      opens = refl;
+      retires = λ e j. refl;
+      takes = λ l. refl;
+      hears = λ e j. refl;
+      ticks = λ side. refl;
+    }) sound (λ k p f. absurd (no_place k p f))
+
+-- so is a commit
+pub commit_owes : (c : Config) (first : Contents) (h : History) (w : Worker)
+    → IsSound c h
+    → Owes c h (entry c first h (Commit w))
+commit_owes c first h w sound =
+    calm_owes c h (entry c first h (Commit w)) (record {
+      opens = refl;
+      retires = λ e j. refl;
+      takes = λ l. refl;
+      hears = λ e j. refl;
+      ticks = λ side. refl;
+    }) sound (λ k p f. absurd (no_place k p f))
+
+-- ---- executions
+
+-- the packet of a report is read, and is no part
+report_sound : (c : Config) (g : History) (x : Report × List ℕ)
+    → IsReportMade c x
+    → IsSoundPacket c g (record { direction = Down; octets = x.1 })
+report_sound c g x it = record {
+  is_read = subst (λ a. IsRead a) (sym it.arrives) tt;
+  part = λ q e.
+      let no : AReport (service_of x.0.kind) (subtype_of x.0.kind) ≡ APart q =
+      sym it.arrives ∙ e in absurd cc;
+}
+
+-- all packets that go on the link are
+puts_sound : (c : Config) (g : History) (xs : List (Report × List ℕ))
+    → AllByRecursion (IsReportMade c) xs
+    → (k : ℕ) (p : SentPacket)
+    → slice_get (map (λ b. record { direction = Down; octets = b }) (link_packets c.part_size xs)) k
+    ≡ Some p
+    → IsSoundPacket c g p
+puts_sound c g [] all k p f = absurd (no_place k p f)
+puts_sound c g (x ∷ xs) all k p f =
+    go (is_small c.part_size (length x.0.body)) k f (puts_sound c g xs all.1)
+  where
+    rest : List SentPacket
+    rest = map (λ b. record { direction = Down; octets = b }) (link_packets c.part_size xs)
+
+    go : (b : Bool) (k : ℕ)
+        → slice_get (map (λ b. record { direction = Down; octets = b })
+        (map (λ x. x.1) (if b then x ∷ filter (λ x. is_small c.part_size (length x.0.body)) xs
+        else filter (λ x. is_small c.part_size (length x.0.body)) xs))) k ≡ Some p
+        → ((k : ℕ) (p : SentPacket) → slice_get (map (λ b. record { direction = Down; octets = b })
+        (link_packets c.part_size xs)) k ≡ Some p → IsSoundPacket c g p)
+        → IsSoundPacket c g p
+    go true zero f others =
+        let same : record { direction = Down; octets = x.1 } ≡ p = cc in
+        subst (λ y. IsSoundPacket c g y) same (report_sound c g x all.0)
+    go true (suc k) f others = others k p f
+    go false k f others = others k p f
+
+-- a packet that is too long for the link can be split
+large_splits : (p len total : ℕ)
+    → is_small p len ≡ false
+    → len ≤ 65523
+    → total ≡ len + 19
+    → (p < total) × (total ≤ 65542)
+large_splits p len total large fits long =
+    (grind (arith, nat_tests), omega (arith, fits, long))
+
+large_message : (c : Config) (xs : List (Report × List ℕ)) (b : List ℕ) (bs : List (List ℕ))
+    → AllByRecursion (IsReportMade c) xs
+    → large_packets c.part_size xs ≡ b ∷ bs
+    → IsMessage b c.part_size
+large_message c [] b bs all e = absurd cc
+large_message c (x ∷ xs) b bs all e =
+    go (is_small c.part_size (length x.0.body)) refl e (large_message c xs b bs all.1)
+  where
+    go : (t : Bool)
+        → is_small c.part_size (length x.0.body) ≡ t
+        → map (λ x. x.1) (if not t
+        then x ∷ filter (λ x. not (is_small c.part_size (length x.0.body))) xs
+        else filter (λ x. not (is_small c.part_size (length x.0.body))) xs) ≡ b ∷ bs
+        → (large_packets c.part_size xs ≡ b ∷ bs → IsMessage b c.part_size)
+        → IsMessage b c.part_size
+    go true s f others = others f
+    go false s f others =
+        let same : x.1 ≡ b = cc in
+        let fits = large_splits c.part_size (length x.0.body) (length x.1) s all.0.fits all.0.long in
+        subst (λ m. IsMessage m c.part_size) same (record { long = fits.0; short = fits.1 })
+
+-- the least free name is free
+least_is_free : (h : History) (d : Direction) (id : Name)
+    → least_free h d ≡ Some id
+    → is_free (sender h d id) ≡ true
+least_is_free h d id e =
+    (subst (λ o. IsFirst name_count 0 (λ i. is_free (sender h d i)) o) e
+    (IsFirst-first_of_numbers name_count 0 (λ i. is_free (sender h d i)))).passes
+
+opens_new : (c : Config) (h : History) (xs : List (Report × List ℕ))
+    → AllByRecursion (IsReportMade c) xs
+    → (d : Direction) (id : Name) (o : Opening)
+    → find (is_opening_of d id)
+    (opened_down (length h) (opened_of (least_free h Down) (large_packets c.part_size xs))) ≡ Some o
+    → IsNew c h d id o
+opens_new c h xs all d id o f =
+    go (least_free h Down) (large_packets c.part_size xs) refl refl f
+  where
+    go : (i : Option Name) (bs : List (List ℕ))
+        → least_free h Down ≡ i
+        → large_packets c.part_size xs ≡ bs
+        → find (is_opening_of d id) (opened_down (length h) (opened_of i bs)) ≡ Some o
+        → IsNew c h d id o
+    go None bs free large k = absurd cc
+    go (Some i) [] free large k = absurd cc
+    go (Some i) (b ∷ bs) free large k =
+        let u : Opening =
+        record { place = length h; direction = Down; id = i; message = b } in
+        let found = opening_found d id (u ∷ []) o k in
+        let same : u ≡ o = only_opening d id u o k in
+        record {
+          free =
+              (λ j. current h (sym found.0 j) (sym found.1 j))
+              ∙ ap (λ (v : Opening). current h v.direction v.id) (sym same)
+              ∙ free_current h Down i (least_is_free h Down i free);
+          place = ap (λ (v : Opening). v.place) (sym same);
+          splits =
+              subst (λ (v : Opening). IsMessage v.message c.part_size) same
+              (large_message c xs b bs all large);
+        }
+
+-- an execution pays what it owes, where the answer to the oldest request fits a packet
+pub apply_owes : (c : Config) (first : Contents) (h : History)
+    → IsConfig c
+    → IsSound c h
+    → ((r : Release)
+    → front_job c h ≡ Some r
+    → AnswerFits (effect_of c (memories c first h) r.message))
+    → Owes c h (entry c first h Apply)
+apply_owes c first h good sound fits =
+    let xs = front_packets c first h in
+    let all : AllByRecursion (IsReportMade c) xs =
+    all_made c (made h Down) (clock c h Craft) (front_reports c first h) good (sound.clocks Craft)
+    (sendable (front_job c h) refl) in
+    record {
+      opens = opens_new c h xs all;
+      retires = λ e i r. absurd cc;
+      puts = puts_sound c (entry c first h Apply ∷ h) xs all;
+      takes = λ l n f. inl f;
+      hears = λ e i. inl refl;
+      clocks = sound.clocks;
+    }
+  where
+    sendable : (o : Option Release)
+        → front_job c h ≡ o
+        → AllByRecursion IsSendable
+        (option_map_or (λ (r : Release). message_reports c.apid r.message
+        (ending_of c first h r.message)) o [])
+    sendable None e = tt
+    sendable (Some r) e =
+        message_sendable c.apid r.message (ending_of c first h r.message)
+        (ending_fits c.part_size (is_some (least_free h Down)) (nat_lt (open_count h Down) c.outgoing)
+        (effect_of c (memories c first h) r.message) (fits r e))
