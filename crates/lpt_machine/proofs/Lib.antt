@@ -1,4 +1,5 @@
 pub mod ArrivalsAgree
+pub mod Arriving
 pub mod Beginning
 pub mod DeliveredShown
 pub mod DueShown
@@ -6,9 +7,10 @@ pub mod EventsShown
 pub mod ExpiredShown
 pub mod Fields
 pub mod Follows
+pub mod JobsShown
 pub mod LinkShown
 pub mod MadeShown
-pub mod NoAborts
+pub mod QueueLemmas
 pub mod ReceivingShown
 pub mod Refusals
 pub mod Replies
