@@ -16,3 +16,4 @@ pub mod Refusals
 pub mod Replies
 pub mod ReportShown
 pub mod SendingShown
+pub mod WorkersShown
