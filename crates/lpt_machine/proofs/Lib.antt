@@ -14,6 +14,8 @@ pub mod QueueLemmas
 pub mod ReceivingShown
 pub mod Refusals
 pub mod Replies
+pub mod ReportLengths
 pub mod ReportShown
+pub mod ReportsMade
 pub mod SendingShown
 pub mod WorkersShown
