@@ -31,6 +31,7 @@ use Rattle.lpt_machine.specs.Shows.{Shows, ShowsReceiving, closed_mark, sent_pac
 use Rattle.lpt_machine.specs.State.{State, arrival_held}
 use Rattle.lpt_machine.specs.Views.{views, receiving_view}
 use Rattle.lpt_machine.proofs.ReceivingShown.{full_shown, parts_shown}
+use Rattle.lpt_memory.specs.Memories.{Contents}
 
 -- ---- a part
 
@@ -49,15 +50,16 @@ made_of full contra again whole t id before with_it now =
     else (Kept, with_entry t id with_it now)
 
 -- the end after a part, and its answer, by all tests
-abbrev pub delivery : (closed full contra again whole : Bool)
+abbrev pub delivery : Side
+    → (closed full contra again whole : Bool)
     → Option Telemetry
     → NodeData
     → ReceiverState
     → Piece
     → (before with_it : Parts)
     → NodeData × Accepted
-delivery closed full contra again whole head d r q before with_it =
-    after_received d q
+delivery side closed full contra again whole head d r q before with_it =
+    after_received side d q
     (if_free (state_of (closed_mark closed)) r
     (received_from head r q.id with_it
     (made_of full contra again whole (table_in r) q.id before with_it d.clock)))
@@ -69,13 +71,13 @@ part_delivered : (side : Side) (c : Config) (d : NodeData) (q : Piece) (closed f
     → is_full (table_in (receiver_of c d.receiving)) q.id ≡ full
     → parts_at (table_in (receiver_of c d.receiving)) q.id ≡ before
     → parted side c d q
-    ≡ delivery closed full (contradicts before q.number (kept q))
+    ≡ delivery side closed full (contradicts before q.number (kept q))
     (is_some (maps.get before q.number)) (is_whole (with_piece before q)) (abort_head side c d) d
     (receiver_of c d.receiving) q before (with_piece before q)
 unfolding received offered
 part_delivered side c d q closed full before e1 e2 e3 =
     let r = receiver_of c d.receiving in
-    λ i. after_received d q
+    λ i. after_received side d q
     (if_free (state_of (e1 i)) r
     (received_from (abort_head side c d) r q.id (with_piece (e3 i) q)
     (made_of (e2 i) (contradicts (e3 i) q.number (kept q)) (is_some (maps.get (e3 i) q.number))
@@ -85,7 +87,7 @@ part_delivered side c d q closed full before e1 e2 e3 =
 abbrev pub delivery_told : Config → History → Direction → NodeData → Piece → NodeData × Accepted
 delivery_told c h w d q =
     let s = heard c h w q.id in
-    delivery (is_closed h w q.id)
+    delivery (receiver_side w) (is_closed h w q.id)
     (not (has_parts s) && nat_le c.receptions (reception_count c h w))
     (contradicts s q.number (kept q)) (is_some (maps.get s q.number)) (is_whole (with_piece s q))
     (abort_head (receiver_side w) c d) d (receiver_of c d.receiving) q s (with_piece s q)
@@ -100,10 +102,10 @@ part_agrees c h w d q own =
 -- ---- what is in a hand
 
 -- what the link has in a lane's hand is to its receiver what the journal says
-pub arrival_agrees : (c : Config) (s : State) (h : History) (l : Lane)
-    → Shows s (views c h)
+pub arrival_agrees : (c : Config) (first : Contents) (s : State) (h : History) (l : Lane)
+    → Shows s (views c first h)
     → arrival_held c (lane_direction l) (packet_in_hand s.link l) ≡ in_hand c h l
-arrival_agrees c s h l k =
+arrival_agrees c first s h l k =
     ap (λ o. arrival_held c w (option_and_then (slice_get s.link.packets) o)) (k.link.hands l)
     ∙ go (hand h l) where
       w : Direction

@@ -17,7 +17,11 @@ use Rattle.lpt_events.specs.declared.telemetry.TelemetryKind.TheVariants.{Accept
 use Rattle.lpt_node.specs.Counting.{counter_of, no_types}
 use Rattle.lpt_node.specs.Nodes.{no_data}
 use Rattle.lpt_journal.proofs.CountLemmas.{none_open}
-use Rattle.lpt_machine.specs.Shows.{Shows, ShowsSending, ShowsTypes, ShowsReceiving}
+use Rattle.lpt_events.specs.declared.worker.Worker.{Worker}
+use Rattle.lpt_events.specs.declared.worker.Worker.TheVariants.{W1, W2}
+use Rattle.lpt_memory.specs.Memories.{Contents}
+use Rattle.lpt_machine.specs.Shows.{Shows, ShowsSending, ShowsTypes, ShowsReceiving, ShowsTicket}
+use Rattle.lpt_machine.specs.Tickets.{no_tickets, ticket_of}
 use Rattle.lpt_machine.specs.State.{no_state}
 use Rattle.lpt_machine.specs.Views.{views, sending_view, receiving_view}
 
@@ -48,9 +52,13 @@ no_counter : (k : TelemetryKind) → counter_of no_types k ≡ 0
 no_counter Accepted = refl
 no_counter k = refl
 
+no_ticket : (w : Worker) → ShowsTicket (ticket_of no_tickets w) 0 [] None
+no_ticket W1 = record { name = refl; message = λ x e now. absurd cc }
+no_ticket W2 = record { name = refl; message = λ x e now. absurd cc }
+
 -- where nothing has happened, the state shows it
-pub shows_none : (c : Config) → Shows (no_state c) (views c [])
-shows_none c = record {
+pub shows_none : (c : Config) (first : Contents) → Shows (no_state c first) (views c first [])
+shows_none c first = record {
   ground = record {
     sending = no_sending c Ground Up tt;
     receiving = no_receiving c Down;
@@ -67,6 +75,10 @@ shows_none c = record {
     lost_before = λ n late. refl;
     hands = no_hand;
   };
+  jobs = record { same_boot = refl; first = refl; jobs = refl };
+  tickets = no_ticket;
+  memories = refl;
+  sizes = refl;
   opened = refl;
   released = refl;
 }

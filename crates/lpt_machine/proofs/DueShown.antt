@@ -25,6 +25,7 @@ use Rattle.lpt_machine.specs.State.{State, end_of}
 use Rattle.lpt_machine.specs.Views.{views, receiving_view}
 use Rattle.lpt_journal.proofs.TestLemmas.{and_l, and_r}
 use Rattle.lpt_journal.proofs.DueLemmas.{Earliest, earliest_is, overdue_names, in_overdue, le_true, true_le}
+use Rattle.lpt_memory.specs.Memories.{Contents}
 
 -- ---- what is due
 
@@ -96,10 +97,10 @@ module _ (c : Config) (h : History) (d : Direction) (v : Receiving) (now : ℕ)
       (is_due (due c h d) (earliest_is (last_tick c h d) (overdue_names c h d)))
 
 -- what is due at an end is what the journal says
-pub due_shown : (c : Config) (s : State) (h : History) (side : Side)
-    → Shows s (views c h)
+pub due_shown : (c : Config) (first : Contents) (s : State) (h : History) (side : Side)
+    → Shows s (views c first h)
     → node_due c (end_of s side) ≡ due c h (direction_to side)
-due_shown c s h Ground k =
+due_shown c first s h Ground k =
     due_agrees c h Down s.on_ground.receiving s.on_ground.clock k.ground.receiving k.ground.clock
-due_shown c s h Craft k =
+due_shown c first s h Craft k =
     due_agrees c h Up s.on_craft.receiving s.on_craft.clock k.craft.receiving k.craft.clock

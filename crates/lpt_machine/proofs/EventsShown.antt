@@ -12,16 +12,18 @@ use Rattle.lpt_events.specs.declared.fault.StepFault.TheVariants.{NotOpen, NoSuc
 use Rattle.lpt_events.specs.declared.side.Side.TheVariants.{Ground, Craft}
 use Rattle.lpt_events.specs.Sides.{direction_to}
 use Rattle.lpt_node.specs.Times.{expired_of}
+use Rattle.lpt_events.specs.Configs.{IsConfig}
 use Rattle.lpt_journal.specs.Due.{due}
+use Rattle.lpt_journal.specs.Jobs.{ticket}
 use Rattle.lpt_journal.specs.Journal.{History}
 use Rattle.lpt_journal.specs.Link.{sent, is_held, is_lost}
 use Rattle.lpt_journal.specs.Replies.{entry, reply}
 use Rattle.lpt_journal.specs.Refusals.{refusal}
-use Rattle.lpt_journal.specs.Senders.{sender, is_open}
+use Rattle.lpt_journal.specs.Senders.{sender, is_open, made}
 use Rattle.lpt_journal.proofs.TestLemmas.{and_l, not_false, one_passes, two_pass}
-use Rattle.lpt_machine.specs.Shows.{Shows}
+use Rattle.lpt_machine.specs.Shows.{Shows, JobsFit}
 use Rattle.lpt_machine.specs.State.{State, after, end_of, expired_on}
-use Rattle.lpt_machine.specs.Views.{views}
+use Rattle.lpt_machine.specs.Views.{views, jobs_view}
 use Rattle.lpt_machine.proofs.DeliveredShown.{delivered_shown}
 use Rattle.lpt_machine.proofs.DueShown.{due_shown}
 use Rattle.lpt_machine.proofs.ExpiredShown.{expired_shown, with_expiry}
@@ -38,39 +40,42 @@ lt_is : (a b : ℕ) → nat_lt a b ≡ true → a < b
 lt_is a b e = grind (arith, nat_tests)
 
 pub event_shown : (c : Config) (first : Contents) (s : State) (h : History) (e : Event)
-    → Shows s (views c h)
+    → IsConfig c
+    → Shows s (views c first h)
+    → JobsFit (jobs_view c first h) (ticket h)
     → refusal c h e ≡ None
-    → Shows (after c (length h) s e).0 (views c (entry c first h e ∷ h))
-event_shown c first s h (Open Up id m) k e =
+    → Shows (after c (length h) s e).0 (views c first (entry c first h e ∷ h))
+event_shown c first s h (Open Up id m) in_range k fits e =
     let o = opening h Up id m in
-    with_opened (with_sending Ground k (opened_shown h Up id o k.ground.sending))
+    with_opened (with_sending Ground k (opened_shown h Up (made h Up) id o k.ground.sending))
     (ap (λ os. os ++ o ∷ []) k.opened)
-event_shown c first s h (Open Down id m) k e =
+event_shown c first s h (Open Down id m) in_range k fits e =
     let o = opening h Down id m in
-    with_opened (with_sending Craft k (opened_shown h Down id o k.craft.sending))
+    with_opened (with_sending Craft k (opened_shown h Down (made h Down) id o k.craft.sending))
     (ap (λ os. os ++ o ∷ []) k.opened)
-event_shown c first s h (Send d id n) k e =
-    sent_shown c s h d id n (reply c first h (Send d id n)) (sender h d id) _
+event_shown c first s h (Send d id n) in_range k fits e =
+    sent_shown c first s h d id n (length (sent h)) (reply c first h (Send d id n)).puts
+    (sender h d id) _
     (not_false (is_open (sender h d id)) (two_pass _ _ NotOpen NoSuchPart e).0)
-    ((sending_at c h d k).messages id) k
-event_shown c first s h (Plain flags service subtype body) k e =
-    plain_shown c s h flags service subtype body k
-event_shown c first s h (Finish Up id) k e =
+    ((sending_at c first h d k).messages id) k
+event_shown c first s h (Plain flags service subtype body) in_range k fits e =
+    plain_shown c first s h flags service subtype body k
+event_shown c first s h (Finish Up id) in_range k fits e =
     with_sending Ground k (closed_shown h Up id k.ground.sending)
-event_shown c first s h (Finish Down id) k e =
+event_shown c first s h (Finish Down id) in_range k fits e =
     with_sending Craft k (closed_shown h Down id k.craft.sending)
-event_shown c first s h (Lose n) k e =
+event_shown c first s h (Lose n) in_range k fits e =
     let held : is_held h n ≡ true = not_false (is_held h n) (one_passes _ NotHeld e) in
     let there : nat_lt n (length (sent h)) ≡ true =
     and_l (nat_lt n (length (sent h))) (not (is_lost h n)) held in
     with_link k (link_lost n (lt_is n (length (sent h)) there) k.link)
-event_shown c first s h (Take l n) k e = with_link k (link_taken l n k.link)
-event_shown c first s h (Deliver l) k e = delivered_shown c first s h l k
-event_shown c first s h (Tick Ground) k e = with_clock Ground k (ap (λ n. n + 1) k.ground.clock)
-event_shown c first s h (Tick Craft) k e = with_clock Craft k (ap (λ n. n + 1) k.craft.clock)
-event_shown c first s h (Expire side) k e =
+event_shown c first s h (Take l n) in_range k fits e = with_link k (link_taken l n k.link)
+event_shown c first s h (Deliver l) in_range k fits e = delivered_shown c first s h l k fits
+event_shown c first s h (Tick Ground) in_range k fits e = with_clock Ground k (ap (λ n. n + 1) k.ground.clock)
+event_shown c first s h (Tick Craft) in_range k fits e = with_clock Craft k (ap (λ n. n + 1) k.craft.clock)
+event_shown c first s h (Expire side) in_range k fits e =
     let o = due c h (direction_to side) in
     let told = (reply c first h (Expire side)).puts in
     subst (λ (x : Option Name). Shows (expired_on s side (expired_of side c (end_of s side) x)).0
-    (views c (with_expiry c h side o told))) (sym (due_shown c s h side k))
-    (expired_shown c s h side told o (not_false (is_some o) (one_passes _ NothingDue e)) k)
+    (views c first (with_expiry c h side o told))) (sym (due_shown c first s h side k))
+    (expired_shown c first s h side told o (not_false (is_some o) (one_passes _ NothingDue e)) k)

@@ -17,6 +17,7 @@ use Rattle.lpt_machine.specs.Views.{views}
 use Rattle.lpt_machine.proofs.Fields.{with_receiving}
 use Rattle.lpt_machine.proofs.ReceivingShown.{ended_shown}
 use Rattle.lpt_machine.proofs.ReportShown.{report_shown}
+use Rattle.lpt_memory.specs.Memories.{Contents}
 
 -- the journal with the end of a reception, or of none
 abbrev pub with_expiry : Config → History → Side → Option Name → Option Puts → History
@@ -28,14 +29,14 @@ with_expiry c h side o p = record {
 } ∷ h
 
 -- the reception of a name is given up
-pub expired_shown : (c : Config) (s : State) (h : History) (side : Side) (p : Option Puts)
+pub expired_shown : (c : Config) (first : Contents) (s : State) (h : History) (side : Side) (p : Option Puts)
     (o : Option Name)
     → is_some o ≡ true
-    → Shows s (views c h)
+    → Shows s (views c first h)
     → Shows (expired_on s side (expired_of side c (end_of s side) o)).0
-    (views c (with_expiry c h side o p))
-expired_shown c s h side p None some k = absurd cc
-expired_shown c s h Ground p (Some id) some k =
+    (views c first (with_expiry c h side o p))
+expired_shown c first s h side p None some k = absurd cc
+expired_shown c first s h Ground p (Some id) some k =
     with_receiving Ground k (ended_shown id k.ground.receiving)
-expired_shown c s h Craft p (Some id) some k =
+expired_shown c first s h Craft p (Some id) some k =
     report_shown c id reason.Expired (with_receiving Craft k (ended_shown id k.craft.receiving))

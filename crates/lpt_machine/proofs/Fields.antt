@@ -1,5 +1,5 @@
 -- A state shows a view with one field changed where the state has that field changed as well.
-use Rattle.std.specs.Prelude.{◌≡◌, ℕ, List}
+use Rattle.std.proofs.Common.{◌≡◌, ◌∙◌, ℕ, List, Option}
 use Rattle.lpt_packet.specs.declared.direction.Direction.{Direction}
 use Rattle.lpt_packet.specs.declared.direction.Direction.TheVariants.{Up, Down}
 use Rattle.lpt_events.specs.declared.config.Config.{Config}
@@ -8,13 +8,18 @@ use Rattle.lpt_events.specs.declared.entry.Release.{Release}
 use Rattle.lpt_events.specs.declared.side.Side.{Side}
 use Rattle.lpt_events.specs.declared.side.Side.TheVariants.{Ground, Craft}
 use Rattle.lpt_events.specs.Sides.{sender_side, receiver_side}
+use Rattle.lpt_events.specs.declared.worker.Worker.{Worker}
+use Rattle.lpt_jobs.specs.Jobs.{Jobs}
+use Rattle.lpt_memory.specs.Memories.{Contents, sizes_of}
 use Rattle.lpt_link.specs.Links.{LinkData}
 use Rattle.lpt_node.specs.Nodes.{NodeData, Sending, Receiving}
 use Rattle.lpt_journal.specs.Journal.{History}
+use Rattle.lpt_journal.specs.Jobs.{JobName}
 use Rattle.lpt_journal.specs.Receivers.{clock}
-use Rattle.lpt_machine.specs.Shows.{Shows, ShowsEnd, ShowsLink, ShowsSending, ShowsReceiving}
+use Rattle.lpt_machine.specs.Shows.{Shows, ShowsEnd, ShowsLink, ShowsJobs, ShowsTicket, ShowsSending, ShowsReceiving}
 use Rattle.lpt_machine.specs.State.{State, end_of, with_end}
-use Rattle.lpt_machine.specs.Views.{Views, EndView, LinkView, SendingView, ReceivingView, view_of, with_view, views, sending_view, receiving_view}
+use Rattle.lpt_machine.specs.Tickets.{Tickets, ticket_of}
+use Rattle.lpt_machine.specs.Views.{Views, JobsView, EndView, LinkView, SendingView, ReceivingView, view_of, with_view, views, sending_view, receiving_view}
 
 -- ---- fields that are read
 
@@ -26,25 +31,25 @@ end_at Ground k = k.ground
 end_at Craft k = k.craft
 
 -- what is sent in a direction is shown at the end that sends in it
-pub sending_at : (c : Config) {s : State} (h : History) (w : Direction)
-    → Shows s (views c h)
+pub sending_at : (c : Config) (first : Contents) {s : State} (h : History) (w : Direction)
+    → Shows s (views c first h)
     → ShowsSending (sender_side w) (end_of s (sender_side w)).sending (sending_view h w)
-sending_at c h Up k = k.ground.sending
-sending_at c h Down k = k.craft.sending
+sending_at c first h Up k = k.ground.sending
+sending_at c first h Down k = k.craft.sending
 
 -- what is received in a direction is shown at the end that receives in it
-pub receiving_at : (c : Config) {s : State} (h : History) (w : Direction)
-    → Shows s (views c h)
+pub receiving_at : (c : Config) (first : Contents) {s : State} (h : History) (w : Direction)
+    → Shows s (views c first h)
     → ShowsReceiving (end_of s (receiver_side w)).receiving (receiving_view c h w)
-receiving_at c h Up k = k.craft.receiving
-receiving_at c h Down k = k.ground.receiving
+receiving_at c first h Up k = k.craft.receiving
+receiving_at c first h Down k = k.ground.receiving
 
 -- the clock of an end is shown
-pub clock_at : (c : Config) {s : State} (h : History) (side : Side)
-    → Shows s (views c h)
+pub clock_at : (c : Config) (first : Contents) {s : State} (h : History) (side : Side)
+    → Shows s (views c first h)
     → (end_of s side).clock ≡ clock c h side
-clock_at c h Ground k = k.ground.clock
-clock_at c h Craft k = k.craft.clock
+clock_at c first h Ground k = k.ground.clock
+clock_at c first h Craft k = k.craft.clock
 
 -- ---- fields that change
 
@@ -56,6 +61,10 @@ with_link k f = record {
   ground = k.ground;
   craft = k.craft;
   link = f;
+  jobs = k.jobs;
+  tickets = k.tickets;
+  memories = k.memories;
+  sizes = k.sizes;
   opened = k.opened;
   released = k.released;
 }
@@ -68,6 +77,10 @@ with_opened k f = record {
   ground = k.ground;
   craft = k.craft;
   link = k.link;
+  jobs = k.jobs;
+  tickets = k.tickets;
+  memories = k.memories;
+  sizes = k.sizes;
   opened = f;
   released = k.released;
 }
@@ -80,26 +93,49 @@ with_released k f = record {
   ground = k.ground;
   craft = k.craft;
   link = k.link;
+  jobs = k.jobs;
+  tickets = k.tickets;
+  memories = k.memories;
+  sizes = k.sizes;
   opened = k.opened;
   released = f;
 }
 
--- one end
-with_side : {s : State} {v : Views} (side : Side) {d : NodeData} {y : EndView}
+-- the memories
+pub with_memories : {s : State} {v : Views} {ms ms' : Contents}
     → Shows s v
-    → ShowsEnd side d y
-    → Shows (with_end s side d) (with_view v side y)
-with_side Ground k f = record {
-  ground = f;
+    → ms ≡ ms'
+    → sizes_of ms' ≡ sizes_of v.memories
+    → Shows (record s { memories = ms }) (record v { memories = ms' })
+with_memories k f same = record {
+  ground = k.ground;
   craft = k.craft;
   link = k.link;
+  jobs = k.jobs;
+  tickets = k.tickets;
+  memories = f;
+  sizes = same ∙ k.sizes;
   opened = k.opened;
   released = k.released;
 }
-with_side Craft k f = record {
+
+-- the spacecraft's jobs, and who has them
+pub with_jobs : {s : State} {v : Views} {x : Jobs} {y : JobsView} {t : Tickets}
+    {of : Worker → Option JobName}
+    → Shows s v
+    → ShowsJobs s.on_craft.boot x y
+    → ((w : Worker) → ShowsTicket (ticket_of t w) y.boot y.messages (of w))
+    → v.jobs.sizes ≡ y.sizes
+    → Shows (record s { on_craft = record s.on_craft { jobs = x }; tickets = t })
+    (record v { jobs = y; tickets = of })
+with_jobs k f g same = record {
   ground = k.ground;
-  craft = f;
+  craft = record { sending = k.craft.sending; receiving = k.craft.receiving; clock = k.craft.clock };
   link = k.link;
+  jobs = f;
+  tickets = g;
+  memories = k.memories;
+  sizes = k.sizes ∙ same;
   opened = k.opened;
   released = k.released;
 }
@@ -110,9 +146,28 @@ pub with_sending : {s : State} {v : Views} (side : Side) {x : Sending} {y : Send
     → ShowsSending side x y
     → Shows (with_end s side (record (end_of s side) { sending = x }))
     (with_view v side (record (view_of v side) { sending = y }))
-with_sending side k f =
-    let own = end_at side k in
-    with_side side k (record { sending = f; receiving = own.receiving; clock = own.clock })
+with_sending Ground k f = record {
+  ground = record { sending = f; receiving = k.ground.receiving; clock = k.ground.clock };
+  craft = k.craft;
+  link = k.link;
+  jobs = k.jobs;
+  tickets = k.tickets;
+  memories = k.memories;
+  sizes = k.sizes;
+  opened = k.opened;
+  released = k.released;
+}
+with_sending Craft k f = record {
+  ground = k.ground;
+  craft = record { sending = f; receiving = k.craft.receiving; clock = k.craft.clock };
+  link = k.link;
+  jobs = k.jobs;
+  tickets = k.tickets;
+  memories = k.memories;
+  sizes = k.sizes;
+  opened = k.opened;
+  released = k.released;
+}
 
 -- what an end receives
 pub with_receiving : {s : State} {v : Views} (side : Side) {x : Receiving} {y : ReceivingView}
@@ -120,9 +175,28 @@ pub with_receiving : {s : State} {v : Views} (side : Side) {x : Receiving} {y : 
     → ShowsReceiving x y
     → Shows (with_end s side (record (end_of s side) { receiving = x }))
     (with_view v side (record (view_of v side) { receiving = y }))
-with_receiving side k f =
-    let own = end_at side k in
-    with_side side k (record { sending = own.sending; receiving = f; clock = own.clock })
+with_receiving Ground k f = record {
+  ground = record { sending = k.ground.sending; receiving = f; clock = k.ground.clock };
+  craft = k.craft;
+  link = k.link;
+  jobs = k.jobs;
+  tickets = k.tickets;
+  memories = k.memories;
+  sizes = k.sizes;
+  opened = k.opened;
+  released = k.released;
+}
+with_receiving Craft k f = record {
+  ground = k.ground;
+  craft = record { sending = k.craft.sending; receiving = f; clock = k.craft.clock };
+  link = k.link;
+  jobs = k.jobs;
+  tickets = k.tickets;
+  memories = k.memories;
+  sizes = k.sizes;
+  opened = k.opened;
+  released = k.released;
+}
 
 -- an end's clock
 pub with_clock : {s : State} {v : Views} (side : Side) {n n' : ℕ}
@@ -130,6 +204,25 @@ pub with_clock : {s : State} {v : Views} (side : Side) {n n' : ℕ}
     → n ≡ n'
     → Shows (with_end s side (record (end_of s side) { clock = n }))
     (with_view v side (record (view_of v side) { clock = n' }))
-with_clock side k f =
-    let own = end_at side k in
-    with_side side k (record { sending = own.sending; receiving = own.receiving; clock = f })
+with_clock Ground k f = record {
+  ground = record { sending = k.ground.sending; receiving = k.ground.receiving; clock = f };
+  craft = k.craft;
+  link = k.link;
+  jobs = k.jobs;
+  tickets = k.tickets;
+  memories = k.memories;
+  sizes = k.sizes;
+  opened = k.opened;
+  released = k.released;
+}
+with_clock Craft k f = record {
+  ground = k.ground;
+  craft = record { sending = k.craft.sending; receiving = k.craft.receiving; clock = f };
+  link = k.link;
+  jobs = k.jobs;
+  tickets = k.tickets;
+  memories = k.memories;
+  sizes = k.sizes;
+  opened = k.opened;
+  released = k.released;
+}

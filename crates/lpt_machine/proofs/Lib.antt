@@ -1,4 +1,5 @@
 pub mod ArrivalsAgree
+pub mod Arriving
 pub mod Beginning
 pub mod DeliveredShown
 pub mod DueShown
@@ -6,11 +7,15 @@ pub mod EventsShown
 pub mod ExpiredShown
 pub mod Fields
 pub mod Follows
+pub mod JobsShown
 pub mod LinkShown
 pub mod MadeShown
-pub mod NoAborts
+pub mod QueueLemmas
 pub mod ReceivingShown
 pub mod Refusals
 pub mod Replies
+pub mod ReportLengths
 pub mod ReportShown
+pub mod ReportsMade
 pub mod SendingShown
+pub mod WorkersShown

@@ -193,7 +193,7 @@ link_lost {x = x} {y = y} n there k = record {
 
 -- ---- lists of packets
 
-with_all-append : {A : Type 0} (xs ys : List A) → with_all xs ys ≡ xs ++ ys
+pub with_all-append : {A : Type 0} (xs ys : List A) → with_all xs ys ≡ xs ++ ys
 with_all-append xs [] = sym (append-nil xs)
 with_all-append xs (y ∷ ys) = refl
 

@@ -135,28 +135,3 @@ report_made {x = x} {y = y} kind b is k = record {
   count = count_more x.count y.made b k.count;
   types = types_more x.types y.made kind b is k.types;
 }
-
--- ---- lists of telemetry
-
--- telemetry of a kind
-pub record Report : Type 0 where
-  pub kind : TelemetryKind
-  pub octets : List ℕ
-  pub is_of_kind : IsReportOf kind octets
-
--- an end that has made this telemetry in order
-abbrev pub counted_all : Sending → List Report → Sending
-counted_all x [] = x
-counted_all x (r ∷ rs) = counted_all (counted_kind x r.kind) rs
-
--- a list of telemetry was made
-pub reports_made : (rs : List Report) {x : Sending} {y : SendingView}
-    → ShowsSending Craft x y
-    → ShowsSending Craft (counted_all x rs)
-    (record y { made = with_all y.made (map (λ r. r.octets) rs) })
-reports_made [] k = k
-reports_made (r ∷ rs) {x = x} {y = y} k =
-    subst (λ (bs : List (List ℕ)).
-    ShowsSending Craft (counted_all x (r ∷ rs)) (record y { made = bs }))
-    (with_all-more y.made r.octets (map (λ r. r.octets) rs))
-    (reports_made rs (report_made r.kind r.octets r.is_of_kind k))

@@ -39,6 +39,7 @@ use Rattle.lpt_journal.proofs.MapLemmas.{len_once}
 use Rattle.lpt_journal.proofs.CountLemmas.{open_named}
 use Rattle.lpt_machine.proofs.DueShown.{due_shown}
 use Rattle.lpt_machine.proofs.Fields.{sending_at, clock_at}
+use Rattle.lpt_memory.specs.Memories.{Contents}
 
 -- ---- opening
 
@@ -123,10 +124,10 @@ held_for d None = refl
 held_for d (Some p) = refl
 
 -- the link has a packet for a lane where the journal holds it in its direction
-held_agrees : (c : Config) (s : State) (h : History) (d : Direction) (n : ℕ)
-    → Shows s (views c h)
+held_agrees : (c : Config) (first : Contents) (s : State) (h : History) (d : Direction) (n : ℕ)
+    → Shows s (views c first h)
     → is_held_for s.link d n ≡ (is_held h n && goes h d n)
-held_agrees c s h d n k =
+held_agrees c first s h d n k =
     let packet : option_map sent_packet (slice_get s.link.packets n) ≡ slice_get (sent h) n =
     sym (slice_get-map sent_packet s.link.packets n) ∙ ap (λ ps. slice_get ps n) k.link.packets in
     held_for d (slice_get s.link.packets n)
@@ -169,41 +170,41 @@ by_due (Some id) = refl
 -- ---- all events
 
 -- what is refused is what the journal refuses, for the same reason
-pub refusal_shown : (c : Config) (s : State) (h : History) (e : Event)
-    → Shows s (views c h)
+pub refusal_shown : (c : Config) (first : Contents) (s : State) (h : History) (e : Event)
+    → Shows s (views c first h)
     → refusal_of c s e ≡ refusal c h e
-refusal_shown c s h (Open d id m) k =
-    let own = sending_at c h d k in
+refusal_shown c first s h (Open d id m) k =
+    let own = sending_at c first h d k in
     (λ i. option_map node_fault
     (refusal_open_in c (state_of (own.ledger id i)) (open_as_many h d own i) (length m)))
     ∙ refuses_open c (sender h d id) (open_count h d) (length m)
-refusal_shown c s h (Send d id n) k =
-    ap (λ o. option_map node_fault (refusal_send_of c n o)) ((sending_at c h d k).messages id)
+refusal_shown c first s h (Send d id n) k =
+    ap (λ o. option_map node_fault (refusal_send_of c n o)) ((sending_at c first h d k).messages id)
     ∙ refuses_send c n (sender h d id)
-refusal_shown c s h (Plain flags service subtype body) k =
+refusal_shown c first s h (Plain flags service subtype body) k =
     by_request (is_part_request service subtype) (is_too_long c (length body))
-refusal_shown c s h (Finish d id) k =
+refusal_shown c first s h (Finish d id) k =
     ap (λ m. option_map node_fault (refusal_finish_in (state_of m)))
-    ((sending_at c h d k).ledger id)
+    ((sending_at c first h d k).ledger id)
     ∙ refuses_finish (sender h d id)
-refusal_shown c s h (Lose n) k =
+refusal_shown c first s h (Lose n) k =
     (λ i. option_map link_fault (if k.link.held n i then None else Some link.NotHeld))
     ∙ by_mark (is_held h n)
-refusal_shown c s h (Take l n) k =
+refusal_shown c first s h (Take l n) k =
     let w = lane_direction l in
     (λ i. option_map link_fault
     (if is_some (k.link.hands l i) then Some link.HandFull
-    else if held_agrees c s h w n k i then None
+    else if held_agrees c first s h w n k i then None
     else Some link.NotHeld))
     ∙ by_hand (is_some (hand h l)) (is_held h n && goes h w n)
-refusal_shown c s h (Deliver l) k =
+refusal_shown c first s h (Deliver l) k =
     ap (λ o. option_map link_fault (if is_some o then None else Some link.HandEmpty))
     (k.link.hands l)
     ∙ by_empty_hand (is_some (hand h l))
-refusal_shown c s h (Tick side) k =
+refusal_shown c first s h (Tick side) k =
     ap (λ n. option_map node_fault (if n == 4294967295 then Some node.ClockEnd else None))
-    (clock_at c h side k)
+    (clock_at c first h side k)
     ∙ by_clock (clock c h side == 4294967295)
-refusal_shown c s h (Expire side) k =
-    ap (λ o. option_map node_fault (refusal_expire_of o)) (due_shown c s h side k)
+refusal_shown c first s h (Expire side) k =
+    ap (λ o. option_map node_fault (refusal_expire_of o)) (due_shown c first s h side k)
     ∙ by_due (due c h (direction_to side))

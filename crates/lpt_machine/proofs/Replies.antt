@@ -81,7 +81,7 @@ reply_told c h side n o = reply_with n (Delivered o) (outcome_puts c h side o)
 told_part : (c : Config) (h : History) (side : Side) (n : ℕ) (d : NodeData) (t : ReceiverState)
     (q : Piece) (before with_it : Parts) (closed full contra again whole : Bool)
     → reply_to n
-    (delivery closed full contra again whole (abort_head side c d) d t q before with_it)
+    (delivery side closed full contra again whole (abort_head side c d) d t q before with_it)
     ≡ reply_told c h side n (chosen closed full contra again whole q (length (spelled with_it)))
 told_part c h side n d t q before with_it true full contra again whole = refl
 told_part c h side n d t q before with_it false true contra again whole = refl
@@ -124,7 +124,7 @@ reply_expired c h side d n (Some id) =
 -- ---- all events
 
 pub reply_shown : (c : Config) (first : Contents) (s : State) (h : History) (e : Event)
-    → Shows s (views c h)
+    → Shows s (views c first h)
     → refusal c h e ≡ None
     → (after c (length h) s e).1 ≡ reply c first h e
 reply_shown c first s h (Open d id m) k e = refl
@@ -137,10 +137,10 @@ reply_shown c first s h (Plain flags service subtype body) k e =
 reply_shown c first s h (Finish d id) k e = refl
 reply_shown c first s h (Lose n) k e = refl
 reply_shown c first s h (Take l n) k e = refl
-reply_shown c first s h (Tick side) k e = ap (λ n. quiet (Clock (n + 1))) (clock_at c h side k)
+reply_shown c first s h (Tick side) k e = ap (λ n. quiet (Clock (n + 1))) (clock_at c first h side k)
 reply_shown c first s h (Expire side) k e =
     ap (λ (o : Option Name). (expired_on s side (expired_of side c (end_of s side) o)).1)
-    (due_shown c s h side k)
+    (due_shown c first s h side k)
     ∙ reply_expired c h side (end_of s side) (length s.link.packets) (due c h (direction_to side))
     ∙ ap (λ (n : ℕ). reply_with n (expired_now (direction_to side) (due c h (direction_to side)))
     (expiry_puts c h side (due c h (direction_to side)))) (as_many_packets k.link)
@@ -148,7 +148,7 @@ reply_shown c first s h (Deliver l) k e =
     let w = lane_direction l in
     let side = receiver_side w in
     ap (λ (a : Arrival). reply_to (length s.link.packets) (accepted side c (end_of s side) a))
-    (arrival_agrees c s h l k)
-    ∙ reply_delivered c h w (end_of s side) (length s.link.packets) (receiving_at c h w k)
+    (arrival_agrees c first s h l k)
+    ∙ reply_delivered c h w (end_of s side) (length s.link.packets) (receiving_at c first h w k)
     (in_hand c h l)
     ∙ ap (λ (n : ℕ). reply_told c h side n (outcome c h l)) (as_many_packets k.link)

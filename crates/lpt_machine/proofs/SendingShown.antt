@@ -15,7 +15,8 @@ use Rattle.lpt_ledger.specs.States.{state_of}
 use Rattle.lpt_events.specs.declared.config.Config.{Config}
 use Rattle.lpt_events.specs.declared.entry.Opening.{Opening}
 use Rattle.lpt_events.specs.declared.event.Event.TheVariants.{Send}
-use Rattle.lpt_events.specs.declared.reply.Reply.{Reply}
+use Rattle.lpt_events.specs.declared.reply.Answer.TheVariants.{Put}
+use Rattle.lpt_events.specs.declared.reply.Puts.{Puts}
 use Rattle.lpt_events.specs.declared.side.Side.{Side}
 use Rattle.lpt_events.specs.declared.side.Side.TheVariants.{Ground, Craft}
 use Rattle.lpt_events.specs.Arrivals.{part_subtype}
@@ -36,16 +37,17 @@ use Rattle.lpt_machine.specs.Views.{Views, SendingView, views, sending_view}
 use Rattle.lpt_machine.proofs.Fields.{with_sending, with_link}
 use Rattle.lpt_machine.proofs.LinkShown.{link_more}
 use Rattle.lpt_machine.proofs.MadeShown.{command_made, report_made, is_report-made, IsReportOf}
+use Rattle.lpt_memory.specs.Memories.{Contents}
 
 -- ---- opening
 
--- what is sent in a direction where this was opened under a name
-abbrev pub opened_view : History → Direction → Name → Opening → SendingView
-opened_view h w id o = record {
+-- what is sent in a direction where these packets were made, and this opened under a name
+abbrev pub opened_view : History → Direction → List (List ℕ) → Name → Opening → SendingView
+opened_view h w packets id o = record {
   senders = λ q.
       sender_of (option_or (cond (same_name id q) (Some o) None) (current h w q))
       (if same_name id q || false then false else is_over h w q);
-  made = made h w;
+  made = packets;
 }
 
 mark_opened : (t : Bool) (o : Opening) (before : Option Opening) (over : Bool)
@@ -62,11 +64,11 @@ message_opened : (t : Bool) (o : Opening) (before : Option Opening) (over : Bool
 message_opened true o before over = refl
 message_opened false o before over = refl
 
-pub opened_shown : {side : Side} {x : Sending} (h : History) (w : Direction) (id : Name)
-    (o : Opening)
-    → ShowsSending side x (sending_view h w)
-    → ShowsSending side (opened_in x id o.message) (opened_view h w id o)
-opened_shown {x = x} h w id o k = record {
+pub opened_shown : {side : Side} {x : Sending} (h : History) (w : Direction)
+    (packets : List (List ℕ)) (id : Name) (o : Opening)
+    → ShowsSending side x (record { senders = sender h w; made = packets })
+    → ShowsSending side (opened_in x id o.message) (opened_view h w packets id o)
+opened_shown {x = x} h w packets id o k = record {
   ledger = λ q.
       get_insert x.ledger id Opened q
       ∙ (λ i. if same_name-comm q id i then Some Opened else k.ledger q i)
@@ -191,24 +193,28 @@ is_report-part c n counter time q s t =
       go Middle = refl
       go Last = refl
 
--- a part is sent, as the history has it
-abbrev sent_entry : Config → History → Direction → Name → ℕ → Reply → Sender → History
-sent_entry c h w id n r y =
-    record { event = Send w id n; reply = r; puts = send_puts c h w id n y; opens = [] } ∷ h
+-- a part is sent, as the history has it; its packet got this number
+abbrev sent_entry : Config → History → Direction → Name → ℕ → ℕ → Option Puts → Sender → History
+sent_entry c h w id n number r y = record {
+  event = Send w id n;
+  reply = record { answer = Put number; puts = r };
+  puts = send_puts c h w id n y;
+  opens = [];
+} ∷ h
 
 -- part n of an open message is sent
-part_sent : (c : Config) (s : State) (h : History) (w : Direction) (id : Name) (n : ℕ)
-    (r : Reply) (m : List ℕ)
-    → Shows s (views c h)
+part_sent : (c : Config) (first : Contents) (s : State) (h : History) (w : Direction) (id : Name) (n : ℕ)
+    (number : ℕ) (r : Option Puts) (m : List ℕ)
+    → Shows s (views c first h)
     → Shows (sent_on s w id (sent_of (sender_side w) c (end_of s (sender_side w)) id n (Some m))).0
-    (views c (sent_entry c h w id n r (OpenSender m)))
-part_sent c s h Up id n r m k =
+    (views c first (sent_entry c h w id n number r (OpenSender m)))
+part_sent c first s h Up id n number r m k =
     let q = nth_part c.part_size id m n in
     let packet : part_packet Ground c s.on_ground q ≡ journal_packet c h Up q =
     ap (λ j. part_made c Up j 0 0 q) k.ground.sending.count in
     with_link (with_sending Ground k (command_made _ k.ground.sending))
     (link_more Up (Some id) _ _ packet k.link)
-part_sent c s h Down id n r m k =
+part_sent c first s h Down id n number r m k =
     let q = nth_part c.part_size id m n in
     let kind = kind_at n (part_count (length m) c.part_size) in
     let counter : counter_of s.on_craft.sending.types (part_telemetry kind)
@@ -222,35 +228,35 @@ part_sent c s h Down id n r m k =
     (link_more Down (Some id) _ _ packet k.link)
 
 -- what an open sender has is sent
-pub sent_shown : (c : Config) (s : State) (h : History) (w : Direction) (id : Name) (n : ℕ)
-    (r : Reply) (y : Sender) (o : Option (List ℕ))
+pub sent_shown : (c : Config) (first : Contents) (s : State) (h : History) (w : Direction) (id : Name) (n : ℕ)
+    (number : ℕ) (r : Option Puts) (y : Sender) (o : Option (List ℕ))
     → is_open y ≡ true
     → o ≡ message_of y
-    → Shows s (views c h)
+    → Shows s (views c first h)
     → Shows (sent_on s w id (sent_of (sender_side w) c (end_of s (sender_side w)) id n o)).0
-    (views c (sent_entry c h w id n r y))
-sent_shown c s h w id n r FreeSender o t e k = absurd cc
-sent_shown c s h w id n r ClosedSender o t e k = absurd cc
-sent_shown c s h w id n r (OpenSender m) o t e k =
+    (views c first (sent_entry c h w id n number r y))
+sent_shown c first s h w id n number r FreeSender o t e k = absurd cc
+sent_shown c first s h w id n number r ClosedSender o t e k = absurd cc
+sent_shown c first s h w id n number r (OpenSender m) o t e k =
     subst (λ (x : Option (List ℕ)).
     Shows (sent_on s w id (sent_of (sender_side w) c (end_of s (sender_side w)) id n x)).0
-    (views c (sent_entry c h w id n r (OpenSender m)))) (sym e) (part_sent c s h w id n r m k)
+    (views c first (sent_entry c h w id n number r (OpenSender m)))) (sym e) (part_sent c first s h w id n number r m k)
 
 -- a plain request is put: a view with its packet
-abbrev pub plain_view : Config → History → (flags service subtype : ℕ) → List ℕ → Views
-plain_view c h flags service subtype body =
+abbrev pub plain_view : Config → Contents → History → (flags service subtype : ℕ) → List ℕ → Views
+plain_view c first h flags service subtype body =
     let b = plain_packet c h flags service subtype body in
-    let v = views c h in
+    let v = views c first h in
     record v {
       ground = record v.ground { sending = record v.ground.sending { made = made h Up ++ b ∷ [] } };
       link = record v.link { sent = v.link.sent ++ record { direction = Up; octets = b } ∷ [] };
     }
 
-pub plain_shown : (c : Config) (s : State) (h : History) (flags service subtype : ℕ) (body : List ℕ)
-    → Shows s (views c h)
+pub plain_shown : (c : Config) (first : Contents) (s : State) (h : History) (flags service subtype : ℕ) (body : List ℕ)
+    → Shows s (views c first h)
     → Shows (after_plain c s flags service subtype body).0
-    (plain_view c h flags service subtype body)
-plain_shown c s h flags service subtype body k =
+    (plain_view c first h flags service subtype body)
+plain_shown c first s h flags service subtype body k =
     let packet : tc_made c s.on_ground.sending.count flags service subtype body
     ≡ plain_packet c h flags service subtype body
     = ap (λ n. tc_made c n flags service subtype body) k.ground.sending.count in

@@ -2,6 +2,7 @@
 use Rattle.std.specs.Prelude.{◌≡◌, [], ◌∷◌, length, None}
 use Rattle.lpt_events.specs.declared.config.Config.{Config}
 use Rattle.lpt_events.specs.declared.event.Event.{Event}
+use Rattle.lpt_events.specs.Configs.{IsConfig}
 use Rattle.lpt_memory.specs.Memories.{Contents}
 use Rattle.lpt_journal.specs.Journal.{History}
 use Rattle.lpt_journal.specs.Refusals.{refusal}
@@ -27,6 +28,7 @@ pub record FollowsJournal : Type 0 where
       → JobsFit (jobs_view c first h) (ticket h)
       → refusal_of c s e ≡ refusal c h e
   pub goes_on : (c : Config) (first : Contents) (s : State) (h : History) (e : Event)
+      → IsConfig c
       → Shows s (views c first h)
       → JobsFit (jobs_view c first h) (ticket h)
       → refusal c h e ≡ None

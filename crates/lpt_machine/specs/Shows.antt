@@ -20,6 +20,7 @@ use Rattle.lpt_events.specs.declared.worker.Worker.{Worker}
 use Rattle.lpt_memory.specs.Memories.{sizes_of}
 use Rattle.lpt_memory.specs.Readings.{Job as Ticket}
 use Rattle.lpt_jobs.specs.declared.job.Job.{Job}
+use Rattle.lpt_jobs.specs.Jobs.{Jobs}
 use Rattle.lpt_jobs.specs.declared.job.Mark.{Mark as JobMark}
 use Rattle.lpt_jobs.specs.declared.job.Mark.TheVariants.{Waiting, Claimed, Committed}
 use Rattle.lpt_journal.specs.Jobs.{JobName}
@@ -100,31 +101,33 @@ mark_at v n m =
     else Claimed)
     else Waiting
 
--- the jobs of these messages, the first of which has the number n
-abbrev pub jobs_from : JobsView → ℕ → List (List ℕ) → List Job
-jobs_from v n [] = []
-jobs_from v n (m ∷ ms) = record { message = m; mark = mark_at v n m } ∷ jobs_from v (suc n) ms
+-- the jobs of these messages with these marks, the first of which has the number n
+abbrev pub jobs_from : (ℕ → List ℕ → JobMark) → ℕ → List (List ℕ) → List Job
+jobs_from mark n [] = []
+jobs_from mark n (m ∷ ms) = record { message = m; mark = mark n m } ∷ jobs_from mark (suc n) ms
 
--- the queue has the jobs that aren't executed
-pub record ShowsJobs (d : NodeData) (v : JobsView) : Type 0 where
-  pub boot : d.boot ≡ v.boot
-  pub first : d.jobs.first ≡ v.applied
-  pub jobs : d.jobs.jobs ≡ jobs_from v v.applied (drop v.applied v.messages)
+-- this is the boot, and the queue has the jobs that aren't executed
+pub record ShowsJobs (boot : ℕ) (x : Jobs) (v : JobsView) : Type 0 where
+  pub same_boot : boot ≡ v.boot
+  pub first : x.first ≡ v.applied
+  pub jobs : x.jobs ≡ jobs_from (mark_at v) v.applied (drop v.applied v.messages)
 
 -- a worker has this job; in the boot that goes on it has the job's message
-pub record ShowsTicket (t : Option Ticket) (v : JobsView) (of : Option JobName) : Type 0 where
+pub record ShowsTicket (t : Option Ticket) (boot : ℕ) (messages : List (List ℕ))
+    (of : Option JobName) : Type 0 where
   pub name : option_map (λ x. record { boot = x.boot; job = x.job }) t ≡ of
   pub message : (x : Ticket)
       → t ≡ Some x
-      → x.boot ≡ v.boot
-      → slice_get v.messages x.job ≡ Some x.message
+      → x.boot ≡ boot
+      → slice_get messages x.job ≡ Some x.message
 
 pub record Shows (s : State) (v : Views) : Type 0 where
   pub ground : ShowsEnd Ground s.on_ground v.ground
   pub craft : ShowsEnd Craft s.on_craft v.craft
   pub link : ShowsLink s.link v.link
-  pub jobs : ShowsJobs s.on_craft v.jobs
-  pub tickets : (w : Worker) → ShowsTicket (ticket_of s.tickets w) v.jobs (v.tickets w)
+  pub jobs : ShowsJobs s.on_craft.boot s.on_craft.jobs v.jobs
+  pub tickets : (w : Worker)
+      → ShowsTicket (ticket_of s.tickets w) v.jobs.boot v.jobs.messages (v.tickets w)
   pub memories : s.memories ≡ v.memories
   pub sizes : sizes_of v.memories ≡ v.jobs.sizes
   pub opened : s.opened ≡ v.opened
@@ -138,9 +141,11 @@ pub record IsOut (v : JobsView) (n : ℕ) : Type 0 where
   pub is_claimed : n < v.claimed
   pub not_committed : v.committed n ≡ false
 
--- jobs are claimed before they are executed or committed, and a worker's job of this boot is out
+-- jobs are claimed before they are executed or committed; a worker's job is of this boot, as none ends
+-- so far, and out
 pub record JobsFit (v : JobsView) (tickets : Worker → Option JobName) : Type 0 where
   pub executed : v.applied ≤ v.claimed
   pub claimed : v.claimed ≤ length v.messages
   pub committed : (n : ℕ) → v.committed n ≡ true → n < v.claimed
+  pub boots : (w : Worker) (t : JobName) → tickets w ≡ Some t → t.boot ≡ v.boot
   pub out : (w : Worker) (t : JobName) → tickets w ≡ Some t → t.boot ≡ v.boot → IsOut v t.job
