@@ -14,9 +14,10 @@ use Rattle.lpt_words.specs.declared.grammar.Reading.TheVariants.{Skipped, Asks, 
 use Rattle.lpt_words.specs.Grammar.{reading_of}
 use Rattle.lpt_words.specs.Loads.{load_packet}
 use Rattle.lpt_events.specs.declared.event.Event.{Event}
-use Rattle.lpt_events.specs.declared.event.Event.TheVariants.{Open, Send, Plain, Finish, Lose, Take, Deliver, Tick, Expire}
+use Rattle.lpt_events.specs.declared.event.Event.TheVariants.{Open, Send, Plain, Finish, Lose, Take, Deliver, Tick, Expire, Claim, Commit, Apply}
 use Rattle.lpt_events.specs.declared.fault.StepFault.{StepFault}
 use Rattle.lpt_events.specs.declared.reply.Reply.{Reply}
+use Rattle.lpt_events.specs.declared.worker.Worker.TheVariants.{W1}
 use Rattle.lpt_journal.specs.Link.{sent}
 use Rattle.lpt_journal.specs.Releases.{releases}
 use Rattle.lpt_journal.specs.Replies.{reply}
@@ -68,6 +69,13 @@ ticked (suc (suc k)) side w =
     if is_some (refusal_at w 0 (Tick side)) then stepped w (Tick side)
     else ticked (suc k) side (with_entry w 0 (Tick side) (answered w (Tick side)))
 
+-- the first worker claims and commits, and the oldest request is executed, up to the first of these
+-- that is refused
+abbrev pub worked : Shown → Ran
+worked w =
+    and_then (and_then (stepped w (Claim W1)) (λ after. stepped after (Commit W1)))
+    (λ after. stepped after Apply)
+
 -- the octets of the packet of this number, where so many were put
 abbrev pub packet_octets : Shown → ℕ → Option (List ℕ)
 packet_octets w n = option_map (λ p. p.octets) (slice_get (sent (history w)) n)
@@ -95,6 +103,10 @@ command_ran (command.Finish d id) w = stepped w (Finish d id)
 command_ran (command.Expire side) w = stepped w (Expire side)
 command_ran (command.Tick side count) w = ticked count side w
 command_ran (command.Pass l n) w = and_then (stepped w (Take l n)) (λ after. stepped after (Deliver l))
+command_ran (command.Claim k) w = stepped w (Claim k)
+command_ran (command.Commit k) w = stepped w (Commit k)
+command_ran command.Apply w = stepped w Apply
+command_ran command.Work w = worked w
 command_ran command.ShowReleased w = printed w (releases_text (releases w.config (history w)))
 command_ran (command.ShowPacket n) w = printed w (packet_text n (packet_octets w n))
 command_ran (command.ShowMemory id address len) w =

@@ -4,12 +4,12 @@ ghost use Rattle.std.specs.Prelude.{◌≡◌, ◌≢◌, ◌<◌, ◌-◌, leng
 ghost use Rattle.lpt_print.specs.Printing.{accepted_text};
 ghost use Rattle.lpt_tool.specs.Ends.{IsTickRefused, LineEnds, TextEnds, unrefused};
 ghost use Rattle.lpt_world.specs.Worlds.{RefusedBy, refusal_at, with_entry};
-ghost use Rattle.lpt_tool.specs.Scripts.{and_then, answered, command_ran, stepped, ticked};
+ghost use Rattle.lpt_tool.specs.Scripts.{and_then, answered, command_ran, stepped, ticked, worked};
 
 use crate::loading::run_load;
 use crate::printed::{put, put_refused};
 use crate::showing::{show_memory, show_released};
-use lpt_link::Lane;
+use lpt_events::Worker;
 use lpt_node::Side;
 use lpt_print::{print_accepted, print_journal, print_packet};
 use lpt_text::{Sink, ToolFault};
@@ -55,7 +55,14 @@ pub(crate) fn run_command<K: Sink>(
         }
         Command::Expire(side) => run_event(alloc, world, Event::Expire(side), out),
         Command::Tick(side, count) => run_ticks(alloc, world, side, count, out),
-        Command::Pass(lane, number) => run_pass(alloc, world, lane, number, out),
+        Command::Pass(lane, number) => {
+            let (take, deliver) = (Event::Take(lane, number), Event::Deliver(lane));
+            run_both(alloc, world, take, deliver, out)
+        }
+        Command::Claim(worker) => run_event(alloc, world, Event::Claim(worker), out),
+        Command::Commit(worker) => run_event(alloc, world, Event::Commit(worker), out),
+        Command::Apply => run_event(alloc, world, Event::Apply, out),
+        Command::Work => run_work(alloc, world, out),
         Command::ShowReleased => quietly(show_released(alloc, world.released(), out)),
         Command::ShowPacket(number) => {
             quietly(put(out, print_packet(alloc, number, world.packet(number))))
@@ -123,21 +130,35 @@ fn put_entry<K: Sink>(alloc: Global, entry: &Entry, out: &mut K) -> Result<bool,
     }
 }
 
-// Takes a packet into a lane's hand, and delivers it unless that was refused.
-fn run_pass<K: Sink>(
+// Asks for two events, for the second unless the first was refused.
+fn run_both<K: Sink>(
     alloc: Global,
     world: &mut World,
-    lane: Lane,
-    number: u64,
+    first: Event,
+    second: Event,
     out: &mut K,
 ) -> Result<bool, ToolFault>
-    ensures ends { LineEnds (and_then (stepped world.old (Event.Take lane number)) (λ w. stepped w (Event.Deliver lane)))
+    ensures ends { LineEnds (and_then (stepped world.old first) (λ w. stepped w second))
         result world.new (K.contents out.old) (K.contents out.new) }
     ensures cause { IsErrOf result ToolFault.Write → K.failed out.new ≡ true }
     ensures told { result ≢ Err ToolFault.Write → K.failed out.new ≡ K.failed out.old }
 {
-    match run_event(alloc, world, Event::Take(lane, number), out) {
-        Ok(false) => run_event(alloc, world, Event::Deliver(lane), out),
+    match run_event(alloc, world, first, out) {
+        Ok(false) => run_event(alloc, world, second, out),
+        ended => ended,
+    }
+}
+
+// Claims and commits a job with the first worker, and executes the oldest, up to the first of these
+// that is refused.
+fn run_work<K: Sink>(alloc: Global, world: &mut World, out: &mut K) -> Result<bool, ToolFault>
+    ensures ends { LineEnds (worked world.old) result world.new (K.contents out.old) (K.contents out.new) }
+    ensures cause { IsErrOf result ToolFault.Write → K.failed out.new ≡ true }
+    ensures told { result ≢ Err ToolFault.Write → K.failed out.new ≡ K.failed out.old }
+{
+    let (claim, commit) = (Event::Claim(Worker::W1), Event::Commit(Worker::W1));
+    match run_both(alloc, world, claim, commit, out) {
+        Ok(false) => run_event(alloc, world, Event::Apply, out),
         ended => ended,
     }
 }

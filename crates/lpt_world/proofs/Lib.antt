@@ -1,3 +1,5 @@
+pub mod JobLemmas
+pub mod LegalLemmas
 pub mod RunLemmas
 pub mod ToldLemmas
 pub mod WorldLemmas

@@ -11,23 +11,7 @@ use Rattle.lpt_journal.specs.Legal.{Legal}
 use Rattle.lpt_world.specs.WorldInside.{IsShown}
 use Rattle.lpt_world.specs.Worlds.{IsTold, IsToldAfter, events_of, history_of}
 use Rattle.lpt_journal.proofs.HeadlineLemmas.{headline}
-use Rattle.lpt_world.proofs.WorldLemmas.{onto, onto-events_of}
-
-legal_after : (c : Config) (first : Contents) (past : List Event) (j : List Entry)
-    → Legal c first past
-    → IsToldAfter c first past j
-    → Legal c first (onto past j)
-legal_after c first past [] legal told = legal
-legal_after c first past (x ∷ xs) legal told =
-    legal_after c first (x.event ∷ past) xs (legal, told.0) told.2
-
--- a journal that is told is legal
-pub told_is_legal : (c : Config) (first : Contents) (j : List Entry)
-    → IsTold c first j
-    → Legal c first (events_of j)
-told_is_legal c first j told =
-    subst (Legal c first) (onto-events_of [] j ∙ append-nil (events_of j))
-    (legal_after c first [] j tt told)
+use Rattle.lpt_world.proofs.LegalLemmas.{told_is_legal}
 
 pub shown_holds : (e : Ends) (first : Contents) (j : List Entry)
     → IsShown e first j

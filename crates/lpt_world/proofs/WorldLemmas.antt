@@ -23,47 +23,14 @@ use Rattle.lpt_journal.specs.Legal.{IsEvent, IsEnabled}
 use Rattle.lpt_journal.specs.Refusals.{refusal}
 use Rattle.lpt_journal.specs.Replies.{reply, entry, recorded}
 use Rattle.lpt_machine.specs.Shows.{Shows, sent_packet}
-use Rattle.lpt_machine.specs.State.{State, no_state, after, refusal_of}
+use Rattle.lpt_machine.specs.State.{State, no_state, after, refusal_of, IsReady}
 use Rattle.lpt_machine.specs.Views.{views}
 use Rattle.lpt_world.specs.WorldInside.{IsShown, IsWorld}
 use Rattle.lpt_world.specs.Worlds.{IsTold, IsToldAfter, events_of, history_of, refusal_at}
 use Rattle.lpt_machine.proofs.Follows.{follows}
+use Rattle.lpt_world.proofs.LegalLemmas.{events_of-push, length-history_of, onto, onto-events_of, jobs_fit}
 
 -- ---- journals
-
--- the events of a journal, the oldest first
-abbrev events : List Entry → List Event
-events j = map (λ (y : Entry). y.event) j
-
--- the events of a journal with an entry behind it
-pub events_of-push : (j : List Entry) (x : Entry)
-    → events_of (j ++ x ∷ []) ≡ x.event ∷ events_of j
-events_of-push j x =
-    ap reverse (map-append (λ (y : Entry). y.event) j (x ∷ []))
-    ∙ reverse-append (events j) (x.event ∷ [])
-
-length-recorded : (c : Config) (first : Contents) (es : List Event) → length (recorded c first es) ≡ length es
-length-recorded c first [] = refl
-length-recorded c first (e ∷ es) = ap (λ n. suc n) (length-recorded c first es)
-
--- a history has as many events as its journal has entries
-pub length-history_of : (c : Config) (first : Contents) (j : List Entry) → length (history_of c first j) ≡ length j
-length-history_of c first j =
-    length-recorded c first (events_of j)
-    ∙ length-reverse (events j)
-    ∙ length-map j (λ (y : Entry). y.event)
-
--- the events behind a past, newest first
-abbrev pub onto : List Event → List Entry → List Event
-onto past [] = past
-onto past (x ∷ xs) = onto (x.event ∷ past) xs
-
-pub onto-events_of : (past : List Event) (j : List Entry) → onto past j ≡ events_of j ++ past
-onto-events_of past [] = refl
-onto-events_of past (x ∷ xs) =
-    onto-events_of (x.event ∷ past) xs
-    ∙ sym (ap (λ es. es ++ past) (reverse-append (x.event ∷ []) (events xs))
-    ∙ append_assoc (reverse (events xs)) (x.event ∷ []) past)
 
 told_push : (c : Config) (first : Contents) (past : List Event) (j : List Entry) (x : Entry)
     → IsToldAfter c first past j
@@ -82,7 +49,7 @@ accepted_shown : (e : Ends) (first : Contents) (j : List Entry) (ev : Event)
     → refusal_of e.config (state_of e) ev ≡ None
     → refusal e.config (history_of e.config first j) ev ≡ None
 accepted_shown e first j ev k free =
-    sym (follows.refuses e.config (state_of e) (history_of e.config first j) ev k.shows) ∙ free
+    sym (follows.refuses e.config first (state_of e) (history_of e.config first j) ev k.shows (jobs_fit e.config first j k.told)) ∙ free
 
 -- the reply of the ends is the journal's
 pub reply_shown : (e e' : Ends) (first : Contents) (j : List Entry) (ev : Event) (r : Reply)
@@ -92,7 +59,7 @@ pub reply_shown : (e e' : Ends) (first : Contents) (j : List Entry) (ev : Event)
     → r ≡ reply e.config first (history_of e.config first j) ev
 reply_shown e e' first j ev r k free done =
     let c = e.config in
-    let goes = follows.goes_on c first (state_of e) (history_of c first j) ev k.shows (accepted_shown e first j ev k free) in
+    let goes = follows.goes_on c first (state_of e) (history_of c first j) ev k.configured k.shows (jobs_fit c first j k.told) (accepted_shown e first j ev k free) in
     ap (λ (y : State × Reply). y.1) done
     ∙ ap (λ n. (after c n (state_of e) ev).1) (sym (length-history_of c first j))
     ∙ goes.answered
@@ -109,16 +76,16 @@ shown_push e e' first j x k ranged free done same =
     let c = e.config in
     let h : History = history_of c first j in
     let accepted : refusal c h x.event ≡ None = accepted_shown e first j x.event k free in
-    let goes = follows.goes_on c first (state_of e) h x.event k.shows accepted in
+    let goes = follows.goes_on c first (state_of e) h x.event k.configured k.shows (jobs_fit c first j k.told) accepted in
     let state : (after c (length h) (state_of e) x.event).0 ≡ state_of e' =
     ap (λ n. (after c n (state_of e) x.event).0) (length-history_of c first j)
     ∙ sym (ap (λ (y : State × Reply). y.0) done) in
     let longer : history_of c first (j ++ x ∷ []) ≡ entry c first h x.event ∷ h =
     ap (recorded c first) (events_of-push j x) in
     let past : onto [] j ≡ events_of j = onto-events_of [] j ∙ append-nil (events_of j) in
-    let shows : Shows (state_of e') (views c (history_of c first (j ++ x ∷ []))) =
-    subst (λ (g : History). Shows (state_of e') (views c g)) (sym longer)
-    (subst (λ (s : State). Shows s (views c (entry c first h x.event ∷ h))) state goes.shown) in
+    let shows : Shows (state_of e') (views c first (history_of c first (j ++ x ∷ []))) =
+    subst (λ (g : History). Shows (state_of e') (views c first g)) (sym longer)
+    (subst (λ (s : State). Shows s (views c first (entry c first h x.event ∷ h))) state goes.shown) in
     let enabled : IsEnabled c (recorded c first (onto [] j)) x.event =
     subst (λ (es : List Event). IsEnabled c (recorded c first es) x.event) (sym past)
     (record { in_range = ranged; accepted = accepted }) in
@@ -128,6 +95,15 @@ shown_push e e' first j x k ranged free done same =
     ∙ ap (λ es. reply c first (recorded c first es) x.event) (sym past)) in
     subst (λ (d : Config). IsWorld d first e' (j ++ x ∷ [])) (sym same)
     (record { configured = k.configured; shows = shows; told = told })
+
+-- what an event asks of the ends besides is there
+pub ready_shown : (e : Ends) (first : Contents) (j : List Entry) (ev : Event)
+    → IsShown e first j
+    → refusal_of e.config (state_of e) ev ≡ None
+    → IsReady e.config (state_of e) ev
+ready_shown e first j ev k free =
+    (follows.goes_on e.config first (state_of e) (history_of e.config first j) ev k.configured
+    k.shows (jobs_fit e.config first j k.told) (accepted_shown e first j ev k free)).ready
 
 -- the octets of a packet are what the journal says
 pub packet_shown : (e : Ends) (first : Contents) (j : List Entry) (n : ℕ)
@@ -156,7 +132,7 @@ pub refusal_at_shown : (e : Ends) (first : Contents) (j : List Entry) (seat : �
 refusal_at_shown e first j seat ev k h =
     let past = history_of e.config first j in
     let there : nat_lt 10 seat ≡ false = lt_false 10 seat h in
-    follows.refuses e.config (state_of e) past ev k.shows
+    follows.refuses e.config first (state_of e) past ev k.shows (jobs_fit e.config first j k.told)
     ∙ sym (ap (λ t. if t then Some NoSuchSeat else refusal e.config past ev) there)
 
 -- what the world doesn't refuse the ends don't
@@ -165,7 +141,7 @@ pub free_shown : (e : Ends) (first : Contents) (j : List Entry) (seat : ℕ) (ev
     → None ≡ refusal_at (record { config = e.config; first = first; journal = j }) seat ev
     → refusal_of e.config (state_of e) ev ≡ None
 free_shown e first j seat ev k h =
-    follows.refuses e.config (state_of e) (history_of e.config first j) ev k.shows
+    follows.refuses e.config first (state_of e) (history_of e.config first j) ev k.shows (jobs_fit e.config first j k.told)
     ∙ go (nat_lt 10 seat) (refusal e.config (history_of e.config first j) ev) h where
       go : (t : Bool) (r : Option StepFault) → None ≡ (if t then Some NoSuchSeat else r) → r ≡ None
       go true r f = absurd cc
@@ -176,10 +152,10 @@ free_shown e first j seat ev k h =
 -- a new world shows the empty journal
 pub shown_new : (e : Ends) (c : Config) (first : Contents)
     → e.config ≡ c
-    → state_of e ≡ no_state c
+    → state_of e ≡ no_state c first
     → IsConfig c
     → IsShown e first []
 shown_new e c first same state configured =
-    let shows = subst (λ (s : State). Shows s (views c [])) (sym state) (follows.begins c) in
+    let shows = subst (λ (s : State). Shows s (views c first [])) (sym state) (follows.begins c first) in
     subst (λ (d : Config). IsWorld d first e []) (sym same)
     (record { configured = configured; shows = shows; told = tt })

@@ -13,6 +13,6 @@ mod world;
 pub use lpt_events::{
     Answer, ConfigFault, Entry, Event, Opening, Puts, Refused, Release, Reply, RunEnd, StepFault,
 };
-// pub use lpt_journal::laws;
+pub use lpt_journal::laws;
 pub use lpt_ledger::State;
 pub use world::World;

@@ -1,11 +1,11 @@
--- A memory is as it was first.
-use Rattle.std.proofs.Common.{◌∙◌, ap, sym}
+-- A memory is what the journal says.
+use Rattle.std.proofs.Common.{◌∙◌, ap}
 use Rattle.lpt_memory.specs.Memories.{content_of}
-use Rattle.lpt_world.specs.Worlds.{history}
-use Rattle.lpt_journal.proofs.JobLemmas.{memories_stay}
+use Rattle.lpt_world.specs.Worlds.{Shown, memories_now}
 use Rattle.lpt_world.proofs.world.World.memory.Goals as goal
 
 pub returns : goal.returns
 returns c =
-    let w = c.args.self.now in
-    c.first.ensures ∙ ap (content_of c.args.id) (sym (memories_stay w.config w.first (history w)))
+    c.content.ensures
+    ∙ ap (content_of c.args.id) c.self.invariant.shows.memories
+    ∙ ap (λ (w : Shown). content_of c.args.id (memories_now w)) c.self.view_is

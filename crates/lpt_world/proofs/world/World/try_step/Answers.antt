@@ -1,16 +1,27 @@
 -- An event that isn't refused is done, and the longer journal is shown.
-use Rattle.std.proofs.Common.{◌≡◌, ◌∙◌, ap, sym, length, None}
+use Rattle.std.proofs.Common.{arith, ◌≡◌, ◌∙◌, ap, sym, length, None}
 use Rattle.lpt_world.specs.EndsInside.{state_of}
 use Rattle.lpt_journal.specs.Replies.{reply}
 use Rattle.lpt_machine.specs.State.{refusal_of, after}
 use Rattle.lpt_world.specs.Worlds.{Shown, refusal_at, history}
-use Rattle.lpt_world.proofs.WorldLemmas.{free_shown, shown_push, reply_shown}
+use Rattle.lpt_world.proofs.LegalLemmas.{numbered_few}
+use Rattle.lpt_world.proofs.WorldLemmas.{free_shown, ready_shown, shown_push, reply_shown}
 use Rattle.lpt_world.proofs.world.World.try_step.Goals as goal
 
-pub apply-requires : goal.apply-requires
-apply-requires c =
+pub apply-requires-free : goal.apply-requires-free
+apply-requires-free c =
     free_shown c.self.inside.ends c.self.inside.first c.self.inside.journal.items c.args.seat c.args.event c.self.invariant
     (c.in-None.ensures ∙ sym (ap (λ (w : Shown). refusal_at w c.args.seat c.args.event) c.self.view_is))
+
+pub apply-requires-ready : goal.apply-requires-ready
+apply-requires-ready c =
+    ready_shown c.self.inside.ends c.self.inside.first c.self.inside.journal.items c.args.event c.self.invariant
+    (apply-requires-free c)
+
+pub apply-requires-numbers : goal.apply-requires-numbers
+apply-requires-numbers c =
+    omega (arith, numbered_few c.self.inside.ends.config c.self.inside.first (state_of c.self.inside.ends)
+    c.self.inside.journal.items c.self.invariant.told c.self.invariant.shows)
 
 pub invariant_of-self-in-Ok : goal.invariant_of-self-in-Ok
 invariant_of-self-in-Ok c =

@@ -1,13 +1,12 @@
 use Rattle.std.proofs.Common.{rules}
 use Rattle.lpt_tool.specs.Scripts.{stepped}
 use Rattle.lpt_tool.proofs.EndLemmas.{then_ends, first_ends}
-use Rattle.lpt_events.specs.declared.event.Event.TheVariants.{Take, Deliver}
-use Rattle.lpt_tool.proofs.command.run_pass.Goals as goal
+use Rattle.lpt_tool.proofs.command.run_both.Goals as goal
 
--- the packet was taken
+-- the first was accepted
 pub returns-in-Ok-false-clause-ends : goal.returns-in-Ok-false-clause-ends
 returns-in-Ok-false-clause-ends g c =
-    then_ends (stepped c.args.world.now (Take c.args.lane c.args.number)) (λ w. stepped w (Deliver c.args.lane))
+    then_ends (stepped c.args.world.now c.args.first) (λ w. stepped w c.args.second)
     c.run_event-in-Ok-false.result c.run_event.new.world c.run_event-in-Ok-false.new.world
     (g.K.Sink.contents c.args.out.now) (g.K.Sink.contents c.run_event.new.out) (g.K.Sink.contents c.run_event-in-Ok-false.new.out)
     (search rules) c.run_event-in-Ok-false.ensures.ends
@@ -15,6 +14,6 @@ returns-in-Ok-false-clause-ends g c =
 -- it was not, or its line could not be written
 pub returns-in_default-2-clause-ends : goal.returns-in_default-2-clause-ends
 returns-in_default-2-clause-ends g c =
-    first_ends c.args.world.now c.run_event.new.world (Take c.args.lane c.args.number) (λ w. stepped w (Deliver c.args.lane))
+    first_ends (stepped c.args.world.now c.args.first) c.run_event.new.world (λ w. stepped w c.args.second)
     c.run_event.result (g.K.Sink.contents c.args.out.now) (g.K.Sink.contents c.run_event.new.out)
     c.run_event.ensures.ends (search rules)

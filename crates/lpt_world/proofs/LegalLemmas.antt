@@ -1,0 +1,135 @@
+-- A journal that is told is legal, and its jobs fit.
+use Rattle.std.proofs.Common.{arith, ◌≡◌, ◌∙◌, ap, sym, subst, refl, ◌+◌, ◌≤◌, ℕ, suc, List, [], ◌∷◌, ◌++◌, length, map, reverse, drop, slice_get, Option, Some, None}
+use Rattle.std.proofs.lemmas.List.{append-nil, append_assoc, reverse-append, length-append, length-reverse, length-map, length-drop}
+use Rattle.lpt_memory.specs.Memories.{Contents}
+use Rattle.lpt_jobs.specs.declared.job.Mark.{Mark}
+use Rattle.lpt_jobs.specs.Jobs.{numbered}
+use Rattle.lpt_events.specs.declared.config.Config.{Config}
+use Rattle.lpt_events.specs.declared.entry.Entry.{Entry}
+use Rattle.lpt_events.specs.declared.entry.Release.{Release}
+use Rattle.lpt_events.specs.declared.event.Event.{Event}
+use Rattle.lpt_journal.specs.Jobs.{jobs, ticket}
+use Rattle.lpt_journal.specs.Journal.{History, with_all}
+use Rattle.lpt_journal.specs.Legal.{Legal}
+use Rattle.lpt_journal.specs.Releases.{released_by}
+use Rattle.lpt_journal.specs.Replies.{recorded}
+use Rattle.lpt_journal.proofs.NewJobs.{came_up, new_job}
+use Rattle.lpt_journal.proofs.TicketSteps.{jobs_sound}
+use Rattle.lpt_machine.specs.Shows.{Shows, JobsFit, jobs_from}
+use Rattle.lpt_machine.specs.State.{State}
+use Rattle.lpt_machine.specs.Views.{jobs_view, views}
+use Rattle.lpt_world.specs.Worlds.{IsTold, IsToldAfter, events_of, history_of}
+
+-- ---- journals
+
+-- the events of a journal, the oldest first
+abbrev events : List Entry → List Event
+events j = map (λ (y : Entry). y.event) j
+
+-- the events of a journal with an entry behind it
+pub events_of-push : (j : List Entry) (x : Entry)
+    → events_of (j ++ x ∷ []) ≡ x.event ∷ events_of j
+events_of-push j x =
+    ap reverse (map-append (λ (y : Entry). y.event) j (x ∷ []))
+    ∙ reverse-append (events j) (x.event ∷ [])
+
+length-recorded : (c : Config) (first : Contents) (es : List Event) → length (recorded c first es) ≡ length es
+length-recorded c first [] = refl
+length-recorded c first (e ∷ es) = ap (λ n. suc n) (length-recorded c first es)
+
+-- a history has as many events as its journal has entries
+pub length-history_of : (c : Config) (first : Contents) (j : List Entry) → length (history_of c first j) ≡ length j
+length-history_of c first j =
+    length-recorded c first (events_of j)
+    ∙ length-reverse (events j)
+    ∙ length-map j (λ (y : Entry). y.event)
+
+-- the events behind a past, newest first
+abbrev pub onto : List Event → List Entry → List Event
+onto past [] = past
+onto past (x ∷ xs) = onto (x.event ∷ past) xs
+
+pub onto-events_of : (past : List Event) (j : List Entry) → onto past j ≡ events_of j ++ past
+onto-events_of past [] = refl
+onto-events_of past (x ∷ xs) =
+    onto-events_of (x.event ∷ past) xs
+    ∙ sym (ap (λ es. es ++ past) (reverse-append (x.event ∷ []) (events xs))
+    ∙ append_assoc (reverse (events xs)) (x.event ∷ []) past)
+
+legal_after : (c : Config) (first : Contents) (past : List Event) (j : List Entry)
+    → Legal c first past
+    → IsToldAfter c first past j
+    → Legal c first (onto past j)
+legal_after c first past [] legal told = legal
+legal_after c first past (x ∷ xs) legal told =
+    legal_after c first (x.event ∷ past) xs (legal, told.0) told.2
+
+-- a journal that is told is legal
+pub told_is_legal : (c : Config) (first : Contents) (j : List Entry)
+    → IsTold c first j
+    → Legal c first (events_of j)
+told_is_legal c first j told =
+    subst (Legal c first) (onto-events_of [] j ∙ append-nil (events_of j))
+    (legal_after c first [] j tt told)
+
+-- ---- jobs
+
+-- the jobs of a journal that is told fit
+pub jobs_fit : (c : Config) (first : Contents) (j : List Entry)
+    → IsTold c first j
+    → JobsFit (jobs_view c first (history_of c first j)) (ticket (history_of c first j))
+jobs_fit c first j told =
+    let h = history_of c first j in
+    let sound = jobs_sound c first (events_of j) (told_is_legal c first j told) in
+    record {
+      executed = sound.applied_fits;
+      claimed = omega (arith, sound.claimed_fits, length-map (jobs c h) (λ (r : Release). r.message));
+      committed = sound.committed;
+      boots = λ w t is. (sound.tickets w t is).of_boot;
+      out = λ w t is same. record {
+        not_executed = (sound.tickets w t is).waits;
+        is_claimed = (sound.tickets w t is).was_claimed;
+        not_committed = (sound.tickets w t is).uncommitted;
+      };
+    }
+
+-- a list whose places are all the first has one element at most
+one_at_most : {A : Type 0} (xs : List A)
+    → ((k : ℕ) (x : A) → slice_get xs k ≡ Some x → k ≡ 0)
+    → length xs ≤ 1
+one_at_most [] only = omega arith
+one_at_most (x ∷ []) only = omega arith
+one_at_most (x ∷ y ∷ ys) only = let k : 1 ≡ 0 = only 1 y refl in absurd cc
+
+-- no more jobs come than events happen
+jobs_few : (c : Config) (h : History) → length (jobs c h) ≤ length h
+jobs_few c [] = omega arith
+jobs_few c (x ∷ h) =
+    let new = came_up (released_by c x h) in
+    let all : length (jobs c (x ∷ h)) ≡ length (jobs c h) + length new =
+    length-with_all (jobs c h) new in
+    omega (arith, all, jobs_few c h, one_at_most new (λ k r e. (new_job c x h k r e).0))
+  where
+    length-with_all : (xs ys : List Release) → length (with_all xs ys) ≡ length xs + length ys
+    length-with_all xs [] = omega arith
+    length-with_all xs (y ∷ ys) = length-append xs (y ∷ ys)
+
+length-jobs_from : (mark : ℕ → List ℕ → Mark) (n : ℕ) (ms : List (List ℕ))
+    → length (jobs_from mark n ms) ≡ length ms
+length-jobs_from mark n [] = refl
+length-jobs_from mark n (m ∷ ms) = ap (λ k. suc k) (length-jobs_from mark (suc n) ms)
+
+-- the spacecraft has numbered no more jobs than events have happened
+pub numbered_few : (c : Config) (first : Contents) (s : State) (j : List Entry)
+    → IsTold c first j
+    → Shows s (views c first (history_of c first j))
+    → numbered s.on_craft.jobs ≤ length j
+numbered_few c first s j told shows =
+    let h = history_of c first j in
+    let v = jobs_view c first h in
+    let fit = jobs_fit c first j told in
+    omega (arith, shows.jobs.first, ap length shows.jobs.jobs,
+    length-jobs_from (Rattle.lpt_machine.specs.Shows.mark_at v) v.applied (drop v.applied v.messages),
+    length-drop v.applied v.messages, fit.executed, fit.claimed,
+    length-map (jobs c h) (λ (r : Release). r.message), jobs_few c h,
+    length-history_of c first j)
