@@ -126,23 +126,41 @@ then_ends first second r w v a b c p q =
     joined_ends (Err (tool.Threads k)) q = q
 
 -- the first event alone, where it was refused or its text could not be written
-pub first_ends : (w v : Shown) (e : Event) (second : Shown → Ran) (r : Result Bool ToolFault) (a b : Option (List ℕ))
-    → LineEnds (stepped w e) r v a b
+pub first_ends : (first : Ran) (v : Shown) (second : Shown → Ran) (r : Result Bool ToolFault) (a b : Option (List ℕ))
+    → first.bad ≡ None
+    → LineEnds first r v a b
     → IfOk r (λ refused. refused ≡ true)
-    → LineEnds (and_then (stepped w e) second) r v a b
-first_ends w v e second r a b p q = by_reason (refusal_at w 0 e) r p q
+    → LineEnds (and_then first second) r v a b
+first_ends first v second r a b good p q = by_refused first.refused refl r p q
   where
-    by_reason : (x : Option StepFault) (r : Result Bool ToolFault) → LineEnds (stepped_as w e x) r v a b
+    by_refused : (t : Bool)
+        → first.refused ≡ t
+        → (r : Result Bool ToolFault)
+        → LineEnds first r v a b
         → IfOk r (λ refused. refused ≡ true)
-        → LineEnds (and_then (stepped_as w e x) second) r v a b
-    by_reason (Some first) r p q = p
-    by_reason None (Ok f) p q = let never : true ≡ false = sym q ∙ p.1 in absurd cc
-    by_reason None (Err (tool.Line k)) p q = let never : None ≡ Some k = p.0 in absurd cc
-    by_reason None (Err tool.Write) p q = part_of_front a b _ _ p
-    by_reason None (Err tool.Memory) p q = part_of_front a b _ _ p
-    by_reason None (Err tool.Read) p q = p
-    by_reason None (Err tool.Config) p q = p
-    by_reason None (Err (tool.Threads k)) p q = p
+        → LineEnds (unless_refused t first second) r v a b
+    by_refused true is r p q = p
+    by_refused false is (Ok f) p q = let never : true ≡ false = sym q ∙ p.1 ∙ is in absurd cc
+    by_refused false is (Err (tool.Line k)) p q = let never : None ≡ Some k = sym good ∙ p.0 in absurd cc
+    by_refused false is (Err tool.Write) p q = part_of_front a b _ _ p
+    by_refused false is (Err tool.Memory) p q = part_of_front a b _ _ p
+    by_refused false is (Err tool.Read) p q = p
+    by_refused false is (Err tool.Config) p q = p
+    by_refused false is (Err (tool.Threads k)) p q = p
+
+-- an event is no unreadable line
+pub good_event : (w : Shown) (e : Event) → (stepped w e).bad ≡ None
+good_event w e = go (refusal_at w 0 e) where
+  go : (o : Option StepFault) → (stepped_as w e o).bad ≡ None
+  go None = refl
+  go (Some f) = refl
+
+-- nor are two
+pub good_events : (w : Shown) (e f : Event) → (and_then (stepped w e) (λ v. stepped v f)).bad ≡ None
+good_events w e f = go (stepped w e).refused where
+  go : (t : Bool) → (unless_refused t (stepped w e) (λ v. stepped v f)).bad ≡ None
+  go true = good_event w e
+  go false = good_event (stepped w e).world f
 
 -- ---- a list of texts, one after another
 

@@ -1,6 +1,6 @@
 use Rattle.std.proofs.Common.{rules}
 use Rattle.lpt_tool.specs.Scripts.{stepped}
-use Rattle.lpt_tool.proofs.EndLemmas.{then_ends, first_ends}
+use Rattle.lpt_tool.proofs.EndLemmas.{then_ends, first_ends, good_event}
 use Rattle.lpt_tool.proofs.command.run_both.Goals as goal
 
 -- the first was accepted
@@ -16,4 +16,4 @@ pub returns-in_default-2-clause-ends : goal.returns-in_default-2-clause-ends
 returns-in_default-2-clause-ends g c =
     first_ends (stepped c.args.world.now c.args.first) c.run_event.new.world (λ w. stepped w c.args.second)
     c.run_event.result (g.K.Sink.contents c.args.out.now) (g.K.Sink.contents c.run_event.new.out)
-    c.run_event.ensures.ends (search rules)
+    (good_event c.args.world.now c.args.first) c.run_event.ensures.ends (search rules)

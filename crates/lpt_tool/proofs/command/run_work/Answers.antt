@@ -2,7 +2,7 @@ use Rattle.std.proofs.Common.{rules}
 use Rattle.lpt_events.specs.declared.event.Event.TheVariants.{Claim, Commit, Apply}
 use Rattle.lpt_events.specs.declared.worker.Worker.TheVariants.{W1}
 use Rattle.lpt_tool.specs.Scripts.{stepped, and_then}
-use Rattle.lpt_tool.proofs.EndLemmas.{then_ends, first_ends}
+use Rattle.lpt_tool.proofs.EndLemmas.{then_ends, first_ends, good_events}
 use Rattle.lpt_tool.proofs.command.run_work.Goals as goal
 
 -- a job was claimed and committed
@@ -18,4 +18,4 @@ pub returns-in_default-2-clause-ends : goal.returns-in_default-2-clause-ends
 returns-in_default-2-clause-ends g c =
     first_ends (and_then (stepped c.args.world.now (Claim W1)) (λ w. stepped w (Commit W1))) c.run_both.new.world (λ w. stepped w Apply)
     c.run_both.result (g.K.Sink.contents c.args.out.now) (g.K.Sink.contents c.run_both.new.out)
-    c.run_both.ensures.ends (search rules)
+    (good_events c.args.world.now (Claim W1) (Commit W1)) c.run_both.ensures.ends (search rules)
