@@ -18,13 +18,9 @@ use Rattle.lpt_journal.specs.Legal.{Legal}
 use Rattle.lpt_worked.proofs.LegalRows.{legal}
 use Rattle.lpt_worked.proofs.Listed.{releases_is}
 use Rattle.lpt_worked.proofs.Played.{Refuses, played, played_listed, played_is, gives, puts_packet}
-use Rattle.lpt_worked.specs.Passes.{usual, m20, usual_memories}
+use Rattle.lpt_worked.specs.Passes.{usual, m20, load, usual_memories}
 
--- the body of a request to load four octets
-abbrev load : List ℕ
-load = 1 ∷ 1 ∷ 0 ∷ 0 ∷ 0 ∷ 16 ∷ 0 ∷ 4 ∷ 171 ∷ 205 ∷ 239 ∷ 1 ∷ 4 ∷ 162 ∷ []
-
--- its packet
+-- the packet of a request to load four octets
 abbrev loading_packet : List ℕ
 loading_packet =
     24 ∷ 100 ∷ 192 ∷ 0 ∷ 0 ∷ 20 ∷ 32 ∷ 6 ∷ 2 ∷ 0 ∷ 1 ∷ 1 ∷ 1 ∷ 0 ∷ 0 ∷ 0 ∷ 16 ∷ 0 ∷ 4 ∷ 171 ∷ 205

@@ -1,5 +1,5 @@
 -- Worked passes with one transaction, computed by the definitions.
-use Rattle.std.proofs.Common.{◌≡◌, ◌∙◌, ap, ℕ, List, [], ◌∷◌, Some}
+use Rattle.std.proofs.Common.{◌≡◌, ◌∙◌, ap, List, [], ◌∷◌, Some}
 use Rattle.std.specs.List.{slice_get}
 use Rattle.lpt_packet.specs.declared.direction.Direction.TheVariants.{Up}
 use Rattle.lpt_packet.specs.Checksums.{checksum, octets_in, shift_all}
@@ -7,7 +7,6 @@ use Rattle.lpt_packet.specs.Packets.{seen, spelling}
 use Rattle.lpt_pus.specs.Commands.{tc_field, tc_verdict}
 use Rattle.lpt_part.specs.Parts.{body_of, part_verdict}
 use Rattle.lpt_events.specs.declared.lane.Lane.TheVariants.{S1, S2}
-use Rattle.lpt_events.specs.declared.config.Config.{Config}
 use Rattle.lpt_events.specs.declared.outcome.Outcome.TheVariants.{Kept, Again, Released, Ignored}
 use Rattle.lpt_events.specs.declared.outcome.Why.TheVariants.{Closed}
 use Rattle.lpt_events.specs.Arrivals.{arrival}

@@ -10,7 +10,6 @@ use Rattle.lpt_part.specs.declared.reason.Reason.TheVariants.{Expired as TimedOu
 use Rattle.lpt_part.specs.Aborts.{abort_body, abort_verdict}
 use Rattle.lpt_part.specs.Parts.{body_of, part_verdict}
 use Rattle.lpt_events.specs.declared.lane.Lane.TheVariants.{S1, G1}
-use Rattle.lpt_events.specs.declared.config.Config.{Config}
 use Rattle.lpt_events.specs.declared.outcome.Outcome.TheVariants.{Kept, Ignored, AbortNoted}
 use Rattle.lpt_events.specs.declared.outcome.Why.TheVariants.{Closed}
 use Rattle.lpt_events.specs.declared.side.Side.TheVariants.{Ground, Craft}

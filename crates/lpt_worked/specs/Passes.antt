@@ -1,13 +1,13 @@
 -- Worked passes: the configurations, the messages and the events.
-use Rattle.std.specs.Prelude.{ℕ, List, [], ◌∷◌}
-use Rattle.std.specs.Prelude.{replicate}
+use Rattle.std.specs.Prelude.{ℕ, List, [], ◌∷◌, ◌++◌, replicate}
 use Rattle.lpt_memory.specs.Memories.{Contents}
 use Rattle.lpt_packet.specs.declared.direction.Direction.TheVariants.{Up}
 use Rattle.lpt_events.specs.declared.config.Config.{Config}
 use Rattle.lpt_events.specs.declared.event.Event.{Event}
-use Rattle.lpt_events.specs.declared.event.Event.TheVariants.{Open, Send, Take, Deliver, Tick, Expire}
-use Rattle.lpt_events.specs.declared.lane.Lane.TheVariants.{S1}
+use Rattle.lpt_events.specs.declared.event.Event.TheVariants.{Open, Send, Plain, Take, Deliver, Tick, Expire, Claim, Commit, Apply}
+use Rattle.lpt_events.specs.declared.lane.Lane.TheVariants.{S1, G1}
 use Rattle.lpt_events.specs.declared.side.Side.TheVariants.{Craft}
+use Rattle.lpt_events.specs.declared.worker.Worker.TheVariants.{W1}
 
 -- ---- what passes have in common
 
@@ -65,3 +65,23 @@ two_expire =
     ∷ Take S1 0 ∷ Deliver S1
     ∷ Take S1 1 ∷ Deliver S1
     ∷ Tick Craft ∷ Expire Craft ∷ Expire Craft ∷ []
+
+-- ---- a load that is executed
+
+-- the body of a request to load four octets into memory 1 from place 16 on
+abbrev pub load : List ℕ
+load = 1 ∷ 1 ∷ 0 ∷ 0 ∷ 0 ∷ 16 ∷ 0 ∷ 4 ∷ 171 ∷ 205 ∷ 239 ∷ 1 ∷ 4 ∷ 162 ∷ []
+
+-- a worker reads the request before it is executed; ground gets the three reports that it asked for
+abbrev pub executed_load : List Event
+executed_load =
+    Plain 15 6 2 load
+    ∷ Take S1 0 ∷ Deliver S1
+    ∷ Claim W1 ∷ Commit W1 ∷ Apply
+    ∷ Take G1 1 ∷ Deliver G1
+    ∷ Take G1 2 ∷ Deliver G1
+    ∷ Take G1 3 ∷ Deliver G1 ∷ []
+
+-- the memory with those octets
+abbrev pub loaded_memories : Contents
+loaded_memories = (1, replicate 16 0 ++ 171 ∷ 205 ∷ 239 ∷ 1 ∷ replicate 236 0) ∷ []

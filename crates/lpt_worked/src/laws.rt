@@ -1,8 +1,10 @@
 //! Passes that are legal journals: functions with empty bodies.
 
-ghost use Rattle.std.specs.Prelude.{reverse};
+ghost use Rattle.std.specs.Prelude.{◌≡◌, reverse};
+ghost use Rattle.lpt_journal.specs.Jobs.{memories};
 ghost use Rattle.lpt_journal.specs.Legal.{Legal};
-ghost use Rattle.lpt_worked.specs.Passes.{usual, impatient, out_of_order, two_expire, usual_memories};
+ghost use Rattle.lpt_journal.specs.Replies.{recorded};
+ghost use Rattle.lpt_worked.specs.Passes.{usual, impatient, out_of_order, two_expire, executed_load, usual_memories, loaded_memories};
 
 /// A message of three parts is delivered with its last part first, and released.
 pub fn out_of_order_is_legal()
@@ -12,4 +14,10 @@ pub fn out_of_order_is_legal()
 /// Two receptions expire, one after the other.
 pub fn two_expire_is_legal()
     ensures { Legal impatient usual_memories (reverse two_expire) }
+{}
+
+/// A request to load four octets is claimed, committed and executed: they stand in the memory.
+pub fn executed_load_is_legal()
+    ensures legal { Legal usual usual_memories (reverse executed_load) }
+    ensures left { memories usual usual_memories (recorded usual usual_memories (reverse executed_load)) ≡ loaded_memories }
 {}
