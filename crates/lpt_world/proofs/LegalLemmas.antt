@@ -1,6 +1,6 @@
 -- A journal that is told is legal, and its jobs fit.
 use Rattle.std.proofs.Common.{arith, ◌≡◌, ◌∙◌, ap, sym, subst, refl, ◌+◌, ◌≤◌, ℕ, suc, List, [], ◌∷◌, ◌++◌, length, map, reverse, drop, slice_get, Option, Some, None}
-use Rattle.std.proofs.lemmas.List.{append-nil, append_assoc, reverse-append, length-append, length-reverse, length-map, length-drop}
+use Rattle.std.proofs.lemmas.List.{append-nil, append_assoc, reverse-append, length-append, length-reverse, length-map, length-drop, map-append}
 use Rattle.lpt_memory.specs.Memories.{Contents}
 use Rattle.lpt_jobs.specs.declared.job.Mark.{Mark}
 use Rattle.lpt_jobs.specs.Jobs.{numbered}
@@ -99,7 +99,7 @@ one_at_most : {A : Type 0} (xs : List A)
     → length xs ≤ 1
 one_at_most [] only = omega arith
 one_at_most (x ∷ []) only = omega arith
-one_at_most (x ∷ y ∷ ys) only = let k : 1 ≡ 0 = only 1 y refl in absurd cc
+one_at_most (x ∷ y ∷ ys) only = absurd (omega (arith, only 1 y refl))
 
 -- no more jobs come than events happen
 jobs_few : (c : Config) (h : History) → length (jobs c h) ≤ length h
