@@ -37,7 +37,7 @@ was_claimed-mark_at v i m = go (nat_lt i v.claimed) (v.committed i) where
   go false u = refl
 
 -- the mark by its tests
-mark_is : (v : JobsView) (i : ℕ) (m : List ℕ) (t u : Bool)
+pub mark_is : (v : JobsView) (i : ℕ) (m : List ℕ) (t u : Bool)
     → nat_lt i v.claimed ≡ t
     → v.committed i ≡ u
     → mark_at v i m
@@ -49,7 +49,7 @@ mark_is v i m t u e f =
     (if f j then Committed (record { apid = v.apid; sizes = v.sizes; message = m }) else Claimed)
     else Waiting
 
-lt_yes : (a b : ℕ) → a < b → nat_lt a b ≡ true
+pub lt_yes : (a b : ℕ) → a < b → nat_lt a b ≡ true
 lt_yes a b e = grind (arith, nat_tests)
 
 lt_no : (a b : ℕ) → b ≤ a → nat_lt a b ≡ false

@@ -4,9 +4,12 @@ pub mod Beginning
 pub mod DeliveredShown
 pub mod DueShown
 pub mod EventsShown
+pub mod ExecutedShown
+pub mod ExecutionAgrees
 pub mod ExpiredShown
 pub mod Fields
 pub mod Follows
+pub mod FrontShown
 pub mod JobsShown
 pub mod LinkShown
 pub mod MadeShown
