@@ -17,7 +17,6 @@ use Rattle.lpt_events.specs.declared.lane.Lane.{Lane}
 use Rattle.lpt_events.specs.Lanes.{lane_direction}
 use Rattle.lpt_events.specs.Sides.{receiver_side}
 use Rattle.lpt_events.specs.declared.config.Config.{Config}
-use Rattle.lpt_events.specs.declared.side.Side.{Side}
 use Rattle.lpt_events.specs.Arrivals.{Arrival, NotRead, AnIdle, Foreign, ARequest, AReport, NoPart, APart, AnAbort, arrival, sight_arrival, packet_arrival, command_arrival, telemetry_arrival, report_arrival, carried_kind, part_arrival}
 use Rattle.lpt_journal.specs.Journal.{History, SentPacket}
 use Rattle.lpt_journal.specs.Link.{sent}

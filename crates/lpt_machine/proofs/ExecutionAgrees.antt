@@ -1,56 +1,45 @@
 -- What the node does with a message that is executed is what the journal tells.
-use Rattle.std.proofs.Common.{◌≡◌, ◌∙◌, ap, sym, subst, refl, ℕ, ◌+◌, nat_lt, Bool, true, false, ◌||◌, if◌then◌else◌, List, [], ◌∷◌, ◌++◌, length, map, Option, Some, None, is_some}
+use Rattle.std.proofs.Common.{◌≡◌, ◌∙◌, ap, sym, refl, ℕ, nat_lt, List, [], ◌∷◌, ◌++◌, length, map, Option, Some, is_some}
 use Rattle.std.specs.FinMap as maps
-use Rattle.std.specs.List.{list_any, find, filter}
-use Rattle.std.specs.Option.{option_map, option_map_or, option_or}
-use Rattle.std.proofs.lemmas.List.{length-map, map-append}
-use Rattle.lpt_packet.specs.declared.direction.Direction.{Direction}
-use Rattle.lpt_packet.specs.declared.direction.Direction.TheVariants.{Up, Down}
+use Rattle.std.specs.Option.{option_map_or}
+use Rattle.std.proofs.lemmas.List.{map-append}
+use Rattle.lpt_packet.specs.declared.direction.Direction.TheVariants.{Down}
 use Rattle.lpt_packet.specs.Names.{Name}
 use Rattle.lpt_ledger.specs.LeastFree.{least_free_in, first_of_numbers, name_count}
 use Rattle.lpt_ledger.specs.States.{state_of, is_free as is_free_mark}
 use Rattle.lpt_events.specs.declared.config.Config.{Config}
-use Rattle.lpt_events.specs.declared.entry.Opening.{Opening}
 use Rattle.lpt_events.specs.declared.entry.Release.{Release}
 use Rattle.lpt_events.specs.declared.event.Event.TheVariants.{Apply}
 use Rattle.lpt_events.specs.declared.reply.Answer.{Answer}
 use Rattle.lpt_events.specs.declared.reply.Answer.TheVariants.{Applied}
-use Rattle.lpt_events.specs.declared.side.Side.TheVariants.{Ground, Craft}
-use Rattle.lpt_events.specs.Configs.{IsConfig}
-use Rattle.lpt_events.specs.Lanes.{same_direction}
+use Rattle.lpt_events.specs.declared.side.Side.TheVariants.{Craft}
 use Rattle.lpt_memory.specs.Answers.{answer}
 use Rattle.lpt_memory.specs.Meanings.{meaning}
 use Rattle.lpt_memory.specs.Memories.{Contents, sizes_of, effect}
 use Rattle.lpt_memory.specs.Readings.{meant}
 use Rattle.lpt_memory.proofs.MeaningLemmas.{meaning-fits}
 use Rattle.lpt_memory.proofs.PutLemmas.{sizes_of-effect}
-use Rattle.lpt_jobs.specs.Jobs.{Head, Ready, without_front}
+use Rattle.lpt_jobs.specs.Jobs.{without_front}
 use Rattle.lpt_execution.specs.declared.ending.Ending.{Ending}
 use Rattle.lpt_execution.specs.declared.ending.Ending.TheVariants.{Silent}
 use Rattle.lpt_execution.specs.declared.ending.Report.{Report}
 use Rattle.lpt_execution.specs.Endings.{ending}
 use Rattle.lpt_execution.specs.Reporting.{message_reports, link_packets, large_packets, opened_of, applied_of}
-use Rattle.lpt_node.specs.Jobs.{Execution, ending_at, report_packets, reported, executed_ending, executed_of, with_opened as node_opened}
+use Rattle.lpt_node.specs.Jobs.{Execution, ending_at, report_packets, reported, executed_ending, with_opened as node_opened}
 use Rattle.lpt_node.specs.Nodes.{NodeData, Sending}
-use Rattle.lpt_node.specs.Sending.{opened_in}
 use Rattle.lpt_journal.specs.Journal.{SentPacket, Recorded, History, with_all}
 use Rattle.lpt_journal.specs.Link.{sent}
-use Rattle.lpt_journal.specs.Jobs.{ticket, front_job, executed, executed_now, left_by, memories}
+use Rattle.lpt_journal.specs.Jobs.{executed, executed_now, left_by, memories}
 use Rattle.lpt_journal.specs.Executions.{ending_of, reports_after, opened_down}
 use Rattle.lpt_journal.specs.Receivers.{clock}
-use Rattle.lpt_journal.specs.Refusals.{refusal}
-use Rattle.lpt_journal.specs.Replies.{told, entry, reply}
-use Rattle.lpt_journal.specs.Senders.{Sender, FreeSender, OpenSender, ClosedSender, sender, sender_of, is_free, least_free, open_count, made, current, is_over, is_opening_of, octets_put, messages_opened, opened}
-use Rattle.lpt_machine.specs.Shows.{Shows, ShowsSending, JobsFit, mark_of}
-use Rattle.lpt_machine.specs.State.{State, after, put_some, put_all, executed_on, as_list, add_opening}
-use Rattle.lpt_machine.specs.Views.{Views, views, jobs_view, sending_view}
-use Rattle.lpt_machine.proofs.FrontShown.{source, Front, front_is}
-use Rattle.lpt_machine.proofs.JobsShown.{pop_shown}
-use Rattle.lpt_machine.proofs.LinkShown.{as_many_packets, link_more_all}
+use Rattle.lpt_journal.specs.Replies.{told}
+use Rattle.lpt_journal.specs.Senders.{Sender, FreeSender, OpenSender, ClosedSender, sender, is_free, least_free, made}
+use Rattle.lpt_machine.specs.Shows.{Shows, ShowsSending, mark_of}
+use Rattle.lpt_machine.specs.State.{State}
+use Rattle.lpt_machine.specs.Views.{Views, views, sending_view}
+use Rattle.lpt_machine.proofs.FrontShown.{source}
 use Rattle.lpt_machine.proofs.Refusals.{open_as_many}
-use Rattle.lpt_machine.proofs.ReportLengths.{large_opened}
-use Rattle.lpt_machine.proofs.ReportsMade.{packets_agree, reports_shown}
-use Rattle.lpt_machine.proofs.SendingShown.{opened_shown}
+use Rattle.lpt_machine.proofs.ReportsMade.{packets_agree}
 
 -- ---- what is asked before it
 

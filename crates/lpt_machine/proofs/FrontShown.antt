@@ -1,20 +1,12 @@
 -- The job at the front: whether it can be executed, and what its reading was made for.
-use Rattle.std.proofs.Common.{◌≡◌, ◌∙◌, ap, sym, subst, refl, ℕ, ◌+◌, ◌<◌, nat_lt, Bool, true, false, not, ◌||◌, if◌then◌else◌, List, [], ◌∷◌, ◌++◌, length, map, Option, Some, None, is_some}
-use Rattle.std.specs.Prelude.{slice_get}
-use Rattle.std.specs.FinMap as maps
-use Rattle.std.specs.List.{list_any, find}
-use Rattle.std.specs.Option.{option_map, option_map_or, option_or}
-use Rattle.std.proofs.lemmas.List.{length-map, map-append}
+use Rattle.std.proofs.Common.{◌≡◌, ◌∙◌, ap, sym, subst, refl, ℕ, nat_lt, Bool, true, false, not, List, [], ◌∷◌, Option, Some, None, is_some}
+use Rattle.std.specs.Option.{option_map}
 use Rattle.std.proofs.lemmas.Option.{slice_get-map}
-use Rattle.lpt_packet.specs.declared.direction.Direction.TheVariants.{Up, Down}
-use Rattle.lpt_packet.specs.Names.{Name}
 use Rattle.lpt_events.specs.declared.config.Config.{Config}
 use Rattle.lpt_events.specs.declared.entry.Release.{Release}
 use Rattle.lpt_events.specs.declared.event.Event.TheVariants.{Apply}
 use Rattle.lpt_events.specs.declared.fault.StepFault.TheVariants.{NoJob, NotReady}
-use Rattle.lpt_memory.specs.Answers.{answer}
-use Rattle.lpt_memory.specs.Meanings.{meaning}
-use Rattle.lpt_memory.specs.Memories.{Contents, sizes_of, effect}
+use Rattle.lpt_memory.specs.Memories.{Contents, sizes_of}
 use Rattle.lpt_memory.specs.Readings.{Source}
 use Rattle.lpt_jobs.specs.Jobs.{Head, NoJob as NoHead, NotReady as HeadNotReady, Ready, head_of}
 use Rattle.lpt_node.specs.Faults.{node_fault}

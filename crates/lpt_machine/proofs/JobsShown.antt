@@ -1,11 +1,9 @@
 -- The spacecraft's queue shows the journal's jobs after each release, claim, commit and execution.
-use Rattle.std.proofs.Common.{◌≡◌, ◌≢◌, ◌∙◌, ap, sym, subst, refl, ℕ, ◌+◌, ◌-◌, ◌<◌, ◌≤◌, ◌==◌, nat_lt, Bool, true, false, ◌||◌, if◌then◌else◌, IsTrue, List, [], ◌∷◌, ◌++◌, length, map, drop, Option, Some, None, is_some, arith, length-append, length-drop}
+use Rattle.std.proofs.Common.{◌≡◌, ◌≢◌, ◌∙◌, ap, sym, subst, refl, ℕ, ◌+◌, ◌-◌, ◌<◌, ◌≤◌, ◌==◌, nat_lt, Bool, true, false, ◌||◌, if◌then◌else◌, IsTrue, List, [], ◌∷◌, ◌++◌, length, map, drop, Option, Some, None, arith, length-drop}
 use Rattle.std.specs.Prelude.{slice_get}
 use Rattle.std.specs.Option.{option_map, option_map_or}
 use Rattle.std.proofs.lemmas.Bool.Decides.{nat_tests}
 use Rattle.std.proofs.lemmas.List.{drop-append-le, map-append}
-use Rattle.std.proofs.lemmas.Option.{slice_get_within}
-use Rattle.lpt_events.specs.declared.worker.Worker.{Worker}
 use Rattle.lpt_events.specs.declared.entry.Release.{Release}
 use Rattle.lpt_jobs.specs.declared.job.Job.{Job}
 use Rattle.lpt_jobs.specs.declared.job.Mark.{Mark}
@@ -14,7 +12,7 @@ use Rattle.lpt_jobs.specs.Jobs.{Jobs, claimed_in, was_claimed, is_out, is_claime
 use Rattle.lpt_memory.specs.Readings.{Job as Ticket}
 use Rattle.lpt_journal.specs.Jobs.{JobName}
 use Rattle.lpt_journal.proofs.TestLemmas.{get-with_all}
-use Rattle.lpt_machine.specs.Shows.{Shows, ShowsJobs, ShowsTicket, JobsFit, IsOut, mark_at, jobs_from}
+use Rattle.lpt_machine.specs.Shows.{Shows, ShowsJobs, ShowsTicket, IsOut, mark_at, jobs_from}
 use Rattle.lpt_machine.specs.State.{State}
 use Rattle.lpt_machine.specs.Views.{Views, JobsView}
 use Rattle.lpt_machine.proofs.Fields.{with_jobs}

@@ -1,12 +1,11 @@
 -- A worker claims a job, or hands its reading in: refusal, answer and the longer journal.
-use Rattle.std.proofs.Common.{◌≡◌, ◌∙◌, ap, sym, subst, refl, ℕ, ◌+◌, ◌<◌, ◌≤◌, ◌==◌, nat_le, Bool, true, false, not, ◌||◌, if◌then◌else◌, IsTrue, IfSome, List, [], ◌∷◌, length, map, Option, Some, None, is_some, arith}
+use Rattle.std.proofs.Common.{◌≡◌, ◌∙◌, ap, sym, subst, refl, ℕ, ◌<◌, ◌==◌, nat_le, Bool, true, false, not, ◌||◌, if◌then◌else◌, IsTrue, IfSome, List, [], ◌∷◌, length, map, Option, Some, None, is_some, arith}
 use Rattle.std.specs.Prelude.{slice_get}
 use Rattle.std.specs.Option.{option_map}
 use Rattle.std.proofs.lemmas.List.{length-map}
 use Rattle.lpt_packet.proofs.Readings.{eq_true}
 use Rattle.lpt_events.specs.declared.config.Config.{Config}
 use Rattle.lpt_events.specs.declared.event.Event.TheVariants.{Claim, Commit}
-use Rattle.lpt_events.specs.declared.fault.StepFault.{StepFault}
 use Rattle.lpt_events.specs.declared.fault.StepFault.TheVariants.{HandFull, HandEmpty, NoJob}
 use Rattle.lpt_events.specs.declared.reply.Answer.TheVariants.{Claimed}
 use Rattle.lpt_events.specs.declared.side.Side.TheVariants.{Craft}
@@ -26,7 +25,7 @@ use Rattle.lpt_journal.specs.Refusals.{refusal, first_fault}
 use Rattle.lpt_journal.specs.Replies.{entry, reply, committed_now}
 use Rattle.lpt_journal.proofs.TestLemmas.{not_false, one_passes, two_pass}
 use Rattle.lpt_machine.specs.Shows.{Shows, ShowsTicket, JobsFit}
-use Rattle.lpt_machine.specs.State.{State, IsReady, refusal_of, refusal_claim_by, refusal_commit_of, after, claimed_on, committed_on, quiet}
+use Rattle.lpt_machine.specs.State.{State, IsReady, refusal_of, refusal_claim_by, refusal_commit_of, claimed_on, committed_on, quiet}
 use Rattle.lpt_machine.specs.Tickets.{Tickets, ticket_of, with_ticket}
 use Rattle.lpt_machine.specs.Views.{Views, views, jobs_view}
 use Rattle.lpt_machine.proofs.Fields.{with_jobs}
@@ -141,12 +140,11 @@ claimed_job : (c : Config) (first : Contents) (s : State) (h : History) (w : Wor
 claimed_job c first s h w k fits e =
     let free : nat_le (length (jobs c h)) (claimed h) ≡ false = (two_pass _ _ HandFull NoJob e).1 in
     let found = there_is (slice_get (map (λ r. r.message) (jobs c h)) (claimed h))
-    (waits c first h ∙ ap not free) in
-    (
+    (waits c first h ∙ ap not free) in (
       found.0,
       found.1,
       unclaimed_shown fits.executed fits.claimed k.jobs
-      ∙ ap (option_map {U = ℕ × List ℕ} (λ m. (claimed h, m))) found.1,
+          ∙ ap (option_map {U = ℕ × List ℕ} (λ m. (claimed h, m))) found.1,
     )
 
 pub claimed_answer : (c : Config) (first : Contents) (s : State) (h : History) (w : Worker)
