@@ -27,12 +27,14 @@ use Rattle.lpt_machine.specs.Views.{views, jobs_view}
 use Rattle.lpt_machine.proofs.DeliveredShown.{delivered_shown}
 use Rattle.lpt_machine.proofs.DueShown.{due_shown}
 use Rattle.lpt_machine.proofs.ExecutedShown.{executed_shown}
-use Rattle.lpt_machine.proofs.WorkersShown.{claimed_shown, committed_shown}
+use Rattle.lpt_machine.proofs.ClaimsShown.{claimed_shown}
+use Rattle.lpt_machine.proofs.CommitsShown.{committed_shown}
 use Rattle.lpt_machine.proofs.ExpiredShown.{expired_shown, with_expiry}
 use Rattle.lpt_machine.proofs.Fields.{with_sending, with_clock, with_link, with_opened, sending_at}
 use Rattle.lpt_machine.proofs.LinkShown.{link_lost, link_taken}
 use Rattle.lpt_memory.specs.Memories.{Contents}
-use Rattle.lpt_machine.proofs.SendingShown.{opened_shown, closed_shown, sent_shown, plain_shown}
+use Rattle.lpt_machine.proofs.OpenedShown.{opened_shown, closed_shown}
+use Rattle.lpt_machine.proofs.SendingShown.{sent_shown, plain_shown}
 
 -- the opening of a message after a journal
 abbrev opening : History → Direction → Name → List ℕ → Opening

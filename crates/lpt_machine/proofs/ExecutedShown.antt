@@ -34,7 +34,7 @@ use Rattle.lpt_machine.proofs.JobsShown.{pop_shown}
 use Rattle.lpt_machine.proofs.LinkShown.{as_many_packets, link_more_all}
 use Rattle.lpt_machine.proofs.ReportLengths.{large_opened}
 use Rattle.lpt_machine.proofs.ReportsMade.{reports_shown}
-use Rattle.lpt_machine.proofs.SendingShown.{opened_shown}
+use Rattle.lpt_machine.proofs.OpenedShown.{opened_shown}
 
 -- ---- the answer
 

@@ -14,7 +14,7 @@ use Rattle.lpt_machine.proofs.EventsShown.{event_shown}
 use Rattle.lpt_machine.proofs.FrontShown.{apply_ready}
 use Rattle.lpt_machine.proofs.Refusals.{refusal_shown}
 use Rattle.lpt_machine.proofs.Replies.{reply_shown}
-use Rattle.lpt_machine.proofs.WorkersShown.{commit_ready}
+use Rattle.lpt_machine.proofs.CommitsShown.{commit_ready}
 
 -- what the nodes ask for besides is so
 ready_shown : (c : Config) (first : Contents) (s : State) (h : History) (e : Event)

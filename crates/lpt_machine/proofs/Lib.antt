@@ -1,7 +1,10 @@
 pub mod ArrivalsAgree
 pub mod Arriving
 pub mod Beginning
+pub mod ClaimsShown
+pub mod CommitsShown
 pub mod DeliveredShown
+pub mod DeliveredViews
 pub mod DueShown
 pub mod EventsShown
 pub mod ExecutedShown
@@ -13,6 +16,8 @@ pub mod FrontShown
 pub mod JobsShown
 pub mod LinkShown
 pub mod MadeShown
+pub mod MarksShown
+pub mod OpenedShown
 pub mod QueueLemmas
 pub mod ReceivingShown
 pub mod Refusals
@@ -21,4 +26,4 @@ pub mod ReportLengths
 pub mod ReportShown
 pub mod ReportsMade
 pub mod SendingShown
-pub mod WorkersShown
+pub mod TicketsShown

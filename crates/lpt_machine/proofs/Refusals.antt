@@ -41,7 +41,8 @@ use Rattle.lpt_journal.proofs.CountLemmas.{open_named}
 use Rattle.lpt_machine.proofs.DueShown.{due_shown}
 use Rattle.lpt_machine.proofs.Fields.{sending_at, clock_at}
 use Rattle.lpt_machine.proofs.FrontShown.{apply_refused}
-use Rattle.lpt_machine.proofs.WorkersShown.{claim_refused, commit_refused}
+use Rattle.lpt_machine.proofs.ClaimsShown.{claim_refused}
+use Rattle.lpt_machine.proofs.CommitsShown.{commit_refused}
 use Rattle.lpt_memory.specs.Memories.{Contents}
 
 -- ---- opening

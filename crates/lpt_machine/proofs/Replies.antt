@@ -45,7 +45,8 @@ use Rattle.lpt_machine.specs.Views.{views, jobs_view, receiving_view}
 use Rattle.lpt_machine.proofs.ArrivalsAgree.{delivery, part_agrees, arrival_agrees}
 use Rattle.lpt_machine.proofs.DueShown.{due_shown}
 use Rattle.lpt_machine.proofs.ExecutedShown.{executed_answer}
-use Rattle.lpt_machine.proofs.WorkersShown.{claimed_answer, committed_answer}
+use Rattle.lpt_machine.proofs.ClaimsShown.{claimed_answer}
+use Rattle.lpt_machine.proofs.CommitsShown.{committed_answer}
 use Rattle.lpt_machine.proofs.Fields.{receiving_at, clock_at}
 use Rattle.lpt_memory.specs.Memories.{Contents}
 use Rattle.lpt_machine.proofs.LinkShown.{as_many_packets}
