@@ -121,7 +121,8 @@ committed_shown c first s h w k fits e =
           let shown = commit_shown x.job x.message (fits.out w (named x) name this)
           ((k.tickets w).message x a this) k.jobs in
           subst (λ (b : Bool).
-          Shows (handed_in c s w x b (sizes_of s.memories)) (commit_view c first h w (Some (named x))))
+          Shows (handed_in c s w x b (sizes_of s.memories))
+          (commit_view c first h w (Some (named x))))
           (sym now)
           (subst (λ (ss : Sizes).
           Shows (handed_in c s w x true ss) (commit_view c first h w (Some (named x)))) (sym sizes)

@@ -85,11 +85,13 @@ module _ (c : Config) (first : Contents) (h : History) (s : State) (hands : Hand
         → ShowsReceiving (end_of s (receiver_side w)).receiving (receiving_view c h w)
         → PartShown c first h s hands w q false false false false true
     releasing Up f =
-        let out = release (length h) (Some (Up, q.id)) (spelled (with_piece (heard c h Up q.id) q)) in
+        let out = release (length h) (Some (Up, q.id))
+        (spelled (with_piece (heard c h Up q.id) q)) in
         with_release (jobs c h) out refl fits.executed fits.claimed
         (receives Up k (ended_shown q.id f) (ap (λ rs. rs ++ out ∷ []) k.released))
     releasing Down f =
-        let out = release (length h) (Some (Down, q.id)) (spelled (with_piece (heard c h Down q.id) q)) in
+        let out = release (length h) (Some (Down, q.id))
+        (spelled (with_piece (heard c h Down q.id) q)) in
         receives Down k (ended_shown q.id f) (ap (λ rs. rs ++ out ∷ []) k.released)
   part q false false false false false some =
       receives w k (kept_shown q _ _ time own) k.released

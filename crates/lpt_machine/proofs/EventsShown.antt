@@ -75,8 +75,10 @@ event_shown c first s h (Lose n) in_range k fits e =
     with_link k (link_lost n (lt_is n (length (sent h)) there) k.link)
 event_shown c first s h (Take l n) in_range k fits e = with_link k (link_taken l n k.link)
 event_shown c first s h (Deliver l) in_range k fits e = delivered_shown c first s h l k fits
-event_shown c first s h (Tick Ground) in_range k fits e = with_clock Ground k (ap (λ n. n + 1) k.ground.clock)
-event_shown c first s h (Tick Craft) in_range k fits e = with_clock Craft k (ap (λ n. n + 1) k.craft.clock)
+event_shown c first s h (Tick Ground) in_range k fits e =
+    with_clock Ground k (ap (λ n. n + 1) k.ground.clock)
+event_shown c first s h (Tick Craft) in_range k fits e =
+    with_clock Craft k (ap (λ n. n + 1) k.craft.clock)
 event_shown c first s h (Expire side) in_range k fits e =
     let o = due c h (direction_to side) in
     let told = (reply c first h (Expire side)).puts in

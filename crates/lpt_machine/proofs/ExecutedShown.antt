@@ -176,7 +176,9 @@ done c first s h r d = record s {
 done_shown : (c : Config) (first : Contents) (s : State) (h : History) (r : Release)
     → IsConfig c
     → Shows s (views c first h)
-    → Shows (executed_on (length h) s (ended_told c first s h r.message, told_memories c first h (Some r))).0
+    → Shows
+    (executed_on (length h) s
+    (ended_told c first s h r.message, told_memories c first h (Some r))).0
     (told_view c first h r)
 done_shown c first s h r in_range k =
     let m = r.message in
@@ -189,7 +191,9 @@ done_shown c first s h r in_range k =
     (sym (opened_by_is d (message c first h m)))
     (record {
       ground = record {
-        sending = ground_shown h (length h) (message c first h m) (on_link c first h m) k.ground.sending;
+        sending =
+            ground_shown h (length h) (message c first h m) (on_link c first h m)
+            k.ground.sending;
         receiving = k.ground.receiving;
         clock = k.ground.clock;
       };
@@ -219,5 +223,7 @@ executed_shown c first s h in_range k fits e =
     Shows (executed_on (length h) s x).0 (views c first (entry c first h Apply ∷ h)))
     (sym (executed_at c first s h k f))
     (subst (λ (o : Option Release).
-    Shows (executed_on (length h) s (ended_told c first s h f.job.message, told_memories c first h (Some f.job))).0
+    Shows
+    (executed_on (length h) s
+    (ended_told c first s h f.job.message, told_memories c first h (Some f.job))).0
     (view_by c first h o)) (sym f.is_front) (done_shown c first s h f.job in_range k))

@@ -54,7 +54,8 @@ least_shown : {x : Sending} (h : History)
     → least_free_in x.ledger ≡ least_free h Down
 unfolding least_free_in
 least_shown {x = x} h k =
-    let same : (id : Name) → is_free_mark (state_of (maps.get x.ledger id)) ≡ is_free (sender h Down id) =
+    let same : (id : Name)
+    → is_free_mark (state_of (maps.get x.ledger id)) ≡ is_free (sender h Down id) =
     λ id. ap (λ m. is_free_mark (state_of m)) (k.ledger id) ∙ free_shown (sender h Down id) in
     λ i. first_of_numbers name_count 0 (λ id. same id i)
 
@@ -81,7 +82,8 @@ packets c first h m = reports_after c (made h Down) (clock c h Craft) (reports c
 
 -- what it opens
 abbrev pub message : Config → Contents → History → List ℕ → Option (Name × List ℕ)
-message c first h m = opened_of (least_free h Down) (large_packets c.part_size (packets c first h m))
+message c first h m =
+    opened_of (least_free h Down) (large_packets c.part_size (packets c first h m))
 
 -- what it answers
 abbrev pub told_answer : Config → Contents → History → List ℕ → Answer
@@ -121,7 +123,8 @@ told_view c first h r =
 abbrev pub entry_by : Config → Contents → History → Option Release → Recorded
 entry_by c first h o =
     let end = option_map_or (λ r. ending_of c first h r.message) o Silent in
-    let rs = option_map_or (λ r. message_reports c.apid r.message (ending_of c first h r.message)) o [] in
+    let rs =
+    option_map_or (λ r. message_reports c.apid r.message (ending_of c first h r.message)) o [] in
     let bs = reports_after c (made h Down) (clock c h Craft) rs in
     let opens = opened_of (least_free h Down) (large_packets c.part_size bs) in
     let ps = sent_down (link_packets c.part_size bs) in
@@ -208,5 +211,6 @@ pub told_sizes : (c : Config) (first : Contents) (h : History) (r : Release)
     → sizes_of (told_memories c first h (Some r)) ≡ sizes_of (memories c first h)
 told_sizes c first h r =
     ap sizes_of (told_more c first h r)
-    ∙ sizes_of-effect (meaning c.apid (sizes_of (memories c first h)) r.message) (memories c first h)
+    ∙ sizes_of-effect (meaning c.apid (sizes_of (memories c first h)) r.message)
+    (memories c first h)
     (meaning-fits c.apid (sizes_of (memories c first h)) r.message)

@@ -130,7 +130,8 @@ pub with_jobs : {s : State} {v : Views} {x : Jobs} {y : JobsView} {t : Tickets}
     (record v { jobs = y; tickets = of })
 with_jobs k f g same = record {
   ground = k.ground;
-  craft = record { sending = k.craft.sending; receiving = k.craft.receiving; clock = k.craft.clock };
+  craft =
+      record { sending = k.craft.sending; receiving = k.craft.receiving; clock = k.craft.clock };
   link = k.link;
   jobs = f;
   tickets = g;

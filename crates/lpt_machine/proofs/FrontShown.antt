@@ -46,8 +46,12 @@ head_shown c first s h k fits =
           → is_committed h (applied h) ≡ false
           → nat_lt (applied h) (jobs_view c first h).claimed ≡ t
           → head_from (mark_at (jobs_view c first h) (applied h)) (Some m) ≡ HeadNotReady
-      waiting m true e f = ap (λ a. head_from (λ q. a) (Some m)) (mark_is (jobs_view c first h) (applied h) m true false f e)
-      waiting m false e f = ap (λ a. head_from (λ q. a) (Some m)) (mark_is (jobs_view c first h) (applied h) m false false f e)
+      waiting m true e f =
+          ap (λ a. head_from (λ q. a) (Some m))
+          (mark_is (jobs_view c first h) (applied h) m true false f e)
+      waiting m false e f =
+          ap (λ a. head_from (λ q. a) (Some m))
+          (mark_is (jobs_view c first h) (applied h) m false false f e)
 
       go : (o : Option Release) (t : Bool)
           → is_committed h (applied h) ≡ t

@@ -63,7 +63,7 @@ push_shown {x = x} {v = v} m least most k = record {
   first = k.first;
   jobs =
       ap (λ js. js ++ record { message = m; mark = Waiting } ∷ []) k.jobs
-      ∙ ap (λ mark. jobs_from (mark_at v) v.applied rest ++ record { message = m; mark = mark } ∷ [])
+      ∙ ap (λ a. jobs_from (mark_at v) v.applied rest ++ record { message = m; mark = a } ∷ [])
       (sym (mark_is v at m false (v.committed at) waits refl))
       ∙ sym (jobs_from-append (mark_at v) v.applied rest m at refl)
       ∙ ap (λ ms. jobs_from (mark_at v) v.applied ms)
@@ -99,7 +99,8 @@ pub with_release : {s : State} {v : Views} (rs : List Release) (r : Release)
     (record v { jobs = record v.jobs { messages = map (λ r. r.message) (rs ++ r ∷ []) } })
 with_release {s = s} {v = v} rs r e least most k =
     subst (λ (ms : List (List ℕ)).
-    Shows (record s { on_craft = record s.on_craft { jobs = after_push s.on_craft.jobs r.message } })
+    Shows
+    (record s { on_craft = record s.on_craft { jobs = after_push s.on_craft.jobs r.message } })
     (record v { jobs = record v.jobs { messages = ms } }))
     (ap (λ ms. ms ++ r.message ∷ []) e ∙ sym (map-append (λ r. r.message) rs (r ∷ [])))
     (with_jobs k (push_shown r.message least most k.jobs)
@@ -114,7 +115,8 @@ pub front_shown : {boot : ℕ} {x : Jobs} {v : JobsView}
 front_shown {x = x} {v = v} k =
     ap head_of k.jobs
     ∙ head_of-jobs_from (mark_at v) v.applied (drop v.applied v.messages)
-    ∙ ap (head_from (mark_at v v.applied)) (slice_get-drop v.messages v.applied 0 v.applied (omega arith))
+    ∙ ap (head_from (mark_at v v.applied))
+    (slice_get-drop v.messages v.applied 0 v.applied (omega arith))
 
 -- the job at the front has left
 pub pop_shown : {boot : ℕ} {x : Jobs} {v : JobsView}

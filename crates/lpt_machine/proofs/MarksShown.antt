@@ -79,7 +79,8 @@ claim_shown {x = x} {v = v} least most free k = record {
   new : (m : List ℕ)
       → slice_get (drop v.applied v.messages) n ≡ Some m
       → Claimed ≡ mark_at u v.claimed m
-  new m e = sym (mark_is u v.claimed m true false (lt_yes v.claimed (v.claimed + 1) (omega arith)) free)
+  new m e =
+      sym (mark_is u v.claimed m true false (lt_yes v.claimed (v.claimed + 1) (omega arith)) free)
 
 -- ---- a commit
 
@@ -97,8 +98,11 @@ commit_shown {x = x} {v = v} n m out there k = record {
   jobs =
       (λ i. with_mark (k.jobs i) (n - k.first i) handed)
       ∙ with_mark-jobs_from (mark_at v) (mark_at u) handed v.applied (drop v.applied v.messages)
-      (n - v.applied) n (let a : v.applied ≤ n = out.not_executed in omega arith) same new;
+      (n - v.applied) n at same new;
 } where
+  at : n ≡ v.applied + (n - v.applied)
+  at = let a : v.applied ≤ n = out.not_executed in omega arith
+
   handed : Mark
   handed = Committed (record { apid = v.apid; sizes = v.sizes; message = m })
 
@@ -110,15 +114,18 @@ commit_shown {x = x} {v = v} n m out there k = record {
       let e : (n == i) ≡ false = grind (arith, nat_tests) in
       sym (mark_is u i a (nat_lt i v.claimed) (v.committed i) refl (ap (λ t. t || v.committed i) e))
 
-  new : (a : List ℕ) → slice_get (drop v.applied v.messages) (n - v.applied) ≡ Some a → handed ≡ mark_at u n a
+  new : (a : List ℕ)
+      → slice_get (drop v.applied v.messages) (n - v.applied) ≡ Some a
+      → handed ≡ mark_at u n a
   new a e =
       let self : (n == n) ≡ true = grind (arith, nat_tests) in
       let here : slice_get v.messages n ≡ Some a =
-      sym (slice_get-drop v.messages v.applied (n - v.applied) n (let b : v.applied ≤ n = out.not_executed in omega arith)) ∙ e in
+      sym (slice_get-drop v.messages v.applied (n - v.applied) n at) ∙ e in
       let found : ◌≡◌ {A = Option (List ℕ)} (Some m) (Some a) = sym there ∙ here in
       let is : m ≡ a = cc in
       ap (λ q. Committed (record { apid = v.apid; sizes = v.sizes; message = q })) is
-      ∙ sym (mark_is u n a true true (lt_yes n v.claimed out.is_claimed) (ap (λ t. t || v.committed n) self))
+      ∙ sym (mark_is u n a true true (lt_yes n v.claimed out.is_claimed)
+      (ap (λ t. t || v.committed n) self))
 
 -- a job that is out is claimed, and no reading of it committed
 pub is_out_shown : {boot : ℕ} {x : Jobs} {v : JobsView} (n : ℕ) (m : List ℕ)
@@ -127,11 +134,19 @@ pub is_out_shown : {boot : ℕ} {x : Jobs} {v : JobsView} (n : ℕ) (m : List �
     → ShowsJobs boot x v
     → IsTrue (is_claimed x n)
 is_out_shown {x = x} {v = v} n m out there k =
-    (λ i. option_map_or (λ j. is_out j.mark) (if nat_lt n (k.first i) then None else slice_get (k.jobs i) (n - k.first i)) false)
-    ∙ ap (λ t. option_map_or (λ j. is_out j.mark) (if t then None else slice_get (jobs_from (mark_at v) v.applied (drop v.applied v.messages)) (n - v.applied)) false) (lt_no n v.applied out.not_executed)
+    (λ i. option_map_or (λ j. is_out j.mark)
+    (if nat_lt n (k.first i) then None else slice_get (k.jobs i) (n - k.first i)) false)
+    ∙ ap (λ t. option_map_or (λ j. is_out j.mark)
+    (if t then None else slice_get queue (n - v.applied)) false)
+    (lt_no n v.applied out.not_executed)
     ∙ ap (λ o. option_map_or (λ j. is_out j.mark) o false)
     (slice_get-jobs_from (mark_at v) v.applied (drop v.applied v.messages) (n - v.applied) n at
-    ∙ ap (option_map (λ a. record { message = a; mark = mark_at v n a })) (slice_get-drop v.messages v.applied (n - v.applied) n at ∙ there))
-    ∙ ap is_out (mark_is v n m true false (lt_yes n v.claimed out.is_claimed) out.not_committed) where
-      at : n ≡ v.applied + (n - v.applied)
-      at = let a : v.applied ≤ n = out.not_executed in omega arith
+    ∙ ap (option_map (λ a. record { message = a; mark = mark_at v n a }))
+    (slice_get-drop v.messages v.applied (n - v.applied) n at ∙ there))
+    ∙ ap is_out (mark_is v n m true false (lt_yes n v.claimed out.is_claimed) out.not_committed)
+  where
+    queue : List Job
+    queue = jobs_from (mark_at v) v.applied (drop v.applied v.messages)
+
+    at : n ≡ v.applied + (n - v.applied)
+    at = let a : v.applied ≤ n = out.not_executed in omega arith

@@ -142,7 +142,8 @@ reply_shown c first s h (Plain flags service subtype body) k fits e =
 reply_shown c first s h (Finish d id) k fits e = refl
 reply_shown c first s h (Lose n) k fits e = refl
 reply_shown c first s h (Take l n) k fits e = refl
-reply_shown c first s h (Tick side) k fits e = ap (λ n. quiet (Clock (n + 1))) (clock_at c first h side k)
+reply_shown c first s h (Tick side) k fits e =
+    ap (λ n. quiet (Clock (n + 1))) (clock_at c first h side k)
 reply_shown c first s h (Expire side) k fits e =
     ap (λ (o : Option Name). (expired_on s side (expired_of side c (end_of s side) o)).1)
     (due_shown c first s h side k)

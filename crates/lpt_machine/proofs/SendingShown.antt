@@ -61,8 +61,8 @@ sent_entry c h w id n number r y = record {
 } ∷ h
 
 -- part n of an open message is sent
-part_sent : (c : Config) (first : Contents) (s : State) (h : History) (w : Direction) (id : Name) (n : ℕ)
-    (number : ℕ) (r : Option Puts) (m : List ℕ)
+part_sent : (c : Config) (first : Contents) (s : State) (h : History) (w : Direction)
+    (id : Name) (n : ℕ) (number : ℕ) (r : Option Puts) (m : List ℕ)
     → Shows s (views c first h)
     → Shows (sent_on s w id (sent_of (sender_side w) c (end_of s (sender_side w)) id n (Some m))).0
     (views c first (sent_entry c h w id n number r (OpenSender m)))
@@ -86,8 +86,8 @@ part_sent c first s h Down id n number r m k =
     (link_more Down (Some id) _ _ packet k.link)
 
 -- what an open sender has is sent
-pub sent_shown : (c : Config) (first : Contents) (s : State) (h : History) (w : Direction) (id : Name) (n : ℕ)
-    (number : ℕ) (r : Option Puts) (y : Sender) (o : Option (List ℕ))
+pub sent_shown : (c : Config) (first : Contents) (s : State) (h : History) (w : Direction)
+    (id : Name) (n : ℕ) (number : ℕ) (r : Option Puts) (y : Sender) (o : Option (List ℕ))
     → is_open y ≡ true
     → o ≡ message_of y
     → Shows s (views c first h)
@@ -98,7 +98,8 @@ sent_shown c first s h w id n number r ClosedSender o t e k = absurd cc
 sent_shown c first s h w id n number r (OpenSender m) o t e k =
     subst (λ (x : Option (List ℕ)).
     Shows (sent_on s w id (sent_of (sender_side w) c (end_of s (sender_side w)) id n x)).0
-    (views c first (sent_entry c h w id n number r (OpenSender m)))) (sym e) (part_sent c first s h w id n number r m k)
+    (views c first (sent_entry c h w id n number r (OpenSender m)))) (sym e)
+    (part_sent c first s h w id n number r m k)
 
 -- a plain request is put: a view with its packet
 abbrev pub plain_view : Config → Contents → History → (flags service subtype : ℕ) → List ℕ → Views
@@ -110,7 +111,8 @@ plain_view c first h flags service subtype body =
       link = record v.link { sent = v.link.sent ++ record { direction = Up; octets = b } ∷ [] };
     }
 
-pub plain_shown : (c : Config) (first : Contents) (s : State) (h : History) (flags service subtype : ℕ) (body : List ℕ)
+pub plain_shown : (c : Config) (first : Contents) (s : State) (h : History)
+    (flags service subtype : ℕ) (body : List ℕ)
     → Shows s (views c first h)
     → Shows (after_plain c s flags service subtype body).0
     (plain_view c first h flags service subtype body)

@@ -6,7 +6,7 @@ use Rattle.lpt_events.specs.declared.worker.Worker.{Worker}
 use Rattle.lpt_events.specs.declared.worker.Worker.TheVariants.{W1, W2}
 use Rattle.lpt_events.specs.Workers.{same_worker}
 use Rattle.lpt_memory.specs.Readings.{Job as Ticket}
-use Rattle.lpt_journal.specs.Jobs.{JobName, boot}
+use Rattle.lpt_journal.specs.Jobs.{JobName}
 use Rattle.lpt_machine.specs.Shows.{ShowsTicket}
 use Rattle.lpt_machine.specs.Tickets.{Tickets, ticket_of, with_ticket}
 
