@@ -17,7 +17,6 @@ use Rattle.lpt_events.specs.declared.lane.Lane.{Lane}
 use Rattle.lpt_events.specs.Lanes.{lane_direction}
 use Rattle.lpt_events.specs.Sides.{receiver_side}
 use Rattle.lpt_events.specs.declared.config.Config.{Config}
-use Rattle.lpt_events.specs.declared.side.Side.{Side}
 use Rattle.lpt_events.specs.Arrivals.{Arrival, NotRead, AnIdle, Foreign, ARequest, AReport, NoPart, APart, AnAbort, arrival, sight_arrival, packet_arrival, command_arrival, telemetry_arrival, report_arrival, carried_kind, part_arrival}
 use Rattle.lpt_journal.specs.Journal.{History, SentPacket}
 use Rattle.lpt_journal.specs.Link.{sent}
@@ -40,7 +39,8 @@ command_comes : (p : ℕ) (b body : List ℕ) (o : Option Kind)
 command_comes p b body None = tt
 command_comes p b body (Some kind) = part_comes Up (part_in p kind body)
 
-abort_comes : (o : Option (Name × Reason)) → MayCome Down (option_map_or (λ a. AnAbort a.0 a.1) o NoPart)
+abort_comes : (o : Option (Name × Reason))
+    → MayCome Down (option_map_or (λ a. AnAbort a.0 a.1) o NoPart)
 abort_comes None = tt
 abort_comes (Some a) = tt
 
@@ -90,12 +90,14 @@ sight_comes d apid p b (Some (APacket f)) = go (f.apid == apid) where
   go true = packet_comes d p b f
   go false = foreign_comes d
 
-octets_come : (d : Direction) (apid p : ℕ) (b : List ℕ) → MayCome d (arrival (receiver_side d) apid p b)
+octets_come : (d : Direction) (apid p : ℕ) (b : List ℕ)
+    → MayCome d (arrival (receiver_side d) apid p b)
 unfolding arrival
 octets_come d apid p b = sight_comes d apid p b (seen b)
 
 -- what is in a lane's hand may come in its direction
-pub in_hand_comes : (c : Config) (h : History) (l : Lane) → MayCome (lane_direction l) (in_hand c h l)
+pub in_hand_comes : (c : Config) (h : History) (l : Lane)
+    → MayCome (lane_direction l) (in_hand c h l)
 in_hand_comes c h l = go (lane_direction l) (hand h l) where
   at : (d : Direction) (o : Option SentPacket)
       → MayCome d (option_map_or (λ p. arrival_in c d p.octets) o NotRead)

@@ -1,12 +1,9 @@
 -- What a lane had in its hand is delivered: the longer journal is shown.
-use Rattle.std.proofs.Common.{◌≡◌, ap, sym, subst, refl, nat_le, ℕ, Bool, true, false, not, ◌&&◌, ◌||◌, if◌then◌else◌, List, [], ◌∷◌, ◌++◌, length, map, Option, Some, None, is_some}
+use Rattle.std.proofs.Common.{◌≡◌, ap, sym, subst, refl, nat_le, Bool, true, false, not, ◌&&◌, [], ◌∷◌, ◌++◌, length, Some, None, is_some}
 use Rattle.std.specs.FinMap as maps
-use Rattle.std.specs.List.{filter}
 use Rattle.lpt_packet.specs.declared.direction.Direction.{Direction}
 use Rattle.lpt_packet.specs.declared.direction.Direction.TheVariants.{Up, Down}
-use Rattle.lpt_packet.specs.Names.{Name}
 use Rattle.lpt_part.specs.Parts.{Piece}
-use Rattle.lpt_part.specs.declared.reason.Reason.{Reason}
 use Rattle.lpt_part.specs.declared.reason.Reason.TheVariants.{Conflict}
 use Rattle.lpt_events.specs.declared.lane.Lane.{Lane}
 use Rattle.lpt_events.specs.declared.lane.Lane.TheVariants.{S1, S2, G1, G2}
@@ -15,142 +12,33 @@ use Rattle.lpt_events.specs.Sides.{receiver_side}
 use Rattle.lpt_link.specs.Links.{after_drop}
 use Rattle.lpt_node.specs.declared.accepted.Accepted.{Accepted}
 use Rattle.lpt_events.specs.declared.config.Config.{Config}
-use Rattle.lpt_events.specs.declared.entry.Release.{Release}
-use Rattle.lpt_events.specs.declared.outcome.Outcome.{Outcome}
-use Rattle.lpt_events.specs.declared.side.Side.TheVariants.{Ground, Craft}
+use Rattle.lpt_events.specs.declared.side.Side.TheVariants.{Ground}
 use Rattle.lpt_node.specs.Accepting.{accepted}
 use Rattle.lpt_events.specs.Arrivals.{Arrival, NotRead, AnIdle, Foreign, ARequest, AReport, NoPart, APart, AnAbort}
-use Rattle.lpt_node.specs.Nodes.{NodeData, Receiving}
+use Rattle.lpt_node.specs.Nodes.{NodeData}
 use Rattle.lpt_node.specs.Receiving.{abort_head, receiver_of}
 use Rattle.lpt_reception.specs.Received.{contradicts, is_whole, spelled}
 use Rattle.lpt_events.specs.declared.event.Event.TheVariants.{Deliver}
-use Rattle.lpt_events.specs.declared.reply.Answer.TheVariants.{Delivered}
 use Rattle.lpt_journal.specs.Delivery.{judged}
-use Rattle.lpt_journal.specs.Jobs.{jobs, ticket, went_up}
-use Rattle.lpt_journal.specs.Journal.{History, SentPacket, with_all}
-use Rattle.lpt_journal.specs.Link.{sent, is_lost}
+use Rattle.lpt_journal.specs.Jobs.{jobs, ticket}
+use Rattle.lpt_journal.specs.Journal.{History}
 use Rattle.lpt_journal.specs.Hands.{hand, hand_after, in_hand}
-use Rattle.lpt_journal.specs.Receivers.{kept, with_piece, heard, heard_now, ends, takes, has_parts, is_closed, last_tick, clock, reception_count}
-use Rattle.lpt_journal.specs.Releases.{releases, released_now}
-use Rattle.lpt_journal.specs.Replies.{outcome_puts, entry}
-use Rattle.lpt_journal.specs.Senders.{current, is_over, sender_of, notes_abort, made, octets_put}
+use Rattle.lpt_journal.specs.Receivers.{kept, with_piece, heard, has_parts, is_closed, clock, reception_count}
+use Rattle.lpt_journal.specs.Replies.{entry}
 use Rattle.lpt_journal.proofs.OutcomeLemmas.{chosen}
-use Rattle.lpt_machine.specs.State.{State, end_of, with_end, put_report, add_release, delivered_on, after_deliver}
+use Rattle.lpt_machine.specs.State.{State, end_of, delivered_on, after_deliver}
 use Rattle.lpt_machine.specs.Shows.{Shows, ShowsReceiving, JobsFit}
-use Rattle.lpt_machine.specs.Views.{Views, ReceivingView, views, jobs_view, view_of, with_view, receiving_view}
+use Rattle.lpt_machine.specs.Views.{views, jobs_view, receiving_view}
 use Rattle.lpt_machine.proofs.ArrivalsAgree.{delivery, part_agrees, arrival_agrees}
-use Rattle.lpt_machine.proofs.Fields.{with_link, with_released, with_receiving, with_sending}
+use Rattle.lpt_machine.proofs.Fields.{with_link, with_sending}
 use Rattle.lpt_machine.proofs.LinkShown.{link_dropped}
 use Rattle.lpt_machine.proofs.Arriving.{MayCome, in_hand_comes}
 use Rattle.lpt_machine.proofs.JobsShown.{with_release}
 use Rattle.lpt_machine.proofs.ReceivingShown.{kept_shown, again_shown, ended_shown, some_parts}
 use Rattle.lpt_machine.proofs.ReportShown.{report_shown}
 use Rattle.lpt_memory.specs.Memories.{Contents}
-use Rattle.lpt_machine.proofs.SendingShown.{closed_shown}
-
--- ---- what is shown
-
--- the hands of all lanes
-abbrev Hands : Type 0
-Hands = Lane → Option ℕ
-
--- what a direction's receiver has after an outcome
-abbrev received : Config → History → Direction → Outcome → Arrival → ReceivingView
-received c h w o a = record {
-  parts = λ id. heard_now (Delivered o) a id (heard c h w id);
-  closed = λ id. ends (Delivered o) id || is_closed h w id;
-  last = λ id.
-      if takes (Delivered o) id then clock c h (receiver_side w) else last_tick c h w id;
-}
-
--- the view before a delivery, with an empty hand
-abbrev dropped_view : Config → Contents → History → Hands → Views
-dropped_view c first h hands =
-    record (views c first h) { link = record { sent = sent h; lost = is_lost h; hands = hands } }
-
--- the same, with what both ends have sent after an outcome that put these packets
-abbrev noted : Config → Contents → History → Hands → Outcome → List SentPacket → Views
-noted c first h hands o ps =
-    let v = dropped_view c first h hands in
-    record v {
-      ground = record v.ground {
-        sending = record {
-          senders = λ id.
-              sender_of (current h Up id) (notes_abort (Delivered o) id || is_over h Up id);
-          made = with_all (made h Up) (octets_put ps Up);
-        };
-      };
-      craft = record v.craft {
-        sending =
-            record v.craft.sending { made = with_all (made h Down) (octets_put ps Down) };
-      };
-    }
-
--- the view after a delivery in this direction, with this outcome and these packets
-abbrev delivered_view : Config
-    → Contents
-    → History
-    → Direction
-    → Hands
-    → Arrival
-    → Outcome
-    → List SentPacket
-    → Views
-delivered_view c first h w hands a o ps =
-    let v = noted c first h hands o ps in
-    let side = receiver_side w in
-    let out = released_now (length h) w (Delivered o) (heard c h w) a in
-    record (with_view v side (record (view_of v side) { receiving = received c h w o a })) {
-      link = record { sent = with_all (sent h) ps; lost = is_lost h; hands = hands };
-      jobs = record (jobs_view c first h) {
-        messages = map (λ r. r.message) (with_all (jobs c h) (filter (λ r. went_up r.of) out));
-      };
-      released = with_all (releases c h) out;
-    }
-
--- the state after it, by what the receiver made of it
-abbrev received_as : ℕ → Direction → State → NodeData × Accepted → State
-received_as place w s x = record (with_end s (receiver_side w) x.0) {
-  link = put_report s.link x.1.packet;
-  released = add_release s.released place w x.1.outcome x.1.released;
-}
-
--- the outcome of a delivery, with the report that it puts
-abbrev outcome_view : Config
-    → Contents
-    → History
-    → Direction
-    → Hands
-    → Arrival
-    → Outcome
-    → Views
-outcome_view c first h w hands a o =
-    delivered_view c first h w hands a o (outcome_puts c h (receiver_side w) o)
-
--- ---- the receiver and the releases
-
--- only the receiver and the releases change; where an outcome is quiet, they are as they were
-receives : {s : State} {v : Views} (w : Direction)
-    {x : Receiving} {y : ReceivingView} {rs rs' : List Release}
-    → Shows s v
-    → ShowsReceiving x y
-    → rs ≡ rs'
-    → Shows
-    (record (with_end s (receiver_side w) (record (end_of s (receiver_side w)) { receiving = x })) {
-      link = s.link;
-      released = rs;
-    })
-    (record
-    (with_view v (receiver_side w) (record (view_of v (receiver_side w)) { receiving = y })) {
-      link = v.link;
-      jobs = v.jobs;
-      released = rs';
-    })
-receives Up k f e = with_released (with_receiving Craft k f) e
-receives Down k f e = with_released (with_receiving Ground k f) e
-
-abbrev release : ℕ → Option (Direction × Name) → List ℕ → Release
-release place of message = record { place = place; of = of; message = message }
+use Rattle.lpt_machine.proofs.OpenedShown.{closed_shown}
+use Rattle.lpt_machine.proofs.DeliveredViews.{Hands, dropped_view, received_as, outcome_view, receives, release}
 
 -- a part is delivered, and these are the answers of the tests
 abbrev PartShown : Config
@@ -197,11 +85,13 @@ module _ (c : Config) (first : Contents) (h : History) (s : State) (hands : Hand
         → ShowsReceiving (end_of s (receiver_side w)).receiving (receiving_view c h w)
         → PartShown c first h s hands w q false false false false true
     releasing Up f =
-        let out = release (length h) (Some (Up, q.id)) (spelled (with_piece (heard c h Up q.id) q)) in
+        let out = release (length h) (Some (Up, q.id))
+        (spelled (with_piece (heard c h Up q.id) q)) in
         with_release (jobs c h) out refl fits.executed fits.claimed
         (receives Up k (ended_shown q.id f) (ap (λ rs. rs ++ out ∷ []) k.released))
     releasing Down f =
-        let out = release (length h) (Some (Down, q.id)) (spelled (with_piece (heard c h Down q.id) q)) in
+        let out = release (length h) (Some (Down, q.id))
+        (spelled (with_piece (heard c h Down q.id) q)) in
         receives Down k (ended_shown q.id f) (ap (λ rs. rs ++ out ∷ []) k.released)
   part q false false false false false some =
       receives w k (kept_shown q _ _ time own) k.released

@@ -92,7 +92,8 @@ module _ (c : Config) (h : History) (d : Direction) (v : Receiving) (now : ℕ)
   -- the table's reception that is due is the journal's
   due_agrees : due_of (table_in (receiver_of c v)) now ≡ due c h d
   due_agrees =
-      due_unique (table_in (receiver_of c v)) now (due_of (table_in (receiver_of c v)) now) (due c h d)
+      due_unique (table_in (receiver_of c v)) now (due_of (table_in (receiver_of c v)) now)
+      (due c h d)
       (due_of_is (table_in (receiver_of c v)) now)
       (is_due (due c h d) (earliest_is (last_tick c h d) (overdue_names c h d)))
 

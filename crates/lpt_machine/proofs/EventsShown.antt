@@ -7,7 +7,7 @@ use Rattle.lpt_packet.specs.Names.{Name}
 use Rattle.lpt_events.specs.declared.config.Config.{Config}
 use Rattle.lpt_events.specs.declared.entry.Opening.{Opening}
 use Rattle.lpt_events.specs.declared.event.Event.{Event}
-use Rattle.lpt_events.specs.declared.event.Event.TheVariants.{Open, Send, Plain, Finish, Lose, Take, Deliver, Tick, Expire}
+use Rattle.lpt_events.specs.declared.event.Event.TheVariants.{Open, Send, Plain, Finish, Lose, Take, Deliver, Tick, Expire, Claim, Commit, Apply}
 use Rattle.lpt_events.specs.declared.fault.StepFault.TheVariants.{NotOpen, NoSuchPart, NotHeld, NothingDue}
 use Rattle.lpt_events.specs.declared.side.Side.TheVariants.{Ground, Craft}
 use Rattle.lpt_events.specs.Sides.{direction_to}
@@ -26,11 +26,15 @@ use Rattle.lpt_machine.specs.State.{State, after, end_of, expired_on}
 use Rattle.lpt_machine.specs.Views.{views, jobs_view}
 use Rattle.lpt_machine.proofs.DeliveredShown.{delivered_shown}
 use Rattle.lpt_machine.proofs.DueShown.{due_shown}
+use Rattle.lpt_machine.proofs.ExecutedShown.{executed_shown}
+use Rattle.lpt_machine.proofs.ClaimsShown.{claimed_shown}
+use Rattle.lpt_machine.proofs.CommitsShown.{committed_shown}
 use Rattle.lpt_machine.proofs.ExpiredShown.{expired_shown, with_expiry}
 use Rattle.lpt_machine.proofs.Fields.{with_sending, with_clock, with_link, with_opened, sending_at}
 use Rattle.lpt_machine.proofs.LinkShown.{link_lost, link_taken}
 use Rattle.lpt_memory.specs.Memories.{Contents}
-use Rattle.lpt_machine.proofs.SendingShown.{opened_shown, closed_shown, sent_shown, plain_shown}
+use Rattle.lpt_machine.proofs.OpenedShown.{opened_shown, closed_shown}
+use Rattle.lpt_machine.proofs.SendingShown.{sent_shown, plain_shown}
 
 -- the opening of a message after a journal
 abbrev opening : History → Direction → Name → List ℕ → Opening
@@ -71,11 +75,16 @@ event_shown c first s h (Lose n) in_range k fits e =
     with_link k (link_lost n (lt_is n (length (sent h)) there) k.link)
 event_shown c first s h (Take l n) in_range k fits e = with_link k (link_taken l n k.link)
 event_shown c first s h (Deliver l) in_range k fits e = delivered_shown c first s h l k fits
-event_shown c first s h (Tick Ground) in_range k fits e = with_clock Ground k (ap (λ n. n + 1) k.ground.clock)
-event_shown c first s h (Tick Craft) in_range k fits e = with_clock Craft k (ap (λ n. n + 1) k.craft.clock)
+event_shown c first s h (Tick Ground) in_range k fits e =
+    with_clock Ground k (ap (λ n. n + 1) k.ground.clock)
+event_shown c first s h (Tick Craft) in_range k fits e =
+    with_clock Craft k (ap (λ n. n + 1) k.craft.clock)
 event_shown c first s h (Expire side) in_range k fits e =
     let o = due c h (direction_to side) in
     let told = (reply c first h (Expire side)).puts in
     subst (λ (x : Option Name). Shows (expired_on s side (expired_of side c (end_of s side) x)).0
     (views c first (with_expiry c h side o told))) (sym (due_shown c first s h side k))
     (expired_shown c first s h side told o (not_false (is_some o) (one_passes _ NothingDue e)) k)
+event_shown c first s h (Claim w) in_range k fits e = claimed_shown c first s h w k fits e
+event_shown c first s h (Commit w) in_range k fits e = committed_shown c first s h w k fits e
+event_shown c first s h Apply in_range k fits e = executed_shown c first s h in_range k fits e

@@ -29,8 +29,8 @@ with_expiry c h side o p = record {
 } ∷ h
 
 -- the reception of a name is given up
-pub expired_shown : (c : Config) (first : Contents) (s : State) (h : History) (side : Side) (p : Option Puts)
-    (o : Option Name)
+pub expired_shown : (c : Config) (first : Contents) (s : State) (h : History) (side : Side)
+    (p : Option Puts) (o : Option Name)
     → is_some o ≡ true
     → Shows s (views c first h)
     → Shows (expired_on s side (expired_of side c (end_of s side) o)).0

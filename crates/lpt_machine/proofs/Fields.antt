@@ -12,14 +12,14 @@ use Rattle.lpt_events.specs.declared.worker.Worker.{Worker}
 use Rattle.lpt_jobs.specs.Jobs.{Jobs}
 use Rattle.lpt_memory.specs.Memories.{Contents, sizes_of}
 use Rattle.lpt_link.specs.Links.{LinkData}
-use Rattle.lpt_node.specs.Nodes.{NodeData, Sending, Receiving}
+use Rattle.lpt_node.specs.Nodes.{Sending, Receiving}
 use Rattle.lpt_journal.specs.Journal.{History}
 use Rattle.lpt_journal.specs.Jobs.{JobName}
 use Rattle.lpt_journal.specs.Receivers.{clock}
 use Rattle.lpt_machine.specs.Shows.{Shows, ShowsEnd, ShowsLink, ShowsJobs, ShowsTicket, ShowsSending, ShowsReceiving}
 use Rattle.lpt_machine.specs.State.{State, end_of, with_end}
 use Rattle.lpt_machine.specs.Tickets.{Tickets, ticket_of}
-use Rattle.lpt_machine.specs.Views.{Views, JobsView, EndView, LinkView, SendingView, ReceivingView, view_of, with_view, views, sending_view, receiving_view}
+use Rattle.lpt_machine.specs.Views.{Views, JobsView, LinkView, SendingView, ReceivingView, view_of, with_view, views, sending_view, receiving_view}
 
 -- ---- fields that are read
 
@@ -130,7 +130,8 @@ pub with_jobs : {s : State} {v : Views} {x : Jobs} {y : JobsView} {t : Tickets}
     (record v { jobs = y; tickets = of })
 with_jobs k f g same = record {
   ground = k.ground;
-  craft = record { sending = k.craft.sending; receiving = k.craft.receiving; clock = k.craft.clock };
+  craft =
+      record { sending = k.craft.sending; receiving = k.craft.receiving; clock = k.craft.clock };
   link = k.link;
   jobs = f;
   tickets = g;

@@ -1,14 +1,47 @@
 -- What shows a journal refuses, answers and goes on as the journal says.
+use Rattle.lpt_events.specs.declared.config.Config.{Config}
+use Rattle.lpt_events.specs.declared.event.Event.{Event}
+use Rattle.lpt_events.specs.declared.event.Event.TheVariants.{Open, Send, Plain, Finish, Lose, Take, Deliver, Tick, Expire, Claim, Commit, Apply}
+use Rattle.lpt_memory.specs.Memories.{Contents}
+use Rattle.lpt_journal.specs.Journal.{History}
+use Rattle.lpt_journal.specs.Jobs.{ticket}
 use Rattle.lpt_machine.specs.GoesOn.{FollowsJournal}
+use Rattle.lpt_machine.specs.Shows.{Shows, JobsFit}
+use Rattle.lpt_machine.specs.State.{State, IsReady}
+use Rattle.lpt_machine.specs.Views.{views, jobs_view}
 use Rattle.lpt_machine.proofs.Beginning.{shows_none}
 use Rattle.lpt_machine.proofs.EventsShown.{event_shown}
+use Rattle.lpt_machine.proofs.FrontShown.{apply_ready}
 use Rattle.lpt_machine.proofs.Refusals.{refusal_shown}
 use Rattle.lpt_machine.proofs.Replies.{reply_shown}
+use Rattle.lpt_machine.proofs.CommitsShown.{commit_ready}
+
+-- what the nodes ask for besides is so
+ready_shown : (c : Config) (first : Contents) (s : State) (h : History) (e : Event)
+    → Shows s (views c first h)
+    → JobsFit (jobs_view c first h) (ticket h)
+    → IsReady c s e
+ready_shown c first s h (Open d id m) k fits = tt
+ready_shown c first s h (Send d id n) k fits = tt
+ready_shown c first s h (Plain flags service subtype body) k fits = tt
+ready_shown c first s h (Finish d id) k fits = tt
+ready_shown c first s h (Lose n) k fits = tt
+ready_shown c first s h (Take l n) k fits = tt
+ready_shown c first s h (Deliver l) k fits = tt
+ready_shown c first s h (Tick side) k fits = tt
+ready_shown c first s h (Expire side) k fits = tt
+ready_shown c first s h (Claim w) k fits = tt
+ready_shown c first s h (Commit w) k fits = commit_ready c first s h w k fits
+ready_shown c first s h Apply k fits = apply_ready c first s h k fits
 
 pub follows : FollowsJournal
 follows = record {
   begins = shows_none;
   refuses = refusal_shown;
-  goes_on = λ c first s h e k free.
-      record { answered = reply_shown c first s h e k free; shown = event_shown c first s h e k free };
+  goes_on = λ c first s h e in_range k fits free.
+      record {
+        ready = ready_shown c first s h e k fits;
+        answered = reply_shown c first s h e k fits free;
+        shown = event_shown c first s h e in_range k fits free;
+      };
 }

@@ -1,5 +1,5 @@
 -- The counts of the packets that a node has made.
-use Rattle.std.proofs.Common.{◌≡◌, ◌≢◌, ◌∙◌, ap, sym, subst, refl, ℕ, ◌+◌, ◌%◌, ◌<◌, ◌==◌, Bool, true, false, ◌&&◌, if◌then◌else◌, List, [], ◌∷◌, ◌++◌, length, map, get_or, arith, length-append, get_or-set_same, get_or-set_other, length-set}
+use Rattle.std.proofs.Common.{◌≡◌, ◌≢◌, ◌∙◌, ap, sym, refl, ℕ, ◌+◌, ◌%◌, ◌<◌, ◌==◌, Bool, true, false, ◌&&◌, if◌then◌else◌, List, [], ◌∷◌, ◌++◌, length, get_or, arith, length-append, get_or-set_same, get_or-set_other, length-set}
 use Rattle.std.specs.List.{filter}
 use Rattle.std.proofs.lemmas.List.Elements.{filter-append}
 use Rattle.lpt_packet.proofs.Readings.{true_eq, false_eq}
@@ -15,11 +15,9 @@ use Rattle.lpt_node.specs.Counting.{next_count, next_types, counter_of}
 use Rattle.lpt_node.specs.Nodes.{Sending}
 use Rattle.lpt_node.specs.Sending.{counted, counted_kind}
 use Rattle.lpt_events.specs.MadePackets.{tm_made}
-use Rattle.lpt_journal.specs.Journal.{with_all}
 use Rattle.lpt_journal.specs.Senders.{is_report}
 use Rattle.lpt_machine.specs.Shows.{ShowsReports, ShowsSending}
 use Rattle.lpt_machine.specs.Views.{SendingView}
-use Rattle.lpt_machine.proofs.LinkShown.{with_all-more}
 
 -- ---- sequence counts
 

@@ -1,9 +1,8 @@
 -- The jobs of a list of messages: one more, marks that change, and the front.
-use Rattle.std.proofs.Common.{◌≡◌, ◌≢◌, ◌∙◌, ap, sym, refl, ℕ, zero, suc, ◌+◌, ◌-◌, ◌<◌, ◌≤◌, ◌==◌, nat_lt, nat_le, Bool, true, false, not, cond, if◌then◌else◌, List, [], ◌∷◌, ◌++◌, length, drop, Option, Some, None, is_some, arith}
+use Rattle.std.proofs.Common.{◌≡◌, ◌≢◌, ◌∙◌, ap, sym, refl, ℕ, zero, suc, ◌+◌, ◌<◌, ◌≤◌, nat_lt, nat_le, Bool, true, false, not, cond, List, [], ◌∷◌, ◌++◌, length, drop, Option, Some, None, is_some, arith}
 use Rattle.std.specs.Prelude.{slice_get}
 use Rattle.std.specs.Option.{option_map}
 use Rattle.std.proofs.lemmas.Bool.Decides.{nat_tests}
-use Rattle.lpt_jobs.specs.declared.job.Job.{Job}
 use Rattle.lpt_jobs.specs.declared.job.Mark.{Mark}
 use Rattle.lpt_jobs.specs.Jobs.{Head, NoJob, claimed_in, was_claimed, with_mark, head_of, head_by}
 use Rattle.lpt_machine.specs.Shows.{jobs_from}
@@ -121,22 +120,22 @@ pub claimed_in-jobs_from : (f : ℕ → List ℕ → Mark) (claimed n : ℕ) (ms
 claimed_in-jobs_from f claimed n [] marks least most = omega arith
 claimed_in-jobs_from f claimed n (m ∷ ms) marks least most =
     go (claimed_in-jobs_from f claimed (suc n) ms marks) (nat_lt n claimed) refl where
-  rest : ℕ
-  rest = claimed_in (jobs_from f (suc n) ms)
+      rest : ℕ
+      rest = claimed_in (jobs_from f (suc n) ms)
 
-  go : (suc n ≤ claimed → claimed ≤ suc n + length ms → suc n + rest ≡ claimed)
-      → (t : Bool)
-      → nat_lt n claimed ≡ t
-      → n + cond (was_claimed (f n m)) (1 + rest) 0 ≡ claimed
-  go others true e =
-      let below : n < claimed = grind (arith, nat_tests) in
-      let here = claimed_first (was_claimed (f n m)) rest (marks n m ∙ e) in
-      let after : suc n + rest ≡ claimed = others (omega arith) (omega arith) in
-      omega arith
-  go others false e =
-      let past : claimed ≤ n = grind (arith, nat_tests) in
-      let here = none_claimed (was_claimed (f n m)) rest (marks n m ∙ e) in
-      omega arith
+      go : (suc n ≤ claimed → claimed ≤ suc n + length ms → suc n + rest ≡ claimed)
+          → (t : Bool)
+          → nat_lt n claimed ≡ t
+          → n + cond (was_claimed (f n m)) (1 + rest) 0 ≡ claimed
+      go others true e =
+          let below : n < claimed = grind (arith, nat_tests) in
+          let here = claimed_first (was_claimed (f n m)) rest (marks n m ∙ e) in
+          let after : suc n + rest ≡ claimed = others (omega arith) (omega arith) in
+          omega arith
+      go others false e =
+          let past : claimed ≤ n = grind (arith, nat_tests) in
+          let here = none_claimed (was_claimed (f n m)) rest (marks n m ∙ e) in
+          omega arith
 
 -- what stands at the front, by the first message
 abbrev pub head_from : (List ℕ → Mark) → Option (List ℕ) → Head

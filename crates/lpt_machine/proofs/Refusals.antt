@@ -22,9 +22,10 @@ use Rattle.lpt_events.specs.Requests.{is_part_request, is_too_long}
 use Rattle.lpt_node.specs.Sending.{refusal_open_in, refusal_send_of, refusal_finish_in}
 use Rattle.lpt_node.specs.Times.{refusal_expire_of}
 use Rattle.lpt_events.specs.declared.event.Event.{Event}
-use Rattle.lpt_events.specs.declared.event.Event.TheVariants.{Open, Send, Plain, Finish, Lose, Take, Deliver, Tick, Expire}
+use Rattle.lpt_events.specs.declared.event.Event.TheVariants.{Open, Send, Plain, Finish, Lose, Take, Deliver, Tick, Expire, Claim, Commit, Apply}
 use Rattle.lpt_events.specs.declared.fault.StepFault.TheVariants.{InUse, Short, Long, TooMany, NotOpen, NoSuchPart, NotHeld, HandFull, HandEmpty, NothingDue, ClockEnd, PartRequest}
 use Rattle.lpt_journal.specs.Journal.{History}
+use Rattle.lpt_journal.specs.Jobs.{ticket}
 use Rattle.lpt_journal.specs.Link.{sent, is_held, goes}
 use Rattle.lpt_journal.specs.Hands.{hand}
 use Rattle.lpt_journal.specs.Receivers.{clock}
@@ -33,12 +34,15 @@ use Rattle.lpt_journal.specs.Refusals.{refusal, first_fault, parts_open}
 use Rattle.lpt_journal.specs.Senders.{Sender, FreeSender, OpenSender, ClosedSender, sender, is_free, is_open, open_count, opened_names}
 use Rattle.lpt_node.specs.Faults.{node_fault}
 use Rattle.lpt_machine.specs.State.{State, link_fault, refusal_of}
-use Rattle.lpt_machine.specs.Shows.{Shows, ShowsSending, mark_of, message_of, sent_packet}
-use Rattle.lpt_machine.specs.Views.{views, sending_view}
+use Rattle.lpt_machine.specs.Shows.{Shows, ShowsSending, JobsFit, mark_of, message_of, sent_packet}
+use Rattle.lpt_machine.specs.Views.{views, jobs_view, sending_view}
 use Rattle.lpt_journal.proofs.MapLemmas.{len_once}
 use Rattle.lpt_journal.proofs.CountLemmas.{open_named}
 use Rattle.lpt_machine.proofs.DueShown.{due_shown}
 use Rattle.lpt_machine.proofs.Fields.{sending_at, clock_at}
+use Rattle.lpt_machine.proofs.FrontShown.{apply_refused}
+use Rattle.lpt_machine.proofs.ClaimsShown.{claim_refused}
+use Rattle.lpt_machine.proofs.CommitsShown.{commit_refused}
 use Rattle.lpt_memory.specs.Memories.{Contents}
 
 -- ---- opening
@@ -73,7 +77,7 @@ is_some-message (OpenSender m) = refl
 is_some-message ClosedSender = refl
 
 -- a node has as many open messages as the journal has open transactions
-open_as_many : {side : Side} {x : Sending} (h : History) (d : Direction)
+pub open_as_many : {side : Side} {x : Sending} (h : History) (d : Direction)
     → ShowsSending side x (sending_view h d)
     → maps.len x.messages ≡ open_count h d
 open_as_many {x = x} h d k =
@@ -172,39 +176,43 @@ by_due (Some id) = refl
 -- what is refused is what the journal refuses, for the same reason
 pub refusal_shown : (c : Config) (first : Contents) (s : State) (h : History) (e : Event)
     → Shows s (views c first h)
+    → JobsFit (jobs_view c first h) (ticket h)
     → refusal_of c s e ≡ refusal c h e
-refusal_shown c first s h (Open d id m) k =
+refusal_shown c first s h (Open d id m) k fits =
     let own = sending_at c first h d k in
     (λ i. option_map node_fault
     (refusal_open_in c (state_of (own.ledger id i)) (open_as_many h d own i) (length m)))
     ∙ refuses_open c (sender h d id) (open_count h d) (length m)
-refusal_shown c first s h (Send d id n) k =
+refusal_shown c first s h (Send d id n) k fits =
     ap (λ o. option_map node_fault (refusal_send_of c n o)) ((sending_at c first h d k).messages id)
     ∙ refuses_send c n (sender h d id)
-refusal_shown c first s h (Plain flags service subtype body) k =
+refusal_shown c first s h (Plain flags service subtype body) k fits =
     by_request (is_part_request service subtype) (is_too_long c (length body))
-refusal_shown c first s h (Finish d id) k =
+refusal_shown c first s h (Finish d id) k fits =
     ap (λ m. option_map node_fault (refusal_finish_in (state_of m)))
     ((sending_at c first h d k).ledger id)
     ∙ refuses_finish (sender h d id)
-refusal_shown c first s h (Lose n) k =
+refusal_shown c first s h (Lose n) k fits =
     (λ i. option_map link_fault (if k.link.held n i then None else Some link.NotHeld))
     ∙ by_mark (is_held h n)
-refusal_shown c first s h (Take l n) k =
+refusal_shown c first s h (Take l n) k fits =
     let w = lane_direction l in
     (λ i. option_map link_fault
     (if is_some (k.link.hands l i) then Some link.HandFull
     else if held_agrees c first s h w n k i then None
     else Some link.NotHeld))
     ∙ by_hand (is_some (hand h l)) (is_held h n && goes h w n)
-refusal_shown c first s h (Deliver l) k =
+refusal_shown c first s h (Deliver l) k fits =
     ap (λ o. option_map link_fault (if is_some o then None else Some link.HandEmpty))
     (k.link.hands l)
     ∙ by_empty_hand (is_some (hand h l))
-refusal_shown c first s h (Tick side) k =
+refusal_shown c first s h (Tick side) k fits =
     ap (λ n. option_map node_fault (if n == 4294967295 then Some node.ClockEnd else None))
     (clock_at c first h side k)
     ∙ by_clock (clock c h side == 4294967295)
-refusal_shown c first s h (Expire side) k =
+refusal_shown c first s h (Expire side) k fits =
     ap (λ o. option_map node_fault (refusal_expire_of o)) (due_shown c first s h side k)
     ∙ by_due (due c h (direction_to side))
+refusal_shown c first s h (Claim w) k fits = claim_refused c first s h w k fits
+refusal_shown c first s h (Commit w) k fits = commit_refused c first s h w k
+refusal_shown c first s h Apply k fits = apply_refused c first s h k fits

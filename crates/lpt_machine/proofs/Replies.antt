@@ -11,7 +11,7 @@ use Rattle.lpt_events.specs.declared.config.Config.{Config}
 use Rattle.lpt_events.specs.declared.side.Side.{Side}
 use Rattle.lpt_events.specs.declared.side.Side.TheVariants.{Ground, Craft}
 use Rattle.lpt_events.specs.declared.event.Event.{Event}
-use Rattle.lpt_events.specs.declared.event.Event.TheVariants.{Open, Send, Plain, Finish, Lose, Take, Deliver, Tick, Expire}
+use Rattle.lpt_events.specs.declared.event.Event.TheVariants.{Open, Send, Plain, Finish, Lose, Take, Deliver, Tick, Expire, Claim, Commit, Apply}
 use Rattle.lpt_events.specs.declared.fault.StepFault.TheVariants.{NotOpen, NoSuchPart}
 use Rattle.lpt_events.specs.declared.outcome.Outcome.{Outcome}
 use Rattle.lpt_events.specs.declared.outcome.Outcome.TheVariants.{Broken}
@@ -29,6 +29,7 @@ use Rattle.lpt_node.specs.Times.{expired_of}
 use Rattle.lpt_reception.specs.Received.{Parts, contradicts, is_whole, spelled}
 use Rattle.lpt_journal.specs.Delivery.{judged, outcome}
 use Rattle.lpt_journal.specs.Due.{due}
+use Rattle.lpt_journal.specs.Jobs.{ticket}
 use Rattle.lpt_journal.specs.Journal.{History, SentPacket}
 use Rattle.lpt_journal.specs.Link.{sent}
 use Rattle.lpt_journal.specs.Hands.{in_hand}
@@ -38,11 +39,14 @@ use Rattle.lpt_journal.specs.Refusals.{refusal}
 use Rattle.lpt_journal.specs.Senders.{Sender, FreeSender, OpenSender, ClosedSender, sender, is_open}
 use Rattle.lpt_journal.proofs.OutcomeLemmas.{chosen}
 use Rattle.lpt_journal.proofs.TestLemmas.{not_false, two_pass}
-use Rattle.lpt_machine.specs.Shows.{Shows, ShowsReceiving}
+use Rattle.lpt_machine.specs.Shows.{Shows, ShowsReceiving, JobsFit}
 use Rattle.lpt_machine.specs.State.{State, after, end_of, as_list, put_some, expired_on, quiet, put_one}
-use Rattle.lpt_machine.specs.Views.{views, receiving_view}
+use Rattle.lpt_machine.specs.Views.{views, jobs_view, receiving_view}
 use Rattle.lpt_machine.proofs.ArrivalsAgree.{delivery, part_agrees, arrival_agrees}
 use Rattle.lpt_machine.proofs.DueShown.{due_shown}
+use Rattle.lpt_machine.proofs.ExecutedShown.{executed_answer}
+use Rattle.lpt_machine.proofs.ClaimsShown.{claimed_answer}
+use Rattle.lpt_machine.proofs.CommitsShown.{committed_answer}
 use Rattle.lpt_machine.proofs.Fields.{receiving_at, clock_at}
 use Rattle.lpt_memory.specs.Memories.{Contents}
 use Rattle.lpt_machine.proofs.LinkShown.{as_many_packets}
@@ -125,26 +129,28 @@ reply_expired c h side d n (Some id) =
 
 pub reply_shown : (c : Config) (first : Contents) (s : State) (h : History) (e : Event)
     → Shows s (views c first h)
+    → JobsFit (jobs_view c first h) (ticket h)
     → refusal c h e ≡ None
     → (after c (length h) s e).1 ≡ reply c first h e
-reply_shown c first s h (Open d id m) k e = refl
-reply_shown c first s h (Send d id n) k e =
+reply_shown c first s h (Open d id m) k fits e = refl
+reply_shown c first s h (Send d id n) k fits e =
     ap (λ j. put_one j (Put j)) (as_many_packets k.link)
     ∙ reply_sent c h d id n (length (sent h)) (sender h d id)
     (not_false (is_open (sender h d id)) (two_pass _ _ NotOpen NoSuchPart e).0)
-reply_shown c first s h (Plain flags service subtype body) k e =
+reply_shown c first s h (Plain flags service subtype body) k fits e =
     ap (λ j. put_one j (Put j)) (as_many_packets k.link)
-reply_shown c first s h (Finish d id) k e = refl
-reply_shown c first s h (Lose n) k e = refl
-reply_shown c first s h (Take l n) k e = refl
-reply_shown c first s h (Tick side) k e = ap (λ n. quiet (Clock (n + 1))) (clock_at c first h side k)
-reply_shown c first s h (Expire side) k e =
+reply_shown c first s h (Finish d id) k fits e = refl
+reply_shown c first s h (Lose n) k fits e = refl
+reply_shown c first s h (Take l n) k fits e = refl
+reply_shown c first s h (Tick side) k fits e =
+    ap (λ n. quiet (Clock (n + 1))) (clock_at c first h side k)
+reply_shown c first s h (Expire side) k fits e =
     ap (λ (o : Option Name). (expired_on s side (expired_of side c (end_of s side) o)).1)
     (due_shown c first s h side k)
     ∙ reply_expired c h side (end_of s side) (length s.link.packets) (due c h (direction_to side))
     ∙ ap (λ (n : ℕ). reply_with n (expired_now (direction_to side) (due c h (direction_to side)))
     (expiry_puts c h side (due c h (direction_to side)))) (as_many_packets k.link)
-reply_shown c first s h (Deliver l) k e =
+reply_shown c first s h (Deliver l) k fits e =
     let w = lane_direction l in
     let side = receiver_side w in
     ap (λ (a : Arrival). reply_to (length s.link.packets) (accepted side c (end_of s side) a))
@@ -152,3 +158,6 @@ reply_shown c first s h (Deliver l) k e =
     ∙ reply_delivered c h w (end_of s side) (length s.link.packets) (receiving_at c first h w k)
     (in_hand c h l)
     ∙ ap (λ (n : ℕ). reply_told c h side n (outcome c h l)) (as_many_packets k.link)
+reply_shown c first s h (Claim w) k fits e = claimed_answer c first s h w k fits e
+reply_shown c first s h (Commit w) k fits e = committed_answer c first s h w k e
+reply_shown c first s h Apply k fits e = executed_answer c first s h k fits e

@@ -98,7 +98,8 @@ one_side : (q u : Bool) (b : List ℕ) (ns ls gs : List (List ℕ)) (p : List �
     → p b ≡ u
     → length (filter p ns) ≡ length (filter p ls) + length (filter p gs)
     → length (filter p (b ∷ ns))
-    ≡ length (filter p (if q then b ∷ ls else ls)) + length (filter p (if not q then b ∷ gs else gs))
+    ≡ length (filter p (if q then b ∷ ls else ls))
+    + length (filter p (if not q then b ∷ gs else gs))
 one_side true true b ns ls gs p e k =
     let f : (l : List (List ℕ)) → length (filter p (b ∷ l)) ≡ length (filter p l) + 1 =
     λ l. ap (λ t. length (if t then b ∷ filter p l else filter p l)) e ∙ omega arith in

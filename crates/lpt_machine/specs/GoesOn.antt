@@ -12,9 +12,10 @@ use Rattle.lpt_machine.specs.Shows.{Shows, JobsFit}
 use Rattle.lpt_machine.specs.State.{State, no_state, refusal_of, IsReady, after}
 use Rattle.lpt_machine.specs.Views.{jobs_view, views}
 
--- an event that isn't refused can be done, is answered as the journal says, and the longer journal is
--- shown
-pub record GoesOn (c : Config) (first : Contents) (s : State) (h : History) (e : Event) : Type 0 where
+-- an event that isn't refused can be done, is answered as the journal says, and the longer journal
+-- is shown
+pub record GoesOn (c : Config) (first : Contents) (s : State) (h : History) (e : Event)
+    : Type 0 where
   pub ready : IsReady c s e
   pub answered : (after c (length h) s e).1 ≡ reply c first h e
   pub shown : Shows (after c (length h) s e).0 (views c first (entry c first h e ∷ h))

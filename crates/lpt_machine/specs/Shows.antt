@@ -141,8 +141,8 @@ pub record IsOut (v : JobsView) (n : ℕ) : Type 0 where
   pub is_claimed : n < v.claimed
   pub not_committed : v.committed n ≡ false
 
--- jobs are claimed before they are executed or committed; a worker's job is of this boot, as none ends
--- so far, and out
+-- jobs are claimed before they are executed or committed; a worker's job is of this boot, as none
+-- ends so far, and out
 pub record JobsFit (v : JobsView) (tickets : Worker → Option JobName) : Type 0 where
   pub executed : v.applied ≤ v.claimed
   pub claimed : v.claimed ≤ length v.messages

@@ -44,8 +44,8 @@ use Rattle.lpt_events.specs.Sides.{sender_side, receiver_side, direction_to}
 use Rattle.lpt_journal.specs.Hands.{arrival_in}
 use Rattle.lpt_machine.specs.Tickets.{Tickets, no_tickets, ticket_of, with_ticket}
 
--- both ends, the link, the jobs that workers have, the memories, and what was opened and released so
--- far
+-- both ends, the link, the jobs that workers have, the memories, and what was opened and released
+-- so far
 pub record State : Type 0 where
   pub on_ground : NodeData
   pub on_craft : NodeData
@@ -243,8 +243,6 @@ expired_on s side x = (
 abbrev pub after_expire : Config → State → Side → State × Reply
 after_expire c s side = expired_on s side (expired side c (end_of s side))
 
--- ---- all events
-
 -- ---- jobs
 
 -- a worker has claimed a job, and the spacecraft is this
@@ -286,6 +284,8 @@ executed_on place s x = (
   },
   put_some (length s.link.packets) (Applied x.0.1.applied) x.0.1.packets,
 )
+
+-- ---- all events
 
 -- what the nodes ask for besides: a job that is committed in its own boot was claimed and not
 -- committed, and the reading that is executed was made for these memories

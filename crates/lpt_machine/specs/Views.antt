@@ -46,8 +46,8 @@ pub record LinkView : Type 0 where
   pub lost : ℕ → Bool
   pub hands : Lane → Option ℕ
 
--- the spacecraft's boot; the messages of its jobs, of which so many were executed and claimed; which
--- of them were committed; and for which APID and sizes of memories they are read
+-- the spacecraft's boot; the messages of its jobs, of which so many were executed and claimed;
+-- which of them were committed; and for which APID and sizes of memories they are read
 pub record JobsView : Type 0 where
   pub boot : ℕ
   pub messages : List (List ℕ)

@@ -1,0 +1,127 @@
+-- A worker claims a job: refusal, answer and the longer journal.
+use Rattle.std.proofs.Common.{◌≡◌, ◌∙◌, ap, sym, subst, refl, ℕ, ◌<◌, nat_le, Bool, true, false, not, if◌then◌else◌, List, [], ◌∷◌, length, map, Option, Some, None, is_some, arith}
+use Rattle.std.specs.Prelude.{slice_get}
+use Rattle.std.specs.Option.{option_map}
+use Rattle.std.proofs.lemmas.List.{length-map}
+use Rattle.lpt_events.specs.declared.config.Config.{Config}
+use Rattle.lpt_events.specs.declared.event.Event.TheVariants.{Claim}
+use Rattle.lpt_events.specs.declared.fault.StepFault.TheVariants.{HandFull, NoJob}
+use Rattle.lpt_events.specs.declared.reply.Answer.TheVariants.{Claimed}
+use Rattle.lpt_events.specs.declared.side.Side.TheVariants.{Craft}
+use Rattle.lpt_events.specs.declared.worker.Worker.{Worker}
+use Rattle.lpt_memory.specs.Memories.{Contents}
+use Rattle.lpt_memory.specs.Readings.{Job as Ticket}
+use Rattle.lpt_jobs.specs.Jobs.{unclaimed}
+use Rattle.lpt_node.specs.Faults.{node_fault}
+use Rattle.lpt_node.specs.Jobs.{refusal_claim_of, claimed_of, claimed as node_claimed}
+use Rattle.lpt_node.specs.Nodes.{NodeData}
+use Rattle.lpt_journal.specs.Journal.{History}
+use Rattle.lpt_journal.specs.Jobs.{boot, jobs, claimed, ticket, is_committed}
+use Rattle.lpt_journal.specs.Refusals.{refusal, first_fault}
+use Rattle.lpt_journal.specs.Replies.{entry, reply}
+use Rattle.lpt_journal.proofs.TestLemmas.{two_pass}
+use Rattle.lpt_machine.specs.Shows.{Shows, JobsFit}
+use Rattle.lpt_machine.specs.State.{State, refusal_of, refusal_claim_by, claimed_on, quiet}
+use Rattle.lpt_machine.specs.Tickets.{ticket_of}
+use Rattle.lpt_machine.specs.Views.{views, jobs_view}
+use Rattle.lpt_machine.proofs.Fields.{with_jobs}
+use Rattle.lpt_machine.proofs.MarksShown.{unclaimed_shown, claim_shown}
+use Rattle.lpt_machine.proofs.QueueLemmas.{is_some-slice_get}
+use Rattle.lpt_machine.proofs.TicketsShown.{is_some-map, ticket_set, ticket_given, has_ticket}
+
+-- what is refused, by the ticket and the job that waits
+claim_by : (d : NodeData) (t : Option Ticket)
+    → refusal_claim_by d t
+    ≡ (if is_some t then Some HandFull
+    else option_map node_fault (refusal_claim_of (unclaimed d.jobs)))
+claim_by d None = refl
+claim_by d (Some t) = refl
+
+claim_of : (u : Option (ℕ × List ℕ))
+    → option_map node_fault (refusal_claim_of u) ≡ first_fault ((not (is_some u), NoJob) ∷ [])
+claim_of None = refl
+claim_of (Some u) = refl
+
+not_not : (a : Bool) → not (not a) ≡ a
+not_not true = refl
+not_not false = refl
+
+-- the journal's test, whether a job waits
+waits : (c : Config) (first : Contents) (h : History)
+    → is_some (slice_get (map (λ r. r.message) (jobs c h)) (claimed h))
+    ≡ not (nat_le (length (jobs c h)) (claimed h))
+waits c first h =
+    is_some-slice_get (map (λ r. r.message) (jobs c h)) (claimed h)
+    ∙ ap (λ n. not (nat_le n (claimed h))) (length-map (jobs c h) (λ r. r.message))
+
+pub claim_refused : (c : Config) (first : Contents) (s : State) (h : History) (w : Worker)
+    → Shows s (views c first h)
+    → JobsFit (jobs_view c first h) (ticket h)
+    → refusal_of c s (Claim w) ≡ refusal c h (Claim w)
+claim_refused c first s h w k fits =
+    let none : not (is_some (unclaimed s.on_craft.jobs)) ≡ nat_le (length (jobs c h)) (claimed h) =
+    ap (λ u. not (is_some u)) (unclaimed_shown fits.executed fits.claimed k.jobs)
+    ∙ ap not (is_some-map _ (slice_get (map (λ r. r.message) (jobs c h)) (claimed h))
+    ∙ waits c first h)
+    ∙ not_not (nat_le (length (jobs c h)) (claimed h)) in
+    let full : is_some (ticket_of s.tickets w) ≡ is_some (ticket h w) = has_ticket (k.tickets w) in
+    claim_by s.on_craft (ticket_of s.tickets w)
+    ∙ ap (λ o. if is_some (ticket_of s.tickets w) then Some HandFull else o)
+    (claim_of (unclaimed s.on_craft.jobs))
+    ∙ (λ i. if full i then Some HandFull else first_fault ((none i, NoJob) ∷ []))
+
+-- what is there
+there_is : {A : Type 0} (o : Option A) → is_some o ≡ true → (x : A) × (o ≡ Some x)
+there_is None e = absurd cc
+there_is (Some x) e = (x, refl)
+
+-- the job that is claimed next has no reading
+not_yet : (c : Config) (first : Contents) (h : History)
+    → JobsFit (jobs_view c first h) (ticket h)
+    → is_committed h (claimed h) ≡ false
+not_yet c first h fits = go (is_committed h (claimed h)) refl where
+  go : (t : Bool) → is_committed h (claimed h) ≡ t → t ≡ false
+  go true e = let f : claimed h < claimed h = fits.committed (claimed h) e in absurd (omega arith)
+  go false e = refl
+
+-- the job that the journal gives
+claimed_job : (c : Config) (first : Contents) (s : State) (h : History) (w : Worker)
+    → Shows s (views c first h)
+    → JobsFit (jobs_view c first h) (ticket h)
+    → refusal c h (Claim w) ≡ None
+    → (m : List ℕ)
+    × (slice_get (map (λ r. r.message) (jobs c h)) (claimed h) ≡ Some m)
+    × (unclaimed s.on_craft.jobs ≡ Some (claimed h, m))
+claimed_job c first s h w k fits e =
+    let free : nat_le (length (jobs c h)) (claimed h) ≡ false = (two_pass _ _ HandFull NoJob e).1 in
+    let found = there_is (slice_get (map (λ r. r.message) (jobs c h)) (claimed h))
+    (waits c first h ∙ ap not free) in (
+      found.0,
+      found.1,
+      unclaimed_shown fits.executed fits.claimed k.jobs
+          ∙ ap (option_map {U = ℕ × List ℕ} (λ m. (claimed h, m))) found.1,
+    )
+
+pub claimed_answer : (c : Config) (first : Contents) (s : State) (h : History) (w : Worker)
+    → Shows s (views c first h)
+    → JobsFit (jobs_view c first h) (ticket h)
+    → refusal c h (Claim w) ≡ None
+    → (claimed_on s w (node_claimed s.on_craft)).1 ≡ reply c first h (Claim w)
+claimed_answer c first s h w k fits e =
+    let job = claimed_job c first s h w k fits e in
+    ap (λ u. (claimed_on s w (claimed_of s.on_craft u)).1) job.2
+    ∙ ap (λ b. quiet (Claimed b (claimed h))) k.jobs.same_boot
+
+pub claimed_shown : (c : Config) (first : Contents) (s : State) (h : History) (w : Worker)
+    → Shows s (views c first h)
+    → JobsFit (jobs_view c first h) (ticket h)
+    → refusal c h (Claim w) ≡ None
+    → Shows (claimed_on s w (node_claimed s.on_craft)).0
+    (views c first (entry c first h (Claim w) ∷ h))
+claimed_shown c first s h w k fits e =
+    let job = claimed_job c first s h w k fits e in
+    subst (λ (u : Option (ℕ × List ℕ)). Shows (claimed_on s w (claimed_of s.on_craft u)).0
+    (views c first (entry c first h (Claim w) ∷ h))) (sym job.2)
+    (with_jobs k (claim_shown fits.executed fits.claimed (not_yet c first h fits) k.jobs)
+    (ticket_set w _ _ (ticket_given s.on_craft.boot (boot h Craft) (claimed h) job.0
+    k.jobs.same_boot job.1) k.tickets) refl)
