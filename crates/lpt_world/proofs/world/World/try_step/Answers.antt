@@ -8,18 +8,18 @@ use Rattle.lpt_world.proofs.LegalLemmas.{numbered_few}
 use Rattle.lpt_world.proofs.WorldLemmas.{free_shown, ready_shown, shown_push, reply_shown}
 use Rattle.lpt_world.proofs.world.World.try_step.Goals as goal
 
-pub apply-requires-free : goal.apply-requires-free
-apply-requires-free c =
+pub apply-requires-clause-free : goal.apply-requires-clause-free
+apply-requires-clause-free c =
     free_shown c.self.inside.ends c.self.inside.first c.self.inside.journal.items c.args.seat c.args.event c.self.invariant
     (c.in-None.ensures ∙ sym (ap (λ (w : Shown). refusal_at w c.args.seat c.args.event) c.self.view_is))
 
-pub apply-requires-ready : goal.apply-requires-ready
-apply-requires-ready c =
+pub apply-requires-clause-ready : goal.apply-requires-clause-ready
+apply-requires-clause-ready c =
     ready_shown c.self.inside.ends c.self.inside.first c.self.inside.journal.items c.args.event c.self.invariant
-    (apply-requires-free c)
+    (apply-requires-clause-free c)
 
-pub apply-requires-numbers : goal.apply-requires-numbers
-apply-requires-numbers c =
+pub apply-requires-clause-numbers : goal.apply-requires-clause-numbers
+apply-requires-clause-numbers c =
     omega (arith, numbered_few c.self.inside.ends.config c.self.inside.first (state_of c.self.inside.ends)
     c.self.inside.journal.items c.self.invariant.told c.self.invariant.shows)
 
