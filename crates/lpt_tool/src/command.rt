@@ -145,7 +145,8 @@ fn run_both<K: Sink>(
 {
     match run_event(alloc, world, first, out) {
         Ok(false) => run_event(alloc, world, second, out),
-        ended => ended,
+        Ok(true) => Ok(true),
+        Err(fault) => Err(fault),
     }
 }
 

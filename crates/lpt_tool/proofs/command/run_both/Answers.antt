@@ -1,4 +1,4 @@
-use Rattle.std.proofs.Common.{rules}
+use Rattle.std.proofs.Common.{rules, Err}
 use Rattle.lpt_tool.specs.Scripts.{stepped}
 use Rattle.lpt_tool.proofs.EndLemmas.{then_ends, first_ends, good_event}
 use Rattle.lpt_tool.proofs.command.run_both.Goals as goal
@@ -11,9 +11,9 @@ returns-in-Ok-false-clause-ends g c =
     (g.K.Sink.contents c.args.out.now) (g.K.Sink.contents c.run_event.new.out) (g.K.Sink.contents c.run_event-in-Ok-false.new.out)
     (search rules) c.run_event-in-Ok-false.ensures.ends
 
--- it was not, or its line could not be written
-pub returns-in_default-2-clause-ends : goal.returns-in_default-2-clause-ends
-returns-in_default-2-clause-ends g c =
+-- its line could not be written
+pub returns-in-Err-clause-ends : goal.returns-in-Err-clause-ends
+returns-in-Err-clause-ends g c =
     first_ends (stepped c.args.world.now c.args.first) c.run_event.new.world (λ w. stepped w c.args.second)
-    c.run_event.result (g.K.Sink.contents c.args.out.now) (g.K.Sink.contents c.run_event.new.out)
-    (good_event c.args.world.now c.args.first) c.run_event.ensures.ends (search rules)
+    (Err c.in-Err.fault) (g.K.Sink.contents c.args.out.now) (g.K.Sink.contents c.run_event.new.out)
+    (good_event c.args.world.now c.args.first) c.in-Err.ensures.ends tt
