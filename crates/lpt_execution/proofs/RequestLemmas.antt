@@ -85,11 +85,13 @@ reports-request : (apid : ℕ) (m : List ℕ) (h : TcHead) (n : ℕ) (end : Endi
     → Numbers h n
     → reports_of n h.flags end ≡ message_reports apid m end
 reports-request apid m h n end fits (body, read) numbers =
-    sym (ap (λ (c : Option Command). option_map_or (λ c. reports_of (long_at m 0) c.flags end) c []) read
+    sym (ap (λ (found : Option Command).
+    option_map_or (λ c. reports_of (long_at m 0) c.flags end) found []) read
     ∙ ap (λ (k : ℕ). reports_of k h.flags end) (long_at-request apid m h n body fits read numbers))
 
 -- the same, of a request that is refused
-pub reports-refused : (apid : ℕ) (m : List ℕ) (h : TcHead) (n : ℕ) (end : Ending) (code : FailureCode)
+pub reports-refused : (apid : ℕ) (m : List ℕ) (h : TcHead) (n : ℕ) (end : Ending)
+    → (code : FailureCode)
     → n < 2 ^ 32
     → IsHeadIn (Some h) apid m
     → Numbers h n
@@ -103,7 +105,8 @@ reports-refused apid m h n end code fits read numbers is =
     ∙ reports-request apid m h n end fits read numbers
 
 -- the same, of a request that is carried out
-pub reports-carried : (apid : ℕ) (m : List ℕ) (h : TcHead) (n : ℕ) (end : Ending) (r : Option Report)
+pub reports-carried : (apid : ℕ) (m : List ℕ) (h : TcHead) (n : ℕ) (end : Ending)
+    → (r : Option Report)
     → n < 2 ^ 32
     → IsHeadIn (Some h) apid m
     → Numbers h n

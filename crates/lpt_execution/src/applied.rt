@@ -21,7 +21,7 @@ impl Ending {
     }
 }
 
-/// What an execution answers that opened this message, or none; with none it would answer `applied`.
+/// What an execution answers that opened this message, or none; with none it answers `applied`.
 pub fn applied_with(applied: Applied, opened: &Option<(Name, Octets)>) -> Applied
     ensures { (end : Ending) → applied ≡ applied_of end None
         → result ≡ applied_of end opened.now }

@@ -37,8 +37,8 @@ pub fn reply_fault(p: u32, length: usize, free: bool, room: bool) -> Option<Fail
     }
 }
 
-/// How the execution of a request ends, with its reply, where it has one. A load isn't done yet, and
-/// no memory changes. `free` and `room` say whether a reply could be opened as a message.
+/// How the execution of a request ends, with its reply, where it has one. A load isn't done yet,
+/// and no memory changes. `free` and `room` say whether a reply could be opened as a message.
 ///
 /// The only error is want of memory, for a reply.
 pub fn ending_of(

@@ -1,4 +1,5 @@
-//! What comes of a released request when it is executed: how that ends, and which reports tell of it.
+//! What comes of a released request when it is executed: how that ends, and which reports tell of
+//! it.
 //!
 //! A request is refused for its first fault, or carried out. The reports are those of request
 //! verification (ECSS-E-ST-70-41C, service 1) and, of a dump or a check, the report of data

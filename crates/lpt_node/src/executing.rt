@@ -93,11 +93,13 @@ impl Node {
         ensures packets { OnOk result (made.new.packets.items
             ≡ made.old.packets.items ++ link_packets self.now.config.part_size
             (report_packets self.now.config
-            (with_counts self.now.at.sending made.old.counts) self.now.at.clock (report.now ∷ []))) }
+            (with_counts self.now.at.sending made.old.counts)
+            self.now.at.clock (report.now ∷ []))) }
         ensures large { OnOk result (made.new.large.items
             ≡ made.old.large.items ++ large_packets self.now.config.part_size
             (report_packets self.now.config
-            (with_counts self.now.at.sending made.old.counts) self.now.at.clock (report.now ∷ []))) }
+            (with_counts self.now.at.sending made.old.counts)
+            self.now.at.clock (report.now ∷ []))) }
         ensures counts { OnOk result (with_counts self.now.at.sending made.new.counts
             ≡ counted_kind (with_counts self.now.at.sending made.old.counts) report.now.kind) }
         ensures fits { All (λ b. MessageFits self.now.config.part_size (length b)) made.old.large.items

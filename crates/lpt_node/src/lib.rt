@@ -2,8 +2,9 @@
 //!
 //! A node sends large messages in parts (ECSS-E-ST-70-41C, large packet transfer), each part in a
 //! space packet, and joins the parts that are delivered to it. Ground sends telecommands and
-//! receives telemetry, the spacecraft the other way round. A node is seen as plain data, and each
-//! call as one function of it.
+//! receives telemetry, the spacecraft the other way round. At the spacecraft a released message
+//! becomes a job, which a worker claims and reads, and which is executed in its turn. A node is seen
+//! as plain data, and each call as one function of it.
 #![tactic(auto)]
 
 mod accepted;

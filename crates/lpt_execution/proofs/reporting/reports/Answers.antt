@@ -14,7 +14,8 @@ returns-in-Refused-clause-reports c =
 
 pub returns-in-Carried-clause-reports : goal.returns-in-Carried-clause-reports
 returns-in-Carried-clause-reports c =
-    subst (λ (reports : List Report). IfOk c.reports_around-in-Carried.result (λ v. v.items ≡ reports))
+    subst
+    (λ (reports : List Report). IfOk c.reports_around-in-Carried.result (λ v. v.items ≡ reports))
     (reports-carried c.args.reading.now.apid c.args.reading.now.message c.in-Some.head
     c.request-request.result.value c.args.ending c.in-Carried.report
     (search rules) (search rules) c.request-request.ensures c.in-Carried.is)

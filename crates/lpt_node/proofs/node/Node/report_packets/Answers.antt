@@ -29,5 +29,6 @@ loop-report-preserved c =
           ∙ ap (reported s) (sym items)
           ∙ c.loop-report.invariant.counts;
       fits = c.in_ok-add_report.ensures.fits c.loop-report.invariant.fits;
-      left = λ k d within. subst (All ReportFits) items c.loop-report.invariant.left (suc k) d (omega arith);
+      left = λ k d within.
+          subst (All ReportFits) items c.loop-report.invariant.left (suc k) d (omega arith);
     }

@@ -12,13 +12,15 @@ invariant-loop-report l = record {
   packets :
       l.made.packets.items
       ++ link_packets l.fn.self.config.part_size
-      (report_packets l.fn.self.config (with_counts l.fn.self.at.sending l.made.counts) l.fn.self.at.clock l.report-iterator.rest.items)
+      (report_packets l.fn.self.config (with_counts l.fn.self.at.sending l.made.counts)
+      l.fn.self.at.clock l.report-iterator.rest.items)
       ≡ link_packets l.fn.self.config.part_size
       (report_packets l.fn.self.config l.fn.self.at.sending l.fn.self.at.clock l.fn.reports.items);
   large :
       l.made.large.items
       ++ large_packets l.fn.self.config.part_size
-      (report_packets l.fn.self.config (with_counts l.fn.self.at.sending l.made.counts) l.fn.self.at.clock l.report-iterator.rest.items)
+      (report_packets l.fn.self.config (with_counts l.fn.self.at.sending l.made.counts)
+      l.fn.self.at.clock l.report-iterator.rest.items)
       ≡ large_packets l.fn.self.config.part_size
       (report_packets l.fn.self.config l.fn.self.at.sending l.fn.self.at.clock l.fn.reports.items);
   counts :
