@@ -6,13 +6,16 @@ costs.py crates KEPT NAME COMMAND..  the same for `rt ci`: also what each crate'
                                      must-fail edits cost
 costs.py table KEPT                  prints the file as tables, and the ratio of the whole to the
                                      proof of the crate lpt_packet, which says more than seconds do
-                                     where the machine's speed varies
+                                     where the machine's speed varies. That proof is the first, while
+                                     few others run, and takes as many jobs as there are processors to
+                                     spare: the ratio to its base is told too
 
 A command's seconds are those that the system counted for it and for all that it started and waited
 for. Those of crates are seen in /proc, four times a second: a process of the prover has --crate-name
 among its words, --test where it proves tests, and works in a folder rt-edit-* where it tries an edit.
-The builds of a program count as its proof. What a process used after it was last seen is in the whole
-alone.
+The builds of a program count as its proof. The base of a crate's edits, which is a part of their seconds,
+is the dearest of them: the first, which proves the whole crate in one job while the rest is at work. What
+a process used after it was last seen is in the whole alone.
 
 A line of KEPT is a name, a kind and seconds, with tabs between. Nothing here changes what a command
 reads, writes or answers: where measuring fails, lines are missing, and that is told.
@@ -26,6 +29,7 @@ import sys
 
 SECONDS_BETWEEN = 0.25
 KINDS = ["proof", "tests", "edits"]
+BASE = "base"
 MEASURE = "lpt_packet"
 TICKS = os.sysconf("SC_CLK_TCK")
 
@@ -109,7 +113,10 @@ class Watch:
         """The seconds of each crate and kind."""
         total = {}
         for key, seconds in self.used.items():
-            total[self.work[key]] = total.get(self.work[key], 0.0) + seconds
+            crate, kind = self.work[key]
+            total[crate, kind] = total.get((crate, kind), 0.0) + seconds
+            if kind == "edits":
+                total[crate, BASE] = max(seconds, total.get((crate, BASE), 0.0))
         return [(crate, kind, seconds) for (crate, kind), seconds in sorted(total.items())]
 
 
@@ -155,10 +162,11 @@ def table(kept):
             names = commands if kind == "whole" else crates
             if name not in names:
                 names.append(name)
-    print("| Crate | Proof | Tests | Edits |\n|---|--:|--:|--:|")
+    print("| Crate | Proof | Tests | Edits | Their base |\n|---|--:|--:|--:|--:|")
+    columns = [*KINDS, BASE]
     for crate in crates:
-        print(f"| {crate} |", *(f"{cost.get((crate, kind), 0):.0f} |" for kind in KINDS))
-    sums = [sum(cost.get((crate, kind), 0) for crate in crates) for kind in KINDS]
+        print(f"| {crate} |", *(f"{cost.get((crate, kind), 0):.0f} |" for kind in columns))
+    sums = [sum(cost.get((crate, kind), 0) for crate in crates) for kind in columns]
     print("| all |", *(f"{seconds:.0f} |" for seconds in sums))
     print("\n| Command | Whole |\n|---|--:|")
     for name in commands:
@@ -170,6 +178,9 @@ def table(kept):
         print(f"costs: the whole is {whole / measure:.1f} times the proof of {MEASURE}")
     else:
         print(f"costs: the proof of {MEASURE} wasn't seen, so there is no ratio")
+    base = cost.get((MEASURE, BASE))
+    if base:
+        print(f"costs: and {whole / base:.1f} times the base of the edits of {MEASURE}")
 
 
 def main(words):

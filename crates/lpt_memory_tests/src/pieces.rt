@@ -90,8 +90,8 @@ fn is_answered(
     body: &[u8],
     wanted: &[u8],
 ) -> Result<bool, Fail> {
-    let effect = applied(alloc, memories, request(alloc, subtype, body)?)?;
-    Ok(match &effect {
+    let message = request(alloc, subtype, body)?;
+    Ok(match applied(alloc, memories, message)? {
         Effect::Reply(_, body) => body.as_slice() == wanted,
         Effect::Silent | Effect::Code(_) | Effect::Done => false,
     })

@@ -18,10 +18,10 @@ const SECOND: [u8; 8] = [1, 1, 0, 0, 0, 2, 0, 3];
 
 // Adds the job of a check with this body. The answer is whether there was room for it.
 fn release(alloc: Global, queue: &mut JobQueue, body: &[u8]) -> Result<bool, Fail> {
-    let message = request(alloc, 9, body)?;
     if queue.numbered() == u64::MAX || queue.reserve().is_err() {
         return Ok(false);
     }
+    let message = request(alloc, 9, body)?;
     queue.push_reserved(message);
     Ok(true)
 }
@@ -97,11 +97,17 @@ fn executes_jobs_in_the_order_of_their_release(rt: HostRuntime) -> Result<(), Fa
 
 // A queue that is cleared numbers its jobs from 0 again.
 fn restart(rt: &impl Abort, alloc: Global, queue: &mut JobQueue) -> Result<(), Fail> {
-    assert!(rt; release(alloc, queue, &FIRST)? && release(alloc, queue, &SECOND)?);
+    let released = (
+        release(alloc, queue, &FIRST)?,
+        release(alloc, queue, &SECOND)?,
+    );
+    assert!(rt; released == (true, true));
     assert!(rt; claim(queue) == Some(0));
     queue.clear();
-    assert!(rt; queue.numbered() == 0 && queue.len() == 0 && !queue.is_claimed(0));
-    assert!(rt; release(alloc, queue, &SECOND)?);
+    let left = (queue.numbered(), queue.len(), queue.is_claimed(0));
+    assert!(rt; left == (0, 0, false));
+    let released = release(alloc, queue, &SECOND)?;
+    assert!(rt; released);
     assert!(rt; matches!(queue.front(), Front::NotReady));
     assert!(rt; claim(queue) == Some(0));
     Ok(())

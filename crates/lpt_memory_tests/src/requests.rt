@@ -112,7 +112,7 @@ fn octets_after(
     from: usize,
     to: usize,
 ) -> Result<Vec<u8>, Fail> {
-    let _effect = applied(alloc, memories, message)?;
+    let _ = applied(alloc, memories, message)?;
     let content = memories.content(1).ok_or("no memory 1")?;
     Ok(content.get(from..to).ok_or("too short")?.to_vec(alloc)?)
 }

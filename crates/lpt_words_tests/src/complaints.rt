@@ -1,20 +1,36 @@
 //! Configurations that are refused, with what is told of each.
 
-use lpt_settings::why_refused;
-use std::alloc::{AllocError, Global};
+use lpt_settings::{Complaint, why_refused};
+use std::alloc::Global;
 use std::test::Fail;
 
-// The line, 0 where there is none, and the text of what is told.
-fn told(alloc: Global, text: &str) -> Result<Option<(usize, String)>, AllocError> {
-    let Some(complaint) = why_refused(alloc, text)? else {
-        return Ok(None);
-    };
-    let line = complaint.line().unwrap_or(0);
-    Ok(Some((line, format!(in alloc; "{complaint}")?)))
+// Whether a text is refused for this reason, at this line, 0 where none is told.
+fn tells(alloc: Global, text: &str, line: usize, reason: &str) -> bool {
+    match why_refused(alloc, text) {
+        Ok(Some(complaint)) => complaint.line().unwrap_or(0) == line
+            && says(alloc, &complaint, reason),
+        _ => false,
+    }
+}
+
+// Whether a complaint gives this reason.
+fn says(alloc: Global, complaint: &Complaint, reason: &str) -> bool {
+    match format!(in alloc; "{complaint}") {
+        Ok(it) => it.as_str() == reason,
+        Err(_) => false,
+    }
+}
+
+// Whether there is nothing to tell of a text.
+fn is_taken(alloc: Global, text: &str) -> bool {
+    match why_refused(alloc, text) {
+        Ok(complaint) => complaint.is_none(),
+        Err(_) => false,
+    }
 }
 
 #[test]
-fn tells_line_key_and_reason(rt: HostRuntime) -> Result<(), Fail> {
+fn tells_line_key_and_reason(rt: HostRuntime) {
     let cases = [
         ("apid = 2047", 1, "apid: not from 0 to 2046"),
         ("# one\n\n  'source' = -1", 3, "source: not from 0 to 65535"),
@@ -35,10 +51,8 @@ fn tells_line_key_and_reason(rt: HostRuntime) -> Result<(), Fail> {
         ("memory = [{ id = 1 }]", 1, "memory 1: size: has no value"),
     ];
     for (text, line, words) in cases {
-        let (at, reason) = told(rt.alloc(), text)?.ok_or("nothing is told")?;
-        assert!(rt; at == line && reason.as_str() == words, "{text}");
+        assert!(rt; tells(rt.alloc(), text, line, words), "{text}");
     }
-    Ok(())
 }
 
 #[test]
@@ -74,16 +88,14 @@ fn tells_which_memory(rt: HostRuntime) -> Result<(), Fail> {
     ];
     for (more, line, words) in cases {
         let text = format!(in rt.alloc(); "{first}{more}")?;
-        let (at, reason) = told(rt.alloc(), text.as_str())?.ok_or("nothing is told")?;
-        assert!(rt; at == line && reason.as_str() == words, "{more}");
+        assert!(rt; tells(rt.alloc(), text.as_str(), line, words), "{more}");
     }
     Ok(())
 }
 
 #[test]
-fn tells_nothing_of_settings(rt: HostRuntime) -> Result<(), Fail> {
+fn tells_nothing_of_settings(rt: HostRuntime) {
     for text in ["", "# nothing", "apid = 1\n[[memory]]\nid = 1\nsize = 1"] {
-        assert!(rt; told(rt.alloc(), text)?.is_none(), "{text}");
+        assert!(rt; is_taken(rt.alloc(), text), "{text}");
     }
-    Ok(())
 }

@@ -6,10 +6,19 @@ use lpt_packet::{Direction, Octets};
 use lpt_pus::AckFlags;
 use lpt_words::{Command, Load, Reading, read_hex, read_line, read_number, split_line, split_word};
 use std::alloc::Global;
+use std::process::Abort;
 use std::test::Fail;
 
+// Whether a line is read as this.
+fn reads(alloc: Global, line: &[u8], wanted: &Reading) -> bool {
+    match read_line(alloc, line) {
+        Ok(reading) => reading == *wanted,
+        Err(_) => false,
+    }
+}
+
 #[test]
-fn reads_each_kind_of_line(rt: HostRuntime) -> Result<(), Fail> {
+fn reads_each_kind_of_line(rt: HostRuntime) {
     let cases = [
         ("send up 0 1", Command::Send(Direction::Up, 0, 1)),
         (
@@ -35,10 +44,9 @@ fn reads_each_kind_of_line(rt: HostRuntime) -> Result<(), Fail> {
         ("show journal", Command::ShowJournal),
     ];
     for (line, command) in cases {
-        let reading = read_line(rt.alloc(), line.as_bytes())?;
-        assert!(rt; reading == Reading::Asks(command), "{line}");
+        let asks = Reading::Asks(command);
+        assert!(rt; reads(rt.alloc(), line.as_bytes(), &asks), "{line}");
     }
-    Ok(())
 }
 
 #[test]
@@ -51,23 +59,33 @@ fn reads_the_octets_of_a_message(rt: HostRuntime) -> Result<(), Fail> {
     ];
     for (line, octets) in cases {
         let message = Octets::from_vec(octets.to_vec(rt.alloc())?);
-        let reading = read_line(rt.alloc(), line.as_bytes())?;
-        let open = Command::Open(Direction::Down, 7, message);
-        assert!(rt; reading == Reading::Asks(open), "{line}");
-    }
-    for word in ["", "0", "abc", "0g", "0x", "--", "00 "] {
-        assert!(rt; read_hex(rt.alloc(), word.as_bytes())? == None, "{word}");
+        let open = Reading::Asks(Command::Open(Direction::Down, 7, message));
+        assert!(rt; reads(rt.alloc(), line.as_bytes(), &open), "{line}");
     }
     Ok(())
+}
+
+#[test]
+fn reads_no_other_word_as_octets(rt: HostRuntime) {
+    for word in ["", "0", "abc", "0g", "0x", "--", "00 "] {
+        assert!(rt; is_no_hex(rt.alloc(), word), "{word}");
+    }
+}
+
+// Whether a word is read, and stands for no octets.
+fn is_no_hex(alloc: Global, word: &str) -> bool {
+    match read_hex(alloc, word.as_bytes()) {
+        Ok(octets) => octets.is_none(),
+        Err(_) => false,
+    }
 }
 
 #[test]
 fn reads_plain_requests(rt: HostRuntime) -> Result<(), Fail> {
     let flags = AckFlags::new(15).ok_or("no flags")?;
     let body = Octets::from_vec(vec![in rt.alloc(); 0x01, 0xff]?);
-    let reading = read_line(rt.alloc(), b"plain 15 255 0 01fF".as_slice())?;
-    let plain = Command::Plain(flags, 255, 0, body);
-    assert!(rt; reading == Reading::Asks(plain));
+    let plain = Reading::Asks(Command::Plain(flags, 255, 0, body));
+    assert!(rt; reads(rt.alloc(), b"plain 15 255 0 01fF".as_slice(), &plain));
     Ok(())
 }
 
@@ -101,8 +119,8 @@ fn reads_loads(rt: HostRuntime) -> Result<(), Fail> {
     for (line, (id, count, flags, memory), areas) in cases {
         let flags = AckFlags::new(flags).ok_or("no flags")?;
         let load = Load::new(id, count, flags, memory, areas).ok_or("no load")?;
-        let reading = read_line(rt.alloc(), line.as_bytes())?;
-        assert!(rt; reading == Reading::Asks(Command::Load(load)), "{line}");
+        let asks = Reading::Asks(Command::Load(load));
+        assert!(rt; reads(rt.alloc(), line.as_bytes(), &asks), "{line}");
     }
     Ok(())
 }
@@ -140,7 +158,7 @@ fn a_load_has_at_most_255_areas_and_fits_a_packet(rt: HostRuntime) -> Result<(),
 }
 
 #[test]
-fn skips_comments_and_blank_lines_and_nothing_else(rt: HostRuntime) -> Result<(), Fail> {
+fn skips_comments_and_blank_lines(rt: HostRuntime) {
     for line in [
         "",
         "   ",
@@ -149,10 +167,26 @@ fn skips_comments_and_blank_lines_and_nothing_else(rt: HostRuntime) -> Result<()
         "   #show journal",
         "#\t\r",
     ] {
-        let reading = read_line(rt.alloc(), line.as_bytes())?;
-        assert!(rt; reading == Reading::Skipped, "{line}");
+        assert!(rt;
+            reads(rt.alloc(), line.as_bytes(), &Reading::Skipped),
+            "{line}"
+        );
     }
-    let unreadable = [
+}
+
+// Asserts that none of these lines is read.
+fn unreadable(rt: &impl Abort, alloc: Global, lines: &[&str]) {
+    for line in lines {
+        assert!(rt;
+            reads(alloc, line.as_bytes(), &Reading::Unreadable),
+            "{line}"
+        );
+    }
+}
+
+#[test]
+fn reads_no_other_show(rt: HostRuntime) {
+    let lines = [
         "show",
         "show journal\r",
         "show\tjournal",
@@ -170,6 +204,13 @@ fn skips_comments_and_blank_lines_and_nothing_else(rt: HostRuntime) -> Result<()
         "Show journal",
         "shows journal",
         "\t",
+    ];
+    unreadable(&rt, rt.alloc(), &lines);
+}
+
+#[test]
+fn reads_no_other_event(rt: HostRuntime) {
+    let lines = [
         "open up 7",
         "open up 65536 00",
         "open up 7 abc",
@@ -196,6 +237,13 @@ fn skips_comments_and_blank_lines_and_nothing_else(rt: HostRuntime) -> Result<()
         "tick craft 1 1",
         "expire",
         "expire craft 1",
+    ];
+    unreadable(&rt, rt.alloc(), &lines);
+}
+
+#[test]
+fn reads_no_other_request(rt: HostRuntime) {
+    let lines = [
         "plain 0 6 2",
         "plain 16 6 2 -",
         "plain 0 256 2 -",
@@ -215,20 +263,16 @@ fn skips_comments_and_blank_lines_and_nothing_else(rt: HostRuntime) -> Result<()
         "load 7 16384 9 2 0 00",
         "load 65536 1 9 2 0 00",
     ];
-    for line in unreadable {
-        let reading = read_line(rt.alloc(), line.as_bytes())?;
-        assert!(rt; reading == Reading::Unreadable, "{line}");
-    }
-    Ok(())
+    unreadable(&rt, rt.alloc(), &lines);
 }
 
 #[test]
 fn a_line_has_at_most_140_000_octets(rt: HostRuntime) -> Result<(), Fail> {
     let mut line = vec![in rt.alloc(); b' '; 139_999]?;
     line.push(b'#')?;
-    assert!(rt; read_line(rt.alloc(), line.as_slice())? == Reading::Skipped);
+    assert!(rt; reads(rt.alloc(), line.as_slice(), &Reading::Skipped));
     line.push(b' ')?;
-    assert!(rt; read_line(rt.alloc(), line.as_slice())? == Reading::Unreadable);
+    assert!(rt; reads(rt.alloc(), line.as_slice(), &Reading::Unreadable));
     // The carriage return that a line feed drops counts.
     for (spaces, reading) in [(139_998, Reading::Skipped), (139_999, Reading::Unreadable)] {
         let mut text = vec![in rt.alloc(); b' '; spaces]?;
@@ -236,7 +280,7 @@ fn a_line_has_at_most_140_000_octets(rt: HostRuntime) -> Result<(), Fail> {
             text.push(*octet)?;
         }
         let (line, _) = split_line(text.as_slice()).ok_or("no line")?;
-        assert!(rt; read_line(rt.alloc(), line)? == reading, "{spaces}");
+        assert!(rt; reads(rt.alloc(), line, &reading), "{spaces}");
     }
     Ok(())
 }

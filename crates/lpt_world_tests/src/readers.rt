@@ -4,7 +4,7 @@ use crate::scenes::*;
 use crate::stations::octets_of;
 use lpt_link::Lane;
 use lpt_memory::{Memories, Shape, Ticket, prepare};
-use lpt_node::{Config, Side};
+use lpt_node::Side;
 use lpt_packet::Direction::{Down, Up};
 use lpt_packet::Octets;
 use lpt_world::{State, StepFault, World, laws};
@@ -39,20 +39,12 @@ fn runs(alloc: Global, world: &mut World, rows: &[Row]) -> Result<(u64, Option<S
 }
 
 #[test]
-fn knows_its_configuration(rt: HostRuntime) -> Result<(), Fail> {
-    let config = config_of_a_world(rt.alloc())?;
-    assert!(rt; config == CONFIG);
+fn states_its_law(_rt: HostRuntime) {
     laws::headline();
-    Ok(())
-}
-
-fn config_of_a_world(alloc: Global) -> Result<Config, Fail> {
-    let world = new_world(alloc, CONFIG)?;
-    Ok(world.config())
 }
 
 #[test]
-fn shows_the_link_and_the_ends(rt: HostRuntime) -> Result<(), Fail> {
+fn shows_its_configuration_the_link_and_the_ends(rt: HostRuntime) -> Result<(), Fail> {
     let alloc = rt.alloc();
     let mut world = new_world(alloc, CONFIG)?;
     shows_what_was_put(&rt, alloc, &mut world)
@@ -65,12 +57,15 @@ fn shows_what_was_put(rt: &impl Abort, alloc: Global, world: &mut World) -> Resu
         sends(Up, 7, 2, 1),
         takes(Lane::S1, 1),
     ];
-    let ran = runs(alloc, world, &rows);
-    assert!(rt; world.packets() == 2 && world.is_held(1) && !world.is_held(2));
-    assert!(rt; world.hand(Lane::S1) == Some(1) && world.hand(Lane::G1).is_none());
-    assert!(rt; world.sender(Up, 7) == State::Open && world.sender(Down, 7) == State::Free);
+    runs(alloc, world, &rows)?;
+    assert!(rt; world.config() == CONFIG);
+    let packets = (world.packets(), world.is_held(1), world.is_held(2));
+    assert!(rt; packets == (2, true, false));
+    let hands = (world.hand(Lane::S1), world.hand(Lane::G1));
+    assert!(rt; hands == (Some(1), None));
+    let senders = (world.sender(Up, 7), world.sender(Down, 7));
+    assert!(rt; senders == (State::Open, State::Free));
     assert!(rt; world.clock(Side::Craft) == CONFIG.clock);
-    ran?;
     Ok(())
 }
 
@@ -84,9 +79,11 @@ fn memories_keep_their_first_content(rt: HostRuntime) -> Result<(), Fail> {
 
 // The identifiers and contents of memories 7 and 3, of three octets each.
 fn two_contents(alloc: Global) -> Result<Vec<(u8, Octets)>, AllocError> {
+    let seven = octets_of(alloc, &[1, 2, 3])?;
+    let three = octets_of(alloc, &[4, 5, 6])?;
     let mut contents = Vec::new(alloc);
-    contents.push((7, octets_of(alloc, &[1, 2, 3])?))?;
-    contents.push((3, octets_of(alloc, &[4, 5, 6])?))?;
+    contents.push((7, seven))?;
+    contents.push((3, three))?;
     Ok(contents)
 }
 

@@ -150,8 +150,9 @@ pub(crate) fn is_asked(event: &Event, asked: Asked) -> bool {
 
 /// The identifier and the content of a memory 1 of so many octets of zero.
 pub(crate) fn zeros(alloc: Global, size: usize) -> Result<Vec<(u8, Octets)>, AllocError> {
+    let octets = Octets::from_vec(vec![in alloc; 0; size]?);
     let mut contents = Vec::new(alloc);
-    contents.push((1, Octets::from_vec(vec![in alloc; 0; size]?)))?;
+    contents.push((1, octets))?;
     Ok(contents)
 }
 
