@@ -1,14 +1,13 @@
 -- The first number that passes a test, and the least free identifier.
-use Rattle.std.proofs.Common.{◌≡◌, ◌≢◌, ◌∙◌, refl, sym, ap, subst, ℕ, zero, suc, ◌+◌, ◌<◌, ◌≤◌, Bool, true, false, cond, List, [], ◌∷◌, length, get_or, Option, Some, None, inl, inr, arith, add-one, zero-add}
+use Rattle.std.proofs.Common.{◌≡◌, ◌≢◌, ◌∙◌, refl, sym, ap, subst, ℕ, zero, suc, ◌+◌, ◌<◌, ◌≤◌, Bool, true, false, not, List, get_or, Option, Some, None, inl, inr, arith}
 use Rattle.std.proofs.lemmas.Bool.Decides.{nat_tests, eqb_tells}
-use Rattle.std.proofs.lemmas.Iterator.Adapters.{position_from-zero}
-use Rattle.std.specs.List.{position, position_from}
 use Rattle.lpt_packet.specs.Names.{Name}
 use Rattle.lpt_ledger.specs.declared.state.State.{State}
 use Rattle.lpt_ledger.specs.declared.state.State.TheVariants.{Free, Open, Closed}
+use Rattle.lpt_ledger.specs.Bits.{bit_for, IsFirstClear}
 use Rattle.lpt_ledger.specs.Marks.{Marks}
 use Rattle.lpt_ledger.specs.States.{state_at, is_free}
-use Rattle.lpt_ledger.specs.LedgerInside.{marks}
+use Rattle.lpt_ledger.specs.LedgerInside.{marks, IsKept}
 use Rattle.lpt_ledger.specs.LeastFree.{name_count, IsLeastFree, first_of_numbers, least_free_in}
 use Rattle.lpt_ledger.proofs.MarksLemmas.{state_at-marks}
 
@@ -68,35 +67,26 @@ IsFirst-first_of_numbers (suc n) k test =
       | false ↦ λ here. IsFirst-later n k test rest here (IsFirst-first_of_numbers n (suc k) test)
     ] refl
 
--- ---- the first place of a list
-
--- a choice by two tests that agree
-same_choice : (a b : Bool) (x y z : Option ℕ)
+-- there is one first
+IsFirst-unique : (n k : ℕ) (test : ℕ → Bool) (a b : Option ℕ)
+    → IsFirst n k test a
+    → IsFirst n k test b
     → a ≡ b
-    → y ≡ z
-    → elim a [ true ↦ x | false ↦ y ] ≡ cond b x z
-same_choice true true x y z e f = refl
-same_choice true false x y z e f = cc
-same_choice false true x y z e f = cc
-same_choice false false x y z e f = f
-
--- a test that answers as the list does at each place finds what a scan of the list finds
-pub first_of_numbers-length : {A : Type 0} (xs : List A) (d : A) (p : A → Bool)
-    (k : ℕ) (test : ℕ → Bool)
-    → ((i : ℕ) → i < length xs → test (k + i) ≡ p (get_or xs i d))
-    → first_of_numbers (length xs) k test ≡ position_from p k xs
-unfolding first_of_numbers
-first_of_numbers-length [] d p k test same = refl
-first_of_numbers-length (x ∷ xs) d p k test same =
-    let here : test k ≡ p x = ap test (omega arith) ∙ same 0 (omega arith) in
-    let later : (i : ℕ) → i < length xs → test (suc k + i) ≡ p (get_or xs i d) =
-    λ i h. ap test (omega arith) ∙ same (suc i) (omega arith)
+IsFirst-unique n k test None None g h = refl
+IsFirst-unique n k test None (Some j) g h =
+    let never : true ≡ false = sym h.passes ∙ g j h.from h.to in absurd cc
+IsFirst-unique n k test (Some i) None g h =
+    let never : true ≡ false = sym g.passes ∙ h i g.from g.to in absurd cc
+IsFirst-unique n k test (Some i) (Some j) g h =
+    let not_below : j ≤ i = not_above i j (λ (low : i < j).
+    let never : true ≡ false = sym g.passes ∙ h.none_before i g.from low in cc)
     in
-    let found = first_of_numbers (length xs) (suc k) test in
-    let rest : found ≡ position_from p (k + 1) xs =
-    rw add-one (first_of_numbers-length xs d p (suc k) test later)
+    let not_behind : i ≤ j = not_above j i (λ (low : j < i).
+    let never : true ≡ false = sym h.passes ∙ g.none_before j h.from low in cc)
     in
-    same_choice (test k) (p x) (Some k) found (position_from p (k + 1) xs) here rest
+    ap (λ (x : ℕ). Some x) (omega arith) where
+      not_above : (i j : ℕ) → ¬ (i < j) → j ≤ i
+      not_above i j h = omega arith
 
 -- ---- the least free identifier
 
@@ -132,35 +122,57 @@ IsLeastFree-least_free_in m =
     IsLeastFree-first m (first_of_numbers name_count 0 test)
     (IsFirst-first_of_numbers name_count 0 test)
 
--- a scan of the states finds it
-least_free_in-marks : (states : List State)
-    → length states ≡ name_count
-    → least_free_in (marks states) ≡ position is_free states
-unfolding least_free_in
-least_free_in-marks states full =
-    let test = λ (id : Name). is_free (state_at (marks states) id) in
-    let same : (i : ℕ) → i < length states → test (0 + i) ≡ is_free (get_or states i Free) =
-    λ i h. rw zero-add (ap is_free (state_at-marks states i))
-    in
-    ap (λ (n : ℕ). first_of_numbers n 0 test) (sym full)
-    ∙ first_of_numbers-length states Free is_free 0 test same
-    ∙ sym (position_from-zero is_free states)
+-- a bit that says whether a state is taken
+free_bit : (b : Bool) → bit_for (not b) ≡ 0 → b ≡ true
+free_bit true h = refl
+free_bit false h = absurd (omega (arith, h))
 
--- so what the scan finds is what is sought upwards
-pub least_free_in-found : (states : List State) (m : Marks) (o : Option Name)
+taken_bit : (b : Bool) → bit_for (not b) ≡ 1 → b ≡ false
+taken_bit true h = absurd (omega (arith, h))
+taken_bit false h = refl
+
+-- the first bit that is clear is that of the first free one
+first_clear-is : (states : List State) (taken full : List ℕ) (o : Option ℕ)
+    → IsKept states taken full
+    → IsFirstClear taken o
+    → IsFirst name_count 0 (λ id. is_free (state_at (marks states) id)) o
+first_clear-is states taken full None k none = λ i from to.
+    let within : i < name_count = omega arith in
+    ap is_free (state_at-marks states i)
+    ∙ taken_bit (is_free (get_or states i Free))
+    (sym (k.tells i within) ∙ none i (omega (arith, k.words, within)))
+first_clear-is states taken full (Some n) k first =
+    let within : n < name_count = omega (arith, first.within, k.words) in
+    record {
+      from = omega arith;
+      to = omega (arith, within);
+      passes = ap is_free (state_at-marks states n)
+          ∙ free_bit (is_free (get_or states n Free)) (sym (k.tells n within) ∙ first.clear);
+      none_before = λ j from to.
+          ap is_free (state_at-marks states j)
+          ∙ taken_bit (is_free (get_or states j Free))
+          (sym (k.tells j (omega (arith, within, to))) ∙ first.none_before j to);
+    }
+
+-- so it is what is sought upwards
+pub least_free_in-found : (states : List State) (taken full : List ℕ) (m : Marks) (o : Option Name)
     → marks states ≡ m
-    → length states ≡ name_count
-    → o ≡ position is_free states
+    → IsKept states taken full
+    → IsFirstClear taken o
     → o ≡ least_free_in m
-least_free_in-found states m o seen full found =
-    found ∙ sym (least_free_in-marks states full) ∙ ap least_free_in seen
+unfolding least_free_in
+least_free_in-found states taken full m o seen k first =
+    let test = λ (id : Name). is_free (state_at (marks states) id) in
+    IsFirst-unique name_count 0 test o (first_of_numbers name_count 0 test)
+    (first_clear-is states taken full o k first) (IsFirst-first_of_numbers name_count 0 test)
+    ∙ ap least_free_in seen
 
 -- and it is the least free identifier
-pub IsLeastFree-found : (states : List State) (m : Marks) (o : Option Name)
+pub IsLeastFree-found : (states : List State) (taken full : List ℕ) (m : Marks) (o : Option Name)
     → marks states ≡ m
-    → length states ≡ name_count
-    → o ≡ position is_free states
+    → IsKept states taken full
+    → IsFirstClear taken o
     → IsLeastFree m o
-IsLeastFree-found states m o seen full found =
-    let is : o ≡ least_free_in m = least_free_in-found states m o seen full found in
-    subst (IsLeastFree m) (sym is) (IsLeastFree-least_free_in m)
+IsLeastFree-found states taken full m o seen k first =
+    subst (IsLeastFree m) (sym (least_free_in-found states taken full m o seen k first))
+    (IsLeastFree-least_free_in m)

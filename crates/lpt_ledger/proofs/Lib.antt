@@ -1,4 +1,5 @@
+mod BitLemmas
 mod ClosingLemmas
 pub mod FirstLemmas
+mod KeptLemmas
 mod MarksLemmas
-mod NextLemmas

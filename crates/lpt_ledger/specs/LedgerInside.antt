@@ -1,10 +1,11 @@
--- How a ledger keeps the states: a list of them, each at its identifier's place, and a place below
--- which none is free.
-use Rattle.std.specs.Prelude.{◌≡◌, ℕ, suc, ◌<◌, ◌≤◌, ◌==◌, nat_lt, false, if◌then◌else◌, List, [], ◌∷◌, length, get_or, Option, Some, None}
+-- How a ledger keeps the states: a list of them, each at its identifier's place, and a bit for each
+-- that tells whether it is taken.
+use Rattle.std.specs.Prelude.{◌≡◌, ℕ, suc, ◌<◌, not, List, [], ◌∷◌, length, get_or, Option, Some, None}
 use Rattle.std.specs.FinMap as map
 use Rattle.lpt_packet.specs.Names.{Name}
 use Rattle.lpt_ledger.specs.declared.state.State.{State}
 use Rattle.lpt_ledger.specs.declared.state.State.TheVariants.{Free, Open, Closed}
+use Rattle.lpt_ledger.specs.Bits.{bit_for, bit_of, AreFull}
 use Rattle.lpt_ledger.specs.LeastFree.{name_count}
 use Rattle.lpt_ledger.specs.Marks.{Mark, Opened, Shut, Marks}
 use Rattle.lpt_ledger.specs.States.{is_free}
@@ -35,18 +36,12 @@ with_state m id Free = map.remove m id
 with_state m id Open = map.insert m id Opened
 with_state m id Closed = map.insert m id Shut
 
--- none of the first n places is free
-abbrev pub AreTaken : ℕ → List State → Type 0
-AreTaken n states = (i : ℕ) → i < n → is_free (get_or states i Free) ≡ false
-
--- there is a place for each identifier, and below the next one none is free
-pub record IsKept (next : ℕ) (states : List State) : Type 0 where
-  pub full : length states ≡ name_count
-  pub within : next ≤ name_count
-  pub taken : AreTaken next states
-
--- the place below which none is free, once a place has this state
-abbrev pub next_after : ℕ → ℕ → State → ℕ
-next_after next place Free = if nat_lt place next then place else next
-next_after next place Open = if place == next then suc next else next
-next_after next place Closed = if place == next then suc next else next
+-- there is a place for each identifier, a bit that tells whether it is taken, and a bit for each 64
+-- of these that tells whether all of them are set
+pub record IsKept (states : List State) (taken full : List ℕ) : Type 0 where
+  pub places : length states ≡ name_count
+  pub words : length taken ≡ 1024
+  pub sums : length full ≡ 16
+  pub tells : (i : ℕ)
+      → i < name_count → bit_of taken i ≡ bit_for (not (is_free (get_or states i Free)))
+  pub tells_full : AreFull taken full

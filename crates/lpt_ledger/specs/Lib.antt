@@ -1,3 +1,4 @@
+pub mod Bits
 pub mod FaultNames
 pub mod LeastFree
 pub mod LedgerInside

@@ -1,13 +1,15 @@
 //! The ledger of the identifiers of one end.
 
-ghost use Rattle.std.specs.Prelude.{◌≡◌, ◌≢◌, ◌≤◌, ◌==◌, if◌then◌else◌, suc, None, Some, IfOk, IfErr, OnOk, OnErr, length, map as mapped, position};
+ghost use Rattle.std.specs.Prelude.{◌≡◌, ◌≢◌, ℕ, not, None, Some, IfOk, IfErr, OnOk, OnErr, length, map as mapped};
 ghost use Rattle.std.specs.FinMap as map;
 ghost use Rattle.lpt_ledger.specs.Marks.{Opened, Shut, all_closed};
 ghost use Rattle.lpt_ledger.specs.States.{state_at, is_free, closed_state};
 ghost use Rattle.lpt_ledger.specs.Refusals.{refusal_open, refusal_close, refusal_shut, refusal_retire};
-ghost use Rattle.lpt_ledger.specs.LeastFree.{name_count, least_free_in, IsLeastFree};
-ghost use Rattle.lpt_ledger.specs.LedgerInside.{marks, with_state, next_after, AreTaken};
+ghost use Rattle.lpt_ledger.specs.LeastFree.{least_free_in, IsLeastFree};
+ghost use Rattle.lpt_ledger.specs.Bits.{word_of};
+ghost use Rattle.lpt_ledger.specs.LedgerInside.{marks, with_state};
 
+use crate::bits::{first_clear_by, put_bit_by};
 use crate::{LedgerFault, State};
 use lpt_packet::Name;
 use std::alloc::{AllocError, Global};
@@ -16,13 +18,21 @@ use std::marker::Model;
 /// How many identifiers there are.
 const NAMES: usize = 65_536;
 
+// How many words have a bit for each identifier.
+const TAKEN_WORDS: usize = 1_024;
+
+// How many words have a bit for each of these.
+const FULL_WORDS: usize = 16;
+
 /// The state of each identifier at one end.
 #[derive(Debug, Drop)]
 pub struct Ledger {
     // The state of each identifier, at the identifier's place.
     states: Vec<State>,
-    // No identifier below it is free.
-    next: usize,
+    // A bit for each identifier, which is set where it is taken.
+    taken: Vec<u64>,
+    // A bit for each word of these, which is set where all of its bits are.
+    full: Vec<u64>,
 }
 
 impl Model for Ledger {
@@ -35,7 +45,7 @@ impl Model for Ledger {
 
     ghost view = { λ a. marks a.states.items };
 
-    ghost invariant = { λ a. IsKept a.next a.states.items };
+    ghost invariant = { λ a. IsKept a.states.items a.taken.items a.full.items };
 }
 
 impl Ledger {
@@ -47,7 +57,8 @@ impl Ledger {
     {
         Ok(Ledger {
             states: free_states(alloc, NAMES)?,
-            next: 0,
+            taken: zeros(alloc, TAKEN_WORDS)?,
+            full: zeros(alloc, FULL_WORDS)?,
         })
     }
 
@@ -58,12 +69,13 @@ impl Ledger {
         self.states[usize::from(id)]
     }
 
-    /// The least free identifier, or `None` where none of the 65,536 is free.
+    /// The least free identifier, or `None` where none of the 65,536 is free. It looks at no more
+    /// than 17 words of 64 bits, whatever is taken.
     pub fn least_free(&self) -> Option<Name>
         ensures least { IsLeastFree self.now result }
         ensures value { result ≡ least_free_in self.now }
     {
-        let place = first_free_from(&self.states, self.next)?;
+        let place = first_clear_by(&self.taken, &self.full)?;
         Some(place as Name)
     }
 
@@ -163,7 +175,7 @@ impl Ledger {
     {
         let place = usize::from(id);
         self.states[place] = state;
-        self.next = next_after(self.next, place, state);
+        put_bit_by(&mut self.taken, &mut self.full, place, is_taken(state));
     }
 }
 
@@ -175,43 +187,23 @@ fn free_states(alloc: Global, count: usize) -> Result<Vec<State>, AllocError>
     vec![in alloc; State::Free; count]
 }
 
-// The first place that is free.
-fn first_free(states: &[State]) -> Option<usize>
-    ensures { result ≡ position is_free states.now }
+// Words of which no bit is set.
+fn zeros(alloc: Global, count: usize) -> Result<Vec<u64>, AllocError>
+    ensures len { IfOk result (λ v. length v.items ≡ count) }
+    ensures zero { IfOk result (λ v. (w : ℕ) → word_of v.items w ≡ 0) }
 {
-    states.iter().position(|state| *state == State::Free)
+    vec![in alloc; 0; count]
 }
 
-// The same, where none below `next` is.
-fn first_free_from(states: &[State], next: usize) -> Option<usize>
-    requires within { next ≤ length states.now }
-    requires taken { AreTaken next states.now }
-    ensures { result ≡ position is_free states.now }
-{
-    match first_free(&states[next..]) {
-        Some(at) => Some(next + at),
-        None => None,
-    }
-}
-
-// The place below which none is free, once a place has this state.
-fn next_after(next: usize, place: usize, state: State) -> usize
-    requires { next ≤ name_count }
-    ensures { result ≡ next_after next place state }
+// Whether an identifier of this state is taken.
+fn is_taken(state: State) -> bool
+    ensures { result ≡ not (is_free state) }
 {
     match state {
-        State::Free => { if place < next { place } else { next } }
-        State::Open => past(next, place),
-        State::Closed => past(next, place),
+        State::Free => false,
+        State::Open => true,
+        State::Closed => true,
     }
-}
-
-// The place after `next` where it is this one, else `next`.
-fn past(next: usize, place: usize) -> usize
-    requires { next ≤ name_count }
-    ensures { result ≡ (if place == next then suc next else next) }
-{
-    if place == next { next + 1 } else { next }
 }
 
 // Closes each place that is open.

@@ -5,6 +5,7 @@
 //! memory once, when it is made.
 #![tactic(auto)]
 
+mod bits;
 mod fault;
 pub mod laws;
 mod ledger;

@@ -9,7 +9,7 @@ pub mod Executions
 pub mod NodeInside
 pub mod Nodes
 pub mod Origins
-pub mod OutgoingLists
+pub mod OutgoingInside
 pub mod Receivers
 pub mod Receiving
 pub mod Requests

@@ -1,4 +1,4 @@
--- What always holds of an end, and how it keeps its open messages: in a list, the newest last.
+-- What always holds of an end, and what is seen of its open messages.
 use Rattle.std.specs.Prelude.{◌≡◌, ℕ, is_some, refl}
 use Rattle.std.specs.Coded.{Coded, code_by, coded×, coded_ℕ, coded_list}
 use Rattle.std.specs.FinMap as map

@@ -1,31 +1,21 @@
 //! The messages that are being sent.
 
-ghost use Rattle.std.specs.Prelude.{◌≡◌, ◌==◌, ◌≤◌, length, vec_len, filter, not, None, IfSome, IfErr, OnOk, OnErr};
-ghost use Rattle.std.specs.List.{find};
+ghost use Rattle.std.specs.Prelude.{◌≡◌, length, None, IfSome, IfErr, OnOk, OnErr};
 ghost use Rattle.std.specs.Option.{option_map};
 ghost use Rattle.std.specs.FinMap as map;
-ghost use Rattle.std.specs.Vec.{vec_capacity};
 ghost use Rattle.lpt_node.specs.Nodes.{MessageFits};
-ghost use Rattle.lpt_node.specs.OutgoingLists.{messages_of};
 
 use lpt_packet::{Name, Octets};
 use std::alloc::Global;
+use std::collections::BTreeMap;
 use std::marker::Model;
-
-/// The message of an open outgoing transaction.
-#[derive(Debug, Drop)]
-pub(crate) struct OpenMessage {
-    pub(crate) id: Name,
-    pub(crate) message: Octets,
-}
 
 /// The messages of the open outgoing transactions, by their names.
 #[derive(Debug, Drop)]
 pub(crate) struct Outgoing {
     // The part size in octets.
     p: u32,
-    // The newest last.
-    messages: Vec<OpenMessage>,
+    messages: BTreeMap<Name, Octets>,
 }
 
 impl Model for Outgoing {
@@ -35,11 +25,11 @@ impl Model for Outgoing {
 
     ghost coded = { coded_open_messages };
 
-    ghost use Rattle.lpt_node.specs.OutgoingLists.{messages_of, IsOutgoing};
+    ghost use Rattle.lpt_node.specs.OutgoingInside.{messages_of, IsOutgoing};
 
-    ghost view = { λ a. record { p = a.p; messages = messages_of a.messages.items } };
+    ghost view = { λ a. record { p = a.p; messages = messages_of a.messages.entries } };
 
-    ghost invariant = { λ a. IsOutgoing a.p a.messages.items };
+    ghost invariant = { λ a. IsOutgoing a.p a.messages.entries };
 }
 
 impl Outgoing {
@@ -49,7 +39,7 @@ impl Outgoing {
     {
         Outgoing {
             p,
-            messages: Vec::new(alloc),
+            messages: BTreeMap::new(alloc),
         }
     }
 
@@ -57,7 +47,7 @@ impl Outgoing {
     pub(crate) fn len(&self) -> usize
         ensures { result ≡ map.len self.now.messages }
     {
-        self.messages.as_slice().len()
+        self.messages.len()
     }
 
     /// The message of a name, whose length is one that a message may have.
@@ -65,49 +55,36 @@ impl Outgoing {
         ensures message { option_map (λ m. m.now) result ≡ map.get self.now.messages id }
         ensures fits { IfSome result (λ m. MessageFits self.now.p (length m.now)) }
     {
-        message_in(&self.messages, id)
+        match self.messages.get(&id) {
+            None => None,
+            Some(message) => Some(message.as_slice()),
+        }
     }
 
     /// Adds a message of a name that has none. Where there is no memory for it, it is handed back.
     pub(crate) fn insert(&mut self, id: Name, message: Octets) -> Result<(), Octets>
         requires fits { MessageFits self.old.p (length message) }
         requires absent { map.get self.old.messages id ≡ None }
-        ensures ok { OnOk result (self.new ≡ record self.old { messages = map.insert self.old.messages id message }) }
+        ensures ok { OnOk result (self.new ≡ record self.old {
+          messages = map.insert self.old.messages id message;
+        }) }
 
         ensures back { IfErr result (λ m. m ≡ message) }
         ensures err { OnErr result (self.new ≡ self.old) }
     {
-        if self.messages.reserve(1).is_err() {
-            return Err(message);
+        match self.messages.insert(id, message) {
+            Ok(_) => Ok(()),
+            Err(refused) => {
+                let (_, message) = refused.value;
+                Err(message)
+            }
         }
-        self.messages.push_reserved(OpenMessage { id, message });
-        Ok(())
     }
 
     /// Lets the message of a name go.
     pub(crate) fn remove(&mut self, id: Name)
         ensures { self.new ≡ record self.old { messages = map.remove self.old.messages id } }
     {
-        remove_from(&mut self.messages, id);
+        let _ = self.messages.remove(&id);
     }
-}
-
-// The message of a name, in a list of messages.
-fn message_in(messages: &[OpenMessage], id: Name) -> Option<&[u8]>
-    ensures { option_map (λ m. m.now) result
-        ≡ option_map (λ o. o.message) (find (λ o. o.id == id) messages.now) }
-{
-    match messages.iter().find(|open| open.id == id) {
-        None => None,
-        Some(open) => Some(open.message.as_slice()),
-    }
-}
-
-// Takes the message of a name out of a list of messages.
-fn remove_from(messages: &mut Vec<OpenMessage>, id: Name)
-    ensures items { messages.new.items ≡ filter (λ o. not (o.id == id)) messages.old.items }
-    ensures bound { vec_len messages.new ≤ vec_len messages.old }
-    ensures capacity { vec_capacity messages.new ≡ vec_capacity messages.old }
-{
-    messages.retain(|open| open.id != id);
 }

@@ -111,6 +111,10 @@ fn check_taken(rt: &impl Abort, ledger: &mut Ledger) {
     assert!(rt; ledger.state(65_535) == State::Closed && ledger.least_free() == None);
     let retired = code(ledger, Call::Retire, 65_535);
     assert!(rt; retired == 0 && ledger.least_free() == Some(65_535));
+    let retired = code(ledger, Call::Retire, 64);
+    assert!(rt; retired == 0 && ledger.least_free() == Some(64));
+    let opened = code(ledger, Call::Open, 64);
+    assert!(rt; opened == 0 && ledger.least_free() == Some(65_535));
 }
 
 #[test]

@@ -182,3 +182,26 @@ fn a_repeated_part_renews_and_what_is_put_back_does_not(rt: HostRuntime) -> Resu
     check_ticks(&rt, &mut table);
     Ok(())
 }
+
+// A part that comes again puts its reception behind the others.
+fn check_order(rt: &impl Abort, table: &mut Table)
+    requires p { table.old.p ≡ 4 }
+    requires settled { table.old.out ≡ None }
+{
+    let rows = [
+        (9, 1, Kind::First, ZEROS, 0, Came::Kept),
+        (3, 1, Kind::First, ZEROS, 0, Came::Kept),
+        (3, 1, Kind::First, ZEROS, 2, Came::Again),
+    ];
+    offer_rows(rt, table, &rows);
+    assert!(rt; due_at(table, 10, 12) == (Some(9), Some(9)));
+    let expired = table.expire(9);
+    assert!(rt; expired && due_at(table, 11, 12) == (None, Some(3)));
+}
+
+#[test]
+fn a_renewed_reception_is_due_behind_the_others(rt: HostRuntime) -> Result<(), Fail> {
+    let mut table = Table::new(rt.alloc(), 2, 10, 4)?;
+    check_order(&rt, &mut table);
+    Ok(())
+}

@@ -123,7 +123,8 @@ soonest_is timeout now (e ∷ es) up =
 
 -- ---- what is due
 
-not_before : (a b : Name) → ¬ (a < b) → name_before a b ≡ false
+-- a name that is not lesser is not before
+pub not_before : (a b : Name) → ¬ (a < b) → name_before a b ≡ false
 not_before a b h =
     elim (nat_lt a b) as (λ t. nat_lt a b ≡ t → t ≡ false) [
       | true ↦ λ p. absurd (h (ltb-true a b p))

@@ -1,14 +1,17 @@
--- Finite maps that are read off sorted lists, and finite maps after several changes.
-use Rattle.std.specs.Prelude.{◌≡◌, Bool, true, false, not, T, List, [], length, Some, None, refl, cond}
+-- What is found in a list of entries without one key, and finite maps after several changes.
+use Rattle.std.specs.Prelude.{◌≡◌, Bool, true, false, not, List, Some, None, refl, cond}
 use Rattle.std.specs.FinMap as map
-use Rattle.std.specs.FinMap.{FinMap, IsAntisymmetric, same_map, same_entries_map, entries-insert, entries-from_sorted, get-from_sorted, get-insert, get-remove, len-entries, empty_of_len}
-use Rattle.std.specs.FinMap.Entries.{find, put, is_sorted, where_key, is_sorted-put, is_sorted-where_key, find-where_key}
+use Rattle.std.specs.FinMap.{FinMap, IsAntisymmetric, same_map, get-insert, get-remove}
+use Rattle.std.specs.FinMap.Entries.{find, where_key, find-where_key}
 use Rattle.std.specs.declared.cmp.Ordering.{Ordering}
 use Rattle.std.specs.declared.cmp.Ordering.TheVariants.{Less, Equal, Greater}
 use Rattle.std.specs.Ordering.{is_eq, eq_by_cmp}
 use Rattle.std.specs.Cmp.{IsTotalOrder, alike_right, eq_by_cmp_equiv, tied_itself}
 use Rattle.std.proofs.Common.{sym, ◌∙◌, ap}
-use Rattle.lpt_table.proofs.PlaceLemmas.{is_other}
+
+-- whether a key is another one
+abbrev pub is_other : {K : Type 0} → (K → K → Ordering) → K → K → Bool
+is_other R k x = not (eq_by_cmp R k x)
 
 turned : {A : Type 0} (b : Bool) (x y : A) → cond (not b) x y ≡ cond b y x
 turned true x y = refl
@@ -18,42 +21,23 @@ again : {A : Type 0} (b : Bool) (x y z : A) → cond b x (cond b y z) ≡ cond b
 again true x y z = refl
 again false x y z = refl
 
-equal : (r : Ordering) → is_eq r ≡ true → r ≡ Equal
+-- only equal keys tie
+pub equal : (r : Ordering) → is_eq r ≡ true → r ≡ Equal
 equal Less h = absurd cc
 equal Equal h = refl
 equal Greater h = absurd cc
 
 module _ {K X : Type 0} {R : K → K → Ordering} (o : IsTotalOrder R) (same : IsAntisymmetric R) where
-  -- ---- of sorted lists
+  -- ---- without one key
 
-  find-others : (k q : K) (es : List (K × X))
+  -- what is found where one key's entries are left out
+  pub find-others : (k q : K) (es : List (K × X))
       → find R q (where_key R (is_other R k) es) ≡ cond (eq_by_cmp R q k) None (find R q es)
   find-others k q es =
       find-where_key R (is_other R k) q
       (λ x t. ap (λ r. not (is_eq r)) (sym (alike_right o q x k t))) es
       ∙ turned (eq_by_cmp R k q) (find R q es) None
       ∙ ap (λ b. cond b None (find R q es)) ((eq_by_cmp_equiv o).symm k q)
-
-  -- removing a key removes its entry from the list
-  pub remove-from_sorted : (k : K) (es : List (K × X))
-      → T (is_sorted R es)
-      → map.remove (map.from_sorted {R = R} es) k ≡ map.from_sorted (where_key R (is_other R k) es)
-  remove-from_sorted k es h =
-      same_map o same _ _ (λ q.
-      get-remove o (map.from_sorted es) k q
-      ∙ ap (cond (eq_by_cmp R q k) None) (get-from_sorted R es q h)
-      ∙ sym (find-others k q es)
-      ∙ sym (get-from_sorted R (where_key R (is_other R k) es) q
-      (is_sorted-where_key R (is_other R k) es h)))
-
-  -- inserting an entry puts it into the list
-  pub insert-from_sorted : (k : K) (v : X) (es : List (K × X))
-      → T (is_sorted R es)
-      → map.insert (map.from_sorted {R = R} es) k v ≡ map.from_sorted (put R k v es)
-  insert-from_sorted k v es h =
-      same_entries_map _ _
-      (entries-insert o (map.from_sorted es) k v ∙ ap (put R k v) (entries-from_sorted R es h)
-      ∙ sym (entries-from_sorted R (put R k v es) (is_sorted-put R o k v es h)))
 
   -- ---- after several changes
 
@@ -86,13 +70,14 @@ module _ {K X : Type 0} {R : K → K → Ordering} (o : IsTotalOrder R) (same : 
   get-removed m k =
       get-remove o m k k ∙ ap (λ r. cond (is_eq r) None (map.get m k)) (tied_itself o k)
 
-module _ {K X : Type 0} (R : K → K → Ordering) where
-  -- nothing is read off the list of no entries
-  pub from_sorted-nil : map.from_sorted {X = X} {R = R} [] ≡ map.empty
-  from_sorted-nil = empty_of_len _ (len-entries _ ∙ ap length (entries-from_sorted R [] tt))
+  gone : (m : FinMap R X) (k q : K) (b : Bool)
+      → eq_by_cmp R q k ≡ b
+      → map.get m k ≡ None
+      → cond b None (map.get m q) ≡ map.get m q
+  gone m k q true e h = sym h ∙ ap (map.get m) (sym (same q k (equal (R q k) e)))
+  gone m k q false e h = refl
 
-  -- a map has as many entries as the list that it is read off
-  pub len-from_sorted : (es : List (K × X))
-      → T (is_sorted R es)
-      → map.len (map.from_sorted {R = R} es) ≡ length es
-  len-from_sorted es h = len-entries _ ∙ ap length (entries-from_sorted R es h)
+  -- removing a key that has no entry changes nothing
+  pub remove-absent : (m : FinMap R X) (k : K) → map.get m k ≡ None → map.remove m k ≡ m
+  remove-absent m k h =
+      same_map o same _ _ (λ q. get-remove o m k q ∙ gone m k q (eq_by_cmp R q k) refl h)

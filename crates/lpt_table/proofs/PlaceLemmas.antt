@@ -1,153 +1,210 @@
--- What stands at the place of a key in a list in the order of its keys, and what inserting and
--- removing there make of the list.
-use Rattle.std.specs.Prelude.{◌≡◌, ℕ, ◌≤◌, ◌<◌, Bool, true, false, not, ◌&&◌, T, List, [], ◌∷◌, length, Some, None, Result, Ok, Err, refl, slice_index_or, is_ok, is_some}
+-- What inserting and removing one entry make of a list of entries, whose keys need not be in order.
+use Rattle.std.specs.Prelude.{◌≡◌, ℕ, suc, ◌+◌, ◌≤◌, ◌<◌, Bool, true, false, not, cond, List, [], ◌∷◌, length, Option, Some, None, refl, slice_index_or, is_some}
+use Prim.Native.Nat.{zero}
 use Rattle.std.specs.List.{insert, remove}
-use Rattle.std.specs.FinMap.Entries.{by_order, below_all, find, put, is_sorted, where_key}
+use Rattle.std.specs.Option.{option_map}
+use Rattle.std.specs.FinMap as map
+use Rattle.std.specs.FinMap.{FinMap, get-from_entries, len-insert, len-empty}
+use Rattle.std.specs.FinMap.Entries.{by_order, find, find_tied, put, where_key}
 use Rattle.std.specs.declared.cmp.Ordering.{Ordering}
 use Rattle.std.specs.declared.cmp.Ordering.TheVariants.{Less, Equal, Greater}
-use Rattle.std.specs.Ordering.{is_lt, eq_by_cmp}
-use Rattle.std.specs.Cmp.{IsTotalOrder}
-use Rattle.std.proofs.Common.{sym, ◌∙◌, ap, subst, arith}
-use Rattle.lpt_table.specs.Places.{next, place}
+use Rattle.std.specs.Ordering.{is_eq, eq_by_cmp}
+use Rattle.std.specs.Cmp.{IsTotalOrder, eq_by_cmp_equiv, tied_back}
+use Rattle.std.proofs.Common.{sym, ◌∙◌, ap, arith}
+use Rattle.lpt_table.specs.Places.{spot, gap, AreApart}
+use Rattle.lpt_table.proofs.MapLemmas.{is_other, equal}
 
--- ---- tests
+-- where a search that looks at one entry first finds nothing, that entry is not the one
+pub not_first : {X : Type 0} (b : Bool) (x : X) (r : Option X)
+    → cond b (Some x) r ≡ None
+    → (b ≡ false) × (r ≡ None)
+not_first true x r h = absurd cc
+not_first false x r h = (refl, h)
 
-both : (a b : Bool) → T a → T b → T (a && b)
-both true b p q = q
-both false b p q = p
+-- two tests that never pass both are made in either order
+swapped : {A : Type 0} (a b : Bool) (x y z : A)
+    → (a ≡ true → b ≡ true → ⊥)
+    → cond a x (cond b y z) ≡ cond b y (cond a x z)
+swapped true true x y z apart = absurd (apart refl refl)
+swapped true false x y z apart = refl
+swapped false b x y z apart = refl
 
-first : (a b : Bool) → T (a && b) → T a
-first true b p = tt
-first false b p = p
-
-second : (a b : Bool) → T (a && b) → T b
-second true b p = p
-second false b p = absurd p
-
-less : (r : Ordering) → T (is_lt r) → r ≡ Less
-less Less p = refl
-less Equal p = absurd p
-less Greater p = absurd p
-
-is_less : (r : Ordering) → r ≡ Less → T (is_lt r)
-is_less r p = subst (λ r. T (is_lt r)) (sym p) tt
-
--- whether a key is another one
-abbrev pub is_other : {K : Type 0} → (K → K → Ordering) → K → K → Bool
-is_other R k x = not (eq_by_cmp R k x)
+-- no key ties with two that don't tie
+never_both : {K : Type 0} (R : K → K → Ordering) → IsTotalOrder R → (k q x : K)
+    → eq_by_cmp R k x ≡ false
+    → eq_by_cmp R q x ≡ true
+    → eq_by_cmp R q k ≡ true
+    → ⊥
+never_both R o k q x other a b =
+    let same = ap is_eq (o.congr q k x (equal (R q k) b)) in
+    let never : true ≡ false = sym a ∙ same ∙ other in cc
 
 module _ {K X : Type 0} (R : K → K → Ordering) where
+  -- ---- an entry that is left out
+
+  -- to leave out a key that has no entry leaves all
+  where_key-absent : (k : K) (es : List (K × X))
+      → find R k es ≡ None
+      → where_key R (is_other R k) es ≡ es
+  where_key-absent k [] h = refl
+  where_key-absent k (e ∷ es) h =
+      let rest = where_key R (is_other R k) es in
+      elim (R k e.0) as (λ r. cond (is_eq r) (Some e.1) (find R k es) ≡ None
+      → cond (not (is_eq r)) (e ∷ rest) rest ≡ e ∷ es) [
+        | Less ↦ λ g. ap (λ l. e ∷ l) (where_key-absent k es g)
+        | Equal ↦ λ g. absurd cc
+        | Greater ↦ λ g. ap (λ l. e ∷ l) (where_key-absent k es g)
+      ] h
+
+  -- a key that has no entry has none where some are left out
+  still_absent : (p : K → Bool) (q : K) (es : List (K × X))
+      → find R q es ≡ None
+      → find R q (where_key R p es) ≡ None
+  still_absent p q [] h = refl
+  still_absent p q (e ∷ es) h =
+      let n = not_first (eq_by_cmp R q e.0) e.1 (find R q es) h in
+      let rest = where_key R p es in
+      elim (p e.0) as (λ b. find R q (cond b (e ∷ rest) rest) ≡ None) [
+        | true ↦ ap (λ b. cond b (Some e.1) (find R q rest)) n.0 ∙ still_absent p q es n.1
+        | false ↦ still_absent p q es n.1
+      ]
+
+  -- no key stands twice where some are left out
+  pub AreApart-where_key : (p : K → Bool) (es : List (K × X))
+      → AreApart R es
+      → AreApart R (where_key R p es)
+  AreApart-where_key p [] h = tt
+  AreApart-where_key p (e ∷ es) h =
+      let rest = where_key R p es in
+      elim (p e.0) as (λ b. AreApart R (cond b (e ∷ rest) rest)) [
+        | true ↦ (still_absent p e.0 es h.0, AreApart-where_key p es h.1)
+        | false ↦ AreApart-where_key p es h.1
+      ]
+
+  -- ---- where a key stands
+
   -- the entry of the key stands at this place
-  pub record Found (k : K) (es : List (K × X)) (i : ℕ) : Type 0 where
+  pub record IsSpot (k : K) (es : List (K × X)) (i : ℕ) : Type 0 where
     pub within : i < length es
-    pub key : (d : K × X) → R k (slice_index_or es i d).0 ≡ Equal
     pub value : (d : K × X) → find R k es ≡ Some (slice_index_or es i d).1
     pub rest : where_key R (is_other R k) es ≡ remove es i
 
-  -- the key has no entry, and one would belong at this place
-  pub record Absent (k : K) (es : List (K × X)) (i : ℕ) : Type 0 where
-    pub within : i ≤ length es
-    pub none : find R k es ≡ None
-    pub rest : where_key R (is_other R k) es ≡ es
-    pub more : (v : X) → put R k v es ≡ insert es i (k, v)
+  -- what a search for a key says
+  abbrev pub Spots : K → List (K × X) → Option ℕ → Type 0
+  Spots k es None = find R k es ≡ None
+  Spots k es (Some i) = IsSpot k es i
 
-  -- what the place of a key says of the list
-  abbrev pub IsPlace : K → List (K × X) → Result ℕ ℕ → Type 0
-  IsPlace k es (Ok i) = Found k es i
-  IsPlace k es (Err i) = Absent k es i
+  -- a key has a place where it has an entry
+  pub is_some-Spots : (k : K) (es : List (K × X)) (r : Option ℕ)
+      → Spots k es r
+      → is_some r ≡ is_some (find R k es)
+  is_some-Spots k es None h = sym (ap is_some h)
+  is_some-Spots k [] (Some i) h = absurd (omega (arith, h.within))
+  is_some-Spots k (e ∷ es) (Some i) h = sym (ap is_some (h.value e))
 
-  -- a key has a place of its own where it is found
-  pub is_ok-IsPlace : (k : K) (es : List (K × X)) (r : Result ℕ ℕ)
-      → IsPlace k es r
-      → is_ok r ≡ is_some (find R k es)
-  is_ok-IsPlace k [] (Ok i) h = absurd (omega (arith, h.within))
-  is_ok-IsPlace k (e ∷ es) (Ok i) h = sym (ap is_some (h.value e))
-  is_ok-IsPlace k es (Err i) h = sym (ap is_some h.none)
+  one_later : (k : K) (e : K × X) (es : List (K × X)) (r : Option ℕ)
+      → eq_by_cmp R k e.0 ≡ false
+      → Spots k es r
+      → Spots k (e ∷ es) (option_map suc r)
+  one_later k e es None p h = ap (λ b. cond b (Some e.1) (find R k es)) p ∙ h
+  one_later k e es (Some i) p h = record {
+    within = omega (arith, h.within);
+    value = λ d. ap (λ b. cond b (Some e.1) (find R k es)) p ∙ h.value d;
+    rest = ap (λ b. cond (not b) (e ∷ where_key R (is_other R k) es)
+        (where_key R (is_other R k) es)) p
+        ∙ ap (λ l. e ∷ l) h.rest;
+  }
 
-  -- ---- keys that are all greater
+  -- ---- where a key belongs
 
-  find-below : (k : K) (es : List (K × X)) → T (below_all R k es) → find R k es ≡ None
-  find-below k [] h = refl
-  find-below k (e ∷ es) h = rw (less (R k e.0) (first _ _ h)) (find-below k es (second _ _ h))
+  -- a key belongs into the list or at its end
+  pub gap-within : (k : K) (es : List (K × X)) → gap R k es ≤ length es
+  gap-within k [] = omega arith
+  gap-within k (e ∷ es) =
+      let more : suc (gap R k es) ≤ suc (length es) = omega (arith, gap-within k es) in
+      elim (R k e.0) as (λ r.
+      by_order r 0 (suc (gap R k es)) (suc (gap R k es)) ≤ suc (length es)) [
+        | Less ↦ omega arith
+        | Equal ↦ more
+        | Greater ↦ more
+      ]
 
-  where_key-below : (k : K) (es : List (K × X))
-      → T (below_all R k es)
-      → where_key R (is_other R k) es ≡ es
-  where_key-below k [] h = refl
-  where_key-below k (e ∷ es) h =
-      rw (less (R k e.0) (first _ _ h)) (ap (λ l. e ∷ l) (where_key-below k es (second _ _ h)))
+  -- a new key is put where it belongs
+  pub put-gap : (k : K) (v : X) (es : List (K × X))
+      → find R k es ≡ None
+      → put R k v es ≡ insert es (gap R k es) (k, v)
+  put-gap k v [] none = refl
+  put-gap k v (e ∷ es) none =
+      elim (R k e.0) as (λ r. cond (is_eq r) (Some e.1) (find R k es) ≡ None
+      → by_order r ((k, v) ∷ e ∷ es) ((e.0, v) ∷ es) (e ∷ put R k v es)
+      ≡ insert (e ∷ es) (by_order r 0 (suc (gap R k es)) (suc (gap R k es))) (k, v)) [
+        | Less ↦ λ g. refl
+        | Equal ↦ λ g. absurd cc
+        | Greater ↦ λ g. ap (λ l. e ∷ l) (put-gap k v es g)
+      ] none
 
   module _ (o : IsTotalOrder R) where
-    below-less : (x y : K) (es : List (K × X))
-        → R x y ≡ Less
-        → T (below_all R y es)
-        → T (below_all R x es)
-    below-less x y [] p h = tt
-    below-less x y (e ∷ es) p h =
-        both _ _ (is_less (R x e.0) (o.trans x y e.0 p (less _ (first _ _ h))))
-        (below-less x y es p (second _ _ h))
-
-    below-equal : (x y : K) (es : List (K × X))
-        → R x y ≡ Equal
-        → T (below_all R y es)
-        → T (below_all R x es)
-    below-equal x y [] p h = tt
-    below-equal x y (e ∷ es) p h =
-        both _ _ (is_less (R x e.0) (o.congr x y e.0 p ∙ less _ (first _ _ h)))
-        (below-equal x y es p (second _ _ h))
-
-    -- ---- the place
-
-    at_front : (k : K) (e : K × X) (es : List (K × X))
-        → R k e.0 ≡ Equal
-        → T (below_all R e.0 es)
-        → Found k (e ∷ es) 0
-    at_front k e es p h = record {
-      within = omega arith;
-      key = λ d. p;
-      value = λ d. rw p;
-      rest = rw p (where_key-below k es (below-equal k e.0 es p h));
-    }
-
-    before_all : (k : K) (e : K × X) (es : List (K × X))
-        → R k e.0 ≡ Less
-        → T (below_all R e.0 es)
-        → Absent k (e ∷ es) 0
-    before_all k e es p h =
-        let all : T (below_all R k (e ∷ es)) =
-        both _ _ (is_less (R k e.0) p) (below-less k e.0 es p h)
+    -- what a search for a key finds
+    pub Spots-spot : (k : K) (es : List (K × X)) → AreApart R es → Spots k es (spot R k es)
+    Spots-spot k [] h = refl
+    Spots-spot k (e ∷ es) h =
+        let rest = spot R k es in
+        let later = λ (p : eq_by_cmp R k e.0 ≡ false).
+        one_later k e es rest p (Spots-spot k es h.1)
         in
-        record {
-          within = omega arith;
-          none = find-below k (e ∷ es) all;
-          rest = where_key-below k (e ∷ es) all;
-          more = λ v. rw p;
-        }
-
-    later_on : (k : K) (e : K × X) (es : List (K × X)) (r : Result ℕ ℕ)
-        → R k e.0 ≡ Greater
-        → IsPlace k es r
-        → IsPlace k (e ∷ es) (next r)
-    later_on k e es (Ok i) p h = record {
-      within = omega (arith, h.within);
-      key = λ d. h.key d;
-      value = λ d. rw p (h.value d);
-      rest = rw p (ap (λ l. e ∷ l) h.rest);
-    }
-    later_on k e es (Err i) p h = record {
-      within = omega (arith, h.within);
-      none = rw p h.none;
-      rest = rw p (ap (λ l. e ∷ l) h.rest);
-      more = λ v. rw p (ap (λ l. e ∷ l) (h.more v));
-    }
-
-    -- the place of a key is that of its entry, or the one where an entry would belong
-    pub place_is : (k : K) (es : List (K × X)) → T (is_sorted R es) → IsPlace k es (place R k es)
-    place_is k [] h = record { within = omega arith; none = refl; rest = refl; more = λ v. refl }
-    place_is k (e ∷ es) h =
         elim (R k e.0) as (λ r. R k e.0 ≡ r
-        → IsPlace k (e ∷ es) (by_order r (Err 0) (Ok 0) (next (place R k es)))) [
-          | Less ↦ λ p. before_all k e es p (first _ _ h)
-          | Equal ↦ λ p. at_front k e es p (first _ _ h)
-          | Greater ↦ λ p. later_on k e es (place R k es) p (place_is k es (second _ _ h))
+        → Spots k (e ∷ es) (by_order r (option_map suc rest) (Some 0) (option_map suc rest))) [
+          | Less ↦ λ p. later (ap is_eq p)
+          | Equal ↦ λ p. record {
+            within = omega arith;
+            value = λ d. ap (λ r. cond (is_eq r) (Some e.1) (find R k es)) p;
+            rest = ap (λ r. cond (not (is_eq r)) (e ∷ where_key R (is_other R k) es)
+                (where_key R (is_other R k) es)) p
+                ∙ where_key-absent k es
+                (find_tied R o e.0 k (tied_back o k e.0 p) es ∙ h.0);
+          }
+          | Greater ↦ λ p. later (ap is_eq p)
         ] refl
+
+    -- ---- an entry that is inserted
+
+    -- what is found once a new key is inserted anywhere
+    pub find-inserted : (k : K) (v : X) (es : List (K × X)) (i : ℕ) (q : K)
+        → find R k es ≡ None
+        → find R q (insert es i (k, v)) ≡ cond (eq_by_cmp R q k) (Some v) (find R q es)
+    find-inserted k v es zero q none = refl
+    find-inserted k v [] (suc i) q none = refl
+    find-inserted k v (e ∷ es) (suc i) q none =
+        let n = not_first (eq_by_cmp R k e.0) e.1 (find R k es) none in
+        ap (cond (eq_by_cmp R q e.0) (Some e.1)) (find-inserted k v es i q n.1)
+        ∙ swapped (eq_by_cmp R q e.0) (eq_by_cmp R q k) (Some e.1) (Some v) (find R q es)
+        (never_both R o k q e.0 n.0)
+
+    -- then still no key stands twice
+    pub AreApart-inserted : (k : K) (v : X) (es : List (K × X)) (i : ℕ)
+        → find R k es ≡ None
+        → AreApart R es
+        → AreApart R (insert es i (k, v))
+    AreApart-inserted k v es zero none h = (none, h)
+    AreApart-inserted k v [] (suc i) none h = (refl, tt)
+    AreApart-inserted k v (e ∷ es) (suc i) none h =
+        let n = not_first (eq_by_cmp R k e.0) e.1 (find R k es) none in
+        let other : eq_by_cmp R e.0 k ≡ false = (eq_by_cmp_equiv o).symm e.0 k ∙ n.0 in (
+          find-inserted k v es i e.0 n.1
+              ∙ ap (λ b. cond b (Some v) (find R e.0 es)) other
+              ∙ h.0,
+          AreApart-inserted k v es i n.1 h.1,
+        )
+
+    -- ---- as a finite map
+
+    -- a map has as many entries as the list that it is made of
+    pub len-from_entries : (es : List (K × X))
+        → AreApart R es
+        → map.len (map.from_entries {R = R} es) ≡ length es
+    len-from_entries [] h = len-empty R X
+    len-from_entries (e ∷ es) h =
+        let m : FinMap R X = map.from_entries es in
+        let new : map.contains_key m e.0 ≡ false = ap is_some (get-from_entries o es e.0 ∙ h.0) in
+        len-insert o m e.0 e.1 ∙ ap (λ b. cond b (map.len m) (map.len m + 1)) new
+        ∙ omega (arith, len-from_entries es h.1)

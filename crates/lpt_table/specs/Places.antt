@@ -1,19 +1,42 @@
--- Where a key stands in a list of entries in the order of their keys.
-use Rattle.std.specs.Prelude.{ℕ, suc, ◌+◌, List, [], ◌∷◌, Result, Ok, Err}
+-- The places of open receptions: a list in the order of last ticks, and of names where those are
+-- equal.
+use Rattle.std.specs.Prelude.{◌≡◌, ℕ, suc, ◌+◌, nat_le, if◌then◌else◌, List, [], ◌∷◌, map, Option, Some, None}
+use Rattle.std.specs.Option.{option_map}
+use Rattle.std.specs.Ordering.{nat_cmp, on, then_cmp}
 use Rattle.std.specs.declared.cmp.Ordering.{Ordering}
-use Rattle.std.specs.FinMap.Entries.{by_order}
+use Rattle.std.specs.FinMap.Entries.{by_order, find}
+use Rattle.lpt_packet.specs.Names.{Name, name_cmp}
+use Rattle.lpt_table.specs.declared.places.Place.{Place}
 
--- a place that is n later
-abbrev pub later : ℕ → Result ℕ ℕ → Result ℕ ℕ
-later n (Ok i) = Ok (n + i)
-later n (Err i) = Err (n + i)
+-- the places under their names
+abbrev pub by_name : List Place → List (Name × Place)
+by_name xs = map (λ x. (x.id, x)) xs
 
--- a place that is one later
-abbrev pub next : Result ℕ ℕ → Result ℕ ℕ
-next (Ok i) = Ok (suc i)
-next (Err i) = Err (suc i)
+-- the places under their last ticks and names
+abbrev pub by_moment : List Place → List ((ℕ × Name) × ℕ)
+by_moment xs = map (λ x. ((x.last, x.id), x.key)) xs
 
--- the place of the key's entry, or, where it has none, the place where one would belong
-abbrev pub place : {K X : Type 0} → (K → K → Ordering) → K → List (K × X) → Result ℕ ℕ
-place R k [] = Err 0
-place R k (e ∷ es) = by_order (R k e.0) (Err 0) (Ok 0) (next (place R k es))
+-- which of two last ticks is the earlier, and of equal ones which name is before the other
+abbrev pub when_cmp : ℕ × Name → ℕ × Name → Ordering
+when_cmp = then_cmp (on (λ m. m.0) nat_cmp) (on (λ m. m.1) name_cmp)
+
+-- at which place a key stands first
+abbrev pub spot : {K X : Type 0} → (K → K → Ordering) → K → List (K × X) → Option ℕ
+spot R k [] = None
+spot R k (e ∷ es) =
+    by_order (R k e.0) (option_map suc (spot R k es)) (Some 0) (option_map suc (spot R k es))
+
+-- how many keys stand before the first one that is above this one
+abbrev pub gap : {K X : Type 0} → (K → K → Ordering) → K → List (K × X) → ℕ
+gap R k [] = 0
+gap R k (e ∷ es) = by_order (R k e.0) 0 (suc (gap R k es)) (suc (gap R k es))
+
+-- no key stands twice
+abbrev pub AreApart : {K X : Type 0} → (K → K → Ordering) → List (K × X) → Type 0
+AreApart R [] = Unit {0}
+AreApart R (e ∷ es) = (find R e.0 es ≡ None) × AreApart R es
+
+-- the name at the first place, where the reception there is overdue
+abbrev pub first_overdue : ℕ → ℕ → List Place → Option Name
+first_overdue timeout now [] = None
+first_overdue timeout now (x ∷ xs) = if nat_le (x.last + timeout) now then Some x.id else None

@@ -1,12 +1,14 @@
-//! The list of open receptions, in the order of their names.
+//! The open receptions, kept under keys, and their places in the order in which they would be due.
 
 ghost use Rattle.std.specs.Prelude.{◌≡◌, ◌≤◌, ◌<◌, ◌+◌, IfOk, IfNone, MatchOption, Some, None, is_some, nat_le, if◌then◌else◌};
 ghost use Rattle.std.specs.FinMap as map;
+ghost use Rattle.std.specs.Option.{option_map};
 ghost use Rattle.lpt_table.specs.Deadlines.{soonest};
 
-use crate::search::{place_of, soonest_in};
+use crate::places::{Place, first_due, gap_of, spot_of};
 use lpt_packet::Name;
 use lpt_reception::Filling;
+use slab::Slab;
 use std::alloc::{AllocError, Global};
 use std::marker::Model;
 
@@ -18,10 +20,14 @@ pub(crate) struct Entry {
     pub(crate) last: u32,
 }
 
-/// The open receptions in the order of their names, in a list that has places for a limit of them.
+/// The open receptions, with room for a limit of them.
+///
+/// The key of a reception that was taken out is the key of the next one that is put in.
 #[derive(Drop)]
 pub(crate) struct EntryList {
-    items: Vec<Entry>,
+    fillings: Slab<Filling>,
+    // In the order of last ticks, and of names where those are equal.
+    places: Vec<Place>,
     limit: u32,
     p: u32,
 }
@@ -36,20 +42,28 @@ impl Model for EntryList {
 
     ghost use Rattle.lpt_table.specs.EntriesOf.{map_of, IsListed};
 
-    ghost view = { λ a. record { limit = a.limit; p = a.p; entries = map_of a.items.items } };
+    ghost view = { λ a. record {
+      limit = a.limit;
+      p = a.p;
+      entries = map_of a.fillings a.places.items;
+    } };
 
-    ghost invariant = { λ a. IsListed a.limit a.p (vec_capacity a.items) a.items.items };
+    ghost invariant = { λ a.
+        IsListed a.limit a.p (vec_capacity a.places) a.fillings a.places.items };
 }
 
 impl EntryList {
     ghost use Rattle.lpt_table.specs.EntriesOf.{entry_in, IsIts, IsEntry};
 
-    /// A list with places for `limit` receptions, all free. The only error is want of memory.
+    /// A list with room for `limit` receptions, of which none is open. The only error is want of
+    /// memory.
     pub(crate) fn new(alloc: Global, limit: u32, p: u32) -> Result<EntryList, AllocError>
         ensures { IfOk result (λ l. l ≡ record { limit = limit; p = p; entries = map.empty }) }
     {
+        let fillings = Slab::with_capacity(alloc, limit as usize)?;
         Ok(EntryList {
-            items: Vec::with_capacity(alloc, limit as usize)?,
+            fillings,
+            places: Vec::with_capacity(alloc, limit as usize)?,
             limit,
             p,
         })
@@ -59,7 +73,7 @@ impl EntryList {
     pub(crate) fn len(&self) -> usize
         ensures { result ≡ map.len self.now.entries }
     {
-        self.items.len()
+        self.places.len()
     }
 
     /// Whether no place is free.
@@ -73,7 +87,7 @@ impl EntryList {
     pub(crate) fn contains(&self, id: Name) -> bool
         ensures { result ≡ is_some (map.get self.now.entries id) }
     {
-        place_of(&self.items, id).is_ok()
+        spot_of(&self.places, id).is_some()
     }
 
     /// Takes the reception of this name out of the list.
@@ -85,13 +99,22 @@ impl EntryList {
         ensures len { map.len self.new.entries + (if is_some result then 1 else 0)
             ≡ map.len self.old.entries }
     {
-        match place_of(&self.items, id) {
-            Ok(at) => Some(self.items.remove(at)),
-            Err(_) => None,
+        match spot_of(&self.places, id) {
+            None => None,
+            Some(at) => {
+                let place = self.places.remove(at);
+                let filling = self.fillings.remove(place.key);
+                Some(Entry {
+                    id,
+                    filling,
+                    last: place.last,
+                })
+            }
         }
     }
 
-    /// Puts a reception into the list, which has a free place and none of its name.
+    /// Puts a reception into the list, which has a free place and none of its name. It takes no
+    /// memory.
     pub(crate) fn put(&mut self, entry: Entry)
         requires room { map.len self.old.entries < self.old.limit }
         requires absent { map.get self.old.entries entry.id ≡ None }
@@ -101,10 +124,10 @@ impl EntryList {
         } }
         ensures len { map.len self.new.entries ≡ map.len self.old.entries + 1 }
     {
-        let Err(at) = place_of(&self.items, entry.id) else {
-            unreachable!()
-        };
-        match self.items.insert(at, entry) {
+        let Entry { id, filling, last } = entry;
+        let at = gap_of(&self.places, last, id);
+        let key = self.fillings.insert_reserved(filling);
+        match self.places.insert(at, Place { last, id, key }) {
             Ok(()) => {}
             Err(_) => unreachable!(),
         }
@@ -114,14 +137,16 @@ impl EntryList {
     pub(crate) fn clear(&mut self)
         ensures { self.new ≡ record self.old { entries = map.empty } }
     {
-        self.items.clear();
+        self.places.clear();
+        self.fillings.clear();
     }
 
-    /// The name and last tick of the first reception with the least last tick among the overdue
-    /// ones.
-    pub(crate) fn soonest(&self, timeout: u32, now: u32) -> Option<(Name, u32)>
-        ensures { result ≡ soonest timeout now (map.entries self.now.entries) }
+    /// The name of the first reception with the least last tick among the overdue ones. It looks at
+    /// one place.
+    pub(crate) fn due(&self, timeout: u32, now: u32) -> Option<Name>
+        ensures { result ≡ option_map (λ b. b.0)
+            (soonest timeout now (map.entries self.now.entries)) }
     {
-        soonest_in(&self.items, timeout, now)
+        first_due(&self.places, timeout, now)
     }
 }

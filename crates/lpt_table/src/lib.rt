@@ -11,7 +11,7 @@
 mod entries;
 pub mod laws;
 mod offer;
-mod search;
+mod places;
 mod table;
 
 pub use offer::Offer;

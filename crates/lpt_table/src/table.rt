@@ -226,7 +226,7 @@ impl Table {
         ensures due { IsDue self.now now result }
         ensures value { result ≡ due_of self.now now }
     {
-        self.receptions.soonest(self.timeout, now).map(|(id, _)| id)
+        self.receptions.due(self.timeout, now)
     }
 
     /// Removes the reception of this name, and tells whether there was one.

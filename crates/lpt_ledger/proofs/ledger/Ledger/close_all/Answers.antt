@@ -6,7 +6,7 @@ use Rattle.lpt_ledger.specs.States.{closed_state}
 use Rattle.lpt_ledger.specs.declared.state.State.{State}
 use Rattle.lpt_ledger.specs.LedgerInside.{marks, IsKept}
 use Rattle.lpt_ledger.proofs.ClosingLemmas.{marks-closed}
-use Rattle.lpt_ledger.proofs.NextLemmas.{IsKept-closed}
+use Rattle.lpt_ledger.proofs.KeptLemmas.{IsKept-closed}
 use Rattle.lpt_ledger.proofs.ledger.Ledger.close_all.Goals as goal
 
 pub returns : goal.returns
@@ -26,6 +26,6 @@ invariant_of-self c =
     let closed : c.close_each.new.states ≡ mapped closed_state states =
     c.close_each.ensures ∙ ap (mapped closed_state) c.deref_mut.ensures.value
     in
-    subst (λ (l : List State). IsKept c.self.inside.next l)
+    subst (λ (l : List State). IsKept l c.self.inside.taken.items c.self.inside.full.items)
     (sym (with_items_is c.self.inside.states c.close_each.new.states (omega arith) ∙ closed))
-    (IsKept-closed c.self.inside.next states c.self.invariant)
+    (IsKept-closed states c.self.inside.taken.items c.self.inside.full.items c.self.invariant)

@@ -13,7 +13,7 @@ returns c =
     let states = c.self.inside.states.items in
     let at = c.from.result in
     let within : at < name_count = omega arith in
-    let full = sym c.self.invariant.full in
+    let full = sym c.self.invariant.places in
     get_or_read_under states at name_count c.index.result.now Free c.index.ensures within full
     ∙ ap (λ (i : ℕ). get_or states i Free) c.from.ensures
     ∙ sym (state_at-marks states c.args.id)

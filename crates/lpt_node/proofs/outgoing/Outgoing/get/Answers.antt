@@ -1,21 +1,32 @@
--- The map's message of a name is the first one of that name in the list.
-use Rattle.std.proofs.Common.{List, sym, ap, ◌∙◌}
+-- The map's message of a name.
+use Rattle.std.proofs.Common.{Some, ap, sym, subst, length, List, ℕ, ◌∙◌}
 use Rattle.std.specs.FinMap as map
-use Rattle.lpt_node.specs.declared.outgoing.OpenMessage.{OpenMessage}
 use Rattle.lpt_node.specs.NodeInside.{OpenMessages}
-use Rattle.lpt_node.proofs.OutgoingLemmas.{found, get-messages_of, get_fits}
+use Rattle.lpt_node.specs.Nodes.{MessageFits}
+use Rattle.lpt_node.proofs.OutgoingLemmas.{get-messages_of}
 use Rattle.lpt_node.proofs.outgoing.Outgoing.get.Goals as goal
 
-pub returns-clause-message : goal.returns-clause-message
-returns-clause-message c =
-    c.message_in.ensures
-    ∙ ap (λ (os : List OpenMessage). found c.args.id os) c.deref.ensures.value
-    ∙ sym (get-messages_of c.args.id c.self.inside.messages.items)
+-- ---- the name has none
+
+pub returns-in-None-clause-message : goal.returns-in-None-clause-message
+returns-in-None-clause-message c =
+    c.in-None.ensures.value
+    ∙ sym (get-messages_of c.self.inside.messages.entries c.args.id)
     ∙ ap (λ (o : OpenMessages). map.get o.messages c.args.id) c.self.view_is
 
-pub returns-clause-fits : goal.returns-clause-fits
-returns-clause-fits c =
-    get_fits c.self.inside.p c.args.self.now.p c.args.id c.self.inside.messages.items c.message_in.result
-    (c.message_in.ensures ∙ ap (λ (os : List OpenMessage). found c.args.id os) c.deref.ensures.value)
-    c.self.invariant.fits
+-- ---- it has one
+
+pub returns-in-Some-clause-message : goal.returns-in-Some-clause-message
+returns-in-Some-clause-message c =
+    ap (λ (m : List ℕ). Some m) c.as_slice.ensures.same
+    ∙ c.in-Some.ensures.value
+    ∙ sym (get-messages_of c.self.inside.messages.entries c.args.id)
+    ∙ ap (λ (o : OpenMessages). map.get o.messages c.args.id) c.self.view_is
+
+pub returns-in-Some-clause-fits : goal.returns-in-Some-clause-fits
+returns-in-Some-clause-fits c =
+    subst (λ (p : ℕ). MessageFits p (length c.as_slice.result.now))
     (ap (λ (o : OpenMessages). o.p) c.self.view_is)
+    (c.self.invariant.fits c.args.id c.as_slice.result.now
+    (get-messages_of c.self.inside.messages.entries c.args.id
+    ∙ sym (ap (λ (m : List ℕ). Some m) c.as_slice.ensures.same ∙ c.in-Some.ensures.value)))

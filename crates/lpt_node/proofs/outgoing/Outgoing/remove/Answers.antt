@@ -1,17 +1,21 @@
--- The list without the messages of a name.
-use Rattle.std.proofs.Common.{List, sym, subst}
-use Rattle.lpt_node.specs.declared.outgoing.OpenMessage.{OpenMessage}
-use Rattle.lpt_node.specs.OutgoingLists.{IsOutgoing}
-use Rattle.lpt_node.proofs.OutgoingLemmas.{IsOutgoing-without, view-without}
+-- The messages without that of a name.
+use Rattle.std.proofs.Common.{ap, ◌∙◌}
+use Rattle.std.specs.FinMap as map
+use Rattle.lpt_node.specs.NodeInside.{OpenMessages}
+use Rattle.lpt_node.specs.Nodes.{Messages}
+use Rattle.lpt_node.proofs.OutgoingLemmas.{messages_of-remove, IsOutgoing-remove}
 use Rattle.lpt_node.proofs.outgoing.Outgoing.remove.Goals as goal
 
 pub invariant_of-self : goal.invariant_of-self
 invariant_of-self c =
-    subst (λ (os : List OpenMessage). IsOutgoing c.self.inside.p os) (sym c.remove_from.ensures.items)
-    (IsOutgoing-without c.self.inside.p c.args.id c.self.inside.messages.items c.self.invariant)
+    IsOutgoing-remove c.self.inside.messages.entries c.remove.new.self.entries c.args.id
+    c.self.inside.p c.self.invariant c.remove.result c.remove.ensures.value
+    c.remove.ensures.len c.remove.ensures.updates.0
 
 pub returns : goal.returns
 returns c =
-    view-without c.self.inside.p c.args.id c.self.inside.messages.items c.remove_from.new.messages.items c.args.self.now
+    ap (λ (m : Messages). record { p = c.self.inside.p; messages = m })
+    (messages_of-remove c.self.inside.messages.entries c.remove.new.self.entries c.args.id
+    c.remove.ensures.updates.0)
+    ∙ ap (λ (o : OpenMessages). record o { messages = map.remove o.messages c.args.id })
     c.self.view_is
-    c.remove_from.ensures.items

@@ -1,74 +1,95 @@
-use Rattle.std.proofs.Common.{◌∙◌, ap, subst, ℕ, ◌+◌, Ok, Err, arith, refl, sym}
+use Rattle.std.proofs.Common.{◌≡◌, ◌∙◌, ap, subst, ℕ, ◌+◌, None, arith, sym}
 use Rattle.std.specs.FinMap as map
 use Rattle.std.specs.Vec.{vec_capacity}
 use Rattle.lpt_table.specs.EntriesOf.{map_of, entry_in, IsIts}
 use Rattle.lpt_table.specs.EntryLists.{Listing}
-use Rattle.lpt_table.proofs.ListingLemmas.{PlaceIs, changed, free, no_place, absent-within, absent-listed, absent-more, absent-len}
+use Rattle.lpt_table.specs.Places.{by_moment, gap, when_cmp}
+use Rattle.lpt_table.proofs.ListingLemmas.{changed, free}
+use Rattle.lpt_table.proofs.PuttingLemmas.{belongs-within, placed-map, placed-len, placed-listed}
 use Rattle.lpt_table.proofs.entries.EntryList.put.Goals as goal
+use Rattle.lpt_table.proofs.entries.EntryList.put.Goals.{In-Ok}
 
--- the name has no entry, so its place is not that of one
-pub unreachable-requires : goal.unreachable-requires
-unreachable-requires c =
-    let id = c.args.entry.id in
-    let is : PlaceIs id c.self.inside.items.items (Ok c.in_default.field-0) = cc in
-    no_place id c.self.inside.items.items c.in_default.field-0 c.self.invariant.sorted is
-    (ap (λ (l : Listing). map.get l.entries id) c.self.view_is ∙ c.requires.absent)
+-- ---- there is room
+
+pub insert_reserved-key-requires : goal.insert_reserved-key-requires
+insert_reserved-key-requires c =
+    let room =
+    free c.self.inside.limit c.self.inside.p c.self.inside.fillings c.self.inside.places.items
+    c.args.self.now c.self.invariant.apart c.self.view_is c.requires.room
+    in
+    omega (arith, room, c.self.invariant.as_many, c.self.invariant.slots)
 
 pub insert-requires : goal.insert-requires
 insert-requires c =
-    let id = c.args.entry.id in
-    let is : PlaceIs id c.self.inside.items.items (Err c.in-Err.at) = cc in
-    omega (
-      arith,
-      c.self.inside.items.ok,
-      absent-within id c.self.inside.items.items c.in-Err.at c.self.invariant.sorted is,
-    )
-
--- a place is free, so the list needs no memory
-pub unreachable-requires-in-Err-insert : goal.unreachable-requires-in-Err-insert
-unreachable-requires-in-Err-insert c =
-    let room =
-    free c.self.inside.limit c.self.inside.p c.self.inside.items.items c.args.self.now
-    c.self.invariant.sorted c.self.view_is c.requires.room
+    let place : c.gap_of-at.result
+    ≡ gap when_cmp (c.args.entry.last, c.args.entry.id) (by_moment c.self.inside.places.items) = cc
     in
     omega (
       arith,
-      c.self.inside.items.ok,
+      c.self.inside.places.ok,
+      place,
+      belongs-within c.args.entry.last c.args.entry.id c.self.inside.places.items,
+    )
+
+-- so the places need no memory
+pub unreachable-requires : goal.unreachable-requires
+unreachable-requires c =
+    let room =
+    free c.self.inside.limit c.self.inside.p c.self.inside.fillings c.self.inside.places.items
+    c.args.self.now c.self.invariant.apart c.self.view_is c.requires.room
+    in
+    omega (
+      arith,
+      c.self.inside.places.ok,
       room,
-      c.in-Err-insert.ensures.full,
+      c.in-Err.ensures.full,
       c.self.invariant.places,
     )
 
--- ---- the entry is in the list
+-- ---- the reception is in the list
 
-placed : (c : goal.In-Ok)
-    → PlaceIs c.args.entry.id c.self.inside.items.items (Err c.in-Err.at)
-placed c = cc
+absent : (c : In-Ok)
+    → map.get (map_of c.self.inside.fillings c.self.inside.places.items) c.args.entry.id ≡ None
+absent c =
+    ap (λ (l : Listing). map.get l.entries c.args.entry.id) c.self.view_is ∙ c.requires.absent
+
+place_is : (c : In-Ok)
+    → c.gap_of-at.result
+    ≡ gap when_cmp (c.args.entry.last, c.args.entry.id) (by_moment c.self.inside.places.items)
+place_is c = cc
 
 pub invariant_of-self : goal.invariant_of-self
 invariant_of-self c =
-    rw c.in-Ok.ensures.items
-    (absent-listed c.args.entry.id c.self.inside.items.items c.in-Err.at
-    c.self.invariant.sorted (placed c) c.args.entry refl
-    c.self.inside.limit c.self.inside.p
-    (vec_capacity c.self.inside.items) (vec_capacity c.insert.new.self) c.self.invariant
-    (subst (λ (p : ℕ). IsIts p c.args.entry) (ap (λ (l : Listing). l.p) (sym c.self.view_is)) c.requires.its)
-    (free c.self.inside.limit c.self.inside.p c.self.inside.items.items c.args.self.now
-    c.self.invariant.sorted c.self.view_is c.requires.room)
-    c.in-Ok.ensures.capacity)
+    rw (c.in-Ok.ensures.items, place_is c)
+    (placed-listed c.self.inside.limit c.self.inside.p (vec_capacity c.self.inside.places)
+    c.self.inside.fillings c.self.inside.places.items c.self.invariant c.args.entry (absent c)
+    c.insert_reserved-key.new.self c.insert_reserved-key.result
+    c.insert_reserved-key.ensures.updates c.insert_reserved-key.ensures.was_vacant
+    (vec_capacity c.insert.new.self)
+    (subst (λ (p : ℕ). IsIts p c.args.entry) (ap (λ (l : Listing). l.p) (sym c.self.view_is))
+    c.requires.its)
+    (free c.self.inside.limit c.self.inside.p c.self.inside.fillings c.self.inside.places.items
+    c.args.self.now c.self.invariant.apart c.self.view_is c.requires.room)
+    c.in-Ok.ensures.capacity
+    c.insert_reserved-key.ensures.len c.insert_reserved-key.ensures.capacity)
 
 pub returns-clause-value : goal.returns-clause-value
 returns-clause-value c =
     changed c.self.inside.limit c.self.inside.p
-    c.self.inside.items.items c.insert.new.self.items c.args.self.now
+    (map_of c.self.inside.fillings c.self.inside.places.items)
+    (map_of c.insert_reserved-key.new.self c.insert.new.self.items) c.args.self.now
     (λ m. map.insert m c.args.entry.id (entry_in c.args.entry)) c.self.view_is
-    (ap map_of c.in-Ok.ensures.items
-    ∙ absent-more c.args.entry.id c.self.inside.items.items c.in-Err.at
-    c.self.invariant.sorted (placed c) c.args.entry refl)
+    (rw (c.in-Ok.ensures.items, place_is c)
+    (placed-map c.self.inside.limit c.self.inside.p (vec_capacity c.self.inside.places)
+    c.self.inside.fillings c.self.inside.places.items c.self.invariant c.args.entry (absent c)
+    c.insert_reserved-key.new.self c.insert_reserved-key.result
+    c.insert_reserved-key.ensures.updates c.insert_reserved-key.ensures.was_vacant))
 
 pub returns-clause-len : goal.returns-clause-len
 returns-clause-len c =
-    rw c.in-Ok.ensures.items
-    (absent-len c.args.entry.id c.self.inside.items.items c.in-Err.at
-    c.self.invariant.sorted (placed c) c.args.entry refl
+    rw (c.in-Ok.ensures.items, place_is c)
+    (placed-len c.self.inside.limit c.self.inside.p (vec_capacity c.self.inside.places)
+    c.self.inside.fillings c.self.inside.places.items c.self.invariant c.args.entry (absent c)
+    c.insert_reserved-key.new.self c.insert_reserved-key.result
+    c.insert_reserved-key.ensures.updates c.insert_reserved-key.ensures.was_vacant
     ∙ ap (λ (l : Listing). map.len l.entries + 1) c.self.view_is)

@@ -6,5 +6,5 @@ use Rattle.lpt_table.proofs.table.Table.due.Goals as goal
 -- what is computed is due
 pub returns-clause-due : goal.returns-clause-due
 returns-clause-due c =
-    let is : c.map.result ≡ due_of c.args.self.now c.args.now = search rules in
+    let is : c.due.result ≡ due_of c.args.self.now c.args.now = search rules in
     subst (IsDue c.args.self.now c.args.now) (sym is) (due_of_is c.args.self.now c.args.now)

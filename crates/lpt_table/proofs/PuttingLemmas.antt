@@ -1,0 +1,173 @@
+-- Putting a reception in, as on the finite map.
+use Rattle.std.specs.Prelude.{◌≡◌, ℕ, ◌+◌, ◌≤◌, ◌<◌, Bool, true, false, cond, T, List, length, Option, Some, None, refl}
+use Rattle.std.specs.List.{insert}
+use Rattle.std.specs.Option.{option_map}
+use Rattle.std.specs.FinMap as maps
+use Rattle.std.specs.FinMap.{same_map, get-insert}
+use Rattle.std.specs.FinMap.Entries.{find, is_sorted, is_sorted-put}
+use Rattle.std.specs.Ordering.{eq_by_cmp}
+use Rattle.std.proofs.Common.{sym, ◌∙◌, ap, subst, arith}
+use Rattle.std.proofs.lemmas.List.{map-append, take-map, drop-map, length-map}
+use Rattle.std.proofs.lemmas.List.Edits.{length-insert}
+use Rattle.slab.specs.Slab.{Slab, get, slab_len, Updates}
+use Rattle.lpt_packet.proofs.NameLemmas.{name_cmp-IsAntisymmetric, name_cmp_total}
+use Rattle.lpt_packet.specs.Names.{Name, name_cmp}
+use Rattle.lpt_reception.specs.Received.{Received}
+use Rattle.lpt_table.specs.declared.entries.Entry.{Entry}
+use Rattle.lpt_table.specs.declared.places.Place.{Place}
+use Rattle.lpt_table.specs.EntriesOf.{entry_in, entry_at, parts_in, map_of, IsIts, IsHeld, IsListed}
+use Rattle.lpt_table.specs.Places.{by_name, by_moment, when_cmp, gap, AreApart}
+use Rattle.lpt_table.proofs.OrderLemmas.{when_cmp_total, find-by_moment}
+use Rattle.lpt_table.proofs.PlaceLemmas.{AreApart-inserted, find-inserted, gap-within, put-gap}
+use Rattle.lpt_table.proofs.ListingLemmas.{equal_tied, inside, get-map_of, len-map_of, same_entries}
+
+by_name_insert : (xs : List Place) (i : ℕ) (x : Place)
+    → by_name (insert xs i x) ≡ insert (by_name xs) i (x.id, x)
+by_name_insert xs i x = simp (map-append, take-map, drop-map)
+
+by_moment_insert : (xs : List Place) (i : ℕ) (x : Place)
+    → by_moment (insert xs i x) ≡ insert (by_moment xs) i ((x.last, x.id), x.key)
+by_moment_insert xs i x = simp (map-append, take-map, drop-map)
+
+-- a last tick and a name belong into the list or at its end
+pub belongs-within : (last id : ℕ) (xs : List Place)
+    → gap when_cmp (last, id) (by_moment xs) ≤ length xs
+belongs-within last id xs =
+    omega (
+      arith,
+      gap-within when_cmp (last, id) (by_moment xs),
+      length-map {A = Place} {B = (ℕ × Name) × ℕ} xs (λ x. ((x.last, x.id), x.key)),
+    )
+
+-- ---- a reception that is put in
+
+module _ (limit p capacity : ℕ) (s : Slab Received) (xs : List Place)
+    (l : IsListed limit p capacity s xs) where
+  module _ (e : Entry) (absent : maps.get (map_of s xs) e.id ≡ None) where
+    none : find name_cmp e.id (by_name xs) ≡ None
+    none = unmapped (find name_cmp e.id (by_name xs)) (sym (get-map_of s xs e.id) ∙ absent) where
+      unmapped : (r : Option Place) → option_map (entry_at s) r ≡ None → r ≡ None
+      unmapped None h = refl
+      unmapped (Some x) h = absurd cc
+
+    -- where its last tick and name belong
+    abbrev pub belongs : ℕ
+    belongs = gap when_cmp (e.last, e.id) (by_moment xs)
+
+    module _ (t : Slab Received) (key : ℕ) (u : Updates s t key (Some e.filling))
+        (vacant : get s key ≡ None) where
+      abbrev pub placed : List Place
+      placed = insert xs belongs (record { last = e.last; id = e.id; key = key })
+
+      length-placed : length placed ≡ length xs + 1
+      length-placed =
+          length-insert xs belongs (record { last = e.last; id = e.id; key = key })
+          (belongs-within e.last e.id xs)
+
+      find-placed : (q : Name) → find name_cmp q (by_name placed)
+          ≡ cond (eq_by_cmp name_cmp q e.id) (Some (record { last = e.last; id = e.id; key = key }))
+          (find name_cmp q (by_name xs))
+      find-placed q =
+          ap (find name_cmp q) (by_name_insert xs belongs _)
+          ∙ find-inserted name_cmp name_cmp_total e.id _ (by_name xs) belongs q none
+
+      placed-apart : AreApart name_cmp (by_name placed)
+      placed-apart =
+          subst (AreApart name_cmp) (sym (by_name_insert xs belongs _))
+          (AreApart-inserted name_cmp name_cmp_total e.id _ (by_name xs) belongs none l.apart)
+
+      placed-ordered : T (is_sorted when_cmp (by_moment placed))
+      placed-ordered =
+          subst (λ es. T (is_sorted when_cmp es))
+          (put-gap when_cmp (e.last, e.id) key (by_moment xs)
+          (find-by_moment e.last e.id xs none) ∙ sym (by_moment_insert xs belongs _))
+          (is_sorted-put when_cmp when_cmp_total (e.last, e.id) key (by_moment xs) l.ordered)
+
+      -- the others stay where they are
+      stays : (q : Name) (y : Place)
+          → find name_cmp q (by_name xs) ≡ Some y
+          → get t y.key ≡ get s y.key
+      stays q y g =
+          let mine = l.held q y g in
+          u.others y.key (λ same.
+          let never : None ≡ Some mine.filling = sym vacant ∙ ap (get s) (sym same) ∙ mine.kept in
+          absurd cc)
+
+      -- the map is the one with the entry
+      pub placed-map : map_of t placed ≡ maps.insert (map_of s xs) e.id (entry_in e)
+      placed-map =
+          same_map name_cmp_total name_cmp-IsAntisymmetric _ _ (λ q.
+          get-map_of t placed q
+          ∙ ap (option_map (entry_at t)) (find-placed q)
+          ∙ pushed (eq_by_cmp name_cmp q e.id) (find name_cmp q (by_name xs))
+          (same_entries s t (find name_cmp q (by_name xs)) (stays q))
+          ∙ ap (cond (eq_by_cmp name_cmp q e.id) (Some (entry_in e))) (sym (get-map_of s xs q))
+          ∙ sym (get-insert name_cmp_total (map_of s xs) e.id (entry_in e) q)) where
+            pushed : (b : Bool) (r : Option Place)
+                → option_map (entry_at t) r ≡ option_map (entry_at s) r
+                → option_map (entry_at t)
+                (cond b (Some (record { last = e.last; id = e.id; key = key })) r)
+                ≡ cond b (Some (entry_in e)) (option_map (entry_at s) r)
+            pushed true r h =
+                ap (λ (o : Option Received). Some (record { parts = parts_in o; last = e.last }))
+                u.changed
+            pushed false r h = h
+
+      -- it has one more
+      pub placed-len : maps.len (map_of t placed) ≡ maps.len (map_of s xs) + 1
+      placed-len =
+          omega (
+            arith,
+            len-map_of t placed placed-apart,
+            len-map_of s xs l.apart,
+            length-placed,
+          )
+
+      -- the list is sound with it
+      pub placed-listed : (more : ℕ)
+          → IsIts p e
+          → length xs < limit
+          → capacity ≤ more
+          → slab_len t ≡ slab_len s + 1
+          → t.capacity ≡ s.capacity
+          → IsListed limit p more t placed
+      placed-listed more its room grown one_more same = record {
+        ordered = placed-ordered;
+        apart = placed-apart;
+        held = λ q y g.
+            held_by q y (eq_by_cmp name_cmp q e.id) refl (sym (find-placed q) ∙ g);
+        as_many = omega (
+          arith,
+          length-placed,
+          one_more,
+          l.as_many,
+        );
+        within = omega (
+          arith,
+          length-placed,
+          room,
+        );
+        places = omega (arith, l.places, grown);
+        slots = omega (arith, same, l.slots);
+      } where
+        held_by : (q : Name) (y : Place) (b : Bool)
+            → eq_by_cmp name_cmp q e.id ≡ b
+            → cond b (Some (record { last = e.last; id = e.id; key = key }))
+            (find name_cmp q (by_name xs)) ≡ Some y
+            → IsHeld t p q y
+        held_by q y true is g =
+            let here : record { last = e.last; id = e.id; key = key } ≡ y = inside _ _ g in
+            record {
+              filling = e.filling;
+              kept = ap (λ (x : Place). get t x.key) (sym here) ∙ u.changed;
+              named = its.named ∙ sym (equal_tied q e.id is);
+              of_size = its.of_size;
+            }
+        held_by q y false is g =
+            let mine = l.held q y g in
+            record {
+              filling = mine.filling;
+              kept = stays q y g ∙ mine.kept;
+              named = mine.named;
+              of_size = mine.of_size;
+            }

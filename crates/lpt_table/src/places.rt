@@ -1,0 +1,60 @@
+//! Where the open receptions are kept, in the order in which they would be due.
+
+ghost use Rattle.std.specs.Prelude.{◌≡◌};
+ghost use Rattle.lpt_packet.specs.Names.{name_cmp};
+ghost use Rattle.lpt_table.specs.Places.{spot, gap, when_cmp, by_name, by_moment, first_overdue};
+
+use lpt_packet::Name;
+use std::cmp::Ordering;
+
+/// Where an open reception is kept: the tick at which it last took a part, its name, and its key.
+#[derive(Clone, Copy)]
+pub(crate) struct Place {
+    pub(crate) last: u32,
+    pub(crate) id: Name,
+    pub(crate) key: usize,
+}
+
+// At which place a name stands.
+pub(crate) fn spot_of(places: &[Place], id: Name) -> Option<usize>
+    ensures { result ≡ spot name_cmp id (by_name places.now) }
+{
+    for (at, place) in places.iter().enumerate() {
+        match id.cmp(&place.id) {
+            Ordering::Equal => return Some(at),
+            Ordering::Less => {}
+            Ordering::Greater => {}
+        }
+    }
+    None
+}
+
+// At which place one of this last tick and name belongs.
+pub(crate) fn gap_of(places: &[Place], last: u32, id: Name) -> usize
+    ensures { result ≡ gap when_cmp (last, id) (by_moment places.now) }
+{
+    for (at, place) in places.iter().enumerate() {
+        match last.cmp(&place.last).then(id.cmp(&place.id)) {
+            Ordering::Less => return at,
+            Ordering::Equal => {}
+            Ordering::Greater => {}
+        }
+    }
+    places.len()
+}
+
+// The name at the first place, where the reception there is overdue.
+pub(crate) fn first_due(places: &[Place], timeout: u32, now: u32) -> Option<Name>
+    ensures { result ≡ first_overdue timeout now places.now }
+{
+    match places {
+        [] => None,
+        [first, ..] => {
+            if u64::from(first.last) + u64::from(timeout) <= u64::from(now) {
+                Some(first.id)
+            } else {
+                None
+            }
+        }
+    }
+}
