@@ -14,8 +14,8 @@ pub enum StepFault {
     /// The message isn't longer than a part.
     #[error("the message isn't longer than a part")]
     Short,
-    /// The message is longer than the longest packet, or the packet of a plain request has more
-    /// octets than the part size and 23.
+    /// The message is longer than the longest packet, or a plain request's packet or what the link's
+    /// noise left has more octets than the part size and 23.
     #[error("too long")]
     Long,
     /// As many outgoing transactions of the node are open as the limit.
@@ -39,6 +39,9 @@ pub enum StepFault {
     /// No reception is overdue.
     #[error("no reception is overdue")]
     NothingDue,
+    /// What the link's noise should leave is read as a packet.
+    #[error("the octets look like a whole packet")]
+    LooksWhole,
     /// The clock is at its greatest value.
     #[error("the clock is at its greatest value")]
     ClockEnd,
@@ -69,6 +72,7 @@ impl StepFault {
             StepFault::HandFull => 48,
             StepFault::HandEmpty => 49,
             StepFault::NothingDue => 50,
+            StepFault::LooksWhole => 54,
             StepFault::ClockEnd => 56,
             StepFault::NoSuchSeat => 57,
             StepFault::Memory => 58,
@@ -91,6 +95,7 @@ impl StepFault {
             StepFault::HandFull => "HandFull",
             StepFault::HandEmpty => "HandEmpty",
             StepFault::NothingDue => "NothingDue",
+            StepFault::LooksWhole => "LooksWhole",
             StepFault::ClockEnd => "ClockEnd",
             StepFault::NoSuchSeat => "NoSuchSeat",
             StepFault::Memory => "Memory",

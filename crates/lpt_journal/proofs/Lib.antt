@@ -1,6 +1,7 @@
 pub mod ClosedLemmas
 pub mod CountLemmas
 pub mod DeliveredReleases
+pub mod DamageEvents
 pub mod Deliveries
 pub mod DueLemmas
 pub mod Events

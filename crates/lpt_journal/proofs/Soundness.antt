@@ -1,10 +1,11 @@
 -- What holds of a history holds again after an entry that pays what it owes.
-use Rattle.std.proofs.Common.{◌≡◌, ◌∙◌, ap, sym, subst, refl, ℕ, ◌<◌, nat_lt, ◌==◌, Bool, true, false, not, ◌&&◌, ◌||◌, ◌⊎◌, inl, inr, ◌∷◌, length, Option, Some, None, if◌then◌else◌, arith}
+use Rattle.std.proofs.Common.{◌≡◌, ◌∙◌, ap, sym, subst, refl, ℕ, ◌<◌, ◌≤◌, nat_lt, ◌==◌, Bool, true, false, not, ◌&&◌, ◌||◌, ◌⊎◌, inl, inr, ◌∷◌, length, Option, Some, None, if◌then◌else◌, arith}
 use Rattle.std.specs.List.{slice_get, find}
 use Rattle.std.specs.Option.{option_or, option_map_or}
 use Rattle.std.specs.FinMap as map
 use Rattle.std.specs.Ordering.{nat_cmp}
 use Rattle.std.specs.Cmp.{nat_cmp_total, unsigned_tied}
+use Rattle.std.proofs.lemmas.Bool.Decides.{nat_tests}
 use Rattle.std.proofs.lemmas.Option.{slice_get_within}
 use Rattle.lpt_packet.specs.declared.direction.Direction.{Direction}
 use Rattle.lpt_packet.specs.Names.{Name}
@@ -17,14 +18,14 @@ use Rattle.lpt_events.specs.declared.config.Config.{Config}
 use Rattle.lpt_events.specs.Arrivals.{NotRead, APart}
 use Rattle.lpt_events.specs.declared.entry.Opening.{Opening}
 use Rattle.lpt_journal.specs.Journal.{SentPacket, Recorded, History}
-use Rattle.lpt_journal.specs.Link.{sent, loses, is_lost, is_held, goes}
+use Rattle.lpt_journal.specs.Link.{sent, loses, is_lost, damages, is_damaged, is_held, goes}
 use Rattle.lpt_journal.specs.Hands.{hand, arrival_in, arrival_of, arrival_at, in_hand}
 use Rattle.lpt_journal.specs.Senders.{is_opening_of, retires, current}
 use Rattle.lpt_journal.specs.Receivers.{kept, with_piece, heard}
 use Rattle.lpt_journal.specs.Headline.{IsPartOfCurrent, kept_piece}
 use Rattle.lpt_events.proofs.LaneLemmas.{same_direction-true}
 use Rattle.lpt_journal.proofs.TestLemmas.{and_r, not_true, or_false_r, lt_true, get-with_all, IsOldOrNew, with_all_cases}
-use Rattle.lpt_journal.proofs.Steps.{IsKnown, IsRead, IsInHand, IsSound, IsNew, IsTaken, IsKept, IsHeardNow, Owes, opening_found, part_stays}
+use Rattle.lpt_journal.proofs.Steps.{IsKnown, IsAsPut, IsSoundPut, IsInHand, IsSound, IsNew, IsTaken, IsKept, IsHeardNow, Owes, opening_found, part_stays}
 
 -- ---- openings
 
@@ -64,13 +65,43 @@ openings_step c h x owes sound d id o e =
 
 -- ---- packets
 
+-- whether a packet was damaged stays, and of a new one the entry says it
+damaged_old : (h : History) (x : Recorded) (n : ℕ)
+    → n < length (sent h)
+    → is_damaged (x ∷ h) n ≡ is_damaged h n
+damaged_old h x n old =
+    ap (λ b. if b then is_damaged h n else damages x.event && nat_lt n (length (sent (x ∷ h))))
+    (lt_true n (length (sent h)) old)
+
+damaged_new : (h : History) (x : Recorded) (n : ℕ)
+    → length (sent h) ≤ n
+    → n < length (sent (x ∷ h))
+    → is_damaged (x ∷ h) n ≡ (damages x.event && true)
+damaged_new h x n fresh within =
+    let none : nat_lt n (length (sent h)) ≡ false = grind (arith, nat_tests) in
+    ap (λ b. if b then is_damaged h n else damages x.event && nat_lt n (length (sent (x ∷ h)))) none
+    ∙ ap (λ b. damages x.event && b) (lt_true n (length (sent (x ∷ h))) within)
+
 packets_step : (c : Config) (h : History) (x : Recorded) → Owes c h x → IsSound c h
-    → (n : ℕ) (p : SentPacket) → slice_get (sent (x ∷ h)) n ≡ Some p → IsRead (arrival_of c p)
+    → (n : ℕ) (p : SentPacket)
+    → slice_get (sent (x ∷ h)) n ≡ Some p
+    → IsAsPut (is_damaged (x ∷ h) n) (arrival_of c p)
 packets_step c h x owes sound n p e = go (with_all_cases (sent h) x.puts n p e) where
+  as_put : (b : Bool) → IsSoundPut b c (x ∷ h) p → IsAsPut (b && true) (arrival_of c p)
+  as_put true put = put
+  as_put false put = put.is_read
+
   go : IsOldOrNew (sent h) x.puts n p
-      → IsRead (arrival_of c p)
-  go (inl old) = sound.packets n p old
-  go (inr fresh) = (owes.puts fresh.0 p fresh.2).is_read
+      → IsAsPut (is_damaged (x ∷ h) n) (arrival_of c p)
+  go (inl old) =
+      subst (λ b. IsAsPut b (arrival_of c p))
+      (sym (damaged_old h x n (slice_get_within (sent h) n p old)))
+      (sound.packets n p old)
+  go (inr fresh) =
+      let late : length (sent h) ≤ n = omega (arith, fresh.1) in
+      subst (λ b. IsAsPut b (arrival_of c p))
+      (sym (damaged_new h x n late (slice_get_within (sent (x ∷ h)) n p e)))
+      (as_put (damages x.event) (owes.puts fresh.0 p fresh.2))
 
 -- a packet that is held was held before, where it was there
 pub held_before : (h : History) (x : Recorded) (n : ℕ) (p : SentPacket)
@@ -93,13 +124,17 @@ held_step : (c : Config) (h : History) (x : Recorded) → Owes c h x → IsSound
     → arrival_of c p ≡ APart q
     → IsPartOfCurrent c (x ∷ h) p.direction q
 held_step c h x owes sound n p q held e is = go (with_all_cases (sent h) x.puts n p e) where
+  of_put : (b : Bool) → IsSoundPut b c (x ∷ h) p → IsPartOfCurrent c (x ∷ h) p.direction q
+  of_put true put = absurd (let no : NotRead ≡ APart q = sym put ∙ is in cc)
+  of_put false put = put.part q is
+
   go : IsOldOrNew (sent h) x.puts n p
       → IsPartOfCurrent c (x ∷ h) p.direction q
   go (inl old) =
       let before : is_held h n ≡ true = held_before h x n p held old in
       part_stays c h x p.direction q owes (sound.held n p q before old is)
       (λ r. (owes.retires p.direction q.id r).held n p q before old refl is refl)
-  go (inr fresh) = (owes.puts fresh.0 p fresh.2).part q is
+  go (inr fresh) = of_put (damages x.event) (owes.puts fresh.0 p fresh.2)
 
 -- ---- hands
 

@@ -16,7 +16,7 @@ use Rattle.lpt_events.specs.declared.side.Side.{Side}
 use Rattle.lpt_events.specs.Arrivals.{Arrival, NotRead, AnIdle, Foreign, NoPart, APart}
 use Rattle.lpt_events.specs.declared.entry.Opening.{Opening}
 use Rattle.lpt_journal.specs.Journal.{SentPacket, Recorded, History}
-use Rattle.lpt_journal.specs.Link.{sent, is_held, goes}
+use Rattle.lpt_journal.specs.Link.{sent, damages, is_damaged, is_held, goes}
 use Rattle.lpt_journal.specs.Hands.{hand, arrival_of, in_hand}
 use Rattle.lpt_journal.specs.Senders.{is_opening_of, retires, current}
 use Rattle.lpt_journal.specs.Receivers.{with_piece, heard, clock}
@@ -42,10 +42,20 @@ IsRead Foreign = ⊥
 IsRead NoPart = ⊥
 IsRead _ = Unit {0}
 
+-- what the link's noise left isn't read, and all else is
+abbrev pub IsAsPut : (damaged : Bool) → Arrival → Type 0
+IsAsPut true a = a ≡ NotRead
+IsAsPut false a = IsRead a
+
 -- the packet is read, and where it is a part it is one of the message last opened under its name
 pub record IsSoundPacket (c : Config) (h : History) (p : SentPacket) : Type 0 where
   pub is_read : IsRead (arrival_of c p)
   pub part : (q : Piece) → arrival_of c p ≡ APart q → IsPartOfCurrent c h p.direction q
+
+-- a packet that is put is sound where a node made it, and isn't read where the link's noise left it
+abbrev pub IsSoundPut : (damaged : Bool) → Config → History → SentPacket → Type 0
+IsSoundPut true c h p = arrival_of c p ≡ NotRead
+IsSoundPut false c h p = IsSoundPacket c h p
 
 -- what a lane has in its hand goes its way, and a part is one of the message last opened
 pub record IsInHand (c : Config) (h : History) (l : Lane) (n : ℕ) : Type 0 where
@@ -59,7 +69,9 @@ pub record IsSound (c : Config) (h : History) : Type 0 where
   pub openings : (d : Direction) (id : Name) (o : Opening)
       → current h d id ≡ Some o
       → IsKnown c h d id o
-  pub packets : (n : ℕ) (p : SentPacket) → slice_get (sent h) n ≡ Some p → IsRead (arrival_of c p)
+  pub packets : (n : ℕ) (p : SentPacket)
+      → slice_get (sent h) n ≡ Some p
+      → IsAsPut (is_damaged h n) (arrival_of c p)
   pub held : (n : ℕ) (p : SentPacket) (q : Piece)
       → is_held h n ≡ true
       → slice_get (sent h) n ≡ Some p
@@ -121,7 +133,9 @@ pub record Owes (c : Config) (h : History) (x : Recorded) : Type 0 where
       → find (is_opening_of d id) x.opens ≡ Some o
       → IsNew c h d id o
   pub retires : (d : Direction) (id : Name) → retires x.event d id ≡ true → IsUnheard c h d id
-  pub puts : (k : ℕ) (p : SentPacket) → slice_get x.puts k ≡ Some p → IsSoundPacket c (x ∷ h) p
+  pub puts : (k : ℕ) (p : SentPacket)
+      → slice_get x.puts k ≡ Some p
+      → IsSoundPut (damages x.event) c (x ∷ h) p
   pub takes : (l : Lane) (n : ℕ) → hand (x ∷ h) l ≡ Some n → (hand h l ≡ Some n) ⊎ IsTaken h l n
   pub hears : (d : Direction) (id : Name) → IsHeardNow c h d id (heard c (x ∷ h) d id)
   pub clocks : (side : Side) → clock c (x ∷ h) side < 2 ^ 32
@@ -140,7 +154,9 @@ pub record IsCalm (c : Config) (h : History) (x : Recorded) : Type 0 where
 pub calm_owes : (c : Config) (h : History) (x : Recorded)
     → IsCalm c h x
     → IsSound c h
-    → ((k : ℕ) (p : SentPacket) → slice_get x.puts k ≡ Some p → IsSoundPacket c (x ∷ h) p)
+    → ((k : ℕ) (p : SentPacket)
+    → slice_get x.puts k ≡ Some p
+    → IsSoundPut (damages x.event) c (x ∷ h) p)
     → Owes c h x
 calm_owes c h x calm sound puts = record {
   opens = λ d id o f.

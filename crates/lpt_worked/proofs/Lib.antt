@@ -1,3 +1,4 @@
+pub mod DamageRows
 pub mod LegalRows
 pub mod Listed
 pub mod ListedSets

@@ -71,6 +71,7 @@ impl Ends {
             }
             Event::Finish(direction, id) => self.ask(sender(*direction), Ask::Finish(*id)),
             Event::Lose(n) => self.refusal_lose(*n),
+            Event::Damage(direction, octets) => self.refusal_damage(*direction, octets),
             Event::Take(lane, n) => self.link.refusal_take(*lane, *n).map(of_link),
             Event::Deliver(lane) => self.link.refusal_drop(*lane).map(of_link),
             Event::Tick(side) => self.ask(*side, Ask::Tick),
@@ -105,6 +106,7 @@ impl Ends {
             }
             Event::Finish(direction, id) => Ok(self.finish(*direction, *id)),
             Event::Lose(n) => Ok(self.lose(*n)),
+            Event::Damage(direction, octets) => self.damage(*direction, octets),
             Event::Take(lane, n) => Ok(self.take(*lane, *n)),
             Event::Deliver(lane) => self.deliver(place, *lane),
             Event::Tick(side) => Ok(self.tick(*side)),

@@ -192,6 +192,9 @@ fn in_range(event: &Event)
             let _id = *id;
         }
         Event::Lose(_) => {}
+        Event::Damage(_, octets) => {
+            let _octets = octets.as_slice();
+        }
         Event::Take(_, _) => {}
         Event::Deliver(_) => {}
         Event::Tick(_) => {}
