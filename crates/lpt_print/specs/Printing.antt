@@ -14,7 +14,7 @@ use Rattle.lpt_events.specs.declared.outcome.Why.{Why}
 use Rattle.lpt_events.specs.declared.outcome.Why.TheVariants.{Unreadable, Idle, ForeignApid, BadPart, Closed, NoRoom}
 use Rattle.lpt_events.specs.declared.entry.Release.{Release}
 use Rattle.lpt_events.specs.declared.event.Event.{Event}
-use Rattle.lpt_events.specs.declared.event.Event.TheVariants.{Open, Send, Plain, Finish, Lose, Take, Deliver, Tick, Expire}
+use Rattle.lpt_events.specs.declared.event.Event.TheVariants.{Open, Send, Plain, Finish, Lose, Damage, Take, Deliver, Tick, Expire}
 use Rattle.lpt_events.specs.declared.fault.StepFault.{StepFault}
 use Rattle.lpt_events.specs.declared.reply.Answer.{Answer}
 use Rattle.lpt_events.specs.declared.reply.Answer.TheVariants.{Opened, Put, Finished, Lost, Took, Delivered, Clock, Expired}
@@ -105,6 +105,7 @@ answer_text (Open d id m) (Opened parts) = opened_text d id parts
 answer_text (Send d id k) (Put n) = put_text n
 answer_text (Plain flags service subtype body) (Put n) = put_text n
 answer_text (Lose n) Lost = lost_text n
+answer_text (Damage d b) (Put n) = put_text n
 answer_text (Take l n) (Took k) = took_text k
 answer_text (Deliver l) (Delivered o) = outcome_text (lane_direction l) o
 answer_text (Finish d id) Finished = finished_text d id
@@ -114,6 +115,7 @@ answer_text (Open d id m) _ = []
 answer_text (Send d id k) _ = []
 answer_text (Plain flags service subtype body) _ = []
 answer_text (Lose n) _ = []
+answer_text (Damage d b) _ = []
 answer_text (Take l n) _ = []
 answer_text (Deliver l) _ = []
 answer_text (Finish d id) _ = []

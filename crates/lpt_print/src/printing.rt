@@ -21,6 +21,7 @@ pub fn print_accepted(alloc: Global, event: &Event, reply: &Reply) -> Result<Str
         (Event::Send(_, _, _), Answer::Put(number)) => print_put(alloc, number),
         (Event::Plain(_, _, _, _), Answer::Put(number)) => print_put(alloc, number),
         (Event::Lose(number), Answer::Lost) => print_lost(alloc, *number),
+        (Event::Damage(_, _), Answer::Put(number)) => print_put(alloc, number),
         (Event::Take(_, _), Answer::Took(number)) => print_took(alloc, number),
         (Event::Deliver(lane), Answer::Delivered(outcome)) => {
             print_outcome(alloc, lane.direction(), outcome)
@@ -34,6 +35,7 @@ pub fn print_accepted(alloc: Global, event: &Event, reply: &Reply) -> Result<Str
             | Event::Send(_, _, _)
             | Event::Plain(_, _, _, _)
             | Event::Lose(_)
+            | Event::Damage(_, _)
             | Event::Take(_, _)
             | Event::Deliver(_)
             | Event::Finish(_, _)

@@ -14,7 +14,7 @@ use Rattle.lpt_words.specs.declared.grammar.Reading.TheVariants.{Skipped, Asks, 
 use Rattle.lpt_words.specs.Grammar.{reading_of}
 use Rattle.lpt_words.specs.Loads.{load_packet}
 use Rattle.lpt_events.specs.declared.event.Event.{Event}
-use Rattle.lpt_events.specs.declared.event.Event.TheVariants.{Open, Send, Plain, Finish, Lose, Take, Deliver, Tick, Expire}
+use Rattle.lpt_events.specs.declared.event.Event.TheVariants.{Open, Send, Plain, Finish, Lose, Damage, Take, Deliver, Tick, Expire}
 use Rattle.lpt_events.specs.declared.fault.StepFault.{StepFault}
 use Rattle.lpt_events.specs.declared.reply.Reply.{Reply}
 use Rattle.lpt_journal.specs.Link.{sent}
@@ -89,6 +89,7 @@ command_ran (command.Send d id k) w = stepped w (Send d id k)
 command_ran (command.Plain flags service subtype body) w = stepped w (Plain flags service subtype body)
 command_ran (command.Load l) w = stepped w (Open Up l.id (load_packet w.config.apid w.config.source l))
 command_ran (command.Lose n) w = stepped w (Lose n)
+command_ran (command.Damage d b) w = stepped w (Damage d b)
 command_ran (command.Take l n) w = stepped w (Take l n)
 command_ran (command.Deliver l) w = stepped w (Deliver l)
 command_ran (command.Finish d id) w = stepped w (Finish d id)

@@ -48,6 +48,9 @@ pub(crate) fn run_command<K: Sink>(
         }
         Command::Load(load) => run_load(alloc, world, &load, out),
         Command::Lose(number) => run_event(alloc, world, Event::Lose(number), out),
+        Command::Damage(direction, octets) => {
+            run_event(alloc, world, Event::Damage(direction, octets), out)
+        }
         Command::Take(lane, number) => run_event(alloc, world, Event::Take(lane, number), out),
         Command::Deliver(lane) => run_event(alloc, world, Event::Deliver(lane), out),
         Command::Finish(direction, id) => {

@@ -100,6 +100,14 @@ abbrev pub lose_of : List (List ℕ) → Option Command
 lose_of (n ∷ []) = option_map command.Lose (packet_number_of n)
 lose_of _ = None
 
+-- `damage DIRECTION HEX`
+abbrev pub damage_of : List (List ℕ) → Option Command
+damage_of (d ∷ m ∷ []) = do
+  direction ← direction_of d
+  octets ← octets_of m
+  Some (command.Damage direction octets)
+damage_of _ = None
+
 -- `take LANE N`
 abbrev pub take_of : List (List ℕ) → Option Command
 take_of ws = option_map (λ p. command.Take p.0 p.1) (lane_and_packet_of ws)
@@ -170,6 +178,7 @@ abbrev pub arguments_of : Keyword → List (List ℕ) → Option Command
 arguments_of key.Open ws = open_of ws
 arguments_of key.Send ws = send_of ws
 arguments_of key.Lose ws = lose_of ws
+arguments_of key.Damage ws = damage_of ws
 arguments_of key.Take ws = take_of ws
 arguments_of key.Deliver ws = deliver_of ws
 arguments_of key.Pass ws = pass_of ws
@@ -188,11 +197,12 @@ IsAsked (Asks c) = ⊤
 IsAsked Skipped = ⊥
 IsAsked Unreadable = ⊥
 
--- the first word is `open`, `plain` or `load`: a line that takes memory
+-- the first word is `open`, `damage`, `plain` or `load`: a line that takes memory
 abbrev pub TakesMemory : List (List ℕ) → Type 0
 TakesMemory [] = ⊥
 TakesMemory (w ∷ ws) =
     (keyword_of w ≡ Some key.Open)
+    ⊎ (keyword_of w ≡ Some key.Damage)
     ⊎ (keyword_of w ≡ Some key.Plain)
     ⊎ (keyword_of w ≡ Some key.Load)
 

@@ -1,5 +1,5 @@
 -- The areas of the rest are judged with what the areas so far have left.
-use Rattle.std.proofs.Common.{◌≡◌, ◌<◌, ◌≤◌, ◌+◌, ◌-◌, ◌⊎◌, ◌∷◌, [], ◌∙◌, nat_lt, true, false, sym, ap, refl, inl, inr, arith}
+use Rattle.std.proofs.Common.{◌≡◌, ◌<◌, ◌≤◌, ◌+◌, ◌-◌, ◌⊎◌, ◌∷◌, [], ◌∙◌, nat_lt, true, false, sym, ap, inl, inr, arith}
 use Rattle.std.proofs.lemmas.Bool.Decides.{nat_tests}
 use Rattle.lpt_words.specs.Grammar.{areas_of}
 use Rattle.lpt_words.specs.Words.{words}
