@@ -9,6 +9,8 @@
 #[cfg(test)]
 mod counting;
 #[cfg(test)]
+mod damage;
+#[cfg(test)]
 mod growths;
 #[cfg(test)]
 mod packets;
