@@ -1,20 +1,20 @@
 -- What a damaged packet owes, and that it pays it.
-use Rattle.std.proofs.Common.{◌≡◌, ap, subst, refl, ℕ, false, List, None}
+use Rattle.std.proofs.Common.{◌≡◌, ap, subst, refl, ℕ, false, List, ◌∷◌, None}
 use Rattle.lpt_packet.specs.declared.direction.Direction.{Direction}
 use Rattle.lpt_packet.specs.Packets.{seen}
 use Rattle.lpt_events.specs.declared.config.Config.{Config}
-use Rattle.lpt_events.specs.Arrivals.{NotRead, sight_arrival, arrival}
+use Rattle.lpt_events.specs.Arrivals.{NotRead, part_name, sight_arrival, arrival}
 use Rattle.lpt_events.specs.Damages.{is_damage_long, looks_whole}
 use Rattle.lpt_events.specs.Sides.{receiver_side}
 use Rattle.lpt_events.specs.declared.event.Event.TheVariants.{Damage}
 use Rattle.lpt_events.specs.declared.fault.StepFault.TheVariants.{Long, LooksWhole}
 use Rattle.lpt_memory.specs.Memories.{Contents}
 use Rattle.lpt_journal.specs.Journal.{History}
-use Rattle.lpt_journal.specs.Hands.{arrival_in, arrival_of}
+use Rattle.lpt_journal.specs.Hands.{arrival_in}
 use Rattle.lpt_journal.specs.Replies.{entry}
 use Rattle.lpt_journal.specs.Refusals.{refusal}
 use Rattle.lpt_journal.proofs.Events.{only_element}
-use Rattle.lpt_journal.proofs.Steps.{IsSound, Owes, calm_owes}
+use Rattle.lpt_journal.proofs.Steps.{IsPut, IsSound, Owes, calm_owes}
 use Rattle.lpt_journal.proofs.TestLemmas.{none_is, two_pass}
 
 -- what is no packet isn't read at either node
@@ -39,4 +39,6 @@ damage_owes c first h d b sound accepted =
       hears = λ e j. refl;
       ticks = λ side. refl;
     }) sound
-    (λ k p f. subst (λ x. arrival_of c x ≡ NotRead) (only_element _ k p f) (unread c d b t.1))
+    (λ k p f. subst (λ x. IsPut c (entry c first h (Damage d b) ∷ h) (Damage d b) x)
+    (only_element _ k p f)
+    (record { sound = unread c d b t.1; name = ap part_name (unread c d b t.1) }))

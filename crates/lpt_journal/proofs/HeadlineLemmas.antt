@@ -99,6 +99,7 @@ sound_start : (c : Config) → IsConfig c → IsSound c []
 sound_start c good = record {
   openings = λ d id o e. absurd cc;
   packets = λ n p e. absurd (no_place n p e);
+  names = refl;
   held = λ n p q e f is. absurd (no_place n p f);
   hands = λ l n e. absurd cc;
   heard =

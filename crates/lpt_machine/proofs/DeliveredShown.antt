@@ -1,5 +1,5 @@
 -- What a lane had in its hand is delivered: the longer journal is shown.
-use Rattle.std.proofs.Common.{◌≡◌, ◌≢◌, ap, sym, subst, refl, nat_le, ℕ, Bool, true, false, not, ◌&&◌, ◌||◌, if◌then◌else◌, List, [], ◌∷◌, ◌++◌, length, Option, Some, None, is_some}
+use Rattle.std.proofs.Common.{◌≡◌, ◌≢◌, ap, sym, subst, refl, nat_le, ℕ, Bool, true, false, not, ◌&&◌, ◌||◌, if◌then◌else◌, List, [], ◌∷◌, ◌++◌, length, map, Option, Some, None, is_some}
 use Rattle.std.specs.FinMap as maps
 use Rattle.lpt_packet.specs.declared.direction.Direction.{Direction}
 use Rattle.lpt_packet.specs.declared.direction.Direction.TheVariants.{Up, Down}
@@ -26,7 +26,7 @@ use Rattle.lpt_events.specs.declared.event.Event.TheVariants.{Deliver}
 use Rattle.lpt_events.specs.declared.reply.Answer.TheVariants.{Delivered}
 use Rattle.lpt_journal.specs.Delivery.{judged}
 use Rattle.lpt_journal.specs.Journal.{History, SentPacket, with_all}
-use Rattle.lpt_journal.specs.Link.{sent, is_lost}
+use Rattle.lpt_journal.specs.Link.{sent, tags, is_lost}
 use Rattle.lpt_journal.specs.Hands.{hand, hand_after, in_hand}
 use Rattle.lpt_journal.specs.Receivers.{kept, with_piece, heard, heard_now, ends, takes, has_parts, is_closed, last_tick, clock, reception_count}
 use Rattle.lpt_journal.specs.Releases.{releases, released_now}
@@ -63,7 +63,9 @@ received c h w o a = record {
 -- the view before a delivery, with an empty hand
 abbrev dropped_view : Config → History → Hands → Views
 dropped_view c h hands =
-    record (views c h) { link = record { sent = sent h; lost = is_lost h; hands = hands } }
+    record (views c h) {
+      link = record { sent = sent h; tags = tags h; lost = is_lost h; hands = hands };
+    }
 
 -- the same, with what both ends have sent after an outcome that put these packets
 abbrev noted : Config → History → Hands → Outcome → List SentPacket → Views
@@ -96,7 +98,12 @@ delivered_view c h w hands a o ps =
     let v = noted c h hands o ps in
     let side = receiver_side w in
     record (with_view v side (record (view_of v side) { receiving = received c h w o a })) {
-      link = record { sent = with_all (sent h) ps; lost = is_lost h; hands = hands };
+      link = record {
+        sent = with_all (sent h) ps;
+        tags = with_all (tags h) (map (λ p. None) ps);
+        lost = is_lost h;
+        hands = hands;
+      };
       released =
           with_all (releases c h) (released_now (length h) w (Delivered o) (heard c h w) a);
     }

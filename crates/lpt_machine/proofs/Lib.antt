@@ -1,5 +1,6 @@
 pub mod ArrivalsAgree
 pub mod Beginning
+pub mod ClearShown
 pub mod DeliveredShown
 pub mod DueShown
 pub mod EventsShown

@@ -242,7 +242,10 @@ plain_view c h flags service subtype body =
     let v = views c h in
     record v {
       ground = record v.ground { sending = record v.ground.sending { made = made h Up ++ b ∷ [] } };
-      link = record v.link { sent = v.link.sent ++ record { direction = Up; octets = b } ∷ [] };
+      link = record v.link {
+        sent = v.link.sent ++ record { direction = Up; octets = b } ∷ [];
+        tags = v.link.tags ++ None ∷ [];
+      };
     }
 
 pub plain_shown : (c : Config) (s : State) (h : History) (flags service subtype : ℕ) (body : List ℕ)

@@ -11,7 +11,7 @@ use Rattle.lpt_events.specs.declared.lane.Lane.{Lane}
 use Rattle.lpt_events.specs.declared.side.Side.{Side}
 use Rattle.lpt_events.specs.declared.side.Side.TheVariants.{Ground, Craft}
 use Rattle.lpt_journal.specs.Journal.{SentPacket, History}
-use Rattle.lpt_journal.specs.Link.{sent, is_lost}
+use Rattle.lpt_journal.specs.Link.{sent, tags, is_lost}
 use Rattle.lpt_journal.specs.Hands.{hand}
 use Rattle.lpt_journal.specs.Receivers.{heard, is_closed, last_tick, clock}
 use Rattle.lpt_journal.specs.Releases.{releases}
@@ -36,9 +36,11 @@ pub record EndView : Type 0 where
   pub receiving : ReceivingView
   pub clock : ℕ
 
--- the packets that were put on the link, which of them were lost, and the lanes' hands
+-- the packets that were put on the link, of which transaction each is a part, which of them were
+-- lost, and the lanes' hands
 pub record LinkView : Type 0 where
   pub sent : List SentPacket
+  pub tags : List (Option Name)
   pub lost : ℕ → Bool
   pub hands : Lane → Option ℕ
 
@@ -73,7 +75,7 @@ views c h = record {
     receiving = receiving_view c h Up;
     clock = clock c h Craft;
   };
-  link = record { sent = sent h; lost = is_lost h; hands = hand h };
+  link = record { sent = sent h; tags = tags h; lost = is_lost h; hands = hand h };
   opened = opened h;
   released = releases c h;
 }
