@@ -1,5 +1,5 @@
 -- The lines that a script prints.
-use Rattle.std.specs.Prelude.{ℕ, List, [], ◌∷◌, ◌++◌, length, codes, ◌==◌, if◌then◌else◌, Option, Some, None}
+use Rattle.std.specs.Prelude.{ℕ, Bool, List, [], ◌∷◌, ◌++◌, length, codes, ◌==◌, if◌then◌else◌, Option, Some, None}
 use Rattle.std.specs.List.{flat_map}
 use Rattle.std.specs.Fmt.{decimal}
 use Rattle.hex.specs.Hex.{encode_lower}
@@ -148,6 +148,10 @@ journal_text n = line_of (codes "journal" ∷ decimal n ∷ [])
 abbrev pub packet_text : ℕ → Option (List ℕ) → List ℕ
 packet_text n (Some m) = line_of (codes "packet" ∷ decimal n ∷ octets_text m ∷ [])
 packet_text n None = line_of (codes "packet" ∷ decimal n ∷ codes "none" ∷ [])
+
+-- whether nothing is left of a transaction
+abbrev pub clear_text : Bool → List ℕ
+clear_text clear = line_of (codes "clear" ∷ (if clear then codes "yes" else codes "no") ∷ [])
 
 -- octets of a memory from an address on, where it has so many
 abbrev pub memory_text : (id address : ℕ) → Option (List ℕ) → List ℕ

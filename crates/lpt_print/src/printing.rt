@@ -3,7 +3,7 @@
 ghost use Rattle.std.specs.Prelude.{◌≡◌, IfOk};
 ghost use Rattle.std.specs.Option.{option_copied};
 ghost use Rattle.std.specs.String.{string_bytes};
-ghost use Rattle.lpt_print.specs.Printing.{accepted_text, opened_text, finished_text, lost_text, expired_text, clock_text, put_text, took_text, outcome_text, refused_text, unreadable_text, journal_text, packet_text, memory_text, release_text, none_text};
+ghost use Rattle.lpt_print.specs.Printing.{accepted_text, opened_text, finished_text, lost_text, expired_text, clock_text, put_text, took_text, outcome_text, refused_text, unreadable_text, journal_text, packet_text, clear_text, memory_text, release_text, none_text};
 
 use crate::words::{direction_word, octets_word, why_word};
 use lpt_events::{Answer, Event, Outcome, Release, Reply, StepFault};
@@ -173,6 +173,14 @@ pub fn print_packet(alloc: Global, n: u64, packet: Option<&[u8]>) -> Result<Stri
         }
         None => format!(in alloc; "packet {n} none\n"),
     }
+}
+
+/// `clear yes` or `clear no`: whether nothing is left of a transaction.
+pub fn print_clear(alloc: Global, clear: bool) -> Result<String, AllocError>
+    ensures { IfOk result (λ t. string_bytes t ≡ clear_text clear) }
+{
+    let clear = if clear { "yes" } else { "no" };
+    format!(in alloc; "clear {clear}\n")
 }
 
 /// `memory 1 16 00ff`, or `memory 9 0 none`: octets of the memory of this identifier from this

@@ -6,7 +6,7 @@ use Rattle.lpt_memory.specs.Memories.{content_of}
 use Rattle.lpt_packet.specs.declared.direction.Direction.TheVariants.{Up}
 use Rattle.lpt_words.specs.Words.{lines}
 use Rattle.lpt_events.specs.declared.side.Side.{Side}
-use Rattle.lpt_print.specs.Printing.{accepted_text, refused_text, releases_text, packet_text, memory_text, journal_text, unreadable_text}
+use Rattle.lpt_print.specs.Printing.{accepted_text, refused_text, releases_text, packet_text, clear_text, memory_text, journal_text, unreadable_text}
 use Rattle.lpt_words.specs.declared.grammar.Command.{Command}
 use Rattle.lpt_words.specs.declared.grammar.Command.TheVariants as command
 use Rattle.lpt_words.specs.declared.grammar.Reading.{Reading}
@@ -17,6 +17,7 @@ use Rattle.lpt_events.specs.declared.event.Event.{Event}
 use Rattle.lpt_events.specs.declared.event.Event.TheVariants.{Open, Send, Plain, Finish, Lose, Damage, Take, Deliver, Tick, Expire}
 use Rattle.lpt_events.specs.declared.fault.StepFault.{StepFault}
 use Rattle.lpt_events.specs.declared.reply.Reply.{Reply}
+use Rattle.lpt_journal.specs.Clear.{is_clear}
 use Rattle.lpt_journal.specs.Link.{sent}
 use Rattle.lpt_journal.specs.Releases.{releases}
 use Rattle.lpt_journal.specs.Replies.{reply}
@@ -100,6 +101,8 @@ command_ran command.ShowReleased w = printed w (releases_text (releases w.config
 command_ran (command.ShowPacket n) w = printed w (packet_text n (packet_octets w n))
 command_ran (command.ShowMemory id address len) w =
     printed w (memory_text id address (memory_octets w id address len))
+command_ran (command.ShowClear d id) w =
+    printed w (clear_text (is_clear w.config (history w) d id))
 command_ran command.ShowJournal w = printed w (journal_text (length w.journal))
 
 -- what a line does, by what it says and by its number

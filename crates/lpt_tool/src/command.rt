@@ -8,7 +8,7 @@ ghost use Rattle.lpt_tool.specs.Scripts.{and_then, answered, command_ran, steppe
 
 use crate::loading::run_load;
 use crate::printed::{put, put_refused};
-use crate::showing::{show_memory, show_released};
+use crate::showing::{show_clear, show_memory, show_released};
 use lpt_link::Lane;
 use lpt_node::Side;
 use lpt_print::{print_accepted, print_journal, print_packet};
@@ -65,6 +65,9 @@ pub(crate) fn run_command<K: Sink>(
         }
         Command::ShowMemory(id, address, len) => {
             quietly(show_memory(alloc, world, id, address, len, out))
+        }
+        Command::ShowClear(direction, id) => {
+            quietly(show_clear(alloc, world, direction, id, out))
         }
         Command::ShowJournal => {
             quietly(put(out, print_journal(alloc, world.journal().len() as u64)))

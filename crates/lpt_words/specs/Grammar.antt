@@ -164,12 +164,21 @@ show_memory_of (i ∷ a ∷ n ∷ []) = do
   Some (command.ShowMemory id address len)
 show_memory_of _ = None
 
+-- `clear DIRECTION ID` behind `show`
+abbrev pub show_clear_of : List (List ℕ) → Option Command
+show_clear_of (d ∷ i ∷ []) = do
+  direction ← direction_of d
+  id ← u16_of i
+  Some (command.ShowClear direction id)
+show_clear_of _ = None
+
 -- all of these
 abbrev pub show_of : List (List ℕ) → Option Command
 show_of [] = None
 show_of (w ∷ []) = show_whole_of w
 show_of (w ∷ n ∷ ws) =
     if is_word (codes "memory") w then show_memory_of (n ∷ ws)
+    else if is_word (codes "clear") w then show_clear_of (n ∷ ws)
     else if is_word (codes "packet") w then show_packet_of (n ∷ ws)
     else None
 

@@ -2,7 +2,7 @@
 
 ghost use Rattle.std.specs.Prelude.{◌≡◌, ◌⊎◌, IsSome, IfOk, OnErr};
 ghost use Rattle.lpt_words.specs.Words.{words};
-ghost use Rattle.lpt_words.specs.Grammar.{lane_and_packet_of, open_of, send_of, plain_of, lose_of, damage_of, take_of, deliver_of, pass_of, finish_of, tick_of, expire_of, show_of, show_memory_of, show_whole_of, arguments_of, is_comment, words_reading, reading_of, IsAsked, TakesMemory};
+ghost use Rattle.lpt_words.specs.Grammar.{lane_and_packet_of, open_of, send_of, plain_of, lose_of, damage_of, take_of, deliver_of, pass_of, finish_of, tick_of, expire_of, show_of, show_memory_of, show_clear_of, show_whole_of, arguments_of, is_comment, words_reading, reading_of, IsAsked, TakesMemory};
 
 use crate::load::{Load, read_load};
 use crate::names::{
@@ -49,6 +49,8 @@ pub enum Command {
     ShowPacket(u64),
     /// `show memory ID ADDR LEN`: prints so many octets of a memory, from an address on.
     ShowMemory(u8, u32, u32),
+    /// `show clear DIRECTION ID`: prints whether nothing is left of this transaction.
+    ShowClear(Direction, Name),
     /// `show journal`: prints how long the journal is.
     ShowJournal,
 }
@@ -332,11 +334,28 @@ fn read_show(rest: &[u8]) -> Option<Command>
     if what == b"memory".as_slice() {
         return read_show_memory(more);
     }
+    if what == b"clear".as_slice() {
+        return read_show_clear(more);
+    }
     if split_word(rest).is_some() || what != b"packet".as_slice() {
         return None;
     }
     let packet = read_packet_number(packet)?;
     Some(Command::ShowPacket(packet))
+}
+
+// The words after `show clear`.
+fn read_show_clear(rest: &[u8]) -> Option<Command>
+    ensures { result ≡ show_clear_of (words rest.now) }
+{
+    let (direction, rest) = split_word(rest)?;
+    let (id, rest) = split_word(rest)?;
+    if split_word(rest).is_some() {
+        return None;
+    }
+    let direction = read_direction(direction)?;
+    let id = read_u16(id)?;
+    Some(Command::ShowClear(direction, id))
 }
 
 // The words after `show memory`.
