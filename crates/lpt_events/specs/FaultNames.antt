@@ -1,7 +1,7 @@
 -- The numbers and names of the faults of a world.
 use Rattle.std.specs.Prelude.{ℕ, List, codes}
 use Rattle.lpt_events.specs.declared.fault.StepFault.{StepFault}
-use Rattle.lpt_events.specs.declared.fault.StepFault.TheVariants.{InUse, Short, Long, TooMany, NotOpen, NoSuchPart, NotHeld, HandFull, HandEmpty, NothingDue, LooksWhole, ClockEnd, NoSuchSeat, Memory, PartRequest}
+use Rattle.lpt_events.specs.declared.fault.StepFault.TheVariants.{InUse, Short, Long, TooMany, NotOpen, NoSuchPart, NotHeld, HandFull, HandEmpty, NothingDue, LooksWhole, ClockEnd, NoSuchSeat, Memory, NotYours, PartRequest}
 
 -- the fault's number
 abbrev pub code_of : StepFault → ℕ
@@ -19,6 +19,7 @@ code_of LooksWhole = 54
 code_of ClockEnd = 56
 code_of NoSuchSeat = 57
 code_of Memory = 58
+code_of NotYours = 59
 code_of PartRequest = 60
 
 -- the fault's name
@@ -37,4 +38,5 @@ name_of LooksWhole = codes "LooksWhole"
 name_of ClockEnd = codes "ClockEnd"
 name_of NoSuchSeat = codes "NoSuchSeat"
 name_of Memory = codes "Memory"
+name_of NotYours = codes "NotYours"
 name_of PartRequest = codes "PartRequest"

@@ -51,6 +51,9 @@ pub enum StepFault {
     /// Want of memory.
     #[error("want of memory")]
     Memory,
+    /// What was read isn't what the lane has in its hand, or was read for another receiver.
+    #[error("what was read isn't what the lane has in its hand")]
+    NotYours,
     /// The service type and the message subtype are those of a part.
     #[error("the service type and the message subtype are those of a part")]
     PartRequest,
@@ -76,6 +79,7 @@ impl StepFault {
             StepFault::ClockEnd => 56,
             StepFault::NoSuchSeat => 57,
             StepFault::Memory => 58,
+            StepFault::NotYours => 59,
             StepFault::PartRequest => 60,
         }
     }
@@ -99,6 +103,7 @@ impl StepFault {
             StepFault::ClockEnd => "ClockEnd",
             StepFault::NoSuchSeat => "NoSuchSeat",
             StepFault::Memory => "Memory",
+            StepFault::NotYours => "NotYours",
             StepFault::PartRequest => "PartRequest",
         }
     }

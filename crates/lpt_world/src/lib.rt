@@ -5,6 +5,7 @@ mod clearing;
 mod damaging;
 mod ends;
 mod faults;
+mod outside;
 mod readers;
 mod requesting;
 mod timing;

@@ -159,7 +159,7 @@ impl World {
     }
 
     // Why a seat's event would be refused now, want of memory aside.
-    fn refusal(&self, seat: u8, event: &Event) -> Option<StepFault>
+    pub(crate) fn refusal(&self, seat: u8, event: &Event) -> Option<StepFault>
         ensures { result ≡ refusal_at self.now seat event.now }
     {
         if seat > LAST_SEAT {

@@ -101,6 +101,7 @@ fn names_each_fault(rt: HostRuntime) {
         (StepFault::ClockEnd, 56, "ClockEnd"),
         (StepFault::NoSuchSeat, 57, "NoSuchSeat"),
         (StepFault::Memory, 58, "Memory"),
+        (StepFault::NotYours, 59, "NotYours"),
         (StepFault::PartRequest, 60, "PartRequest"),
     ] {
         assert!(rt; fault.code() == code && fault.name() == name, "{name}");
