@@ -1,3 +1,4 @@
+pub mod OutsideLemmas
 pub mod RunLemmas
 pub mod ToldLemmas
 pub mod WorldLemmas

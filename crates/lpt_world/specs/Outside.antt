@@ -10,6 +10,7 @@ use Rattle.lpt_events.specs.declared.fault.StepFault.TheVariants.{Memory, NotYou
 use Rattle.lpt_events.specs.declared.lane.Lane.{Lane}
 use Rattle.lpt_journal.specs.Hands.{hand}
 use Rattle.lpt_journal.specs.Link.{sent}
+use Rattle.lpt_link.specs.Links.{LinkData, packet_in_hand}
 use Rattle.lpt_node.specs.Origins.{Origin}
 use Rattle.lpt_world.specs.Worlds.{Shown, history, refusal_at}
 
@@ -20,6 +21,10 @@ octets_of w n = option_map (λ p. p.octets) (slice_get (sent (history w)) n)
 -- the octets of the packet in a lane's hand
 abbrev pub octets_in_hand : Shown → Lane → Option (List ℕ)
 octets_in_hand w l = option_and_then (octets_of w) (hand (history w) l)
+
+-- the same by the link
+abbrev pub octets_held : LinkData → Lane → Option (List ℕ)
+octets_held x l = option_map (λ p. p.octets) (packet_in_hand x l)
 
 -- what was read is these octets, for the receiver of a lane and by this configuration
 pub record IsReadOf (c : Config) (octets : Option (List ℕ)) (l : Lane) (o : Origin) : Type 0 where

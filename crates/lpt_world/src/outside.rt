@@ -1,13 +1,14 @@
 //! What is done in a world for work outside it: a packet is copied as it is taken, and one that was
 //! read outside is delivered.
 
-ghost use Rattle.std.specs.Prelude.{◌≡◌, length, Some, None, IfOk, IfErr};
+ghost use Rattle.std.specs.Prelude.{◌≡◌, length, Some, None, IfOk, IfErr, IsTrue, ◌↔◌};
 ghost use Rattle.lpt_journal.specs.Replies.{reply};
-ghost use Rattle.lpt_world.specs.Outside.{octets_of};
+ghost use Rattle.lpt_world.specs.Outside.{octets_of, IsOfHand, ReadRefusedBy};
 ghost use Rattle.lpt_world.specs.Worlds.{history, refusal_at, RefusedBy, with_entry};
 
-use crate::{Event, Refused, Reply, StepFault, World};
+use crate::{Entry, Event, Refused, Reply, StepFault, World};
 use lpt_link::Lane;
+use lpt_node::Parsed;
 use lpt_packet::Octets;
 use std::alloc::AllocError;
 
@@ -44,6 +45,55 @@ impl World {
                 Err(Refused { fault, at, event })
             }
         }
+    }
+
+    /// Delivers the packet in the lane's hand, as the event `Deliver` does, where it was read before.
+    ///
+    /// Errors, each with what was read: those of the event; then `NotYours`, it isn't what the lane
+    /// has in its hand, or was read for another receiver, APID or part size; want of memory is last.
+    /// Nothing has changed.
+    pub fn deliver_parsed(
+        &mut self,
+        seat: u8,
+        lane: Lane,
+        parsed: Parsed,
+    ) -> Result<Reply, (StepFault, Parsed)>
+        ensures enabled { IfOk result (λ r. refusal_at self.old seat (Event.Deliver lane) ≡ None) }
+        ensures read { IfOk result (λ r. IsOfHand self.old lane parsed) }
+        ensures reply { IfOk result (λ r. r ≡ reply self.old.config self.old.first (history self.old) (Event.Deliver lane)) }
+        ensures entered { IfOk result (λ r. self.new ≡ with_entry self.old seat (Event.Deliver lane) r) }
+
+        ensures refused { IfErr result (λ e. ReadRefusedBy self.old lane parsed (refusal_at self.old seat (Event.Deliver lane)) e.0) }
+        ensures back { IfErr result (λ e. e.1 ≡ parsed) }
+        ensures unchanged { IfErr result (λ e. self.new ≡ self.old) }
+    {
+        let event = Event::Deliver(lane);
+        match self.refusal(seat, &event) {
+            Some(fault) => return Err((fault, parsed)),
+            None => {}
+        }
+        if !self.is_of_hand(seat, lane, &parsed) {
+            return Err((StepFault::NotYours, parsed));
+        }
+        if self.journal.reserve(1).is_err() {
+            return Err((StepFault::Memory, parsed));
+        }
+        let place = self.journal.len() as u64;
+        match self.ends.deliver_read(place, lane, parsed) {
+            Err(parsed) => Err((StepFault::Memory, parsed)),
+            Ok(reply) => {
+                self.journal.push_reserved(Entry { seat, event, reply });
+                Ok(reply)
+            }
+        }
+    }
+
+    // Whether this was read of what the lane has in its hand.
+    fn is_of_hand(&self, seat: u8, lane: Lane, parsed: &Parsed) -> bool
+        requires { refusal_at self.now seat (Event.Deliver lane) ≡ None }
+        ensures { IsTrue result ↔ IsOfHand self.now lane parsed.now }
+    {
+        self.ends.is_read_of(lane, parsed)
     }
 
     // A copy of the octets of a packet that the lane can take.
