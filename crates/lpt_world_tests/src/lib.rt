@@ -13,6 +13,8 @@ mod damage;
 #[cfg(test)]
 mod growths;
 #[cfg(test)]
+mod outside;
+#[cfg(test)]
 mod packets;
 #[cfg(test)]
 mod paths;
