@@ -1,5 +1,5 @@
 -- What a plain request owes, and that it pays it.
-use Rattle.std.proofs.Common.{◌≡◌, ◌∙◌, ap, sym, subst, ℕ, inl, refl, List, [], ◌∷◌, length, None, arith}
+use Rattle.std.proofs.Common.{◌≡◌, ◌∙◌, ap, sym, subst, ℕ, refl, List, ◌∷◌, length, None, arith}
 use Rattle.lpt_packet.specs.declared.direction.Direction.TheVariants.{Up}
 use Rattle.lpt_events.specs.declared.config.Config.{Config}
 use Rattle.lpt_events.specs.Arrivals.{ARequest, APart, part_name}
@@ -8,11 +8,10 @@ use Rattle.lpt_events.specs.Requests.{is_part_request, is_too_long}
 use Rattle.lpt_events.specs.declared.event.Event.TheVariants.{Plain}
 use Rattle.lpt_events.specs.declared.fault.StepFault.TheVariants.{PartRequest, Long}
 use Rattle.lpt_journal.specs.Journal.{History}
-use Rattle.lpt_journal.specs.Hands.{hand}
-use Rattle.lpt_journal.specs.Replies.{plain_packet, plain_puts, entry}
+use Rattle.lpt_journal.specs.Replies.{plain_packet, entry}
 use Rattle.lpt_journal.specs.Legal.{IsEvent}
 use Rattle.lpt_journal.specs.Refusals.{refusal}
-use Rattle.lpt_journal.specs.Senders.{made, count}
+use Rattle.lpt_journal.specs.Senders.{count}
 use Rattle.lpt_journal.proofs.Events.{only_element}
 use Rattle.lpt_journal.proofs.SentParts.{plain_arrives}
 use Rattle.lpt_journal.proofs.Steps.{IsRead, IsPut, IsSound, Owes, calm_owes}

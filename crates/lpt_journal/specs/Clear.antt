@@ -7,7 +7,6 @@ use Rattle.lpt_packet.specs.Names.{Name, same_name}
 use Rattle.lpt_events.specs.Arrivals.{part_name}
 use Rattle.lpt_events.specs.Lanes.{lanes, same_direction}
 use Rattle.lpt_events.specs.declared.config.Config.{Config}
-use Rattle.lpt_events.specs.declared.lane.Lane.{Lane}
 use Rattle.lpt_journal.specs.Hands.{hand, arrival_of}
 use Rattle.lpt_journal.specs.Journal.{SentPacket, History}
 use Rattle.lpt_journal.specs.Link.{sent, is_held}

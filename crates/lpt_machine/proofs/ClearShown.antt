@@ -14,7 +14,7 @@ use Rattle.lpt_events.specs.Arrivals.{part_name}
 use Rattle.lpt_events.specs.Lanes.{lanes, same_direction}
 use Rattle.lpt_events.specs.Sides.{receiver_side}
 use Rattle.lpt_link.specs.declared.packet.LinkPacket.{LinkPacket}
-use Rattle.lpt_link.specs.Links.{LinkData, is_of, any_held, any_in_hand, holds, hand_of}
+use Rattle.lpt_link.specs.Links.{is_of, any_held, any_in_hand, holds, hand_of}
 use Rattle.lpt_journal.specs.Clear.{any_below, is_part_of, is_part_at, part_held, part_in_hand}
 use Rattle.lpt_journal.specs.Hands.{hand, arrival_of}
 use Rattle.lpt_journal.specs.Journal.{SentPacket, History}

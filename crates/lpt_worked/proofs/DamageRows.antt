@@ -1,5 +1,5 @@
 -- A worked pass with packets that the link's noise left, computed by the definitions.
-use Rattle.std.proofs.Common.{◌≡◌, ap, true, false, Bool, ℕ, List, [], ◌∷◌, reverse, map}
+use Rattle.std.proofs.Common.{◌≡◌, ap, true, false, ℕ, List, [], ◌∷◌, map}
 use Rattle.std.specs.Prelude.{replicate}
 use Rattle.lpt_packet.specs.declared.direction.Direction.TheVariants.{Up, Down}
 use Rattle.lpt_packet.specs.Checksums.{checksum, octets_in, shift_all}

@@ -4,7 +4,6 @@ use Rattle.std.specs.Option.{option_map, option_and_then}
 use Rattle.lpt_events.specs.Lanes.{lane_direction}
 use Rattle.lpt_events.specs.Sides.{receiver_side}
 use Rattle.lpt_events.specs.declared.config.Config.{Config}
-use Rattle.lpt_events.specs.declared.event.Event.TheVariants.{Deliver}
 use Rattle.lpt_events.specs.declared.fault.StepFault.{StepFault}
 use Rattle.lpt_events.specs.declared.fault.StepFault.TheVariants.{Memory, NotYours}
 use Rattle.lpt_events.specs.declared.lane.Lane.{Lane}
@@ -12,7 +11,7 @@ use Rattle.lpt_journal.specs.Hands.{hand}
 use Rattle.lpt_journal.specs.Link.{sent}
 use Rattle.lpt_link.specs.Links.{LinkData, packet_in_hand}
 use Rattle.lpt_node.specs.Origins.{Origin}
-use Rattle.lpt_world.specs.Worlds.{Shown, history, refusal_at}
+use Rattle.lpt_world.specs.Worlds.{Shown, history}
 
 -- the octets of the packet of a number
 abbrev pub octets_of : Shown → ℕ → Option (List ℕ)
