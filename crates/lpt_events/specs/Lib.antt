@@ -1,6 +1,7 @@
 pub mod Arrivals
 pub mod ConfigFaultNames
 pub mod Configs
+pub mod Damages
 pub mod FaultNames
 pub mod Lanes
 pub mod MadePackets

@@ -22,6 +22,9 @@ pub enum Event {
     /// Loses the held packet of this number: the link holds it no more. A lane that has it in its
     /// hand keeps it.
     Lose(u64),
+    /// Puts octets on the link in this direction that are no packet: what the link's noise left of
+    /// one. It may be nothing.
+    Damage(Direction, Octets),
     /// Takes the held packet of this number into the lane's empty hand.
     Take(Lane, u64),
     /// Gives the packet in the lane's hand to the receiving node, and empties the hand.
@@ -55,6 +58,7 @@ impl Event {
             }
             Event::Finish(direction, id) => Event::Finish(*direction, *id),
             Event::Lose(number) => Event::Lose(*number),
+            Event::Damage(direction, octets) => Event::Damage(*direction, octets.copy()?),
             Event::Take(lane, number) => Event::Take(*lane, *number),
             Event::Deliver(lane) => Event::Deliver(*lane),
             Event::Tick(side) => Event::Tick(*side),

@@ -14,8 +14,8 @@ pub enum StepFault {
     /// The message isn't longer than a part.
     #[error("the message isn't longer than a part")]
     Short,
-    /// The message is longer than the longest packet, or the packet of a plain request has more
-    /// octets than the part size and 23.
+    /// The message is longer than the longest packet, or a plain request's packet or what the link's
+    /// noise left has more octets than the part size and 23.
     #[error("too long")]
     Long,
     /// As many outgoing transactions of the node are open as the limit.
@@ -39,6 +39,9 @@ pub enum StepFault {
     /// No reception is overdue.
     #[error("no reception is overdue")]
     NothingDue,
+    /// What the link's noise should leave is read as a packet.
+    #[error("the octets look like a whole packet")]
+    LooksWhole,
     /// There is no request to claim, or none to execute.
     #[error("there is no request to claim, or none to execute")]
     NoJob,
@@ -54,6 +57,9 @@ pub enum StepFault {
     /// Want of memory.
     #[error("want of memory")]
     Memory,
+    /// What was read isn't what the lane has in its hand, or was read for another receiver.
+    #[error("what was read isn't what the lane has in its hand")]
+    NotYours,
     /// The service type and the message subtype are those of a part.
     #[error("the service type and the message subtype are those of a part")]
     PartRequest,
@@ -75,11 +81,13 @@ impl StepFault {
             StepFault::HandFull => 48,
             StepFault::HandEmpty => 49,
             StepFault::NothingDue => 50,
+            StepFault::LooksWhole => 54,
             StepFault::NoJob => 51,
             StepFault::NotReady => 52,
             StepFault::ClockEnd => 56,
             StepFault::NoSuchSeat => 57,
             StepFault::Memory => 58,
+            StepFault::NotYours => 59,
             StepFault::PartRequest => 60,
         }
     }
@@ -99,11 +107,13 @@ impl StepFault {
             StepFault::HandFull => "HandFull",
             StepFault::HandEmpty => "HandEmpty",
             StepFault::NothingDue => "NothingDue",
+            StepFault::LooksWhole => "LooksWhole",
             StepFault::NoJob => "NoJob",
             StepFault::NotReady => "NotReady",
             StepFault::ClockEnd => "ClockEnd",
             StepFault::NoSuchSeat => "NoSuchSeat",
             StepFault::Memory => "Memory",
+            StepFault::NotYours => "NotYours",
             StepFault::PartRequest => "PartRequest",
         }
     }

@@ -17,7 +17,7 @@ use Rattle.lpt_reception.specs.Received.{Kept as Kept', Parts, no_parts}
 use Rattle.lpt_events.specs.declared.lane.Lane.{Lane}
 use Rattle.lpt_events.specs.declared.entry.Opening.{Opening}
 use Rattle.lpt_events.specs.declared.event.Event.{Event}
-use Rattle.lpt_events.specs.declared.event.Event.TheVariants.{Open, Send, Plain, Finish, Lose, Take, Deliver, Tick, Expire, Claim, Commit, Apply}
+use Rattle.lpt_events.specs.declared.event.Event.TheVariants.{Open, Send, Plain, Finish, Lose, Damage, Take, Deliver, Tick, Expire, Claim, Commit, Apply}
 use Rattle.lpt_events.specs.declared.reply.Answer.{Answer}
 use Rattle.lpt_events.specs.declared.reply.Answer.TheVariants.{Opened, Put, Finished, Lost, Took, Delivered, Clock, Expired, Claimed, Committed, Applied}
 use Rattle.lpt_events.specs.Sides.{same_side, receiver_side}
@@ -156,6 +156,7 @@ heard_after_named (Send e i k) a r d id before names was e' = was e'
 heard_after_named (Plain f s t b) a r d id before names was e' = was e'
 heard_after_named (Finish e i) a r d id before names was e' = was e'
 heard_after_named (Lose n) a r d id before names was e' = was e'
+heard_after_named (Damage e b) a r d id before names was e' = was e'
 heard_after_named (Take l n) a r d id before names was e' = was e'
 heard_after_named (Tick s) a r d id before names was e' = was e'
 heard_after_named (Claim w) a r d id before names was e' = was e'

@@ -16,21 +16,22 @@ use Rattle.lpt_events.specs.declared.config.Config.{Config}
 use Rattle.lpt_events.specs.declared.outcome.Outcome.{Outcome}
 use Rattle.lpt_events.specs.declared.outcome.Outcome.TheVariants.{Kept, Released, Broken}
 use Rattle.lpt_events.specs.declared.side.Side.{Side}
-use Rattle.lpt_events.specs.Arrivals.{APart}
+use Rattle.lpt_events.specs.Arrivals.{Arrival, NotRead, AnIdle, Foreign, NoPart, APart}
 use Rattle.lpt_events.specs.declared.event.Event.TheVariants.{Deliver}
 use Rattle.lpt_events.specs.declared.reply.Answer.TheVariants.{Delivered}
 use Rattle.lpt_events.specs.declared.entry.Opening.{Opening}
 use Rattle.lpt_events.specs.Sides.{receiver_side}
 use Rattle.lpt_journal.specs.Journal.{SentPacket, History}
+use Rattle.lpt_journal.specs.Link.{is_damaged}
 use Rattle.lpt_journal.specs.Hands.{hand, in_hand}
 use Rattle.lpt_journal.specs.Senders.{current}
 use Rattle.lpt_journal.specs.Receivers.{kept, with_arrival, heard_now, heard}
-use Rattle.lpt_journal.specs.Delivery.{outcome}
+use Rattle.lpt_journal.specs.Delivery.{judged, outcome}
 use Rattle.lpt_journal.specs.Replies.{outcome_puts, entry}
-use Rattle.lpt_journal.specs.Headline.{IsPartOfCurrent, kept_piece, IsSoundDelivery}
+use Rattle.lpt_journal.specs.Headline.{IsPartOfCurrent, kept_piece, IsSoundOutcome}
 use Rattle.lpt_events.proofs.LaneLemmas.{same_direction-true}
 use Rattle.lpt_journal.proofs.TestLemmas.{no_place}
-use Rattle.lpt_journal.proofs.Steps.{IsRead, IsSound, IsHeardNow, Owes}
+use Rattle.lpt_journal.proofs.Steps.{IsAsPut, IsSound, IsHeardNow, Owes}
 use Rattle.lpt_journal.proofs.OutcomeLemmas.{TellsOf, judged_tells}
 use Rattle.lpt_memory.specs.Memories.{Contents}
 use Rattle.lpt_journal.proofs.Soundness.{in_hand_is, hand_current}
@@ -68,24 +69,52 @@ agrees c h l n q sound e is =
 
 -- ---- what a delivery can be
 
-read_in_hand : (c : Config) (h : History) (l : Lane) (n : ℕ)
+-- what is in a lane's hand is read exactly where it wasn't damaged
+put_in_hand : (c : Config) (h : History) (l : Lane) (n : ℕ)
     → IsSound c h
     → hand h l ≡ Some n
-    → IsRead (in_hand c h l)
-read_in_hand c h l n sound e =
+    → IsAsPut (is_damaged h n) (in_hand c h l)
+put_in_hand c h l n sound e =
     let had = sound.hands l n e in
-    subst (λ a. IsRead a) (sym (in_hand_is c h l n e had)) (sound.packets n had.packet had.was_sent)
+    subst (λ a. IsAsPut (is_damaged h n) a) (sym (in_hand_is c h l n e had))
+    (sound.packets n had.packet had.was_sent)
+
+-- what arrives is not idle or foreign, and a part or an abort has its body
+abbrev IsNoStranger : Arrival → Type 0
+IsNoStranger AnIdle = ⊥
+IsNoStranger Foreign = ⊥
+IsNoStranger NoPart = ⊥
+IsNoStranger _ = Unit {0}
+
+no_stranger : (damaged : Bool) (a : Arrival) → IsAsPut damaged a → IsNoStranger a
+no_stranger true a put = subst (λ b. IsNoStranger b) (sym put) tt
+no_stranger false AnIdle put = put
+no_stranger false Foreign put = put
+no_stranger false NoPart put = put
+no_stranger false a put = tt
+
+-- what isn't read was damaged
+unread_damaged : (damaged : Bool) → IsAsPut damaged NotRead → damaged ≡ true
+unread_damaged true put = refl
+unread_damaged false put = absurd put
+
+-- what was damaged isn't read
+damaged_unread : (damaged : Bool) (a : Arrival) → IsAsPut damaged a → damaged ≡ true → a ≡ NotRead
+damaged_unread true a put e = put
+damaged_unread false a put e = absurd cc
 
 -- the delivery of what is in a lane's hand is sound
 pub delivery_sound : (c : Config) (h : History) (l : Lane) (n : ℕ)
     → IsSound c h
     → hand h l ≡ Some n
-    → IsSoundDelivery c h l
+    → IsSoundOutcome (is_damaged h n) (outcome c h l)
 delivery_sound c h l n sound e =
     let d = lane_direction l in
     let a = in_hand c h l in
     let tells = judged_tells c h d a in
-    let read = read_in_hand c h l n sound e in
+    let put = put_in_hand c h l n sound e in
+    let damaged = is_damaged h n in
+    let known = no_stranger damaged a put in
     record {
       not_broken = λ id reason is.
           let t = subst (λ o. TellsOf c h d a o) is tells in
@@ -93,10 +122,14 @@ delivery_sound c h l n sound e =
           agrees c h l n t.0 sound e t.1 in
           let yes : contradicts (heard c h d t.0.id) t.0.number (kept t.0) ≡ true = t.2 in
           cc;
-      not_bad_part = λ is. subst (λ b. IsRead b) (subst (λ o. TellsOf c h d a o) is tells) read;
-      not_idle = λ is. subst (λ b. IsRead b) (subst (λ o. TellsOf c h d a o) is tells) read;
-      not_foreign = λ is. subst (λ b. IsRead b) (subst (λ o. TellsOf c h d a o) is tells) read;
-      not_unreadable = λ is. subst (λ b. IsRead b) (subst (λ o. TellsOf c h d a o) is tells) read;
+      not_bad_part = λ is. subst (λ b. IsNoStranger b) (subst (λ o. TellsOf c h d a o) is tells) known;
+      not_idle = λ is. subst (λ b. IsNoStranger b) (subst (λ o. TellsOf c h d a o) is tells) known;
+      not_foreign = λ is. subst (λ b. IsNoStranger b) (subst (λ o. TellsOf c h d a o) is tells) known;
+      unreadable = (
+        λ is. unread_damaged damaged
+            (subst (λ b. IsAsPut damaged b) (subst (λ o. TellsOf c h d a o) is tells) put),
+        λ e. ap (judged c h d) (damaged_unread damaged a put e),
+      );
     }
 
 -- ---- what a delivery owes

@@ -13,7 +13,7 @@ use Rattle.lpt_events.specs.declared.lane.Lane.{Lane}
 use Rattle.lpt_events.specs.Lanes.{lane_direction, same_lane}
 use Rattle.lpt_events.specs.declared.config.Config.{Config}
 use Rattle.lpt_events.specs.declared.side.Side.TheVariants.{Craft}
-use Rattle.lpt_events.specs.Arrivals.{APart, part_subtype}
+use Rattle.lpt_events.specs.Arrivals.{APart, part_name, part_subtype}
 use Rattle.lpt_events.specs.MadePackets.{nth_part}
 use Rattle.lpt_events.specs.declared.event.Event.TheVariants.{Open, Send, Finish, Lose, Take}
 use Rattle.lpt_events.specs.declared.entry.Opening.{Opening}
@@ -32,7 +32,7 @@ use Rattle.lpt_events.proofs.LaneLemmas.{same_lane-true}
 use Rattle.lpt_journal.proofs.TestLemmas.{and_l, and_r, not_false, or_false_l, or_false_r, le_false, not_zero, two_pass, four_pass, no_place}
 use Rattle.lpt_journal.proofs.SentParts.{AreCounts, part_arrives}
 use Rattle.lpt_memory.specs.Memories.{Contents}
-use Rattle.lpt_journal.proofs.Steps.{IsRead, IsSoundPacket, IsSound, IsTaken, Owes, calm_owes, opening_found}
+use Rattle.lpt_journal.proofs.Steps.{IsRead, IsPut, IsSound, IsTaken, Owes, calm_owes, opening_found}
 
 -- ---- opening
 
@@ -167,7 +167,7 @@ send_owes c first h d id k good sound i accepted =
         → ((k == 0) || nat_lt (parts_open c s) k) ≡ false
         → (n : ℕ) (p : SentPacket)
         → slice_get (send_puts c h d id k s) n ≡ Some p
-        → IsSoundPacket c (entry c first h (Send d id k) ∷ h) p
+        → IsPut c (entry c first h (Send d id k) ∷ h) (Send d id k) p
     puts_part FreeSender is t u n p f = absurd cc
     puts_part ClosedSender is t u n p f = absurd cc
     puts_part (OpenSender m) is t u n p f =
@@ -188,12 +188,16 @@ send_owes c first h d id k good sound i accepted =
           is_part = ap (λ b. nth_part c.part_size id b k) (sym o.2);
         } in
         let arrives = packet_arrives c h d id m k good sound splits i one last in
-        subst (λ x. IsSoundPacket c (entry c first h (Send d id k) ∷ h) x) (only_element _ n p f)
+        subst (λ x. IsPut c (entry c first h (Send d id k) ∷ h) (Send d id k) x)
+        (only_element _ n p f)
         (record {
-          is_read = subst (λ a. IsRead a) (sym arrives) tt;
-          part =
-              λ q e. subst (λ r. IsPartOfCurrent c (entry c first h (Send d id k) ∷ h) d r)
-              (same_part (sym arrives ∙ e)) now;
+          sound = record {
+            is_read = subst (λ a. IsRead a) (sym arrives) tt;
+            part =
+                λ q e. subst (λ r. IsPartOfCurrent c (entry c first h (Send d id k) ∷ h) d r)
+                (same_part (sym arrives ∙ e)) now;
+          };
+          name = ap part_name arrives;
         })
 
 -- ---- finishing

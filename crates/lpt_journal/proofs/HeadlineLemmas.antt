@@ -13,13 +13,14 @@ use Rattle.lpt_events.specs.Lanes.{lane_direction}
 use Rattle.lpt_events.specs.declared.config.Config.{Config}
 use Rattle.lpt_events.specs.Arrivals.{NotRead, APart}
 use Rattle.lpt_events.specs.declared.event.Event.{Event}
-use Rattle.lpt_events.specs.declared.event.Event.TheVariants.{Open, Send, Plain, Finish, Lose, Take, Deliver, Tick, Expire, Claim, Commit, Apply}
+use Rattle.lpt_events.specs.declared.event.Event.TheVariants.{Open, Send, Plain, Finish, Lose, Damage, Take, Deliver, Tick, Expire, Claim, Commit, Apply}
 use Rattle.lpt_events.specs.declared.fault.StepFault.TheVariants.{HandEmpty}
 use Rattle.lpt_events.specs.declared.outcome.Outcome.{Outcome}
 use Rattle.lpt_events.specs.declared.reply.Answer.TheVariants.{Delivered}
 use Rattle.lpt_events.specs.Sides.{direction_to}
 use Rattle.lpt_journal.specs.Delivery.{outcome}
 use Rattle.lpt_journal.specs.Journal.{Recorded, History}
+use Rattle.lpt_journal.specs.Link.{is_damaged}
 use Rattle.lpt_journal.specs.Hands.{hand, arrival_at, in_hand}
 use Rattle.lpt_journal.specs.Jobs.{JobName, applied, ticket, memories}
 use Rattle.lpt_journal.specs.Releases.{released_by}
@@ -29,11 +30,12 @@ use Rattle.lpt_journal.specs.Replies.{answer, expired_now, committed_now, entry,
 use Rattle.lpt_journal.specs.Refusals.{refusal}
 use Rattle.lpt_journal.specs.Legal.{IsEnabled, Legal}
 use Rattle.lpt_journal.proofs.JobLemmas.{memories_follow}
-use Rattle.lpt_journal.specs.Headline.{PartsAreCurrent, EachIsLastOpened, IsSoundOutcome, IsSoundDelivery, DeliveriesAreSound, DeliveriesWereSound, Headline}
+use Rattle.lpt_journal.specs.Headline.{PartsAreCurrent, EachIsLastOpened, IsSoundOutcome, WasSoundDelivery, DeliveriesAreSound, DeliveriesWereSound, Headline}
 use Rattle.lpt_journal.proofs.TestLemmas.{one_passes, no_place}
 use Rattle.lpt_journal.proofs.Steps.{IsSound, Owes}
 use Rattle.lpt_journal.proofs.Soundness.{hand_current, sound_step}
 use Rattle.lpt_journal.proofs.Events.{open_owes, send_owes, finish_owes, take_owes, lose_owes}
+use Rattle.lpt_journal.proofs.DamageEvents.{damage_owes}
 use Rattle.lpt_journal.proofs.PlainEvents.{plain_owes}
 use Rattle.lpt_journal.proofs.WorkEvents.{claim_owes, commit_owes, apply_owes}
 use Rattle.lpt_journal.proofs.UpOctets.{AreUpOctets, up_octets_start, up_octets_step}
@@ -77,6 +79,7 @@ owes c first h (Plain flags service subtype body) good sound up can =
     plain_owes c first h flags service subtype body good sound can.in_range can.accepted
 owes c first h (Finish d id) good sound up can = finish_owes c first h d id sound
 owes c first h (Lose n) good sound up can = lose_owes c first h n sound
+owes c first h (Damage d b) good sound up can = damage_owes c first h d b sound can.accepted
 owes c first h (Tick side) good sound up can = tick_owes c first h side sound can.accepted
 owes c first h (Expire side) good sound up can = expire_owes c first h side good sound
 owes c first h (Claim w) good sound up can = claim_owes c first h w sound
@@ -113,6 +116,7 @@ sound_start : (c : Config) → IsConfig c → IsSound c []
 sound_start c good = record {
   openings = λ d id o e. absurd cc;
   packets = λ n p e. absurd (no_place n p e);
+  names = refl;
   held = λ n p q e f is. absurd (no_place n p f);
   hands = λ l n e. absurd cc;
   heard =
@@ -181,21 +185,25 @@ each_last c h past k r e of =
     }
 
 deliveries : (c : Config) (h : History) → IsSound c h → DeliveriesAreSound c h
-deliveries c h sound l full = go (hand h l) refl full where
-  go : (o : Option ℕ) → hand h l ≡ o → is_some o ≡ true → IsSoundDelivery c h l
-  go None is k = absurd cc
-  go (Some n) is k = delivery_sound c h l n sound is
+deliveries c h sound l n is = delivery_sound c h l n sound is
 
 -- an event that delivered has delivered what was in a lane's hand
 delivered_sound : (c : Config) (first : Contents) (h : History) (e : Event) (o : Outcome)
     → IsSound c h
     → refusal c h e ≡ None
     → answer c first h e ≡ Delivered o
-    → IsSoundOutcome o
+    → WasSoundDelivery h e o
 delivered_sound c first h (Deliver l) o sound can is =
     let n = delivered c h l can in
     let same : outcome c h l ≡ o = cc in
-    subst IsSoundOutcome same (delivery_sound c h l n.0 sound n.1)
+    record {
+      lane = l;
+      number = n.0;
+      delivers = refl;
+      was_in_hand = n.1;
+      sound =
+          subst (λ r. IsSoundOutcome (is_damaged h n.0) r) same (delivery_sound c h l n.0 sound n.1);
+    }
 delivered_sound c first h (Expire side) o sound can is =
     absurd (none_delivered (due c h (direction_to side)) is)
   where
@@ -216,8 +224,9 @@ each_delivered c first [] good legal k x o f is = absurd (no_place k x f)
 each_delivered c first (e ∷ es) good legal zero x o f is =
     let h = recorded c first es in
     let same : entry c first h e ≡ x = cc in
-    delivered_sound c first h e o (every c first es good legal.0).0 legal.1.accepted
-    (ap (λ (y : Recorded). y.reply.answer) same ∙ is)
+    subst (λ (y : Recorded). WasSoundDelivery h y.event o) same
+    (delivered_sound c first h e o (every c first es good legal.0).0 legal.1.accepted
+    (ap (λ (y : Recorded). y.reply.answer) same ∙ is))
 each_delivered c first (e ∷ es) good legal (suc k) x o f is =
     each_delivered c first es good legal.0 k x o f is
 

@@ -2,6 +2,7 @@ pub mod AnswerLengths
 pub mod ClosedLemmas
 pub mod CountLemmas
 pub mod DeliveredReleases
+pub mod DamageEvents
 pub mod Deliveries
 pub mod DueLemmas
 pub mod Events

@@ -2,7 +2,7 @@
 use Rattle.std.proofs.Common.{◌≡◌, ◌∙◌, sym, subst, ℕ, refl, List, ◌∷◌, length, None, arith}
 use Rattle.lpt_packet.specs.declared.direction.Direction.TheVariants.{Up}
 use Rattle.lpt_events.specs.declared.config.Config.{Config}
-use Rattle.lpt_events.specs.Arrivals.{ARequest, APart}
+use Rattle.lpt_events.specs.Arrivals.{ARequest, APart, part_name}
 use Rattle.lpt_events.specs.Configs.{IsConfig}
 use Rattle.lpt_events.specs.Requests.{is_part_request, is_too_long}
 use Rattle.lpt_events.specs.declared.event.Event.TheVariants.{Plain}
@@ -14,7 +14,7 @@ use Rattle.lpt_journal.specs.Refusals.{refusal}
 use Rattle.lpt_journal.specs.Senders.{count}
 use Rattle.lpt_journal.proofs.Events.{only_element}
 use Rattle.lpt_journal.proofs.SentParts.{plain_arrives}
-use Rattle.lpt_journal.proofs.Steps.{IsRead, IsSoundPacket, IsSound, Owes, calm_owes}
+use Rattle.lpt_journal.proofs.Steps.{IsRead, IsPut, IsSound, Owes, calm_owes}
 use Rattle.lpt_memory.specs.Memories.{Contents}
 use Rattle.lpt_journal.proofs.TestLemmas.{two_pass}
 
@@ -40,9 +40,13 @@ plain_owes c first h flags service subtype body good sound fits accepted =
       hears = λ e j. refl;
       ticks = λ side. refl;
     }) sound
-    (λ k p f. subst (λ x. IsSoundPacket c (entry c first h (Plain flags service subtype body) ∷ h) x)
+    (λ k p f. subst (λ x. IsPut c (entry c first h (Plain flags service subtype body) ∷ h)
+    (Plain flags service subtype body) x)
     (only_element _ k p f)
     (record {
-      is_read = subst (λ a. IsRead a) (sym arrives) tt;
-      part = λ q e. let no : ARequest packet ≡ APart q = sym arrives ∙ e in absurd cc;
+      sound = record {
+        is_read = subst (λ a. IsRead a) (sym arrives) tt;
+        part = λ q e. let no : ARequest packet ≡ APart q = sym arrives ∙ e in absurd cc;
+      };
+      name = ap part_name arrives;
     }))

@@ -1,8 +1,8 @@
 -- What holds of a history, and what an entry that comes after it owes for that to hold again.
-use Rattle.std.proofs.Common.{◌&&◌, ◌≡◌, ◌∙◌, ap, sym, subst, refl, ℕ, ◌^◌, ◌<◌, Bool, true, false, ◌⊎◌, inl, List, [], ◌∷◌, length, Option, Some, None, if◌then◌else◌}
+use Rattle.std.proofs.Common.{◌&&◌, ◌≡◌, ◌∙◌, ap, sym, subst, refl, ℕ, ◌^◌, ◌<◌, Bool, true, false, ◌⊎◌, inl, List, [], ◌∷◌, length, map, Option, Some, None, if◌then◌else◌}
 use Rattle.std.specs.List.{slice_get, find}
 use Rattle.std.specs.Option.{option_or}
-use Rattle.std.specs.FinMap as map
+use Rattle.std.specs.FinMap as maps
 use Rattle.lpt_packet.specs.declared.direction.Direction.{Direction}
 use Rattle.lpt_packet.specs.Names.{Name, same_name}
 use Rattle.lpt_packet.proofs.NameLemmas.{same_name-true}
@@ -13,10 +13,11 @@ use Rattle.lpt_events.specs.declared.lane.Lane.{Lane}
 use Rattle.lpt_events.specs.Lanes.{lane_direction, same_direction}
 use Rattle.lpt_events.specs.declared.config.Config.{Config}
 use Rattle.lpt_events.specs.declared.side.Side.{Side}
-use Rattle.lpt_events.specs.Arrivals.{Arrival, NotRead, AnIdle, Foreign, NoPart, APart}
+use Rattle.lpt_events.specs.Arrivals.{Arrival, NotRead, AnIdle, Foreign, NoPart, APart, part_name}
 use Rattle.lpt_events.specs.declared.entry.Opening.{Opening}
+use Rattle.lpt_events.specs.declared.event.Event.{Event}
 use Rattle.lpt_journal.specs.Journal.{SentPacket, Recorded, History}
-use Rattle.lpt_journal.specs.Link.{sent, is_held, goes}
+use Rattle.lpt_journal.specs.Link.{sent, tag_put, tags, damages, is_damaged, is_held, goes}
 use Rattle.lpt_journal.specs.Hands.{hand, arrival_of, in_hand}
 use Rattle.lpt_journal.specs.Senders.{is_opening_of, retires, current}
 use Rattle.lpt_journal.specs.Receivers.{with_piece, heard, clock}
@@ -42,10 +43,25 @@ IsRead Foreign = ⊥
 IsRead NoPart = ⊥
 IsRead _ = Unit {0}
 
+-- what the link's noise left isn't read, and all else is
+abbrev pub IsAsPut : (damaged : Bool) → Arrival → Type 0
+IsAsPut true a = a ≡ NotRead
+IsAsPut false a = IsRead a
+
 -- the packet is read, and where it is a part it is one of the message last opened under its name
 pub record IsSoundPacket (c : Config) (h : History) (p : SentPacket) : Type 0 where
   pub is_read : IsRead (arrival_of c p)
   pub part : (q : Piece) → arrival_of c p ≡ APart q → IsPartOfCurrent c h p.direction q
+
+-- a packet that is put is sound where a node made it, and isn't read where the link's noise left it
+abbrev pub IsSoundPut : (damaged : Bool) → Config → History → SentPacket → Type 0
+IsSoundPut true c h p = arrival_of c p ≡ NotRead
+IsSoundPut false c h p = IsSoundPacket c h p
+
+-- a packet that an event puts is sound, and is a part of the transaction that the event sends for
+pub record IsPut (c : Config) (h : History) (e : Event) (p : SentPacket) : Type 0 where
+  pub sound : IsSoundPut (damages e) c h p
+  pub name : part_name (arrival_of c p) ≡ tag_put e
 
 -- what a lane has in its hand goes its way, and a part is one of the message last opened
 pub record IsInHand (c : Config) (h : History) (l : Lane) (n : ℕ) : Type 0 where
@@ -59,7 +75,10 @@ pub record IsSound (c : Config) (h : History) : Type 0 where
   pub openings : (d : Direction) (id : Name) (o : Opening)
       → current h d id ≡ Some o
       → IsKnown c h d id o
-  pub packets : (n : ℕ) (p : SentPacket) → slice_get (sent h) n ≡ Some p → IsRead (arrival_of c p)
+  pub packets : (n : ℕ) (p : SentPacket)
+      → slice_get (sent h) n ≡ Some p
+      → IsAsPut (is_damaged h n) (arrival_of c p)
+  pub names : tags h ≡ map (λ p. part_name (arrival_of c p)) (sent h)
   pub held : (n : ℕ) (p : SentPacket) (q : Piece)
       → is_held h n ≡ true
       → slice_get (sent h) n ≡ Some p
@@ -67,7 +86,7 @@ pub record IsSound (c : Config) (h : History) : Type 0 where
       → IsPartOfCurrent c h p.direction q
   pub hands : (l : Lane) (n : ℕ) → hand h l ≡ Some n → IsInHand c h l n
   pub heard : (d : Direction) (id : Name) (n : ℕ) (x : KeptPart)
-      → map.get (heard c h d id) n ≡ Some x
+      → maps.get (heard c h d id) n ≡ Some x
       → IsPartOfCurrent c h d (kept_piece id n x)
   pub clocks : (side : Side) → clock c h side < 2 ^ 32
 
@@ -93,7 +112,7 @@ pub record IsUnheard (c : Config) (h : History) (d : Direction) (id : Name) : Ty
       → p.direction ≡ d
       → arrival_of c p ≡ APart q
       → ¬ (q.id ≡ id)
-  pub heard : (n : ℕ) → map.get (heard c h d id) n ≡ None
+  pub heard : (n : ℕ) → maps.get (heard c h d id) n ≡ None
 
 -- what a lane takes is held and goes its way
 pub record IsTaken (h : History) (l : Lane) (n : ℕ) : Type 0 where
@@ -121,7 +140,9 @@ pub record Owes (c : Config) (h : History) (x : Recorded) : Type 0 where
       → find (is_opening_of d id) x.opens ≡ Some o
       → IsNew c h d id o
   pub retires : (d : Direction) (id : Name) → retires x.event d id ≡ true → IsUnheard c h d id
-  pub puts : (k : ℕ) (p : SentPacket) → slice_get x.puts k ≡ Some p → IsSoundPacket c (x ∷ h) p
+  pub puts : (k : ℕ) (p : SentPacket)
+      → slice_get x.puts k ≡ Some p
+      → IsPut c (x ∷ h) x.event p
   pub takes : (l : Lane) (n : ℕ) → hand (x ∷ h) l ≡ Some n → (hand h l ≡ Some n) ⊎ IsTaken h l n
   pub hears : (d : Direction) (id : Name) → IsHeardNow c h d id (heard c (x ∷ h) d id)
   pub clocks : (side : Side) → clock c (x ∷ h) side < 2 ^ 32
@@ -140,7 +161,9 @@ pub record IsCalm (c : Config) (h : History) (x : Recorded) : Type 0 where
 pub calm_owes : (c : Config) (h : History) (x : Recorded)
     → IsCalm c h x
     → IsSound c h
-    → ((k : ℕ) (p : SentPacket) → slice_get x.puts k ≡ Some p → IsSoundPacket c (x ∷ h) p)
+    → ((k : ℕ) (p : SentPacket)
+    → slice_get x.puts k ≡ Some p
+    → IsPut c (x ∷ h) x.event p)
     → Owes c h x
 calm_owes c h x calm sound puts = record {
   opens = λ d id o f.

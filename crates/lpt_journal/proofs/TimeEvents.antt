@@ -11,7 +11,7 @@ use Rattle.lpt_reception.specs.Received.{no_parts}
 use Rattle.lpt_events.specs.declared.config.Config.{Config}
 use Rattle.lpt_events.specs.declared.side.Side.{Side}
 use Rattle.lpt_events.specs.declared.side.Side.TheVariants.{Ground, Craft}
-use Rattle.lpt_events.specs.Arrivals.{APart, AnAbort}
+use Rattle.lpt_events.specs.Arrivals.{APart, AnAbort, part_name}
 use Rattle.lpt_events.specs.declared.event.Event.TheVariants.{Tick, Expire}
 use Rattle.lpt_events.specs.declared.fault.StepFault.TheVariants.{ClockEnd}
 use Rattle.lpt_journal.specs.Due.{due}
@@ -26,7 +26,7 @@ use Rattle.lpt_journal.proofs.Events.{only_element}
 use Rattle.lpt_journal.proofs.SentParts.{AreCounts, abort_arrives}
 use Rattle.lpt_journal.proofs.TestLemmas.{one_passes, no_place}
 use Rattle.lpt_memory.specs.Memories.{Contents}
-use Rattle.lpt_journal.proofs.Steps.{IsRead, IsSoundPacket, IsSound, IsHeardNow, Owes}
+use Rattle.lpt_journal.proofs.Steps.{IsRead, IsPut, IsSound, IsHeardNow, Owes}
 
 -- ---- ticks
 
@@ -69,12 +69,13 @@ tick_owes c first h t sound accepted =
 -- ---- expiry
 
 -- an abortion report is read, and is no part
-report_sound : (c : Config) (h g : History) (id : Name) (reason : Reason) (k : ℕ) (p : SentPacket)
+report_sound : (c : Config) (h g : History) (side : Side) (id : Name) (reason : Reason) (k : ℕ)
+    (p : SentPacket)
     → IsConfig c
     → IsSound c h
     → slice_get (abort_puts c h Craft id reason) k ≡ Some p
-    → IsSoundPacket c g p
-report_sound c h g id reason k p good sound f =
+    → IsPut c g (Expire side) p
+report_sound c h g side id reason k p good sound f =
     let counter = type_counter h 13 16 in
     let counts : AreCounts (count h Down) counter (clock c h Craft) =
     record {
@@ -83,21 +84,24 @@ report_sound c h g id reason k p good sound f =
       time_fits = sound.clocks Craft;
     } in
     let it = abort_arrives c (count h Down) counter (clock c h Craft) id reason good counts in
-    subst (λ x. IsSoundPacket c g x) (only_element _ k p f)
+    subst (λ x. IsPut c g (Expire side) x) (only_element _ k p f)
     (record {
-      is_read = subst (λ a. IsRead a) (sym it.1) tt;
-      part = λ q e. let no : AnAbort it.0 reason ≡ APart q = sym it.1 ∙ e in absurd cc;
+      sound = record {
+        is_read = subst (λ a. IsRead a) (sym it.1) tt;
+        part = λ q e. let no : AnAbort it.0 reason ≡ APart q = sym it.1 ∙ e in absurd cc;
+      };
+      name = ap part_name it.1;
     })
 
 puts_report : (c : Config) (h g : History) (side : Side) (o : Option Name) (k : ℕ) (p : SentPacket)
     → IsConfig c
     → IsSound c h
     → slice_get (expiry_puts c h side o) k ≡ Some p
-    → IsSoundPacket c g p
+    → IsPut c g (Expire side) p
 puts_report c h g side None k p good sound f = absurd (no_place k p f)
 puts_report c h g Ground (Some id) k p good sound f = absurd (no_place k p f)
 puts_report c h g Craft (Some id) k p good sound f =
-    report_sound c h g id TimedOut k p good sound f
+    report_sound c h g Craft id TimedOut k p good sound f
 
 -- the end of what is due pays what it owes
 pub expire_owes : (c : Config) (first : Contents) (h : History) (side : Side)

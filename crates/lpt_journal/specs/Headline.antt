@@ -1,5 +1,5 @@
 -- What holds of every legal journal.
-use Rattle.std.specs.Prelude.{◌≡◌, ℕ, ◌-◌, ◌<◌, ◌≤◌, true, List, length, drop, map, slice_get, Option, Some, is_some, Contains}
+use Rattle.std.specs.Prelude.{◌≡◌, ◌↔◌, ℕ, suc, ◌-◌, ◌<◌, ◌≤◌, Bool, true, List, length, drop, map, slice_get, Option, Some, is_some, Contains}
 use Rattle.std.specs.List.{filter}
 use Rattle.std.specs.List.Sorted.{IsStrictlyIncreasing}
 use Rattle.std.specs.Option.{option_and_then}
@@ -20,11 +20,12 @@ use Rattle.lpt_events.specs.declared.outcome.Why.TheVariants.{Unreadable, Idle, 
 use Rattle.lpt_events.specs.Arrivals.{APart}
 use Rattle.lpt_events.specs.MadePackets.{nth_part}
 use Rattle.lpt_events.specs.declared.event.Event.{Event}
+use Rattle.lpt_events.specs.declared.event.Event.TheVariants.{Deliver}
 use Rattle.lpt_events.specs.declared.entry.Opening.{Opening}
 use Rattle.lpt_events.specs.declared.entry.Release.{Release}
 use Rattle.lpt_events.specs.declared.reply.Answer.TheVariants.{Delivered}
 use Rattle.lpt_journal.specs.Journal.{SentPacket, Recorded, History}
-use Rattle.lpt_journal.specs.Link.{sent, is_held}
+use Rattle.lpt_journal.specs.Link.{sent, is_damaged, is_held}
 use Rattle.lpt_journal.specs.Hands.{hand, arrival_of, in_hand}
 use Rattle.lpt_journal.specs.Senders.{current}
 use Rattle.lpt_journal.specs.Receivers.{heard}
@@ -105,29 +106,37 @@ AtMostOncePerOpening c h =
 
 -- ---- deliveries
 
--- what was delivered is read as a part that contradicts nothing, or as a message that is no part
-pub record IsSoundOutcome (o : Outcome) : Type 0 where
+-- What was delivered is read as a part that contradicts nothing, or as a message that is no part,
+-- but where the packet was damaged: exactly then it isn't read.
+pub record IsSoundOutcome (damaged : Bool) (o : Outcome) : Type 0 where
   pub not_broken : (id : Name) (reason : Reason) → ¬ (o ≡ Broken id reason)
   pub not_bad_part : ¬ (o ≡ Ignored BadPart)
   pub not_idle : ¬ (o ≡ Ignored Idle)
   pub not_foreign : ¬ (o ≡ Ignored ForeignApid)
-  pub not_unreadable : ¬ (o ≡ Ignored Unreadable)
+  pub unreadable : (o ≡ Ignored Unreadable) ↔ (damaged ≡ true)
 
--- what would become of the packet in a lane's hand is sound
-abbrev pub IsSoundDelivery : Config → History → Lane → Type 0
-IsSoundDelivery c h l = IsSoundOutcome (outcome c h l)
+-- after this history an event delivered a packet from a lane's hand, with a sound outcome
+pub record WasSoundDelivery (h : History) (e : Event) (o : Outcome) : Type 0 where
+  pub lane : Lane
+  pub number : ℕ
+  pub delivers : e ≡ Deliver lane
+  pub was_in_hand : hand h lane ≡ Some number
+  pub sound : IsSoundOutcome (is_damaged h number) o
 
--- each delivery that happened was sound
+-- each delivery that happened was sound; behind an entry stands the history before it
 abbrev pub DeliveriesWereSound : History → Type 0
 DeliveriesWereSound h =
     (k : ℕ) (x : Recorded) (o : Outcome)
     → slice_get h k ≡ Some x
     → x.reply.answer ≡ Delivered o
-    → IsSoundOutcome o
+    → WasSoundDelivery (drop (suc k) h) x.event o
 
--- whatever lane has a packet in its hand, its delivery is sound
+-- whatever packet a lane has in its hand, its delivery is sound
 abbrev pub DeliveriesAreSound : Config → History → Type 0
-DeliveriesAreSound c h = (l : Lane) → is_some (hand h l) ≡ true → IsSoundDelivery c h l
+DeliveriesAreSound c h =
+    (l : Lane) (n : ℕ)
+    → hand h l ≡ Some n
+    → IsSoundOutcome (is_damaged h n) (outcome c h l)
 
 -- ---- memories
 

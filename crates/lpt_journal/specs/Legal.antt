@@ -5,7 +5,7 @@ use Rattle.lpt_packet.specs.Numbers.{IsOctets}
 use Rattle.lpt_memory.specs.Memories.{Contents}
 use Rattle.lpt_events.specs.declared.config.Config.{Config}
 use Rattle.lpt_events.specs.declared.event.Event.{Event}
-use Rattle.lpt_events.specs.declared.event.Event.TheVariants.{Open, Send, Plain, Finish, Lose, Take, Deliver, Tick, Expire, Claim, Commit, Apply}
+use Rattle.lpt_events.specs.declared.event.Event.TheVariants.{Open, Send, Plain, Finish, Lose, Damage, Take, Deliver, Tick, Expire, Claim, Commit, Apply}
 use Rattle.lpt_journal.specs.Journal.{History}
 use Rattle.lpt_journal.specs.Replies.{recorded}
 use Rattle.lpt_journal.specs.Refusals.{refusal}
@@ -18,6 +18,7 @@ IsEvent (Plain flags service subtype body) =
     (flags < 16) × (service < 256) × (subtype < 256) × IsOctets body
 IsEvent (Finish d id) = IsName id
 IsEvent (Lose n) = ⊤
+IsEvent (Damage d b) = IsOctets b
 IsEvent (Take l n) = ⊤
 IsEvent (Deliver l) = ⊤
 IsEvent (Tick side) = ⊤

@@ -1,3 +1,4 @@
+pub mod Clear
 pub mod Delivery
 pub mod Due
 pub mod Executions

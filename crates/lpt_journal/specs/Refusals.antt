@@ -3,11 +3,12 @@ use Rattle.std.specs.Prelude.{ℕ, nat_lt, nat_le, ◌==◌, Bool, not, ◌&&◌
 use Rattle.lpt_part.specs.Splitting.{part_count}
 use Rattle.lpt_events.specs.Lanes.{lane_direction}
 use Rattle.lpt_events.specs.declared.config.Config.{Config}
+use Rattle.lpt_events.specs.Damages.{is_damage_long, looks_whole}
 use Rattle.lpt_events.specs.Requests.{is_part_request, is_too_long}
 use Rattle.lpt_events.specs.declared.event.Event.{Event}
-use Rattle.lpt_events.specs.declared.event.Event.TheVariants.{Open, Send, Plain, Finish, Lose, Take, Deliver, Tick, Expire, Claim, Commit, Apply}
+use Rattle.lpt_events.specs.declared.event.Event.TheVariants.{Open, Send, Plain, Finish, Lose, Damage, Take, Deliver, Tick, Expire, Claim, Commit, Apply}
 use Rattle.lpt_events.specs.declared.fault.StepFault.{StepFault}
-use Rattle.lpt_events.specs.declared.fault.StepFault.TheVariants.{InUse, Short, Long, TooMany, NotOpen, NoSuchPart, NotHeld, HandFull, HandEmpty, NothingDue, NoJob, NotReady, ClockEnd, PartRequest}
+use Rattle.lpt_events.specs.declared.fault.StepFault.TheVariants.{InUse, Short, Long, TooMany, NotOpen, NoSuchPart, NotHeld, HandFull, HandEmpty, NothingDue, LooksWhole, NoJob, NotReady, ClockEnd, PartRequest}
 use Rattle.lpt_events.specs.Sides.{direction_to}
 use Rattle.lpt_journal.specs.Journal.{History}
 use Rattle.lpt_journal.specs.Jobs.{jobs, claimed, applied, ticket, is_committed, front_job}
@@ -42,6 +43,7 @@ reasons c h (Plain flags service subtype body) =
     ∷ (is_too_long c (length body), Long) ∷ []
 reasons c h (Finish d id) = (not (is_open (sender h d id)), NotOpen) ∷ []
 reasons c h (Lose n) = (not (is_held h n), NotHeld) ∷ []
+reasons c h (Damage d b) = (is_damage_long c b, Long) ∷ (looks_whole b, LooksWhole) ∷ []
 reasons c h (Take l n) =
     (is_some (hand h l), HandFull)
     ∷ (not (is_held h n && goes h (lane_direction l) n), NotHeld) ∷ []

@@ -17,7 +17,7 @@ use Rattle.lpt_events.specs.declared.side.Side.TheVariants.{Ground, Craft}
 use Rattle.lpt_events.specs.Arrivals.{part_subtype}
 use Rattle.lpt_events.specs.MadePackets.{nth_part, part_made, abort_made, tc_made}
 use Rattle.lpt_events.specs.declared.event.Event.{Event}
-use Rattle.lpt_events.specs.declared.event.Event.TheVariants.{Open, Send, Plain, Finish, Lose, Take, Deliver, Tick, Expire, Claim, Commit, Apply}
+use Rattle.lpt_events.specs.declared.event.Event.TheVariants.{Open, Send, Plain, Finish, Lose, Damage, Take, Deliver, Tick, Expire, Claim, Commit, Apply}
 use Rattle.lpt_events.specs.declared.reply.Answer.{Answer}
 use Rattle.lpt_events.specs.declared.reply.Answer.TheVariants.{Opened, Put, Finished, Lost, Took, Delivered, Clock, Expired, Claimed, Committed, Applied}
 use Rattle.lpt_events.specs.declared.reply.Puts.{Puts}
@@ -50,6 +50,7 @@ answer c first h (Send d id k) = Put (length (sent h))
 answer c first h (Plain flags service subtype body) = Put (length (sent h))
 answer c first h (Finish d id) = Finished
 answer c first h (Lose n) = Lost
+answer c first h (Damage d b) = Put (length (sent h))
 answer c first h (Take l n) = Took n
 answer c first h (Deliver l) = Delivered (outcome c h l)
 answer c first h (Tick side) = Clock (clock c h side + 1)
@@ -107,6 +108,7 @@ puts c first h (Send d id k) = send_puts c h d id k (sender h d id)
 puts c first h (Plain flags service subtype body) = plain_puts c h flags service subtype body
 puts c first h (Finish d id) = []
 puts c first h (Lose n) = []
+puts c first h (Damage d b) = record { direction = d; octets = b } ∷ []
 puts c first h (Take l n) = []
 puts c first h (Deliver l) = outcome_puts c h (receiver_side (lane_direction l)) (outcome c h l)
 puts c first h (Tick side) = []
@@ -122,6 +124,7 @@ opens c first h (Send d id k) = []
 opens c first h (Plain flags service subtype body) = []
 opens c first h (Finish d id) = []
 opens c first h (Lose n) = []
+opens c first h (Damage d b) = []
 opens c first h (Take l n) = []
 opens c first h (Deliver l) = []
 opens c first h (Tick side) = []

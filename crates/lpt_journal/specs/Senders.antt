@@ -11,7 +11,7 @@ use Rattle.lpt_events.specs.Lanes.{same_direction}
 use Rattle.lpt_events.specs.declared.side.Side.{Side}
 use Rattle.lpt_events.specs.declared.outcome.Outcome.TheVariants.{AbortNoted}
 use Rattle.lpt_events.specs.declared.event.Event.{Event}
-use Rattle.lpt_events.specs.declared.event.Event.TheVariants.{Open, Send, Plain, Finish, Lose, Take, Deliver, Tick, Expire, Claim, Commit, Apply}
+use Rattle.lpt_events.specs.declared.event.Event.TheVariants.{Open, Send, Plain, Finish, Lose, Damage, Take, Deliver, Tick, Expire, Claim, Commit, Apply}
 use Rattle.lpt_events.specs.declared.reply.Answer.{Answer}
 use Rattle.lpt_events.specs.declared.reply.Answer.TheVariants.{Delivered}
 use Rattle.lpt_events.specs.declared.entry.Opening.{Opening}
@@ -111,13 +111,15 @@ least_free h d = first_of_numbers name_count 0 (λ id. is_free (sender h d id))
 abbrev pub restarts : Event → Side → Bool
 restarts _ side = false
 
--- whether a node makes the packets of an event: an opened message brings its own octets
+-- whether a node makes the packets of an event: an opened message brings its own octets, and no node
+-- makes what the link's noise leaves
 abbrev pub makes : Event → Bool
 makes (Open d id m) = false
 makes (Send d id k) = true
 makes (Plain flags service subtype body) = true
 makes (Finish d id) = true
 makes (Lose n) = true
+makes (Damage d b) = false
 makes (Take l n) = true
 makes (Deliver l) = true
 makes (Tick side) = true

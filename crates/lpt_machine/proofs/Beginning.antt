@@ -71,6 +71,7 @@ shows_none c first = record {
   };
   link = record {
     packets = refl;
+    tags = refl;
     held = λ n. sym (ap (λ t. t && true) (lt_false n 0 (omega arith)));
     lost_before = λ n late. refl;
     hands = no_hand;

@@ -1,5 +1,5 @@
 -- What a lane had in its hand is delivered: the longer journal is shown.
-use Rattle.std.proofs.Common.{◌≡◌, ap, sym, subst, refl, nat_le, Bool, true, false, not, ◌&&◌, [], ◌∷◌, ◌++◌, length, Some, None, is_some}
+use Rattle.std.proofs.Common.{◌≡◌, ap, sym, subst, refl, nat_le, Bool, true, false, not, ◌&&◌, [], ◌∷◌, ◌++◌, length, map, Some, None, is_some}
 use Rattle.std.specs.FinMap as maps
 use Rattle.lpt_packet.specs.declared.direction.Direction.{Direction}
 use Rattle.lpt_packet.specs.declared.direction.Direction.TheVariants.{Up, Down}
@@ -22,6 +22,7 @@ use Rattle.lpt_events.specs.declared.event.Event.TheVariants.{Deliver}
 use Rattle.lpt_journal.specs.Delivery.{judged}
 use Rattle.lpt_journal.specs.Jobs.{jobs, ticket}
 use Rattle.lpt_journal.specs.Journal.{History}
+use Rattle.lpt_journal.specs.Link.{tags}
 use Rattle.lpt_journal.specs.Hands.{hand, hand_after, in_hand}
 use Rattle.lpt_journal.specs.Receivers.{kept, with_piece, heard, has_parts, is_closed, clock, reception_count}
 use Rattle.lpt_journal.specs.Replies.{entry}

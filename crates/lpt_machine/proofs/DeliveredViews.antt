@@ -45,7 +45,9 @@ received c h w o a = record {
 -- the view before a delivery, with an empty hand
 abbrev pub dropped_view : Config → Contents → History → Hands → Views
 dropped_view c first h hands =
-    record (views c first h) { link = record { sent = sent h; lost = is_lost h; hands = hands } }
+    record (views c first h) {
+      link = record { sent = sent h; tags = tags h; lost = is_lost h; hands = hands };
+    }
 
 -- the same, with what both ends have sent after an outcome that put these packets
 abbrev pub noted : Config → Contents → History → Hands → Outcome → List SentPacket → Views
@@ -80,7 +82,12 @@ delivered_view c first h w hands a o ps =
     let side = receiver_side w in
     let out = released_now (length h) w (Delivered o) (heard c h w) a in
     record (with_view v side (record (view_of v side) { receiving = received c h w o a })) {
-      link = record { sent = with_all (sent h) ps; lost = is_lost h; hands = hands };
+      link = record {
+        sent = with_all (sent h) ps;
+        tags = with_all (tags h) (map (λ p. None) ps);
+        lost = is_lost h;
+        hands = hands;
+      };
       jobs = record (jobs_view c first h) {
         messages = map (λ r. r.message) (with_all (jobs c h) (filter (λ r. went_up r.of) out));
       };

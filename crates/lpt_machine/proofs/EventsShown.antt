@@ -1,5 +1,5 @@
 -- After an event that isn't refused, the longer journal is shown.
-use Rattle.std.proofs.Common.{◌≡◌, ap, sym, subst, arith, ℕ, ◌+◌, ◌<◌, nat_lt, true, not, is_some, List, [], ◌∷◌, ◌++◌, length, Option, None}
+use Rattle.std.proofs.Common.{◌≡◌, ap, sym, subst, refl, arith, ℕ, ◌+◌, ◌<◌, nat_lt, true, not, is_some, List, [], ◌∷◌, ◌++◌, length, Option, None}
 use Rattle.std.proofs.lemmas.Bool.Decides.{nat_tests}
 use Rattle.lpt_packet.specs.declared.direction.Direction.{Direction}
 use Rattle.lpt_packet.specs.declared.direction.Direction.TheVariants.{Up, Down}
@@ -7,7 +7,7 @@ use Rattle.lpt_packet.specs.Names.{Name}
 use Rattle.lpt_events.specs.declared.config.Config.{Config}
 use Rattle.lpt_events.specs.declared.entry.Opening.{Opening}
 use Rattle.lpt_events.specs.declared.event.Event.{Event}
-use Rattle.lpt_events.specs.declared.event.Event.TheVariants.{Open, Send, Plain, Finish, Lose, Take, Deliver, Tick, Expire, Claim, Commit, Apply}
+use Rattle.lpt_events.specs.declared.event.Event.TheVariants.{Open, Send, Plain, Finish, Lose, Damage, Take, Deliver, Tick, Expire, Claim, Commit, Apply}
 use Rattle.lpt_events.specs.declared.fault.StepFault.TheVariants.{NotOpen, NoSuchPart, NotHeld, NothingDue}
 use Rattle.lpt_events.specs.declared.side.Side.TheVariants.{Ground, Craft}
 use Rattle.lpt_events.specs.Sides.{direction_to}
@@ -31,7 +31,7 @@ use Rattle.lpt_machine.proofs.ClaimsShown.{claimed_shown}
 use Rattle.lpt_machine.proofs.CommitsShown.{committed_shown}
 use Rattle.lpt_machine.proofs.ExpiredShown.{expired_shown, with_expiry}
 use Rattle.lpt_machine.proofs.Fields.{with_sending, with_clock, with_link, with_opened, sending_at}
-use Rattle.lpt_machine.proofs.LinkShown.{link_lost, link_taken}
+use Rattle.lpt_machine.proofs.LinkShown.{link_more, link_lost, link_taken}
 use Rattle.lpt_memory.specs.Memories.{Contents}
 use Rattle.lpt_machine.proofs.OpenedShown.{opened_shown, closed_shown}
 use Rattle.lpt_machine.proofs.SendingShown.{sent_shown, plain_shown}
@@ -73,6 +73,7 @@ event_shown c first s h (Lose n) in_range k fits e =
     let there : nat_lt n (length (sent h)) ≡ true =
     and_l (nat_lt n (length (sent h))) (not (is_lost h n)) held in
     with_link k (link_lost n (lt_is n (length (sent h)) there) k.link)
+event_shown c first s h (Damage d b) in_range k fits e = with_link k (link_more d None b b refl k.link)
 event_shown c first s h (Take l n) in_range k fits e = with_link k (link_taken l n k.link)
 event_shown c first s h (Deliver l) in_range k fits e = delivered_shown c first s h l k fits
 event_shown c first s h (Tick Ground) in_range k fits e =

@@ -1,6 +1,7 @@
 pub mod ArrivalsAgree
 pub mod Arriving
 pub mod Beginning
+pub mod ClearShown
 pub mod ClaimsShown
 pub mod CommitsShown
 pub mod DeliveredShown

@@ -43,6 +43,7 @@ pub link_dropped : {x : LinkData} {y : LinkView} (l : Lane)
     → ShowsLink (after_drop x l) (record y { hands = λ m. hand_after (Deliver l) m (y.hands m) })
 link_dropped {x = x} {y = y} l k = record {
   packets = k.packets;
+  tags = k.tags;
   held = k.held;
   lost_before = k.lost_before;
   hands = λ m. emptied x l m (y.hands m) (k.hands m);
@@ -54,6 +55,7 @@ pub link_taken : {x : LinkData} {y : LinkView} (l : Lane) (n : ℕ)
     → ShowsLink (after_take x l n) (record y { hands = λ m. hand_after (Take l n) m (y.hands m) })
 link_taken {x = x} {y = y} l n k = record {
   packets = k.packets;
+  tags = k.tags;
   held = k.held;
   lost_before = k.lost_before;
   hands = λ m. filled x l m n (y.hands m) (k.hands m);
@@ -118,7 +120,10 @@ pub link_more : {x : LinkData} {y : LinkView} (d : Direction) (tag : Option Name
     → b ≡ b'
     → ShowsLink x y
     → ShowsLink (after_put x d tag b)
-    (record y { sent = y.sent ++ record { direction = d; octets = b' } ∷ [] })
+    (record y {
+      sent = y.sent ++ record { direction = d; octets = b' } ∷ [];
+      tags = y.tags ++ tag ∷ [];
+    })
 link_more {x = x} {y = y} d tag b b' e k =
     let more : length (y.sent ++ record { direction = d; octets = b' } ∷ []) ≡ length y.sent + 1 =
     length-append y.sent (record { direction = d; octets = b' } ∷ []) in
@@ -126,6 +131,8 @@ link_more {x = x} {y = y} d tag b b' e k =
       packets =
           map-append sent_packet x.packets _
           ∙ (λ i. k.packets i ++ record { direction = d; octets = e i } ∷ []);
+      tags =
+          map-append (λ (p : LinkPacket). p.tag) x.packets _ ∙ ap (λ ts. ts ++ tag ∷ []) k.tags;
       held = λ n.
           held_more x.packets _ n (length y.sent) (y.lost n) (as_many_packets k) refl
           (k.lost_before n) (k.held n)
@@ -142,6 +149,12 @@ sent-with_lost : (xs : List LinkPacket) (n : ℕ)
 sent-with_lost [] n = refl
 sent-with_lost (p ∷ xs) zero = refl
 sent-with_lost (p ∷ xs) (suc n) = ap (λ ps. sent_packet p ∷ ps) (sent-with_lost xs n)
+
+tags-with_lost : (xs : List LinkPacket) (n : ℕ)
+    → map (λ p. p.tag) (with_lost xs n) ≡ map (λ p. p.tag) xs
+tags-with_lost [] n = refl
+tags-with_lost (p ∷ xs) zero = refl
+tags-with_lost (p ∷ xs) (suc n) = ap (λ ts. p.tag ∷ ts) (tags-with_lost xs n)
 
 zero_suc : (n : ℕ) → (zero == suc n) ≡ false
 zero_suc n = grind (arith, nat_tests)
@@ -182,6 +195,7 @@ pub link_lost : {x : LinkData} {y : LinkView} (n : ℕ)
     → ShowsLink (after_lose x n) (record y { lost = λ m. (m == n) || y.lost m })
 link_lost {x = x} {y = y} n there k = record {
   packets = sent-with_lost x.packets n ∙ k.packets;
+  tags = tags-with_lost x.packets n ∙ k.tags;
   held = λ m.
       held-with_lost x.packets n m
       ∙ ap (λ t. not (m == n) && t) (k.held m)
@@ -210,9 +224,18 @@ packets_in d bs = map (λ b. record { direction = d; octets = b }) bs
 pub link_more_all : (d : Direction) (tag : Option Name) (bs : List (List ℕ))
     {x : LinkData} {y : LinkView}
     → ShowsLink x y
-    → ShowsLink (put_all x d tag bs) (record y { sent = with_all y.sent (packets_in d bs) })
+    → ShowsLink (put_all x d tag bs)
+    (record y {
+      sent = with_all y.sent (packets_in d bs);
+      tags = with_all y.tags (map (λ p. tag) (packets_in d bs));
+    })
 link_more_all d tag [] k = k
 link_more_all d tag (b ∷ bs) {x = x} {y = y} k =
-    subst (λ (ps : List SentPacket). ShowsLink (put_all x d tag (b ∷ bs)) (record y { sent = ps }))
-    (with_all-more y.sent (record { direction = d; octets = b }) (packets_in d bs))
+    let ps = packets_in d bs in
+    subst (λ (t : List SentPacket × List (Option Name)).
+    ShowsLink (put_all x d tag (b ∷ bs)) (record y { sent = t.0; tags = t.1 }))
+    (λ i. (
+      with_all-more y.sent (record { direction = d; octets = b }) ps i,
+      with_all-more y.tags tag (map (λ p. tag) ps) i,
+    ))
     (link_more_all d tag bs (link_more d tag b b refl k))

@@ -18,12 +18,13 @@ use Rattle.lpt_events.specs.declared.side.Side.{Side}
 use Rattle.lpt_events.specs.Sides.{direction_to}
 use Rattle.lpt_node.specs.declared.fault.NodeFault.TheVariants as node
 use Rattle.lpt_node.specs.Nodes.{Sending}
+use Rattle.lpt_events.specs.Damages.{is_damage_long, looks_whole}
 use Rattle.lpt_events.specs.Requests.{is_part_request, is_too_long}
 use Rattle.lpt_node.specs.Sending.{refusal_open_in, refusal_send_of, refusal_finish_in}
 use Rattle.lpt_node.specs.Times.{refusal_expire_of}
 use Rattle.lpt_events.specs.declared.event.Event.{Event}
-use Rattle.lpt_events.specs.declared.event.Event.TheVariants.{Open, Send, Plain, Finish, Lose, Take, Deliver, Tick, Expire, Claim, Commit, Apply}
-use Rattle.lpt_events.specs.declared.fault.StepFault.TheVariants.{InUse, Short, Long, TooMany, NotOpen, NoSuchPart, NotHeld, HandFull, HandEmpty, NothingDue, ClockEnd, PartRequest}
+use Rattle.lpt_events.specs.declared.event.Event.TheVariants.{Open, Send, Plain, Finish, Lose, Damage, Take, Deliver, Tick, Expire, Claim, Commit, Apply}
+use Rattle.lpt_events.specs.declared.fault.StepFault.TheVariants.{InUse, Short, Long, TooMany, NotOpen, NoSuchPart, NotHeld, HandFull, HandEmpty, NothingDue, LooksWhole, ClockEnd, PartRequest}
 use Rattle.lpt_journal.specs.Journal.{History}
 use Rattle.lpt_journal.specs.Jobs.{ticket}
 use Rattle.lpt_journal.specs.Link.{sent, is_held, goes}
@@ -118,6 +119,15 @@ by_request true long = refl
 by_request false true = refl
 by_request false false = refl
 
+-- ---- damaging
+
+by_damage : (long whole : Bool)
+    → (if long then Some Long else if whole then Some LooksWhole else None)
+    ≡ first_fault ((long, Long) ∷ (whole, LooksWhole) ∷ [])
+by_damage true whole = refl
+by_damage false true = refl
+by_damage false false = refl
+
 -- ---- taking and delivering
 
 held_for : (d : Direction) (o : Option LinkPacket)
@@ -195,6 +205,7 @@ refusal_shown c first s h (Finish d id) k fits =
 refusal_shown c first s h (Lose n) k fits =
     (λ i. option_map link_fault (if k.link.held n i then None else Some link.NotHeld))
     ∙ by_mark (is_held h n)
+refusal_shown c first s h (Damage d b) k fits = by_damage (is_damage_long c b) (looks_whole b)
 refusal_shown c first s h (Take l n) k fits =
     let w = lane_direction l in
     (λ i. option_map link_fault

@@ -11,7 +11,7 @@ use Rattle.lpt_events.specs.declared.config.Config.{Config}
 use Rattle.lpt_events.specs.declared.side.Side.{Side}
 use Rattle.lpt_events.specs.declared.side.Side.TheVariants.{Ground, Craft}
 use Rattle.lpt_events.specs.declared.event.Event.{Event}
-use Rattle.lpt_events.specs.declared.event.Event.TheVariants.{Open, Send, Plain, Finish, Lose, Take, Deliver, Tick, Expire, Claim, Commit, Apply}
+use Rattle.lpt_events.specs.declared.event.Event.TheVariants.{Open, Send, Plain, Finish, Lose, Damage, Take, Deliver, Tick, Expire, Claim, Commit, Apply}
 use Rattle.lpt_events.specs.declared.fault.StepFault.TheVariants.{NotOpen, NoSuchPart}
 use Rattle.lpt_events.specs.declared.outcome.Outcome.{Outcome}
 use Rattle.lpt_events.specs.declared.outcome.Outcome.TheVariants.{Broken}
@@ -141,6 +141,8 @@ reply_shown c first s h (Plain flags service subtype body) k fits e =
     ap (λ j. put_one j (Put j)) (as_many_packets k.link)
 reply_shown c first s h (Finish d id) k fits e = refl
 reply_shown c first s h (Lose n) k fits e = refl
+reply_shown c first s h (Damage d b) k fits e =
+    ap (λ j. put_one j (Put j)) (as_many_packets k.link)
 reply_shown c first s h (Take l n) k fits e = refl
 reply_shown c first s h (Tick side) k fits e =
     ap (λ n. quiet (Clock (n + 1))) (clock_at c first h side k)

@@ -46,7 +46,10 @@ report_view c v id reason =
       craft = record v.craft {
         sending = record v.craft.sending { made = v.craft.sending.made ++ b ∷ [] };
       };
-      link = record v.link { sent = v.link.sent ++ record { direction = Down; octets = b } ∷ [] };
+      link = record v.link {
+        sent = v.link.sent ++ record { direction = Down; octets = b } ∷ [];
+        tags = v.link.tags ++ None ∷ [];
+      };
     }
 
 pub report_shown : {s : State} {v : Views} (c : Config) (id : Name) (reason : Reason)

@@ -108,7 +108,10 @@ plain_view c first h flags service subtype body =
     let v = views c first h in
     record v {
       ground = record v.ground { sending = record v.ground.sending { made = made h Up ++ b ∷ [] } };
-      link = record v.link { sent = v.link.sent ++ record { direction = Up; octets = b } ∷ [] };
+      link = record v.link {
+        sent = v.link.sent ++ record { direction = Up; octets = b } ∷ [];
+        tags = v.link.tags ++ None ∷ [];
+      };
     }
 
 pub plain_shown : (c : Config) (first : Contents) (s : State) (h : History)

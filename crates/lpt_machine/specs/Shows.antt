@@ -89,6 +89,7 @@ pub record ShowsEnd (side : Side) (d : NodeData) (y : EndView) : Type 0 where
 -- a packet is held where it was put and isn't lost; none is lost before it is put
 pub record ShowsLink (x : LinkData) (y : LinkView) : Type 0 where
   pub packets : map sent_packet x.packets ≡ y.sent
+  pub tags : map (λ p. p.tag) x.packets ≡ y.tags
   pub held : (n : ℕ) → is_held x n ≡ (nat_lt n (length y.sent) && not (y.lost n))
   pub lost_before : (n : ℕ) → length y.sent ≤ n → y.lost n ≡ false
   pub hands : (l : Lane) → hand_of x l ≡ y.hands l

@@ -34,12 +34,13 @@ use Rattle.lpt_node.specs.Times.{refusal_tick, ticked, refusal_expire, expired}
 use Rattle.lpt_events.specs.declared.entry.Opening.{Opening}
 use Rattle.lpt_events.specs.declared.entry.Release.{Release}
 use Rattle.lpt_events.specs.declared.event.Event.{Event}
-use Rattle.lpt_events.specs.declared.event.Event.TheVariants.{Open, Send, Plain, Finish, Lose, Take, Deliver, Tick, Expire, Claim, Commit, Apply}
+use Rattle.lpt_events.specs.declared.event.Event.TheVariants.{Open, Send, Plain, Finish, Lose, Damage, Take, Deliver, Tick, Expire, Claim, Commit, Apply}
 use Rattle.lpt_events.specs.declared.fault.StepFault.{StepFault}
 use Rattle.lpt_events.specs.declared.fault.StepFault.TheVariants as step
 use Rattle.lpt_events.specs.declared.reply.Answer.{Answer}
 use Rattle.lpt_events.specs.declared.reply.Answer.TheVariants.{Opened, Put, Finished, Lost, Took, Delivered, Clock, Expired, Claimed, Committed, Applied}
 use Rattle.lpt_events.specs.declared.reply.Reply.{Reply}
+use Rattle.lpt_events.specs.Damages.{refusal_damage}
 use Rattle.lpt_events.specs.Sides.{sender_side, receiver_side, direction_to}
 use Rattle.lpt_journal.specs.Hands.{arrival_in}
 use Rattle.lpt_machine.specs.Tickets.{Tickets, no_tickets, ticket_of, with_ticket}
@@ -106,6 +107,7 @@ refusal_of c s (Plain flags service subtype body) =
     option_map node_fault (refusal_plain c service subtype (length body))
 refusal_of c s (Finish d id) = option_map node_fault (refusal_finish (end_of s (sender_side d)) id)
 refusal_of c s (Lose n) = option_map link_fault (refusal_lose s.link n)
+refusal_of c s (Damage d b) = refusal_damage c b
 refusal_of c s (Take l n) = option_map link_fault (refusal_take s.link l n)
 refusal_of c s (Deliver l) = option_map link_fault (refusal_drop s.link l)
 refusal_of c s (Tick side) = option_map node_fault (refusal_tick (end_of s side))
@@ -165,6 +167,15 @@ after_finish s d id =
 -- the link has lost a packet
 abbrev pub after_losing : State → ℕ → State × Reply
 after_losing s n = (record s { link = after_lose s.link n }, quiet Lost)
+
+-- ---- damaging
+
+-- what the link's noise left is put; it is no part, so it has no tag
+abbrev pub after_damage : State → Direction → List ℕ → State × Reply
+after_damage s d b = (
+  record s { link = after_put s.link d None b },
+  put_one (length s.link.packets) (Put (length s.link.packets)),
+)
 
 -- ---- taking and delivering
 
@@ -303,6 +314,7 @@ after c place s (Send d id k) = after_send c s d id k
 after c place s (Plain flags service subtype body) = after_plain c s flags service subtype body
 after c place s (Finish d id) = after_finish s d id
 after c place s (Lose n) = after_losing s n
+after c place s (Damage d b) = after_damage s d b
 after c place s (Take l n) = after_take s l n
 after c place s (Deliver l) = after_deliver c place s l
 after c place s (Tick side) = after_tick s side

@@ -15,7 +15,7 @@ use Rattle.lpt_events.specs.declared.side.Side.TheVariants.{Ground, Craft}
 use Rattle.lpt_events.specs.declared.worker.Worker.{Worker}
 use Rattle.lpt_journal.specs.Jobs.{JobName, boot, jobs, claimed, applied, ticket, is_committed, memories}
 use Rattle.lpt_journal.specs.Journal.{SentPacket, History}
-use Rattle.lpt_journal.specs.Link.{sent, is_lost}
+use Rattle.lpt_journal.specs.Link.{sent, tags, is_lost}
 use Rattle.lpt_journal.specs.Hands.{hand}
 use Rattle.lpt_journal.specs.Receivers.{heard, is_closed, last_tick, clock}
 use Rattle.lpt_journal.specs.Releases.{releases}
@@ -40,9 +40,11 @@ pub record EndView : Type 0 where
   pub receiving : ReceivingView
   pub clock : ℕ
 
--- the packets that were put on the link, which of them were lost, and the lanes' hands
+-- the packets that were put on the link, of which transaction each is a part, which of them were
+-- lost, and the lanes' hands
 pub record LinkView : Type 0 where
   pub sent : List SentPacket
+  pub tags : List (Option Name)
   pub lost : ℕ → Bool
   pub hands : Lane → Option ℕ
 
@@ -103,7 +105,7 @@ views c first h = record {
     receiving = receiving_view c h Up;
     clock = clock c h Craft;
   };
-  link = record { sent = sent h; lost = is_lost h; hands = hand h };
+  link = record { sent = sent h; tags = tags h; lost = is_lost h; hands = hand h };
   jobs = jobs_view c first h;
   tickets = ticket h;
   memories = memories c first h;

@@ -1,5 +1,5 @@
 -- The lines that a script prints.
-use Rattle.std.specs.Prelude.{ℕ, List, [], ◌∷◌, ◌++◌, length, codes, ◌==◌, if◌then◌else◌, Option, Some, None}
+use Rattle.std.specs.Prelude.{ℕ, Bool, List, [], ◌∷◌, ◌++◌, length, codes, ◌==◌, if◌then◌else◌, Option, Some, None}
 use Rattle.std.specs.List.{flat_map}
 use Rattle.std.specs.Fmt.{decimal}
 use Rattle.hex.specs.Hex.{encode_lower}
@@ -17,7 +17,7 @@ use Rattle.lpt_events.specs.declared.applied.Applied.{Applied}
 use Rattle.lpt_events.specs.declared.applied.Applied.TheVariants.{Done, Silent, Code}
 use Rattle.lpt_events.specs.declared.entry.Release.{Release}
 use Rattle.lpt_events.specs.declared.event.Event.{Event}
-use Rattle.lpt_events.specs.declared.event.Event.TheVariants.{Open, Send, Plain, Finish, Lose, Take, Deliver, Tick, Expire, Claim, Commit, Apply}
+use Rattle.lpt_events.specs.declared.event.Event.TheVariants.{Open, Send, Plain, Finish, Lose, Damage, Take, Deliver, Tick, Expire, Claim, Commit, Apply}
 use Rattle.lpt_events.specs.declared.fault.StepFault.{StepFault}
 use Rattle.lpt_events.specs.declared.reply.Answer.{Answer}
 use Rattle.lpt_events.specs.declared.reply.Answer.TheVariants.{Opened, Put, Finished, Lost, Took, Delivered, Clock, Expired, Claimed, Committed, Applied as AppliedTo}
@@ -128,6 +128,7 @@ answer_text (Open d id m) (Opened parts) = opened_text d id parts
 answer_text (Send d id k) (Put n) = put_text n
 answer_text (Plain flags service subtype body) (Put n) = put_text n
 answer_text (Lose n) Lost = lost_text n
+answer_text (Damage d b) (Put n) = put_text n
 answer_text (Take l n) (Took k) = took_text k
 answer_text (Deliver l) (Delivered o) = outcome_text (lane_direction l) o
 answer_text (Finish d id) Finished = finished_text d id
@@ -140,6 +141,7 @@ answer_text (Open d id m) _ = []
 answer_text (Send d id k) _ = []
 answer_text (Plain flags service subtype body) _ = []
 answer_text (Lose n) _ = []
+answer_text (Damage d b) _ = []
 answer_text (Take l n) _ = []
 answer_text (Deliver l) _ = []
 answer_text (Finish d id) _ = []
@@ -175,6 +177,10 @@ journal_text n = line_of (codes "journal" ∷ decimal n ∷ [])
 abbrev pub packet_text : ℕ → Option (List ℕ) → List ℕ
 packet_text n (Some m) = line_of (codes "packet" ∷ decimal n ∷ octets_text m ∷ [])
 packet_text n None = line_of (codes "packet" ∷ decimal n ∷ codes "none" ∷ [])
+
+-- whether nothing is left of a transaction
+abbrev pub clear_text : Bool → List ℕ
+clear_text clear = line_of (codes "clear" ∷ (if clear then codes "yes" else codes "no") ∷ [])
 
 -- octets of a memory from an address on, where it has so many
 abbrev pub memory_text : (id address : ℕ) → Option (List ℕ) → List ℕ

@@ -3,7 +3,7 @@
 ghost use Rattle.std.specs.Prelude.{◌≡◌, IfOk};
 ghost use Rattle.std.specs.Option.{option_copied};
 ghost use Rattle.std.specs.String.{string_bytes};
-ghost use Rattle.lpt_print.specs.Printing.{accepted_text, opened_text, finished_text, lost_text, expired_text, claimed_text, committed_text, applied_text, clock_text, put_text, took_text, outcome_text, refused_text, unreadable_text, journal_text, packet_text, memory_text, release_text, none_text};
+ghost use Rattle.lpt_print.specs.Printing.{accepted_text, opened_text, finished_text, lost_text, expired_text, claimed_text, committed_text, applied_text, clock_text, put_text, took_text, outcome_text, refused_text, unreadable_text, journal_text, packet_text, clear_text, memory_text, release_text, none_text};
 
 use crate::words::{direction_word, octets_word, why_word};
 use lpt_events::{Answer, Applied, Event, Outcome, Release, Reply, StepFault};
@@ -21,6 +21,7 @@ pub fn print_accepted(alloc: Global, event: &Event, reply: &Reply) -> Result<Str
         (Event::Send(_, _, _), Answer::Put(number)) => print_put(alloc, number),
         (Event::Plain(_, _, _, _), Answer::Put(number)) => print_put(alloc, number),
         (Event::Lose(number), Answer::Lost) => print_lost(alloc, *number),
+        (Event::Damage(_, _), Answer::Put(number)) => print_put(alloc, number),
         (Event::Take(_, _), Answer::Took(number)) => print_took(alloc, number),
         (Event::Deliver(lane), Answer::Delivered(outcome)) => {
             print_outcome(alloc, lane.direction(), outcome)
@@ -37,6 +38,7 @@ pub fn print_accepted(alloc: Global, event: &Event, reply: &Reply) -> Result<Str
             | Event::Send(_, _, _)
             | Event::Plain(_, _, _, _)
             | Event::Lose(_)
+            | Event::Damage(_, _)
             | Event::Take(_, _)
             | Event::Deliver(_)
             | Event::Finish(_, _)
@@ -207,6 +209,14 @@ pub fn print_packet(alloc: Global, n: u64, packet: Option<&[u8]>) -> Result<Stri
         }
         None => format!(in alloc; "packet {n} none\n"),
     }
+}
+
+/// `clear yes` or `clear no`: whether nothing is left of a transaction.
+pub fn print_clear(alloc: Global, clear: bool) -> Result<String, AllocError>
+    ensures { IfOk result (λ t. string_bytes t ≡ clear_text clear) }
+{
+    let clear = if clear { "yes" } else { "no" };
+    format!(in alloc; "clear {clear}\n")
 }
 
 /// `memory 1 16 00ff`, or `memory 9 0 none`: octets of the memory of this identifier from this

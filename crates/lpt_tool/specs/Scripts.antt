@@ -6,7 +6,7 @@ use Rattle.lpt_memory.specs.Memories.{content_of}
 use Rattle.lpt_packet.specs.declared.direction.Direction.TheVariants.{Up}
 use Rattle.lpt_words.specs.Words.{lines}
 use Rattle.lpt_events.specs.declared.side.Side.{Side}
-use Rattle.lpt_print.specs.Printing.{accepted_text, refused_text, releases_text, packet_text, memory_text, journal_text, unreadable_text}
+use Rattle.lpt_print.specs.Printing.{accepted_text, refused_text, releases_text, packet_text, clear_text, memory_text, journal_text, unreadable_text}
 use Rattle.lpt_words.specs.declared.grammar.Command.{Command}
 use Rattle.lpt_words.specs.declared.grammar.Command.TheVariants as command
 use Rattle.lpt_words.specs.declared.grammar.Reading.{Reading}
@@ -14,10 +14,11 @@ use Rattle.lpt_words.specs.declared.grammar.Reading.TheVariants.{Skipped, Asks, 
 use Rattle.lpt_words.specs.Grammar.{reading_of}
 use Rattle.lpt_words.specs.Loads.{load_packet}
 use Rattle.lpt_events.specs.declared.event.Event.{Event}
-use Rattle.lpt_events.specs.declared.event.Event.TheVariants.{Open, Send, Plain, Finish, Lose, Take, Deliver, Tick, Expire, Claim, Commit, Apply}
+use Rattle.lpt_events.specs.declared.event.Event.TheVariants.{Open, Send, Plain, Finish, Lose, Damage, Take, Deliver, Tick, Expire, Claim, Commit, Apply}
 use Rattle.lpt_events.specs.declared.fault.StepFault.{StepFault}
 use Rattle.lpt_events.specs.declared.reply.Reply.{Reply}
 use Rattle.lpt_events.specs.declared.worker.Worker.TheVariants.{W1}
+use Rattle.lpt_journal.specs.Clear.{is_clear}
 use Rattle.lpt_journal.specs.Link.{sent}
 use Rattle.lpt_journal.specs.Releases.{releases}
 use Rattle.lpt_journal.specs.Replies.{reply}
@@ -97,6 +98,7 @@ command_ran (command.Send d id k) w = stepped w (Send d id k)
 command_ran (command.Plain flags service subtype body) w = stepped w (Plain flags service subtype body)
 command_ran (command.Load l) w = stepped w (Open Up l.id (load_packet w.config.apid w.config.source l))
 command_ran (command.Lose n) w = stepped w (Lose n)
+command_ran (command.Damage d b) w = stepped w (Damage d b)
 command_ran (command.Take l n) w = stepped w (Take l n)
 command_ran (command.Deliver l) w = stepped w (Deliver l)
 command_ran (command.Finish d id) w = stepped w (Finish d id)
@@ -111,6 +113,8 @@ command_ran command.ShowReleased w = printed w (releases_text (releases w.config
 command_ran (command.ShowPacket n) w = printed w (packet_text n (packet_octets w n))
 command_ran (command.ShowMemory id address len) w =
     printed w (memory_text id address (memory_octets w id address len))
+command_ran (command.ShowClear d id) w =
+    printed w (clear_text (is_clear w.config (history w) d id))
 command_ran command.ShowJournal w = printed w (journal_text (length w.journal))
 
 -- what a line does, by what it says and by its number

@@ -8,7 +8,7 @@ ghost use Rattle.lpt_tool.specs.Scripts.{and_then, answered, command_ran, steppe
 
 use crate::loading::run_load;
 use crate::printed::{put, put_refused};
-use crate::showing::{show_memory, show_released};
+use crate::showing::{show_clear, show_memory, show_released};
 use lpt_events::Worker;
 use lpt_node::Side;
 use lpt_print::{print_accepted, print_journal, print_packet};
@@ -48,6 +48,9 @@ pub(crate) fn run_command<K: Sink>(
         }
         Command::Load(load) => run_load(alloc, world, &load, out),
         Command::Lose(number) => run_event(alloc, world, Event::Lose(number), out),
+        Command::Damage(direction, octets) => {
+            run_event(alloc, world, Event::Damage(direction, octets), out)
+        }
         Command::Take(lane, number) => run_event(alloc, world, Event::Take(lane, number), out),
         Command::Deliver(lane) => run_event(alloc, world, Event::Deliver(lane), out),
         Command::Finish(direction, id) => {
@@ -69,6 +72,9 @@ pub(crate) fn run_command<K: Sink>(
         }
         Command::ShowMemory(id, address, len) => {
             quietly(show_memory(alloc, world, id, address, len, out))
+        }
+        Command::ShowClear(direction, id) => {
+            quietly(show_clear(alloc, world, direction, id, out))
         }
         Command::ShowJournal => {
             quietly(put(out, print_journal(alloc, world.journal().len() as u64)))

@@ -3,12 +3,15 @@
 ghost use Rattle.std.specs.Prelude.{◌≡◌, ◌≢◌, IsErrOf, Err, true, option_map};
 ghost use Rattle.std.specs.Option.{option_and_then};
 ghost use Rattle.std.specs.List.{flat_map};
-ghost use Rattle.lpt_print.specs.Printing.{memory_text, release_text, releases_text};
+ghost use Rattle.lpt_print.specs.Printing.{clear_text, memory_text, release_text, releases_text};
+ghost use Rattle.lpt_journal.specs.Clear.{is_clear};
+ghost use Rattle.lpt_world.specs.Worlds.{history};
 ghost use Rattle.lpt_tool.specs.Ends.{TextEnds};
 ghost use Rattle.lpt_tool.specs.Scripts.{memory_octets, octets_from};
 
 use crate::printed::put;
-use lpt_print::{print_memory, print_none, print_release};
+use lpt_packet::{Direction, Name};
+use lpt_print::{print_clear, print_memory, print_none, print_release};
 use lpt_text::{Sink, ToolFault};
 use lpt_world::{Release, World};
 use std::alloc::Global;
@@ -31,6 +34,21 @@ pub(crate) fn show_memory<K: Sink>(
         None => None,
     };
     put(out, print_memory(alloc, id, address, octets))
+}
+
+/// Prints whether nothing is left of a transaction.
+pub(crate) fn show_clear<K: Sink>(
+    alloc: Global,
+    world: &World,
+    direction: Direction,
+    id: Name,
+    out: &mut K,
+) -> Result<(), ToolFault>
+    ensures ends { TextEnds (clear_text (is_clear world.now.config (history world.now) direction id)) result (K.contents out.old) (K.contents out.new) }
+    ensures cause { IsErrOf result ToolFault.Write → K.failed out.new ≡ true }
+    ensures told { result ≢ Err ToolFault.Write → K.failed out.new ≡ K.failed out.old }
+{
+    put(out, print_clear(alloc, world.is_clear(direction, id)))
 }
 
 // So many octets from an address on, where they lie within the content.

@@ -1,3 +1,4 @@
+pub mod Asking
 pub mod Hexes
 pub mod LoadLemmas
 pub mod Pieces

@@ -100,6 +100,14 @@ abbrev pub lose_of : List (List ℕ) → Option Command
 lose_of (n ∷ []) = option_map command.Lose (packet_number_of n)
 lose_of _ = None
 
+-- `damage DIRECTION HEX`
+abbrev pub damage_of : List (List ℕ) → Option Command
+damage_of (d ∷ m ∷ []) = do
+  direction ← direction_of d
+  octets ← octets_of m
+  Some (command.Damage direction octets)
+damage_of _ = None
+
 -- `take LANE N`
 abbrev pub take_of : List (List ℕ) → Option Command
 take_of ws = option_map (λ p. command.Take p.0 p.1) (lane_and_packet_of ws)
@@ -171,12 +179,21 @@ show_memory_of (i ∷ a ∷ n ∷ []) = do
   Some (command.ShowMemory id address len)
 show_memory_of _ = None
 
+-- `clear DIRECTION ID` behind `show`
+abbrev pub show_clear_of : List (List ℕ) → Option Command
+show_clear_of (d ∷ i ∷ []) = do
+  direction ← direction_of d
+  id ← u16_of i
+  Some (command.ShowClear direction id)
+show_clear_of _ = None
+
 -- all of these
 abbrev pub show_of : List (List ℕ) → Option Command
 show_of [] = None
 show_of (w ∷ []) = show_whole_of w
 show_of (w ∷ n ∷ ws) =
     if is_word (codes "memory") w then show_memory_of (n ∷ ws)
+    else if is_word (codes "clear") w then show_clear_of (n ∷ ws)
     else if is_word (codes "packet") w then show_packet_of (n ∷ ws)
     else None
 
@@ -185,6 +202,7 @@ abbrev pub arguments_of : Keyword → List (List ℕ) → Option Command
 arguments_of key.Open ws = open_of ws
 arguments_of key.Send ws = send_of ws
 arguments_of key.Lose ws = lose_of ws
+arguments_of key.Damage ws = damage_of ws
 arguments_of key.Take ws = take_of ws
 arguments_of key.Deliver ws = deliver_of ws
 arguments_of key.Pass ws = pass_of ws
@@ -207,11 +225,12 @@ IsAsked (Asks c) = ⊤
 IsAsked Skipped = ⊥
 IsAsked Unreadable = ⊥
 
--- the first word is `open`, `plain` or `load`: a line that takes memory
+-- the first word is `open`, `damage`, `plain` or `load`: a line that takes memory
 abbrev pub TakesMemory : List (List ℕ) → Type 0
 TakesMemory [] = ⊥
 TakesMemory (w ∷ ws) =
     (keyword_of w ≡ Some key.Open)
+    ⊎ (keyword_of w ≡ Some key.Damage)
     ⊎ (keyword_of w ≡ Some key.Plain)
     ⊎ (keyword_of w ≡ Some key.Load)
 

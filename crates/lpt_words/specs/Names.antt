@@ -19,6 +19,7 @@ keyword_of word =
     if is_word (codes "open") word then Some key.Open
     else if is_word (codes "send") word then Some key.Send
     else if is_word (codes "lose") word then Some key.Lose
+    else if is_word (codes "damage") word then Some key.Damage
     else if is_word (codes "take") word then Some key.Take
     else if is_word (codes "deliver") word then Some key.Deliver
     else if is_word (codes "pass") word then Some key.Pass

@@ -2,7 +2,7 @@
 
 ghost use Rattle.std.specs.Prelude.{◌≡◌, ◌⊎◌, IsSome, IfOk, OnErr};
 ghost use Rattle.lpt_words.specs.Words.{words};
-ghost use Rattle.lpt_words.specs.Grammar.{alone_of, arguments_of, claim_of, commit_of, deliver_of, expire_of, finish_of, is_comment, lane_and_packet_of, lose_of, open_of, pass_of, plain_of, reading_of, send_of, show_memory_of, show_of, show_whole_of, take_of, tick_of, words_reading, IsAsked, TakesMemory};
+ghost use Rattle.lpt_words.specs.Grammar.{alone_of, arguments_of, claim_of, commit_of, deliver_of, expire_of, finish_of, is_comment, lane_and_packet_of, lose_of, damage_of, open_of, pass_of, plain_of, reading_of, send_of, show_memory_of, show_clear_of, show_of, show_whole_of, take_of, tick_of, words_reading, IsAsked, TakesMemory};
 
 use crate::load::{Load, read_load};
 use crate::names::{
@@ -29,6 +29,8 @@ pub enum Command {
     Load(Load),
     /// `lose N`: loses the held packet of this number.
     Lose(u64),
+    /// `damage DIRECTION HEX`: puts these octets, which are no packet, on the link.
+    Damage(Direction, Octets),
     /// `take LANE N`: takes the packet of this number into the lane's hand.
     Take(Lane, u64),
     /// `deliver LANE`: delivers the packet in the lane's hand.
@@ -55,6 +57,8 @@ pub enum Command {
     ShowPacket(u64),
     /// `show memory ID ADDR LEN`: prints so many octets of a memory, from an address on.
     ShowMemory(u8, u32, u32),
+    /// `show clear DIRECTION ID`: prints whether nothing is left of this transaction.
+    ShowClear(Direction, Name),
     /// `show journal`: prints how long the journal is.
     ShowJournal,
 }
@@ -80,12 +84,13 @@ pub enum Reading {
 /// N is one of at most ten digits, and HEX is as `read_hex` reads it. A load has at least one pair
 /// of ADDR and HEX, and is unreadable where it can't be written (`Load::new`).
 /// Nothing may follow the last word.
-/// Errors: want of memory, only at a line that asks for an `open`, a `plain` or a `load`.
+/// Errors: want of memory, only at a line that asks for an `open`, a `damage`, a `plain` or a `load`.
 #[tactic(auto, unfolding(crate::specs::Grammar::reading_of))]
 pub fn read_line(alloc: Global, line: &[u8]) -> Result<Reading, AllocError>
     ensures says { IfOk result (λ r. r ≡ reading_of line.now) }
 
-    // Only the octets of a message, a request or a load take memory, once all else is judged.
+    // Only the octets of a message, of damage, of a request or of a load take memory, once all else
+    // is judged.
     ensures asked { OnErr result (IsAsked (reading_of line.now)) }
     ensures memory { OnErr result (TakesMemory (words line.now)) }
 {
@@ -122,13 +127,14 @@ fn read_arguments(
 ) -> Result<Option<Command>, AllocError>
     ensures says { IfOk result (λ r. r ≡ arguments_of keyword (words rest.now)) }
     ensures asked { OnErr result (IsSome (arguments_of keyword (words rest.now))) }
-    ensures memory { OnErr result ((keyword ≡ Keyword.Open) ⊎ (keyword ≡ Keyword.Plain)
-        ⊎ (keyword ≡ Keyword.Load)) }
+    ensures memory { OnErr result ((keyword ≡ Keyword.Open) ⊎ (keyword ≡ Keyword.Damage)
+        ⊎ (keyword ≡ Keyword.Plain) ⊎ (keyword ≡ Keyword.Load)) }
 {
     match keyword {
         Keyword::Open => read_open(alloc, rest),
         Keyword::Send => Ok(read_send(rest)),
         Keyword::Lose => Ok(read_lose(rest)),
+        Keyword::Damage => read_damage(alloc, rest),
         Keyword::Take => Ok(read_take(rest)),
         Keyword::Deliver => Ok(read_deliver(rest)),
         Keyword::Pass => Ok(read_pass(rest)),
@@ -264,6 +270,29 @@ fn read_lose(rest: &[u8]) -> Option<Command>
     Some(Command::Lose(read_packet_number(number)?))
 }
 
+// The words after `damage`.
+fn read_damage(alloc: Global, rest: &[u8]) -> Result<Option<Command>, AllocError>
+    ensures says { IfOk result (λ r. r ≡ damage_of (words rest.now)) }
+    ensures asked { OnErr result (IsSome (damage_of (words rest.now))) }
+{
+    let Some((direction, rest)) = split_word(rest) else {
+        return Ok(None);
+    };
+    let Some((octets, rest)) = split_word(rest) else {
+        return Ok(None);
+    };
+    if split_word(rest).is_some() {
+        return Ok(None);
+    }
+    let Some(direction) = read_direction(direction) else {
+        return Ok(None);
+    };
+    let Some(octets) = read_hex(alloc, octets)? else {
+        return Ok(None);
+    };
+    Ok(Some(Command::Damage(direction, octets)))
+}
+
 // The words after `finish`.
 fn read_finish(rest: &[u8]) -> Option<Command>
     ensures { result ≡ finish_of (words rest.now) }
@@ -351,11 +380,28 @@ fn read_show(rest: &[u8]) -> Option<Command>
     if what == b"memory".as_slice() {
         return read_show_memory(more);
     }
+    if what == b"clear".as_slice() {
+        return read_show_clear(more);
+    }
     if split_word(rest).is_some() || what != b"packet".as_slice() {
         return None;
     }
     let packet = read_packet_number(packet)?;
     Some(Command::ShowPacket(packet))
+}
+
+// The words after `show clear`.
+fn read_show_clear(rest: &[u8]) -> Option<Command>
+    ensures { result ≡ show_clear_of (words rest.now) }
+{
+    let (direction, rest) = split_word(rest)?;
+    let (id, rest) = split_word(rest)?;
+    if split_word(rest).is_some() {
+        return None;
+    }
+    let direction = read_direction(direction)?;
+    let id = read_u16(id)?;
+    Some(Command::ShowClear(direction, id))
 }
 
 // The words after `show memory`.

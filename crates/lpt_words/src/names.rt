@@ -23,6 +23,7 @@ pub(crate) enum Keyword {
     Open,
     Send,
     Lose,
+    Damage,
     Take,
     Deliver,
     Pass,
@@ -48,6 +49,8 @@ pub(crate) fn read_keyword(word: &[u8]) -> Option<Keyword>
         Some(Keyword::Send)
     } else if word == b"lose".as_slice() {
         Some(Keyword::Lose)
+    } else if word == b"damage".as_slice() {
+        Some(Keyword::Damage)
     } else if word == b"take".as_slice() {
         Some(Keyword::Take)
     } else if word == b"deliver".as_slice() {

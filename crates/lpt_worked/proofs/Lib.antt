@@ -1,3 +1,4 @@
+pub mod DamageRows
 pub mod JobRows
 pub mod LegalRows
 pub mod Listed

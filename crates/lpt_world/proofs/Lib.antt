@@ -1,3 +1,4 @@
+pub mod OutsideLemmas
 pub mod JobLemmas
 pub mod LegalLemmas
 pub mod RunLemmas

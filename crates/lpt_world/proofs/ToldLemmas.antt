@@ -10,7 +10,8 @@ use Rattle.lpt_journal.specs.Headline.{Holds}
 use Rattle.lpt_journal.specs.Legal.{Legal}
 use Rattle.lpt_world.specs.WorldInside.{IsShown}
 use Rattle.lpt_world.specs.Worlds.{IsTold, IsToldAfter, events_of, history_of}
-use Rattle.lpt_journal.proofs.HeadlineLemmas.{headline}
+use Rattle.lpt_journal.proofs.HeadlineLemmas.{every, headline}
+use Rattle.lpt_machine.proofs.ClearShown.{AreNamed}
 use Rattle.lpt_world.proofs.LegalLemmas.{told_is_legal}
 
 pub shown_holds : (e : Ends) (first : Contents) (j : List Entry)
@@ -18,3 +19,11 @@ pub shown_holds : (e : Ends) (first : Contents) (j : List Entry)
     → Holds e.config first (history_of e.config first j)
 shown_holds e first j k =
     headline e.config first (events_of j) k.configured (told_is_legal e.config first j k.told)
+
+-- the packets of a world have the tags of the parts that they are
+pub shown_named : (e : Ends) (first : Contents) (j : List Entry)
+    → IsShown e first j
+    → AreNamed e.config (history_of e.config first j)
+shown_named e first j k =
+    (every e.config first (events_of j) k.configured
+    (told_is_legal e.config first j k.told)).0.names

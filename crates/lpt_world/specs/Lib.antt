@@ -1,5 +1,6 @@
 pub mod EndsInside
 pub mod EndsSound
+pub mod Outside
 pub mod TicketsInside
 pub mod WorldInside
 pub mod Worlds

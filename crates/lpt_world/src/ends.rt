@@ -1,16 +1,17 @@
 //! Both ends, the link between them, and what was opened and released: all that an event changes.
 
-ghost use Rattle.std.specs.Prelude.{◌≡◌, ◌+◌, ◌<◌, ◌≤◌, ◌^◌, IfOk, OnErr, vec_len, None, Some, length};
+ghost use Rattle.std.specs.Prelude.{◌≡◌, ◌+◌, ◌<◌, ◌↔◌, ◌≤◌, ◌^◌, IfOk, IfErr, IsTrue, OnErr, vec_len, None, Some, length};
 ghost use Rattle.std.specs.Option.{option_map};
 ghost use Rattle.std.specs.Vec.{vec_capacity};
 ghost use Rattle.lpt_events.specs.Lanes.{lane_direction};
 ghost use Rattle.lpt_jobs.specs.Jobs.{numbered};
-ghost use Rattle.lpt_link.specs.Links.{after_put, packet_in_hand};
+ghost use Rattle.lpt_link.specs.Links.{after_put};
 ghost use Rattle.lpt_node.specs.Accepting.{accepted};
 ghost use Rattle.lpt_node.specs.Asking.{refusal_of as node_refusal};
 ghost use Rattle.lpt_node.specs.Faults.{node_fault};
 ghost use Rattle.lpt_node.specs.Origins.{arrival_from};
 ghost use Rattle.lpt_world.specs.EndsSound.{IsSound};
+ghost use Rattle.lpt_world.specs.Outside.{octets_held, IsReadOf};
 ghost use Rattle.lpt_events.specs.Sides.{sender_side, receiver_side};
 ghost use Rattle.lpt_events.specs.Configs.{IsConfig};
 ghost use Rattle.lpt_machine.specs.State.{no_state, end_of, refusal_of, after, released_of, add_release, as_list, put_report, put_some, IsAccepted, IsReady, quiet as quiet_reply, put_one as put_one_reply};
@@ -82,6 +83,7 @@ impl Ends {
             }
             Event::Finish(direction, id) => self.ask(sender(*direction), Ask::Finish(*id)),
             Event::Lose(n) => self.refusal_lose(*n),
+            Event::Damage(direction, octets) => self.refusal_damage(*direction, octets),
             Event::Take(lane, n) => self.link.refusal_take(*lane, *n).map(of_link),
             Event::Deliver(lane) => self.link.refusal_drop(*lane).map(of_link),
             Event::Tick(side) => self.ask(*side, Ask::Tick),
@@ -121,6 +123,7 @@ impl Ends {
             }
             Event::Finish(direction, id) => Ok(self.finish(*direction, *id)),
             Event::Lose(n) => Ok(self.lose(*n)),
+            Event::Damage(direction, octets) => self.damage(*direction, octets),
             Event::Take(lane, n) => Ok(self.take(*lane, *n)),
             Event::Deliver(lane) => self.deliver(place, *lane),
             Event::Tick(side) => Ok(self.tick(*side)),
@@ -251,9 +254,32 @@ impl Ends {
         ensures err { OnErr result (state_of self.new ≡ state_of self.old) }
         ensures config { self.new.config ≡ self.old.config }
     {
-        self.released.reserve(1)?;
-        self.link.reserve(1)?;
         let parsed = self.parsed(lane)?;
+        match self.deliver_read(place, lane, parsed) {
+            Ok(reply) => Ok(reply),
+            Err(_) => Err(AllocError),
+        }
+    }
+
+    /// Delivers what is in a lane's hand, which was read before. The only error is want of memory;
+    /// then what was read is handed back, and nothing has changed.
+    pub(crate) fn deliver_read(
+        &mut self,
+        place: u64,
+        lane: Lane,
+        parsed: Parsed,
+    ) -> Result<Reply, Parsed>
+        requires full { refusal_of self.old.config (state_of self.old) (Event.Deliver lane) ≡ None }
+        requires read { IsReadOf self.old.config (octets_held self.old.link.at lane) lane parsed }
+        ensures ok { IfOk result (λ r. (state_of self.new, r)
+            ≡ after self.old.config place (state_of self.old) (Event.Deliver lane)) }
+        ensures back { IfErr result (λ p. p ≡ parsed) }
+        ensures err { OnErr result (state_of self.new ≡ state_of self.old) }
+        ensures config { self.new.config ≡ self.old.config }
+    {
+        if self.released.reserve(1).is_err() || self.link.reserve(1).is_err() {
+            return Err(parsed);
+        }
         let Accepted {
             outcome,
             packet,
@@ -265,7 +291,7 @@ impl Ends {
     }
 
     // Gives the receiver of a lane what was in its hand.
-    fn receive(&mut self, lane: Lane, parsed: Parsed) -> Result<Accepted, AllocError>
+    fn receive(&mut self, lane: Lane, parsed: Parsed) -> Result<Accepted, Parsed>
         requires side { parsed.side ≡ receiver_side (lane_direction lane) }
         requires apid { parsed.apid ≡ self.old.config.apid }
         requires part_size { parsed.p ≡ self.old.config.part_size }
@@ -273,18 +299,15 @@ impl Ends {
         ensures ok { IfOk result (λ r. IsAccepted (state_of self.old) lane (state_of self.new) r
             (accepted (receiver_side (lane_direction lane)) self.old.config
             (end_of (state_of self.old) (receiver_side (lane_direction lane))) (arrival_from parsed))) }
+        ensures back { IfErr result (λ p. p ≡ parsed) }
         ensures err { OnErr result (state_of self.new ≡ state_of self.old) }
         ensures config { self.new.config ≡ self.old.config }
         ensures link { self.new.link ≡ self.old.link }
         ensures released { self.new.released ≡ self.old.released }
     {
-        let accepted = match lane.direction() {
+        match lane.direction() {
             Direction::Up => self.on_craft.accept(parsed),
             Direction::Down => self.on_ground.accept(parsed),
-        };
-        match accepted {
-            Ok(accepted) => Ok(accepted),
-            Err(_) => Err(AllocError),
         }
     }
 
@@ -331,9 +354,35 @@ impl Ends {
     // Reads a copy of what is in a lane's hand, for its receiver.
     fn parsed(&self, lane: Lane) -> Result<Parsed, AllocError>
         requires { refusal_of self.now.config (state_of self.now) (Event.Deliver lane) ≡ None }
-        ensures { IfOk result (λ x. (x.side ≡ receiver_side (lane_direction lane)) × (x.apid ≡ self.now.config.apid)
-            × (x.p ≡ self.now.config.part_size)
-            × (option_map (λ q. q.octets) (packet_in_hand self.now.link.at lane) ≡ Some x.octets)) }
+        ensures { IfOk result (λ x. IsReadOf self.now.config (octets_held self.now.link.at lane) lane x) }
+    {
+        let octets = Octets::from_vec(self.held(lane).to_vec(self.alloc)?);
+        Ok(Parsed::read(
+            octets,
+            receiver(lane),
+            self.config.apid,
+            self.config.part_size,
+        ))
+    }
+
+    /// Whether this was read of what is in a lane's hand, for its receiver.
+    pub(crate) fn is_read_of(&self, lane: Lane, parsed: &Parsed) -> bool
+        requires { refusal_of self.now.config (state_of self.now) (Event.Deliver lane) ≡ None }
+        ensures { IsTrue result ↔ IsReadOf self.now.config (octets_held self.now.link.at lane) lane parsed.now }
+    {
+        let octets = self.held(lane);
+        parsed.is_of(
+            octets,
+            receiver(lane),
+            self.config.apid,
+            self.config.part_size,
+        )
+    }
+
+    // The octets of the packet in a lane's hand.
+    fn held(&self, lane: Lane) -> &[u8]
+        requires { refusal_of self.now.config (state_of self.now) (Event.Deliver lane) ≡ None }
+        ensures { octets_held self.now.link.at lane ≡ Some result.now }
     {
         let Some(n) = self.link.hand(lane) else {
             unreachable!()
@@ -341,12 +390,7 @@ impl Ends {
         let Some(octets) = self.link.packet(n) else {
             unreachable!()
         };
-        let side = match lane.direction() {
-            Direction::Up => Side::Craft,
-            Direction::Down => Side::Ground,
-        };
-        let octets = Octets::from_vec(octets.to_vec(self.alloc)?);
-        Ok(Parsed::read(octets, side, self.config.apid, self.config.part_size))
+        octets
     }
 }
 
@@ -357,6 +401,16 @@ fn sender(direction: Direction) -> Side
     match direction {
         Direction::Up => Side::Ground,
         Direction::Down => Side::Craft,
+    }
+}
+
+// The side that receives what a lane carries.
+fn receiver(lane: Lane) -> Side
+    ensures { result ≡ receiver_side (lane_direction lane) }
+{
+    match lane.direction() {
+        Direction::Up => Side::Craft,
+        Direction::Down => Side::Ground,
     }
 }
 

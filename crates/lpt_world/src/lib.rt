@@ -1,8 +1,11 @@
 //! The world of two nodes and the link between them, and the journal of all that happened.
 #![tactic(auto)]
 
+mod clearing;
+mod damaging;
 mod ends;
 mod faults;
+mod outside;
 mod readers;
 mod requesting;
 mod tickets;

@@ -162,7 +162,7 @@ impl World {
     }
 
     // Why a seat's event would be refused now, want of memory aside.
-    fn refusal(&self, seat: u8, event: &Event) -> Option<StepFault>
+    pub(crate) fn refusal(&self, seat: u8, event: &Event) -> Option<StepFault>
         ensures { result ≡ refusal_at self.now seat event.now }
     {
         if seat > LAST_SEAT {
@@ -195,6 +195,9 @@ fn in_range(event: &Event)
             let _id = *id;
         }
         Event::Lose(_) => {}
+        Event::Damage(_, octets) => {
+            let _octets = octets.as_slice();
+        }
         Event::Take(_, _) => {}
         Event::Deliver(_) => {}
         Event::Tick(_) => {}

@@ -9,7 +9,11 @@
 #[cfg(test)]
 mod counting;
 #[cfg(test)]
+mod damage;
+#[cfg(test)]
 mod growths;
+#[cfg(test)]
+mod outside;
 #[cfg(test)]
 mod packets;
 #[cfg(test)]

@@ -29,7 +29,12 @@ fn run(alloc: Global, rows: &[Row]) -> Result<(u64, Option<StepFault>), Fail> {
     runs(alloc, &mut world, rows)
 }
 
-fn runs(alloc: Global, world: &mut World, rows: &[Row]) -> Result<(u64, Option<StepFault>), Fail> {
+// Runs a world through the events of the rows, and gives how many it did and why not more.
+pub(crate) fn runs(
+    alloc: Global,
+    world: &mut World,
+    rows: &[Row],
+) -> Result<(u64, Option<StepFault>), Fail> {
     let mut events = Vec::new(alloc);
     for row in rows {
         events.push(event(alloc, row.asked)?)?;

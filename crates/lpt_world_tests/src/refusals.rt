@@ -97,9 +97,11 @@ fn names_each_fault(rt: HostRuntime) {
         (StepFault::HandFull, 48, "HandFull"),
         (StepFault::HandEmpty, 49, "HandEmpty"),
         (StepFault::NothingDue, 50, "NothingDue"),
+        (StepFault::LooksWhole, 54, "LooksWhole"),
         (StepFault::ClockEnd, 56, "ClockEnd"),
         (StepFault::NoSuchSeat, 57, "NoSuchSeat"),
         (StepFault::Memory, 58, "Memory"),
+        (StepFault::NotYours, 59, "NotYours"),
         (StepFault::PartRequest, 60, "PartRequest"),
     ] {
         assert!(rt; fault.code() == code && fault.name() == name, "{name}");

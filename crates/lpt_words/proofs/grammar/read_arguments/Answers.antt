@@ -1,16 +1,13 @@
-use Rattle.std.proofs.Common.{option_map, Option, Some, None, Result, Ok, Err, IsSome, OnErr, refl}
+use Rattle.std.proofs.Common.{option_map, Option, Some, None, IsSome, refl}
 use Rattle.lpt_words.specs.declared.grammar.Command.TheVariants as command
 use Rattle.lpt_words.specs.Grammar.{arguments_of, load_of}
 use Rattle.lpt_words.specs.Words.{words}
+use Rattle.lpt_words.proofs.Asking.{on_err}
 use Rattle.lpt_words.proofs.grammar.read_arguments.Goals as goal
 
 mapped : {A B : Type 0} (f : A → B) (o : Option A) → IsSome o → IsSome (option_map f o)
 mapped f (Some x) h = refl
 mapped f None h = absurd cc
-
-on_err : {A E : Type 0} (r : Result A E) (P : Type 0) → P → OnErr r P
-on_err (Ok x) P p = tt
-on_err (Err e) P p = p
 
 -- the load is one
 pub returns-in_err-read_load-in-Load-clause-asked :

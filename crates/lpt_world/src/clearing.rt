@@ -1,0 +1,48 @@
+//! Whether anything is left of a transaction.
+
+ghost use Rattle.std.specs.Prelude.{◌≡◌, ◌||◌};
+ghost use Rattle.lpt_journal.specs.Clear.{is_clear, part_held, part_in_hand};
+ghost use Rattle.lpt_journal.specs.Receivers.{heard, has_parts};
+ghost use Rattle.lpt_journal.specs.Senders.{is_open, sender};
+ghost use Rattle.lpt_world.specs.Worlds.{history};
+
+use crate::World;
+use lpt_ledger::State;
+use lpt_packet::{Direction, Name};
+
+impl World {
+    /// Whether a transaction is clear: no part of it is on the link or in a lane's hand, its
+    /// receiver keeps no part of it, and its sender isn't open.
+    pub fn is_clear(&self, direction: Direction, id: Name) -> bool
+        ensures { result ≡ is_clear self.now.config (history self.now) direction id }
+    {
+        !self.is_under_way(direction, id)
+            && !self.is_receiving(direction, id)
+            && !self.is_sending(direction, id)
+    }
+
+    // Whether a held packet, or one in a hand, is a part of it.
+    fn is_under_way(&self, direction: Direction, id: Name) -> bool
+        ensures { result ≡ (part_held self.now.config (history self.now) direction id
+            || part_in_hand self.now.config (history self.now) direction id) }
+    {
+        self.ends.link.holds(direction, id)
+    }
+
+    // Whether its receiver keeps parts of it.
+    fn is_receiving(&self, direction: Direction, id: Name) -> bool
+        ensures { result ≡ has_parts (heard self.now.config (history self.now) direction id) }
+    {
+        match direction {
+            Direction::Up => self.ends.on_craft.is_open_reception(id),
+            Direction::Down => self.ends.on_ground.is_open_reception(id),
+        }
+    }
+
+    // Whether its sender is open.
+    fn is_sending(&self, direction: Direction, id: Name) -> bool
+        ensures { result ≡ is_open (sender (history self.now) direction id) }
+    {
+        matches!(self.sender(direction, id), State::Open)
+    }
+}

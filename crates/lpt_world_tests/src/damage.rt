@@ -1,0 +1,68 @@
+//! What the link's noise leaves of packets.
+
+use crate::packets::{FIRST_UP, FOREIGN, IDLE, REPORT};
+use crate::scenes::{CONFIG, new_world};
+use crate::stations::octets_of;
+use lpt_link::Lane::S1;
+use lpt_node::{Outcome, Why};
+use lpt_packet::Direction::{self, Down, Up};
+use lpt_world::{Answer, Event, StepFault, World};
+use std::alloc::Global;
+use std::process::Abort;
+use std::test::Fail;
+
+#[test]
+fn what_noise_left_is_ignored(rt: HostRuntime) -> Result<(), Fail> {
+    let alloc = rt.alloc();
+    let mut world = new_world(alloc, CONFIG)?;
+    ignores(&rt, alloc, &mut world)
+}
+
+fn ignores(rt: &impl Abort, alloc: Global, world: &mut World) -> Result<(), Fail> {
+    let front = damage(alloc, world, Up, &FIRST_UP[..12])?;
+    let nothing = damage(alloc, world, Down, &[])?;
+    assert!(rt; front == Ok(Answer::Put(0)) && nothing == Ok(Answer::Put(1)));
+    let taken = asked(world, Event::Take(S1, 0));
+    let delivered = asked(world, Event::Deliver(S1));
+    let ignored = Answer::Delivered(Outcome::Ignored(Why::Unreadable));
+    assert!(rt; taken == Ok(Answer::Took(0)) && delivered == Ok(ignored));
+    Ok(())
+}
+
+#[test]
+fn whole_packets_are_refused(rt: HostRuntime) -> Result<(), Fail> {
+    let alloc = rt.alloc();
+    let mut world = new_world(alloc, CONFIG)?;
+    refuses(&rt, alloc, &mut world)
+}
+
+// A packet of a foreign APID, an idle one, telemetry up, and 32 octets, one too many.
+fn refuses(rt: &impl Abort, alloc: Global, world: &mut World) -> Result<(), Fail> {
+    let foreign = damage(alloc, world, Up, &FOREIGN)?;
+    let idle = damage(alloc, world, Down, &IDLE)?;
+    let report = damage(alloc, world, Up, &REPORT)?;
+    let long = damage(alloc, world, Up, &[0; 32])?;
+    let whole = Err(StepFault::LooksWhole);
+    assert!(rt; foreign == whole && idle == whole && report == whole);
+    assert!(rt; long == Err(StepFault::Long));
+    Ok(())
+}
+
+// What a world gives for noise that leaves these octets.
+fn damage(
+    alloc: Global,
+    world: &mut World,
+    direction: Direction,
+    octets: &[u8],
+) -> Result<Result<Answer, StepFault>, Fail> {
+    let octets = octets_of(alloc, octets)?;
+    Ok(asked(world, Event::Damage(direction, octets)))
+}
+
+// What a world gives for an event of seat 0.
+fn asked(world: &mut World, event: Event) -> Result<Answer, StepFault> {
+    match world.step(0, event) {
+        Ok(reply) => Ok(reply.answer),
+        Err(refused) => Err(refused.fault),
+    }
+}
