@@ -13,6 +13,7 @@ pub mod MapLemmas
 pub mod OnceLemmas
 pub mod OutcomeLemmas
 pub mod PlainEvents
+pub mod PutLemmas
 pub mod Releasing
 pub mod SentParts
 pub mod Soundness
