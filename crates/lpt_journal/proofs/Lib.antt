@@ -16,6 +16,7 @@ pub mod OctetLemmas
 pub mod OnceLemmas
 pub mod OutcomeLemmas
 pub mod PlainEvents
+pub mod PutLemmas
 pub mod Releasing
 pub mod SentParts
 pub mod SentReports

@@ -1,12 +1,10 @@
 -- What holds of a history holds again after an entry that pays what it owes.
-use Rattle.std.proofs.Common.{◌≡◌, ◌∙◌, ap, sym, subst, refl, ℕ, zero, suc, ◌<◌, ◌≤◌, nat_lt, ◌==◌, Bool, true, false, not, ◌&&◌, ◌||◌, ◌⊎◌, inl, inr, List, [], ◌∷◌, length, map, Option, Some, None, if◌then◌else◌, arith}
+use Rattle.std.proofs.Common.{◌≡◌, ◌∙◌, ap, sym, subst, refl, ℕ, ◌<◌, nat_lt, ◌==◌, Bool, true, false, not, ◌&&◌, ◌||◌, ◌⊎◌, inl, inr, ◌∷◌, length, Option, Some, None, if◌then◌else◌, arith}
 use Rattle.std.specs.List.{slice_get, find}
 use Rattle.std.specs.Option.{option_or, option_map_or}
 use Rattle.std.specs.FinMap as maps
-use Rattle.std.proofs.lemmas.List.{map-append}
 use Rattle.std.specs.Ordering.{nat_cmp}
 use Rattle.std.specs.Cmp.{nat_cmp_total, unsigned_tied}
-use Rattle.std.proofs.lemmas.Bool.Decides.{nat_tests}
 use Rattle.std.proofs.lemmas.Option.{slice_get_within}
 use Rattle.lpt_packet.specs.declared.direction.Direction.{Direction}
 use Rattle.lpt_packet.specs.Names.{Name}
@@ -16,18 +14,18 @@ use Rattle.lpt_reception.specs.Received.{Kept as KeptPart, Parts, no_parts}
 use Rattle.lpt_events.specs.declared.lane.Lane.{Lane}
 use Rattle.lpt_events.specs.Lanes.{lane_direction, same_direction}
 use Rattle.lpt_events.specs.declared.config.Config.{Config}
-use Rattle.lpt_events.specs.Arrivals.{NotRead, APart, part_name}
+use Rattle.lpt_events.specs.Arrivals.{NotRead, APart}
 use Rattle.lpt_events.specs.declared.entry.Opening.{Opening}
-use Rattle.lpt_events.specs.declared.event.Event.{Event}
-use Rattle.lpt_journal.specs.Journal.{SentPacket, Recorded, History, with_all}
-use Rattle.lpt_journal.specs.Link.{sent, tag_put, tags, loses, is_lost, damages, is_damaged, is_held, goes}
+use Rattle.lpt_journal.specs.Journal.{SentPacket, Recorded, History}
+use Rattle.lpt_journal.specs.Link.{sent, loses, is_lost, damages, is_held, goes}
 use Rattle.lpt_journal.specs.Hands.{hand, arrival_in, arrival_of, arrival_at, in_hand}
 use Rattle.lpt_journal.specs.Senders.{is_opening_of, retires, current}
 use Rattle.lpt_journal.specs.Receivers.{kept, with_piece, heard}
 use Rattle.lpt_journal.specs.Headline.{IsPartOfCurrent, kept_piece}
 use Rattle.lpt_events.proofs.LaneLemmas.{same_direction-true}
+use Rattle.lpt_journal.proofs.PutLemmas.{packets_step, names_step}
 use Rattle.lpt_journal.proofs.TestLemmas.{and_r, not_true, or_false_r, lt_true, get-with_all, IsOldOrNew, with_all_cases}
-use Rattle.lpt_journal.proofs.Steps.{IsKnown, IsAsPut, IsSoundPut, IsInHand, IsSound, IsNew, IsTaken, IsKept, IsHeardNow, Owes, opening_found, part_stays}
+use Rattle.lpt_journal.proofs.Steps.{IsKnown, IsSoundPut, IsInHand, IsSound, IsNew, IsTaken, IsKept, IsHeardNow, Owes, opening_found, part_stays}
 
 -- ---- openings
 
@@ -66,66 +64,6 @@ openings_step c h x owes sound d id o e =
       go false None i k = later c h x d id o (sound.openings d id o k)
 
 -- ---- packets
-
--- whether a packet was damaged stays, and of a new one the entry says it
-damaged_old : (h : History) (x : Recorded) (n : ℕ)
-    → n < length (sent h)
-    → is_damaged (x ∷ h) n ≡ is_damaged h n
-damaged_old h x n old =
-    ap (λ b. if b then is_damaged h n else damages x.event && nat_lt n (length (sent (x ∷ h))))
-    (lt_true n (length (sent h)) old)
-
-damaged_new : (h : History) (x : Recorded) (n : ℕ)
-    → length (sent h) ≤ n
-    → n < length (sent (x ∷ h))
-    → is_damaged (x ∷ h) n ≡ (damages x.event && true)
-damaged_new h x n fresh within =
-    let none : nat_lt n (length (sent h)) ≡ false = grind (arith, nat_tests) in
-    ap (λ b. if b then is_damaged h n else damages x.event && nat_lt n (length (sent (x ∷ h)))) none
-    ∙ ap (λ b. damages x.event && b) (lt_true n (length (sent (x ∷ h))) within)
-
-packets_step : (c : Config) (h : History) (x : Recorded) → Owes c h x → IsSound c h
-    → (n : ℕ) (p : SentPacket)
-    → slice_get (sent (x ∷ h)) n ≡ Some p
-    → IsAsPut (is_damaged (x ∷ h) n) (arrival_of c p)
-packets_step c h x owes sound n p e = go (with_all_cases (sent h) x.puts n p e) where
-  as_put : (b : Bool) → IsSoundPut b c (x ∷ h) p → IsAsPut (b && true) (arrival_of c p)
-  as_put true put = put
-  as_put false put = put.is_read
-
-  go : IsOldOrNew (sent h) x.puts n p
-      → IsAsPut (is_damaged (x ∷ h) n) (arrival_of c p)
-  go (inl old) =
-      subst (λ b. IsAsPut b (arrival_of c p))
-      (sym (damaged_old h x n (slice_get_within (sent h) n p old)))
-      (sound.packets n p old)
-  go (inr fresh) =
-      let late : length (sent h) ≤ n = omega (arith, fresh.1) in
-      subst (λ b. IsAsPut b (arrival_of c p))
-      (sym (damaged_new h x n late (slice_get_within (sent (x ∷ h)) n p e)))
-      (as_put (damages x.event) (owes.puts fresh.0 p fresh.2).sound)
-
--- the packets that are put have the tag of their event
-puts_named : (c : Config) (e : Event) (ps : List SentPacket)
-    → ((k : ℕ) (p : SentPacket)
-    → slice_get ps k ≡ Some p
-    → part_name (arrival_of c p) ≡ tag_put e)
-    → map (λ p. tag_put e) ps ≡ map (λ p. part_name (arrival_of c p)) ps
-puts_named c e [] named = refl
-puts_named c e (p ∷ ps) named =
-    λ i. sym (named zero p refl) i ∷ puts_named c e ps (λ k q f. named (suc k) q f) i
-
-map-with_all : {A B : Type 0} (f : A → B) (xs ys : List A)
-    → map f (with_all xs ys) ≡ with_all (map f xs) (map f ys)
-map-with_all f xs [] = refl
-map-with_all f xs (y ∷ ys) = map-append f xs (y ∷ ys)
-
-names_step : (c : Config) (h : History) (x : Recorded) → Owes c h x → IsSound c h
-    → tags (x ∷ h) ≡ map (λ p. part_name (arrival_of c p)) (sent (x ∷ h))
-names_step c h x owes sound =
-    (λ i. with_all (sound.names i)
-    (puts_named c x.event x.puts (λ k p f. (owes.puts k p f).name) i))
-    ∙ sym (map-with_all (λ (p : SentPacket). part_name (arrival_of c p)) (sent h) x.puts)
 
 -- a packet that is held was held before, where it was there
 pub held_before : (h : History) (x : Recorded) (n : ℕ) (p : SentPacket)
