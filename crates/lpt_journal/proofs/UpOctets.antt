@@ -16,7 +16,7 @@ use Rattle.lpt_events.specs.declared.config.Config.{Config}
 use Rattle.lpt_events.specs.declared.entry.Opening.{Opening}
 use Rattle.lpt_events.specs.declared.entry.Release.{Release}
 use Rattle.lpt_events.specs.declared.event.Event.{Event}
-use Rattle.lpt_events.specs.declared.event.Event.TheVariants.{Open, Send, Plain, Deliver, Expire, Apply}
+use Rattle.lpt_events.specs.declared.event.Event.TheVariants.{Open, Send, Plain, Damage, Deliver, Expire, Apply}
 use Rattle.lpt_events.specs.declared.lane.Lane.{Lane}
 use Rattle.lpt_events.specs.declared.outcome.Outcome.{Outcome}
 use Rattle.lpt_events.specs.declared.outcome.Outcome.TheVariants.{Broken}
@@ -128,6 +128,8 @@ put_octets c first h (Plain flags service subtype body) can had n p f up =
     let fits = can.in_range in
     subst (λ (x : SentPacket). IsOctets x.octets) (only_element _ n p f)
     (made_octets c (count h Up) flags service subtype body fits.0 fits.1 fits.2 fits.3)
+put_octets c first h (Damage d b) can had n p f up =
+    subst (λ (x : SentPacket). IsOctets x.octets) (only_element _ n p f) can.in_range
 put_octets c first h (Deliver l) can had n p f up = absurd (go (outcome c h l) f) where
   go : (o : Outcome)
       → slice_get (outcome_puts c h (receiver_side (lane_direction l)) o) n ≡ Some p

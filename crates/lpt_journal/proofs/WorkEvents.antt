@@ -12,7 +12,7 @@ use Rattle.lpt_ledger.proofs.FirstLemmas.{IsFirst, IsFirst-first_of_numbers}
 use Rattle.lpt_memory.specs.Answers.{AnswerFits}
 use Rattle.lpt_memory.specs.Memories.{Contents}
 use Rattle.lpt_events.specs.declared.config.Config.{Config}
-use Rattle.lpt_events.specs.Arrivals.{AReport, APart}
+use Rattle.lpt_events.specs.Arrivals.{AReport, APart, part_name}
 use Rattle.lpt_events.specs.Configs.{IsConfig}
 use Rattle.lpt_events.specs.TelemetryKinds.{service_of, subtype_of}
 use Rattle.lpt_events.specs.declared.entry.Opening.{Opening}
@@ -31,7 +31,7 @@ use Rattle.lpt_journal.specs.Replies.{entry}
 use Rattle.lpt_journal.specs.Senders.{is_opening_of, sender, is_free, least_free, open_count, current, made}
 use Rattle.lpt_journal.proofs.Events.{free_current, only_opening}
 use Rattle.lpt_journal.proofs.SentReports.{IsSendable, IsReportMade, all_made, message_sendable, ending_fits}
-use Rattle.lpt_journal.proofs.Steps.{IsRead, IsSoundPacket, IsSound, IsNew, Owes, calm_owes, opening_found}
+use Rattle.lpt_journal.proofs.Steps.{IsRead, IsPut, IsSound, IsNew, Owes, calm_owes, opening_found}
 use Rattle.lpt_journal.proofs.TestLemmas.{no_place}
 
 -- ---- claims and commits
@@ -67,12 +67,15 @@ commit_owes c first h w sound =
 -- the packet of a report is read, and is no part
 report_sound : (c : Config) (g : History) (x : Report × List ℕ)
     → IsReportMade c x
-    → IsSoundPacket c g (record { direction = Down; octets = x.1 })
+    → IsPut c g Apply (record { direction = Down; octets = x.1 })
 report_sound c g x it = record {
-  is_read = subst (λ a. IsRead a) (sym it.arrives) tt;
-  part = λ q e.
-      let no : AReport (service_of x.0.kind) (subtype_of x.0.kind) ≡ APart q =
-      sym it.arrives ∙ e in absurd cc;
+  sound = record {
+    is_read = subst (λ a. IsRead a) (sym it.arrives) tt;
+    part = λ q e.
+        let no : AReport (service_of x.0.kind) (subtype_of x.0.kind) ≡ APart q =
+        sym it.arrives ∙ e in absurd cc;
+  };
+  name = ap part_name it.arrives;
 }
 
 -- all packets that go on the link are
@@ -81,7 +84,7 @@ puts_sound : (c : Config) (g : History) (xs : List (Report × List ℕ))
     → (k : ℕ) (p : SentPacket)
     → slice_get (map (λ b. record { direction = Down; octets = b }) (link_packets c.part_size xs)) k
     ≡ Some p
-    → IsSoundPacket c g p
+    → IsPut c g Apply p
 puts_sound c g [] all k p f = absurd (no_place k p f)
 puts_sound c g (x ∷ xs) all k p f =
     go (is_small c.part_size (length x.0.body)) k f (puts_sound c g xs all.1)
@@ -94,11 +97,11 @@ puts_sound c g (x ∷ xs) all k p f =
         (map (λ x. x.1) (if b then x ∷ filter (λ x. is_small c.part_size (length x.0.body)) xs
         else filter (λ x. is_small c.part_size (length x.0.body)) xs))) k ≡ Some p
         → ((k : ℕ) (p : SentPacket) → slice_get (map (λ b. record { direction = Down; octets = b })
-        (link_packets c.part_size xs)) k ≡ Some p → IsSoundPacket c g p)
-        → IsSoundPacket c g p
+        (link_packets c.part_size xs)) k ≡ Some p → IsPut c g Apply p)
+        → IsPut c g Apply p
     go true zero f others =
         let same : record { direction = Down; octets = x.1 } ≡ p = cc in
-        subst (λ y. IsSoundPacket c g y) same (report_sound c g x all.0)
+        subst (λ y. IsPut c g Apply y) same (report_sound c g x all.0)
     go true (suc k) f others = others k p f
     go false k f others = others k p f
 
