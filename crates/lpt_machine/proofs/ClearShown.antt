@@ -8,6 +8,7 @@ use Rattle.std.specs.FinMap as maps
 use Rattle.std.proofs.lemmas.Option.{slice_get-map}
 use Rattle.lpt_packet.specs.declared.direction.Direction.{Direction}
 use Rattle.lpt_packet.specs.Names.{Name, same_name}
+use Rattle.lpt_memory.specs.Memories.{Contents}
 use Rattle.lpt_events.specs.declared.config.Config.{Config}
 use Rattle.lpt_events.specs.declared.lane.Lane.{Lane}
 use Rattle.lpt_events.specs.Arrivals.{part_name}
@@ -72,11 +73,11 @@ of_transaction c d id (Some p) e =
     ap (λ t. same_direction p.direction d && option_eq same_name t (Some id)) tag
 
 -- the packet of a number is of a transaction where it is a part of that
-at_number : (c : Config) (s : State) (h : History) (d : Direction) (id : Name) (n : ℕ)
-    → Shows s (views c h)
+at_number : (c : Config) (first : Contents) (s : State) (h : History) (d : Direction) (id : Name) (n : ℕ)
+    → Shows s (views c first h)
     → AreNamed c h
     → option_map_or (is_of d id) (slice_get s.link.packets n) false ≡ is_part_at c h d id n
-at_number c s h d id n k named =
+at_number c first s h d id n k named =
     let name : SentPacket → Option Name = λ p. part_name (arrival_of c p) in
     let packet : option_map sent_packet (slice_get s.link.packets n) ≡ slice_get (sent h) n =
     sym (slice_get-map sent_packet s.link.packets n) ∙ ap (λ ps. slice_get ps n) k.link.packets in
@@ -95,22 +96,22 @@ held_and_of : (test : LinkPacket → Bool) (o : Option LinkPacket)
 held_and_of test None = refl
 held_and_of test (Some p) = refl
 
-held_shown : (c : Config) (s : State) (h : History) (d : Direction) (id : Name)
-    → Shows s (views c h)
+held_shown : (c : Config) (first : Contents) (s : State) (h : History) (d : Direction) (id : Name)
+    → Shows s (views c first h)
     → AreNamed c h
     → any_held s.link d id ≡ part_held c h d id
-held_shown c s h d id k named =
+held_shown c first s h d id k named =
     any_numbered (λ p. p.held && is_of d id p) s.link.packets
     ∙ (λ i. any_below (λ n. held_and_of (is_of d id) (slice_get s.link.packets n) i)
     (as_many_packets k.link i))
-    ∙ (λ i. any_below (λ n. k.link.held n i && at_number c s h d id n k named i)
+    ∙ (λ i. any_below (λ n. k.link.held n i && at_number c first s h d id n k named i)
     (length (sent h)))
 
-hand_shown : (c : Config) (s : State) (h : History) (d : Direction) (id : Name)
-    → Shows s (views c h)
+hand_shown : (c : Config) (first : Contents) (s : State) (h : History) (d : Direction) (id : Name)
+    → Shows s (views c first h)
     → AreNamed c h
     → any_in_hand s.link d id ≡ part_in_hand c h d id
-hand_shown c s h d id k named i = list_any (λ l. in_lane l i) lanes where
+hand_shown c first s h d id k named i = list_any (λ l. in_lane l i) lanes where
   in_lane : (l : Lane)
       → option_map_or (is_of d id) (option_and_then (slice_get s.link.packets) (hand_of s.link l))
       false
@@ -123,15 +124,15 @@ hand_shown c s h d id k named i = list_any (λ l. in_lane l i) lanes where
             → option_map_or (is_of d id) (option_and_then (slice_get s.link.packets) o) false
             ≡ option_map_or (is_part_at c h d id) o false
         go None = refl
-        go (Some n) = at_number c s h d id n k named
+        go (Some n) = at_number c first s h d id n k named
 
 -- the link holds a part of a transaction, or a hand has one, where the journal says so
-pub holds_shown : (c : Config) (s : State) (h : History) (d : Direction) (id : Name)
-    → Shows s (views c h)
+pub holds_shown : (c : Config) (first : Contents) (s : State) (h : History) (d : Direction) (id : Name)
+    → Shows s (views c first h)
     → AreNamed c h
     → holds s.link d id ≡ (part_held c h d id || part_in_hand c h d id)
-holds_shown c s h d id k named i =
-    held_shown c s h d id k named i || hand_shown c s h d id k named i
+holds_shown c first s h d id k named i =
+    held_shown c first s h d id k named i || hand_shown c first s h d id k named i
 
 -- ---- receptions
 
@@ -143,10 +144,10 @@ is_some-entry_of s last = go (has_parts s) where
   go false = refl
 
 -- a reception is open where parts were kept
-pub reception_shown : (c : Config) (s : State) (h : History) (d : Direction) (id : Name)
-    → Shows s (views c h)
+pub reception_shown : (c : Config) (first : Contents) (s : State) (h : History) (d : Direction) (id : Name)
+    → Shows s (views c first h)
     → is_some (maps.get (end_of s (receiver_side d)).receiving.entries id)
     ≡ has_parts (heard c h d id)
-reception_shown c s h d id k =
-    ap is_some ((receiving_at c h d k).entries id)
+reception_shown c first s h d id k =
+    ap is_some ((receiving_at c first h d k).entries id)
     ∙ is_some-entry_of (heard c h d id) (last_tick c h d id)

@@ -1,5 +1,5 @@
 -- The view after a delivery: what its receiver, the link and the releases have.
-use Rattle.std.proofs.Common.{◌≡◌, ℕ, ◌||◌, if◌then◌else◌, List, length, map, Option}
+use Rattle.std.proofs.Common.{◌≡◌, ℕ, ◌||◌, if◌then◌else◌, List, length, map, Option, None}
 use Rattle.std.specs.List.{filter}
 use Rattle.lpt_packet.specs.declared.direction.Direction.{Direction}
 use Rattle.lpt_packet.specs.declared.direction.Direction.TheVariants.{Up, Down}
@@ -16,7 +16,7 @@ use Rattle.lpt_node.specs.Nodes.{NodeData, Receiving}
 use Rattle.lpt_events.specs.declared.reply.Answer.TheVariants.{Delivered}
 use Rattle.lpt_journal.specs.Jobs.{jobs, went_up}
 use Rattle.lpt_journal.specs.Journal.{History, SentPacket, with_all}
-use Rattle.lpt_journal.specs.Link.{sent, is_lost}
+use Rattle.lpt_journal.specs.Link.{sent, tags, is_lost}
 use Rattle.lpt_journal.specs.Receivers.{heard, heard_now, ends, takes, is_closed, last_tick, clock}
 use Rattle.lpt_journal.specs.Releases.{releases, released_now}
 use Rattle.lpt_journal.specs.Replies.{outcome_puts}

@@ -1,7 +1,7 @@
 -- What shows a journal refuses, answers and goes on as the journal says.
 use Rattle.lpt_events.specs.declared.config.Config.{Config}
 use Rattle.lpt_events.specs.declared.event.Event.{Event}
-use Rattle.lpt_events.specs.declared.event.Event.TheVariants.{Open, Send, Plain, Finish, Lose, Take, Deliver, Tick, Expire, Claim, Commit, Apply}
+use Rattle.lpt_events.specs.declared.event.Event.TheVariants.{Open, Send, Plain, Finish, Lose, Damage, Take, Deliver, Tick, Expire, Claim, Commit, Apply}
 use Rattle.lpt_memory.specs.Memories.{Contents}
 use Rattle.lpt_journal.specs.Journal.{History}
 use Rattle.lpt_journal.specs.Jobs.{ticket}
@@ -26,6 +26,7 @@ ready_shown c first s h (Send d id n) k fits = tt
 ready_shown c first s h (Plain flags service subtype body) k fits = tt
 ready_shown c first s h (Finish d id) k fits = tt
 ready_shown c first s h (Lose n) k fits = tt
+ready_shown c first s h (Damage d b) k fits = tt
 ready_shown c first s h (Take l n) k fits = tt
 ready_shown c first s h (Deliver l) k fits = tt
 ready_shown c first s h (Tick side) k fits = tt
