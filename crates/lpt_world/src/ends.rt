@@ -271,6 +271,7 @@ impl Ends {
     ) -> Result<Reply, Parsed>
         requires full { refusal_of self.old.config (state_of self.old) (Event.Deliver lane) ≡ None }
         requires read { IsReadOf self.old.config (octets_held self.old.link.at lane) lane parsed }
+        requires numbers { numbered self.old.on_craft.at.jobs + 1 < 2 ^ 64 }
         ensures ok { IfOk result (λ r. (state_of self.new, r)
             ≡ after self.old.config place (state_of self.old) (Event.Deliver lane)) }
         ensures back { IfErr result (λ p. p ≡ parsed) }

@@ -1,11 +1,12 @@
 -- A delivery of what was read outside is done, and the longer journal is shown.
-use Rattle.std.proofs.Common.{◌≡◌, ◌∙◌, ap, subst, sym, length, None}
+use Rattle.std.proofs.Common.{arith, ◌≡◌, ◌∙◌, ap, subst, sym, length, None}
 use Rattle.lpt_events.specs.declared.event.Event.TheVariants.{Deliver}
 use Rattle.lpt_journal.specs.Replies.{reply}
 use Rattle.lpt_machine.specs.State.{refusal_of, after}
 use Rattle.lpt_world.specs.EndsInside.{state_of}
 use Rattle.lpt_world.specs.Outside.{IsOfHand}
 use Rattle.lpt_world.specs.Worlds.{Shown, refusal_at, history}
+use Rattle.lpt_world.proofs.LegalLemmas.{numbered_few}
 use Rattle.lpt_world.proofs.OutsideLemmas.{read_of}
 use Rattle.lpt_world.proofs.WorldLemmas.{free_shown, shown_push, reply_shown}
 use Rattle.lpt_world.proofs.world.World.deliver_parsed.Goals as goal
@@ -15,6 +16,11 @@ deliver_read-requires-clause-read c =
     read_of c.self.inside.ends c.self.inside.first c.self.inside.journal.items c.args.lane c.args.parsed c.self.invariant
     (subst (λ (w : Shown). IsOfHand w c.args.lane c.args.parsed) (sym c.self.view_is)
     (c.is_of_hand.ensures.0 c.if-not-is_of_hand.false))
+
+pub deliver_read-requires-clause-numbers : goal.deliver_read-requires-clause-numbers
+deliver_read-requires-clause-numbers c =
+    omega (arith, numbered_few c.self.inside.ends.config c.self.inside.first (state_of c.self.inside.ends)
+    c.self.inside.journal.items c.self.invariant.told c.self.invariant.shows)
 
 pub invariant_of-self-in-Ok : goal.invariant_of-self-in-Ok
 invariant_of-self-in-Ok c =

@@ -13,7 +13,7 @@ returns c =
     let first = c.self.inside.first in
     let j = c.self.inside.journal.items in
     c.holds.ensures
-    ∙ holds_shown e.config (state_of e) (history_of e.config first j) c.args.direction c.args.id
+    ∙ holds_shown e.config first (state_of e) (history_of e.config first j) c.args.direction c.args.id
     c.self.invariant.shows (shown_named e first j c.self.invariant)
     ∙ ap (λ (w : Shown). part_held w.config (history w) c.args.direction c.args.id
     || part_in_hand w.config (history w) c.args.direction c.args.id) c.self.view_is
