@@ -2,14 +2,15 @@
 
 ghost use Rattle.std.specs.Prelude.{◌≡◌, ◌⊎◌, IsSome, IfOk, OnErr};
 ghost use Rattle.lpt_words.specs.Words.{words};
-ghost use Rattle.lpt_words.specs.Grammar.{alone_of, arguments_of, claim_of, commit_of, deliver_of, expire_of, finish_of, is_comment, lane_and_packet_of, lose_of, damage_of, open_of, pass_of, plain_of, reading_of, send_of, show_memory_of, show_clear_of, show_of, show_whole_of, take_of, tick_of, words_reading, IsAsked, TakesMemory};
+ghost use Rattle.lpt_words.specs.Grammar.{alone_of, arguments_of, claim_of, commit_of, deliver_of, expire_of, finish_of, is_comment, lane_and_packet_of, lose_of, damage_of, open_of, pass_of, plain_of, reading_of, send_of, take_of, tick_of, IsAsked, TakesMemory};
 
 use crate::load::{Load, read_load};
 use crate::names::{
     Keyword, read_count, read_direction, read_flags, read_keyword, read_lane, read_node,
-    read_packet_number, read_u8, read_u16, read_u32, read_worker,
+    read_packet_number, read_u8, read_u16, read_worker,
 };
 use crate::numbers::read_hex;
+use crate::showing::read_show;
 use crate::words::{LONGEST_LINE, split_word};
 use lpt_events::{Lane, Side, Worker};
 use lpt_packet::{Direction, Name, Octets};
@@ -366,70 +367,6 @@ fn read_alone(rest: &[u8], command: Command) -> Option<Command>
     match split_word(rest) {
         None => Some(command),
         Some(_) => None,
-    }
-}
-
-// The words after `show`.
-fn read_show(rest: &[u8]) -> Option<Command>
-    ensures { result ≡ show_of (words rest.now) }
-{
-    let (what, more) = split_word(rest)?;
-    let Some((packet, rest)) = split_word(more) else {
-        return read_show_whole(what);
-    };
-    if what == b"memory".as_slice() {
-        return read_show_memory(more);
-    }
-    if what == b"clear".as_slice() {
-        return read_show_clear(more);
-    }
-    if split_word(rest).is_some() || what != b"packet".as_slice() {
-        return None;
-    }
-    let packet = read_packet_number(packet)?;
-    Some(Command::ShowPacket(packet))
-}
-
-// The words after `show clear`.
-fn read_show_clear(rest: &[u8]) -> Option<Command>
-    ensures { result ≡ show_clear_of (words rest.now) }
-{
-    let (direction, rest) = split_word(rest)?;
-    let (id, rest) = split_word(rest)?;
-    if split_word(rest).is_some() {
-        return None;
-    }
-    let direction = read_direction(direction)?;
-    let id = read_u16(id)?;
-    Some(Command::ShowClear(direction, id))
-}
-
-// The words after `show memory`.
-fn read_show_memory(rest: &[u8]) -> Option<Command>
-    ensures { result ≡ show_memory_of (words rest.now) }
-{
-    let (id, rest) = split_word(rest)?;
-    let (address, rest) = split_word(rest)?;
-    let (len, rest) = split_word(rest)?;
-    if split_word(rest).is_some() {
-        return None;
-    }
-    let id = read_u8(id)?;
-    let address = read_u32(address)?;
-    let len = read_u32(len)?;
-    Some(Command::ShowMemory(id, address, len))
-}
-
-// What is shown whole.
-fn read_show_whole(word: &[u8]) -> Option<Command>
-    ensures { result ≡ show_whole_of word.now }
-{
-    if word == b"released".as_slice() {
-        Some(Command::ShowReleased)
-    } else if word == b"journal".as_slice() {
-        Some(Command::ShowJournal)
-    } else {
-        None
     }
 }
 

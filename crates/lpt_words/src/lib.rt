@@ -9,6 +9,7 @@ mod grammar;
 mod load;
 mod names;
 mod numbers;
+mod showing;
 mod words;
 
 pub use grammar::{Command, Reading, read_line};

@@ -33,21 +33,30 @@ few_of request flags (Refused code) = go (nat_le (number_of code) 2) where
       ≤ 4
   go true = omega arith
   go false =
-      omega (arith, length-map (acceptance request flags ++ failure request 4 (number_of code) ∷ []) verification,
-      length-append (acceptance request flags) (failure request 4 (number_of code) ∷ []),
-      one_if (asks flags 1) request 1)
+      omega (
+        arith,
+        length-map (acceptance request flags ++ failure request 4 (number_of code) ∷ []) verification,
+        length-append (acceptance request flags) (failure request 4 (number_of code) ∷ []),
+        one_if (asks flags 1) request 1,
+      )
 few_of request flags (Carried r) =
     let before = acceptance request flags ++ started request flags in
     let after = completed request flags in
     let all : length (reports_of request flags (Carried r))
-        ≡ length (map verification before ++ data_report r) + length (map verification after) =
+    ≡ length (map verification before ++ data_report r) + length (map verification after) =
     length-append (map verification before ++ data_report r) (map verification after) in
-    omega (arith, all,
-    length-append (map verification before) (data_report r),
-    length-map before verification, length-map after verification,
-    length-append (acceptance request flags) (started request flags),
-    one_if (asks flags 1) request 1, one_if (asks flags 2) request 3, one_if (asks flags 8) request 7,
-    one_data r) where
+    omega (
+      arith,
+      all,
+      length-append (map verification before) (data_report r),
+      length-map before verification,
+      length-map after verification,
+      length-append (acceptance request flags) (started request flags),
+      one_if (asks flags 1) request 1,
+      one_if (asks flags 2) request 3,
+      one_if (asks flags 8) request 7,
+      one_data r,
+    ) where
       one_data : (r : Option Report) → length (data_report r) ≤ 1
       one_data None = omega arith
       one_data (Some x) = omega arith
@@ -84,6 +93,9 @@ few_packets c d ms = go (head_of d.jobs.jobs) where
   go (Ready r) =
       let reports = message_reports r.apid r.message (ending_at c d ms r) in
       let made = report_packets c d.sending d.clock reports in
-      omega (arith, link_few c.part_size made,
-      length-report_packets c d.sending d.clock reports,
-      few_reports r.apid r.message (ending_at c d ms r))
+      omega (
+        arith,
+        link_few c.part_size made,
+        length-report_packets c d.sending d.clock reports,
+        few_reports r.apid r.message (ending_at c d ms r),
+      )

@@ -128,8 +128,15 @@ numbered_few c first s j told shows =
     let h = history_of c first j in
     let v = jobs_view c first h in
     let fit = jobs_fit c first j told in
-    omega (arith, shows.jobs.first, ap length shows.jobs.jobs,
-    length-jobs_from (Rattle.lpt_machine.specs.Shows.mark_at v) v.applied (drop v.applied v.messages),
-    length-drop v.applied v.messages, fit.executed, fit.claimed,
-    length-map (jobs c h) (λ (r : Release). r.message), jobs_few c h,
-    length-history_of c first j)
+    omega (
+      arith,
+      shows.jobs.first,
+      ap length shows.jobs.jobs,
+      length-jobs_from (Rattle.lpt_machine.specs.Shows.mark_at v) v.applied (drop v.applied v.messages),
+      length-drop v.applied v.messages,
+      fit.executed,
+      fit.claimed,
+      length-map (jobs c h) (λ (r : Release). r.message),
+      jobs_few c h,
+      length-history_of c first j,
+    )

@@ -1,27 +1,22 @@
 //! Both ends, the link between them, and what was opened and released: all that an event changes.
 
-ghost use Rattle.std.specs.Prelude.{◌≡◌, ◌+◌, ◌<◌, ◌↔◌, ◌≤◌, ◌^◌, IfOk, IfErr, IsTrue, OnErr, vec_len, None, Some, length};
+ghost use Rattle.std.specs.Prelude.{◌≡◌, ◌+◌, ◌<◌, ◌≤◌, ◌^◌, IfOk, OnErr, None, Some, length};
 ghost use Rattle.std.specs.Option.{option_map};
-ghost use Rattle.std.specs.Vec.{vec_capacity};
-ghost use Rattle.lpt_events.specs.Lanes.{lane_direction};
 ghost use Rattle.lpt_jobs.specs.Jobs.{numbered};
 ghost use Rattle.lpt_link.specs.Links.{after_put};
-ghost use Rattle.lpt_node.specs.Accepting.{accepted};
 ghost use Rattle.lpt_node.specs.Asking.{refusal_of as node_refusal};
 ghost use Rattle.lpt_node.specs.Faults.{node_fault};
-ghost use Rattle.lpt_node.specs.Origins.{arrival_from};
 ghost use Rattle.lpt_world.specs.EndsSound.{IsSound};
-ghost use Rattle.lpt_world.specs.Outside.{octets_held, IsReadOf};
-ghost use Rattle.lpt_events.specs.Sides.{sender_side, receiver_side};
+ghost use Rattle.lpt_events.specs.Sides.{sender_side};
 ghost use Rattle.lpt_events.specs.Configs.{IsConfig};
-ghost use Rattle.lpt_machine.specs.State.{no_state, end_of, refusal_of, after, released_of, add_release, as_list, put_report, put_some, IsAccepted, IsReady, quiet as quiet_reply, put_one as put_one_reply};
+ghost use Rattle.lpt_machine.specs.State.{no_state, end_of, refusal_of, after, as_list, put_report, put_some, IsReady, quiet as quiet_reply, put_one as put_one_reply};
 
 use crate::faults::of_link;
 use crate::tickets::Tickets;
 use crate::{Answer, Event, Opening, Puts, Release, Reply, StepFault};
 use lpt_link::{Lane, Link};
 use lpt_memory::Memories;
-use lpt_node::{Accepted, Ask, Config, Node, NodeFault, Outcome, Parsed, Side};
+use lpt_node::{Ask, Config, Node, NodeFault, Side};
 use lpt_packet::{Direction, Name, Octets};
 use lpt_part::count;
 use std::alloc::{AllocError, Global};
@@ -45,11 +40,7 @@ impl Ends {
     ghost use Rattle.lpt_world.specs.EndsInside.{state_of};
 
     /// Ends at which nothing has happened.
-    pub(crate) fn new(
-        alloc: Global,
-        config: Config,
-        memories: Memories,
-    ) -> Result<Ends, AllocError>
+    pub(crate) fn new(alloc: Global, config: Config, memories: Memories) -> Result<Ends, AllocError>
         requires { IsConfig config }
         ensures { IfOk result (λ e. (e.config ≡ config) × (state_of e ≡ no_state config memories)) }
     {
@@ -245,97 +236,6 @@ impl Ends {
         }
     }
 
-    // Delivers what is in a lane's hand.
-    fn deliver(&mut self, place: u64, lane: Lane) -> Result<Reply, AllocError>
-        requires free { refusal_of self.old.config (state_of self.old) (Event.Deliver lane) ≡ None }
-        requires numbers { numbered self.old.on_craft.at.jobs + 1 < 2 ^ 64 }
-        ensures ok { IfOk result (λ r. (state_of self.new, r)
-            ≡ after self.old.config place (state_of self.old) (Event.Deliver lane)) }
-        ensures err { OnErr result (state_of self.new ≡ state_of self.old) }
-        ensures config { self.new.config ≡ self.old.config }
-    {
-        let parsed = self.parsed(lane)?;
-        match self.deliver_read(place, lane, parsed) {
-            Ok(reply) => Ok(reply),
-            Err(_) => Err(AllocError),
-        }
-    }
-
-    /// Delivers what is in a lane's hand, which was read before. The only error is want of memory;
-    /// then what was read is handed back, and nothing has changed.
-    pub(crate) fn deliver_read(
-        &mut self,
-        place: u64,
-        lane: Lane,
-        parsed: Parsed,
-    ) -> Result<Reply, Parsed>
-        requires full { refusal_of self.old.config (state_of self.old) (Event.Deliver lane) ≡ None }
-        requires read { IsReadOf self.old.config (octets_held self.old.link.at lane) lane parsed }
-        requires numbers { numbered self.old.on_craft.at.jobs + 1 < 2 ^ 64 }
-        ensures ok { IfOk result (λ r. (state_of self.new, r)
-            ≡ after self.old.config place (state_of self.old) (Event.Deliver lane)) }
-        ensures back { IfErr result (λ p. p ≡ parsed) }
-        ensures err { OnErr result (state_of self.new ≡ state_of self.old) }
-        ensures config { self.new.config ≡ self.old.config }
-    {
-        if self.released.reserve(1).is_err() || self.link.reserve(1).is_err() {
-            return Err(parsed);
-        }
-        let Accepted {
-            outcome,
-            packet,
-            released,
-        } = self.receive(lane, parsed)?;
-        let _ = self.link.drop_hand(lane);
-        self.note_release(place, lane.direction(), outcome, released);
-        Ok(self.report(Answer::Delivered(outcome), packet))
-    }
-
-    // Gives the receiver of a lane what was in its hand.
-    fn receive(&mut self, lane: Lane, parsed: Parsed) -> Result<Accepted, Parsed>
-        requires side { parsed.side ≡ receiver_side (lane_direction lane) }
-        requires apid { parsed.apid ≡ self.old.config.apid }
-        requires part_size { parsed.p ≡ self.old.config.part_size }
-        requires numbers { numbered self.old.on_craft.at.jobs + 1 < 2 ^ 64 }
-        ensures ok { IfOk result (λ r. IsAccepted (state_of self.old) lane (state_of self.new) r
-            (accepted (receiver_side (lane_direction lane)) self.old.config
-            (end_of (state_of self.old) (receiver_side (lane_direction lane))) (arrival_from parsed))) }
-        ensures back { IfErr result (λ p. p ≡ parsed) }
-        ensures err { OnErr result (state_of self.new ≡ state_of self.old) }
-        ensures config { self.new.config ≡ self.old.config }
-        ensures link { self.new.link ≡ self.old.link }
-        ensures released { self.new.released ≡ self.old.released }
-    {
-        match lane.direction() {
-            Direction::Up => self.on_craft.accept(parsed),
-            Direction::Down => self.on_ground.accept(parsed),
-        }
-    }
-
-    // Notes a message that was released, where one was.
-    fn note_release(
-        &mut self,
-        place: u64,
-        direction: Direction,
-        outcome: Outcome,
-        released: Option<Octets>,
-    )
-        requires { vec_len self.old.released < vec_capacity self.old.released }
-        ensures state { state_of self.new ≡ record (state_of self.old) {
-          released = add_release self.old.released.items place direction outcome released;
-        } }
-        ensures config { self.new.config ≡ self.old.config }
-        ensures link { self.new.link ≡ self.old.link }
-    {
-        match released {
-            Some(message) => {
-                let of = transaction(direction, outcome);
-                self.released.push_reserved(Release { place, of, message });
-            }
-            None => {}
-        }
-    }
-
     // Puts a node's report on the link, where it made one, and answers.
     pub(crate) fn report(&mut self, answer: Answer, packet: Option<Octets>) -> Reply
         requires { 0 < self.old.link.spare }
@@ -351,48 +251,6 @@ impl Ends {
             None => quiet(answer),
         }
     }
-
-    // Reads a copy of what is in a lane's hand, for its receiver.
-    fn parsed(&self, lane: Lane) -> Result<Parsed, AllocError>
-        requires { refusal_of self.now.config (state_of self.now) (Event.Deliver lane) ≡ None }
-        ensures { IfOk result (λ x. IsReadOf self.now.config (octets_held self.now.link.at lane) lane x) }
-    {
-        let octets = Octets::from_vec(self.held(lane).to_vec(self.alloc)?);
-        Ok(Parsed::read(
-            octets,
-            receiver(lane),
-            self.config.apid,
-            self.config.part_size,
-        ))
-    }
-
-    /// Whether this was read of what is in a lane's hand, for its receiver.
-    pub(crate) fn is_read_of(&self, lane: Lane, parsed: &Parsed) -> bool
-        requires { refusal_of self.now.config (state_of self.now) (Event.Deliver lane) ≡ None }
-        ensures { IsTrue result ↔ IsReadOf self.now.config (octets_held self.now.link.at lane) lane parsed.now }
-    {
-        let octets = self.held(lane);
-        parsed.is_of(
-            octets,
-            receiver(lane),
-            self.config.apid,
-            self.config.part_size,
-        )
-    }
-
-    // The octets of the packet in a lane's hand.
-    fn held(&self, lane: Lane) -> &[u8]
-        requires { refusal_of self.now.config (state_of self.now) (Event.Deliver lane) ≡ None }
-        ensures { octets_held self.now.link.at lane ≡ Some result.now }
-    {
-        let Some(n) = self.link.hand(lane) else {
-            unreachable!()
-        };
-        let Some(octets) = self.link.packet(n) else {
-            unreachable!()
-        };
-        octets
-    }
 }
 
 // The side that sends in a direction.
@@ -402,16 +260,6 @@ fn sender(direction: Direction) -> Side
     match direction {
         Direction::Up => Side::Ground,
         Direction::Down => Side::Craft,
-    }
-}
-
-// The side that receives what a lane carries.
-fn receiver(lane: Lane) -> Side
-    ensures { result ≡ receiver_side (lane_direction lane) }
-{
-    match lane.direction() {
-        Direction::Up => Side::Craft,
-        Direction::Down => Side::Ground,
     }
 }
 
@@ -447,15 +295,5 @@ pub(crate) fn put_reserved(
     match link.put(direction, tag, octets) {
         Ok(n) => n,
         Err(_) => unreachable!(),
-    }
-}
-
-// The transaction of a released message, by the outcome of its delivery.
-fn transaction(direction: Direction, outcome: Outcome) -> Option<(Direction, Name)>
-    ensures { result ≡ released_of direction outcome }
-{
-    match outcome {
-        Outcome::Released(id, _) => Some((direction, id)),
-        _ => None,
     }
 }

@@ -3,6 +3,7 @@
 
 mod clearing;
 mod damaging;
+mod delivering;
 mod ends;
 mod faults;
 mod outside;

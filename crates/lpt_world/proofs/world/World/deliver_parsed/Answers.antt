@@ -19,8 +19,11 @@ deliver_read-requires-clause-read c =
 
 pub deliver_read-requires-clause-numbers : goal.deliver_read-requires-clause-numbers
 deliver_read-requires-clause-numbers c =
-    omega (arith, numbered_few c.self.inside.ends.config c.self.inside.first (state_of c.self.inside.ends)
-    c.self.inside.journal.items c.self.invariant.told c.self.invariant.shows)
+    omega (
+      arith,
+      numbered_few c.self.inside.ends.config c.self.inside.first (state_of c.self.inside.ends)
+          c.self.inside.journal.items c.self.invariant.told c.self.invariant.shows,
+    )
 
 pub invariant_of-self-in-Ok : goal.invariant_of-self-in-Ok
 invariant_of-self-in-Ok c =
