@@ -17,7 +17,7 @@ use std::test::Fail;
 const DUMP: [u8; 8] = [1, 1, 0, 0, 0, 0x10, 0, 2];
 
 /// The body of a dump of one octet more, of which the report is opened as a message.
-const LARGE: [u8; 8] = [1, 1, 0, 0, 0, 0x10, 0, 3];
+pub(crate) const LARGE: [u8; 8] = [1, 1, 0, 0, 0, 0x10, 0, 3];
 
 /// TM\[6,6\] of count 0 at clock 0: the two octets ab cd.
 const DUMPED: [u8; 31] = [
