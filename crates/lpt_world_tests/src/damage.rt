@@ -1,7 +1,7 @@
 //! What the link's noise leaves of packets.
 
 use crate::packets::{FIRST_UP, FOREIGN, IDLE, REPORT};
-use crate::scenes::{CONFIG, new_world};
+use crate::scenes::{CONFIG, answer_of, new_world};
 use crate::stations::octets_of;
 use lpt_link::Lane::S1;
 use lpt_node::{Outcome, Why};
@@ -22,8 +22,8 @@ fn ignores(rt: &impl Abort, alloc: Global, world: &mut World) -> Result<(), Fail
     let front = damage(alloc, world, Up, &FIRST_UP[..12])?;
     let nothing = damage(alloc, world, Down, &[])?;
     assert!(rt; front == Ok(Answer::Put(0)) && nothing == Ok(Answer::Put(1)));
-    let taken = asked(world, Event::Take(S1, 0));
-    let delivered = asked(world, Event::Deliver(S1));
+    let taken = answer_of(world, Event::Take(S1, 0));
+    let delivered = answer_of(world, Event::Deliver(S1));
     let ignored = Answer::Delivered(Outcome::Ignored(Why::Unreadable));
     assert!(rt; taken == Ok(Answer::Took(0)) && delivered == Ok(ignored));
     Ok(())
@@ -56,13 +56,5 @@ fn damage(
     octets: &[u8],
 ) -> Result<Result<Answer, StepFault>, Fail> {
     let octets = octets_of(alloc, octets)?;
-    Ok(asked(world, Event::Damage(direction, octets)))
-}
-
-// What a world gives for an event of seat 0.
-fn asked(world: &mut World, event: Event) -> Result<Answer, StepFault> {
-    match world.step(0, event) {
-        Ok(reply) => Ok(reply.answer),
-        Err(refused) => Err(refused.fault),
-    }
+    Ok(answer_of(world, Event::Damage(direction, octets)))
 }

@@ -11,6 +11,10 @@ mod counting;
 #[cfg(test)]
 mod damage;
 #[cfg(test)]
+mod execution_growths;
+#[cfg(test)]
+mod executions;
+#[cfg(test)]
 mod growths;
 #[cfg(test)]
 mod outside;

@@ -97,6 +97,8 @@ fn names_each_fault(rt: HostRuntime) {
         (StepFault::HandFull, 48, "HandFull"),
         (StepFault::HandEmpty, 49, "HandEmpty"),
         (StepFault::NothingDue, 50, "NothingDue"),
+        (StepFault::NoJob, 51, "NoJob"),
+        (StepFault::NotReady, 52, "NotReady"),
         (StepFault::LooksWhole, 54, "LooksWhole"),
         (StepFault::ClockEnd, 56, "ClockEnd"),
         (StepFault::NoSuchSeat, 57, "NoSuchSeat"),

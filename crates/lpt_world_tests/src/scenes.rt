@@ -166,6 +166,14 @@ pub(crate) fn new_world(alloc: Global, config: Config) -> Result<World, Fail> {
     Ok(World::new(alloc, config, memories(alloc)?)?)
 }
 
+/// What a world gives for an event of seat 0.
+pub(crate) fn answer_of(world: &mut World, event: Event) -> Result<Answer, StepFault> {
+    match world.step(0, event) {
+        Ok(reply) => Ok(reply.answer),
+        Err(refused) => Err(refused.fault),
+    }
+}
+
 /// Plays the rows in a new world, and looks at what it shows.
 pub(crate) fn play(rt: &impl Abort, alloc: Global, scene: &Scene) -> Result<(), Fail> {
     let mut world = new_world(alloc, scene.config)?;
