@@ -1,0 +1,123 @@
+"""The two nodes: what each counts, sends and receives."""
+
+from .packets import LONGEST_PACKET, Fault, Packet, write_command, write_packet
+from .parts import PART_SUBTYPES, part_count
+
+
+class Reception:
+    """The parts of a message that came so far, by their numbers, and when the last one did."""
+
+    def __init__(self):
+        self.parts = {}
+        self.count = None
+        self.tick = 0
+
+    def message(self):
+        """The message, where all its parts are there."""
+        if self.count is None or len(self.parts) < self.count:
+            return None
+        return b"".join(self.parts[number] for number in range(1, self.count + 1))
+
+
+class Node:
+    """One end: what it counts, the messages that it sends, and those that it receives."""
+
+    def __init__(self, settings, is_craft):
+        self.settings = settings
+        self.sends, self.receives = ("down", "up") if is_craft else ("up", "down")
+        self.is_craft = is_craft
+        self.clock = settings.clock
+        self.count = 0
+        self.counters = {}
+        self.outgoing = {}
+        self.closed = set()
+        self.receptions = {}
+        self.ended = set()
+
+    def make(self, service, subtype, body, flags=0):
+        """The next packet of this node."""
+        count, self.count = self.count, (self.count + 1) % 16384
+        apid, peer = self.settings.apid, self.settings.source
+        if not self.is_craft:
+            return write_command(apid, count, flags, service, subtype, peer, body)
+        counter = self.counters.get((service, subtype), 0)
+        self.counters[service, subtype] = (counter + 1) % 65536
+        header = bytes([0x20, service, subtype]) + counter.to_bytes(2, "big")
+        header += peer.to_bytes(2, "big") + self.clock.to_bytes(4, "big")
+        return write_packet(Packet(False, apid, count, header + body))
+
+    def open(self, identifier, message):
+        """Takes a message, to send it; tells of how many parts it is."""
+        if identifier in self.outgoing or identifier in self.closed:
+            raise Fault(41, "InUse")
+        if len(message) <= self.settings.part_size:
+            raise Fault(42, "Short")
+        if len(message) > LONGEST_PACKET:
+            raise Fault(43, "Long")
+        if len(self.outgoing) >= self.settings.outgoing:
+            raise Fault(44, "TooMany")
+        self.outgoing[identifier] = message
+        return part_count(message, self.settings.part_size)
+
+    def send(self, identifier, number):
+        """A part of an open message, in a packet."""
+        if identifier not in self.outgoing:
+            raise Fault(45, "NotOpen")
+        message, size = self.outgoing[identifier], self.settings.part_size
+        count = part_count(message, size)
+        if not 1 <= number <= count:
+            raise Fault(46, "NoSuchPart")
+        place = 0 if number == 1 else 2 if number == count else 1
+        octets = message[(number - 1) * size : number * size]
+        body = identifier.to_bytes(2, "big") + number.to_bytes(2, "big") + octets
+        return self.make(13, PART_SUBTYPES[self.sends][place], body)
+
+    def finish(self, identifier):
+        """Closes the sender of an open message."""
+        if identifier not in self.outgoing:
+            raise Fault(45, "NotOpen")
+        del self.outgoing[identifier]
+        self.closed.add(identifier)
+
+    def least_free(self):
+        """The least identifier that is free, or `None`."""
+        names = range(65536)
+        return next((n for n in names if n not in self.outgoing and n not in self.closed), None)
+
+    def accept(self, part):
+        """Keeps a part: what became of it, and the message, where it is whole now."""
+        name = part.identifier
+        if name in self.ended:
+            return "ignored Closed", None
+        if name not in self.receptions and len(self.receptions) >= self.settings.receptions:
+            return "ignored NoRoom", None
+        reception = self.receptions.setdefault(name, Reception())
+        reception.tick = self.clock
+        if part.number in reception.parts:
+            return f"again {self.receives} {name} {part.number}", None
+        reception.parts[part.number] = part.octets
+        if part.place == 2:
+            reception.count = part.number
+        message = reception.message()
+        if message is None:
+            return f"kept {self.receives} {name} {part.number}", None
+        self._end(name)
+        return f"released {self.receives} {name} {len(message)}", message
+
+    def _end(self, identifier):
+        """Ends a reception."""
+        del self.receptions[identifier]
+        self.ended.add(identifier)
+
+    def expire(self):
+        """Ends the overdue reception whose last part came first."""
+        due = [
+            (reception.tick, name)
+            for name, reception in self.receptions.items()
+            if self.clock - reception.tick >= self.settings.timeout
+        ]
+        if not due:
+            raise Fault(50, "NothingDue")
+        _, name = min(due)
+        self._end(name)
+        return name

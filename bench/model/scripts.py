@@ -1,0 +1,179 @@
+"""The script language: its lines, and what a script prints."""
+
+import re
+
+from .packets import LONGEST_PACKET, Fault, hexadecimal
+from .world import World
+
+LONGEST_LINE = 140000
+
+
+class Unreadable(Exception):
+    """A line that the grammar doesn't have."""
+
+
+def number(least, greatest):
+    """Reads a number in a range."""
+
+    def read(word):
+        if not re.fullmatch("[0-9]{1,10}", word) or not least <= int(word) <= greatest:
+            raise Unreadable
+        return int(word)
+
+    return read
+
+
+def one_of(*words):
+    """Reads one of some words."""
+
+    def read(word):
+        if word not in words:
+            raise Unreadable
+        return word
+
+    return read
+
+
+def octets_of(word):
+    """Reads octets."""
+    if word == "-":
+        return b""
+    if not re.fullmatch("([0-9a-fA-F]{2})+", word):
+        raise Unreadable
+    return bytes.fromhex(word)
+
+
+DIRECTION, NODE = one_of("up", "down"), one_of("ground", "craft")
+LANE, WORKER = one_of("s1", "s2", "g1", "g2"), one_of("w1", "w2")
+IDENTIFIER, PACKET, COUNT = number(0, 65535), number(0, 9999999999), number(1, 100000)
+FLAGS, OCTET, SEQUENCE, ADDRESS = (number(0, n) for n in (15, 255, 16383, 0xFFFFFFFF))
+
+# What each line has behind its first word, or behind its first two of `show`.
+GRAMMAR = {
+    "open": [DIRECTION, IDENTIFIER, octets_of],
+    "send": [DIRECTION, IDENTIFIER, IDENTIFIER],
+    "plain": [FLAGS, OCTET, OCTET, octets_of],
+    "finish": [DIRECTION, IDENTIFIER],
+    "lose": [PACKET],
+    "damage": [DIRECTION, octets_of],
+    "take": [LANE, PACKET],
+    "deliver": [LANE],
+    "pass": [LANE, PACKET],
+    "tick": [NODE, COUNT],
+    "claim": [WORKER],
+    "commit": [WORKER],
+    "apply": [],
+    "work": [],
+    "expire": [NODE],
+    "show released": [],
+    "show packet": [PACKET],
+    "show memory": [OCTET, ADDRESS, ADDRESS],
+    "show clear": [DIRECTION, IDENTIFIER],
+    "show journal": [],
+}
+
+
+def read_load(words):
+    """What a `load` line asks for."""
+    readers = [IDENTIFIER, SEQUENCE, FLAGS, OCTET]
+    front, rest = words[:4], words[4:]
+    if len(front) < 4 or len(rest) % 2 or not 1 <= len(rest) // 2 <= 255:
+        raise Unreadable
+    numbers = [read(word) for read, word in zip(readers, front)]
+    areas = [(ADDRESS(a), octets_of(b)) for a, b in zip(rest[::2], rest[1::2])]
+    length = 15 + sum(8 + len(octets) for _, octets in areas)
+    if length > LONGEST_PACKET or not all(octets for _, octets in areas):
+        raise Unreadable
+    return numbers + [areas]
+
+
+def read_line(words):
+    """The name of a line, and what it asks for."""
+    if words[0] == "load":
+        return "load", read_load(words[1:])
+    length = 2 if words[0] == "show" else 1
+    name, rest = " ".join(words[:length]), words[length:]
+    if name == "tick" and len(rest) == 1:
+        rest = rest + ["1"]
+    if name not in GRAMMAR or len(rest) != len(GRAMMAR[name]):
+        raise Unreadable
+    return name, [read(word) for read, word in zip(GRAMMAR[name], rest)]
+
+
+class Session:
+    """A script's run: a new world, which answers lines."""
+
+    def __init__(self, settings):
+        self.world = World(settings)
+        self.refused = False
+
+    def answer(self, line):
+        """What a line prints, line by line. (Each octet is a character here, whatever it is.)"""
+        words = [word for word in line.decode("latin-1").split(" ") if word]
+        if not words or words[0].startswith("#"):
+            return []
+        name, asked = read_line(words)
+        if name.startswith("show"):
+            return self._show(name, asked)
+        printed = []
+        try:
+            for event, *values in self._events(name, asked):
+                printed.append(event(*values))
+                self.world.events += 1
+        except Fault as fault:
+            self.refused = True
+            printed.append(f"refused {fault}")
+        return printed
+
+    def _events(self, name, asked):
+        """The events that a line asks for."""
+        world, jobs = self.world, self.world.jobs
+        if name == "pass":
+            return [(world.take, *asked), (world.deliver, asked[0])]
+        if name == "work":
+            return [(jobs.claim, "w1"), (jobs.commit, "w1"), (world.apply,)]
+        if name in ("claim", "commit"):
+            return [(getattr(jobs, name), *asked)]
+        return [(getattr(world, name), *asked)]
+
+    def _show(self, name, asked):
+        """What a `show` line prints."""
+        world = self.world
+        if name == "show released":
+            return world.released or ["none"]
+        if name == "show journal":
+            return [f"journal {world.events}"]
+        if name == "show clear":
+            return ["clear yes" if world.is_clear(*asked) else "clear no"]
+        if name == "show packet":
+            packets = world.link.packets
+            shown = hexadecimal(packets[asked[0]][1]) if asked[0] < len(packets) else "none"
+            return [f"packet {asked[0]} {shown}"]
+        memory, start, length = asked
+        octets = world.memories.octets.get(memory, b"")
+        is_there = memory in world.memories.octets and start + length <= len(octets)
+        shown = hexadecimal(octets[start : start + length]) if is_there else "none"
+        return [f"memory {memory} {start} {shown}"]
+
+
+def lines_of(script):
+    """The lines of a script, without their ends; `None` for one that is too long."""
+    *whole, last = script.split(b"\n")
+    for line in whole:
+        yield None if len(line) > LONGEST_LINE else line.removesuffix(b"\r")
+    if last:
+        yield None if len(last) > LONGEST_LINE else last
+
+
+def run(script, settings):
+    """What a script prints, and its status."""
+    session, printed = Session(settings), []
+    for place, line in enumerate(lines_of(script), 1):
+        try:
+            if line is None:
+                raise Unreadable
+            printed += session.answer(line)
+        except Unreadable:
+            printed.append(f"line {place}: unreadable")
+            return "".join(line + "\n" for line in printed), 2
+    return "".join(line + "\n" for line in printed), int(session.refused)

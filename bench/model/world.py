@@ -1,0 +1,214 @@
+"""A world: the nodes, the link, the jobs and the memories, and the events that happen there."""
+
+from .jobs import Jobs
+from .link import Link
+from .memories import Failure, Memories, load_body
+from .nodes import Node
+from .packets import Fault, hexadecimal, number_of, read_headers, read_packet, write_command
+from .parts import ABORT_SUBTYPE, PART_SUBTYPES, read_part
+from .settings import LAST_TICK
+
+# The octets of telemetry with a part, beside the part's own.
+ROOM_BESIDE_PART = 23
+
+
+def parsed(octets):
+    """The headers of a packet, or `None` of octets that have none."""
+    try:
+        packet = read_packet(octets)
+        return None if packet is None else read_headers(packet)
+    except Fault:
+        return None
+
+
+class World:
+    """Two nodes, the link, the jobs and the memories. Each event gives the line that is printed."""
+
+    def __init__(self, settings):
+        self.settings = settings
+        self.nodes = {"ground": Node(settings, False), "craft": Node(settings, True)}
+        self.link = Link()
+        self.jobs = Jobs()
+        self.memories = Memories(settings.memory)
+        self.released = []
+        self.events = 0
+
+    def sender(self, direction):
+        """The node from which a direction goes."""
+        return self.nodes["ground" if direction == "up" else "craft"]
+
+    def receiver(self, direction):
+        """The node to which a direction goes."""
+        return self.nodes["craft" if direction == "up" else "ground"]
+
+    def longest(self):
+        """The most octets of a packet on the link."""
+        return self.settings.part_size + ROOM_BESIDE_PART
+
+    def open(self, direction, identifier, message):
+        """Hands a message to its sender."""
+        count = self.sender(direction).open(identifier, message)
+        return f"opened {direction} {identifier} parts {count}"
+
+    def load(self, identifier, count, flags, memory, areas):
+        """Hands the packet of a load to its sender."""
+        apid, source = self.settings.apid, self.settings.source
+        body = load_body(memory, areas)
+        return self.open("up", identifier, write_command(apid, count, flags, 6, 2, source, body))
+
+    def send(self, direction, identifier, number):
+        """Puts a part on the link."""
+        packet = self.sender(direction).send(identifier, number)
+        return f"put {self.link.put(direction, packet)}"
+
+    def plain(self, flags, service, subtype, body):
+        """Puts a request on the link that is no part."""
+        if service == 13 and subtype in PART_SUBTYPES["up"]:
+            raise Fault(60, "PartRequest")
+        if 13 + len(body) > self.longest():
+            raise Fault(43, "Long")
+        packet = self.nodes["ground"].make(service, subtype, body, flags)
+        return f"put {self.link.put('up', packet)}"
+
+    def finish(self, direction, identifier):
+        """Closes a sender."""
+        self.sender(direction).finish(identifier)
+        return f"finished {direction} {identifier}"
+
+    def lose(self, number):
+        """Loses a packet."""
+        self.link.lose(number)
+        return f"lost {number}"
+
+    def damage(self, direction, octets):
+        """Puts on the link what noise left."""
+        if len(octets) > self.longest():
+            raise Fault(43, "Long")
+        try:
+            read_packet(octets)
+        except Fault:
+            return f"put {self.link.put(direction, octets)}"
+        raise Fault(54, "LooksWhole")
+
+    def take(self, lane, number):
+        """Takes a packet into a lane's hand."""
+        self.link.take(lane, number)
+        return f"took {number}"
+
+    def deliver(self, lane):
+        """Gives what is in a lane's hand to the node at its end.
+
+        The link has the nodes' packets, and octets that are no packet: nothing else is told apart.
+        """
+        octets = self.link.give(lane)
+        headers = parsed(octets)
+        if headers is None:
+            return "ignored Unreadable"
+        node = self.nodes["craft" if lane in ("s1", "s2") else "ground"]
+        part = read_part(headers, self.settings.part_size)
+        if part is not None:
+            outcome, message = node.accept(part)
+            if message is not None:
+                self._release(node, f"{node.receives} {part.identifier}", message)
+            return outcome
+        if node.is_craft:
+            self._release(node, "plain", octets)
+            return f"plain {len(octets)}"
+        return self._note(headers)
+
+    def _release(self, node, words, message):
+        """Releases a message; on the spacecraft it becomes a job."""
+        self.released.append(f"{words} {hexadecimal(message)}")
+        if node.is_craft:
+            self.jobs.add(message)
+
+    def _note(self, headers):
+        """Ground notes a report; one of an abortion closes the sender."""
+        if (headers.service, headers.subtype) != (13, ABORT_SUBTYPE):
+            return f"report {headers.service} {headers.subtype}"
+        identifier, ground = number_of(headers.body[:2]), self.nodes["ground"]
+        if identifier in ground.outgoing:
+            ground.finish(identifier)
+        return f"abort {identifier} {headers.body[2]}"
+
+    def tick(self, name, count):
+        """Moves a clock on, as far as it goes; each tick is an event of its own."""
+        node = self.nodes[name]
+        ticks = min(count, LAST_TICK - node.clock)
+        node.clock += ticks
+        if ticks < count:
+            self.events += ticks
+            raise Fault(56, "ClockEnd")
+        # One more is counted where the line's event is.
+        self.events += ticks - 1
+        return f"clock {node.clock}"
+
+    def expire(self, name):
+        """Ends an overdue reception; the spacecraft reports that."""
+        node = self.nodes[name]
+        identifier = node.expire()
+        if node.is_craft:
+            body = identifier.to_bytes(2, "big") + b"\x01"
+            self.link.put("down", node.make(13, ABORT_SUBTYPE, body))
+        return f"expired {node.receives} {identifier}"
+
+    def apply(self):
+        """Executes the oldest job, and puts its reports on the link."""
+        message = self.jobs.take()
+        request = parsed(message)
+        if request is None or request.packet[:2] != (True, self.settings.apid):
+            return "applied silent"
+        try:
+            identifier, reply = self._execute(request)
+        except Failure as failure:
+            self._report_failure(request, message[:4], failure.code)
+            return f"applied code {failure.code}"
+        self._report_success(request, message[:4], identifier, reply)
+        return "applied done" + ("" if identifier is None else f" down {identifier}")
+
+    def _execute(self, request):
+        """Executes a request: its reply, and the identifier under which that is opened."""
+        reply, craft = self.memories.execute(request), self.nodes["craft"]
+        if reply is None or 19 + len(reply[1]) <= self.longest():
+            return None, reply
+        identifier = craft.least_free()
+        if identifier is None:
+            raise Failure(7)
+        if len(craft.outgoing) >= self.settings.outgoing:
+            raise Failure(8)
+        return identifier, reply
+
+    def _verify(self, subtype, body):
+        """Puts a report of verification on the link."""
+        self.link.put("down", self.nodes["craft"].make(1, subtype, body))
+
+    def _report_failure(self, request, request_id, code):
+        """Reports that a request was refused."""
+        if code > 2 and request.nibble & 1:
+            self._verify(1, request_id)
+        self._verify(2 if code <= 2 else 4, request_id + code.to_bytes(2, "big"))
+
+    def _report_success(self, request, request_id, identifier, reply):
+        """Reports that a request was carried out."""
+        if request.nibble & 1:
+            self._verify(1, request_id)
+        if request.nibble & 2:
+            self._verify(3, request_id)
+        if reply is not None:
+            packet = self.nodes["craft"].make(6, *reply)
+            if identifier is None:
+                self.link.put("down", packet)
+            else:
+                self.nodes["craft"].outgoing[identifier] = packet
+        if request.nibble & 8:
+            self._verify(7, request_id)
+
+    def is_clear(self, direction, identifier):
+        """Whether nothing is left of a message."""
+        for its_direction, octets in self.link.present():
+            headers = parsed(octets) if its_direction == direction else None
+            part = headers and read_part(headers, self.settings.part_size)
+            if part and part.identifier == identifier:
+                return False
+        receptions = self.receiver(direction).receptions
+        return identifier not in receptions and identifier not in self.sender(direction).outgoing
