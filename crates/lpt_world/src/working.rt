@@ -80,8 +80,12 @@ impl Ends {
         let ticket = Ticket::new(boot, job, message);
         match prepare(self.alloc, &shape, self.config.apid, ticket) {
             Ok(prepared) => {
-                let _ = self.on_craft.commit(boot, job, prepared.reading());
-                Ok(quiet(Answer::Committed(boot, job)))
+                let counts = self.on_craft.commit(boot, job, prepared.reading());
+                Ok(quiet(if counts {
+                    Answer::Committed(boot, job)
+                } else {
+                    Answer::Stale(boot, job)
+                }))
             }
             Err(ticket) => {
                 let message = ticket.into_message();

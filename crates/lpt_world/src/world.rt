@@ -205,5 +205,9 @@ fn in_range(event: &Event)
         Event::Claim(_) => {}
         Event::Commit(_) => {}
         Event::Apply => {}
+        Event::Retire(_, id) => {
+            let _id = *id;
+        }
+        Event::Restart(_) => {}
     }
 }
