@@ -1,3 +1,4 @@
+pub mod AnewLemmas
 pub mod ArrivalLemmas
 pub mod BodyLemmas
 pub mod MapLemmas

@@ -1,5 +1,5 @@
 -- What an end does when a transaction is retired, and when it is started anew.
-use Rattle.std.specs.Prelude.{ℕ, ◌+◌, Bool, not, if◌then◌else◌, is_some}
+use Rattle.std.specs.Prelude.{◌+◌, Bool, not, if◌then◌else◌, is_some}
 use Rattle.std.specs.FinMap as map
 use Rattle.lpt_packet.specs.declared.direction.Direction.{Direction}
 use Rattle.lpt_packet.specs.Names.{Name}

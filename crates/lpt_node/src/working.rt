@@ -14,7 +14,7 @@ use lpt_packet::Octets;
 use std::alloc::AllocError;
 
 impl Node {
-    /// How many times the node was started anew.
+    /// The number of this boot: how many times the node was started anew.
     pub fn boot(&self) -> u64
         ensures { result ≡ self.now.at.boot }
     {
