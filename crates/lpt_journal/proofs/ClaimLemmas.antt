@@ -1,6 +1,5 @@
 -- What holds of jobs holds again after a claim.
-use Rattle.std.proofs.Common.{◌≡◌, ◌∙◌, ap, sym, refl, ℕ, ◌<◌, ◌==◌, nat_le, Bool, true, false, not, if◌then◌else◌, ◌∷◌, length, Option, Some, None, arith}
-use Rattle.std.proofs.lemmas.Bool.Decides.{nat_tests}
+use Rattle.std.proofs.Common.{◌≡◌, ◌∙◌, ap, sym, refl, ◌<◌, nat_le, Bool, true, false, not, if◌then◌else◌, ◌∷◌, length, Option, Some, None, arith}
 use Rattle.std.proofs.lemmas.Option.{slice_get-map}
 use Rattle.std.specs.List.{slice_get}
 use Rattle.std.specs.Option.{is_some, option_map}
@@ -14,6 +13,7 @@ use Rattle.lpt_events.specs.declared.fault.StepFault.TheVariants.{HandFull, NoJo
 use Rattle.lpt_events.specs.declared.side.Side.TheVariants.{Craft}
 use Rattle.lpt_events.specs.declared.worker.Worker.{Worker}
 use Rattle.lpt_events.specs.declared.worker.Worker.TheVariants.{W1, W2}
+use Rattle.lpt_packet.proofs.Readings.{eq_true}
 use Rattle.lpt_journal.specs.Journal.{History}
 use Rattle.lpt_journal.specs.Jobs.{boot, jobs, claimed, job_given, ticket, is_committed}
 use Rattle.lpt_journal.specs.Refusals.{refusal}
@@ -21,9 +21,6 @@ use Rattle.lpt_journal.specs.Replies.{entry}
 use Rattle.lpt_journal.specs.Work.{restarted_since}
 use Rattle.lpt_journal.proofs.TestLemmas.{le_false, two_pass}
 use Rattle.lpt_journal.proofs.TicketLemmas.{messages, IsTicket, JobsAreSound}
-
-same_number : (a b : ℕ) → a ≡ b → (a == b) ≡ true
-same_number a b e = grind (arith, nat_tests)
 
 -- of two workers that are the same as a third, none is another
 third_same : (w v u : Worker)
@@ -99,7 +96,7 @@ claim_step c first h w can sound =
           boot_fits = omega (arith, it.boot_now);
           restarted =
               ap (λ b. if b then false else restarted_since h v) s
-              ∙ ap not (sym (same_number u.boot (boot h Craft) it.boot_now));
+              ∙ ap not (sym (eq_true u.boot (boot h Craft) it.boot_now));
           out = λ now. record {
             waits = omega (arith, it.is_next, sound.applied_fits);
             was_claimed = omega (arith, it.is_next);

@@ -1,6 +1,6 @@
 -- What holds of jobs holds again after a commit, an execution, a new start and every other event.
 use Rattle.std.proofs.Common.{◌≡◌, ◌∙◌, ap, sym, refl, ℕ, ◌+◌, ◌<◌, ◌≤◌, ◌==◌, Bool, true, false, not, ◌&&◌, ◌||◌, if◌then◌else◌, inl, inr, List, [], ◌∷◌, Option, Some, None, arith}
-use Rattle.std.proofs.lemmas.Bool.Decides.{eqb_tells, nat_tests}
+use Rattle.std.proofs.lemmas.Bool.Decides.{eqb_tells}
 use Rattle.std.specs.Option.{is_some}
 use Rattle.lpt_memory.specs.Memories.{Contents}
 use Rattle.lpt_memory.specs.Readings.{Job}
@@ -13,7 +13,7 @@ use Rattle.lpt_events.specs.declared.side.Side.TheVariants.{Craft}
 use Rattle.lpt_events.specs.declared.worker.Worker.{Worker}
 use Rattle.lpt_packet.specs.declared.direction.Direction.{Direction}
 use Rattle.lpt_packet.specs.Names.{Name}
-use Rattle.lpt_packet.proofs.Readings.{true_eq}
+use Rattle.lpt_packet.proofs.Readings.{eq_false, true_eq}
 use Rattle.lpt_events.specs.Sides.{direction_to}
 use Rattle.lpt_journal.specs.Due.{due}
 use Rattle.lpt_journal.specs.Journal.{History}
@@ -30,12 +30,9 @@ use Rattle.lpt_journal.proofs.TicketLemmas.{IsOut, IsTicket, JobsAreSound, joble
 
 -- ---- commits
 
-pub held_ticket : (o : Option Job) → not (is_some o) ≡ false → (t : Job) × (o ≡ Some t)
+held_ticket : (o : Option Job) → not (is_some o) ≡ false → (t : Job) × (o ≡ Some t)
 held_ticket None e = absurd cc
 held_ticket (Some t) e = (t, refl)
-
-differs : (a b : ℕ) → ¬ (a ≡ b) → (a == b) ≡ false
-differs a b apart = elim (eqb_tells a b) [ inl t ↦ absurd (apart t.1) | inr t ↦ t.0 ]
 
 -- the worker that commits has a job
 pub commits_one : (c : Config) (h : History) (w : Worker)
@@ -86,7 +83,7 @@ commit_step c first h w can sound =
         → (t.boot == boot h Craft) ≡ b
         → (b && t.job == u.job) ≡ false
     another t u apart now true is =
-        differs t.job u.job (apart (true_eq t.boot (boot h Craft) is ∙ sym now))
+        eq_false t.job u.job (apart (true_eq t.boot (boot h Craft) is ∙ sym now))
     another t u apart now false is = refl
 
     has : (t : Job)
@@ -173,13 +170,12 @@ restart_step c first h sound = record {
       let had = sound.tickets w t e in
       record {
         boot_fits = omega (arith, had.boot_fits);
-        restarted = ap not (sym (past_boot t.boot (boot h Craft) had.boot_fits));
+        restarted =
+            ap not (sym (eq_false t.boot (boot h Craft + 1) (λ e. omega (arith, had.boot_fits))));
         out = λ now. absurd (omega (arith, had.boot_fits));
       };
   differ = sound.differ;
-} where
-  past_boot : (b now : ℕ) → b ≤ now → (b == now + 1) ≡ false
-  past_boot b now fits = grind (arith, nat_tests)
+}
 
 -- ---- every journal
 

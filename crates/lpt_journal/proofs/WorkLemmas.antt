@@ -51,6 +51,7 @@ stale_same c first h w t had earlier = record {
   held = λ n. refl;
   hands = λ l. refl;
   opened = refl;
+  current = λ d id. refl;
   senders = λ d id. refl;
   made = λ d. refl;
   heard = λ d id. refl;

@@ -25,7 +25,7 @@ use Rattle.lpt_journal.specs.Link.{sent, is_held}
 use Rattle.lpt_journal.specs.Receivers.{heard, is_closed, last_tick, clock}
 use Rattle.lpt_journal.specs.Releases.{releases}
 use Rattle.lpt_journal.specs.Replies.{recorded}
-use Rattle.lpt_journal.specs.Senders.{restarts, sender, opened, made}
+use Rattle.lpt_journal.specs.Senders.{restarts, current, sender, opened, made}
 
 -- ---- commits
 
@@ -60,6 +60,7 @@ pub record IsSameBut (c : Config) (first : Contents) (w : Worker) (new old : His
   pub held : (n : ℕ) → is_held new n ≡ is_held old n
   pub hands : (l : Lane) → hand new l ≡ hand old l
   pub opened : opened new ≡ opened old
+  pub current : (d : Direction) (id : Name) → current new d id ≡ current old d id
   pub senders : (d : Direction) (id : Name) → sender new d id ≡ sender old d id
   pub made : (d : Direction) → made new d ≡ made old d
   pub heard : (d : Direction) (id : Name) → heard c new d id ≡ heard c old d id
