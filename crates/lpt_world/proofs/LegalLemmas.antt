@@ -1,5 +1,5 @@
 -- A journal that is told is legal, and its jobs fit.
-use Rattle.std.proofs.Common.{arith, ◌≡◌, ◌∙◌, ap, sym, subst, refl, ◌+◌, ◌≤◌, ℕ, suc, Bool, true, false, if◌then◌else◌, List, [], ◌∷◌, ◌++◌, length, map, reverse, drop, slice_get, Option, Some, None}
+use Rattle.std.proofs.Common.{arith, ◌≡◌, ◌∙◌, ap, sym, subst, refl, ◌+◌, ◌≤◌, ℕ, suc, Bool, true, false, if◌then◌else◌, List, [], ◌∷◌, ◌++◌, length, map, reverse, drop, slice_get, Some}
 use Rattle.std.proofs.lemmas.List.{append-nil, append_assoc, reverse-append, length-append, length-reverse, length-map, length-drop, map-append}
 use Rattle.lpt_memory.specs.Memories.{Contents}
 use Rattle.lpt_jobs.specs.declared.job.Mark.{Mark}
@@ -122,28 +122,29 @@ one_at_most [] only = omega arith
 one_at_most (x ∷ []) only = omega arith
 one_at_most (x ∷ y ∷ ys) only = absurd (omega (arith, only 1 y refl))
 
+length-with_all : (xs ys : List Release) → length (with_all xs ys) ≡ length xs + length ys
+length-with_all xs [] = omega arith
+length-with_all xs (y ∷ ys) = length-append xs (y ∷ ys)
+
 -- no more jobs come than events happen
 jobs_few : (c : Config) (h : History) → length (jobs c h) ≤ length h
 jobs_few c [] = omega arith
-jobs_few c (x ∷ h) = go (restarts x.event Craft)
+jobs_few c (x ∷ h) = go (restarts x.event Craft) (jobs_few c h)
   where
     new : List Release
     new = came_up (released_by c x h)
 
     go : (anew : Bool)
+        → length (jobs c h) ≤ length h
         → length (if anew then [] else with_all (jobs c h) new) ≤ suc (length h)
-    go true = omega arith
-    go false =
+    go true few = omega arith
+    go false few =
         omega (
           arith,
           length-with_all (jobs c h) new,
-          jobs_few c h,
+          few,
           one_at_most new (λ k r e. (new_job c x h k r e).0),
         )
-
-    length-with_all : (xs ys : List Release) → length (with_all xs ys) ≡ length xs + length ys
-    length-with_all xs [] = omega arith
-    length-with_all xs (y ∷ ys) = length-append xs (y ∷ ys)
 
 length-jobs_from : (mark : ℕ → List ℕ → Mark) (n : ℕ) (ms : List (List ℕ))
     → length (jobs_from mark n ms) ≡ length ms

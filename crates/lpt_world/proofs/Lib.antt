@@ -1,4 +1,5 @@
 pub mod OutsideLemmas
+pub mod RetireLemmas
 pub mod JobLemmas
 pub mod LegalLemmas
 pub mod RunLemmas

@@ -1,9 +1,9 @@
 -- A world that enters an event shows its longer journal.
-use Rattle.std.proofs.Common.{◌≤◌, nat_lt, Bool, true, false, if◌then◌else◌, ◌≡◌, ◌∙◌, ap, sym, subst, refl, ℕ, suc, List, [], ◌∷◌, ◌++◌, length, map, reverse, Option, Some, None}
+use Rattle.std.proofs.Common.{◌≤◌, nat_lt, Bool, true, false, if◌then◌else◌, ◌≡◌, ◌∙◌, ap, sym, subst, refl, ℕ, List, [], ◌∷◌, ◌++◌, length, Option, Some, None}
 use Rattle.std.specs.Option.{option_map}
 use Rattle.std.specs.Prelude.{slice_get}
 use Rattle.std.proofs.lemmas.Option.{slice_get-map}
-use Rattle.std.proofs.lemmas.List.{append-nil, append_assoc, reverse-append, length-reverse, length-map, map-append}
+use Rattle.std.proofs.lemmas.List.{append-nil}
 use Rattle.lpt_packet.proofs.Readings.{lt_false}
 use Rattle.lpt_link.specs.declared.packet.LinkPacket.{LinkPacket}
 use Rattle.lpt_link.specs.Links.{octets_at}

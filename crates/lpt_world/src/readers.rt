@@ -3,14 +3,14 @@
 ghost use Rattle.std.specs.Prelude.{◌≡◌, length, slice_get, IfOk};
 ghost use Rattle.std.specs.Option.{option_map, option_copied};
 ghost use Rattle.lpt_journal.specs.Hands.{hand};
-ghost use Rattle.lpt_journal.specs.Headline.{Holds, EachIsLastOpened, AtMostOncePerOpening};
+ghost use Rattle.lpt_journal.specs.Headline.{EachIsLastOpened, AtMostOncePerOpening};
 ghost use Rattle.lpt_journal.specs.Link.{sent, is_held};
 ghost use Rattle.lpt_journal.specs.Receivers.{clock};
 ghost use Rattle.lpt_journal.specs.Releases.{releases};
 ghost use Rattle.lpt_journal.specs.Senders.{opened, sender};
 ghost use Rattle.lpt_memory.specs.Memories.{content_of, sizes_of};
 ghost use Rattle.lpt_events.specs.Configs.{IsConfig};
-ghost use Rattle.lpt_world.specs.Worlds.{IsTold, history, memories_now, state_shown};
+ghost use Rattle.lpt_world.specs.Worlds.{IsTold, Promised, history, memories_now, state_shown};
 
 use crate::{Entry, Opening, Release, World};
 use lpt_ledger::State;
@@ -25,13 +25,14 @@ impl World {
     /// reply that it gives then. Each large message released under a name is byte for byte the one
     /// last opened under it by the other node, at most once per opening. The memories are their
     /// first content, changed by the executed requests in order of release, each of which was
-    /// released by the spacecraft and executed once.
+    /// released by the spacecraft and executed once. What expired is never released, and what was
+    /// released never heard again. No request is executed in another boot than that of its release.
     pub fn journal(&self) -> &[Entry]
         ensures shown { result.now ≡ self.now.journal }
         ensures told { IsTold self.now.config self.now.first self.now.journal }
         ensures configured { IsConfig self.now.config }
         // What holds of every journal, whatever the link did and the nodes were asked.
-        ensures headline { Holds self.now.config self.now.first (history self.now) }
+        ensures promised { Promised self.now }
     {
         self.journal.as_slice()
     }
