@@ -146,7 +146,8 @@ jobs_few c (x ∷ h) = go (restarts x.event Craft) (jobs_few c h)
           one_at_most new (λ k r e. (new_job c x h k r e).0),
         )
 
-length-jobs_from : (mark : ℕ → List ℕ → Mark) (n : ℕ) (ms : List (List ℕ))
+-- there are as many jobs as messages
+pub length-jobs_from : (mark : ℕ → List ℕ → Mark) (n : ℕ) (ms : List (List ℕ))
     → length (jobs_from mark n ms) ≡ length ms
 length-jobs_from mark n [] = refl
 length-jobs_from mark n (m ∷ ms) = ap (λ k. suc k) (length-jobs_from mark (suc n) ms)
