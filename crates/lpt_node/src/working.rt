@@ -57,6 +57,9 @@ impl Node {
         ensures enabled { OnOk result (refusal_claim self.old.at ≡ None) }
         ensures ok { IfOk result (λ t. (self.new.at, t) ≡ claimed self.old.at) }
 
+        // A reading of it may be handed in.
+        ensures out { IfOk result (λ t. IsTrue (is_claimed self.new.at.jobs t.job)) }
+
         ensures side { self.new.side ≡ self.old.side }
         ensures config { self.new.config ≡ self.old.config }
 
