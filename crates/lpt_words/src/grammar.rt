@@ -2,7 +2,7 @@
 
 ghost use Rattle.std.specs.Prelude.{◌≡◌, ◌⊎◌, IsSome, IfOk, OnErr};
 ghost use Rattle.lpt_words.specs.Words.{words};
-ghost use Rattle.lpt_words.specs.Grammar.{alone_of, arguments_of, claim_of, commit_of, deliver_of, expire_of, finish_of, is_comment, lane_and_packet_of, lose_of, damage_of, open_of, pass_of, plain_of, reading_of, send_of, take_of, tick_of, IsAsked, TakesMemory};
+ghost use Rattle.lpt_words.specs.Grammar.{alone_of, arguments_of, claim_of, commit_of, deliver_of, expire_of, finish_of, is_comment, lane_and_packet_of, lose_of, damage_of, open_of, pass_of, plain_of, reading_of, restart_of, retire_of, send_of, take_of, tick_of, IsAsked, TakesMemory};
 
 use crate::load::{Load, read_load};
 use crate::names::{
@@ -52,6 +52,10 @@ pub enum Command {
     Apply,
     /// `work`: claims and commits a request with the first worker, and executes the oldest.
     Work,
+    /// `retire DIRECTION ID`: frees a transaction at both ends.
+    Retire(Direction, Name),
+    /// `restart NODE`: starts a node anew.
+    Restart(Side),
     /// `show released`: prints the messages that were released.
     ShowReleased,
     /// `show packet N`: prints the octets of the packet of this number.
@@ -149,6 +153,8 @@ fn read_arguments(
         Keyword::Commit => Ok(read_commit(rest)),
         Keyword::Apply => Ok(read_alone(rest, Command::Apply)),
         Keyword::Work => Ok(read_alone(rest, Command::Work)),
+        Keyword::Retire => Ok(read_retire(rest)),
+        Keyword::Restart => Ok(read_restart(rest)),
     }
 }
 
@@ -358,6 +364,32 @@ fn read_commit(rest: &[u8]) -> Option<Command>
     }
     let worker = read_worker(worker)?;
     Some(Command::Commit(worker))
+}
+
+// The words after `retire`.
+fn read_retire(rest: &[u8]) -> Option<Command>
+    ensures { result ≡ retire_of (words rest.now) }
+{
+    let (direction, rest) = split_word(rest)?;
+    let (id, rest) = split_word(rest)?;
+    if split_word(rest).is_some() {
+        return None;
+    }
+    let direction = read_direction(direction)?;
+    let id = read_u16(id)?;
+    Some(Command::Retire(direction, id))
+}
+
+// The words after `restart`.
+fn read_restart(rest: &[u8]) -> Option<Command>
+    ensures { result ≡ restart_of (words rest.now) }
+{
+    let (node, rest) = split_word(rest)?;
+    if split_word(rest).is_some() {
+        return None;
+    }
+    let node = read_node(node)?;
+    Some(Command::Restart(node))
 }
 
 // A command whose keyword stands alone.
