@@ -65,6 +65,8 @@ GRAMMAR = {
     "apply": [],
     "work": [],
     "expire": [NODE],
+    "retire": [DIRECTION, IDENTIFIER],
+    "restart": [NODE],
     "show released": [],
     "show packet": [PACKET],
     "show memory": [OCTET, ADDRESS, ADDRESS],
