@@ -1,6 +1,5 @@
 """Configurations, and the files that they are read from."""
 
-import tomllib
 from typing import NamedTuple
 
 LAST_TICK = 0xFFFFFFFF
@@ -54,6 +53,9 @@ def memories_of(array):
 
 def settings_of(text):
     """What the octets of a configuration file mean, or `None` where they are refused."""
+    # Python has it from 3.11 on, and the rest of the model needs no configuration.
+    import tomllib
+
     if len(text) > 1048576:
         return None
     try:
