@@ -15,6 +15,8 @@ class Settings(NamedTuple):
     receptions: int = 8
     outgoing: int = 8
     clock: int = 0
+    per_seat: int = 100000
+    ticks: int = 0
     memory: tuple = ((1, 256, 0),)
 
 
@@ -26,6 +28,8 @@ RANGES = {
     "receptions": (1, 64),
     "outgoing": (1, 64),
     "clock": (0, LAST_TICK),
+    "per_seat": (1, 1000000),
+    "ticks": (0, 65535),
 }
 MEMORY_RANGES = {"id": (0, 255), "size": (1, 1048576), "fill": (0, 255)}
 
