@@ -21,6 +21,7 @@ use Rattle.lpt_journal.specs.Hands.{hand, arrival_of}
 use Rattle.lpt_journal.specs.Journal.{SentPacket, History}
 use Rattle.lpt_journal.specs.Link.{sent, tags}
 use Rattle.lpt_journal.specs.Receivers.{heard, has_parts, last_tick}
+use Rattle.lpt_machine.specs.GoesOn.{AreNamed}
 use Rattle.lpt_machine.specs.Shows.{Shows, sent_packet}
 use Rattle.lpt_machine.specs.State.{State, end_of}
 use Rattle.lpt_machine.specs.Views.{views}
@@ -56,10 +57,6 @@ any_numbered test (x ∷ xs) =
     ∙ sym (below_front (λ n. option_map_or test (slice_get (x ∷ xs) n) false) (length xs))
 
 -- ---- packets
-
--- the tags of the packets that were put are those of the parts that they are
-abbrev pub AreNamed : Config → History → Type 0
-AreNamed c h = tags h ≡ map (λ p. part_name (arrival_of c p)) (sent h)
 
 of_transaction : (c : Config) (d : Direction) (id : Name) (o : Option LinkPacket)
     → option_map (λ p. p.tag) o

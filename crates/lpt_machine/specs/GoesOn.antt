@@ -15,11 +15,14 @@ use Rattle.lpt_machine.specs.Shows.{Shows, JobsFit}
 use Rattle.lpt_machine.specs.State.{State, no_state, refusal_of, IsReady, after}
 use Rattle.lpt_machine.specs.Views.{jobs_view, views}
 
--- what holds of every legal journal besides: jobs fit, and each packet has the tag of the transaction
--- of which it is a part
+-- each packet has the tag of the transaction of which it is a part
+abbrev pub AreNamed : Config → History → Type 0
+AreNamed c h = tags h ≡ map (λ p. part_name (arrival_of c p)) (sent h)
+
+-- what holds of every legal journal besides
 pub record Fits (c : Config) (first : Contents) (h : History) : Type 0 where
   pub jobs : JobsFit (jobs_view c first h) (ticket c h)
-  pub tags : tags h ≡ map (λ p. part_name (arrival_of c p)) (sent h)
+  pub tags : AreNamed c h
 
 -- an event that isn't refused can be done, is answered as the journal says, and the longer journal
 -- is shown

@@ -7,10 +7,10 @@ use Rattle.lpt_journal.specs.Headline.{Holds}
 use Rattle.lpt_world.specs.WorldInside.{IsShown}
 use Rattle.lpt_world.specs.Worlds.{Promised, events_of, history_of}
 use Rattle.lpt_journal.proofs.ExpiryLemmas.{expiry_is_final}
-use Rattle.lpt_journal.proofs.HeadlineLemmas.{every, headline}
+use Rattle.lpt_journal.proofs.HeadlineLemmas.{headline}
 use Rattle.lpt_journal.proofs.WorkLemmas.{work_is_of_its_boot}
-use Rattle.lpt_machine.proofs.ClearShown.{AreNamed}
-use Rattle.lpt_world.proofs.LegalLemmas.{told_is_legal}
+use Rattle.lpt_machine.specs.GoesOn.{AreNamed}
+use Rattle.lpt_world.proofs.LegalLemmas.{told_is_legal, fits}
 
 pub shown_holds : (e : Ends) (first : Contents) (j : List Entry)
     → IsShown e first j
@@ -34,6 +34,4 @@ shown_promised e first j k =
 pub shown_named : (e : Ends) (first : Contents) (j : List Entry)
     → IsShown e first j
     → AreNamed e.config (history_of e.config first j)
-shown_named e first j k =
-    (every e.config first (events_of j) k.configured
-    (told_is_legal e.config first j k.told)).0.names
+shown_named e first j k = (fits e.config first j k.configured k.told).tags
