@@ -7,6 +7,8 @@
 #![tactic(auto)]
 
 #[cfg(test)]
+mod contradictions;
+#[cfg(test)]
 mod counting;
 #[cfg(test)]
 mod damage;
@@ -34,3 +36,7 @@ mod scenes;
 mod sending;
 #[cfg(test)]
 mod stations;
+#[cfg(test)]
+mod walk_growths;
+#[cfg(test)]
+mod walking;
