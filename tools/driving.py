@@ -24,13 +24,16 @@ class Driver:
 
     def run(self, words, read=b"", environment=None):
         """Runs the program: its status, what it printed, and the lines of its complaint."""
-        ran = subprocess.run(
-            [TOP / "crates/lpt/out/lpt", *words],
-            input=read,
-            capture_output=True,
-            env={**os.environ, **(environment or {})},
-            timeout=LONGEST_RUN_SECONDS,
-        )
+        try:
+            ran = subprocess.run(
+                [TOP / "crates/lpt/out/lpt", *words],
+                input=read,
+                capture_output=True,
+                env={**os.environ, **(environment or {})},
+                timeout=LONGEST_RUN_SECONDS,
+            )
+        except subprocess.TimeoutExpired:
+            return "no end", b"", []
         return ran.returncode, ran.stdout, ran.stderr.decode(errors="replace").splitlines()
 
     def verdict(self, case, got, wanted):

@@ -9,6 +9,8 @@
 #[cfg(test)]
 mod anew;
 #[cfg(test)]
+mod contradictions;
+#[cfg(test)]
 mod counting;
 #[cfg(test)]
 mod damage;
@@ -36,5 +38,9 @@ mod scenes;
 mod sending;
 #[cfg(test)]
 mod stations;
+#[cfg(test)]
+mod walk_growths;
+#[cfg(test)]
+mod walking;
 #[cfg(test)]
 mod workers;
