@@ -66,8 +66,8 @@ fn event_of(alloc: Global, does: Does) -> Result<Event, AllocError> {
     Ok(match does {
         Does::Asks(asked) => event(alloc, asked)?,
         Does::Plain(flags, subtype, body) => {
-            let body = octets_of(alloc, body)?;
-            Event::Plain(AckFlags::new(flags).ok_or(AllocError)?, 6, subtype, body)
+            let flags = AckFlags::new(flags).ok_or(AllocError)?;
+            Event::Plain(flags, 6, subtype, octets_of(alloc, body)?)
         }
         Does::Tick => Event::Tick(Side::Craft),
         Does::Expire => Event::Expire(Side::Craft),
