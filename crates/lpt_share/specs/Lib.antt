@@ -1,0 +1,5 @@
+pub mod Agreeing
+pub mod Calls
+pub mod FaultNames
+pub mod Origins
+pub mod Turns
