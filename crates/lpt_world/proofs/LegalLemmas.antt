@@ -1,5 +1,5 @@
 -- A journal that is told is legal, and its jobs fit.
-use Rattle.std.proofs.Common.{arith, ◌≡◌, ◌∙◌, ap, sym, subst, refl, ◌+◌, ◌≤◌, ℕ, suc, List, [], ◌∷◌, ◌++◌, length, map, reverse, drop, slice_get, Option, Some, None}
+use Rattle.std.proofs.Common.{arith, ◌≡◌, ◌∙◌, ap, sym, subst, refl, ◌+◌, ◌≤◌, ℕ, suc, List, [], ◌∷◌, ◌++◌, length, map, reverse, drop, slice_get, Some}
 use Rattle.std.proofs.lemmas.List.{append-nil, append_assoc, reverse-append, length-append, length-reverse, length-map, length-drop, map-append}
 use Rattle.lpt_memory.specs.Memories.{Contents}
 use Rattle.lpt_jobs.specs.declared.job.Mark.{Mark}
@@ -114,7 +114,8 @@ jobs_few c (x ∷ h) =
     length-with_all xs [] = omega arith
     length-with_all xs (y ∷ ys) = length-append xs (y ∷ ys)
 
-length-jobs_from : (mark : ℕ → List ℕ → Mark) (n : ℕ) (ms : List (List ℕ))
+-- there are as many jobs as messages
+pub length-jobs_from : (mark : ℕ → List ℕ → Mark) (n : ℕ) (ms : List (List ℕ))
     → length (jobs_from mark n ms) ≡ length ms
 length-jobs_from mark n [] = refl
 length-jobs_from mark n (m ∷ ms) = ap (λ k. suc k) (length-jobs_from mark (suc n) ms)

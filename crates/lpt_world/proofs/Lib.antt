@@ -1,4 +1,5 @@
 pub mod OutsideLemmas
+pub mod HeldLemmas
 pub mod JobLemmas
 pub mod LegalLemmas
 pub mod RunLemmas

@@ -1,15 +1,11 @@
 -- A world that shows its journal keeps what holds of every legal journal.
-use Rattle.std.proofs.Common.{◌∙◌, subst, List, [], ◌∷◌}
-use Rattle.std.proofs.lemmas.List.{append-nil}
+use Rattle.std.proofs.Common.{List}
 use Rattle.lpt_memory.specs.Memories.{Contents}
-use Rattle.lpt_events.specs.declared.config.Config.{Config}
 use Rattle.lpt_world.specs.declared.ends.Ends.{Ends}
 use Rattle.lpt_events.specs.declared.entry.Entry.{Entry}
-use Rattle.lpt_events.specs.declared.event.Event.{Event}
 use Rattle.lpt_journal.specs.Headline.{Holds}
-use Rattle.lpt_journal.specs.Legal.{Legal}
 use Rattle.lpt_world.specs.WorldInside.{IsShown}
-use Rattle.lpt_world.specs.Worlds.{IsTold, IsToldAfter, events_of, history_of}
+use Rattle.lpt_world.specs.Worlds.{events_of, history_of}
 use Rattle.lpt_journal.proofs.HeadlineLemmas.{every, headline}
 use Rattle.lpt_machine.proofs.ClearShown.{AreNamed}
 use Rattle.lpt_world.proofs.LegalLemmas.{told_is_legal}

@@ -1,9 +1,9 @@
 -- A world that enters an event shows its longer journal.
-use Rattle.std.proofs.Common.{◌≤◌, nat_lt, Bool, true, false, if◌then◌else◌, ◌≡◌, ◌∙◌, ap, sym, subst, refl, ℕ, suc, List, [], ◌∷◌, ◌++◌, length, map, reverse, Option, Some, None}
+use Rattle.std.proofs.Common.{◌≤◌, nat_lt, Bool, true, false, if◌then◌else◌, ◌≡◌, ◌∙◌, ap, sym, subst, refl, ℕ, List, [], ◌∷◌, ◌++◌, length, Option, Some, None}
 use Rattle.std.specs.Option.{option_map}
 use Rattle.std.specs.Prelude.{slice_get}
 use Rattle.std.proofs.lemmas.Option.{slice_get-map}
-use Rattle.std.proofs.lemmas.List.{append-nil, append_assoc, reverse-append, length-reverse, length-map, map-append}
+use Rattle.std.proofs.lemmas.List.{append-nil}
 use Rattle.lpt_packet.proofs.Readings.{lt_false}
 use Rattle.lpt_link.specs.declared.packet.LinkPacket.{LinkPacket}
 use Rattle.lpt_link.specs.Links.{octets_at}
@@ -15,6 +15,8 @@ use Rattle.lpt_events.specs.declared.event.Event.{Event}
 use Rattle.lpt_events.specs.declared.fault.StepFault.{StepFault}
 use Rattle.lpt_events.specs.declared.fault.StepFault.TheVariants.{NoSuchSeat}
 use Rattle.lpt_events.specs.declared.reply.Reply.{Reply}
+use Rattle.lpt_events.specs.declared.worker.Worker.{Worker}
+use Rattle.lpt_events.specs.declared.worker.Worker.TheVariants.{W1, W2}
 use Rattle.lpt_world.specs.EndsInside.{state_of}
 use Rattle.lpt_journal.specs.Journal.{History, SentPacket}
 use Rattle.lpt_journal.specs.Link.{sent}
@@ -24,10 +26,13 @@ use Rattle.lpt_journal.specs.Refusals.{refusal}
 use Rattle.lpt_journal.specs.Replies.{reply, entry, recorded}
 use Rattle.lpt_machine.specs.Shows.{Shows, sent_packet}
 use Rattle.lpt_machine.specs.State.{State, no_state, after, refusal_of, IsReady}
+use Rattle.lpt_machine.specs.Tickets.{no_tickets, ticket_of}
 use Rattle.lpt_machine.specs.Views.{views}
+use Rattle.lpt_world.specs.Workers.{next_job, held_after, held_job}
 use Rattle.lpt_world.specs.WorldInside.{IsShown, IsWorld}
 use Rattle.lpt_world.specs.Worlds.{IsTold, IsToldAfter, events_of, history_of, refusal_at}
 use Rattle.lpt_machine.proofs.Follows.{follows}
+use Rattle.lpt_world.proofs.HeldLemmas.{held_step}
 use Rattle.lpt_world.proofs.LegalLemmas.{events_of-push, length-history_of, onto, onto-events_of, jobs_fit}
 
 -- ---- journals
@@ -93,8 +98,14 @@ shown_push e e' first j x k ranged free done same =
     told_push c first [] j x k.told enabled
     (reply_shown e e' first j x.event x.reply k free done
     ∙ ap (λ es. reply c first (recorded c first es) x.event) (sym past)) in
+    let held : (w : Worker) → ticket_of (state_of e').tickets w
+    ≡ held_job c (history_of c first (j ++ x ∷ [])) w =
+    λ w. ap (λ (s : State). ticket_of s.tickets w) (sym state)
+    ∙ held_step c first (state_of e) h x.event w (length h) k.shows (jobs_fit c first j k.told) free
+    ∙ ap (held_after x.event (next_job c h) w) (k.held w)
+    ∙ sym (ap (λ (g : History). held_job c g w) longer) in
     subst (λ (d : Config). IsWorld d first e' (j ++ x ∷ [])) (sym same)
-    (record { configured = k.configured; shows = shows; told = told })
+    (record { configured = k.configured; shows = shows; held = held; told = told })
 
 -- what an event asks of the ends besides is there
 pub ready_shown : (e : Ends) (first : Contents) (j : List Entry) (ev : Event)
@@ -158,4 +169,10 @@ pub shown_new : (e : Ends) (c : Config) (first : Contents)
 shown_new e c first same state configured =
     let shows = subst (λ (s : State). Shows s (views c first [])) (sym state) (follows.begins c first) in
     subst (λ (d : Config). IsWorld d first e []) (sym same)
-    (record { configured = configured; shows = shows; told = tt })
+    (record { configured = configured; shows = shows; held = held; told = tt }) where
+      none : (w : Worker) → ticket_of no_tickets w ≡ None
+      none W1 = refl
+      none W2 = refl
+
+      held : (w : Worker) → ticket_of (state_of e).tickets w ≡ None
+      held w = ap (λ (s : State). ticket_of s.tickets w) state ∙ none w

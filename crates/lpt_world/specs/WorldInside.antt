@@ -1,19 +1,24 @@
--- What always holds of a world: its ends and its link show its journal, and the journal is told.
-use Rattle.std.specs.Prelude.{List}
+-- What always holds of a world: its ends and its link show its journal, the workers have the jobs that
+-- they claimed, and the journal is told.
+use Rattle.std.specs.Prelude.{◌≡◌, List}
 use Rattle.lpt_events.specs.declared.config.Config.{Config}
 use Rattle.lpt_world.specs.declared.ends.Ends.{Ends}
 use Rattle.lpt_events.specs.declared.entry.Entry.{Entry}
+use Rattle.lpt_events.specs.declared.worker.Worker.{Worker}
 use Rattle.lpt_world.specs.EndsInside.{state_of}
 use Rattle.lpt_events.specs.Configs.{IsConfig}
 use Rattle.lpt_memory.specs.Memories.{Contents}
 use Rattle.lpt_machine.specs.Shows.{Shows}
+use Rattle.lpt_machine.specs.Tickets.{ticket_of}
 use Rattle.lpt_machine.specs.Views.{views}
+use Rattle.lpt_world.specs.Workers.{held_job}
 use Rattle.lpt_world.specs.Worlds.{IsTold, history_of}
 
 -- under this configuration, over this first content of the memories
 pub record IsWorld (c : Config) (first : Contents) (e : Ends) (j : List Entry) : Type 0 where
   pub configured : IsConfig c
   pub shows : Shows (state_of e) (views c first (history_of c first j))
+  pub held : (w : Worker) → ticket_of (state_of e).tickets w ≡ held_job c (history_of c first j) w
   pub told : IsTold c first j
 
 -- under the configuration of the ends

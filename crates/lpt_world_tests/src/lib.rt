@@ -34,3 +34,5 @@ mod scenes;
 mod sending;
 #[cfg(test)]
 mod stations;
+#[cfg(test)]
+mod workers;
