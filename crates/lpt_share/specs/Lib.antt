@@ -1,5 +1,7 @@
 pub mod Agreeing
 pub mod Calls
 pub mod FaultNames
+pub mod Finished
 pub mod Origins
+pub mod Runs
 pub mod Turns

@@ -3,6 +3,7 @@
 ghost use Rattle.std.specs.Prelude.{◌≡◌};
 ghost use Rattle.lpt_share.specs.FaultNames.{code_of, name_of};
 
+use std::alloc::AllocError;
 use thiserror::Error;
 
 /// Why a turn or a run of threads ended before its time.
@@ -41,5 +42,11 @@ impl ShareFault {
             ShareFault::Memory => "Memory",
             ShareFault::NoThread => "NoThread",
         }
+    }
+}
+
+impl From<AllocError> for ShareFault {
+    fn from(_: AllocError) -> ShareFault {
+        ShareFault::Memory
     }
 }

@@ -9,9 +9,14 @@
 mod agree;
 mod call;
 mod fault;
+mod finish;
+mod first;
 mod held;
 mod log;
+mod notices;
+mod run;
 mod same;
+mod seats;
 mod turns;
 mod work;
 
@@ -19,4 +24,5 @@ pub use agree::agrees;
 pub use call::{CallFault, Done, Shared};
 pub use fault::ShareFault;
 pub use log::{Call, SeatLog};
+pub use run::{ShareEnd, Turns, run_threads};
 pub use turns::{Gate, Point};

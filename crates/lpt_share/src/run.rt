@@ -1,0 +1,169 @@
+//! The run of ten seats round one world, each in a thread of its own.
+
+ghost use Rattle.std.specs.Prelude.{◌≡◌, ◌↔◌, Some, length, IfOk, IfErr, IsTrue};
+ghost use Rattle.lpt_journal.specs.Headline.{Holds};
+ghost use Rattle.lpt_world.specs.Worlds.{history};
+ghost use Rattle.lpt_share.specs.Calls.{IsLegal};
+ghost use Rattle.lpt_share.specs.Agreeing.{Agree};
+ghost use Rattle.lpt_share.specs.Origins.{Continues};
+ghost use Rattle.lpt_share.specs.Runs.{IsInOrder};
+
+use crate::first::all_seats;
+use crate::held::Origin;
+use crate::seats::{Ended, Pass, Seat};
+use crate::{Gate, SeatLog, ShareFault, Shared, agrees};
+use lpt_world::World;
+use std::alloc::Global;
+use std::marker::Brand;
+use std::sync::Wait;
+use std::thread;
+use std::thread::Threads;
+
+/// The last seat that has a thread.
+const LAST_SEAT: u8 = 10;
+
+/// How much the seats of a run do.
+#[derive(Clone, Copy, Debug, PartialEq, Eq)]
+pub struct Turns {
+    /// A seat stops before a turn once its log has so many calls, 1 to 1,000,000.
+    pub per_seat: u32,
+    /// How many times each timer ticks, 0 to 65,535.
+    pub ticks: u32,
+}
+
+/// Why a run failed, and the world as it is then.
+#[derive(Drop)]
+pub struct ShareEnd {
+    /// Why it failed.
+    pub fault: ShareFault,
+    /// The world, which went on from the given one.
+    pub world: World,
+}
+
+/// Runs seats 1 to 10 round a world, each in a thread of its own, and answers the world and the log
+/// of each seat, in order of seat. The gate is told of each call that was accepted.
+///
+/// Ground's sender sends and finishes each transaction that is open, the spacecraft's sender too,
+/// also those that are opened meanwhile. Four lanes take and deliver the packets, two workers claim,
+/// prepare, commit and execute the jobs, and two timers tick. The calls of each log are its seat's
+/// entries in the journal behind the given one's. It returns only if each thread ends.
+///
+/// Errors: `Torn`, the journal and the logs don't agree; `Memory`; `NoThread`, a thread couldn't be
+/// started. The world comes back, with all that was done.
+pub fn run_threads<R: Threads + Wait + Sync, G: Gate + Sync>(
+    alloc: Global,
+    rt: &R,
+    world: World,
+    turns: Turns,
+    gate: &G,
+) -> Result<(World, Vec<SeatLog>), ShareEnd>
+    ensures goes_on { IfOk result (λ r. Continues world r.0) }
+    ensures in_order { IfOk result (λ r. IsInOrder 1 r.1.items) }
+    ensures agree { IfOk result (λ r. Agree r.0 (length world.journal) r.1.items) }
+    ensures legal { IfOk result (λ r. IsLegal r.0) }
+    ensures headline { IfOk result (λ r. Holds r.0.config r.0.first (history r.0)) }
+    ensures err { IfErr result (λ e. IsLegal e.world) }
+    ensures err_headline { IfErr result (λ e. Holds e.world.config e.world.first (history e.world)) }
+{
+    run_from::<Brand, R, G>(alloc, rt, world, turns, gate)
+}
+
+// The same, under a lock that knows the given world by its type.
+fn run_from<J: Origin + Send + Sync, R: Threads + Wait + Sync, G: Gate + Sync>(
+    alloc: Global,
+    rt: &R,
+    world: World,
+    turns: Turns,
+    gate: &G,
+) -> Result<(World, Vec<SeatLog>), ShareEnd>
+    requires { J.given ≡ Some world }
+    ensures goes_on { IfOk result (λ r. Continues world r.0) }
+    ensures in_order { IfOk result (λ r. IsInOrder 1 r.1.items) }
+    ensures agree { IfOk result (λ r. Agree r.0 (length world.journal) r.1.items) }
+    ensures legal { IfOk result (λ r. IsLegal r.0) }
+    ensures headline { IfOk result (λ r. Holds r.0.config r.0.first (history r.0)) }
+    ensures err { IfErr result (λ e. IsLegal e.world) }
+    ensures err_headline { IfErr result (λ e. Holds e.world.config e.world.first (history e.world)) }
+{
+    let from = world.journal().len() as u64;
+    let seats = match all_seats(alloc, rt, &world) {
+        Ok(seats) => seats,
+        Err(fault) => return Err(ShareEnd { fault, world }),
+    };
+    let shared: Shared<J> = Shared::from_origin(world);
+    let pass = Pass {
+        alloc,
+        rt,
+        shared: &shared,
+        from,
+        turns,
+        gate,
+    };
+    let done = run_seats(&pass, seats);
+    let world = shared.into_world();
+    let logs = match done {
+        Ok(logs) => logs,
+        Err(fault) => return Err(ShareEnd { fault, world }),
+    };
+    if !are_in_order(logs.as_slice()) || !agrees(&world, from, logs.as_slice()) {
+        let fault = ShareFault::Torn;
+        return Err(ShareEnd { fault, world });
+    }
+    Ok((world, logs))
+}
+
+// Runs each seat in a thread of its own, and waits for all of them. The logs are in the seats' order.
+fn run_seats<'a, J: Origin + Send + Sync, R: Threads + Wait + Sync, G: Gate + Sync>(
+    pass: &Pass<'a, J, R, G>,
+    seats: Vec<Seat>,
+) -> Result<Vec<SeatLog>, ShareFault> {
+    let Ok(mut handles) = Vec::with_capacity(pass.alloc, seats.len()) else {
+        return Err(ShareFault::Memory);
+    };
+    let Ok(mut logs) = Vec::with_capacity(pass.alloc, seats.len()) else {
+        return Err(ShareFault::Memory);
+    };
+    thread::scope(
+        thread::scope_env(),
+        pass.rt,
+        move |scope| -> Result<Vec<SeatLog>, ShareFault> {
+            let mut outcome = Ok(());
+            for seat in seats {
+                match scope.spawn(move || pass.run(seat)) {
+                    Ok(handle) => {
+                        let _ = handles.push(handle);
+                    }
+                    Err(_) => {
+                        outcome = Err(ShareFault::NoThread);
+                        break;
+                    }
+                }
+            }
+            for handle in handles {
+                let ended: Ended = handle.join(pass.rt);
+                let _ = logs.push(ended.log);
+                if let Some(fault) = ended.fault {
+                    outcome = Err(fault);
+                }
+            }
+            outcome?;
+            Ok(logs)
+        },
+    )
+}
+
+// Whether the logs are those of seats 1 to 10, in this order.
+fn are_in_order(logs: &[SeatLog]) -> bool
+    ensures { IsTrue result ↔ IsInOrder 1 logs.now }
+{
+    let mut seat = 1;
+    let mut rest = logs;
+    while let Some((log, tail)) = rest.split_first() {
+        if seat > LAST_SEAT || log.seat != seat {
+            return false;
+        }
+        seat += 1;
+        rest = tail;
+    }
+    seat > LAST_SEAT
+}
