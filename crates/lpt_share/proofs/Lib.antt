@@ -1,3 +1,4 @@
+pub mod FinishLemmas
 pub mod Going
 pub mod RunLemmas
 pub mod TurnLemmas

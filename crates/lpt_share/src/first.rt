@@ -109,11 +109,7 @@ fn open_names(alloc: Global, world: &World, direction: Direction) -> Result<Vec<
 }
 
 // The ten seats, each with its ends of the channels.
-fn seats(
-    alloc: Global,
-    senders: &Senders,
-    receivers: &Receivers,
-) -> Result<Vec<Seat>, AllocError> {
+fn seats(alloc: Global, senders: &Senders, receivers: &Receivers) -> Result<Vec<Seat>, AllocError> {
     let mut all = Vec::new(alloc);
     for (seat, lane) in [(1, Lane::S1), (2, Lane::S2)] {
         let task = Task::Lane(lane, receivers.up.clone()?);
@@ -122,12 +118,20 @@ fn seats(
             jobs: Some(senders.jobs.clone()?),
             opened: None,
         };
-        all.push(Seat { seat, task, outlets })?;
+        all.push(Seat {
+            seat,
+            task,
+            outlets,
+        })?;
     }
     for (seat, lane) in [(3, Lane::G1), (4, Lane::G2)] {
         let task = Task::Lane(lane, receivers.down.clone()?);
         let outlets = Outlets::none();
-        all.push(Seat { seat, task, outlets })?;
+        all.push(Seat {
+            seat,
+            task,
+            outlets,
+        })?;
     }
     all.push(Seat {
         seat: 5,
@@ -146,7 +150,11 @@ fn seats(
             jobs: None,
             opened: Some(senders.opened_down.clone()?),
         };
-        all.push(Seat { seat, task, outlets })?;
+        all.push(Seat {
+            seat,
+            task,
+            outlets,
+        })?;
     }
     all.push(Seat {
         seat: 9,

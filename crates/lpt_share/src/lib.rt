@@ -14,6 +14,7 @@ mod first;
 mod held;
 mod log;
 mod notices;
+mod owed;
 mod run;
 mod same;
 mod seats;

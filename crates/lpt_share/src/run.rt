@@ -1,19 +1,24 @@
 //! The run of ten seats round one world, each in a thread of its own.
 
-ghost use Rattle.std.specs.Prelude.{◌≡◌, ◌↔◌, Some, length, IfOk, IfErr, IsTrue};
+ghost use Rattle.std.specs.Prelude.{◌≡◌, ◌↔◌, ◌≤◌, Some, length, IfOk, IfErr, IsTrue};
 ghost use Rattle.lpt_journal.specs.Headline.{Holds};
 ghost use Rattle.lpt_world.specs.Worlds.{history};
 ghost use Rattle.lpt_share.specs.Calls.{IsLegal};
 ghost use Rattle.lpt_share.specs.Agreeing.{Agree};
+ghost use Rattle.lpt_share.specs.Finished.{IsFinishedIfShort, AreShort, AreOwedCarried, owed_of};
+ghost use Rattle.lpt_world.specs.Worlds.{Shown};
 ghost use Rattle.lpt_share.specs.Origins.{Continues};
 ghost use Rattle.lpt_share.specs.Runs.{IsInOrder};
 
+use crate::finish::{are_carried, are_taken, has_ticked, is_idle};
 use crate::first::all_seats;
 use crate::held::Origin;
+use crate::owed::{Owed, are_owed_carried, open_transactions};
 use crate::seats::{Ended, Pass, Seat};
 use crate::{Gate, SeatLog, ShareFault, Shared, agrees};
+use lpt_events::Side;
 use lpt_world::World;
-use std::alloc::Global;
+use std::alloc::{AllocError, Global};
 use std::marker::Brand;
 use std::sync::Wait;
 use std::thread;
@@ -46,9 +51,13 @@ pub struct ShareEnd {
 /// Ground's sender sends and finishes each transaction that is open, the spacecraft's sender too,
 /// also those that are opened meanwhile. Four lanes take and deliver the packets, two workers claim,
 /// prepare, commit and execute the jobs, and two timers tick. The calls of each log are its seat's
-/// entries in the journal behind the given one's. It returns only if each thread ends.
+/// entries in the journal behind the given one's. Where each log has fewer than `per_seat` calls,
+/// nothing is left to do: each transaction that was open or was opened meanwhile was sent whole and
+/// finished, or aborted; each packet that was never lost was taken; hands and workers are empty, each
+/// job is executed, and each timer has ticked as often as it was to, or its clock is at its greatest.
+/// It returns only if each thread ends.
 ///
-/// Errors: `Torn`, the journal and the logs don't agree; `Memory`; `NoThread`, a thread couldn't be
+/// Errors: `Torn`, the journal and the logs don't agree, or something was left to do; `Memory`; `NoThread`, a thread couldn't be
 /// started. The world comes back, with all that was done.
 pub fn run_threads<R: Threads + Wait + Sync, G: Gate + Sync>(
     alloc: Global,
@@ -60,6 +69,7 @@ pub fn run_threads<R: Threads + Wait + Sync, G: Gate + Sync>(
     ensures goes_on { IfOk result (λ r. Continues world r.0) }
     ensures in_order { IfOk result (λ r. IsInOrder 1 r.1.items) }
     ensures agree { IfOk result (λ r. Agree r.0 (length world.journal) r.1.items) }
+    ensures finished { IfOk result (λ r. IsFinishedIfShort turns.per_seat turns.ticks world r.0 r.1.items) }
     ensures legal { IfOk result (λ r. IsLegal r.0) }
     ensures headline { IfOk result (λ r. Holds r.0.config r.0.first (history r.0)) }
     ensures err { IfErr result (λ e. IsLegal e.world) }
@@ -80,6 +90,7 @@ fn run_from<J: Origin + Send + Sync, R: Threads + Wait + Sync, G: Gate + Sync>(
     ensures goes_on { IfOk result (λ r. Continues world r.0) }
     ensures in_order { IfOk result (λ r. IsInOrder 1 r.1.items) }
     ensures agree { IfOk result (λ r. Agree r.0 (length world.journal) r.1.items) }
+    ensures finished { IfOk result (λ r. IsFinishedIfShort turns.per_seat turns.ticks world r.0 r.1.items) }
     ensures legal { IfOk result (λ r. IsLegal r.0) }
     ensures headline { IfOk result (λ r. Holds r.0.config r.0.first (history r.0)) }
     ensures err { IfErr result (λ e. IsLegal e.world) }
@@ -89,6 +100,10 @@ fn run_from<J: Origin + Send + Sync, R: Threads + Wait + Sync, G: Gate + Sync>(
     let seats = match all_seats(alloc, rt, &world) {
         Ok(seats) => seats,
         Err(fault) => return Err(ShareEnd { fault, world }),
+    };
+    let Ok(owed) = open_transactions(alloc, &world) else {
+        let fault = ShareFault::Memory;
+        return Err(ShareEnd { fault, world });
     };
     let shared: Shared<J> = Shared::from_origin(world);
     let pass = Pass {
@@ -109,7 +124,17 @@ fn run_from<J: Origin + Send + Sync, R: Threads + Wait + Sync, G: Gate + Sync>(
         let fault = ShareFault::Torn;
         return Err(ShareEnd { fault, world });
     }
-    Ok((world, logs))
+    match is_all_done(alloc, &world, from, owed.as_slice(), turns, logs.as_slice()) {
+        Ok(true) => Ok((world, logs)),
+        Ok(false) => {
+            let fault = ShareFault::Torn;
+            Err(ShareEnd { fault, world })
+        }
+        Err(_) => {
+            let fault = ShareFault::Memory;
+            Err(ShareEnd { fault, world })
+        }
+    }
 }
 
 // Runs each seat in a thread of its own, and waits for all of them. The logs are in the seats' order.
@@ -150,6 +175,51 @@ fn run_seats<'a, J: Origin + Send + Sync, R: Threads + Wait + Sync, G: Gate + Sy
             Ok(logs)
         },
     )
+}
+
+// Whether nothing was left to do at the end of a run that began at this place with what was owed; or
+// a log is full, and nothing is asked. The only error is want of memory.
+#[tactic(auto, using(crate::proofs::RunLemmas::not_short, crate::proofs::RunLemmas::all_done))]
+fn is_all_done(
+    alloc: Global,
+    world: &World,
+    from: u64,
+    owed: &[Owed],
+    turns: Turns,
+    logs: &[SeatLog],
+) -> Result<bool, AllocError>
+    requires { from ≤ length world.now.journal }
+    ensures { IfOk result (λ done. IsTrue done → (given : Shown) → from ≡ length given.journal → owed.now ≡ owed_of given
+        → IsFinishedIfShort turns.per_seat turns.ticks given world.now logs.now) }
+{
+    if !are_short(turns.per_seat, logs) {
+        return Ok(true);
+    }
+    let entries = &world.journal()[from as usize..];
+    let p = world.config().part_size;
+    if !is_idle(world)
+        || !has_ticked(world, entries, 5, Side::Craft, turns.ticks)
+        || !has_ticked(world, entries, 6, Side::Ground, turns.ticks)
+        || !are_owed_carried(owed, p, entries)
+        || !are_carried(world, from, entries)
+    {
+        return Ok(false);
+    }
+    are_taken(alloc, world, entries)
+}
+
+// Whether each log has fewer calls than this.
+fn are_short(limit: u32, logs: &[SeatLog]) -> bool
+    ensures { IsTrue result ↔ AreShort limit logs.now }
+{
+    let mut rest = logs;
+    while let Some((log, tail)) = rest.split_first() {
+        if log.calls.len() as u64 >= u64::from(limit) {
+            return false;
+        }
+        rest = tail;
+    }
+    true
 }
 
 // Whether the logs are those of seats 1 to 10, in this order.

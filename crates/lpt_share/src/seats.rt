@@ -80,9 +80,13 @@ impl<'a, J: Origin, R: Wait, G: Gate> Pass<'a, J, R, G> {
         lane: Lane,
         notices: &Receiver<u64>,
     ) -> Result<(), ShareFault> {
-        let _reply =
-            self.shared
-                .ask(self.rt, log, Event::Deliver(lane), Point::Delivered, self.gate)?;
+        let _reply = self.shared.ask(
+            self.rt,
+            log,
+            Event::Deliver(lane),
+            Point::Delivered,
+            self.gate,
+        )?;
         outlets.tell_from(self.rt, log, 0)?;
         for _ in self.rt.forever() {
             let Some(n) = self.notice(log, notices) else {
@@ -103,12 +107,16 @@ impl<'a, J: Origin, R: Wait, G: Gate> Pass<'a, J, R, G> {
         worker: Worker,
         notices: &Receiver<u64>,
     ) -> Result<(), ShareFault> {
-        let _reply =
-            self.shared
-                .ask(self.rt, log, Event::Commit(worker), Point::Committed, self.gate)?;
-        let _count =
-            self.shared
-                .repeat(self.rt, log, &Event::Apply, Point::Applied, self.gate)?;
+        let _reply = self.shared.ask(
+            self.rt,
+            log,
+            Event::Commit(worker),
+            Point::Committed,
+            self.gate,
+        )?;
+        let _count = self
+            .shared
+            .repeat(self.rt, log, &Event::Apply, Point::Applied, self.gate)?;
         outlets.tell_from(self.rt, log, 0)?;
         for _ in self.rt.forever() {
             let Some(_notice) = self.notice(log, notices) else {
