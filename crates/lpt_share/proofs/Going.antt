@@ -1,10 +1,10 @@
 -- A world that enters an event still goes on from the one that its lock was opened with.
-use Rattle.std.proofs.Common.{◌≡◌, refl, sym, ap, subst, List, [], ◌∷◌, ◌++◌, ℕ, Option, Some, None, arith}
+use Rattle.std.proofs.Common.{refl, List, [], ◌∷◌, ◌++◌, ℕ, Option, Some, None}
 use Rattle.lpt_events.specs.declared.entry.Entry.{Entry}
 use Rattle.lpt_events.specs.declared.event.Event.{Event}
 use Rattle.lpt_events.specs.declared.reply.Reply.{Reply}
 use Rattle.lpt_world.specs.Worlds.{Shown, with_entry}
-use Rattle.lpt_share.specs.Origins.{Begins, Continues, GoesOn}
+use Rattle.lpt_share.specs.Origins.{Begins, GoesOn}
 
 pub Begins-append : (gs xs ys : List Entry) → Begins gs xs → Begins gs (xs ++ ys)
 Begins-append [] xs ys b = tt
