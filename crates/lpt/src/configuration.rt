@@ -5,8 +5,8 @@ ghost use Rattle.lpt_part.specs.Splitting.{IsPartSize};
 
 use crate::end::Failure;
 use crate::watched::Watched;
-use lpt_memory::Memories;
 use lpt_events::Turns;
+use lpt_memory::Memories;
 use lpt_node::Config;
 use lpt_settings::{read_config, why_refused};
 use lpt_text::{End, Told, ToolFault, read_text};

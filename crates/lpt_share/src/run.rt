@@ -48,8 +48,8 @@ pub struct ShareEnd {
 /// job is executed, and each timer has ticked as often as it was to, or its clock is at its greatest.
 /// It returns only if each thread ends.
 ///
-/// Errors: `Torn`, the journal and the logs don't agree, or something was left to do; `Memory`; `NoThread`, a thread couldn't be
-/// started. The world comes back, with all that was done.
+/// Errors: `Torn`, the journal and the logs don't agree, or something was left to do; `Memory`;
+/// `NoThread`, a thread couldn't be started. The world comes back, with all that was done.
 pub fn run_threads<R: Threads + Wait + Sync, G: Gate + Sync>(
     alloc: Global,
     rt: &R,
