@@ -1,4 +1,5 @@
 // Has one growth of memory fail: that whose number, from 1, is FAILING_GROWTH in the environment.
+// An octet on file 9, where that is open, tells that it did.
 //
 // tests/growths loads this before the C library into a program that the kit has built, which takes
 // all its memory by malloc and realloc.
@@ -7,6 +8,9 @@ extern void *__libc_malloc(unsigned long size);
 extern void *__libc_realloc(void *old, unsigned long size);
 extern char *getenv(const char *name);
 extern long atol(const char *digits);
+extern long write(int file, const void *place, unsigned long size);
+
+#define TOLD 9
 
 // How many growths there are up to the one that fails; 0 once it has failed, -1 before the first.
 static long left = -1;
@@ -16,7 +20,11 @@ static int fails(void) {
         const char *number = getenv("FAILING_GROWTH");
         left = number ? atol(number) : 0;
     }
-    return left > 0 && --left == 0;
+    if (left == 0 || --left > 0) {
+        return 0;
+    }
+    write(TOLD, "x", 1);
+    return 1;
 }
 
 void *malloc(unsigned long size) { return fails() ? 0 : __libc_malloc(size); }

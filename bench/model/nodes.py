@@ -27,6 +27,7 @@ class Node:
         self.sends, self.receives = ("down", "up") if is_craft else ("up", "down")
         self.is_craft = is_craft
         self.clock = settings.clock
+        self.boot = 0
         self.count = 0
         self.counters = {}
         self.outgoing = {}
@@ -78,6 +79,15 @@ class Node:
             raise Fault(45, "NotOpen")
         del self.outgoing[identifier]
         self.closed.add(identifier)
+
+    def restart(self):
+        """Starts anew: what is open ends, and all counts are 0; the names and the clock stay."""
+        self.boot += 1
+        self.count = 0
+        self.counters = {}
+        self.closed.update(self.outgoing)
+        self.outgoing = {}
+        self.receptions = {}
 
     def least_free(self):
         """The least identifier that is free, or `None`."""

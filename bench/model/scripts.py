@@ -65,6 +65,8 @@ GRAMMAR = {
     "apply": [],
     "work": [],
     "expire": [NODE],
+    "retire": [DIRECTION, IDENTIFIER],
+    "restart": [NODE],
     "show released": [],
     "show packet": [PACKET],
     "show memory": [OCTET, ADDRESS, ADDRESS],
@@ -160,7 +162,7 @@ def lines_of(script):
     """The lines of a script, without their ends; `None` for one that is too long."""
     *whole, last = script.split(b"\n")
     for line in whole:
-        yield None if len(line) > LONGEST_LINE else line.removesuffix(b"\r")
+        yield None if len(line) > LONGEST_LINE else line[:-1] if line[-1:] == b"\r" else line
     if last:
         yield None if len(last) > LONGEST_LINE else last
 

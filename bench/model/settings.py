@@ -1,6 +1,5 @@
 """Configurations, and the files that they are read from."""
 
-import tomllib
 from typing import NamedTuple
 
 LAST_TICK = 0xFFFFFFFF
@@ -16,6 +15,8 @@ class Settings(NamedTuple):
     receptions: int = 8
     outgoing: int = 8
     clock: int = 0
+    per_seat: int = 100000
+    ticks: int = 0
     memory: tuple = ((1, 256, 0),)
 
 
@@ -27,6 +28,8 @@ RANGES = {
     "receptions": (1, 64),
     "outgoing": (1, 64),
     "clock": (0, LAST_TICK),
+    "per_seat": (1, 1000000),
+    "ticks": (0, 65535),
 }
 MEMORY_RANGES = {"id": (0, 255), "size": (1, 1048576), "fill": (0, 255)}
 
@@ -54,6 +57,9 @@ def memories_of(array):
 
 def settings_of(text):
     """What the octets of a configuration file mean, or `None` where they are refused."""
+    # Python has it from 3.11 on, and the rest of the model needs no configuration.
+    import tomllib
+
     if len(text) > 1048576:
         return None
     try:

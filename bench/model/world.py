@@ -152,6 +152,27 @@ class World:
             self.link.put("down", node.make(13, ABORT_SUBTYPE, body))
         return f"expired {node.receives} {identifier}"
 
+    def retire(self, direction, identifier):
+        """Frees a message's identifier at both ends."""
+        sender, receiver = self.sender(direction), self.receiver(direction)
+        if identifier in sender.outgoing:
+            raise Fault(55, "StillOpen")
+        if identifier not in sender.closed:
+            raise Fault(45, "NotOpen")
+        if not self.is_clear(direction, identifier):
+            raise Fault(53, "NotClear")
+        sender.closed.remove(identifier)
+        receiver.ended.discard(identifier)
+        return f"retired {direction} {identifier}"
+
+    def restart(self, name):
+        """Starts a node anew; the spacecraft forgets its jobs."""
+        node = self.nodes[name]
+        node.restart()
+        if node.is_craft:
+            self.jobs.restart()
+        return f"restarted {name} {node.boot}"
+
     def apply(self):
         """Executes the oldest job, and puts its reports on the link."""
         message = self.jobs.take()
@@ -203,12 +224,15 @@ class World:
         if request.nibble & 8:
             self._verify(7, request_id)
 
+    def is_part_of(self, packet, direction, identifier):
+        """Whether a packet on the link is a part of a message."""
+        headers = parsed(packet[1]) if packet[0] == direction else None
+        part = headers and read_part(headers, self.settings.part_size)
+        return part is not None and part.identifier == identifier
+
     def is_clear(self, direction, identifier):
         """Whether nothing is left of a message."""
-        for its_direction, octets in self.link.present():
-            headers = parsed(octets) if its_direction == direction else None
-            part = headers and read_part(headers, self.settings.part_size)
-            if part and part.identifier == identifier:
-                return False
+        if any(self.is_part_of(packet, direction, identifier) for packet in self.link.present()):
+            return False
         receptions = self.receiver(direction).receptions
         return identifier not in receptions and identifier not in self.sender(direction).outgoing

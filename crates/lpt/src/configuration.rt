@@ -5,6 +5,7 @@ ghost use Rattle.lpt_part.specs.Splitting.{IsPartSize};
 
 use crate::end::Failure;
 use crate::watched::Watched;
+use lpt_events::Turns;
 use lpt_memory::Memories;
 use lpt_node::Config;
 use lpt_settings::{read_config, why_refused};
@@ -17,12 +18,12 @@ use std::str;
 /// The most octets that the file may have.
 const LONGEST_FILE: usize = 1_048_576;
 
-/// Reads the configuration and the first memories in the file at this path; without one, they are
-/// those of an empty file.
+/// Reads the configuration, the first memories, and how much a run of threads does, in the file at this
+/// path; without one, they are those of an empty file.
 ///
 /// Errors: `Read` where the file can't be opened or read; `Config` where it has more than 1,048,576
 /// octets, isn't UTF-8 or is refused; `Memory`.
-pub fn read(rt: &HostRuntime, path: Option<&str>) -> Result<(Config, Memories), Failure>
+pub fn read(rt: &HostRuntime, path: Option<&str>) -> Result<(Config, Memories, Turns), Failure>
     ensures { IfOk result (λ s. IsPartSize s.0.part_size) }
 {
     let Some(path) = path else {

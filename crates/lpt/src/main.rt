@@ -54,7 +54,7 @@ fn serve(rt: &HostRuntime, words: &[String]) -> Status {
 
 // Reads the configuration, and does the command.
 fn done(rt: &HostRuntime, asked: &Asked<'_>) -> Result<Status, Failure> {
-    let (config, memories) = configuration::read(rt, asked.config)?;
+    let (config, memories, _) = configuration::read(rt, asked.config)?;
     match asked.command {
         Command::Run(script) => work::run(rt, config, memories, script),
         Command::Decode(hex) => work::decode(rt, config, hex),

@@ -1,7 +1,7 @@
 -- The numbers and names of the faults of a world.
 use Rattle.std.specs.Prelude.{ℕ, List, codes}
 use Rattle.lpt_events.specs.declared.fault.StepFault.{StepFault}
-use Rattle.lpt_events.specs.declared.fault.StepFault.TheVariants.{InUse, Short, Long, TooMany, NotOpen, NoSuchPart, NotHeld, HandFull, HandEmpty, NothingDue, LooksWhole, NoJob, NotReady, ClockEnd, NoSuchSeat, Memory, NotYours, PartRequest}
+use Rattle.lpt_events.specs.declared.fault.StepFault.TheVariants.{InUse, Short, Long, TooMany, NotOpen, NoSuchPart, NotHeld, HandFull, HandEmpty, NothingDue, NoJob, NotReady, NotClear, LooksWhole, StillOpen, ClockEnd, NoSuchSeat, Memory, NotYours, PartRequest}
 
 -- the fault's number
 abbrev pub code_of : StepFault → ℕ
@@ -15,9 +15,11 @@ code_of NotHeld = 47
 code_of HandFull = 48
 code_of HandEmpty = 49
 code_of NothingDue = 50
-code_of LooksWhole = 54
 code_of NoJob = 51
 code_of NotReady = 52
+code_of NotClear = 53
+code_of LooksWhole = 54
+code_of StillOpen = 55
 code_of ClockEnd = 56
 code_of NoSuchSeat = 57
 code_of Memory = 58
@@ -36,9 +38,11 @@ name_of NotHeld = codes "NotHeld"
 name_of HandFull = codes "HandFull"
 name_of HandEmpty = codes "HandEmpty"
 name_of NothingDue = codes "NothingDue"
-name_of LooksWhole = codes "LooksWhole"
 name_of NoJob = codes "NoJob"
 name_of NotReady = codes "NotReady"
+name_of NotClear = codes "NotClear"
+name_of LooksWhole = codes "LooksWhole"
+name_of StillOpen = codes "StillOpen"
 name_of ClockEnd = codes "ClockEnd"
 name_of NoSuchSeat = codes "NoSuchSeat"
 name_of Memory = codes "Memory"

@@ -42,6 +42,14 @@ pub enum Event {
     /// Executes the oldest released request, once its reading was handed in. The spacecraft puts
     /// its reports on the link, and opens a report of data that is too long for a packet there.
     Apply,
+    /// Frees the transaction of this direction and name at both ends, so that the name can be opened
+    /// again.
+    Retire(Direction, Name),
+    /// Starts the node on this side anew: its open receptions are dropped and its open senders
+    /// closed, its counts begin at 0 again, and the spacecraft forgets its released requests. The
+    /// memories, what both ends know of names, the clock, the link, the hands and what the workers
+    /// have stay.
+    Restart(Side),
 }
 
 impl Event {
@@ -66,6 +74,8 @@ impl Event {
             Event::Claim(worker) => Event::Claim(*worker),
             Event::Commit(worker) => Event::Commit(*worker),
             Event::Apply => Event::Apply,
+            Event::Retire(direction, id) => Event::Retire(*direction, *id),
+            Event::Restart(side) => Event::Restart(*side),
         })
     }
 }

@@ -39,15 +39,21 @@ pub enum StepFault {
     /// No reception is overdue.
     #[error("no reception is overdue")]
     NothingDue,
-    /// What the link's noise should leave is read as a packet.
-    #[error("the octets look like a whole packet")]
-    LooksWhole,
     /// There is no request to claim, or none to execute.
     #[error("there is no request to claim, or none to execute")]
     NoJob,
     /// No reading of the oldest request was handed in.
     #[error("no reading of the oldest request was handed in")]
     NotReady,
+    /// A part of the transaction is held or in a hand, or a reception of it is open.
+    #[error("a part of the transaction is on its way, or a reception of it is open")]
+    NotClear,
+    /// What the link's noise should leave is read as a packet.
+    #[error("the octets look like a whole packet")]
+    LooksWhole,
+    /// The transaction's sender is still open.
+    #[error("the transaction's sender is still open")]
+    StillOpen,
     /// The clock is at its greatest value.
     #[error("the clock is at its greatest value")]
     ClockEnd,
@@ -81,9 +87,11 @@ impl StepFault {
             StepFault::HandFull => 48,
             StepFault::HandEmpty => 49,
             StepFault::NothingDue => 50,
-            StepFault::LooksWhole => 54,
             StepFault::NoJob => 51,
             StepFault::NotReady => 52,
+            StepFault::NotClear => 53,
+            StepFault::LooksWhole => 54,
+            StepFault::StillOpen => 55,
             StepFault::ClockEnd => 56,
             StepFault::NoSuchSeat => 57,
             StepFault::Memory => 58,
@@ -107,9 +115,11 @@ impl StepFault {
             StepFault::HandFull => "HandFull",
             StepFault::HandEmpty => "HandEmpty",
             StepFault::NothingDue => "NothingDue",
-            StepFault::LooksWhole => "LooksWhole",
             StepFault::NoJob => "NoJob",
             StepFault::NotReady => "NotReady",
+            StepFault::NotClear => "NotClear",
+            StepFault::LooksWhole => "LooksWhole",
+            StepFault::StillOpen => "StillOpen",
             StepFault::ClockEnd => "ClockEnd",
             StepFault::NoSuchSeat => "NoSuchSeat",
             StepFault::Memory => "Memory",

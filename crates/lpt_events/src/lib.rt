@@ -1,8 +1,9 @@
 //! The vocabulary of a pass: what can be asked of a world, what it answers, and what its packets are.
 //!
 //! The configuration, the sides, the lanes, the workers, the events, their replies and faults, the
-//! outcomes of deliveries, the kinds of telemetry, and the entries of a journal. The definitions say which packets the nodes make, and
-//! what octets are to the node that receives them, whatever that node has kept.
+//! outcomes of deliveries, the kinds of telemetry, the entries of a journal, and how much a run of
+//! threads does. The definitions say which packets the nodes make, and what octets are to the node
+//! that receives them, whatever that node has kept.
 #![tactic(auto)]
 
 mod applied;
@@ -18,6 +19,7 @@ mod refused;
 mod reply;
 mod side;
 mod telemetry;
+mod turns;
 mod worker;
 
 pub use applied::Applied;
@@ -33,4 +35,5 @@ pub use refused::{Refused, RunEnd};
 pub use reply::{Answer, Puts, Reply};
 pub use side::Side;
 pub use telemetry::TelemetryKind;
+pub use turns::Turns;
 pub use worker::Worker;

@@ -35,8 +35,15 @@ pub enum Answer {
     Claimed(u64, u64),
     /// The reading of the request of this boot and this number in it was handed in.
     Committed(u64, u64),
+    /// The request of this boot and this number in it isn't there any more, as the spacecraft was
+    /// started anew since the worker got it. The reading was dropped.
+    Stale(u64, u64),
     /// What became of the request that was executed.
     Applied(Applied),
+    /// The transaction is free at both ends.
+    Retired,
+    /// The node has this boot now. The first is 0.
+    Restarted(u64),
 }
 
 /// Packets that one event put on the link, one after another.

@@ -1,9 +1,9 @@
 //! The queue.
 
-ghost use Rattle.std.specs.Prelude.{◌≡◌, ◌+◌, ◌<◌, ◌≤◌, ◌^◌, ◌∷◌, length, IsSome, IsTrue, OnOk};
+ghost use Rattle.std.specs.Prelude.{◌≡◌, ◌+◌, ◌-◌, ◌<◌, ◌≤◌, ◌^◌, ◌∷◌, length, IsSome, IsTrue, OnOk};
 ghost use Rattle.std.specs.Option.{option_map, option_copied};
 ghost use Rattle.lpt_jobs.specs.declared.job.Mark.TheVariants.{Committed};
-ghost use Rattle.lpt_jobs.specs.Jobs.{no_jobs, numbered, job_at, unclaimed, is_claimed, head, head_of, is_ready, after_push, after_claim, after_commit, without_front, AreInOrder};
+ghost use Rattle.lpt_jobs.specs.Jobs.{no_jobs, numbered, job_at, claimed_in, unclaimed, is_claimed, head, head_of, is_ready, after_push, after_claim, after_commit, without_front, AreInOrder};
 
 use crate::Front;
 use crate::job::{Job, Mark};
@@ -68,6 +68,13 @@ impl JobQueue {
         ensures { result ≡ length self.now.at.jobs }
     {
         self.jobs.len()
+    }
+
+    /// How many jobs wait: no worker has claimed them.
+    pub fn waiting(&self) -> usize
+        ensures { result ≡ length self.now.at.jobs - claimed_in self.now.at.jobs }
+    {
+        self.jobs.len() - self.claimed
     }
 
     /// The number and the message of the oldest job that waits. `None` where none does.

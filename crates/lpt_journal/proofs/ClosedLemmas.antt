@@ -17,7 +17,7 @@ use Rattle.lpt_events.specs.declared.outcome.Outcome.{Outcome}
 use Rattle.lpt_events.specs.declared.outcome.Outcome.TheVariants.{Kept, Released, Broken}
 use Rattle.lpt_events.specs.Arrivals.{Arrival, APart}
 use Rattle.lpt_events.specs.declared.event.Event.{Event}
-use Rattle.lpt_events.specs.declared.event.Event.TheVariants.{Deliver, Expire}
+use Rattle.lpt_events.specs.declared.event.Event.TheVariants.{Deliver, Expire, Retire, Restart}
 use Rattle.lpt_events.specs.declared.reply.Answer.TheVariants.{Delivered}
 use Rattle.lpt_events.specs.declared.entry.Opening.{Opening}
 use Rattle.lpt_journal.specs.Delivery.{judged, outcome}
@@ -32,6 +32,7 @@ use Rattle.lpt_journal.proofs.CountLemmas.{none_open}
 use Rattle.lpt_journal.proofs.OutcomeLemmas.{chosen}
 use Rattle.lpt_memory.specs.Memories.{Contents}
 use Rattle.lpt_journal.proofs.Steps.{IsSound}
+use Rattle.lpt_journal.proofs.TestLemmas.{and_r}
 
 -- ---- nothing is kept of a closed transaction
 
@@ -111,6 +112,10 @@ unheard_step c first h (Deliver l) none d id over =
       go true way (Broken i reason) is shut =
           ended_or_not (same_name i id) (is_closed h d id) (heard c h d id) (none d id) shut
       go true way o is shut = none d id shut
+unheard_step c first h (Retire e i) none d id over =
+    none d id (and_r (not (same_direction e d && same_name i id)) (is_closed h d id) over)
+unheard_step c first h (Restart side) none d id over =
+    none_kept (same_side side (receiver_side d)) (heard c h d id) (none d id over)
 unheard_step c first h e none d id over = none d id over
 
 -- ---- what is kept is of an opening

@@ -11,20 +11,20 @@ use Rattle.lpt_packet.specs.Names.{Name, same_name}
 use Rattle.lpt_packet.proofs.NameLemmas.{same_name-true}
 use Rattle.lpt_events.specs.Lanes.{lane_direction, same_direction}
 use Rattle.lpt_events.specs.declared.config.Config.{Config}
-use Rattle.lpt_events.specs.declared.outcome.Outcome.TheVariants.{Kept, Again, Released, PlainReleased, ReportNoted, AbortNoted, Broken, Ignored}
+use Rattle.lpt_events.specs.declared.outcome.Outcome.TheVariants.{Kept, Released, Broken}
 use Rattle.lpt_events.specs.Arrivals.{Arrival}
 use Rattle.lpt_reception.specs.Received.{Kept as Kept', Parts, no_parts}
 use Rattle.lpt_events.specs.declared.lane.Lane.{Lane}
 use Rattle.lpt_events.specs.declared.entry.Opening.{Opening}
 use Rattle.lpt_events.specs.declared.event.Event.{Event}
-use Rattle.lpt_events.specs.declared.event.Event.TheVariants.{Open, Send, Plain, Finish, Lose, Damage, Take, Deliver, Tick, Expire, Claim, Commit, Apply}
+use Rattle.lpt_events.specs.declared.event.Event.TheVariants.{Deliver, Expire, Restart}
 use Rattle.lpt_events.specs.declared.reply.Answer.{Answer}
-use Rattle.lpt_events.specs.declared.reply.Answer.TheVariants.{Opened, Put, Finished, Lost, Took, Delivered, Clock, Expired, Claimed, Committed, Applied}
+use Rattle.lpt_events.specs.declared.reply.Answer.TheVariants.{Delivered}
 use Rattle.lpt_events.specs.Sides.{same_side, receiver_side}
 use Rattle.lpt_journal.specs.Journal.{History, with_all}
 use Rattle.lpt_journal.specs.Hands.{in_hand}
 use Rattle.lpt_journal.specs.Receivers.{heard, ends, heard_now, heard_after, has_parts, heard_names, names_after, with_kept_name, with_arrival}
-use Rattle.lpt_journal.specs.Senders.{sender, sender_of, is_open, is_opening_of, current, is_over, opened, opened_names}
+use Rattle.lpt_journal.specs.Senders.{sender, sender_of, is_open, is_opening_of, retires, current, is_over, opened, opened_names}
 
 -- ---- lists
 
@@ -85,11 +85,13 @@ find-any p (y ∷ ys) x e = go (find-any p ys x) (p y) e where
 -- a transaction that is current was opened
 current_opened : (h : History) (d : Direction) (id : Name) (o : Opening) → current h d id ≡ Some o → list_any (is_opening_of d id) (opened h) ≡ true
 current_opened [] d id o e = absurd cc
-current_opened (x ∷ h) d id o e = any-with_all (is_opening_of d id) (opened h) x.opens ∙ go (find (is_opening_of d id) x.opens) refl e (current_opened h d id o) where
-  go : (f : Option Opening) → find (is_opening_of d id) x.opens ≡ f → option_or f (current h d id) ≡ Some o → (current h d id ≡ Some o → list_any (is_opening_of d id) (opened h) ≡ true)
+current_opened (x ∷ h) d id o e = any-with_all (is_opening_of d id) (opened h) x.opens ∙ go (retires x.event d id) (find (is_opening_of d id) x.opens) refl e (current_opened h d id o) where
+  go : (r : Bool) (f : Option Opening) → find (is_opening_of d id) x.opens ≡ f → ◌≡◌ {A = Option Opening} (if r then None else option_or f (current h d id)) (Some o)
+      → (current h d id ≡ Some o → list_any (is_opening_of d id) (opened h) ≡ true)
       → (list_any (is_opening_of d id) (opened h) || list_any (is_opening_of d id) x.opens) ≡ true
-  go None a k before = ap (λ t. t || list_any (is_opening_of d id) x.opens) (before k)
-  go (Some y) a k before = ap (λ t. list_any (is_opening_of d id) (opened h) || t) (find-any (is_opening_of d id) x.opens y a) ∙ or_true (list_any (is_opening_of d id) (opened h))
+  go true f a k before = absurd cc
+  go false None a k before = ap (λ t. t || list_any (is_opening_of d id) x.opens) (before k)
+  go false (Some y) a k before = ap (λ t. list_any (is_opening_of d id) (opened h) || t) (find-any (is_opening_of d id) x.opens y a) ∙ or_true (list_any (is_opening_of d id) (opened h))
 
 -- the names of openings in a direction
 any-names : (d : Direction) (id : Name) (os : List Opening) → list_any (same_name id) (map (λ o. o.id) (filter (λ o. same_direction o.direction d) os)) ≡ list_any (is_opening_of d id) os
@@ -114,6 +116,12 @@ open_named h d id = any-filter (λ q. is_open (sender h d q)) id (opened_names h
 pub none_open : has_parts no_parts ≡ false
 none_open = ap (λ n. not (n == 0)) (maps.len-empty nat_cmp Kept')
 
+-- where nothing is kept any more no reception is open, else as before
+open_before : (gone : Bool) (before : Parts) (names : List Name) (id : Name) → (has_parts before ≡ true → list_any (same_name id) names ≡ true)
+    → has_parts (if gone then no_parts else before) ≡ true → list_any (same_name id) names ≡ true
+open_before true before names id was e = let k : true ≡ false = sym e ∙ none_open in absurd cc
+open_before false before names id was e = was e
+
 -- the name of an open reception after a delivery was heard
 heard_now_named : (a : Answer) (r : Arrival) (id : Name) (before : Parts) (names : List Name) → (has_parts before ≡ true → list_any (same_name id) names ≡ true)
     → has_parts (heard_now a r id before) ≡ true → list_any (same_name id) (with_kept_name a names) ≡ true
@@ -121,29 +129,9 @@ heard_now_named (Delivered (Kept i k)) r id before names was e = go (same_name i
   go : (t : Bool) → same_name i id ≡ t → has_parts (if t then with_arrival r before else before) ≡ true → (same_name id i || list_any (same_name id) names) ≡ true
   go true d f = ap (λ t. t || list_any (same_name id) names) (same_name-comm id i ∙ d)
   go false d f = ap (λ t. same_name id i || t) (was f) ∙ or_true (same_name id i)
-heard_now_named (Delivered (Released i n)) r id before names was e = go (same_name i id) e where
-  go : (t : Bool) → has_parts (if t then no_parts else before) ≡ true → list_any (same_name id) names ≡ true
-  go true f = let k : true ≡ false = sym f ∙ none_open in absurd cc
-  go false f = was f
-heard_now_named (Delivered (Broken i n)) r id before names was e = go (same_name i id) e where
-  go : (t : Bool) → has_parts (if t then no_parts else before) ≡ true → list_any (same_name id) names ≡ true
-  go true f = let k : true ≡ false = sym f ∙ none_open in absurd cc
-  go false f = was f
-heard_now_named (Delivered (Again i k)) r id before names was e = was e
-heard_now_named (Delivered (PlainReleased n)) r id before names was e = was e
-heard_now_named (Delivered (ReportNoted a b)) r id before names was e = was e
-heard_now_named (Delivered (AbortNoted i a)) r id before names was e = was e
-heard_now_named (Delivered (Ignored w)) r id before names was e = was e
-heard_now_named (Opened n) r id before names was e = was e
-heard_now_named (Put n) r id before names was e = was e
-heard_now_named Finished r id before names was e = was e
-heard_now_named Lost r id before names was e = was e
-heard_now_named (Took n) r id before names was e = was e
-heard_now_named (Clock n) r id before names was e = was e
-heard_now_named (Expired d i) r id before names was e = was e
-heard_now_named (Claimed b n) r id before names was e = was e
-heard_now_named (Committed b n) r id before names was e = was e
-heard_now_named (Applied a) r id before names was e = was e
+heard_now_named (Delivered (Released i n)) r id before names was e = open_before (same_name i id) before names id was e
+heard_now_named (Delivered (Broken i n)) r id before names was e = open_before (same_name i id) before names id was e
+heard_now_named a r id before names was e = was e
 
 heard_after_named : (ev : Event) (a : Answer) (r : Lane → Arrival) (d : Direction) (id : Name) (before : Parts) (names : List Name) → (has_parts before ≡ true → list_any (same_name id) names ≡ true)
     → has_parts (heard_after ev a r d id before) ≡ true → list_any (same_name id) (names_after ev a d names) ≡ true
@@ -151,21 +139,9 @@ heard_after_named (Deliver l) a r d id before names was e = go (same_direction (
   go : (t : Bool) → has_parts (if t then heard_now a (r l) id before else before) ≡ true → list_any (same_name id) (if t then with_kept_name a names else names) ≡ true
   go true f = heard_now_named a (r l) id before names was f
   go false f = was f
-heard_after_named (Open e i m) a r d id before names was e' = was e'
-heard_after_named (Send e i k) a r d id before names was e' = was e'
-heard_after_named (Plain f s t b) a r d id before names was e' = was e'
-heard_after_named (Finish e i) a r d id before names was e' = was e'
-heard_after_named (Lose n) a r d id before names was e' = was e'
-heard_after_named (Damage e b) a r d id before names was e' = was e'
-heard_after_named (Take l n) a r d id before names was e' = was e'
-heard_after_named (Tick s) a r d id before names was e' = was e'
-heard_after_named (Claim w) a r d id before names was e' = was e'
-heard_after_named (Commit w) a r d id before names was e' = was e'
-heard_after_named Apply a r d id before names was e' = was e'
-heard_after_named (Expire s) a r d id before names was e' = go (same_side s (receiver_side d) && ends a id) e' where
-  go : (t : Bool) → has_parts (if t then no_parts else before) ≡ true → list_any (same_name id) names ≡ true
-  go true f = let k : true ≡ false = sym f ∙ none_open in absurd cc
-  go false f = was f
+heard_after_named (Expire s) a r d id before names was e = open_before (same_side s (receiver_side d) && ends a id) before names id was e
+heard_after_named (Restart s) a r d id before names was e = open_before (same_side s (receiver_side d)) before names id was e
+heard_after_named ev a r d id before names was e = was e
 
 -- the name of an open reception was heard
 heard_named : (c : Config) (h : History) (d : Direction) (id : Name) → has_parts (heard c h d id) ≡ true → list_any (same_name id) (heard_names h d) ≡ true

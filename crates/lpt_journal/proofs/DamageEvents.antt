@@ -13,8 +13,9 @@ use Rattle.lpt_journal.specs.Journal.{History}
 use Rattle.lpt_journal.specs.Hands.{arrival_in}
 use Rattle.lpt_journal.specs.Replies.{entry}
 use Rattle.lpt_journal.specs.Refusals.{refusal}
+use Rattle.lpt_journal.proofs.CalmEvents.{calm_owes}
 use Rattle.lpt_journal.proofs.Events.{only_element}
-use Rattle.lpt_journal.proofs.Steps.{IsPut, IsSound, Owes, calm_owes}
+use Rattle.lpt_journal.proofs.Steps.{IsPut, IsSound, Owes}
 use Rattle.lpt_journal.proofs.TestLemmas.{none_is, two_pass}
 
 -- what is no packet isn't read at either node
@@ -32,13 +33,7 @@ pub damage_owes : (c : Config) (first : Contents) (h : History) (d : Direction) 
     → Owes c h (entry c first h (Damage d b))
 damage_owes c first h d b sound accepted =
     let t = two_pass (is_damage_long c b) (looks_whole b) Long LooksWhole accepted in
-    calm_owes c h (entry c first h (Damage d b)) (record {
-      opens = refl;
-      retires = λ e j. refl;
-      takes = λ l. refl;
-      hears = λ e j. refl;
-      ticks = λ side. refl;
-    }) sound
+    calm_owes c first h (Damage d b) refl sound
     (λ k p f. subst (λ x. IsPut c (entry c first h (Damage d b) ∷ h) (Damage d b) x)
     (only_element _ k p f)
     (record { sound = unread c d b t.1; name = ap part_name (unread c d b t.1) }))

@@ -1,4 +1,4 @@
--- What the events that open, send, finish and take owe, and that they pay it.
+-- What the events that open, send and take owe, and that they pay it.
 use Rattle.std.proofs.Common.{◌≡◌, ◌∙◌, ap, sym, subst, refl, ℕ, zero, suc, ◌≤◌, nat_lt, nat_le, ◌==◌, cond, Bool, true, false, not, ◌&&◌, ◌||◌, ◌⊎◌, inl, inr, List, [], ◌∷◌, length, Option, Some, None, if◌then◌else◌, arith}
 use Rattle.std.specs.List.{slice_get, find}
 use Rattle.std.specs.Option.{is_some}
@@ -15,7 +15,7 @@ use Rattle.lpt_events.specs.declared.config.Config.{Config}
 use Rattle.lpt_events.specs.declared.side.Side.TheVariants.{Craft}
 use Rattle.lpt_events.specs.Arrivals.{APart, part_name, part_subtype}
 use Rattle.lpt_events.specs.MadePackets.{nth_part}
-use Rattle.lpt_events.specs.declared.event.Event.TheVariants.{Open, Send, Finish, Lose, Take}
+use Rattle.lpt_events.specs.declared.event.Event.TheVariants.{Open, Send, Take}
 use Rattle.lpt_events.specs.declared.entry.Opening.{Opening}
 use Rattle.lpt_events.specs.declared.fault.StepFault.TheVariants.{InUse, Short, Long, TooMany, NotOpen, NoSuchPart, NotHeld, HandFull}
 use Rattle.lpt_journal.specs.Journal.{SentPacket, History}
@@ -30,9 +30,10 @@ use Rattle.lpt_journal.specs.Headline.{IsPartOfCurrent}
 use Rattle.lpt_packet.proofs.Readings.{not_lt}
 use Rattle.lpt_events.proofs.LaneLemmas.{same_lane-true}
 use Rattle.lpt_journal.proofs.TestLemmas.{and_l, and_r, not_false, or_false_l, or_false_r, le_false, not_zero, two_pass, four_pass, no_place}
+use Rattle.lpt_journal.proofs.CalmEvents.{calm_owes}
 use Rattle.lpt_journal.proofs.SentParts.{AreCounts, part_arrives}
 use Rattle.lpt_memory.specs.Memories.{Contents}
-use Rattle.lpt_journal.proofs.Steps.{IsRead, IsPut, IsSound, IsTaken, Owes, calm_owes, opening_found}
+use Rattle.lpt_journal.proofs.Steps.{IsRead, IsPut, IsSound, IsTaken, Owes, opening_found}
 
 -- ---- opening
 
@@ -153,13 +154,7 @@ send_owes c first h d id k good sound i accepted =
     let t =
     two_pass (not (is_open (sender h d id)))
     ((k == 0) || nat_lt (parts_open c (sender h d id)) k) NotOpen NoSuchPart accepted in
-    calm_owes c h (entry c first h (Send d id k)) (record {
-      opens = refl;
-      retires = λ e j. refl;
-      takes = λ l. refl;
-      hears = λ e j. refl;
-      ticks = λ side. refl;
-    }) sound (puts_part (sender h d id) refl t.0 t.1)
+    calm_owes c first h (Send d id k) refl sound (puts_part (sender h d id) refl t.0 t.1)
   where
     puts_part : (s : Sender)
         → sender h d id ≡ s
@@ -199,36 +194,6 @@ send_owes c first h d id k good sound i accepted =
           };
           name = ap part_name arrives;
         })
-
--- ---- finishing
-
--- closing a sender is calm, and puts nothing
-pub finish_owes : (c : Config) (first : Contents) (h : History) (d : Direction) (id : Name)
-    → IsSound c h
-    → Owes c h (entry c first h (Finish d id))
-finish_owes c first h d id sound =
-    calm_owes c h (entry c first h (Finish d id)) (record {
-      opens = refl;
-      retires = λ e j. refl;
-      takes = λ l. refl;
-      hears = λ e j. refl;
-      ticks = λ side. refl;
-    }) sound (λ k p f. absurd (no_place k p f))
-
--- ---- losing
-
--- losing a packet is calm, and puts nothing
-pub lose_owes : (c : Config) (first : Contents) (h : History) (n : ℕ)
-    → IsSound c h
-    → Owes c h (entry c first h (Lose n))
-lose_owes c first h n sound =
-    calm_owes c h (entry c first h (Lose n)) (record {
-      opens = refl;
-      retires = λ e j. refl;
-      takes = λ l. refl;
-      hears = λ e j. refl;
-      ticks = λ side. refl;
-    }) sound (λ k p f. absurd (no_place k p f))
 
 -- ---- taking
 

@@ -8,7 +8,7 @@ use Rattle.lpt_events.specs.declared.config.Config.{Config}
 use Rattle.lpt_events.specs.declared.event.Event.{Event}
 use Rattle.lpt_events.specs.declared.entry.Opening.{Opening}
 use Rattle.lpt_events.specs.declared.entry.Release.{Release}
-use Rattle.lpt_journal.specs.Expiries.{Expiry, expiry_at, expiries, opening_of_expiry, NoneIsReleased, NothingIsKept, ExpiryIsFinal}
+use Rattle.lpt_journal.specs.Expiries.{Expiry, expiry_at, expiries, opening_of_expiry, NoneIsReleased, NothingIsKept, ReleasedIsUnheard, ExpiryIsFinal}
 use Rattle.lpt_journal.specs.Headline.{IsSameOpening}
 use Rattle.lpt_journal.specs.Journal.{Recorded, History}
 use Rattle.lpt_journal.specs.Receivers.{is_closed}
@@ -19,7 +19,7 @@ use Rattle.lpt_journal.specs.Legal.{Legal}
 use Rattle.lpt_journal.specs.Senders.{current}
 use Rattle.lpt_journal.proofs.ClosedLemmas.{unheard_step}
 use Rattle.lpt_journal.proofs.HeadlineLemmas.{owes, owes_releases, every}
-use Rattle.lpt_journal.proofs.OnceLemmas.{clash, flipped, old_opening, new_opening}
+use Rattle.lpt_journal.proofs.OnceLemmas.{past_closed, released_closed, clash, flipped, old_opening, new_opening}
 use Rattle.lpt_journal.proofs.Releasing.{IsReleaseOf, OwesReleases, IsPast, ArePast, before_old, before_new, opening_is, is_large, closed_stays, was_current, new_past, old_past}
 use Rattle.lpt_journal.proofs.Steps.{IsSound, Owes}
 use Rattle.lpt_journal.proofs.TestLemmas.{no_place, IsOldOrNew, with_all_cases}
@@ -112,22 +112,11 @@ module _ (c : Config) (h : History) (x : Recorded) (pays : Owes c h x) (sound : 
       → IsSameOpening o u
       → ⊥
   expired_clash j e s v o u f fresh was now same =
-      let p = (gone.each j e f).1 in
-      let is : p.opening ≡ o =
-      let a : opening_of_expiry h e ≡ Some p.opening = p.is_current in cc in
-      let known = sound.openings v.0 v.1 u now in
-      let d : e.direction ≡ v.0 =
-      sym p.same_direction ∙ ap (λ (w : Opening). w.direction) is ∙ same.same_direction
-      ∙ known.same_direction in
-      let i : e.id ≡ v.1 =
-      sym p.same_id ∙ ap (λ (w : Opening). w.id) is ∙ same.same_id ∙ known.same_id in
-      let there : current h e.direction e.id ≡ Some u = (λ j. current h (d j) (i j)) ∙ now in
-      let closed : is_closed h e.direction e.id ≡ true =
-      gone.closed j e o u f was there (sym same.same_place) in
-      let open_now : is_closed h v.0 v.1 ≡ false = fresh.was_open in
-      let both : is_closed h e.direction e.id ≡ is_closed h v.0 v.1 =
-      λ j. is_closed h (d j) (i j) in
-      cc
+      let p = gone.each j e f in
+      let closed : is_closed h v.0 v.1 ≡ true =
+      past_closed c h (as_release e p.0) (transaction e) v o u sound p.1 was now same
+      (λ there. gone.closed j e o u f was there (sym same.same_place)) in
+      let open_now : is_closed h v.0 v.1 ≡ false = fresh.was_open in cc
 
   unreleased_now : NoneIsReleased c (x ∷ h)
   unreleased_now j k e r o u f g is_o is_u same =
@@ -178,12 +167,27 @@ every_expired c first (ev ∷ es) good legal =
       unheard_step c first h ev gone.1,
     )
 
--- an opening whose reception expired is never released, and of an ended reception nothing is kept
+-- of a transaction whose last opening was released nothing is kept, since it is closed
+unheard_again : (c : Config) (h : History)
+    → IsSound c h
+    → ArePast c h
+    → NothingIsKept c h
+    → ReleasedIsUnheard c h
+unheard_again c h sound past none k r o u d id e is now same =
+    let t = is_large h r o is in
+    none d id (released_closed c h k r t.0 (d, id) o u sound past e t.1
+    (sym (opening_is h r t.0 t.1) ∙ is) now same)
+
+-- an opening whose reception expired is never released, and one that was released is never heard
+-- again; of an ended reception nothing is kept
 pub expiry_is_final : ExpiryIsFinal
 expiry_is_final c first es good legal =
+    let h = recorded c first es in
+    let sound = every c first es good legal in
     let all = every_expired c first es good legal in
     record {
       opened = λ j e f. ap is_some (all.0.each j e f).1.is_current;
       unreleased = all.0.unreleased;
       unheard = all.1;
+      not_again = unheard_again c h sound.0 sound.1 all.1;
     }

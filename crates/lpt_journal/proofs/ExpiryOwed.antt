@@ -16,12 +16,13 @@ use Rattle.lpt_journal.specs.Expiries.{Expiry, expiry_at, NothingIsKept}
 use Rattle.lpt_journal.specs.Due.{is_overdue, due}
 use Rattle.lpt_events.specs.Sides.{same_side, receiver_side, direction_to}
 use Rattle.lpt_journal.specs.Journal.{Recorded, History}
-use Rattle.lpt_journal.specs.Jobs.{JobName, ticket}
+use Rattle.lpt_journal.specs.Jobs.{boot, ticket}
 use Rattle.lpt_journal.specs.Receivers.{ends, heard, has_parts, last_tick, is_closed}
 use Rattle.lpt_journal.specs.Releases.{released_by}
-use Rattle.lpt_journal.specs.Replies.{expired_now, committed_now, entry}
+use Rattle.lpt_journal.specs.Replies.{expired_now, entry}
 use Rattle.lpt_journal.specs.Refusals.{refusal}
 use Rattle.lpt_journal.proofs.ClosedLemmas.{open_opening}
+use Rattle.lpt_journal.proofs.CommitLemmas.{commit_says}
 use Rattle.lpt_journal.proofs.DueLemmas.{Earliest, earliest_is, overdue_names, in_overdue}
 use Rattle.lpt_journal.proofs.Events.{only_element}
 use Rattle.lpt_journal.proofs.Releasing.{IsReleaseOf}
@@ -69,13 +70,6 @@ open_still : (closed has : Bool) → (closed ≡ true → has ≡ false) → has
 open_still true has none e = let no : has ≡ false = none refl in absurd cc
 open_still false has none e = refl
 
--- a commit says nothing of expiry
-none_expires : (t : Option JobName) (place j : ℕ) (e : Expiry)
-    → slice_get (expiry_at place (committed_now t)) j ≡ Some e
-    → ⊥
-none_expires None place j e f = no_place j e f
-none_expires (Some t) place j e f = no_place j e f
-
 -- an event that can happen pays what it owes for what expires
 pub owes_expiry : (c : Config) (first : Contents) (h : History) (ev : Event)
     → IsSound c h
@@ -122,5 +116,6 @@ owes_expiry c first h (Expire side) sound none can j e f =
             releases_none = λ m r n. no_place m r n;
           })
 owes_expiry c first h (Commit w) sound none can j e f =
-    absurd (none_expires (ticket h w) (length h) j e f)
+    absurd (commit_says (λ a. ¬ (slice_get (expiry_at (length h) a) j ≡ Some e)) (boot h Craft)
+    (ticket c h w) (λ b n. no_place j e) (λ b n. no_place j e) f)
 owes_expiry c first h ev sound none can j e f = absurd (no_place j e f)

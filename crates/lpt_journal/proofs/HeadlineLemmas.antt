@@ -13,7 +13,7 @@ use Rattle.lpt_events.specs.Lanes.{lane_direction}
 use Rattle.lpt_events.specs.declared.config.Config.{Config}
 use Rattle.lpt_events.specs.Arrivals.{NotRead, APart}
 use Rattle.lpt_events.specs.declared.event.Event.{Event}
-use Rattle.lpt_events.specs.declared.event.Event.TheVariants.{Open, Send, Plain, Finish, Lose, Damage, Take, Deliver, Tick, Expire, Claim, Commit, Apply}
+use Rattle.lpt_events.specs.declared.event.Event.TheVariants.{Open, Send, Plain, Damage, Take, Deliver, Tick, Expire, Commit, Apply, Retire, Restart}
 use Rattle.lpt_events.specs.declared.fault.StepFault.TheVariants.{HandEmpty}
 use Rattle.lpt_events.specs.declared.outcome.Outcome.{Outcome}
 use Rattle.lpt_events.specs.declared.reply.Answer.TheVariants.{Delivered}
@@ -22,22 +22,27 @@ use Rattle.lpt_journal.specs.Delivery.{outcome}
 use Rattle.lpt_journal.specs.Journal.{Recorded, History}
 use Rattle.lpt_journal.specs.Link.{is_damaged}
 use Rattle.lpt_journal.specs.Hands.{hand, arrival_at, in_hand}
-use Rattle.lpt_journal.specs.Jobs.{JobName, applied, ticket, memories}
+use Rattle.lpt_journal.specs.Jobs.{boot, applied, ticket, memories}
 use Rattle.lpt_journal.specs.Releases.{released_by}
 use Rattle.lpt_events.specs.Configs.{IsConfig}
 use Rattle.lpt_journal.specs.Due.{due}
-use Rattle.lpt_journal.specs.Replies.{answer, expired_now, committed_now, entry, recorded}
+use Rattle.lpt_journal.specs.Replies.{answer, expired_now, entry, recorded}
 use Rattle.lpt_journal.specs.Refusals.{refusal}
 use Rattle.lpt_journal.specs.Legal.{IsEnabled, Legal}
 use Rattle.lpt_journal.proofs.JobLemmas.{memories_follow}
 use Rattle.lpt_journal.specs.Headline.{PartsAreCurrent, EachIsLastOpened, IsSoundOutcome, WasSoundDelivery, DeliveriesAreSound, DeliveriesWereSound, Headline}
 use Rattle.lpt_journal.proofs.TestLemmas.{one_passes, no_place}
+use Rattle.lpt_events.specs.declared.side.Side.TheVariants.{Craft}
+use Rattle.lpt_journal.proofs.CalmEvents.{quiet_owes}
+use Rattle.lpt_journal.proofs.CommitLemmas.{commit_says}
+use Rattle.lpt_journal.proofs.RestartEvents.{restart_owes}
+use Rattle.lpt_journal.proofs.Retirement.{retire_owes}
 use Rattle.lpt_journal.proofs.Steps.{IsSound, Owes}
 use Rattle.lpt_journal.proofs.Soundness.{hand_current, sound_step}
-use Rattle.lpt_journal.proofs.Events.{open_owes, send_owes, finish_owes, take_owes, lose_owes}
+use Rattle.lpt_journal.proofs.Events.{open_owes, send_owes, take_owes}
 use Rattle.lpt_journal.proofs.DamageEvents.{damage_owes}
 use Rattle.lpt_journal.proofs.PlainEvents.{plain_owes}
-use Rattle.lpt_journal.proofs.WorkEvents.{claim_owes, commit_owes, apply_owes}
+use Rattle.lpt_journal.proofs.WorkEvents.{apply_owes}
 use Rattle.lpt_journal.proofs.UpOctets.{AreUpOctets, up_octets_start, up_octets_step}
 use Rattle.lpt_journal.proofs.AnswerLengths.{answer_fits}
 use Rattle.lpt_journal.proofs.TimeEvents.{tick_owes, expire_owes}
@@ -77,19 +82,18 @@ owes c first h (Open d id m) good sound up can = open_owes c first h d id m soun
 owes c first h (Send d id k) good sound up can = send_owes c first h d id k good sound can.in_range.0 can.accepted
 owes c first h (Plain flags service subtype body) good sound up can =
     plain_owes c first h flags service subtype body good sound can.in_range can.accepted
-owes c first h (Finish d id) good sound up can = finish_owes c first h d id sound
-owes c first h (Lose n) good sound up can = lose_owes c first h n sound
 owes c first h (Damage d b) good sound up can = damage_owes c first h d b sound can.accepted
 owes c first h (Tick side) good sound up can = tick_owes c first h side sound can.accepted
 owes c first h (Expire side) good sound up can = expire_owes c first h side good sound
-owes c first h (Claim w) good sound up can = claim_owes c first h w sound
-owes c first h (Commit w) good sound up can = commit_owes c first h w sound
 owes c first h (Take l n) good sound up can = take_owes c first h l n sound can.accepted
 owes c first h (Deliver l) good sound up can =
     let n = delivered c h l can.accepted in deliver_owes c first h l n.0 sound n.1
 owes c first h Apply good sound up can =
     apply_owes c first h good sound
     (λ r e. answer_fits c.apid (memories c first h) r.message (up.requests (applied h) r e))
+owes c first h (Retire d id) good sound up can = retire_owes c first h d id sound can.accepted
+owes c first h (Restart side) good sound up can = restart_owes c first h side sound
+owes c first h e good sound up can = quiet_owes c first h e refl refl sound
 
 -- an event that releases nothing owes nothing for it
 quiet : (c : Config) (h : History) (x : Recorded) → released_by c x h ≡ [] → OwesReleases c h x
@@ -210,10 +214,9 @@ delivered_sound c first h (Expire side) o sound can is =
     none_delivered : (d : Option Name) → expired_now (direction_to side) d ≡ Delivered o → ⊥
     none_delivered None e = cc
     none_delivered (Some id) e = cc
-delivered_sound c first h (Commit w) o sound can is = absurd (none_delivered (ticket h w) is) where
-  none_delivered : (t : Option JobName) → committed_now t ≡ Delivered o → ⊥
-  none_delivered None e = cc
-  none_delivered (Some t) e = cc
+delivered_sound c first h (Commit w) o sound can is =
+    absurd (commit_says (λ a. ¬ (a ≡ Delivered o)) (boot h Craft) (ticket c h w) (λ b n e. cc)
+    (λ b n e. cc) is)
 delivered_sound c first h e o sound can is = absurd cc
 
 each_delivered : (c : Config) (first : Contents) (es : List Event)

@@ -1,5 +1,5 @@
 -- In every history the executed requests are releases of the spacecraft, and in their order.
-use Rattle.std.proofs.Common.{◌≡◌, ap, sym, subst, refl, ℕ, zero, suc, ◌+◌, ◌<◌, ◌≤◌, Bool, inl, inr, List, [], ◌∷◌, ◌++◌, length, map, Some, arith}
+use Rattle.std.proofs.Common.{◌≡◌, ap, sym, subst, refl, ℕ, zero, suc, ◌+◌, ◌<◌, ◌≤◌, Bool, false, if◌then◌else◌, inl, inr, List, [], ◌∷◌, ◌++◌, length, map, Some, arith}
 use Rattle.std.specs.List.{slice_get, slice_index, filter, Contains}
 use Rattle.std.specs.List.Sorted.{IsStrictlyIncreasing}
 use Rattle.std.proofs.lemmas.List.Elements.{Contains-append_left, Contains-append_right, filter-append}
@@ -9,11 +9,13 @@ use Rattle.lpt_events.specs.declared.config.Config.{Config}
 use Rattle.lpt_events.specs.declared.event.Event.{Event}
 use Rattle.lpt_events.specs.declared.event.Event.TheVariants.{Apply}
 use Rattle.lpt_events.specs.declared.entry.Release.{Release}
+use Rattle.lpt_events.specs.declared.side.Side.TheVariants.{Craft}
 use Rattle.lpt_journal.specs.Headline.{EachWasReleased, MemoriesFollow}
 use Rattle.lpt_journal.specs.Journal.{Recorded, History, with_all}
 use Rattle.lpt_journal.specs.Jobs.{went_up, jobs, applied, applied_after, front_job, executed_by, executed}
 use Rattle.lpt_journal.specs.Releases.{released_by, releases}
-use Rattle.lpt_journal.proofs.NewJobs.{came_up, new_job, new_executed}
+use Rattle.lpt_journal.specs.Senders.{restarts}
+use Rattle.lpt_journal.proofs.NewJobs.{came_up, new_job, job_cases, new_executed}
 use Rattle.lpt_journal.proofs.TestLemmas.{IsOldOrNew, with_all_cases, no_place}
 
 -- ---- each was released
@@ -47,7 +49,7 @@ job_released : (c : Config) (h : History) (k : ℕ) (r : Release)
     → Contains (came_up (releases c h)) r
 job_released c [] k r e = absurd (no_place k r e)
 job_released c (x ∷ h) k r e =
-    go (job_released c h k r) (with_all_cases (jobs c h) (came_up (released_by c x h)) k r e) where
+    go (job_released c h k r) (job_cases c x h k r e).1 where
       go : (slice_get (jobs c h) k ≡ Some r → Contains (came_up (releases c h)) r)
           → IsOldOrNew (jobs c h) (came_up (released_by c x h)) k r
           → Contains (came_up (releases c (x ∷ h))) r
@@ -75,7 +77,7 @@ executed_released c (x ∷ h) k r e =
 -- ---- in their order
 
 -- each of these is of an earlier place than those behind it
-abbrev Rise : List Release → Type 0
+abbrev pub Rise : List Release → Type 0
 Rise rs =
     (j k : ℕ) (r s : Release)
     → slice_get rs j ≡ Some r → slice_get rs k ≡ Some s
@@ -83,12 +85,14 @@ Rise rs =
     → r.place < s.place
 
 -- jobs and executed requests stand in order of release, and what waits behind what was executed
-record AreInOrder (c : Config) (h : History) : Type 0 where
-  jobs_past : (k : ℕ) (r : Release) → slice_get (jobs c h) k ≡ Some r → r.place < length h
-  executed_past : (k : ℕ) (r : Release) → slice_get (executed c h) k ≡ Some r → r.place < length h
-  jobs_rise : Rise (jobs c h)
-  executed_rise : Rise (executed c h)
-  waits : (j k : ℕ) (r s : Release)
+pub record AreInOrder (c : Config) (h : History) : Type 0 where
+  pub jobs_past : (k : ℕ) (r : Release) → slice_get (jobs c h) k ≡ Some r → r.place < length h
+  pub executed_past : (k : ℕ) (r : Release)
+      → slice_get (executed c h) k ≡ Some r
+      → r.place < length h
+  pub jobs_rise : Rise (jobs c h)
+  pub executed_rise : Rise (executed c h)
+  pub waits : (j k : ℕ) (r s : Release)
       → slice_get (executed c h) j ≡ Some r → slice_get (jobs c h) k ≡ Some s
       → applied h ≤ k
       → r.place < s.place
@@ -98,10 +102,6 @@ applied_grows Apply n = omega arith
 applied_grows e n = omega arith
 
 module _ (c : Config) (x : Recorded) (h : History) (had : AreInOrder c h) where
-  job_cases : (k : ℕ) (r : Release) → slice_get (jobs c (x ∷ h)) k ≡ Some r
-      → IsOldOrNew (jobs c h) (came_up (released_by c x h)) k r
-  job_cases k r e = with_all_cases (jobs c h) (came_up (released_by c x h)) k r e
-
   done_cases : (k : ℕ) (r : Release) → slice_get (executed c (x ∷ h)) k ≡ Some r
       → IsOldOrNew (executed c h) (executed_by c x h) k r
   done_cases k r e = with_all_cases (executed c h) (executed_by c x h) k r e
@@ -164,18 +164,26 @@ module _ (c : Config) (x : Recorded) (h : History) (had : AreInOrder c h) where
       ap (λ e. applied_after e (applied h)) now.1 in
       had.jobs_rise (applied h) k r s now.2 b (omega (arith, later, one))
 
+  applied_now : restarts x.event Craft ≡ false
+      → applied (x ∷ h) ≡ applied_after x.event (applied h)
+  applied_now on = ap (λ t. if t then 0 else applied_after x.event (applied h)) on
+
   in_order_step : AreInOrder c (x ∷ h)
   in_order_step = record {
-    jobs_past = λ k r e. jobs_past_step k r (job_cases k r e);
+    jobs_past = λ k r e. jobs_past_step k r (job_cases c x h k r e).1;
     executed_past = λ k r e. let p = done_before k r (done_cases k r e) in omega (arith, p);
-    jobs_rise = λ j k r s e f less. jobs_rise_step j k r s (job_cases j r e) (job_cases k s f) less;
+    jobs_rise =
+        λ j k r s e f less.
+        jobs_rise_step j k r s (job_cases c x h j r e).1 (job_cases c x h k s f).1 less;
     executed_rise =
         λ j k r s e f less. executed_rise_step j k r s (done_cases j r e) (done_cases k s f) less;
     waits =
-        λ j k r s e f later. waits_step j k r s (done_cases j r e) (job_cases k s f) later;
+        λ j k r s e f later. let job = job_cases c x h k s f in
+        waits_step j k r s (done_cases j r e) job.1 (subst (λ n. n ≤ k) (applied_now job.0) later);
   }
 
-in_order : (c : Config) (h : History) → AreInOrder c h
+-- so it is in every history
+pub in_order : (c : Config) (h : History) → AreInOrder c h
 in_order c [] = record {
   jobs_past = λ k r e. absurd (no_place k r e);
   executed_past = λ k r e. absurd (no_place k r e);

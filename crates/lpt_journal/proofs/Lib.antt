@@ -1,8 +1,12 @@
 pub mod AnswerLengths
+pub mod BootLemmas
+pub mod CalmEvents
+pub mod ClaimLemmas
 pub mod ClosedLemmas
+pub mod CommitLemmas
 pub mod CountLemmas
-pub mod DeliveredReleases
 pub mod DamageEvents
+pub mod DeliveredReleases
 pub mod Deliveries
 pub mod DueLemmas
 pub mod Events
@@ -18,6 +22,8 @@ pub mod OutcomeLemmas
 pub mod PlainEvents
 pub mod PutLemmas
 pub mod Releasing
+pub mod RestartEvents
+pub mod Retirement
 pub mod SentParts
 pub mod SentReports
 pub mod Soundness
@@ -28,3 +34,4 @@ pub mod TicketSteps
 pub mod TimeEvents
 pub mod UpOctets
 pub mod WorkEvents
+pub mod WorkLemmas

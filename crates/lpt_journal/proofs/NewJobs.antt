@@ -1,4 +1,4 @@
--- What an entry releases and executes is one request, or none.
+-- What an entry releases and executes is one request, or none; and which jobs there are after it.
 use Rattle.std.proofs.Common.{◌≡◌, ◌∙◌, ap, sym, refl, ℕ, zero, suc, Bool, true, false, ◌⊎◌, inl, inr, if◌then◌else◌, List, [], ◌∷◌, length, Option, Some, None}
 use Rattle.std.specs.List.{slice_get, filter}
 use Rattle.lpt_packet.specs.declared.direction.Direction.{Direction}
@@ -14,10 +14,12 @@ use Rattle.lpt_events.specs.declared.outcome.Outcome.TheVariants.{Released, Plai
 use Rattle.lpt_events.specs.declared.reply.Answer.{Answer}
 use Rattle.lpt_events.specs.declared.reply.Answer.TheVariants.{Delivered}
 use Rattle.lpt_events.specs.Arrivals.{Arrival, ARequest, APart}
-use Rattle.lpt_journal.specs.Journal.{Recorded, History}
-use Rattle.lpt_journal.specs.Jobs.{went_up, executed_now}
+use Rattle.lpt_events.specs.declared.side.Side.TheVariants.{Craft}
+use Rattle.lpt_journal.specs.Journal.{Recorded, History, with_all}
+use Rattle.lpt_journal.specs.Jobs.{went_up, jobs, executed_now}
 use Rattle.lpt_journal.specs.Releases.{released_now, release_after, released_by}
-use Rattle.lpt_journal.proofs.TestLemmas.{no_place}
+use Rattle.lpt_journal.specs.Senders.{restarts}
+use Rattle.lpt_journal.proofs.TestLemmas.{IsOldOrNew, with_all_cases, no_place}
 
 -- ---- what an entry releases
 
@@ -64,6 +66,20 @@ pub new_job : (c : Config) (x : Recorded) (h : History) (k : ℕ) (r : Release)
     → slice_get (came_up (released_by c x h)) k ≡ Some r
     → (k ≡ 0) × (r.place ≡ length h)
 new_job c x h k r e = one_job (length h) (released_by c x h) (after_one x.event (length h) _ _ _) k r e
+
+-- a job was one before, or is released now, where the spacecraft isn't started anew
+pub job_cases : (c : Config) (x : Recorded) (h : History) (k : ℕ) (r : Release)
+    → slice_get (jobs c (x ∷ h)) k ≡ Some r
+    → (restarts x.event Craft ≡ false)
+    × IsOldOrNew (jobs c h) (came_up (released_by c x h)) k r
+job_cases c x h k r e = go (restarts x.event Craft) refl e where
+  go : (b : Bool)
+      → restarts x.event Craft ≡ b
+      → slice_get (if b then [] else with_all (jobs c h) (came_up (released_by c x h))) k ≡ Some r
+      → (restarts x.event Craft ≡ false)
+      × IsOldOrNew (jobs c h) (came_up (released_by c x h)) k r
+  go true is f = absurd (no_place k r f)
+  go false is f = (is, with_all_cases (jobs c h) (came_up (released_by c x h)) k r f)
 
 -- what an entry executes is one request, the oldest job
 pub new_executed : (e : Event) (front : Option Release) (k : ℕ) (r : Release)

@@ -14,9 +14,46 @@ use Rattle.lpt_journal.specs.Headline.{opening_of, IsSameOpening, AtMostOncePerO
 use Rattle.lpt_journal.proofs.TestLemmas.{IsOldOrNew, with_all_cases}
 use Rattle.lpt_journal.proofs.Steps.{IsSound, Owes}
 use Rattle.lpt_memory.specs.Memories.{Contents}
-use Rattle.lpt_journal.proofs.Releasing.{IsReleaseOf, OwesReleases, opening_then, ArePast, before_old, before_new, opening_is, is_large, each_step, closed_step}
+use Rattle.lpt_journal.proofs.Releasing.{IsReleaseOf, OwesReleases, opening_then, IsPast, ArePast, before_old, before_new, opening_is, is_large, each_step, closed_step}
 
 -- ---- once per opening
+
+-- a past release whose opening is the last one of a transaction is of that one; so that is closed
+-- where the release's is
+pub past_closed : (c : Config) (h : History) (r : Release) (t v : Direction × Name)
+    (o u : Opening)
+    → IsSound c h
+    → IsPast h r t
+    → opening_then h r.place t ≡ Some o
+    → current h v.0 v.1 ≡ Some u
+    → IsSameOpening o u
+    → (current h t.0 t.1 ≡ Some u → is_closed h t.0 t.1 ≡ true)
+    → is_closed h v.0 v.1 ≡ true
+past_closed c h r t v o u sound p was now same closed =
+    let is : p.opening ≡ o =
+    let a : opening_then h r.place t ≡ Some p.opening = p.is_current in cc in
+    let known = sound.openings v.0 v.1 u now in
+    let d : t.0 ≡ v.0 =
+    sym p.same_direction ∙ ap (λ (w : Opening). w.direction) is ∙ same.same_direction
+    ∙ known.same_direction in
+    let i : t.1 ≡ v.1 =
+    sym p.same_id ∙ ap (λ (w : Opening). w.id) is ∙ same.same_id ∙ known.same_id in
+    (λ j. is_closed h (sym d j) (sym i j)) ∙ closed ((λ j. current h (d j) (i j)) ∙ now)
+
+-- a transaction whose last opening was released is closed
+pub released_closed : (c : Config) (h : History) (k : ℕ) (r : Release) (t v : Direction × Name)
+    (o u : Opening)
+    → IsSound c h
+    → ArePast c h
+    → slice_get (releases c h) k ≡ Some r
+    → r.of ≡ Some t
+    → opening_then h r.place t ≡ Some o
+    → current h v.0 v.1 ≡ Some u
+    → IsSameOpening o u
+    → is_closed h v.0 v.1 ≡ true
+released_closed c h k r t v o u sound past e of was now same =
+    past_closed c h r t v o u sound (past.each k r t e of) was now same
+    (λ there. past.closed k r t o u e of was there (sym same.same_place))
 
 -- a new release hasn't the opening of an old one: that transaction is closed, the new one's wasn't
 pub clash : (c : Config) (h : History) (x : Recorded) (k : ℕ) (r s : Release)
@@ -31,21 +68,9 @@ pub clash : (c : Config) (h : History) (x : Recorded) (k : ℕ) (r s : Release)
     → IsSameOpening o u
     → ⊥
 clash c h x k r s t v o u sound past e of fresh was now same =
-    let p = past.each k r t e of in
-    let is : p.opening ≡ o =
-    let a : opening_then h r.place t ≡ Some p.opening = p.is_current in cc in
-    let known = sound.openings v.0 v.1 u now in
-    let d : t.0 ≡ v.0 =
-    sym p.same_direction ∙ ap (λ (w : Opening). w.direction) is ∙ same.same_direction
-    ∙ known.same_direction in
-    let i : t.1 ≡ v.1 =
-    sym p.same_id ∙ ap (λ (w : Opening). w.id) is ∙ same.same_id ∙ known.same_id in
-    let there : current h t.0 t.1 ≡ Some u = (λ j. current h (d j) (i j)) ∙ now in
-    let closed : is_closed h t.0 t.1 ≡ true =
-    past.closed k r t o u e of was there (sym same.same_place) in
-    let open_still : is_closed h v.0 v.1 ≡ false = fresh.was_open in
-    let both : is_closed h t.0 t.1 ≡ is_closed h v.0 v.1 = λ j. is_closed h (d j) (i j) in
-    cc
+    let closed : is_closed h v.0 v.1 ≡ true =
+    released_closed c h k r t v o u sound past e of was now same in
+    let open_still : is_closed h v.0 v.1 ≡ false = fresh.was_open in cc
 
 pub flipped : (o u : Opening) → IsSameOpening o u → IsSameOpening u o
 flipped o u s =

@@ -12,9 +12,10 @@ use Rattle.lpt_journal.specs.Replies.{plain_packet, entry}
 use Rattle.lpt_journal.specs.Legal.{IsEvent}
 use Rattle.lpt_journal.specs.Refusals.{refusal}
 use Rattle.lpt_journal.specs.Senders.{count}
+use Rattle.lpt_journal.proofs.CalmEvents.{calm_owes}
 use Rattle.lpt_journal.proofs.Events.{only_element}
 use Rattle.lpt_journal.proofs.SentParts.{plain_arrives}
-use Rattle.lpt_journal.proofs.Steps.{IsRead, IsPut, IsSound, Owes, calm_owes}
+use Rattle.lpt_journal.proofs.Steps.{IsRead, IsPut, IsSound, Owes}
 use Rattle.lpt_memory.specs.Memories.{Contents}
 use Rattle.lpt_journal.proofs.TestLemmas.{two_pass}
 
@@ -33,13 +34,7 @@ plain_owes c first h flags service subtype body good sound fits accepted =
     let arrives =
     plain_arrives c (count h Up) flags service subtype body good (omega arith) fits.0 fits.1
     fits.2 t.0 t.1 in
-    calm_owes c h (entry c first h (Plain flags service subtype body)) (record {
-      opens = refl;
-      retires = λ e j. refl;
-      takes = λ l. refl;
-      hears = λ e j. refl;
-      ticks = λ side. refl;
-    }) sound
+    calm_owes c first h (Plain flags service subtype body) refl sound
     (λ k p f. subst (λ x. IsPut c (entry c first h (Plain flags service subtype body) ∷ h)
     (Plain flags service subtype body) x)
     (only_element _ k p f)

@@ -1,7 +1,6 @@
 -- What holds of the packets that were put holds again after an entry that pays what it owes.
 use Rattle.std.proofs.Common.{◌≡◌, ◌∙◌, ap, sym, subst, refl, ℕ, zero, suc, ◌<◌, ◌≤◌, nat_lt, Bool, true, false, ◌&&◌, inl, inr, List, [], ◌∷◌, length, map, Some, if◌then◌else◌, arith}
 use Rattle.std.specs.List.{slice_get}
-use Rattle.std.proofs.lemmas.List.{map-append}
 use Rattle.std.proofs.lemmas.Bool.Decides.{nat_tests}
 use Rattle.std.proofs.lemmas.Option.{slice_get_within}
 use Rattle.lpt_events.specs.declared.config.Config.{Config}
@@ -10,7 +9,7 @@ use Rattle.lpt_events.specs.declared.event.Event.{Event}
 use Rattle.lpt_journal.specs.Journal.{SentPacket, Recorded, History, with_all}
 use Rattle.lpt_journal.specs.Link.{sent, tag_put, tags, damages, is_damaged}
 use Rattle.lpt_journal.specs.Hands.{arrival_of}
-use Rattle.lpt_journal.proofs.TestLemmas.{lt_true, IsOldOrNew, with_all_cases}
+use Rattle.lpt_journal.proofs.TestLemmas.{lt_true, map-with_all, IsOldOrNew, with_all_cases}
 use Rattle.lpt_journal.proofs.Steps.{IsAsPut, IsSoundPut, IsSound, Owes}
 
 -- whether a packet was damaged stays, and of a new one the entry says it
@@ -61,11 +60,6 @@ puts_named : (c : Config) (e : Event) (ps : List SentPacket)
 puts_named c e [] named = refl
 puts_named c e (p ∷ ps) named =
     λ i. sym (named zero p refl) i ∷ puts_named c e ps (λ k q f. named (suc k) q f) i
-
-map-with_all : {A B : Type 0} (f : A → B) (xs ys : List A)
-    → map f (with_all xs ys) ≡ with_all (map f xs) (map f ys)
-map-with_all f xs [] = refl
-map-with_all f xs (y ∷ ys) = map-append f xs (y ∷ ys)
 
 -- each packet has the tag of the part that it is
 pub names_step : (c : Config) (h : History) (x : Recorded) → Owes c h x → IsSound c h

@@ -1,13 +1,13 @@
 -- What a release is of, and that each was the only one of its opening.
-use Rattle.std.proofs.Common.{◌≡◌, ◌∙◌, ap, sym, refl, ℕ, suc, ◌-◌, ◌<◌, ◌≤◌, Bool, true, false, ◌&&◌, inl, inr, ◌∷◌, length, drop, Option, Some, None, if◌then◌else◌, arith}
+use Rattle.std.proofs.Common.{◌≡◌, ◌∙◌, ap, sym, refl, ℕ, suc, ◌-◌, ◌<◌, ◌≤◌, Bool, true, false, not, ◌&&◌, inl, inr, ◌∷◌, length, drop, Option, Some, None, if◌then◌else◌, arith}
 use Rattle.std.specs.List.{slice_get, find}
 use Rattle.std.specs.Option.{option_or, option_and_then}
 use Rattle.lpt_packet.specs.declared.direction.Direction.{Direction}
-use Rattle.lpt_packet.specs.Names.{Name}
+use Rattle.lpt_packet.specs.Names.{Name, same_name}
 use Rattle.lpt_events.specs.Lanes.{lane_direction, same_direction}
 use Rattle.lpt_events.specs.declared.config.Config.{Config}
 use Rattle.lpt_events.specs.declared.event.Event.{Event}
-use Rattle.lpt_events.specs.declared.event.Event.TheVariants.{Deliver, Expire}
+use Rattle.lpt_events.specs.declared.event.Event.TheVariants.{Deliver, Expire, Retire}
 use Rattle.lpt_events.specs.declared.reply.Answer.{Answer}
 use Rattle.lpt_events.specs.declared.entry.Opening.{Opening}
 use Rattle.lpt_events.specs.declared.entry.Release.{Release}
@@ -117,6 +117,10 @@ closed_after_stays (Deliver l) a d id stays =
     or_true_r (same_direction (lane_direction l) d && ends a id) true refl
 closed_after_stays (Expire side) a d id stays =
     or_true_r (same_side side (receiver_side d) && ends a id) true refl
+closed_after_stays (Retire e i) a d id stays = go (same_direction e d && same_name i id) stays where
+  go : (t : Bool) → ¬ (t ≡ true) → (not t && true) ≡ true
+  go true other = absurd (other refl)
+  go false other = refl
 closed_after_stays e a d id stays = refl
 
 -- a closed transaction stays closed while it isn't retired

@@ -1,5 +1,5 @@
 -- What holds of a history, and what an entry that comes after it owes for that to hold again.
-use Rattle.std.proofs.Common.{◌&&◌, ◌≡◌, ◌∙◌, ap, sym, subst, refl, ℕ, ◌^◌, ◌<◌, Bool, true, false, ◌⊎◌, inl, List, [], ◌∷◌, length, map, Option, Some, None, if◌then◌else◌}
+use Rattle.std.proofs.Common.{◌&&◌, ◌≡◌, ◌∙◌, refl, ℕ, ◌^◌, ◌<◌, Bool, true, false, ◌⊎◌, inl, inr, List, ◌∷◌, length, map, Option, Some, None, if◌then◌else◌}
 use Rattle.std.specs.List.{slice_get, find}
 use Rattle.std.specs.Option.{option_or}
 use Rattle.std.specs.FinMap as maps
@@ -134,6 +134,12 @@ pub record IsKept (c : Config) (h : History) (d : Direction) (id : Name) (s : Pa
 abbrev pub IsHeardNow : Config → History → Direction → Name → Parts → Type 0
 IsHeardNow c h d id s = (s ≡ heard c h d id) ⊎ (s ≡ no_parts) ⊎ IsKept c h d id s
 
+-- where a transaction is dropped nothing is kept of it, else what was
+pub kept_or_none : (c : Config) (h : History) (d : Direction) (id : Name) (dropped : Bool)
+    → IsHeardNow c h d id (if dropped then no_parts else heard c h d id)
+kept_or_none c h d id true = inr (inl refl)
+kept_or_none c h d id false = inl refl
+
 -- what an entry owes to the history before it
 pub record Owes (c : Config) (h : History) (x : Recorded) : Type 0 where
   pub opens : (d : Direction) (id : Name) (o : Opening)
@@ -146,35 +152,6 @@ pub record Owes (c : Config) (h : History) (x : Recorded) : Type 0 where
   pub takes : (l : Lane) (n : ℕ) → hand (x ∷ h) l ≡ Some n → (hand h l ≡ Some n) ⊎ IsTaken h l n
   pub hears : (d : Direction) (id : Name) → IsHeardNow c h d id (heard c (x ∷ h) d id)
   pub clocks : (side : Side) → clock c (x ∷ h) side < 2 ^ 32
-
--- ---- what a calm entry owes
-
--- the entry opens, retires, takes, hears and ticks nothing
-pub record IsCalm (c : Config) (h : History) (x : Recorded) : Type 0 where
-  pub opens : x.opens ≡ []
-  pub retires : (d : Direction) (id : Name) → retires x.event d id ≡ false
-  pub takes : (l : Lane) → hand (x ∷ h) l ≡ hand h l
-  pub hears : (d : Direction) (id : Name) → heard c (x ∷ h) d id ≡ heard c h d id
-  pub ticks : (side : Side) → clock c (x ∷ h) side ≡ clock c h side
-
--- a calm entry owes its packets alone
-pub calm_owes : (c : Config) (h : History) (x : Recorded)
-    → IsCalm c h x
-    → IsSound c h
-    → ((k : ℕ) (p : SentPacket)
-    → slice_get x.puts k ≡ Some p
-    → IsPut c (x ∷ h) x.event p)
-    → Owes c h x
-calm_owes c h x calm sound puts = record {
-  opens = λ d id o f.
-      let none : ◌≡◌ {A = Option Opening} None (Some o) =
-      sym (ap (find (is_opening_of d id)) calm.opens) ∙ f in absurd cc;
-  retires = λ d id r. let no : retires x.event d id ≡ false = calm.retires d id in absurd cc;
-  puts = puts;
-  takes = λ l n e. inl (sym (calm.takes l) ∙ e);
-  hears = λ d id. inl (calm.hears d id);
-  clocks = λ side. subst (λ n. n < 2 ^ 32) (sym (calm.ticks side)) (sound.clocks side);
-}
 
 -- ---- openings
 

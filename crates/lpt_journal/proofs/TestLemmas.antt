@@ -1,6 +1,7 @@
 -- What tests tell, and what lists have at a place.
-use Rattle.std.proofs.Common.{◌≡◌, ◌∙◌, ap, sym, refl, ℕ, zero, suc, ◌+◌, ◌<◌, ◌≤◌, nat_lt, nat_le, ◌==◌, Bool, true, false, cond, if◌then◌else◌, not, ◌&&◌, ◌||◌, ◌⊎◌, inl, inr, List, [], ◌∷◌, ◌++◌, length, Option, Some, None, arith, zero-add}
+use Rattle.std.proofs.Common.{◌≡◌, ◌∙◌, ap, sym, refl, ℕ, zero, suc, ◌+◌, ◌<◌, ◌≤◌, nat_lt, nat_le, ◌==◌, Bool, true, false, cond, if◌then◌else◌, not, ◌&&◌, ◌||◌, ◌⊎◌, inl, inr, List, [], ◌∷◌, ◌++◌, length, map, Option, Some, None, arith, zero-add}
 use Rattle.std.proofs.lemmas.Bool.Decides.{nat_tests}
+use Rattle.std.proofs.lemmas.List.{map-append}
 use Rattle.std.specs.List.{slice_get, find, filter}
 use Rattle.std.specs.Option.{is_some}
 use Rattle.lpt_events.specs.declared.fault.StepFault.{StepFault}
@@ -76,6 +77,15 @@ two_pass true b f g h = absurd cc
 two_pass false true f g h = absurd cc
 two_pass false false f g h = (refl, refl)
 
+-- the same of a line of three
+pub three_pass : (a b c : Bool) (f g i : StepFault)
+    → first_fault ((a, f) ∷ (b, g) ∷ (c, i) ∷ []) ≡ None
+    → (a ≡ false) × (b ≡ false) × (c ≡ false)
+three_pass true b c f g i h = absurd cc
+three_pass false true c f g i h = absurd cc
+three_pass false false true f g i h = absurd cc
+three_pass false false false f g i h = (refl, refl, refl)
+
 -- the same of a line of four
 pub four_pass : (a b c d : Bool) (f g i j : StepFault)
     → first_fault ((a, f) ∷ (b, g) ∷ (c, i) ∷ (d, j) ∷ []) ≡ None
@@ -109,6 +119,12 @@ get-with_all {A = A} xs (z ∷ ys) n y h = go xs n h where
   go [] n h = absurd cc
   go (x ∷ xs) zero h = h
   go (x ∷ xs) (suc n) h = go xs n h
+
+-- a function of each element of the longer list
+pub map-with_all : {A B : Type 0} (f : A → B) (xs ys : List A)
+    → map f (with_all xs ys) ≡ with_all (map f xs) (map f ys)
+map-with_all f xs [] = refl
+map-with_all f xs (y ∷ ys) = map-append f xs (y ∷ ys)
 
 -- what a list with others behind it has at a place: an old element, or a new one
 abbrev pub IsOldOrNew : {A : Type 0} → List A → List A → ℕ → A → Type 0

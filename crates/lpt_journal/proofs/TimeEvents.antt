@@ -1,13 +1,11 @@
 -- What ticks and expiry owe, and that they pay it.
-use Rattle.std.proofs.Common.{◌≡◌, ◌∙◌, ap, sym, subst, refl, ℕ, ◌+◌, ◌^◌, ◌<◌, ◌==◌, Bool, true, false, ◌&&◌, inl, inr, ◌∷◌, Option, Some, None, if◌then◌else◌, arith}
+use Rattle.std.proofs.Common.{◌≡◌, ◌∙◌, ap, sym, subst, refl, ℕ, ◌+◌, ◌^◌, ◌<◌, ◌==◌, Bool, true, false, ◌&&◌, inl, ◌∷◌, Option, Some, None, if◌then◌else◌, arith}
 use Rattle.std.specs.List.{slice_get}
 use Rattle.std.proofs.lemmas.Bool.Decides.{nat_tests}
-use Rattle.lpt_packet.specs.declared.direction.Direction.{Direction}
 use Rattle.lpt_packet.specs.declared.direction.Direction.TheVariants.{Down}
 use Rattle.lpt_packet.specs.Names.{Name}
 use Rattle.lpt_part.specs.declared.reason.Reason.{Reason}
 use Rattle.lpt_part.specs.declared.reason.Reason.TheVariants.{Expired as TimedOut}
-use Rattle.lpt_reception.specs.Received.{no_parts}
 use Rattle.lpt_events.specs.declared.config.Config.{Config}
 use Rattle.lpt_events.specs.declared.side.Side.{Side}
 use Rattle.lpt_events.specs.declared.side.Side.TheVariants.{Ground, Craft}
@@ -17,7 +15,7 @@ use Rattle.lpt_events.specs.declared.fault.StepFault.TheVariants.{ClockEnd}
 use Rattle.lpt_journal.specs.Due.{due}
 use Rattle.lpt_events.specs.Sides.{same_side, receiver_side, direction_to}
 use Rattle.lpt_journal.specs.Journal.{History, SentPacket}
-use Rattle.lpt_journal.specs.Receivers.{ends, heard, clock}
+use Rattle.lpt_journal.specs.Receivers.{ends, clock}
 use Rattle.lpt_events.specs.Configs.{IsConfig}
 use Rattle.lpt_journal.specs.Replies.{abort_puts, expiry_puts, entry}
 use Rattle.lpt_journal.specs.Refusals.{refusal}
@@ -26,7 +24,7 @@ use Rattle.lpt_journal.proofs.Events.{only_element}
 use Rattle.lpt_journal.proofs.SentParts.{AreCounts, abort_arrives}
 use Rattle.lpt_journal.proofs.TestLemmas.{one_passes, no_place}
 use Rattle.lpt_memory.specs.Memories.{Contents}
-use Rattle.lpt_journal.proofs.Steps.{IsRead, IsPut, IsSound, IsHeardNow, Owes}
+use Rattle.lpt_journal.proofs.Steps.{IsRead, IsPut, IsSound, Owes, kept_or_none}
 
 -- ---- ticks
 
@@ -115,12 +113,7 @@ expire_owes c first h side good sound =
       retires = λ e j r. absurd cc;
       puts = λ k p f. puts_report c h (x ∷ h) side (due c h (direction_to side)) k p good sound f;
       takes = λ l n f. inl f;
-      hears = λ d id. kept_or_none d id
+      hears = λ d id. kept_or_none c h d id
           (same_side side (receiver_side d) && ends x.reply.answer id);
       clocks = sound.clocks;
     }
-  where
-    kept_or_none : (d : Direction) (id : Name) (b : Bool)
-        → IsHeardNow c h d id (if b then no_parts else heard c h d id)
-    kept_or_none d id true = inr (inl refl)
-    kept_or_none d id false = inl refl

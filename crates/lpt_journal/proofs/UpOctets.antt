@@ -1,6 +1,6 @@
 -- In every legal journal what goes up is octets: messages, packets and released requests.
-use Rattle.std.proofs.Common.{◌≡◌, ◌∙◌, ap, sym, subst, refl, ℕ, zero, suc, true, inl, inr, List, [], ◌∷◌, length, map, Option, Some, None}
-use Rattle.std.specs.List.{slice_get, find, filter}
+use Rattle.std.proofs.Common.{◌≡◌, ◌∙◌, ap, sym, subst, refl, ℕ, zero, suc, Bool, true, false, if◌then◌else◌, inl, inr, List, [], ◌∷◌, length, map, Option, Some, None}
+use Rattle.std.specs.List.{slice_get, find}
 use Rattle.std.specs.Option.{option_or}
 use Rattle.lpt_packet.specs.declared.direction.Direction.{Direction}
 use Rattle.lpt_packet.specs.declared.direction.Direction.TheVariants.{Up, Down}
@@ -34,9 +34,10 @@ use Rattle.lpt_journal.specs.Link.{sent}
 use Rattle.lpt_journal.specs.Receivers.{heard}
 use Rattle.lpt_journal.specs.Releases.{released_by}
 use Rattle.lpt_journal.specs.Replies.{send_puts, abort_puts, outcome_puts, expiry_puts, puts, opens, entry}
-use Rattle.lpt_journal.specs.Senders.{Sender, FreeSender, OpenSender, ClosedSender, sender, is_opening_of, current, count}
+use Rattle.lpt_journal.specs.Senders.{Sender, FreeSender, OpenSender, ClosedSender, sender, is_opening_of, retires, current, count}
 use Rattle.lpt_journal.proofs.DeliveredReleases.{plain_is}
 use Rattle.lpt_journal.proofs.Events.{only_opening, only_element, open_current}
+use Rattle.lpt_journal.proofs.NewJobs.{came_up, job_cases}
 use Rattle.lpt_journal.proofs.OctetLemmas.{made_octets, part_octets, request_is}
 use Rattle.lpt_journal.proofs.Releasing.{OwesReleases}
 use Rattle.lpt_journal.proofs.Soundness.{in_hand_is}
@@ -205,20 +206,20 @@ pub up_octets_step : (c : Config) (first : Contents) (h : History) (e : Event)
     → AreUpOctets c h
     → AreUpOctets c (entry c first h e ∷ h)
 up_octets_step c first h e sound can owes full had = record {
-  openings = λ id o f. opening id o (find (is_opening_of Up id) x.opens) refl f;
+  openings = λ id o f. opening id o (retires e Up id) (find (is_opening_of Up id) x.opens) refl f;
   packets = λ n p f up. packet n p up (with_all_cases (sent h) x.puts n p f);
-  requests = λ k r f. request k r
-      (with_all_cases (jobs c h) (filter (λ r. went_up r.of) (released_by c x h)) k r f);
+  requests = λ k r f. request k r (job_cases c x h k r f).1;
 } where
   x : Recorded
   x = entry c first h e
 
-  opening : (id : Name) (o : Opening) (found : Option Opening)
+  opening : (id : Name) (o : Opening) (gone : Bool) (found : Option Opening)
       → find (is_opening_of Up id) (opens c first h e) ≡ found
-      → option_or found (current h Up id) ≡ Some o
+      → ◌≡◌ {A = Option Opening} (if gone then None else option_or found (current h Up id)) (Some o)
       → IsOctets o.message
-  opening id o None is f = had.openings id o f
-  opening id o (Some u) is f = opened_octets c first h e can id o (is ∙ f)
+  opening id o true found is f = absurd cc
+  opening id o false None is f = had.openings id o f
+  opening id o false (Some u) is f = opened_octets c first h e can id o (is ∙ f)
 
   packet : (n : ℕ) (p : SentPacket)
       → p.direction ≡ Up
@@ -228,7 +229,7 @@ up_octets_step c first h e sound can owes full had = record {
   packet n p up (inr fresh) = put_octets c first h e can had fresh.0 p fresh.2 up
 
   request : (k : ℕ) (r : Release)
-      → IsOldOrNew (jobs c h) (filter (λ r. went_up r.of) (released_by c (entry c first h e) h)) k r
+      → IsOldOrNew (jobs c h) (came_up (released_by c (entry c first h e) h)) k r
       → IsOctets r.message
   request k r (inl old) = had.requests k r old
   request k r (inr fresh) =

@@ -1,4 +1,4 @@
--- What claims, commits and executions owe, and that they pay it.
+-- What an execution owes, and that it pays it.
 use Rattle.std.proofs.Common.{◌≡◌, ◌∙◌, ap, sym, subst, refl, ℕ, zero, suc, ◌+◌, nat_lt, ◌≤◌, ◌<◌, Bool, true, false, not, if◌then◌else◌, inl, List, [], ◌∷◌, length, map, Option, Some, None, arith}
 use Rattle.std.proofs.lemmas.Bool.Decides.{nat_tests}
 use Rattle.std.specs.List.{slice_get, find, filter, AllByRecursion}
@@ -17,9 +17,8 @@ use Rattle.lpt_events.specs.Configs.{IsConfig}
 use Rattle.lpt_events.specs.TelemetryKinds.{service_of, subtype_of}
 use Rattle.lpt_events.specs.declared.entry.Opening.{Opening}
 use Rattle.lpt_events.specs.declared.entry.Release.{Release}
-use Rattle.lpt_events.specs.declared.event.Event.TheVariants.{Claim, Commit, Apply}
+use Rattle.lpt_events.specs.declared.event.Event.TheVariants.{Apply}
 use Rattle.lpt_events.specs.declared.side.Side.TheVariants.{Craft}
-use Rattle.lpt_events.specs.declared.worker.Worker.{Worker}
 use Rattle.lpt_execution.specs.Endings.{is_small}
 use Rattle.lpt_execution.specs.Reporting.{message_reports, link_packets, large_packets, opened_of}
 use Rattle.lpt_execution.specs.declared.ending.Report.{Report}
@@ -31,38 +30,8 @@ use Rattle.lpt_journal.specs.Replies.{entry}
 use Rattle.lpt_journal.specs.Senders.{is_opening_of, sender, is_free, least_free, open_count, current, made}
 use Rattle.lpt_journal.proofs.Events.{free_current, only_opening}
 use Rattle.lpt_journal.proofs.SentReports.{IsSendable, IsReportMade, all_made, message_sendable, ending_fits}
-use Rattle.lpt_journal.proofs.Steps.{IsRead, IsPut, IsSound, IsNew, Owes, calm_owes, opening_found}
+use Rattle.lpt_journal.proofs.Steps.{IsRead, IsPut, IsSound, IsNew, Owes, opening_found}
 use Rattle.lpt_journal.proofs.TestLemmas.{no_place}
-
--- ---- claims and commits
-
--- a claim is calm, and puts nothing
-pub claim_owes : (c : Config) (first : Contents) (h : History) (w : Worker)
-    → IsSound c h
-    → Owes c h (entry c first h (Claim w))
-claim_owes c first h w sound =
-    calm_owes c h (entry c first h (Claim w)) (record {
-      opens = refl;
-      retires = λ e j. refl;
-      takes = λ l. refl;
-      hears = λ e j. refl;
-      ticks = λ side. refl;
-    }) sound (λ k p f. absurd (no_place k p f))
-
--- so is a commit
-pub commit_owes : (c : Config) (first : Contents) (h : History) (w : Worker)
-    → IsSound c h
-    → Owes c h (entry c first h (Commit w))
-commit_owes c first h w sound =
-    calm_owes c h (entry c first h (Commit w)) (record {
-      opens = refl;
-      retires = λ e j. refl;
-      takes = λ l. refl;
-      hears = λ e j. refl;
-      ticks = λ side. refl;
-    }) sound (λ k p f. absurd (no_place k p f))
-
--- ---- executions
 
 -- the packet of a report is read, and is no part
 report_sound : (c : Config) (g : History) (x : Report × List ℕ)

@@ -60,11 +60,23 @@ NothingIsKept c h =
     → is_closed h d id ≡ true
     → has_parts (heard c h d id) ≡ false
 
--- an opening whose reception expired is never released, and of an ended reception nothing is kept
+-- of a transaction whose last opening was released nothing is kept
+abbrev pub ReleasedIsUnheard : Config → History → Type 0
+ReleasedIsUnheard c h =
+    (k : ℕ) (r : Release) (o u : Opening) (d : Direction) (id : Name)
+    → slice_get (releases c h) k ≡ Some r
+    → opening_of h r ≡ Some o
+    → current h d id ≡ Some u
+    → IsSameOpening o u
+    → has_parts (heard c h d id) ≡ false
+
+-- An opening whose reception expired is never released, and one that was released is never heard
+-- again; of an ended reception nothing is kept.
 pub record EndsAreFinal (c : Config) (h : History) : Type 0 where
   pub opened : EachHasOpening h
   pub unreleased : NoneIsReleased c h
   pub unheard : NothingIsKept c h
+  pub not_again : ReleasedIsUnheard c h
 
 -- it holds of every legal journal
 abbrev pub ExpiryIsFinal : Type 0

@@ -2,11 +2,13 @@
 -- memories: their first content, changed by the executed requests.
 use Rattle.std.specs.Prelude.{ℕ, ◌+◌, ◌==◌, Bool, true, false, ◌||◌, if◌then◌else◌, List, [], ◌∷◌, map, slice_get, Option, Some, None}
 use Rattle.std.specs.List.{filter}
+use Rattle.std.specs.Option.{option_map}
 use Rattle.lpt_packet.specs.declared.direction.Direction.{Direction}
 use Rattle.lpt_packet.specs.declared.direction.Direction.TheVariants.{Up}
 use Rattle.lpt_packet.specs.Names.{Name}
 use Rattle.lpt_memory.specs.Meanings.{meaning}
 use Rattle.lpt_memory.specs.Memories.{Contents, sizes_of, effect}
+use Rattle.lpt_memory.specs.Readings.{Job}
 use Rattle.lpt_events.specs.Lanes.{same_direction}
 use Rattle.lpt_events.specs.Workers.{same_worker}
 use Rattle.lpt_events.specs.declared.config.Config.{Config}
@@ -14,7 +16,7 @@ use Rattle.lpt_events.specs.declared.entry.Release.{Release}
 use Rattle.lpt_events.specs.declared.event.Event.{Event}
 use Rattle.lpt_events.specs.declared.event.Event.TheVariants.{Claim, Commit, Apply}
 use Rattle.lpt_events.specs.declared.reply.Answer.{Answer}
-use Rattle.lpt_events.specs.declared.reply.Answer.TheVariants.{Claimed, Committed}
+use Rattle.lpt_events.specs.declared.reply.Answer.TheVariants.{Committed}
 use Rattle.lpt_events.specs.declared.side.Side.{Side}
 use Rattle.lpt_events.specs.declared.side.Side.TheVariants.{Craft}
 use Rattle.lpt_events.specs.declared.worker.Worker.{Worker}
@@ -34,7 +36,8 @@ abbrev pub went_up : Option (Direction × Name) → Bool
 went_up None = true
 went_up (Some t) = same_direction t.0 Up
 
--- the jobs: what the spacecraft has released since its last restart, numbered from 0 in this order
+-- the jobs: what the spacecraft has released since it was last started anew, numbered from 0 in this
+-- order
 abbrev pub jobs : Config → History → List Release
 jobs c [] = []
 jobs c (x ∷ h) =
@@ -46,7 +49,7 @@ abbrev pub claimed_after : Event → ℕ → ℕ
 claimed_after (Claim w) before = before + 1
 claimed_after _ before = before
 
--- how many jobs were claimed since the spacecraft's last restart; they are the oldest
+-- how many jobs were claimed since the spacecraft was last started anew; they are the oldest
 abbrev pub claimed : History → ℕ
 claimed [] = 0
 claimed (x ∷ h) = if restarts x.event Craft then 0 else claimed_after x.event (claimed h)
@@ -56,40 +59,38 @@ abbrev pub applied_after : Event → ℕ → ℕ
 applied_after Apply before = before + 1
 applied_after _ before = before
 
--- how many jobs were executed since the spacecraft's last restart; they are the oldest
+-- how many jobs were executed since the spacecraft was last started anew; they are the oldest
 abbrev pub applied : History → ℕ
 applied [] = 0
 applied (x ∷ h) = if restarts x.event Craft then 0 else applied_after x.event (applied h)
 
 -- ---- tickets and commits
 
--- a job by the boot in which it was released, and its number in it
-pub record JobName : Type 0 where
-  pub boot : ℕ
-  pub job : ℕ
+-- the job that a worker gets that claims: the oldest that wasn't claimed
+abbrev pub job_given : Config → History → Option Job
+job_given c h =
+    option_map (λ r. record { boot = boot h Craft; job = claimed h; message = r.message })
+    (slice_get (jobs c h) (claimed h))
 
--- the job that an answer gives to a worker
-abbrev pub job_given : Answer → Option JobName
-job_given (Claimed boot job) = Some (record { boot = boot; job = job })
-job_given _ = None
+-- the job that a worker has after an event, where this one is given to it that claims
+abbrev pub ticket_after : Event → (given : Option Job) → Worker → Option Job → Option Job
+ticket_after (Claim v) given w before = if same_worker v w then given else before
+ticket_after (Commit v) given w before = if same_worker v w then None else before
+ticket_after _ given w before = before
 
--- the job that a worker has after an event
-abbrev pub ticket_after : Event → Answer → Worker → Option JobName → Option JobName
-ticket_after (Claim v) answer w before = if same_worker v w then job_given answer else before
-ticket_after (Commit v) answer w before = if same_worker v w then None else before
-ticket_after _ answer w before = before
-
--- the job that a worker claimed last, where it committed none after that
-abbrev pub ticket : History → Worker → Option JobName
-ticket [] w = None
-ticket (x ∷ h) w = ticket_after x.event x.reply.answer w (ticket h w)
+-- the job that a worker claimed last, where it committed none after that; it keeps it whatever node
+-- is started anew
+abbrev pub ticket : Config → History → Worker → Option Job
+ticket c [] w = None
+ticket c (x ∷ h) w = ticket_after x.event (job_given c h) w (ticket c h w)
 
 -- whether an answer says that the reading of the job of this number was handed in
 abbrev pub commits : Answer → ℕ → Bool
 commits (Committed boot n) job = n == job
 commits _ job = false
 
--- whether the reading of the job of this number was handed in since the spacecraft's last restart
+-- whether the reading of the job of this number was handed in since the spacecraft was last started
+-- anew
 abbrev pub is_committed : History → ℕ → Bool
 is_committed [] job = false
 is_committed (x ∷ h) job =

@@ -5,7 +5,7 @@ use Rattle.lpt_packet.specs.Numbers.{IsOctets}
 use Rattle.lpt_memory.specs.Memories.{Contents}
 use Rattle.lpt_events.specs.declared.config.Config.{Config}
 use Rattle.lpt_events.specs.declared.event.Event.{Event}
-use Rattle.lpt_events.specs.declared.event.Event.TheVariants.{Open, Send, Plain, Finish, Lose, Damage, Take, Deliver, Tick, Expire, Claim, Commit, Apply}
+use Rattle.lpt_events.specs.declared.event.Event.TheVariants.{Open, Send, Plain, Finish, Lose, Damage, Take, Deliver, Tick, Expire, Claim, Commit, Apply, Retire, Restart}
 use Rattle.lpt_journal.specs.Journal.{History}
 use Rattle.lpt_journal.specs.Replies.{recorded}
 use Rattle.lpt_journal.specs.Refusals.{refusal}
@@ -26,6 +26,8 @@ IsEvent (Expire side) = ⊤
 IsEvent (Claim w) = ⊤
 IsEvent (Commit w) = ⊤
 IsEvent Apply = ⊤
+IsEvent (Retire d id) = IsName id
+IsEvent (Restart side) = ⊤
 
 -- an event can happen after this history
 pub record IsEnabled (c : Config) (h : History) (e : Event) : Type 0 where

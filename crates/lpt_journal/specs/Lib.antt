@@ -14,3 +14,4 @@ pub mod Refusals
 pub mod Releases
 pub mod Replies
 pub mod Senders
+pub mod Work

@@ -13,7 +13,7 @@ use Rattle.lpt_events.specs.declared.outcome.Outcome.TheVariants.{Kept, Again, R
 use Rattle.lpt_events.specs.declared.side.Side.{Side}
 use Rattle.lpt_events.specs.Arrivals.{Arrival, APart}
 use Rattle.lpt_events.specs.declared.event.Event.{Event}
-use Rattle.lpt_events.specs.declared.event.Event.TheVariants.{Deliver, Tick, Expire}
+use Rattle.lpt_events.specs.declared.event.Event.TheVariants.{Deliver, Tick, Expire, Retire, Restart}
 use Rattle.lpt_events.specs.declared.reply.Answer.{Answer}
 use Rattle.lpt_events.specs.declared.reply.Answer.TheVariants.{Delivered, Expired}
 use Rattle.lpt_events.specs.Sides.{same_side, receiver_side}
@@ -59,6 +59,8 @@ heard_after (Deliver l) answer arrived d id before =
     if same_direction (lane_direction l) d then heard_now answer (arrived l) id before else before
 heard_after (Expire side) answer arrived d id before =
     if same_side side (receiver_side d) && ends answer id then no_parts else before
+heard_after (Restart side) answer arrived d id before =
+    if same_side side (receiver_side d) then no_parts else before
 heard_after _ answer arrived d id before = before
 
 -- the parts that are kept of a transaction
@@ -104,6 +106,7 @@ closed_after (Deliver l) answer d id before =
     (same_direction (lane_direction l) d && ends answer id) || before
 closed_after (Expire side) answer d id before =
     (same_side side (receiver_side d) && ends answer id) || before
+closed_after (Retire e i) answer d id before = not (same_direction e d && same_name i id) && before
 closed_after _ answer d id before = before
 
 -- whether a reception of the transaction has ended, and it was not retired after that

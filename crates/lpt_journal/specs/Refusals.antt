@@ -6,10 +6,11 @@ use Rattle.lpt_events.specs.declared.config.Config.{Config}
 use Rattle.lpt_events.specs.Damages.{is_damage_long, looks_whole}
 use Rattle.lpt_events.specs.Requests.{is_part_request, is_too_long}
 use Rattle.lpt_events.specs.declared.event.Event.{Event}
-use Rattle.lpt_events.specs.declared.event.Event.TheVariants.{Open, Send, Plain, Finish, Lose, Damage, Take, Deliver, Tick, Expire, Claim, Commit, Apply}
+use Rattle.lpt_events.specs.declared.event.Event.TheVariants.{Open, Send, Plain, Finish, Lose, Damage, Take, Deliver, Tick, Expire, Claim, Commit, Apply, Retire, Restart}
 use Rattle.lpt_events.specs.declared.fault.StepFault.{StepFault}
-use Rattle.lpt_events.specs.declared.fault.StepFault.TheVariants.{InUse, Short, Long, TooMany, NotOpen, NoSuchPart, NotHeld, HandFull, HandEmpty, NothingDue, LooksWhole, NoJob, NotReady, ClockEnd, PartRequest}
+use Rattle.lpt_events.specs.declared.fault.StepFault.TheVariants.{InUse, Short, Long, TooMany, NotOpen, NoSuchPart, NotHeld, HandFull, HandEmpty, NothingDue, NoJob, NotReady, NotClear, LooksWhole, StillOpen, ClockEnd, PartRequest}
 use Rattle.lpt_events.specs.Sides.{direction_to}
+use Rattle.lpt_journal.specs.Clear.{is_clear}
 use Rattle.lpt_journal.specs.Journal.{History}
 use Rattle.lpt_journal.specs.Jobs.{jobs, claimed, applied, ticket, is_committed, front_job}
 use Rattle.lpt_journal.specs.Link.{is_held, goes}
@@ -51,11 +52,16 @@ reasons c h (Deliver l) = (not (is_some (hand h l)), HandEmpty) ∷ []
 reasons c h (Tick side) = (clock c h side == 4294967295, ClockEnd) ∷ []
 reasons c h (Expire side) = (not (is_some (due c h (direction_to side))), NothingDue) ∷ []
 reasons c h (Claim w) =
-    (is_some (ticket h w), HandFull) ∷ (nat_le (length (jobs c h)) (claimed h), NoJob) ∷ []
-reasons c h (Commit w) = (not (is_some (ticket h w)), HandEmpty) ∷ []
+    (is_some (ticket c h w), HandFull) ∷ (nat_le (length (jobs c h)) (claimed h), NoJob) ∷ []
+reasons c h (Commit w) = (not (is_some (ticket c h w)), HandEmpty) ∷ []
 reasons c h Apply =
     (not (is_some (front_job c h)), NoJob)
     ∷ (not (is_committed h (applied h)), NotReady) ∷ []
+reasons c h (Retire d id) =
+    (is_free (sender h d id), NotOpen)
+    ∷ (is_open (sender h d id), StillOpen)
+    ∷ (not (is_clear c h d id), NotClear) ∷ []
+reasons c h (Restart side) = []
 
 -- why an event is refused, where it is
 abbrev pub refusal : Config → History → Event → Option StepFault

@@ -1,9 +1,10 @@
 -- What each event answers, puts and opens.
-use Rattle.std.specs.Prelude.{ℕ, ◌+◌, List, [], ◌∷◌, length, Option, Some, None}
+use Rattle.std.specs.Prelude.{ℕ, ◌+◌, ◌==◌, if◌then◌else◌, List, [], ◌∷◌, length, Option, Some, None}
 use Rattle.lpt_packet.specs.declared.direction.Direction.{Direction}
 use Rattle.lpt_packet.specs.declared.direction.Direction.TheVariants.{Up, Down}
 use Rattle.lpt_packet.specs.Names.{Name, no_name}
 use Rattle.lpt_memory.specs.Memories.{Contents}
+use Rattle.lpt_memory.specs.Readings.{Job}
 use Rattle.lpt_part.specs.declared.reason.Reason.{Reason}
 use Rattle.lpt_part.specs.declared.reason.Reason.TheVariants as reason
 use Rattle.lpt_part.specs.Parts.{Piece}
@@ -17,9 +18,9 @@ use Rattle.lpt_events.specs.declared.side.Side.TheVariants.{Ground, Craft}
 use Rattle.lpt_events.specs.Arrivals.{part_subtype}
 use Rattle.lpt_events.specs.MadePackets.{nth_part, part_made, abort_made, tc_made}
 use Rattle.lpt_events.specs.declared.event.Event.{Event}
-use Rattle.lpt_events.specs.declared.event.Event.TheVariants.{Open, Send, Plain, Finish, Lose, Damage, Take, Deliver, Tick, Expire, Claim, Commit, Apply}
+use Rattle.lpt_events.specs.declared.event.Event.TheVariants.{Open, Send, Plain, Finish, Lose, Damage, Take, Deliver, Tick, Expire, Claim, Commit, Apply, Retire, Restart}
 use Rattle.lpt_events.specs.declared.reply.Answer.{Answer}
-use Rattle.lpt_events.specs.declared.reply.Answer.TheVariants.{Opened, Put, Finished, Lost, Took, Delivered, Clock, Expired, Claimed, Committed, Applied}
+use Rattle.lpt_events.specs.declared.reply.Answer.TheVariants.{Opened, Put, Finished, Lost, Took, Delivered, Clock, Expired, Claimed, Committed, Stale, Applied, Retired, Restarted}
 use Rattle.lpt_events.specs.declared.reply.Puts.{Puts}
 use Rattle.lpt_events.specs.declared.reply.Reply.{Reply}
 use Rattle.lpt_events.specs.declared.entry.Opening.{Opening}
@@ -31,17 +32,19 @@ use Rattle.lpt_journal.specs.Receivers.{clock}
 use Rattle.lpt_journal.specs.Due.{due}
 use Rattle.lpt_journal.specs.Delivery.{outcome}
 use Rattle.lpt_journal.specs.Executions.{front_applied, front_puts, front_opens}
-use Rattle.lpt_journal.specs.Jobs.{JobName, boot, claimed, ticket}
+use Rattle.lpt_journal.specs.Jobs.{boot, claimed, ticket}
 
 -- the end of the reception that is due; where none is, that is refused
 abbrev pub expired_now : Direction → Option Name → Answer
 expired_now d None = Expired d no_name
 expired_now d (Some id) = Expired d id
 
--- the commit of this job; where a worker has none, that is refused
-abbrev pub committed_now : Option JobName → Answer
-committed_now None = Committed 0 0
-committed_now (Some t) = Committed t.boot t.job
+-- the commit of this job in this boot: one of an earlier boot is stale; where a worker has none, that
+-- is refused
+abbrev pub committed_now : (boot : ℕ) → Option Job → Answer
+committed_now boot None = Committed 0 0
+committed_now boot (Some t) =
+    if t.boot == boot then Committed t.boot t.job else Stale t.boot t.job
 
 -- what is particular to the event in its reply
 abbrev pub answer : Config → Contents → History → Event → Answer
@@ -56,8 +59,10 @@ answer c first h (Deliver l) = Delivered (outcome c h l)
 answer c first h (Tick side) = Clock (clock c h side + 1)
 answer c first h (Expire side) = expired_now (direction_to side) (due c h (direction_to side))
 answer c first h (Claim w) = Claimed (boot h Craft) (claimed h)
-answer c first h (Commit w) = committed_now (ticket h w)
+answer c first h (Commit w) = committed_now (boot h Craft) (ticket c h w)
 answer c first h Apply = Applied (front_applied c first h)
+answer c first h (Retire d id) = Retired
+answer c first h (Restart side) = Restarted (boot h side + 1)
 
 -- the octets of a part's packet that the sender makes now
 abbrev pub part_packet : Config → History → Direction → Piece → List ℕ
@@ -116,6 +121,8 @@ puts c first h (Expire side) = expiry_puts c h side (due c h (direction_to side)
 puts c first h (Claim w) = []
 puts c first h (Commit w) = []
 puts c first h Apply = front_puts c first h
+puts c first h (Retire d id) = []
+puts c first h (Restart side) = []
 
 -- the transactions that an event opens
 abbrev pub opens : Config → Contents → History → Event → List Opening
@@ -132,6 +139,8 @@ opens c first h (Expire side) = []
 opens c first h (Claim w) = []
 opens c first h (Commit w) = []
 opens c first h Apply = front_opens c first h
+opens c first h (Retire d id) = []
+opens c first h (Restart side) = []
 
 -- how a reply tells of packets that were put, the first of which got this number
 abbrev pub told : ℕ → List SentPacket → Option Puts

@@ -11,11 +11,11 @@ use Rattle.lpt_events.specs.Lanes.{same_direction}
 use Rattle.lpt_events.specs.declared.side.Side.{Side}
 use Rattle.lpt_events.specs.declared.outcome.Outcome.TheVariants.{AbortNoted}
 use Rattle.lpt_events.specs.declared.event.Event.{Event}
-use Rattle.lpt_events.specs.declared.event.Event.TheVariants.{Open, Send, Plain, Finish, Lose, Damage, Take, Deliver, Tick, Expire, Claim, Commit, Apply}
+use Rattle.lpt_events.specs.declared.event.Event.TheVariants.{Open, Send, Plain, Finish, Lose, Damage, Take, Deliver, Tick, Expire, Claim, Commit, Apply, Retire, Restart}
 use Rattle.lpt_events.specs.declared.reply.Answer.{Answer}
 use Rattle.lpt_events.specs.declared.reply.Answer.TheVariants.{Delivered}
 use Rattle.lpt_events.specs.declared.entry.Opening.{Opening}
-use Rattle.lpt_events.specs.Sides.{sender_side}
+use Rattle.lpt_events.specs.Sides.{same_side, sender_side}
 use Rattle.lpt_journal.specs.Journal.{SentPacket, Recorded, History, with_all}
 
 -- ---- openings
@@ -29,8 +29,9 @@ opened (x ∷ h) = with_all (opened h) x.opens
 abbrev pub is_opening_of : Direction → Name → Opening → Bool
 is_opening_of d id o = same_direction o.direction d && same_name o.id id
 
--- whether an event retires the transaction; so far none does
+-- whether an event retires the transaction
 abbrev pub retires : Event → Direction → Name → Bool
+retires (Retire e i) d id = same_direction e d && same_name i id
 retires _ d id = false
 
 -- the last opening of the transaction, where it was not retired after that
@@ -47,10 +48,12 @@ abbrev pub notes_abort : Answer → Name → Bool
 notes_abort (Delivered (AbortNoted i reason)) id = same_name i id
 notes_abort _ id = false
 
--- whether an event closes the transaction's sender; an abortion report speaks of what goes up
+-- whether an event closes the transaction's sender; an abortion report speaks of what goes up, and a
+-- node that is started anew closes all of its own
 abbrev pub closes : Event → Answer → Direction → Name → Bool
 closes (Deliver l) answer d id = same_direction Up d && notes_abort answer id
 closes (Finish e i) answer d id = same_direction e d && same_name i id
+closes (Restart side) answer d id = same_side side (sender_side d)
 closes _ answer d id = false
 
 -- whether something closed the sender after its last opening
@@ -107,8 +110,9 @@ least_free h d = first_of_numbers name_count 0 (λ id. is_free (sender h d id))
 
 -- ---- packets made
 
--- whether an event restarts a node; so far none does
+-- whether an event starts a node anew
 abbrev pub restarts : Event → Side → Bool
+restarts (Restart node) side = same_side node side
 restarts _ side = false
 
 -- whether a node makes the packets of an event: an opened message brings its own octets, and no node
@@ -127,6 +131,8 @@ makes (Expire side) = true
 makes (Claim w) = true
 makes (Commit w) = true
 makes Apply = true
+makes (Retire d id) = true
+makes (Restart side) = true
 
 -- the octets of the packets that go in this direction
 abbrev pub octets_put : List SentPacket → Direction → List (List ℕ)
@@ -141,7 +147,7 @@ abbrev pub made_by : Recorded → Direction → List (List ℕ)
 made_by x d =
     if makes x.event then with_all (octets_put x.puts d) (messages_opened x.opens d) else []
 
--- all packets that the node has made since its last restart
+-- all packets that the node has made since it was last started anew
 abbrev pub made : History → Direction → List (List ℕ)
 made [] d = []
 made (x ∷ h) d = if restarts x.event (sender_side d) then [] else with_all (made h d) (made_by x d)

@@ -2,6 +2,7 @@
 
 ghost use Rattle.lpt_journal.specs.Expiries.{ExpiryIsFinal};
 ghost use Rattle.lpt_journal.specs.Headline.{Headline};
+ghost use Rattle.lpt_journal.specs.Work.{WorkIsOfItsBoot};
 
 /// Over every legal journal, each part that is held, in a hand or heard is that part of the message
 /// last opened under its name; each large message that was released is byte for byte the one last
@@ -14,7 +15,15 @@ pub fn headline()
 {}
 
 /// Over every legal journal, each reception that expired was of an opening that is never released,
-/// and nothing is kept of a transaction whose reception has ended.
+/// an opening that was released is never heard again, and nothing is kept of a transaction whose
+/// reception has ended.
 pub fn expiry_is_final()
     ensures { ExpiryIsFinal }
+{}
+
+/// Over every legal journal, a commit answers that its job is stale exactly where the spacecraft was
+/// started anew since the claim, and then changes nothing but that the worker has no job any more;
+/// and each request that was executed was released and committed in the same boot.
+pub fn work_is_of_its_boot()
+    ensures { WorkIsOfItsBoot }
 {}

@@ -1,5 +1,5 @@
 mod BitLemmas
-mod ClosingLemmas
+pub mod ClosingLemmas
 pub mod FirstLemmas
 mod KeptLemmas
 mod MarksLemmas

@@ -1,6 +1,6 @@
 -- What the link and the ends tell of a transaction is what the journal says, where its packets have the
 -- tags of the parts that they are.
-use Rattle.std.proofs.Common.{◌≡◌, ◌∙◌, ap, sym, refl, ℕ, zero, suc, Bool, true, false, ◌&&◌, ◌||◌, if◌then◌else◌, List, [], ◌∷◌, length, map, Option, Some, None, is_some}
+use Rattle.std.proofs.Common.{◌≡◌, ◌∙◌, ap, sym, refl, ℕ, zero, suc, Bool, true, false, ◌&&◌, ◌||◌, List, [], ◌∷◌, length, map, Option, Some, None, is_some}
 use Rattle.std.specs.List.{list_any}
 use Rattle.std.specs.Option.{option_map, option_map_or, option_and_then, option_eq}
 use Rattle.std.specs.Prelude.{slice_get}
@@ -21,13 +21,13 @@ use Rattle.lpt_journal.specs.Hands.{hand, arrival_of}
 use Rattle.lpt_journal.specs.Journal.{SentPacket, History}
 use Rattle.lpt_journal.specs.Link.{sent, tags}
 use Rattle.lpt_journal.specs.Receivers.{heard, has_parts, last_tick}
-use Rattle.lpt_reception.specs.Received.{Parts}
-use Rattle.lpt_table.specs.Tables.{TableEntry}
-use Rattle.lpt_machine.specs.Shows.{Shows, entry_of, sent_packet}
+use Rattle.lpt_machine.specs.GoesOn.{AreNamed}
+use Rattle.lpt_machine.specs.Shows.{Shows, sent_packet}
 use Rattle.lpt_machine.specs.State.{State, end_of}
 use Rattle.lpt_machine.specs.Views.{views}
 use Rattle.lpt_machine.proofs.Fields.{receiving_at}
 use Rattle.lpt_machine.proofs.LinkShown.{as_many_packets}
+use Rattle.lpt_machine.proofs.ReceivingShown.{is_some-entry_of}
 
 -- ---- numbers of a list
 
@@ -57,10 +57,6 @@ any_numbered test (x ∷ xs) =
     ∙ sym (below_front (λ n. option_map_or test (slice_get (x ∷ xs) n) false) (length xs))
 
 -- ---- packets
-
--- the tags of the packets that were put are those of the parts that they are
-abbrev pub AreNamed : Config → History → Type 0
-AreNamed c h = tags h ≡ map (λ p. part_name (arrival_of c p)) (sent h)
 
 of_transaction : (c : Config) (d : Direction) (id : Name) (o : Option LinkPacket)
     → option_map (λ p. p.tag) o
@@ -135,13 +131,6 @@ holds_shown c first s h d id k named i =
     held_shown c first s h d id k named i || hand_shown c first s h d id k named i
 
 -- ---- receptions
-
-is_some-entry_of : (s : Parts) (last : ℕ) → is_some (entry_of s last) ≡ has_parts s
-is_some-entry_of s last = go (has_parts s) where
-  go : (b : Bool)
-      → is_some {T = TableEntry} (if b then Some (record { parts = s; last = last }) else None) ≡ b
-  go true = refl
-  go false = refl
 
 -- a reception is open where parts were kept
 pub reception_shown : (c : Config) (first : Contents) (s : State) (h : History) (d : Direction) (id : Name)

@@ -1,5 +1,5 @@
 -- What a lane had in its hand is delivered: the longer journal is shown.
-use Rattle.std.proofs.Common.{◌≡◌, ap, sym, subst, refl, nat_le, Bool, true, false, not, ◌&&◌, [], ◌∷◌, ◌++◌, length, map, Some, None, is_some}
+use Rattle.std.proofs.Common.{◌≡◌, ap, sym, subst, refl, nat_le, Bool, true, false, not, ◌&&◌, [], ◌∷◌, ◌++◌, length, Some, None, is_some}
 use Rattle.std.specs.FinMap as maps
 use Rattle.lpt_packet.specs.declared.direction.Direction.{Direction}
 use Rattle.lpt_packet.specs.declared.direction.Direction.TheVariants.{Up, Down}
@@ -22,7 +22,6 @@ use Rattle.lpt_events.specs.declared.event.Event.TheVariants.{Deliver}
 use Rattle.lpt_journal.specs.Delivery.{judged}
 use Rattle.lpt_journal.specs.Jobs.{jobs, ticket}
 use Rattle.lpt_journal.specs.Journal.{History}
-use Rattle.lpt_journal.specs.Link.{tags}
 use Rattle.lpt_journal.specs.Hands.{hand, hand_after, in_hand}
 use Rattle.lpt_journal.specs.Receivers.{kept, with_piece, heard, has_parts, is_closed, clock, reception_count}
 use Rattle.lpt_journal.specs.Replies.{entry}
@@ -63,7 +62,7 @@ PartShown c first h s hands w q closed full contra again whole =
     (chosen closed full contra again whole q (length (spelled with_it))))
 
 module _ (c : Config) (first : Contents) (h : History) (s : State) (hands : Hands)
-    (fits : JobsFit (jobs_view c first h) (ticket h))
+    (fits : JobsFit (jobs_view c first h) (ticket c h))
     (k : Shows s (dropped_view c first h hands)) (w : Direction)
     (own : ShowsReceiving (end_of s (receiver_side w)).receiving (receiving_view c h w))
     (time : (end_of s (receiver_side w)).clock ≡ clock c h (receiver_side w)) where
@@ -152,7 +151,7 @@ dropped c first s h l k = with_link k (link_dropped l k.link)
 -- what is in the hand is delivered
 in_lane : (c : Config) (first : Contents) (s : State) (h : History) (l : Lane)
     → Shows s (views c first h)
-    → JobsFit (jobs_view c first h) (ticket h)
+    → JobsFit (jobs_view c first h) (ticket c h)
     → Shows
     (delivered_on (length h) s l
     (accepted (receiver_side (lane_direction l)) c (end_of s (receiver_side (lane_direction l)))
@@ -174,7 +173,7 @@ in_lane c first s h G2 k fits =
 -- a lane delivers
 pub delivered_shown : (c : Config) (first : Contents) (s : State) (h : History) (l : Lane)
     → Shows s (views c first h)
-    → JobsFit (jobs_view c first h) (ticket h)
+    → JobsFit (jobs_view c first h) (ticket c h)
     → Shows (after_deliver c (length h) s l).0 (views c first (entry c first h (Deliver l) ∷ h))
 delivered_shown c first s h l k fits =
     let side = receiver_side (lane_direction l) in

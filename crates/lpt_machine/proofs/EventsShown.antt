@@ -7,7 +7,7 @@ use Rattle.lpt_packet.specs.Names.{Name}
 use Rattle.lpt_events.specs.declared.config.Config.{Config}
 use Rattle.lpt_events.specs.declared.entry.Opening.{Opening}
 use Rattle.lpt_events.specs.declared.event.Event.{Event}
-use Rattle.lpt_events.specs.declared.event.Event.TheVariants.{Open, Send, Plain, Finish, Lose, Damage, Take, Deliver, Tick, Expire, Claim, Commit, Apply}
+use Rattle.lpt_events.specs.declared.event.Event.TheVariants.{Open, Send, Plain, Finish, Lose, Damage, Take, Deliver, Tick, Expire, Claim, Commit, Apply, Retire, Restart}
 use Rattle.lpt_events.specs.declared.fault.StepFault.TheVariants.{NotOpen, NoSuchPart, NotHeld, NothingDue}
 use Rattle.lpt_events.specs.declared.side.Side.TheVariants.{Ground, Craft}
 use Rattle.lpt_events.specs.Sides.{direction_to}
@@ -34,6 +34,8 @@ use Rattle.lpt_machine.proofs.Fields.{with_sending, with_clock, with_link, with_
 use Rattle.lpt_machine.proofs.LinkShown.{link_more, link_lost, link_taken}
 use Rattle.lpt_memory.specs.Memories.{Contents}
 use Rattle.lpt_machine.proofs.OpenedShown.{opened_shown, closed_shown}
+use Rattle.lpt_machine.proofs.RestartedShown.{restarted_shown}
+use Rattle.lpt_machine.proofs.RetiredShown.{retired_shown}
 use Rattle.lpt_machine.proofs.SendingShown.{sent_shown, plain_shown}
 
 -- the opening of a message after a journal
@@ -46,7 +48,7 @@ lt_is a b e = grind (arith, nat_tests)
 pub event_shown : (c : Config) (first : Contents) (s : State) (h : History) (e : Event)
     → IsConfig c
     → Shows s (views c first h)
-    → JobsFit (jobs_view c first h) (ticket h)
+    → JobsFit (jobs_view c first h) (ticket c h)
     → refusal c h e ≡ None
     → Shows (after c (length h) s e).0 (views c first (entry c first h e ∷ h))
 event_shown c first s h (Open Up id m) in_range k fits e =
@@ -89,3 +91,5 @@ event_shown c first s h (Expire side) in_range k fits e =
 event_shown c first s h (Claim w) in_range k fits e = claimed_shown c first s h w k fits e
 event_shown c first s h (Commit w) in_range k fits e = committed_shown c first s h w k fits e
 event_shown c first s h Apply in_range k fits e = executed_shown c first s h in_range k fits e
+event_shown c first s h (Retire d id) in_range k fits e = retired_shown c first s h d id k e
+event_shown c first s h (Restart side) in_range k fits e = restarted_shown c first s h side k

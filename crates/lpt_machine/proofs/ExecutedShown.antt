@@ -58,7 +58,7 @@ executed_at c first s h k f =
 
 pub executed_answer : (c : Config) (first : Contents) (s : State) (h : History)
     → Shows s (views c first h)
-    → JobsFit (jobs_view c first h) (ticket h)
+    → JobsFit (jobs_view c first h) (ticket c h)
     → refusal c h Apply ≡ None
     → (after c (length h) s Apply).1 ≡ reply c first h Apply
 executed_answer c first s h k fits e =
@@ -196,11 +196,13 @@ done_shown c first s h r in_range k =
             k.ground.sending;
         receiving = k.ground.receiving;
         clock = k.ground.clock;
+        boot = k.ground.boot;
       };
       craft = record {
         sending = craft_shown c first s h m in_range k;
         receiving = k.craft.receiving;
         clock = k.craft.clock;
+        boot = k.craft.boot;
       };
       link = link_more_all Down None (on_link c first h m) k.link;
       jobs = pop_shown k.jobs;
@@ -214,7 +216,7 @@ done_shown c first s h r in_range k =
 pub executed_shown : (c : Config) (first : Contents) (s : State) (h : History)
     → IsConfig c
     → Shows s (views c first h)
-    → JobsFit (jobs_view c first h) (ticket h)
+    → JobsFit (jobs_view c first h) (ticket c h)
     → refusal c h Apply ≡ None
     → Shows (after c (length h) s Apply).0 (views c first (entry c first h Apply ∷ h))
 executed_shown c first s h in_range k fits e =

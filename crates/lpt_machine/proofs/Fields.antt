@@ -1,5 +1,5 @@
 -- A state shows a view with one field changed where the state has that field changed as well.
-use Rattle.std.proofs.Common.{◌≡◌, ◌∙◌, ℕ, List, Option}
+use Rattle.std.proofs.Common.{◌≡◌, ◌∙◌, refl, ℕ, List, Option}
 use Rattle.lpt_packet.specs.declared.direction.Direction.{Direction}
 use Rattle.lpt_packet.specs.declared.direction.Direction.TheVariants.{Up, Down}
 use Rattle.lpt_events.specs.declared.config.Config.{Config}
@@ -11,15 +11,16 @@ use Rattle.lpt_events.specs.Sides.{sender_side, receiver_side}
 use Rattle.lpt_events.specs.declared.worker.Worker.{Worker}
 use Rattle.lpt_jobs.specs.Jobs.{Jobs}
 use Rattle.lpt_memory.specs.Memories.{Contents, sizes_of}
+use Rattle.lpt_memory.specs.Readings.{Job as Ticket}
 use Rattle.lpt_link.specs.Links.{LinkData}
-use Rattle.lpt_node.specs.Nodes.{Sending, Receiving}
+use Rattle.lpt_node.specs.Nodes.{Sending, Receiving, NodeData}
 use Rattle.lpt_journal.specs.Journal.{History}
-use Rattle.lpt_journal.specs.Jobs.{JobName}
+use Rattle.lpt_journal.specs.Jobs.{boot}
 use Rattle.lpt_journal.specs.Receivers.{clock}
-use Rattle.lpt_machine.specs.Shows.{Shows, ShowsEnd, ShowsLink, ShowsJobs, ShowsTicket, ShowsSending, ShowsReceiving}
+use Rattle.lpt_machine.specs.Shows.{Shows, ShowsEnd, ShowsLink, ShowsJobs, ShowsSending, ShowsReceiving}
 use Rattle.lpt_machine.specs.State.{State, end_of, with_end}
 use Rattle.lpt_machine.specs.Tickets.{Tickets, ticket_of}
-use Rattle.lpt_machine.specs.Views.{Views, JobsView, LinkView, SendingView, ReceivingView, view_of, with_view, views, sending_view, receiving_view}
+use Rattle.lpt_machine.specs.Views.{Views, JobsView, EndView, LinkView, SendingView, ReceivingView, view_of, with_view, views, sending_view, receiving_view}
 
 -- ---- fields that are read
 
@@ -50,6 +51,13 @@ pub clock_at : (c : Config) (first : Contents) {s : State} (h : History) (side :
     → (end_of s side).clock ≡ clock c h side
 clock_at c first h Ground k = k.ground.clock
 clock_at c first h Craft k = k.craft.clock
+
+-- the boot of an end is shown
+pub boot_at : (c : Config) (first : Contents) {s : State} (h : History) (side : Side)
+    → Shows s (views c first h)
+    → (end_of s side).boot ≡ boot h side
+boot_at c first h Ground k = k.ground.boot
+boot_at c first h Craft k = k.craft.boot
 
 -- ---- fields that change
 
@@ -119,27 +127,70 @@ with_memories k f same = record {
   released = k.released;
 }
 
--- the spacecraft's jobs, and who has them
-pub with_jobs : {s : State} {v : Views} {x : Jobs} {y : JobsView} {t : Tickets}
-    {of : Worker → Option JobName}
+-- ground's end
+pub with_ground : {s : State} {v : Views} {x : NodeData} {y : EndView}
     → Shows s v
-    → ShowsJobs s.on_craft.boot x y
-    → ((w : Worker) → ShowsTicket (ticket_of t w) y.boot y.messages (of w))
-    → v.jobs.sizes ≡ y.sizes
-    → Shows (record s { on_craft = record s.on_craft { jobs = x }; tickets = t })
-    (record v { jobs = y; tickets = of })
-with_jobs k f g same = record {
-  ground = k.ground;
-  craft =
-      record { sending = k.craft.sending; receiving = k.craft.receiving; clock = k.craft.clock };
+    → ShowsEnd Ground x y
+    → Shows (record s { on_ground = x }) (record v { ground = y })
+with_ground k f = record {
+  ground = f;
+  craft = k.craft;
   link = k.link;
-  jobs = f;
-  tickets = g;
+  jobs = k.jobs;
+  tickets = k.tickets;
+  memories = k.memories;
+  sizes = k.sizes;
+  opened = k.opened;
+  released = k.released;
+}
+
+-- the spacecraft's end, its jobs among it
+pub with_craft : {s : State} {v : Views} {x : NodeData} {y : EndView} {z : JobsView}
+    → Shows s v
+    → ShowsEnd Craft x y
+    → ShowsJobs x.jobs z
+    → v.jobs.sizes ≡ z.sizes
+    → Shows (record s { on_craft = x }) (record v { craft = y; jobs = z })
+with_craft k f g same = record {
+  ground = k.ground;
+  craft = f;
+  link = k.link;
+  jobs = g;
+  tickets = k.tickets;
   memories = k.memories;
   sizes = k.sizes ∙ same;
   opened = k.opened;
   released = k.released;
 }
+
+-- the jobs that the workers have
+pub with_tickets : {s : State} {v : Views} {t : Tickets} {of : Worker → Option Ticket}
+    → Shows s v
+    → ((w : Worker) → ticket_of t w ≡ of w)
+    → Shows (record s { tickets = t }) (record v { tickets = of })
+with_tickets k f = record {
+  ground = k.ground;
+  craft = k.craft;
+  link = k.link;
+  jobs = k.jobs;
+  tickets = f;
+  memories = k.memories;
+  sizes = k.sizes;
+  opened = k.opened;
+  released = k.released;
+}
+
+-- the spacecraft's jobs
+pub with_jobs : {s : State} {v : Views} {x : Jobs} {y : JobsView}
+    → Shows s v
+    → ShowsJobs x y
+    → v.jobs.sizes ≡ y.sizes
+    → Shows (record s { on_craft = record s.on_craft { jobs = x } }) (record v { jobs = y })
+with_jobs k f same =
+    let e = k.craft in
+    with_craft k
+    (record { sending = e.sending; receiving = e.receiving; clock = e.clock; boot = e.boot })
+    f same
 
 -- what an end sends
 pub with_sending : {s : State} {v : Views} (side : Side) {x : Sending} {y : SendingView}
@@ -147,28 +198,15 @@ pub with_sending : {s : State} {v : Views} (side : Side) {x : Sending} {y : Send
     → ShowsSending side x y
     → Shows (with_end s side (record (end_of s side) { sending = x }))
     (with_view v side (record (view_of v side) { sending = y }))
-with_sending Ground k f = record {
-  ground = record { sending = f; receiving = k.ground.receiving; clock = k.ground.clock };
-  craft = k.craft;
-  link = k.link;
-  jobs = k.jobs;
-  tickets = k.tickets;
-  memories = k.memories;
-  sizes = k.sizes;
-  opened = k.opened;
-  released = k.released;
-}
-with_sending Craft k f = record {
-  ground = k.ground;
-  craft = record { sending = f; receiving = k.craft.receiving; clock = k.craft.clock };
-  link = k.link;
-  jobs = k.jobs;
-  tickets = k.tickets;
-  memories = k.memories;
-  sizes = k.sizes;
-  opened = k.opened;
-  released = k.released;
-}
+with_sending Ground k f =
+    let e = k.ground in
+    with_ground k
+    (record { sending = f; receiving = e.receiving; clock = e.clock; boot = e.boot })
+with_sending Craft k f =
+    let e = k.craft in
+    with_craft k
+    (record { sending = f; receiving = e.receiving; clock = e.clock; boot = e.boot })
+    k.jobs refl
 
 -- what an end receives
 pub with_receiving : {s : State} {v : Views} (side : Side) {x : Receiving} {y : ReceivingView}
@@ -176,28 +214,13 @@ pub with_receiving : {s : State} {v : Views} (side : Side) {x : Receiving} {y : 
     → ShowsReceiving x y
     → Shows (with_end s side (record (end_of s side) { receiving = x }))
     (with_view v side (record (view_of v side) { receiving = y }))
-with_receiving Ground k f = record {
-  ground = record { sending = k.ground.sending; receiving = f; clock = k.ground.clock };
-  craft = k.craft;
-  link = k.link;
-  jobs = k.jobs;
-  tickets = k.tickets;
-  memories = k.memories;
-  sizes = k.sizes;
-  opened = k.opened;
-  released = k.released;
-}
-with_receiving Craft k f = record {
-  ground = k.ground;
-  craft = record { sending = k.craft.sending; receiving = f; clock = k.craft.clock };
-  link = k.link;
-  jobs = k.jobs;
-  tickets = k.tickets;
-  memories = k.memories;
-  sizes = k.sizes;
-  opened = k.opened;
-  released = k.released;
-}
+with_receiving Ground k f =
+    let e = k.ground in
+    with_ground k (record { sending = e.sending; receiving = f; clock = e.clock; boot = e.boot })
+with_receiving Craft k f =
+    let e = k.craft in
+    with_craft k (record { sending = e.sending; receiving = f; clock = e.clock; boot = e.boot })
+    k.jobs refl
 
 -- an end's clock
 pub with_clock : {s : State} {v : Views} (side : Side) {n n' : ℕ}
@@ -205,25 +228,12 @@ pub with_clock : {s : State} {v : Views} (side : Side) {n n' : ℕ}
     → n ≡ n'
     → Shows (with_end s side (record (end_of s side) { clock = n }))
     (with_view v side (record (view_of v side) { clock = n' }))
-with_clock Ground k f = record {
-  ground = record { sending = k.ground.sending; receiving = k.ground.receiving; clock = f };
-  craft = k.craft;
-  link = k.link;
-  jobs = k.jobs;
-  tickets = k.tickets;
-  memories = k.memories;
-  sizes = k.sizes;
-  opened = k.opened;
-  released = k.released;
-}
-with_clock Craft k f = record {
-  ground = k.ground;
-  craft = record { sending = k.craft.sending; receiving = k.craft.receiving; clock = f };
-  link = k.link;
-  jobs = k.jobs;
-  tickets = k.tickets;
-  memories = k.memories;
-  sizes = k.sizes;
-  opened = k.opened;
-  released = k.released;
-}
+with_clock Ground k f =
+    let e = k.ground in
+    with_ground k
+    (record { sending = e.sending; receiving = e.receiving; clock = f; boot = e.boot })
+with_clock Craft k f =
+    let e = k.craft in
+    with_craft k
+    (record { sending = e.sending; receiving = e.receiving; clock = f; boot = e.boot })
+    k.jobs refl

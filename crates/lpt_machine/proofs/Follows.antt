@@ -1,7 +1,7 @@
 -- What shows a journal refuses, answers and goes on as the journal says.
 use Rattle.lpt_events.specs.declared.config.Config.{Config}
 use Rattle.lpt_events.specs.declared.event.Event.{Event}
-use Rattle.lpt_events.specs.declared.event.Event.TheVariants.{Open, Send, Plain, Finish, Lose, Damage, Take, Deliver, Tick, Expire, Claim, Commit, Apply}
+use Rattle.lpt_events.specs.declared.event.Event.TheVariants.{Open, Send, Plain, Finish, Lose, Damage, Take, Deliver, Tick, Expire, Claim, Commit, Apply, Retire, Restart}
 use Rattle.lpt_memory.specs.Memories.{Contents}
 use Rattle.lpt_journal.specs.Journal.{History}
 use Rattle.lpt_journal.specs.Jobs.{ticket}
@@ -19,7 +19,7 @@ use Rattle.lpt_machine.proofs.CommitsShown.{commit_ready}
 -- what the nodes ask for besides is so
 ready_shown : (c : Config) (first : Contents) (s : State) (h : History) (e : Event)
     → Shows s (views c first h)
-    → JobsFit (jobs_view c first h) (ticket h)
+    → JobsFit (jobs_view c first h) (ticket c h)
     → IsReady c s e
 ready_shown c first s h (Open d id m) k fits = tt
 ready_shown c first s h (Send d id n) k fits = tt
@@ -34,6 +34,8 @@ ready_shown c first s h (Expire side) k fits = tt
 ready_shown c first s h (Claim w) k fits = tt
 ready_shown c first s h (Commit w) k fits = commit_ready c first s h w k fits
 ready_shown c first s h Apply k fits = apply_ready c first s h k fits
+ready_shown c first s h (Retire d id) k fits = tt
+ready_shown c first s h (Restart side) k fits = tt
 
 pub follows : FollowsJournal
 follows = record {
@@ -41,8 +43,8 @@ follows = record {
   refuses = refusal_shown;
   goes_on = λ c first s h e in_range k fits free.
       record {
-        ready = ready_shown c first s h e k fits;
-        answered = reply_shown c first s h e k fits free;
-        shown = event_shown c first s h e in_range k fits free;
+        ready = ready_shown c first s h e k fits.jobs;
+        answered = reply_shown c first s h e k fits.jobs free;
+        shown = event_shown c first s h e in_range k fits.jobs free;
       };
 }

@@ -34,7 +34,7 @@ head_told c first (Some r) false = HeadNotReady
 
 head_shown : (c : Config) (first : Contents) (s : State) (h : History)
     → Shows s (views c first h)
-    → JobsFit (jobs_view c first h) (ticket h)
+    → JobsFit (jobs_view c first h) (ticket c h)
     → head_of s.on_craft.jobs.jobs
     ≡ head_told c first (front_job c h) (is_committed h (applied h))
 head_shown c first s h k fits =
@@ -73,7 +73,7 @@ refused_by c first (Some r) false = refl
 
 pub apply_refused : (c : Config) (first : Contents) (s : State) (h : History)
     → Shows s (views c first h)
-    → JobsFit (jobs_view c first h) (ticket h)
+    → JobsFit (jobs_view c first h) (ticket c h)
     → refusal_of c s Apply ≡ refusal c h Apply
 apply_refused c first s h k fits =
     ap (λ x. option_map node_fault (refusal_apply_of x)) (head_shown c first s h k fits)
@@ -81,7 +81,7 @@ apply_refused c first s h k fits =
 
 pub apply_ready : (c : Config) (first : Contents) (s : State) (h : History)
     → Shows s (views c first h)
-    → JobsFit (jobs_view c first h) (ticket h)
+    → JobsFit (jobs_view c first h) (ticket c h)
     → IsReady c s Apply
 apply_ready c first s h k fits =
     subst (λ (x : Head). FrontIsFor x c.apid s.memories) (sym (head_shown c first s h k fits))
@@ -99,7 +99,7 @@ pub record Front (c : Config) (first : Contents) (s : State) (h : History) : Typ
 
 pub front_is : (c : Config) (first : Contents) (s : State) (h : History)
     → Shows s (views c first h)
-    → JobsFit (jobs_view c first h) (ticket h)
+    → JobsFit (jobs_view c first h) (ticket c h)
     → refusal c h Apply ≡ None
     → Front c first s h
 front_is c first s h k fits e =

@@ -1,15 +1,12 @@
 -- The spacecraft's queue shows the journal's jobs: a release, and the job at the front.
-use Rattle.std.proofs.Common.{◌≡◌, ◌∙◌, ap, sym, subst, refl, ℕ, ◌+◌, ◌<◌, ◌≤◌, nat_lt, Bool, true, false, if◌then◌else◌, List, [], ◌∷◌, ◌++◌, length, map, drop, Option, arith, length-drop}
+use Rattle.std.proofs.Common.{◌≡◌, ◌∙◌, ap, sym, subst, refl, ℕ, ◌+◌, ◌<◌, ◌≤◌, nat_lt, Bool, true, false, if◌then◌else◌, List, [], ◌∷◌, ◌++◌, length, map, drop, arith, length-drop}
 use Rattle.std.specs.Prelude.{slice_get}
 use Rattle.std.proofs.lemmas.Bool.Decides.{nat_tests}
 use Rattle.std.proofs.lemmas.List.{drop-append-le, map-append}
 use Rattle.lpt_events.specs.declared.entry.Release.{Release}
 use Rattle.lpt_jobs.specs.declared.job.Mark.TheVariants.{Waiting, Claimed, Committed}
 use Rattle.lpt_jobs.specs.Jobs.{Jobs, was_claimed, head_of, after_push, without_front}
-use Rattle.lpt_memory.specs.Readings.{Job as Ticket}
-use Rattle.lpt_journal.specs.Jobs.{JobName}
-use Rattle.lpt_journal.proofs.TestLemmas.{get-with_all}
-use Rattle.lpt_machine.specs.Shows.{Shows, ShowsJobs, ShowsTicket, mark_at, jobs_from}
+use Rattle.lpt_machine.specs.Shows.{Shows, ShowsJobs, mark_at, jobs_from}
 use Rattle.lpt_machine.specs.State.{State}
 use Rattle.lpt_machine.specs.Views.{Views, JobsView}
 use Rattle.lpt_machine.proofs.Fields.{with_jobs}
@@ -53,13 +50,12 @@ lt_no a b e = grind (arith, nat_tests)
 -- ---- a release
 
 -- a message is released: its job is the last, and waits
-push_shown : {boot : ℕ} {x : Jobs} {v : JobsView} (m : List ℕ)
+push_shown : {x : Jobs} {v : JobsView} (m : List ℕ)
     → v.applied ≤ v.claimed
     → v.claimed ≤ length v.messages
-    → ShowsJobs boot x v
-    → ShowsJobs boot (after_push x m) (record v { messages = v.messages ++ m ∷ [] })
+    → ShowsJobs x v
+    → ShowsJobs (after_push x m) (record v { messages = v.messages ++ m ∷ [] })
 push_shown {x = x} {v = v} m least most k = record {
-  same_boot = k.same_boot;
   first = k.first;
   jobs =
       ap (λ js. js ++ record { message = m; mark = Waiting } ∷ []) k.jobs
@@ -78,16 +74,6 @@ push_shown {x = x} {v = v} m least most k = record {
   waits : nat_lt at v.claimed ≡ false
   waits = lt_no at v.claimed (omega (arith, length-drop v.applied v.messages))
 
--- a ticket's message stays as messages are released
-ticket_stays : {t : Option Ticket} {boot : ℕ} {ms : List (List ℕ)} {of : Option JobName}
-    (m : List ℕ)
-    → ShowsTicket t boot ms of
-    → ShowsTicket t boot (ms ++ m ∷ []) of
-ticket_stays {ms = ms} m k = record {
-  name = k.name;
-  message = λ x e now. get-with_all ms (m ∷ []) x.job x.message (k.message x e now);
-}
-
 -- the spacecraft releases a message, which is behind the released ones
 pub with_release : {s : State} {v : Views} (rs : List Release) (r : Release)
     → v.jobs.messages ≡ map (λ r. r.message) rs
@@ -103,14 +89,13 @@ with_release {s = s} {v = v} rs r e least most k =
     (record s { on_craft = record s.on_craft { jobs = after_push s.on_craft.jobs r.message } })
     (record v { jobs = record v.jobs { messages = ms } }))
     (ap (λ ms. ms ++ r.message ∷ []) e ∙ sym (map-append (λ r. r.message) rs (r ∷ [])))
-    (with_jobs k (push_shown r.message least most k.jobs)
-    (λ w. ticket_stays r.message (k.tickets w)) refl)
+    (with_jobs k (push_shown r.message least most k.jobs) refl)
 
 -- ---- the front
 
 -- the oldest job stands at the front
-pub front_shown : {boot : ℕ} {x : Jobs} {v : JobsView}
-    → ShowsJobs boot x v
+pub front_shown : {x : Jobs} {v : JobsView}
+    → ShowsJobs x v
     → head_of x.jobs ≡ head_from (mark_at v v.applied) (slice_get v.messages v.applied)
 front_shown {x = x} {v = v} k =
     ap head_of k.jobs
@@ -119,11 +104,10 @@ front_shown {x = x} {v = v} k =
     (slice_get-drop v.messages v.applied 0 v.applied (omega arith))
 
 -- the job at the front has left
-pub pop_shown : {boot : ℕ} {x : Jobs} {v : JobsView}
-    → ShowsJobs boot x v
-    → ShowsJobs boot (without_front x) (record v { applied = v.applied + 1 })
+pub pop_shown : {x : Jobs} {v : JobsView}
+    → ShowsJobs x v
+    → ShowsJobs (without_front x) (record v { applied = v.applied + 1 })
 pop_shown {x = x} {v = v} k = record {
-  same_boot = k.same_boot;
   first = ap (λ n. n + 1) k.first;
   jobs =
       ap (λ js. drop 1 js) k.jobs

@@ -26,5 +26,7 @@ pub mod Replies
 pub mod ReportLengths
 pub mod ReportShown
 pub mod ReportsMade
+pub mod RestartedShown
+pub mod RetiredShown
 pub mod SendingShown
 pub mod TicketsShown

@@ -33,10 +33,10 @@ job_taken at at' f None e = refl
 job_taken at at' f (Some m) e = λ i. Some (e i, m)
 
 -- the oldest job that waits is the next to be claimed
-pub unclaimed_shown : {boot : ℕ} {x : Jobs} {v : JobsView}
+pub unclaimed_shown : {x : Jobs} {v : JobsView}
     → v.applied ≤ v.claimed
     → v.claimed ≤ length v.messages
-    → ShowsJobs boot x v
+    → ShowsJobs x v
     → unclaimed x ≡ option_map (λ m. (v.claimed, m)) (slice_get v.messages v.claimed)
 unclaimed_shown {x = x} {v = v} least most k =
     (λ i. option_map (λ j. (k.first i + claimed_in (k.jobs i), j.message))
@@ -51,14 +51,13 @@ unclaimed_shown {x = x} {v = v} least most k =
       n = claimed_in (jobs_from (mark_at v) v.applied (drop v.applied v.messages))
 
 -- the oldest job that waits is claimed
-pub claim_shown : {boot : ℕ} {x : Jobs} {v : JobsView}
+pub claim_shown : {x : Jobs} {v : JobsView}
     → v.applied ≤ v.claimed
     → v.claimed ≤ length v.messages
     → v.committed v.claimed ≡ false
-    → ShowsJobs boot x v
-    → ShowsJobs boot (after_claim x) (record v { claimed = v.claimed + 1 })
+    → ShowsJobs x v
+    → ShowsJobs (after_claim x) (record v { claimed = v.claimed + 1 })
 claim_shown {x = x} {v = v} least most free k = record {
-  same_boot = k.same_boot;
   first = k.first;
   jobs =
       ap (λ js. with_mark js (claimed_in js) Claimed) k.jobs
@@ -85,15 +84,14 @@ claim_shown {x = x} {v = v} least most free k = record {
 -- ---- a commit
 
 -- the reading of a job that is out is handed in
-pub commit_shown : {boot : ℕ} {x : Jobs} {v : JobsView} (n : ℕ) (m : List ℕ)
+pub commit_shown : {x : Jobs} {v : JobsView} (n : ℕ) (m : List ℕ)
     → IsOut v n
     → slice_get v.messages n ≡ Some m
-    → ShowsJobs boot x v
-    → ShowsJobs boot
+    → ShowsJobs x v
+    → ShowsJobs
     (after_commit x n (record { apid = v.apid; sizes = v.sizes; message = m }))
     (record v { committed = λ j. (n == j) || v.committed j })
 commit_shown {x = x} {v = v} n m out there k = record {
-  same_boot = k.same_boot;
   first = k.first;
   jobs =
       (λ i. with_mark (k.jobs i) (n - k.first i) handed)
@@ -128,10 +126,10 @@ commit_shown {x = x} {v = v} n m out there k = record {
       (ap (λ t. t || v.committed n) self))
 
 -- a job that is out is claimed, and no reading of it committed
-pub is_out_shown : {boot : ℕ} {x : Jobs} {v : JobsView} (n : ℕ) (m : List ℕ)
+pub is_out_shown : {x : Jobs} {v : JobsView} (n : ℕ) (m : List ℕ)
     → IsOut v n
     → slice_get v.messages n ≡ Some m
-    → ShowsJobs boot x v
+    → ShowsJobs x v
     → IsTrue (is_claimed x n)
 is_out_shown {x = x} {v = v} n m out there k =
     (λ i. option_map_or (λ j. is_out j.mark)

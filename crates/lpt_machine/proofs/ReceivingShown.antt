@@ -38,7 +38,8 @@ parts_of-entry_of s last = go (has_parts s) refl where
   go true e = refl
   go false e = nothing_kept s e
 
-is_some-entry_of : (s : Parts) (last : ℕ) → is_some (entry_of s last) ≡ has_parts s
+-- a reception is open where parts were kept
+pub is_some-entry_of : (s : Parts) (last : ℕ) → is_some (entry_of s last) ≡ has_parts s
 is_some-entry_of s last = go (record { parts = s; last = last }) (has_parts s) where
   go : (x : TableEntry) (t : Bool) → is_some (if t then Some x else None) ≡ t
   go x true = refl

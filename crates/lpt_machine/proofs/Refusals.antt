@@ -23,10 +23,9 @@ use Rattle.lpt_events.specs.Requests.{is_part_request, is_too_long}
 use Rattle.lpt_node.specs.Sending.{refusal_open_in, refusal_send_of, refusal_finish_in}
 use Rattle.lpt_node.specs.Times.{refusal_expire_of}
 use Rattle.lpt_events.specs.declared.event.Event.{Event}
-use Rattle.lpt_events.specs.declared.event.Event.TheVariants.{Open, Send, Plain, Finish, Lose, Damage, Take, Deliver, Tick, Expire, Claim, Commit, Apply}
+use Rattle.lpt_events.specs.declared.event.Event.TheVariants.{Open, Send, Plain, Finish, Lose, Damage, Take, Deliver, Tick, Expire, Claim, Commit, Apply, Retire, Restart}
 use Rattle.lpt_events.specs.declared.fault.StepFault.TheVariants.{InUse, Short, Long, TooMany, NotOpen, NoSuchPart, NotHeld, HandFull, HandEmpty, NothingDue, LooksWhole, ClockEnd, PartRequest}
 use Rattle.lpt_journal.specs.Journal.{History}
-use Rattle.lpt_journal.specs.Jobs.{ticket}
 use Rattle.lpt_journal.specs.Link.{sent, is_held, goes}
 use Rattle.lpt_journal.specs.Hands.{hand}
 use Rattle.lpt_journal.specs.Receivers.{clock}
@@ -34,9 +33,10 @@ use Rattle.lpt_journal.specs.Due.{due}
 use Rattle.lpt_journal.specs.Refusals.{refusal, first_fault, parts_open}
 use Rattle.lpt_journal.specs.Senders.{Sender, FreeSender, OpenSender, ClosedSender, sender, is_free, is_open, open_count, opened_names}
 use Rattle.lpt_node.specs.Faults.{node_fault}
+use Rattle.lpt_machine.specs.GoesOn.{Fits}
 use Rattle.lpt_machine.specs.State.{State, link_fault, refusal_of}
-use Rattle.lpt_machine.specs.Shows.{Shows, ShowsSending, JobsFit, mark_of, message_of, sent_packet}
-use Rattle.lpt_machine.specs.Views.{views, jobs_view, sending_view}
+use Rattle.lpt_machine.specs.Shows.{Shows, ShowsSending, mark_of, message_of, sent_packet}
+use Rattle.lpt_machine.specs.Views.{views, sending_view}
 use Rattle.lpt_journal.proofs.MapLemmas.{len_once}
 use Rattle.lpt_journal.proofs.CountLemmas.{open_named}
 use Rattle.lpt_machine.proofs.DueShown.{due_shown}
@@ -44,6 +44,7 @@ use Rattle.lpt_machine.proofs.Fields.{sending_at, clock_at}
 use Rattle.lpt_machine.proofs.FrontShown.{apply_refused}
 use Rattle.lpt_machine.proofs.ClaimsShown.{claim_refused}
 use Rattle.lpt_machine.proofs.CommitsShown.{commit_refused}
+use Rattle.lpt_machine.proofs.RetiredShown.{retire_refused}
 use Rattle.lpt_memory.specs.Memories.{Contents}
 
 -- ---- opening
@@ -186,7 +187,7 @@ by_due (Some id) = refl
 -- what is refused is what the journal refuses, for the same reason
 pub refusal_shown : (c : Config) (first : Contents) (s : State) (h : History) (e : Event)
     → Shows s (views c first h)
-    → JobsFit (jobs_view c first h) (ticket h)
+    → Fits c first h
     → refusal_of c s e ≡ refusal c h e
 refusal_shown c first s h (Open d id m) k fits =
     let own = sending_at c first h d k in
@@ -224,6 +225,8 @@ refusal_shown c first s h (Tick side) k fits =
 refusal_shown c first s h (Expire side) k fits =
     ap (λ o. option_map node_fault (refusal_expire_of o)) (due_shown c first s h side k)
     ∙ by_due (due c h (direction_to side))
-refusal_shown c first s h (Claim w) k fits = claim_refused c first s h w k fits
+refusal_shown c first s h (Claim w) k fits = claim_refused c first s h w k fits.jobs
 refusal_shown c first s h (Commit w) k fits = commit_refused c first s h w k
-refusal_shown c first s h Apply k fits = apply_refused c first s h k fits
+refusal_shown c first s h Apply k fits = apply_refused c first s h k fits.jobs
+refusal_shown c first s h (Retire d id) k fits = retire_refused c first s h d id k fits
+refusal_shown c first s h (Restart side) k fits = refl

@@ -11,12 +11,12 @@ use Rattle.lpt_events.specs.declared.config.Config.{Config}
 use Rattle.lpt_events.specs.declared.side.Side.{Side}
 use Rattle.lpt_events.specs.declared.side.Side.TheVariants.{Ground, Craft}
 use Rattle.lpt_events.specs.declared.event.Event.{Event}
-use Rattle.lpt_events.specs.declared.event.Event.TheVariants.{Open, Send, Plain, Finish, Lose, Damage, Take, Deliver, Tick, Expire, Claim, Commit, Apply}
+use Rattle.lpt_events.specs.declared.event.Event.TheVariants.{Open, Send, Plain, Finish, Lose, Damage, Take, Deliver, Tick, Expire, Claim, Commit, Apply, Retire, Restart}
 use Rattle.lpt_events.specs.declared.fault.StepFault.TheVariants.{NotOpen, NoSuchPart}
 use Rattle.lpt_events.specs.declared.outcome.Outcome.{Outcome}
 use Rattle.lpt_events.specs.declared.outcome.Outcome.TheVariants.{Broken}
 use Rattle.lpt_events.specs.declared.reply.Answer.{Answer}
-use Rattle.lpt_events.specs.declared.reply.Answer.TheVariants.{Put, Delivered, Clock, Expired}
+use Rattle.lpt_events.specs.declared.reply.Answer.TheVariants.{Put, Delivered, Clock, Expired, Restarted}
 use Rattle.lpt_events.specs.declared.reply.Reply.{Reply}
 use Rattle.lpt_events.specs.Arrivals.{Arrival, NotRead, AnIdle, Foreign, ARequest, AReport, NoPart, APart, AnAbort}
 use Rattle.lpt_events.specs.Lanes.{lane_direction}
@@ -47,7 +47,7 @@ use Rattle.lpt_machine.proofs.DueShown.{due_shown}
 use Rattle.lpt_machine.proofs.ExecutedShown.{executed_answer}
 use Rattle.lpt_machine.proofs.ClaimsShown.{claimed_answer}
 use Rattle.lpt_machine.proofs.CommitsShown.{committed_answer}
-use Rattle.lpt_machine.proofs.Fields.{receiving_at, clock_at}
+use Rattle.lpt_machine.proofs.Fields.{receiving_at, clock_at, boot_at}
 use Rattle.lpt_memory.specs.Memories.{Contents}
 use Rattle.lpt_machine.proofs.LinkShown.{as_many_packets}
 
@@ -129,7 +129,7 @@ reply_expired c h side d n (Some id) =
 
 pub reply_shown : (c : Config) (first : Contents) (s : State) (h : History) (e : Event)
     → Shows s (views c first h)
-    → JobsFit (jobs_view c first h) (ticket h)
+    → JobsFit (jobs_view c first h) (ticket c h)
     → refusal c h e ≡ None
     → (after c (length h) s e).1 ≡ reply c first h e
 reply_shown c first s h (Open d id m) k fits e = refl
@@ -161,5 +161,8 @@ reply_shown c first s h (Deliver l) k fits e =
     (in_hand c h l)
     ∙ ap (λ (n : ℕ). reply_told c h side n (outcome c h l)) (as_many_packets k.link)
 reply_shown c first s h (Claim w) k fits e = claimed_answer c first s h w k fits e
-reply_shown c first s h (Commit w) k fits e = committed_answer c first s h w k e
+reply_shown c first s h (Commit w) k fits e = committed_answer c first s h w k
 reply_shown c first s h Apply k fits e = executed_answer c first s h k fits e
+reply_shown c first s h (Retire d id) k fits e = refl
+reply_shown c first s h (Restart side) k fits e =
+    ap (λ n. quiet (Restarted (n + 1))) (boot_at c first h side k)

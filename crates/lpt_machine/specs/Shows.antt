@@ -1,7 +1,6 @@
 -- The state of the ends and the link shows a view: each field is what the view says of it.
 use Rattle.std.specs.Prelude.{◌≡◌, ℕ, suc, ◌%◌, ◌<◌, ◌≤◌, nat_lt, Bool, true, false, not, ◌&&◌, if◌then◌else◌, List, [], ◌∷◌, length, map, drop, slice_get, Option, Some, None}
 use Rattle.std.specs.List.{filter}
-use Rattle.std.specs.Option.{option_map}
 use Rattle.std.specs.FinMap as maps
 use Rattle.lpt_packet.specs.Names.{Name}
 use Rattle.lpt_ledger.specs.Marks.{Mark, Opened, Shut}
@@ -23,7 +22,6 @@ use Rattle.lpt_jobs.specs.declared.job.Job.{Job}
 use Rattle.lpt_jobs.specs.Jobs.{Jobs}
 use Rattle.lpt_jobs.specs.declared.job.Mark.{Mark as JobMark}
 use Rattle.lpt_jobs.specs.declared.job.Mark.TheVariants.{Waiting, Claimed, Committed}
-use Rattle.lpt_journal.specs.Jobs.{JobName}
 use Rattle.lpt_journal.specs.Journal.{SentPacket}
 use Rattle.lpt_journal.specs.Receivers.{has_parts}
 use Rattle.lpt_journal.specs.Senders.{Sender, FreeSender, OpenSender, ClosedSender, is_report}
@@ -85,6 +83,7 @@ pub record ShowsEnd (side : Side) (d : NodeData) (y : EndView) : Type 0 where
   pub sending : ShowsSending side d.sending y.sending
   pub receiving : ShowsReceiving d.receiving y.receiving
   pub clock : d.clock ≡ y.clock
+  pub boot : d.boot ≡ y.boot
 
 -- a packet is held where it was put and isn't lost; none is lost before it is put
 pub record ShowsLink (x : LinkData) (y : LinkView) : Type 0 where
@@ -107,28 +106,17 @@ abbrev pub jobs_from : (ℕ → List ℕ → JobMark) → ℕ → List (List ℕ
 jobs_from mark n [] = []
 jobs_from mark n (m ∷ ms) = record { message = m; mark = mark n m } ∷ jobs_from mark (suc n) ms
 
--- this is the boot, and the queue has the jobs that aren't executed
-pub record ShowsJobs (boot : ℕ) (x : Jobs) (v : JobsView) : Type 0 where
-  pub same_boot : boot ≡ v.boot
+-- the queue has the jobs that aren't executed
+pub record ShowsJobs (x : Jobs) (v : JobsView) : Type 0 where
   pub first : x.first ≡ v.applied
   pub jobs : x.jobs ≡ jobs_from (mark_at v) v.applied (drop v.applied v.messages)
-
--- a worker has this job; in the boot that goes on it has the job's message
-pub record ShowsTicket (t : Option Ticket) (boot : ℕ) (messages : List (List ℕ))
-    (of : Option JobName) : Type 0 where
-  pub name : option_map (λ x. record { boot = x.boot; job = x.job }) t ≡ of
-  pub message : (x : Ticket)
-      → t ≡ Some x
-      → x.boot ≡ boot
-      → slice_get messages x.job ≡ Some x.message
 
 pub record Shows (s : State) (v : Views) : Type 0 where
   pub ground : ShowsEnd Ground s.on_ground v.ground
   pub craft : ShowsEnd Craft s.on_craft v.craft
   pub link : ShowsLink s.link v.link
-  pub jobs : ShowsJobs s.on_craft.boot s.on_craft.jobs v.jobs
-  pub tickets : (w : Worker)
-      → ShowsTicket (ticket_of s.tickets w) v.jobs.boot v.jobs.messages (v.tickets w)
+  pub jobs : ShowsJobs s.on_craft.jobs v.jobs
+  pub tickets : (w : Worker) → ticket_of s.tickets w ≡ v.tickets w
   pub memories : s.memories ≡ v.memories
   pub sizes : sizes_of v.memories ≡ v.jobs.sizes
   pub opened : s.opened ≡ v.opened
@@ -142,11 +130,14 @@ pub record IsOut (v : JobsView) (n : ℕ) : Type 0 where
   pub is_claimed : n < v.claimed
   pub not_committed : v.committed n ≡ false
 
--- jobs are claimed before they are executed or committed; a worker's job is of this boot, as none
--- ends so far, and out
-pub record JobsFit (v : JobsView) (tickets : Worker → Option JobName) : Type 0 where
+-- a worker's job of this boot is out, and has its message
+pub record IsHeldJob (v : JobsView) (t : Ticket) : Type 0 where
+  pub out : IsOut v t.job
+  pub message : slice_get v.messages t.job ≡ Some t.message
+
+-- jobs are claimed before they are executed or committed
+pub record JobsFit (v : JobsView) (tickets : Worker → Option Ticket) : Type 0 where
   pub executed : v.applied ≤ v.claimed
   pub claimed : v.claimed ≤ length v.messages
   pub committed : (n : ℕ) → v.committed n ≡ true → n < v.claimed
-  pub boots : (w : Worker) (t : JobName) → tickets w ≡ Some t → t.boot ≡ v.boot
-  pub out : (w : Worker) (t : JobName) → tickets w ≡ Some t → t.boot ≡ v.boot → IsOut v t.job
+  pub held : (w : Worker) (t : Ticket) → tickets w ≡ Some t → t.boot ≡ v.boot → IsHeldJob v t

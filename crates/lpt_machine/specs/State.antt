@@ -1,7 +1,8 @@
 -- The two ends and the link between them as plain data, and what each event does to them. Each step
 -- is one of an end's or of the link's.
-use Rattle.std.specs.Prelude.{◌≡◌, ℕ, List, [], ◌∷◌, ◌++◌, length, IfSome, IsTrue, Option, Some, None}
+use Rattle.std.specs.Prelude.{◌≡◌, ℕ, Bool, true, false, not, ◌&&◌, List, [], ◌∷◌, ◌++◌, length, IfSome, IsTrue, Option, Some, None, is_some}
 use Rattle.std.specs.Option.{option_map, option_map_or}
+use Rattle.std.specs.FinMap as maps
 use Rattle.lpt_packet.specs.declared.direction.Direction.{Direction}
 use Rattle.lpt_packet.specs.declared.direction.Direction.TheVariants.{Up, Down}
 use Rattle.lpt_packet.specs.Names.{Name}
@@ -11,7 +12,7 @@ use Rattle.lpt_link.specs.declared.fault.LinkFault.TheVariants as link
 use Rattle.lpt_events.specs.declared.lane.Lane.{Lane}
 use Rattle.lpt_link.specs.declared.packet.LinkPacket.{LinkPacket}
 use Rattle.lpt_events.specs.Lanes.{lane_direction}
-use Rattle.lpt_link.specs.Links.{LinkData, empty_link, after_put, after_lose, after_take as link_after_take, after_drop, packet_in_hand, refusal_lose, refusal_take, refusal_drop}
+use Rattle.lpt_link.specs.Links.{LinkData, empty_link, after_put, after_lose, after_take as link_after_take, after_drop, holds, packet_in_hand, refusal_lose, refusal_take, refusal_drop}
 use Rattle.lpt_node.specs.declared.accepted.Accepted.{Accepted}
 use Rattle.lpt_events.specs.declared.config.Config.{Config}
 use Rattle.lpt_node.specs.declared.expired.Expired.{Expired as Ended}
@@ -19,7 +20,11 @@ use Rattle.lpt_events.specs.declared.outcome.Outcome.{Outcome}
 use Rattle.lpt_events.specs.declared.outcome.Outcome.TheVariants.{Released}
 use Rattle.lpt_events.specs.declared.side.Side.{Side}
 use Rattle.lpt_events.specs.declared.side.Side.TheVariants.{Ground, Craft}
+use Rattle.lpt_ledger.specs.declared.state.State.{State as Known}
+use Rattle.lpt_ledger.specs.declared.state.State.TheVariants as known
+use Rattle.lpt_ledger.specs.States.{state_at}
 use Rattle.lpt_node.specs.Accepting.{accepted}
+use Rattle.lpt_node.specs.Anew.{retired, restarted}
 use Rattle.lpt_node.specs.Faults.{node_fault}
 use Rattle.lpt_events.specs.Arrivals.{Arrival, NotRead}
 use Rattle.lpt_events.specs.declared.worker.Worker.{Worker}
@@ -34,11 +39,11 @@ use Rattle.lpt_node.specs.Times.{refusal_tick, ticked, refusal_expire, expired}
 use Rattle.lpt_events.specs.declared.entry.Opening.{Opening}
 use Rattle.lpt_events.specs.declared.entry.Release.{Release}
 use Rattle.lpt_events.specs.declared.event.Event.{Event}
-use Rattle.lpt_events.specs.declared.event.Event.TheVariants.{Open, Send, Plain, Finish, Lose, Damage, Take, Deliver, Tick, Expire, Claim, Commit, Apply}
+use Rattle.lpt_events.specs.declared.event.Event.TheVariants.{Open, Send, Plain, Finish, Lose, Damage, Take, Deliver, Tick, Expire, Claim, Commit, Apply, Retire, Restart}
 use Rattle.lpt_events.specs.declared.fault.StepFault.{StepFault}
 use Rattle.lpt_events.specs.declared.fault.StepFault.TheVariants as step
 use Rattle.lpt_events.specs.declared.reply.Answer.{Answer}
-use Rattle.lpt_events.specs.declared.reply.Answer.TheVariants.{Opened, Put, Finished, Lost, Took, Delivered, Clock, Expired, Claimed, Committed, Applied}
+use Rattle.lpt_events.specs.declared.reply.Answer.TheVariants.{Opened, Put, Finished, Lost, Took, Delivered, Clock, Expired, Claimed, Committed, Stale, Applied, Retired, Restarted}
 use Rattle.lpt_events.specs.declared.reply.Reply.{Reply}
 use Rattle.lpt_events.specs.Damages.{refusal_damage}
 use Rattle.lpt_events.specs.Sides.{sender_side, receiver_side, direction_to}
@@ -97,6 +102,24 @@ abbrev pub refusal_commit_of : Option Job → Option StepFault
 refusal_commit_of (Some t) = None
 refusal_commit_of None = Some step.HandEmpty
 
+-- whether the link and the lanes have no part of a transaction, and no reception of it is open
+abbrev pub is_gone : State → Direction → Name → Bool
+is_gone s d id =
+    not (holds s.link d id)
+    && not (is_some (maps.get (end_of s (receiver_side d)).receiving.entries id))
+
+-- why a transaction whose sender is known so isn't retired
+abbrev pub refusal_retire_by : Known → (gone : Bool) → Option StepFault
+refusal_retire_by known.Free gone = Some step.NotOpen
+refusal_retire_by known.Open gone = Some step.StillOpen
+refusal_retire_by known.Closed false = Some step.NotClear
+refusal_retire_by known.Closed true = None
+
+-- why a transaction isn't retired
+abbrev pub refusal_retire : State → Direction → Name → Option StepFault
+refusal_retire s d id =
+    refusal_retire_by (state_at (end_of s (sender_side d)).sending.ledger id) (is_gone s d id)
+
 -- why an event is refused
 abbrev pub refusal_of : Config → State → Event → Option StepFault
 refusal_of c s (Open d id m) =
@@ -115,6 +138,8 @@ refusal_of c s (Expire side) = option_map node_fault (refusal_expire c (end_of s
 refusal_of c s (Claim w) = refusal_claim_by s.on_craft (ticket_of s.tickets w)
 refusal_of c s (Commit w) = refusal_commit_of (ticket_of s.tickets w)
 refusal_of c s Apply = option_map node_fault (refusal_apply s.on_craft)
+refusal_of c s (Retire d id) = refusal_retire s d id
+refusal_of c s (Restart side) = None
 
 -- ---- replies
 
@@ -267,16 +292,23 @@ claimed_on s w x = (
 abbrev pub read_for : Config → State → Job → Source
 read_for c s t = record { apid = c.apid; sizes = sizes_of s.memories; message = t.message }
 
+-- the answer to a commit of this job, by whether it counts
+abbrev pub commit_told : (counts : Bool) → Job → Answer
+commit_told true t = Committed t.boot t.job
+commit_told false t = Stale t.boot t.job
+
+-- a worker has handed in the reading of this job, and the spacecraft is this
+abbrev pub handed_in : State → Worker → Job → NodeData × Bool → State × Reply
+handed_in s w t x = (
+  record s { on_craft = x.0; tickets = with_ticket s.tickets w None },
+  quiet (commit_told x.1 t),
+)
+
 -- a worker hands in the reading of the job that it has; with none, that is refused
 abbrev pub committed_on : Config → State → Worker → Option Job → State × Reply
 committed_on c s w None = (s, quiet (Committed 0 0))
-committed_on c s w (Some t) = (
-  record s {
-    on_craft = (committed s.on_craft t.boot t.job (read_for c s t)).0;
-    tickets = with_ticket s.tickets w None;
-  },
-  quiet (Committed t.boot t.job),
-)
+committed_on c s w (Some t) =
+    handed_in s w t (committed s.on_craft t.boot t.job (read_for c s t))
 
 -- the openings with that of a report of data, where one was opened
 abbrev pub add_opening : List Opening → ℕ → Option (Name × List ℕ) → List Opening
@@ -295,6 +327,23 @@ executed_on place s x = (
   },
   put_some (length s.link.packets) (Applied x.0.1.applied) x.0.1.packets,
 )
+
+-- ---- retirement and a new start
+
+-- both ends have freed a transaction
+abbrev pub after_retire : State → Direction → Name → State × Reply
+after_retire s d id = (
+  record s {
+    on_ground = retired Ground s.on_ground d id;
+    on_craft = retired Craft s.on_craft d id;
+  },
+  quiet Retired,
+)
+
+-- a node was started anew
+abbrev pub after_restart : State → Side → State × Reply
+after_restart s side =
+    (with_end s side (restarted (end_of s side)), quiet (Restarted (restarted (end_of s side)).boot))
 
 -- ---- all events
 
@@ -322,3 +371,5 @@ after c place s (Expire side) = after_expire c s side
 after c place s (Claim w) = claimed_on s w (claimed s.on_craft)
 after c place s (Commit w) = committed_on c s w (ticket_of s.tickets w)
 after c place s Apply = executed_on place s (executed c s.on_craft s.memories)
+after c place s (Retire d id) = after_retire s d id
+after c place s (Restart side) = after_restart s side

@@ -5,6 +5,7 @@ use Rattle.lpt_packet.specs.declared.direction.Direction.TheVariants.{Up, Down}
 use Rattle.lpt_packet.specs.Names.{Name}
 use Rattle.lpt_memory.specs.Meanings.{Sizes}
 use Rattle.lpt_memory.specs.Memories.{Contents, sizes_of}
+use Rattle.lpt_memory.specs.Readings.{Job}
 use Rattle.lpt_reception.specs.Received.{Parts}
 use Rattle.lpt_events.specs.declared.config.Config.{Config}
 use Rattle.lpt_events.specs.declared.entry.Opening.{Opening}
@@ -13,7 +14,7 @@ use Rattle.lpt_events.specs.declared.lane.Lane.{Lane}
 use Rattle.lpt_events.specs.declared.side.Side.{Side}
 use Rattle.lpt_events.specs.declared.side.Side.TheVariants.{Ground, Craft}
 use Rattle.lpt_events.specs.declared.worker.Worker.{Worker}
-use Rattle.lpt_journal.specs.Jobs.{JobName, boot, jobs, claimed, applied, ticket, is_committed, memories}
+use Rattle.lpt_journal.specs.Jobs.{boot, jobs, claimed, applied, ticket, is_committed, memories}
 use Rattle.lpt_journal.specs.Journal.{SentPacket, History}
 use Rattle.lpt_journal.specs.Link.{sent, tags, is_lost}
 use Rattle.lpt_journal.specs.Hands.{hand}
@@ -34,11 +35,12 @@ pub record ReceivingView : Type 0 where
   pub closed : Name → Bool
   pub last : Name → ℕ
 
--- one end; its clock is in ticks
+-- one end; its clock is in ticks, and its boot says how many times it was started anew
 pub record EndView : Type 0 where
   pub sending : SendingView
   pub receiving : ReceivingView
   pub clock : ℕ
+  pub boot : ℕ
 
 -- the packets that were put on the link, of which transaction each is a part, which of them were
 -- lost, and the lanes' hands
@@ -64,7 +66,7 @@ pub record Views : Type 0 where
   pub craft : EndView
   pub link : LinkView
   pub jobs : JobsView
-  pub tickets : Worker → Option JobName
+  pub tickets : Worker → Option Job
   pub memories : Contents
   pub opened : List Opening
   pub released : List Release
@@ -99,15 +101,17 @@ views c first h = record {
     sending = sending_view h Up;
     receiving = receiving_view c h Down;
     clock = clock c h Ground;
+    boot = boot h Ground;
   };
   craft = record {
     sending = sending_view h Down;
     receiving = receiving_view c h Up;
     clock = clock c h Craft;
+    boot = boot h Craft;
   };
   link = record { sent = sent h; tags = tags h; lost = is_lost h; hands = hand h };
   jobs = jobs_view c first h;
-  tickets = ticket h;
+  tickets = ticket c h;
   memories = memories c first h;
   opened = opened h;
   released = releases c h;

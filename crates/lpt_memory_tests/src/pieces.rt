@@ -40,14 +40,14 @@ fn octets(alloc: Global) -> Result<Vec<u8>, AllocError> {
 }
 
 // The pieces of octets, with the address of each. All but the last have the most octets.
-fn pieces(alloc: Global, whole: &[u8], most: usize) -> Result<Vec<(u32, &[u8])>, Fail>
+fn pieces(alloc: Global, whole: &[u8], most: usize) -> Result<Vec<(u32, &[u8])>, AllocError>
     requires { 0 < most }
 {
     let mut pieces = Vec::new(alloc);
     let mut address = 0u32;
     for piece in whole.chunks(most) {
         pieces.push((address, piece))?;
-        address = address.wrapping_add(u32::try_from(piece.len())?);
+        address = address.wrapping_add(u32::try_from(piece.len()).unwrap_or(0));
     }
     Ok(pieces)
 }
@@ -61,13 +61,19 @@ fn load(alloc: Global, address: u32, piece: &[u8]) -> Result<Octets, Fail> {
     Ok(write_load(alloc, &head, 1, &areas)?)
 }
 
-// Loads memory 1 in pieces, and tells whether each was done, by a packet that isn't too long.
+// Loads a piece of memory 1, and tells whether that was done, by a packet that isn't too long.
+fn loads(alloc: Global, memories: &mut Memories, address: u32, piece: &[u8]) -> Result<bool, Fail> {
+    let message = load(alloc, address, piece)?;
+    let fits = message.as_slice().len() <= PACKET;
+    let effect = applied(alloc, memories, message)?;
+    Ok(fits && matches!(effect, Effect::Done))
+}
+
+// Loads memory 1 in pieces, and tells whether each was done.
 fn is_loaded(alloc: Global, memories: &mut Memories, whole: &[u8]) -> Result<bool, Fail> {
-    for (address, piece) in pieces(alloc, whole, PACKET - AROUND_LOAD)? {
-        let message = load(alloc, address, piece)?;
-        let fits = message.as_slice().len() <= PACKET;
-        let done = matches!(applied(alloc, memories, message)?, Effect::Done);
-        if !fits || !done {
+    let pieces = pieces(alloc, whole, PACKET - AROUND_LOAD)?;
+    for (address, piece) in &pieces {
+        if !loads(alloc, memories, *address, piece)? {
             return Ok(false);
         }
     }
@@ -75,11 +81,33 @@ fn is_loaded(alloc: Global, memories: &mut Memories, whole: &[u8]) -> Result<boo
 }
 
 // The body of a request for a piece of memory 1, with which the body of its answer begins.
-fn asking(alloc: Global, address: u32, piece: &[u8]) -> Result<Vec<u8>, Fail> {
+fn asking(alloc: Global, address: u32, piece: &[u8]) -> Result<Vec<u8>, AllocError> {
+    let len = u16::try_from(piece.len()).unwrap_or(0);
     let mut body = [1, 1].to_vec(alloc)?;
     body.extend_from_slice(&address.to_be_bytes())?;
-    body.extend_from_slice(&u16::try_from(piece.len())?.to_be_bytes())?;
+    body.extend_from_slice(&len.to_be_bytes())?;
     Ok(body)
+}
+
+// Octets, then more, then the checksum of these.
+fn with_checksum(
+    alloc: Global,
+    front: &[u8],
+    more: &[u8],
+    of: &[u8],
+) -> Result<Vec<u8>, AllocError> {
+    let mut octets = front.to_vec(alloc)?;
+    octets.extend_from_slice(more)?;
+    octets.extend_from_slice(&crc16(of).to_be_bytes())?;
+    Ok(octets)
+}
+
+// Whether this is a reply with this body.
+fn replies(effect: &Effect, wanted: &[u8]) -> bool {
+    match effect {
+        Effect::Reply(_, body) => body.as_slice() == wanted,
+        Effect::Silent | Effect::Code(_) | Effect::Done => false,
+    }
 }
 
 // Whether the body that answers a request of this subtype and body is this.
@@ -91,33 +119,45 @@ fn is_answered(
     wanted: &[u8],
 ) -> Result<bool, Fail> {
     let message = request(alloc, subtype, body)?;
-    Ok(match applied(alloc, memories, message)? {
-        Effect::Reply(_, body) => body.as_slice() == wanted,
-        Effect::Silent | Effect::Code(_) | Effect::Done => false,
-    })
+    let effect = applied(alloc, memories, message)?;
+    Ok(replies(&effect, wanted))
+}
+
+// Whether a piece of memory 1 is dumped.
+fn dumps(alloc: Global, memories: &mut Memories, address: u32, piece: &[u8]) -> Result<bool, Fail> {
+    let body = asking(alloc, address, piece)?;
+    let wanted = with_checksum(alloc, &body, piece, piece)?;
+    is_answered(alloc, memories, 5, &body, &wanted)
 }
 
 // Whether memory 1 is dumped as these octets, in pieces.
 fn is_dumped(alloc: Global, memories: &mut Memories, whole: &[u8]) -> Result<bool, Fail> {
-    for (address, piece) in pieces(alloc, whole, PACKET - AROUND_DUMP)? {
-        let body = asking(alloc, address, piece)?;
-        let mut wanted = body.clone()?;
-        wanted.extend_from_slice(piece)?;
-        wanted.extend_from_slice(&crc16(piece).to_be_bytes())?;
-        if !is_answered(alloc, memories, 5, &body, &wanted)? {
+    let pieces = pieces(alloc, whole, PACKET - AROUND_DUMP)?;
+    for (address, piece) in &pieces {
+        if !dumps(alloc, memories, *address, piece)? {
             return Ok(false);
         }
     }
     Ok(true)
 }
 
+// Whether a piece of memory 1 is checked.
+fn checks(
+    alloc: Global,
+    memories: &mut Memories,
+    address: u32,
+    piece: &[u8],
+) -> Result<bool, Fail> {
+    let body = asking(alloc, address, piece)?;
+    let wanted = with_checksum(alloc, &body, &[], piece)?;
+    is_answered(alloc, memories, 9, &body, &wanted)
+}
+
 // Whether memory 1 is checked as these octets, in pieces.
 fn is_checked(alloc: Global, memories: &mut Memories, whole: &[u8]) -> Result<bool, Fail> {
-    for (address, piece) in pieces(alloc, whole, AREA)? {
-        let body = asking(alloc, address, piece)?;
-        let mut wanted = body.clone()?;
-        wanted.extend_from_slice(&crc16(piece).to_be_bytes())?;
-        if !is_answered(alloc, memories, 9, &body, &wanted)? {
+    let pieces = pieces(alloc, whole, AREA)?;
+    for (address, piece) in &pieces {
+        if !checks(alloc, memories, *address, piece)? {
             return Ok(false);
         }
     }

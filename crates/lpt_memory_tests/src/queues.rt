@@ -6,6 +6,7 @@ ghost use Rattle.lpt_jobs.specs.Jobs.{head_of, is_ready};
 use crate::scenes::{memory, reading, request};
 use lpt_jobs::{Front, JobQueue, laws};
 use lpt_memory::Memories;
+use lpt_packet::Octets;
 use std::alloc::Global;
 use std::process::Abort;
 use std::test::Fail;
@@ -16,14 +17,24 @@ const FIRST: [u8; 8] = [1, 1, 0, 0, 0, 0, 0, 2];
 /// The body of a check of the three octets behind them.
 const SECOND: [u8; 8] = [1, 1, 0, 0, 0, 2, 0, 3];
 
+// Adds a job. The answer is whether there was room for it.
+fn add(queue: &mut JobQueue, message: Octets) -> bool {
+    if queue.numbered() == u64::MAX {
+        return false;
+    }
+    match queue.reserve() {
+        Ok(()) => {
+            queue.push_reserved(message);
+            true
+        }
+        Err(_) => false,
+    }
+}
+
 // Adds the job of a check with this body. The answer is whether there was room for it.
 fn release(alloc: Global, queue: &mut JobQueue, body: &[u8]) -> Result<bool, Fail> {
-    if queue.numbered() == u64::MAX || queue.reserve().is_err() {
-        return Ok(false);
-    }
     let message = request(alloc, 9, body)?;
-    queue.push_reserved(message);
-    Ok(true)
+    Ok(add(queue, message))
 }
 
 // Claims the oldest job that waits. The answer is its number.

@@ -1,5 +1,7 @@
+pub mod AnewLemmas
 pub mod ArrivalLemmas
 pub mod BodyLemmas
+pub mod ClaimLemmas
 pub mod MapLemmas
 pub mod OutgoingLemmas
 pub mod ReceiverLemmas

@@ -1,9 +1,12 @@
 -- A message is kept exactly where its sender is open.
-use Rattle.std.proofs.Common.{◌≡◌, ◌∙◌, ap, sym, subst, refl, Bool, true, false, cond, Option, Some, None, is_some, List, ℕ}
+use Rattle.std.proofs.Common.{◌≡◌, ◌≢◌, ◌∙◌, ap, sym, subst, refl, Bool, true, false, cond, Option, Some, None, is_some, List, ℕ}
 use Rattle.std.specs.FinMap as map
 use Rattle.lpt_packet.specs.Names.{Name, same_name, name_cmp}
+use Rattle.lpt_packet.proofs.NameLemmas.{same_name-true}
+use Rattle.lpt_ledger.specs.declared.state.State.{State}
+use Rattle.lpt_ledger.specs.declared.state.State.TheVariants.{Free, Open, Closed}
 use Rattle.lpt_ledger.specs.Marks.{Marks, Mark, Opened, Shut}
-use Rattle.lpt_ledger.specs.States.{state_of}
+use Rattle.lpt_ledger.specs.States.{state_of, state_at}
 use Rattle.lpt_node.specs.Nodes.{Messages, is_open}
 use Rattle.lpt_events.specs.declared.config.Config.{Config}
 use Rattle.lpt_events.specs.Configs.{IsConfig}
@@ -36,6 +39,28 @@ kept-closed m ms id all q =
     subst (λ o. is_some (map.get (map.remove ms id) q) ≡ is_open (state_of o)) (sym (get_insert m id Shut q))
     (subst (λ n. is_some n ≡ is_open (state_of (cond (same_name q id) (Some Shut) (map.get m q)))) (sym (get_remove ms id q))
     (either (same_name q id) (Some Shut) (map.get m q) None (map.get ms q) refl (all q)))
+
+-- a name was made free that isn't open
+pub kept-retired : (m : Marks) (ms : Messages) (id : Name)
+    → AreKept m ms
+    → state_at m id ≢ Open
+    → AreKept (map.remove m id) ms
+kept-retired m ms id all other q =
+    all q
+    ∙ go (same_name q id) refl
+    ∙ ap (λ (o : Option Mark). is_open (state_of o)) (sym (get_remove m id q))
+  where
+    not_open : (s : State) → s ≢ Open → is_open s ≡ false
+    not_open Free h = refl
+    not_open Open h = absurd (h refl)
+    not_open Closed h = refl
+
+    go : (b : Bool)
+        → same_name q id ≡ b
+        → is_open (state_at m q) ≡ is_open (state_of (cond b None (map.get m q)))
+    go true same = ap (λ (n : Name). is_open (state_at m n)) (same_name-true q id same)
+        ∙ not_open (state_at m id) other
+    go false apart = refl
 
 -- nothing was opened
 pub kept-none : AreKept map.empty map.empty
@@ -74,6 +99,20 @@ sound-closed c m after r o new id s a b = record {
   messages = ap (λ (o : OpenMessages). o.p) b ∙ s.messages;
   kept = subst (λ (n : OpenMessages). AreKept after n.messages) (sym b)
       (subst (λ (m : Marks). AreKept m (map.remove o.messages id)) (sym a) (kept-closed m o.messages id s.kept));
+}
+
+-- a name was made free
+pub sound-retired : (c : Config) (m after : Marks) (r : ReceiverState) (o : OpenMessages) (id : Name)
+    → IsSound c m r o
+    → after ≡ map.remove m id
+    → state_at m id ≢ Open
+    → IsSound c after r o
+sound-retired c m after r o id s is other = record {
+  configured = s.configured;
+  receiver = s.receiver;
+  messages = s.messages;
+  kept = subst (λ (m : Marks). AreKept m o.messages) (sym is)
+      (kept-retired m o.messages id s.kept other);
 }
 
 -- nothing has happened

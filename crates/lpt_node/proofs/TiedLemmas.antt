@@ -1,11 +1,12 @@
 -- Names stay tied to their receptions, so that a receiver is sound after each change.
-use Rattle.std.proofs.Common.{◌≡◌, ◌∙◌, ap, sym, subst, refl, ℕ, Bool, true, false, cond, Some, None, Result, Ok, Err}
+use Rattle.std.proofs.Common.{◌≡◌, ◌∙◌, ap, sym, subst, refl, ℕ, Bool, true, false, cond, Option, Some, None, Result, Ok, Err}
 use Rattle.std.specs.FinMap as map
 use Rattle.std.specs.Result.{OnOk, OnErr}
 use Rattle.lpt_packet.specs.Names.{Name, same_name, name_cmp}
 use Rattle.lpt_packet.proofs.NameLemmas.{same_name-true}
-use Rattle.lpt_ledger.specs.declared.state.State.TheVariants.{Free}
-use Rattle.lpt_ledger.specs.Marks.{Marks, Shut}
+use Rattle.lpt_ledger.specs.declared.state.State.{State}
+use Rattle.lpt_ledger.specs.declared.state.State.TheVariants.{Free, Open, Closed}
+use Rattle.lpt_ledger.specs.Marks.{Mark, Marks, Shut}
 use Rattle.lpt_ledger.specs.States.{state_of, state_at}
 use Rattle.lpt_reception.specs.Received.{Received}
 use Rattle.lpt_table.specs.Offering.{TakesOut, parts_at, put_back, received_at}
@@ -88,6 +89,45 @@ sound-expired m after old new id sound shut is =
     (subst (λ (m : Marks). IsReceiver m (record old { entries = map.remove old.entries id }))
     (sym shut)
     (record { settled = sound.settled; tied = tied-ended m old.entries id sound.tied }))
+
+-- a name was made free
+pub sound-retired : (m after : Marks) (t : TableState) (id : Name)
+    → IsReceiver m t
+    → after ≡ map.remove m id
+    → IsReceiver after t
+sound-retired m after t id sound is =
+    subst (λ (m : Marks). IsReceiver m t) (sym is)
+    (record {
+      settled = sound.settled;
+      tied = λ q.
+          subst (λ o. IsTied (state_of o) (map.get t.entries q)) (sym (get_remove m id q))
+          (go (map.get m q) (map.get t.entries q) (same_name q id) (sound.tied q));
+    })
+  where
+    go : (x : Option Mark) (e : Option TableEntry) (b : Bool)
+        → IsTied (state_of x) e
+        → IsTied (state_of (cond b None x)) e
+    go x e true tied = tt
+    go x e false tied = tied
+
+-- all receptions were dropped
+pub sound-cleared : (m : Marks) (old new : TableState)
+    → IsReceiver m old
+    → new ≡ record old { entries = map.empty }
+    → IsReceiver m new
+sound-cleared m old new sound is =
+    subst (λ (t : TableState). IsReceiver m t) (sym is)
+    (record {
+      settled = sound.settled;
+      tied = λ q.
+          subst (IsTied (state_at m q)) (sym (map.get-empty name_cmp q))
+          (go (state_at m q) (map.get old.entries q) (sound.tied q));
+    })
+  where
+    go : (s : State) (e : Option TableEntry) → IsTied s e → IsTied s None
+    go Free e tied = tt
+    go Open e tied = tied
+    go Closed e tied = refl
 
 -- nothing has happened
 pub sound-new : (limit timeout p : ℕ) (m : Marks) (t : TableState)

@@ -1,4 +1,5 @@
 pub mod Accepting
+pub mod Anew
 pub mod Asking
 pub mod Codes
 pub mod Counting

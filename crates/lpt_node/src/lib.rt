@@ -9,6 +9,7 @@
 
 mod accepted;
 mod accepting;
+mod anew;
 mod ask;
 mod asking;
 mod counts;

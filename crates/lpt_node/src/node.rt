@@ -20,7 +20,8 @@ use std::marker::Model;
 ///
 /// The sender's and the receiver's ledger know each transaction name as free, open or closed. The
 /// messages of open outgoing transactions are kept until these are closed. A receiver's name is
-/// closed when its reception ends.
+/// closed when its reception is released, broken off or given up, and stays free where a new start
+/// drops it. A closed name is free again once it is retired.
 #[derive(Drop)]
 pub struct Node {
     pub(crate) alloc: Global,
@@ -31,7 +32,7 @@ pub struct Node {
     pub(crate) counts: Counts,
     pub(crate) receiver: Receiver,
     pub(crate) clock: u32,
-    // How many times it was started anew.
+    // The number of this boot, from 0 on.
     pub(crate) boot: u64,
     // The released requests that aren't executed yet; on ground none.
     pub(crate) jobs: JobQueue,

@@ -1,6 +1,6 @@
 //! The messages that are being sent.
 
-ghost use Rattle.std.specs.Prelude.{◌≡◌, length, None, IfSome, IfErr, OnOk, OnErr};
+ghost use Rattle.std.specs.Prelude.{◌≡◌, ◌+◌, true, if◌then◌else◌, length, None, is_some, IfSome, IfNone, IfErr, OnOk, OnErr};
 ghost use Rattle.std.specs.Option.{option_map};
 ghost use Rattle.std.specs.FinMap as map;
 ghost use Rattle.lpt_node.specs.Nodes.{MessageFits};
@@ -86,5 +86,20 @@ impl Outgoing {
         ensures { self.new ≡ record self.old { messages = map.remove self.old.messages id } }
     {
         let _ = self.messages.remove(&id);
+    }
+
+    /// Lets the message of the least name go, and answers that name. `None` where there is no
+    /// message.
+    pub(crate) fn pop_first(&mut self) -> Option<Name>
+        ensures rest { IfSome result (λ id.
+            self.new ≡ record self.old { messages = map.remove self.old.messages id }) }
+        ensures had { IfSome result (λ id. is_some (map.get self.old.messages id) ≡ true) }
+        ensures empty { IfNone result (self.old.messages ≡ map.empty) }
+        ensures unchanged { IfNone result (self.new ≡ self.old) }
+        ensures len { map.len self.new.messages + (if is_some result then 1 else 0)
+            ≡ map.len self.old.messages }
+    {
+        let (id, _) = self.messages.pop_first()?;
+        Some(id)
     }
 }

@@ -18,6 +18,7 @@ ghost use Rattle.lpt_node.specs.Receivers.{abort_report, ended, grows, received,
 ghost use Rattle.lpt_node.specs.Receiving.{jobs_after, jobs_with};
 
 use crate::Side;
+use crate::anew::free;
 use crate::making::abort_report;
 use crate::taken::Taken;
 use crate::working::add_job;
@@ -189,6 +190,20 @@ impl Receiver {
         shut(&mut self.ledger, id);
         self.table.expire(id);
         Ok(report)
+    }
+
+    /// Makes a name free.
+    pub(crate) fn retire(&mut self, id: Name)
+        ensures { self.new ≡ record self.old { ledger = map.remove self.old.ledger id } }
+    {
+        free(&mut self.ledger, id);
+    }
+
+    /// Drops all open receptions. What is closed stays so.
+    pub(crate) fn clear(&mut self)
+        ensures { self.new ≡ record self.old { entries = map.empty } }
+    {
+        self.table.clear_all();
     }
 }
 

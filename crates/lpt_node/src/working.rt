@@ -1,7 +1,8 @@
 //! Jobs: the requests that were released, claimed by workers, and executed in order of release.
 
-ghost use Rattle.std.specs.Prelude.{◌≡◌, ◌+◌, ◌<◌, ◌^◌, IsTrue, None, IfOk, IfErr, OnOk, OnErr};
-ghost use Rattle.lpt_jobs.specs.Jobs.{after_push, is_claimed, numbered};
+ghost use Rattle.std.specs.Prelude.{◌≡◌, ◌+◌, ◌-◌, ◌<◌, ◌^◌, length, IsTrue, None, IfOk, IfErr, OnOk, OnErr};
+ghost use Rattle.std.specs.Option.{option_map};
+ghost use Rattle.lpt_jobs.specs.Jobs.{after_push, claimed_in, is_claimed, numbered, unclaimed};
 ghost use Rattle.lpt_node.specs.Jobs.{refusal_claim, claimed, committed, refusal_apply, executed, execution, IsReadFor};
 ghost use Rattle.lpt_node.specs.Sending.{RefusedBy};
 
@@ -14,7 +15,7 @@ use lpt_packet::Octets;
 use std::alloc::AllocError;
 
 impl Node {
-    /// How many times the node was started anew.
+    /// The number of this boot: how many times the node was started anew.
     pub fn boot(&self) -> u64
         ensures { result ≡ self.now.at.boot }
     {
@@ -28,12 +29,36 @@ impl Node {
         self.jobs.numbered()
     }
 
+    /// How many jobs aren't executed yet.
+    pub fn queued(&self) -> u64
+        ensures { result ≡ length self.now.at.jobs.jobs }
+    {
+        self.jobs.len() as u64
+    }
+
+    /// How many jobs wait: no worker has claimed them.
+    pub fn waiting(&self) -> u64
+        ensures { result ≡ length self.now.at.jobs.jobs - claimed_in self.now.at.jobs.jobs }
+    {
+        self.jobs.waiting() as u64
+    }
+
+    /// The number and the message of the oldest job that waits. `None` where none does.
+    pub fn unclaimed(&self) -> Option<(u64, &Octets)>
+        ensures { option_map (λ x. (x.0, x.1.now)) result ≡ unclaimed self.now.at.jobs }
+    {
+        self.jobs.unclaimed()
+    }
+
     /// Gives the oldest job that waits to a worker, with a copy of its message.
     ///
     /// Errors, with nothing changed, the first that applies: `NoJob`, none waits; `Memory`.
     pub fn claim(&mut self) -> Result<Ticket, NodeFault>
         ensures enabled { OnOk result (refusal_claim self.old.at ≡ None) }
         ensures ok { IfOk result (λ t. (self.new.at, t) ≡ claimed self.old.at) }
+
+        // A reading of it may be handed in.
+        ensures out { IfOk result (λ t. IsTrue (is_claimed self.new.at.jobs t.job)) }
 
         ensures side { self.new.side ≡ self.old.side }
         ensures config { self.new.config ≡ self.old.config }

@@ -1,6 +1,7 @@
 //! Reading a packet from octets.
 
-ghost use Rattle.std.specs.Prelude.{◌≡◌, ◌+◌, ◌<◌, length, Ok, IfOk};
+ghost use Rattle.std.specs.Prelude.{◌≡◌, ◌+◌, ◌-◌, ◌%◌, ◌<◌, ◌≤◌, ◌==◌, length, take, Ok, IfOk};
+ghost use Rattle.lpt_packet.specs.Checksums.{checksum};
 ghost use Rattle.lpt_packet.specs.Numbers.{word_at};
 ghost use Rattle.lpt_packet.specs.Packets.{Fields, IdlePacket, APacket, sight, IsSight, IsPacket, IsIdle, verdict, Gives};
 
@@ -41,7 +42,7 @@ fn first_fault_or_sight(bytes: &[u8]) -> Result<Seen<'_>, PacketFault>
     if first >> 13 != 0 {
         return Err(PacketFault::Version);
     }
-    if bytes.len() != 7 + usize::from(word(bytes, 4)) {
+    if !has_its_length(bytes) {
         return Err(PacketFault::Length);
     }
     if first & 0x07ff == 0x07ff {
@@ -53,11 +54,7 @@ fn first_fault_or_sight(bytes: &[u8]) -> Result<Seen<'_>, PacketFault>
     if (first >> 11) & 1 != 1 {
         return Err(PacketFault::NoSecondary);
     }
-    if bytes.len() < 8 {
-        return Err(PacketFault::Checksum);
-    }
-    let end = bytes.len() - ERROR_CONTROL;
-    if crc16(&bytes[..end]) != word(bytes, end) {
+    if bytes.len() < 8 || !is_sealed(bytes) {
         return Err(PacketFault::Checksum);
     }
     let kind = if (first >> 12) & 1 == 1 {
@@ -65,13 +62,38 @@ fn first_fault_or_sight(bytes: &[u8]) -> Result<Seen<'_>, PacketFault>
     } else {
         PacketKind::Tm
     };
-    let field = &bytes[PRIMARY_HEADER..end];
+    let field = &bytes[PRIMARY_HEADER..bytes.len() - ERROR_CONTROL];
     Ok(Seen::Packet(Packet {
         kind,
         apid: first & 0x07ff,
-        count: second & 0x3fff,
+        count: count_in(second),
         field,
     }))
+}
+
+// Whether there are as many octets as the data length field says.
+fn has_its_length(bytes: &[u8]) -> bool
+    requires { 7 ≤ length bytes.now }
+    ensures { result ≡ (length bytes.now == 7 + word_at bytes.now 4) }
+{
+    bytes.len() == 7 + usize::from(word(bytes, 4))
+}
+
+// Whether the last two octets are the checksum of those before.
+fn is_sealed(bytes: &[u8]) -> bool
+    requires { 8 ≤ length bytes.now }
+    ensures { result ≡ (checksum (take (length bytes.now - 2) bytes.now)
+        == word_at bytes.now (length bytes.now - 2)) }
+{
+    let end = bytes.len() - ERROR_CONTROL;
+    crc16(&bytes[..end]) == word(bytes, end)
+}
+
+// The sequence count in a header's second word.
+fn count_in(second: u16) -> u16
+    ensures { result ≡ second % 16384 }
+{
+    second & 0x3fff
 }
 
 // The 16-bit number at a place.

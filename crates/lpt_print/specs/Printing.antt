@@ -17,11 +17,13 @@ use Rattle.lpt_events.specs.declared.applied.Applied.{Applied}
 use Rattle.lpt_events.specs.declared.applied.Applied.TheVariants.{Done, Silent, Code}
 use Rattle.lpt_events.specs.declared.entry.Release.{Release}
 use Rattle.lpt_events.specs.declared.event.Event.{Event}
-use Rattle.lpt_events.specs.declared.event.Event.TheVariants.{Open, Send, Plain, Finish, Lose, Damage, Take, Deliver, Tick, Expire, Claim, Commit, Apply}
+use Rattle.lpt_events.specs.declared.event.Event.TheVariants.{Open, Send, Plain, Finish, Lose, Damage, Take, Deliver, Tick, Expire, Claim, Commit, Apply, Retire, Restart}
 use Rattle.lpt_events.specs.declared.fault.StepFault.{StepFault}
 use Rattle.lpt_events.specs.declared.reply.Answer.{Answer}
-use Rattle.lpt_events.specs.declared.reply.Answer.TheVariants.{Opened, Put, Finished, Lost, Took, Delivered, Clock, Expired, Claimed, Committed, Applied as AppliedTo}
+use Rattle.lpt_events.specs.declared.reply.Answer.TheVariants.{Opened, Put, Finished, Lost, Took, Delivered, Clock, Expired, Claimed, Committed, Stale, Applied as AppliedTo, Retired, Restarted}
 use Rattle.lpt_events.specs.declared.reply.Reply.{Reply}
+use Rattle.lpt_events.specs.declared.side.Side.{Side}
+use Rattle.lpt_events.specs.declared.side.Side.TheVariants.{Ground, Craft}
 use Rattle.lpt_events.specs.FaultNames.{code_of, name_of}
 
 -- ---- words
@@ -36,6 +38,11 @@ line_of (w ∷ v ∷ ws) = w ++ 32 ∷ line_of (v ∷ ws)
 abbrev pub direction_text : Direction → List ℕ
 direction_text Up = codes "up"
 direction_text Down = codes "down"
+
+-- a node
+abbrev pub side_text : Side → List ℕ
+side_text Ground = codes "ground"
+side_text Craft = codes "craft"
 
 -- octets in hexadecimal digits, lower case; `-` where there are none
 abbrev pub octets_text : List ℕ → List ℕ
@@ -88,6 +95,18 @@ claimed_text boot job = job_line (codes "claimed") boot job
 abbrev pub committed_text : (boot job : ℕ) → List ℕ
 committed_text boot job = job_line (codes "committed") boot job
 
+-- this job isn't there any more, and its reading was dropped
+abbrev pub stale_text : (boot job : ℕ) → List ℕ
+stale_text boot job = job_line (codes "stale") boot job
+
+-- this transaction is free at both ends
+abbrev pub retired_text : Direction → Name → List ℕ
+retired_text d id = named_line (codes "retired") d id
+
+-- a node was started anew, and has this boot now
+abbrev pub restarted_text : Side → (boot : ℕ) → List ℕ
+restarted_text side boot = line_of (codes "restarted" ∷ side_text side ∷ decimal boot ∷ [])
+
 -- a request was executed; the report of data that was opened has this identifier
 abbrev pub applied_text : Applied → List ℕ
 applied_text (Done None) = line_of (codes "applied" ∷ codes "done" ∷ [])
@@ -136,7 +155,10 @@ answer_text (Tick side) (Clock t) = clock_text t
 answer_text (Expire side) (Expired d id) = expired_text d id
 answer_text (Claim w) (Claimed boot job) = claimed_text boot job
 answer_text (Commit w) (Committed boot job) = committed_text boot job
+answer_text (Commit w) (Stale boot job) = stale_text boot job
 answer_text Apply (AppliedTo applied) = applied_text applied
+answer_text (Retire d id) Retired = retired_text d id
+answer_text (Restart side) (Restarted boot) = restarted_text side boot
 answer_text (Open d id m) _ = []
 answer_text (Send d id k) _ = []
 answer_text (Plain flags service subtype body) _ = []
@@ -150,6 +172,8 @@ answer_text (Expire side) _ = []
 answer_text (Claim w) _ = []
 answer_text (Commit w) _ = []
 answer_text Apply _ = []
+answer_text (Retire d id) _ = []
+answer_text (Restart side) _ = []
 
 -- what an accepted event prints
 abbrev pub accepted_text : Event → Reply → List ℕ

@@ -3,10 +3,10 @@
 ghost use Rattle.std.specs.Prelude.{◌≡◌, IfOk};
 ghost use Rattle.std.specs.Option.{option_copied};
 ghost use Rattle.std.specs.String.{string_bytes};
-ghost use Rattle.lpt_print.specs.Printing.{accepted_text, opened_text, finished_text, lost_text, expired_text, claimed_text, committed_text, applied_text, clock_text, put_text, took_text, outcome_text, refused_text, unreadable_text, journal_text, packet_text, clear_text, memory_text, release_text, none_text};
+ghost use Rattle.lpt_print.specs.Printing.{accepted_text, opened_text, finished_text, lost_text, expired_text, claimed_text, committed_text, stale_text, applied_text, retired_text, restarted_text, clock_text, put_text, took_text, outcome_text, refused_text, unreadable_text, journal_text, packet_text, clear_text, memory_text, release_text, none_text};
 
-use crate::words::{direction_word, octets_word, why_word};
-use lpt_events::{Answer, Applied, Event, Outcome, Release, Reply, StepFault};
+use crate::words::{direction_word, octets_word, side_word, why_word};
+use lpt_events::{Answer, Applied, Event, Outcome, Release, Reply, Side, StepFault};
 use lpt_packet::{Direction, Name};
 use std::alloc::{AllocError, Global};
 
@@ -31,7 +31,10 @@ pub fn print_accepted(alloc: Global, event: &Event, reply: &Reply) -> Result<Str
         (Event::Expire(_), Answer::Expired(direction, id)) => print_expired(alloc, direction, id),
         (Event::Claim(_), Answer::Claimed(boot, job)) => print_claimed(alloc, boot, job),
         (Event::Commit(_), Answer::Committed(boot, job)) => print_committed(alloc, boot, job),
+        (Event::Commit(_), Answer::Stale(boot, job)) => print_stale(alloc, boot, job),
         (Event::Apply, Answer::Applied(applied)) => print_applied(alloc, applied),
+        (Event::Retire(direction, id), Answer::Retired) => print_retired(alloc, *direction, *id),
+        (Event::Restart(side), Answer::Restarted(boot)) => print_restarted(alloc, *side, boot),
         // Each event by its name, so that a new one is missed here.
         (
             Event::Open(_, _, _)
@@ -46,7 +49,9 @@ pub fn print_accepted(alloc: Global, event: &Event, reply: &Reply) -> Result<Str
             | Event::Expire(_)
             | Event::Claim(_)
             | Event::Commit(_)
-            | Event::Apply,
+            | Event::Apply
+            | Event::Retire(_, _)
+            | Event::Restart(_),
             _,
         ) => Ok(String::new(alloc)),
     }
@@ -114,6 +119,30 @@ pub fn print_committed(alloc: Global, boot: u64, job: u64) -> Result<String, All
     ensures { IfOk result (λ t. string_bytes t ≡ committed_text boot job) }
 {
     format!(in alloc; "committed {boot} {job}\n")
+}
+
+/// `stale 0 3`: the job of this boot and this number in it isn't there any more, so its reading was
+/// dropped.
+pub fn print_stale(alloc: Global, boot: u64, job: u64) -> Result<String, AllocError>
+    ensures { IfOk result (λ t. string_bytes t ≡ stale_text boot job) }
+{
+    format!(in alloc; "stale {boot} {job}\n")
+}
+
+/// `retired up 7`: this transaction is free at both ends.
+pub fn print_retired(alloc: Global, direction: Direction, id: Name) -> Result<String, AllocError>
+    ensures { IfOk result (λ t. string_bytes t ≡ retired_text direction id) }
+{
+    let direction = direction_word(direction);
+    format!(in alloc; "retired {direction} {id}\n")
+}
+
+/// `restarted craft 1`: the node on this side was started anew, and has this boot now.
+pub fn print_restarted(alloc: Global, side: Side, boot: u64) -> Result<String, AllocError>
+    ensures { IfOk result (λ t. string_bytes t ≡ restarted_text side boot) }
+{
+    let side = side_word(side);
+    format!(in alloc; "restarted {side} {boot}\n")
 }
 
 /// `applied done`, `applied done down 0` with the identifier of the report of data that was opened,

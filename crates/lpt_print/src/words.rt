@@ -2,9 +2,9 @@
 
 ghost use Rattle.std.specs.Prelude.{◌≡◌, IfOk};
 ghost use Rattle.std.specs.String.{string_bytes};
-ghost use Rattle.lpt_print.specs.Printing.{direction_text, octets_text, why_name};
+ghost use Rattle.lpt_print.specs.Printing.{direction_text, octets_text, side_text, why_name};
 
-use lpt_events::Why;
+use lpt_events::{Side, Why};
 use lpt_packet::Direction;
 use std::alloc::{AllocError, Global};
 
@@ -15,6 +15,16 @@ pub(crate) fn direction_word(direction: Direction) -> &'static str
     match direction {
         Direction::Up => "up",
         Direction::Down => "down",
+    }
+}
+
+// A node's word.
+pub(crate) fn side_word(side: Side) -> &'static str
+    ensures { result.now ≡ side_text side }
+{
+    match side {
+        Side::Ground => "ground",
+        Side::Craft => "craft",
     }
 }
 

@@ -10,9 +10,10 @@ use Rattle.lpt_memory.specs.Meanings.{size_of}
 use Rattle.lpt_memory.specs.Memories.{Contents, are_memories, are_distinct, sizes_of}
 use Rattle.lpt_settings.specs.MemoryTables.{memory_of, each_memory, if_memories, memories_of, is_id, has_id}
 use Rattle.lpt_events.specs.declared.config.Config.{Config}
+use Rattle.lpt_events.specs.declared.turns.Turns.{Turns}
 use Rattle.toml.specs.Data.{Members}
 use Rattle.lpt_settings.specs.Keys.{has_only}
-use Rattle.lpt_settings.specs.Settings.{known_keys, config_of, settings_of}
+use Rattle.lpt_settings.specs.Settings.{known_keys, numbers_of, settings_of}
 use Rattle.lpt_settings.proofs.MemoryLemmas.{length-each_memory}
 
 -- whether memories are described, in their ranges and with distinct identifiers
@@ -179,21 +180,21 @@ told_parts true (Some x) None c e = absurd cc
 told_parts true None memories c e = absurd cc
 told_parts false config memories c e = absurd cc
 
--- a table that is judged to have a configuration has it with its memories
-pub settings_of-judged : (members : Members) (c : Config)
+-- a table that is judged to have numbers has them with its memories
+pub settings_of-judged : (members : Members) (c : Config × Turns)
     → Some c ≡ option_map (λ s. s.0) (settings_of members)
     → settings_of members ≡ option_map (λ ms. (c, ms)) (memories_of members)
 settings_of-judged members c e =
-    told_parts (has_only known_keys members) (config_of members) (memories_of members) c e
+    told_parts (has_only known_keys members) (numbers_of members) (memories_of members) c e
 
--- a table of which no configuration is told has no settings
+-- a table of which no numbers are told has no settings
 pub settings_of-refused : {A B : Type 0} (o : Option (A × B))
     → None ≡ option_map (λ s. s.0) o
     → o ≡ None
 settings_of-refused None e = refl
 settings_of-refused (Some s) e = absurd cc
 
--- a table of which a configuration is told has settings
+-- a table of which numbers are told has settings
 pub settings_of-some : {A B : Type 0} (o : Option (A × B)) (c : A)
     → Some c ≡ option_map (λ s. s.0) o
     → is_some o ≡ true

@@ -4,6 +4,7 @@ use Rattle.toml.specs.Data.{Members}
 use Rattle.lpt_memory.specs.Fields.{◌>>=◌}
 use Rattle.lpt_memory.specs.Memories.{Contents}
 use Rattle.lpt_events.specs.declared.config.Config.{Config}
+use Rattle.lpt_events.specs.declared.turns.Turns.{Turns}
 use Rattle.lpt_settings.specs.Keys.{has_only}
 use Rattle.lpt_settings.specs.MemoryTables.{memories_of, default_memories}
 use Rattle.lpt_settings.specs.Numbers.{number_at}
@@ -11,7 +12,7 @@ use Rattle.lpt_settings.specs.Numbers.{number_at}
 -- the keys that there are
 abbrev pub known_keys : List (List ℕ)
 known_keys = codes "apid" ∷ codes "source" ∷ codes "part_size" ∷ codes "timeout"
-    ∷ codes "receptions" ∷ codes "outgoing" ∷ codes "clock" ∷ codes "memory" ∷ []
+    ∷ codes "receptions" ∷ codes "outgoing" ∷ codes "clock" ∷ codes "per_seat" ∷ codes "ticks" ∷ codes "memory" ∷ []
 
 -- the configuration of a table: each number is in its range or absent
 abbrev pub config_of : Members → Option Config
@@ -33,13 +34,27 @@ config_of members = do
     clock = clock;
   })
 
--- the settings of a table: each key is known, and the configuration and the memories can be read
-abbrev pub settings_of : Members → Option (Config × Contents)
+-- how much each seat does in a run of threads, by a table
+abbrev pub turns_of : Members → Option Turns
+turns_of members = do
+  per_seat ← number_at (codes "per_seat") 1 1000000 (Some 100000) members
+  ticks ← number_at (codes "ticks") 0 65535 (Some 0) members
+  Some (record { per_seat = per_seat; ticks = ticks })
+
+-- all numbers of a table
+abbrev pub numbers_of : Members → Option (Config × Turns)
+numbers_of members = do
+  config ← config_of members
+  turns ← turns_of members
+  Some (config, turns)
+
+-- the settings of a table: each key is known, and the numbers and the memories can be read
+abbrev pub settings_of : Members → Option ((Config × Turns) × Contents)
 settings_of members =
     if has_only known_keys members then (do
-      config ← config_of members
+      numbers ← numbers_of members
       memories ← memories_of members
-      Some (config, memories))
+      Some (numbers, memories))
     else None
 
 -- the configuration where no key is set
@@ -54,6 +69,10 @@ default_config = record {
   clock = 0;
 }
 
+-- how much each seat does where no key is set
+abbrev pub default_turns : Turns
+default_turns = record { per_seat = 100000; ticks = 0 }
+
 -- the settings where no key is set
-abbrev pub default_settings : Config × Contents
-default_settings = (default_config, default_memories)
+abbrev pub default_settings : (Config × Turns) × Contents
+default_settings = ((default_config, default_turns), default_memories)

@@ -9,7 +9,7 @@ ghost use Rattle.lpt_settings.specs.Keys.{is_one_of, has_only};
 use toml::Table;
 
 /// The keys of a configuration.
-pub(crate) const KEYS: [&str; 8] = [
+pub(crate) const KEYS: [&str; 10] = [
     "apid",
     "source",
     "part_size",
@@ -17,6 +17,8 @@ pub(crate) const KEYS: [&str; 8] = [
     "receptions",
     "outgoing",
     "clock",
+    "per_seat",
+    "ticks",
     "memory",
 ];
 

@@ -10,6 +10,8 @@
 //! | `receptions` | 1 to 64 | 8 |
 //! | `outgoing` | 1 to 64 | 8 |
 //! | `clock` | 0 to 4,294,967,295 ticks | 0 |
+//! | `per_seat` | 1 to 1,000,000 calls | 100,000 |
+//! | `ticks` | 0 to 65,535 ticks | 0 |
 //! | `memory` | an array of 1 to 16 tables | one memory 1 of 256 octets of 0 |
 //!
 //! Each table of `memory` is a memory of `size` octets that all have the value `fill`. Its
@@ -22,7 +24,7 @@
 //! | `fill` | 0 to 255 | 0 |
 //!
 //! Each key with a default may be absent, and there is no other key. A new number is one more word
-//! in `read_table`, one more line in `read_numbers`, and the same in the specs.
+//! in `KEYS`, one more line in `read_fixed` or `read_turns`, and the same in the specs.
 #![tactic(auto)]
 
 mod complaint;

@@ -6,13 +6,13 @@ ghost use Rattle.toml.specs.Errors.{IsBlank};
 ghost use Rattle.toml.specs.Parse.{parse_document};
 ghost use Rattle.toml.specs.View.{table_view};
 ghost use Rattle.lpt_events.specs.Configs.{IsConfig};
-ghost use Rattle.lpt_settings.specs.Settings.{config_of, settings_of, default_settings};
+ghost use Rattle.lpt_settings.specs.Settings.{config_of, turns_of, numbers_of, settings_of, default_settings};
 
 use crate::keys::{KEYS, has_only};
 use crate::memories::{judge_memories, memories};
 use crate::numbers::number;
 use crate::wrong::{Reason, Wrong};
-use lpt_events::Config;
+use lpt_events::{Config, Turns};
 use lpt_memory::Memories;
 use lpt_text::ToolFault;
 use std::alloc::{AllocError, Global};
@@ -25,14 +25,15 @@ use toml::Table;
 /// type or is out of its range, the memories are too many or none or have an identifier twice, and
 /// where the reader of TOML wants memory; `Memory` where there is none for the memories that a text
 /// describes which isn't refused for anything else.
-pub fn read_config(alloc: Global, text: &str) -> Result<(Config, Memories), ToolFault>
+pub fn read_config(alloc: Global, text: &str) -> Result<(Config, Memories, Turns), ToolFault>
     // The text is a TOML document, and the settings are what its table means.
-    ensures ok { IfOk result (λ s. option_and_then settings_of (parse_document text.now) ≡ Some s) }
+    ensures ok { IfOk result (λ s.
+        option_and_then settings_of (parse_document text.now) ≡ Some ((s.0, s.2), s.1)) }
     ensures ranges { IfOk result (λ s. IsConfig s.0) }
 
     // White space and comments alone give the defaults, if there is memory for them.
     ensures blank { IsBlank text.now
-        → MatchResult result (λ s. s ≡ default_settings) (λ e. e ≡ ToolFault.Memory) }
+        → MatchResult result (λ s. ((s.0, s.2), s.1) ≡ default_settings) (λ e. e ≡ ToolFault.Memory) }
 
     // All of the text is judged before memory is taken for the memories.
     ensures memory { IfErr result (λ e. e ≡ ToolFault.Memory
@@ -45,7 +46,7 @@ pub fn read_config(alloc: Global, text: &str) -> Result<(Config, Memories), Tool
         return Err(ToolFault::Config);
     };
     match read_table(alloc, &table) {
-        Ok(Some(settings)) => Ok(settings),
+        Ok(Some(((config, turns), memories))) => Ok((config, memories, turns)),
         Ok(None) => Err(ToolFault::Config),
         Err(_) => Err(ToolFault::Memory),
     }
@@ -53,35 +54,57 @@ pub fn read_config(alloc: Global, text: &str) -> Result<(Config, Memories), Tool
 
 // The settings that a table means; `None` where it is refused. The only error is want of memory,
 // where it isn't.
-fn read_table(alloc: Global, table: &Table) -> Result<Option<(Config, Memories)>, AllocError>
+fn read_table(
+    alloc: Global,
+    table: &Table,
+) -> Result<Option<((Config, Turns), Memories)>, AllocError>
     ensures value { IfOk result (λ s. s ≡ settings_of (table_view table.now)) }
-    ensures ranges { IfOk result (λ s. IfSome s (λ x. IsConfig x.0)) }
+    ensures ranges { IfOk result (λ s. IfSome s (λ x. IsConfig x.0.0)) }
     ensures asked { OnErr result (IsSome (settings_of (table_view table.now))) }
 {
-    let Ok(config) = judge(table) else {
+    let Ok(numbers) = judge(table) else {
         return Ok(None);
     };
     let Some(memories) = memories(alloc, table)? else {
         return Ok(None);
     };
-    Ok(Some((config, memories)))
+    Ok(Some((numbers, memories)))
 }
 
-// Judges all of a table, and takes no memory: its configuration, or the first thing that is wrong.
-pub(crate) fn judge(table: &Table) -> Result<Config, Wrong>
+// Judges all of a table, and takes no memory: its numbers, or the first thing that is wrong.
+pub(crate) fn judge(table: &Table) -> Result<(Config, Turns), Wrong>
     ensures value { result_ok result ≡ option_map (λ s. s.0) (settings_of (table_view table.now)) }
-    ensures ranges { IfOk result IsConfig }
+    ensures ranges { IfOk result (λ n. IsConfig n.0) }
 {
     if !has_only(table, &KEYS) {
         return Err(Wrong::at("", Reason::Unknown));
     }
-    let config = read_numbers(table)?;
+    let numbers = read_numbers(table)?;
     judge_memories(table)?;
-    Ok(config)
+    Ok(numbers)
+}
+
+// What all numbers of a table mean.
+fn read_numbers(table: &Table) -> Result<(Config, Turns), Wrong>
+    ensures value { result_ok result ≡ numbers_of (table_view table.now) }
+    ensures ranges { IfOk result (λ n. IsConfig n.0) }
+{
+    let config = read_fixed(table)?;
+    let turns = read_turns(table)?;
+    Ok((config, turns))
+}
+
+// How much each seat does in a run of threads.
+fn read_turns(table: &Table) -> Result<Turns, Wrong>
+    ensures { result_ok result ≡ turns_of (table_view table.now) }
+{
+    let per_seat = number(table, "per_seat", 1, 1_000_000, Some(100_000))?;
+    let ticks = number(table, "ticks", 0, 65535, Some(0))?;
+    Ok(Turns { per_seat, ticks })
 }
 
 // The configuration that the numbers of a table mean.
-fn read_numbers(table: &Table) -> Result<Config, Wrong>
+fn read_fixed(table: &Table) -> Result<Config, Wrong>
     ensures value { result_ok result ≡ config_of (table_view table.now) }
     ensures ranges { IfOk result IsConfig }
 {

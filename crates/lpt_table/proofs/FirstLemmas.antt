@@ -4,8 +4,7 @@ use Rattle.std.specs.Option.{option_map}
 use Rattle.std.specs.FinMap as map
 use Rattle.std.specs.FinMap.{get-from_entries}
 use Rattle.std.specs.FinMap.Entries.{below_all, find, is_sorted}
-use Rattle.std.specs.declared.cmp.Ordering.{Ordering}
-use Rattle.std.specs.declared.cmp.Ordering.TheVariants.{Less, Equal, Greater}
+use Rattle.std.specs.declared.cmp.Ordering.TheVariants.{Less}
 use Rattle.std.specs.Ordering.{is_lt, eq_by_cmp}
 use Rattle.std.specs.Cmp.{ranked}
 use Rattle.std.proofs.Common.{sym, ◌∙◌, ap, arith, inl, inr, leb-true, leb-false}
@@ -20,12 +19,7 @@ use Rattle.lpt_table.specs.Places.{by_moment, when_cmp, first_overdue}
 use Rattle.lpt_table.specs.Tables.{TableEntry, TableState}
 use Rattle.lpt_table.proofs.DueLemmas.{due_of_is, due_unique, not_before}
 use Rattle.lpt_table.proofs.ListingLemmas.{equal_tied, tied_equal, inside}
-use Rattle.lpt_table.proofs.OrderLemmas.{front, back, earlier_tick, earlier_name}
-
-less : (r : Ordering) → T (is_lt r) → r ≡ Less
-less Less p = refl
-less Equal p = absurd p
-less Greater p = absurd p
+use Rattle.lpt_table.proofs.OrderLemmas.{less, front, back, earlier_tick, earlier_name}
 
 -- what stands behind a moment is later
 behind : (m : ℕ × Name) (s : Slab Received) (xs : List Place) (q : Name) (f : TableEntry)

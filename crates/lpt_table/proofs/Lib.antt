@@ -1,5 +1,6 @@
 pub mod DueLemmas
 mod FirstLemmas
+mod GapLemmas
 mod ListingLemmas
 mod MapLemmas
 mod OfferLemmas

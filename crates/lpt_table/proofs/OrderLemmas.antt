@@ -22,6 +22,12 @@ when_cmp_total =
 
 -- ---- lists in an order
 
+-- what is tested as lesser is lesser
+pub less : (r : Ordering) → T (is_lt r) → r ≡ Less
+less Less p = refl
+less Equal p = absurd p
+less Greater p = absurd p
+
 both : (a b : Bool) → T a → T b → T (a && b)
 both true b p q = q
 both false b p q = p

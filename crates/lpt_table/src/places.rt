@@ -1,6 +1,7 @@
 //! Where the open receptions are kept, in the order in which they would be due.
 
-ghost use Rattle.std.specs.Prelude.{◌≡◌};
+ghost use Rattle.std.specs.Prelude.{◌≡◌, T};
+ghost use Rattle.std.specs.FinMap as map;
 ghost use Rattle.lpt_packet.specs.Names.{name_cmp};
 ghost use Rattle.lpt_table.specs.Places.{spot, gap, when_cmp, by_name, by_moment, first_overdue};
 
@@ -29,18 +30,21 @@ pub(crate) fn spot_of(places: &[Place], id: Name) -> Option<usize>
     None
 }
 
-// At which place one of this last tick and name belongs.
+// At which place one of this last tick and name belongs. One that took a part just now belongs at
+// the end, so the search begins there.
 pub(crate) fn gap_of(places: &[Place], last: u32, id: Name) -> usize
+    requires { T (map.is_sorted when_cmp (by_moment places.now)) }
     ensures { result ≡ gap when_cmp (last, id) (by_moment places.now) }
 {
-    for (at, place) in places.iter().enumerate() {
+    for at in (0..places.len()).rev() {
+        let place = &places[at];
         match last.cmp(&place.last).then(id.cmp(&place.id)) {
-            Ordering::Less => return at,
-            Ordering::Equal => {}
-            Ordering::Greater => {}
+            Ordering::Less => {}
+            Ordering::Equal => return at + 1,
+            Ordering::Greater => return at + 1,
         }
     }
-    places.len()
+    0
 }
 
 // The name at the first place, where the reception there is overdue.

@@ -14,7 +14,7 @@ use Rattle.lpt_words.specs.declared.grammar.Reading.TheVariants.{Skipped, Asks, 
 use Rattle.lpt_words.specs.Grammar.{reading_of}
 use Rattle.lpt_words.specs.Loads.{load_packet}
 use Rattle.lpt_events.specs.declared.event.Event.{Event}
-use Rattle.lpt_events.specs.declared.event.Event.TheVariants.{Open, Send, Plain, Finish, Lose, Damage, Take, Deliver, Tick, Expire, Claim, Commit, Apply}
+use Rattle.lpt_events.specs.declared.event.Event.TheVariants.{Open, Send, Plain, Finish, Lose, Damage, Take, Deliver, Tick, Expire, Claim, Commit, Apply, Retire, Restart}
 use Rattle.lpt_events.specs.declared.fault.StepFault.{StepFault}
 use Rattle.lpt_events.specs.declared.reply.Reply.{Reply}
 use Rattle.lpt_events.specs.declared.worker.Worker.TheVariants.{W1}
@@ -109,6 +109,8 @@ command_ran (command.Claim k) w = stepped w (Claim k)
 command_ran (command.Commit k) w = stepped w (Commit k)
 command_ran command.Apply w = stepped w Apply
 command_ran command.Work w = worked w
+command_ran (command.Retire d id) w = stepped w (Retire d id)
+command_ran (command.Restart side) w = stepped w (Restart side)
 command_ran command.ShowReleased w = printed w (releases_text (releases w.config (history w)))
 command_ran (command.ShowPacket n) w = printed w (packet_text n (packet_octets w n))
 command_ran (command.ShowMemory id address len) w =

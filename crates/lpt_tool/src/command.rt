@@ -66,6 +66,10 @@ pub(crate) fn run_command<K: Sink>(
         Command::Commit(worker) => run_event(alloc, world, Event::Commit(worker), out),
         Command::Apply => run_event(alloc, world, Event::Apply, out),
         Command::Work => run_work(alloc, world, out),
+        Command::Retire(direction, id) => {
+            run_event(alloc, world, Event::Retire(direction, id), out)
+        }
+        Command::Restart(side) => run_event(alloc, world, Event::Restart(side), out),
         Command::ShowReleased => quietly(show_released(alloc, world.released(), out)),
         Command::ShowPacket(number) => {
             quietly(put(out, print_packet(alloc, number, world.packet(number))))

@@ -153,6 +153,19 @@ abbrev pub commit_of : List (List ℕ) → Option Command
 commit_of (w ∷ []) = option_map command.Commit (worker_of w)
 commit_of _ = None
 
+-- `retire DIRECTION ID`
+abbrev pub retire_of : List (List ℕ) → Option Command
+retire_of (d ∷ i ∷ []) = do
+  direction ← direction_of d
+  id ← u16_of i
+  Some (command.Retire direction id)
+retire_of _ = None
+
+-- `restart NODE`
+abbrev pub restart_of : List (List ℕ) → Option Command
+restart_of (n ∷ []) = option_map command.Restart (node_of n)
+restart_of _ = None
+
 -- `apply` or `work`: no word follows
 abbrev pub alone_of : Command → List (List ℕ) → Option Command
 alone_of c [] = Some c
@@ -216,6 +229,8 @@ arguments_of key.Claim ws = claim_of ws
 arguments_of key.Commit ws = commit_of ws
 arguments_of key.Apply ws = alone_of command.Apply ws
 arguments_of key.Work ws = alone_of command.Work ws
+arguments_of key.Retire ws = retire_of ws
+arguments_of key.Restart ws = restart_of ws
 
 -- ---- lines
 

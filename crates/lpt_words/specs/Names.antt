@@ -33,6 +33,8 @@ keyword_of word =
     else if is_word (codes "commit") word then Some key.Commit
     else if is_word (codes "apply") word then Some key.Apply
     else if is_word (codes "work") word then Some key.Work
+    else if is_word (codes "retire") word then Some key.Retire
+    else if is_word (codes "restart") word then Some key.Restart
     else None
 
 -- the direction that a word names

@@ -2,14 +2,13 @@
 
 ghost use Rattle.std.specs.Prelude.{◌≡◌, ◌⊎◌, IsSome, IfOk, OnErr};
 ghost use Rattle.lpt_words.specs.Words.{words};
-ghost use Rattle.lpt_words.specs.Grammar.{alone_of, arguments_of, claim_of, commit_of, deliver_of, expire_of, finish_of, is_comment, lane_and_packet_of, lose_of, damage_of, open_of, pass_of, plain_of, reading_of, send_of, take_of, tick_of, IsAsked, TakesMemory};
+ghost use Rattle.lpt_words.specs.Grammar.{arguments_of, is_comment, reading_of, IsAsked, TakesMemory};
 
 use crate::load::{Load, read_load};
-use crate::names::{
-    Keyword, read_count, read_direction, read_flags, read_keyword, read_lane, read_node,
-    read_packet_number, read_u8, read_u16, read_worker,
-};
-use crate::numbers::read_hex;
+use crate::messages::{read_finish, read_open, read_plain, read_retire, read_send};
+use crate::names::{Keyword, read_keyword};
+use crate::nodes::{read_alone, read_claim, read_commit, read_expire, read_restart, read_tick};
+use crate::packets::{read_damage, read_deliver, read_lose, read_pass, read_take};
 use crate::showing::read_show;
 use crate::words::{LONGEST_LINE, split_word};
 use lpt_events::{Lane, Side, Worker};
@@ -52,6 +51,10 @@ pub enum Command {
     Apply,
     /// `work`: claims and commits a request with the first worker, and executes the oldest.
     Work,
+    /// `retire DIRECTION ID`: frees a transaction at both ends.
+    Retire(Direction, Name),
+    /// `restart NODE`: starts a node anew.
+    Restart(Side),
     /// `show released`: prints the messages that were released.
     ShowReleased,
     /// `show packet N`: prints the octets of the packet of this number.
@@ -149,237 +152,7 @@ fn read_arguments(
         Keyword::Commit => Ok(read_commit(rest)),
         Keyword::Apply => Ok(read_alone(rest, Command::Apply)),
         Keyword::Work => Ok(read_alone(rest, Command::Work)),
+        Keyword::Retire => Ok(read_retire(rest)),
+        Keyword::Restart => Ok(read_restart(rest)),
     }
-}
-
-// The words after `open`.
-fn read_open(alloc: Global, rest: &[u8]) -> Result<Option<Command>, AllocError>
-    ensures says { IfOk result (λ r. r ≡ open_of (words rest.now)) }
-    ensures asked { OnErr result (IsSome (open_of (words rest.now))) }
-{
-    let Some((direction, rest)) = split_word(rest) else {
-        return Ok(None);
-    };
-    let Some((id, rest)) = split_word(rest) else {
-        return Ok(None);
-    };
-    let Some((message, rest)) = split_word(rest) else {
-        return Ok(None);
-    };
-    if split_word(rest).is_some() {
-        return Ok(None);
-    }
-    let Some(direction) = read_direction(direction) else {
-        return Ok(None);
-    };
-    let Some(id) = read_u16(id) else {
-        return Ok(None);
-    };
-    let Some(message) = read_hex(alloc, message)? else {
-        return Ok(None);
-    };
-    Ok(Some(Command::Open(direction, id, message)))
-}
-
-// The words after `send`.
-fn read_send(rest: &[u8]) -> Option<Command>
-    ensures { result ≡ send_of (words rest.now) }
-{
-    let (direction, rest) = split_word(rest)?;
-    let (id, rest) = split_word(rest)?;
-    let (part, rest) = split_word(rest)?;
-    if split_word(rest).is_some() {
-        return None;
-    }
-    let direction = read_direction(direction)?;
-    let id = read_u16(id)?;
-    let part = read_u16(part)?;
-    Some(Command::Send(direction, id, part))
-}
-
-// The words after `plain`.
-fn read_plain(alloc: Global, rest: &[u8]) -> Result<Option<Command>, AllocError>
-    ensures says { IfOk result (λ r. r ≡ plain_of (words rest.now)) }
-    ensures asked { OnErr result (IsSome (plain_of (words rest.now))) }
-{
-    let Some((flags, rest)) = split_word(rest) else {
-        return Ok(None);
-    };
-    let Some((service, rest)) = split_word(rest) else {
-        return Ok(None);
-    };
-    let Some((subtype, rest)) = split_word(rest) else {
-        return Ok(None);
-    };
-    let Some((body, rest)) = split_word(rest) else {
-        return Ok(None);
-    };
-    if split_word(rest).is_some() {
-        return Ok(None);
-    }
-    let Some(flags) = read_flags(flags) else {
-        return Ok(None);
-    };
-    let Some(service) = read_u8(service) else {
-        return Ok(None);
-    };
-    let Some(subtype) = read_u8(subtype) else {
-        return Ok(None);
-    };
-    let Some(body) = read_hex(alloc, body)? else {
-        return Ok(None);
-    };
-    Ok(Some(Command::Plain(flags, service, subtype, body)))
-}
-
-// The words after `take`.
-fn read_take(rest: &[u8]) -> Option<Command>
-    ensures { result ≡ take_of (words rest.now) }
-{
-    let (lane, packet) = read_lane_and_packet(rest)?;
-    Some(Command::Take(lane, packet))
-}
-
-// The words after `deliver`.
-fn read_deliver(rest: &[u8]) -> Option<Command>
-    ensures { result ≡ deliver_of (words rest.now) }
-{
-    let (lane, rest) = split_word(rest)?;
-    if split_word(rest).is_some() {
-        return None;
-    }
-    let lane = read_lane(lane)?;
-    Some(Command::Deliver(lane))
-}
-
-// The words after `pass`.
-fn read_pass(rest: &[u8]) -> Option<Command>
-    ensures { result ≡ pass_of (words rest.now) }
-{
-    let (lane, packet) = read_lane_and_packet(rest)?;
-    Some(Command::Pass(lane, packet))
-}
-
-// The words after `lose`.
-fn read_lose(rest: &[u8]) -> Option<Command>
-    ensures { result ≡ lose_of (words rest.now) }
-{
-    let (number, rest) = split_word(rest)?;
-    if split_word(rest).is_some() {
-        return None;
-    }
-    Some(Command::Lose(read_packet_number(number)?))
-}
-
-// The words after `damage`.
-fn read_damage(alloc: Global, rest: &[u8]) -> Result<Option<Command>, AllocError>
-    ensures says { IfOk result (λ r. r ≡ damage_of (words rest.now)) }
-    ensures asked { OnErr result (IsSome (damage_of (words rest.now))) }
-{
-    let Some((direction, rest)) = split_word(rest) else {
-        return Ok(None);
-    };
-    let Some((octets, rest)) = split_word(rest) else {
-        return Ok(None);
-    };
-    if split_word(rest).is_some() {
-        return Ok(None);
-    }
-    let Some(direction) = read_direction(direction) else {
-        return Ok(None);
-    };
-    let Some(octets) = read_hex(alloc, octets)? else {
-        return Ok(None);
-    };
-    Ok(Some(Command::Damage(direction, octets)))
-}
-
-// The words after `finish`.
-fn read_finish(rest: &[u8]) -> Option<Command>
-    ensures { result ≡ finish_of (words rest.now) }
-{
-    let (direction, rest) = split_word(rest)?;
-    let (id, rest) = split_word(rest)?;
-    if split_word(rest).is_some() {
-        return None;
-    }
-    let direction = read_direction(direction)?;
-    let id = read_u16(id)?;
-    Some(Command::Finish(direction, id))
-}
-
-// The words after `tick`.
-fn read_tick(rest: &[u8]) -> Option<Command>
-    ensures { result ≡ tick_of (words rest.now) }
-{
-    let (node, rest) = split_word(rest)?;
-    let Some((count, rest)) = split_word(rest) else {
-        return Some(Command::Tick(read_node(node)?, 1));
-    };
-    if split_word(rest).is_some() {
-        return None;
-    }
-    let node = read_node(node)?;
-    let count = read_count(count)?;
-    Some(Command::Tick(node, count))
-}
-
-// The words after `expire`.
-fn read_expire(rest: &[u8]) -> Option<Command>
-    ensures { result ≡ expire_of (words rest.now) }
-{
-    let (node, rest) = split_word(rest)?;
-    if split_word(rest).is_some() {
-        return None;
-    }
-    let node = read_node(node)?;
-    Some(Command::Expire(node))
-}
-
-// The words after `claim`.
-fn read_claim(rest: &[u8]) -> Option<Command>
-    ensures { result ≡ claim_of (words rest.now) }
-{
-    let (worker, rest) = split_word(rest)?;
-    if split_word(rest).is_some() {
-        return None;
-    }
-    let worker = read_worker(worker)?;
-    Some(Command::Claim(worker))
-}
-
-// The words after `commit`.
-fn read_commit(rest: &[u8]) -> Option<Command>
-    ensures { result ≡ commit_of (words rest.now) }
-{
-    let (worker, rest) = split_word(rest)?;
-    if split_word(rest).is_some() {
-        return None;
-    }
-    let worker = read_worker(worker)?;
-    Some(Command::Commit(worker))
-}
-
-// A command whose keyword stands alone.
-fn read_alone(rest: &[u8], command: Command) -> Option<Command>
-    ensures { result ≡ alone_of command (words rest.now) }
-{
-    match split_word(rest) {
-        None => Some(command),
-        Some(_) => None,
-    }
-}
-
-// A lane and the number of a packet, and no further word.
-fn read_lane_and_packet(rest: &[u8]) -> Option<(Lane, u64)>
-    ensures { result ≡ lane_and_packet_of (words rest.now) }
-{
-    let (lane, rest) = split_word(rest)?;
-    let (packet, rest) = split_word(rest)?;
-    if split_word(rest).is_some() {
-        return None;
-    }
-    let lane = read_lane(lane)?;
-    let packet = read_packet_number(packet)?;
-    Some((lane, packet))
 }

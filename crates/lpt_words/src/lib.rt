@@ -7,8 +7,11 @@
 
 mod grammar;
 mod load;
+mod messages;
 mod names;
+mod nodes;
 mod numbers;
+mod packets;
 mod showing;
 mod words;
 

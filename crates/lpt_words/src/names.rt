@@ -37,6 +37,8 @@ pub(crate) enum Keyword {
     Commit,
     Apply,
     Work,
+    Retire,
+    Restart,
 }
 
 // What the first word of a line asks for.
@@ -77,6 +79,10 @@ pub(crate) fn read_keyword(word: &[u8]) -> Option<Keyword>
         Some(Keyword::Apply)
     } else if word == b"work".as_slice() {
         Some(Keyword::Work)
+    } else if word == b"retire".as_slice() {
+        Some(Keyword::Retire)
+    } else if word == b"restart".as_slice() {
+        Some(Keyword::Restart)
     } else {
         None
     }

@@ -34,6 +34,8 @@ fn reads_each_kind_of_line(rt: HostRuntime) {
         ("tick craft", Command::Tick(Side::Craft, 1)),
         ("tick ground 100000", Command::Tick(Side::Ground, 100_000)),
         ("expire ground", Command::Expire(Side::Ground)),
+        ("retire up 7", Command::Retire(Direction::Up, 7)),
+        ("restart craft", Command::Restart(Side::Craft)),
         ("show released", Command::ShowReleased),
         ("show packet 4294967296", Command::ShowPacket(4_294_967_296)),
         ("show memory 1 0 4", Command::ShowMemory(1, 0, 4)),
@@ -237,6 +239,13 @@ fn reads_no_other_event(rt: HostRuntime) {
         "tick craft 1 1",
         "expire",
         "expire craft 1",
+        "retire up",
+        "retire up 7 1",
+        "retire up 65536",
+        "restart",
+        "restart s1",
+        "restart craft 1",
+        "restarted craft",
     ];
     unreadable(&rt, rt.alloc(), &lines);
 }

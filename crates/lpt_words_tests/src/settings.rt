@@ -1,6 +1,6 @@
 //! Configurations that are read, and texts that are refused.
 
-use lpt_events::Config;
+use lpt_events::{Config, Turns};
 use lpt_memory::Memories;
 use lpt_settings::read_config;
 use lpt_text::ToolFault;
@@ -19,7 +19,7 @@ const DEFAULTS: Config = Config {
 
 // The configuration of a text, without its memories.
 fn config_in(alloc: Global, text: &str) -> Result<Config, ToolFault> {
-    let (config, _) = read_config(alloc, text)?;
+    let (config, _, _) = read_config(alloc, text)?;
     Ok(config)
 }
 
@@ -248,9 +248,27 @@ fn refuses_what_is_not_toml(rt: HostRuntime) {
 }
 
 #[test]
+fn reads_how_much_threads_do(rt: HostRuntime) -> Result<(), Fail> {
+    let cases = [
+        ("", 100_000, 0),
+        ("per_seat = 1\nticks = 65535", 1, 65_535),
+        ("per_seat = 1000000\nticks = 0", 1_000_000, 0),
+    ];
+    for (text, per_seat, ticks) in cases {
+        let (_, _, turns) = read_config(rt.alloc(), text)?;
+        assert!(rt; turns == Turns { per_seat, ticks }, "{text}");
+    }
+    for text in ["per_seat = 0", "per_seat = 1000001", "ticks = 65536"] {
+        let refused = config_in(rt.alloc(), text);
+        assert!(rt; refused == Err(ToolFault::Config), "{text}");
+    }
+    Ok(())
+}
+
+#[test]
 fn gives_one_memory_of_zeros(rt: HostRuntime) -> Result<(), Fail> {
     for text in ["", "# nothing is set", "apid = 1"] {
-        let (_, memories) = read_config(rt.alloc(), text)?;
+        let (_, memories, _) = read_config(rt.alloc(), text)?;
         assert!(rt; is_filled(&memories, 1, 256, 0), "{text}");
         assert!(rt; memories.content(0).is_none(), "{text}");
         assert!(rt; memories.content(2).is_none(), "{text}");
@@ -266,7 +284,7 @@ fn fills_each_memory(rt: HostRuntime) -> Result<(), Fail> {
         "apid = 4\n[[memory]]\nid = 0\nsize = 2\nfill = 0\n[[memory]]\nid = 7\nsize = 3\nfill = 255",
     ];
     for text in texts {
-        let (config, memories) = read_config(rt.alloc(), text)?;
+        let (config, memories, _) = read_config(rt.alloc(), text)?;
         assert!(rt;
             config
                 == Config {
@@ -296,7 +314,7 @@ fn reads_the_ends_of_each_memory_range(rt: HostRuntime) -> Result<(), Fail> {
         ),
     ];
     for (text, id, size, fill) in cases {
-        let (_, memories) = read_config(rt.alloc(), text)?;
+        let (_, memories, _) = read_config(rt.alloc(), text)?;
         assert!(rt; is_filled(&memories, id, size, fill), "{text}");
     }
     Ok(())
@@ -305,7 +323,7 @@ fn reads_the_ends_of_each_memory_range(rt: HostRuntime) -> Result<(), Fail> {
 #[test]
 fn reads_sixteen_memories_and_refuses_more(rt: HostRuntime) -> Result<(), Fail> {
     let text = memories_text(rt.alloc(), 16)?;
-    let (_, memories) = read_config(rt.alloc(), text.as_str())?;
+    let (_, memories, _) = read_config(rt.alloc(), text.as_str())?;
     assert!(rt; is_filled(&memories, 15, 1, 0));
     assert!(rt; memories.content(16).is_none());
     for count in [17, 256] {

@@ -1,12 +1,12 @@
 //! Each text of an event, an outcome and a show once, written out by hand.
 
-use lpt_events::{Outcome, Release, StepFault, Why};
+use lpt_events::{Outcome, Release, Side, StepFault, Why};
 use lpt_packet::{Direction, Name, Octets};
 use lpt_part::Reason;
 use lpt_print::{
     print_clock, print_expired, print_finished, print_journal, print_memory, print_none,
-    print_opened, print_outcome, print_packet, print_put, print_refused, print_release, print_took,
-    print_unreadable,
+    print_opened, print_outcome, print_packet, print_put, print_refused, print_release,
+    print_restarted, print_retired, print_stale, print_took, print_unreadable,
 };
 use std::alloc::{AllocError, Global};
 
@@ -44,6 +44,25 @@ fn prints_what_an_event_did(rt: HostRuntime) {
         )
     );
     assert!(rt; is(print_unreadable(alloc, 2), "line 2: unreadable\n"));
+}
+
+#[test]
+fn prints_retirement_and_new_starts(rt: HostRuntime) {
+    let alloc = rt.alloc();
+    assert!(rt; is(print_retired(alloc, Direction::Down, 3), "retired down 3\n"));
+    assert!(rt; is(print_stale(alloc, 0, 4), "stale 0 4\n"));
+    for (side, text) in [
+        (Side::Craft, "restarted craft 1\n"),
+        (Side::Ground, "restarted ground 1\n"),
+    ] {
+        assert!(rt; is(print_restarted(alloc, side, 1), text));
+    }
+    for (fault, text) in [
+        (StepFault::NotClear, "refused 53 NotClear\n"),
+        (StepFault::StillOpen, "refused 55 StillOpen\n"),
+    ] {
+        assert!(rt; is(print_refused(alloc, fault), text));
+    }
 }
 
 #[test]

@@ -11,7 +11,7 @@ use Rattle.lpt_part.specs.Parts.{body_of, part_verdict}
 use Rattle.lpt_events.specs.declared.config.Config.{Config}
 use Rattle.lpt_events.specs.Arrivals.{arrival}
 use Rattle.lpt_events.specs.declared.event.Event.{Event}
-use Rattle.lpt_events.specs.declared.event.Event.TheVariants.{Open, Send, Plain, Finish, Damage}
+use Rattle.lpt_events.specs.declared.event.Event.TheVariants.{Open, Send, Plain, Finish, Damage, Retire}
 use Rattle.lpt_events.specs.Configs.{IsConfig}
 use Rattle.lpt_journal.specs.Replies.{recorded}
 use Rattle.lpt_journal.specs.Refusals.{refusal}
@@ -43,6 +43,7 @@ in_range (Plain flags service subtype body) =
     nat_lt flags 16
     && (nat_lt service 256 && (nat_lt subtype 256 && list_all (λ x. nat_lt x 256) body))
 in_range (Finish d id) = nat_lt id 65536
+in_range (Retire d id) = nat_lt id 65536
 in_range (Damage d b) = list_all (λ x. nat_lt x 256) b
 in_range _ = true
 
@@ -66,6 +67,7 @@ is_event (Plain flags service subtype body) h =
       are_octets body (and_r (nat_lt subtype 256) octets last),
     )
 is_event (Finish d id) h = small id 65536 h
+is_event (Retire d id) h = small id 65536 h
 is_event (Damage d b) h = are_octets b h
 is_event e h = tt
 

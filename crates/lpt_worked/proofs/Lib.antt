@@ -1,7 +1,9 @@
+pub mod AnewRows
 pub mod DamageRows
 pub mod JobRows
 pub mod LegalRows
 pub mod Listed
+pub mod ListedReleases
 pub mod ListedSets
 pub mod LossRows
 pub mod PlainRows

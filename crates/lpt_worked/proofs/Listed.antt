@@ -1,5 +1,5 @@
 -- The definitions with the kept parts as lists in the order of numbers: these compute.
-use Rattle.std.proofs.Common.{◌≡◌, ◌∙◌, ap, refl, ℕ, ◌==◌, nat_le, Bool, not, ◌&&◌, if◌then◌else◌, List, [], ◌∷◌, length, Option, Some, None}
+use Rattle.std.proofs.Common.{◌≡◌, ◌∙◌, ap, refl, ℕ, ◌==◌, nat_le, Bool, not, ◌&&◌, ◌||◌, if◌then◌else◌, List, [], ◌∷◌, length, Option}
 use Rattle.std.specs.Option.{is_some}
 use Rattle.std.specs.List.{filter}
 use Rattle.std.specs.FinMap as map
@@ -14,26 +14,25 @@ use Rattle.lpt_events.specs.declared.lane.Lane.{Lane}
 use Rattle.lpt_events.specs.Lanes.{lane_direction}
 use Rattle.lpt_events.specs.declared.config.Config.{Config}
 use Rattle.lpt_events.specs.declared.outcome.Outcome.{Outcome}
-use Rattle.lpt_events.specs.declared.outcome.Outcome.TheVariants.{Kept, Again, Released, PlainReleased, Broken, Ignored}
+use Rattle.lpt_events.specs.declared.outcome.Outcome.TheVariants.{Kept, Again, Released, Broken, Ignored}
 use Rattle.lpt_events.specs.declared.outcome.Why.TheVariants.{Closed, NoRoom}
-use Rattle.lpt_events.specs.Arrivals.{Arrival, ARequest, APart}
+use Rattle.lpt_events.specs.Arrivals.{Arrival, APart}
 use Rattle.lpt_events.specs.declared.event.Event.{Event}
-use Rattle.lpt_events.specs.declared.event.Event.TheVariants.{Deliver, Expire}
+use Rattle.lpt_events.specs.declared.event.Event.TheVariants.{Deliver, Expire, Retire}
 use Rattle.lpt_events.specs.declared.fault.StepFault.{StepFault}
-use Rattle.lpt_events.specs.declared.fault.StepFault.TheVariants.{NothingDue}
+use Rattle.lpt_events.specs.declared.fault.StepFault.TheVariants.{NotOpen, NothingDue, NotClear, StillOpen}
 use Rattle.lpt_events.specs.declared.reply.Answer.{Answer}
 use Rattle.lpt_events.specs.declared.reply.Answer.TheVariants.{Delivered}
 use Rattle.lpt_events.specs.declared.reply.Reply.{Reply}
-use Rattle.lpt_events.specs.declared.entry.Release.{Release}
 use Rattle.lpt_events.specs.Sides.{receiver_side, direction_to}
-use Rattle.lpt_journal.specs.Journal.{Recorded, History, SentPacket, with_all}
+use Rattle.lpt_journal.specs.Journal.{Recorded, History, SentPacket}
+use Rattle.lpt_journal.specs.Clear.{part_held, part_in_hand}
 use Rattle.lpt_journal.specs.Hands.{in_hand}
 use Rattle.lpt_journal.specs.Link.{sent}
-use Rattle.lpt_journal.specs.Senders.{once}
+use Rattle.lpt_journal.specs.Senders.{sender, is_free, is_open, once}
 use Rattle.lpt_journal.specs.Receivers.{with_piece, heard, has_parts, heard_names, open_names, is_closed, last_tick}
 use Rattle.lpt_journal.specs.Due.{is_overdue, earliest, due}
 use Rattle.lpt_journal.specs.Delivery.{judged_part, judged}
-use Rattle.lpt_journal.specs.Releases.{released_now, release_after, released_by, releases}
 use Rattle.lpt_worked.proofs.ListedSets.{Listed, with_listed, contradicts_listed, whole_listed, spelled_listed, entries-with_piece, contradicts_is, whole_is, listed, entries-heard}
 use Rattle.lpt_worked.specs.Passes.{usual_memories}
 use Rattle.lpt_journal.specs.Replies.{expired_now, answer, outcome_puts, expiry_puts, puts, opens, told, entry, recorded}
@@ -83,24 +82,24 @@ judged_listed c h d a = judged c h d a
 abbrev pub outcome_listed : Config → History → Lane → Outcome
 outcome_listed c h l = judged_listed c h (lane_direction l) (in_hand c h l)
 
+has_is : (c : Config) (h : History) (d : Direction) (id : Name)
+    → has_parts (heard c h d id) ≡ has_listed (listed c h d id)
+has_is c h d id = has_parts_is (heard c h d id) ∙ ap has_listed (entries-heard c h d id)
+
 judged_is : (c : Config) (h : History) (d : Direction) (a : Arrival)
     → judged c h d a ≡ judged_listed c h d a
 judged_is c h d (APart q) =
-    let has : (id : Name) → has_parts (heard c h d id) ≡ has_listed (listed c h d id) =
-    λ id. has_parts_is (heard c h d id) ∙ ap has_listed (entries-heard c h d id) in
     judged_part_is c.receptions (is_closed h d q.id) (length (open_names c h d))
     (heard c h d q.id) q
     ∙ (λ i. judged_list c.receptions (is_closed h d q.id)
-    (length (once (filter (λ id. has id i) (heard_names h d)))) (entries-heard c h d q.id i) q)
+    (length (once (filter (λ id. has_is c h d id i) (heard_names h d)))) (entries-heard c h d q.id i) q)
 judged_is c h d a = refl
 
 -- ---- expiry
 
 names_is : (c : Config) (h : History) (d : Direction) → open_names c h d ≡ names_listed c h d
 names_is c h d =
-    let has : (id : Name) → has_parts (heard c h d id) ≡ has_listed (listed c h d id) =
-    λ id. has_parts_is (heard c h d id) ∙ ap has_listed (entries-heard c h d id) in
-    λ i. once (filter (λ id. has id i) (heard_names h d))
+    λ i. once (filter (λ id. has_is c h d id i) (heard_names h d))
 
 -- the reception that is due, by the lists
 abbrev pub due_listed : Config → History → Direction → Option Name
@@ -111,16 +110,34 @@ due_is : (c : Config) (h : History) (d : Direction) → due c h d ≡ due_listed
 due_is c h d =
     ap (λ ids. earliest (last_tick c h d) (filter (is_overdue c h d) ids)) (names_is c h d)
 
+-- ---- refusals
+
+-- whether a transaction is clear, where this says whether its receiver has a part of it
+abbrev clear_where : Config → History → Direction → Name → (has : Bool) → Bool
+clear_where c h d id has =
+    not (part_held c h d id || part_in_hand c h d id) && not has && not (is_open (sender h d id))
+
+-- why a retirement is refused, where this says whether the transaction is clear
+abbrev retire_refusal : History → Direction → Name → (clear : Bool) → Option StepFault
+retire_refusal h d id clear =
+    first_fault ((is_free (sender h d id), NotOpen)
+    ∷ (is_open (sender h d id), StillOpen)
+    ∷ (not clear, NotClear) ∷ [])
+
 -- why an event is refused, by the lists
 abbrev pub refusal_listed : Config → History → Event → Option StepFault
 refusal_listed c h (Expire side) =
     first_fault ((not (is_some (due_listed c h (direction_to side))), NothingDue) ∷ [])
+refusal_listed c h (Retire d id) =
+    retire_refusal h d id (clear_where c h d id (has_listed (listed c h d id)))
 refusal_listed c h e = refusal c h e
 
 -- what refuses an event is the same by the lists
 pub refusal_is : (c : Config) (h : History) (e : Event) → refusal c h e ≡ refusal_listed c h e
 refusal_is c h (Expire side) =
     ap (λ o. first_fault ((not (is_some o), NothingDue) ∷ [])) (due_is c h (direction_to side))
+refusal_is c h (Retire d id) =
+    ap (λ has. retire_refusal h d id (clear_where c h d id has)) (has_is c h d id)
 refusal_is c h e = refl
 
 -- ---- entries
@@ -188,60 +205,3 @@ recorded_is c (e ∷ es) =
     let now : entry c usual_memories (recorded c usual_memories es) e ≡ entry_listed c (recorded_listed c es) e =
     ap (λ h. entry c usual_memories h e) before ∙ entry_is c (recorded_listed c es) e in
     λ i. now i ∷ before i
-
--- ---- releases
-
-abbrev released_list : (place : ℕ) → Direction → Answer → (Name → Listed) → Arrival → List Release
-released_list place d (Delivered (Released id len)) s (APart q) =
-    record { place = place; of = Some (d, id); message = spelled_listed (with_listed (s id) q) }
-    ∷ []
-released_list place d (Delivered (PlainReleased len)) s (ARequest b) =
-    record { place = place; of = None; message = b } ∷ []
-released_list place d answer s arrived = []
-
-abbrev release_list : Event
-    → (place : ℕ)
-    → Answer
-    → (Direction → Name → Listed)
-    → (Lane → Arrival)
-    → List Release
-release_list (Deliver l) place answer s arrived =
-    released_list place (lane_direction l) answer (s (lane_direction l)) (arrived l)
-release_list _ place answer s arrived = []
-
--- all releases, by the lists
-abbrev pub releases_listed : Config → History → List Release
-releases_listed c [] = []
-releases_listed c (x ∷ h) =
-    with_all (releases_listed c h)
-    (release_list x.event (length h) x.reply.answer (listed c h) (in_hand c h))
-
-released_is : (place : ℕ) (d : Direction) (o : Answer) (s : Name → Parts) (t : Name → Listed)
-    (a : Arrival)
-    → ((id : Name) → map.entries (s id) ≡ t id)
-    → released_now place d o s a ≡ released_list place d o t a
-released_is place d (Delivered (Released id len)) s t (APart q) is =
-    let e : map.entries (with_piece (s id) q) ≡ with_listed (t id) q =
-    entries-with_piece (s id) q ∙ ap (λ es. with_listed es q) (is id) in
-    λ i. record { place = place; of = Some (d, id); message = spelled_listed (e i) } ∷ []
-released_is place d (Delivered (PlainReleased len)) s t (ARequest b) is = refl
-released_is place d o s t a is = refl
-
-release_is : (e : Event) (place : ℕ) (o : Answer) (s : Direction → Name → Parts)
-    (t : Direction → Name → Listed) (arrived : Lane → Arrival)
-    → ((d : Direction) (id : Name) → map.entries (s d id) ≡ t d id)
-    → release_after e place o s arrived ≡ release_list e place o t arrived
-release_is (Deliver l) place o s t arrived is =
-    released_is place (lane_direction l) o (s (lane_direction l)) (t (lane_direction l)) (arrived l)
-    (is (lane_direction l))
-release_is e place o s t arrived is = refl
-
--- the releases are the same by the lists
-pub releases_is : (c : Config) (h : History) → releases c h ≡ releases_listed c h
-releases_is c [] = refl
-releases_is c (x ∷ h) =
-    let now : released_by c x h ≡ release_list x.event (length h) x.reply.answer (listed c h)
-    (in_hand c h)
-    = release_is x.event (length h) x.reply.answer (heard c h) (listed c h) (in_hand c h)
-    (entries-heard c h) in
-    λ i. with_all (releases_is c h i) (now i)

@@ -16,7 +16,7 @@ use Rattle.lpt_events.specs.declared.config.Config.{Config}
 use Rattle.lpt_events.specs.declared.outcome.Outcome.TheVariants.{Kept, Released, Broken}
 use Rattle.lpt_events.specs.Arrivals.{Arrival, APart}
 use Rattle.lpt_events.specs.declared.event.Event.{Event}
-use Rattle.lpt_events.specs.declared.event.Event.TheVariants.{Deliver, Expire}
+use Rattle.lpt_events.specs.declared.event.Event.TheVariants.{Deliver, Expire, Restart}
 use Rattle.lpt_events.specs.declared.reply.Answer.{Answer}
 use Rattle.lpt_events.specs.declared.reply.Answer.TheVariants.{Delivered}
 use Rattle.lpt_events.specs.Sides.{same_side, receiver_side}
@@ -96,6 +96,8 @@ listed_after (Deliver l) answer arrived d id before =
     if same_direction (lane_direction l) d then listed_now answer (arrived l) id before else before
 listed_after (Expire side) answer arrived d id before =
     if same_side side (receiver_side d) && ends answer id then [] else before
+listed_after (Restart side) answer arrived d id before =
+    if same_side side (receiver_side d) then [] else before
 listed_after _ answer arrived d id before = before
 
 -- the parts that are kept of a transaction, as a list
@@ -121,17 +123,19 @@ chosen : (b : Bool) (s t : Parts)
 chosen true s t = refl
 chosen false s t = refl
 
+-- where a reception is dropped nothing is left of its list
+dropped : (gone : Bool) (s : Parts)
+    → map.entries (if gone then no_parts else s) ≡ (if gone then [] else map.entries s)
+dropped gone s =
+    chosen gone no_parts s ∙ ap (λ es. if gone then es else map.entries s) no_entries
+
 entries-heard_now : (o : Answer) (a : Arrival) (id : Name) (s : Parts)
     → map.entries (heard_now o a id s) ≡ listed_now o a id (map.entries s)
 entries-heard_now (Delivered (Kept i k)) a id s =
     chosen (same_name i id) (with_arrival a s) s
     ∙ ap (λ es. if same_name i id then es else map.entries s) (entries-with_arrival a s)
-entries-heard_now (Delivered (Released i len)) a id s =
-    chosen (same_name i id) no_parts s
-    ∙ ap (λ es. if same_name i id then es else map.entries s) no_entries
-entries-heard_now (Delivered (Broken i reason)) a id s =
-    chosen (same_name i id) no_parts s
-    ∙ ap (λ es. if same_name i id then es else map.entries s) no_entries
+entries-heard_now (Delivered (Released i len)) a id s = dropped (same_name i id) s
+entries-heard_now (Delivered (Broken i reason)) a id s = dropped (same_name i id) s
 entries-heard_now o a id s = refl
 
 entries-heard_after : (e : Event) (o : Answer) (arrived : Lane → Arrival) (d : Direction)
@@ -142,8 +146,9 @@ entries-heard_after (Deliver l) o arrived d id s =
     ∙ ap (λ es. if same_direction (lane_direction l) d then es else map.entries s)
     (entries-heard_now o (arrived l) id s)
 entries-heard_after (Expire side) o arrived d id s =
-    let over = same_side side (receiver_side d) && ends o id in
-    chosen over no_parts s ∙ ap (λ es. if over then es else map.entries s) no_entries
+    dropped (same_side side (receiver_side d) && ends o id) s
+entries-heard_after (Restart side) o arrived d id s =
+    dropped (same_side side (receiver_side d)) s
 entries-heard_after e o arrived d id s = refl
 
 -- what was heard is kept in this list

@@ -16,7 +16,7 @@ use Rattle.lpt_journal.specs.Link.{sent}
 use Rattle.lpt_journal.specs.Releases.{releases}
 use Rattle.lpt_journal.specs.Legal.{Legal}
 use Rattle.lpt_worked.proofs.LegalRows.{legal}
-use Rattle.lpt_worked.proofs.Listed.{releases_is}
+use Rattle.lpt_worked.proofs.ListedReleases.{releases_is}
 use Rattle.lpt_worked.proofs.Played.{Refuses, played, played_listed, played_is, gives, puts_packet}
 use Rattle.lpt_worked.specs.Passes.{usual, m20, load, usual_memories}
 

@@ -17,7 +17,7 @@ use Rattle.lpt_events.specs.declared.reply.Answer.TheVariants.{Opened, Finished,
 use Rattle.lpt_journal.specs.Link.{sent}
 use Rattle.lpt_journal.specs.Releases.{releases}
 use Rattle.lpt_worked.specs.Passes.{usual, m20, m16, m9, out_of_order}
-use Rattle.lpt_worked.proofs.Listed.{releases_is}
+use Rattle.lpt_worked.proofs.ListedReleases.{releases_is}
 use Rattle.lpt_worked.proofs.Played.{Refuses, played, played_listed, played_is, gives, puts_packet}
 
 -- ---- three parts that come in another order

@@ -19,7 +19,7 @@ use Rattle.lpt_events.specs.declared.reply.Answer.TheVariants.{Opened, Took, Del
 use Rattle.lpt_journal.specs.Link.{sent}
 use Rattle.lpt_journal.specs.Releases.{releases}
 use Rattle.lpt_journal.specs.Refusals.{first_fault, refusal}
-use Rattle.lpt_worked.proofs.Listed.{releases_is}
+use Rattle.lpt_worked.proofs.ListedReleases.{releases_is}
 use Rattle.lpt_worked.specs.Passes.{usual, m20, m9}
 use Rattle.lpt_worked.proofs.Played.{Refuses, played, played_listed, played_is, gives, puts_packet}
 

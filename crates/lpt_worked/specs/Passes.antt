@@ -4,9 +4,9 @@ use Rattle.lpt_memory.specs.Memories.{Contents}
 use Rattle.lpt_packet.specs.declared.direction.Direction.TheVariants.{Up}
 use Rattle.lpt_events.specs.declared.config.Config.{Config}
 use Rattle.lpt_events.specs.declared.event.Event.{Event}
-use Rattle.lpt_events.specs.declared.event.Event.TheVariants.{Open, Send, Plain, Take, Deliver, Tick, Expire, Claim, Commit, Apply}
-use Rattle.lpt_events.specs.declared.lane.Lane.TheVariants.{S1, G1}
-use Rattle.lpt_events.specs.declared.side.Side.TheVariants.{Craft}
+use Rattle.lpt_events.specs.declared.event.Event.TheVariants.{Open, Send, Plain, Finish, Lose, Take, Deliver, Tick, Expire, Claim, Commit, Apply, Retire, Restart}
+use Rattle.lpt_events.specs.declared.lane.Lane.TheVariants.{S1, S2, G1}
+use Rattle.lpt_events.specs.declared.side.Side.TheVariants.{Ground, Craft}
 use Rattle.lpt_events.specs.declared.worker.Worker.TheVariants.{W1}
 
 -- ---- what passes have in common
@@ -85,3 +85,22 @@ executed_load =
 -- the memory with those octets
 abbrev pub loaded_memories : Contents
 loaded_memories = (1, replicate 16 0 ++ 171 ∷ 205 ∷ 239 ∷ 1 ∷ replicate 236 0) ∷ []
+
+-- ---- both nodes are started anew, and a name is used again
+
+-- The spacecraft is started anew while a worker reads a request. A message is released, and its name
+-- then used for a shorter one. Ground is started anew while transactions are open.
+abbrev pub renewed : List Event
+renewed =
+    Plain 0 6 2 load ∷ Take S1 0 ∷ Deliver S1
+    ∷ Claim W1 ∷ Restart Craft ∷ Commit W1
+    ∷ Open Up 7 m20 ∷ Send Up 7 1 ∷ Send Up 7 2 ∷ Send Up 7 3
+    ∷ Take S2 2
+    ∷ Take S1 1 ∷ Deliver S1 ∷ Take S1 2 ∷ Deliver S1 ∷ Take S1 3 ∷ Deliver S1
+    ∷ Lose 1 ∷ Lose 2 ∷ Lose 3
+    ∷ Finish Up 7 ∷ Deliver S2 ∷ Retire Up 7
+    ∷ Open Up 7 m9 ∷ Send Up 7 1 ∷ Send Up 7 2
+    ∷ Take S1 4 ∷ Deliver S1 ∷ Take S1 5 ∷ Deliver S1
+    ∷ Claim W1 ∷ Commit W1
+    ∷ Open Up 8 m9 ∷ Send Up 8 1 ∷ Restart Ground ∷ Lose 6 ∷ Retire Up 8
+    ∷ Lose 4 ∷ Lose 5 ∷ Retire Up 7 ∷ Open Up 7 m20 ∷ Send Up 7 1 ∷ []

@@ -1,5 +1,5 @@
 -- A journal that is told is legal, and its jobs fit.
-use Rattle.std.proofs.Common.{arith, ◌≡◌, ◌∙◌, ap, sym, subst, refl, ◌+◌, ◌≤◌, ℕ, suc, List, [], ◌∷◌, ◌++◌, length, map, reverse, drop, slice_get, Option, Some, None}
+use Rattle.std.proofs.Common.{arith, ◌≡◌, ◌∙◌, ap, sym, subst, refl, ◌+◌, ◌≤◌, ℕ, suc, Bool, true, false, if◌then◌else◌, List, [], ◌∷◌, ◌++◌, length, map, reverse, drop, slice_get, Some}
 use Rattle.std.proofs.lemmas.List.{append-nil, append_assoc, reverse-append, length-append, length-reverse, length-map, length-drop, map-append}
 use Rattle.lpt_memory.specs.Memories.{Contents}
 use Rattle.lpt_jobs.specs.declared.job.Mark.{Mark}
@@ -7,16 +7,23 @@ use Rattle.lpt_jobs.specs.Jobs.{numbered}
 use Rattle.lpt_events.specs.declared.config.Config.{Config}
 use Rattle.lpt_events.specs.declared.entry.Entry.{Entry}
 use Rattle.lpt_events.specs.declared.entry.Release.{Release}
+use Rattle.lpt_events.specs.Configs.{IsConfig}
 use Rattle.lpt_events.specs.declared.event.Event.{Event}
+use Rattle.lpt_events.specs.declared.side.Side.{Side}
+use Rattle.lpt_events.specs.declared.side.Side.TheVariants.{Ground, Craft}
 use Rattle.lpt_journal.specs.Jobs.{jobs, ticket}
 use Rattle.lpt_journal.specs.Journal.{History, with_all}
 use Rattle.lpt_journal.specs.Legal.{Legal}
 use Rattle.lpt_journal.specs.Releases.{released_by}
 use Rattle.lpt_journal.specs.Replies.{recorded}
+use Rattle.lpt_journal.specs.Senders.{restarts}
+use Rattle.lpt_journal.proofs.BootLemmas.{boot_few}
+use Rattle.lpt_journal.proofs.HeadlineLemmas.{every}
 use Rattle.lpt_journal.proofs.NewJobs.{came_up, new_job}
 use Rattle.lpt_journal.proofs.TicketSteps.{jobs_sound}
 use Rattle.lpt_machine.specs.Shows.{Shows, JobsFit, jobs_from}
-use Rattle.lpt_machine.specs.State.{State}
+use Rattle.lpt_machine.specs.GoesOn.{Fits}
+use Rattle.lpt_machine.specs.State.{State, end_of}
 use Rattle.lpt_machine.specs.Views.{jobs_view, views}
 use Rattle.lpt_world.specs.Worlds.{IsTold, IsToldAfter, events_of, history_of}
 
@@ -77,7 +84,7 @@ told_is_legal c first j told =
 -- the jobs of a journal that is told fit
 pub jobs_fit : (c : Config) (first : Contents) (j : List Entry)
     → IsTold c first j
-    → JobsFit (jobs_view c first (history_of c first j)) (ticket (history_of c first j))
+    → JobsFit (jobs_view c first (history_of c first j)) (ticket c (history_of c first j))
 jobs_fit c first j told =
     let h = history_of c first j in
     let sound = jobs_sound c first (events_of j) (told_is_legal c first j told) in
@@ -85,13 +92,27 @@ jobs_fit c first j told =
       executed = sound.applied_fits;
       claimed = omega (arith, sound.claimed_fits, length-map (jobs c h) (λ (r : Release). r.message));
       committed = sound.committed;
-      boots = λ w t is. (sound.tickets w t is).of_boot;
-      out = λ w t is same. record {
-        not_executed = (sound.tickets w t is).waits;
-        is_claimed = (sound.tickets w t is).was_claimed;
-        not_committed = (sound.tickets w t is).uncommitted;
-      };
+      held = λ w t is same.
+          let out = (sound.tickets w t is).out same in
+          record {
+            out = record {
+              not_executed = out.waits;
+              is_claimed = out.was_claimed;
+              not_committed = out.uncommitted;
+            };
+            message = out.message;
+          };
     }
+
+-- a journal that is told fits, besides
+pub fits : (c : Config) (first : Contents) (j : List Entry)
+    → IsConfig c
+    → IsTold c first j
+    → Fits c first (history_of c first j)
+fits c first j good told = record {
+  jobs = jobs_fit c first j told;
+  tags = (every c first (events_of j) good (told_is_legal c first j told)).0.names;
+}
 
 -- a list whose places are all the first has one element at most
 one_at_most : {A : Type 0} (xs : List A)
@@ -101,20 +122,32 @@ one_at_most [] only = omega arith
 one_at_most (x ∷ []) only = omega arith
 one_at_most (x ∷ y ∷ ys) only = absurd (omega (arith, only 1 y refl))
 
+length-with_all : (xs ys : List Release) → length (with_all xs ys) ≡ length xs + length ys
+length-with_all xs [] = omega arith
+length-with_all xs (y ∷ ys) = length-append xs (y ∷ ys)
+
 -- no more jobs come than events happen
 jobs_few : (c : Config) (h : History) → length (jobs c h) ≤ length h
 jobs_few c [] = omega arith
-jobs_few c (x ∷ h) =
-    let new = came_up (released_by c x h) in
-    let all : length (jobs c (x ∷ h)) ≡ length (jobs c h) + length new =
-    length-with_all (jobs c h) new in
-    omega (arith, all, jobs_few c h, one_at_most new (λ k r e. (new_job c x h k r e).0))
+jobs_few c (x ∷ h) = go (restarts x.event Craft) (jobs_few c h)
   where
-    length-with_all : (xs ys : List Release) → length (with_all xs ys) ≡ length xs + length ys
-    length-with_all xs [] = omega arith
-    length-with_all xs (y ∷ ys) = length-append xs (y ∷ ys)
+    new : List Release
+    new = came_up (released_by c x h)
 
-length-jobs_from : (mark : ℕ → List ℕ → Mark) (n : ℕ) (ms : List (List ℕ))
+    go : (anew : Bool)
+        → length (jobs c h) ≤ length h
+        → length (if anew then [] else with_all (jobs c h) new) ≤ suc (length h)
+    go true few = omega arith
+    go false few =
+        omega (
+          arith,
+          length-with_all (jobs c h) new,
+          few,
+          one_at_most new (λ k r e. (new_job c x h k r e).0),
+        )
+
+-- there are as many jobs as messages
+pub length-jobs_from : (mark : ℕ → List ℕ → Mark) (n : ℕ) (ms : List (List ℕ))
     → length (jobs_from mark n ms) ≡ length ms
 length-jobs_from mark n [] = refl
 length-jobs_from mark n (m ∷ ms) = ap (λ k. suc k) (length-jobs_from mark (suc n) ms)
@@ -138,5 +171,24 @@ numbered_few c first s j told shows =
       fit.claimed,
       length-map (jobs c h) (λ (r : Release). r.message),
       jobs_few c h,
+      length-history_of c first j,
+    )
+
+-- a node was started anew no more often than events have happened
+pub boots_few : (c : Config) (first : Contents) (s : State) (j : List Entry) (side : Side)
+    → Shows s (views c first (history_of c first j))
+    → (end_of s side).boot ≤ length j
+boots_few c first s j Ground shows =
+    omega (
+      arith,
+      shows.ground.boot,
+      boot_few (history_of c first j) Ground,
+      length-history_of c first j,
+    )
+boots_few c first s j Craft shows =
+    omega (
+      arith,
+      shows.craft.boot,
+      boot_few (history_of c first j) Craft,
       length-history_of c first j,
     )

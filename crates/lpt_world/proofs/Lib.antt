@@ -1,6 +1,8 @@
-pub mod OutsideLemmas
 pub mod JobLemmas
 pub mod LegalLemmas
+pub mod OutsideLemmas
+pub mod RetireLemmas
 pub mod RunLemmas
 pub mod ToldLemmas
+pub mod WaitingLemmas
 pub mod WorldLemmas

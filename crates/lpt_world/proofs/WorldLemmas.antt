@@ -1,9 +1,9 @@
 -- A world that enters an event shows its longer journal.
-use Rattle.std.proofs.Common.{◌≤◌, nat_lt, Bool, true, false, if◌then◌else◌, ◌≡◌, ◌∙◌, ap, sym, subst, refl, ℕ, suc, List, [], ◌∷◌, ◌++◌, length, map, reverse, Option, Some, None}
+use Rattle.std.proofs.Common.{◌≤◌, nat_lt, Bool, true, false, if◌then◌else◌, ◌≡◌, ◌∙◌, ap, sym, subst, refl, ℕ, List, [], ◌∷◌, ◌++◌, length, Option, Some, None}
 use Rattle.std.specs.Option.{option_map}
 use Rattle.std.specs.Prelude.{slice_get}
 use Rattle.std.proofs.lemmas.Option.{slice_get-map}
-use Rattle.std.proofs.lemmas.List.{append-nil, append_assoc, reverse-append, length-reverse, length-map, map-append}
+use Rattle.std.proofs.lemmas.List.{append-nil}
 use Rattle.lpt_packet.proofs.Readings.{lt_false}
 use Rattle.lpt_link.specs.declared.packet.LinkPacket.{LinkPacket}
 use Rattle.lpt_link.specs.Links.{octets_at}
@@ -28,7 +28,7 @@ use Rattle.lpt_machine.specs.Views.{views}
 use Rattle.lpt_world.specs.WorldInside.{IsShown, IsWorld}
 use Rattle.lpt_world.specs.Worlds.{IsTold, IsToldAfter, events_of, history_of, refusal_at}
 use Rattle.lpt_machine.proofs.Follows.{follows}
-use Rattle.lpt_world.proofs.LegalLemmas.{events_of-push, length-history_of, onto, onto-events_of, jobs_fit}
+use Rattle.lpt_world.proofs.LegalLemmas.{events_of-push, length-history_of, onto, onto-events_of, fits}
 
 -- ---- journals
 
@@ -49,7 +49,7 @@ accepted_shown : (e : Ends) (first : Contents) (j : List Entry) (ev : Event)
     → refusal_of e.config (state_of e) ev ≡ None
     → refusal e.config (history_of e.config first j) ev ≡ None
 accepted_shown e first j ev k free =
-    sym (follows.refuses e.config first (state_of e) (history_of e.config first j) ev k.shows (jobs_fit e.config first j k.told)) ∙ free
+    sym (follows.refuses e.config first (state_of e) (history_of e.config first j) ev k.shows (fits e.config first j k.configured k.told)) ∙ free
 
 -- the reply of the ends is the journal's
 pub reply_shown : (e e' : Ends) (first : Contents) (j : List Entry) (ev : Event) (r : Reply)
@@ -59,7 +59,7 @@ pub reply_shown : (e e' : Ends) (first : Contents) (j : List Entry) (ev : Event)
     → r ≡ reply e.config first (history_of e.config first j) ev
 reply_shown e e' first j ev r k free done =
     let c = e.config in
-    let goes = follows.goes_on c first (state_of e) (history_of c first j) ev k.configured k.shows (jobs_fit c first j k.told) (accepted_shown e first j ev k free) in
+    let goes = follows.goes_on c first (state_of e) (history_of c first j) ev k.configured k.shows (fits c first j k.configured k.told) (accepted_shown e first j ev k free) in
     ap (λ (y : State × Reply). y.1) done
     ∙ ap (λ n. (after c n (state_of e) ev).1) (sym (length-history_of c first j))
     ∙ goes.answered
@@ -76,7 +76,7 @@ shown_push e e' first j x k ranged free done same =
     let c = e.config in
     let h : History = history_of c first j in
     let accepted : refusal c h x.event ≡ None = accepted_shown e first j x.event k free in
-    let goes = follows.goes_on c first (state_of e) h x.event k.configured k.shows (jobs_fit c first j k.told) accepted in
+    let goes = follows.goes_on c first (state_of e) h x.event k.configured k.shows (fits c first j k.configured k.told) accepted in
     let state : (after c (length h) (state_of e) x.event).0 ≡ state_of e' =
     ap (λ n. (after c n (state_of e) x.event).0) (length-history_of c first j)
     ∙ sym (ap (λ (y : State × Reply). y.0) done) in
@@ -103,7 +103,7 @@ pub ready_shown : (e : Ends) (first : Contents) (j : List Entry) (ev : Event)
     → IsReady e.config (state_of e) ev
 ready_shown e first j ev k free =
     (follows.goes_on e.config first (state_of e) (history_of e.config first j) ev k.configured
-    k.shows (jobs_fit e.config first j k.told) (accepted_shown e first j ev k free)).ready
+    k.shows (fits e.config first j k.configured k.told) (accepted_shown e first j ev k free)).ready
 
 -- the octets of a packet are what the journal says
 pub packet_shown : (e : Ends) (first : Contents) (j : List Entry) (n : ℕ)
@@ -132,7 +132,7 @@ pub refusal_at_shown : (e : Ends) (first : Contents) (j : List Entry) (seat : �
 refusal_at_shown e first j seat ev k h =
     let past = history_of e.config first j in
     let there : nat_lt 10 seat ≡ false = lt_false 10 seat h in
-    follows.refuses e.config first (state_of e) past ev k.shows (jobs_fit e.config first j k.told)
+    follows.refuses e.config first (state_of e) past ev k.shows (fits e.config first j k.configured k.told)
     ∙ sym (ap (λ t. if t then Some NoSuchSeat else refusal e.config past ev) there)
 
 -- what the world doesn't refuse the ends don't
@@ -141,7 +141,7 @@ pub free_shown : (e : Ends) (first : Contents) (j : List Entry) (seat : ℕ) (ev
     → None ≡ refusal_at (record { config = e.config; first = first; journal = j }) seat ev
     → refusal_of e.config (state_of e) ev ≡ None
 free_shown e first j seat ev k h =
-    follows.refuses e.config first (state_of e) (history_of e.config first j) ev k.shows (jobs_fit e.config first j k.told)
+    follows.refuses e.config first (state_of e) (history_of e.config first j) ev k.shows (fits e.config first j k.configured k.told)
     ∙ go (nat_lt 10 seat) (refusal e.config (history_of e.config first j) ev) h where
       go : (t : Bool) (r : Option StepFault) → None ≡ (if t then Some NoSuchSeat else r) → r ≡ None
       go true r f = absurd cc

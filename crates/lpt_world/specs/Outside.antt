@@ -36,10 +36,10 @@ pub record IsReadOf (c : Config) (octets : Option (List ℕ)) (l : Lane) (o : Or
 abbrev pub IsOfHand : Shown → Lane → Origin → Type 0
 IsOfHand w l o = IsReadOf w.config (octets_in_hand w l) l o
 
--- the fault is the reason for which the delivery is refused; where there is none, it says whether
--- what was read is what the lane has in its hand
-abbrev pub ReadRefusedBy : Shown → Lane → Origin → Option StepFault → StepFault → Type 0
-ReadRefusedBy w l o (Some first) fault = fault ≡ first
-ReadRefusedBy w l o None Memory = IsOfHand w l o
-ReadRefusedBy w l o None NotYours = ¬ (IsOfHand w l o)
-ReadRefusedBy w l o None _ = ⊥
+-- the fault is the reason for which the event is refused; where there is none, it says whether what
+-- was read outside is of what the lane or the worker has
+abbrev pub ReadRefusedBy : Type 0 → Option StepFault → StepFault → Type 0
+ReadRefusedBy IsTheirs (Some first) fault = fault ≡ first
+ReadRefusedBy IsTheirs None Memory = IsTheirs
+ReadRefusedBy IsTheirs None NotYours = ¬ IsTheirs
+ReadRefusedBy IsTheirs None _ = ⊥

@@ -12,7 +12,10 @@ use Rattle.lpt_events.specs.declared.reply.Reply.{Reply}
 use Rattle.lpt_journal.specs.Journal.{History}
 use Rattle.lpt_journal.specs.Senders.{Sender, FreeSender, OpenSender, ClosedSender}
 use Rattle.lpt_journal.specs.Jobs.{memories}
+use Rattle.lpt_journal.specs.Expiries.{EndsAreFinal}
+use Rattle.lpt_journal.specs.Headline.{Holds}
 use Rattle.lpt_journal.specs.Legal.{IsEnabled}
+use Rattle.lpt_journal.specs.Work.{WorkKeepsItsBoot}
 use Rattle.lpt_journal.specs.Replies.{recorded, reply}
 use Rattle.lpt_journal.specs.Refusals.{refusal}
 
@@ -53,6 +56,13 @@ IsToldAfter c first past (x ∷ xs) =
 -- a journal from its beginning
 abbrev pub IsTold : Config → Contents → List Entry → Type 0
 IsTold c first j = IsToldAfter c first [] j
+
+-- What is promised of a world, whatever the link did and the nodes were asked: the headline; that what
+-- expired or was released is final; and that no job is done outside the boot of its release.
+pub record Promised (w : Shown) : Type 0 where
+  pub headline : Holds w.config w.first (history w)
+  pub final : EndsAreFinal w.config (history w)
+  pub work : WorkKeepsItsBoot w.config w.first (history w)
 
 -- a sender's state, without its message
 abbrev pub state_shown : Sender → State

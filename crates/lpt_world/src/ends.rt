@@ -82,6 +82,8 @@ impl Ends {
             Event::Claim(worker) => self.refusal_claim(*worker),
             Event::Commit(worker) => self.refusal_commit(*worker),
             Event::Apply => self.ask(Side::Craft, Ask::Apply),
+            Event::Retire(direction, id) => self.refusal_retire(*direction, *id),
+            Event::Restart(_) => None,
         }
     }
 
@@ -102,6 +104,7 @@ impl Ends {
         requires free { refusal_of self.old.config (state_of self.old) event.now ≡ None }
         requires ready { IsReady self.old.config (state_of self.old) event.now }
         requires numbers { numbered self.old.on_craft.at.jobs + 1 < 2 ^ 64 }
+        requires boots { (side : Side) → (end_of (state_of self.old) side).boot + 1 < 2 ^ 64 }
         ensures ok { IfOk result (λ r. (state_of self.new, r) ≡ after self.old.config place (state_of self.old) event.now) }
         ensures err { OnErr result (state_of self.new ≡ state_of self.old) }
         ensures config { self.new.config ≡ self.old.config }
@@ -122,6 +125,8 @@ impl Ends {
             Event::Claim(worker) => self.claim(*worker),
             Event::Commit(worker) => self.commit(*worker),
             Event::Apply => self.execute(place),
+            Event::Retire(direction, id) => Ok(self.retire(*direction, *id)),
+            Event::Restart(side) => Ok(self.restart(*side)),
         }
     }
 

@@ -1,6 +1,7 @@
 //! The world of two nodes and the link between them, and the journal of all that happened.
 #![tactic(auto)]
 
+mod anew;
 mod clearing;
 mod damaging;
 mod delivering;

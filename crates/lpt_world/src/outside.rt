@@ -1,13 +1,17 @@
-//! What is done in a world for work outside it: a packet is copied as it is taken, and one that was
-//! read outside is delivered.
+//! What is done in a world for work outside it: a packet is copied as it is taken, a job's message as
+//! it is claimed, and what was read of them outside is delivered and committed.
 
 ghost use Rattle.std.specs.Prelude.{◌≡◌, length, Some, None, IfOk, IfErr, IsTrue, ◌↔◌};
+ghost use Rattle.lpt_journal.specs.Jobs.{job_given};
 ghost use Rattle.lpt_journal.specs.Replies.{reply};
 ghost use Rattle.lpt_world.specs.Outside.{octets_of, IsOfHand, ReadRefusedBy};
+ghost use Rattle.lpt_world.specs.Workers.{IsOfWorker};
 ghost use Rattle.lpt_world.specs.Worlds.{history, refusal_at, RefusedBy, with_entry};
 
 use crate::{Entry, Event, Refused, Reply, StepFault, World};
+use lpt_events::Worker;
 use lpt_link::Lane;
+use lpt_memory::{Prepared, Ticket};
 use lpt_node::Parsed;
 use lpt_packet::Octets;
 use std::alloc::AllocError;
@@ -63,7 +67,7 @@ impl World {
         ensures reply { IfOk result (λ r. r ≡ reply self.old.config self.old.first (history self.old) (Event.Deliver lane)) }
         ensures entered { IfOk result (λ r. self.new ≡ with_entry self.old seat (Event.Deliver lane) r) }
 
-        ensures refused { IfErr result (λ e. ReadRefusedBy self.old lane parsed (refusal_at self.old seat (Event.Deliver lane)) e.0) }
+        ensures refused { IfErr result (λ e. ReadRefusedBy (IsOfHand self.old lane parsed) (refusal_at self.old seat (Event.Deliver lane)) e.0) }
         ensures back { IfErr result (λ e. e.1 ≡ parsed) }
         ensures unchanged { IfErr result (λ e. self.new ≡ self.old) }
     {
@@ -85,6 +89,110 @@ impl World {
                 self.journal.push_reserved(Entry { seat, event, reply });
                 Ok(reply)
             }
+        }
+    }
+
+    /// Gives the worker the oldest job that waits, as the event `Claim` does, and its ticket: boot,
+    /// number and message.
+    ///
+    /// Errors: those of the event. The message is copied before any change; want of memory is last,
+    /// and nothing has changed.
+    pub fn claim_out(&mut self, seat: u8, worker: Worker) -> Result<(Reply, Ticket), Refused>
+        ensures enabled { IfOk result (λ r. refusal_at self.old seat (Event.Claim worker) ≡ None) }
+        ensures reply { IfOk result (λ r. r.0 ≡ reply self.old.config self.old.first (history self.old) (Event.Claim worker)) }
+        ensures entered { IfOk result (λ r. self.new ≡ with_entry self.old seat (Event.Claim worker) r.0) }
+        ensures ticket { IfOk result (λ r. job_given self.old.config (history self.old) ≡ Some r.1) }
+
+        ensures refused { IfErr result (λ e. RefusedBy (refusal_at self.old seat (Event.Claim worker)) e.fault) }
+        ensures back { IfErr result (λ e. e.event ≡ Event.Claim worker) }
+        ensures at { IfErr result (λ e. e.at ≡ length self.old.journal) }
+        ensures unchanged { IfErr result (λ e. self.new ≡ self.old) }
+    {
+        let event = Event::Claim(worker);
+        let at = self.journal.len() as u64;
+        match self.refusal(seat, &event) {
+            Some(fault) => return Err(Refused { fault, at, event }),
+            None => {}
+        }
+        match self.next_ticket(seat, worker) {
+            Ok(ticket) => match self.step(seat, event) {
+                Ok(reply) => Ok((reply, ticket)),
+                Err(refused) => {
+                    ticket.abandon();
+                    Err(refused)
+                }
+            },
+            Err(_) => {
+                let fault = StepFault::Memory;
+                Err(Refused { fault, at, event })
+            }
+        }
+    }
+
+    /// Hands in the reading of the worker's job, as the event `Commit` does, where it was prepared
+    /// before. The message isn't read again.
+    ///
+    /// Errors, each with what was prepared: those of the event; then `NotYours`, it isn't of the
+    /// boot, the number and the message that the worker has, or was read for another APID or
+    /// memories of another shape; want of memory is last. Nothing has changed.
+    pub fn commit_with(
+        &mut self,
+        seat: u8,
+        worker: Worker,
+        prepared: Prepared,
+    ) -> Result<Reply, (StepFault, Prepared)>
+        ensures enabled { IfOk result (λ r. refusal_at self.old seat (Event.Commit worker) ≡ None) }
+        ensures read { IfOk result (λ r. IsOfWorker self.old worker prepared) }
+        ensures reply { IfOk result (λ r. r ≡ reply self.old.config self.old.first (history self.old) (Event.Commit worker)) }
+        ensures entered { IfOk result (λ r. self.new ≡ with_entry self.old seat (Event.Commit worker) r) }
+
+        ensures refused { IfErr result (λ e. ReadRefusedBy (IsOfWorker self.old worker prepared) (refusal_at self.old seat (Event.Commit worker)) e.0) }
+        ensures back { IfErr result (λ e. e.1 ≡ prepared) }
+        ensures unchanged { IfErr result (λ e. self.new ≡ self.old) }
+    {
+        let event = Event::Commit(worker);
+        match self.refusal(seat, &event) {
+            Some(fault) => return Err((fault, prepared)),
+            None => {}
+        }
+        if !self.is_of_worker(worker, &prepared) {
+            return Err((StepFault::NotYours, prepared));
+        }
+        if self.journal.reserve(1).is_err() {
+            return Err((StepFault::Memory, prepared));
+        }
+        let reply = self.ends.commit_read(worker, prepared);
+        self.journal.push_reserved(Entry { seat, event, reply });
+        Ok(reply)
+    }
+
+    // The ticket of the job that waits longest.
+    fn next_ticket(&self, seat: u8, worker: Worker) -> Result<Ticket, AllocError>
+        requires { refusal_at self.now seat (Event.Claim worker) ≡ None }
+        ensures { IfOk result (λ t. job_given self.now.config (history self.now) ≡ Some t) }
+    {
+        let Some((job, message)) = self.ends.on_craft.unclaimed() else {
+            unreachable!()
+        };
+        Ok(Ticket::new(self.ends.on_craft.boot(), job, message.copy()?))
+    }
+
+    // Whether this is the reading of the worker's job.
+    fn is_of_worker(&self, worker: Worker, prepared: &Prepared) -> bool
+        ensures { IsTrue result ↔ IsOfWorker self.now worker prepared.now }
+    {
+        match self.ends.tickets.get(worker) {
+            Some(held) => {
+                let message = held.message.as_slice();
+                prepared.is_of(
+                    held.boot,
+                    held.job,
+                    message,
+                    self.ends.config.apid,
+                    &self.first,
+                )
+            }
+            None => false,
         }
     }
 

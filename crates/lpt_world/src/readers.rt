@@ -1,18 +1,20 @@
 //! What a world shows: its journal, and what follows from that.
 
-ghost use Rattle.std.specs.Prelude.{◌≡◌, length, slice_get, IfOk};
+ghost use Rattle.std.specs.Prelude.{◌≡◌, ◌-◌, length, slice_get, IfOk};
 ghost use Rattle.std.specs.Option.{option_map, option_copied};
 ghost use Rattle.lpt_journal.specs.Hands.{hand};
-ghost use Rattle.lpt_journal.specs.Headline.{Holds, EachIsLastOpened, AtMostOncePerOpening};
+ghost use Rattle.lpt_journal.specs.Headline.{EachIsLastOpened, AtMostOncePerOpening, MemoriesFollow};
+ghost use Rattle.lpt_journal.specs.Jobs.{jobs, claimed, applied, ticket};
 ghost use Rattle.lpt_journal.specs.Link.{sent, is_held};
 ghost use Rattle.lpt_journal.specs.Receivers.{clock};
 ghost use Rattle.lpt_journal.specs.Releases.{releases};
 ghost use Rattle.lpt_journal.specs.Senders.{opened, sender};
 ghost use Rattle.lpt_memory.specs.Memories.{content_of, sizes_of};
 ghost use Rattle.lpt_events.specs.Configs.{IsConfig};
-ghost use Rattle.lpt_world.specs.Worlds.{IsTold, history, memories_now, state_shown};
+ghost use Rattle.lpt_world.specs.Worlds.{IsTold, Promised, history, memories_now, state_shown};
 
 use crate::{Entry, Opening, Release, World};
+use lpt_events::Worker;
 use lpt_ledger::State;
 use lpt_link::Lane;
 use lpt_memory::Shape;
@@ -25,13 +27,14 @@ impl World {
     /// reply that it gives then. Each large message released under a name is byte for byte the one
     /// last opened under it by the other node, at most once per opening. The memories are their
     /// first content, changed by the executed requests in order of release, each of which was
-    /// released by the spacecraft and executed once.
+    /// released by the spacecraft and executed once. What expired is never released, and what was
+    /// released never heard again. No request is executed in another boot than that of its release.
     pub fn journal(&self) -> &[Entry]
         ensures shown { result.now ≡ self.now.journal }
         ensures told { IsTold self.now.config self.now.first self.now.journal }
         ensures configured { IsConfig self.now.config }
         // What holds of every journal, whatever the link did and the nodes were asked.
-        ensures headline { Holds self.now.config self.now.first (history self.now) }
+        ensures promised { Promised self.now }
     {
         self.journal.as_slice()
     }
@@ -64,7 +67,8 @@ impl World {
     /// The octets of a memory now: its first content, changed by the requests that were executed, in
     /// the order in which the spacecraft released them. None where there is no such memory.
     pub fn memory(&self, id: u8) -> Option<&[u8]>
-        ensures { option_map (λ x. x.now) result ≡ content_of id (memories_now self.now) }
+        ensures content { option_map (λ x. x.now) result ≡ content_of id (memories_now self.now) }
+        ensures follow { MemoriesFollow self.now.config self.now.first (history self.now) }
     {
         self.ends.memories.content(id)
     }
@@ -132,5 +136,29 @@ impl World {
             Side::Ground => self.ends.on_ground.clock(),
             Side::Craft => self.ends.on_craft.clock(),
         }
+    }
+
+    /// The boot and the number of the job that a worker has claimed and not committed.
+    pub fn ticket(&self, worker: Worker) -> Option<(u64, u64)>
+        ensures { result ≡ option_map (λ t. (t.boot, t.job)) (ticket self.now.config (history self.now) worker) }
+    {
+        let held = self.ends.tickets.get(worker)?;
+        Some((held.boot, held.job))
+    }
+
+    /// How many jobs of the spacecraft's boot that goes on wait for a worker: each was released,
+    /// and none has claimed it.
+    pub fn jobs_left(&self) -> u64
+        ensures { result ≡ length (jobs self.now.config (history self.now)) - claimed (history self.now) }
+    {
+        self.ends.on_craft.waiting()
+    }
+
+    /// How many jobs of the spacecraft's boot that goes on aren't executed yet, claimed and committed
+    /// ones among them.
+    pub fn jobs_queued(&self) -> u64
+        ensures { result ≡ length (jobs self.now.config (history self.now)) - applied (history self.now) }
+    {
+        self.ends.on_craft.queued()
     }
 }

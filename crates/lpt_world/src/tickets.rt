@@ -41,6 +41,16 @@ impl Tickets {
         }
     }
 
+    /// The job that a worker has.
+    pub(crate) fn get(&self, worker: Worker) -> Option<&HeldJob>
+        ensures { option_map (λ x. job_of x.now) result ≡ ticket_of (tickets_of self.now) worker }
+    {
+        match worker {
+            Worker::W1 => self.w1.as_ref(),
+            Worker::W2 => self.w2.as_ref(),
+        }
+    }
+
     /// Gives a job to a worker, or none.
     pub(crate) fn set(&mut self, worker: Worker, job: Option<HeldJob>)
         ensures { tickets_of self.new ≡ with_ticket (tickets_of self.old) worker (option_map job_of job) }

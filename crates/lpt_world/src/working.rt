@@ -1,15 +1,20 @@
 //! The workers, and the execution of requests.
 
-ghost use Rattle.std.specs.Prelude.{◌≡◌, ◌≤◌, None, IfOk, OnErr, length, vec_len};
+ghost use Rattle.std.specs.Prelude.{◌≡◌, ◌≤◌, Some, None, IfOk, OnErr, IsTrue, length, vec_len};
+ghost use Rattle.std.specs.Option.{option_map};
 ghost use Rattle.lpt_packet.specs.declared.direction.Direction.TheVariants.{Down};
-ghost use Rattle.lpt_machine.specs.State.{after, put_all, put_some, refusal_of, IsReady};
+ghost use Rattle.lpt_jobs.specs.Jobs.{is_claimed};
+ghost use Rattle.lpt_node.specs.Jobs.{committed};
+ghost use Rattle.lpt_machine.specs.State.{after, put_all, put_some, refusal_of, commit_told, IsReady, quiet as quiet_reply};
+ghost use Rattle.lpt_machine.specs.Tickets.{ticket_of};
+ghost use Rattle.lpt_world.specs.Workers.{reading_for};
 
 use crate::ends::{Ends, put_reserved, quiet};
 use crate::tickets::HeldJob;
 use crate::{Answer, Event, Opening, Puts, Reply, StepFault};
 use lpt_events::Worker;
 use lpt_link::Link;
-use lpt_memory::{Ticket, prepare};
+use lpt_memory::{Prepared, Ticket, prepare};
 use lpt_node::{Ask, Executed, Side};
 use lpt_packet::{Direction, Octets};
 use std::alloc::AllocError;
@@ -79,16 +84,47 @@ impl Ends {
         };
         let ticket = Ticket::new(boot, job, message);
         match prepare(self.alloc, &shape, self.config.apid, ticket) {
-            Ok(prepared) => {
-                let _ = self.on_craft.commit(boot, job, prepared.reading());
-                Ok(quiet(Answer::Committed(boot, job)))
-            }
+            Ok(prepared) => Ok(self.hand_in(prepared)),
             Err(ticket) => {
                 let message = ticket.into_message();
                 self.tickets
                     .set(worker, Some(HeldJob { boot, job, message }));
                 Err(AllocError)
             }
+        }
+    }
+
+    /// Hands in the reading of a worker's job, which was prepared before.
+    pub(crate) fn commit_read(&mut self, worker: Worker, prepared: Prepared) -> Reply
+        requires free { refusal_of self.old.config (state_of self.old) (Event.Commit worker) ≡ None }
+        requires ready { IsReady self.old.config (state_of self.old) (Event.Commit worker) }
+        requires read { option_map (reading_for self.old.config self.old.memories)
+            (ticket_of (state_of self.old).tickets worker) ≡ Some prepared }
+        ensures ok { (state_of self.new, result)
+            ≡ after self.old.config 0 (state_of self.old) (Event.Commit worker) }
+        ensures config { self.new.config ≡ self.old.config }
+    {
+        self.tickets.set(worker, None);
+        self.hand_in(prepared)
+    }
+
+    // Hands a reading in, and answers.
+    fn hand_in(&mut self, prepared: Prepared) -> Reply
+        requires { prepared.boot ≡ self.old.on_craft.at.boot
+            → IsTrue (is_claimed self.old.on_craft.at.jobs prepared.job) }
+        ensures state { state_of self.new ≡ record (state_of self.old) {
+          on_craft = (committed self.old.on_craft.at prepared.boot prepared.job prepared.read).0;
+        } }
+        ensures reply { result ≡ quiet_reply (commit_told
+            (committed self.old.on_craft.at prepared.boot prepared.job prepared.read).1
+            (record { boot = prepared.boot; job = prepared.job; message = prepared.read.message })) }
+        ensures config { self.new.config ≡ self.old.config }
+    {
+        let (boot, job) = (prepared.boot(), prepared.job());
+        if self.on_craft.commit(boot, job, prepared.reading()) {
+            quiet(Answer::Committed(boot, job))
+        } else {
+            quiet(Answer::Stale(boot, job))
         }
     }
 

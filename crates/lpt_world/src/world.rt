@@ -10,7 +10,7 @@ ghost use Rattle.lpt_events.specs.Configs.{IsConfig, config_fault, ConfigRefused
 ghost use Rattle.lpt_journal.specs.Legal.{IsEvent};
 ghost use Rattle.lpt_journal.specs.Replies.{reply};
 ghost use Rattle.lpt_journal.specs.Senders.{opened};
-ghost use Rattle.lpt_world.specs.Worlds.{IsTold, new_world, history, memories_now, refusal_at, RefusedBy, with_entry, entered, AllAccepted, IsFaultOf};
+ghost use Rattle.lpt_world.specs.Worlds.{IsTold, Promised, new_world, history, memories_now, refusal_at, RefusedBy, with_entry, entered, AllAccepted, IsFaultOf};
 
 use crate::ends::Ends;
 use crate::{ConfigFault, Entry, Event, Opening, Refused, Release, Reply, RunEnd, StepFault};
@@ -80,13 +80,18 @@ impl World {
         ensures reply { IfOk result (λ r. r ≡ reply self.old.config self.old.first (history self.old) event) }
         ensures entered { IfOk result (λ r. self.new ≡ with_entry self.old seat event r) }
 
+        // Whatever was asked, the promise holds of the journal.
+        ensures promised { Promised self.new }
+
         ensures refused { IfErr result (λ e. RefusedBy (refusal_at self.old seat event) e.fault) }
         ensures back { IfErr result (λ e. e.event ≡ event) }
         ensures at { IfErr result (λ e. e.at ≡ length self.old.journal) }
         ensures unchanged { IfErr result (λ e. self.new ≡ self.old) }
     {
         let at = self.journal.len() as u64;
-        match self.try_step(seat, event) {
+        let done = self.try_step(seat, event);
+        self.keep_promise();
+        match done {
             Ok(reply) => Ok(reply),
             Err((fault, event)) => Err(Refused { fault, at, event }),
         }
@@ -126,19 +131,29 @@ impl World {
         ensures entered { self.new ≡ entered self.old 0 (take result.done events.now) }
         ensures all { result.refused ≡ None → result.done ≡ length events.now }
         ensures refused { IfSome result.refused (λ f. IsFaultOf self.new 0 (slice_get events.now result.done) f) }
+        ensures promised { Promised self.new }
     {
         for (done, event) in events.iter().enumerate() {
             if let Some(fault) = self.step_copy(event) {
+                self.keep_promise();
                 return RunEnd {
                     done: done as u64,
                     refused: Some(fault),
                 };
             }
         }
+        self.keep_promise();
         RunEnd {
             done: events.len() as u64,
             refused: None,
         }
+    }
+
+    // What is promised holds of every world.
+    fn keep_promise(&self)
+        ensures { Promised self.now }
+    {
+        let _ = self.journal();
     }
 
     // Steps seat 0 through a copy of the event, and gives the fault where it is refused.
@@ -205,5 +220,9 @@ fn in_range(event: &Event)
         Event::Claim(_) => {}
         Event::Commit(_) => {}
         Event::Apply => {}
+        Event::Retire(_, id) => {
+            let _id = *id;
+        }
+        Event::Restart(_) => {}
     }
 }

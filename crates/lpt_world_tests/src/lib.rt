@@ -7,6 +7,10 @@
 #![tactic(auto)]
 
 #[cfg(test)]
+mod anew;
+#[cfg(test)]
+mod contradictions;
+#[cfg(test)]
 mod counting;
 #[cfg(test)]
 mod damage;
@@ -34,3 +38,9 @@ mod scenes;
 mod sending;
 #[cfg(test)]
 mod stations;
+#[cfg(test)]
+mod walk_growths;
+#[cfg(test)]
+mod walking;
+#[cfg(test)]
+mod workers;

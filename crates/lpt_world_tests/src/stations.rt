@@ -25,7 +25,7 @@ pub(crate) const PASS: Config = Config {
 pub(crate) struct Station {
     pub(crate) node: Node,
     side: Side,
-    config: Config,
+    pub(crate) config: Config,
     ghost side_is: { node.side ≡ side },
     ghost config_is: { node.config ≡ config },
     ghost part_size: { IsPartSize config.part_size },

@@ -12,7 +12,8 @@ returns-in-Ok-Some-clause-blank c blank =
     let ok = c.in-Ok.ensures.ok in
     let none : table_view c.in-Ok.table ≡ no_members = cc in
     let value = rw c.in-Ok-Some.field-0-is at c.in-Ok-Some.ensures.value in
-    let known : Some c.in-Ok-Some.settings ≡ Some default_settings =
+    let known : Some ((c.in-Ok-Some.config, c.in-Ok-Some.turns), c.in-Ok-Some.memories)
+    ≡ Some default_settings =
     value ∙ ap settings_of none ∙ settings_of-none in
     cc
 

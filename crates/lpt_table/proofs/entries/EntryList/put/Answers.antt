@@ -1,4 +1,4 @@
-use Rattle.std.proofs.Common.{◌≡◌, ◌∙◌, ap, subst, ℕ, ◌+◌, None, arith, sym}
+use Rattle.std.proofs.Common.{◌≡◌, ◌∙◌, ap, subst, ℕ, ◌+◌, None, T, arith, sym}
 use Rattle.std.specs.FinMap as map
 use Rattle.std.specs.Vec.{vec_capacity}
 use Rattle.lpt_table.specs.EntriesOf.{map_of, entry_in, IsIts}
@@ -8,6 +8,12 @@ use Rattle.lpt_table.proofs.ListingLemmas.{changed, free}
 use Rattle.lpt_table.proofs.PuttingLemmas.{belongs-within, placed-map, placed-len, placed-listed}
 use Rattle.lpt_table.proofs.entries.EntryList.put.Goals as goal
 use Rattle.lpt_table.proofs.entries.EntryList.put.Goals.{In-Ok}
+
+-- the places are in order
+pub gap_of-at-requires : goal.gap_of-at-requires
+gap_of-at-requires c =
+    subst (λ xs. T (map.is_sorted when_cmp (by_moment xs))) (sym c.deref.ensures.value)
+    c.self.invariant.ordered
 
 -- ---- there is room
 

@@ -1,5 +1,5 @@
 -- There is room for the reports of an execution.
-use Rattle.std.proofs.Common.{arith, ◌≡◌, ◌≤◌, ap, length, vec_len}
+use Rattle.std.proofs.Common.{arith, ◌≡◌, ap, length}
 use Rattle.lpt_node.specs.Jobs.{Execution}
 use Rattle.lpt_node.specs.Nodes.{NodeData}
 use Rattle.lpt_memory.specs.Memories.{Contents}

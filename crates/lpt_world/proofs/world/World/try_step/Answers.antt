@@ -4,7 +4,7 @@ use Rattle.lpt_world.specs.EndsInside.{state_of}
 use Rattle.lpt_journal.specs.Replies.{reply}
 use Rattle.lpt_machine.specs.State.{refusal_of, after}
 use Rattle.lpt_world.specs.Worlds.{Shown, refusal_at, history}
-use Rattle.lpt_world.proofs.LegalLemmas.{numbered_few}
+use Rattle.lpt_world.proofs.LegalLemmas.{numbered_few, boots_few}
 use Rattle.lpt_world.proofs.WorldLemmas.{free_shown, ready_shown, shown_push, reply_shown}
 use Rattle.lpt_world.proofs.world.World.try_step.Goals as goal
 
@@ -24,6 +24,14 @@ apply-requires-clause-numbers c =
       arith,
       numbered_few c.self.inside.ends.config c.self.inside.first (state_of c.self.inside.ends)
           c.self.inside.journal.items c.self.invariant.told c.self.invariant.shows,
+    )
+
+pub apply-requires-clause-boots : goal.apply-requires-clause-boots
+apply-requires-clause-boots c side =
+    omega (
+      arith,
+      boots_few c.self.inside.ends.config c.self.inside.first (state_of c.self.inside.ends)
+          c.self.inside.journal.items side c.self.invariant.shows,
     )
 
 pub invariant_of-self-in-Ok : goal.invariant_of-self-in-Ok

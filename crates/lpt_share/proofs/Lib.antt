@@ -1,0 +1,4 @@
+pub mod FinishLemmas
+pub mod Going
+pub mod RunLemmas
+pub mod TurnLemmas

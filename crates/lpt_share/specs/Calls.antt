@@ -1,0 +1,79 @@
+-- What a call through the lock answers, and what the seat's log has then.
+use Rattle.std.specs.Prelude.{◌≡◌, ◌≤◌, ◌<◌, ◌+◌, ℕ, [], ◌∷◌, ◌++◌, length, None}
+use Rattle.lpt_events.specs.Configs.{IsConfig}
+use Rattle.lpt_events.specs.declared.event.Event.{Event}
+use Rattle.lpt_events.specs.declared.fault.StepFault.{StepFault}
+use Rattle.lpt_events.specs.declared.refused.Refused.{Refused}
+use Rattle.lpt_events.specs.declared.reply.Reply.{Reply}
+use Rattle.lpt_journal.specs.Replies.{reply}
+use Rattle.lpt_world.specs.Worlds.{Shown, IsTold, RefusedBy, history, refusal_at, with_entry}
+use Rattle.lpt_share.specs.declared.call.CallFault.{CallFault}
+use Rattle.lpt_share.specs.declared.call.CallFault.TheVariants as calls
+use Rattle.lpt_share.specs.declared.call.Done.{Done}
+use Rattle.lpt_share.specs.declared.log.SeatLog.{SeatLog}
+
+-- the configuration is in its ranges, and each entry could happen after those before it and has the
+-- reply that it gave then
+abbrev pub IsLegal : Shown → Type 0
+IsLegal w = IsConfig w.config × IsTold w.config w.first w.journal
+
+-- ---- one event
+
+-- the seat's event can happen, and gave this reply and this world
+abbrev pub Enters : Shown → Shown → ℕ → Event → Reply → Type 0
+Enters old new seat e r =
+    (refusal_at old seat e ≡ None)
+    × (r ≡ reply old.config old.first (history old) e)
+    × (new ≡ with_entry old seat e r)
+
+-- the seat's event was refused for its first reason, and nothing has changed
+abbrev pub Refuses : Shown → Shown → ℕ → Event → Refused → Type 0
+Refuses old new seat e refused =
+    RefusedBy (refusal_at old seat e) refused.fault
+    × (refused.event ≡ e)
+    × (refused.at ≡ length old.journal)
+    × (new ≡ old)
+
+-- ---- calls
+
+-- after some legal journal of that length the seat's event can happen, with this reply
+abbrev pub MayAnswer : (place : ℕ) → (seat : ℕ) → Event → Reply → Type 0
+MayAnswer place seat e r =
+    (w : Shown)
+    × IsLegal w
+    × (length w.journal ≡ place)
+    × (refusal_at w seat e ≡ None)
+    × (r ≡ reply w.config w.first (history w) e)
+
+-- after some legal journal of that length this is the first reason to refuse the seat's event, or
+-- there is none and memory was wanting
+abbrev pub MayRefuse : (at : ℕ) → (seat : ℕ) → Event → StepFault → Type 0
+MayRefuse at seat e fault =
+    (w : Shown) × IsLegal w × (length w.journal ≡ at) × RefusedBy (refusal_at w seat e) fault
+
+-- the log is of the same seat and has the same calls
+abbrev pub HasSameCalls : SeatLog → SeatLog → Type 0
+HasSameCalls old new = (new.seat ≡ old.seat) × (new.calls.items ≡ old.calls.items)
+
+-- the log has one call more, behind all others, at a place that the seat hadn't seen yet
+abbrev pub IsDone : SeatLog → SeatLog → Event → Done → Type 0
+IsDone old new e done =
+    (new.seat ≡ old.seat)
+    × (new.calls.items ≡ old.calls.items ++ record { place = done.place; event = e; reply = done.reply } ∷ [])
+    × (old.seen ≤ done.place)
+    × (new.seen ≡ done.place + 1)
+    × MayAnswer done.place old.seat e done.reply
+
+-- The log has the same calls, and the event comes back. A refusal tells how long the journal was, and
+-- that is seen; a torn journal is shorter than what the seat had seen.
+abbrev pub IsCallFault : SeatLog → SeatLog → Event → CallFault → Type 0
+IsCallFault old new e (calls.Refused r) =
+    HasSameCalls old new
+    × (r.event ≡ e)
+    × (old.seen ≤ r.at)
+    × (new.seen ≡ r.at)
+    × MayRefuse r.at old.seat e r.fault
+IsCallFault old new e (calls.Torn length event) =
+    HasSameCalls old new × (new.seen ≡ old.seen) × (event ≡ e) × (length < old.seen)
+IsCallFault old new e (calls.Memory event) =
+    HasSameCalls old new × (new.seen ≡ old.seen) × (event ≡ e)

@@ -1,0 +1,30 @@
+//! A world that threads share: the lock round it, the seats' logs, and the run of ten seats.
+//!
+//! Each holding of the lock does one event. Packets are read, their checksums taken and requests
+//! prepared while the lock is free. Threads tell each other by channels that there is work; such a
+//! notice is a hint, and one that leads to a refusal is dropped. Each seat keeps a log of its calls,
+//! and after a run the logs are compared with the journal.
+#![tactic(auto)]
+
+mod agree;
+mod call;
+mod fault;
+mod finish;
+mod first;
+mod held;
+mod log;
+mod notices;
+mod owed;
+mod run;
+mod same;
+mod seats;
+mod turns;
+mod work;
+
+pub use agree::agrees;
+pub use call::{CallFault, Done, Shared};
+pub use fault::ShareFault;
+pub use log::{Call, SeatLog};
+pub use lpt_events::Turns;
+pub use run::{ShareEnd, run_threads};
+pub use turns::{Gate, Point};

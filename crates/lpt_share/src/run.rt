@@ -1,0 +1,230 @@
+//! The run of ten seats round one world, each in a thread of its own.
+
+ghost use Rattle.std.specs.Prelude.{◌≡◌, ◌↔◌, ◌≤◌, Some, length, IfOk, IfErr, IsTrue};
+ghost use Rattle.lpt_journal.specs.Headline.{Holds};
+ghost use Rattle.lpt_world.specs.Worlds.{history};
+ghost use Rattle.lpt_share.specs.Calls.{IsLegal};
+ghost use Rattle.lpt_share.specs.Agreeing.{Agree};
+ghost use Rattle.lpt_share.specs.Finished.{IsFinishedIfShort, AreShort, AreOwedCarried, owed_of};
+ghost use Rattle.lpt_world.specs.Worlds.{Shown};
+ghost use Rattle.lpt_share.specs.Origins.{Continues};
+ghost use Rattle.lpt_share.specs.Runs.{IsInOrder};
+
+use crate::finish::{are_carried, are_taken, has_ticked, is_idle};
+use crate::first::all_seats;
+use crate::held::Origin;
+use crate::owed::{Owed, are_owed_carried, open_transactions};
+use crate::seats::{Ended, Pass, Seat};
+use crate::{Gate, SeatLog, ShareFault, Shared, Turns, agrees};
+use lpt_events::Side;
+use lpt_world::World;
+use std::alloc::{AllocError, Global};
+use std::marker::Brand;
+use std::sync::Wait;
+use std::thread;
+use std::thread::Threads;
+
+/// The last seat that has a thread.
+const LAST_SEAT: u8 = 10;
+
+/// Why a run failed, and the world as it is then.
+#[derive(Drop)]
+pub struct ShareEnd {
+    /// Why it failed.
+    pub fault: ShareFault,
+    /// The world, which went on from the given one.
+    pub world: World,
+}
+
+/// Runs seats 1 to 10 round a world, each in a thread of its own, and answers the world and the log
+/// of each seat, in order of seat. The gate is told of each call that was accepted.
+///
+/// Ground's sender sends and finishes each transaction that is open, the spacecraft's sender too,
+/// also those that are opened meanwhile. Four lanes take and deliver the packets, two workers claim,
+/// prepare, commit and execute the jobs, and two timers tick. The calls of each log are its seat's
+/// entries in the journal behind the given one's. Where each log has fewer than `per_seat` calls,
+/// nothing is left to do: each transaction that was open or was opened meanwhile was sent whole and
+/// finished, or aborted; each packet that was never lost was taken; hands and workers are empty, each
+/// job is executed, and each timer has ticked as often as it was to, or its clock is at its greatest.
+/// It returns only if each thread ends.
+///
+/// Errors: `Torn`, the journal and the logs don't agree, or something was left to do; `Memory`;
+/// `NoThread`, a thread couldn't be started. The world comes back, with all that was done.
+pub fn run_threads<R: Threads + Wait + Sync, G: Gate + Sync>(
+    alloc: Global,
+    rt: &R,
+    world: World,
+    turns: Turns,
+    gate: &G,
+) -> Result<(World, Vec<SeatLog>), ShareEnd>
+    ensures goes_on { IfOk result (λ r. Continues world r.0) }
+    ensures in_order { IfOk result (λ r. IsInOrder 1 r.1.items) }
+    ensures agree { IfOk result (λ r. Agree r.0 (length world.journal) r.1.items) }
+    ensures finished { IfOk result (λ r. IsFinishedIfShort turns.per_seat turns.ticks world r.0 r.1.items) }
+    ensures legal { IfOk result (λ r. IsLegal r.0) }
+    ensures headline { IfOk result (λ r. Holds r.0.config r.0.first (history r.0)) }
+    ensures err { IfErr result (λ e. IsLegal e.world) }
+    ensures err_headline { IfErr result (λ e. Holds e.world.config e.world.first (history e.world)) }
+{
+    run_from::<Brand, R, G>(alloc, rt, world, turns, gate)
+}
+
+// The same, under a lock that knows the given world by its type.
+fn run_from<J: Origin + Send + Sync, R: Threads + Wait + Sync, G: Gate + Sync>(
+    alloc: Global,
+    rt: &R,
+    world: World,
+    turns: Turns,
+    gate: &G,
+) -> Result<(World, Vec<SeatLog>), ShareEnd>
+    requires { J.given ≡ Some world }
+    ensures goes_on { IfOk result (λ r. Continues world r.0) }
+    ensures in_order { IfOk result (λ r. IsInOrder 1 r.1.items) }
+    ensures agree { IfOk result (λ r. Agree r.0 (length world.journal) r.1.items) }
+    ensures finished { IfOk result (λ r. IsFinishedIfShort turns.per_seat turns.ticks world r.0 r.1.items) }
+    ensures legal { IfOk result (λ r. IsLegal r.0) }
+    ensures headline { IfOk result (λ r. Holds r.0.config r.0.first (history r.0)) }
+    ensures err { IfErr result (λ e. IsLegal e.world) }
+    ensures err_headline { IfErr result (λ e. Holds e.world.config e.world.first (history e.world)) }
+{
+    let from = world.journal().len() as u64;
+    let seats = match all_seats(alloc, rt, &world) {
+        Ok(seats) => seats,
+        Err(fault) => return Err(ShareEnd { fault, world }),
+    };
+    let Ok(owed) = open_transactions(alloc, &world) else {
+        let fault = ShareFault::Memory;
+        return Err(ShareEnd { fault, world });
+    };
+    let shared: Shared<J> = Shared::from_origin(world);
+    let pass = Pass {
+        alloc,
+        rt,
+        shared: &shared,
+        from,
+        turns,
+        gate,
+    };
+    let done = run_seats(&pass, seats);
+    let world = shared.into_world();
+    let logs = match done {
+        Ok(logs) => logs,
+        Err(fault) => return Err(ShareEnd { fault, world }),
+    };
+    if !are_in_order(logs.as_slice()) || !agrees(&world, from, logs.as_slice()) {
+        let fault = ShareFault::Torn;
+        return Err(ShareEnd { fault, world });
+    }
+    match is_all_done(alloc, &world, from, owed.as_slice(), turns, logs.as_slice()) {
+        Ok(true) => Ok((world, logs)),
+        Ok(false) => {
+            let fault = ShareFault::Torn;
+            Err(ShareEnd { fault, world })
+        }
+        Err(_) => {
+            let fault = ShareFault::Memory;
+            Err(ShareEnd { fault, world })
+        }
+    }
+}
+
+// Runs each seat in a thread of its own, and waits for all of them. The logs are in the seats' order.
+fn run_seats<'a, J: Origin + Send + Sync, R: Threads + Wait + Sync, G: Gate + Sync>(
+    pass: &Pass<'a, J, R, G>,
+    seats: Vec<Seat>,
+) -> Result<Vec<SeatLog>, ShareFault> {
+    let Ok(mut handles) = Vec::with_capacity(pass.alloc, seats.len()) else {
+        return Err(ShareFault::Memory);
+    };
+    let Ok(mut logs) = Vec::with_capacity(pass.alloc, seats.len()) else {
+        return Err(ShareFault::Memory);
+    };
+    thread::scope(
+        thread::scope_env(),
+        pass.rt,
+        move |scope| -> Result<Vec<SeatLog>, ShareFault> {
+            let mut outcome = Ok(());
+            for seat in seats {
+                match scope.spawn(move || pass.run(seat)) {
+                    Ok(handle) => {
+                        let _ = handles.push(handle);
+                    }
+                    Err(_) => {
+                        outcome = Err(ShareFault::NoThread);
+                        break;
+                    }
+                }
+            }
+            for handle in handles {
+                let ended: Ended = handle.join(pass.rt);
+                let _ = logs.push(ended.log);
+                if let Some(fault) = ended.fault {
+                    outcome = Err(fault);
+                }
+            }
+            outcome?;
+            Ok(logs)
+        },
+    )
+}
+
+// Whether nothing was left to do at the end of a run that began at this place with what was owed; or
+// a log is full, and nothing is asked. The only error is want of memory.
+#[tactic(auto, using(crate::proofs::RunLemmas::not_short, crate::proofs::RunLemmas::all_done))]
+fn is_all_done(
+    alloc: Global,
+    world: &World,
+    from: u64,
+    owed: &[Owed],
+    turns: Turns,
+    logs: &[SeatLog],
+) -> Result<bool, AllocError>
+    requires { from ≤ length world.now.journal }
+    ensures { IfOk result (λ done. IsTrue done → (given : Shown) → from ≡ length given.journal → owed.now ≡ owed_of given
+        → IsFinishedIfShort turns.per_seat turns.ticks given world.now logs.now) }
+{
+    if !are_short(turns.per_seat, logs) {
+        return Ok(true);
+    }
+    let entries = &world.journal()[from as usize..];
+    let p = world.config().part_size;
+    if !is_idle(world)
+        || !has_ticked(world, entries, 5, Side::Craft, turns.ticks)
+        || !has_ticked(world, entries, 6, Side::Ground, turns.ticks)
+        || !are_owed_carried(owed, p, entries)
+        || !are_carried(world, from, entries)
+    {
+        return Ok(false);
+    }
+    are_taken(alloc, world, entries)
+}
+
+// Whether each log has fewer calls than this.
+fn are_short(limit: u32, logs: &[SeatLog]) -> bool
+    ensures { IsTrue result ↔ AreShort limit logs.now }
+{
+    let mut rest = logs;
+    while let Some((log, tail)) = rest.split_first() {
+        if log.calls.len() as u64 >= u64::from(limit) {
+            return false;
+        }
+        rest = tail;
+    }
+    true
+}
+
+// Whether the logs are those of seats 1 to 10, in this order.
+fn are_in_order(logs: &[SeatLog]) -> bool
+    ensures { IsTrue result ↔ IsInOrder 1 logs.now }
+{
+    let mut seat = 1;
+    let mut rest = logs;
+    while let Some((log, tail)) = rest.split_first() {
+        if seat > LAST_SEAT || log.seat != seat {
+            return false;
+        }
+        seat += 1;
+        rest = tail;
+    }
+    seat > LAST_SEAT
+}

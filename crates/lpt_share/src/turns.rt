@@ -1,0 +1,186 @@
+//! The turns of the seats: a few calls each, with the reading of packets and requests between them
+//! while the lock is free.
+
+ghost use Rattle.std.specs.Prelude.{◌≡◌, ◌+◌, [], ◌∷◌, vec_len, IfOk};
+ghost use Rattle.lpt_share.specs.Turns.{Adds, Begin, Follow, IsAsked, sender_event};
+
+use crate::held::Origin;
+use crate::{CallFault, SeatLog, ShareFault, Shared};
+use lpt_events::{Event, Lane, Reply, Side, StepFault};
+use lpt_node::Parsed;
+use lpt_packet::{Direction, Name};
+use std::sync::Wait;
+
+/// What a seat has just done. The lock is free.
+#[derive(Clone, Copy, Debug, PartialEq, Eq)]
+pub enum Point {
+    /// A lane took a packet.
+    Taken,
+    /// A lane delivered its packet.
+    Delivered,
+    /// A worker claimed a job.
+    Claimed,
+    /// A worker committed its job.
+    Committed,
+    /// A worker had the oldest job executed.
+    Applied,
+    /// A sender sent a part.
+    Sent,
+    /// A sender finished a transaction.
+    Finished,
+    /// A timer ticked.
+    Ticked,
+    /// A timer ended a reception that was due.
+    Expired,
+}
+
+/// What is told of each accepted call of a turn, while the lock is free.
+pub trait Gate {
+    /// The seat has done this. It may wait, as a test does that wants two seats to meet.
+    fn pass(&self, seat: u8, point: Point);
+}
+
+impl<J: Origin> Shared<J> {
+    /// A lane's turn: takes the packet of this number, reads it while the lock is free, and delivers
+    /// it. A refusal ends the turn. The answer is how many calls were accepted.
+    ///
+    /// Errors: `Torn` and `Memory`; the calls that were accepted before stay in the log and in the
+    /// journal.
+    pub fn lane_turn<R: Wait, G: Gate>(
+        &self,
+        rt: &R,
+        log: &mut SeatLog,
+        lane: Lane,
+        n: u64,
+        gate: &G,
+    ) -> Result<u64, ShareFault>
+        ensures added { Adds (Begin (Event.Take lane n ∷ Event.Deliver lane ∷ [])) log.old log.new }
+        ensures count { IfOk result (λ k. vec_len log.new.calls ≡ vec_len log.old.calls + k) }
+    {
+        let Some((octets, config)) = self.taken(rt, log, lane, n)? else {
+            return Ok(0);
+        };
+        gate.pass(log.seat, Point::Taken);
+        let parsed = Parsed::read(octets, receiver(lane), config.apid, config.part_size);
+        let Some(_reply) = self.delivered(rt, log, lane, parsed)? else {
+            return Ok(1);
+        };
+        gate.pass(log.seat, Point::Delivered);
+        Ok(2)
+    }
+
+    /// A timer's turn: one tick of the node's clock, and then the end of each reception that is due.
+    /// A refusal ends the turn. The answer is how many calls were accepted.
+    ///
+    /// Errors: `Torn` and `Memory`; the calls that were accepted before stay in the log and in the
+    /// journal.
+    pub fn timer_turn<R: Wait, G: Gate>(
+        &self,
+        rt: &R,
+        log: &mut SeatLog,
+        node: Side,
+        gate: &G,
+    ) -> Result<u64, ShareFault>
+        ensures added { Adds (Follow (Event.Tick node ∷ []) (Event.Expire node)) log.old log.new }
+        ensures count { IfOk result (λ k. vec_len log.new.calls ≡ vec_len log.old.calls + k) }
+    {
+        let Some(_reply) = self.ask(rt, log, Event::Tick(node), Point::Ticked, gate)? else {
+            return Ok(0);
+        };
+        let expired = self.repeat(rt, log, &Event::Expire(node), Point::Expired, gate)?;
+        Ok(expired + 1)
+    }
+
+    /// A sender's turn: sends the part of this number of a transaction, or finishes it where no part
+    /// is named. The answer is how many calls were accepted: 1, or 0 where it was refused.
+    ///
+    /// Errors: `Torn` and `Memory`; the log stays.
+    pub fn sender_turn<R: Wait, G: Gate>(
+        &self,
+        rt: &R,
+        log: &mut SeatLog,
+        direction: Direction,
+        id: Name,
+        k: Option<u16>,
+        gate: &G,
+    ) -> Result<u64, ShareFault>
+        ensures added { Adds (Begin (sender_event direction id k ∷ [])) log.old log.new }
+        ensures count { IfOk result (λ n. vec_len log.new.calls ≡ vec_len log.old.calls + n) }
+    {
+        let (event, point) = match k {
+            Some(k) => (Event::Send(direction, id, k), Point::Sent),
+            None => (Event::Finish(direction, id), Point::Finished),
+        };
+        let Some(_reply) = self.ask(rt, log, event, point, gate)? else {
+            return Ok(0);
+        };
+        Ok(1)
+    }
+
+    // Calls of one event until it is refused, and counts them.
+    #[tactic(auto, using(crate::proofs::TurnLemmas::none))]
+    pub(crate) fn repeat<R: Wait, G: Gate>(
+        &self,
+        rt: &R,
+        log: &mut SeatLog,
+        event: &Event,
+        point: Point,
+        gate: &G,
+    ) -> Result<u64, ShareFault>
+        ensures added { Adds (Follow [] event.now) log.old log.new }
+        ensures count { IfOk result (λ k. vec_len log.new.calls ≡ vec_len log.old.calls + k) }
+    {
+        let mut count = 0;
+        for _ in rt.forever() {
+            let Ok(again) = event.copy() else {
+                return Err(ShareFault::Memory);
+            };
+            let Some(_reply) = self.ask(rt, log, again, point, gate)? else {
+                return Ok(count);
+            };
+            count += 1;
+        }
+        unreachable!()
+    }
+
+    // One call of a turn, which the gate is told of where it is accepted. A refusal is none.
+    pub(crate) fn ask<R: Wait, G: Gate>(
+        &self,
+        rt: &R,
+        log: &mut SeatLog,
+        event: Event,
+        point: Point,
+        gate: &G,
+    ) -> Result<Option<Reply>, ShareFault>
+        ensures { IsAsked event log.old log.new result }
+    {
+        match self.call(rt, log, event) {
+            Ok(done) => {
+                gate.pass(log.seat, point);
+                Ok(Some(done.reply))
+            }
+            Err(CallFault::Refused(refused)) => {
+                ended(refused.fault)?;
+                Ok(None)
+            }
+            Err(CallFault::Torn(_length, _event)) => Err(ShareFault::Torn),
+            Err(CallFault::Memory(_event)) => Err(ShareFault::Memory),
+        }
+    }
+}
+
+// How a turn ends at a call that was refused for this reason: only want of memory is a fault.
+pub(crate) fn ended(fault: StepFault) -> Result<(), ShareFault> {
+    if fault == StepFault::Memory {
+        return Err(ShareFault::Memory);
+    }
+    Ok(())
+}
+
+// The node that receives what a lane takes.
+fn receiver(lane: Lane) -> Side {
+    match lane.direction() {
+        Direction::Up => Side::Craft,
+        Direction::Down => Side::Ground,
+    }
+}

@@ -1,0 +1,231 @@
+//! The calls of turns that have work outside the lock, and a worker's turn.
+
+ghost use Rattle.std.specs.Prelude.{◌≡◌, ◌+◌, ◌≤◌, ◌<◌, ◌^◌, [], ◌∷◌, length, vec_len, vec_capacity, IfOk, IfErr, OnOk, IfSome, Ok, Err};
+ghost use Rattle.lpt_events.specs.Configs.{IsConfig};
+ghost use Rattle.lpt_share.specs.Turns.{Adds, Follow, IsAsked};
+
+use crate::held::{Held, Origin};
+use crate::turns::ended;
+use crate::{Gate, Point, SeatLog, ShareFault, Shared};
+use lpt_events::{Config, Event, Lane, Reply, StepFault, Worker};
+use lpt_memory::{Prepared, Shape, Ticket, prepare};
+use lpt_node::Parsed;
+use lpt_packet::Octets;
+use std::alloc::Global;
+use std::sync::Wait;
+
+impl<J: Origin> Shared<J> {
+    /// A worker's turn: claims a job, prepares it while the lock is free, commits it, and then has
+    /// the oldest jobs executed as long as they are committed. A refusal ends the turn. The answer
+    /// is how many calls were accepted.
+    ///
+    /// Errors: `Torn` and `Memory`; the calls that were accepted before stay in the log and in the
+    /// journal. Where the preparation finds no memory, the job stays the worker's.
+    pub fn worker_turn<R: Wait, G: Gate>(
+        &self,
+        alloc: Global,
+        rt: &R,
+        log: &mut SeatLog,
+        worker: Worker,
+        gate: &G,
+    ) -> Result<u64, ShareFault>
+        ensures added { Adds (Follow (Event.Claim worker ∷ Event.Commit worker ∷ []) Event.Apply) log.old log.new }
+        ensures count { IfOk result (λ k. vec_len log.new.calls ≡ vec_len log.old.calls + k) }
+    {
+        let Some((ticket, shape, apid)) = self.claimed(rt, log, worker)? else {
+            return Ok(0);
+        };
+        gate.pass(log.seat, Point::Claimed);
+        let prepared = match prepare(alloc, &shape, apid, ticket) {
+            Ok(prepared) => prepared,
+            Err(ticket) => {
+                ticket.abandon();
+                return Err(ShareFault::Memory);
+            }
+        };
+        let Some(_reply) = self.committed(rt, log, worker, prepared)? else {
+            return Ok(1);
+        };
+        gate.pass(log.seat, Point::Committed);
+        let applied = self.repeat(rt, log, &Event::Apply, Point::Applied, gate)?;
+        Ok(applied + 2)
+    }
+
+    // Takes a packet, for a reader under this configuration.
+    pub(crate) fn taken<R: Wait>(
+        &self,
+        rt: &R,
+        log: &mut SeatLog,
+        lane: Lane,
+        n: u64,
+    ) -> Result<Option<(Octets, Config)>, ShareFault>
+        ensures asked { IsAsked (Event.Take lane n) log.old log.new result }
+        ensures configured { IfOk result (λ r. IfSome r (λ t. IsConfig t.1)) }
+    {
+        log.make_place()?;
+        take(&mut self.world.lock(rt), log, lane, n)
+    }
+
+    // Delivers what was read of the lane's packet.
+    pub(crate) fn delivered<R: Wait>(
+        &self,
+        rt: &R,
+        log: &mut SeatLog,
+        lane: Lane,
+        parsed: Parsed,
+    ) -> Result<Option<Reply>, ShareFault>
+        ensures { IsAsked (Event.Deliver lane) log.old log.new result }
+    {
+        log.make_place()?;
+        deliver(&mut self.world.lock(rt), log, lane, parsed)
+    }
+
+    // Claims a job, with the memories' shape and the APID for which it is prepared.
+    fn claimed<R: Wait>(
+        &self,
+        rt: &R,
+        log: &mut SeatLog,
+        worker: Worker,
+    ) -> Result<Option<(Ticket, Shape, u16)>, ShareFault>
+        ensures { IsAsked (Event.Claim worker) log.old log.new result }
+    {
+        log.make_place()?;
+        claim(&mut self.world.lock(rt), log, worker)
+    }
+
+    // Commits a job that was prepared. Where it is refused, the preparation is given up.
+    fn committed<R: Wait>(
+        &self,
+        rt: &R,
+        log: &mut SeatLog,
+        worker: Worker,
+        prepared: Prepared,
+    ) -> Result<Option<Reply>, ShareFault>
+        ensures { IsAsked (Event.Commit worker) log.old log.new result }
+    {
+        match log.make_place() {
+            Ok(()) => commit(&mut self.world.lock(rt), log, worker, prepared),
+            Err(fault) => {
+                prepared.abandon();
+                Err(fault)
+            }
+        }
+    }
+}
+
+// The place of the log's next call, where the journal isn't shorter than the seat has seen it.
+fn next_place<J: Origin>(world: &Held<J>, log: &SeatLog) -> Result<u64, ShareFault>
+    ensures { IfOk result (λ place. place + 1 < 2 ^ 64) }
+{
+    let place = world.len();
+    if place < log.seen {
+        return Err(ShareFault::Torn);
+    }
+    Ok(place)
+}
+
+// Takes a packet under the lock.
+fn take<J: Origin>(
+    world: &mut Held<J>,
+    log: &mut SeatLog,
+    lane: Lane,
+    n: u64,
+) -> Result<Option<(Octets, Config)>, ShareFault>
+    requires room { vec_len log.old.calls + 1 ≤ vec_capacity log.old.calls }
+    ensures asked { IsAsked (Event.Take lane n) log.old log.new result }
+    ensures configured { IfOk result (λ r. IfSome r (λ t. IsConfig t.1)) }
+{
+    let place = next_place(world, log)?;
+    match world.take_out(log.seat, lane, n) {
+        Ok((reply, octets)) => {
+            log.note(place, Event::Take(lane, n), reply);
+            Ok(Some((octets, world.config())))
+        }
+        Err(refused) => {
+            log.seen = place;
+            ended(refused.fault)?;
+            Ok(None)
+        }
+    }
+}
+
+// Delivers a packet under the lock.
+fn deliver<J: Origin>(
+    world: &mut Held<J>,
+    log: &mut SeatLog,
+    lane: Lane,
+    parsed: Parsed,
+) -> Result<Option<Reply>, ShareFault>
+    requires room { vec_len log.old.calls + 1 ≤ vec_capacity log.old.calls }
+    ensures { IsAsked (Event.Deliver lane) log.old log.new result }
+{
+    let place = next_place(world, log)?;
+    match world.deliver_parsed(log.seat, lane, parsed) {
+        Ok(reply) => {
+            log.note(place, Event::Deliver(lane), reply);
+            Ok(Some(reply))
+        }
+        Err((fault, _parsed)) => {
+            log.seen = place;
+            ended(fault)?;
+            Ok(None)
+        }
+    }
+}
+
+// Claims a job under the lock.
+fn claim<J: Origin>(
+    world: &mut Held<J>,
+    log: &mut SeatLog,
+    worker: Worker,
+) -> Result<Option<(Ticket, Shape, u16)>, ShareFault>
+    requires room { vec_len log.old.calls + 1 ≤ vec_capacity log.old.calls }
+    ensures { IsAsked (Event.Claim worker) log.old log.new result }
+{
+    let place = next_place(world, log)?;
+    let Ok(shape) = world.shape() else {
+        return Err(ShareFault::Memory);
+    };
+    match world.claim_out(log.seat, worker) {
+        Ok((reply, ticket)) => {
+            log.note(place, Event::Claim(worker), reply);
+            Ok(Some((ticket, shape, world.config().apid)))
+        }
+        Err(refused) => {
+            log.seen = place;
+            ended(refused.fault)?;
+            Ok(None)
+        }
+    }
+}
+
+// Commits a job under the lock. Where it is refused, the preparation is given up.
+fn commit<J: Origin>(
+    world: &mut Held<J>,
+    log: &mut SeatLog,
+    worker: Worker,
+    prepared: Prepared,
+) -> Result<Option<Reply>, ShareFault>
+    requires room { vec_len log.old.calls + 1 ≤ vec_capacity log.old.calls }
+    ensures { IsAsked (Event.Commit worker) log.old log.new result }
+{
+    let place = match next_place(world, log) {
+        Ok(place) => place,
+        Err(fault) => {
+            prepared.abandon();
+            return Err(fault);
+        }
+    };
+    match world.commit_with(log.seat, worker, prepared) {
+        Ok(reply) => {
+            log.note(place, Event::Commit(worker), reply);
+            Ok(Some(reply))
+        }
+        Err((fault, prepared)) => {
+            prepared.abandon();
+            log.seen = place;
+            ended(fault)?;
+            Ok(None)
+        }
+    }
+}

@@ -1,0 +1,108 @@
+-- The job that is claimed next is the one that the journal says, and the jobs that wait or aren't
+-- executed are as many as it says.
+use Rattle.std.proofs.Common.{arith, ◌≡◌, ◌∙◌, ap, refl, ℕ, ◌-◌, true, if◌then◌else◌, List, length, drop, slice_get, Option, Some, None, is_some}
+use Rattle.std.specs.Option.{option_map}
+use Rattle.std.proofs.lemmas.List.{length-drop, length-map}
+use Rattle.std.proofs.lemmas.Option.{slice_get-map}
+use Rattle.lpt_memory.specs.Memories.{Contents}
+use Rattle.lpt_memory.specs.Readings.{Job}
+use Rattle.lpt_jobs.specs.Jobs.{claimed_in, unclaimed}
+use Rattle.lpt_events.specs.declared.config.Config.{Config}
+use Rattle.lpt_events.specs.declared.entry.Release.{Release}
+use Rattle.lpt_events.specs.declared.event.Event.{Event}
+use Rattle.lpt_events.specs.declared.event.Event.TheVariants.{Open, Send, Plain, Finish, Lose, Damage, Take, Deliver, Tick, Expire, Claim, Commit, Apply}
+use Rattle.lpt_events.specs.declared.side.Side.{Side}
+use Rattle.lpt_events.specs.declared.side.Side.TheVariants.{Ground, Craft}
+use Rattle.lpt_events.specs.declared.worker.Worker.{Worker}
+use Rattle.lpt_events.specs.declared.worker.Worker.TheVariants.{W1, W2}
+use Rattle.lpt_events.specs.Lanes.{lane_direction}
+use Rattle.lpt_events.specs.Sides.{sender_side, receiver_side}
+use Rattle.lpt_events.specs.Workers.{same_worker}
+use Rattle.lpt_node.specs.Faults.{node_fault}
+use Rattle.lpt_node.specs.Jobs.{claimed_of, refusal_claim_of}
+use Rattle.lpt_node.specs.Nodes.{NodeData}
+use Rattle.lpt_journal.specs.Journal.{History}
+use Rattle.lpt_journal.specs.Jobs.{boot, jobs, claimed, applied, job_given, ticket}
+use Rattle.lpt_machine.specs.Shows.{Shows, JobsFit, mark_at}
+use Rattle.lpt_machine.specs.State.{State, after, committed_on, refusal_claim_by, refusal_commit_of, refusal_of, with_end}
+use Rattle.lpt_machine.specs.Tickets.{Tickets, ticket_of, with_ticket}
+use Rattle.lpt_machine.specs.Views.{jobs_view, views}
+use Rattle.lpt_machine.proofs.JobsShown.{was_claimed-mark_at}
+use Rattle.lpt_machine.proofs.MarksShown.{unclaimed_shown}
+use Rattle.lpt_machine.proofs.QueueLemmas.{claimed_in-jobs_from}
+use Rattle.lpt_world.proofs.LegalLemmas.{length-jobs_from}
+
+-- ---- claims
+
+-- a job that waits, in a boot
+abbrev pub named : ℕ → ℕ × List ℕ → Job
+named b x = record { boot = b; job = x.0; message = x.1 }
+
+-- the oldest job that waits is the next one of the journal
+pub next_shown : (c : Config) (first : Contents) (s : State) (h : History)
+    → Shows s (views c first h)
+    → JobsFit (jobs_view c first h) (ticket c h)
+    → option_map (named s.on_craft.boot) (unclaimed s.on_craft.jobs) ≡ job_given c h
+next_shown c first s h k fits =
+    ap (option_map (named s.on_craft.boot))
+    (unclaimed_shown fits.executed fits.claimed k.jobs
+    ∙ ap (option_map {U = ℕ × List ℕ} (λ m. (claimed h, m)))
+    (slice_get-map (λ (r : Release). r.message) (jobs c h) (claimed h)))
+    ∙ go (slice_get (jobs c h) (claimed h)) where
+      go : (o : Option Release)
+          → option_map (named s.on_craft.boot)
+          (option_map {U = ℕ × List ℕ} (λ m. (claimed h, m)) (option_map (λ (r : Release). r.message) o))
+          ≡ option_map (λ (r : Release). record { boot = boot h Craft; job = claimed h; message = r.message }) o
+      go None = refl
+      go (Some r) = ap (λ b. Some (named b (claimed h, r.message))) k.craft.boot
+
+-- where a claim isn't refused, a job waits
+pub one_waits : (d : NodeData) (t : Option Job)
+    → refusal_claim_by d t ≡ None
+    → is_some (unclaimed d.jobs) ≡ true
+one_waits d (Some t) e = absurd cc
+one_waits d None e = go (unclaimed d.jobs) e where
+  go : (u : Option (ℕ × List ℕ))
+      → option_map node_fault (refusal_claim_of u) ≡ None
+      → is_some u ≡ true
+  go None e = absurd cc
+  go (Some x) e = refl
+
+pub not_none : {A : Type 0} (o : Option A) → is_some o ≡ true → ¬ (None ≡ o)
+not_none None e f = absurd cc
+not_none (Some x) e f = absurd cc
+
+-- ---- how many
+
+-- the queue has the jobs that aren't executed
+pub queued_shown : (c : Config) (first : Contents) (s : State) (h : History)
+    → Shows s (views c first h)
+    → length s.on_craft.jobs.jobs ≡ length (jobs c h) - applied h
+queued_shown c first s h k =
+    let v = jobs_view c first h in
+    omega (
+      arith,
+      ap length k.jobs.jobs,
+      length-jobs_from (mark_at v) v.applied (drop v.applied v.messages),
+      length-drop v.applied v.messages,
+      length-map (jobs c h) (λ (r : Release). r.message),
+    )
+
+-- behind the claimed jobs stand those that wait
+pub waiting_shown : (c : Config) (first : Contents) (s : State) (h : History)
+    → Shows s (views c first h)
+    → JobsFit (jobs_view c first h) (ticket c h)
+    → length s.on_craft.jobs.jobs - claimed_in s.on_craft.jobs.jobs ≡ length (jobs c h) - claimed h
+waiting_shown c first s h k fits =
+    let v = jobs_view c first h in
+    omega (
+      arith,
+      queued_shown c first s h k,
+      ap claimed_in k.jobs.jobs,
+      claimed_in-jobs_from (mark_at v) v.claimed v.applied (drop v.applied v.messages)
+          (was_claimed-mark_at v) fits.executed
+          (omega (arith, length-drop v.applied v.messages, fits.executed, fits.claimed)),
+      fits.executed,
+      fits.claimed,
+      length-map (jobs c h) (λ (r : Release). r.message),
+    )

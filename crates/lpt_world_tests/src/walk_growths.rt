@@ -1,0 +1,247 @@
+//! Growths that fail: a reception expires, requests are refused, dumps are answered by a packet and by
+//! a message, and a check has all its reports, where one growth fails.
+//!
+//! `tests/growths` has each growth fail in turn, in the tests as they are built.
+
+use crate::packets::EXPIRED;
+use crate::scenes::{Asked, CONFIG};
+use crate::walking::{Does, Path, Step, walk};
+use lpt_events::Applied;
+use lpt_link::Lane::{self, G1, S1};
+use lpt_node::{Config, Outcome, Why};
+use lpt_packet::Direction::{Down, Up};
+use lpt_part::Reason;
+use lpt_pus::FailureCode;
+use lpt_world::{Answer, StepFault};
+use std::alloc::Global;
+use std::process::Abort;
+use std::test::Fail;
+
+/// Bodies of requests: two areas of a load, of which the second has a wrong checksum; a load up to the
+/// end of the memory, and past it; a dump of two octets, and of three; a check of two.
+const WRONG_CHECKSUM: [u8; 24] = [
+    1, 2, 0, 0, 0, 0, 0, 4, 0xab, 0xcd, 0xef, 1, 4, 0xa2, 0, 0, 0, 8, 0, 2, 0, 0, 0x1d, 0x0e,
+];
+
+const UP_TO_THE_END: [u8; 14] = [1, 1, 0, 0, 0, 252, 0, 4, 0xab, 0xcd, 0xef, 1, 4, 0xa2];
+
+const PAST_THE_END: [u8; 14] = [1, 1, 0, 0, 0, 253, 0, 4, 0xab, 0xcd, 0xef, 1, 4, 0xa2];
+
+const TWO: [u8; 8] = [1, 1, 0, 0, 0, 16, 0, 2];
+
+const THREE: [u8; 8] = [1, 1, 0, 0, 0, 16, 0, 3];
+
+const CHECK: [u8; 8] = [1, 1, 0, 0, 0, 0, 0, 2];
+
+/// TM\[1,4\] of count 0 and clock 0: the start of request 1864c000 failed for a wrong checksum.
+const NOT_STARTED: [u8; 25] = [
+    0x08, 0x64, 0xc0, 0x00, 0x00, 0x12, 0x20, 0x01, 0x04, 0x00, 0x00, 0x00, 0x01, 0x00, 0x00, 0x00,
+    0x00, 0x18, 0x64, 0xc0, 0x00, 0x00, 0x05, 0x5a, 0x3d,
+];
+
+/// TM\[6,6\] of count 0 and clock 0: two octets of zero from address 16 on.
+const DUMPED: [u8; 31] = [
+    0x08, 0x64, 0xc0, 0x00, 0x00, 0x18, 0x20, 0x06, 0x06, 0x00, 0x00, 0x00, 0x01, 0x00, 0x00, 0x00,
+    0x00, 0x01, 0x01, 0x00, 0x00, 0x00, 0x10, 0x00, 0x02, 0x00, 0x00, 0x1d, 0x0f, 0xe7, 0x44,
+];
+
+/// TM\[6,10\] of count 2 and clock 0: the checksum of two octets of zero from address 0 on.
+const CHECKED: [u8; 29] = [
+    0x08, 0x64, 0xc0, 0x02, 0x00, 0x16, 0x20, 0x06, 0x0a, 0x00, 0x00, 0x00, 0x01, 0x00, 0x00, 0x00,
+    0x00, 0x01, 0x01, 0x00, 0x00, 0x00, 0x00, 0x00, 0x02, 0x1d, 0x0f, 0x53, 0xd3,
+];
+
+fn sends(does: Does, number: u64) -> Step {
+    (does, Ok(Answer::Put(number)), 1)
+}
+
+fn part_up(number: u16) -> Does {
+    Does::Asks(Asked::Send(Up, 7, number))
+}
+
+fn part_down(number: u16) -> Does {
+    Does::Asks(Asked::Send(Down, 0, number))
+}
+
+fn takes(lane: Lane, number: u64) -> Step {
+    let asked = Asked::Take(lane, number);
+    (Does::Asks(asked), Ok(Answer::Took(number)), 0)
+}
+
+fn gives(lane: Lane, outcome: Outcome) -> Step {
+    let asked = Asked::Deliver(lane);
+    (Does::Asks(asked), Ok(Answer::Delivered(outcome)), 0)
+}
+
+fn ticks(clock: u32) -> Step {
+    (Does::Tick, Ok(Answer::Clock(clock)), 0)
+}
+
+fn claims(job: u64) -> Step {
+    (Does::Claim, Ok(Answer::Claimed(0, job)), 0)
+}
+
+fn commits(job: u64) -> Step {
+    (Does::Commit, Ok(Answer::Committed(0, job)), 0)
+}
+
+fn applies(applied: Applied, packets: u64) -> Step {
+    (Does::Apply, Ok(Answer::Applied(applied)), packets)
+}
+
+// Two of three parts come, the second a tick later. What they wait for is overdue two ticks after
+// that; ground is told, and its sender is closed.
+fn expiry(rt: &impl Abort, alloc: Global) -> Result<bool, Fail> {
+    let opens = Does::Asks(Asked::Open(Up, 7, 20));
+    let steps = [
+        (opens, Ok(Answer::Opened(3)), 0),
+        sends(part_up(1), 0),
+        sends(part_up(2), 1),
+        sends(part_up(3), 2),
+        takes(S1, 0),
+        gives(S1, Outcome::Kept(7, 1)),
+        ticks(17),
+        takes(S1, 1),
+        gives(S1, Outcome::Kept(7, 2)),
+        ticks(18),
+        (Does::Expire, Err(StepFault::NothingDue), 0),
+        ticks(19),
+        (Does::Expire, Ok(Answer::Expired(Up, 7)), 1),
+        takes(S1, 2),
+        gives(S1, Outcome::Ignored(Why::Closed)),
+        takes(G1, 3),
+        gives(G1, Outcome::AbortNoted(7, Reason::Expired)),
+        (part_up(3), Err(StepFault::NotOpen), 0),
+    ];
+    let config = Config {
+        clock: 16,
+        timeout: 2,
+        ..CONFIG
+    };
+    let it = Path {
+        config,
+        steps: &steps,
+        packet: (3, &EXPIRED),
+    };
+    walk(rt, alloc, &it)
+}
+
+// A load is refused for the checksum of its second area; one is carried out, and one is refused since
+// it goes past the end.
+fn refusals(rt: &impl Abort, alloc: Global) -> Result<bool, Fail> {
+    let steps = [
+        sends(Does::Plain(0, 2, &WRONG_CHECKSUM), 0),
+        takes(S1, 0),
+        gives(S1, Outcome::PlainReleased(37)),
+        claims(0),
+        commits(0),
+        applies(Applied::Code(FailureCode::WrongChecksum), 1),
+        takes(G1, 1),
+        gives(G1, Outcome::ReportNoted(1, 4)),
+        sends(Does::Plain(0, 2, &UP_TO_THE_END), 2),
+        takes(S1, 2),
+        gives(S1, Outcome::PlainReleased(27)),
+        claims(1),
+        commits(1),
+        applies(Applied::Done(None), 0),
+        sends(Does::Plain(0, 2, &PAST_THE_END), 3),
+        takes(S1, 3),
+        gives(S1, Outcome::PlainReleased(27)),
+        claims(2),
+        commits(2),
+        applies(Applied::Code(FailureCode::OutOfRange), 1),
+    ];
+    let config = Config {
+        part_size: 16,
+        ..CONFIG
+    };
+    let it = Path {
+        config,
+        steps: &steps,
+        packet: (1, &NOT_STARTED),
+    };
+    walk(rt, alloc, &it)
+}
+
+// A dump is answered by a packet, and one of an octet more by a message of four parts.
+fn dumps(rt: &impl Abort, alloc: Global) -> Result<bool, Fail> {
+    let steps = [
+        sends(Does::Plain(0, 5, &TWO), 0),
+        takes(S1, 0),
+        gives(S1, Outcome::PlainReleased(21)),
+        claims(0),
+        commits(0),
+        applies(Applied::Done(None), 1),
+        sends(Does::Plain(0, 5, &THREE), 2),
+        takes(S1, 2),
+        gives(S1, Outcome::PlainReleased(21)),
+        claims(1),
+        commits(1),
+        applies(Applied::Done(Some(0)), 0),
+        sends(part_down(1), 3),
+        sends(part_down(2), 4),
+        sends(part_down(3), 5),
+        sends(part_down(4), 6),
+        takes(G1, 3),
+        gives(G1, Outcome::Kept(0, 1)),
+        takes(G1, 4),
+        gives(G1, Outcome::Kept(0, 2)),
+        takes(G1, 5),
+        gives(G1, Outcome::Kept(0, 3)),
+        takes(G1, 6),
+        gives(G1, Outcome::Released(0, 32)),
+    ];
+    let it = Path {
+        config: CONFIG,
+        steps: &steps,
+        packet: (1, &DUMPED),
+    };
+    walk(rt, alloc, &it)
+}
+
+// A check that asks for all reports has four.
+fn checks(rt: &impl Abort, alloc: Global) -> Result<bool, Fail> {
+    let steps = [
+        sends(Does::Plain(15, 9, &CHECK), 0),
+        takes(S1, 0),
+        gives(S1, Outcome::PlainReleased(21)),
+        claims(0),
+        commits(0),
+        applies(Applied::Done(None), 4),
+        takes(G1, 1),
+        gives(G1, Outcome::ReportNoted(1, 1)),
+        takes(G1, 2),
+        gives(G1, Outcome::ReportNoted(1, 3)),
+        takes(G1, 3),
+        gives(G1, Outcome::ReportNoted(6, 10)),
+        takes(G1, 4),
+        gives(G1, Outcome::ReportNoted(1, 7)),
+    ];
+    let it = Path {
+        config: CONFIG,
+        steps: &steps,
+        packet: (3, &CHECKED),
+    };
+    walk(rt, alloc, &it)
+}
+
+// Goes all ways, and gives whether a growth failed.
+fn all(rt: &impl Abort, alloc: Global) -> Result<bool, Fail> {
+    let expired = expiry(rt, alloc)?;
+    let refused = refusals(rt, alloc)?;
+    let dumped = dumps(rt, alloc)?;
+    let checked = checks(rt, alloc)?;
+    Ok(expired || refused || dumped || checked)
+}
+
+#[test]
+fn no_growth_fails(rt: HostRuntime) -> Result<(), Fail> {
+    assert!(rt; !all(&rt, rt.alloc())?);
+    Ok(())
+}
+
+#[test]
+fn each_growth_may_fail(rt: HostRuntime) -> Result<(), Fail> {
+    all(&rt, rt.alloc())?;
+    Ok(())
+}

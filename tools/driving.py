@@ -1,0 +1,67 @@
+"""What the scripts of tests/ in Python share: the program, and the count of cases."""
+
+import os
+import pathlib
+import subprocess
+import sys
+
+TOP = pathlib.Path(__file__).resolve().parent.parent
+LONGEST_RUN_SECONDS = 60
+
+
+class Driver:
+    """A script of tests/ by this name: it runs the program that was built, and counts its cases."""
+
+    def __init__(self, name):
+        self.name = name
+        self.passed = 0
+        self.failed = 0
+        environment = {**os.environ, "LPT_BUILD": "never"}
+        words = [TOP / "lpt", "--version"]
+        if subprocess.run(words, env=environment, stdout=subprocess.DEVNULL).returncode != 0:
+            print(f"{name}: 0 passed, 1 failed")
+            sys.exit(1)
+
+    def run(self, words, read=b"", environment=None):
+        """Runs the program: its status, what it printed, and the lines of its complaint."""
+        try:
+            ran = subprocess.run(
+                [TOP / "crates/lpt/out/lpt", *words],
+                input=read,
+                capture_output=True,
+                env={**os.environ, **(environment or {})},
+                timeout=LONGEST_RUN_SECONDS,
+            )
+        except subprocess.TimeoutExpired:
+            return "no end", b"", []
+        return ran.returncode, ran.stdout, ran.stderr.decode(errors="replace").splitlines()
+
+    def verdict(self, case, got, wanted):
+        """Counts a case, by what came of it and what was wanted. The first failures are told."""
+        if got == wanted:
+            self.passed += 1
+            return
+        self.failed += 1
+        if self.failed <= 10:
+            print(f"failed: {case}: {shortened(got)}\n  in place of {shortened(wanted)}")
+
+    def end(self):
+        """Tells the counts, and ends the script."""
+        print(f"{self.name}: {self.passed} passed, {self.failed} failed")
+        sys.exit(self.failed != 0)
+
+
+def shortened(value):
+    """A value as it is told."""
+    text = repr(value)
+    return text if len(text) <= 300 else f"{text[:300]} .. ({len(text)} characters)"
+
+
+def preloaded(source, folder):
+    """Compiles a file of tools/ to stand before the C library, by the kit's own compiler."""
+    said = subprocess.run(["rt", "doc"], capture_output=True, text=True, check=True).stdout
+    kit = pathlib.Path(said.strip()).parent / "toolchain/bin"
+    made = pathlib.Path(folder) / f"{source}.so"
+    words = ["-shared", "-fPIC", "-nostdlib", "-O1", "-o", made, TOP / "tools" / f"{source}.c"]
+    subprocess.run([kit / "clang", f"--ld-path={kit}/ld.lld", *words], check=True)
+    return made
