@@ -10,7 +10,7 @@ use lpt_memory::{Memories, Prepared, Shape, Ticket, prepare};
 use lpt_node::Outcome::{self, *};
 use lpt_node::{Ask, Executed, NodeFault, Side, Why};
 use lpt_packet::Direction::Up;
-use lpt_packet::{Name, Octets};
+use lpt_packet::Name;
 use std::alloc::Global;
 use std::process::Abort;
 use std::test::Fail;
@@ -34,24 +34,19 @@ fn retire(station: &mut Station, id: Name) -> bool {
 
 #[test]
 fn a_sender_starts_anew(rt: HostRuntime) -> Result<(), Fail> {
-    let first = octets_of(rt.alloc(), &MESSAGE)?;
-    let second = octets_of(rt.alloc(), &MESSAGE)?;
     let mut station = Station::new(&rt, rt.alloc(), Side::Ground, PASS)?;
-    sends_again(&rt, &mut station, first, second)
+    let came = sends_again(&rt, rt.alloc(), &mut station);
+    drop(station);
+    came
 }
 
 // The second message goes under the name of the first, and with the first count.
-fn sends_again(
-    rt: &impl Abort,
-    station: &mut Station,
-    first: Octets,
-    second: Octets,
-) -> Result<(), Fail> {
-    station.opens(7, first);
+fn sends_again(rt: &impl Abort, alloc: Global, station: &mut Station) -> Result<(), Fail> {
+    station.opens(7, octets_of(alloc, &MESSAGE)?);
     assert!(rt; restart(station) == (1, 0) && station.node.clock() == 9);
     assert!(rt; station.node.sender(7) == State::Closed);
     assert!(rt; retire(station, 7) && station.node.sender(7) == State::Free);
-    assert!(rt; station.opens(7, second) == 0);
+    assert!(rt; station.opens(7, octets_of(alloc, &MESSAGE)?) == 0);
     let packet = station.node.send_part(7, 1)?;
     assert!(rt; packet.as_slice() == FIRST_UP.as_slice());
     Ok(())
@@ -60,26 +55,36 @@ fn sends_again(
 #[test]
 fn a_receiver_starts_anew(rt: HostRuntime) -> Result<(), Fail> {
     let mut station = Station::new(&rt, rt.alloc(), Side::Craft, PASS)?;
-    receives_again(&rt, rt.alloc(), &mut station)
+    let came = receives_again(&rt, rt.alloc(), &mut station);
+    drop(station);
+    came
 }
 
 // A reception is dropped, and what is closed stays so until it is retired.
 fn receives_again(rt: &impl Abort, alloc: Global, station: &mut Station) -> Result<(), Fail> {
-    let rows = [
-        (1, Kept(7, 1)),
-        (2, Released(7, 9)),
-        (1, Ignored(Why::Closed)),
-    ];
-    assert!(rt; hears(alloc, station, 1)? == Kept(7, 1));
+    let closed = Ignored(Why::Closed);
+    comes(rt, alloc, station, &[(1, Kept(7, 1))])?;
     restart(station);
     assert!(rt; !station.node.is_open_reception(7));
-    for (part, outcome) in rows {
-        assert!(rt; hears(alloc, station, part)? == outcome, "part {part}");
-    }
+    let rows = [(1, Kept(7, 1)), (2, Released(7, 9)), (1, closed)];
+    comes(rt, alloc, station, &rows)?;
     assert!(rt; restart(station) == (2, 0));
-    assert!(rt; hears(alloc, station, 1)? == Ignored(Why::Closed));
+    comes(rt, alloc, station, &[(1, closed)])?;
     assert!(rt; retire(station, 7));
-    assert!(rt; hears(alloc, station, 1)? == Kept(7, 1));
+    comes(rt, alloc, station, &[(1, Kept(7, 1))])
+}
+
+// Asserts what becomes of parts of a message of nine octets that come one after another.
+fn comes(
+    rt: &impl Abort,
+    alloc: Global,
+    station: &mut Station,
+    rows: &[(u16, Outcome)],
+) -> Result<(), Fail> {
+    for (part, outcome) in rows {
+        let came = hears(alloc, station, *part)?;
+        assert!(rt; came == *outcome, "part {part}");
+    }
     Ok(())
 }
 
@@ -93,8 +98,16 @@ fn hears(alloc: Global, station: &mut Station, part: u16) -> Result<Outcome, Fai
 #[test]
 fn the_spacecraft_executes_a_request(rt: HostRuntime) -> Result<(), Fail> {
     let mut memories = memory(rt.alloc())?;
-    let mut station = Station::new(&rt, rt.alloc(), Side::Craft, PASS)?;
-    works(&rt, rt.alloc(), &mut station, &mut memories)
+    let came = executes(&rt, rt.alloc(), &mut memories);
+    drop(memories);
+    came
+}
+
+fn executes(rt: &impl Abort, alloc: Global, memories: &mut Memories) -> Result<(), Fail> {
+    let mut station = Station::new(rt, alloc, Side::Craft, PASS)?;
+    let came = works(rt, alloc, &mut station, memories);
+    drop(station);
+    came
 }
 
 // Memory 1 of 32 octets.
@@ -111,23 +124,57 @@ fn works(
     station: &mut Station,
     memories: &mut Memories,
 ) -> Result<(), Fail> {
-    station.hears(octets_of(alloc, &LOADING)?)?;
-    assert!(rt; (station.node.boot(), station.node.jobs()) == (0, 1));
+    loads(rt, alloc, station, memories)?;
+    is_too_late(rt, alloc, station, memories)
+}
+
+fn loads(
+    rt: &impl Abort,
+    alloc: Global,
+    station: &mut Station,
+    memories: &mut Memories,
+) -> Result<(), Fail> {
+    assert!(rt; jobs_with(alloc, station, &LOADING)? == (0, 1));
     let done = execute(rt, alloc, station, memories)?;
     assert!(rt; done.applied == Applied::Done(None) && done.packets.len() == 0);
-    assert!(rt;
-        memories
-            .content(1)
-            .is_some_and(|it| it.get(15..21) == Some(&LOADED))
-    );
-    station.hears(octets_of(alloc, &LOADING_AGAIN)?)?;
-    let shape = memories.shape()?;
-    let late = read(alloc, &shape, 100, station.node.claim()?)?;
+    assert!(rt; has_loaded(memories.content(1)));
+    Ok(())
+}
+
+fn is_too_late(
+    rt: &impl Abort,
+    alloc: Global,
+    station: &mut Station,
+    memories: &Memories,
+) -> Result<(), Fail> {
+    jobs_with(alloc, station, &LOADING_AGAIN)?;
+    let late = claimed(alloc, station, memories)?;
     assert!(rt; (late.boot(), late.job()) == (0, 1));
     assert!(rt; restart(station) == (1, 0));
     assert!(rt; is_stale(station, late));
     assert!(rt; station.node.refusal(&Ask::Claim) == Some(NodeFault::NoJob));
     Ok(())
+}
+
+// The boot of a node and how many jobs it has, once it has heard these octets.
+fn jobs_with(alloc: Global, station: &mut Station, octets: &[u8]) -> Result<(u64, u64), Fail> {
+    station.hears(octets_of(alloc, octets)?)?;
+    Ok((station.node.boot(), station.node.jobs()))
+}
+
+// The reading of the oldest job that waits.
+fn claimed(alloc: Global, station: &mut Station, memories: &Memories) -> Result<Prepared, Fail> {
+    let shape = memories.shape()?;
+    let ticket = station.node.claim()?;
+    read(alloc, &shape, 100, ticket)
+}
+
+// Whether memory 1 has what was loaded.
+fn has_loaded(octets: Option<&[u8]>) -> bool {
+    match octets {
+        Some(octets) => octets.get(15..21) == Some(&LOADED),
+        None => false,
+    }
 }
 
 // What memory 1 has from address 15 on once it was loaded.

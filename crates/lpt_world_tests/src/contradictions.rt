@@ -67,24 +67,35 @@ const SCENES: [&[Row]; 7] = [
 // The packet of a part, to a node of this side. The octets are the first of the message.
 fn packet(alloc: Global, side: Side, row: &Row) -> Result<Octets, Fail> {
     let (kind, number, len, _) = *row;
-    let mut body = [0, 7].to_vec(alloc)?;
-    body.extend_from_slice(&number.to_be_bytes())?;
-    body.extend_from_slice(MESSAGE.get(..len).ok_or("a longer part")?)?;
+    let octets = MESSAGE.get(..len).ok_or("a longer part")?;
+    let body = body_of(alloc, number, octets)?;
     let place = match kind {
         Kind::First => 0,
         Kind::Middle => 1,
         Kind::Last => 2,
     };
     match side {
-        Side::Craft => {
-            let head = TcHead::new(100, 0, 0, 13, 9 + place, 1).ok_or("no head")?;
-            Ok(write_tc(alloc, &head, &body)?)
-        }
-        Side::Ground => {
-            let head = TmHead::new(100, 0, 0, 13, 1 + place, 0, 1, 0).ok_or("no head")?;
-            Ok(write_tm(alloc, &head, &body)?)
-        }
+        Side::Craft => telecommand(alloc, 9 + place, body.as_slice()),
+        Side::Ground => telemetry(alloc, 1 + place, body.as_slice()),
     }
+}
+
+// The body of the part of this number.
+fn body_of(alloc: Global, number: u16, octets: &[u8]) -> Result<Vec<u8>, AllocError> {
+    let mut body = [0, 7].to_vec(alloc)?;
+    body.extend_from_slice(&number.to_be_bytes())?;
+    body.extend_from_slice(octets)?;
+    Ok(body)
+}
+
+fn telecommand(alloc: Global, subtype: u8, body: &[u8]) -> Result<Octets, Fail> {
+    let head = TcHead::new(100, 0, 0, 13, subtype, 1).ok_or("no head")?;
+    Ok(write_tc(alloc, &head, body)?)
+}
+
+fn telemetry(alloc: Global, subtype: u8, body: &[u8]) -> Result<Octets, Fail> {
+    let head = TmHead::new(100, 0, 0, 13, subtype, 0, 1, 0).ok_or("no head")?;
+    Ok(write_tm(alloc, &head, body)?)
 }
 
 // Whether a packet comes to a node as its row says. The spacecraft reports what is broken off, the
@@ -103,7 +114,9 @@ fn comes(station: &mut Station, side: Side, row: &Row, packet: Octets) -> Result
 // Plays a scene to a new node.
 fn play(rt: &impl Abort, alloc: Global, side: Side, rows: &[Row]) -> Result<(), Fail> {
     let mut station = Station::new(rt, alloc, side, PASS)?;
-    plays(rt, alloc, &mut station, side, rows)
+    let came = plays(rt, alloc, &mut station, side, rows);
+    drop(station);
+    came
 }
 
 fn plays(

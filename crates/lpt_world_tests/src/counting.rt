@@ -5,7 +5,7 @@
 
 use crate::packets::MESSAGE;
 use crate::stations::{PASS, Station, octets_of};
-use lpt_node::{Node, NodeFault, Side};
+use lpt_node::{NodeFault, Side};
 use std::alloc::Global;
 use std::process::Abort;
 use std::test::Fail;
@@ -16,16 +16,23 @@ type Row = (u16, u16, u16);
 
 // Sends the parts of a new node's message, and asserts which numbers stand from octet `at` on.
 fn counts(rt: &impl Abort, alloc: Global, side: Side, at: usize, rows: &[Row]) -> Result<(), Fail> {
-    let message = octets_of(alloc, &MESSAGE)?;
     let mut station = Station::new(rt, alloc, side, PASS)?;
-    station.opens(7, message);
-    sends(rt, &mut station.node, at, rows)
+    let came = sends(rt, alloc, &mut station, at, rows);
+    drop(station);
+    came
 }
 
-fn sends(rt: &impl Abort, node: &mut Node, at: usize, rows: &[Row]) -> Result<(), Fail> {
+fn sends(
+    rt: &impl Abort,
+    alloc: Global,
+    station: &mut Station,
+    at: usize,
+    rows: &[Row],
+) -> Result<(), Fail> {
+    station.opens(7, octets_of(alloc, &MESSAGE)?);
     for (part, first, last) in rows {
         for wanted in *first..=*last {
-            let number = number_sent(node, *part, at)?;
+            let number = number_sent(station, *part, at)?;
             assert!(rt; number == Some(wanted), "{wanted} of part {part}");
         }
     }
@@ -33,8 +40,8 @@ fn sends(rt: &impl Abort, node: &mut Node, at: usize, rows: &[Row]) -> Result<()
 }
 
 // The number of two octets that stands in the packet of a part from octet `at` on.
-fn number_sent(node: &mut Node, part: u16, at: usize) -> Result<Option<u16>, NodeFault> {
-    let packet = node.send_part(7, part)?;
+fn number_sent(station: &mut Station, part: u16, at: usize) -> Result<Option<u16>, NodeFault> {
+    let packet = station.node.send_part(7, part)?;
     Ok(number_in(packet.as_slice(), at))
 }
 

@@ -21,7 +21,9 @@ const LAST_CHANGED: [u8; 25] = [
 fn what_noise_left_is_ignored(rt: HostRuntime) -> Result<(), Fail> {
     let alloc = rt.alloc();
     let mut world = new_world(alloc, CONFIG)?;
-    ignores(&rt, alloc, &mut world)
+    let came = ignores(&rt, alloc, &mut world);
+    drop(world);
+    came
 }
 
 fn ignores(rt: &impl Abort, alloc: Global, world: &mut World) -> Result<(), Fail> {
@@ -41,7 +43,9 @@ fn ignores(rt: &impl Abort, alloc: Global, world: &mut World) -> Result<(), Fail
 fn whole_packets_are_refused(rt: HostRuntime) -> Result<(), Fail> {
     let alloc = rt.alloc();
     let mut world = new_world(alloc, CONFIG)?;
-    refuses(&rt, alloc, &mut world)
+    let came = refuses(&rt, alloc, &mut world);
+    drop(world);
+    came
 }
 
 // A part, a packet of a foreign APID, an idle one, telemetry up, and 32 octets, one too many.

@@ -112,7 +112,9 @@ fn walk(rt: &impl Abort, alloc: Global) -> Result<bool, Fail> {
     let Ok(mut world) = World::new(alloc, CONFIG, memories) else {
         return Ok(true);
     };
-    Ok(walks(rt, alloc, &mut world, flags))
+    let failed = walks(rt, alloc, &mut world, flags);
+    drop(world);
+    Ok(failed)
 }
 
 #[test]

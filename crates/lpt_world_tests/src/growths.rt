@@ -101,7 +101,9 @@ fn walk(rt: &impl Abort, alloc: Global) -> Result<bool, Fail> {
         return Ok(true);
     };
     let (mut world, failed) = make(rt, alloc, first, second)?;
-    Ok(walks(rt, alloc, &mut world, failed))
+    let failed = walks(rt, alloc, &mut world, failed);
+    drop(world);
+    Ok(failed)
 }
 
 fn walks(rt: &impl Abort, alloc: Global, world: &mut World, failed: bool) -> bool {

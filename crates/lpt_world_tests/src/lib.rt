@@ -1,9 +1,9 @@
 //! Tests of nodes and worlds: worked rows, what no clause says, and growths of memory that fail.
 //!
 //! They stand in a crate of their own, so that the libraries are proved without them. A function that
-//! makes a node or a world makes one fallible call with it, its last; what else can fail is done
-//! before, or by a function that borrows it. Each way out of a function drops what it owns, which is
-//! proved each time.
+//! makes a node or a world makes one fallible call with it, its last, and then hands it to `drop`; what
+//! else can fail is done before, or by a function that borrows it. Each way out of a function drops what
+//! it owns, which is proved each time, field by field; what goes to `drop` is proved once for its type.
 #![tactic(auto)]
 
 #[cfg(test)]
@@ -33,11 +33,15 @@ mod receiving;
 #[cfg(test)]
 mod refusals;
 #[cfg(test)]
+mod renewal_growths;
+#[cfg(test)]
 mod scenes;
 #[cfg(test)]
 mod sending;
 #[cfg(test)]
 mod stations;
+#[cfg(test)]
+mod steps;
 #[cfg(test)]
 mod walk_growths;
 #[cfg(test)]

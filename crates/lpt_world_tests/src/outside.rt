@@ -17,7 +17,9 @@ use std::test::Fail;
 fn what_was_read_outside_is_delivered(rt: HostRuntime) -> Result<(), Fail> {
     let alloc = rt.alloc();
     let mut world = new_world(alloc, CONFIG)?;
-    delivers(&rt, alloc, &mut world)
+    let came = delivers(&rt, alloc, &mut world);
+    drop(world);
+    came
 }
 
 // The first part is delivered, and the last part isn't, of which the lane has nothing.

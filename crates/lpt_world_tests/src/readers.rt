@@ -26,7 +26,9 @@ fn runs_events_up_to_the_first_that_is_refused(rt: HostRuntime) -> Result<(), Fa
 // Runs a new world through the events of the rows, and gives how many it did and why not more.
 fn run(alloc: Global, rows: &[Row]) -> Result<(u64, Option<StepFault>), Fail> {
     let mut world = new_world(alloc, CONFIG)?;
-    runs(alloc, &mut world, rows)
+    let came = runs(alloc, &mut world, rows);
+    drop(world);
+    came
 }
 
 // Runs a world through the events of the rows, and gives how many it did and why not more.
@@ -52,7 +54,9 @@ fn states_its_law(_rt: HostRuntime) {
 fn shows_its_configuration_the_link_and_the_ends(rt: HostRuntime) -> Result<(), Fail> {
     let alloc = rt.alloc();
     let mut world = new_world(alloc, CONFIG)?;
-    shows_what_was_put(&rt, alloc, &mut world)
+    let came = shows_what_was_put(&rt, alloc, &mut world);
+    drop(world);
+    came
 }
 
 fn shows_what_was_put(rt: &impl Abort, alloc: Global, world: &mut World) -> Result<(), Fail> {
@@ -64,14 +68,22 @@ fn shows_what_was_put(rt: &impl Abort, alloc: Global, world: &mut World) -> Resu
     ];
     runs(alloc, world, &rows)?;
     assert!(rt; world.config() == CONFIG);
-    let packets = (world.packets(), world.is_held(1), world.is_held(2));
-    assert!(rt; packets == (2, true, false));
-    let hands = (world.hand(Lane::S1), world.hand(Lane::G1));
-    assert!(rt; hands == (Some(1), None));
-    let senders = (world.sender(Up, 7), world.sender(Down, 7));
-    assert!(rt; senders == (State::Open, State::Free));
-    assert!(rt; world.clock(Side::Craft) == CONFIG.clock);
+    assert!(rt; shows_the_link(world) && shows_the_ends(world));
     Ok(())
+}
+
+fn shows_the_link(world: &World) -> bool {
+    world.packets() == 2
+        && world.is_held(1)
+        && !world.is_held(2)
+        && world.hand(Lane::S1) == Some(1)
+        && world.hand(Lane::G1).is_none()
+}
+
+fn shows_the_ends(world: &World) -> bool {
+    world.sender(Up, 7) == State::Open
+        && world.sender(Down, 7) == State::Free
+        && world.clock(Side::Craft) == CONFIG.clock
 }
 
 #[test]
@@ -79,7 +91,9 @@ fn memories_keep_their_first_content(rt: HostRuntime) -> Result<(), Fail> {
     let alloc = rt.alloc();
     let memories = Memories::new(two_contents(alloc)?)?;
     let mut world = World::new(alloc, CONFIG, memories)?;
-    keeps(&rt, alloc, &mut world)
+    let came = keeps(&rt, alloc, &mut world);
+    drop(world);
+    came
 }
 
 // The identifiers and contents of memories 7 and 3, of three octets each.
@@ -94,15 +108,16 @@ fn two_contents(alloc: Global) -> Result<Vec<(u8, Octets)>, AllocError> {
 
 fn keeps(rt: &impl Abort, alloc: Global, world: &mut World) -> Result<(), Fail> {
     let opening = event(alloc, Asked::Open(Up, 7, 20))?;
-    assert!(rt; world.step(0, opening).is_ok());
-    for (id, octets) in [(7, Some([1, 2, 3])), (3, Some([4, 5, 6])), (1, None)] {
-        let octets = octets.as_ref().map(|octets| octets.as_slice());
-        assert!(rt;
-            world.memory(id) == octets && world.first(id) == octets,
-            "memory {id}"
-        );
-    }
+    assert!(rt; answer_of(world, opening).is_ok());
+    assert!(rt; has_kept(world, 7, Some(&[1, 2, 3])), "memory 7");
+    assert!(rt; has_kept(world, 3, Some(&[4, 5, 6])), "memory 3");
+    assert!(rt; has_kept(world, 1, None), "memory 1");
     Ok(())
+}
+
+// Whether a memory has these octets, and had them at first.
+fn has_kept(world: &World, id: u8, octets: Option<&[u8]>) -> bool {
+    world.memory(id) == octets && world.first(id) == octets
 }
 
 #[test]
@@ -121,7 +136,9 @@ fn is_prepared(alloc: Global, size: usize) -> Result<bool, Fail> {
 
 fn shape_of_a_world(alloc: Global) -> Result<Shape, Fail> {
     let world = new_world(alloc, CONFIG)?;
-    shape_of(&world)
+    let came = shape_of(&world);
+    drop(world);
+    came
 }
 
 fn shape_of(world: &World) -> Result<Shape, Fail> {

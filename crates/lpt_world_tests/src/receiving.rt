@@ -23,7 +23,9 @@ fn joins(
     rows: &[Row],
 ) -> Result<(), Fail> {
     let mut station = Station::new(rt, alloc, side, config)?;
-    hears(rt, alloc, &mut station, side, rows)
+    let came = hears(rt, alloc, &mut station, side, rows);
+    drop(station);
+    came
 }
 
 // Asserts what becomes of parts that come to the node on this side one after another.
@@ -122,24 +124,36 @@ fn the_spacecraft_reports_a_contradiction(rt: HostRuntime) -> Result<(), Fail> {
 #[test]
 fn the_overdue_are_given_up(rt: HostRuntime) -> Result<(), Fail> {
     let mut station = Station::new(&rt, rt.alloc(), Side::Craft, PASS)?;
-    waits(&rt, rt.alloc(), &mut station)
+    let came = waits(&rt, rt.alloc(), &mut station);
+    drop(station);
+    came
 }
 
 fn waits(rt: &impl Abort, alloc: Global, station: &mut Station) -> Result<(), Fail> {
     let rows: [Row; 2] = [(9, &MESSAGE, 1, Kept(9, 1)), (7, &MESSAGE, 1, Kept(7, 1))];
     hears(rt, alloc, station, Side::Craft, &rows)?;
     for _ in 0..10 {
-        assert!(rt; station.node.expire().err() == Some(NodeFault::NothingDue));
+        assert!(rt; is_nothing_due(station));
         station.node.tick()?;
     }
     assert!(rt; station.node.clock() == 19);
-    let seven = station.node.expire()?;
-    assert!(rt; seven.id == 7 && is(&seven.packet, &EXPIRED));
+    let (first, reported) = expired(station)?;
+    assert!(rt; first == 7 && reported);
     let late: [Row; 1] = [(7, &MESSAGE, 2, Ignored(Why::Closed))];
     hears(rt, alloc, station, Side::Craft, &late)?;
-    let nine = station.node.expire()?;
-    assert!(rt; nine.id == 9);
+    let (second, _) = expired(station)?;
+    assert!(rt; second == 9);
     Ok(())
+}
+
+fn is_nothing_due(station: &mut Station) -> bool {
+    station.node.expire().err() == Some(NodeFault::NothingDue)
+}
+
+// The name of what expires, and whether that is reported as of transaction 7.
+fn expired(station: &mut Station) -> Result<(Name, bool), NodeFault> {
+    let expired = station.node.expire()?;
+    Ok((expired.id, is(&expired.packet, &EXPIRED)))
 }
 
 /// A packet that comes to a node of this side, APID and part size, and what becomes of it.
@@ -162,36 +176,38 @@ fn other_packets_are_no_parts(rt: HostRuntime) -> Result<(), Fail> {
         (Side::Ground, 100, 8, &REPORT, ReportNoted(1, 1)),
         (Side::Ground, 100, 8, &EXPIRED, ABORTED),
     ];
-    for row in rows {
-        let (side, apid, _, _, outcome) = row;
-        let came = takes(&rt, rt.alloc(), row)?;
-        let wanted = (outcome, outcome == WHOLE, outcome == ABORTED);
-        assert!(rt; came == wanted, "{outcome:?} on {side:?} of {apid}");
+    for row in &rows {
+        let (side, apid, _, _, outcome) = *row;
+        let right = takes(&rt, rt.alloc(), row)?;
+        assert!(rt; right, "{outcome:?} on {side:?} of {apid}");
     }
     Ok(())
 }
 
-// What becomes of a packet that comes to a new node, which has a message open: the outcome, whether
-// the packet is released, and whether the message's sender is closed.
-fn takes(rt: &impl Abort, alloc: Global, row: Other) -> Result<(Outcome, bool, bool), Fail> {
-    let (side, apid, part_size, octets, _) = row;
-    let mut config = PASS;
-    config.apid = apid;
-    config.part_size = part_size;
-    let message = octets_of(alloc, &MESSAGE)?;
-    let packet = octets_of(alloc, octets)?;
+// Whether this becomes of a packet that comes to a new node, which has a message open: the packet is
+// released where it is whole, and the message's sender is closed where that is aborted.
+fn takes(rt: &impl Abort, alloc: Global, row: &Other) -> Result<bool, Fail> {
+    let (side, apid, part_size, _, _) = *row;
+    let config = Config {
+        apid,
+        part_size,
+        ..PASS
+    };
     let mut station = Station::new(rt, alloc, side, config)?;
-    station.opens(7, message);
-    takes_one(&mut station, octets, packet)
+    let right = takes_one(alloc, &mut station, row);
+    drop(station);
+    right
 }
 
-fn takes_one(
-    station: &mut Station,
-    octets: &[u8],
-    packet: Octets,
-) -> Result<(Outcome, bool, bool), Fail> {
-    let accepted = station.hears(packet)?;
+fn takes_one(alloc: Global, station: &mut Station, row: &Other) -> Result<bool, Fail> {
+    let (_, _, _, octets, outcome) = *row;
+    station.opens(7, octets_of(alloc, &MESSAGE)?);
+    let accepted = station.hears(octets_of(alloc, octets)?)?;
     let released = is(&accepted.released, octets);
     let closed = station.node.sender(7) == State::Closed;
-    Ok((accepted.outcome, released, closed))
+    Ok(
+        accepted.outcome == outcome
+            && released == (outcome == WHOLE)
+            && closed == (outcome == ABORTED),
+    )
 }

@@ -10,7 +10,22 @@ use std::test::Fail;
 
 #[test]
 fn refuses_for_the_first_reason(rt: HostRuntime) -> Result<(), Fail> {
-    let rows = [
+    let config = Config {
+        outgoing: 1,
+        ..CONFIG
+    };
+    let scene = Scene {
+        config,
+        rows: &mostly_refused(),
+        opened: &[(0, Up, 7, 20)],
+        released: &[],
+        packets: &[(1, None)],
+    };
+    play(&rt, rt.alloc(), &scene)
+}
+
+fn mostly_refused() -> [Row; 19] {
+    [
         opens(Up, 7, 20, 3),
         sends(Up, 7, 1, 0),
         takes(S1, 0),
@@ -30,19 +45,7 @@ fn refuses_for_the_first_reason(rt: HostRuntime) -> Result<(), Fail> {
         refused(11, Asked::Take(S1, 1), StepFault::NoSuchSeat),
         refused(11, Asked::Deliver(S1), StepFault::NoSuchSeat),
         gives(S1, Outcome::Kept(7, 1)),
-    ];
-    let config = Config {
-        outgoing: 1,
-        ..CONFIG
-    };
-    let scene = Scene {
-        config,
-        rows: &rows,
-        opened: &[(0, Up, 7, 20)],
-        released: &[],
-        packets: &[(1, None)],
-    };
-    play(&rt, rt.alloc(), &scene)
+    ]
 }
 
 #[test]
@@ -79,34 +82,48 @@ fn refuses_what_is_out_of_its_range(rt: HostRuntime) -> Result<(), Fail> {
 fn config_fault(alloc: Global, config: Config) -> Result<Option<u16>, Fail> {
     let memories = memories(alloc)?;
     match World::new(alloc, config, memories) {
-        Ok(_) => Ok(None),
+        Ok(world) => {
+            drop(world);
+            Ok(None)
+        }
         Err(fault) => Ok(Some(fault.code())),
     }
 }
 
+/// A fault, its number and its name.
+type Named = (StepFault, u16, &'static str);
+
+const STEP_FAULTS: [Named; 18] = [
+    (StepFault::InUse, 41, "InUse"),
+    (StepFault::Short, 42, "Short"),
+    (StepFault::Long, 43, "Long"),
+    (StepFault::TooMany, 44, "TooMany"),
+    (StepFault::NotOpen, 45, "NotOpen"),
+    (StepFault::NoSuchPart, 46, "NoSuchPart"),
+    (StepFault::NotHeld, 47, "NotHeld"),
+    (StepFault::HandFull, 48, "HandFull"),
+    (StepFault::HandEmpty, 49, "HandEmpty"),
+    (StepFault::NothingDue, 50, "NothingDue"),
+    (StepFault::NoJob, 51, "NoJob"),
+    (StepFault::NotReady, 52, "NotReady"),
+    (StepFault::LooksWhole, 54, "LooksWhole"),
+    (StepFault::ClockEnd, 56, "ClockEnd"),
+    (StepFault::NoSuchSeat, 57, "NoSuchSeat"),
+    (StepFault::Memory, 58, "Memory"),
+    (StepFault::NotYours, 59, "NotYours"),
+    (StepFault::PartRequest, 60, "PartRequest"),
+];
+
 #[test]
 fn names_each_fault(rt: HostRuntime) {
-    for (fault, code, name) in [
-        (StepFault::InUse, 41, "InUse"),
-        (StepFault::Short, 42, "Short"),
-        (StepFault::Long, 43, "Long"),
-        (StepFault::TooMany, 44, "TooMany"),
-        (StepFault::NotOpen, 45, "NotOpen"),
-        (StepFault::NoSuchPart, 46, "NoSuchPart"),
-        (StepFault::NotHeld, 47, "NotHeld"),
-        (StepFault::HandFull, 48, "HandFull"),
-        (StepFault::HandEmpty, 49, "HandEmpty"),
-        (StepFault::NothingDue, 50, "NothingDue"),
-        (StepFault::NoJob, 51, "NoJob"),
-        (StepFault::NotReady, 52, "NotReady"),
-        (StepFault::LooksWhole, 54, "LooksWhole"),
-        (StepFault::ClockEnd, 56, "ClockEnd"),
-        (StepFault::NoSuchSeat, 57, "NoSuchSeat"),
-        (StepFault::Memory, 58, "Memory"),
-        (StepFault::NotYours, 59, "NotYours"),
-        (StepFault::PartRequest, 60, "PartRequest"),
-    ] {
-        assert!(rt; fault.code() == code && fault.name() == name, "{name}");
+    for row in &STEP_FAULTS {
+        let (_, _, name) = *row;
+        assert!(rt; is_named(row), "{name}");
     }
     assert!(rt; ConfigFault::Apid.name() == "Apid" && ConfigFault::Memory.code() == 76);
+}
+
+fn is_named(row: &Named) -> bool {
+    let (fault, code, name) = *row;
+    fault.code() == code && fault.name() == name
 }

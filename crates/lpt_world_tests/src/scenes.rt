@@ -177,7 +177,9 @@ pub(crate) fn answer_of(world: &mut World, event: Event) -> Result<Answer, StepF
 /// Plays the rows in a new world, and looks at what it shows.
 pub(crate) fn play(rt: &impl Abort, alloc: Global, scene: &Scene) -> Result<(), Fail> {
     let mut world = new_world(alloc, scene.config)?;
-    plays(rt, alloc, &mut world, scene)
+    let came = plays(rt, alloc, &mut world, scene);
+    drop(world);
+    came
 }
 
 fn plays(rt: &impl Abort, alloc: Global, world: &mut World, scene: &Scene) -> Result<(), Fail> {

@@ -18,16 +18,17 @@ fn packets_carry_the_parts(rt: HostRuntime) -> Result<(), Fail> {
         (Side::Ground, 3, &LAST_UP),
         (Side::Craft, 3, &LAST_DOWN),
     ];
-    for (side, part, octets) in rows {
-        let parsed = Parsed::read(
-            packet_after_others(&rt, rt.alloc(), side, part)?,
-            Side::Craft,
-            100,
-            8,
-        );
-        assert!(rt; parsed.is_of(octets, Side::Craft, 100, 8), "part {part}");
+    for (side, part, octets) in &rows {
+        let packet = packet_after_others(&rt, rt.alloc(), *side, *part)?;
+        assert!(rt; is_of(packet, octets), "part {part}");
     }
     Ok(())
+}
+
+// Whether a packet is read as of these octets.
+fn is_of(packet: Octets, octets: &[u8]) -> bool {
+    let parsed = Parsed::read(packet, Side::Craft, 100, 8);
+    parsed.is_of(octets, Side::Craft, 100, 8)
 }
 
 // The packet of a part of the message that a new node sends behind those before it.
@@ -37,23 +38,26 @@ fn packet_after_others(
     side: Side,
     part: u16,
 ) -> Result<Octets, Fail> {
-    let message = octets_of(alloc, &MESSAGE)?;
     let mut station = Station::new(rt, alloc, side, PASS)?;
-    station.opens(7, message);
-    sent_up_to(&mut station.node, part)
+    let came = sent_up_to(alloc, &mut station, part);
+    drop(station);
+    came
 }
 
-fn sent_up_to(node: &mut Node, part: u16) -> Result<Octets, Fail> {
+fn sent_up_to(alloc: Global, station: &mut Station, part: u16) -> Result<Octets, Fail> {
+    station.opens(7, octets_of(alloc, &MESSAGE)?);
     for before in 1..part {
-        node.send_part(7, before)?;
+        station.node.send_part(7, before)?;
     }
-    Ok(node.send_part(7, part)?)
+    Ok(station.node.send_part(7, part)?)
 }
 
 #[test]
 fn messages_are_refused_for_the_first_reason(rt: HostRuntime) -> Result<(), Fail> {
     let mut station = Station::new(&rt, rt.alloc(), Side::Craft, PASS)?;
-    opens_each(&rt, rt.alloc(), &mut station)
+    let came = opens_each(&rt, rt.alloc(), &mut station);
+    drop(station);
+    came
 }
 
 fn opens_each(rt: &impl Abort, alloc: Global, station: &mut Station) -> Result<(), Fail> {
@@ -89,15 +93,15 @@ fn opens(
 
 #[test]
 fn calls_are_refused_for_the_first_reason(rt: HostRuntime) -> Result<(), Fail> {
-    let message = octets_of(rt.alloc(), &MESSAGE)?;
     let clock = u32::MAX;
     let mut station = Station::new(&rt, rt.alloc(), Side::Craft, Config { clock, ..PASS })?;
-    station.opens(7, message);
-    refuses(&rt, &mut station.node);
-    Ok(())
+    let came = refuses(&rt, rt.alloc(), &mut station);
+    drop(station);
+    came
 }
 
-fn refuses(rt: &impl Abort, node: &mut Node) {
+fn refuses(rt: &impl Abort, alloc: Global, station: &mut Station) -> Result<(), Fail> {
+    station.opens(7, octets_of(alloc, &MESSAGE)?);
     let rows = [
         (Ask::Open(7, 0), Some(NodeFault::InUse)),
         (Ask::Send(7, 3), None),
@@ -107,11 +111,12 @@ fn refuses(rt: &impl Abort, node: &mut Node) {
         (Ask::Tick, Some(NodeFault::ClockEnd)),
         (Ask::Expire, Some(NodeFault::NothingDue)),
     ];
-    for (ask, refusal) in rows {
-        assert!(rt; node.refusal(&ask) == refusal, "{ask:?}");
+    for (ask, refusal) in &rows {
+        assert!(rt; station.node.refusal(ask) == *refusal, "{ask:?}");
     }
-    assert!(rt; node.send_part(7, 4).err() == Some(NodeFault::NoSuchPart));
+    assert!(rt; station.node.send_part(7, 4).err() == Some(NodeFault::NoSuchPart));
     assert!(rt; NodeFault::ClockEnd.name() == "ClockEnd");
+    Ok(())
 }
 
 /// A plain request of these flags, service type, message subtype and body; and its packet.
@@ -127,6 +132,7 @@ fn ground_makes_plain_requests(rt: HostRuntime) -> Result<(), Fail> {
     let long = makes(&mut node, (none, 6, 2, &[0; 19], &[]));
     let second = makes(&mut node, (some, 6, 2, &LOAD, &LOADING_AGAIN));
     let next = node.refusal(&Ask::Plain(13, 12, 18));
+    drop(node);
     assert!(rt; first == Ok(true) && second == Ok(true));
     assert!(rt; part == Err(NodeFault::PartRequest) && long == Err(NodeFault::Long));
     assert!(rt; next.is_none() && NodeFault::PartRequest.code() == 60);

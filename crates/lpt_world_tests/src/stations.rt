@@ -39,10 +39,7 @@ impl Station {
         side: Side,
         config: Config,
     ) -> Result<Station, AllocError> {
-        assert!(rt; config.apid <= 2046 && config.part_size >= 4 && config.part_size <= 1024);
-        assert!(rt; config.timeout >= 1 && config.timeout <= 65535);
-        assert!(rt; config.receptions >= 1 && config.receptions <= 64);
-        assert!(rt; config.outgoing >= 1 && config.outgoing <= 64);
+        assert!(rt; config.fault().is_none());
         Ok(Station {
             node: Node::new(alloc, side, &config)?,
             side,
@@ -97,7 +94,9 @@ pub(crate) fn packet_of(
 ) -> Result<Octets, Fail> {
     let message = octets_of(alloc, message)?;
     let mut node = Node::new(alloc, side, &PASS)?;
-    first_packet(&mut node, id, message, part)
+    let came = first_packet(&mut node, id, message, part);
+    drop(node);
+    came
 }
 
 // The packet of a part of a message that is opened.

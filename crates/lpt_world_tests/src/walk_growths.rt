@@ -4,12 +4,13 @@
 //! `tests/growths` has each growth fail in turn, in the tests as they are built.
 
 use crate::packets::EXPIRED;
-use crate::scenes::{Asked, CONFIG};
-use crate::walking::{Does, Path, Step, walk};
+use crate::scenes::CONFIG;
+use crate::steps::*;
+use crate::walking::{Does, Path, walk};
 use lpt_events::Applied;
-use lpt_link::Lane::{self, G1, S1};
+use lpt_link::Lane::{G1, S1};
 use lpt_node::{Config, Outcome, Why};
-use lpt_packet::Direction::{Down, Up};
+use lpt_packet::Direction::Up;
 use lpt_part::Reason;
 use lpt_pus::FailureCode;
 use lpt_world::{Answer, StepFault};
@@ -51,50 +52,11 @@ const CHECKED: [u8; 29] = [
     0x00, 0x01, 0x01, 0x00, 0x00, 0x00, 0x00, 0x00, 0x02, 0x1d, 0x0f, 0x53, 0xd3,
 ];
 
-fn sends(does: Does, number: u64) -> Step {
-    (does, Ok(Answer::Put(number)), 1)
-}
-
-fn part_up(number: u16) -> Does {
-    Does::Asks(Asked::Send(Up, 7, number))
-}
-
-fn part_down(number: u16) -> Does {
-    Does::Asks(Asked::Send(Down, 0, number))
-}
-
-fn takes(lane: Lane, number: u64) -> Step {
-    let asked = Asked::Take(lane, number);
-    (Does::Asks(asked), Ok(Answer::Took(number)), 0)
-}
-
-fn gives(lane: Lane, outcome: Outcome) -> Step {
-    let asked = Asked::Deliver(lane);
-    (Does::Asks(asked), Ok(Answer::Delivered(outcome)), 0)
-}
-
-fn ticks(clock: u32) -> Step {
-    (Does::Tick, Ok(Answer::Clock(clock)), 0)
-}
-
-fn claims(job: u64) -> Step {
-    (Does::Claim, Ok(Answer::Claimed(0, job)), 0)
-}
-
-fn commits(job: u64) -> Step {
-    (Does::Commit, Ok(Answer::Committed(0, job)), 0)
-}
-
-fn applies(applied: Applied, packets: u64) -> Step {
-    (Does::Apply, Ok(Answer::Applied(applied)), packets)
-}
-
 // Two of three parts come, the second a tick later. What they wait for is overdue two ticks after
 // that; ground is told, and its sender is closed.
 fn expiry(rt: &impl Abort, alloc: Global) -> Result<bool, Fail> {
-    let opens = Does::Asks(Asked::Open(Up, 7, 20));
     let steps = [
-        (opens, Ok(Answer::Opened(3)), 0),
+        opens_up(20, 3),
         sends(part_up(1), 0),
         sends(part_up(2), 1),
         sends(part_up(3), 2),
@@ -122,6 +84,7 @@ fn expiry(rt: &impl Abort, alloc: Global) -> Result<bool, Fail> {
         config,
         steps: &steps,
         packet: (3, &EXPIRED),
+        memory: (0, &[]),
     };
     walk(rt, alloc, &it)
 }
@@ -159,6 +122,7 @@ fn refusals(rt: &impl Abort, alloc: Global) -> Result<bool, Fail> {
         config,
         steps: &steps,
         packet: (1, &NOT_STARTED),
+        memory: (252, &[0xab, 0xcd, 0xef, 0x01]),
     };
     walk(rt, alloc, &it)
 }
@@ -195,6 +159,7 @@ fn dumps(rt: &impl Abort, alloc: Global) -> Result<bool, Fail> {
         config: CONFIG,
         steps: &steps,
         packet: (1, &DUMPED),
+        memory: (16, &[0, 0]),
     };
     walk(rt, alloc, &it)
 }
@@ -221,6 +186,7 @@ fn checks(rt: &impl Abort, alloc: Global) -> Result<bool, Fail> {
         config: CONFIG,
         steps: &steps,
         packet: (3, &CHECKED),
+        memory: (0, &[0, 0]),
     };
     walk(rt, alloc, &it)
 }

@@ -14,7 +14,8 @@ use std::alloc::{AllocError, Global};
 use std::process::Abort;
 use std::test::Fail;
 
-/// What a step asks for. A plain request is of service 6; it has flags, a subtype and a body.
+/// What a step asks for. A plain request is of service 6; it has flags, a subtype and a body. What is
+/// finished or retired is transaction 7 upwards.
 #[derive(Clone, Copy)]
 pub(crate) enum Does {
     Asks(Asked),
@@ -24,18 +25,24 @@ pub(crate) enum Does {
     Claim,
     Commit,
     Apply,
+    Finish,
+    Lose(u64),
+    Retire,
+    Restart,
 }
 
-/// A step, what comes of it, and how many packets it puts on the link. The clock, the receptions and
-/// the worker are the spacecraft's.
+/// A step, what comes of it, and how many packets it puts on the link. The clock, the receptions, the
+/// worker and what starts anew are the spacecraft's.
 pub(crate) type Step = (Does, Result<Answer, StepFault>, u64);
 
-/// The steps of a walk through a new world, and a packet that is there at the end, by its number.
+/// The steps of a walk through a new world; and what is there at the end: a packet, by its number, and
+/// octets of memory 1 from an address on.
 #[derive(Clone, Copy)]
 pub(crate) struct Path<'a> {
     pub(crate) config: Config,
     pub(crate) steps: &'a [Step],
     pub(crate) packet: (u64, &'a [u8]),
+    pub(crate) memory: (usize, &'a [u8]),
 }
 
 /// What a world shows, as plain values.
@@ -74,6 +81,10 @@ fn event_of(alloc: Global, does: Does) -> Result<Event, AllocError> {
         Does::Claim => Event::Claim(Worker::W1),
         Does::Commit => Event::Commit(Worker::W1),
         Does::Apply => Event::Apply,
+        Does::Finish => Event::Finish(Up, 7),
+        Does::Lose(number) => Event::Lose(number),
+        Does::Retire => Event::Retire(Up, 7),
+        Does::Restart => Event::Restart(Side::Craft),
     })
 }
 
@@ -184,7 +195,24 @@ pub(crate) fn walk(rt: &impl Abort, alloc: Global, path: &Path) -> Result<bool, 
     let Ok(mut world) = World::new(alloc, path.config, memories) else {
         return Ok(true);
     };
-    Ok(walks(rt, alloc, &mut world, path))
+    let failed = walks(rt, alloc, &mut world, path);
+    drop(world);
+    Ok(failed)
+}
+
+// Whether the path's packet is there.
+fn has_packet(world: &World, path: &Path) -> bool {
+    let (number, octets) = path.packet;
+    world.packet(number) == Some(octets)
+}
+
+// Whether memory 1 has the path's octets.
+fn has_octets(world: &World, path: &Path) -> bool {
+    let (address, octets) = path.memory;
+    match world.memory(1).and_then(|content| content.get(address..)) {
+        Some(behind) => behind.starts_with(octets),
+        None => false,
+    }
 }
 
 fn walks(rt: &impl Abort, alloc: Global, world: &mut World, path: &Path) -> bool {
@@ -199,12 +227,17 @@ fn walks(rt: &impl Abort, alloc: Global, world: &mut World, path: &Path) -> bool
             }
         }
     }
-    let (number, octets) = path.packet;
-    assert!(rt; world.packet(number) == Some(octets));
+    let at_the_end = fails_at_the_end(rt, alloc, world, path);
+    failed || at_the_end
+}
+
+// Asserts what is there at the end, and gives whether a growth of the test's own failed.
+fn fails_at_the_end(rt: &impl Abort, alloc: Global, world: &World, path: &Path) -> bool {
+    assert!(rt; has_packet(world, path) && has_octets(world, path));
     match is_told(alloc, world.journal(), path.steps) {
         Some(right) => {
             assert!(rt; right, "the journal");
-            failed
+            false
         }
         None => true,
     }

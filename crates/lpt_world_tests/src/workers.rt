@@ -1,7 +1,7 @@
 //! Work of the workers outside a world: a job is claimed with its ticket, read, and committed.
 
 use crate::packets::{LOAD, LOADING, LOADING_AGAIN};
-use crate::scenes::{CONFIG, memories, new_world, zeros};
+use crate::scenes::{CONFIG, new_world, zeros};
 use crate::stations::octets_of;
 use lpt_events::Worker::W1;
 use lpt_link::Lane::S1;
@@ -35,27 +35,40 @@ fn releases(alloc: Global) -> Result<Vec<Event>, Fail> {
 #[test]
 fn what_was_prepared_outside_is_committed(rt: HostRuntime) -> Result<(), Fail> {
     let alloc = rt.alloc();
-    let shape = memories(alloc)?.shape()?;
+    let shape = shape_of(alloc, 256)?;
     let mut world = loaded_world(alloc)?;
-    works(&rt, alloc, &mut world, &shape)
+    let came = works(&rt, alloc, &mut world, &shape);
+    drop(world);
+    came
 }
 
 fn works(rt: &impl Abort, alloc: Global, world: &mut World, shape: &Shape) -> Result<(), Fail> {
-    let before = jobs_of(world);
+    assert!(rt; has_jobs(world, 2, 2, None));
     let ticket = claimed(world)?;
-    let of_first = (ticket.boot(), ticket.job()) == (0, 0)
-        && ticket.message() == LOADING.as_slice();
-    let meanwhile = jobs_of(world);
+    assert!(rt; is_of_first(&ticket));
+    assert!(rt; has_jobs(world, 1, 2, Some((0, 0))));
     let committed = commits(alloc, world, shape, 100, ticket);
-    assert!(rt; before == (2, 2, None) && meanwhile == (1, 2, Some((0, 0))));
-    assert!(rt; of_first && committed == Ok(Answer::Committed(0, 0)));
-    assert!(rt; jobs_of(world) == (1, 2, None));
+    assert!(rt; committed == Ok(Answer::Committed(0, 0)));
+    assert!(rt; has_jobs(world, 1, 2, None));
     Ok(())
 }
 
-// How many jobs wait, how many aren't executed, and which worker 1 has.
-fn jobs_of(world: &World) -> (u64, u64, Option<(u64, u64)>) {
-    (world.jobs_left(), world.jobs_queued(), world.ticket(W1))
+// Whether a ticket is of the first load.
+fn is_of_first(ticket: &Ticket) -> bool {
+    ticket.boot() == 0 && ticket.job() == 0 && ticket.message() == LOADING.as_slice()
+}
+
+// Whether so many jobs wait, so many aren't executed, and worker 1 has this one.
+fn has_jobs(world: &World, left: u64, queued: u64, ticket: Option<(u64, u64)>) -> bool {
+    world.jobs_left() == left && world.jobs_queued() == queued && world.ticket(W1) == ticket
+}
+
+// The shape of a memory 1 of so many octets.
+fn shape_of(alloc: Global, size: usize) -> Result<Shape, Fail> {
+    let memories = Memories::new(zeros(alloc, size)?)?;
+    let shape = memories.shape();
+    drop(memories);
+    Ok(shape?)
 }
 
 // The ticket of the job that worker 1 claims.
@@ -97,11 +110,13 @@ type Read<'a> = (u64, u64, &'a [u8], u16, usize);
 fn only_the_reading_of_its_own_job_is_taken(rt: HostRuntime) -> Result<(), Fail> {
     let alloc = rt.alloc();
     let mut world = loaded_world(alloc)?;
-    claimed(&mut world)?.abandon();
-    takes_its_own(&rt, alloc, &mut world)
+    let came = takes_its_own(&rt, alloc, &mut world);
+    drop(world);
+    came
 }
 
 fn takes_its_own(rt: &impl Abort, alloc: Global, world: &mut World) -> Result<(), Fail> {
+    claimed(world)?.abandon();
     let not_its: Result<Answer, StepFault> = Err(StepFault::NotYours);
     let rows: [(Read, Result<Answer, StepFault>); 8] = [
         ((0, 1, &LOADING_AGAIN, 100, 256), not_its),
@@ -127,7 +142,7 @@ fn hands_in(
     read: &Read,
 ) -> Result<Result<Answer, StepFault>, Fail> {
     let (boot, job, message, apid, size) = *read;
-    let shape = Memories::new(zeros(alloc, size)?)?.shape()?;
+    let shape = shape_of(alloc, size)?;
     let ticket = Ticket::new(boot, job, octets_of(alloc, message)?);
     Ok(commits(alloc, world, &shape, apid, ticket))
 }
