@@ -1,8 +1,8 @@
 //! The work of two seats overlaps: a gate holds one until the other has come.
 
-use crate::scenes::{Asked, CONFIG, world_after};
+use crate::scenes::{Asked, run};
 use lpt_link::Lane::S1;
-use lpt_share::{Gate, Point, SeatLog, Turns, run_threads};
+use lpt_share::{Gate, Point, SeatLog, Turns};
 use lpt_world::{Answer, World};
 use std::process::Abort;
 use std::sync::atomic::AtomicBool;
@@ -92,17 +92,14 @@ fn releases() -> [Asked<'static>; 8] {
 
 #[test]
 fn two_workers_have_jobs_at_once(rt: HostRuntime) -> Result<(), Fail> {
-    let world = world_after(rt.alloc(), CONFIG, &releases())?;
     let gate = Workers {
         rt: &rt,
         claimed: AtomicBool::new(false),
         committed: AtomicBool::new(false),
         ran_out: AtomicBool::new(false),
     };
-    match run_threads(rt.alloc(), &rt, world, TURNS, &gate) {
-        Ok((world, logs)) => have_worked(&rt, &world, logs.as_slice()),
-        Err(_) => return Err("the run failed".into()),
-    }
+    let (world, logs) = run(rt.alloc(), &rt, &releases(), TURNS, &gate)?;
+    have_worked(&rt, &world, logs.as_slice());
     assert!(rt; !gate.ran_out.load(SeqCst));
     Ok(())
 }
@@ -113,24 +110,24 @@ fn have_worked(rt: &impl Abort, world: &World, logs: &[SeatLog]) {
     assert!(rt;
         logs.iter()
             .filter(|log| log.seat == 7 || log.seat == 8)
-            .all(|log| log.calls.iter().any(|call| answers.contains(&call.reply.answer)))
+            .all(|log| log
+                .calls
+                .iter()
+                .any(|call| answers.contains(&call.reply.answer)))
     );
     assert!(rt; world.jobs_queued() == 0 && world.released().len() == 2);
 }
 
 #[test]
 fn two_lanes_have_packets_at_once(rt: HostRuntime) -> Result<(), Fail> {
-    let world = world_after(rt.alloc(), CONFIG, &[Asked::Load, Asked::Load])?;
     let gate = Lanes {
         rt: &rt,
         first: AtomicBool::new(false),
         second: AtomicBool::new(false),
         ran_out: AtomicBool::new(false),
     };
-    match run_threads(rt.alloc(), &rt, world, TURNS, &gate) {
-        Ok((world, logs)) => have_delivered(&rt, &world, logs.as_slice()),
-        Err(_) => return Err("the run failed".into()),
-    }
+    let (world, logs) = run(rt.alloc(), &rt, &[Asked::Load, Asked::Load], TURNS, &gate)?;
+    have_delivered(&rt, &world, logs.as_slice());
     assert!(rt; !gate.ran_out.load(SeqCst));
     Ok(())
 }

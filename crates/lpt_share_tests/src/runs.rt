@@ -1,10 +1,10 @@
 //! Runs of ten threads.
 
-use crate::scenes::{Asked, CONFIG, Free, MESSAGE, world_after};
+use crate::scenes::{Asked, Free, MESSAGE, run};
 use lpt_events::{Lane, Outcome, Side, Why, Worker};
 use lpt_packet::Direction::{self, Down, Up};
 use lpt_packet::Name;
-use lpt_share::{SeatLog, Turns, run_threads};
+use lpt_share::{SeatLog, Turns};
 use lpt_world::{Answer, World};
 use std::process::Abort;
 use std::test::Fail;
@@ -19,14 +19,17 @@ const ONES: [u8; 27] = [
     0x18, 0x64, 0xc0, 0x00, 0x00, 0x14, 0x20, 0x06, 0x02, 0x00, 0x01, 0x01, 0x01, 0x00, 0x00, 0x00,
     0x00, 0x00, 0x04, 0x11, 0x11, 0x11, 0x11, 0xaf, 0xd2, 0x2c, 0x44,
 ];
+
 const TWOS: [u8; 27] = [
     0x18, 0x64, 0xc0, 0x01, 0x00, 0x14, 0x20, 0x06, 0x02, 0x00, 0x01, 0x01, 0x01, 0x00, 0x00, 0x00,
     0x10, 0x00, 0x04, 0x22, 0x22, 0x22, 0x22, 0xd2, 0xe4, 0x12, 0x62,
 ];
+
 const THREES: [u8; 27] = [
     0x18, 0x64, 0xc0, 0x02, 0x00, 0x14, 0x20, 0x06, 0x02, 0x00, 0x01, 0x01, 0x01, 0x00, 0x00, 0x00,
     0x20, 0x00, 0x04, 0x33, 0x33, 0x33, 0x33, 0xf9, 0xf6, 0x50, 0x08,
 ];
+
 const FOURS: [u8; 27] = [
     0x18, 0x64, 0xc0, 0x03, 0x00, 0x14, 0x20, 0x06, 0x02, 0x00, 0x01, 0x01, 0x01, 0x00, 0x00, 0x00,
     0x30, 0x00, 0x04, 0x44, 0x44, 0x44, 0x44, 0x28, 0x88, 0x6e, 0x2e,
@@ -47,11 +50,8 @@ fn loads() -> [Asked<'static>; 6] {
 // All messages are released and all loads executed, and each timer has ticked.
 #[test]
 fn ten_seats_do_all_that_is_to_do(rt: HostRuntime) -> Result<(), Fail> {
-    let world = world_after(rt.alloc(), CONFIG, &loads())?;
-    match run_threads(rt.alloc(), &rt, world, TURNS, &Free) {
-        Ok((world, logs)) => are_done(&rt, &world, logs.as_slice()),
-        Err(_) => return Err("the run failed".into()),
-    }
+    let (world, logs) = run(rt.alloc(), &rt, &loads(), TURNS, &Free)?;
+    are_done(&rt, &world, logs.as_slice());
     Ok(())
 }
 
@@ -76,10 +76,8 @@ fn are_done(rt: &impl Abort, world: &World, logs: &[SeatLog]) {
 
 // Whether a large message of so many octets was released under this name.
 fn is_released(world: &World, direction: Direction, id: Name, octets: usize) -> bool {
-    world
-        .released()
-        .iter()
-        .any(|it| it.of == Some((direction, id)) && it.message.as_slice().len() == octets)
+    world.released().iter().any(|it| it.of == Some((direction, id))
+        && it.message.as_slice().len() == octets)
 }
 
 // How many requests were executed.
@@ -131,11 +129,8 @@ fn losses() -> [Asked<'static>; 13] {
 // is still held, and is released once more.
 #[test]
 fn a_lossy_start_is_made_good(rt: HostRuntime) -> Result<(), Fail> {
-    let world = world_after(rt.alloc(), CONFIG, &losses())?;
-    match run_threads(rt.alloc(), &rt, world, TURNS, &Free) {
-        Ok((world, logs)) => are_made_good(&rt, &world, logs.as_slice()),
-        Err(_) => return Err("the run failed".into()),
-    }
+    let (world, logs) = run(rt.alloc(), &rt, &losses(), TURNS, &Free)?;
+    are_made_good(&rt, &world, logs.as_slice());
     Ok(())
 }
 

@@ -5,10 +5,12 @@ use lpt_link::Lane;
 use lpt_memory::Memories;
 use lpt_packet::{Direction, Name, Octets};
 use lpt_pus::AckFlags;
-use lpt_share::{Gate, Point};
+use lpt_share::{Gate, Point, SeatLog, Turns, run_threads};
 use lpt_world::World;
 use std::alloc::{AllocError, Global};
+use std::sync::Wait;
 use std::test::Fail;
+use std::thread::Threads;
 
 /// A configuration under which no reception ends before 65,535 ticks.
 pub(crate) const CONFIG: Config = Config {
@@ -63,6 +65,21 @@ pub(crate) fn world_after(
     let mut world = new_world(alloc, config)?;
     play(alloc, &mut world, asked)?;
     Ok(world)
+}
+
+/// The world and the seats' logs after these events and a run of threads.
+pub(crate) fn run<R: Threads + Wait + Sync, G: Gate + Sync>(
+    alloc: Global,
+    rt: &R,
+    asked: &[Asked<'_>],
+    turns: Turns,
+    gate: &G,
+) -> Result<(World, Vec<SeatLog>), Fail> {
+    let world = world_after(alloc, CONFIG, asked)?;
+    match run_threads(alloc, rt, world, turns, gate) {
+        Ok(done) => Ok(done),
+        Err(_) => Err("the run failed".into()),
+    }
 }
 
 // A world in which nothing has happened, with a memory 1 of 64 octets of zero.
