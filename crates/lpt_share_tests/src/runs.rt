@@ -99,10 +99,10 @@ fn has_at(world: &World, address: usize, octets: [u8; 4]) -> bool {
 
 // How many calls a seat has made.
 fn ticks(logs: &[SeatLog], seat: u8) -> usize {
-    logs.iter()
-        .filter(|log| log.seat == seat)
-        .map(|log| log.calls.len())
-        .sum()
+    match logs.iter().find(|log| log.seat == seat) {
+        Some(log) => log.calls.len(),
+        None => 0,
+    }
 }
 
 // A part and a damaged packet are on the link, a part is lost, a lane and a worker hold something,
