@@ -1,5 +1,5 @@
 -- The calls that a turn adds, one call longer.
-use Rattle.std.proofs.Common.{◌≡◌, ◌∙◌, refl, sym, ap, subst, ℕ, ◌+◌, List, [], ◌∷◌, ◌++◌, length, Option, Some, Result, Ok, arith}
+use Rattle.std.proofs.Common.{◌≡◌, ◌∙◌, refl, sym, ap, subst, ℕ, ◌+◌, List, [], ◌∷◌, ◌++◌, length, Option, Some, None, Result, Ok, Err, arith}
 use Rattle.std.proofs.lemmas.List.{append-nil, append_assoc, length-append}
 use Rattle.lpt_events.specs.declared.event.Event.{Event}
 use Rattle.lpt_share.specs.declared.fault.ShareFault.{ShareFault}
@@ -35,3 +35,44 @@ one_more e again old mid new n answer r same is asked so_far =
           let k = so_far.1 in
           omega arith),
     )
+
+-- ---- one call
+
+-- what was asked of a log with a place more was asked of the log before it
+pub placed : {A : Type 0} (e : Event) (old mid new : SeatLog) (r : Result (Option A) ShareFault)
+    → mid.seat ≡ old.seat
+    → mid.calls.items ≡ old.calls.items
+    → IsAsked e mid new r
+    → IsAsked e old new r
+placed e old mid new (Ok (Some answer)) seat calls one =
+    (one.0, one.1 ∙ seat, one.2, one.3 ∙ ap (λ xs. xs ++ one.0 ∷ []) calls)
+placed e old mid new (Ok None) seat calls same = (same.0 ∙ seat, same.1 ∙ calls)
+placed e old mid new (Err fault) seat calls same = (same.0 ∙ seat, same.1 ∙ calls)
+
+-- ---- the calls of a turn, one after the other
+
+-- no call was accepted
+pub stays : (es : List Event) (again : Event) (old new : SeatLog)
+    → (new.seat ≡ old.seat) × (new.calls.items ≡ old.calls.items)
+    → Adds (Follow es again) old new
+stays es again old new same = ([], same.0, same.1 ∙ sym (append-nil old.calls.items), tt)
+
+-- one call of an event was accepted
+abbrev pub IsOne : Event → SeatLog → SeatLog → Type 0
+IsOne e old new =
+    (call : Call)
+    × (new.seat ≡ old.seat)
+    × (call.event ≡ e)
+    × (new.calls.items ≡ old.calls.items ++ call ∷ [])
+
+-- the first call was accepted, and then those of the rest
+pub goes_on : (e : Event) (es : List Event) (again : Event) (old mid new : SeatLog)
+    → IsOne e old mid
+    → Adds (Follow es again) mid new
+    → Adds (Follow (e ∷ es) again) old new
+goes_on e es again old mid new one more = (
+  one.0 ∷ more.0,
+  more.1 ∙ one.1,
+  more.2 ∙ ap (λ xs. xs ++ more.0) one.3 ∙ append_assoc old.calls.items (one.0 ∷ []) more.0,
+  (one.2, more.3),
+)

@@ -1,0 +1,13 @@
+//! Tests of the lock and of the run of threads: what no clause says, and each public call once.
+#![tactic(auto)]
+
+#[cfg(test)]
+mod calls;
+#[cfg(test)]
+mod gate;
+#[cfg(test)]
+mod meeting;
+#[cfg(test)]
+mod runs;
+#[cfg(test)]
+mod scenes;

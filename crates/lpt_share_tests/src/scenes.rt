@@ -1,0 +1,135 @@
+//! Worlds for the tests, by what is asked of them before threads share them.
+
+use lpt_events::{Config, Event, Side, Worker};
+use lpt_link::Lane;
+use lpt_memory::Memories;
+use lpt_packet::{Direction, Name, Octets};
+use lpt_pus::AckFlags;
+use lpt_share::{Gate, Point, SeatLog, Turns, run_threads};
+use lpt_world::World;
+use std::alloc::{AllocError, Global};
+use std::sync::Wait;
+use std::test::Fail;
+use std::thread::Threads;
+
+/// A configuration under which no reception ends before 65,535 ticks.
+pub(crate) const CONFIG: Config = Config {
+    apid: 100,
+    source: 1,
+    part_size: 8,
+    timeout: 65535,
+    receptions: 8,
+    outgoing: 8,
+    clock: 0,
+};
+
+/// The octets 0, 1, 2, .. of a message, of which some are a shorter one.
+pub(crate) const MESSAGE: [u8; 20] = [
+    0, 1, 2, 3, 4, 5, 6, 7, 8, 9, 10, 11, 12, 13, 14, 15, 16, 17, 18, 19,
+];
+
+/// The body of a load of abcdef01 to address 16 of memory 1, with its checksum.
+const LOAD: [u8; 14] = [
+    0x01, 0x01, 0x00, 0x00, 0x00, 0x10, 0x00, 0x04, 0xab, 0xcd, 0xef, 0x01, 0x04, 0xa2,
+];
+
+/// An event of seat 0.
+#[derive(Clone, Copy)]
+pub(crate) enum Asked<'a> {
+    Open(Direction, Name, &'a [u8]),
+    Send(Direction, Name, u16),
+    /// The load of abcdef01 to address 16, as a packet of its own.
+    Load,
+    Lose(u64),
+    Damage(Direction, &'a [u8]),
+    Take(Lane, u64),
+    Deliver(Lane),
+    Claim(Worker),
+    Restart(Side),
+}
+
+/// A gate that nobody waits at.
+#[derive(Drop)]
+pub(crate) struct Free;
+
+impl Gate for Free {
+    fn pass(&self, _seat: u8, _point: Point) {}
+}
+
+/// A world after these events, which are accepted.
+pub(crate) fn world_after(
+    alloc: Global,
+    config: Config,
+    asked: &[Asked<'_>],
+) -> Result<World, Fail> {
+    let mut world = new_world(alloc, config)?;
+    play(alloc, &mut world, asked)?;
+    Ok(world)
+}
+
+/// The world and the seats' logs after these events and a run of threads.
+pub(crate) fn run<R: Threads + Wait + Sync, G: Gate + Sync>(
+    alloc: Global,
+    rt: &R,
+    asked: &[Asked<'_>],
+    turns: Turns,
+    gate: &G,
+) -> Result<(World, Vec<SeatLog>), Fail> {
+    let world = world_after(alloc, CONFIG, asked)?;
+    match run_threads(alloc, rt, world, turns, gate) {
+        Ok(done) => Ok(done),
+        Err(_) => Err("the run failed".into()),
+    }
+}
+
+// A world in which nothing has happened, with a memory 1 of 64 octets of zero.
+fn new_world(alloc: Global, config: Config) -> Result<World, Fail> {
+    let memories = zeros(alloc)?;
+    match World::new(alloc, config, memories) {
+        Ok(world) => Ok(world),
+        Err(_) => Err("no world".into()),
+    }
+}
+
+// A memory 1 of 64 octets of zero.
+fn zeros(alloc: Global) -> Result<Memories, Fail> {
+    let mut memories = Vec::new(alloc);
+    memories.push((1, octets(alloc, &[0; 64])?))?;
+    Ok(Memories::new(memories)?)
+}
+
+// Asks for these events, which are accepted.
+fn play(alloc: Global, world: &mut World, asked: &[Asked<'_>]) -> Result<(), Fail> {
+    for one in asked {
+        let event = event(alloc, *one)?;
+        if world.step(0, event).is_err() {
+            return Err("refused".into());
+        }
+    }
+    Ok(())
+}
+
+// The event that is asked for.
+fn event(alloc: Global, asked: Asked<'_>) -> Result<Event, Fail> {
+    Ok(match asked {
+        Asked::Open(direction, id, message) => Event::Open(direction, id, octets(alloc, message)?),
+        Asked::Send(direction, id, part) => Event::Send(direction, id, part),
+        Asked::Load => Event::Plain(no_flags()?, 6, 2, octets(alloc, &LOAD)?),
+        Asked::Lose(n) => Event::Lose(n),
+        Asked::Damage(direction, left) => Event::Damage(direction, octets(alloc, left)?),
+        Asked::Take(lane, n) => Event::Take(lane, n),
+        Asked::Deliver(lane) => Event::Deliver(lane),
+        Asked::Claim(worker) => Event::Claim(worker),
+        Asked::Restart(side) => Event::Restart(side),
+    })
+}
+
+// Flags that ask for no report.
+fn no_flags() -> Result<AckFlags, Fail> {
+    Ok(AckFlags::new(0).ok_or("no flags")?)
+}
+
+// A copy of these octets.
+fn octets(alloc: Global, octets: &[u8]) -> Result<Octets, AllocError> {
+    Ok(Octets::from_vec(octets.to_vec(alloc)?))
+}
