@@ -189,7 +189,7 @@ def run(words, script):
 def peak(words, script, folder):
     """The most memory that a program has at a time, in octets."""
     told = os.path.join(folder, "peak")
-    run(["/usr/bin/time", "-f", "%M", "-o", told, *words], script)
+    run(["/usr/bin/time", "-q", "-f", "%M", "-o", told, *words], script)
     with open(told, encoding="ascii") as file:
         return int(file.read()) * 1024
 

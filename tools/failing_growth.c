@@ -12,15 +12,19 @@ extern long write(int file, const void *place, unsigned long size);
 
 #define TOLD 9
 
-// How many growths there are up to the one that fails; 0 once it has failed, -1 before the first.
-static long left = -1;
+// Whether the number has been read, which the first growth does, before there is a second thread.
+static int known = 0;
+
+// How many growths there are up to the one that fails. Threads count them together.
+static long left = 0;
 
 static int fails(void) {
-    if (left < 0) {
+    if (!known) {
         const char *number = getenv("FAILING_GROWTH");
         left = number ? atol(number) : 0;
+        known = 1;
     }
-    if (left == 0 || --left > 0) {
+    if (__atomic_sub_fetch(&left, 1, __ATOMIC_RELAXED) != 0) {
         return 0;
     }
     write(TOLD, "x", 1);

@@ -35,7 +35,7 @@ impl Outlets {
         log: &SeatLog,
         from: usize,
     ) -> Result<(), ShareFault> {
-        for call in log.calls.iter().skip(from) {
+        for call in log.calls.get(from..).unwrap_or(&[]) {
             self.tell(rt, call)?;
         }
         Ok(())

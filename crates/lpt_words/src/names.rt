@@ -1,7 +1,7 @@
 //! The words of a line that name something, each by itself.
 
 ghost use Rattle.std.specs.Prelude.{◌≡◌};
-ghost use Rattle.lpt_words.specs.Names.{count_of, direction_of, flags_of, keyword_of, lane_of, node_of, packet_number_of, u8_of, u16_of, u32_of, worker_of};
+ghost use Rattle.lpt_words.specs.Names.{count_of, direction_of, flags_of, keyword_of, lane_of, message_keyword_of, node_keyword_of, node_of, packet_keyword_of, packet_number_of, u8_of, u16_of, u32_of, worker_of};
 
 use crate::numbers::read_number;
 use lpt_events::{Lane, Side, Worker};
@@ -45,11 +45,35 @@ pub(crate) enum Keyword {
 pub(crate) fn read_keyword(word: &[u8]) -> Option<Keyword>
     ensures { result ≡ keyword_of word.now }
 {
+    message_keyword(word).or(packet_keyword(word).or(node_keyword(word)))
+}
+
+// The words that ask something of a message.
+fn message_keyword(word: &[u8]) -> Option<Keyword>
+    ensures { result ≡ message_keyword_of word.now }
+{
     if word == b"open".as_slice() {
         Some(Keyword::Open)
     } else if word == b"send".as_slice() {
         Some(Keyword::Send)
-    } else if word == b"lose".as_slice() {
+    } else if word == b"finish".as_slice() {
+        Some(Keyword::Finish)
+    } else if word == b"plain".as_slice() {
+        Some(Keyword::Plain)
+    } else if word == b"load".as_slice() {
+        Some(Keyword::Load)
+    } else if word == b"retire".as_slice() {
+        Some(Keyword::Retire)
+    } else {
+        None
+    }
+}
+
+// The words for what happens to a packet, and for showing.
+fn packet_keyword(word: &[u8]) -> Option<Keyword>
+    ensures { result ≡ packet_keyword_of word.now }
+{
+    if word == b"lose".as_slice() {
         Some(Keyword::Lose)
     } else if word == b"damage".as_slice() {
         Some(Keyword::Damage)
@@ -61,16 +85,19 @@ pub(crate) fn read_keyword(word: &[u8]) -> Option<Keyword>
         Some(Keyword::Pass)
     } else if word == b"show".as_slice() {
         Some(Keyword::Show)
-    } else if word == b"finish".as_slice() {
-        Some(Keyword::Finish)
-    } else if word == b"tick".as_slice() {
+    } else {
+        None
+    }
+}
+
+// The words for what nodes and workers do.
+fn node_keyword(word: &[u8]) -> Option<Keyword>
+    ensures { result ≡ node_keyword_of word.now }
+{
+    if word == b"tick".as_slice() {
         Some(Keyword::Tick)
     } else if word == b"expire".as_slice() {
         Some(Keyword::Expire)
-    } else if word == b"plain".as_slice() {
-        Some(Keyword::Plain)
-    } else if word == b"load".as_slice() {
-        Some(Keyword::Load)
     } else if word == b"claim".as_slice() {
         Some(Keyword::Claim)
     } else if word == b"commit".as_slice() {
@@ -79,8 +106,6 @@ pub(crate) fn read_keyword(word: &[u8]) -> Option<Keyword>
         Some(Keyword::Apply)
     } else if word == b"work".as_slice() {
         Some(Keyword::Work)
-    } else if word == b"retire".as_slice() {
-        Some(Keyword::Retire)
     } else if word == b"restart".as_slice() {
         Some(Keyword::Restart)
     } else {
