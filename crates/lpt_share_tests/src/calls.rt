@@ -23,10 +23,13 @@ fn openings() -> [Asked<'static>; 3] {
 #[test]
 fn turns_are_noted(rt: HostRuntime) -> Result<(), Fail> {
     let alloc = rt.alloc();
-    let shared = Shared::new(world_after(alloc, CONFIG, &openings())?);
+    let shared = Shared::new(world_after(alloc, CONFIG, &openings()).ok_or("no world")?);
     let mut log = SeatLog::new(alloc, 1, 3);
     take_turns(&rt, alloc, &shared, &mut log);
-    are_noted(&rt, alloc, &shared.into_world(), log)
+    let world = shared.into_world();
+    let came = are_noted(&rt, alloc, &world, log);
+    drop(world);
+    came
 }
 
 // A turn of each kind, and how many calls of each were accepted.
@@ -53,7 +56,7 @@ fn are_noted(rt: &impl Abort, alloc: Global, world: &World, log: SeatLog) -> Res
 #[test]
 fn calls_are_answered(rt: HostRuntime) -> Result<(), Fail> {
     let alloc = rt.alloc();
-    let shared = Shared::new(world_after(alloc, CONFIG, &openings())?);
+    let shared = Shared::new(world_after(alloc, CONFIG, &openings()).ok_or("no world")?);
     let mut log = SeatLog::new(alloc, 5, 0);
     let mut other = SeatLog::new(alloc, 6, 6);
     let done = shared.call(&rt, &mut log, Event::Tick(Side::Craft));

@@ -67,7 +67,7 @@ fn reception() -> [Asked<'static>; 5] {
 #[test]
 fn the_lock_is_free_at_each_point(rt: HostRuntime) -> Result<(), Fail> {
     let alloc = rt.alloc();
-    let shared = Shared::new(world_after(alloc, SHORT, &reception())?);
+    let shared = Shared::new(world_after(alloc, SHORT, &reception()).ok_or("no world")?);
     passes(&rt, alloc, &shared);
     Ok(())
 }

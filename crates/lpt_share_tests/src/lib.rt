@@ -6,6 +6,8 @@ mod calls;
 #[cfg(test)]
 mod gate;
 #[cfg(test)]
+mod growths;
+#[cfg(test)]
 mod meeting;
 #[cfg(test)]
 mod runs;

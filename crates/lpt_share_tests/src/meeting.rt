@@ -100,6 +100,7 @@ fn two_workers_have_jobs_at_once(rt: HostRuntime) -> Result<(), Fail> {
     };
     let (world, logs) = run(rt.alloc(), &rt, &releases(), TURNS, &gate)?;
     have_worked(&rt, &world, logs.as_slice());
+    drop(world);
     assert!(rt; !gate.ran_out.load(SeqCst));
     Ok(())
 }
@@ -128,6 +129,7 @@ fn two_lanes_have_packets_at_once(rt: HostRuntime) -> Result<(), Fail> {
     };
     let (world, logs) = run(rt.alloc(), &rt, &[Asked::Load, Asked::Load], TURNS, &gate)?;
     have_delivered(&rt, &world, logs.as_slice());
+    drop(world);
     assert!(rt; !gate.ran_out.load(SeqCst));
     Ok(())
 }

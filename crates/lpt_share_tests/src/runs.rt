@@ -9,7 +9,8 @@ use lpt_world::{Answer, World};
 use std::process::Abort;
 use std::test::Fail;
 
-const TURNS: Turns = Turns {
+/// Turns without an end, and twenty ticks.
+pub(crate) const TURNS: Turns = Turns {
     per_seat: 100_000,
     ticks: 20,
 };
@@ -35,8 +36,8 @@ const FOURS: [u8; 27] = [
     0x30, 0x00, 0x04, 0x44, 0x44, 0x44, 0x44, 0x28, 0x88, 0x6e, 0x2e,
 ];
 
-// Four large loads and a message go up, and a message goes down.
-fn loads() -> [Asked<'static>; 6] {
+/// Four large loads and a message go up, and a message goes down.
+pub(crate) fn loads() -> [Asked<'static>; 6] {
     [
         Asked::Open(Up, 1, &ONES),
         Asked::Open(Up, 2, &TWOS),
@@ -52,10 +53,12 @@ fn loads() -> [Asked<'static>; 6] {
 fn ten_seats_do_all_that_is_to_do(rt: HostRuntime) -> Result<(), Fail> {
     let (world, logs) = run(rt.alloc(), &rt, &loads(), TURNS, &Free)?;
     are_done(&rt, &world, logs.as_slice());
+    drop(world);
     Ok(())
 }
 
-fn are_done(rt: &impl Abort, world: &World, logs: &[SeatLog]) {
+/// Asserts that all messages are released, all loads executed, and that each timer has ticked.
+pub(crate) fn are_done(rt: &impl Abort, world: &World, logs: &[SeatLog]) {
     let released = [
         (Up, 1, 27),
         (Up, 2, 27),
@@ -97,7 +100,7 @@ fn has_at(world: &World, address: usize, octets: [u8; 4]) -> bool {
     }
 }
 
-// How many calls a seat has made.
+// How often a timer's seat has ticked: its calls are ticks alone, since nothing is due.
 fn ticks(logs: &[SeatLog], seat: u8) -> usize {
     match logs.iter().find(|log| log.seat == seat) {
         Some(log) => log.calls.len(),
@@ -131,6 +134,7 @@ fn losses() -> [Asked<'static>; 13] {
 fn a_lossy_start_is_made_good(rt: HostRuntime) -> Result<(), Fail> {
     let (world, logs) = run(rt.alloc(), &rt, &losses(), TURNS, &Free)?;
     are_made_good(&rt, &world, logs.as_slice());
+    drop(world);
     Ok(())
 }
 

@@ -56,15 +56,14 @@ impl Gate for Free {
     fn pass(&self, _seat: u8, _point: Point) {}
 }
 
-/// A world after these events, which are accepted.
-pub(crate) fn world_after(
-    alloc: Global,
-    config: Config,
-    asked: &[Asked<'_>],
-) -> Result<World, Fail> {
+/// A world after these events, which are accepted; none where memory is wanting for it.
+pub(crate) fn world_after(alloc: Global, config: Config, asked: &[Asked<'_>]) -> Option<World> {
     let mut world = new_world(alloc, config)?;
-    play(alloc, &mut world, asked)?;
-    Ok(world)
+    if play(alloc, &mut world, asked) {
+        return Some(world);
+    }
+    drop(world);
+    None
 }
 
 /// The world and the seats' logs after these events and a run of threads.
@@ -75,7 +74,7 @@ pub(crate) fn run<R: Threads + Wait + Sync, G: Gate + Sync>(
     turns: Turns,
     gate: &G,
 ) -> Result<(World, Vec<SeatLog>), Fail> {
-    let world = world_after(alloc, CONFIG, asked)?;
+    let world = world_after(alloc, CONFIG, asked).ok_or("no world")?;
     match run_threads(alloc, rt, world, turns, gate) {
         Ok(done) => Ok(done),
         Err(_) => Err("the run failed".into()),
@@ -83,38 +82,41 @@ pub(crate) fn run<R: Threads + Wait + Sync, G: Gate + Sync>(
 }
 
 // A world in which nothing has happened, with a memory 1 of 64 octets of zero.
-fn new_world(alloc: Global, config: Config) -> Result<World, Fail> {
-    let memories = zeros(alloc)?;
-    match World::new(alloc, config, memories) {
-        Ok(world) => Ok(world),
-        Err(_) => Err("no world".into()),
-    }
+fn new_world(alloc: Global, config: Config) -> Option<World> {
+    let contents = zeros(alloc).ok()?;
+    let memories = Memories::new(contents).ok()?;
+    World::new(alloc, config, memories).ok()
 }
 
 // A memory 1 of 64 octets of zero.
-fn zeros(alloc: Global) -> Result<Memories, Fail> {
-    let mut memories = Vec::new(alloc);
-    memories.push((1, octets(alloc, &[0; 64])?))?;
-    Ok(Memories::new(memories)?)
+fn zeros(alloc: Global) -> Result<Vec<(u8, Octets)>, AllocError> {
+    let mut contents = Vec::new(alloc);
+    contents.push((1, octets(alloc, &[0; 64])?))?;
+    Ok(contents)
 }
 
-// Asks for these events, which are accepted.
-fn play(alloc: Global, world: &mut World, asked: &[Asked<'_>]) -> Result<(), Fail> {
+// Asks for these events, and gives whether they are accepted.
+fn play(alloc: Global, world: &mut World, asked: &[Asked<'_>]) -> bool {
     for one in asked {
-        let event = event(alloc, *one)?;
+        let Ok(event) = event(alloc, *one) else {
+            return false;
+        };
         if world.step(0, event).is_err() {
-            return Err("refused".into());
+            return false;
         }
     }
-    Ok(())
+    true
 }
 
 // The event that is asked for.
-fn event(alloc: Global, asked: Asked<'_>) -> Result<Event, Fail> {
+fn event(alloc: Global, asked: Asked<'_>) -> Result<Event, AllocError> {
     Ok(match asked {
         Asked::Open(direction, id, message) => Event::Open(direction, id, octets(alloc, message)?),
         Asked::Send(direction, id, part) => Event::Send(direction, id, part),
-        Asked::Load => Event::Plain(no_flags()?, 6, 2, octets(alloc, &LOAD)?),
+        Asked::Load => {
+            let no_flags = AckFlags::new(0).ok_or(AllocError)?;
+            Event::Plain(no_flags, 6, 2, octets(alloc, &LOAD)?)
+        }
         Asked::Lose(n) => Event::Lose(n),
         Asked::Damage(direction, left) => Event::Damage(direction, octets(alloc, left)?),
         Asked::Take(lane, n) => Event::Take(lane, n),
@@ -122,11 +124,6 @@ fn event(alloc: Global, asked: Asked<'_>) -> Result<Event, Fail> {
         Asked::Claim(worker) => Event::Claim(worker),
         Asked::Restart(side) => Event::Restart(side),
     })
-}
-
-// Flags that ask for no report.
-fn no_flags() -> Result<AckFlags, Fail> {
-    Ok(AckFlags::new(0).ok_or("no flags")?)
 }
 
 // A copy of these octets.
