@@ -146,6 +146,11 @@ def sixty_thousand_reports():
     return reports(60000)
 
 
+def many_ticks():
+    """100 lines that ask for 100,000 ticks each."""
+    return ["tick craft 100000"] * 100
+
+
 def shown_memory():
     """A memory of 1 MiB, shown whole sixteen times."""
     return ["show memory 1 0 1048576"] * 16
@@ -236,6 +241,7 @@ def print_scripts(programs, folder, runs):
         (ten_thousand_reports, None),
         (twenty_thousand_reports, None),
         (sixty_thousand_reports, None),
+        (many_ticks, None),
         (short_lines, None),
         (long_lines, None),
         (loads, GREATEST_MEMORY),
