@@ -5,7 +5,7 @@ _lpt() {
     local command='' i
     for ((i = 1; i < COMP_CWORD; i++)); do
         case ${COMP_WORDS[i]} in
-        run | decode | help)
+        run | threads | decode | help)
             command=${COMP_WORDS[i]}
             break
             ;;
@@ -15,12 +15,12 @@ _lpt() {
     if [[ $before == --config ]]; then
         mapfile -t COMPREPLY < <(compgen -f -- "$word")
     elif [[ -z $command ]]; then
-        mapfile -t COMPREPLY < <(compgen -W 'run decode help --help --version' -- "$word")
+        mapfile -t COMPREPLY < <(compgen -W 'run threads decode help --help --version' -- "$word")
     elif [[ $command == help ]]; then
-        mapfile -t COMPREPLY < <(compgen -W 'run decode help' -- "$word")
+        mapfile -t COMPREPLY < <(compgen -W 'run threads decode help' -- "$word")
     elif [[ $word == -* ]]; then
         mapfile -t COMPREPLY < <(compgen -W '--config --help --version' -- "$word")
-    elif [[ $command == run ]]; then
+    elif [[ $command == run || $command == threads ]]; then
         mapfile -t COMPREPLY < <(compgen -f -- "$word")
     fi
 }

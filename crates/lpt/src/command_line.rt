@@ -18,6 +18,8 @@ pub struct Asked<'a> {
 pub enum Command<'a> {
     /// `run SCRIPT`: the script's path, or `-` for standard input.
     Run(&'a str),
+    /// `threads SCRIPT`: the script's path, or `-` for standard input.
+    Threads(&'a str),
     /// `decode HEX`: octets as hexadecimal digits.
     Decode(&'a str),
 }
@@ -38,10 +40,10 @@ pub fn read_words<'a>(alloc: Global, words: &'a [String]) -> Result<Asked<'a>, E
 // What the words that were read ask for, where none that is required is missing.
 fn meant<'a>(matches: &ArgMatches<'a>) -> Option<Asked<'a>> {
     let (name, inner) = matches.subcommand()?;
-    let command = if name == "run" {
-        Command::Run(inner.get_str("SCRIPT")?)
-    } else {
-        Command::Decode(inner.get_str("HEX")?)
+    let command = match name {
+        "run" => Command::Run(inner.get_str("SCRIPT")?),
+        "threads" => Command::Threads(inner.get_str("SCRIPT")?),
+        _ => Command::Decode(inner.get_str("HEX")?),
     };
     let config = inner.get_str("config");
     Some(Asked { command, config })
@@ -52,25 +54,33 @@ const MORE: &str = "\
 Examples:
   lpt run examples/first_path.script    run the script of that file
   lpt run - --config settings.toml      run the one on standard input, line by line
+  lpt threads examples/threads.script   run it, and then ten threads
   lpt decode 07ffc000000000             say what these octets are as a packet
 
 Statuses:
   0  all was done
   1  all was done; an event was refused, or the octets are no packet
   2  the words, a line of the script, HEX or the configuration can't be read
-  3  a file can't be read, the output can't be written, or memory is wanting
+  3  a file can't be read, the output can't be written, memory is wanting, or threads failed
 
 docs/SCRIPT.md tells the script language and the configuration, docs/lpt.1 is this as a page.";
 
-// The program and its two commands, as clap reads them.
+// The program and its commands, as clap reads them.
 fn program<'a>(alloc: Global) -> Result<clap::Command<'a>, AllocError> {
-    let script = word(
-        alloc,
-        "SCRIPT",
-        "The script's path, or - for standard input",
-    );
+    let script = "The script's path, or - for standard input";
     let hex = word(alloc, "HEX", "Octets as hexadecimal digits, or - for none");
-    let run = subcommand(alloc, "run", "Run a script on a new world", script)?;
+    let run = subcommand(
+        alloc,
+        "run",
+        "Run a script on a new world",
+        word(alloc, "SCRIPT", script),
+    )?;
+    let threads = subcommand(
+        alloc,
+        "threads",
+        "Run a script on a new world, and then ten threads",
+        word(alloc, "SCRIPT", script),
+    )?;
     let decode = subcommand(alloc, "decode", "Say what octets are as a packet", hex)?;
     clap::Command::new(alloc, "lpt")
         .version("0.1.0")
@@ -80,6 +90,7 @@ fn program<'a>(alloc: Global) -> Result<clap::Command<'a>, AllocError> {
         .arg_required_else_help(true)
         .subcommand_required(true)
         .subcommand(run)?
+        .subcommand(threads)?
         .subcommand(decode)
 }
 

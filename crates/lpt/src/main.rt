@@ -14,11 +14,13 @@ use command_line::{Asked, Command, read_words};
 use end::{Failure, Status};
 use lpt_text::ToolFault;
 use std::process::ExitCode;
+use std::sync::Wait;
+use std::thread::Threads;
 use std::{env, io};
 
 fn main(rt: HostRuntime) -> ExitCode {
     let status = match given_words(&rt) {
-        Ok(words) => serve(&rt, words.as_slice()),
+        Ok(words) => serve(&rt, &rt, words.as_slice()),
         Err(status) => status,
     };
     ExitCode::from(status as u8)
@@ -45,18 +47,23 @@ fn given_words(rt: &HostRuntime) -> Result<Vec<String>, Status> {
 }
 
 // Does what the words ask for.
-fn serve(rt: &HostRuntime, words: &[String]) -> Status {
+fn serve<T: Threads + Wait + Sync>(rt: &HostRuntime, threads: &T, words: &[String]) -> Status {
     match read_words(rt.alloc(), words) {
-        Ok(asked) => end::told(rt, done(rt, &asked)),
+        Ok(asked) => end::told(rt, done(rt, threads, &asked)),
         Err(error) => end::explained(rt, &error),
     }
 }
 
 // Reads the configuration, and does the command.
-fn done(rt: &HostRuntime, asked: &Asked<'_>) -> Result<Status, Failure> {
-    let (config, memories, _) = configuration::read(rt, asked.config)?;
+fn done<T: Threads + Wait + Sync>(
+    rt: &HostRuntime,
+    threads: &T,
+    asked: &Asked<'_>,
+) -> Result<Status, Failure> {
+    let (config, memories, turns) = configuration::read(rt, asked.config)?;
     match asked.command {
-        Command::Run(script) => work::run(rt, config, memories, script),
+        Command::Run(script) => work::run(rt, threads, config, memories, None, script),
+        Command::Threads(script) => work::run(rt, threads, config, memories, Some(turns), script),
         Command::Decode(hex) => work::decode(rt, config, hex),
     }
 }

@@ -4,32 +4,47 @@ ghost use Rattle.lpt_part.specs.Splitting.{IsPartSize};
 
 use crate::end::{Failure, Status, tell_place};
 use crate::watched::Watched;
+use lpt_events::Turns;
 use lpt_memory::Memories;
 use lpt_node::Config;
 use lpt_text::{Told, ToolFault};
+use lpt_tool::{run_script, run_threads_script};
 use lpt_words::read_hex;
 use std::fs::File;
 use std::io;
 use std::io::{BufWriter, Printer, Read, Write};
+use std::sync::Wait;
+use std::thread::Threads;
 
 /// Standard output, written when there is enough of it.
 type Output<'a> = Told<BufWriter<Printer<'a, HostRuntime>>>;
 
 /// Runs a script on a new world of these memories: the one at this path, or standard input for `-`.
+/// With turns, ten threads run after the script's events.
 ///
 /// Errors: `Line` at an unreadable line; `Read` where the script can't be opened or read, `Write`
-/// where a write failed, `Memory`.
-pub fn run(
+/// where a write failed, `Memory`, `Threads` where the threads failed.
+pub fn run<T: Threads + Wait + Sync>(
     rt: &HostRuntime,
+    threads: &T,
     config: Config,
     memories: Memories,
+    turns: Option<Turns>,
     script: &str,
 ) -> Result<Status, Failure> {
     if script == "-" {
-        return run_from(rt, config, memories, rt.reader(), "standard input");
+        return run_from(
+            rt,
+            threads,
+            config,
+            memories,
+            turns,
+            rt.reader(),
+            "standard input",
+        );
     }
     match File::open(rt, script) {
-        Ok(file) => run_from(rt, config, memories, file, script),
+        Ok(file) => run_from(rt, threads, config, memories, turns, file, script),
         Err(error) => {
             let place = format!(in rt.alloc(); "{script}: {error}");
             Err(Failure::at(ToolFault::Read, place))
@@ -75,16 +90,32 @@ fn refuse_hex(rt: &HostRuntime, hex: &str) {
 }
 
 // Runs the script that a reader of this name gives.
-fn run_from<R: Read + Drop>(
+fn run_from<T: Threads + Wait + Sync, R: Read + Drop>(
     rt: &HostRuntime,
+    threads: &T,
     config: Config,
     memories: Memories,
+    turns: Option<Turns>,
     reader: R,
     name: &str,
 ) -> Result<Status, Failure> {
     let mut source = Told::new(Watched::new(reader));
     let mut out = output(rt)?;
-    let ran = lpt_tool::run_script(rt.alloc(), config, memories, &mut source, &mut out);
+    let alloc = rt.alloc();
+    let ran = match turns {
+        None => run_script(alloc, config, memories, &mut source, &mut out),
+        Some(turns) => {
+            run_threads_script(
+                alloc,
+                threads,
+                config,
+                memories,
+                turns,
+                &mut source,
+                &mut out,
+            )
+        }
+    };
     flush(out)?;
     match ran {
         Ok(end) => Ok(status_of(end.refused > 0)),

@@ -197,6 +197,14 @@ none_text = line_of (codes "none" ∷ [])
 abbrev pub journal_text : ℕ → List ℕ
 journal_text n = line_of (codes "journal" ∷ decimal n ∷ [])
 
+-- so many plain requests were released
+abbrev pub plain_count_text : ℕ → List ℕ
+plain_count_text n = line_of (codes "plain" ∷ decimal n ∷ [])
+
+-- so many requests were executed
+abbrev pub applied_count_text : ℕ → List ℕ
+applied_count_text n = line_of (codes "applied" ∷ decimal n ∷ [])
+
 -- the octets of the packet of this number, where there is one
 abbrev pub packet_text : ℕ → Option (List ℕ) → List ℕ
 packet_text n (Some m) = line_of (codes "packet" ∷ decimal n ∷ octets_text m ∷ [])

@@ -3,7 +3,7 @@
 ghost use Rattle.std.specs.Prelude.{◌≡◌, IfOk};
 ghost use Rattle.std.specs.Option.{option_copied};
 ghost use Rattle.std.specs.String.{string_bytes};
-ghost use Rattle.lpt_print.specs.Printing.{accepted_text, opened_text, finished_text, lost_text, expired_text, claimed_text, committed_text, stale_text, applied_text, retired_text, restarted_text, clock_text, put_text, took_text, outcome_text, refused_text, unreadable_text, journal_text, packet_text, clear_text, memory_text, release_text, none_text};
+ghost use Rattle.lpt_print.specs.Printing.{accepted_text, opened_text, finished_text, lost_text, expired_text, claimed_text, committed_text, stale_text, applied_text, retired_text, restarted_text, clock_text, put_text, took_text, outcome_text, refused_text, unreadable_text, journal_text, plain_count_text, applied_count_text, packet_text, clear_text, memory_text, release_text, none_text};
 
 use crate::words::{direction_word, octets_word, side_word, why_word};
 use lpt_events::{Answer, Applied, Event, Outcome, Release, Reply, Side, StepFault};
@@ -224,6 +224,20 @@ pub fn print_journal(alloc: Global, n: u64) -> Result<String, AllocError>
     ensures { IfOk result (λ t. string_bytes t ≡ journal_text n) }
 {
     format!(in alloc; "journal {n}\n")
+}
+
+/// `plain 0`: so many plain requests were released.
+pub fn print_plain_count(alloc: Global, n: u64) -> Result<String, AllocError>
+    ensures { IfOk result (λ t. string_bytes t ≡ plain_count_text n) }
+{
+    format!(in alloc; "plain {n}\n")
+}
+
+/// `applied 5`: so many requests were executed.
+pub fn print_applied_count(alloc: Global, n: u64) -> Result<String, AllocError>
+    ensures { IfOk result (λ t. string_bytes t ≡ applied_count_text n) }
+{
+    format!(in alloc; "applied {n}\n")
 }
 
 /// `packet 0 1864c000`, or `packet 9 none`: the octets of the packet of this number, where there is

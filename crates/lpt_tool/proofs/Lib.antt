@@ -3,3 +3,4 @@ mod LineLemmas
 mod RunEnds
 mod RunLemmas
 mod TickLemmas
+mod ThreadLemmas

@@ -12,9 +12,8 @@ use Rattle.lpt_text.specs.Reading.{EndsLine}
 use Rattle.lpt_text.specs.declared.lines.LineBuffer.{LineBuffer}
 use Rattle.lpt_tool.proofs.LineLemmas.{Goes, line_first}
 use Rattle.lpt_tool.specs.Ends.{LineEnds}
-use Rattle.lpt_tool.specs.Scripts.{behind, lines_ran, line_ran, script_ran}
+use Rattle.lpt_tool.specs.Scripts.{behind, lines_ran, line_ran, script_ran, says}
 use Rattle.lpt_words.proofs.Pieces.{lines-place}
-use Rattle.lpt_words.specs.Grammar.{reading_of}
 use Rattle.lpt_words.specs.Words.{ended_line, lines}
 use Rattle.lpt_world.specs.Worlds.{Shown}
 
@@ -40,24 +39,24 @@ lines-first text more n at =
 -- ---- a run under way
 
 -- these octets were run, and this was written; the rest that is held is still to be run
-pub record Runs (first w : Shown) (n refused : ℕ) (rest : List ℕ) (room : ℕ) (old now a b : Option (List ℕ)) : Type 0 where
+pub record Runs (later : Bool) (first w : Shown) (n refused : ℕ) (rest : List ℕ) (room : ℕ) (old now a b : Option (List ℕ)) : Type 0 where
   pub given : List ℕ
   pub done : List ℕ
   pub consumed : Consumes old now (given ++ rest)
   pub ends : EndsLine given
   pub counted : length given + (length rest + room) ≡ 16777216
   pub written : Appends a b done
-  pub follows : (more : List ℕ) → script_ran first (given ++ more) ≡ behind done (lines_ran (lines more) w n refused)
+  pub follows : (more : List ℕ) → script_ran later first (given ++ more) ≡ behind done (lines_ran later (lines more) w n refused)
   pub numbered : n ≤ length given + 1
   pub some : refused + 1 ≤ n
 
 -- nothing was read
-pub runs_start : (first : Shown) (rest : List ℕ) (room : ℕ) (old a b : Option (List ℕ))
+pub runs_start : (later : Bool) (first : Shown) (rest : List ℕ) (room : ℕ) (old a b : Option (List ℕ))
     → rest ≡ []
     → room ≡ 16777216
     → Appends a b []
-    → Runs first first 1 0 rest room old old a b
-runs_start first rest room old a b none all nothing = record {
+    → Runs later first first 1 0 rest room old old a b
+runs_start later first rest room old a b none all nothing = record {
   given = [];
   done = [];
   consumed = subst (Consumes old old) (sym none) (Consumes-nil old);
@@ -70,12 +69,12 @@ runs_start first rest room old a b none all nothing = record {
 }
 
 -- more was read
-pub runs_read : (first w : Shown) (n refused : ℕ) (before after : LineBuffer) (read : List ℕ) (old now next a b c : Option (List ℕ))
-    → Runs first w n refused (held before) (room_of before) old now a b
+pub runs_read : (later : Bool) (first w : Shown) (n refused : ℕ) (before after : LineBuffer) (read : List ℕ) (old now next a b c : Option (List ℕ))
+    → Runs later first w n refused (held before) (room_of before) old now a b
     → Adds before after now next read []
     → Keeps b c
-    → Runs first w n refused (held after) (room_of after) old next a c
-runs_read first w n refused before after read old now next a b c runs adds keeps = record {
+    → Runs later first w n refused (held after) (room_of after) old next a c
+runs_read later first w n refused before after read old now next a b c runs adds keeps = record {
   given = runs.given;
   done = runs.done;
   consumed = subst (Consumes old next)
@@ -91,16 +90,16 @@ runs_read first w n refused before after read old now next a b c runs adds keeps
 }
 
 -- the next line is the first of what is left to do
-pub goes_line : (first w : Shown) (n refused place : ℕ) (text : List ℕ) (room : ℕ) (old now a b : Option (List ℕ))
-    → (runs : Runs first w n refused text room old now a b)
+pub goes_line : (later : Bool) (first w : Shown) (n refused place : ℕ) (text : List ℕ) (room : ℕ) (old now a b : Option (List ℕ))
+    → (runs : Runs later first w n refused text room old now a b)
     → line_end text ≡ Some place
     → (more : List ℕ)
-    → script_ran first ((runs.given ++ take (place + 1) text) ++ more)
-    ≡ behind runs.done (lines_ran (ended_line (take place text) ∷ lines more) w n refused)
-goes_line first w n refused place text room old now a b runs at more =
-    ap (script_ran first) (append_assoc runs.given (take (place + 1) text) more)
+    → script_ran later first ((runs.given ++ take (place + 1) text) ++ more)
+    ≡ behind runs.done (lines_ran later (ended_line (take place text) ∷ lines more) w n refused)
+goes_line later first w n refused place text room old now a b runs at more =
+    ap (script_ran later first) (append_assoc runs.given (take (place + 1) text) more)
     ∙ runs.follows (take (place + 1) text ++ more)
-    ∙ ap (λ x. behind runs.done (lines_ran x w n refused)) (lines-first text more place at)
+    ∙ ap (λ x. behind runs.done (lines_ran later x w n refused)) (lines-first text more place at)
 
 -- what was read goes on behind the line
 pub line_behind : (given text : List ℕ) (place : ℕ)
@@ -124,15 +123,15 @@ at_most_one true = omega arith
 at_most_one false = omega arith
 
 -- a line ended well
-pub runs_line : (first w v : Shown) (n refused place : ℕ) (f : Bool) (text rest : List ℕ) (room : ℕ) (old now a b c : Option (List ℕ))
-    → Runs first w n refused text room old now a b
+pub runs_line : (later : Bool) (first w v : Shown) (n refused place : ℕ) (f : Bool) (text rest : List ℕ) (room : ℕ) (old now a b c : Option (List ℕ))
+    → Runs later first w n refused text room old now a b
     → line_end text ≡ Some place
     → rest ≡ drop (place + 1) text
-    → LineEnds (line_ran (reading_of (ended_line (take place text))) n w) (Ok f) v b c
-    → Runs first v (n + 1) (refused + from_bool f) rest room old now a c
-runs_line first w v n refused place f text rest room old now a b c runs at is ends =
+    → LineEnds (line_ran (says later (ended_line (take place text))) n w) (Ok f) v b c
+    → Runs later first v (n + 1) (refused + from_bool f) rest room old now a c
+runs_line later first w v n refused place f text rest room old now a b c runs at is ends =
     let line = ended_line (take place text) in
-    let ran = line_ran (reading_of line) n w in
+    let ran = line_ran (says later line) n w in
     let found = position-Some (λ b. b == 10) text place 0 at in
     let long : length (take (place + 1) text) ≡ place + 1 = length-take-le (place + 1) text (omega (arith, found.0)) in
     let whole : length text ≡ length (take (place + 1) text) + length (drop (place + 1) text) =
@@ -149,14 +148,14 @@ runs_line first w v n refused place f text rest room old now a b c runs at is en
       counted = omega (arith, runs.counted, long, whole, longer, left);
       written = Appends-trans a b c runs.done ran.text runs.written ends.3;
       follows = λ more.
-          let goes : Goes (script_ran first ((runs.given ++ take (place + 1) text) ++ more)) (line ∷ lines more) w n refused a b = record {
+          let goes : Goes later (script_ran later first ((runs.given ++ take (place + 1) text) ++ more)) (line ∷ lines more) w n refused a b = record {
             done = runs.done;
             written = runs.written;
-            follows = goes_line first w n refused place text room old now a b runs at more;
+            follows = goes_line later first w n refused place text room old now a b runs at more;
           } in
-          line_first (script_ran first ((runs.given ++ take (place + 1) text) ++ more)) line (lines more) w n refused a b goes ends.0
-          ∙ ap (λ x. behind (runs.done ++ ran.text) (lines_ran (lines more) x (n + 1) (refused + from_bool ran.refused))) (sym ends.2)
-          ∙ ap (λ x. behind (runs.done ++ ran.text) (lines_ran (lines more) v (n + 1) (refused + from_bool x))) (sym ends.1);
+          line_first later (script_ran later first ((runs.given ++ take (place + 1) text) ++ more)) line (lines more) w n refused a b goes ends.0
+          ∙ ap (λ x. behind (runs.done ++ ran.text) (lines_ran later (lines more) x (n + 1) (refused + from_bool ran.refused))) (sym ends.2)
+          ∙ ap (λ x. behind (runs.done ++ ran.text) (lines_ran later (lines more) v (n + 1) (refused + from_bool x))) (sym ends.1);
       numbered = omega (arith, runs.numbered, long, longer);
       some = omega (arith, runs.some, at_most_one f);
     }

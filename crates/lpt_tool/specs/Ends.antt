@@ -1,5 +1,5 @@
 -- How lines and scripts end: what the answer says of what was read and written.
-use Rattle.std.specs.Prelude.{◌≡◌, ◌⊎◌, ℕ, Bool, true, false, List, Option, Some, None, Result, Ok, Err}
+use Rattle.std.specs.Prelude.{◌≡◌, ◌⊎◌, ◌≤◌, ◌++◌, ⊤, ℕ, Bool, true, false, List, Option, Some, None, Result, Ok, Err}
 use Rattle.std.specs.Io.KnownBytes.{Appends}
 use Rattle.lpt_events.specs.declared.side.Side.{Side}
 use Rattle.lpt_print.specs.Decoding.{decoding}
@@ -43,29 +43,93 @@ LinesEnd script (Err tool.Read) old new = ⊥
 LinesEnd script (Err tool.Config) old new = ⊥
 LinesEnd script (Err (tool.Threads k)) old new = ⊥
 
--- How a run ends: what was read of the reader, what the writer gained, and what failed. Ok: all was read,
+-- How the run of a script's lines ends: what was read of the reader, what the writer gained, and what failed. Ok: all was read,
 -- and the whole text written. Line: the text up to the unreadable line was written, that line's with it.
 -- Read: a read failed or more came than a script may have; the lines before that were run. Write, Memory:
 -- the writer gained a front part of the text.
+abbrev pub RunEnds :
+    (later : Bool) → Shown → Result ScriptEnd ToolFault
+    → (read_before read_after written_before written_after : Option (List ℕ))
+    → (read_failed write_failed : Bool) → Type 0
+RunEnds later w (Ok end) old new before after read_failed write_failed =
+    IsWhole old new (λ text. LinesEnd (script_ran later w text) (Ok end) before after)
+RunEnds later w (Err (tool.Line n)) old new before after read_failed write_failed =
+    IsFront old new (λ text. LinesEnd (script_ran later w text) (Err (tool.Line n)) before after)
+RunEnds later w (Err tool.Read) old new before after read_failed write_failed =
+    IsCutFront old new read_failed
+    (λ text. ((script_ran later w text).bad ≡ None) × Appends before after (script_ran later w text).text)
+RunEnds later w (Err tool.Write) old new before after read_failed write_failed =
+    IsFront old new (λ text. LinesEnd (script_ran later w text) (Err tool.Write) before after)
+    × (write_failed ≡ true)
+RunEnds later w (Err tool.Memory) old new before after read_failed write_failed =
+    IsFront old new (λ text. LinesEnd (script_ran later w text) (Err tool.Memory) before after)
+RunEnds later w (Err tool.Config) old new before after read_failed write_failed =
+    (old ≡ new) × (before ≡ after)
+RunEnds later w (Err (tool.Threads n)) old new before after read_failed write_failed = ⊥
+
+-- the same where each line is run in its place
 abbrev pub ScriptEnds :
     Shown → Result ScriptEnd ToolFault
     → (read_before read_after written_before written_after : Option (List ℕ))
     → (read_failed write_failed : Bool) → Type 0
-ScriptEnds w (Ok end) old new before after read_failed write_failed =
-    IsWhole old new (λ text. LinesEnd (script_ran w text) (Ok end) before after)
-ScriptEnds w (Err (tool.Line n)) old new before after read_failed write_failed =
-    IsFront old new (λ text. LinesEnd (script_ran w text) (Err (tool.Line n)) before after)
-ScriptEnds w (Err tool.Read) old new before after read_failed write_failed =
-    IsCutFront old new read_failed
-    (λ text. ((script_ran w text).bad ≡ None) × Appends before after (script_ran w text).text)
-ScriptEnds w (Err tool.Write) old new before after read_failed write_failed =
-    IsFront old new (λ text. LinesEnd (script_ran w text) (Err tool.Write) before after)
-    × (write_failed ≡ true)
-ScriptEnds w (Err tool.Memory) old new before after read_failed write_failed =
-    IsFront old new (λ text. LinesEnd (script_ran w text) (Err tool.Memory) before after)
-ScriptEnds w (Err tool.Config) old new before after read_failed write_failed =
+ScriptEnds = RunEnds false
+
+-- what was written stays, and more may stand behind it
+abbrev pub Grows : Option (List ℕ) → Option (List ℕ) → Type 0
+Grows old new = (more : List ℕ) × Appends old new more
+
+-- the whole text of lines was written, and more may stand behind it
+abbrev pub LinesAndMore : Script → Option (List ℕ) → Option (List ℕ) → Type 0
+LinesAndMore script old new = (script.bad ≡ None) × (more : List ℕ) × Appends old new (script.text ++ more)
+
+-- How a script with threads ends. Ok: all was read, each line could be, and what those print that don't
+-- show was written, with what the threads left behind it. Line, Read, Config: as without threads. Write,
+-- Memory: as without threads, or behind the whole text of those lines. Threads: all was read, and the
+-- text of those lines written, no more.
+abbrev pub ThreadsEnds :
+    Shown → Result ScriptEnd ToolFault
+    → (read_before read_after written_before written_after : Option (List ℕ))
+    → (read_failed write_failed : Bool) → Type 0
+ThreadsEnds w (Ok end) old new before after read_failed write_failed =
+    IsWhole old new
+    (λ text. (end.refused ≡ (script_ran true w text).refused) × LinesAndMore (script_ran true w text) before after)
+ThreadsEnds w (Err (tool.Line n)) old new before after read_failed write_failed =
+    RunEnds true w (Err (tool.Line n)) old new before after read_failed write_failed
+ThreadsEnds w (Err tool.Read) old new before after read_failed write_failed =
+    RunEnds true w (Err tool.Read) old new before after read_failed write_failed
+ThreadsEnds w (Err tool.Config) old new before after read_failed write_failed =
     (old ≡ new) × (before ≡ after)
-ScriptEnds w (Err (tool.Threads n)) old new before after read_failed write_failed = ⊥
+ThreadsEnds w (Err tool.Write) old new before after read_failed write_failed =
+    RunEnds true w (Err tool.Write) old new before after read_failed write_failed
+    ⊎ (IsWhole old new (λ text. LinesAndMore (script_ran true w text) before after) × (write_failed ≡ true))
+ThreadsEnds w (Err tool.Memory) old new before after read_failed write_failed =
+    RunEnds true w (Err tool.Memory) old new before after read_failed write_failed
+    ⊎ IsWhole old new (λ text. LinesAndMore (script_ran true w text) before after)
+ThreadsEnds w (Err (tool.Threads n)) old new before after read_failed write_failed =
+    IsWhole old new
+    (λ text. ((script_ran true w text).bad ≡ None)
+    × Appends before after (script_ran true w text).text)
+    × (61 ≤ n)
+    × (n ≤ 63)
+
+-- a fault of the threads, by its number
+abbrev pub IsOfThreads : ToolFault → Type 0
+IsOfThreads (tool.Threads n) = (61 ≤ n) × (n ≤ 63)
+IsOfThreads tool.Read = ⊥
+IsOfThreads tool.Write = ⊥
+IsOfThreads (tool.Line n) = ⊥
+IsOfThreads tool.Memory = ⊥
+IsOfThreads tool.Config = ⊥
+
+-- how the threads and what is printed after them end: where the threads fail, nothing was written
+abbrev pub GoesOn : Result Unit ToolFault → (before after : Option (List ℕ)) → (write_failed : Bool) → Type 0
+GoesOn (Ok u) before after write_failed = Grows before after
+GoesOn (Err tool.Write) before after write_failed = Grows before after × (write_failed ≡ true)
+GoesOn (Err tool.Memory) before after write_failed = Grows before after
+GoesOn (Err (tool.Threads n)) before after write_failed = (before ≡ after) × (61 ≤ n) × (n ≤ 63)
+GoesOn (Err (tool.Line n)) before after write_failed = ⊥
+GoesOn (Err tool.Read) before after write_failed = ⊥
+GoesOn (Err tool.Config) before after write_failed = ⊥
 
 -- the same where nothing was refused
 abbrev pub unrefused : Result Unit ToolFault → Result Bool ToolFault

@@ -1,5 +1,5 @@
 -- What the lines of a script do to a world, and what they print.
-use Rattle.std.specs.Prelude.{ℕ, zero, suc, ◌+◌, if◌then◌else◌, is_some, nat_le, Bool, true, false, List, [], ◌∷◌, ◌++◌, length, take, drop, slice_get, Option, Some, None}
+use Rattle.std.specs.Prelude.{ℕ, zero, suc, ◌+◌, if◌then◌else◌, is_some, nat_le, Bool, true, false, ◌&&◌, List, [], ◌∷◌, ◌++◌, length, take, drop, slice_get, Option, Some, None}
 use Rattle.std.specs.Int.{from_bool}
 use Rattle.std.specs.Option.{option_map, option_and_then}
 use Rattle.lpt_memory.specs.Memories.{content_of}
@@ -22,6 +22,8 @@ use Rattle.lpt_journal.specs.Clear.{is_clear}
 use Rattle.lpt_journal.specs.Link.{sent}
 use Rattle.lpt_journal.specs.Releases.{releases}
 use Rattle.lpt_journal.specs.Replies.{reply}
+use Rattle.lpt_tool.specs.declared.shows.Shows.{Shows}
+use Rattle.lpt_tool.specs.declared.shows.Shows.TheVariants as shows
 use Rattle.lpt_world.specs.Worlds.{Shown, history, memories_now, refusal_at, with_entry}
 
 -- what a line leaves: the world after it, what it printed, whether an event was refused, and its own
@@ -31,6 +33,11 @@ pub record Ran : Type 0 where
   pub text : List ℕ
   pub refused : Bool
   pub bad : Option ℕ
+
+-- whether what lines show is left for later
+abbrev pub is_later : Shows → Bool
+is_later shows.Now = false
+is_later (shows.Later kept) = true
 
 -- a line that prints this, and leaves this world
 abbrev pub printed : Shown → List ℕ → Ran
@@ -119,6 +126,51 @@ command_ran (command.ShowClear d id) w =
     printed w (clear_text (is_clear w.config (history w) d id))
 command_ran command.ShowJournal w = printed w (journal_text (length w.journal))
 
+-- whether a command only shows what is there
+abbrev pub only_shows : Command → Bool
+only_shows (command.Open d id m) = false
+only_shows (command.Send d id k) = false
+only_shows (command.Plain flags service subtype body) = false
+only_shows (command.Load l) = false
+only_shows (command.Lose n) = false
+only_shows (command.Damage d b) = false
+only_shows (command.Take l n) = false
+only_shows (command.Deliver l) = false
+only_shows (command.Finish d id) = false
+only_shows (command.Expire side) = false
+only_shows (command.Tick side count) = false
+only_shows (command.Pass l n) = false
+only_shows (command.Claim k) = false
+only_shows (command.Commit k) = false
+only_shows command.Apply = false
+only_shows command.Work = false
+only_shows (command.Retire d id) = false
+only_shows (command.Restart side) = false
+only_shows command.ShowReleased = true
+only_shows (command.ShowPacket n) = true
+only_shows (command.ShowMemory id address len) = true
+only_shows (command.ShowClear d id) = true
+only_shows command.ShowJournal = true
+
+-- the command, unless it shows and that is left for later
+abbrev pub now_done : (later : Bool) → Command → Option Command
+now_done later c = if later && only_shows c then None else Some c
+
+-- what a line says that asks for this, or for nothing
+abbrev pub asks : Option Command → Reading
+asks (Some c) = Asks c
+asks None = Skipped
+
+-- what a line says, where lines that show may be left for later
+abbrev pub says_now : (later : Bool) → Reading → Reading
+says_now later Skipped = Skipped
+says_now later (Asks c) = asks (now_done later c)
+says_now later Unreadable = Unreadable
+
+-- the same by the line's octets
+abbrev pub says : (later : Bool) → List ℕ → Reading
+says later line = says_now later (reading_of line)
+
 -- what a line does, by what it says and by its number
 abbrev pub line_ran : Reading → ℕ → Shown → Ran
 line_ran Skipped n w = printed w []
@@ -146,13 +198,14 @@ then_rest ran n refused rest (Some k) = record { text = ran.text; refused = refu
 then_rest ran n refused rest None =
     behind ran.text (rest ran.world (n + 1) (refused + from_bool ran.refused))
 
--- what lines do, from this world on, the first of which has this number, with so many refused before
-abbrev pub lines_ran : List (List ℕ) → Shown → ℕ → ℕ → Script
-lines_ran [] w n refused = record { text = []; refused = refused; bad = None }
-lines_ran (line ∷ more) w n refused =
-    let ran = line_ran (reading_of line) n w in
-    then_rest ran n refused (lines_ran more) ran.bad
+-- what lines do, from this world on, the first of which has this number, with so many refused before;
+-- lines that show may be left for later
+abbrev pub lines_ran : (later : Bool) → List (List ℕ) → Shown → ℕ → ℕ → Script
+lines_ran later [] w n refused = record { text = []; refused = refused; bad = None }
+lines_ran later (line ∷ more) w n refused =
+    let ran = line_ran (says later line) n w in
+    then_rest ran n refused (lines_ran later more) ran.bad
 
--- what a script command_ran to a world
-abbrev pub script_ran : Shown → List ℕ → Script
-script_ran w text = lines_ran (lines text) w 1 0
+-- what a script does to a world
+abbrev pub script_ran : (later : Bool) → Shown → List ℕ → Script
+script_ran later w text = lines_ran later (lines text) w 1 0

@@ -1,8 +1,8 @@
 //! Texts on their way to the writer.
 
-ghost use Rattle.std.specs.Prelude.{◌≡◌, ◌≢◌, ℕ, List, IfOk, IsErrOf, Err, string_bytes, true};
+ghost use Rattle.std.specs.Prelude.{◌≡◌, ◌≢◌, ◌⊎◌, ℕ, List, IfErr, IfOk, IsErrOf, Err, string_bytes, true};
 ghost use Rattle.lpt_print.specs.Printing.{refused_text};
-ghost use Rattle.lpt_tool.specs.Ends.{TextEnds};
+ghost use Rattle.lpt_tool.specs.Ends.{Grows, TextEnds};
 
 use lpt_print::print_refused;
 use lpt_text::{Sink, ToolFault, write_out};
@@ -12,6 +12,8 @@ use std::alloc::{AllocError, Global};
 /// Writes a text, where it could be made.
 pub(crate) fn put<K: Sink>(out: &mut K, text: Result<String, AllocError>) -> Result<(), ToolFault>
     ensures ends { (t : List ℕ) → IfOk text (λ s. string_bytes s ≡ t) → TextEnds t result (K.contents out.old) (K.contents out.new) }
+    ensures grows { Grows (K.contents out.old) (K.contents out.new) }
+    ensures only { IfErr result (λ e. (e ≡ ToolFault.Write) ⊎ (e ≡ ToolFault.Memory)) }
     ensures cause { IsErrOf result ToolFault.Write → K.failed out.new ≡ true }
     ensures told { result ≢ Err ToolFault.Write → K.failed out.new ≡ K.failed out.old }
 {

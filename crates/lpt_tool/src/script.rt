@@ -2,9 +2,8 @@
 
 ghost use Rattle.std.specs.Prelude.{◌≡◌, ◌≢◌, ◌↔◌, ◌+◌, ◌<◌, ◌^◌, IsErrOf, IsOk, IsSome, Err, None, true};
 ghost use Rattle.lpt_text.specs.Lines.{line_end};
-ghost use Rattle.lpt_tool.specs.Ends.{LineEnds, LinesEnd, ScriptEnds};
-ghost use Rattle.lpt_tool.specs.Scripts.{line_ran, lines_ran, unreadable};
-ghost use Rattle.lpt_words.specs.Grammar.{reading_of};
+ghost use Rattle.lpt_tool.specs.Ends.{LineEnds, LinesEnd, RunEnds, ScriptEnds};
+ghost use Rattle.lpt_tool.specs.Scripts.{is_later, line_ran, lines_ran, says, unreadable};
 ghost use Rattle.lpt_words.specs.Words.{lines};
 ghost use Rattle.lpt_events.specs.Configs.{config_fault};
 ghost use Rattle.lpt_world.specs.Worlds.{new_world};
@@ -12,6 +11,7 @@ ghost use Rattle.lpt_world.specs.Worlds.{new_world};
 use crate::ScriptEnd;
 use crate::command::run_command;
 use crate::printed::put;
+use crate::shows::Shows;
 use lpt_memory::Memories;
 use lpt_node::Config;
 use lpt_print::print_unreadable;
@@ -47,7 +47,7 @@ pub fn run_script<S: Source, K: Sink>(
     ensures read { IsOk result → S.failed reader.new ≡ S.failed reader.old }
 {
     match World::new(alloc, config, memories) {
-        Ok(mut world) => run_lines(alloc, &mut world, reader, out),
+        Ok(mut world) => run_lines(alloc, &mut world, &mut Shows::Now, reader, out),
         Err(ConfigFault::Memory) => Err(ToolFault::Memory),
         Err(_) => Err(ToolFault::Config),
     }
@@ -55,13 +55,14 @@ pub fn run_script<S: Source, K: Sink>(
 
 // Runs the lines that a reader gives, the first of which has number 1, and counts those of which an
 // event was refused.
-fn run_lines<S: Source, K: Sink>(
+pub(crate) fn run_lines<S: Source, K: Sink>(
     alloc: Global,
     world: &mut World,
+    shows: &mut Shows,
     reader: &mut S,
     out: &mut K,
 ) -> Result<ScriptEnd, ToolFault>
-    ensures ends { ScriptEnds world.old result (S.remaining reader.old) (S.remaining reader.new)
+    ensures ends { RunEnds (is_later shows.old) world.old result (S.remaining reader.old) (S.remaining reader.new)
         (K.contents out.old) (K.contents out.new) (S.failed reader.new) (K.failed out.new) }
     ensures config { result ≢ Err ToolFault.Config }
     ensures told { result ≢ Err ToolFault.Write → K.failed out.new ≡ K.failed out.old }
@@ -73,10 +74,17 @@ fn run_lines<S: Source, K: Sink>(
     loop {
         let len = match lines.find_line(reader, out) {
             Ok(Some(len)) => len,
-            Ok(None) => return run_last(alloc, world, lines.held(), number, refused, out),
+            Ok(None) => return run_last(alloc, world, shows, lines.held(), number, refused, out),
             Err(fault) => return Err(fault),
         };
-        match run_line(alloc, world, ended(&lines.held()[..len]), number, out) {
+        match run_line(
+            alloc,
+            world,
+            shows,
+            ended(&lines.held()[..len]),
+            number,
+            out,
+        ) {
             Ok(was_refused) => refused += u64::from(was_refused),
             Err(fault) => return Err(fault),
         }
@@ -90,6 +98,7 @@ fn run_lines<S: Source, K: Sink>(
 fn run_last<K: Sink>(
     alloc: Global,
     world: &mut World,
+    shows: &mut Shows,
     last: &[u8],
     number: u64,
     refused: u64,
@@ -97,14 +106,14 @@ fn run_last<K: Sink>(
 ) -> Result<ScriptEnd, ToolFault>
     requires one { line_end last.now ≡ None }
     requires fits { refused + 1 < 2 ^ 64 }
-    ensures ends { LinesEnd (lines_ran (lines last.now) world.old number refused) result (K.contents out.old) (K.contents out.new) }
+    ensures ends { LinesEnd (lines_ran (is_later shows.old) (lines last.now) world.old number refused) result (K.contents out.old) (K.contents out.new) }
     ensures cause { IsErrOf result ToolFault.Write → K.failed out.new ≡ true }
     ensures told { result ≢ Err ToolFault.Write → K.failed out.new ≡ K.failed out.old }
 {
     if last.is_empty() {
         return Ok(ScriptEnd { refused });
     }
-    match run_line(alloc, world, last, number, out) {
+    match run_line(alloc, world, shows, last, number, out) {
         Ok(was_refused) => Ok(ScriptEnd {
             refused: refused + u64::from(was_refused),
         }),
@@ -116,18 +125,24 @@ fn run_last<K: Sink>(
 fn run_line<K: Sink>(
     alloc: Global,
     world: &mut World,
+    shows: &mut Shows,
     line: &[u8],
     number: u64,
     out: &mut K,
 ) -> Result<bool, ToolFault>
-    ensures ends { LineEnds (line_ran (reading_of line.now) number world.old) result world.new (K.contents out.old) (K.contents out.new) }
+    ensures same { is_later shows.new ≡ is_later shows.old }
+    ensures ends { LineEnds (line_ran (says (is_later shows.old) line.now) number world.old) result world.new (K.contents out.old) (K.contents out.new) }
     ensures cause { IsErrOf result ToolFault.Write → K.failed out.new ≡ true }
     ensures told { result ≢ Err ToolFault.Write → K.failed out.new ≡ K.failed out.old }
 {
     match read_line(alloc, line) {
         Err(_) => Err(ToolFault::Memory),
         Ok(Reading::Skipped) => Ok(false),
-        Ok(Reading::Asks(command)) => run_command(alloc, world, command, out),
+        Ok(Reading::Asks(command)) => match shows.keep(command) {
+            Ok(Some(command)) => run_command(alloc, world, command, out),
+            Ok(None) => Ok(false),
+            Err(_) => Err(ToolFault::Memory),
+        },
         Ok(Reading::Unreadable) => Err(end_unreadable(alloc, number, out)),
     }
 }

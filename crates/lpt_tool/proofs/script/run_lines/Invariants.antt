@@ -1,14 +1,16 @@
 use Rattle.std.proofs.Common.{◌≡◌, ◌+◌, length}
 use Rattle.lpt_text.specs.Lines.{held, room_of}
 use Rattle.lpt_tool.proofs.RunLemmas.{Runs}
+use Rattle.lpt_tool.specs.Scripts.{is_later}
 use Rattle.lpt_tool.proofs.script.run_lines.Given as goal
 
 -- all that was passed over was run
 abbrev pub invariant-loop-len : goal.invariant-loop-len
 invariant-loop-len g l = record {
-  runs : Runs l.fn.world l.world l.number l.refused (held l.lines) (room_of l.lines)
+  runs : Runs (is_later l.fn.shows) l.fn.world l.world l.number l.refused (held l.lines) (room_of l.lines)
       (g.S.Source.remaining l.fn.reader) (g.S.Source.remaining l.reader)
       (g.K.Sink.contents l.fn.out) (g.K.Sink.contents l.out);
+  same : is_later l.shows ≡ is_later l.fn.shows;
   told : g.S.Source.failed l.reader ≡ g.S.Source.failed l.fn.reader;
   written : g.K.Sink.failed l.out ≡ g.K.Sink.failed l.fn.out;
 }

@@ -1,0 +1,63 @@
+use Rattle.std.proofs.Common.{[], subst, inl, Ok, Err, true}
+use Rattle.std.proofs.KnownBytes.{Consumes-nil}
+use Rattle.lpt_tool.specs.Ends.{RunEnds}
+use Rattle.lpt_tool.specs.Scripts.{is_later}
+use Rattle.lpt_tool.proofs.RunEnds.{memory_ends}
+use Rattle.lpt_tool.proofs.ThreadLemmas.{after_fault, lines_fault, threads_done}
+use Rattle.lpt_world.specs.Worlds.{new_world}
+use Rattle.lpt_tool.proofs.threads.run_threads_script.Goals as goal
+
+-- the lines ended by a fault: the world is the new one, and its lines that show are kept
+pub returns-in-Err-run_lines-clause-ends : goal.returns-in-Err-run_lines-clause-ends
+returns-in-Err-run_lines-clause-ends g c =
+    let old = g.S.Source.remaining c.args.reader.now in
+    let new = g.S.Source.remaining c.run_lines.new.reader in
+    let a = g.K.Sink.contents c.args.out.now in
+    let b = g.K.Sink.contents c.run_lines.new.out in
+    let failed = g.S.Source.failed c.run_lines.new.reader in
+    let wrote = g.K.Sink.failed c.run_lines.new.out in
+    lines_fault (new_world c.args.config c.args.memories) c.in-Err-run_lines.fault old new a b failed wrote
+    (subst (λ l. RunEnds l (new_world c.args.config c.args.memories) (Err c.in-Err-run_lines.fault) old new a b failed wrote) c.later-shows.ensures
+    (subst (λ w. RunEnds (is_later c.later-shows.result) w (Err c.in-Err-run_lines.fault) old new a b failed wrote) c.in-Ok.ensures.ok
+    c.in-Err-run_lines.ensures.ends))
+
+-- no memory for the world
+pub returns-in-Err-Memory-clause-ends : goal.returns-in-Err-Memory-clause-ends
+returns-in-Err-Memory-clause-ends g c =
+    inl (memory_ends true (new_world c.args.config c.args.memories) [] (g.S.Source.remaining c.args.reader.now) (g.S.Source.remaining c.args.reader.now)
+    (g.K.Sink.contents c.args.out.now) (g.S.Source.failed c.args.reader.now) (g.K.Sink.failed c.args.out.now)
+    (Consumes-nil (g.S.Source.remaining c.args.reader.now)))
+
+-- all was done
+pub returns-in-Ok-go_on-clause-ends : goal.returns-in-Ok-go_on-clause-ends
+returns-in-Ok-go_on-clause-ends g c =
+    let first = new_world c.args.config c.args.memories in
+    let end = c.in-Ok-run_lines.end in
+    let old = g.S.Source.remaining c.args.reader.now in
+    let new = g.S.Source.remaining c.run_lines.new.reader in
+    let a = g.K.Sink.contents c.args.out.now in
+    let b = g.K.Sink.contents c.run_lines.new.out in
+    let failed = g.S.Source.failed c.run_lines.new.reader in
+    let wrote = g.K.Sink.failed c.run_lines.new.out in
+    threads_done first end old new a b (g.K.Sink.contents c.go_on.new.out) failed wrote (g.K.Sink.failed c.go_on.new.out)
+    (subst (λ l. RunEnds l first (Ok end) old new a b failed wrote) c.later-shows.ensures
+    (subst (λ w. RunEnds (is_later c.later-shows.result) w (Ok end) old new a b failed wrote) c.in-Ok.ensures.ok
+    c.in-Ok-run_lines.ensures.ends))
+    c.in-Ok-go_on.ensures.ends
+
+-- the threads failed, or what they left could not be written
+pub returns-in-Err-go_on-clause-ends : goal.returns-in-Err-go_on-clause-ends
+returns-in-Err-go_on-clause-ends g c =
+    let first = new_world c.args.config c.args.memories in
+    let end = c.in-Ok-run_lines.end in
+    let old = g.S.Source.remaining c.args.reader.now in
+    let new = g.S.Source.remaining c.run_lines.new.reader in
+    let a = g.K.Sink.contents c.args.out.now in
+    let b = g.K.Sink.contents c.run_lines.new.out in
+    let failed = g.S.Source.failed c.run_lines.new.reader in
+    let wrote = g.K.Sink.failed c.run_lines.new.out in
+    after_fault first end c.in-Err-go_on.fault old new a b (g.K.Sink.contents c.go_on.new.out) failed wrote (g.K.Sink.failed c.go_on.new.out)
+    (subst (λ l. RunEnds l first (Ok end) old new a b failed wrote) c.later-shows.ensures
+    (subst (λ w. RunEnds (is_later c.later-shows.result) w (Ok end) old new a b failed wrote) c.in-Ok.ensures.ok
+    c.in-Ok-run_lines.ensures.ends))
+    c.in-Err-go_on.ensures.ends
