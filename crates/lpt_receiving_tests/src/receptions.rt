@@ -1,12 +1,11 @@
 //! Receptions of short messages in parts of 8 octets, and of the longest in 1,025 parts of 64 and in
 //! 8,193 parts of 8.
 
-ghost use Rattle.std.specs.Prelude.{◌≡◌, ◌≤◌, IfOk};
+ghost use Rattle.std.specs.Prelude.{◌≡◌, ◌≤◌, IfSome};
 ghost use Rattle.lpt_part.specs.Splitting.{IsPartSize};
 
-use lpt_packet::Octets;
 use lpt_part::{Kind, Part, Reason, count, slice};
-use lpt_reception::{Filling, Step};
+use lpt_reception::{Filling, Step, Whole};
 use std::alloc::{AllocError, Global};
 use std::process::Abort;
 use std::test::Fail;
@@ -32,23 +31,40 @@ enum Said {
 }
 
 // Offers a part, and gives back the reception that it leaves, or that it was.
-fn offer(filling: Filling, number: u16, kind: Kind, octets: &[u8], p: u32) -> (Said, Filling)
-    requires id { filling.id ≡ 7 }
-    requires p { filling.p ≡ p }
-    requires size { IsPartSize p }
-    ensures id { result.1.id ≡ 7 }
-    ensures p { result.1.p ≡ p }
+fn offer(filling: Filling, part: &Part<'_>) -> (Said, Filling)
+    requires id { part.now.id ≡ filling.id }
+    requires p { part.now.p ≡ filling.p }
+    ensures id { result.1.id ≡ filling.id }
+    ensures p { result.1.p ≡ filling.p }
 {
-    let Some(part) = Part::new(7, number, kind, octets, p) else {
-        return (Said::NoPart, filling);
-    };
-    match filling.accept(&part) {
+    match filling.accept(part) {
         Step::Filling(filling) => (Said::Kept, filling),
         Step::Again(filling) => (Said::Again, filling),
         Step::Whole(whole) => (Said::Whole, whole.back()),
         Step::Conflict(broken) => (Said::Conflict, broken.back()),
         Step::NoMemory(filling) => (Said::NoMemory, filling),
     }
+}
+
+// The kind of part `number` of a message of several parts.
+fn kind_of(number: u16, octets: &[u8], p: u32) -> Kind {
+    if number == 1 {
+        Kind::First
+    } else if octets.len() == p as usize {
+        Kind::Middle
+    } else {
+        Kind::Last
+    }
+}
+
+// Part `number` of the message.
+fn part_of(message: &[u8], number: u16, p: u32) -> Option<Part<'_>>
+    requires size { IsPartSize p }
+    ensures id { IfSome result (λ t. t.id ≡ 7) }
+    ensures p { IfSome result (λ t. t.p ≡ p) }
+{
+    let octets = slice(message, p, u32::from(number))?;
+    Part::new(7, number, kind_of(number, octets, p), octets, p)
 }
 
 // Offers part `number` of the message.
@@ -59,17 +75,10 @@ fn offer_of(filling: Filling, message: &[u8], number: u16, p: u32) -> (Said, Fil
     ensures id { result.1.id ≡ 7 }
     ensures p { result.1.p ≡ p }
 {
-    let Some(octets) = slice(message, p, u32::from(number)) else {
-        return (Said::NoPart, filling);
-    };
-    let kind = if number == 1 {
-        Kind::First
-    } else if octets.len() == p as usize {
-        Kind::Middle
-    } else {
-        Kind::Last
-    };
-    offer(filling, number, kind, octets, p)
+    match part_of(message, number, p) {
+        Some(part) => offer(filling, &part),
+        None => (Said::NoPart, filling),
+    }
 }
 
 // Offers parts `from` to `to` of the message, and answers to how many it said this.
@@ -92,63 +101,61 @@ fn fill(filling: Filling, message: &[u8], from: u16, to: u16, p: u32, want: Said
     (so_many, filling)
 }
 
-// A part of transaction 7.
-fn part(number: u16, kind: Kind, octets: &[u8]) -> Result<Part<'_>, Fail>
-    ensures id { IfOk result (λ t. t.id ≡ 7) }
-    ensures p { IfOk result (λ t. t.p ≡ 8) }
+// A part of transaction 7, for parts of 8 octets.
+fn part(number: u16, kind: Kind, octets: &[u8]) -> Option<Part<'_>>
+    ensures id { IfSome result (λ t. t.id ≡ 7) }
+    ensures p { IfSome result (λ t. t.p ≡ 8) }
 {
-    sized(8, number, kind, octets)
+    Part::new(7, number, kind, octets, 8)
 }
 
-// A part of transaction 7, for parts of so many octets.
-fn sized(p: u32, number: u16, kind: Kind, octets: &[u8]) -> Result<Part<'_>, Fail>
-    requires { IsPartSize p }
-    ensures id { IfOk result (λ t. t.id ≡ 7) }
-    ensures p { IfOk result (λ t. t.p ≡ p) }
-{
-    Ok(Part::new(7, number, kind, octets, p).ok_or("no part")?)
-}
-
-// The message, joined and released, where part `number` of it makes the reception whole.
-fn message_with(filling: Filling, part: &Part<'_>) -> Result<Option<(Octets, Octets)>, AllocError>
+// The reception that a part makes whole, where it does.
+fn whole_with(filling: Filling, part: &Part<'_>) -> Option<Whole>
     requires id { part.now.id ≡ filling.id }
     requires p { part.now.p ≡ filling.p }
 {
     match filling.accept(part) {
-        Step::Whole(whole) => match whole.joined() {
-            Ok(joined) => match whole.release() {
-                Ok(released) => Ok(Some((joined, released))),
-                Err(whole) => {
-                    let _ = whole.back();
-                    Err(AllocError)
-                }
-            },
-            Err(error) => {
-                let _ = whole.back();
-                Err(error)
-            }
-        },
+        Step::Whole(whole) => Some(whole),
         Step::Conflict(broken) => {
             let _ = broken.abort();
-            Ok(None)
+            None
         }
-        Step::Filling(_) | Step::Again(_) | Step::NoMemory(_) => Ok(None),
+        Step::Filling(left) | Step::Again(left) | Step::NoMemory(left) => {
+            drop(left);
+            None
+        }
+    }
+}
+
+// Whether a copy of a reception's message is this.
+fn is_joined(whole: &Whole, message: &[u8]) -> bool {
+    match whole.joined() {
+        Ok(joined) => joined.as_slice() == message,
+        Err(_) => false,
+    }
+}
+
+// Whether a reception is given up for this message.
+fn is_released(whole: Whole, message: &[u8]) -> bool {
+    match whole.release() {
+        Ok(released) => released.as_slice() == message,
+        Err(whole) => {
+            drop(whole.back());
+            false
+        }
     }
 }
 
 // With this part the reception is that of the message.
-fn check_message(
-    rt: &impl Abort,
-    filling: Filling,
-    part: &Part<'_>,
-    message: &[u8],
-) -> Result<(), Fail>
+fn check_message(rt: &impl Abort, filling: Filling, part: &Part<'_>, message: &[u8])
     requires id { part.now.id ≡ filling.id }
     requires p { part.now.p ≡ filling.p }
 {
-    let (joined, released) = message_with(filling, part)?.ok_or("not whole")?;
-    assert!(rt; joined.as_slice() == message && released.as_slice() == message);
-    Ok(())
+    let (joined, released) = match whole_with(filling, part) {
+        Some(whole) => (is_joined(&whole, message), is_released(whole, message)),
+        None => (false, false),
+    };
+    assert!(rt; joined && released);
 }
 
 // The last part came first. What is given back as it was becomes whole once more.
@@ -168,107 +175,64 @@ fn offer_twice(rt: &impl Abort, filling: Filling) -> Filling
 
 #[test]
 fn parts_in_any_order_are_joined(rt: HostRuntime) -> Result<(), Fail> {
-    let last = part(3, Kind::Last, &MESSAGE[16..])?;
-    let middle = part(2, Kind::Middle, &MESSAGE[8..16])?;
+    let last = part(3, Kind::Last, &MESSAGE[16..]).ok_or("no part")?;
+    let middle = part(2, Kind::Middle, &MESSAGE[8..16]).ok_or("no part")?;
     let filling = Filling::start(rt.alloc(), &last, 8)?;
-    check_message(&rt, offer_twice(&rt, filling), &middle, &MESSAGE)
+    check_message(&rt, offer_twice(&rt, filling), &middle, &MESSAGE);
+    Ok(())
 }
 
+/// A part's number, kind and octets.
+type Fields<'a> = (u16, Kind, &'a [u8]);
+
+/// The octets of part 2 of the message, of part 3, and the last of them.
+const EIGHT: [u8; 8] = [0x08, 0x09, 0x0a, 0x0b, 0x0c, 0x0d, 0x0e, 0x0f];
+
+const FOUR: [u8; 4] = [0x10, 0x11, 0x12, 0x13];
+
+const ONE: [u8; 1] = [0x13];
+
 // What a reception answers to a part.
-fn judge(filling: Filling, number: u16, kind: Kind, octets: &[u8]) -> Said
-    requires id { filling.id ≡ 7 }
-    requires p { filling.p ≡ 8 }
+fn judge(filling: Filling, part: &Part<'_>) -> Said
+    requires id { part.now.id ≡ filling.id }
+    requires p { part.now.p ≡ filling.p }
 {
-    let (said, _) = offer(filling, number, kind, octets, 8);
+    let (said, filling) = offer(filling, part);
+    drop(filling);
     said
 }
 
 // What a reception that begins with the first of two parts answers to the second.
-fn answer(alloc: Global, first: &Part<'_>, second: (u16, Kind, &[u8])) -> Result<Said, AllocError>
-    requires id { first.now.id ≡ 7 }
-    requires p { first.now.p ≡ 8 }
-{
-    let (number, kind, octets) = second;
-    Ok(judge(Filling::start(alloc, first, 8)?, number, kind, octets))
+fn answer(alloc: Global, first: Fields<'_>, second: Fields<'_>) -> Said {
+    let (Some(first), Some(second)) = (
+        part(first.0, first.1, first.2),
+        part(second.0, second.1, second.2),
+    ) else {
+        return Said::NoPart;
+    };
+    match Filling::start(alloc, &first, 8) {
+        Ok(filling) => judge(filling, &second),
+        Err(_) => Said::NoMemory,
+    }
 }
 
 #[test]
-fn no_part_contradicts_another(rt: HostRuntime) -> Result<(), Fail> {
-    let eight = &MESSAGE[8..16];
+fn no_part_contradicts_another(rt: HostRuntime) {
+    let eight = (3, Kind::Middle, EIGHT.as_slice());
+    let four = (3, Kind::Last, FOUR.as_slice());
+    let one = (2, Kind::Last, ONE.as_slice());
+    let first = (1, Kind::First, EIGHT.as_slice());
     // A second last part, a last part below another part, a part above the last one, another kind,
-    // other octets; and two that agree, or end the message.
-    let rows = [
-        (
-            3,
-            Kind::Last,
-            &MESSAGE[16..],
-            2,
-            Kind::Last,
-            &MESSAGE[19..],
-            Said::Conflict,
-        ),
-        (
-            3,
-            Kind::Middle,
-            eight,
-            2,
-            Kind::Last,
-            &MESSAGE[19..],
-            Said::Conflict,
-        ),
-        (
-            2,
-            Kind::Last,
-            &MESSAGE[19..],
-            3,
-            Kind::Middle,
-            eight,
-            Said::Conflict,
-        ),
-        (
-            3,
-            Kind::Last,
-            &MESSAGE[16..],
-            3,
-            Kind::Middle,
-            eight,
-            Said::Conflict,
-        ),
-        (
-            1,
-            Kind::First,
-            eight,
-            1,
-            Kind::First,
-            OTHER.as_slice(),
-            Said::Conflict,
-        ),
-        (1, Kind::First, eight, 1, Kind::First, eight, Said::Again),
-        (
-            3,
-            Kind::Last,
-            &MESSAGE[16..],
-            2,
-            Kind::Middle,
-            eight,
-            Said::Kept,
-        ),
-        (
-            2,
-            Kind::Last,
-            &MESSAGE[19..],
-            1,
-            Kind::First,
-            eight,
-            Said::Whole,
-        ),
-    ];
-    for (at, (number, kind, octets, other, other_kind, others, want)) in rows.iter().enumerate() {
-        let first = part(*number, *kind, octets)?;
-        let came = answer(rt.alloc(), &first, (*other, *other_kind, others))?;
-        assert!(rt; came == *want, "row {at}");
-    }
-    Ok(())
+    // other octets.
+    assert!(rt; answer(rt.alloc(), four, one) == Said::Conflict);
+    assert!(rt; answer(rt.alloc(), eight, one) == Said::Conflict);
+    assert!(rt; answer(rt.alloc(), one, eight) == Said::Conflict);
+    assert!(rt; answer(rt.alloc(), four, eight) == Said::Conflict);
+    assert!(rt; answer(rt.alloc(), first, (1, Kind::First, &OTHER)) == Said::Conflict);
+    // Two that agree, or end the message.
+    assert!(rt; answer(rt.alloc(), first, first) == Said::Again);
+    assert!(rt; answer(rt.alloc(), four, (2, Kind::Middle, &EIGHT)) == Said::Kept);
+    assert!(rt; answer(rt.alloc(), one, first) == Said::Whole);
 }
 
 // The reason for which a part breaks the reception off.
@@ -282,17 +246,20 @@ fn reason(filling: Filling, part: &Part<'_>) -> Option<(Reason, Reason)>
             Some((reason, broken.abort()))
         }
         Step::Whole(whole) => {
-            let _ = whole.back();
+            drop(whole.back());
             None
         }
-        Step::Filling(_) | Step::Again(_) | Step::NoMemory(_) => None,
+        Step::Filling(left) | Step::Again(left) | Step::NoMemory(left) => {
+            drop(left);
+            None
+        }
     }
 }
 
 #[test]
 fn a_part_that_differs_breaks_it_off(rt: HostRuntime) -> Result<(), Fail> {
-    let first = part(1, Kind::First, &MESSAGE[..8])?;
-    let other = part(1, Kind::First, &OTHER)?;
+    let first = part(1, Kind::First, &MESSAGE[..8]).ok_or("no part")?;
+    let other = part(1, Kind::First, &OTHER).ok_or("no part")?;
     let filling = Filling::start(rt.alloc(), &first, 8)?;
     assert!(rt; reason(filling, &other) == Some((Reason::Conflict, Reason::Conflict)));
     assert!(rt; Reason::Conflict.code() == 3);
@@ -339,17 +306,12 @@ fn check_last_part_first(
     requires size { IsPartSize p }
     requires three { 3 ≤ last }
 {
-    let octets = slice(message, p, u32::from(last)).ok_or("none")?;
-    let end = sized(p, last, Kind::Last, octets)?;
-    let octets = slice(message, p, u32::from(last - 1)).ok_or("none")?;
-    let missing = sized(p, last - 1, Kind::Middle, octets)?;
+    let end = part_of(message, last, p).ok_or("none")?;
+    let missing = part_of(message, last - 1, p).ok_or("none")?;
     let filling = Filling::start(alloc, &end, p)?;
-    check_message(
-        rt,
-        fill_up(rt, filling, message, last, p),
-        &missing,
-        message,
-    )
+    let filling = fill_up(rt, filling, message, last, p);
+    check_message(rt, filling, &missing, message);
+    Ok(())
 }
 
 #[test]

@@ -1,9 +1,10 @@
 //! Worked rows: what comes of parts that are offered under a limit and a time-out.
 
-ghost use Rattle.std.specs.Prelude.{◌≡◌, None};
+ghost use Rattle.std.specs.Prelude.{◌≡◌, None, IsSomeAnd};
 
 use lpt_packet::Name;
 use lpt_part::{Kind, Part, Reason};
+use lpt_reception::{Broken, Whole};
 use lpt_table::{Offer, Table};
 use std::process::Abort;
 use std::test::Fail;
@@ -11,6 +12,12 @@ use std::test::Fail;
 const ZEROS: [u8; 4] = [0, 0, 0, 0];
 
 const ONES: [u8; 4] = [1, 1, 1, 1];
+
+const THREE: [Row; 3] = [
+    (9, 1, Kind::First, ZEROS, 0, Came::Kept),
+    (3, 1, Kind::First, ZEROS, 0, Came::Kept),
+    (1, 1, Kind::First, ZEROS, 4, Came::Kept),
+];
 
 /// What came of a part. What came out of the table was settled, or put back.
 #[derive(Clone, Copy, PartialEq, Eq)]
@@ -29,73 +36,111 @@ enum Came {
 /// of it.
 type Row = (Name, u16, Kind, [u8; 4], u32, Came);
 
-// Offers a part, and settles what comes out.
-fn offer(table: &mut Table, id: Name, number: u16, kind: Kind, octets: &[u8], now: u32) -> Came
-    requires p { table.old.p ≡ 4 }
-    requires settled { table.old.out ≡ None }
-    ensures p { table.new.p ≡ 4 }
-    ensures settled { table.new.out ≡ None }
-{
-    let Some(part) = Part::new(id, number, kind, octets, 4) else {
-        return Came::NoPart;
-    };
-    match table.offer(&part, now) {
-        Offer::Kept => Came::Kept,
-        Offer::Again => Came::Again,
-        Offer::NoRoom => Came::NoRoom,
-        Offer::Memory => Came::Memory,
-        Offer::Conflict(broken) => {
-            table.settle(id);
-            Came::BrokenOff(broken.abort())
-        }
-        Offer::Whole(whole) => match whole.release() {
-            Ok(message) => {
-                table.settle(id);
-                Came::Released(message.as_slice().len())
-            }
-            Err(whole) => {
-                table.put_back(id, whole.back());
-                Came::PutBack
-            }
-        },
-    }
+/// What is done with what comes out of a table.
+#[derive(Clone, Copy)]
+enum Way {
+    Settle,
+    PutBack,
 }
 
-// Offers a last part, and puts back what comes out.
-fn offer_in_vain(table: &mut Table, id: Name, number: u16, octets: &[u8], now: u32) -> Came
-    requires p { table.old.p ≡ 4 }
-    requires settled { table.old.out ≡ None }
-    ensures p { table.new.p ≡ 4 }
+// Gives up a reception that came out whole, or puts it back.
+fn end(table: &mut Table, id: Name, whole: Whole, way: Way) -> Came
+    requires out { IsSomeAnd table.old.out (λ o. o.0 ≡ id) }
+    requires id { whole.before.id ≡ id }
+    requires p { whole.before.p ≡ table.old.p }
+    ensures p { table.new.p ≡ table.old.p }
     ensures settled { table.new.out ≡ None }
 {
-    let Some(part) = Part::new(id, number, Kind::Last, octets, 4) else {
-        return Came::NoPart;
-    };
-    match table.offer(&part, now) {
-        Offer::Kept => Came::Kept,
-        Offer::Again => Came::Again,
-        Offer::NoRoom => Came::NoRoom,
-        Offer::Memory => Came::Memory,
-        Offer::Conflict(broken) => {
-            table.put_back(id, broken.back());
-            Came::PutBack
-        }
-        Offer::Whole(whole) => {
+    match way {
+        Way::Settle => release(table, id, whole),
+        Way::PutBack => {
             table.put_back(id, whole.back());
             Came::PutBack
         }
     }
 }
 
-// Offers the parts of these rows.
+// Releases a message, or puts its reception back where there is no memory.
+fn release(table: &mut Table, id: Name, whole: Whole) -> Came
+    requires out { IsSomeAnd table.old.out (λ o. o.0 ≡ id) }
+    requires id { whole.before.id ≡ id }
+    requires p { whole.before.p ≡ table.old.p }
+    ensures p { table.new.p ≡ table.old.p }
+    ensures settled { table.new.out ≡ None }
+{
+    match whole.release() {
+        Ok(message) => {
+            table.settle(id);
+            Came::Released(message.as_slice().len())
+        }
+        Err(whole) => {
+            table.put_back(id, whole.back());
+            Came::PutBack
+        }
+    }
+}
+
+// Gives up a reception that came out broken, or puts it back.
+fn break_off(table: &mut Table, id: Name, broken: Broken, way: Way) -> Came
+    requires out { IsSomeAnd table.old.out (λ o. o.0 ≡ id) }
+    requires id { broken.before.id ≡ id }
+    requires p { broken.before.p ≡ table.old.p }
+    ensures p { table.new.p ≡ table.old.p }
+    ensures settled { table.new.out ≡ None }
+{
+    match way {
+        Way::Settle => {
+            table.settle(id);
+            Came::BrokenOff(broken.abort())
+        }
+        Way::PutBack => {
+            table.put_back(id, broken.back());
+            Came::PutBack
+        }
+    }
+}
+
+// Offers a part, and settles what comes out, or puts it back.
+fn offer(table: &mut Table, part: &Part<'_>, now: u32, way: Way) -> Came
+    requires size { part.now.p ≡ table.old.p }
+    requires settled { table.old.out ≡ None }
+    ensures p { table.new.p ≡ table.old.p }
+    ensures settled { table.new.out ≡ None }
+{
+    match table.offer(part, now) {
+        Offer::Kept => Came::Kept,
+        Offer::Again => Came::Again,
+        Offer::NoRoom => Came::NoRoom,
+        Offer::Memory => Came::Memory,
+        Offer::Conflict(broken) => break_off(table, part.id, broken, way),
+        Offer::Whole(whole) => end(table, part.id, whole, way),
+    }
+}
+
+// Offers the part of a row.
+fn offer_row(table: &mut Table, row: &Row, way: Way) -> Came
+    requires p { table.old.p ≡ 4 }
+    requires settled { table.old.out ≡ None }
+    ensures p { table.new.p ≡ 4 }
+    ensures settled { table.new.out ≡ None }
+{
+    let (id, number, kind, octets, now, _) = row;
+    match Part::new(*id, *number, *kind, octets, 4) {
+        Some(part) => offer(table, &part, *now, way),
+        None => Came::NoPart,
+    }
+}
+
+// Offers the parts of these rows, and settles what comes out.
 fn offer_rows(rt: &impl Abort, table: &mut Table, rows: &[Row])
     requires p { table.old.p ≡ 4 }
     requires settled { table.old.out ≡ None }
     ensures p { table.new.p ≡ 4 }
     ensures settled { table.new.out ≡ None }
 {
-    for (id, number, kind, octets, now, want) in rows {
-        let came = offer(table, *id, *number, *kind, octets, *now);
+    for row in rows {
+        let (id, number, _, _, now, want) = row;
+        let came = offer_row(table, row, Way::Settle);
         assert!(rt; came == *want, "part {number} of {id} at {now}");
     }
 }
@@ -129,26 +174,29 @@ fn check_room(rt: &impl Abort, table: &mut Table)
 fn one_reception_at_a_time(rt: HostRuntime) -> Result<(), Fail> {
     let mut table = Table::new(rt.alloc(), 1, 10, 4)?;
     check_room(&rt, &mut table);
+    drop(table);
     Ok(())
 }
 
 // The oldest overdue reception is due, and of two that are as old the one of the least name.
 fn check_due(rt: &impl Abort, table: &mut Table)
-    requires p { table.old.p ≡ 4 }
     requires settled { table.old.out ≡ None }
+    ensures settled { table.new.out ≡ None }
 {
-    let rows = [
-        (9, 1, Kind::First, ZEROS, 0, Came::Kept),
-        (3, 1, Kind::First, ZEROS, 0, Came::Kept),
-        (1, 1, Kind::First, ZEROS, 4, Came::Kept),
-    ];
-    offer_rows(rt, table, &rows);
-    assert!(rt; due_at(table, 9, 10) == (None, Some(3)) && table.due(14) == Some(3));
+    assert!(rt; due_at(table, 9, 10) == (None, Some(3)));
+    assert!(rt; due_at(table, 14, 14) == (Some(3), Some(3)));
     let expired = (table.expire(3), table.expire(3));
     assert!(rt; expired == (true, false));
-    assert!(rt; due_at(table, 9, 10) == (None, Some(9)) && table.due(14) == Some(9));
+    assert!(rt; due_at(table, 9, 10) == (None, Some(9)));
+    assert!(rt; due_at(table, 14, 14) == (Some(9), Some(9)));
     let expired = table.expire(9);
     assert!(rt; expired && due_at(table, 13, 14) == (None, Some(1)));
+}
+
+// A table that is cleared has no reception.
+fn check_cleared(rt: &impl Abort, table: &mut Table)
+    requires settled { table.old.out ≡ None }
+{
     table.clear_all();
     assert!(rt; table.len() == 0 && table.due(14) == None);
 }
@@ -156,7 +204,10 @@ fn check_due(rt: &impl Abort, table: &mut Table)
 #[test]
 fn the_oldest_and_then_the_least_is_due(rt: HostRuntime) -> Result<(), Fail> {
     let mut table = Table::new(rt.alloc(), 3, 10, 4)?;
+    offer_rows(&rt, &mut table, &THREE);
     check_due(&rt, &mut table);
+    check_cleared(&rt, &mut table);
+    drop(table);
     Ok(())
 }
 
@@ -171,7 +222,11 @@ fn check_ticks(rt: &impl Abort, table: &mut Table)
     ];
     offer_rows(rt, table, &rows);
     assert!(rt; due_at(table, 14, 15) == (None, Some(7)));
-    let came = offer_in_vain(table, 7, 2, &ONES, 9);
+    let came = offer_row(
+        table,
+        &(7, 2, Kind::Last, ONES, 9, Came::PutBack),
+        Way::PutBack,
+    );
     assert!(rt; came == Came::PutBack && due_at(table, 14, 15) == (None, Some(7)));
     offer_rows(rt, table, &[(7, 2, Kind::Last, ONES, 9, Came::Released(8))]);
 }
@@ -180,6 +235,7 @@ fn check_ticks(rt: &impl Abort, table: &mut Table)
 fn a_repeated_part_renews_and_what_is_put_back_does_not(rt: HostRuntime) -> Result<(), Fail> {
     let mut table = Table::new(rt.alloc(), 1, 10, 4)?;
     check_ticks(&rt, &mut table);
+    drop(table);
     Ok(())
 }
 
@@ -203,5 +259,6 @@ fn check_order(rt: &impl Abort, table: &mut Table)
 fn a_renewed_reception_is_due_behind_the_others(rt: HostRuntime) -> Result<(), Fail> {
     let mut table = Table::new(rt.alloc(), 2, 10, 4)?;
     check_order(&rt, &mut table);
+    drop(table);
     Ok(())
 }

@@ -2,5 +2,5 @@
 use Rattle.std.proofs.Common.{◌≡◌, None}
 use Rattle.lpt_receiving_tests.proofs.tables.offer_rows.Given as goal
 
-abbrev pub invariant-loop-id : goal.invariant-loop-id
-invariant-loop-id g l = (l.table.p ≡ 4) × (l.table.out ≡ None)
+abbrev pub invariant-loop-row : goal.invariant-loop-row
+invariant-loop-row g l = (l.table.p ≡ 4) × (l.table.out ≡ None)
