@@ -1,45 +1,46 @@
 //! Telecommands and telemetry: packets from outside, read and written again, and what is refused.
 
-use crate::vectors::{ABORT_EXPIRED, ACCEPTANCE_REPORT, DUMP_TWO_OCTETS, FIRST_PART, LAST_PART};
-use lpt_packet::{Packet, PacketKind, Seen, read_packet};
+use crate::vectors::{
+    ABORT_EXPIRED, ACCEPTANCE_REPORT, DUMP_TWO_OCTETS, FIRST_PART, LAST_PART, packet_in,
+};
+use lpt_packet::{Packet, PacketKind};
 use lpt_pus::{AckFlags, PusFault, TcHead, TmHead, read_tc, read_tm, write_tc, write_tm};
 use std::alloc::Global;
 use std::test::Fail;
 
-// The packet that octets are.
-fn packet_in(octets: &[u8]) -> Result<Packet<'_>, Fail> {
-    match read_packet(octets)? {
-        Seen::Packet(packet) => Ok(packet),
-        Seen::Idle => Err("an idle packet")?,
-    }
+// Whether octets are read as a telecommand of this head, and written again as they were. It is none
+// where they are not read, or for want of memory.
+fn is_telecommand(alloc: Global, octets: &[u8], expected: Option<TcHead>) -> Option<bool> {
+    let packet = packet_in(octets)?;
+    let (head, body) = read_tc(&packet).ok()?;
+    let written = write_tc(alloc, &head, body).ok()?;
+    Some(head == expected? && written.as_slice() == octets)
 }
 
-// Whether octets are read as a telecommand of this head, and written again as they were.
-fn is_telecommand(alloc: Global, octets: &[u8], expected: Option<TcHead>) -> Result<bool, Fail> {
+// The same of telemetry.
+fn is_telemetry(alloc: Global, octets: &[u8], expected: Option<TmHead>) -> Option<bool> {
     let packet = packet_in(octets)?;
-    let (head, body) = read_tc(&packet)?;
-    let written = write_tc(alloc, &head, body)?;
-    Ok(Some(head) == expected && written.as_slice() == octets)
-}
-
-// Whether octets are read as telemetry of this head, and written again as they were.
-fn is_telemetry(alloc: Global, octets: &[u8], expected: Option<TmHead>) -> Result<bool, Fail> {
-    let packet = packet_in(octets)?;
-    let (head, body) = read_tm(&packet)?;
-    let written = write_tm(alloc, &head, body)?;
-    Ok(Some(head) == expected && written.as_slice() == octets)
+    let (head, body) = read_tm(&packet).ok()?;
+    let written = write_tm(alloc, &head, body).ok()?;
+    Some(head == expected? && written.as_slice() == octets)
 }
 
 // The fault of a packet of this data field that is read as a telecommand.
 fn tc_fault(kind: PacketKind, field: &[u8]) -> Option<u16> {
     let packet = Packet::new(kind, 100, 0, field)?;
-    read_tc(&packet).err().map(PusFault::code)
+    match read_tc(&packet) {
+        Ok(_) => None,
+        Err(fault) => Some(fault.code()),
+    }
 }
 
 // The fault of a packet of this data field that is read as telemetry.
 fn tm_fault(kind: PacketKind, field: &[u8]) -> Option<u16> {
     let packet = Packet::new(kind, 100, 0, field)?;
-    read_tm(&packet).err().map(PusFault::code)
+    match read_tm(&packet) {
+        Ok(_) => None,
+        Err(fault) => Some(fault.code()),
+    }
 }
 
 // How many octets a telecommand with a body of so many zeros has, or none where it is too long.
@@ -80,94 +81,73 @@ fn tm_length(alloc: Global, zeros: usize) -> Result<Option<usize>, Fail> {
     }
 }
 
-#[test]
-fn reads_and_writes_telecommands(rt: HostRuntime) -> Result<(), Fail> {
-    let cases = [
-        (FIRST_PART.as_slice(), TcHead::new(100, 0, 0, 13, 9, 1)),
-        (LAST_PART.as_slice(), TcHead::new(100, 2, 0, 13, 11, 1)),
-    ];
-    for (octets, head) in cases {
-        let same = is_telecommand(rt.alloc(), octets, head)?;
-        assert!(rt; same);
-    }
-    let first = TcHead::new(100, 0, 0, 13, 9, 1).ok_or("out of range")?;
-    assert!(rt; first.request().value == 0x1864_c000);
-    Ok(())
+// The request identifier of a telecommand of this head.
+fn request_of(head: Option<TcHead>) -> Option<u32> {
+    Some(head?.request().value)
 }
 
 #[test]
-fn reads_and_writes_telemetry(rt: HostRuntime) -> Result<(), Fail> {
-    let cases = [
-        (
-            ABORT_EXPIRED.as_slice(),
-            TmHead::new(100, 0, 0, 13, 16, 0, 1, 19),
-        ),
-        (
-            ACCEPTANCE_REPORT.as_slice(),
-            TmHead::new(100, 0, 0, 1, 1, 0, 1, 0),
-        ),
-        (
-            DUMP_TWO_OCTETS.as_slice(),
-            TmHead::new(100, 0, 0, 6, 6, 0, 1, 0),
-        ),
-    ];
-    for (octets, head) in cases {
-        let same = is_telemetry(rt.alloc(), octets, head)?;
-        assert!(rt; same);
-    }
-    Ok(())
+fn reads_and_writes_telecommands(rt: HostRuntime) {
+    let first = TcHead::new(100, 0, 0, 13, 9, 1);
+    assert!(rt; is_telecommand(rt.alloc(), &FIRST_PART, first) == Some(true));
+    let last = TcHead::new(100, 2, 0, 13, 11, 1);
+    assert!(rt; is_telecommand(rt.alloc(), &LAST_PART, last) == Some(true));
+    assert!(rt; request_of(first) == Some(0x1864_c000));
 }
 
 #[test]
-fn writes_status_0(rt: HostRuntime) -> Result<(), Fail> {
-    let head = TmHead::new(100, 0, 5, 13, 16, 0, 1, 19).ok_or("out of range")?;
-    let written = write_tm(rt.alloc(), &head, &[0, 7, 1])?;
-    assert!(rt; written.as_slice() == ABORT_EXPIRED.as_slice());
-    Ok(())
+fn reads_and_writes_telemetry(rt: HostRuntime) {
+    let head = TmHead::new(100, 0, 0, 13, 16, 0, 1, 19);
+    assert!(rt; is_telemetry(rt.alloc(), &ABORT_EXPIRED, head) == Some(true));
+    let head = TmHead::new(100, 0, 0, 1, 1, 0, 1, 0);
+    assert!(rt; is_telemetry(rt.alloc(), &ACCEPTANCE_REPORT, head) == Some(true));
+    let head = TmHead::new(100, 0, 0, 6, 6, 0, 1, 0);
+    assert!(rt; is_telemetry(rt.alloc(), &DUMP_TWO_OCTETS, head) == Some(true));
 }
+
+// Whether telemetry of this head and body has these octets. It is none for want of memory.
+fn is_written(alloc: Global, head: Option<TmHead>, body: &[u8], octets: &[u8]) -> Option<bool> {
+    let written = write_tm(alloc, &head?, body).ok()?;
+    Some(written.as_slice() == octets)
+}
+
+#[test]
+fn writes_status_0(rt: HostRuntime) {
+    let head = TmHead::new(100, 0, 5, 13, 16, 0, 1, 19);
+    assert!(rt; is_written(rt.alloc(), head, &[0, 7, 1], &ABORT_EXPIRED) == Some(true));
+}
+
+/// The front of a data field of version 1.
+const FIELD: [u8; 11] = [0x10, 13, 9, 0, 1, 0, 1, 0, 0, 0, 0];
 
 #[test]
 fn refuses_by_the_first_test(rt: HostRuntime) {
-    // Version 1 throughout: the type comes first, then the header's length.
-    let field = [0x10, 13, 9, 0, 1, 0, 1, 0, 0, 0, 0];
-    let commands = [
-        (PacketKind::Tm, 4, 12),
-        (PacketKind::Tc, 4, 13),
-        (PacketKind::Tc, 5, 11),
-    ];
-    for (kind, len, number) in commands {
-        assert!(rt; tc_fault(kind, &field[..len]) == Some(number), "{number}");
-    }
-    let telemetry = [
-        (PacketKind::Tc, 10, 12),
-        (PacketKind::Tm, 10, 13),
-        (PacketKind::Tm, 11, 11),
-    ];
-    for (kind, len, number) in telemetry {
-        assert!(rt; tm_fault(kind, &field[..len]) == Some(number), "{number}");
-    }
+    assert!(rt; tc_fault(PacketKind::Tm, &FIELD[..4]) == Some(12));
+    assert!(rt; tc_fault(PacketKind::Tc, &FIELD[..4]) == Some(13));
+    assert!(rt; tc_fault(PacketKind::Tc, &FIELD[..5]) == Some(11));
+    assert!(rt; tm_fault(PacketKind::Tc, &FIELD[..10]) == Some(12));
+    assert!(rt; tm_fault(PacketKind::Tm, &FIELD[..10]) == Some(13));
+    assert!(rt; tm_fault(PacketKind::Tm, &FIELD) == Some(11));
     assert!(rt; PusFault::WrongType.name() == "WrongType");
 }
 
 #[test]
 fn fills_a_packet_and_no_more(rt: HostRuntime) -> Result<(), Fail> {
-    for (zeros, length) in [(65529, Some(65542)), (65530, None)] {
-        let written = tc_length(rt.alloc(), zeros)?;
-        assert!(rt; written == length, "{zeros}");
-    }
-    for (zeros, length) in [(65523, Some(65542)), (65524, None)] {
-        let written = tm_length(rt.alloc(), zeros)?;
-        assert!(rt; written == length, "{zeros}");
-    }
+    assert!(rt; tc_length(rt.alloc(), 65529)? == Some(65542));
+    assert!(rt; tc_length(rt.alloc(), 65530)? == None);
+    assert!(rt; tm_length(rt.alloc(), 65523)? == Some(65542));
+    assert!(rt; tm_length(rt.alloc(), 65524)? == None);
     Ok(())
+}
+
+// The bits of flags of these bits, where there are such.
+fn flags_of(bits: u8) -> Option<u8> {
+    Some(AckFlags::new(bits)?.bits())
 }
 
 #[test]
 fn there_are_four_flags(rt: HostRuntime) {
-    for (bits, wanted) in [(0, Some(0)), (15, Some(15)), (16, None)] {
-        assert!(rt;
-            AckFlags::new(bits).map(|flags| flags.bits()) == wanted,
-            "{bits}"
-        );
-    }
+    assert!(rt; flags_of(0) == Some(0));
+    assert!(rt; flags_of(15) == Some(15));
+    assert!(rt; flags_of(16) == None);
 }

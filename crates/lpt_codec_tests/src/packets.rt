@@ -1,6 +1,6 @@
 //! Checksums of ECSS-E-ST-70-41C, whole packets, and what damage to them gives.
 
-use crate::vectors::{FIRST_PART, LAST_PART, PACKETS};
+use crate::vectors::{FIRST_PART, LAST_PART, PACKETS, packet_in};
 use lpt_packet::{
     Octets, Packet, PacketKind, Seen, crc16, read_packet, write_packet, write_pieces,
 };
@@ -40,41 +40,41 @@ fn changed(alloc: Global, at: usize, octet: u8) -> Result<Octets, Fail> {
     Ok(octets)
 }
 
-// The octets written for the packet that is read here, or none where none is read.
-fn rewritten(alloc: Global, octets: &[u8]) -> Result<Option<Octets>, AllocError> {
-    match read_packet(octets) {
-        Ok(Seen::Packet(packet)) => Ok(Some(write_packet(alloc, &packet)?)),
-        Ok(Seen::Idle) | Err(_) => Ok(None),
-    }
+// Whether octets are read as a packet, and written again as they were. It is none where they are not
+// read, or for want of memory.
+fn is_rewritten(alloc: Global, octets: &[u8]) -> Option<bool> {
+    let packet = packet_in(octets)?;
+    let written = write_packet(alloc, &packet).ok()?;
+    Some(written.as_slice() == octets)
 }
 
 #[test]
 fn checksums_of_the_standard(rt: HostRuntime) {
-    let cases: [(&[u8], u16); 6] = [
-        (&[0x00], 0xe1f0),
-        (&[0x00, 0x00], 0x1d0f),
-        (&[0x00, 0x00, 0x00], 0xcc9c),
-        (&[0x00, 0x00, 0x00, 0x00], 0x84c0),
-        (&[0xab, 0xcd, 0xef, 0x01], 0x04a2),
-        (&[0x14, 0x56, 0xf8, 0x9a, 0x00, 0x01], 0x7fd5),
-    ];
-    for (octets, checksum) in cases {
-        assert!(rt; crc16(octets) == checksum, "{octets:?}");
-    }
+    assert!(rt; crc16(&[0x00]) == 0xe1f0);
+    assert!(rt; crc16(&[0x00, 0x00]) == 0x1d0f);
+    assert!(rt; crc16(&[0x00, 0x00, 0x00]) == 0xcc9c);
+    assert!(rt; crc16(&[0x00, 0x00, 0x00, 0x00]) == 0x84c0);
+    assert!(rt; crc16(&[0xab, 0xcd, 0xef, 0x01]) == 0x04a2);
+    assert!(rt; crc16(&[0x14, 0x56, 0xf8, 0x9a, 0x00, 0x01]) == 0x7fd5);
 }
 
 #[test]
-fn five_packets_are_read_and_written(rt: HostRuntime) -> Result<(), Fail> {
-    for octets in PACKETS {
-        let again = rewritten(rt.alloc(), octets)?.ok_or("not read")?;
-        assert!(rt; again.as_slice() == octets);
+fn five_packets_are_read_and_written(rt: HostRuntime) {
+    for octets in &PACKETS {
+        assert!(rt; is_rewritten(rt.alloc(), octets) == Some(true));
     }
-    let Ok(Seen::Packet(last)) = read_packet(&LAST_PART) else {
-        return Err("not read".into());
-    };
-    assert!(rt; last.kind == PacketKind::Tc);
-    assert!(rt; last.apid == 100 && last.count == 2 && last.field.len() == 13);
-    Ok(())
+    assert!(rt; is_last_part());
+}
+
+// Whether the last part's packet is read as it was made.
+fn is_last_part() -> bool {
+    match packet_in(&LAST_PART) {
+        Some(last) => {
+            let named = last.kind == PacketKind::Tc && last.apid == 100;
+            named && last.count == 2 && last.field.len() == 13
+        }
+        None => false,
+    }
 }
 
 #[test]
@@ -86,19 +86,25 @@ fn pieces_make_a_packet(rt: HostRuntime) -> Result<(), Fail> {
     Ok(())
 }
 
+// Whether the first part's packet with one octet changed is refused with the fault of this number
+// and name.
+fn is_refused_with(
+    alloc: Global,
+    at: usize,
+    octet: u8,
+    number: u16,
+    name: &str,
+) -> Result<bool, Fail> {
+    let octets = changed(alloc, at, octet)?;
+    Ok(is_refused(octets.as_slice(), number, name))
+}
+
 #[test]
 fn each_fault_in_its_order(rt: HostRuntime) -> Result<(), Fail> {
-    // Which octet is changed, to what, and the fault's number and name.
-    let cases = [
-        (24, 0x0c, 6, "Checksum"),
-        (0, 0x38, 2, "Version"),
-        (0, 0x10, 5, "NoSecondary"),
-        (2, 0x40, 4, "Segmented"),
-    ];
-    for (at, octet, number, name) in cases {
-        let octets = changed(rt.alloc(), at, octet)?;
-        assert!(rt; is_refused(octets.as_slice(), number, name), "{name}");
-    }
+    assert!(rt; is_refused_with(rt.alloc(), 24, 0x0c, 6, "Checksum")?);
+    assert!(rt; is_refused_with(rt.alloc(), 0, 0x38, 2, "Version")?);
+    assert!(rt; is_refused_with(rt.alloc(), 0, 0x10, 5, "NoSecondary")?);
+    assert!(rt; is_refused_with(rt.alloc(), 2, 0x40, 4, "Segmented")?);
     Ok(())
 }
 
@@ -113,7 +119,7 @@ fn cut_packets_and_idle_ones(rt: HostRuntime) {
 fn damaged_packets(rt: HostRuntime) -> Result<(), Fail> {
     let mut prefixes = [0; 7];
     let mut changes = [0; 7];
-    for packet in PACKETS {
+    for packet in &PACKETS {
         for end in 0..packet.len() {
             count(&mut prefixes, code(&packet[..end]));
         }

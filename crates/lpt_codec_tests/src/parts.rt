@@ -1,102 +1,143 @@
 //! Parts and abortion reports: worked values. The bodies are those of a first part, a last part and an abortion report.
 
+ghost use Rattle.lpt_part.specs.Splitting.{IsPartSize};
+
 use crate::vectors::{ABORT_EXPIRED, FIRST_PART};
+use lpt_packet::Octets;
 use lpt_part::{
     Kind, Part, PartFault, Reason, abort_octets, count, read_abort, read_part, slice, write_abort,
     write_part,
 };
 use lpt_pus::{TcHead, TmHead, tc_pieces, tm_pieces};
 use std::alloc::{AllocError, Global};
+use std::process::Abort;
 use std::test::Fail;
 
 const OCTETS: [u8; 8] = [0, 1, 2, 3, 4, 5, 6, 7];
 
+const MESSAGE: [u8; 9] = [0, 1, 2, 3, 4, 5, 6, 7, 8];
+
 #[test]
 fn splits_messages(rt: HostRuntime) {
-    let message = [0, 1, 2, 3, 4, 5, 6, 7, 8];
     assert!(rt; count(9, 8) == 2);
     assert!(rt; count(16, 8) == 2);
-    let cases = [
-        (0, None),
-        (1, Some(OCTETS.as_slice())),
-        (2, Some([8].as_slice())),
-        (3, None),
-    ];
-    for (k, octets) in cases {
-        assert!(rt; slice(&message, 8, k) == octets, "part {k}");
+    assert!(rt; is_part(&MESSAGE, 1, &OCTETS) && is_part(&MESSAGE, 2, &[8]));
+    assert!(rt; slice(&MESSAGE, 8, 0).is_none() && slice(&MESSAGE, 8, 3).is_none());
+}
+
+// Whether part `k` of a message has these octets, at part size 8.
+fn is_part(message: &[u8], k: u32, octets: &[u8]) -> bool {
+    match slice(message, 8, k) {
+        Some(part) => part == octets,
+        None => false,
     }
+}
+
+// The longest message has so many parts, and the last one so many octets.
+fn check_split(rt: &impl Abort, longest: &[u8], p: u32, parts: u32, last: usize)
+    requires { IsPartSize p }
+{
+    assert!(rt; count(65542, p) == parts, "at {p}");
+    assert!(rt; len_of(slice(longest, p, parts)) == Some(last), "at {p}");
+    assert!(rt;
+        slice(longest, p, parts.saturating_add(1)).is_none(),
+        "at {p}"
+    );
 }
 
 #[test]
 fn splits_the_longest_message(rt: HostRuntime) -> Result<(), Fail> {
     let longest = vec![in rt.alloc(); 0u8; 65542]?;
-    // Part size, number of parts, and octets of the last part.
-    for (p, parts, last) in [(8, 8193, 6), (4, 16386, 2), (1024, 65, 6)] {
-        assert!(rt; p >= 4 && p <= 1024);
-        assert!(rt; count(65542, p) == parts, "at {p}");
-        assert!(rt; len_of(slice(&longest, p, parts)) == Some(last), "at {p}");
-        assert!(rt;
-            slice(&longest, p, parts.saturating_add(1)) == None,
-            "at {p}"
-        );
-    }
+    check_split(&rt, &longest, 8, 8193, 6);
+    check_split(&rt, &longest, 4, 16386, 2);
+    check_split(&rt, &longest, 1024, 65, 6);
     Ok(())
 }
 
 // How many octets there are, where there are some.
 fn len_of(octets: Option<&[u8]>) -> Option<usize> {
-    octets.map(|octets| octets.len())
+    match octets {
+        Some(octets) => Some(octets.len()),
+        None => None,
+    }
+}
+
+const FIRST_BODY: [u8; 12] = [0, 7, 0, 1, 0, 1, 2, 3, 4, 5, 6, 7];
+
+const LAST_BODY: [u8; 8] = [0, 7, 0, 3, 0x10, 0x11, 0x12, 0x13];
+
+// Whether it is this part of transaction 7, at part size 8.
+fn is_read(part: &Part<'_>, number: u16, kind: Kind, body: &[u8]) -> bool {
+    let named = part.id == 7 && part.number == number;
+    let shaped = part.kind == kind && part.p == 8;
+    match body.get(4..) {
+        Some(octets) => named && shaped && part.octets == octets,
+        None => false,
+    }
+}
+
+// Whether a body is read as this part, and written again as it was. It is none for want of memory.
+fn is_same(alloc: Global, kind: Kind, body: &[u8], number: u16) -> Option<bool> {
+    let Ok(part) = read_part(kind, body, 8) else {
+        return Some(false);
+    };
+    let written = write_part(alloc, &part).ok()?;
+    Some(is_read(&part, number, kind, body) && written.as_slice() == body)
 }
 
 #[test]
-fn reads_and_writes_parts(rt: HostRuntime) -> Result<(), Fail> {
-    let first = [0, 7, 0, 1, 0, 1, 2, 3, 4, 5, 6, 7];
-    let last = [0, 7, 0, 3, 0x10, 0x11, 0x12, 0x13];
-    let cases = [
-        (Kind::First, first.as_slice(), 1),
-        (Kind::Last, last.as_slice(), 3),
-    ];
-    for (kind, body, number) in cases {
-        let part = read_part(kind, body, 8)?;
-        assert!(rt; part.id == 7 && part.number == number && part.kind == kind && part.p == 8);
-        assert!(rt; Some(part.octets) == body.get(4..));
-        let written = write_part(rt.alloc(), &part)?;
-        assert!(rt; written.as_slice() == body);
-    }
-    Ok(())
+fn reads_and_writes_parts(rt: HostRuntime) {
+    assert!(rt; is_same(rt.alloc(), Kind::First, &FIRST_BODY, 1) == Some(true));
+    assert!(rt; is_same(rt.alloc(), Kind::Last, &LAST_BODY, 3) == Some(true));
 }
 
 #[test]
 fn names_a_short_part(rt: HostRuntime) {
-    assert!(rt; read_part(Kind::First, &[0, 7, 0], 8).err() == Some(PartFault::ShortPart));
+    assert!(rt;
+        matches!(
+            read_part(Kind::First, &[0, 7, 0], 8),
+            Err(PartFault::ShortPart)
+        )
+    );
     assert!(rt; PartFault::ShortPart.code() == 20);
     assert!(rt; PartFault::ShortPart.name() == "ShortPart");
 }
 
+/// A part's kind, its part sequence number, how many octets it has at part size 8, and the fault's
+/// number.
+type Row = (Kind, u16, usize, Option<u16>);
+
+const ROWS: [Row; 12] = [
+    (Kind::First, 1, 8, None),
+    (Kind::Middle, 2, 8, None),
+    (Kind::Last, 8193, 6, None),
+    (Kind::First, 0, 7, Some(21)),
+    (Kind::Last, 0, 8, Some(21)),
+    (Kind::First, 2, 7, Some(22)),
+    (Kind::Middle, 1, 8, Some(22)),
+    (Kind::Last, 1, 8, Some(22)),
+    (Kind::First, 1, 7, Some(23)),
+    (Kind::Middle, 65535, 8, Some(23)),
+    (Kind::Last, 8193, 7, Some(23)),
+    (Kind::Last, 2, 0, Some(23)),
+];
+
+// The fault with which a part is read, and whether one is made.
+fn judged(alloc: Global, row: &Row) -> Result<(Option<u16>, bool), Fail> {
+    let (kind, number, len, _) = *row;
+    let octets = OCTETS.get(..len).ok_or("a longer part")?;
+    let body = body_of(alloc, number, octets)?;
+    let made = Part::new(7, number, kind, octets, 8).is_some();
+    Ok((fault_of(kind, &body), made))
+}
+
 #[test]
 fn refuses_parts_in_order(rt: HostRuntime) -> Result<(), Fail> {
-    // kind, part sequence number, octets at part size 8, and the fault's number
-    let cases = [
-        (Kind::First, 1, 8, None),
-        (Kind::Middle, 2, 8, None),
-        (Kind::Last, 8193, 6, None),
-        (Kind::First, 0, 7, Some(21)),
-        (Kind::Last, 0, 8, Some(21)),
-        (Kind::First, 2, 7, Some(22)),
-        (Kind::Middle, 1, 8, Some(22)),
-        (Kind::Last, 1, 8, Some(22)),
-        (Kind::First, 1, 7, Some(23)),
-        (Kind::Middle, 65535, 8, Some(23)),
-        (Kind::Last, 8193, 7, Some(23)),
-        (Kind::Last, 2, 0, Some(23)),
-    ];
-    for (kind, number, len, fault) in cases {
-        let octets = OCTETS.get(..len).ok_or("a longer part")?;
-        let body = body_of(rt.alloc(), number, octets)?;
-        assert!(rt; fault_of(kind, &body) == fault, "{kind:?} {number}, {len}");
-        let made = Part::new(7, number, kind, octets, 8);
+    for row in &ROWS {
+        let (kind, number, len, fault) = *row;
+        let (read, made) = judged(rt.alloc(), row)?;
         assert!(rt;
-            made.is_none() == fault.is_some(),
+            read == fault && made == fault.is_none(),
             "{kind:?} {number}, {len}"
         );
     }
@@ -113,40 +154,70 @@ fn body_of(alloc: Global, number: u16, octets: &[u8]) -> Result<Vec<u8>, AllocEr
 
 // The number of the fault of a body that is read as a part, at part size 8.
 fn fault_of(kind: Kind, body: &[u8]) -> Option<u16> {
-    read_part(kind, body, 8).err().map(PartFault::code)
+    match read_part(kind, body, 8) {
+        Ok(_) => None,
+        Err(fault) => Some(fault.code()),
+    }
+}
+
+// Whether the report of this code and reason is read and written. It is none for want of memory.
+fn is_report(alloc: Global, code: u8, reason: Reason) -> Option<bool> {
+    let body = [0, 7, code];
+    let written = write_abort(alloc, 7, reason).ok()?;
+    Some(is_abort(&body, reason) && written.as_slice() == body.as_slice())
+}
+
+// Whether a body is read as the report of this reason, for transaction 7.
+fn is_abort(body: &[u8], reason: Reason) -> bool {
+    match read_abort(body) {
+        Ok((id, read)) => id == 7 && read == reason,
+        Err(_) => false,
+    }
+}
+
+// The number of the fault of a body that is read as an abortion report.
+fn abort_fault(body: &[u8]) -> Option<u16> {
+    match read_abort(body) {
+        Ok(_) => None,
+        Err(fault) => Some(fault.code()),
+    }
 }
 
 #[test]
-fn reads_and_writes_abortion_reports(rt: HostRuntime) -> Result<(), Fail> {
-    let reasons = [
-        (1, Reason::Expired),
-        (2, Reason::Discontinuity),
-        (3, Reason::Conflict),
-    ];
-    for (code, reason) in reasons {
-        let body = [0, 7, code];
-        assert!(rt; read_abort(&body).ok() == Some((7, reason)), "{code}");
-        let written = write_abort(rt.alloc(), 7, reason)?;
-        assert!(rt; written.as_slice() == body.as_slice(), "{code}");
-    }
-    for wrong in [[0, 7].as_slice(), &[0, 7, 1, 0], &[0, 7, 0], &[0, 7, 4]] {
-        assert!(rt;
-            read_abort(wrong).err().map(PartFault::code) == Some(24),
-            "{wrong:?}"
-        );
-    }
-    Ok(())
+fn reads_and_writes_abortion_reports(rt: HostRuntime) {
+    assert!(rt; is_report(rt.alloc(), 1, Reason::Expired) == Some(true));
+    assert!(rt; is_report(rt.alloc(), 2, Reason::Discontinuity) == Some(true));
+    assert!(rt; is_report(rt.alloc(), 3, Reason::Conflict) == Some(true));
+    assert!(rt; abort_fault(&[0, 7]) == Some(24));
+    assert!(rt; abort_fault(&[0, 7, 1, 0]) == Some(24));
+    assert!(rt; abort_fault(&[0, 7, 0]) == Some(24));
+    assert!(rt; abort_fault(&[0, 7, 4]) == Some(24));
 }
 
-#[test]
-fn makes_packets_of_parts_and_reports(rt: HostRuntime) -> Result<(), Fail> {
-    let part = Part::new(7, 1, Kind::First, &OCTETS, 8).ok_or("no part")?;
-    let head = TcHead::new(100, 0, 0, 13, 9, 1).ok_or("out of range")?;
-    let written = tc_pieces(rt.alloc(), &head, &part.header(), part.octets)?;
-    assert!(rt; written.as_slice() == FIRST_PART.as_slice());
-    let head = TmHead::new(100, 0, 0, 13, 16, 0, 1, 19).ok_or("out of range")?;
+// The packet of a first part, or none for want of memory.
+fn part_packet(alloc: Global) -> Option<Octets> {
+    let part = Part::new(7, 1, Kind::First, &OCTETS, 8)?;
+    let head = TcHead::new(100, 0, 0, 13, 9, 1)?;
+    tc_pieces(alloc, &head, &part.header(), part.octets).ok()
+}
+
+// The packet of an abortion report, or none for want of memory.
+fn report_packet(alloc: Global) -> Option<Octets> {
+    let head = TmHead::new(100, 0, 0, 13, 16, 0, 1, 19)?;
     let body = abort_octets(7, Reason::Expired);
-    let written = tm_pieces(rt.alloc(), &head, &body, &[])?;
-    assert!(rt; written.as_slice() == ABORT_EXPIRED.as_slice());
-    Ok(())
+    tm_pieces(alloc, &head, &body, &[]).ok()
+}
+
+// Whether there are octets, and these.
+fn are(octets: Option<Octets>, wanted: &[u8]) -> bool {
+    match octets {
+        Some(octets) => octets.as_slice() == wanted,
+        None => false,
+    }
+}
+
+#[test]
+fn makes_packets_of_parts_and_reports(rt: HostRuntime) {
+    assert!(rt; are(part_packet(rt.alloc()), &FIRST_PART));
+    assert!(rt; are(report_packet(rt.alloc()), &ABORT_EXPIRED));
 }

@@ -35,43 +35,38 @@ fn has_reports(
     Ok(are(&reports.before, before) && are(&reports.after, after))
 }
 
+/// A report's message subtype and body.
+type Report = (u8, &'static [u8]);
+
+const ACCEPTED: Report = (1, &SUCCESS);
+
+const NOT_ACCEPTED: Report = (2, &CODE_2);
+
+const STARTED: Report = (3, &SUCCESS);
+
+const NOT_STARTED: Report = (4, &CODE_5);
+
+const COMPLETED: Report = (7, &SUCCESS);
+
 #[test]
 fn reports_what_the_flags_ask_for(rt: HostRuntime) -> Result<(), Fail> {
-    let accepted = (1, SUCCESS.as_slice());
-    let started = (3, SUCCESS.as_slice());
-    let completed = (7, SUCCESS.as_slice());
-    // The flags, and the reports before and after the data report.
-    let cases: [(u8, &[(u8, &[u8])], &[(u8, &[u8])]); 6] = [
-        (15, &[accepted, started], &[completed]),
-        (0, &[], &[]),
-        (1, &[accepted], &[]),
-        (2, &[started], &[]),
-        (4, &[], &[]),
-        (8, &[], &[completed]),
-    ];
-    for (flags, before, after) in cases {
-        let told = has_reports(rt.alloc(), flags, None, before, after)?;
-        assert!(rt; told, "at {flags}");
-    }
+    let both = [ACCEPTED, STARTED];
+    assert!(rt; has_reports(rt.alloc(), 15, None, &both, &[COMPLETED])?);
+    assert!(rt; has_reports(rt.alloc(), 0, None, &[], &[])?);
+    assert!(rt; has_reports(rt.alloc(), 1, None, &[ACCEPTED], &[])?);
+    assert!(rt; has_reports(rt.alloc(), 2, None, &[STARTED], &[])?);
+    assert!(rt; has_reports(rt.alloc(), 4, None, &[], &[])?);
+    assert!(rt; has_reports(rt.alloc(), 8, None, &[], &[COMPLETED])?);
     Ok(())
 }
 
 #[test]
 fn reports_failures_unasked(rt: HostRuntime) -> Result<(), Fail> {
-    let accepted = (1, SUCCESS.as_slice());
-    let not_accepted = (2, CODE_2.as_slice());
-    let not_started = (4, CODE_5.as_slice());
-    // The flags, the failure code, and the reports.
-    let cases: [(u8, u16, &[(u8, &[u8])]); 4] = [
-        (0, 2, &[not_accepted]),
-        (15, 2, &[not_accepted]),
-        (14, 5, &[not_started]),
-        (15, 5, &[accepted, not_started]),
-    ];
-    for (flags, code, before) in cases {
-        let told = has_reports(rt.alloc(), flags, Some(code), before, &[])?;
-        assert!(rt; told, "at {flags}, {code}");
-    }
+    assert!(rt; has_reports(rt.alloc(), 0, Some(2), &[NOT_ACCEPTED], &[])?);
+    assert!(rt; has_reports(rt.alloc(), 15, Some(2), &[NOT_ACCEPTED], &[])?);
+    assert!(rt; has_reports(rt.alloc(), 14, Some(5), &[NOT_STARTED], &[])?);
+    let both = [ACCEPTED, NOT_STARTED];
+    assert!(rt; has_reports(rt.alloc(), 15, Some(5), &both, &[])?);
     Ok(())
 }
 
@@ -84,24 +79,27 @@ fn code_in(subtype: u8, body: &[u8]) -> Option<Option<u16>> {
     Some(report.code)
 }
 
+/// The message subtype, and the failure codes of a body of four octets and of one of six.
+type Codes = (u8, Option<Option<u16>>, Option<Option<u16>>);
+
+const CODES: [Codes; 10] = [
+    (0, None, None),
+    (1, Some(None), None),
+    (2, None, Some(Some(2))),
+    (3, Some(None), None),
+    (4, None, Some(Some(2))),
+    (5, None, None),
+    (6, None, None),
+    (7, Some(None), None),
+    (8, None, None),
+    (10, None, None),
+];
+
 #[test]
 fn reads_reports(rt: HostRuntime) {
-    // The message subtype, and the failure codes of a body of four octets and of one of six.
-    let cases = [
-        (0, None, None),
-        (1, Some(None), None),
-        (2, None, Some(Some(2))),
-        (3, Some(None), None),
-        (4, None, Some(Some(2))),
-        (5, None, None),
-        (6, None, None),
-        (7, Some(None), None),
-        (8, None, None),
-        (10, None, None),
-    ];
-    for (subtype, short, long) in cases {
-        assert!(rt; code_in(subtype, &SUCCESS) == short, "at {subtype}");
-        assert!(rt; code_in(subtype, &CODE_2) == long, "at {subtype}");
+    for (subtype, short, long) in &CODES {
+        assert!(rt; code_in(*subtype, &SUCCESS) == *short, "at {subtype}");
+        assert!(rt; code_in(*subtype, &CODE_2) == *long, "at {subtype}");
     }
     assert!(rt; read_report(1, &SUCCESS[..3]).is_none());
 }

@@ -1,5 +1,7 @@
 //! Whole packets from outside.
 
+use lpt_packet::{Packet, Seen, read_packet};
+
 /// A telecommand with the first part of a message: identifier 7, part 1, octets 00 to 07.
 pub(crate) const FIRST_PART: [u8; 25] = [
     0x18, 0x64, 0xc0, 0x00, 0x00, 0x12, 0x20, 0x0d, 0x09, 0x00, 0x01, 0x00, 0x07, 0x00, 0x01, 0x00,
@@ -37,3 +39,11 @@ pub(crate) const PACKETS: [&[u8]; 5] = [
     &DUMP_TWO_OCTETS,
     &ACCEPTANCE_REPORT,
 ];
+
+// The packet that octets are, where they are one.
+pub(crate) fn packet_in(octets: &[u8]) -> Option<Packet<'_>> {
+    match read_packet(octets) {
+        Ok(Seen::Packet(packet)) => Some(packet),
+        Ok(Seen::Idle) | Err(_) => None,
+    }
+}
