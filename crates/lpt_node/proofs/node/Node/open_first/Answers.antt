@@ -1,4 +1,10 @@
 -- The message is kept, and its sender open.
+use Rattle.std.proofs.Common.{◌∙◌, ap, sym, ℕ, List, Option, Some}
+use Rattle.lpt_packet.specs.Names.{Name}
+use Rattle.lpt_ledger.specs.LeastFree.{least_free_in}
+use Rattle.lpt_execution.specs.Reporting.{opened_of}
+use Rattle.lpt_node.specs.Nodes.{NodeView}
+use Rattle.lpt_node.specs.Sending.{opened}
 use Rattle.lpt_node.proofs.SenderLemmas.{sound-opened}
 use Rattle.lpt_node.proofs.node.Node.open_first.Goals as goal
 
@@ -9,3 +15,27 @@ invariant_of-self-2 c =
     c.self.invariant
     c.in-Ok-open.ensures.ok
     c.in-Ok.ensures.ok
+
+pub returns-clause-at : goal.returns-clause-at
+returns-clause-at c =
+    (λ i. record {
+      sending = record {
+        ledger = c.in-Ok-open.ensures.ok i;
+        messages = (c.in-Ok.ensures.ok i).messages;
+        count = c.self.inside.counts.count;
+        types = c.self.inside.counts.types;
+      };
+      receiving = record { ledger = c.self.inside.receiver.ledger; entries = c.self.inside.receiver.entries };
+      clock = c.self.inside.clock;
+      boot = c.self.inside.boot;
+      jobs = c.self.inside.jobs.at;
+    })
+    ∙ ap (λ (n : NodeView). opened n.at c.in-Some.id c.in-Some-next.message) c.self.view_is
+    ∙ ap (λ (m : List ℕ). opened c.args.self.now.at c.in-Some.id m) (sym c.in_ok-copy.ensures)
+
+pub returns-clause-opened : goal.returns-clause-opened
+returns-clause-opened c =
+    ap (λ (m : List ℕ). Some (c.in-Some.id, m)) c.in_ok-copy.ensures
+    ∙ ap (λ (ms : List (List ℕ)). opened_of (Some c.in-Some.id) ms) (sym c.in-Some-next.ensures.items ∙ c.into_iter.ensures.rest)
+    ∙ ap (λ (o : Option Name). opened_of o c.args.messages.items) c.in-Some.ensures.value
+    ∙ ap (λ (n : NodeView). opened_of (least_free_in n.at.sending.ledger) c.args.messages.items) c.self.view_is
