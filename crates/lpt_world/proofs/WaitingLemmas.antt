@@ -1,6 +1,6 @@
 -- The job that is claimed next is the one that the journal says, and the jobs that wait or aren't
 -- executed are as many as it says.
-use Rattle.std.proofs.Common.{arith, ◌≡◌, ◌∙◌, ap, refl, ℕ, ◌-◌, true, if◌then◌else◌, List, length, drop, slice_get, Option, Some, None, is_some}
+use Rattle.std.proofs.Common.{arith, ◌≡◌, ◌∙◌, ap, refl, ℕ, ◌-◌, true, List, length, drop, slice_get, Option, Some, None, is_some}
 use Rattle.std.specs.Option.{option_map}
 use Rattle.std.proofs.lemmas.List.{length-drop, length-map}
 use Rattle.std.proofs.lemmas.Option.{slice_get-map}
@@ -9,23 +9,14 @@ use Rattle.lpt_memory.specs.Readings.{Job}
 use Rattle.lpt_jobs.specs.Jobs.{claimed_in, unclaimed}
 use Rattle.lpt_events.specs.declared.config.Config.{Config}
 use Rattle.lpt_events.specs.declared.entry.Release.{Release}
-use Rattle.lpt_events.specs.declared.event.Event.{Event}
-use Rattle.lpt_events.specs.declared.event.Event.TheVariants.{Open, Send, Plain, Finish, Lose, Damage, Take, Deliver, Tick, Expire, Claim, Commit, Apply}
-use Rattle.lpt_events.specs.declared.side.Side.{Side}
-use Rattle.lpt_events.specs.declared.side.Side.TheVariants.{Ground, Craft}
-use Rattle.lpt_events.specs.declared.worker.Worker.{Worker}
-use Rattle.lpt_events.specs.declared.worker.Worker.TheVariants.{W1, W2}
-use Rattle.lpt_events.specs.Lanes.{lane_direction}
-use Rattle.lpt_events.specs.Sides.{sender_side, receiver_side}
-use Rattle.lpt_events.specs.Workers.{same_worker}
+use Rattle.lpt_events.specs.declared.side.Side.TheVariants.{Craft}
 use Rattle.lpt_node.specs.Faults.{node_fault}
-use Rattle.lpt_node.specs.Jobs.{claimed_of, refusal_claim_of}
+use Rattle.lpt_node.specs.Jobs.{refusal_claim_of}
 use Rattle.lpt_node.specs.Nodes.{NodeData}
 use Rattle.lpt_journal.specs.Journal.{History}
 use Rattle.lpt_journal.specs.Jobs.{boot, jobs, claimed, applied, job_given, ticket}
 use Rattle.lpt_machine.specs.Shows.{Shows, JobsFit, mark_at}
-use Rattle.lpt_machine.specs.State.{State, after, committed_on, refusal_claim_by, refusal_commit_of, refusal_of, with_end}
-use Rattle.lpt_machine.specs.Tickets.{Tickets, ticket_of, with_ticket}
+use Rattle.lpt_machine.specs.State.{State, refusal_claim_by}
 use Rattle.lpt_machine.specs.Views.{jobs_view, views}
 use Rattle.lpt_machine.proofs.JobsShown.{was_claimed-mark_at}
 use Rattle.lpt_machine.proofs.MarksShown.{unclaimed_shown}
