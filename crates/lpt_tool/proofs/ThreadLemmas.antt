@@ -1,5 +1,5 @@
 -- How a script with threads ends.
-use Rattle.std.proofs.Common.{◌≡◌, ◌≤◌, ℕ, List, [], ◌++◌, take, Option, Result, Ok, Err, OnOk, IfErr, Bool, true, arith, subst, inl, inr}
+use Rattle.std.proofs.Common.{◌≤◌, ℕ, List, [], ◌++◌, take, Option, Result, Ok, Err, OnOk, IfErr, Bool, true, arith, subst, inl, inr}
 use Rattle.std.proofs.KnownBytes.{Appends-nil, Appends-trans}
 use Rattle.std.specs.Io.KnownBytes.{Appends}
 use Rattle.lpt_share.specs.FaultNames.{code_of}
