@@ -1,6 +1,6 @@
 -- A telecommand: how long its packet is, what is read, and that what is written is read again.
-use Rattle.std.proofs.Common.{◌≡◌, ◌∙◌, ap, sym, subst, ℕ, ◌+◌, ◌*◌, ◌/◌, ◌%◌, ◌≤◌, true, nat_le, ◌==◌, List, [], ◌∷◌, length, drop, get_or, refl, arith, Some, Result, Ok, Err, IfOk, length-append, length-drop}
-use Rattle.std.proofs.lemmas.Bool.{eqb-true, leb-true}
+use Rattle.std.proofs.Common.{◌≡◌, ◌≢◌, ◌∙◌, ap, sym, subst, ℕ, ◌+◌, ◌*◌, ◌/◌, ◌%◌, ◌≤◌, true, nat_le, ◌==◌, List, [], ◌∷◌, length, drop, get_or, refl, arith, Some, Result, Ok, Err, IfOk, length-append, length-drop}
+use Rattle.std.proofs.lemmas.Bool.{eqb-true, leb-true, eq-eqb, le-leb, ne_eqb}
 use Rattle.std.proofs.lemmas.Bool.Decides.{nat_tests}
 use Rattle.std.proofs.lemmas.Grind.{common_steps}
 use Rattle.lpt_packet.specs.declared.packet.PacketKind.{PacketKind}
@@ -9,9 +9,10 @@ use Rattle.lpt_packet.specs.Numbers.{be, IsOctets}
 use Rattle.lpt_packet.specs.Packets.{Fields, fields_of, spelling, APacket, seen}
 use Rattle.lpt_packet.specs.Ranges.{InRange}
 use Rattle.lpt_pus.specs.declared.fault.PusFault.{PusFault}
+use Rattle.lpt_pus.specs.declared.fault.PusFault.TheVariants.{PusVersion}
 use Rattle.lpt_pus.specs.Messages.{for_apid, in_packet, Gives}
 use Rattle.lpt_pus.specs.Commands.{Command, CommandFits, tc_field, packet_of, IsCommand, command_at, is_tc, tc_verdict, command_in, IsCommandIn}
-use Rattle.lpt_pus.proofs.MessageLemmas.{tested-ok, for_apid-some, for_apid-again, in_packet-some}
+use Rattle.lpt_pus.proofs.MessageLemmas.{tested-ok, tested-passed, tested-version, for_apid-some, for_apid-again, in_packet-some}
 use Rattle.lpt_packet.proofs.Codec.{length-spelling, word_cells}
 
 -- ---- lengths
@@ -45,6 +46,32 @@ tc_verdict-packet_of c h = grind (arith, common_steps, nat_tests)
 -- what is related to a packet is read from it
 pub tc_verdict-again : (f : Fields) (c : Command) → IsCommand f c → tc_verdict f ≡ Ok c
 tc_verdict-again f c h = ap tc_verdict h.spelled ∙ tc_verdict-packet_of c h.fits
+
+-- ---- the tests
+
+-- a packet that passes the tests is read as what stands at its places
+pub tc_verdict-passed : (f : Fields)
+    → f.kind ≡ Tc
+    → 5 ≤ length f.octets
+    → get_or f.octets 0 0 / 16 ≡ 2
+    → tc_verdict f ≡ Ok (command_at f)
+unfolding tc_verdict
+tc_verdict-passed f kind long version =
+    tested-passed (is_tc f.kind) (nat_le 5 (length f.octets)) (get_or f.octets 0 0 / 16 == 2)
+    (command_at f) (ap is_tc kind) (le-leb 5 (length f.octets) long)
+    (eq-eqb (get_or f.octets 0 0 / 16) 2 version)
+
+-- a packet of another PUS version is told by it
+pub tc_verdict-version : (f : Fields)
+    → f.kind ≡ Tc
+    → 5 ≤ length f.octets
+    → get_or f.octets 0 0 / 16 ≢ 2
+    → tc_verdict f ≡ Err PusVersion
+unfolding tc_verdict
+tc_verdict-version f kind long version =
+    tested-version (is_tc f.kind) (nat_le 5 (length f.octets)) (get_or f.octets 0 0 / 16 == 2)
+    (command_at f) (ap is_tc kind) (le-leb 5 (length f.octets) long)
+    (ne_eqb (get_or f.octets 0 0 / 16) 2 version)
 
 -- ---- what is read
 

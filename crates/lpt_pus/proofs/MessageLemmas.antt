@@ -4,6 +4,7 @@ use Rattle.std.proofs.lemmas.Bool.{eqb-true}
 use Rattle.std.proofs.lemmas.Bool.Decides.{nat_tests}
 use Rattle.lpt_packet.specs.Packets.{Fields, Sight, IdlePacket, APacket}
 use Rattle.lpt_pus.specs.declared.fault.PusFault.{PusFault}
+use Rattle.lpt_pus.specs.declared.fault.PusFault.TheVariants.{PusVersion}
 use Rattle.lpt_pus.specs.Messages.{tested, for_apid, in_packet}
 
 -- ---- the tests
@@ -16,6 +17,22 @@ tested-ok true true true x y e = (refl, refl, refl, cc)
 tested-ok true true false x y e = absurd cc
 tested-ok true false of_version x y e = absurd cc
 tested-ok false long of_version x y e = absurd cc
+
+-- a message that passes each test is read
+pub tested-passed : {X : Type 0} (of_type long of_version : Bool) (x : X)
+    → of_type ≡ true
+    → long ≡ true
+    → of_version ≡ true
+    → tested of_type long of_version x ≡ Ok x
+tested-passed of_type long of_version x p q r = λ i. tested (p i) (q i) (r i) x
+
+-- a message that fails the last test alone is told by it
+pub tested-version : {X : Type 0} (of_type long of_version : Bool) (x : X)
+    → of_type ≡ true
+    → long ≡ true
+    → of_version ≡ false
+    → tested of_type long of_version x ≡ Err PusVersion
+tested-version of_type long of_version x p q r = λ i. tested (p i) (q i) (r i) x
 
 -- ---- the APID
 

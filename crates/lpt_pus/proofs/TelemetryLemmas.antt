@@ -1,6 +1,6 @@
 -- Telemetry: how long its packet is, what is read, and that what is written is read again.
-use Rattle.std.proofs.Common.{◌≡◌, ◌∙◌, ap, sym, subst, ℕ, ◌+◌, ◌*◌, ◌/◌, ◌%◌, ◌≤◌, true, nat_le, ◌==◌, List, [], ◌∷◌, length, drop, get_or, refl, arith, Some, Result, Ok, Err, IfOk, length-append, length-drop}
-use Rattle.std.proofs.lemmas.Bool.{eqb-true, leb-true}
+use Rattle.std.proofs.Common.{◌≡◌, ◌≢◌, ◌∙◌, ap, sym, subst, ℕ, ◌+◌, ◌*◌, ◌/◌, ◌%◌, ◌≤◌, true, nat_le, ◌==◌, List, [], ◌∷◌, length, drop, get_or, refl, arith, Some, Result, Ok, Err, IfOk, length-append, length-drop}
+use Rattle.std.proofs.lemmas.Bool.{eqb-true, leb-true, eq-eqb, le-leb, ne_eqb}
 use Rattle.std.proofs.lemmas.Bool.Decides.{nat_tests}
 use Rattle.std.proofs.lemmas.Grind.{common_steps}
 use Rattle.lpt_packet.specs.declared.packet.PacketKind.{PacketKind}
@@ -9,9 +9,10 @@ use Rattle.lpt_packet.specs.Numbers.{be, IsOctets}
 use Rattle.lpt_packet.specs.Packets.{Fields, fields_of, spelling, APacket, seen}
 use Rattle.lpt_packet.specs.Ranges.{InRange}
 use Rattle.lpt_pus.specs.declared.fault.PusFault.{PusFault}
+use Rattle.lpt_pus.specs.declared.fault.PusFault.TheVariants.{PusVersion}
 use Rattle.lpt_pus.specs.Messages.{for_apid, in_packet, Gives}
 use Rattle.lpt_pus.specs.Telemetry.{Telemetry, TelemetryFits, as_written, tm_field, tm_packet_of, IsTelemetry, telemetry_at, is_tm, tm_verdict, telemetry_in, IsTelemetryIn}
-use Rattle.lpt_pus.proofs.MessageLemmas.{tested-ok, for_apid-some, for_apid-again, in_packet-some}
+use Rattle.lpt_pus.proofs.MessageLemmas.{tested-ok, tested-passed, tested-version, for_apid-some, for_apid-again, in_packet-some}
 use Rattle.lpt_packet.proofs.Codec.{length-spelling, word_cells}
 use Rattle.lpt_pus.proofs.LongLemmas.{be-long}
 
@@ -62,6 +63,32 @@ tm_verdict-tm_packet_of t h = grind (arith, common_steps, nat_tests)
 -- what is related to a packet is read from it
 pub tm_verdict-again : (f : Fields) (t : Telemetry) → IsTelemetry f t → tm_verdict f ≡ Ok t
 tm_verdict-again f t h = ap tm_verdict h.spelled ∙ tm_verdict-tm_packet_of t h.fits
+
+-- ---- the tests
+
+-- a packet that passes the tests is read as what stands at its places
+pub tm_verdict-passed : (f : Fields)
+    → f.kind ≡ Tm
+    → 11 ≤ length f.octets
+    → get_or f.octets 0 0 / 16 ≡ 2
+    → tm_verdict f ≡ Ok (telemetry_at f)
+unfolding tm_verdict
+tm_verdict-passed f kind long version =
+    tested-passed (is_tm f.kind) (nat_le 11 (length f.octets)) (get_or f.octets 0 0 / 16 == 2)
+    (telemetry_at f) (ap is_tm kind) (le-leb 11 (length f.octets) long)
+    (eq-eqb (get_or f.octets 0 0 / 16) 2 version)
+
+-- a packet of another PUS version is told by it
+pub tm_verdict-version : (f : Fields)
+    → f.kind ≡ Tm
+    → 11 ≤ length f.octets
+    → get_or f.octets 0 0 / 16 ≢ 2
+    → tm_verdict f ≡ Err PusVersion
+unfolding tm_verdict
+tm_verdict-version f kind long version =
+    tested-version (is_tm f.kind) (nat_le 11 (length f.octets)) (get_or f.octets 0 0 / 16 == 2)
+    (telemetry_at f) (ap is_tm kind) (le-leb 11 (length f.octets) long)
+    (ne_eqb (get_or f.octets 0 0 / 16) 2 version)
 
 -- ---- what is read
 
