@@ -1,7 +1,7 @@
 -- A body is the report that is read in it, and each report is read in its body.
 use Rattle.std.proofs.Common.{◌≡◌, ◌∙◌, ap, sym, refl, subst, ℕ, ◌+◌, ◌*◌, ◌<◌, ◌^◌, ◌==◌, ◌&&◌, Bool, true, false, if◌then◌else◌, List, [], ◌∷◌, ◌++◌, length, Option, Some, None, IfSome, IsTrue, eqb-true, arith}
 use Rattle.std.proofs.lemmas.Bool.Decides.{nat_tests}
-use Rattle.std.proofs.lemmas.Bool.{false_from_ne_true}
+use Rattle.std.proofs.lemmas.Bool.{false_from_ne_true, eq-eqb}
 use Rattle.std.specs.Prelude.{◌↔◌}
 use Rattle.lpt_packet.specs.Numbers.{be, word_at, IsOctets}
 use Rattle.lpt_packet.proofs.Codec.{word_cells}
@@ -61,6 +61,27 @@ pub IsReport-one : (subtype : ℕ) (b : List ℕ) (q r : Report)
 IsReport-one subtype b q r p s =
     let same : Some q ≡ Some r = sym (IsReport-read subtype b q p) ∙ IsReport-read subtype b r s in
     cc
+
+-- ---- what stands at the places of a report is read
+
+-- four octets of a subtype of success
+pub success-read : (subtype : ℕ) (b : List ℕ)
+    → IsTrue (is_success subtype)
+    → length b ≡ 4
+    → report_in subtype b ≡ Some (report_at b None)
+unfolding report_in
+success-read subtype b success long = rw (success, eq-eqb (length b) 4 long) refl
+
+-- six octets of a subtype of failure
+pub failure-read : (subtype : ℕ) (b : List ℕ)
+    → IsTrue (is_failure subtype)
+    → length b ≡ 6
+    → report_in subtype b ≡ Some (report_at b (Some (word_at b 4)))
+unfolding report_in
+failure-read subtype b failure long =
+    let other : is_success subtype ≡ false =
+    false_from_ne_true (is_success subtype) (λ h. apart subtype h failure) in
+    rw (other, failure, eq-eqb (length b) 6 long) refl
 
 -- ---- what is read
 
@@ -136,7 +157,7 @@ chosen P false true p q r hp hq h = let same : q ≡ r = cc in subst P same (hq 
 chosen P false false p q r hp hq h = absurd cc
 
 -- what is read is a report
-report_in-found : (subtype : ℕ) (b : List ℕ) (r : Report)
+pub report_in-found : (subtype : ℕ) (b : List ℕ) (r : Report)
     → IsOctets b
     → report_in subtype b ≡ Some r
     → IsReport subtype b r
