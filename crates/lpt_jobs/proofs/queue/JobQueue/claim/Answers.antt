@@ -1,5 +1,9 @@
--- The oldest job that waits is written back as it was, but for its mark.
-use Rattle.std.proofs.Common.{◌<◌, length, refl, rules}
+-- The oldest job that waits is written back as it was, but for its mark. It is written out so that
+-- a wrong body is refused at once.
+use Rattle.std.proofs.Common.{◌∙◌, ap, ℕ, ◌<◌, List, length, refl, rules}
+use Rattle.lpt_jobs.specs.declared.job.Job.{Job}
+use Rattle.lpt_jobs.specs.declared.job.Mark.TheVariants.{Claimed}
+use Rattle.lpt_jobs.specs.Jobs.{Jobs, QueueView, with_mark, after_claim}
 use Rattle.lpt_jobs.proofs.JobsLemmas.{set-with_mark, kept-claim, some-within}
 use Rattle.lpt_jobs.proofs.queue.JobQueue.claim.Goals as goal
 
@@ -11,4 +15,10 @@ invariant_of-self c =
     c.self.invariant some refl
 
 pub returns-clause-at : goal.returns-clause-at
-returns-clause-at c = search (rules, set-with_mark)
+returns-clause-at c =
+    let q = c.self.inside in
+    let with_jobs : List Job → Jobs = λ jobs. record { first = q.first; jobs = jobs } in
+    let written = set-with_mark q.jobs.items q.claimed Claimed c.index_mut.result.now
+    c.index_mut.ensures.value in
+    let oldest = ap (λ (i : ℕ). with_mark q.jobs.items i Claimed) c.self.invariant.count in
+    ap with_jobs (written ∙ oldest) ∙ ap (λ (v : QueueView). after_claim v.at) c.self.view_is
