@@ -1,5 +1,5 @@
 -- The first line end of octets that are searched a piece at a time.
-use Rattle.std.proofs.Common.{◌≡◌, ℕ, ◌+◌, ◌≤◌, ◌<◌, ◌==◌, List, [], ◌∷◌, ◌++◌, get_or, length-append, length, take, drop, position, Option, None, Some, Ok, Err, ◌-◌, not, Bool, true, false, refl, sym, ap, subst, ◌∙◌, arith, take-append-drop, append_assoc, append-nil}
+use Rattle.std.proofs.Common.{◌≡◌, ℕ, ◌+◌, ◌≤◌, ◌<◌, ◌==◌, List, [], ◌∷◌, ◌++◌, get_or, length-append, length, take, drop, Option, None, Some, Err, ◌-◌, Bool, sym, ap, subst, ◌∙◌, arith, take-append-drop, append_assoc, append-nil}
 use Rattle.std.specs.List.{position_or_len}
 use Rattle.std.proofs.lemmas.Bool.{eqb-true}
 use Rattle.std.proofs.lemmas.List.Quantifiers.{position-Some}
@@ -11,7 +11,7 @@ use Rattle.std.proofs.lemmas.List.Folds.{prefix_len-append}
 use Rattle.std.proofs.lemmas.List.Sums.{prefix_len-le-length, position_or_len_is}
 use Rattle.std.proofs.KnownBytes.{Consumes-trans}
 use Rattle.std.specs.Io.KnownBytes.{Consumes}
-use Rattle.lpt_text.specs.Lines.{held, room_of, line_end, Adds, IsCut, Fills, FindsLine}
+use Rattle.lpt_text.specs.Lines.{held, line_end, Adds, IsCut, Fills, FindsLine}
 use Rattle.lpt_text.specs.declared.fault.ToolFault.{ToolFault}
 use Rattle.lpt_text.specs.declared.fault.ToolFault.TheVariants as tool
 use Rattle.lpt_text.specs.declared.lines.LineBuffer.{LineBuffer}

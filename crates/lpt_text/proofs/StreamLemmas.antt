@@ -1,5 +1,5 @@
 -- Front parts of a text, and texts appended one after another.
-use Rattle.std.proofs.Common.{◌≡◌, ℕ, ◌+◌, ◌≤◌, List, [], ◌++◌, Option, None, Some, unwrap_or, length, take, drop, min, sym, ap, subst, arith, take_all, take-add, take-append-drop, append_assoc, ◌∙◌}
+use Rattle.std.proofs.Common.{◌≡◌, ℕ, ◌+◌, ◌≤◌, List, [], ◌++◌, Option, None, Some, unwrap_or, length, take, drop, min, sym, ap, subst, arith, take_all, take-add}
 use Rattle.std.proofs.Math.Seq.{take-append-add}
 use Rattle.std.proofs.lemmas.List.{take-append-le, take_min}
 use Rattle.std.proofs.KnownBytes.{Appends-nil, Appends-trans}

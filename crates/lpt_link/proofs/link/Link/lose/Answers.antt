@@ -1,8 +1,7 @@
 -- The packet is written back as it was, but for its mark, and is counted once less.
-use Rattle.std.proofs.Common.{◌∙◌, ap, sym}
+use Rattle.std.proofs.Common.{◌∙◌, ap, sym, List}
 use Rattle.lpt_link.specs.declared.packet.LinkPacket.{LinkPacket}
 use Rattle.lpt_link.specs.Links.{LinkData, LinkView, is_held, after_lose}
-use Rattle.std.proofs.Common.{rules}
 use Rattle.lpt_link.proofs.PacketLists.{set-with_lost}
 use Rattle.lpt_link.proofs.CountLemmas.{lose_counts}
 use Rattle.lpt_link.proofs.HandLemmas.{lose_sound}
@@ -37,4 +36,8 @@ invariant_of-self c =
     )
 
 pub returns-clause-ok : goal.returns-clause-ok
-returns-clause-ok c = search (rules, set-with_lost)
+returns-clause-ok c =
+    let link = c.self.inside in
+    let with : List LinkPacket → LinkData = λ ps. record { packets = ps; hands = link.hands } in
+    ap with (set-with_lost link.packets.items c.args.n c.index_mut.result.now c.index_mut.ensures.value)
+    ∙ ap (λ (v : LinkView). after_lose v.at c.args.n) c.self.view_is

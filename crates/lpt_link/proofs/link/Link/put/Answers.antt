@@ -1,6 +1,6 @@
 -- A packet that is put is counted once more.
-use Rattle.std.proofs.Common.{arith}
-use Rattle.lpt_link.specs.Links.{LinkData, after_put}
+use Rattle.std.proofs.Common.{◌∙◌, ap, arith, length}
+use Rattle.lpt_link.specs.Links.{LinkData, LinkView, after_put}
 use Rattle.lpt_link.proofs.CountLemmas.{put_counts}
 use Rattle.lpt_link.proofs.HandLemmas.{put_sound}
 use Rattle.lpt_link.proofs.IndexLemmas.{present_few, index_more}
@@ -26,3 +26,10 @@ invariant_of-self c =
           (after_put d goes tag octets) c.self.invariant.1 c.add.ensures
           (put_counts d goes tag octets c.self.invariant.0),
     )
+
+-- and its number is how many were put before
+pub returns-in-Ok-clause-number : goal.returns-in-Ok-clause-number
+returns-in-Ok-clause-number c =
+    c.len-number.ensures
+    ∙ c.self.inside.packets.ok.0
+    ∙ ap (λ (v : LinkView). length v.at.packets) c.self.view_is
