@@ -6,6 +6,7 @@ ghost use Rattle.lpt_jobs.specs.Jobs.{numbered};
 ghost use Rattle.lpt_link.specs.Links.{after_put};
 ghost use Rattle.lpt_node.specs.Asking.{refusal_of as node_refusal};
 ghost use Rattle.lpt_node.specs.Faults.{node_fault};
+ghost use Rattle.lpt_node.specs.Nodes.{new_node};
 ghost use Rattle.lpt_world.specs.EndsSound.{IsSound};
 ghost use Rattle.lpt_events.specs.Sides.{sender_side};
 ghost use Rattle.lpt_events.specs.Configs.{IsConfig};
@@ -44,14 +45,14 @@ impl Ends {
         requires { IsConfig config }
         ensures { IfOk result (λ e. (e.config ≡ config) × (state_of e ≡ no_state config memories)) }
     {
-        let on_ground = Node::new(alloc, Side::Ground, &config)?;
-        let on_craft = Node::new(alloc, Side::Craft, &config)?;
+        let link = Link::new(alloc)?;
+        let (on_ground, on_craft) = both_nodes(alloc, &config)?;
         Ok(Ends {
             alloc,
             config,
             on_ground,
             on_craft,
-            link: Link::new(alloc)?,
+            link,
             tickets: Tickets::new(),
             memories,
             opened: Vec::new(alloc),
@@ -265,6 +266,21 @@ fn sender(direction: Direction) -> Side
     match direction {
         Direction::Up => Side::Ground,
         Direction::Down => Side::Craft,
+    }
+}
+
+// The two nodes, at which nothing has happened.
+fn both_nodes(alloc: Global, config: &Config) -> Result<(Node, Node), AllocError>
+    requires { IsConfig config.now }
+    ensures { IfOk result (λ n. (n.0 ≡ new_node Side.Ground config.now) × (n.1 ≡ new_node Side.Craft config.now)) }
+{
+    let on_ground = Node::new(alloc, Side::Ground, config)?;
+    match Node::new(alloc, Side::Craft, config) {
+        Ok(on_craft) => Ok((on_ground, on_craft)),
+        Err(error) => {
+            drop(on_ground);
+            Err(error)
+        }
     }
 }
 
