@@ -1,11 +1,12 @@
 //! Receiving packets.
 
 ghost use Rattle.std.specs.Prelude.{◌≡◌, ◌+◌, ◌<◌, ◌^◌, length, true, IfOk, IfErr, OnOk, OnErr};
+ghost use Rattle.std.specs.Option.{option_map};
 ghost use Rattle.lpt_jobs.specs.Jobs.{numbered};
 ghost use Rattle.lpt_part.specs.Parts.{piece};
 ghost use Rattle.lpt_node.specs.Accepting.{accepted, grows, IsFor};
 ghost use Rattle.lpt_node.specs.Origins.{arrival_from};
-ghost use Rattle.lpt_node.specs.Receiving.{ignored, noted, parted, plain_released, with_job};
+ghost use Rattle.lpt_node.specs.Receiving.{ignored, noted, parted, plain_released, with_job, with_report};
 
 use crate::found::Sight;
 use crate::taken::Taken;
@@ -87,8 +88,7 @@ impl Node {
             (grows (parted self.old.side self.old.config self.old.at (piece part.now)).1 ≡ true) }
         ensures err { OnErr result (self.new.at ≡ self.old.at) }
     {
-        let mut counts = self.counts;
-        let head = self.abort_head(&counts);
+        let head = self.abort_head(&self.counts);
         let (side, clock) = (self.side, self.clock);
         match self
             .receiver
@@ -104,16 +104,26 @@ impl Node {
                 released: Some(message),
             }),
             Taken::Broken(reason, packet) => {
-                if packet.is_some() {
-                    counts.step_kind(TelemetryKind::Abort);
-                }
-                self.counts = counts;
+                self.count_abort(packet.as_ref());
                 Ok(Accepted {
                     outcome: Outcome::Broken(part.id, reason),
                     packet,
                     released: None,
                 })
             }
+        }
+    }
+
+    // Counts the report of an abortion, where one was made.
+    fn count_abort(&mut self, report: Option<&Octets>)
+        ensures at { self.new.at ≡ with_report self.old.at (option_map (λ o. o.now) report.entry) }
+
+        ensures side { self.new.side ≡ self.old.side }
+        ensures config { self.new.config ≡ self.old.config }
+    {
+        match report {
+            Some(_) => self.counts.step_kind(TelemetryKind::Abort),
+            None => {}
         }
     }
 }

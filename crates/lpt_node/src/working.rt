@@ -1,8 +1,8 @@
 //! Jobs: the requests that were released, claimed by workers, and executed in order of release.
 
-ghost use Rattle.std.specs.Prelude.{◌≡◌, ◌+◌, ◌-◌, ◌<◌, ◌^◌, length, IsTrue, None, IfOk, IfErr, OnOk, OnErr};
+ghost use Rattle.std.specs.Prelude.{◌≡◌, ◌+◌, ◌-◌, ◌<◌, ◌^◌, length, IsTrue, None, Some, IfOk, IfErr, OnOk, OnErr};
 ghost use Rattle.std.specs.Option.{option_map};
-ghost use Rattle.lpt_jobs.specs.Jobs.{after_push, claimed_in, is_claimed, numbered, unclaimed};
+ghost use Rattle.lpt_jobs.specs.Jobs.{Ready, after_push, claimed_in, head_of, is_claimed, numbered, unclaimed};
 ghost use Rattle.lpt_node.specs.Jobs.{refusal_claim, claimed, committed, refusal_apply, executed, execution, IsReadFor};
 ghost use Rattle.lpt_node.specs.Sending.{RefusedBy};
 
@@ -111,11 +111,7 @@ impl Node {
         ensures err { OnErr result (self.new.at ≡ self.old.at) }
         ensures kept { OnErr result (memories.new ≡ memories.old) }
     {
-        let reading = match self.jobs.front() {
-            Front::Empty => return Err(NodeFault::NoJob),
-            Front::NotReady => return Err(NodeFault::NotReady),
-            Front::Ready(reading) => reading,
-        };
+        let reading = self.front()?;
         // All that takes memory comes first, and the new message last of it.
         let Ok((applied, made)) = self.execution(memories, reading) else {
             return Err(NodeFault::Memory);
@@ -136,6 +132,19 @@ impl Node {
             packets,
             opened,
         })
+    }
+
+    // The reading of the oldest job. Errors: `NoJob`, there is none; `NotReady`, no reading was
+    // handed in.
+    fn front(&self) -> Result<&Reading, NodeFault>
+        ensures ok { IfOk result (λ r. head_of self.now.at.jobs.jobs ≡ Ready r.now) }
+        ensures refused { IfErr result (λ e. refusal_apply self.now.at ≡ Some e) }
+    {
+        match self.jobs.front() {
+            Front::Empty => Err(NodeFault::NoJob),
+            Front::NotReady => Err(NodeFault::NotReady),
+            Front::Ready(reading) => Ok(reading),
+        }
     }
 }
 
