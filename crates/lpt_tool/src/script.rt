@@ -47,7 +47,11 @@ pub fn run_script<S: Source, K: Sink>(
     ensures read { IsOk result → S.failed reader.new ≡ S.failed reader.old }
 {
     match World::new(alloc, config, memories) {
-        Ok(mut world) => run_lines(alloc, &mut world, &mut Shows::Now, reader, out),
+        Ok(mut world) => {
+            let ran = run_lines(alloc, &mut world, &mut Shows::Now, reader, out);
+            drop(world);
+            ran
+        }
         Err(ConfigFault::Memory) => Err(ToolFault::Memory),
         Err(_) => Err(ToolFault::Config),
     }

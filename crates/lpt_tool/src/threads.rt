@@ -13,7 +13,7 @@ use crate::summary::put_summary;
 use lpt_events::Turns;
 use lpt_memory::Memories;
 use lpt_node::Config;
-use lpt_share::{Gate, Point, ShareFault, run_threads};
+use lpt_share::{Gate, Point, ShareEnd, ShareFault, run_threads};
 use lpt_text::{Sink, Source, ToolFault};
 use lpt_words::Command;
 use lpt_world::{ConfigFault, World};
@@ -104,8 +104,14 @@ fn run_ten<R: Threads + Wait + Sync>(
     ensures { IfErr result IsOfThreads }
 {
     match run_threads(alloc, rt, world, turns, &Open) {
-        Ok((world, _logs)) => Ok(world),
-        Err(end) => Err(threads_fault(end.fault)),
+        Ok((world, logs)) => {
+            drop(logs);
+            Ok(world)
+        }
+        Err(ShareEnd { fault, world }) => {
+            drop(world);
+            Err(threads_fault(fault))
+        }
     }
 }
 
