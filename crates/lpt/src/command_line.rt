@@ -30,6 +30,13 @@ pub enum Command<'a> {
 /// and want of memory.
 pub fn read_words<'a>(alloc: Global, words: &'a [String]) -> Result<Asked<'a>, Error> {
     let mut program = program(alloc)?;
+    let asked = ask(&mut program, words);
+    drop(program);
+    asked
+}
+
+// Reads the words as this program's.
+fn ask<'a>(program: &mut clap::Command<'a>, words: &'a [String]) -> Result<Asked<'a>, Error> {
     let matches = program.try_get_matches_from_mut(words)?;
     match meant(&matches) {
         Some(asked) => Ok(asked),
@@ -68,30 +75,49 @@ docs/SCRIPT.md tells the script language and the configuration, docs/lpt.1 is th
 // The program and its commands, as clap reads them.
 fn program<'a>(alloc: Global) -> Result<clap::Command<'a>, AllocError> {
     let script = "The script's path, or - for standard input";
-    let hex = word(alloc, "HEX", "Octets as hexadecimal digits, or - for none");
-    let run = subcommand(
-        alloc,
-        "run",
-        "Run a script on a new world",
-        word(alloc, "SCRIPT", script),
-    )?;
-    let threads = subcommand(
-        alloc,
-        "threads",
-        "Run a script on a new world, and then ten threads",
-        word(alloc, "SCRIPT", script),
-    )?;
-    let decode = subcommand(alloc, "decode", "Say what octets are as a packet", hex)?;
-    clap::Command::new(alloc, "lpt")
+    let program = clap::Command::new(alloc, "lpt")
         .version("0.1.0")
         .about("Large packet transfer: two nodes and the link between them")
         .after_help(MORE)
         .propagate_version(true)
         .arg_required_else_help(true)
-        .subcommand_required(true)
-        .subcommand(run)?
-        .subcommand(threads)?
-        .subcommand(decode)
+        .subcommand_required(true);
+    let program = with_command(
+        alloc,
+        program,
+        "run",
+        "Run a script on a new world",
+        word(alloc, "SCRIPT", script),
+    )?;
+    let program = with_command(
+        alloc,
+        program,
+        "threads",
+        "Run a script on a new world, and then ten threads",
+        word(alloc, "SCRIPT", script),
+    )?;
+    let hex = word(alloc, "HEX", "Octets as hexadecimal digits, or - for none");
+    with_command(
+        alloc,
+        program,
+        "decode",
+        "Say what octets are as a packet",
+        hex,
+    )
+}
+
+// The program with one command more, which takes one word, and perhaps a configuration.
+fn with_command<'a>(
+    alloc: Global,
+    program: clap::Command<'a>,
+    name: &'a str,
+    about: &'a str,
+    word: Arg<'a>,
+) -> Result<clap::Command<'a>, AllocError> {
+    match subcommand(alloc, name, about, word) {
+        Ok(command) => program.subcommand(command),
+        Err(error) => Err(error),
+    }
 }
 
 // A command that takes one word, and perhaps a configuration.
@@ -101,13 +127,17 @@ fn subcommand<'a>(
     about: &'a str,
     word: Arg<'a>,
 ) -> Result<clap::Command<'a>, AllocError> {
-    let config = Arg::new(alloc, "config")
+    let command = clap::Command::new(alloc, name).about(about).arg(word)?;
+    command.arg(config(alloc))
+}
+
+// The path of a configuration, which may be given.
+fn config<'a>(alloc: Global) -> Arg<'a> {
+    Arg::new(alloc, "config")
         .long("config")
         .value_name("FILE")
         .action(ArgAction::Set)
-        .help("The configuration, a TOML file");
-    let command = clap::Command::new(alloc, name).about(about);
-    command.arg(word)?.arg(config)
+        .help("The configuration, a TOML file")
 }
 
 // A word that must be given.
