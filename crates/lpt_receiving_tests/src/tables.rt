@@ -152,6 +152,14 @@ fn due_at(table: &Table, first: u32, second: u32) -> (Option<Name>, Option<Name>
     (table.due(first), table.due(second))
 }
 
+// The receptions that are due at ticks 9, 10 and 14.
+fn check_due_at(rt: &impl Abort, table: &Table, want: [Option<Name>; 3])
+    requires { table.now.out ≡ None }
+{
+    let due = [table.due(9), table.due(10), table.due(14)];
+    assert!(rt; due == want);
+}
+
 // One reception at a time, of which a whole or a broken one makes room.
 fn check_room(rt: &impl Abort, table: &mut Table)
     requires p { table.old.p ≡ 4 }
@@ -183,14 +191,13 @@ fn check_due(rt: &impl Abort, table: &mut Table)
     requires settled { table.old.out ≡ None }
     ensures settled { table.new.out ≡ None }
 {
-    assert!(rt; due_at(table, 9, 10) == (None, Some(3)));
-    assert!(rt; due_at(table, 14, 14) == (Some(3), Some(3)));
+    check_due_at(rt, table, [None, Some(3), Some(3)]);
     let expired = (table.expire(3), table.expire(3));
     assert!(rt; expired == (true, false));
-    assert!(rt; due_at(table, 9, 10) == (None, Some(9)));
-    assert!(rt; due_at(table, 14, 14) == (Some(9), Some(9)));
+    check_due_at(rt, table, [None, Some(9), Some(9)]);
     let expired = table.expire(9);
-    assert!(rt; expired && due_at(table, 13, 14) == (None, Some(1)));
+    let due = due_at(table, 13, 14);
+    assert!(rt; expired && due == (None, Some(1)));
 }
 
 // A table that is cleared has no reception.

@@ -80,14 +80,17 @@ fn a_failed_read_ends_the_run_behind_whole_lines(rt: HostRuntime) -> Result<(), 
         ),
     ];
     for (text, step, printed) in cases {
-        let memories = zeros(rt.alloc())?;
-        let (ended, got) = ran(rt.alloc(), USUAL, memories, Breaking { text, step });
-        assert!(rt;
-            ended == Err(ToolFault::Read) && got.as_slice() == printed,
-            "{step}"
-        );
+        let is_so = ends_unread(rt.alloc(), Breaking { text, step }, printed)?;
+        assert!(rt; is_so, "{step}");
     }
     Ok(())
+}
+
+// Whether a run ends by a failed read, behind this text.
+fn ends_unread(alloc: Global, reader: Breaking, printed: &[u8]) -> Result<bool, Fail> {
+    let memories = zeros(alloc)?;
+    let (ended, got) = ran(alloc, USUAL, memories, reader);
+    Ok(ended == Err(ToolFault::Read) && got.as_slice() == printed)
 }
 
 /// A writer that takes so many octets, and fails from then on, or at the first flush.

@@ -1,6 +1,7 @@
 //! Texts through readers and writers that give, take and fail in their own ways.
 
 use lpt_text::{End, LineBuffer, Told, ToolFault, flush_out, read_text, write_out};
+use std::alloc::Global;
 use std::io::{self, ErrorKind, Read, Write};
 use std::test::Fail;
 
@@ -59,20 +60,23 @@ fn writes_whole_texts_or_a_front_part(rt: HostRuntime) {
         (5, 13, true, Err(ToolFault::Write), 13),
     ];
     for (step, room, breaks, expected, len) in cases {
-        let held = Vec::new(rt.alloc());
-        let mut out = Told::new(Narrow {
-            held,
+        let narrow = Narrow {
+            held: Vec::new(rt.alloc()),
             step,
             room,
             breaks,
-        });
-        let ended = write_out(&mut out, SCRIPT);
-        let held = Some(out.inner().held.as_slice());
-        assert!(rt;
-            ended == expected && held == SCRIPT.get(..len),
-            "{step} of {room}"
-        );
+        };
+        let (ended, is_front) = wrote(narrow, len);
+        assert!(rt; ended == expected && is_front, "{step} of {room}");
     }
+}
+
+// How it ends to write the script, and whether the writer then holds so many octets of it.
+fn wrote(narrow: Narrow, len: usize) -> (Result<(), ToolFault>, bool) {
+    let mut out = Told::new(narrow);
+    let ended = write_out(&mut out, SCRIPT);
+    let is_front = Some(out.inner().held.as_slice()) == SCRIPT.get(..len);
+    (ended, is_front)
 }
 
 #[test]
@@ -106,11 +110,17 @@ fn reads_up_to_16777216_octets(rt: HostRuntime) -> Result<(), Fail> {
         (16_777_217, End::TooLong),
     ];
     for (len, expected) in cases {
-        let mut reader = Told::new(io::repeat(b'\n').take(len));
-        let (_, end) = read_text(rt.alloc(), &mut reader)?;
+        let end = end_of(rt.alloc(), len)?;
         assert!(rt; end == expected, "{len} octets");
     }
     Ok(())
+}
+
+// How a text of so many octets ends.
+fn end_of(alloc: Global, len: u64) -> Result<End, Fail> {
+    let mut reader = Told::new(io::repeat(b'\n').take(len));
+    let (_, end) = read_text(alloc, &mut reader)?;
+    Ok(end)
 }
 
 #[test]
