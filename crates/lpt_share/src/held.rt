@@ -98,7 +98,10 @@ impl<J: Origin> Held<J> {
         ensures ok { IfOk result (λ r. Enters self.old self.new seat event r) }
         ensures err { IfErr result (λ e. Refuses self.old self.new seat event e) }
     {
-        self.world.step(seat, event)
+        match self.world.step(seat, event) {
+            Ok(reply) => Ok(reply),
+            Err(refused) => Err(refused),
+        }
     }
 
     /// The event `Take`, with a copy of the packet.

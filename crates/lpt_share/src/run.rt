@@ -88,13 +88,9 @@ fn run_from<J: Origin + Send + Sync, R: Threads + Wait + Sync, G: Gate + Sync>(
     ensures err_headline { IfErr result (λ e. Holds e.world.config e.world.first (history e.world)) }
 {
     let from = world.journal().len() as u64;
-    let seats = match all_seats(alloc, rt, &world) {
-        Ok(seats) => seats,
+    let (seats, owed) = match started(alloc, rt, &world) {
+        Ok(started) => started,
         Err(fault) => return Err(ShareEnd { fault, world }),
-    };
-    let Ok(owed) = open_transactions(alloc, &world) else {
-        let fault = ShareFault::Memory;
-        return Err(ShareEnd { fault, world });
     };
     let shared: Shared<J> = Shared::from_origin(world);
     let pass = Pass {
@@ -107,25 +103,67 @@ fn run_from<J: Origin + Send + Sync, R: Threads + Wait + Sync, G: Gate + Sync>(
     };
     let done = run_seats(&pass, seats);
     let world = shared.into_world();
-    let logs = match done {
-        Ok(logs) => logs,
-        Err(fault) => return Err(ShareEnd { fault, world }),
-    };
-    if !are_in_order(logs.as_slice()) || !agrees(&world, from, logs.as_slice()) {
-        let fault = ShareFault::Torn;
-        return Err(ShareEnd { fault, world });
+    match judged(alloc, &world, from, owed.as_slice(), turns, done) {
+        Ok(logs) => Ok((world, logs)),
+        Err(fault) => Err(ShareEnd { fault, world }),
     }
-    match is_all_done(alloc, &world, from, owed.as_slice(), turns, logs.as_slice()) {
-        Ok(true) => Ok((world, logs)),
-        Ok(false) => {
-            let fault = ShareFault::Torn;
-            Err(ShareEnd { fault, world })
-        }
-        Err(_) => {
-            let fault = ShareFault::Memory;
-            Err(ShareEnd { fault, world })
-        }
+}
+
+// The seats of a run of this world, and what it owes.
+fn started<R: Wait>(
+    alloc: Global,
+    rt: &R,
+    world: &World,
+) -> Result<(Vec<Seat>, Vec<Owed>), ShareFault>
+    ensures { IfOk result (λ r. r.1.items ≡ owed_of world.now) }
+{
+    let owed = open_transactions(alloc, world)?;
+    let seats = all_seats(alloc, rt, world)?;
+    Ok((seats, owed))
+}
+
+// The logs of a run that began at this place with what was owed, where they are in order, agree with
+// the journal, and nothing was left to do.
+fn judged(
+    alloc: Global,
+    world: &World,
+    from: u64,
+    owed: &[Owed],
+    turns: Turns,
+    done: Result<Vec<SeatLog>, ShareFault>,
+) -> Result<Vec<SeatLog>, ShareFault>
+    ensures in_order { IfOk result (λ logs. IsInOrder 1 logs.items) }
+    ensures agree { IfOk result (λ logs. Agree world.now from logs.items) }
+    ensures finished { IfOk result (λ logs. (given : Shown) → from ≡ length given.journal → owed.now ≡ owed_of given
+        → IsFinishedIfShort turns.per_seat turns.ticks given world.now logs.items) }
+{
+    let logs = done?;
+    if is_sound(alloc, world, from, owed, turns, logs.as_slice())? {
+        Ok(logs)
+    } else {
+        Err(ShareFault::Torn)
     }
+}
+
+// Whether the logs of a run are in order and agree with the journal, and nothing was left to do. The
+// only error is want of memory.
+fn is_sound(
+    alloc: Global,
+    world: &World,
+    from: u64,
+    owed: &[Owed],
+    turns: Turns,
+    logs: &[SeatLog],
+) -> Result<bool, AllocError>
+    ensures in_order { IfOk result (λ sound. IsTrue sound → IsInOrder 1 logs.now) }
+    ensures agree { IfOk result (λ sound. IsTrue sound → Agree world.now from logs.now) }
+    ensures finished { IfOk result (λ sound. IsTrue sound → (given : Shown) → from ≡ length given.journal → owed.now ≡ owed_of given
+        → IsFinishedIfShort turns.per_seat turns.ticks given world.now logs.now) }
+{
+    if !are_in_order(logs) || !agrees(world, from, logs) {
+        return Ok(false);
+    }
+    is_all_done(alloc, world, from, owed, turns, logs)
 }
 
 // Runs each seat in a thread of its own, and waits for all of them. The logs are in the seats' order.
