@@ -1,5 +1,5 @@
 -- The calls that a turn adds, one call longer.
-use Rattle.std.proofs.Common.{◌≡◌, ◌∙◌, refl, sym, ap, subst, ℕ, ◌+◌, List, [], ◌∷◌, ◌++◌, length, Option, Some, None, Result, Ok, Err, arith}
+use Rattle.std.proofs.Common.{◌≡◌, ◌∙◌, refl, sym, ap, subst, ℕ, ◌+◌, List, [], ◌∷◌, ◌++◌, length, Option, Some, None, Result, Ok, Err, IfOk, arith}
 use Rattle.std.proofs.lemmas.List.{append-nil, append_assoc, length-append}
 use Rattle.lpt_events.specs.declared.event.Event.{Event}
 use Rattle.lpt_share.specs.declared.fault.ShareFault.{ShareFault}
@@ -48,6 +48,16 @@ placed e old mid new (Ok (Some answer)) seat calls one =
     (one.0, one.1 ∙ seat, one.2, one.3 ∙ ap (λ xs. xs ++ one.0 ∷ []) calls)
 placed e old mid new (Ok None) seat calls same = (same.0 ∙ seat, same.1 ∙ calls)
 placed e old mid new (Err fault) seat calls same = (same.0 ∙ seat, same.1 ∙ calls)
+
+-- a call that was refused has no answer, and the log is as before
+pub refused : {A : Type 0} (e : Event) (old new : SeatLog) (r : Result (Option A) ShareFault)
+    → IfOk r (λ answer. answer ≡ None)
+    → new.seat ≡ old.seat
+    → new.calls.items ≡ old.calls.items
+    → IsAsked e old new r
+refused e old new (Ok (Some answer)) is seat calls = absurd (cc)
+refused e old new (Ok None) is seat calls = (seat, calls)
+refused e old new (Err fault) is seat calls = (seat, calls)
 
 -- ---- the calls of a turn, one after the other
 
