@@ -1,6 +1,6 @@
 //! The run of ten seats round one world, each in a thread of its own.
 
-ghost use Rattle.std.specs.Prelude.{◌≡◌, ◌↔◌, ◌≤◌, Some, length, IfOk, IfErr, IsTrue};
+ghost use Rattle.std.specs.Prelude.{◌≡◌, ◌↔◌, ◌≤◌, ℕ, List, Some, length, IfOk, IfErr, IsTrue};
 ghost use Rattle.lpt_journal.specs.Headline.{Holds};
 ghost use Rattle.lpt_world.specs.Worlds.{history};
 ghost use Rattle.lpt_share.specs.Calls.{IsLegal};
@@ -9,6 +9,7 @@ ghost use Rattle.lpt_share.specs.Finished.{IsFinishedIfShort, AreShort, AreOwedC
 ghost use Rattle.lpt_world.specs.Worlds.{Shown};
 ghost use Rattle.lpt_share.specs.Origins.{Continues};
 ghost use Rattle.lpt_share.specs.Runs.{IsInOrder};
+ghost use Rattle.lpt_share.specs.declared.log.SeatLog.{SeatLog};
 
 use crate::finish::{are_carried, are_taken, has_ticked, is_idle};
 use crate::first::all_seats;
@@ -208,7 +209,7 @@ fn run_seats<'a, J: Origin + Send + Sync, R: Threads + Wait + Sync, G: Gate + Sy
 
 // Whether nothing was left to do at the end of a run that began at this place with what was owed; or
 // a log is full, and nothing is asked. The only error is want of memory.
-#[tactic(auto, using(crate::proofs::RunLemmas::not_short, crate::proofs::RunLemmas::all_done))]
+#[tactic(auto, using(crate::proofs::RunLemmas::not_short))]
 fn is_all_done(
     alloc: Global,
     world: &World,
@@ -224,11 +225,27 @@ fn is_all_done(
     if !are_short(turns.per_seat, logs) {
         return Ok(true);
     }
+    is_settled(alloc, world, from, owed, turns.ticks)
+}
+
+// Whether nothing was left to do, where each log is short.
+#[tactic(auto, using(crate::proofs::RunLemmas::all_done))]
+fn is_settled(
+    alloc: Global,
+    world: &World,
+    from: u64,
+    owed: &[Owed],
+    ticks: u32,
+) -> Result<bool, AllocError>
+    requires { from ≤ length world.now.journal }
+    ensures { IfOk result (λ done. IsTrue done → (given : Shown) → from ≡ length given.journal → owed.now ≡ owed_of given
+        → (limit : ℕ) → (logs : List SeatLog) → IsFinishedIfShort limit ticks given world.now logs) }
+{
     let entries = &world.journal()[from as usize..];
     let p = world.config().part_size;
     if !is_idle(world)
-        || !has_ticked(world, entries, 5, Side::Craft, turns.ticks)
-        || !has_ticked(world, entries, 6, Side::Ground, turns.ticks)
+        || !has_ticked(world, entries, 5, Side::Craft, ticks)
+        || !has_ticked(world, entries, 6, Side::Ground, ticks)
         || !are_owed_carried(owed, p, entries)
         || !are_carried(world, from, entries)
     {
