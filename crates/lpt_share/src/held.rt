@@ -98,10 +98,7 @@ impl<J: Origin> Held<J> {
         ensures ok { IfOk result (λ r. Enters self.old self.new seat event r) }
         ensures err { IfErr result (λ e. Refuses self.old self.new seat event e) }
     {
-        match self.world.step(seat, event) {
-            Ok(reply) => Ok(reply),
-            Err(refused) => Err(refused),
-        }
+        self.world.step(seat, event)
     }
 
     /// The event `Take`, with a copy of the packet.
