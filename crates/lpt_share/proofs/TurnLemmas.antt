@@ -1,11 +1,11 @@
 -- The calls that a turn adds, one call longer.
-use Rattle.std.proofs.Common.{◌≡◌, ◌∙◌, refl, sym, ap, subst, ℕ, ◌+◌, List, [], ◌∷◌, ◌++◌, length, Option, Some, None, Result, Ok, Err, arith}
+use Rattle.std.proofs.Common.{◌≡◌, ◌∙◌, refl, sym, ap, subst, ℕ, ◌+◌, List, [], ◌∷◌, ◌++◌, length, Option, Some, None, Result, Ok, Err, IfOk, arith}
 use Rattle.std.proofs.lemmas.List.{append-nil, append_assoc, length-append}
 use Rattle.lpt_events.specs.declared.event.Event.{Event}
 use Rattle.lpt_share.specs.declared.fault.ShareFault.{ShareFault}
 use Rattle.lpt_share.specs.declared.log.Call.{Call}
 use Rattle.lpt_share.specs.declared.log.SeatLog.{SeatLog}
-use Rattle.lpt_share.specs.Turns.{Adds, Follow, IsAsked}
+use Rattle.lpt_share.specs.Turns.{Adds, Begin, Follow, IsAsked}
 
 Follow-push : (e : Event) (xs : List Call) (call : Call) → Follow [] e xs → call.event ≡ e → Follow [] e (xs ++ call ∷ [])
 Follow-push e [] call f is = (is, tt)
@@ -49,6 +49,16 @@ placed e old mid new (Ok (Some answer)) seat calls one =
 placed e old mid new (Ok None) seat calls same = (same.0 ∙ seat, same.1 ∙ calls)
 placed e old mid new (Err fault) seat calls same = (same.0 ∙ seat, same.1 ∙ calls)
 
+-- a call that was refused has no answer, and the log is as before
+pub refused : {A : Type 0} (e : Event) (old new : SeatLog) (r : Result (Option A) ShareFault)
+    → IfOk r (λ answer. answer ≡ None)
+    → new.seat ≡ old.seat
+    → new.calls.items ≡ old.calls.items
+    → IsAsked e old new r
+refused e old new (Ok (Some answer)) is seat calls = absurd (cc)
+refused e old new (Ok None) is seat calls = (seat, calls)
+refused e old new (Err fault) is seat calls = (seat, calls)
+
 -- ---- the calls of a turn, one after the other
 
 -- no call was accepted
@@ -71,6 +81,26 @@ pub goes_on : (e : Event) (es : List Event) (again : Event) (old mid new : SeatL
     → Adds (Follow es again) mid new
     → Adds (Follow (e ∷ es) again) old new
 goes_on e es again old mid new one more = (
+  one.0 ∷ more.0,
+  more.1 ∙ one.1,
+  more.2 ∙ ap (λ xs. xs ++ more.0) one.3 ∙ append_assoc old.calls.items (one.0 ∷ []) more.0,
+  (one.2, more.3),
+)
+
+-- ---- the same, with no event again and again
+
+-- no call was accepted
+pub begins_none : (es : List Event) (old new : SeatLog)
+    → (new.seat ≡ old.seat) × (new.calls.items ≡ old.calls.items)
+    → Adds (Begin es) old new
+begins_none es old new same = ([], same.0, same.1 ∙ sym (append-nil old.calls.items), tt)
+
+-- the first call was accepted, and then those of the rest
+pub begins : (e : Event) (es : List Event) (old mid new : SeatLog)
+    → IsOne e old mid
+    → Adds (Begin es) mid new
+    → Adds (Begin (e ∷ es)) old new
+begins e es old mid new one more = (
   one.0 ∷ more.0,
   more.1 ∙ one.1,
   more.2 ∙ ap (λ xs. xs ++ more.0) one.3 ∙ append_assoc old.calls.items (one.0 ∷ []) more.0,

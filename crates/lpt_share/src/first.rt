@@ -111,62 +111,56 @@ fn open_names(alloc: Global, world: &World, direction: Direction) -> Result<Vec<
 // The ten seats, each with its ends of the channels.
 fn seats(alloc: Global, senders: &Senders, receivers: &Receivers) -> Result<Vec<Seat>, AllocError> {
     let mut all = Vec::new(alloc);
-    for (seat, lane) in [(1, Lane::S1), (2, Lane::S2)] {
-        let task = Task::Lane(lane, receivers.up.clone()?);
-        let outlets = Outlets {
+    for seat in 1..=10 {
+        all.push(seat_of(seat, senders, receivers)?)?;
+    }
+    Ok(all)
+}
+
+// The seat of this number.
+fn seat_of(seat: u8, senders: &Senders, receivers: &Receivers) -> Result<Seat, AllocError> {
+    let outlets = outlets_of(seat, senders)?;
+    let task = task_of(seat, receivers)?;
+    Ok(Seat {
+        seat,
+        task,
+        outlets,
+    })
+}
+
+// What the seat of this number does.
+fn task_of(seat: u8, receivers: &Receivers) -> Result<Task, AllocError> {
+    Ok(match seat {
+        1 => Task::Lane(Lane::S1, receivers.up.clone()?),
+        2 => Task::Lane(Lane::S2, receivers.up.clone()?),
+        3 => Task::Lane(Lane::G1, receivers.down.clone()?),
+        4 => Task::Lane(Lane::G2, receivers.down.clone()?),
+        5 => Task::Timer(Side::Craft),
+        6 => Task::Timer(Side::Ground),
+        7 => Task::Worker(Worker::W1, receivers.jobs.clone()?),
+        8 => Task::Worker(Worker::W2, receivers.jobs.clone()?),
+        9 => Task::Sender(Direction::Up, receivers.opened_up.clone()?),
+        _ => Task::Sender(Direction::Down, receivers.opened_down.clone()?),
+    })
+}
+
+// Whom the seat of this number tells. Seats 3, 4 and 6 tell nobody.
+fn outlets_of(seat: u8, senders: &Senders) -> Result<Outlets, AllocError> {
+    match seat {
+        1 | 2 => Ok(Outlets {
             packets: Some(senders.down.clone()?),
             jobs: Some(senders.jobs.clone()?),
             opened: None,
-        };
-        all.push(Seat {
-            seat,
-            task,
-            outlets,
-        })?;
-    }
-    for (seat, lane) in [(3, Lane::G1), (4, Lane::G2)] {
-        let task = Task::Lane(lane, receivers.down.clone()?);
-        let outlets = Outlets::none();
-        all.push(Seat {
-            seat,
-            task,
-            outlets,
-        })?;
-    }
-    all.push(Seat {
-        seat: 5,
-        task: Task::Timer(Side::Craft),
-        outlets: puts_on(&senders.down)?,
-    })?;
-    all.push(Seat {
-        seat: 6,
-        task: Task::Timer(Side::Ground),
-        outlets: Outlets::none(),
-    })?;
-    for (seat, worker) in [(7, Worker::W1), (8, Worker::W2)] {
-        let task = Task::Worker(worker, receivers.jobs.clone()?);
-        let outlets = Outlets {
+        }),
+        7 | 8 => Ok(Outlets {
             packets: Some(senders.down.clone()?),
             jobs: None,
             opened: Some(senders.opened_down.clone()?),
-        };
-        all.push(Seat {
-            seat,
-            task,
-            outlets,
-        })?;
+        }),
+        5 | 10 => puts_on(&senders.down),
+        9 => puts_on(&senders.up),
+        _ => Ok(Outlets::none()),
     }
-    all.push(Seat {
-        seat: 9,
-        task: Task::Sender(Direction::Up, receivers.opened_up.clone()?),
-        outlets: puts_on(&senders.up)?,
-    })?;
-    all.push(Seat {
-        seat: 10,
-        task: Task::Sender(Direction::Down, receivers.opened_down.clone()?),
-        outlets: puts_on(&senders.down)?,
-    })?;
-    Ok(all)
 }
 
 // What a seat tells that only puts packets.

@@ -1,6 +1,6 @@
 //! The run of ten seats round one world, each in a thread of its own.
 
-ghost use Rattle.std.specs.Prelude.{◌≡◌, ◌↔◌, ◌≤◌, Some, length, IfOk, IfErr, IsTrue};
+ghost use Rattle.std.specs.Prelude.{◌≡◌, ◌↔◌, ◌≤◌, ℕ, List, Some, length, IfOk, IfErr, IsTrue};
 ghost use Rattle.lpt_journal.specs.Headline.{Holds};
 ghost use Rattle.lpt_world.specs.Worlds.{history};
 ghost use Rattle.lpt_share.specs.Calls.{IsLegal};
@@ -9,6 +9,7 @@ ghost use Rattle.lpt_share.specs.Finished.{IsFinishedIfShort, AreShort, AreOwedC
 ghost use Rattle.lpt_world.specs.Worlds.{Shown};
 ghost use Rattle.lpt_share.specs.Origins.{Continues};
 ghost use Rattle.lpt_share.specs.Runs.{IsInOrder};
+ghost use Rattle.lpt_share.specs.declared.log.SeatLog.{SeatLog};
 
 use crate::finish::{are_carried, are_taken, has_ticked, is_idle};
 use crate::first::all_seats;
@@ -88,13 +89,9 @@ fn run_from<J: Origin + Send + Sync, R: Threads + Wait + Sync, G: Gate + Sync>(
     ensures err_headline { IfErr result (λ e. Holds e.world.config e.world.first (history e.world)) }
 {
     let from = world.journal().len() as u64;
-    let seats = match all_seats(alloc, rt, &world) {
-        Ok(seats) => seats,
+    let (seats, owed) = match started(alloc, rt, &world) {
+        Ok(started) => started,
         Err(fault) => return Err(ShareEnd { fault, world }),
-    };
-    let Ok(owed) = open_transactions(alloc, &world) else {
-        let fault = ShareFault::Memory;
-        return Err(ShareEnd { fault, world });
     };
     let shared: Shared<J> = Shared::from_origin(world);
     let pass = Pass {
@@ -107,25 +104,67 @@ fn run_from<J: Origin + Send + Sync, R: Threads + Wait + Sync, G: Gate + Sync>(
     };
     let done = run_seats(&pass, seats);
     let world = shared.into_world();
-    let logs = match done {
-        Ok(logs) => logs,
-        Err(fault) => return Err(ShareEnd { fault, world }),
-    };
-    if !are_in_order(logs.as_slice()) || !agrees(&world, from, logs.as_slice()) {
-        let fault = ShareFault::Torn;
-        return Err(ShareEnd { fault, world });
+    match judged(alloc, &world, from, owed.as_slice(), turns, done) {
+        Ok(logs) => Ok((world, logs)),
+        Err(fault) => Err(ShareEnd { fault, world }),
     }
-    match is_all_done(alloc, &world, from, owed.as_slice(), turns, logs.as_slice()) {
-        Ok(true) => Ok((world, logs)),
-        Ok(false) => {
-            let fault = ShareFault::Torn;
-            Err(ShareEnd { fault, world })
-        }
-        Err(_) => {
-            let fault = ShareFault::Memory;
-            Err(ShareEnd { fault, world })
-        }
+}
+
+// The seats of a run of this world, and what it owes.
+fn started<R: Wait>(
+    alloc: Global,
+    rt: &R,
+    world: &World,
+) -> Result<(Vec<Seat>, Vec<Owed>), ShareFault>
+    ensures { IfOk result (λ r. r.1.items ≡ owed_of world.now) }
+{
+    let owed = open_transactions(alloc, world)?;
+    let seats = all_seats(alloc, rt, world)?;
+    Ok((seats, owed))
+}
+
+// The logs of a run that began at this place with what was owed, where they are in order, agree with
+// the journal, and nothing was left to do.
+fn judged(
+    alloc: Global,
+    world: &World,
+    from: u64,
+    owed: &[Owed],
+    turns: Turns,
+    done: Result<Vec<SeatLog>, ShareFault>,
+) -> Result<Vec<SeatLog>, ShareFault>
+    ensures in_order { IfOk result (λ logs. IsInOrder 1 logs.items) }
+    ensures agree { IfOk result (λ logs. Agree world.now from logs.items) }
+    ensures finished { IfOk result (λ logs. (given : Shown) → from ≡ length given.journal → owed.now ≡ owed_of given
+        → IsFinishedIfShort turns.per_seat turns.ticks given world.now logs.items) }
+{
+    let logs = done?;
+    if is_sound(alloc, world, from, owed, turns, logs.as_slice())? {
+        Ok(logs)
+    } else {
+        Err(ShareFault::Torn)
     }
+}
+
+// Whether the logs of a run are in order and agree with the journal, and nothing was left to do. The
+// only error is want of memory.
+fn is_sound(
+    alloc: Global,
+    world: &World,
+    from: u64,
+    owed: &[Owed],
+    turns: Turns,
+    logs: &[SeatLog],
+) -> Result<bool, AllocError>
+    ensures in_order { IfOk result (λ sound. IsTrue sound → IsInOrder 1 logs.now) }
+    ensures agree { IfOk result (λ sound. IsTrue sound → Agree world.now from logs.now) }
+    ensures finished { IfOk result (λ sound. IsTrue sound → (given : Shown) → from ≡ length given.journal → owed.now ≡ owed_of given
+        → IsFinishedIfShort turns.per_seat turns.ticks given world.now logs.now) }
+{
+    if !are_in_order(logs) || !agrees(world, from, logs) {
+        return Ok(false);
+    }
+    is_all_done(alloc, world, from, owed, turns, logs)
 }
 
 // Runs each seat in a thread of its own, and waits for all of them. The logs are in the seats' order.
@@ -170,7 +209,7 @@ fn run_seats<'a, J: Origin + Send + Sync, R: Threads + Wait + Sync, G: Gate + Sy
 
 // Whether nothing was left to do at the end of a run that began at this place with what was owed; or
 // a log is full, and nothing is asked. The only error is want of memory.
-#[tactic(auto, using(crate::proofs::RunLemmas::not_short, crate::proofs::RunLemmas::all_done))]
+#[tactic(auto, using(crate::proofs::RunLemmas::not_short))]
 fn is_all_done(
     alloc: Global,
     world: &World,
@@ -186,11 +225,27 @@ fn is_all_done(
     if !are_short(turns.per_seat, logs) {
         return Ok(true);
     }
+    is_settled(alloc, world, from, owed, turns.ticks)
+}
+
+// Whether nothing was left to do, where each log is short.
+#[tactic(auto, using(crate::proofs::RunLemmas::all_done))]
+fn is_settled(
+    alloc: Global,
+    world: &World,
+    from: u64,
+    owed: &[Owed],
+    ticks: u32,
+) -> Result<bool, AllocError>
+    requires { from ≤ length world.now.journal }
+    ensures { IfOk result (λ done. IsTrue done → (given : Shown) → from ≡ length given.journal → owed.now ≡ owed_of given
+        → (limit : ℕ) → (logs : List SeatLog) → IsFinishedIfShort limit ticks given world.now logs) }
+{
     let entries = &world.journal()[from as usize..];
     let p = world.config().part_size;
     if !is_idle(world)
-        || !has_ticked(world, entries, 5, Side::Craft, turns.ticks)
-        || !has_ticked(world, entries, 6, Side::Ground, turns.ticks)
+        || !has_ticked(world, entries, 5, Side::Craft, ticks)
+        || !has_ticked(world, entries, 6, Side::Ground, ticks)
         || !are_owed_carried(owed, p, entries)
         || !are_carried(world, from, entries)
     {

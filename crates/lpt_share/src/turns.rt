@@ -1,7 +1,7 @@
 //! The turns of the seats: a few calls each, with the reading of packets and requests between them
 //! while the lock is free.
 
-ghost use Rattle.std.specs.Prelude.{◌≡◌, ◌+◌, [], ◌∷◌, vec_len, IfOk};
+ghost use Rattle.std.specs.Prelude.{◌≡◌, ◌+◌, [], ◌∷◌, None, vec_len, IfOk};
 ghost use Rattle.lpt_share.specs.Turns.{Adds, Begin, Follow, IsAsked, sender_event};
 
 use crate::held::Origin;
@@ -144,6 +144,7 @@ impl<J: Origin> Shared<J> {
     }
 
     // One call of a turn, which the gate is told of where it is accepted. A refusal is none.
+    #[tactic(auto, using(crate::proofs::TurnLemmas::refused))]
     pub(crate) fn ask<R: Wait, G: Gate>(
         &self,
         rt: &R,
@@ -159,22 +160,35 @@ impl<J: Origin> Shared<J> {
                 gate.pass(log.seat, point);
                 Ok(Some(done.reply))
             }
-            Err(CallFault::Refused(refused)) => {
-                ended(refused.fault)?;
-                Ok(None)
+            Err(fault) => {
+                let ends = failed(&fault);
+                drop(fault);
+                ends
             }
-            Err(CallFault::Torn(_length, _event)) => Err(ShareFault::Torn),
-            Err(CallFault::Memory(_event)) => Err(ShareFault::Memory),
         }
     }
 }
 
-// How a turn ends at a call that was refused for this reason: only want of memory is a fault.
-pub(crate) fn ended(fault: StepFault) -> Result<(), ShareFault> {
+// How a turn ends at a call that did nothing.
+fn failed<T>(fault: &CallFault) -> Result<Option<T>, ShareFault>
+    ensures { IfOk result (λ answer. answer ≡ None) }
+{
+    match fault {
+        CallFault::Refused(refused) => ended(refused.fault),
+        CallFault::Torn(_length, _event) => Err(ShareFault::Torn),
+        CallFault::Memory(_event) => Err(ShareFault::Memory),
+    }
+}
+
+// How a turn ends at a call that was refused for this reason: with no answer, and only want of memory
+// is a fault.
+pub(crate) fn ended<T>(fault: StepFault) -> Result<Option<T>, ShareFault>
+    ensures { IfOk result (λ answer. answer ≡ None) }
+{
     if fault == StepFault::Memory {
         return Err(ShareFault::Memory);
     }
-    Ok(())
+    Ok(None)
 }
 
 // The node that receives what a lane takes.

@@ -125,6 +125,7 @@ fn next_place<J: Origin>(world: &Held<J>, log: &SeatLog) -> Result<u64, ShareFau
 }
 
 // Takes a packet under the lock.
+#[tactic(auto, using(crate::proofs::TurnLemmas::refused))]
 fn take<J: Origin>(
     world: &mut Held<J>,
     log: &mut SeatLog,
@@ -143,13 +144,15 @@ fn take<J: Origin>(
         }
         Err(refused) => {
             log.seen = place;
-            ended(refused.fault)?;
-            Ok(None)
+            let fault = refused.fault;
+            drop(refused);
+            ended(fault)
         }
     }
 }
 
 // Delivers a packet under the lock.
+#[tactic(auto, using(crate::proofs::TurnLemmas::refused))]
 fn deliver<J: Origin>(
     world: &mut Held<J>,
     log: &mut SeatLog,
@@ -167,13 +170,13 @@ fn deliver<J: Origin>(
         }
         Err((fault, _parsed)) => {
             log.seen = place;
-            ended(fault)?;
-            Ok(None)
+            ended(fault)
         }
     }
 }
 
 // Claims a job under the lock.
+#[tactic(auto, using(crate::proofs::TurnLemmas::refused))]
 fn claim<J: Origin>(
     world: &mut Held<J>,
     log: &mut SeatLog,
@@ -193,13 +196,13 @@ fn claim<J: Origin>(
         }
         Err(refused) => {
             log.seen = place;
-            ended(refused.fault)?;
-            Ok(None)
+            ended(refused.fault)
         }
     }
 }
 
 // Commits a job under the lock. Where it is refused, the preparation is given up.
+#[tactic(auto, using(crate::proofs::TurnLemmas::refused))]
 fn commit<J: Origin>(
     world: &mut Held<J>,
     log: &mut SeatLog,
@@ -224,8 +227,7 @@ fn commit<J: Origin>(
         Err((fault, prepared)) => {
             prepared.abandon();
             log.seen = place;
-            ended(fault)?;
-            Ok(None)
+            ended(fault)
         }
     }
 }
