@@ -22,7 +22,7 @@ const LAST_OCTET_LATER: [u8; 18] = [
 
 /// A message is released while a lane has a copy of its second part in its hand. Its transaction is
 /// retired once its sender is closed and no packet of it is left, and its name is used again.
-const RETIRING: [Row; 26] = [
+static RETIRING: [Row; 26] = [
     Row::OpensUp(20, 3),
     Row::PartUp(1, 0),
     Row::PartUp(2, 1),
@@ -53,7 +53,7 @@ const RETIRING: [Row; 26] = [
 
 /// A load is claimed before the spacecraft starts anew: its reading comes too late, there is no request
 /// to be claimed, and nothing was loaded.
-const STARTING_ANEW: [Row; 7] = [
+static STARTING_ANEW: [Row; 7] = [
     Row::Sends(Does::Plain(0, 2, &LOAD), 0),
     Row::Takes(S1, 0),
     Row::Gives(S1, Outcome::PlainReleased(27)),

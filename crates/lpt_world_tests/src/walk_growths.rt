@@ -54,7 +54,7 @@ const CHECKED: [u8; 29] = [
 
 /// Two of three parts come, the second a tick later. What they wait for is overdue two ticks after
 /// that; ground is told, and its sender is closed.
-const EXPIRY: [Row; 18] = [
+static EXPIRY: [Row; 18] = [
     Row::OpensUp(20, 3),
     Row::PartUp(1, 0),
     Row::PartUp(2, 1),
@@ -92,7 +92,7 @@ fn expiry(rt: &impl Abort, alloc: Global) -> Result<bool, Fail> {
 
 /// A load is refused for the checksum of its second area; one is carried out, and one is refused since
 /// it goes past the end.
-const REFUSALS: [Row; 20] = [
+static REFUSALS: [Row; 20] = [
     Row::Sends(Does::Plain(0, 2, &WRONG_CHECKSUM), 0),
     Row::Takes(S1, 0),
     Row::Gives(S1, Outcome::PlainReleased(37)),
@@ -130,7 +130,7 @@ fn refusals(rt: &impl Abort, alloc: Global) -> Result<bool, Fail> {
 }
 
 /// A dump is answered by a packet, and one of an octet more by a message of four parts.
-const DUMPS: [Row; 24] = [
+static DUMPS: [Row; 24] = [
     Row::Sends(Does::Plain(0, 5, &TWO), 0),
     Row::Takes(S1, 0),
     Row::Gives(S1, Outcome::PlainReleased(21)),
@@ -168,7 +168,7 @@ fn dumps(rt: &impl Abort, alloc: Global) -> Result<bool, Fail> {
 }
 
 /// A check that asks for all reports has four.
-const CHECKS: [Row; 14] = [
+static CHECKS: [Row; 14] = [
     Row::Sends(Does::Plain(15, 9, &CHECK), 0),
     Row::Takes(S1, 0),
     Row::Gives(S1, Outcome::PlainReleased(21)),
