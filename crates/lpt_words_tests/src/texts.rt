@@ -144,29 +144,30 @@ fn prints_each_outcome(rt: HostRuntime) {
     }
 }
 
+/// The octets of packets and of memory 1 from address 16 on, with what is printed.
+static PACKETS: [(u64, Option<&[u8]>, &str); 3] = [
+    (0, Some(&[0x18, 0x64, 0xc0, 0x00]), "packet 0 1864c000\n"),
+    (0, Some(&[]), "packet 0 -\n"),
+    (9, None, "packet 9 none\n"),
+];
+
+static MEMORIES: [(Option<&[u8]>, &str); 3] = [
+    (Some(&[0x00, 0xff]), "memory 1 16 00ff\n"),
+    (Some(&[]), "memory 1 16 -\n"),
+    (None, "memory 1 16 none\n"),
+];
+
 #[test]
 fn prints_what_a_world_shows(rt: HostRuntime) {
     let alloc = rt.alloc();
-    assert!(rt; is(print_journal(alloc, 10), "journal 10\n"));
-    for (number, octets, text) in [
-        (
-            0,
-            Some([0x18, 0x64, 0xc0, 0x00].as_slice()),
-            "packet 0 1864c000\n",
-        ),
-        (0, Some(&[]), "packet 0 -\n"),
-        (9, None, "packet 9 none\n"),
-    ] {
-        assert!(rt; is(print_packet(alloc, number, octets), text));
+    prints(&rt, print_journal(alloc, 10), "journal 10\n");
+    for (number, octets, text) in &PACKETS {
+        prints(&rt, print_packet(alloc, *number, *octets), text);
     }
-    for (octets, text) in [
-        (Some([0x00, 0xff].as_slice()), "memory 1 16 00ff\n"),
-        (Some(&[]), "memory 1 16 -\n"),
-        (None, "memory 1 16 none\n"),
-    ] {
-        assert!(rt; is(print_memory(alloc, 1, 16, octets), text));
+    for (octets, text) in &MEMORIES {
+        prints(&rt, print_memory(alloc, 1, 16, *octets), text);
     }
-    assert!(rt; is(print_none(alloc), "none\n"));
+    prints(&rt, print_none(alloc), "none\n");
 }
 
 #[test]
