@@ -82,7 +82,7 @@ fn decodes_a_verification_report(rt: HostRuntime) {
     assert!(rt; is(print_decoded(rt.alloc(), &ACCEPTED, 8), text, false));
 }
 
-/// The bodies of reports that an execution couldn't start, with code 5 and cut short before the code.
+/// The bodies of reports that an execution couldn't start, with code 5 and cut short before it.
 const NOT_STARTED: [(&[u8], &str); 2] = [
     (
         &[0x18, 0x64, 0xc0, 0x00, 0x00, 0x05],

@@ -14,3 +14,5 @@ mod lines;
 mod settings;
 #[cfg(test)]
 mod texts;
+#[cfg(test)]
+mod unreadable;

@@ -103,7 +103,7 @@ fn reads_each_key(rt: HostRuntime) {
     assert!(rt; config_in(rt.alloc(), text) == Ok(expected));
 }
 
-const ENDS: [(&'static str, Config); 14] = [
+const ENDS: [(&str, Config); 14] = [
     (
         "apid = 0",
         Config {
@@ -209,7 +209,7 @@ fn reads_the_ends_of_each_range(rt: HostRuntime) {
     gives(&rt, rt.alloc(), &ENDS);
 }
 
-const FORMS: [(&'static str, Config); 6] = [
+const FORMS: [(&str, Config); 6] = [
     (
         "apid = 0x7FE",
         Config {
