@@ -11,6 +11,8 @@ mod decodings;
 #[cfg(test)]
 mod lines;
 #[cfg(test)]
+mod memories;
+#[cfg(test)]
 mod settings;
 #[cfg(test)]
 mod texts;
