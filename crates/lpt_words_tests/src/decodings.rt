@@ -1,9 +1,9 @@
 //! Whole packets with what they decode to, worked out by hand.
 
-use lpt_packet::{Packet, PacketKind, write_packet};
+use lpt_packet::{Octets, Packet, PacketKind, write_packet};
 use lpt_print::{Decoded, print_decoded};
 use lpt_pus::{TmHead, write_tm};
-use std::alloc::AllocError;
+use std::alloc::{AllocError, Global};
 use std::test::Fail;
 
 /// A telecommand with the first part of a message: identifier 7, part 1, octets 00 to 07.
@@ -75,35 +75,42 @@ fn decodes_octets(rt: HostRuntime) {
 }
 
 #[test]
-fn decodes_verification_reports(rt: HostRuntime) -> Result<(), Fail> {
-    let alloc = rt.alloc();
-    // Reports that an execution couldn't start, with code 5 and cut short before the code.
-    let head = TmHead::new(100, 0, 0, 1, 4, 0, 1, 0).ok_or("no head")?;
-    let not_started = write_tm(alloc, &head, &[0x18, 0x64, 0xc0, 0x00, 0x00, 0x05])?;
-    let cut_short = write_tm(alloc, &head, &[0x18, 0x64, 0xc0, 0x00])?;
-    let cases = [
-        (
-            ACCEPTED.as_slice(),
-            "tm apid 100 count 0 status 0 service 1 subtype 1 counter 0 destination 1 time 0\n\
-            body 1864c000\n\
-            report request 1864c000\n",
-        ),
-        (
-            not_started.as_slice(),
-            "tm apid 100 count 0 status 0 service 1 subtype 4 counter 0 destination 1 time 0\n\
-            body 1864c0000005\n\
-            report request 1864c000 code 5\n",
-        ),
-        (
-            cut_short.as_slice(),
-            "tm apid 100 count 0 status 0 service 1 subtype 4 counter 0 destination 1 time 0\n\
-            body 1864c000\n",
-        ),
-    ];
-    for (octets, text) in cases {
-        assert!(rt; is(print_decoded(alloc, octets, 8), text, false), "{text}");
+fn decodes_a_verification_report(rt: HostRuntime) {
+    let text = "tm apid 100 count 0 status 0 service 1 subtype 1 counter 0 destination 1 time 0\n\
+        body 1864c000\n\
+        report request 1864c000\n";
+    assert!(rt; is(print_decoded(rt.alloc(), &ACCEPTED, 8), text, false));
+}
+
+/// The bodies of reports that an execution couldn't start, with code 5 and cut short before it.
+const NOT_STARTED: [(&[u8], &str); 2] = [
+    (
+        &[0x18, 0x64, 0xc0, 0x00, 0x00, 0x05],
+        "tm apid 100 count 0 status 0 service 1 subtype 4 counter 0 destination 1 time 0\n\
+        body 1864c0000005\n\
+        report request 1864c000 code 5\n",
+    ),
+    (
+        &[0x18, 0x64, 0xc0, 0x00],
+        "tm apid 100 count 0 status 0 service 1 subtype 4 counter 0 destination 1 time 0\n\
+        body 1864c000\n",
+    ),
+];
+
+#[test]
+fn decodes_reports_of_what_could_not_start(rt: HostRuntime) -> Result<(), Fail> {
+    for (body, text) in &NOT_STARTED {
+        let octets = not_started(rt.alloc(), body)?;
+        let decoded = print_decoded(rt.alloc(), octets.as_slice(), 8);
+        assert!(rt; is(decoded, text, false), "{text}");
     }
     Ok(())
+}
+
+// The packet of a report that an execution couldn't start.
+fn not_started(alloc: Global, body: &[u8]) -> Result<Octets, Fail> {
+    let head = TmHead::new(100, 0, 0, 1, 4, 0, 1, 0).ok_or("no head")?;
+    Ok(write_tm(alloc, &head, body)?)
 }
 
 #[test]

@@ -11,6 +11,10 @@ mod decodings;
 #[cfg(test)]
 mod lines;
 #[cfg(test)]
+mod memories;
+#[cfg(test)]
 mod settings;
 #[cfg(test)]
 mod texts;
+#[cfg(test)]
+mod unreadable;

@@ -9,6 +9,7 @@ use lpt_print::{
     print_restarted, print_retired, print_stale, print_took, print_unreadable,
 };
 use std::alloc::{AllocError, Global};
+use std::process::Abort;
 
 // Whether this text is printed.
 fn is(printed: Result<String, AllocError>, text: &str) -> bool {
@@ -18,135 +19,155 @@ fn is(printed: Result<String, AllocError>, text: &str) -> bool {
     }
 }
 
+// Asserts that this text is printed.
+fn prints(rt: &impl Abort, printed: Result<String, AllocError>, text: &str) {
+    assert!(rt; is(printed, text), "{text}");
+}
+
 #[test]
 fn prints_what_an_event_did(rt: HostRuntime) {
     let alloc = rt.alloc();
-    assert!(rt;
-        is(
-            print_opened(alloc, Direction::Up, 7, 3),
-            "opened up 7 parts 3\n"
-        )
+    prints(
+        &rt,
+        print_opened(alloc, Direction::Up, 7, 3),
+        "opened up 7 parts 3\n",
     );
-    assert!(rt; is(print_put(alloc, 0), "put 0\n"));
-    assert!(rt; is(print_took(alloc, 2), "took 2\n"));
-    assert!(rt; is(print_finished(alloc, Direction::Up, 7), "finished up 7\n"));
-    assert!(rt;
-        is(
-            print_expired(alloc, Direction::Down, 65535),
-            "expired down 65535\n"
-        )
+    prints(&rt, print_put(alloc, 0), "put 0\n");
+    prints(&rt, print_took(alloc, 2), "took 2\n");
+    prints(
+        &rt,
+        print_finished(alloc, Direction::Up, 7),
+        "finished up 7\n",
     );
-    assert!(rt; is(print_clock(alloc, 4_294_967_295), "clock 4294967295\n"));
-    assert!(rt;
-        is(
-            print_refused(alloc, StepFault::NotHeld),
-            "refused 47 NotHeld\n"
-        )
+    prints(
+        &rt,
+        print_expired(alloc, Direction::Down, 65535),
+        "expired down 65535\n",
     );
-    assert!(rt; is(print_unreadable(alloc, 2), "line 2: unreadable\n"));
+    prints(&rt, print_clock(alloc, 4_294_967_295), "clock 4294967295\n");
+    prints(
+        &rt,
+        print_refused(alloc, StepFault::NotHeld),
+        "refused 47 NotHeld\n",
+    );
+    prints(&rt, print_unreadable(alloc, 2), "line 2: unreadable\n");
 }
 
 #[test]
 fn prints_retirement_and_new_starts(rt: HostRuntime) {
     let alloc = rt.alloc();
-    assert!(rt; is(print_retired(alloc, Direction::Down, 3), "retired down 3\n"));
-    assert!(rt; is(print_stale(alloc, 0, 4), "stale 0 4\n"));
-    for (side, text) in [
-        (Side::Craft, "restarted craft 1\n"),
-        (Side::Ground, "restarted ground 1\n"),
-    ] {
-        assert!(rt; is(print_restarted(alloc, side, 1), text));
-    }
-    for (fault, text) in [
-        (StepFault::NotClear, "refused 53 NotClear\n"),
-        (StepFault::StillOpen, "refused 55 StillOpen\n"),
-    ] {
-        assert!(rt; is(print_refused(alloc, fault), text));
-    }
+    prints(
+        &rt,
+        print_retired(alloc, Direction::Down, 3),
+        "retired down 3\n",
+    );
+    prints(&rt, print_stale(alloc, 0, 4), "stale 0 4\n");
+    prints(
+        &rt,
+        print_restarted(alloc, Side::Craft, 1),
+        "restarted craft 1\n",
+    );
+    prints(
+        &rt,
+        print_restarted(alloc, Side::Ground, 1),
+        "restarted ground 1\n",
+    );
+    prints(
+        &rt,
+        print_refused(alloc, StepFault::NotClear),
+        "refused 53 NotClear\n",
+    );
+    prints(
+        &rt,
+        print_refused(alloc, StepFault::StillOpen),
+        "refused 55 StillOpen\n",
+    );
 }
+
+const OUTCOMES: [(Direction, Outcome, &str); 14] = [
+    (Direction::Up, Outcome::Kept(7, 3), "kept up 7 3\n"),
+    (Direction::Up, Outcome::Again(7, 1), "again up 7 1\n"),
+    (
+        Direction::Up,
+        Outcome::Released(7, 20),
+        "released up 7 20\n",
+    ),
+    (
+        Direction::Down,
+        Outcome::Released(65535, 65542),
+        "released down 65535 65542\n",
+    ),
+    (Direction::Up, Outcome::PlainReleased(27), "plain 27\n"),
+    (Direction::Down, Outcome::ReportNoted(1, 4), "report 1 4\n"),
+    (
+        Direction::Down,
+        Outcome::AbortNoted(7, Reason::Expired),
+        "abort 7 1\n",
+    ),
+    (
+        Direction::Up,
+        Outcome::Broken(7, Reason::Conflict),
+        "broken up 7 3\n",
+    ),
+    (
+        Direction::Up,
+        Outcome::Ignored(Why::Unreadable),
+        "ignored Unreadable\n",
+    ),
+    (Direction::Up, Outcome::Ignored(Why::Idle), "ignored Idle\n"),
+    (
+        Direction::Up,
+        Outcome::Ignored(Why::ForeignApid),
+        "ignored ForeignApid\n",
+    ),
+    (
+        Direction::Up,
+        Outcome::Ignored(Why::BadPart),
+        "ignored BadPart\n",
+    ),
+    (
+        Direction::Up,
+        Outcome::Ignored(Why::Closed),
+        "ignored Closed\n",
+    ),
+    (
+        Direction::Up,
+        Outcome::Ignored(Why::NoRoom),
+        "ignored NoRoom\n",
+    ),
+];
 
 #[test]
 fn prints_each_outcome(rt: HostRuntime) {
-    let cases = [
-        (Direction::Up, Outcome::Kept(7, 3), "kept up 7 3\n"),
-        (Direction::Up, Outcome::Again(7, 1), "again up 7 1\n"),
-        (
-            Direction::Up,
-            Outcome::Released(7, 20),
-            "released up 7 20\n",
-        ),
-        (
-            Direction::Down,
-            Outcome::Released(65535, 65542),
-            "released down 65535 65542\n",
-        ),
-        (Direction::Up, Outcome::PlainReleased(27), "plain 27\n"),
-        (Direction::Down, Outcome::ReportNoted(1, 4), "report 1 4\n"),
-        (
-            Direction::Down,
-            Outcome::AbortNoted(7, Reason::Expired),
-            "abort 7 1\n",
-        ),
-        (
-            Direction::Up,
-            Outcome::Broken(7, Reason::Conflict),
-            "broken up 7 3\n",
-        ),
-        (
-            Direction::Up,
-            Outcome::Ignored(Why::Unreadable),
-            "ignored Unreadable\n",
-        ),
-        (Direction::Up, Outcome::Ignored(Why::Idle), "ignored Idle\n"),
-        (
-            Direction::Up,
-            Outcome::Ignored(Why::ForeignApid),
-            "ignored ForeignApid\n",
-        ),
-        (
-            Direction::Up,
-            Outcome::Ignored(Why::BadPart),
-            "ignored BadPart\n",
-        ),
-        (
-            Direction::Up,
-            Outcome::Ignored(Why::Closed),
-            "ignored Closed\n",
-        ),
-        (
-            Direction::Up,
-            Outcome::Ignored(Why::NoRoom),
-            "ignored NoRoom\n",
-        ),
-    ];
-    for (direction, outcome, text) in cases {
-        assert!(rt; is(print_outcome(rt.alloc(), direction, outcome), text));
+    for (direction, outcome, text) in &OUTCOMES {
+        assert!(rt; is(print_outcome(rt.alloc(), *direction, *outcome), text));
     }
 }
+
+/// The octets of packets and of memory 1 from address 16 on, with what is printed.
+static PACKETS: [(u64, Option<&[u8]>, &str); 3] = [
+    (0, Some(&[0x18, 0x64, 0xc0, 0x00]), "packet 0 1864c000\n"),
+    (0, Some(&[]), "packet 0 -\n"),
+    (9, None, "packet 9 none\n"),
+];
+
+static MEMORIES: [(Option<&[u8]>, &str); 3] = [
+    (Some(&[0x00, 0xff]), "memory 1 16 00ff\n"),
+    (Some(&[]), "memory 1 16 -\n"),
+    (None, "memory 1 16 none\n"),
+];
 
 #[test]
 fn prints_what_a_world_shows(rt: HostRuntime) {
     let alloc = rt.alloc();
-    assert!(rt; is(print_journal(alloc, 10), "journal 10\n"));
-    for (number, octets, text) in [
-        (
-            0,
-            Some([0x18, 0x64, 0xc0, 0x00].as_slice()),
-            "packet 0 1864c000\n",
-        ),
-        (0, Some(&[]), "packet 0 -\n"),
-        (9, None, "packet 9 none\n"),
-    ] {
-        assert!(rt; is(print_packet(alloc, number, octets), text));
+    prints(&rt, print_journal(alloc, 10), "journal 10\n");
+    for (number, octets, text) in &PACKETS {
+        prints(&rt, print_packet(alloc, *number, *octets), text);
     }
-    for (octets, text) in [
-        (Some([0x00, 0xff].as_slice()), "memory 1 16 00ff\n"),
-        (Some(&[]), "memory 1 16 -\n"),
-        (None, "memory 1 16 none\n"),
-    ] {
-        assert!(rt; is(print_memory(alloc, 1, 16, octets), text));
+    for (octets, text) in &MEMORIES {
+        prints(&rt, print_memory(alloc, 1, 16, *octets), text);
     }
-    assert!(rt; is(print_none(alloc), "none\n"));
+    prints(&rt, print_none(alloc), "none\n");
 }
 
 #[test]

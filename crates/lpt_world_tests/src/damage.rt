@@ -7,7 +7,7 @@ use lpt_link::Lane::S1;
 use lpt_node::{Outcome, Why};
 use lpt_packet::Direction::{self, Down, Up};
 use lpt_world::{Answer, Event, StepFault, World};
-use std::alloc::Global;
+use std::alloc::{AllocError, Global};
 use std::process::Abort;
 use std::test::Fail;
 
@@ -26,16 +26,40 @@ fn what_noise_left_is_ignored(rt: HostRuntime) -> Result<(), Fail> {
     came
 }
 
+/// What the noise leaves in a direction, and what the world gives for it.
+type Row<'a> = (Direction, &'a [u8], Result<Answer, StepFault>);
+
+const DAMAGED: [Row; 2] = [
+    (Up, &LAST_CHANGED, Ok(Answer::Put(0))),
+    (Down, &[], Ok(Answer::Put(1))),
+];
+
 fn ignores(rt: &impl Abort, alloc: Global, world: &mut World) -> Result<(), Fail> {
-    let changed = damage(alloc, world, Up, &LAST_CHANGED)?;
-    let nothing = damage(alloc, world, Down, &[])?;
-    let front = damage(alloc, world, Up, &FIRST_UP[..12])?;
-    assert!(rt; changed == Ok(Answer::Put(0)) && nothing == Ok(Answer::Put(1)));
-    assert!(rt; front == Ok(Answer::Put(2)));
+    damages(rt, alloc, world, &DAMAGED)?;
+    damages(
+        rt,
+        alloc,
+        world,
+        &[(Up, &FIRST_UP[..12], Ok(Answer::Put(2)))],
+    )?;
+    assert!(rt; is_ignored(world));
+    Ok(())
+}
+
+// Whether packet 0 is taken, and ignored at its delivery.
+fn is_ignored(world: &mut World) -> bool {
     let taken = answer_of(world, Event::Take(S1, 0));
     let delivered = answer_of(world, Event::Deliver(S1));
     let ignored = Answer::Delivered(Outcome::Ignored(Why::Unreadable));
-    assert!(rt; taken == Ok(Answer::Took(0)) && delivered == Ok(ignored));
+    taken == Ok(Answer::Took(0)) && delivered == Ok(ignored)
+}
+
+// Asserts what a world gives for noise, one row after another.
+fn damages(rt: &impl Abort, alloc: Global, world: &mut World, rows: &[Row]) -> Result<(), Fail> {
+    for (place, row) in rows.iter().enumerate() {
+        let right = comes(alloc, world, row)?;
+        assert!(rt; right, "at row {place}");
+    }
     Ok(())
 }
 
@@ -43,31 +67,25 @@ fn ignores(rt: &impl Abort, alloc: Global, world: &mut World) -> Result<(), Fail
 fn whole_packets_are_refused(rt: HostRuntime) -> Result<(), Fail> {
     let alloc = rt.alloc();
     let mut world = new_world(alloc, CONFIG)?;
-    let came = refuses(&rt, alloc, &mut world);
+    let came = damages(&rt, alloc, &mut world, &REFUSED);
     drop(world);
     came
 }
 
-// A part, a packet of a foreign APID, an idle one, telemetry up, and 32 octets, one too many.
-fn refuses(rt: &impl Abort, alloc: Global, world: &mut World) -> Result<(), Fail> {
-    let part = damage(alloc, world, Up, &FIRST_UP)?;
-    let foreign = damage(alloc, world, Up, &FOREIGN)?;
-    let idle = damage(alloc, world, Down, &IDLE)?;
-    let report = damage(alloc, world, Up, &REPORT)?;
-    let long = damage(alloc, world, Up, &[0; 32])?;
-    let whole = Err(StepFault::LooksWhole);
-    assert!(rt; part == whole && foreign == whole && idle == whole && report == whole);
-    assert!(rt; long == Err(StepFault::Long));
-    Ok(())
-}
+const WHOLE: Result<Answer, StepFault> = Err(StepFault::LooksWhole);
 
-// What a world gives for noise that leaves these octets.
-fn damage(
-    alloc: Global,
-    world: &mut World,
-    direction: Direction,
-    octets: &[u8],
-) -> Result<Result<Answer, StepFault>, Fail> {
+/// A part, a packet of a foreign APID, an idle one, telemetry up, and 32 octets, one too many.
+const REFUSED: [Row; 5] = [
+    (Up, &FIRST_UP, WHOLE),
+    (Up, &FOREIGN, WHOLE),
+    (Down, &IDLE, WHOLE),
+    (Up, &REPORT, WHOLE),
+    (Up, &[0; 32], Err(StepFault::Long)),
+];
+
+// Whether a world gives for noise what its row says.
+fn comes(alloc: Global, world: &mut World, row: &Row) -> Result<bool, AllocError> {
+    let (direction, octets, wanted) = *row;
     let octets = octets_of(alloc, octets)?;
-    Ok(answer_of(world, Event::Damage(direction, octets)))
+    Ok(answer_of(world, Event::Damage(direction, octets)) == wanted)
 }

@@ -19,10 +19,9 @@ fn once(shown: bool, messages: &[Message]) -> &[Message] {
 
 // Whether a world shows the first events of the first path, so many, and nothing else.
 fn stands(world: &World, done: usize) -> bool {
-    let rows = first_path();
     let scene = Scene {
         config: CONFIG,
-        rows: rows.get(..done).unwrap_or(&rows),
+        rows: FIRST_PATH.get(..done).unwrap_or(&FIRST_PATH),
         opened: once(done > 0, &[(0, Up, 7, 20)]),
         released: once(done > 9, &[(9, Up, 7, 20)]),
         packets: &[(0, (done > 1).then_some(FIRST_UP.as_slice()))],
@@ -108,8 +107,8 @@ fn walk(rt: &impl Abort, alloc: Global) -> Result<bool, Fail> {
 
 fn walks(rt: &impl Abort, alloc: Global, world: &mut World, failed: bool) -> bool {
     let mut failed = failed;
-    for (done, row) in first_path().iter().enumerate() {
-        match comes(alloc, world, done, row) {
+    for (done, line) in FIRST_PATH.iter().enumerate() {
+        match comes(alloc, world, done, &row_of(*line)) {
             Came::Nothing => return true,
             Came::Answered(right) => assert!(rt; right, "at row {done}"),
             Came::AtTheSecondTry(right) => {

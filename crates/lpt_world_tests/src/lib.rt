@@ -4,6 +4,7 @@
 //! makes a node or a world makes one fallible call with it, its last, and then hands it to `drop`; what
 //! else can fail is done before, or by a function that borrows it. Each way out of a function drops what
 //! it owns, which is proved each time, field by field; what goes to `drop` is proved once for its type.
+//! Rows stand in statics: those of a table in a function are proved one by one.
 #![tactic(auto)]
 
 #[cfg(test)]

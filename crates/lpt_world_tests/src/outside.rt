@@ -2,7 +2,7 @@
 
 use crate::packets::{FIRST_UP, LAST_UP};
 use crate::readers::runs;
-use crate::scenes::{CONFIG, new_world, opens, sends};
+use crate::scenes::{CONFIG, Line, new_world};
 use crate::stations::octets_of;
 use lpt_link::Lane::S1;
 use lpt_node::{Outcome, Parsed, Side};
@@ -22,9 +22,11 @@ fn what_was_read_outside_is_delivered(rt: HostRuntime) -> Result<(), Fail> {
     came
 }
 
+static SENT: [Line; 2] = [Line::Opens(Up, 7, 20, 3), Line::Sends(Up, 7, 1, 0)];
+
 // The first part is delivered, and the last part isn't, of which the lane has nothing.
 fn delivers(rt: &impl Abort, alloc: Global, world: &mut World) -> Result<(), Fail> {
-    runs(alloc, world, &[opens(Up, 7, 20, 3), sends(Up, 7, 1, 0)])?;
+    runs(alloc, world, &SENT)?;
     let other = octets_of(alloc, &LAST_UP)?;
     let octets = taken_out(world)?;
     assert!(rt; octets.as_slice() == FIRST_UP.as_slice());

@@ -15,16 +15,22 @@ use std::test::Fail;
 #[test]
 fn runs_events_up_to_the_first_that_is_refused(rt: HostRuntime) -> Result<(), Fail> {
     let alloc = rt.alloc();
-    let whole = run(alloc, &first_path())?;
+    let whole = run(alloc, &FIRST_PATH)?;
     assert!(rt; whole == (10, None));
-    let rows = [opens(Up, 7, 20, 3), sends(Up, 8, 1, 0), sends(Up, 7, 1, 0)];
-    let front = run(alloc, &rows)?;
+    let front = run(alloc, &NOT_OPEN)?;
     assert!(rt; front == (1, Some(StepFault::NotOpen)));
     Ok(())
 }
 
+/// The second row isn't accepted.
+static NOT_OPEN: [Line; 3] = [
+    Line::Opens(Up, 7, 20, 3),
+    Line::Sends(Up, 8, 1, 0),
+    Line::Sends(Up, 7, 1, 0),
+];
+
 // Runs a new world through the events of the rows, and gives how many it did and why not more.
-fn run(alloc: Global, rows: &[Row]) -> Result<(u64, Option<StepFault>), Fail> {
+fn run(alloc: Global, rows: &[Line]) -> Result<(u64, Option<StepFault>), Fail> {
     let mut world = new_world(alloc, CONFIG)?;
     let came = runs(alloc, &mut world, rows);
     drop(world);
@@ -35,11 +41,11 @@ fn run(alloc: Global, rows: &[Row]) -> Result<(u64, Option<StepFault>), Fail> {
 pub(crate) fn runs(
     alloc: Global,
     world: &mut World,
-    rows: &[Row],
+    rows: &[Line],
 ) -> Result<(u64, Option<StepFault>), Fail> {
     let mut events = Vec::new(alloc);
-    for row in rows {
-        events.push(event(alloc, row.asked)?)?;
+    for line in rows {
+        events.push(event(alloc, row_of(*line).asked)?)?;
     }
     let end = world.run(events.as_slice());
     Ok((end.done, end.refused))
@@ -59,14 +65,15 @@ fn shows_its_configuration_the_link_and_the_ends(rt: HostRuntime) -> Result<(), 
     came
 }
 
+static SHOWN: [Line; 4] = [
+    Line::Opens(Up, 7, 20, 3),
+    Line::Sends(Up, 7, 1, 0),
+    Line::Sends(Up, 7, 2, 1),
+    Line::Takes(Lane::S1, 1),
+];
+
 fn shows_what_was_put(rt: &impl Abort, alloc: Global, world: &mut World) -> Result<(), Fail> {
-    let rows = [
-        opens(Up, 7, 20, 3),
-        sends(Up, 7, 1, 0),
-        sends(Up, 7, 2, 1),
-        takes(Lane::S1, 1),
-    ];
-    runs(alloc, world, &rows)?;
+    runs(alloc, world, &SHOWN)?;
     assert!(rt; world.config() == CONFIG);
     assert!(rt; shows_the_link(world) && shows_the_ends(world));
     Ok(())

@@ -164,19 +164,20 @@ const WHOLE: Outcome = PlainReleased(13);
 
 const ABORTED: Outcome = AbortNoted(7, Reason::Expired);
 
+const OTHERS: [Other; 8] = [
+    (Side::Craft, 100, 8, &IDLE, Ignored(Why::Idle)),
+    (Side::Craft, 101, 8, &FIRST_UP, Ignored(Why::ForeignApid)),
+    (Side::Craft, 100, 8, &EXPIRED, Ignored(Why::Unreadable)),
+    (Side::Craft, 100, 9, &FIRST_UP, Ignored(Why::BadPart)),
+    (Side::Craft, 100, 8, &PLAIN, WHOLE),
+    (Side::Ground, 100, 8, &PLAIN, Ignored(Why::Unreadable)),
+    (Side::Ground, 100, 8, &REPORT, ReportNoted(1, 1)),
+    (Side::Ground, 100, 8, &EXPIRED, ABORTED),
+];
+
 #[test]
 fn other_packets_are_no_parts(rt: HostRuntime) -> Result<(), Fail> {
-    let rows: [Other; 8] = [
-        (Side::Craft, 100, 8, &IDLE, Ignored(Why::Idle)),
-        (Side::Craft, 101, 8, &FIRST_UP, Ignored(Why::ForeignApid)),
-        (Side::Craft, 100, 8, &EXPIRED, Ignored(Why::Unreadable)),
-        (Side::Craft, 100, 9, &FIRST_UP, Ignored(Why::BadPart)),
-        (Side::Craft, 100, 8, &PLAIN, WHOLE),
-        (Side::Ground, 100, 8, &PLAIN, Ignored(Why::Unreadable)),
-        (Side::Ground, 100, 8, &REPORT, ReportNoted(1, 1)),
-        (Side::Ground, 100, 8, &EXPIRED, ABORTED),
-    ];
-    for row in &rows {
+    for row in &OTHERS {
         let (side, apid, _, _, outcome) = *row;
         let right = takes(&rt, rt.alloc(), row)?;
         assert!(rt; right, "{outcome:?} on {side:?} of {apid}");

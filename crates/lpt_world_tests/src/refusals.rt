@@ -16,7 +16,7 @@ fn refuses_for_the_first_reason(rt: HostRuntime) -> Result<(), Fail> {
     };
     let scene = Scene {
         config,
-        rows: &mostly_refused(),
+        rows: &MOSTLY_REFUSED,
         opened: &[(0, Up, 7, 20)],
         released: &[],
         packets: &[(1, None)],
@@ -24,29 +24,27 @@ fn refuses_for_the_first_reason(rt: HostRuntime) -> Result<(), Fail> {
     play(&rt, rt.alloc(), &scene)
 }
 
-fn mostly_refused() -> [Row; 19] {
-    [
-        opens(Up, 7, 20, 3),
-        sends(Up, 7, 1, 0),
-        takes(S1, 0),
-        refused(0, Asked::Open(Up, 7, 8), StepFault::InUse),
-        refused(0, Asked::Open(Up, 8, 8), StepFault::Short),
-        refused(0, Asked::Open(Up, 8, 65543), StepFault::Long),
-        refused(0, Asked::Open(Up, 8, 20), StepFault::TooMany),
-        refused(0, Asked::Send(Up, 8, 0), StepFault::NotOpen),
-        refused(0, Asked::Send(Down, 7, 1), StepFault::NotOpen),
-        refused(0, Asked::Send(Up, 7, 0), StepFault::NoSuchPart),
-        refused(0, Asked::Send(Up, 7, 4), StepFault::NoSuchPart),
-        refused(0, Asked::Take(S2, 1), StepFault::NotHeld),
-        refused(0, Asked::Take(S1, 1), StepFault::HandFull),
-        refused(10, Asked::Deliver(S2), StepFault::HandEmpty),
-        refused(11, Asked::Open(Up, 7, 8), StepFault::NoSuchSeat),
-        refused(11, Asked::Send(Up, 8, 0), StepFault::NoSuchSeat),
-        refused(11, Asked::Take(S1, 1), StepFault::NoSuchSeat),
-        refused(11, Asked::Deliver(S1), StepFault::NoSuchSeat),
-        gives(S1, Outcome::Kept(7, 1)),
-    ]
-}
+static MOSTLY_REFUSED: [Line; 19] = [
+    Line::Opens(Up, 7, 20, 3),
+    Line::Sends(Up, 7, 1, 0),
+    Line::Takes(S1, 0),
+    Line::Refused(0, Asked::Open(Up, 7, 8), StepFault::InUse),
+    Line::Refused(0, Asked::Open(Up, 8, 8), StepFault::Short),
+    Line::Refused(0, Asked::Open(Up, 8, 65543), StepFault::Long),
+    Line::Refused(0, Asked::Open(Up, 8, 20), StepFault::TooMany),
+    Line::Refused(0, Asked::Send(Up, 8, 0), StepFault::NotOpen),
+    Line::Refused(0, Asked::Send(Down, 7, 1), StepFault::NotOpen),
+    Line::Refused(0, Asked::Send(Up, 7, 0), StepFault::NoSuchPart),
+    Line::Refused(0, Asked::Send(Up, 7, 4), StepFault::NoSuchPart),
+    Line::Refused(0, Asked::Take(S2, 1), StepFault::NotHeld),
+    Line::Refused(0, Asked::Take(S1, 1), StepFault::HandFull),
+    Line::Refused(10, Asked::Deliver(S2), StepFault::HandEmpty),
+    Line::Refused(11, Asked::Open(Up, 7, 8), StepFault::NoSuchSeat),
+    Line::Refused(11, Asked::Send(Up, 8, 0), StepFault::NoSuchSeat),
+    Line::Refused(11, Asked::Take(S1, 1), StepFault::NoSuchSeat),
+    Line::Refused(11, Asked::Deliver(S1), StepFault::NoSuchSeat),
+    Line::Gives(S1, Outcome::Kept(7, 1)),
+];
 
 #[test]
 fn refuses_what_is_out_of_its_range(rt: HostRuntime) -> Result<(), Fail> {

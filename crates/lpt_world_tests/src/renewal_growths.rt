@@ -5,8 +5,8 @@
 
 use crate::packets::{LOAD, LOADING};
 use crate::scenes::CONFIG;
-use crate::steps::*;
-use crate::walking::{Does, Path, Step, walk};
+use crate::steps::Row;
+use crate::walking::{Does, Path, walk};
 use lpt_link::Lane::{S1, S2};
 use lpt_node::{Outcome, Why};
 use lpt_world::{Answer, StepFault};
@@ -20,57 +20,53 @@ const LAST_OCTET_LATER: [u8; 18] = [
     0x95, 0x44,
 ];
 
-// A message is released while a lane has a copy of its second part in its hand. Its transaction is
-// retired once its sender is closed and no packet of it is left, and its name is used again.
-fn retiring() -> [Step; 26] {
-    [
-        opens_up(20, 3),
-        sends(part_up(1), 0),
-        sends(part_up(2), 1),
-        sends(part_up(3), 2),
-        takes(S2, 1),
-        takes(S1, 0),
-        gives(S1, Outcome::Kept(7, 1)),
-        takes(S1, 1),
-        gives(S1, Outcome::Kept(7, 2)),
-        takes(S1, 2),
-        gives(S1, Outcome::Released(7, 20)),
-        loses(0),
-        loses(1),
-        loses(2),
-        (Does::Retire, Err(StepFault::StillOpen), 0),
-        (Does::Finish, Ok(Answer::Finished), 0),
-        (Does::Retire, Err(StepFault::NotClear), 0),
-        gives(S2, Outcome::Ignored(Why::Closed)),
-        (Does::Retire, Ok(Answer::Retired), 0),
-        opens_up(9, 2),
-        sends(part_up(1), 3),
-        sends(part_up(2), 4),
-        takes(S1, 3),
-        gives(S1, Outcome::Kept(7, 1)),
-        takes(S1, 4),
-        gives(S1, Outcome::Released(7, 9)),
-    ]
-}
+/// A message is released while a lane has a copy of its second part in its hand. Its transaction is
+/// retired once its sender is closed and no packet of it is left, and its name is used again.
+static RETIRING: [Row; 26] = [
+    Row::OpensUp(20, 3),
+    Row::PartUp(1, 0),
+    Row::PartUp(2, 1),
+    Row::PartUp(3, 2),
+    Row::Takes(S2, 1),
+    Row::Takes(S1, 0),
+    Row::Gives(S1, Outcome::Kept(7, 1)),
+    Row::Takes(S1, 1),
+    Row::Gives(S1, Outcome::Kept(7, 2)),
+    Row::Takes(S1, 2),
+    Row::Gives(S1, Outcome::Released(7, 20)),
+    Row::Loses(0),
+    Row::Loses(1),
+    Row::Loses(2),
+    Row::Refuses(Does::Retire, StepFault::StillOpen),
+    Row::Answers(Does::Finish, Answer::Finished, 0),
+    Row::Refuses(Does::Retire, StepFault::NotClear),
+    Row::Gives(S2, Outcome::Ignored(Why::Closed)),
+    Row::Answers(Does::Retire, Answer::Retired, 0),
+    Row::OpensUp(9, 2),
+    Row::PartUp(1, 3),
+    Row::PartUp(2, 4),
+    Row::Takes(S1, 3),
+    Row::Gives(S1, Outcome::Kept(7, 1)),
+    Row::Takes(S1, 4),
+    Row::Gives(S1, Outcome::Released(7, 9)),
+];
 
-// A load is claimed before the spacecraft starts anew: its reading comes too late, there is no request
-// to be claimed, and nothing was loaded.
-fn starting_anew() -> [Step; 7] {
-    [
-        sends(Does::Plain(0, 2, &LOAD), 0),
-        takes(S1, 0),
-        gives(S1, Outcome::PlainReleased(27)),
-        claims(0),
-        (Does::Restart, Ok(Answer::Restarted(1)), 0),
-        (Does::Commit, Ok(Answer::Stale(0, 0)), 0),
-        (Does::Claim, Err(StepFault::NoJob), 0),
-    ]
-}
+/// A load is claimed before the spacecraft starts anew: its reading comes too late, there is no request
+/// to be claimed, and nothing was loaded.
+static STARTING_ANEW: [Row; 7] = [
+    Row::Sends(Does::Plain(0, 2, &LOAD), 0),
+    Row::Takes(S1, 0),
+    Row::Gives(S1, Outcome::PlainReleased(27)),
+    Row::Claims(0),
+    Row::Answers(Does::Restart, Answer::Restarted(1), 0),
+    Row::Answers(Does::Commit, Answer::Stale(0, 0), 0),
+    Row::Refuses(Does::Claim, StepFault::NoJob),
+];
 
 fn retirement(rt: &impl Abort, alloc: Global) -> Result<bool, Fail> {
     let it = Path {
         config: CONFIG,
-        steps: &retiring(),
+        steps: &RETIRING,
         packet: (4, &LAST_OCTET_LATER),
         memory: (0, &[]),
     };
@@ -80,7 +76,7 @@ fn retirement(rt: &impl Abort, alloc: Global) -> Result<bool, Fail> {
 fn new_start(rt: &impl Abort, alloc: Global) -> Result<bool, Fail> {
     let it = Path {
         config: CONFIG,
-        steps: &starting_anew(),
+        steps: &STARTING_ANEW,
         packet: (0, &LOADING),
         memory: (16, &[0; 4]),
     };

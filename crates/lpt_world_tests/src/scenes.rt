@@ -44,65 +44,59 @@ pub(crate) type Message = (u64, Direction, Name, usize);
 #[derive(Clone, Copy)]
 pub(crate) struct Scene<'a> {
     pub(crate) config: Config,
-    pub(crate) rows: &'a [Row],
+    pub(crate) rows: &'a [Line],
     pub(crate) opened: &'a [Message],
     pub(crate) released: &'a [Message],
     /// Numbers of packets, with the octets of each that is there.
     pub(crate) packets: &'a [(u64, Option<&'a [u8]>)],
 }
 
-/// The opening of a message of so many octets, which has so many parts.
-pub(crate) fn opens(direction: Direction, id: Name, octets: usize, parts: u16) -> Row {
-    let asked = Asked::Open(direction, id, octets);
-    accepted(asked, Answer::Opened(parts))
+/// A row of a scene. Where nothing else is said, seat 3 asks.
+#[derive(Clone, Copy)]
+pub(crate) enum Line {
+    /// The opening of a message of so many octets, which has so many parts.
+    Opens(Direction, Name, usize, u16),
+    /// The sending of a part, which gets the packet of this number.
+    Sends(Direction, Name, u16, u64),
+    /// The taking of a packet.
+    Takes(Lane, u64),
+    /// The delivery of a packet that was taken.
+    Gives(Lane, Outcome),
+    /// What a seat asks for in vain.
+    Refused(u8, Asked, StepFault),
 }
 
-/// The sending of a part, which gets the packet of this number.
-pub(crate) fn sends(direction: Direction, id: Name, part: u16, number: u64) -> Row {
-    accepted(Asked::Send(direction, id, part), Answer::Put(number))
-}
-
-/// The taking of a packet.
-pub(crate) fn takes(lane: Lane, number: u64) -> Row {
-    accepted(Asked::Take(lane, number), Answer::Took(number))
-}
-
-/// The delivery of a packet that was taken.
-pub(crate) fn gives(lane: Lane, outcome: Outcome) -> Row {
-    accepted(Asked::Deliver(lane), Answer::Delivered(outcome))
-}
-
-/// What a seat asks for in vain.
-pub(crate) fn refused(seat: u8, asked: Asked, fault: StepFault) -> Row {
-    let want = Err(fault);
+/// What is asked for in a row of a scene, and what comes of it.
+pub(crate) fn row_of(line: Line) -> Row {
+    let (seat, asked, want) = match line {
+        Line::Opens(direction, id, octets, parts) => {
+            let asked = Asked::Open(direction, id, octets);
+            (3, asked, Ok(Answer::Opened(parts)))
+        }
+        Line::Sends(direction, id, part, number) => {
+            let asked = Asked::Send(direction, id, part);
+            (3, asked, Ok(Answer::Put(number)))
+        }
+        Line::Takes(lane, number) => (3, Asked::Take(lane, number), Ok(Answer::Took(number))),
+        Line::Gives(lane, outcome) => (3, Asked::Deliver(lane), Ok(Answer::Delivered(outcome))),
+        Line::Refused(seat, asked, fault) => (seat, asked, Err(fault)),
+    };
     Row { seat, asked, want }
 }
 
-// What seat 3 is given.
-fn accepted(asked: Asked, answer: Answer) -> Row {
-    let want = Ok(answer);
-    Row {
-        seat: 3,
-        asked,
-        want,
-    }
-}
-
 /// The first path: a message is opened, its three parts are sent and delivered as 3, 1, 2.
-pub(crate) fn first_path() -> [Row; 10] {
-    [
-        opens(Up, 7, 20, 3),
-        sends(Up, 7, 1, 0),
-        sends(Up, 7, 2, 1),
-        sends(Up, 7, 3, 2),
-        takes(S1, 2),
-        gives(S1, Outcome::Kept(7, 3)),
-        takes(S1, 0),
-        gives(S1, Outcome::Kept(7, 1)),
-        takes(S1, 1),
-        gives(S1, Outcome::Released(7, 20)),
-    ]
-}
+pub(crate) static FIRST_PATH: [Line; 10] = [
+    Line::Opens(Up, 7, 20, 3),
+    Line::Sends(Up, 7, 1, 0),
+    Line::Sends(Up, 7, 2, 1),
+    Line::Sends(Up, 7, 3, 2),
+    Line::Takes(S1, 2),
+    Line::Gives(S1, Outcome::Kept(7, 3)),
+    Line::Takes(S1, 0),
+    Line::Gives(S1, Outcome::Kept(7, 1)),
+    Line::Takes(S1, 1),
+    Line::Gives(S1, Outcome::Released(7, 20)),
+];
 
 /// The event that a row asks for.
 pub(crate) fn event(alloc: Global, asked: Asked) -> Result<Event, AllocError> {
@@ -183,9 +177,10 @@ pub(crate) fn play(rt: &impl Abort, alloc: Global, scene: &Scene) -> Result<(), 
 }
 
 fn plays(rt: &impl Abort, alloc: Global, world: &mut World, scene: &Scene) -> Result<(), Fail> {
-    for (number, row) in scene.rows.iter().enumerate() {
+    for (number, line) in scene.rows.iter().enumerate() {
+        let row = row_of(*line);
         let asked = event(alloc, row.asked)?;
-        assert!(rt; comes(world, row, asked), "at row {number}");
+        assert!(rt; comes(world, &row, asked), "at row {number}");
     }
     assert!(rt; shows(world, scene));
     Ok(())
@@ -223,12 +218,13 @@ fn has_packets(world: &World, packets: &[(u64, Option<&[u8]>)]) -> bool {
 }
 
 // Whether the journal has the accepted rows, and nothing else.
-fn is_told(journal: &[Entry], rows: &[Row]) -> bool {
+fn is_told(journal: &[Entry], rows: &[Line]) -> bool {
     let mut place = 0;
-    for row in rows {
+    for line in rows {
+        let row = row_of(*line);
         if let Ok(answer) = row.want {
             match journal.get(place) {
-                Some(entry) if tells(entry, row, answer) => place += 1,
+                Some(entry) if tells(entry, &row, answer) => place += 1,
                 _ => return false,
             }
         }

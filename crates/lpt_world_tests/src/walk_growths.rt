@@ -4,8 +4,8 @@
 //! `tests/growths` has each growth fail in turn, in the tests as they are built.
 
 use crate::packets::EXPIRED;
-use crate::scenes::CONFIG;
-use crate::steps::*;
+use crate::scenes::{Asked, CONFIG};
+use crate::steps::Row;
 use crate::walking::{Does, Path, walk};
 use lpt_events::Applied;
 use lpt_link::Lane::{G1, S1};
@@ -52,29 +52,30 @@ const CHECKED: [u8; 29] = [
     0x00, 0x01, 0x01, 0x00, 0x00, 0x00, 0x00, 0x00, 0x02, 0x1d, 0x0f, 0x53, 0xd3,
 ];
 
-// Two of three parts come, the second a tick later. What they wait for is overdue two ticks after
-// that; ground is told, and its sender is closed.
+/// Two of three parts come, the second a tick later. What they wait for is overdue two ticks after
+/// that; ground is told, and its sender is closed.
+static EXPIRY: [Row; 18] = [
+    Row::OpensUp(20, 3),
+    Row::PartUp(1, 0),
+    Row::PartUp(2, 1),
+    Row::PartUp(3, 2),
+    Row::Takes(S1, 0),
+    Row::Gives(S1, Outcome::Kept(7, 1)),
+    Row::Ticks(17),
+    Row::Takes(S1, 1),
+    Row::Gives(S1, Outcome::Kept(7, 2)),
+    Row::Ticks(18),
+    Row::Refuses(Does::Expire, StepFault::NothingDue),
+    Row::Ticks(19),
+    Row::Answers(Does::Expire, Answer::Expired(Up, 7), 1),
+    Row::Takes(S1, 2),
+    Row::Gives(S1, Outcome::Ignored(Why::Closed)),
+    Row::Takes(G1, 3),
+    Row::Gives(G1, Outcome::AbortNoted(7, Reason::Expired)),
+    Row::Refuses(Does::Asks(Asked::Send(Up, 7, 3)), StepFault::NotOpen),
+];
+
 fn expiry(rt: &impl Abort, alloc: Global) -> Result<bool, Fail> {
-    let steps = [
-        opens_up(20, 3),
-        sends(part_up(1), 0),
-        sends(part_up(2), 1),
-        sends(part_up(3), 2),
-        takes(S1, 0),
-        gives(S1, Outcome::Kept(7, 1)),
-        ticks(17),
-        takes(S1, 1),
-        gives(S1, Outcome::Kept(7, 2)),
-        ticks(18),
-        (Does::Expire, Err(StepFault::NothingDue), 0),
-        ticks(19),
-        (Does::Expire, Ok(Answer::Expired(Up, 7)), 1),
-        takes(S1, 2),
-        gives(S1, Outcome::Ignored(Why::Closed)),
-        takes(G1, 3),
-        gives(G1, Outcome::AbortNoted(7, Reason::Expired)),
-        (part_up(3), Err(StepFault::NotOpen), 0),
-    ];
     let config = Config {
         clock: 16,
         timeout: 2,
@@ -82,109 +83,112 @@ fn expiry(rt: &impl Abort, alloc: Global) -> Result<bool, Fail> {
     };
     let it = Path {
         config,
-        steps: &steps,
+        steps: &EXPIRY,
         packet: (3, &EXPIRED),
         memory: (0, &[]),
     };
     walk(rt, alloc, &it)
 }
 
-// A load is refused for the checksum of its second area; one is carried out, and one is refused since
-// it goes past the end.
+/// A load is refused for the checksum of its second area; one is carried out, and one is refused since
+/// it goes past the end.
+static REFUSALS: [Row; 20] = [
+    Row::Sends(Does::Plain(0, 2, &WRONG_CHECKSUM), 0),
+    Row::Takes(S1, 0),
+    Row::Gives(S1, Outcome::PlainReleased(37)),
+    Row::Claims(0),
+    Row::Commits(0),
+    Row::Applies(Applied::Code(FailureCode::WrongChecksum), 1),
+    Row::Takes(G1, 1),
+    Row::Gives(G1, Outcome::ReportNoted(1, 4)),
+    Row::Sends(Does::Plain(0, 2, &UP_TO_THE_END), 2),
+    Row::Takes(S1, 2),
+    Row::Gives(S1, Outcome::PlainReleased(27)),
+    Row::Claims(1),
+    Row::Commits(1),
+    Row::Applies(Applied::Done(None), 0),
+    Row::Sends(Does::Plain(0, 2, &PAST_THE_END), 3),
+    Row::Takes(S1, 3),
+    Row::Gives(S1, Outcome::PlainReleased(27)),
+    Row::Claims(2),
+    Row::Commits(2),
+    Row::Applies(Applied::Code(FailureCode::OutOfRange), 1),
+];
+
 fn refusals(rt: &impl Abort, alloc: Global) -> Result<bool, Fail> {
-    let steps = [
-        sends(Does::Plain(0, 2, &WRONG_CHECKSUM), 0),
-        takes(S1, 0),
-        gives(S1, Outcome::PlainReleased(37)),
-        claims(0),
-        commits(0),
-        applies(Applied::Code(FailureCode::WrongChecksum), 1),
-        takes(G1, 1),
-        gives(G1, Outcome::ReportNoted(1, 4)),
-        sends(Does::Plain(0, 2, &UP_TO_THE_END), 2),
-        takes(S1, 2),
-        gives(S1, Outcome::PlainReleased(27)),
-        claims(1),
-        commits(1),
-        applies(Applied::Done(None), 0),
-        sends(Does::Plain(0, 2, &PAST_THE_END), 3),
-        takes(S1, 3),
-        gives(S1, Outcome::PlainReleased(27)),
-        claims(2),
-        commits(2),
-        applies(Applied::Code(FailureCode::OutOfRange), 1),
-    ];
     let config = Config {
         part_size: 16,
         ..CONFIG
     };
     let it = Path {
         config,
-        steps: &steps,
+        steps: &REFUSALS,
         packet: (1, &NOT_STARTED),
         memory: (252, &[0xab, 0xcd, 0xef, 0x01]),
     };
     walk(rt, alloc, &it)
 }
 
-// A dump is answered by a packet, and one of an octet more by a message of four parts.
+/// A dump is answered by a packet, and one of an octet more by a message of four parts.
+static DUMPS: [Row; 24] = [
+    Row::Sends(Does::Plain(0, 5, &TWO), 0),
+    Row::Takes(S1, 0),
+    Row::Gives(S1, Outcome::PlainReleased(21)),
+    Row::Claims(0),
+    Row::Commits(0),
+    Row::Applies(Applied::Done(None), 1),
+    Row::Sends(Does::Plain(0, 5, &THREE), 2),
+    Row::Takes(S1, 2),
+    Row::Gives(S1, Outcome::PlainReleased(21)),
+    Row::Claims(1),
+    Row::Commits(1),
+    Row::Applies(Applied::Done(Some(0)), 0),
+    Row::PartDown(1, 3),
+    Row::PartDown(2, 4),
+    Row::PartDown(3, 5),
+    Row::PartDown(4, 6),
+    Row::Takes(G1, 3),
+    Row::Gives(G1, Outcome::Kept(0, 1)),
+    Row::Takes(G1, 4),
+    Row::Gives(G1, Outcome::Kept(0, 2)),
+    Row::Takes(G1, 5),
+    Row::Gives(G1, Outcome::Kept(0, 3)),
+    Row::Takes(G1, 6),
+    Row::Gives(G1, Outcome::Released(0, 32)),
+];
+
 fn dumps(rt: &impl Abort, alloc: Global) -> Result<bool, Fail> {
-    let steps = [
-        sends(Does::Plain(0, 5, &TWO), 0),
-        takes(S1, 0),
-        gives(S1, Outcome::PlainReleased(21)),
-        claims(0),
-        commits(0),
-        applies(Applied::Done(None), 1),
-        sends(Does::Plain(0, 5, &THREE), 2),
-        takes(S1, 2),
-        gives(S1, Outcome::PlainReleased(21)),
-        claims(1),
-        commits(1),
-        applies(Applied::Done(Some(0)), 0),
-        sends(part_down(1), 3),
-        sends(part_down(2), 4),
-        sends(part_down(3), 5),
-        sends(part_down(4), 6),
-        takes(G1, 3),
-        gives(G1, Outcome::Kept(0, 1)),
-        takes(G1, 4),
-        gives(G1, Outcome::Kept(0, 2)),
-        takes(G1, 5),
-        gives(G1, Outcome::Kept(0, 3)),
-        takes(G1, 6),
-        gives(G1, Outcome::Released(0, 32)),
-    ];
     let it = Path {
         config: CONFIG,
-        steps: &steps,
+        steps: &DUMPS,
         packet: (1, &DUMPED),
         memory: (16, &[0, 0]),
     };
     walk(rt, alloc, &it)
 }
 
-// A check that asks for all reports has four.
+/// A check that asks for all reports has four.
+static CHECKS: [Row; 14] = [
+    Row::Sends(Does::Plain(15, 9, &CHECK), 0),
+    Row::Takes(S1, 0),
+    Row::Gives(S1, Outcome::PlainReleased(21)),
+    Row::Claims(0),
+    Row::Commits(0),
+    Row::Applies(Applied::Done(None), 4),
+    Row::Takes(G1, 1),
+    Row::Gives(G1, Outcome::ReportNoted(1, 1)),
+    Row::Takes(G1, 2),
+    Row::Gives(G1, Outcome::ReportNoted(1, 3)),
+    Row::Takes(G1, 3),
+    Row::Gives(G1, Outcome::ReportNoted(6, 10)),
+    Row::Takes(G1, 4),
+    Row::Gives(G1, Outcome::ReportNoted(1, 7)),
+];
+
 fn checks(rt: &impl Abort, alloc: Global) -> Result<bool, Fail> {
-    let steps = [
-        sends(Does::Plain(15, 9, &CHECK), 0),
-        takes(S1, 0),
-        gives(S1, Outcome::PlainReleased(21)),
-        claims(0),
-        commits(0),
-        applies(Applied::Done(None), 4),
-        takes(G1, 1),
-        gives(G1, Outcome::ReportNoted(1, 1)),
-        takes(G1, 2),
-        gives(G1, Outcome::ReportNoted(1, 3)),
-        takes(G1, 3),
-        gives(G1, Outcome::ReportNoted(6, 10)),
-        takes(G1, 4),
-        gives(G1, Outcome::ReportNoted(1, 7)),
-    ];
     let it = Path {
         config: CONFIG,
-        steps: &steps,
+        steps: &CHECKS,
         packet: (3, &CHECKED),
         memory: (0, &[0, 0]),
     };

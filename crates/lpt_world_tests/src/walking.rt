@@ -3,6 +3,7 @@
 
 use crate::scenes::{Asked, event, zeros};
 use crate::stations::octets_of;
+use crate::steps::{Row, step_of};
 use lpt_events::Worker;
 use lpt_memory::Memories;
 use lpt_node::{Config, Side};
@@ -40,7 +41,7 @@ pub(crate) type Step = (Does, Result<Answer, StepFault>, u64);
 #[derive(Clone, Copy)]
 pub(crate) struct Path<'a> {
     pub(crate) config: Config,
-    pub(crate) steps: &'a [Step],
+    pub(crate) steps: &'a [Row],
     pub(crate) packet: (u64, &'a [u8]),
     pub(crate) memory: (usize, &'a [u8]),
 }
@@ -162,11 +163,12 @@ fn is_back(alloc: Global, refused: &Refused, does: Does, at: usize) -> bool {
 
 // Whether the journal has the steps that were accepted, and nothing else; none where a growth of the
 // test's own fails.
-fn is_told(alloc: Global, journal: &[Entry], steps: &[Step]) -> Option<bool> {
+fn is_told(alloc: Global, journal: &[Entry], steps: &[Row]) -> Option<bool> {
     let mut place = 0;
-    for (does, want, _) in steps {
-        if let Ok(answer) = *want {
-            let Ok(event) = event_of(alloc, *does) else {
+    for row in steps {
+        let (does, want, _) = step_of(*row);
+        if let Ok(answer) = want {
+            let Ok(event) = event_of(alloc, does) else {
                 return None;
             };
             match journal.get(place) {
@@ -217,8 +219,8 @@ fn has_octets(world: &World, path: &Path) -> bool {
 
 fn walks(rt: &impl Abort, alloc: Global, world: &mut World, path: &Path) -> bool {
     let mut failed = false;
-    for (done, step) in path.steps.iter().enumerate() {
-        match comes(alloc, world, step) {
+    for (done, row) in path.steps.iter().enumerate() {
+        match comes(alloc, world, &step_of(*row)) {
             Came::Nothing => return true,
             Came::Answered(right) => assert!(rt; right, "at step {done}"),
             Came::AtTheSecondTry(right) => {
