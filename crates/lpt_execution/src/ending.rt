@@ -5,7 +5,7 @@ use lpt_packet::Octets;
 use lpt_pus::FailureCode;
 
 /// A report to be sent: the kind of telemetry, and its body.
-#[derive(Debug, Drop, PartialEq, Eq)]
+#[derive(Drop, PartialEq, Eq)]
 pub struct Report {
     /// The kind of telemetry.
     pub kind: TelemetryKind,
@@ -14,7 +14,7 @@ pub struct Report {
 }
 
 /// How the execution of a released message ends.
-#[derive(Debug, Drop, PartialEq, Eq)]
+#[derive(Drop, PartialEq, Eq)]
 pub enum Ending {
     /// The message is no telecommand for the node: nothing is done, and nothing is reported.
     Silent,

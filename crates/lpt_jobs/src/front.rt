@@ -3,7 +3,7 @@
 use lpt_memory::Reading;
 
 /// What stands at the front of the queue: no job, one that can't be executed yet, or one that can.
-#[derive(Clone, Copy, Debug)]
+#[derive(Clone, Copy)]
 pub enum Front<'a> {
     /// There is no job.
     Empty,

@@ -4,7 +4,7 @@ use lpt_memory::Reading;
 use lpt_packet::Octets;
 
 /// A released request that isn't executed yet.
-#[derive(Debug, Drop)]
+#[derive(Drop)]
 pub(crate) struct Job {
     /// The message that was released.
     pub(crate) message: Octets,
@@ -13,7 +13,7 @@ pub(crate) struct Job {
 }
 
 /// How far a job has come.
-#[derive(Debug, Drop)]
+#[derive(Drop)]
 pub(crate) enum Mark {
     /// No worker has claimed it.
     Waiting,

@@ -14,7 +14,7 @@ use std::collections::VecDeque;
 use std::marker::Model;
 
 /// The jobs that aren't executed yet, each with its message and how far it has come.
-#[derive(Debug, Drop)]
+#[derive(Drop)]
 pub struct JobQueue {
     // The number of the job at the front, or of the next one where there is none.
     first: u64,

@@ -25,7 +25,7 @@ const TAKEN_WORDS: usize = 1_024;
 const FULL_WORDS: usize = 16;
 
 /// The state of each identifier at one end.
-#[derive(Debug, Drop)]
+#[derive(Drop)]
 pub struct Ledger {
     // The state of each identifier, at the identifier's place.
     states: Vec<State>,

@@ -5,7 +5,7 @@ ghost use Rattle.std.specs.Prelude.{◌≡◌};
 use crate::Lane;
 
 /// What each lane has in its hand: the number of a packet, or nothing.
-#[derive(Clone, Copy, Debug)]
+#[derive(Clone, Copy)]
 pub(crate) struct Hands {
     pub(crate) s1: Option<u64>,
     pub(crate) s2: Option<u64>,

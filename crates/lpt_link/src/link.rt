@@ -19,7 +19,7 @@ use thiserror::Error;
 const FIRST_ROOM: usize = 16;
 
 /// The link: its packets and the lanes' hands, and how many of both are of each transaction.
-#[derive(Debug, Drop)]
+#[derive(Drop)]
 pub struct Link {
     packets: Vec<LinkPacket>,
     hands: Hands,

@@ -3,7 +3,7 @@
 use lpt_packet::{Direction, Name, Octets};
 
 /// A packet that was put on the link.
-#[derive(Debug, Drop)]
+#[derive(Drop)]
 pub(crate) struct LinkPacket {
     /// Which way it goes.
     pub(crate) direction: Direction,

@@ -10,7 +10,7 @@ use std::alloc::{AllocError, Global};
 const PLACES: usize = 131072;
 
 /// A number for each transaction, by its direction and identifier.
-#[derive(Debug, Drop)]
+#[derive(Drop)]
 pub(crate) struct Tags {
     pub(crate) counts: Vec<u64>,
     ghost whole: { vec_len counts ≡ places },

@@ -5,7 +5,7 @@ use lpt_packet::Octets;
 use lpt_pus::FailureCode;
 
 /// What applying a message to the memories came to.
-#[derive(Debug, Drop)]
+#[derive(Drop)]
 pub enum Effect {
     /// The message is no telecommand for this node: nothing is done and nothing is said.
     Silent,

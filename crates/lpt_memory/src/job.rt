@@ -11,7 +11,6 @@ use std::marker::Model;
 
 /// A job that a worker has taken. It can't be dropped: `prepare`, `into_message` or `abandon` spends
 /// it.
-#[derive(Debug)]
 pub struct Ticket {
     boot: u64,
     job: u64,
@@ -27,7 +26,7 @@ impl Model for Ticket {
 }
 
 /// What a message means for memories of some shape, at a node with some APID.
-#[derive(Debug, Drop)]
+#[derive(Drop)]
 pub struct Reading {
     apid: u16,
     shape: Shape,
@@ -55,7 +54,6 @@ impl Model for Reading {
 }
 
 /// A job whose message was read. It can't be dropped: `reading` or `abandon` spends it.
-#[derive(Debug)]
 pub struct Prepared {
     boot: u64,
     job: u64,

@@ -10,7 +10,7 @@ use std::marker::Model;
 
 /// The memories of a node: 1 to 16 with distinct identifiers, of 1 to 1,048,576 octets each, in the
 /// order in which they were given. They keep the allocator of the vector that they were made of.
-#[derive(Debug, Drop)]
+#[derive(Drop)]
 pub struct Memories {
     items: Vec<(u8, Octets)>,
 }

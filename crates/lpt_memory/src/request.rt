@@ -25,7 +25,7 @@ pub struct AreaRange {
 }
 
 /// An area of a load, its octets by their place in the body.
-#[derive(Clone, Copy, Debug)]
+#[derive(Clone, Copy)]
 pub(crate) struct StoredArea {
     pub address: u32,
     pub from: usize,
@@ -44,7 +44,7 @@ impl StoredArea {
 }
 
 /// What a message means: nothing at all, a fault's code, or a memory and its areas.
-#[derive(Debug, Drop)]
+#[derive(Drop)]
 pub(crate) enum Content {
     Silent,
     Code(FailureCode),

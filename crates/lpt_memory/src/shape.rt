@@ -6,7 +6,7 @@ use std::alloc::AllocError;
 use std::marker::Model;
 
 /// The identifier and the size of each memory, in the order in which the memories were given.
-#[derive(Debug, Drop)]
+#[derive(Drop)]
 pub struct Shape {
     sizes: Vec<(u8, u32)>,
 }

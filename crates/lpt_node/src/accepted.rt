@@ -4,7 +4,7 @@ use crate::Outcome;
 use lpt_packet::Octets;
 
 /// What a node answers to a packet that was delivered to it.
-#[derive(Debug, Drop)]
+#[derive(Drop)]
 pub struct Accepted {
     /// What became of the packet.
     pub outcome: Outcome,

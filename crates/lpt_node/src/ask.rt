@@ -3,7 +3,7 @@
 use lpt_packet::Name;
 
 /// A call of a node, as far as its refusal depends on it.
-#[derive(Clone, Copy, Debug, PartialEq, Eq)]
+#[derive(Clone, Copy)]
 pub enum Ask {
     /// To open a message of this name and of so many octets.
     Open(Name, usize),

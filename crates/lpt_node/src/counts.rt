@@ -9,7 +9,7 @@ use crate::TelemetryKind;
 const KINDS: usize = 11;
 
 /// How many packets a node has made since it started.
-#[derive(Clone, Copy, Debug)]
+#[derive(Clone, Copy)]
 pub(crate) struct Counts {
     /// The next packet's sequence count, 0 to 16,383.
     pub(crate) count: u16,

@@ -4,7 +4,7 @@ use lpt_events::Applied;
 use lpt_packet::{Name, Octets};
 
 /// What a node answers when it has executed its oldest job.
-#[derive(Debug, Drop)]
+#[derive(Drop)]
 pub struct Executed {
     /// What became of the job's request.
     pub applied: Applied,

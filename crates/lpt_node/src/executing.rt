@@ -19,7 +19,7 @@ use lpt_packet::{Name, Octets};
 use std::alloc::AllocError;
 
 /// The packets of an execution's reports, and the counts after them.
-#[derive(Debug, Drop)]
+#[derive(Drop)]
 pub(crate) struct Made {
     pub(crate) counts: Counts,
     // Those that go on the link.

@@ -3,7 +3,7 @@
 use lpt_packet::{Name, Octets};
 
 /// What a node answers when it has given a reception up for its age.
-#[derive(Debug, Drop)]
+#[derive(Drop)]
 pub struct Expired {
     /// The transaction whose reception it was.
     pub id: Name,

@@ -5,47 +5,43 @@ ghost use Rattle.lpt_events.specs.FaultNames.{code_of, name_of};
 ghost use Rattle.lpt_node.specs.Faults.{node_fault};
 
 use lpt_events::StepFault;
+use std::fmt;
 use thiserror::Error;
 
 /// The first reason, in the order in which they are tested.
 #[derive(Clone, Copy, Debug, PartialEq, Eq, Error)]
 pub enum NodeFault {
     /// The identifier is in use.
-    #[error("the identifier is in use")]
     InUse,
     /// The message isn't longer than a part.
-    #[error("the message isn't longer than a part")]
     Short,
     /// The message or packet is too long.
-    #[error("too long")]
     Long,
     /// As many outgoing transactions are open as the limit.
-    #[error("as many outgoing transactions are open as the limit")]
     TooMany,
     /// No such outgoing transaction is open.
-    #[error("no such outgoing transaction is open")]
     NotOpen,
     /// The message has no part of that number.
-    #[error("no part of that number")]
     NoSuchPart,
     /// No reception is overdue.
-    #[error("no reception is overdue")]
     NothingDue,
     /// There is no job to claim, or none to execute.
-    #[error("there is no job to claim, or none to execute")]
     NoJob,
     /// No reading of the oldest job was handed in.
-    #[error("no reading of the oldest job was handed in")]
     NotReady,
     /// The clock is at its greatest value.
-    #[error("the clock is at its greatest value")]
     ClockEnd,
     /// Want of memory.
-    #[error("want of memory")]
     Memory,
     /// The service type and the message subtype are those of a part.
-    #[error("the service type and the message subtype are those of a part")]
     PartRequest,
+}
+
+// It is said as a world says it.
+impl fmt::Display for NodeFault {
+    fn fmt<W: fmt::Write>(&self, f: &mut fmt::Formatter<W>) -> fmt::Result {
+        self.in_step().fmt(f)
+    }
 }
 
 impl NodeFault {

@@ -5,7 +5,7 @@ use lpt_part::{Kind, Part, Reason};
 
 /// What was found in a packet's octets. Of a part and of an abortion report it is the place in the
 /// packet's data field from which the body stands.
-#[derive(Clone, Copy, Debug)]
+#[derive(Clone, Copy)]
 pub(crate) enum Found {
     /// No packet of the kind that comes to this side.
     Unreadable,
@@ -24,7 +24,7 @@ pub(crate) enum Found {
 }
 
 /// What a parsed packet shows.
-#[derive(Clone, Copy, Debug)]
+#[derive(Clone, Copy)]
 pub(crate) enum Sight<'a> {
     /// No packet of the kind that comes to this side.
     Unreadable,

@@ -11,7 +11,7 @@ use std::collections::BTreeMap;
 use std::marker::Model;
 
 /// The messages of the open outgoing transactions, by their names.
-#[derive(Debug, Drop)]
+#[derive(Drop)]
 pub(crate) struct Outgoing {
     // The part size in octets.
     p: u32,

@@ -19,7 +19,7 @@ use lpt_pus::{TC_HEADER, TM_HEADER, read_tc, read_tm};
 use std::marker::Model;
 
 /// A delivered packet with what it is to an end of the link, so far as that depends on no state.
-#[derive(Debug, Drop)]
+#[derive(Drop)]
 pub struct Parsed {
     octets: Octets,
     side: Side,

@@ -13,7 +13,7 @@ pub struct Report {
 }
 
 /// A report to be sent.
-#[derive(Debug, Drop, PartialEq, Eq)]
+#[derive(Drop, PartialEq, Eq)]
 pub struct EncodedReport {
     /// The message subtype.
     pub subtype: u8,
@@ -25,7 +25,7 @@ pub struct EncodedReport {
 ///
 /// The data report is what the request itself asks for, as a memory dump. It is of another
 /// service and stands in neither list.
-#[derive(Debug, Drop)]
+#[derive(Drop)]
 pub struct Reports {
     /// Those that are sent before the data report, in this order.
     pub before: Vec<EncodedReport>,

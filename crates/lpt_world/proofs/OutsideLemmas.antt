@@ -8,8 +8,9 @@ use Rattle.lpt_link.specs.declared.packet.LinkPacket.{LinkPacket}
 use Rattle.lpt_memory.specs.Memories.{Contents}
 use Rattle.lpt_journal.specs.Hands.{hand}
 use Rattle.lpt_node.specs.Origins.{Origin}
-use Rattle.lpt_world.specs.declared.ends.Ends.{Ends}
-use Rattle.lpt_world.specs.Outside.{octets_of, octets_in_hand, octets_held, IsReadOf, IsOfHand}
+use Rattle.lpt_ends.specs.declared.ends.Ends.{Ends}
+use Rattle.lpt_ends.specs.Outside.{octets_held, IsReadOf}
+use Rattle.lpt_world.specs.Outside.{octets_of, octets_in_hand, IsOfHand}
 use Rattle.lpt_world.specs.WorldInside.{IsShown}
 use Rattle.lpt_world.specs.Worlds.{Shown, history_of}
 use Rattle.lpt_world.proofs.WorldLemmas.{packet_shown}

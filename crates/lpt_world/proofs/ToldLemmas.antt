@@ -1,7 +1,7 @@
 -- A world that shows its journal keeps what holds of every legal journal.
 use Rattle.std.proofs.Common.{List}
 use Rattle.lpt_memory.specs.Memories.{Contents}
-use Rattle.lpt_world.specs.declared.ends.Ends.{Ends}
+use Rattle.lpt_ends.specs.declared.ends.Ends.{Ends}
 use Rattle.lpt_events.specs.declared.entry.Entry.{Entry}
 use Rattle.lpt_journal.specs.Headline.{Holds}
 use Rattle.lpt_world.specs.WorldInside.{IsShown}

@@ -9,13 +9,13 @@ use Rattle.lpt_link.specs.declared.packet.LinkPacket.{LinkPacket}
 use Rattle.lpt_link.specs.Links.{octets_at}
 use Rattle.lpt_memory.specs.Memories.{Contents}
 use Rattle.lpt_events.specs.declared.config.Config.{Config}
-use Rattle.lpt_world.specs.declared.ends.Ends.{Ends}
+use Rattle.lpt_ends.specs.declared.ends.Ends.{Ends}
 use Rattle.lpt_events.specs.declared.entry.Entry.{Entry}
 use Rattle.lpt_events.specs.declared.event.Event.{Event}
 use Rattle.lpt_events.specs.declared.fault.StepFault.{StepFault}
 use Rattle.lpt_events.specs.declared.fault.StepFault.TheVariants.{NoSuchSeat}
 use Rattle.lpt_events.specs.declared.reply.Reply.{Reply}
-use Rattle.lpt_world.specs.EndsInside.{state_of}
+use Rattle.lpt_ends.specs.EndsInside.{state_of}
 use Rattle.lpt_journal.specs.Journal.{History, SentPacket}
 use Rattle.lpt_journal.specs.Link.{sent}
 use Rattle.lpt_events.specs.Configs.{IsConfig}

@@ -1,15 +1,13 @@
 -- What is done outside a world: packets that are taken out of it, and what was read of them.
 use Rattle.std.specs.Prelude.{◌≡◌, ℕ, List, slice_get, Option, Some, None}
 use Rattle.std.specs.Option.{option_map, option_and_then}
-use Rattle.lpt_events.specs.Lanes.{lane_direction}
-use Rattle.lpt_events.specs.Sides.{receiver_side}
 use Rattle.lpt_events.specs.declared.config.Config.{Config}
 use Rattle.lpt_events.specs.declared.fault.StepFault.{StepFault}
 use Rattle.lpt_events.specs.declared.fault.StepFault.TheVariants.{Memory, NotYours}
 use Rattle.lpt_events.specs.declared.lane.Lane.{Lane}
 use Rattle.lpt_journal.specs.Hands.{hand}
 use Rattle.lpt_journal.specs.Link.{sent}
-use Rattle.lpt_link.specs.Links.{LinkData, packet_in_hand}
+use Rattle.lpt_ends.specs.Outside.{IsReadOf}
 use Rattle.lpt_node.specs.Origins.{Origin}
 use Rattle.lpt_world.specs.Worlds.{Shown, history}
 
@@ -20,17 +18,6 @@ octets_of w n = option_map (λ p. p.octets) (slice_get (sent (history w)) n)
 -- the octets of the packet in a lane's hand
 abbrev pub octets_in_hand : Shown → Lane → Option (List ℕ)
 octets_in_hand w l = option_and_then (octets_of w) (hand (history w) l)
-
--- the same by the link
-abbrev pub octets_held : LinkData → Lane → Option (List ℕ)
-octets_held x l = option_map (λ p. p.octets) (packet_in_hand x l)
-
--- what was read is these octets, for the receiver of a lane and by this configuration
-pub record IsReadOf (c : Config) (octets : Option (List ℕ)) (l : Lane) (o : Origin) : Type 0 where
-  pub octets_are : octets ≡ Some o.octets
-  pub side_is : o.side ≡ receiver_side (lane_direction l)
-  pub apid_is : o.apid ≡ c.apid
-  pub part_size_is : o.p ≡ c.part_size
 
 -- what was read is what the lane has in its hand
 abbrev pub IsOfHand : Shown → Lane → Origin → Type 0

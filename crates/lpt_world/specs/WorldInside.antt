@@ -1,9 +1,9 @@
 -- What always holds of a world: its ends and its link show its journal, and the journal is told.
 use Rattle.std.specs.Prelude.{List}
 use Rattle.lpt_events.specs.declared.config.Config.{Config}
-use Rattle.lpt_world.specs.declared.ends.Ends.{Ends}
+use Rattle.lpt_ends.specs.declared.ends.Ends.{Ends}
 use Rattle.lpt_events.specs.declared.entry.Entry.{Entry}
-use Rattle.lpt_world.specs.EndsInside.{state_of}
+use Rattle.lpt_ends.specs.EndsInside.{state_of}
 use Rattle.lpt_events.specs.Configs.{IsConfig}
 use Rattle.lpt_memory.specs.Memories.{Contents}
 use Rattle.lpt_machine.specs.Shows.{Shows}

@@ -1,18 +1,9 @@
 //! The world of two nodes and the link between them, and the journal of all that happened.
 #![tactic(auto)]
 
-mod anew;
 mod clearing;
-mod damaging;
-mod delivering;
-mod ends;
-mod faults;
 mod outside;
 mod readers;
-mod requesting;
-mod tickets;
-mod timing;
-mod working;
 mod world;
 
 pub use lpt_events::{

@@ -12,7 +12,7 @@ ghost use Rattle.lpt_journal.specs.Replies.{reply};
 ghost use Rattle.lpt_journal.specs.Senders.{opened};
 ghost use Rattle.lpt_world.specs.Worlds.{IsTold, Promised, new_world, history, memories_now, refusal_at, RefusedBy, with_entry, entered, AllAccepted, IsFaultOf};
 
-use crate::ends::Ends;
+use lpt_ends::Ends;
 use crate::{ConfigFault, Entry, Event, Opening, Refused, Release, Reply, RunEnd, StepFault};
 use lpt_memory::{Memories, Shape};
 use lpt_node::Config;

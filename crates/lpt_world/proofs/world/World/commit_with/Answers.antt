@@ -2,7 +2,7 @@
 use Rattle.std.proofs.Common.{◌≡◌, ◌∙◌, ap, sym, None}
 use Rattle.lpt_events.specs.declared.event.Event.TheVariants.{Commit}
 use Rattle.lpt_machine.specs.State.{refusal_of}
-use Rattle.lpt_world.specs.EndsInside.{state_of}
+use Rattle.lpt_ends.specs.EndsInside.{state_of}
 use Rattle.lpt_world.specs.Worlds.{Shown, refusal_at}
 use Rattle.lpt_world.proofs.WorldLemmas.{free_shown, ready_shown, shown_push}
 use Rattle.lpt_world.proofs.world.World.commit_with.Goals as goal

@@ -3,7 +3,7 @@ use Rattle.std.proofs.Common.{arith, ◌≡◌, ◌∙◌, ap, subst, sym, lengt
 use Rattle.lpt_events.specs.declared.event.Event.TheVariants.{Deliver}
 use Rattle.lpt_journal.specs.Replies.{reply}
 use Rattle.lpt_machine.specs.State.{refusal_of, after}
-use Rattle.lpt_world.specs.EndsInside.{state_of}
+use Rattle.lpt_ends.specs.EndsInside.{state_of}
 use Rattle.lpt_world.specs.Outside.{IsOfHand}
 use Rattle.lpt_world.specs.Worlds.{Shown, refusal_at, history}
 use Rattle.lpt_world.proofs.LegalLemmas.{numbered_few}

@@ -2,7 +2,7 @@
 use Rattle.std.proofs.Common.{◌∙◌, ap, ◌||◌}
 use Rattle.lpt_journal.specs.Clear.{part_held, part_in_hand}
 use Rattle.lpt_machine.proofs.ClearShown.{holds_shown}
-use Rattle.lpt_world.specs.EndsInside.{state_of}
+use Rattle.lpt_ends.specs.EndsInside.{state_of}
 use Rattle.lpt_world.specs.Worlds.{Shown, history, history_of}
 use Rattle.lpt_world.proofs.ToldLemmas.{shown_named}
 use Rattle.lpt_world.proofs.world.World.is_under_way.Goals as goal

@@ -1,7 +1,7 @@
 -- As many jobs wait as the journal says.
 use Rattle.std.proofs.Common.{◌∙◌, ap, ◌-◌, length}
 use Rattle.lpt_journal.specs.Jobs.{jobs, claimed}
-use Rattle.lpt_world.specs.EndsInside.{state_of}
+use Rattle.lpt_ends.specs.EndsInside.{state_of}
 use Rattle.lpt_world.specs.Worlds.{Shown, history, history_of}
 use Rattle.lpt_world.proofs.WaitingLemmas.{waiting_shown}
 use Rattle.lpt_world.proofs.LegalLemmas.{jobs_fit}

@@ -1,7 +1,7 @@
 -- As many jobs aren't executed as the journal says.
 use Rattle.std.proofs.Common.{◌∙◌, ap, ◌-◌, length}
 use Rattle.lpt_journal.specs.Jobs.{jobs, applied}
-use Rattle.lpt_world.specs.EndsInside.{state_of}
+use Rattle.lpt_ends.specs.EndsInside.{state_of}
 use Rattle.lpt_world.specs.Worlds.{Shown, history, history_of}
 use Rattle.lpt_world.proofs.WaitingLemmas.{queued_shown}
 use Rattle.lpt_world.proofs.world.World.jobs_queued.Goals as goal

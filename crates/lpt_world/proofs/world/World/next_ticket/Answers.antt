@@ -4,7 +4,7 @@ use Rattle.std.specs.Option.{option_map}
 use Rattle.lpt_events.specs.declared.event.Event.TheVariants.{Claim}
 use Rattle.lpt_jobs.specs.Jobs.{unclaimed}
 use Rattle.lpt_machine.specs.Tickets.{ticket_of}
-use Rattle.lpt_world.specs.EndsInside.{state_of}
+use Rattle.lpt_ends.specs.EndsInside.{state_of}
 use Rattle.lpt_journal.specs.Jobs.{job_given}
 use Rattle.lpt_world.specs.Worlds.{Shown, history, history_of, refusal_at}
 use Rattle.lpt_world.proofs.WaitingLemmas.{named, next_shown, not_none, one_waits}

@@ -1,6 +1,6 @@
 -- An event that isn't refused is done, and the longer journal is shown.
 use Rattle.std.proofs.Common.{arith, ◌≡◌, ◌∙◌, ap, sym, length, None}
-use Rattle.lpt_world.specs.EndsInside.{state_of}
+use Rattle.lpt_ends.specs.EndsInside.{state_of}
 use Rattle.lpt_journal.specs.Replies.{reply}
 use Rattle.lpt_machine.specs.State.{refusal_of, after}
 use Rattle.lpt_world.specs.Worlds.{Shown, refusal_at, history}

@@ -1,0 +1,4 @@
+pub mod EndsInside
+pub mod EndsSound
+pub mod Outside
+pub mod TicketsInside
