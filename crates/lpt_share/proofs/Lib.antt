@@ -1,4 +1,2 @@
-pub mod FinishLemmas
-pub mod Going
 pub mod RunLemmas
 pub mod TurnLemmas

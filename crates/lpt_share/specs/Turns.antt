@@ -3,10 +3,12 @@ use Rattle.std.specs.Prelude.{◌≡◌, ℕ, List, [], ◌∷◌, ◌++◌, Opt
 use Rattle.lpt_packet.specs.declared.direction.Direction.{Direction}
 use Rattle.lpt_packet.specs.Names.{Name}
 use Rattle.lpt_events.specs.declared.event.Event.{Event}
-use Rattle.lpt_events.specs.declared.event.Event.TheVariants.{Send, Finish}
-use Rattle.lpt_share.specs.declared.fault.ShareFault.{ShareFault}
-use Rattle.lpt_share.specs.declared.log.Call.{Call}
-use Rattle.lpt_share.specs.declared.log.SeatLog.{SeatLog}
+use Rattle.lpt_events.specs.declared.event.Event.TheVariants.{Send, Finish, Expire, Apply}
+use Rattle.lpt_seats.specs.declared.fault.ShareFault.{ShareFault}
+use Rattle.lpt_share.specs.declared.turns.Again.{Again}
+use Rattle.lpt_share.specs.declared.turns.Again.TheVariants as agains
+use Rattle.lpt_log.specs.declared.log.Call.{Call}
+use Rattle.lpt_log.specs.declared.log.SeatLog.{SeatLog}
 
 -- the calls are of the first of these events, in this order
 abbrev pub Begin : List Event → List Call → Type 0
@@ -30,6 +32,11 @@ Adds P old new =
 abbrev pub sender_event : Direction → Name → Option ℕ → Event
 sender_event d id (Some k) = Send d id k
 sender_event d id None = Finish d id
+
+-- what is asked for again and again
+abbrev pub again_event : Again → Event
+again_event (agains.Expire node) = Expire node
+again_event agains.Apply = Apply
 
 -- the log has one call more where the event was accepted, and else the same calls
 abbrev pub IsAsked : {A : Type 0} → Event → SeatLog → SeatLog → Result (Option A) ShareFault → Type 0

@@ -3,12 +3,13 @@
 ghost use Rattle.std.specs.Prelude.{◌≡◌, ◌+◌, ◌≤◌, vec_len, vec_capacity, IfOk, IfErr};
 ghost use Rattle.lpt_journal.specs.Headline.{Holds};
 ghost use Rattle.lpt_world.specs.Worlds.{history};
-ghost use Rattle.lpt_share.specs.Calls.{IsLegal, IsDone, IsCallFault};
-ghost use Rattle.lpt_share.specs.Origins.{GoesOn};
+ghost use Rattle.lpt_share.specs.Calls.{IsDone, IsCallFault};
+ghost use Rattle.lpt_seats.specs.Entering.{IsLegal};
+ghost use Rattle.lpt_seats.specs.Origins.{GoesOn};
 
 use crate::SeatLog;
-use crate::held::{Held, Origin};
 use lpt_events::{Event, Refused, Reply};
+use lpt_seats::{Held, Origin};
 use lpt_world::World;
 use std::marker::Brand;
 use std::sync::{Mutex, Wait};

@@ -6,25 +6,15 @@
 //! and after a run the logs are compared with the journal.
 #![tactic(auto)]
 
-mod agree;
 mod call;
-mod fault;
-mod finish;
-mod first;
-mod held;
-mod log;
-mod notices;
-mod owed;
 mod run;
-mod same;
 mod seats;
 mod turns;
 mod work;
 
-pub use agree::agrees;
 pub use call::{CallFault, Done, Shared};
-pub use fault::ShareFault;
-pub use log::{Call, SeatLog};
 pub use lpt_events::Turns;
+pub use lpt_log::{Call, SeatLog};
+pub use lpt_seats::{ShareFault, agrees};
 pub use run::{ShareEnd, run_threads};
 pub use turns::{Gate, Point};

@@ -1,32 +1,25 @@
 //! The run of ten seats round one world, each in a thread of its own.
 
-ghost use Rattle.std.specs.Prelude.{◌≡◌, ◌↔◌, ◌≤◌, ℕ, List, Some, length, IfOk, IfErr, IsTrue};
+ghost use Rattle.std.specs.Prelude.{◌≡◌, ◌≤◌, Some, length, IfOk, IfErr, IsTrue};
 ghost use Rattle.lpt_journal.specs.Headline.{Holds};
-ghost use Rattle.lpt_world.specs.Worlds.{history};
-ghost use Rattle.lpt_share.specs.Calls.{IsLegal};
-ghost use Rattle.lpt_share.specs.Agreeing.{Agree};
-ghost use Rattle.lpt_share.specs.Finished.{IsFinishedIfShort, AreShort, AreOwedCarried, owed_of};
-ghost use Rattle.lpt_world.specs.Worlds.{Shown};
-ghost use Rattle.lpt_share.specs.Origins.{Continues};
-ghost use Rattle.lpt_share.specs.Runs.{IsInOrder};
-ghost use Rattle.lpt_share.specs.declared.log.SeatLog.{SeatLog};
+ghost use Rattle.lpt_seats.specs.Agreeing.{Agree};
+ghost use Rattle.lpt_seats.specs.Entering.{IsLegal};
+ghost use Rattle.lpt_seats.specs.Finished.{IsFinishedIfShort, owed_of};
+ghost use Rattle.lpt_seats.specs.Origins.{Continues};
+ghost use Rattle.lpt_seats.specs.Runs.{IsInOrder};
+ghost use Rattle.lpt_world.specs.Worlds.{Shown, history};
 
-use crate::finish::{are_carried, are_taken, has_ticked, is_idle};
-use crate::first::all_seats;
-use crate::held::Origin;
-use crate::owed::{Owed, are_owed_carried, open_transactions};
-use crate::seats::{Ended, Pass, Seat};
+use crate::seats::{Ended, Pass};
 use crate::{Gate, SeatLog, ShareFault, Shared, Turns, agrees};
-use lpt_events::Side;
+use lpt_seats::{
+    Origin, Owed, Seat, all_seats, are_in_order, are_short, is_settled, open_transactions,
+};
 use lpt_world::World;
 use std::alloc::{AllocError, Global};
 use std::marker::Brand;
 use std::sync::Wait;
 use std::thread;
 use std::thread::Threads;
-
-/// The last seat that has a thread.
-const LAST_SEAT: u8 = 10;
 
 /// Why a run failed, and the world as it is then.
 #[derive(Drop)]
@@ -226,60 +219,4 @@ fn is_all_done(
         return Ok(true);
     }
     is_settled(alloc, world, from, owed, turns.ticks)
-}
-
-// Whether nothing was left to do, where each log is short.
-#[tactic(auto, using(crate::proofs::RunLemmas::all_done))]
-fn is_settled(
-    alloc: Global,
-    world: &World,
-    from: u64,
-    owed: &[Owed],
-    ticks: u32,
-) -> Result<bool, AllocError>
-    requires { from ≤ length world.now.journal }
-    ensures { IfOk result (λ done. IsTrue done → (given : Shown) → from ≡ length given.journal → owed.now ≡ owed_of given
-        → (limit : ℕ) → (logs : List SeatLog) → IsFinishedIfShort limit ticks given world.now logs) }
-{
-    let entries = &world.journal()[from as usize..];
-    let p = world.config().part_size;
-    if !is_idle(world)
-        || !has_ticked(world, entries, 5, Side::Craft, ticks)
-        || !has_ticked(world, entries, 6, Side::Ground, ticks)
-        || !are_owed_carried(owed, p, entries)
-        || !are_carried(world, from, entries)
-    {
-        return Ok(false);
-    }
-    are_taken(alloc, world, entries)
-}
-
-// Whether each log has fewer calls than this.
-fn are_short(limit: u32, logs: &[SeatLog]) -> bool
-    ensures { IsTrue result ↔ AreShort limit logs.now }
-{
-    let mut rest = logs;
-    while let Some((log, tail)) = rest.split_first() {
-        if log.calls.len() as u64 >= u64::from(limit) {
-            return false;
-        }
-        rest = tail;
-    }
-    true
-}
-
-// Whether the logs are those of seats 1 to 10, in this order.
-fn are_in_order(logs: &[SeatLog]) -> bool
-    ensures { IsTrue result ↔ IsInOrder 1 logs.now }
-{
-    let mut seat = 1;
-    let mut rest = logs;
-    while let Some((log, tail)) = rest.split_first() {
-        if seat > LAST_SEAT || log.seat != seat {
-            return false;
-        }
-        seat += 1;
-        rest = tail;
-    }
-    seat > LAST_SEAT
 }

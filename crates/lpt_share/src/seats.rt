@@ -1,34 +1,13 @@
 //! What each of the ten seats does in a run.
 
-use crate::held::Origin;
-use crate::notices::Outlets;
+use crate::turns::Again;
 use crate::{Gate, Point, SeatLog, ShareFault, Shared, Turns};
 use crossbeam_channel::Receiver;
-use lpt_events::{Event, Lane, Side, Worker};
+use lpt_events::{Event, Side};
 use lpt_packet::{Direction, Name};
+use lpt_seats::{Origin, Outlets, Seat, Task};
 use std::alloc::Global;
 use std::sync::Wait;
-
-/// What a seat does, with the notices that it goes by.
-#[derive(Drop)]
-pub(crate) enum Task {
-    /// Takes and delivers each packet of which it has a notice.
-    Lane(Lane, Receiver<u64>),
-    /// Ticks.
-    Timer(Side),
-    /// Claims, prepares and commits a job for each notice.
-    Worker(Worker, Receiver<u64>),
-    /// Sends and finishes each transaction of which it has a notice.
-    Sender(Direction, Receiver<Name>),
-}
-
-/// A seat of a run: its number, what it does, and whom it tells of it.
-#[derive(Drop)]
-pub(crate) struct Seat {
-    pub(crate) seat: u8,
-    pub(crate) task: Task,
-    pub(crate) outlets: Outlets,
-}
 
 /// How a seat ended: with its log, and why before its time.
 #[derive(Drop)]
@@ -55,115 +34,106 @@ impl<'a, J: Origin, R: Wait, G: Gate> Pass<'a, J, R, G> {
         let Seat {
             seat,
             task,
-            outlets,
+            mut outlets,
         } = seat;
         let mut log = SeatLog::new(self.alloc, seat, self.from);
-        let done = match task {
-            Task::Lane(lane, notices) => self.lane(&mut log, &outlets, lane, &notices),
-            Task::Timer(node) => self.timer(&mut log, &outlets, node),
-            Task::Worker(worker, notices) => self.worker(&mut log, &outlets, worker, &notices),
-            Task::Sender(direction, notices) => {
-                self.sender(&mut log, &outlets, direction, &notices)
-            }
-        };
+        let done = self.work(&mut log, &task, &mut outlets);
+        drop(task);
+        drop(outlets);
         Ended {
             log,
             fault: done.err(),
         }
     }
 
-    // Delivers what the lane's hand has, and then each packet by notice of its number.
-    fn lane(
+    // Goes on with what the seat had begun, and does its turns.
+    fn work(
         &self,
         log: &mut SeatLog,
-        outlets: &Outlets,
-        lane: Lane,
-        notices: &Receiver<u64>,
+        task: &Task,
+        outlets: &mut Outlets,
     ) -> Result<(), ShareFault> {
-        let _reply = self.shared.ask(
-            self.rt,
-            log,
-            Event::Deliver(lane),
-            Point::Delivered,
-            self.gate,
-        )?;
-        outlets.tell_from(self.rt, log, 0)?;
+        self.resume(log, task)?;
         for _ in self.rt.forever() {
-            let Some(n) = self.notice(log, notices) else {
-                return Ok(());
-            };
-            let before = log.calls.len();
-            self.shared.lane_turn(self.rt, log, lane, n, self.gate)?;
-            outlets.tell_from(self.rt, log, before)?;
-        }
-        unreachable!()
-    }
-
-    // Commits what the worker has, and then claims and commits a job by each notice.
-    fn worker(
-        &self,
-        log: &mut SeatLog,
-        outlets: &Outlets,
-        worker: Worker,
-        notices: &Receiver<u64>,
-    ) -> Result<(), ShareFault> {
-        let _reply = self.shared.ask(
-            self.rt,
-            log,
-            Event::Commit(worker),
-            Point::Committed,
-            self.gate,
-        )?;
-        let _count = self
-            .shared
-            .repeat(self.rt, log, &Event::Apply, Point::Applied, self.gate)?;
-        outlets.tell_from(self.rt, log, 0)?;
-        for _ in self.rt.forever() {
-            let Some(_notice) = self.notice(log, notices) else {
-                return Ok(());
-            };
-            let before = log.calls.len();
-            self.shared
-                .worker_turn(self.alloc, self.rt, log, worker, self.gate)?;
-            outlets.tell_from(self.rt, log, before)?;
-        }
-        unreachable!()
-    }
-
-    // Ticks so many times.
-    fn timer(&self, log: &mut SeatLog, outlets: &Outlets, node: Side) -> Result<(), ShareFault> {
-        for _ in 0..self.turns.ticks {
-            let before = log.calls.len();
-            if self.is_full(log) || self.shared.timer_turn(self.rt, log, node, self.gate)? == 0 {
+            outlets.tell_of(self.rt, log)?;
+            if !self.turn(log, task, outlets)? {
                 return Ok(());
             }
-            outlets.tell_from(self.rt, log, before)?;
+        }
+        unreachable!()
+    }
+
+    // Delivers what the lane's hand has, or commits what the worker has.
+    fn resume(&self, log: &mut SeatLog, task: &Task) -> Result<(), ShareFault> {
+        let (rt, gate) = (self.rt, self.gate);
+        match task {
+            Task::Lane(lane, _) => {
+                self.shared
+                    .ask(rt, log, Event::Deliver(*lane), Point::Delivered, gate)?;
+            }
+            Task::Worker(worker, _) => {
+                self.shared
+                    .ask(rt, log, Event::Commit(*worker), Point::Committed, gate)?;
+                self.shared
+                    .repeat(rt, log, Again::Apply, Point::Applied, gate)?;
+            }
+            Task::Timer(_) | Task::Sender(_, _) => {}
         }
         Ok(())
     }
 
-    // Sends and finishes each transaction by notice of its name.
-    fn sender(
+    // A lane's or a worker's turn, or all of a transaction, by the next notice; or all ticks. Whether
+    // there may be more to do.
+    fn turn(
         &self,
         log: &mut SeatLog,
-        outlets: &Outlets,
-        direction: Direction,
-        notices: &Receiver<Name>,
-    ) -> Result<(), ShareFault> {
-        for _ in self.rt.forever() {
-            let Some(id) = self.notice(log, notices) else {
-                return Ok(());
-            };
-            self.send_all(log, outlets, direction, id)?;
+        task: &Task,
+        outlets: &mut Outlets,
+    ) -> Result<bool, ShareFault> {
+        match task {
+            Task::Lane(lane, notices) => {
+                let Some(n) = self.notice(log, notices) else {
+                    return Ok(false);
+                };
+                self.shared.lane_turn(self.rt, log, *lane, n, self.gate)?;
+            }
+            Task::Timer(node) => {
+                self.tick(log, outlets, *node)?;
+                return Ok(false);
+            }
+            Task::Worker(worker, notices) => {
+                let Some(_notice) = self.notice(log, notices) else {
+                    return Ok(false);
+                };
+                self.shared
+                    .worker_turn(self.alloc, self.rt, log, *worker, self.gate)?;
+            }
+            Task::Sender(direction, notices) => {
+                let Some(id) = self.notice(log, notices) else {
+                    return Ok(false);
+                };
+                self.send_all(log, outlets, *direction, id)?;
+            }
         }
-        unreachable!()
+        Ok(true)
+    }
+
+    // Ticks so many times.
+    fn tick(&self, log: &mut SeatLog, outlets: &mut Outlets, node: Side) -> Result<(), ShareFault> {
+        for _ in 0..self.turns.ticks {
+            if self.is_full(log) || self.shared.timer_turn(self.rt, log, node, self.gate)? == 0 {
+                return Ok(());
+            }
+            outlets.tell_of(self.rt, log)?;
+        }
+        Ok(())
     }
 
     // Sends each part of a transaction, until there is none of that number, and finishes it.
     fn send_all(
         &self,
         log: &mut SeatLog,
-        outlets: &Outlets,
+        outlets: &mut Outlets,
         direction: Direction,
         id: Name,
     ) -> Result<(), ShareFault> {
@@ -171,14 +141,13 @@ impl<'a, J: Origin, R: Wait, G: Gate> Pass<'a, J, R, G> {
             if self.is_full(log) {
                 return Ok(());
             }
-            let before = log.calls.len();
             let sent = self
                 .shared
                 .sender_turn(self.rt, log, direction, id, Some(k), self.gate)?;
             if sent == 0 {
                 break;
             }
-            outlets.tell_from(self.rt, log, before)?;
+            outlets.tell_of(self.rt, log)?;
         }
         if !self.is_full(log) {
             self.shared

@@ -2,13 +2,13 @@
 //! while the lock is free.
 
 ghost use Rattle.std.specs.Prelude.{◌≡◌, ◌+◌, [], ◌∷◌, None, vec_len, IfOk};
-ghost use Rattle.lpt_share.specs.Turns.{Adds, Begin, Follow, IsAsked, sender_event};
+ghost use Rattle.lpt_share.specs.Turns.{Adds, Begin, Follow, IsAsked, again_event, sender_event};
 
-use crate::held::Origin;
 use crate::{CallFault, SeatLog, ShareFault, Shared};
 use lpt_events::{Event, Lane, Reply, Side, StepFault};
 use lpt_node::Parsed;
 use lpt_packet::{Direction, Name};
+use lpt_seats::Origin;
 use std::sync::Wait;
 
 /// What a seat has just done. The lock is free.
@@ -38,6 +38,27 @@ pub enum Point {
 pub trait Gate {
     /// The seat has done this. It may wait, as a test does that wants two seats to meet.
     fn pass(&self, seat: u8, point: Point);
+}
+
+/// What a seat asks for again and again, until it is refused.
+#[derive(Clone, Copy)]
+pub(crate) enum Again {
+    /// The end of a reception that is due.
+    Expire(Side),
+    /// The execution of the oldest job.
+    Apply,
+}
+
+impl Again {
+    // What is asked for.
+    fn event(self) -> Event
+        ensures { result ≡ again_event self }
+    {
+        match self {
+            Again::Expire(node) => Event::Expire(node),
+            Again::Apply => Event::Apply,
+        }
+    }
 }
 
 impl<J: Origin> Shared<J> {
@@ -87,7 +108,7 @@ impl<J: Origin> Shared<J> {
         let Some(_reply) = self.ask(rt, log, Event::Tick(node), Point::Ticked, gate)? else {
             return Ok(0);
         };
-        let expired = self.repeat(rt, log, &Event::Expire(node), Point::Expired, gate)?;
+        let expired = self.repeat(rt, log, Again::Expire(node), Point::Expired, gate)?;
         Ok(expired + 1)
     }
 
@@ -123,19 +144,16 @@ impl<J: Origin> Shared<J> {
         &self,
         rt: &R,
         log: &mut SeatLog,
-        event: &Event,
+        again: Again,
         point: Point,
         gate: &G,
     ) -> Result<u64, ShareFault>
-        ensures added { Adds (Follow [] event.now) log.old log.new }
+        ensures added { Adds (Follow [] (again_event again)) log.old log.new }
         ensures count { IfOk result (λ k. vec_len log.new.calls ≡ vec_len log.old.calls + k) }
     {
         let mut count = 0;
         for _ in rt.forever() {
-            let Ok(again) = event.copy() else {
-                return Err(ShareFault::Memory);
-            };
-            let Some(_reply) = self.ask(rt, log, again, point, gate)? else {
+            let Some(_reply) = self.ask(rt, log, again.event(), point, gate)? else {
                 return Ok(count);
             };
             count += 1;

@@ -4,13 +4,13 @@ ghost use Rattle.std.specs.Prelude.{◌≡◌, ◌+◌, ◌≤◌, ◌<◌, ◌^
 ghost use Rattle.lpt_events.specs.Configs.{IsConfig};
 ghost use Rattle.lpt_share.specs.Turns.{Adds, Follow, IsAsked};
 
-use crate::held::{Held, Origin};
-use crate::turns::ended;
+use crate::turns::{Again, ended};
 use crate::{Gate, Point, SeatLog, ShareFault, Shared};
 use lpt_events::{Config, Event, Lane, Reply, StepFault, Worker};
 use lpt_memory::{Prepared, Shape, Ticket, prepare};
 use lpt_node::Parsed;
 use lpt_packet::Octets;
+use lpt_seats::{Held, Origin};
 use std::alloc::Global;
 use std::sync::Wait;
 
@@ -32,23 +32,34 @@ impl<J: Origin> Shared<J> {
         ensures added { Adds (Follow (Event.Claim worker ∷ Event.Commit worker ∷ []) Event.Apply) log.old log.new }
         ensures count { IfOk result (λ k. vec_len log.new.calls ≡ vec_len log.old.calls + k) }
     {
-        let Some((ticket, shape, apid)) = self.claimed(rt, log, worker)? else {
+        let Some(job) = self.claimed(rt, log, worker)? else {
             return Ok(0);
         };
         gate.pass(log.seat, Point::Claimed);
-        let prepared = match prepare(alloc, &shape, apid, ticket) {
-            Ok(prepared) => prepared,
-            Err(ticket) => {
-                ticket.abandon();
-                return Err(ShareFault::Memory);
-            }
-        };
+        let done = self.worked(alloc, rt, log, worker, job, gate)?;
+        Ok(done + 1)
+    }
+
+    // Prepares a job that the worker has claimed, commits it, and has the oldest jobs executed.
+    fn worked<R: Wait, G: Gate>(
+        &self,
+        alloc: Global,
+        rt: &R,
+        log: &mut SeatLog,
+        worker: Worker,
+        job: (Ticket, Shape, u16),
+        gate: &G,
+    ) -> Result<u64, ShareFault>
+        ensures added { Adds (Follow (Event.Commit worker ∷ []) Event.Apply) log.old log.new }
+        ensures count { IfOk result (λ k. vec_len log.new.calls ≡ vec_len log.old.calls + k) }
+    {
+        let prepared = prepare_job(alloc, job)?;
         let Some(_reply) = self.committed(rt, log, worker, prepared)? else {
-            return Ok(1);
+            return Ok(0);
         };
         gate.pass(log.seat, Point::Committed);
-        let applied = self.repeat(rt, log, &Event::Apply, Point::Applied, gate)?;
-        Ok(applied + 2)
+        let applied = self.repeat(rt, log, Again::Apply, Point::Applied, gate)?;
+        Ok(applied + 1)
     }
 
     // Takes a packet, for a reader under this configuration.
@@ -105,10 +116,22 @@ impl<J: Origin> Shared<J> {
     {
         match log.make_place() {
             Ok(()) => commit(&mut self.world.lock(rt), log, worker, prepared),
-            Err(fault) => {
+            Err(_) => {
                 prepared.abandon();
-                Err(fault)
+                Err(ShareFault::Memory)
             }
+        }
+    }
+}
+
+// Prepares a job. Where there is no memory for that, the job stays the worker's.
+fn prepare_job(alloc: Global, job: (Ticket, Shape, u16)) -> Result<Prepared, ShareFault> {
+    let (ticket, shape, apid) = job;
+    match prepare(alloc, &shape, apid, ticket) {
+        Ok(prepared) => Ok(prepared),
+        Err(ticket) => {
+            ticket.abandon();
+            Err(ShareFault::Memory)
         }
     }
 }

@@ -2,9 +2,9 @@
 use Rattle.std.proofs.Common.{◌≤◌, ℕ, List, [], ◌++◌, take, Option, Result, Ok, Err, OnOk, IfErr, Bool, true, arith, subst, inl, inr}
 use Rattle.std.proofs.KnownBytes.{Appends-nil, Appends-trans}
 use Rattle.std.specs.Io.KnownBytes.{Appends}
-use Rattle.lpt_share.specs.FaultNames.{code_of}
-use Rattle.lpt_share.specs.declared.fault.ShareFault.{ShareFault}
-use Rattle.lpt_share.specs.declared.fault.ShareFault.TheVariants.{Torn, Memory, NoThread}
+use Rattle.lpt_seats.specs.FaultNames.{code_of}
+use Rattle.lpt_seats.specs.declared.fault.ShareFault.{ShareFault}
+use Rattle.lpt_seats.specs.declared.fault.ShareFault.TheVariants.{Torn, Memory, NoThread}
 use Rattle.lpt_text.specs.Streams.{AppendsPart}
 use Rattle.lpt_text.specs.declared.fault.ToolFault.{ToolFault}
 use Rattle.lpt_text.specs.declared.fault.ToolFault.TheVariants as tool

@@ -1,0 +1,3 @@
+pub mod FinishLemmas
+pub mod Going
+pub mod SettledLemmas
