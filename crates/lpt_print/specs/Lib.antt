@@ -1,2 +1,3 @@
 pub mod Decoding
 pub mod Printing
+pub mod Words

@@ -4,19 +4,17 @@ ghost use Rattle.std.specs.Prelude.{◌≡◌, not, is_some, option_and_then, If
 ghost use Rattle.toml.specs.Parse.{parse_document};
 ghost use Rattle.lpt_settings.specs.Settings.{settings_of};
 
-use crate::keys::{KEYS, MEMORY_KEYS, unknown_key};
 use crate::place::{line_at, line_of};
 use crate::settings::judge;
 use crate::wrong::{Reason, Wrong};
 use std::alloc::{AllocError, Global};
 use std::fmt;
-use toml::Table;
 
 /// What is wrong with a configuration file, where, and why.
 ///
 /// As a text it names the place and the reason, as in `apid: not from 0 to 2046`,
 /// `memory 2: size: not an integer` with the second memory, and `not TOML`.
-#[derive(Debug, Drop)]
+#[derive(Drop)]
 pub struct Complaint {
     line: Option<usize>,
     place: String,
@@ -37,9 +35,9 @@ impl Complaint {
 
 impl fmt::Display for Complaint {
     fn fmt<W: fmt::Write>(&self, f: &mut fmt::Formatter<W>) -> fmt::Result {
-        f.write_str(self.place.as_str())?;
+        let place = self.place.as_str();
         let reason = self.reason;
-        write!(f, "{reason}")
+        write!(f, "{place}{reason}")
     }
 }
 
@@ -54,7 +52,7 @@ pub fn why_refused(alloc: Global, text: &str) -> Result<Option<Complaint>, Alloc
     match toml::table_from_str(alloc, text) {
         Ok(table) => match judge(&table) {
             Ok(_) => Ok(None),
-            Err(wrong) => Ok(Some(told(alloc, text, &table, wrong)?)),
+            Err(wrong) => Ok(Some(told(alloc, text, wrong)?)),
         },
         Err(error) => {
             let Some(span) = error.span() else {
@@ -70,37 +68,26 @@ pub fn why_refused(alloc: Global, text: &str) -> Result<Option<Complaint>, Alloc
 }
 
 // The same with its place in the text.
-fn told(alloc: Global, text: &str, table: &Table, wrong: Wrong) -> Result<Complaint, AllocError> {
-    let key = match wrong.reason {
-        Reason::Unknown => unknown(table, wrong.memory).unwrap_or(""),
-        _ => wrong.key,
-    };
+fn told(alloc: Global, text: &str, wrong: Wrong<'_>) -> Result<Complaint, AllocError> {
     Ok(Complaint {
-        line: line_of(text, wrong.memory, key),
-        place: print_place(alloc, wrong.memory, key)?,
+        line: line_of(text, wrong.memory, wrong.key),
+        place: print_place(alloc, wrong.memory, wrong.key)?,
         reason: wrong.reason,
     })
 }
 
-// The key that there isn't, in the table of the memory of this place, or at the top.
-fn unknown(table: &Table, memory: Option<usize>) -> Option<&str> {
-    let Some(place) = memory else {
-        return unknown_key(table, &KEYS);
-    };
-    let value = table.get("memory")?.as_array()?.get(place)?;
-    unknown_key(value.as_table()?, &MEMORY_KEYS)
-}
-
 // The memory and the key, where there are any.
 fn print_place(alloc: Global, memory: Option<usize>, key: &str) -> Result<String, AllocError> {
-    let mut text = String::new(alloc);
-    if let Some(place) = memory {
-        let number = place.saturating_add(1);
-        text.push_str(format!(in alloc; "memory {number}: ")?.as_str())?;
+    match memory {
+        None if key.is_empty() => Ok(String::new(alloc)),
+        None => format!(in alloc; "{key}: "),
+        Some(place) => {
+            let number = place.saturating_add(1);
+            if key.is_empty() {
+                format!(in alloc; "memory {number}: ")
+            } else {
+                format!(in alloc; "memory {number}: {key}: ")
+            }
+        }
     }
-    if !key.is_empty() {
-        text.push_str(key)?;
-        text.push_str(": ")?;
-    }
-    Ok(text)
 }

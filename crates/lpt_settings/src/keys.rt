@@ -40,14 +40,14 @@ fn are_keys_among(table: &Table, words: &[&str]) -> bool
     table.keys().all(|key| is_one_of(key.as_str(), words))
 }
 
-// The first key of the table that is none of the words, if there is one.
-pub(crate) fn unknown_key<'t>(table: &'t Table, words: &[&str]) -> Option<&'t str> {
+// The first key of the table that is none of the words; the empty text where each is one.
+pub(crate) fn unknown_key<'t>(table: &'t Table, words: &[&str]) -> &'t str {
     for key in table.keys() {
         if !is_one_of(key.as_str(), words) {
-            return Some(key.as_str());
+            return key.as_str();
         }
     }
-    None
+    ""
 }
 
 // Whether the key is one of the words.

@@ -5,7 +5,7 @@ ghost use Rattle.std.specs.Result.{result_ok};
 ghost use Rattle.toml.specs.View.{view, items_view, table_view};
 ghost use Rattle.lpt_settings.specs.MemoryTables.{memory_of, each_memory, if_memories, listed, default_memories, memories_of, is_id, has_id};
 
-use crate::keys::{MEMORY_KEYS, has_only};
+use crate::keys::{MEMORY_KEYS, has_only, unknown_key};
 use crate::numbers::number;
 use crate::wrong::{Reason, Wrong};
 use lpt_memory::Memories;
@@ -25,7 +25,7 @@ struct Filled {
 }
 
 /// Judges what is at the key `memory`, and takes no memory for it.
-pub(crate) fn judge_memories(table: &Table) -> Result<(), Wrong>
+pub(crate) fn judge_memories(table: &Table) -> Result<(), Wrong<'_>>
     ensures { is_ok result ≡ is_some (memories_of (table_view table.now)) }
 {
     match table.get("memory") {
@@ -35,7 +35,7 @@ pub(crate) fn judge_memories(table: &Table) -> Result<(), Wrong>
 }
 
 // Judges a value that should be an array of tables.
-fn judge_listed(value: &Value) -> Result<(), Wrong>
+fn judge_listed(value: &Value) -> Result<(), Wrong<'_>>
     ensures { is_ok result ≡ is_some (listed (view value.now)) }
 {
     match value.as_array() {
@@ -45,7 +45,7 @@ fn judge_listed(value: &Value) -> Result<(), Wrong>
 }
 
 // Judges values that should be tables of memories.
-fn judge_values(values: &[Value]) -> Result<(), Wrong>
+fn judge_values(values: &[Value]) -> Result<(), Wrong<'_>>
     ensures { is_ok result ≡ is_some (option_and_then if_memories (each_memory (items_view values.now))) }
 {
     if !is_count(values.len()) {
@@ -156,7 +156,7 @@ fn filled_octets(alloc: Global, size: usize, fill: u8) -> Result<Octets, AllocEr
 }
 
 // What a table says of a memory.
-fn described(value: &Value) -> Result<Filled, Wrong>
+fn described(value: &Value) -> Result<Filled, Wrong<'_>>
     ensures value { option_map (λ m. (m.id, replicate m.size m.fill)) (result_ok result)
         ≡ memory_of (view value.now) }
     ensures least { IfOk result (λ m. 1 ≤ m.size) }
@@ -166,7 +166,7 @@ fn described(value: &Value) -> Result<Filled, Wrong>
         return Err(Wrong::at("", Reason::NotTable));
     };
     if !has_only(table, &MEMORY_KEYS) {
-        return Err(Wrong::at("", Reason::Unknown));
+        return Err(Wrong::at(unknown_key(table, &MEMORY_KEYS), Reason::Unknown));
     }
     let id = number(table, "id", 0, 255, None)?;
     let size = number(table, "size", 1, 1048576, None)?;

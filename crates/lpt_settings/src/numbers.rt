@@ -17,7 +17,7 @@ pub(crate) fn number(
     least: u32,
     greatest: u32,
     default: Option<u32>,
-) -> Result<u32, Wrong>
+) -> Result<u32, Wrong<'static>>
     requires least { IfSome default (λ d. least ≤ d) }
     requires greatest { IfSome default (λ d. d ≤ greatest) }
     ensures value { result_ok result ≡ number_at key.now least greatest default (table_view table.now) }
@@ -36,7 +36,7 @@ fn number_of_value(
     key: &'static str,
     least: u32,
     greatest: u32,
-) -> Result<u32, Wrong>
+) -> Result<u32, Wrong<'static>>
     ensures value { result_ok result ≡ number_in least greatest (view value.now) }
     ensures least { IfOk result (λ n. least ≤ n) }
     ensures greatest { IfOk result (λ n. n ≤ greatest) }
@@ -64,7 +64,7 @@ fn natural(integer: i64, least: u32, greatest: u32) -> Option<u32>
 }
 
 // The default, if there is one.
-fn or_missing(default: Option<u32>, key: &'static str) -> Result<u32, Wrong>
+fn or_missing(default: Option<u32>, key: &'static str) -> Result<u32, Wrong<'static>>
     ensures { result_ok result ≡ default }
 {
     match default {

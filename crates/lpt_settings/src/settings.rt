@@ -8,7 +8,7 @@ ghost use Rattle.toml.specs.View.{table_view};
 ghost use Rattle.lpt_events.specs.Configs.{IsConfig};
 ghost use Rattle.lpt_settings.specs.Settings.{config_of, turns_of, numbers_of, settings_of, default_settings};
 
-use crate::keys::{KEYS, has_only};
+use crate::keys::{KEYS, has_only, unknown_key};
 use crate::memories::{judge_memories, memories};
 use crate::numbers::number;
 use crate::wrong::{Reason, Wrong};
@@ -72,12 +72,12 @@ fn read_table(
 }
 
 // Judges all of a table, and takes no memory: its numbers, or the first thing that is wrong.
-pub(crate) fn judge(table: &Table) -> Result<(Config, Turns), Wrong>
+pub(crate) fn judge(table: &Table) -> Result<(Config, Turns), Wrong<'_>>
     ensures value { result_ok result ≡ option_map (λ s. s.0) (settings_of (table_view table.now)) }
     ensures ranges { IfOk result (λ n. IsConfig n.0) }
 {
     if !has_only(table, &KEYS) {
-        return Err(Wrong::at("", Reason::Unknown));
+        return Err(Wrong::at(unknown_key(table, &KEYS), Reason::Unknown));
     }
     let numbers = read_numbers(table)?;
     judge_memories(table)?;
@@ -85,7 +85,7 @@ pub(crate) fn judge(table: &Table) -> Result<(Config, Turns), Wrong>
 }
 
 // What all numbers of a table mean.
-fn read_numbers(table: &Table) -> Result<(Config, Turns), Wrong>
+fn read_numbers(table: &Table) -> Result<(Config, Turns), Wrong<'static>>
     ensures value { result_ok result ≡ numbers_of (table_view table.now) }
     ensures ranges { IfOk result (λ n. IsConfig n.0) }
 {
@@ -95,7 +95,7 @@ fn read_numbers(table: &Table) -> Result<(Config, Turns), Wrong>
 }
 
 // How much each seat does in a run of threads.
-fn read_turns(table: &Table) -> Result<Turns, Wrong>
+fn read_turns(table: &Table) -> Result<Turns, Wrong<'static>>
     ensures { result_ok result ≡ turns_of (table_view table.now) }
 {
     let per_seat = number(table, "per_seat", 1, 1_000_000, Some(100_000))?;
@@ -104,7 +104,7 @@ fn read_turns(table: &Table) -> Result<Turns, Wrong>
 }
 
 // The configuration that the numbers of a table mean.
-fn read_fixed(table: &Table) -> Result<Config, Wrong>
+fn read_fixed(table: &Table) -> Result<Config, Wrong<'static>>
     ensures value { result_ok result ≡ config_of (table_view table.now) }
     ensures ranges { IfOk result IsConfig }
 {

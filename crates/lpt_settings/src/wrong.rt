@@ -3,7 +3,7 @@
 use std::fmt;
 
 /// Why a configuration is refused.
-#[derive(Clone, Copy, Debug, PartialEq, Eq)]
+#[derive(Clone, Copy)]
 pub enum Reason {
     /// The text is no TOML document.
     NotToml,
@@ -27,33 +27,36 @@ pub enum Reason {
 
 impl fmt::Display for Reason {
     fn fmt<W: fmt::Write>(&self, f: &mut fmt::Formatter<W>) -> fmt::Result {
-        match self {
-            Reason::NotToml => f.write_str("not TOML"),
-            Reason::Unknown => f.write_str("no such key"),
-            Reason::Missing => f.write_str("has no value"),
-            Reason::NotInteger => f.write_str("not an integer"),
-            Reason::OutOfRange(least, greatest) => write!(f, "not from {least} to {greatest}"),
-            Reason::NotArray => f.write_str("not an array of tables"),
-            Reason::NotTable => f.write_str("not a table"),
-            Reason::Count => f.write_str("not 1 to 16 tables"),
-            Reason::Twice => f.write_str("another memory has it too"),
-        }
+        let text = match self {
+            Reason::NotToml => "not TOML",
+            Reason::Unknown => "no such key",
+            Reason::Missing => "has no value",
+            Reason::NotInteger => "not an integer",
+            Reason::OutOfRange(least, greatest) => {
+                return write!(f, "not from {least} to {greatest}");
+            }
+            Reason::NotArray => "not an array of tables",
+            Reason::NotTable => "not a table",
+            Reason::Count => "not 1 to 16 tables",
+            Reason::Twice => "another memory has it too",
+        };
+        f.write_str(text)
     }
 }
 
 // What is wrong with the table of a configuration, and at which key.
 #[derive(Clone, Copy)]
-pub(crate) struct Wrong {
+pub(crate) struct Wrong<'t> {
     // The place in the array of the memory whose key it is, from 0; `None` for a key at the top.
     pub memory: Option<usize>,
-    // The key; the empty text for an unknown one, and for a memory as a whole.
-    pub key: &'static str,
+    // The key; the empty text for a memory as a whole.
+    pub key: &'t str,
     pub reason: Reason,
 }
 
-impl Wrong {
+impl<'t> Wrong<'t> {
     // At a key of a table.
-    pub fn at(key: &'static str, reason: Reason) -> Wrong {
+    pub fn at(key: &'t str, reason: Reason) -> Self {
         Wrong {
             memory: None,
             key,
@@ -62,7 +65,7 @@ impl Wrong {
     }
 
     // The same in the memory of this place.
-    pub fn in_memory(self, place: usize) -> Wrong {
+    pub fn in_memory(self, place: usize) -> Self {
         Wrong {
             memory: Some(place),
             key: self.key,

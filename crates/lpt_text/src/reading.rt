@@ -15,7 +15,7 @@ pub(crate) const LIMIT: usize = 16_777_216;
 pub(crate) const CHUNK: usize = 4096;
 
 /// Where the reading of a text ended.
-#[derive(Clone, Copy, Debug, PartialEq, Eq)]
+#[derive(Clone, Copy, PartialEq, Eq)]
 pub enum End {
     /// At the text's end.
     Whole,

@@ -10,11 +10,13 @@ use Rattle.lpt_print.specs.Printing.{accepted_text, refused_text, releases_text,
 use Rattle.lpt_words.specs.declared.grammar.Command.{Command}
 use Rattle.lpt_words.specs.declared.grammar.Command.TheVariants as command
 use Rattle.lpt_words.specs.declared.grammar.Reading.{Reading}
+use Rattle.lpt_words.specs.declared.showing.Show.{Show}
+use Rattle.lpt_words.specs.declared.showing.Show.TheVariants as show
 use Rattle.lpt_words.specs.declared.grammar.Reading.TheVariants.{Skipped, Asks, Unreadable}
 use Rattle.lpt_words.specs.Grammar.{reading_of}
 use Rattle.lpt_words.specs.Loads.{load_packet}
 use Rattle.lpt_events.specs.declared.event.Event.{Event}
-use Rattle.lpt_events.specs.declared.event.Event.TheVariants.{Open, Send, Plain, Finish, Lose, Damage, Take, Deliver, Tick, Expire, Claim, Commit, Apply, Retire, Restart}
+use Rattle.lpt_events.specs.declared.event.Event.TheVariants.{Open, Take, Deliver, Tick, Claim, Commit, Apply}
 use Rattle.lpt_events.specs.declared.fault.StepFault.{StepFault}
 use Rattle.lpt_events.specs.declared.reply.Reply.{Reply}
 use Rattle.lpt_events.specs.declared.worker.Worker.TheVariants.{W1}
@@ -98,59 +100,31 @@ abbrev pub memory_octets : Shown → (id address len : ℕ) → Option (List ℕ
 memory_octets w id address len =
     option_and_then (octets_from address len) (content_of id (memories_now w))
 
+-- what is printed of a world where a line asks for this
+abbrev pub show_text : Show → Shown → List ℕ
+show_text show.Released w = releases_text (releases w.config (history w))
+show_text (show.Packet n) w = packet_text n (packet_octets w n)
+show_text (show.Memory id address len) w = memory_text id address (memory_octets w id address len)
+show_text (show.Clear d id) w = clear_text (is_clear w.config (history w) d id)
+show_text show.Journal w = journal_text (length w.journal)
+
 -- what a command does
 abbrev pub command_ran : Command → Shown → Ran
-command_ran (command.Open d id m) w = stepped w (Open d id m)
-command_ran (command.Send d id k) w = stepped w (Send d id k)
-command_ran (command.Plain flags service subtype body) w = stepped w (Plain flags service subtype body)
+command_ran (command.Event e) w = stepped w e
 command_ran (command.Load l) w = stepped w (Open Up l.id (load_packet w.config.apid w.config.source l))
-command_ran (command.Lose n) w = stepped w (Lose n)
-command_ran (command.Damage d b) w = stepped w (Damage d b)
-command_ran (command.Take l n) w = stepped w (Take l n)
-command_ran (command.Deliver l) w = stepped w (Deliver l)
-command_ran (command.Finish d id) w = stepped w (Finish d id)
-command_ran (command.Expire side) w = stepped w (Expire side)
-command_ran (command.Tick side count) w = ticked count side w
 command_ran (command.Pass l n) w = and_then (stepped w (Take l n)) (λ after. stepped after (Deliver l))
-command_ran (command.Claim k) w = stepped w (Claim k)
-command_ran (command.Commit k) w = stepped w (Commit k)
-command_ran command.Apply w = stepped w Apply
+command_ran (command.Tick side count) w = ticked count side w
 command_ran command.Work w = worked w
-command_ran (command.Retire d id) w = stepped w (Retire d id)
-command_ran (command.Restart side) w = stepped w (Restart side)
-command_ran command.ShowReleased w = printed w (releases_text (releases w.config (history w)))
-command_ran (command.ShowPacket n) w = printed w (packet_text n (packet_octets w n))
-command_ran (command.ShowMemory id address len) w =
-    printed w (memory_text id address (memory_octets w id address len))
-command_ran (command.ShowClear d id) w =
-    printed w (clear_text (is_clear w.config (history w) d id))
-command_ran command.ShowJournal w = printed w (journal_text (length w.journal))
+command_ran (command.Show s) w = printed w (show_text s w)
 
 -- whether a command only shows what is there
 abbrev pub only_shows : Command → Bool
-only_shows (command.Open d id m) = false
-only_shows (command.Send d id k) = false
-only_shows (command.Plain flags service subtype body) = false
+only_shows (command.Event e) = false
 only_shows (command.Load l) = false
-only_shows (command.Lose n) = false
-only_shows (command.Damage d b) = false
-only_shows (command.Take l n) = false
-only_shows (command.Deliver l) = false
-only_shows (command.Finish d id) = false
-only_shows (command.Expire side) = false
-only_shows (command.Tick side count) = false
 only_shows (command.Pass l n) = false
-only_shows (command.Claim k) = false
-only_shows (command.Commit k) = false
-only_shows command.Apply = false
+only_shows (command.Tick side count) = false
 only_shows command.Work = false
-only_shows (command.Retire d id) = false
-only_shows (command.Restart side) = false
-only_shows command.ShowReleased = true
-only_shows (command.ShowPacket n) = true
-only_shows (command.ShowMemory id address len) = true
-only_shows (command.ShowClear d id) = true
-only_shows command.ShowJournal = true
+only_shows (command.Show s) = true
 
 -- the command, unless it shows and that is left for later
 abbrev pub now_done : (later : Bool) → Command → Option Command

@@ -8,10 +8,10 @@ ghost use Rattle.lpt_tool.specs.Scripts.{and_then, answered, command_ran, steppe
 
 use crate::loading::run_load;
 use crate::printed::{put, put_refused};
-use crate::showing::{show_clear, show_memory, show_released};
+use crate::showing::run_show;
 use lpt_events::Worker;
 use lpt_node::Side;
-use lpt_print::{print_accepted, print_journal, print_packet};
+use lpt_print::print_accepted;
 use lpt_text::{Sink, ToolFault};
 use lpt_words::Command;
 use lpt_world::{Entry, Event, StepFault, World};
@@ -32,57 +32,15 @@ pub(crate) fn run_command<K: Sink>(
     ensures told { result ≢ Err ToolFault.Write → K.failed out.new ≡ K.failed out.old }
 {
     match command {
-        Command::Open(direction, id, message) => {
-            run_event(alloc, world, Event::Open(direction, id, message), out)
-        }
-        Command::Send(direction, id, part) => {
-            run_event(alloc, world, Event::Send(direction, id, part), out)
-        }
-        Command::Plain(flags, service, subtype, body) => {
-            run_event(
-                alloc,
-                world,
-                Event::Plain(flags, service, subtype, body),
-                out,
-            )
-        }
+        Command::Event(event) => run_event(alloc, world, event, out),
         Command::Load(load) => run_load(alloc, world, &load, out),
-        Command::Lose(number) => run_event(alloc, world, Event::Lose(number), out),
-        Command::Damage(direction, octets) => {
-            run_event(alloc, world, Event::Damage(direction, octets), out)
-        }
-        Command::Take(lane, number) => run_event(alloc, world, Event::Take(lane, number), out),
-        Command::Deliver(lane) => run_event(alloc, world, Event::Deliver(lane), out),
-        Command::Finish(direction, id) => {
-            run_event(alloc, world, Event::Finish(direction, id), out)
-        }
-        Command::Expire(side) => run_event(alloc, world, Event::Expire(side), out),
         Command::Tick(side, count) => run_ticks(alloc, world, side, count, out),
         Command::Pass(lane, number) => {
             let (take, deliver) = (Event::Take(lane, number), Event::Deliver(lane));
             run_both(alloc, world, take, deliver, out)
         }
-        Command::Claim(worker) => run_event(alloc, world, Event::Claim(worker), out),
-        Command::Commit(worker) => run_event(alloc, world, Event::Commit(worker), out),
-        Command::Apply => run_event(alloc, world, Event::Apply, out),
         Command::Work => run_work(alloc, world, out),
-        Command::Retire(direction, id) => {
-            run_event(alloc, world, Event::Retire(direction, id), out)
-        }
-        Command::Restart(side) => run_event(alloc, world, Event::Restart(side), out),
-        Command::ShowReleased => quietly(show_released(alloc, world.released(), out)),
-        Command::ShowPacket(number) => {
-            quietly(put(out, print_packet(alloc, number, world.packet(number))))
-        }
-        Command::ShowMemory(id, address, len) => {
-            quietly(show_memory(alloc, world, id, address, len, out))
-        }
-        Command::ShowClear(direction, id) => {
-            quietly(show_clear(alloc, world, direction, id, out))
-        }
-        Command::ShowJournal => {
-            quietly(put(out, print_journal(alloc, world.journal().len() as u64)))
-        }
+        Command::Show(show) => quietly(run_show(alloc, world, show, out)),
     }
 }
 

@@ -7,17 +7,40 @@ ghost use Rattle.lpt_print.specs.Printing.{clear_text, memory_text, release_text
 ghost use Rattle.lpt_journal.specs.Clear.{is_clear};
 ghost use Rattle.lpt_world.specs.Worlds.{history};
 ghost use Rattle.lpt_tool.specs.Ends.{TextEnds};
-ghost use Rattle.lpt_tool.specs.Scripts.{memory_octets, octets_from};
+ghost use Rattle.lpt_tool.specs.Scripts.{memory_octets, octets_from, show_text};
 
 use crate::printed::put;
 use lpt_packet::{Direction, Name};
-use lpt_print::{print_clear, print_memory, print_none, print_release};
+use lpt_print::{
+    print_clear, print_journal, print_memory, print_none, print_packet, print_release,
+};
 use lpt_text::{Sink, ToolFault};
+use lpt_words::Show;
 use lpt_world::{Release, World};
 use std::alloc::Global;
 
-/// Prints so many octets of a memory from an address on.
-pub(crate) fn show_memory<K: Sink>(
+/// Prints what a line asks for.
+pub(crate) fn run_show<K: Sink>(
+    alloc: Global,
+    world: &World,
+    show: Show,
+    out: &mut K,
+) -> Result<(), ToolFault>
+    ensures ends { TextEnds (show_text show world.now) result (K.contents out.old) (K.contents out.new) }
+    ensures cause { IsErrOf result ToolFault.Write → K.failed out.new ≡ true }
+    ensures told { result ≢ Err ToolFault.Write → K.failed out.new ≡ K.failed out.old }
+{
+    match show {
+        Show::Released => show_released(alloc, world.released(), out),
+        Show::Packet(number) => put(out, print_packet(alloc, number, world.packet(number))),
+        Show::Memory(id, address, len) => show_memory(alloc, world, id, address, len, out),
+        Show::Clear(direction, id) => show_clear(alloc, world, direction, id, out),
+        Show::Journal => put(out, print_journal(alloc, world.journal().len() as u64)),
+    }
+}
+
+// Prints so many octets of a memory from an address on.
+fn show_memory<K: Sink>(
     alloc: Global,
     world: &World,
     id: u8,
@@ -36,8 +59,8 @@ pub(crate) fn show_memory<K: Sink>(
     put(out, print_memory(alloc, id, address, octets))
 }
 
-/// Prints whether nothing is left of a transaction.
-pub(crate) fn show_clear<K: Sink>(
+// Prints whether nothing is left of a transaction.
+fn show_clear<K: Sink>(
     alloc: Global,
     world: &World,
     direction: Direction,
@@ -63,12 +86,8 @@ fn octets_from(content: &[u8], address: u32, len: u32) -> Option<&[u8]>
     Some(&content[start..end])
 }
 
-/// Prints the released messages, or that there is none.
-pub(crate) fn show_released<K: Sink>(
-    alloc: Global,
-    releases: &[Release],
-    out: &mut K,
-) -> Result<(), ToolFault>
+// Prints the released messages, or that there is none.
+fn show_released<K: Sink>(alloc: Global, releases: &[Release], out: &mut K) -> Result<(), ToolFault>
     ensures ends { TextEnds (releases_text releases.now) result (K.contents out.old) (K.contents out.new) }
     ensures cause { IsErrOf result ToolFault.Write → K.failed out.new ≡ true }
     ensures told { result ≢ Err ToolFault.Write → K.failed out.new ≡ K.failed out.old }

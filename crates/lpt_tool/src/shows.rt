@@ -1,9 +1,9 @@
 //! Lines that only show what is in a world: shown in their place, or kept for later.
 
 ghost use Rattle.std.specs.Prelude.{◌≡◌, Bool, IfOk};
-ghost use Rattle.lpt_tool.specs.Scripts.{is_later, now_done, only_shows};
+ghost use Rattle.lpt_tool.specs.Scripts.{is_later, now_done};
 
-use lpt_words::Command;
+use lpt_words::{Command, Show};
 use std::alloc::{AllocError, Global};
 
 /// Whether what lines show is shown in their place, or kept for later.
@@ -11,8 +11,8 @@ use std::alloc::{AllocError, Global};
 pub(crate) enum Shows {
     /// In their place.
     Now,
-    /// Later: the commands that were kept, in order.
-    Later(Vec<Command>),
+    /// Later: what was kept, in order.
+    Later(Vec<Show>),
 }
 
 impl Shows {
@@ -28,34 +28,20 @@ impl Shows {
         ensures same { is_later self.new ≡ is_later self.old }
         ensures now { IfOk result (λ now. now ≡ now_done (is_later self.old) command) }
     {
-        match self {
-            Shows::Later(kept) if only_shows(&command) => {
-                kept.push(command)?;
+        match (self, command) {
+            (Shows::Later(kept), Command::Show(show)) => {
+                kept.push(show)?;
                 Ok(None)
             }
-            _ => Ok(Some(command)),
+            (_, command) => Ok(Some(command)),
         }
     }
 
-    /// The commands that were kept, in order.
-    pub(crate) fn into_kept(self, alloc: Global) -> Vec<Command> {
+    /// What was kept, in order.
+    pub(crate) fn into_kept(self, alloc: Global) -> Vec<Show> {
         match self {
             Shows::Now => Vec::new(alloc),
             Shows::Later(kept) => kept,
         }
     }
-}
-
-// Whether a command changes nothing.
-fn only_shows(command: &Command) -> bool
-    ensures { result ≡ only_shows command.now }
-{
-    matches!(
-        command,
-        Command::ShowReleased
-            | Command::ShowPacket(_)
-            | Command::ShowMemory(_, _, _)
-            | Command::ShowClear(_, _)
-            | Command::ShowJournal
-    )
 }

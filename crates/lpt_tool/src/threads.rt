@@ -15,7 +15,7 @@ use lpt_memory::Memories;
 use lpt_node::Config;
 use lpt_share::{Gate, Point, ShareEnd, ShareFault, run_threads};
 use lpt_text::{Sink, Source, ToolFault};
-use lpt_words::Command;
+use lpt_words::{Command, Show};
 use lpt_world::{ConfigFault, World};
 use std::alloc::Global;
 use std::sync::Wait;
@@ -78,7 +78,7 @@ fn go_on<R: Threads + Wait + Sync, K: Sink>(
     rt: &R,
     world: World,
     turns: Turns,
-    kept: Vec<Command>,
+    kept: Vec<Show>,
     out: &mut K,
 ) -> Result<(), ToolFault>
     ensures ends { GoesOn result (K.contents out.old) (K.contents out.new) (K.failed out.new) }
@@ -126,7 +126,7 @@ fn threads_fault(fault: ShareFault) -> ToolFault
 fn show_left<K: Sink>(
     alloc: Global,
     world: &mut World,
-    kept: Vec<Command>,
+    kept: Vec<Show>,
     out: &mut K,
 ) -> Result<(), ToolFault>
     ensures grows { Grows (K.contents out.old) (K.contents out.new) }
@@ -154,7 +154,7 @@ fn put_left<K: Sink>(alloc: Global, world: &World, out: &mut K) -> Result<(), To
 fn run_kept<K: Sink>(
     alloc: Global,
     world: &mut World,
-    kept: Vec<Command>,
+    kept: Vec<Show>,
     out: &mut K,
 ) -> Result<(), ToolFault>
     ensures grows { Grows (K.contents out.old) (K.contents out.new) }
@@ -162,8 +162,8 @@ fn run_kept<K: Sink>(
     ensures cause { IsErrOf result ToolFault.Write → K.failed out.new ≡ true }
     ensures told { result ≢ Err ToolFault.Write → K.failed out.new ≡ K.failed out.old }
 {
-    for command in kept {
-        match run_kept_one(alloc, world, command, out) {
+    for show in kept {
+        match run_kept_one(alloc, world, show, out) {
             Ok(()) => {}
             Err(fault) => return Err(fault),
         }
@@ -175,7 +175,7 @@ fn run_kept<K: Sink>(
 fn run_kept_one<K: Sink>(
     alloc: Global,
     world: &mut World,
-    command: Command,
+    show: Show,
     out: &mut K,
 ) -> Result<(), ToolFault>
     ensures grows { Grows (K.contents out.old) (K.contents out.new) }
@@ -183,7 +183,7 @@ fn run_kept_one<K: Sink>(
     ensures cause { IsErrOf result ToolFault.Write → K.failed out.new ≡ true }
     ensures told { result ≢ Err ToolFault.Write → K.failed out.new ≡ K.failed out.old }
 {
-    match run_command(alloc, world, command, out) {
+    match run_command(alloc, world, Command::Show(show), out) {
         Ok(_) => Ok(()),
         Err(ToolFault::Write) => Err(ToolFault::Write),
         Err(_) => Err(ToolFault::Memory),

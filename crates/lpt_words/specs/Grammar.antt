@@ -1,6 +1,8 @@
 -- What each line of a script asks for.
 use Rattle.std.specs.Prelude.{◌≡◌, ℕ, ◌==◌, Bool, false, not, is_some, if◌then◌else◌, nat_le, nat_lt, List, [], ◌∷◌, length, ◌⊎◌, Option, Some, None, codes, ⊤}
-use Rattle.std.specs.Option.{option_map, option_and_then}
+use Rattle.std.specs.Option.{option_map, option_and_then, option_zip}
+use Rattle.lpt_packet.specs.declared.direction.Direction.{Direction}
+use Rattle.lpt_events.specs.declared.event.Event.TheVariants as event
 use Rattle.lpt_events.specs.declared.lane.Lane.{Lane}
 use Rattle.lpt_memory.specs.declared.request.Area.{Area}
 use Rattle.lpt_memory.specs.Fields.{◌>>=◌}
@@ -11,41 +13,42 @@ use Rattle.lpt_words.specs.declared.grammar.Reading.{Reading}
 use Rattle.lpt_words.specs.declared.grammar.Reading.TheVariants.{Skipped, Asks, Unreadable}
 use Rattle.lpt_words.specs.declared.load.Load.{Load}
 use Rattle.lpt_words.specs.Loads.{if_written}
+use Rattle.lpt_words.specs.declared.showing.Show.{Show}
+use Rattle.lpt_words.specs.declared.showing.Show.TheVariants as show
 use Rattle.lpt_words.specs.declared.names.Keyword.{Keyword}
 use Rattle.lpt_words.specs.declared.names.Keyword.TheVariants as key
-use Rattle.lpt_words.specs.Names.{keyword_of, direction_of, lane_of, node_of, u8_of, u16_of, u32_of, flags_of, packet_number_of, worker_of, count_of}
+use Rattle.lpt_words.specs.Names.{keyword_of, direction_of, lane_of, name_of, node_of, u8_of, u16_of, u32_of, flags_of, packet_number_of, worker_of, count_of}
 use Rattle.lpt_words.specs.Numbers.{is_word, octets_of}
-use Rattle.lpt_words.specs.Words.{words}
+use Rattle.lpt_words.specs.Words.{is_empty, one_of, three_of, two_of, words}
 
 -- ---- the words after the first, a definition a kind of line
 
 -- `open DIRECTION ID HEX`
 abbrev pub open_of : List (List ℕ) → Option Command
-open_of (d ∷ i ∷ m ∷ []) = do
-  direction ← direction_of d
-  id ← u16_of i
-  message ← octets_of m
-  Some (command.Open direction id message)
-open_of _ = None
+open_of ws = do
+  w ← three_of ws
+  name ← name_of w.0 w.1
+  message ← octets_of w.2
+  Some (command.Event (event.Open name.0 name.1 message))
 
 -- `send DIRECTION ID K`
 abbrev pub send_of : List (List ℕ) → Option Command
-send_of (d ∷ i ∷ k ∷ []) = do
-  direction ← direction_of d
-  id ← u16_of i
-  part ← u16_of k
-  Some (command.Send direction id part)
-send_of _ = None
+send_of ws = do
+  w ← three_of ws
+  name ← name_of w.0 w.1
+  part ← u16_of w.2
+  Some (command.Event (event.Send name.0 name.1 part))
 
 -- `plain FLAGS SERVICE SUBTYPE HEX`
 abbrev pub plain_of : List (List ℕ) → Option Command
-plain_of (f ∷ s ∷ t ∷ m ∷ []) = do
+plain_of [] = None
+plain_of (f ∷ ws) = do
+  w ← three_of ws
   flags ← flags_of f
-  service ← u8_of s
-  subtype ← u8_of t
-  body ← octets_of m
-  Some (command.Plain flags service subtype body)
-plain_of _ = None
+  service ← u8_of w.0
+  subtype ← u8_of w.1
+  body ← octets_of w.2
+  Some (command.Event (event.Plain flags service subtype body))
 
 -- `ADDR HEX`: an area of a load
 abbrev pub area_of : List ℕ → List ℕ → Option Area
@@ -89,33 +92,31 @@ counts (Some n) = nat_le n 16383
 
 -- `LANE N`
 abbrev pub lane_and_packet_of : List (List ℕ) → Option (Lane × ℕ)
-lane_and_packet_of (l ∷ n ∷ []) = do
-  lane ← lane_of l
-  packet ← packet_number_of n
-  Some (lane, packet)
-lane_and_packet_of _ = None
+lane_and_packet_of ws = two_of ws >>= λ w. option_zip (lane_of w.0) (packet_number_of w.1)
+
+-- `DIRECTION ID`
+abbrev pub transaction_of : List (List ℕ) → Option (Direction × ℕ)
+transaction_of ws = two_of ws >>= λ w. name_of w.0 w.1
 
 -- `lose N`
 abbrev pub lose_of : List (List ℕ) → Option Command
-lose_of (n ∷ []) = option_map command.Lose (packet_number_of n)
-lose_of _ = None
+lose_of ws = option_map (λ n. command.Event (event.Lose n)) (one_of ws >>= packet_number_of)
 
 -- `damage DIRECTION HEX`
 abbrev pub damage_of : List (List ℕ) → Option Command
-damage_of (d ∷ m ∷ []) = do
-  direction ← direction_of d
-  octets ← octets_of m
-  Some (command.Damage direction octets)
-damage_of _ = None
+damage_of ws = do
+  w ← two_of ws
+  direction ← direction_of w.0
+  octets ← octets_of w.1
+  Some (command.Event (event.Damage direction octets))
 
 -- `take LANE N`
 abbrev pub take_of : List (List ℕ) → Option Command
-take_of ws = option_map (λ p. command.Take p.0 p.1) (lane_and_packet_of ws)
+take_of ws = option_map (λ p. command.Event (event.Take p.0 p.1)) (lane_and_packet_of ws)
 
 -- `deliver LANE`
 abbrev pub deliver_of : List (List ℕ) → Option Command
-deliver_of (l ∷ []) = option_map command.Deliver (lane_of l)
-deliver_of _ = None
+deliver_of ws = option_map (λ l. command.Event (event.Deliver l)) (one_of ws >>= lane_of)
 
 -- `pass LANE N`
 abbrev pub pass_of : List (List ℕ) → Option Command
@@ -123,91 +124,77 @@ pass_of ws = option_map (λ p. command.Pass p.0 p.1) (lane_and_packet_of ws)
 
 -- `finish DIRECTION ID`
 abbrev pub finish_of : List (List ℕ) → Option Command
-finish_of (d ∷ i ∷ []) = do
-  direction ← direction_of d
-  id ← u16_of i
-  Some (command.Finish direction id)
-finish_of _ = None
+finish_of ws = option_map (λ t. command.Event (event.Finish t.0 t.1)) (transaction_of ws)
+
+-- how many ticks the words after a node ask for: one, unless they say
+abbrev pub ticks_of : List (List ℕ) → Option ℕ
+ticks_of [] = Some 1
+ticks_of (k ∷ ws) = if is_empty ws then count_of k else None
 
 -- `tick NODE` and `tick NODE COUNT`
 abbrev pub tick_of : List (List ℕ) → Option Command
-tick_of (n ∷ []) = option_map (λ node. command.Tick node 1) (node_of n)
-tick_of (n ∷ k ∷ []) = do
+tick_of [] = None
+tick_of (n ∷ ws) = do
   node ← node_of n
-  count ← count_of k
+  count ← ticks_of ws
   Some (command.Tick node count)
-tick_of _ = None
 
 -- `expire NODE`
 abbrev pub expire_of : List (List ℕ) → Option Command
-expire_of (n ∷ []) = option_map command.Expire (node_of n)
-expire_of _ = None
+expire_of ws = option_map (λ n. command.Event (event.Expire n)) (one_of ws >>= node_of)
 
 -- `claim WORKER`
 abbrev pub claim_of : List (List ℕ) → Option Command
-claim_of (w ∷ []) = option_map command.Claim (worker_of w)
-claim_of _ = None
+claim_of ws = option_map (λ w. command.Event (event.Claim w)) (one_of ws >>= worker_of)
 
 -- `commit WORKER`
 abbrev pub commit_of : List (List ℕ) → Option Command
-commit_of (w ∷ []) = option_map command.Commit (worker_of w)
-commit_of _ = None
+commit_of ws = option_map (λ w. command.Event (event.Commit w)) (one_of ws >>= worker_of)
 
 -- `retire DIRECTION ID`
 abbrev pub retire_of : List (List ℕ) → Option Command
-retire_of (d ∷ i ∷ []) = do
-  direction ← direction_of d
-  id ← u16_of i
-  Some (command.Retire direction id)
-retire_of _ = None
+retire_of ws = option_map (λ t. command.Event (event.Retire t.0 t.1)) (transaction_of ws)
 
 -- `restart NODE`
 abbrev pub restart_of : List (List ℕ) → Option Command
-restart_of (n ∷ []) = option_map command.Restart (node_of n)
-restart_of _ = None
+restart_of ws = option_map (λ n. command.Event (event.Restart n)) (one_of ws >>= node_of)
 
 -- `apply` or `work`: no word follows
 abbrev pub alone_of : Command → List (List ℕ) → Option Command
-alone_of c [] = Some c
-alone_of c _ = None
+alone_of c ws = if is_empty ws then Some c else None
 
 -- `show released` and `show journal`
-abbrev pub show_whole_of : List ℕ → Option Command
+abbrev pub show_whole_of : List ℕ → Option Show
 show_whole_of word =
-    if is_word (codes "released") word then Some command.ShowReleased
-    else if is_word (codes "journal") word then Some command.ShowJournal
+    if is_word (codes "released") word then Some show.Released
+    else if is_word (codes "journal") word then Some show.Journal
     else None
 
 -- `packet N` behind `show`
-abbrev pub show_packet_of : List (List ℕ) → Option Command
-show_packet_of (n ∷ []) = option_map command.ShowPacket (packet_number_of n)
-show_packet_of _ = None
+abbrev pub show_packet_of : List (List ℕ) → Option Show
+show_packet_of ws = option_map show.Packet (one_of ws >>= packet_number_of)
 
 -- `memory ID ADDR LEN` behind `show`
-abbrev pub show_memory_of : List (List ℕ) → Option Command
-show_memory_of (i ∷ a ∷ n ∷ []) = do
-  id ← u8_of i
-  address ← u32_of a
-  len ← u32_of n
-  Some (command.ShowMemory id address len)
-show_memory_of _ = None
+abbrev pub show_memory_of : List (List ℕ) → Option Show
+show_memory_of ws = do
+  w ← three_of ws
+  id ← u8_of w.0
+  address ← u32_of w.1
+  len ← u32_of w.2
+  Some (show.Memory id address len)
 
 -- `clear DIRECTION ID` behind `show`
-abbrev pub show_clear_of : List (List ℕ) → Option Command
-show_clear_of (d ∷ i ∷ []) = do
-  direction ← direction_of d
-  id ← u16_of i
-  Some (command.ShowClear direction id)
-show_clear_of _ = None
+abbrev pub show_clear_of : List (List ℕ) → Option Show
+show_clear_of ws = option_map (λ t. show.Clear t.0 t.1) (transaction_of ws)
 
 -- all of these
-abbrev pub show_of : List (List ℕ) → Option Command
+abbrev pub show_of : List (List ℕ) → Option Show
 show_of [] = None
-show_of (w ∷ []) = show_whole_of w
-show_of (w ∷ n ∷ ws) =
-    if is_word (codes "memory") w then show_memory_of (n ∷ ws)
-    else if is_word (codes "clear") w then show_clear_of (n ∷ ws)
-    else if is_word (codes "packet") w then show_packet_of (n ∷ ws)
+show_of (w ∷ ws) =
+    if is_empty ws then show_whole_of w
+    else if is_word (codes "memory") w then show_memory_of ws
+    else if is_word (codes "clear") w then show_clear_of ws
+    else if is_word (codes "packet") w then show_packet_of ws
     else None
 
 -- the command of a keyword and the words after it
@@ -219,7 +206,7 @@ arguments_of key.Damage ws = damage_of ws
 arguments_of key.Take ws = take_of ws
 arguments_of key.Deliver ws = deliver_of ws
 arguments_of key.Pass ws = pass_of ws
-arguments_of key.Show ws = show_of ws
+arguments_of key.Show ws = option_map command.Show (show_of ws)
 arguments_of key.Finish ws = finish_of ws
 arguments_of key.Tick ws = tick_of ws
 arguments_of key.Expire ws = expire_of ws
@@ -227,7 +214,7 @@ arguments_of key.Plain ws = plain_of ws
 arguments_of key.Load ws = option_map command.Load (load_of ws)
 arguments_of key.Claim ws = claim_of ws
 arguments_of key.Commit ws = commit_of ws
-arguments_of key.Apply ws = alone_of command.Apply ws
+arguments_of key.Apply ws = alone_of (command.Event event.Apply) ws
 arguments_of key.Work ws = alone_of command.Work ws
 arguments_of key.Retire ws = retire_of ws
 arguments_of key.Restart ws = restart_of ws

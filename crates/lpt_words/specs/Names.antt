@@ -1,6 +1,6 @@
 -- The words of a line that name something, each by itself.
-use Rattle.std.specs.Prelude.{ℕ, ◌==◌, if◌then◌else◌, List, Option, Some, None, codes}
-use Rattle.std.specs.Option.{option_and_then, option_or}
+use Rattle.std.specs.Prelude.{ℕ, ◌==◌, if◌then◌else◌, List, [], ◌∷◌, Option, Some, None, codes}
+use Rattle.std.specs.Option.{option_and_then, option_zip}
 use Rattle.lpt_packet.specs.declared.direction.Direction.{Direction}
 use Rattle.lpt_packet.specs.declared.direction.Direction.TheVariants.{Up, Down}
 use Rattle.lpt_events.specs.declared.lane.Lane.{Lane}
@@ -13,43 +13,38 @@ use Rattle.lpt_words.specs.declared.names.Keyword.{Keyword}
 use Rattle.lpt_words.specs.declared.names.Keyword.TheVariants as key
 use Rattle.lpt_words.specs.Numbers.{is_word, number_of}
 
--- what the first word of a line names that asks something of a message
-abbrev pub message_keyword_of : List ℕ → Option Keyword
-message_keyword_of word =
-    if is_word (codes "open") word then Some key.Open
-    else if is_word (codes "send") word then Some key.Send
-    else if is_word (codes "finish") word then Some key.Finish
-    else if is_word (codes "plain") word then Some key.Plain
-    else if is_word (codes "load") word then Some key.Load
-    else if is_word (codes "retire") word then Some key.Retire
-    else None
+-- the first words of lines, with what each names
+abbrev pub keywords : List (List ℕ × Keyword)
+keywords =
+    (codes "open", key.Open)
+    ∷ (codes "send", key.Send)
+    ∷ (codes "finish", key.Finish)
+    ∷ (codes "plain", key.Plain)
+    ∷ (codes "load", key.Load)
+    ∷ (codes "retire", key.Retire)
+    ∷ (codes "lose", key.Lose)
+    ∷ (codes "damage", key.Damage)
+    ∷ (codes "take", key.Take)
+    ∷ (codes "deliver", key.Deliver)
+    ∷ (codes "pass", key.Pass)
+    ∷ (codes "show", key.Show)
+    ∷ (codes "tick", key.Tick)
+    ∷ (codes "expire", key.Expire)
+    ∷ (codes "claim", key.Claim)
+    ∷ (codes "commit", key.Commit)
+    ∷ (codes "apply", key.Apply)
+    ∷ (codes "work", key.Work)
+    ∷ (codes "restart", key.Restart)
+    ∷ []
 
--- what it names that happens to a packet, or shows
-abbrev pub packet_keyword_of : List ℕ → Option Keyword
-packet_keyword_of word =
-    if is_word (codes "lose") word then Some key.Lose
-    else if is_word (codes "damage") word then Some key.Damage
-    else if is_word (codes "take") word then Some key.Take
-    else if is_word (codes "deliver") word then Some key.Deliver
-    else if is_word (codes "pass") word then Some key.Pass
-    else if is_word (codes "show") word then Some key.Show
-    else None
-
--- what it names that nodes and workers do
-abbrev pub node_keyword_of : List ℕ → Option Keyword
-node_keyword_of word =
-    if is_word (codes "tick") word then Some key.Tick
-    else if is_word (codes "expire") word then Some key.Expire
-    else if is_word (codes "claim") word then Some key.Claim
-    else if is_word (codes "commit") word then Some key.Commit
-    else if is_word (codes "apply") word then Some key.Apply
-    else if is_word (codes "work") word then Some key.Work
-    else if is_word (codes "restart") word then Some key.Restart
-    else None
+-- what a word names by the first of these rows that has it
+abbrev pub keyword_in : List (List ℕ × Keyword) → List ℕ → Option Keyword
+keyword_in [] word = None
+keyword_in (row ∷ rows) word = if is_word row.0 word then Some row.1 else keyword_in rows word
 
 -- what the first word of a line names
 abbrev pub keyword_of : List ℕ → Option Keyword
-keyword_of word = option_or (message_keyword_of word) (option_or (packet_keyword_of word) (node_keyword_of word))
+keyword_of word = keyword_in keywords word
 
 -- the direction that a word names
 abbrev pub direction_of : List ℕ → Option Direction
@@ -70,6 +65,10 @@ lane_of word =
 -- the number of a transaction or a part
 abbrev pub u16_of : List ℕ → Option ℕ
 u16_of word = number_of 65535 word
+
+-- the direction and the identifier of a transaction
+abbrev pub name_of : List ℕ → List ℕ → Option (Direction × ℕ)
+name_of direction id = option_zip (direction_of direction) (u16_of id)
 
 -- acknowledgement flags
 abbrev pub flags_of : List ℕ → Option ℕ

@@ -7,68 +7,35 @@ ghost use Rattle.lpt_words.specs.Grammar.{arguments_of, is_comment, reading_of, 
 use crate::load::{Load, read_load};
 use crate::messages::{read_finish, read_open, read_plain, read_retire, read_send};
 use crate::names::{Keyword, read_keyword};
-use crate::nodes::{read_alone, read_claim, read_commit, read_expire, read_restart, read_tick};
+use crate::nodes::{read_claim, read_commit, read_expire, read_restart, read_tick};
 use crate::packets::{read_damage, read_deliver, read_lose, read_pass, read_take};
-use crate::showing::read_show;
-use crate::words::{LONGEST_LINE, split_word};
-use lpt_events::{Lane, Side, Worker};
-use lpt_packet::{Direction, Name, Octets};
-use lpt_pus::AckFlags;
+use crate::showing::{Show, read_show};
+use crate::words::{LONGEST_LINE, is_blank, split_word};
+use lpt_events::{Event, Lane, Side};
 use std::alloc::{AllocError, Global};
 
 /// What a line asks for.
-#[derive(Debug, Drop, PartialEq, Eq)]
+#[derive(Drop, PartialEq, Eq)]
 pub enum Command {
-    /// `open DIRECTION ID HEX`: opens a message of this name.
-    Open(Direction, Name, Octets),
-    /// `send DIRECTION ID K`: puts the part of this number of an open message on the link.
-    Send(Direction, Name, u16),
-    /// `plain FLAGS SERVICE SUBTYPE HEX`: puts a plain request of this body on the link.
-    Plain(AckFlags, u8, u8, Octets),
+    /// The event that the line names: `open DIRECTION ID HEX`, `send DIRECTION ID K`,
+    /// `plain FLAGS SERVICE SUBTYPE HEX`, `finish DIRECTION ID`, `lose N`, `damage DIRECTION HEX`,
+    /// `take LANE N`, `deliver LANE`, `expire NODE`, `claim WORKER`, `commit WORKER`, `apply`,
+    /// `retire DIRECTION ID` or `restart NODE`.
+    Event(Event),
     /// `load ID SEQ FLAGS MEM ADDR HEX [ADDR HEX ..]`: opens the packet of a load as a message up.
     Load(Load),
-    /// `lose N`: loses the held packet of this number.
-    Lose(u64),
-    /// `damage DIRECTION HEX`: puts these octets, which are no packet, on the link.
-    Damage(Direction, Octets),
-    /// `take LANE N`: takes the packet of this number into the lane's hand.
-    Take(Lane, u64),
-    /// `deliver LANE`: delivers the packet in the lane's hand.
-    Deliver(Lane),
     /// `pass LANE N`: takes the packet of this number, and then delivers it.
     Pass(Lane, u64),
-    /// `finish DIRECTION ID`: closes an open sender.
-    Finish(Direction, Name),
     /// `tick NODE [COUNT]`: so many ticks of the node's clock, at least 1.
     Tick(Side, u32),
-    /// `expire NODE`: ends the node's oldest overdue reception.
-    Expire(Side),
-    /// `claim WORKER`: gives a worker the oldest request that none has claimed.
-    Claim(Worker),
-    /// `commit WORKER`: hands in the reading of the worker's request.
-    Commit(Worker),
-    /// `apply`: executes the oldest request.
-    Apply,
     /// `work`: claims and commits a request with the first worker, and executes the oldest.
     Work,
-    /// `retire DIRECTION ID`: frees a transaction at both ends.
-    Retire(Direction, Name),
-    /// `restart NODE`: starts a node anew.
-    Restart(Side),
-    /// `show released`: prints the messages that were released.
-    ShowReleased,
-    /// `show packet N`: prints the octets of the packet of this number.
-    ShowPacket(u64),
-    /// `show memory ID ADDR LEN`: prints so many octets of a memory, from an address on.
-    ShowMemory(u8, u32, u32),
-    /// `show clear DIRECTION ID`: prints whether nothing is left of this transaction.
-    ShowClear(Direction, Name),
-    /// `show journal`: prints how long the journal is.
-    ShowJournal,
+    /// `show ..`: prints what is there, and changes nothing.
+    Show(Show),
 }
 
 /// What a line says.
-#[derive(Debug, Drop, PartialEq, Eq)]
+#[derive(Drop, PartialEq, Eq)]
 pub enum Reading {
     /// Nothing: the line is blank or a comment.
     Skipped,
@@ -142,7 +109,7 @@ fn read_arguments(
         Keyword::Take => Ok(read_take(rest)),
         Keyword::Deliver => Ok(read_deliver(rest)),
         Keyword::Pass => Ok(read_pass(rest)),
-        Keyword::Show => Ok(read_show(rest)),
+        Keyword::Show => Ok(read_show(rest).map(Command::Show)),
         Keyword::Finish => Ok(read_finish(rest)),
         Keyword::Tick => Ok(read_tick(rest)),
         Keyword::Expire => Ok(read_expire(rest)),
@@ -150,8 +117,8 @@ fn read_arguments(
         Keyword::Load => Ok(read_load(alloc, rest)?.map(Command::Load)),
         Keyword::Claim => Ok(read_claim(rest)),
         Keyword::Commit => Ok(read_commit(rest)),
-        Keyword::Apply => Ok(read_alone(rest, Command::Apply)),
-        Keyword::Work => Ok(read_alone(rest, Command::Work)),
+        Keyword::Apply => Ok(is_blank(rest).then_some(Command::Event(Event::Apply))),
+        Keyword::Work => Ok(is_blank(rest).then_some(Command::Work)),
         Keyword::Retire => Ok(read_retire(rest)),
         Keyword::Restart => Ok(read_restart(rest)),
     }

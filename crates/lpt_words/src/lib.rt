@@ -18,4 +18,5 @@ mod words;
 pub use grammar::{Command, Reading, read_line};
 pub use load::Load;
 pub use numbers::{read_hex, read_number};
+pub use showing::Show;
 pub use words::{ended, split_line, split_word};

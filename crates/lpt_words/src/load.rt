@@ -28,7 +28,7 @@ const MOST_AREAS: u16 = 255;
 
 /// A load that a line asks for: a message of ground's that loads areas into a memory. It keeps in its
 /// type that it can be written.
-#[derive(Debug, Drop)]
+#[derive(Drop)]
 pub struct Load {
     id: Name,
     count: u16,

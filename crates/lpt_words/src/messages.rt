@@ -1,13 +1,15 @@
 //! What the lines ask for that hand messages and requests to a node.
 
 ghost use Rattle.std.specs.Prelude.{◌≡◌, IsSome, IfOk, OnErr};
-ghost use Rattle.lpt_words.specs.Grammar.{finish_of, open_of, plain_of, retire_of, send_of};
+ghost use Rattle.lpt_words.specs.Grammar.{finish_of, open_of, plain_of, retire_of, send_of, transaction_of};
 ghost use Rattle.lpt_words.specs.Words.{words};
 
 use crate::grammar::Command;
-use crate::names::{read_direction, read_flags, read_u8, read_u16};
+use crate::names::{read_flags, read_name, read_u8, read_u16};
 use crate::numbers::read_hex;
-use crate::words::split_word;
+use crate::words::{split_word, three_words, two_words};
+use lpt_events::Event;
+use lpt_packet::{Direction, Name};
 use std::alloc::{AllocError, Global};
 
 // The words after `open`.
@@ -15,72 +17,50 @@ pub(crate) fn read_open(alloc: Global, rest: &[u8]) -> Result<Option<Command>, A
     ensures says { IfOk result (λ r. r ≡ open_of (words rest.now)) }
     ensures asked { OnErr result (IsSome (open_of (words rest.now))) }
 {
-    let Some((direction, rest)) = split_word(rest) else {
+    let Some((direction, id, message)) = three_words(rest) else {
         return Ok(None);
     };
-    let Some((id, rest)) = split_word(rest) else {
-        return Ok(None);
-    };
-    let Some((message, rest)) = split_word(rest) else {
-        return Ok(None);
-    };
-    if split_word(rest).is_some() {
-        return Ok(None);
-    }
-    let Some(direction) = read_direction(direction) else {
-        return Ok(None);
-    };
-    let Some(id) = read_u16(id) else {
+    let Some((direction, id)) = read_name(direction, id) else {
         return Ok(None);
     };
     let Some(message) = read_hex(alloc, message)? else {
         return Ok(None);
     };
-    Ok(Some(Command::Open(direction, id, message)))
+    Ok(Some(Command::Event(Event::Open(direction, id, message))))
 }
 
 // The words after `send`.
 pub(crate) fn read_send(rest: &[u8]) -> Option<Command>
     ensures { result ≡ send_of (words rest.now) }
 {
-    let (direction, rest) = split_word(rest)?;
-    let (id, rest) = split_word(rest)?;
-    let (part, rest) = split_word(rest)?;
-    if split_word(rest).is_some() {
-        return None;
-    }
-    let direction = read_direction(direction)?;
-    let id = read_u16(id)?;
+    let (direction, id, part) = three_words(rest)?;
+    let (direction, id) = read_name(direction, id)?;
     let part = read_u16(part)?;
-    Some(Command::Send(direction, id, part))
+    Some(Command::Event(Event::Send(direction, id, part)))
 }
 
 // The words after `finish`.
 pub(crate) fn read_finish(rest: &[u8]) -> Option<Command>
     ensures { result ≡ finish_of (words rest.now) }
 {
-    let (direction, rest) = split_word(rest)?;
-    let (id, rest) = split_word(rest)?;
-    if split_word(rest).is_some() {
-        return None;
-    }
-    let direction = read_direction(direction)?;
-    let id = read_u16(id)?;
-    Some(Command::Finish(direction, id))
+    let (direction, id) = read_transaction(rest)?;
+    Some(Command::Event(Event::Finish(direction, id)))
 }
 
 // The words after `retire`.
 pub(crate) fn read_retire(rest: &[u8]) -> Option<Command>
     ensures { result ≡ retire_of (words rest.now) }
 {
-    let (direction, rest) = split_word(rest)?;
-    let (id, rest) = split_word(rest)?;
-    if split_word(rest).is_some() {
-        return None;
-    }
-    let direction = read_direction(direction)?;
-    let id = read_u16(id)?;
-    Some(Command::Retire(direction, id))
+    let (direction, id) = read_transaction(rest)?;
+    Some(Command::Event(Event::Retire(direction, id)))
+}
+
+// The direction and the identifier of a transaction, and no further word.
+pub(crate) fn read_transaction(rest: &[u8]) -> Option<(Direction, Name)>
+    ensures { result ≡ transaction_of (words rest.now) }
+{
+    let (direction, id) = two_words(rest)?;
+    read_name(direction, id)
 }
 
 // The words after `plain`.
@@ -91,29 +71,18 @@ pub(crate) fn read_plain(alloc: Global, rest: &[u8]) -> Result<Option<Command>, 
     let Some((flags, rest)) = split_word(rest) else {
         return Ok(None);
     };
-    let Some((service, rest)) = split_word(rest) else {
+    let Some((service, subtype, body)) = three_words(rest) else {
         return Ok(None);
     };
-    let Some((subtype, rest)) = split_word(rest) else {
-        return Ok(None);
-    };
-    let Some((body, rest)) = split_word(rest) else {
-        return Ok(None);
-    };
-    if split_word(rest).is_some() {
-        return Ok(None);
-    }
-    let Some(flags) = read_flags(flags) else {
-        return Ok(None);
-    };
-    let Some(service) = read_u8(service) else {
-        return Ok(None);
-    };
-    let Some(subtype) = read_u8(subtype) else {
+    let (Some(flags), Some(service), Some(subtype)) = (
+        read_flags(flags),
+        read_u8(service),
+        read_u8(subtype),
+    ) else {
         return Ok(None);
     };
     let Some(body) = read_hex(alloc, body)? else {
         return Ok(None);
     };
-    Ok(Some(Command::Plain(flags, service, subtype, body)))
+    Ok(Some(Command::Event(Event::Plain(flags, service, subtype, body))))
 }

@@ -1,11 +1,11 @@
 //! The words of a line that name something, each by itself.
 
-ghost use Rattle.std.specs.Prelude.{◌≡◌};
-ghost use Rattle.lpt_words.specs.Names.{count_of, direction_of, flags_of, keyword_of, lane_of, message_keyword_of, node_keyword_of, node_of, packet_keyword_of, packet_number_of, u8_of, u16_of, u32_of, worker_of};
+ghost use Rattle.std.specs.Prelude.{◌≡◌, map};
+ghost use Rattle.lpt_words.specs.Names.{count_of, direction_of, flags_of, keyword_in, keyword_of, lane_of, name_of, node_of, packet_number_of, u8_of, u16_of, u32_of, worker_of};
 
 use crate::numbers::read_number;
 use lpt_events::{Lane, Side, Worker};
-use lpt_packet::Direction;
+use lpt_packet::{Direction, Name};
 use lpt_pus::AckFlags;
 
 /// The greatest number of ten digits.
@@ -17,8 +17,8 @@ const GREATEST_FLAGS: u64 = 15;
 /// The most ticks that one line can ask for.
 const MOST_TICKS: u64 = 100_000;
 
-/// The first word of a line.
-#[derive(Clone, Copy, Debug, PartialEq, Eq)]
+/// What the first word of a line names.
+#[derive(Clone, Copy)]
 pub(crate) enum Keyword {
     Open,
     Send,
@@ -41,76 +41,46 @@ pub(crate) enum Keyword {
     Restart,
 }
 
+/// The first words of lines, with what each names.
+static KEYWORDS: [(&str, Keyword); 19] = [
+    ("open", Keyword::Open),
+    ("send", Keyword::Send),
+    ("finish", Keyword::Finish),
+    ("plain", Keyword::Plain),
+    ("load", Keyword::Load),
+    ("retire", Keyword::Retire),
+    ("lose", Keyword::Lose),
+    ("damage", Keyword::Damage),
+    ("take", Keyword::Take),
+    ("deliver", Keyword::Deliver),
+    ("pass", Keyword::Pass),
+    ("show", Keyword::Show),
+    ("tick", Keyword::Tick),
+    ("expire", Keyword::Expire),
+    ("claim", Keyword::Claim),
+    ("commit", Keyword::Commit),
+    ("apply", Keyword::Apply),
+    ("work", Keyword::Work),
+    ("restart", Keyword::Restart),
+];
+
 // What the first word of a line asks for.
 pub(crate) fn read_keyword(word: &[u8]) -> Option<Keyword>
     ensures { result ≡ keyword_of word.now }
 {
-    message_keyword(word).or(packet_keyword(word).or(node_keyword(word)))
+    keyword_in(&KEYWORDS, word)
 }
 
-// The words that ask something of a message.
-fn message_keyword(word: &[u8]) -> Option<Keyword>
-    ensures { result ≡ message_keyword_of word.now }
+// What a word names by the first of these rows that has it.
+fn keyword_in(rows: &[(&str, Keyword)], word: &[u8]) -> Option<Keyword>
+    ensures { result ≡ keyword_in (map (λ row. (row.0.now, row.1)) rows.now) word.now }
 {
-    if word == b"open".as_slice() {
-        Some(Keyword::Open)
-    } else if word == b"send".as_slice() {
-        Some(Keyword::Send)
-    } else if word == b"finish".as_slice() {
-        Some(Keyword::Finish)
-    } else if word == b"plain".as_slice() {
-        Some(Keyword::Plain)
-    } else if word == b"load".as_slice() {
-        Some(Keyword::Load)
-    } else if word == b"retire".as_slice() {
-        Some(Keyword::Retire)
-    } else {
-        None
+    for row in rows {
+        if word == row.0.as_bytes() {
+            return Some(row.1);
+        }
     }
-}
-
-// The words for what happens to a packet, and for showing.
-fn packet_keyword(word: &[u8]) -> Option<Keyword>
-    ensures { result ≡ packet_keyword_of word.now }
-{
-    if word == b"lose".as_slice() {
-        Some(Keyword::Lose)
-    } else if word == b"damage".as_slice() {
-        Some(Keyword::Damage)
-    } else if word == b"take".as_slice() {
-        Some(Keyword::Take)
-    } else if word == b"deliver".as_slice() {
-        Some(Keyword::Deliver)
-    } else if word == b"pass".as_slice() {
-        Some(Keyword::Pass)
-    } else if word == b"show".as_slice() {
-        Some(Keyword::Show)
-    } else {
-        None
-    }
-}
-
-// The words for what nodes and workers do.
-fn node_keyword(word: &[u8]) -> Option<Keyword>
-    ensures { result ≡ node_keyword_of word.now }
-{
-    if word == b"tick".as_slice() {
-        Some(Keyword::Tick)
-    } else if word == b"expire".as_slice() {
-        Some(Keyword::Expire)
-    } else if word == b"claim".as_slice() {
-        Some(Keyword::Claim)
-    } else if word == b"commit".as_slice() {
-        Some(Keyword::Commit)
-    } else if word == b"apply".as_slice() {
-        Some(Keyword::Apply)
-    } else if word == b"work".as_slice() {
-        Some(Keyword::Work)
-    } else if word == b"restart".as_slice() {
-        Some(Keyword::Restart)
-    } else {
-        None
-    }
+    None
 }
 
 // A direction.
@@ -149,6 +119,13 @@ pub(crate) fn read_u16(word: &[u8]) -> Option<u16>
 {
     let number = read_number(word, u64::from(u16::MAX))?;
     Some(number as u16)
+}
+
+// The direction and the identifier of a transaction.
+pub(crate) fn read_name(direction: &[u8], id: &[u8]) -> Option<(Direction, Name)>
+    ensures { result ≡ name_of direction.now id.now }
+{
+    read_direction(direction).zip(read_u16(id))
 }
 
 // Acknowledgement flags.

@@ -7,19 +7,16 @@ ghost use Rattle.lpt_words.specs.Words.{words};
 use crate::grammar::Command;
 use crate::names::{read_direction, read_lane, read_packet_number};
 use crate::numbers::read_hex;
-use crate::words::split_word;
-use lpt_events::Lane;
+use crate::words::{one_word, two_words};
+use lpt_events::{Event, Lane};
 use std::alloc::{AllocError, Global};
 
 // The words after `lose`.
 pub(crate) fn read_lose(rest: &[u8]) -> Option<Command>
     ensures { result ≡ lose_of (words rest.now) }
 {
-    let (number, rest) = split_word(rest)?;
-    if split_word(rest).is_some() {
-        return None;
-    }
-    Some(Command::Lose(read_packet_number(number)?))
+    let number = read_packet_number(one_word(rest)?)?;
+    Some(Command::Event(Event::Lose(number)))
 }
 
 // The words after `damage`.
@@ -27,22 +24,16 @@ pub(crate) fn read_damage(alloc: Global, rest: &[u8]) -> Result<Option<Command>,
     ensures says { IfOk result (λ r. r ≡ damage_of (words rest.now)) }
     ensures asked { OnErr result (IsSome (damage_of (words rest.now))) }
 {
-    let Some((direction, rest)) = split_word(rest) else {
+    let Some((direction, octets)) = two_words(rest) else {
         return Ok(None);
     };
-    let Some((octets, rest)) = split_word(rest) else {
-        return Ok(None);
-    };
-    if split_word(rest).is_some() {
-        return Ok(None);
-    }
     let Some(direction) = read_direction(direction) else {
         return Ok(None);
     };
     let Some(octets) = read_hex(alloc, octets)? else {
         return Ok(None);
     };
-    Ok(Some(Command::Damage(direction, octets)))
+    Ok(Some(Command::Event(Event::Damage(direction, octets))))
 }
 
 // The words after `take`.
@@ -50,19 +41,15 @@ pub(crate) fn read_take(rest: &[u8]) -> Option<Command>
     ensures { result ≡ take_of (words rest.now) }
 {
     let (lane, packet) = read_lane_and_packet(rest)?;
-    Some(Command::Take(lane, packet))
+    Some(Command::Event(Event::Take(lane, packet)))
 }
 
 // The words after `deliver`.
 pub(crate) fn read_deliver(rest: &[u8]) -> Option<Command>
     ensures { result ≡ deliver_of (words rest.now) }
 {
-    let (lane, rest) = split_word(rest)?;
-    if split_word(rest).is_some() {
-        return None;
-    }
-    let lane = read_lane(lane)?;
-    Some(Command::Deliver(lane))
+    let lane = read_lane(one_word(rest)?)?;
+    Some(Command::Event(Event::Deliver(lane)))
 }
 
 // The words after `pass`.
@@ -77,12 +64,6 @@ pub(crate) fn read_pass(rest: &[u8]) -> Option<Command>
 fn read_lane_and_packet(rest: &[u8]) -> Option<(Lane, u64)>
     ensures { result ≡ lane_and_packet_of (words rest.now) }
 {
-    let (lane, rest) = split_word(rest)?;
-    let (packet, rest) = split_word(rest)?;
-    if split_word(rest).is_some() {
-        return None;
-    }
-    let lane = read_lane(lane)?;
-    let packet = read_packet_number(packet)?;
-    Some((lane, packet))
+    let (lane, packet) = two_words(rest)?;
+    read_lane(lane).zip(read_packet_number(packet))
 }

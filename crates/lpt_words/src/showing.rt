@@ -1,72 +1,81 @@
 //! What the lines ask for that begin with `show`.
 
 ghost use Rattle.std.specs.Prelude.{◌≡◌};
-ghost use Rattle.lpt_words.specs.Grammar.{show_memory_of, show_clear_of, show_of, show_whole_of};
+ghost use Rattle.lpt_words.specs.Grammar.{show_memory_of, show_clear_of, show_of, show_packet_of, show_whole_of};
 ghost use Rattle.lpt_words.specs.Words.{words};
 
-use crate::grammar::Command;
-use crate::names::{read_direction, read_packet_number, read_u8, read_u16, read_u32};
-use crate::words::split_word;
+use crate::messages::read_transaction;
+use crate::names::{read_packet_number, read_u8, read_u32};
+use crate::words::{is_blank, one_word, split_word, three_words};
+use lpt_packet::{Direction, Name};
+
+/// What a line asks to be printed.
+#[derive(Clone, Copy, PartialEq, Eq)]
+pub enum Show {
+    /// `show released`: the messages that were released.
+    Released,
+    /// `show packet N`: the octets of the packet of this number.
+    Packet(u64),
+    /// `show memory ID ADDR LEN`: so many octets of a memory, from an address on.
+    Memory(u8, u32, u32),
+    /// `show clear DIRECTION ID`: whether nothing is left of this transaction.
+    Clear(Direction, Name),
+    /// `show journal`: how long the journal is.
+    Journal,
+}
 
 // The words after `show`.
-pub(crate) fn read_show(rest: &[u8]) -> Option<Command>
+pub(crate) fn read_show(rest: &[u8]) -> Option<Show>
     ensures { result ≡ show_of (words rest.now) }
 {
-    let (what, more) = split_word(rest)?;
-    let Some((packet, rest)) = split_word(more) else {
-        return read_show_whole(what);
-    };
-    if what == b"memory".as_slice() {
-        return read_show_memory(more);
+    let (what, rest) = split_word(rest)?;
+    if is_blank(rest) {
+        read_show_whole(what)
+    } else if what == b"memory".as_slice() {
+        read_show_memory(rest)
+    } else if what == b"clear".as_slice() {
+        read_show_clear(rest)
+    } else if what == b"packet".as_slice() {
+        read_show_packet(rest)
+    } else {
+        None
     }
-    if what == b"clear".as_slice() {
-        return read_show_clear(more);
-    }
-    if split_word(rest).is_some() || what != b"packet".as_slice() {
-        return None;
-    }
-    let packet = read_packet_number(packet)?;
-    Some(Command::ShowPacket(packet))
+}
+
+// The words after `show packet`.
+fn read_show_packet(rest: &[u8]) -> Option<Show>
+    ensures { result ≡ show_packet_of (words rest.now) }
+{
+    let number = read_packet_number(one_word(rest)?)?;
+    Some(Show::Packet(number))
 }
 
 // The words after `show memory`.
-fn read_show_memory(rest: &[u8]) -> Option<Command>
+fn read_show_memory(rest: &[u8]) -> Option<Show>
     ensures { result ≡ show_memory_of (words rest.now) }
 {
-    let (id, rest) = split_word(rest)?;
-    let (address, rest) = split_word(rest)?;
-    let (len, rest) = split_word(rest)?;
-    if split_word(rest).is_some() {
-        return None;
-    }
+    let (id, address, len) = three_words(rest)?;
     let id = read_u8(id)?;
-    let address = read_u32(address)?;
-    let len = read_u32(len)?;
-    Some(Command::ShowMemory(id, address, len))
+    let (address, len) = read_u32(address).zip(read_u32(len))?;
+    Some(Show::Memory(id, address, len))
 }
 
 // The words after `show clear`.
-fn read_show_clear(rest: &[u8]) -> Option<Command>
+fn read_show_clear(rest: &[u8]) -> Option<Show>
     ensures { result ≡ show_clear_of (words rest.now) }
 {
-    let (direction, rest) = split_word(rest)?;
-    let (id, rest) = split_word(rest)?;
-    if split_word(rest).is_some() {
-        return None;
-    }
-    let direction = read_direction(direction)?;
-    let id = read_u16(id)?;
-    Some(Command::ShowClear(direction, id))
+    let (direction, id) = read_transaction(rest)?;
+    Some(Show::Clear(direction, id))
 }
 
 // What is shown whole.
-fn read_show_whole(word: &[u8]) -> Option<Command>
+fn read_show_whole(word: &[u8]) -> Option<Show>
     ensures { result ≡ show_whole_of word.now }
 {
     if word == b"released".as_slice() {
-        Some(Command::ShowReleased)
+        Some(Show::Released)
     } else if word == b"journal".as_slice() {
-        Some(Command::ShowJournal)
+        Some(Show::Journal)
     } else {
         None
     }

@@ -1,8 +1,8 @@
 //! Texts cut into lines, and lines into words.
 
-ghost use Rattle.std.specs.Prelude.{◌≡◌, ◌≢◌, ◌==◌, ◌<◌, ◌≤◌, [], ◌∷◌, length, position, slice_index, MatchOption, IfSome};
+ghost use Rattle.std.specs.Prelude.{◌≡◌, ◌≢◌, ◌==◌, ◌<◌, ◌≤◌, [], ◌∷◌, length, position, slice_index, Some, None, MatchOption, IfSome};
 ghost use Rattle.std.specs.Str.Lines.{strip_carriage_return};
-ghost use Rattle.lpt_words.specs.Words.{ended_line, lines, words};
+ghost use Rattle.lpt_words.specs.Words.{ended_line, is_empty, lines, one_of, three_of, two_of, words};
 
 /// The most octets of a line, with the carriage return that its line feed drops.
 pub const LONGEST_LINE: usize = 140_000;
@@ -25,6 +25,42 @@ pub fn split_word(line: &[u8]) -> Option<(&[u8], &[u8])>
         return None;
     }
     Some(cut_word(rest))
+}
+
+// Whether a line has no word.
+pub(crate) fn is_blank(line: &[u8]) -> bool
+    ensures { result ≡ is_empty (words line.now) }
+{
+    split_word(line).is_none()
+}
+
+// The word of a line that has no other.
+pub(crate) fn one_word(line: &[u8]) -> Option<&[u8]>
+    ensures { MatchOption result (one_of (words line.now) ≡ None)
+        (λ word. one_of (words line.now) ≡ Some word.now) }
+{
+    let (word, rest) = split_word(line)?;
+    is_blank(rest).then_some(word)
+}
+
+// The words of a line that has two.
+pub(crate) fn two_words(line: &[u8]) -> Option<(&[u8], &[u8])>
+    ensures { MatchOption result (two_of (words line.now) ≡ None)
+        (λ two. two_of (words line.now) ≡ Some (two.0.now, two.1.now)) }
+{
+    let (first, rest) = split_word(line)?;
+    let second = one_word(rest)?;
+    Some((first, second))
+}
+
+// The words of a line that has three.
+pub(crate) fn three_words(line: &[u8]) -> Option<(&[u8], &[u8], &[u8])>
+    ensures { MatchOption result (three_of (words line.now) ≡ None)
+        (λ three. three_of (words line.now) ≡ Some (three.0.now, three.1.now, three.2.now)) }
+{
+    let (first, rest) = split_word(line)?;
+    let (second, third) = two_words(rest)?;
+    Some((first, second, third))
 }
 
 /// Splits the first line of a text from what follows it.

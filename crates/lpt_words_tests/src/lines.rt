@@ -1,10 +1,12 @@
 //! Lines of scripts with what they say, worked out by hand.
 
-use lpt_events::{Lane, Side};
+use lpt_events::{Event, Lane, Side};
 use lpt_memory::Area;
 use lpt_packet::{Direction, Octets};
 use lpt_pus::AckFlags;
-use lpt_words::{Command, Load, Reading, read_hex, read_line, read_number, split_line, split_word};
+use lpt_words::{
+    Command, Load, Reading, Show, read_hex, read_line, read_number, split_line, split_word,
+};
 use std::alloc::{AllocError, Global};
 use std::process::Abort;
 use std::test::Fail;
@@ -30,28 +32,38 @@ fn reads_each_line_of_packets(rt: HostRuntime) {
         &rt,
         alloc,
         "send up 0 1",
-        Command::Send(Direction::Up, 0, 1),
+        Command::Event(Event::Send(Direction::Up, 0, 1)),
     );
     asks(
         &rt,
         alloc,
         "send down 65535 065535",
-        Command::Send(Direction::Down, 65535, 65535),
+        Command::Event(Event::Send(Direction::Down, 65535, 65535)),
     );
-    asks(&rt, alloc, "take s1 0", Command::Take(Lane::S1, 0));
+    asks(
+        &rt,
+        alloc,
+        "take s1 0",
+        Command::Event(Event::Take(Lane::S1, 0)),
+    );
     asks(
         &rt,
         alloc,
         "take s2 9999999999",
-        Command::Take(Lane::S2, 9_999_999_999),
+        Command::Event(Event::Take(Lane::S2, 9_999_999_999)),
     );
     asks(
         &rt,
         alloc,
         "take g1 0000000012",
-        Command::Take(Lane::G1, 12),
+        Command::Event(Event::Take(Lane::G1, 12)),
     );
-    asks(&rt, alloc, "deliver g2", Command::Deliver(Lane::G2));
+    asks(
+        &rt,
+        alloc,
+        "deliver g2",
+        Command::Event(Event::Deliver(Lane::G2)),
+    );
     asks(&rt, alloc, "  pass   g1  3 ", Command::Pass(Lane::G1, 3));
 }
 
@@ -62,7 +74,7 @@ fn reads_each_line_of_nodes(rt: HostRuntime) {
         &rt,
         alloc,
         "finish down 9",
-        Command::Finish(Direction::Down, 9),
+        Command::Event(Event::Finish(Direction::Down, 9)),
     );
     asks(&rt, alloc, "tick craft", Command::Tick(Side::Craft, 1));
     asks(
@@ -71,34 +83,49 @@ fn reads_each_line_of_nodes(rt: HostRuntime) {
         "tick ground 100000",
         Command::Tick(Side::Ground, 100_000),
     );
-    asks(&rt, alloc, "expire ground", Command::Expire(Side::Ground));
-    asks(&rt, alloc, "retire up 7", Command::Retire(Direction::Up, 7));
-    asks(&rt, alloc, "restart craft", Command::Restart(Side::Craft));
+    asks(
+        &rt,
+        alloc,
+        "expire ground",
+        Command::Event(Event::Expire(Side::Ground)),
+    );
+    asks(
+        &rt,
+        alloc,
+        "retire up 7",
+        Command::Event(Event::Retire(Direction::Up, 7)),
+    );
+    asks(
+        &rt,
+        alloc,
+        "restart craft",
+        Command::Event(Event::Restart(Side::Craft)),
+    );
 }
 
 #[test]
 fn reads_each_show(rt: HostRuntime) {
     let alloc = rt.alloc();
-    asks(&rt, alloc, "show released", Command::ShowReleased);
+    asks(&rt, alloc, "show released", Command::Show(Show::Released));
     asks(
         &rt,
         alloc,
         "show packet 4294967296",
-        Command::ShowPacket(4_294_967_296),
+        Command::Show(Show::Packet(4_294_967_296)),
     );
     asks(
         &rt,
         alloc,
         "show memory 1 0 4",
-        Command::ShowMemory(1, 0, 4),
+        Command::Show(Show::Memory(1, 0, 4)),
     );
     asks(
         &rt,
         alloc,
         "show memory 255 4294967295 0",
-        Command::ShowMemory(255, 4_294_967_295, 0),
+        Command::Show(Show::Memory(255, 4_294_967_295, 0)),
     );
-    asks(&rt, alloc, "show journal", Command::ShowJournal);
+    asks(&rt, alloc, "show journal", Command::Show(Show::Journal));
 }
 
 const MESSAGES: [(&str, &[u8]); 4] = [
@@ -116,7 +143,7 @@ fn reads_the_octets_of_a_message(rt: HostRuntime) -> Result<(), Fail> {
             &rt,
             rt.alloc(),
             line,
-            Command::Open(Direction::Down, 7, message),
+            Command::Event(Event::Open(Direction::Down, 7, message)),
         );
     }
     Ok(())
@@ -145,7 +172,7 @@ fn reads_plain_requests(rt: HostRuntime) -> Result<(), Fail> {
         &rt,
         rt.alloc(),
         "plain 15 255 0 01fF",
-        Command::Plain(flags, 255, 0, body),
+        Command::Event(Event::Plain(flags, 255, 0, body)),
     );
     Ok(())
 }

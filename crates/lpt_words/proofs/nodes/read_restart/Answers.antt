@@ -1,6 +1,7 @@
 -- The node is the one that the word names.
 use Rattle.std.proofs.Common.{◌≡◌, sym, Some, arith}
 use Rattle.std.proofs.lemmas.Grind.{common_steps}
+use Rattle.lpt_events.specs.declared.event.Event.TheVariants as event
 use Rattle.lpt_words.specs.declared.grammar.Command.TheVariants as command
 use Rattle.lpt_words.specs.Grammar.{restart_of}
 use Rattle.lpt_words.specs.Words.{words}
@@ -8,6 +9,6 @@ use Rattle.lpt_words.proofs.nodes.read_restart.Goals as goal
 
 pub returns : goal.returns
 returns c =
-    let is : restart_of (words c.args.rest.now) ≡ Some (command.Restart c.in_ok-node-2.node) =
+    let is : restart_of (words c.args.rest.now) ≡ Some (command.Event (event.Restart c.in_ok-node.node)) =
     grind (arith, common_steps) in
     sym is
