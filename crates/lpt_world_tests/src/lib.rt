@@ -12,13 +12,9 @@ mod anew;
 #[cfg(test)]
 mod contradictions;
 #[cfg(test)]
-mod counting;
-#[cfg(test)]
-mod damage;
+mod executing;
 #[cfg(test)]
 mod execution_growths;
-#[cfg(test)]
-mod executions;
 #[cfg(test)]
 mod growths;
 #[cfg(test)]
@@ -28,6 +24,8 @@ mod packets;
 #[cfg(test)]
 mod paths;
 #[cfg(test)]
+mod playing;
+#[cfg(test)]
 mod readers;
 #[cfg(test)]
 mod receiving;
@@ -36,16 +34,16 @@ mod refusals;
 #[cfg(test)]
 mod renewal_growths;
 #[cfg(test)]
-mod scenes;
+mod rows;
+#[cfg(test)]
+mod runs;
 #[cfg(test)]
 mod sending;
 #[cfg(test)]
-mod stations;
+mod shown;
 #[cfg(test)]
-mod steps;
+mod stations;
 #[cfg(test)]
 mod walk_growths;
 #[cfg(test)]
 mod walking;
-#[cfg(test)]
-mod workers;
