@@ -1,6 +1,6 @@
 //! Parts that contradict what a lone node has kept, and parts at the end of the longest message.
 
-use crate::packets::{FIRST_DOWN, FIRST_UP};
+use crate::packets::{FIRST_DOWN, FIRST_UP, MIDDLE_DOWN, MIDDLE_UP};
 use crate::playing::{Packet, Play, Row, play_all};
 use crate::stations::PASS;
 use lpt_node::Outcome::{self, *};
@@ -23,6 +23,8 @@ const REPORT: [u8; 22] = [
 /// Parts of message 7, to the spacecraft and to ground. Their octets are the first of the message, where
 /// nothing else is said.
 const FIRST: Packet = (&FIRST_UP, &FIRST_DOWN);
+
+const MIDDLE: Packet = (&MIDDLE_UP, &MIDDLE_DOWN);
 
 const OTHER: Packet = (&OTHER_UP, &OTHER_DOWN);
 
@@ -49,7 +51,7 @@ static PLAYS: [Play; 8] = [
         rows: &[
             Row::Hears(FIRST, Kept(7, 1), &[]),
             Row::Hears(OTHER, BROKEN, &REPORT),
-            Row::Hears(FIRST, CLOSED, &[]),
+            Row::Hears(MIDDLE, CLOSED, &[]),
             Row::Receives(7, false),
         ],
     },

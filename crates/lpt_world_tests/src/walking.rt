@@ -5,7 +5,7 @@ use crate::outside::comes_outside;
 use crate::rows::{Path, Row, Step, event_of, octets_of, step_of};
 use crate::shown::{has_opened, has_released, shows, sight_of};
 use lpt_memory::Memories;
-use lpt_world::{ConfigFault, Entry, Puts, Refused, Reply, StepFault, World};
+use lpt_world::{ConfigFault, Entry, Event, Puts, Refused, Reply, StepFault, World};
 use std::alloc::{AllocError, Global};
 use std::process::Abort;
 
@@ -87,28 +87,22 @@ fn comes(
     }
     let (seat, asked, _, _) = step;
     let event = event_of(alloc, asked)?;
+    let copy = event.copy()?;
     let before = sight_of(world);
-    match world.step(seat, event) {
+    match world.step(seat, copy) {
         Ok(reply) => Ok((false, is_reply(reply, &step, before.0))),
         Err(refused) => {
+            let back = is_back(world, &refused, event);
             let same = sight_of(world) == before && tells(alloc, world, path, done)?;
-            let back = is_back(alloc, world, &refused, &step)?;
             let (failed, right) = accepts(world, refused, &step, before.0);
-            Ok((failed, same && back && right))
+            Ok((failed, back && same && right))
         }
     }
 }
 
-// Whether what was refused came back, with the journal's length.
-fn is_back(
-    alloc: Global,
-    world: &World,
-    refused: &Refused,
-    step: &Step,
-) -> Result<bool, AllocError> {
-    let (_, asked, _, _) = *step;
-    let event = event_of(alloc, asked)?;
-    Ok(refused.event == event && refused.at == world.journal().len() as u64)
+// Whether an event came back, with the journal's length.
+fn is_back(world: &World, refused: &Refused, event: Event) -> bool {
+    refused.event == event && refused.at == world.journal().len() as u64
 }
 
 // Whether a growth failed, and whether an event is refused as its step says, or accepted at the second
