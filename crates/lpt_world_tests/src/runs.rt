@@ -36,18 +36,17 @@ type Ran = (u64, Option<StepFault>, Option<Answer>);
 #[test]
 fn runs_events_up_to_the_first_that_is_refused(rt: HostRuntime) {
     let released = Answer::Delivered(Outcome::Released(7, 20));
-    let whole = run(rt.alloc(), Vec::new(rt.alloc()), PATHS[0].rows);
+    let whole = run(rt.alloc(), Ok(Vec::new(rt.alloc())), PATHS[0].rows);
     assert!(rt; whole == Ok((10, None, Some(released))));
-    let front = run(rt.alloc(), Vec::new(rt.alloc()), &NOT_OPEN);
+    let front = run(rt.alloc(), Ok(Vec::new(rt.alloc())), &NOT_OPEN);
     assert!(rt; front == Ok((1, Some(StepFault::NotOpen), Some(Answer::Opened(3)))));
 }
 
 #[test]
-fn a_dump_finds_no_free_name(rt: HostRuntime) -> Result<(), AllocError> {
+fn a_dump_finds_no_free_name(rt: HostRuntime) {
     let none = Answer::Applied(Applied::Code(FailureCode::NoFreeIdentifier));
-    let came = run(rt.alloc(), uses_of_all_names(rt.alloc())?, &DUMP);
+    let came = run(rt.alloc(), uses_of_all_names(rt.alloc()), &DUMP);
     assert!(rt; came == Ok((131_078, None, Some(none))));
-    Ok(())
 }
 
 // Each of the 65,536 names is opened and finished.
@@ -61,8 +60,12 @@ fn uses_of_all_names(alloc: Global) -> Result<Vec<Event>, AllocError> {
 }
 
 // Runs a new world through events, and those of rows behind them.
-fn run(alloc: Global, events: Vec<Event>, rows: &[Row]) -> Result<Ran, AllocError> {
-    let mut events = events;
+fn run(
+    alloc: Global,
+    events: Result<Vec<Event>, AllocError>,
+    rows: &[Row],
+) -> Result<Ran, AllocError> {
+    let mut events = events?;
     for row in rows {
         if let Some((_, asked, _, _)) = step_of(row) {
             events.push(event_of(alloc, asked)?)?;
