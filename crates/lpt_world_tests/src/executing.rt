@@ -4,7 +4,7 @@ ghost use Rattle.std.specs.Prelude.{◌≡◌, IfOk};
 
 use crate::rows::ONE;
 use crate::stations::Station;
-use crate::walking::memories_of;
+use crate::walking::{memories_of, shape_of};
 use lpt_events::Applied;
 use lpt_memory::{Memories, Prepared, Shape, Ticket, prepare};
 use lpt_node::{Ask, NodeFault};
@@ -37,7 +37,9 @@ fn execute(
         return Ok(false);
     };
     let (boot, job) = (ticket.boot(), ticket.job());
-    let reading = read(alloc, &shape, station.config.apid, ticket)?.reading();
+    let prepared = read(alloc, &shape, station.config.apid, ticket);
+    drop(shape);
+    let reading = prepared?.reading();
     match station.node.refusal(&Ask::Apply) {
         Some(NodeFault::NotReady) => {}
         _ => return Ok(false),
@@ -76,12 +78,14 @@ pub(crate) fn is_too_late(
     boot: u64,
     job: u64,
 ) -> Result<bool, AllocError> {
-    let shape = memories_of(alloc, &ONE)?.shape()?;
+    let shape = shape_of(alloc, &ONE)?;
     let Ok(ticket) = station.node.claim() else {
         return Ok(false);
     };
     let right = (ticket.boot(), ticket.job()) == (boot, job);
-    let reading = read(alloc, &shape, station.config.apid, ticket)?.reading();
+    let prepared = read(alloc, &shape, station.config.apid, ticket);
+    drop(shape);
+    let reading = prepared?.reading();
     if station.node.boot() < 10 {
         station.node.restart();
     }

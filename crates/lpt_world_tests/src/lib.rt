@@ -1,5 +1,8 @@
 //! Tests of nodes and worlds: worked rows, what no clause says, and growths of memory that fail.
 //!
+//! Most tests are rows in statics: `walking` goes paths of rows through new worlds, where a growth may
+//! fail, and `playing` plays rows to lone nodes. So a case costs nothing but its row.
+//!
 //! They stand in a crate of their own, so that the libraries are proved without them. A function that
 //! makes a node or a world makes one fallible call with it, its last, and then hands it to `drop`; what
 //! else can fail is done before, or by a function that borrows it. Each way out of a function drops what

@@ -3,10 +3,10 @@
 
 use crate::packets::{FIRST_UP, LAST_UP, LOAD, LOADING, LOADING_AGAIN};
 use crate::rows::{Asked, CONFIG, Content, ONE, Path, Read, Row, SEAT, Shown, Step, octets_of};
-use crate::walking::{memories_of, walk};
+use crate::walking::{shape_of, walk};
 use lpt_events::Worker::W1;
 use lpt_link::Lane::S1;
-use lpt_memory::{Prepared, Shape, Ticket, prepare};
+use lpt_memory::{Prepared, Ticket, prepare};
 use lpt_node::{Config, Outcome, Parsed, Side};
 use lpt_packet::Direction::Up;
 use lpt_world::{Answer, StepFault, World};
@@ -74,7 +74,10 @@ fn claims(world: &mut World, step: &Step, job: u64, message: &[u8]) -> bool {
 // Reads a job, and commits the reading.
 fn commits(alloc: Global, world: &mut World, step: &Step, read: &Read) -> Result<bool, AllocError> {
     let (boot, job, message, apid, memories) = *read;
-    let shape = shape_of(alloc, world, memories)?;
+    let shape = match memories {
+        Some(items) => shape_of(alloc, items)?,
+        None => world.shape()?,
+    };
     let ticket = Ticket::new(boot, job, octets_of(alloc, message)?);
     match prepare(alloc, &shape, apid, ticket) {
         Ok(prepared) => Ok(is_committed(world, step, prepared)),
@@ -93,18 +96,6 @@ fn is_committed(world: &mut World, step: &Step, prepared: Prepared) -> bool {
             prepared.abandon();
             want == Err(fault)
         }
-    }
-}
-
-// The shape of new memories, or of the world's own.
-fn shape_of(
-    alloc: Global,
-    world: &World,
-    memories: Option<&[(u8, &[u8])]>,
-) -> Result<Shape, AllocError> {
-    match memories {
-        Some(items) => memories_of(alloc, items)?.shape(),
-        None => world.shape(),
     }
 }
 

@@ -86,8 +86,7 @@ fn goes(
 ) -> Result<(), AllocError> {
     for (place, row) in play.rows.iter().enumerate() {
         let right = comes(alloc, station, row)?;
-        let side = station.side;
-        assert!(rt; right, "{} at {side:?}, row {place}", play.name);
+        assert!(rt; right, "{} at {:?}, row {place}", play.name, station.side);
     }
     Ok(())
 }
@@ -213,8 +212,8 @@ fn is_kept(station: &Station, outcome: Outcome) -> bool {
     }
 }
 
-/// Whether there are octets, and they are these, or there are none where none are wanted.
-pub(crate) fn is(octets: &Option<Octets>, wanted: Option<&[u8]>) -> bool {
+// Whether there are octets, and they are these, or there are none where none are wanted.
+fn is(octets: &Option<Octets>, wanted: Option<&[u8]>) -> bool {
     match octets {
         Some(octets) => wanted == Some(octets.as_slice()),
         None => wanted.is_none(),

@@ -4,7 +4,7 @@
 use crate::outside::comes_outside;
 use crate::rows::{Path, Row, Step, event_of, octets_of, step_of};
 use crate::shown::{has_opened, has_released, shows, sight_of};
-use lpt_memory::Memories;
+use lpt_memory::{Memories, Shape};
 use lpt_world::{ConfigFault, Entry, Event, Puts, Refused, Reply, StepFault, World};
 use std::alloc::{AllocError, Global};
 use std::process::Abort;
@@ -52,6 +52,11 @@ pub(crate) fn memories_of(alloc: Global, items: &[(u8, &[u8])]) -> Result<Memori
     }
 }
 
+/// The shape of such memories.
+pub(crate) fn shape_of(alloc: Global, items: &[(u8, &[u8])]) -> Result<Shape, AllocError> {
+    memories_of(alloc, items)?.shape()
+}
+
 // Goes a path in a world, and gives whether a growth failed.
 fn goes_in(
     rt: &impl Abort,
@@ -93,9 +98,10 @@ fn comes(
         Ok(reply) => Ok((false, is_reply(reply, &step, before.0))),
         Err(refused) => {
             let back = is_back(world, &refused, event);
-            let same = sight_of(world) == before && tells(alloc, world, path, done)?;
+            let same = sight_of(world) == before;
+            let told = tells(alloc, world, path, done);
             let (failed, right) = accepts(world, refused, &step, before.0);
-            Ok((failed, back && same && right))
+            Ok((failed, back && same && told? && right))
         }
     }
 }
@@ -154,7 +160,9 @@ fn is_told(
             event: event_of(alloc, asked)?,
             reply: Reply { answer, puts },
         };
-        if journal.get(place) != Some(&entry) {
+        let right = journal.get(place) == Some(&entry);
+        drop(entry);
+        if !right {
             return Ok(false);
         }
         place += 1;
