@@ -1,18 +1,12 @@
 //! Parts that contradict what a lone node has kept, and parts at the end of the longest message.
 
-use crate::packets::MESSAGE;
-use crate::stations::*;
+use crate::packets::{FIRST_DOWN, FIRST_UP, MIDDLE_DOWN, MIDDLE_UP};
+use crate::playing::{Packet, Play, Row, play_all};
+use crate::stations::PASS;
 use lpt_node::Outcome::{self, *};
-use lpt_node::{Side, Why};
-use lpt_packet::Octets;
-use lpt_part::{Kind, Reason};
-use lpt_pus::{TcHead, TmHead, write_tc, write_tm};
-use std::alloc::{AllocError, Global};
-use std::process::Abort;
-use std::test::Fail;
-
-/// A part of message 7 comes: its kind, its number, of how many octets it is, and what becomes of it.
-type Row = (Kind, u16, usize, Outcome);
+use lpt_node::Side::{self, Craft, Ground};
+use lpt_node::Why;
+use lpt_part::Reason;
 
 const BROKEN: Outcome = Broken(7, Reason::Conflict);
 
@@ -26,121 +20,196 @@ const REPORT: [u8; 22] = [
     0x09, 0x00, 0x07, 0x03, 0x1d, 0xd9,
 ];
 
-/// Each row of a scene comes to the same node. What breaks a reception off leaves it closed.
-const SCENES: [&[Row]; 7] = [
-    // A second last part, behind the first last part and before it.
-    &[
-        (Kind::First, 1, 8, Kept(7, 1)),
-        (Kind::Last, 3, 4, Kept(7, 3)),
-        (Kind::Last, 2, 1, BROKEN),
-        (Kind::First, 1, 8, CLOSED),
-    ],
-    // A last part below another, and a part above the last one.
-    &[
-        (Kind::Middle, 3, 8, Kept(7, 3)),
-        (Kind::Last, 2, 1, BROKEN),
-        (Kind::First, 1, 8, CLOSED),
-    ],
-    &[
-        (Kind::Last, 2, 1, Kept(7, 2)),
-        (Kind::Middle, 3, 8, BROKEN),
-        (Kind::First, 1, 8, CLOSED),
-    ],
-    // The same number with another kind.
-    &[
-        (Kind::Last, 3, 4, Kept(7, 3)),
-        (Kind::Middle, 3, 8, BROKEN),
-        (Kind::First, 1, 8, CLOSED),
-    ],
-    // No message is as long as the first two of these parts say. Nothing is kept of them.
-    &[
-        (Kind::Middle, 65535, 8, BAD),
-        (Kind::First, 1, 8, Kept(7, 1)),
-    ],
-    &[(Kind::Last, 8193, 7, BAD), (Kind::First, 1, 8, Kept(7, 1))],
-    &[
-        (Kind::Last, 8193, 6, Kept(7, 8193)),
-        (Kind::First, 1, 8, Kept(7, 1)),
-    ],
+/// TC\[13,9\] of count 0: another first part of transaction 7, the octets 4 to 11.
+const OTHER_UP: [u8; 25] = [
+    0x18, 0x64, 0xc0, 0x00, 0x00, 0x12, 0x20, 0x0d, 0x09, 0x00, 0x01, 0x00, 0x07, 0x00, 0x01, 0x04,
+    0x05, 0x06, 0x07, 0x08, 0x09, 0x0a, 0x0b, 0x0b, 0xb3,
 ];
 
-// The packet of a part, to a node of this side. The octets are the first of the message.
-fn packet(alloc: Global, side: Side, row: &Row) -> Result<Octets, Fail> {
-    let (kind, number, len, _) = *row;
-    let octets = MESSAGE.get(..len).ok_or("a longer part")?;
-    let body = body_of(alloc, number, octets)?;
-    let place = match kind {
-        Kind::First => 0,
-        Kind::Middle => 1,
-        Kind::Last => 2,
-    };
-    match side {
-        Side::Craft => telecommand(alloc, 9 + place, body.as_slice()),
-        Side::Ground => telemetry(alloc, 1 + place, body.as_slice()),
-    }
-}
+/// TM\[13,1\] of count 0 at clock 9: the same.
+const OTHER_DOWN: [u8; 31] = [
+    0x08, 0x64, 0xc0, 0x00, 0x00, 0x18, 0x20, 0x0d, 0x01, 0x00, 0x00, 0x00, 0x01, 0x00, 0x00, 0x00,
+    0x09, 0x00, 0x07, 0x00, 0x01, 0x04, 0x05, 0x06, 0x07, 0x08, 0x09, 0x0a, 0x0b, 0x7f, 0xa1,
+];
 
-// The body of the part of this number.
-fn body_of(alloc: Global, number: u16, octets: &[u8]) -> Result<Vec<u8>, AllocError> {
-    let mut body = [0, 7].to_vec(alloc)?;
-    body.extend_from_slice(&number.to_be_bytes())?;
-    body.extend_from_slice(octets)?;
-    Ok(body)
-}
+/// TC\[13,11\] of count 0: part 3, of the octets 0 to 3, as the last one.
+const LAST_3_UP: [u8; 21] = [
+    0x18, 0x64, 0xc0, 0x00, 0x00, 0x0e, 0x20, 0x0d, 0x0b, 0x00, 0x01, 0x00, 0x07, 0x00, 0x03, 0x00,
+    0x01, 0x02, 0x03, 0x1a, 0x74,
+];
 
-fn telecommand(alloc: Global, subtype: u8, body: &[u8]) -> Result<Octets, Fail> {
-    let head = TcHead::new(100, 0, 0, 13, subtype, 1).ok_or("no head")?;
-    Ok(write_tc(alloc, &head, body)?)
-}
+/// TM\[13,3\] of count 0 at clock 0: the same.
+const LAST_3_DOWN: [u8; 27] = [
+    0x08, 0x64, 0xc0, 0x00, 0x00, 0x14, 0x20, 0x0d, 0x03, 0x00, 0x00, 0x00, 0x01, 0x00, 0x00, 0x00,
+    0x00, 0x00, 0x07, 0x00, 0x03, 0x00, 0x01, 0x02, 0x03, 0x5a, 0x93,
+];
 
-fn telemetry(alloc: Global, subtype: u8, body: &[u8]) -> Result<Octets, Fail> {
-    let head = TmHead::new(100, 0, 0, 13, subtype, 0, 1, 0).ok_or("no head")?;
-    Ok(write_tm(alloc, &head, body)?)
-}
+/// TC\[13,11\] of count 0: part 2, of the octet 0, as the last one.
+const LAST_2_UP: [u8; 18] = [
+    0x18, 0x64, 0xc0, 0x00, 0x00, 0x0b, 0x20, 0x0d, 0x0b, 0x00, 0x01, 0x00, 0x07, 0x00, 0x02, 0x00,
+    0x11, 0xe1,
+];
 
-// Whether a packet comes to a node as its row says. The spacecraft reports what is broken off, the
-// ground reports nothing.
-fn comes(station: &mut Station, side: Side, row: &Row, packet: Octets) -> Result<bool, AllocError> {
-    let (_, _, _, outcome) = *row;
-    let accepted = station.hears(packet)?;
-    let reported = if side == Side::Craft && outcome == BROKEN {
-        is(&accepted.packet, &REPORT)
-    } else {
-        accepted.packet.is_none()
-    };
-    Ok(accepted.outcome == outcome && accepted.released.is_none() && reported)
-}
+/// TM\[13,3\] of count 0 at clock 0: the same.
+const LAST_2_DOWN: [u8; 24] = [
+    0x08, 0x64, 0xc0, 0x00, 0x00, 0x11, 0x20, 0x0d, 0x03, 0x00, 0x00, 0x00, 0x01, 0x00, 0x00, 0x00,
+    0x00, 0x00, 0x07, 0x00, 0x02, 0x00, 0xe8, 0xa2,
+];
 
-// Plays a scene to a new node.
-fn play(rt: &impl Abort, alloc: Global, side: Side, rows: &[Row]) -> Result<(), Fail> {
-    let mut station = Station::new(rt, alloc, side, PASS)?;
-    let came = plays(rt, alloc, &mut station, side, rows);
-    drop(station);
-    came
-}
+/// TC\[13,10\] of count 0: part 3, of the octets 0 to 7.
+const MIDDLE_3_UP: [u8; 25] = [
+    0x18, 0x64, 0xc0, 0x00, 0x00, 0x12, 0x20, 0x0d, 0x0a, 0x00, 0x01, 0x00, 0x07, 0x00, 0x03, 0x00,
+    0x01, 0x02, 0x03, 0x04, 0x05, 0x06, 0x07, 0xd1, 0x4f,
+];
 
-fn plays(
-    rt: &impl Abort,
-    alloc: Global,
-    station: &mut Station,
-    side: Side,
-    rows: &[Row],
-) -> Result<(), Fail> {
-    for row in rows {
-        let packet = packet(alloc, side, row)?;
-        let right = comes(station, side, row, packet)?;
-        let (kind, number, len, _) = *row;
-        assert!(rt; right, "{kind:?} {number} of {len} at {side:?}");
-    }
-    Ok(())
-}
+/// TM\[13,2\] of count 0 at clock 0: the same.
+const MIDDLE_3_DOWN: [u8; 31] = [
+    0x08, 0x64, 0xc0, 0x00, 0x00, 0x18, 0x20, 0x0d, 0x02, 0x00, 0x00, 0x00, 0x01, 0x00, 0x00, 0x00,
+    0x00, 0x00, 0x07, 0x00, 0x03, 0x00, 0x01, 0x02, 0x03, 0x04, 0x05, 0x06, 0x07, 0x66, 0x7a,
+];
+
+/// TC\[13,10\] of count 0: part 65,535, of the octets 0 to 7.
+const MIDDLE_65535_UP: [u8; 25] = [
+    0x18, 0x64, 0xc0, 0x00, 0x00, 0x12, 0x20, 0x0d, 0x0a, 0x00, 0x01, 0x00, 0x07, 0xff, 0xff, 0x00,
+    0x01, 0x02, 0x03, 0x04, 0x05, 0x06, 0x07, 0x1d, 0x32,
+];
+
+/// TM\[13,2\] of count 0 at clock 0: the same.
+const MIDDLE_65535_DOWN: [u8; 31] = [
+    0x08, 0x64, 0xc0, 0x00, 0x00, 0x18, 0x20, 0x0d, 0x02, 0x00, 0x00, 0x00, 0x01, 0x00, 0x00, 0x00,
+    0x00, 0x00, 0x07, 0xff, 0xff, 0x00, 0x01, 0x02, 0x03, 0x04, 0x05, 0x06, 0x07, 0xaa, 0x07,
+];
+
+/// TC\[13,11\] of count 0: part 8,193, of the octets 0 to 6, as the last one.
+const LONG_8193_UP: [u8; 24] = [
+    0x18, 0x64, 0xc0, 0x00, 0x00, 0x11, 0x20, 0x0d, 0x0b, 0x00, 0x01, 0x00, 0x07, 0x20, 0x01, 0x00,
+    0x01, 0x02, 0x03, 0x04, 0x05, 0x06, 0xc0, 0x29,
+];
+
+/// TM\[13,3\] of count 0 at clock 0: the same.
+const LONG_8193_DOWN: [u8; 30] = [
+    0x08, 0x64, 0xc0, 0x00, 0x00, 0x17, 0x20, 0x0d, 0x03, 0x00, 0x00, 0x00, 0x01, 0x00, 0x00, 0x00,
+    0x00, 0x00, 0x07, 0x20, 0x01, 0x00, 0x01, 0x02, 0x03, 0x04, 0x05, 0x06, 0x10, 0x03,
+];
+
+/// TC\[13,11\] of count 0: part 8,193, of the octets 0 to 5, as the last one.
+const LAST_8193_UP: [u8; 23] = [
+    0x18, 0x64, 0xc0, 0x00, 0x00, 0x10, 0x20, 0x0d, 0x0b, 0x00, 0x01, 0x00, 0x07, 0x20, 0x01, 0x00,
+    0x01, 0x02, 0x03, 0x04, 0x05, 0xa7, 0x75,
+];
+
+/// TM\[13,3\] of count 0 at clock 0: the same.
+const LAST_8193_DOWN: [u8; 29] = [
+    0x08, 0x64, 0xc0, 0x00, 0x00, 0x16, 0x20, 0x0d, 0x03, 0x00, 0x00, 0x00, 0x01, 0x00, 0x00, 0x00,
+    0x00, 0x00, 0x07, 0x20, 0x01, 0x00, 0x01, 0x02, 0x03, 0x04, 0x05, 0x0e, 0xf4,
+];
+
+/// Parts of message 7, to the spacecraft and to ground. Their octets are the first of the message, where
+/// nothing else is said.
+const FIRST: Packet = (&FIRST_UP, &FIRST_DOWN);
+
+const MIDDLE: Packet = (&MIDDLE_UP, &MIDDLE_DOWN);
+
+const OTHER: Packet = (&OTHER_UP, &OTHER_DOWN);
+
+const LAST_3: Packet = (&LAST_3_UP, &LAST_3_DOWN);
+
+const LAST_2: Packet = (&LAST_2_UP, &LAST_2_DOWN);
+
+const MIDDLE_3: Packet = (&MIDDLE_3_UP, &MIDDLE_3_DOWN);
+
+const MIDDLE_65535: Packet = (&MIDDLE_65535_UP, &MIDDLE_65535_DOWN);
+
+const LONG_8193: Packet = (&LONG_8193_UP, &LONG_8193_DOWN);
+
+const LAST_8193: Packet = (&LAST_8193_UP, &LAST_8193_DOWN);
+
+const BOTH: [Side; 2] = [Craft, Ground];
+
+/// What breaks a reception off leaves it closed. Nothing is kept of a part that no message has.
+static PLAYS: [Play; 8] = [
+    Play {
+        name: "another first part",
+        sides: &BOTH,
+        config: PASS,
+        rows: &[
+            Row::Hears(FIRST, Kept(7, 1), &[]),
+            Row::Hears(OTHER, BROKEN, &REPORT),
+            Row::Hears(MIDDLE, CLOSED, &[]),
+            Row::Receives(7, false),
+        ],
+    },
+    Play {
+        name: "a last part before the last one",
+        sides: &BOTH,
+        config: PASS,
+        rows: &[
+            Row::Hears(FIRST, Kept(7, 1), &[]),
+            Row::Hears(LAST_3, Kept(7, 3), &[]),
+            Row::Hears(LAST_2, BROKEN, &REPORT),
+            Row::Hears(FIRST, CLOSED, &[]),
+        ],
+    },
+    Play {
+        name: "a last part below another",
+        sides: &BOTH,
+        config: PASS,
+        rows: &[
+            Row::Hears(MIDDLE_3, Kept(7, 3), &[]),
+            Row::Hears(LAST_2, BROKEN, &REPORT),
+            Row::Hears(FIRST, CLOSED, &[]),
+        ],
+    },
+    Play {
+        name: "a part above the last one",
+        sides: &BOTH,
+        config: PASS,
+        rows: &[
+            Row::Hears(LAST_2, Kept(7, 2), &[]),
+            Row::Hears(MIDDLE_3, BROKEN, &REPORT),
+            Row::Hears(FIRST, CLOSED, &[]),
+        ],
+    },
+    Play {
+        name: "the same number with another kind",
+        sides: &BOTH,
+        config: PASS,
+        rows: &[
+            Row::Hears(LAST_3, Kept(7, 3), &[]),
+            Row::Hears(MIDDLE_3, BROKEN, &REPORT),
+            Row::Hears(FIRST, CLOSED, &[]),
+        ],
+    },
+    Play {
+        name: "no message has so many parts",
+        sides: &BOTH,
+        config: PASS,
+        rows: &[
+            Row::Hears(MIDDLE_65535, BAD, &[]),
+            Row::Hears(FIRST, Kept(7, 1), &[]),
+        ],
+    },
+    Play {
+        name: "no message is so long",
+        sides: &BOTH,
+        config: PASS,
+        rows: &[
+            Row::Hears(LONG_8193, BAD, &[]),
+            Row::Hears(FIRST, Kept(7, 1), &[]),
+        ],
+    },
+    Play {
+        name: "the longest message",
+        sides: &BOTH,
+        config: PASS,
+        rows: &[
+            Row::Hears(LAST_8193, Kept(7, 8193), &[]),
+            Row::Hears(FIRST, Kept(7, 1), &[]),
+        ],
+    },
+];
 
 #[test]
-fn parts_that_contradict_break_it_off(rt: HostRuntime) -> Result<(), Fail> {
-    for side in [Side::Craft, Side::Ground] {
-        for rows in SCENES {
-            play(&rt, rt.alloc(), side, rows)?;
-        }
-    }
-    Ok(())
+fn parts_that_contradict_break_it_off(rt: HostRuntime) {
+    play_all(&rt, rt.alloc(), &PLAYS);
 }

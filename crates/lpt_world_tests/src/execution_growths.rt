@@ -1,130 +1,88 @@
-//! Growths that fail: a load and a large dump are released and executed, where one growth fails.
+//! Growths that fail: a load and two dumps are released and executed, where one growth fails.
 //!
 //! `tests/growths` has each growth fail in turn, in the tests as they are built.
 
-use crate::executions::LARGE;
 use crate::packets::LOAD;
-use crate::scenes::{CONFIG, zeros};
-use crate::stations::octets_of;
-use lpt_events::{Applied, Worker};
+use crate::rows::{CONFIG, Content, ONE, Path, Row, Shown};
+use crate::walking::walk;
+use lpt_events::Applied;
 use lpt_link::Lane::S1;
-use lpt_memory::Memories;
 use lpt_node::Outcome::PlainReleased;
 use lpt_packet::Direction::Down;
-use lpt_pus::AckFlags;
-use lpt_world::{Answer, Event, State, StepFault, World};
-use std::alloc::{AllocError, Global};
-use std::process::Abort;
-use std::test::Fail;
+use lpt_world::State;
 
-/// A step of the path.
-#[derive(Clone, Copy)]
-enum Does {
-    Load,
-    Dump,
-    Take(u64),
-    Deliver,
-    Claim,
-    Commit,
-    Apply,
-}
+/// The body of a dump of two octets of memory 1 from address 16 on, of which the report fits a packet.
+const DUMP: [u8; 8] = [1, 1, 0, 0, 0, 0x10, 0, 2];
 
-/// The load is executed by the sixth step, the dump by the last.
-const PATH: [(Does, Answer); 12] = [
-    (Does::Load, Answer::Put(0)),
-    (Does::Take(0), Answer::Took(0)),
-    (Does::Deliver, Answer::Delivered(PlainReleased(27))),
-    (Does::Claim, Answer::Claimed(0, 0)),
-    (Does::Commit, Answer::Committed(0, 0)),
-    (Does::Apply, Answer::Applied(Applied::Done(None))),
-    (Does::Dump, Answer::Put(1)),
-    (Does::Take(1), Answer::Took(1)),
-    (Does::Deliver, Answer::Delivered(PlainReleased(21))),
-    (Does::Claim, Answer::Claimed(0, 1)),
-    (Does::Commit, Answer::Committed(0, 1)),
-    (Does::Apply, Answer::Applied(Applied::Done(Some(0)))),
+/// The body of a dump of one octet more, of which the report is opened as a message.
+pub(crate) const LARGE: [u8; 8] = [1, 1, 0, 0, 0, 0x10, 0, 3];
+
+/// TM\[6,6\] of count 0 at clock 0: the two octets ab cd.
+const DUMPED: [u8; 31] = [
+    0x08, 0x64, 0xc0, 0x00, 0x00, 0x18, 0x20, 0x06, 0x06, 0x00, 0x00, 0x00, 0x01, 0x00, 0x00, 0x00,
+    0x00, 0x01, 0x01, 0x00, 0x00, 0x00, 0x10, 0x00, 0x02, 0xab, 0xcd, 0xd4, 0x6a, 0xe7, 0x44,
 ];
 
-// The event of a step.
-fn event_of(alloc: Global, flags: AckFlags, does: Does) -> Result<Event, AllocError> {
-    Ok(match does {
-        Does::Load => Event::Plain(flags, 6, 2, octets_of(alloc, &LOAD)?),
-        Does::Dump => Event::Plain(flags, 6, 5, octets_of(alloc, &LARGE)?),
-        Does::Take(number) => Event::Take(S1, number),
-        Does::Deliver => Event::Deliver(S1),
-        Does::Claim => Event::Claim(Worker::W1),
-        Does::Commit => Event::Commit(Worker::W1),
-        Does::Apply => Event::Apply,
-    })
-}
+/// TM\[6,6\] of count 1 at clock 0: the three octets ab cd ef.
+const DUMPED_LARGE: [u8; 32] = [
+    0x08, 0x64, 0xc0, 0x01, 0x00, 0x19, 0x20, 0x06, 0x06, 0x00, 0x01, 0x00, 0x01, 0x00, 0x00, 0x00,
+    0x00, 0x01, 0x01, 0x00, 0x00, 0x00, 0x10, 0x00, 0x03, 0xab, 0xcd, 0xef, 0xed, 0x38, 0xe9, 0x08,
+];
 
-// Whether a world is as after so many steps.
-fn stands(world: &World, done: usize) -> bool {
-    let loaded = match world.memory(1) {
-        Some(octets) => octets.get(16) == Some(&0xab),
-        None => false,
-    };
-    let opened = world.sender(Down, 0) == State::Open;
-    world.journal().len() == done && loaded == (done > 5) && opened == (done > 11)
-}
+/// What stands in memory 1 from address 15 on, first and once it was loaded.
+const ZEROS: [u8; 6] = [0; 6];
 
-// Steps a world, and gives whether a growth failed, and whether all is right: where one failed, the
-// event came back, the world was as it was, and the event was accepted at the second try.
-fn steps(world: &mut World, done: usize, event: Event, wanted: Answer) -> (bool, bool) {
-    match world.step(0, event) {
-        Ok(reply) => (false, reply.answer == wanted),
-        Err(refused) => {
-            let right = refused.fault == StepFault::Memory && stands(world, done);
-            let again = world.step(0, refused.event);
-            (
-                true,
-                right && again.is_ok_and(|reply| reply.answer == wanted),
-            )
-        }
-    }
-}
+const LOADED: [u8; 6] = [0, 0xab, 0xcd, 0xef, 0x01, 0];
 
-// Walks the path, and gives whether a growth failed.
-fn walks(rt: &impl Abort, alloc: Global, world: &mut World, flags: AckFlags) -> bool {
-    let mut failed = false;
-    for (done, (does, wanted)) in PATH.iter().enumerate() {
-        let Ok(event) = event_of(alloc, flags, *does) else {
-            return true;
-        };
-        let (fails, right) = steps(world, done, event, *wanted);
-        assert!(rt; right, "at step {done}");
-        failed = failed || fails;
-    }
-    assert!(rt; stands(world, 12));
-    failed
-}
+/// A load is carried out, a dump is answered by a packet, and one of an octet more by a message.
+const EXECUTED: [Row; 26] = [
+    Row::Requests(0, 2, &LOAD, 0),
+    Row::Takes(S1, 0),
+    Row::Gives(S1, PlainReleased(27)),
+    Row::Claims(0),
+    Row::Commits(0),
+    Row::Shows(Shown::Memory(15, &ZEROS)),
+    Row::Applies(Applied::Done(None), 0),
+    Row::Shows(Shown::Memory(15, &LOADED)),
+    Row::Shows(Shown::First(15, &ZEROS)),
+    Row::Requests(0, 5, &DUMP, 1),
+    Row::Takes(S1, 1),
+    Row::Gives(S1, PlainReleased(21)),
+    Row::Claims(1),
+    Row::Commits(1),
+    Row::Applies(Applied::Done(None), 1),
+    Row::Shows(Shown::Packet(2, Some(&DUMPED))),
+    Row::Requests(0, 5, &LARGE, 3),
+    Row::Takes(S1, 3),
+    Row::Gives(S1, PlainReleased(21)),
+    Row::Claims(2),
+    Row::Commits(2),
+    Row::Shows(Shown::Sender(Down, 0, State::Free)),
+    Row::Applies(Applied::Done(Some(0)), 0),
+    Row::Shows(Shown::Sender(Down, 0, State::Open)),
+    Row::Shows(Shown::Packets(4)),
+    Row::Shows(Shown::Memory(15, &LOADED)),
+];
 
-// Walks the path in a new world. Where the world isn't made for want of memory, there is nothing more
-// to see.
-fn walk(rt: &impl Abort, alloc: Global) -> Result<bool, Fail> {
-    let flags = AckFlags::new(0).ok_or("no flags")?;
-    let Ok(contents) = zeros(alloc, 32) else {
-        return Ok(true);
-    };
-    let Ok(memories) = Memories::new(contents) else {
-        return Ok(true);
-    };
-    let Ok(mut world) = World::new(alloc, CONFIG, memories) else {
-        return Ok(true);
-    };
-    let failed = walks(rt, alloc, &mut world, flags);
-    drop(world);
-    Ok(failed)
+static PATHS: [Path; 1] = [Path {
+    name: "a load and two dumps",
+    config: CONFIG,
+    memories: &ONE,
+    rows: &EXECUTED,
+    opened: &[(17, Some((Down, 0)), Content::Octets(&DUMPED_LARGE))],
+    released: &[
+        (2, None, Content::Packet(0)),
+        (8, None, Content::Packet(1)),
+        (14, None, Content::Packet(3)),
+    ],
+}];
+
+#[test]
+fn no_growth_fails(rt: HostRuntime) {
+    assert!(rt; !walk(&rt, rt.alloc(), &PATHS));
 }
 
 #[test]
-fn no_growth_fails(rt: HostRuntime) -> Result<(), Fail> {
-    assert!(rt; !walk(&rt, rt.alloc())?);
-    Ok(())
-}
-
-#[test]
-fn each_growth_may_fail(rt: HostRuntime) -> Result<(), Fail> {
-    walk(&rt, rt.alloc())?;
-    Ok(())
+fn each_growth_may_fail(rt: HostRuntime) {
+    walk(&rt, rt.alloc(), &PATHS);
 }

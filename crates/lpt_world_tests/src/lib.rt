@@ -1,5 +1,8 @@
 //! Tests of nodes and worlds: worked rows, what no clause says, and growths of memory that fail.
 //!
+//! Most tests are rows in statics: `walking` goes paths of rows through new worlds, where a growth may
+//! fail, and `playing` plays rows to lone nodes. So a case costs nothing but its row.
+//!
 //! They stand in a crate of their own, so that the libraries are proved without them. A function that
 //! makes a node or a world makes one fallible call with it, its last, and then hands it to `drop`; what
 //! else can fail is done before, or by a function that borrows it. Each way out of a function drops what
@@ -12,13 +15,9 @@ mod anew;
 #[cfg(test)]
 mod contradictions;
 #[cfg(test)]
-mod counting;
-#[cfg(test)]
-mod damage;
+mod executing;
 #[cfg(test)]
 mod execution_growths;
-#[cfg(test)]
-mod executions;
 #[cfg(test)]
 mod growths;
 #[cfg(test)]
@@ -28,6 +27,8 @@ mod packets;
 #[cfg(test)]
 mod paths;
 #[cfg(test)]
+mod playing;
+#[cfg(test)]
 mod readers;
 #[cfg(test)]
 mod receiving;
@@ -36,16 +37,16 @@ mod refusals;
 #[cfg(test)]
 mod renewal_growths;
 #[cfg(test)]
-mod scenes;
+mod rows;
+#[cfg(test)]
+mod runs;
 #[cfg(test)]
 mod sending;
 #[cfg(test)]
-mod stations;
+mod shown;
 #[cfg(test)]
-mod steps;
+mod stations;
 #[cfg(test)]
 mod walk_growths;
 #[cfg(test)]
 mod walking;
-#[cfg(test)]
-mod workers;

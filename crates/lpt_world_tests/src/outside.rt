@@ -1,55 +1,226 @@
-//! Work outside a world: a packet is taken out of it, read, and delivered.
+//! Work outside a world: a packet is taken out of it, read, and delivered; a job is claimed with its
+//! ticket, read, and committed.
 
-use crate::packets::{FIRST_UP, LAST_UP};
-use crate::readers::runs;
-use crate::scenes::{CONFIG, Line, new_world};
-use crate::stations::octets_of;
+use crate::packets::{FIRST_UP, LAST_UP, LOAD, LOADING, LOADING_AGAIN};
+use crate::rows::{Asked, CONFIG, Content, ONE, Path, Read, Row, SEAT, Shown, Step, octets_of};
+use crate::walking::{shape_of, walk};
+use lpt_events::Worker::W1;
 use lpt_link::Lane::S1;
-use lpt_node::{Outcome, Parsed, Side};
+use lpt_memory::{Prepared, Ticket, prepare};
+use lpt_node::{Config, Outcome, Parsed, Side};
 use lpt_packet::Direction::Up;
-use lpt_packet::Octets;
 use lpt_world::{Answer, StepFault, World};
-use std::alloc::Global;
-use std::process::Abort;
-use std::test::Fail;
+use std::alloc::{AllocError, Global};
+
+/// Whether what is asked for outside a world comes as its step says; none where the step is no such
+/// one.
+pub(crate) fn comes_outside(
+    alloc: Global,
+    world: &mut World,
+    step: &Step,
+) -> Result<Option<bool>, AllocError> {
+    let (_, asked, _, _) = *step;
+    Ok(match asked {
+        Asked::TakeOut(number, octets) => Some(takes(world, step, number, octets)),
+        Asked::DeliverRead(octets) => Some(delivers(alloc, world, step, octets)?),
+        Asked::ClaimOut(job, message) => Some(claims(world, step, job, message)),
+        Asked::CommitRead(read) => Some(commits(alloc, world, step, &read)?),
+        _ => None,
+    })
+}
+
+// Takes a packet.
+fn takes(world: &mut World, step: &Step, number: u64, octets: &[u8]) -> bool {
+    let (seat, _, want, _) = *step;
+    match world.take_out(seat, S1, number) {
+        Ok((reply, copy)) => want == Ok(reply.answer) && copy.as_slice() == octets,
+        Err(refused) => want == Err(refused.fault),
+    }
+}
+
+// Reads octets for the spacecraft, and delivers them.
+fn delivers(
+    alloc: Global,
+    world: &mut World,
+    step: &Step,
+    octets: &[u8],
+) -> Result<bool, AllocError> {
+    let (seat, _, want, _) = *step;
+    let Config {
+        apid,
+        part_size,
+        ..
+    } = world.config();
+    let parsed = Parsed::read(octets_of(alloc, octets)?, Side::Craft, apid, part_size);
+    Ok(match world.deliver_parsed(seat, S1, parsed) {
+        Ok(reply) => want == Ok(reply.answer),
+        Err((fault, _)) => want == Err(fault),
+    })
+}
+
+// Claims a job.
+fn claims(world: &mut World, step: &Step, job: u64, message: &[u8]) -> bool {
+    let (seat, _, want, _) = *step;
+    match world.claim_out(seat, W1) {
+        Ok((reply, ticket)) => {
+            let of = (ticket.boot(), ticket.job()) == (0, job) && ticket.message() == message;
+            ticket.abandon();
+            of && want == Ok(reply.answer)
+        }
+        Err(refused) => want == Err(refused.fault),
+    }
+}
+
+// Reads a job, and commits the reading.
+fn commits(alloc: Global, world: &mut World, step: &Step, read: &Read) -> Result<bool, AllocError> {
+    let (boot, job, message, apid, memories) = *read;
+    let shape = match memories {
+        Some(items) => shape_of(alloc, items)?,
+        None => world.shape()?,
+    };
+    let ticket = Ticket::new(boot, job, octets_of(alloc, message)?);
+    match prepare(alloc, &shape, apid, ticket) {
+        Ok(prepared) => Ok(is_committed(world, step, prepared)),
+        Err(ticket) => {
+            ticket.abandon();
+            Err(AllocError)
+        }
+    }
+}
+
+fn is_committed(world: &mut World, step: &Step, prepared: Prepared) -> bool {
+    let (seat, _, want, _) = *step;
+    match world.commit_with(seat, W1, prepared) {
+        Ok(reply) => want == Ok(reply.answer),
+        Err((fault, prepared)) => {
+            prepared.abandon();
+            want == Err(fault)
+        }
+    }
+}
+
+/// The first part is taken and delivered, and the last part isn't, of which the lane has nothing.
+const DELIVERED: [Row; 5] = [
+    Row::Opens(Up, 7, 20, 3),
+    Row::Sends(Up, 7, 1, 0),
+    Row::Answers(Asked::TakeOut(0, &FIRST_UP), Answer::Took(0), 0),
+    Row::Refuses(SEAT, Asked::DeliverRead(&LAST_UP), StepFault::NotYours),
+    Row::Answers(
+        Asked::DeliverRead(&FIRST_UP),
+        Answer::Delivered(Outcome::Kept(7, 1)),
+        0,
+    ),
+];
+
+/// Two loads are released: the first asks for no reports, the second for two. The first is claimed, and
+/// what was read of it for the world's own memories is committed.
+const COMMITTED: [Row; 11] = [
+    Row::Requests(0, 2, &LOAD, 0),
+    Row::Takes(S1, 0),
+    Row::Gives(S1, Outcome::PlainReleased(27)),
+    Row::Requests(5, 2, &LOAD, 1),
+    Row::Takes(S1, 1),
+    Row::Gives(S1, Outcome::PlainReleased(27)),
+    Row::Shows(Shown::Jobs(2, 2, None)),
+    Row::Answers(Asked::ClaimOut(0, &LOADING), Answer::Claimed(0, 0), 0),
+    Row::Shows(Shown::Jobs(1, 2, Some((0, 0)))),
+    Row::Answers(
+        Asked::CommitRead((0, 0, &LOADING, 100, None)),
+        Answer::Committed(0, 0),
+        0,
+    ),
+    Row::Shows(Shown::Jobs(1, 2, None)),
+];
+
+/// A memory of another size.
+const OTHER: [(u8, &[u8]); 1] = [(1, &[0; 512])];
+
+/// What isn't the reading of the worker's own job isn't taken: it is of another job, boot, message, APID
+/// or memory.
+const NOT_ITS: [Row; 15] = [
+    Row::Requests(0, 2, &LOAD, 0),
+    Row::Takes(S1, 0),
+    Row::Gives(S1, Outcome::PlainReleased(27)),
+    Row::Requests(5, 2, &LOAD, 1),
+    Row::Takes(S1, 1),
+    Row::Gives(S1, Outcome::PlainReleased(27)),
+    Row::Answers(Asked::ClaimOut(0, &LOADING), Answer::Claimed(0, 0), 0),
+    Row::Refuses(
+        SEAT,
+        Asked::CommitRead((0, 1, &LOADING_AGAIN, 100, Some(&ONE))),
+        StepFault::NotYours,
+    ),
+    Row::Refuses(
+        SEAT,
+        Asked::CommitRead((1, 0, &LOADING, 100, Some(&ONE))),
+        StepFault::NotYours,
+    ),
+    Row::Refuses(
+        SEAT,
+        Asked::CommitRead((0, 1, &LOADING, 100, Some(&ONE))),
+        StepFault::NotYours,
+    ),
+    Row::Refuses(
+        SEAT,
+        Asked::CommitRead((0, 0, &LOADING_AGAIN, 100, Some(&ONE))),
+        StepFault::NotYours,
+    ),
+    Row::Refuses(
+        SEAT,
+        Asked::CommitRead((0, 0, &LOADING, 101, Some(&ONE))),
+        StepFault::NotYours,
+    ),
+    Row::Refuses(
+        SEAT,
+        Asked::CommitRead((0, 0, &LOADING, 100, Some(&OTHER))),
+        StepFault::NotYours,
+    ),
+    Row::Answers(
+        Asked::CommitRead((0, 0, &LOADING, 100, Some(&ONE))),
+        Answer::Committed(0, 0),
+        0,
+    ),
+    Row::Refuses(
+        SEAT,
+        Asked::CommitRead((0, 0, &LOADING, 100, Some(&ONE))),
+        StepFault::HandEmpty,
+    ),
+];
+
+static PATHS: [Path; 3] = [
+    Path {
+        name: "what was read outside is delivered",
+        config: CONFIG,
+        memories: &ONE,
+        rows: &DELIVERED,
+        opened: &[(0, Some((Up, 7)), Content::Counting(20))],
+        released: &[],
+    },
+    Path {
+        name: "what was prepared outside is committed",
+        config: CONFIG,
+        memories: &ONE,
+        rows: &COMMITTED,
+        opened: &[],
+        released: &[
+            (2, None, Content::Octets(&LOADING)),
+            (5, None, Content::Octets(&LOADING_AGAIN)),
+        ],
+    },
+    Path {
+        name: "only the reading of its own job is taken",
+        config: CONFIG,
+        memories: &ONE,
+        rows: &NOT_ITS,
+        opened: &[],
+        released: &[
+            (2, None, Content::Octets(&LOADING)),
+            (5, None, Content::Octets(&LOADING_AGAIN)),
+        ],
+    },
+];
 
 #[test]
-fn what_was_read_outside_is_delivered(rt: HostRuntime) -> Result<(), Fail> {
-    let alloc = rt.alloc();
-    let mut world = new_world(alloc, CONFIG)?;
-    let came = delivers(&rt, alloc, &mut world);
-    drop(world);
-    came
-}
-
-static SENT: [Line; 2] = [Line::Opens(Up, 7, 20, 3), Line::Sends(Up, 7, 1, 0)];
-
-// The first part is delivered, and the last part isn't, of which the lane has nothing.
-fn delivers(rt: &impl Abort, alloc: Global, world: &mut World) -> Result<(), Fail> {
-    runs(alloc, world, &SENT)?;
-    let other = octets_of(alloc, &LAST_UP)?;
-    let octets = taken_out(world)?;
-    assert!(rt; octets.as_slice() == FIRST_UP.as_slice());
-    let refused = delivered(world, other);
-    let kept = delivered(world, octets);
-    assert!(rt; refused == Err(StepFault::NotYours));
-    assert!(rt; kept == Ok(Answer::Delivered(Outcome::Kept(7, 1))));
-    Ok(())
-}
-
-// A copy of packet 0, which lane s1 takes.
-fn taken_out(world: &mut World) -> Result<Octets, Fail> {
-    match world.take_out(0, S1, 0) {
-        Ok((_, octets)) => Ok(octets),
-        Err(_) => Err("refused".into()),
-    }
-}
-
-// What a world gives for octets that were read for the spacecraft, as what lane s1 has.
-fn delivered(world: &mut World, octets: Octets) -> Result<Answer, StepFault> {
-    let parsed = Parsed::read(octets, Side::Craft, CONFIG.apid, CONFIG.part_size);
-    match world.deliver_parsed(0, S1, parsed) {
-        Ok(reply) => Ok(reply.answer),
-        Err((fault, _)) => Err(fault),
-    }
+fn what_was_read_outside_is_taken_where_it_is_its_own(rt: HostRuntime) {
+    assert!(rt; !walk(&rt, rt.alloc(), &PATHS));
 }

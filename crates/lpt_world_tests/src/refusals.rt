@@ -1,84 +1,140 @@
-//! What worlds refuse, for the first reason, and how faults are numbered and named.
+//! What worlds refuse, for the first reason, what they make of noise, and how faults are numbered and
+//! named.
 
-use crate::scenes::*;
+use crate::packets::{FIRST_UP, FOREIGN, IDLE, REPORT};
+use crate::rows::{Asked, CONFIG, Content, ONE, Path, Row, SEAT, Shown};
+use crate::walking::{memories_of, walk};
 use lpt_link::Lane::{S1, S2};
-use lpt_node::{Config, Outcome};
+use lpt_node::{Config, Outcome, Why};
 use lpt_packet::Direction::{Down, Up};
-use lpt_world::{ConfigFault, StepFault, World};
-use std::alloc::Global;
-use std::test::Fail;
+use lpt_world::{Answer, ConfigFault, StepFault, World};
+use std::alloc::{AllocError, Global};
 
-#[test]
-fn refuses_for_the_first_reason(rt: HostRuntime) -> Result<(), Fail> {
-    let config = Config {
-        outgoing: 1,
-        ..CONFIG
-    };
-    let scene = Scene {
-        config,
+const MOSTLY_REFUSED: [Row; 20] = [
+    Row::Opens(Up, 7, 20, 3),
+    Row::Sends(Up, 7, 1, 0),
+    Row::Takes(S1, 0),
+    Row::Refuses(0, Asked::Open(Up, 7, 8), StepFault::InUse),
+    Row::Refuses(0, Asked::Open(Up, 8, 8), StepFault::Short),
+    Row::Refuses(0, Asked::Open(Up, 8, 65543), StepFault::Long),
+    Row::Refuses(0, Asked::Open(Up, 8, 20), StepFault::TooMany),
+    Row::Refuses(0, Asked::Send(Up, 8, 0), StepFault::NotOpen),
+    Row::Refuses(0, Asked::Send(Down, 7, 1), StepFault::NotOpen),
+    Row::Refuses(0, Asked::Send(Up, 7, 0), StepFault::NoSuchPart),
+    Row::Refuses(0, Asked::Send(Up, 7, 4), StepFault::NoSuchPart),
+    Row::Refuses(0, Asked::Take(S2, 1), StepFault::NotHeld),
+    Row::Refuses(0, Asked::Take(S1, 1), StepFault::HandFull),
+    Row::Refuses(10, Asked::Deliver(S2), StepFault::HandEmpty),
+    Row::Refuses(11, Asked::Open(Up, 7, 8), StepFault::NoSuchSeat),
+    Row::Refuses(11, Asked::Send(Up, 8, 0), StepFault::NoSuchSeat),
+    Row::Refuses(11, Asked::Take(S1, 1), StepFault::NoSuchSeat),
+    Row::Refuses(11, Asked::Deliver(S1), StepFault::NoSuchSeat),
+    Row::Gives(S1, Outcome::Kept(7, 1)),
+    Row::Shows(Shown::Packet(1, None)),
+];
+
+/// The first part's packet, with another last octet.
+const LAST_CHANGED: [u8; 25] = [
+    0x18, 0x64, 0xc0, 0x00, 0x00, 0x12, 0x20, 0x0d, 0x09, 0x00, 0x01, 0x00, 0x07, 0x00, 0x01, 0x00,
+    0x01, 0x02, 0x03, 0x04, 0x05, 0x06, 0x07, 0xf4, 0x0c,
+];
+
+/// The first twelve octets of that packet.
+const CUT: [u8; 12] = [
+    0x18, 0x64, 0xc0, 0x00, 0x00, 0x12, 0x20, 0x0d, 0x09, 0x00, 0x01, 0x00,
+];
+
+/// What noise left of packets, or nothing of one, is put on the link, and ignored.
+const DAMAGED: [Row; 5] = [
+    Row::Answers(Asked::Damage(Up, &LAST_CHANGED), Answer::Put(0), 1),
+    Row::Answers(Asked::Damage(Down, &[]), Answer::Put(1), 1),
+    Row::Answers(Asked::Damage(Up, &CUT), Answer::Put(2), 1),
+    Row::Takes(S1, 0),
+    Row::Gives(S1, Outcome::Ignored(Why::Unreadable)),
+];
+
+/// A part, a packet of a foreign APID, an idle one, telemetry up, and 32 octets, one too many.
+const WHOLE: [Row; 5] = [
+    Row::Refuses(SEAT, Asked::Damage(Up, &FIRST_UP), StepFault::LooksWhole),
+    Row::Refuses(SEAT, Asked::Damage(Up, &FOREIGN), StepFault::LooksWhole),
+    Row::Refuses(SEAT, Asked::Damage(Down, &IDLE), StepFault::LooksWhole),
+    Row::Refuses(SEAT, Asked::Damage(Up, &REPORT), StepFault::LooksWhole),
+    Row::Refuses(SEAT, Asked::Damage(Up, &[0; 32]), StepFault::Long),
+];
+
+static PATHS: [Path; 3] = [
+    Path {
+        name: "the first reason is given",
+        config: Config {
+            outgoing: 1,
+            ..CONFIG
+        },
+        memories: &ONE,
         rows: &MOSTLY_REFUSED,
-        opened: &[(0, Up, 7, 20)],
+        opened: &[(0, Some((Up, 7)), Content::Counting(20))],
         released: &[],
-        packets: &[(1, None)],
-    };
-    play(&rt, rt.alloc(), &scene)
-}
-
-static MOSTLY_REFUSED: [Line; 19] = [
-    Line::Opens(Up, 7, 20, 3),
-    Line::Sends(Up, 7, 1, 0),
-    Line::Takes(S1, 0),
-    Line::Refused(0, Asked::Open(Up, 7, 8), StepFault::InUse),
-    Line::Refused(0, Asked::Open(Up, 8, 8), StepFault::Short),
-    Line::Refused(0, Asked::Open(Up, 8, 65543), StepFault::Long),
-    Line::Refused(0, Asked::Open(Up, 8, 20), StepFault::TooMany),
-    Line::Refused(0, Asked::Send(Up, 8, 0), StepFault::NotOpen),
-    Line::Refused(0, Asked::Send(Down, 7, 1), StepFault::NotOpen),
-    Line::Refused(0, Asked::Send(Up, 7, 0), StepFault::NoSuchPart),
-    Line::Refused(0, Asked::Send(Up, 7, 4), StepFault::NoSuchPart),
-    Line::Refused(0, Asked::Take(S2, 1), StepFault::NotHeld),
-    Line::Refused(0, Asked::Take(S1, 1), StepFault::HandFull),
-    Line::Refused(10, Asked::Deliver(S2), StepFault::HandEmpty),
-    Line::Refused(11, Asked::Open(Up, 7, 8), StepFault::NoSuchSeat),
-    Line::Refused(11, Asked::Send(Up, 8, 0), StepFault::NoSuchSeat),
-    Line::Refused(11, Asked::Take(S1, 1), StepFault::NoSuchSeat),
-    Line::Refused(11, Asked::Deliver(S1), StepFault::NoSuchSeat),
-    Line::Gives(S1, Outcome::Kept(7, 1)),
+    },
+    Path {
+        name: "what noise left is ignored",
+        config: CONFIG,
+        memories: &ONE,
+        rows: &DAMAGED,
+        opened: &[],
+        released: &[],
+    },
+    Path {
+        name: "whole packets are refused",
+        config: CONFIG,
+        memories: &ONE,
+        rows: &WHOLE,
+        opened: &[],
+        released: &[],
+    },
 ];
 
 #[test]
-fn refuses_what_is_out_of_its_range(rt: HostRuntime) -> Result<(), Fail> {
-    // the APID, part size, time-out and limits, and the number of the fault
-    for ((apid, part_size, timeout, receptions, outgoing), fault) in [
-        ((0, 4, 1, 1, 1), None),
-        ((2046, 1024, 65535, 64, 64), None),
-        ((2047, 3, 0, 0, 0), Some(71)),
-        ((0, 3, 0, 0, 0), Some(72)),
-        ((0, 1025, 0, 0, 0), Some(72)),
-        ((0, 4, 0, 0, 0), Some(73)),
-        ((0, 4, 65536, 0, 0), Some(73)),
-        ((0, 4, 1, 0, 0), Some(74)),
-        ((0, 4, 1, 65, 0), Some(74)),
-        ((0, 4, 1, 1, 0), Some(75)),
-        ((0, 4, 1, 1, 65), Some(75)),
-    ] {
+fn refuses_for_the_first_reason(rt: HostRuntime) {
+    assert!(rt; !walk(&rt, rt.alloc(), &PATHS));
+}
+
+/// An APID, a part size, a time-out and limits, and the number of the fault.
+type Limits = ((u16, u32, u32, u32, u32), Option<u16>);
+
+static LIMITS: [Limits; 11] = [
+    ((0, 4, 1, 1, 1), None),
+    ((2046, 1024, 65535, 64, 64), None),
+    ((2047, 3, 0, 0, 0), Some(71)),
+    ((0, 3, 0, 0, 0), Some(72)),
+    ((0, 1025, 0, 0, 0), Some(72)),
+    ((0, 4, 0, 0, 0), Some(73)),
+    ((0, 4, 65536, 0, 0), Some(73)),
+    ((0, 4, 1, 0, 0), Some(74)),
+    ((0, 4, 1, 65, 0), Some(74)),
+    ((0, 4, 1, 1, 0), Some(75)),
+    ((0, 4, 1, 1, 65), Some(75)),
+];
+
+#[test]
+fn refuses_what_is_out_of_its_range(rt: HostRuntime) {
+    for ((apid, part_size, timeout, receptions, outgoing), fault) in &LIMITS {
         let config = Config {
-            apid,
-            part_size,
-            timeout,
-            receptions,
-            outgoing,
+            apid: *apid,
+            part_size: *part_size,
+            timeout: *timeout,
+            receptions: *receptions,
+            outgoing: *outgoing,
             ..CONFIG
         };
-        let came = config_fault(rt.alloc(), config)?;
-        assert!(rt; came == fault, "at {config:?}");
+        assert!(rt;
+            config_fault(rt.alloc(), config) == Ok(*fault),
+            "at {config:?}"
+        );
     }
-    Ok(())
 }
 
 // The number of the fault for which a configuration is refused, if it is.
-fn config_fault(alloc: Global, config: Config) -> Result<Option<u16>, Fail> {
-    let memories = memories(alloc)?;
+fn config_fault(alloc: Global, config: Config) -> Result<Option<u16>, AllocError> {
+    let memories = memories_of(alloc, &ONE)?;
     match World::new(alloc, config, memories) {
         Ok(world) => {
             drop(world);
@@ -91,7 +147,7 @@ fn config_fault(alloc: Global, config: Config) -> Result<Option<u16>, Fail> {
 /// A fault, its number and its name.
 type Named = (StepFault, u16, &'static str);
 
-const STEP_FAULTS: [Named; 18] = [
+static STEP_FAULTS: [Named; 18] = [
     (StepFault::InUse, 41, "InUse"),
     (StepFault::Short, 42, "Short"),
     (StepFault::Long, 43, "Long"),
@@ -114,14 +170,8 @@ const STEP_FAULTS: [Named; 18] = [
 
 #[test]
 fn names_each_fault(rt: HostRuntime) {
-    for row in &STEP_FAULTS {
-        let (_, _, name) = *row;
-        assert!(rt; is_named(row), "{name}");
+    for (fault, code, name) in &STEP_FAULTS {
+        assert!(rt; fault.code() == *code && fault.name() == *name, "{name}");
     }
     assert!(rt; ConfigFault::Apid.name() == "Apid" && ConfigFault::Memory.code() == 76);
-}
-
-fn is_named(row: &Named) -> bool {
-    let (fault, code, name) = *row;
-    fault.code() == code && fault.name() == name
 }

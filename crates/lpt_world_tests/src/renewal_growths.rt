@@ -4,15 +4,12 @@
 //! `tests/growths` has each growth fail in turn, in the tests as they are built.
 
 use crate::packets::{LOAD, LOADING};
-use crate::scenes::CONFIG;
-use crate::steps::Row;
-use crate::walking::{Does, Path, walk};
+use crate::rows::{Asked, CONFIG, Content, ONE, Path, Row, SEAT, Shown};
+use crate::walking::walk;
 use lpt_link::Lane::{S1, S2};
 use lpt_node::{Outcome, Why};
+use lpt_packet::Direction::Up;
 use lpt_world::{Answer, StepFault};
-use std::alloc::Global;
-use std::process::Abort;
-use std::test::Fail;
 
 /// TC\[13,11\] of count 4: the octet 8 alone as the last part, part 2, of transaction 7.
 const LAST_OCTET_LATER: [u8; 18] = [
@@ -22,11 +19,11 @@ const LAST_OCTET_LATER: [u8; 18] = [
 
 /// A message is released while a lane has a copy of its second part in its hand. Its transaction is
 /// retired once its sender is closed and no packet of it is left, and its name is used again.
-static RETIRING: [Row; 26] = [
-    Row::OpensUp(20, 3),
-    Row::PartUp(1, 0),
-    Row::PartUp(2, 1),
-    Row::PartUp(3, 2),
+const RETIRING: [Row; 29] = [
+    Row::Opens(Up, 7, 20, 3),
+    Row::Sends(Up, 7, 1, 0),
+    Row::Sends(Up, 7, 2, 1),
+    Row::Sends(Up, 7, 3, 2),
     Row::Takes(S2, 1),
     Row::Takes(S1, 0),
     Row::Gives(S1, Outcome::Kept(7, 1)),
@@ -34,70 +31,71 @@ static RETIRING: [Row; 26] = [
     Row::Gives(S1, Outcome::Kept(7, 2)),
     Row::Takes(S1, 2),
     Row::Gives(S1, Outcome::Released(7, 20)),
-    Row::Loses(0),
-    Row::Loses(1),
-    Row::Loses(2),
-    Row::Refuses(Does::Retire, StepFault::StillOpen),
-    Row::Answers(Does::Finish, Answer::Finished, 0),
-    Row::Refuses(Does::Retire, StepFault::NotClear),
+    Row::Answers(Asked::Lose(0), Answer::Lost, 0),
+    Row::Answers(Asked::Lose(1), Answer::Lost, 0),
+    Row::Answers(Asked::Lose(2), Answer::Lost, 0),
+    Row::Refuses(SEAT, Asked::Retire(Up, 7), StepFault::StillOpen),
+    Row::Answers(Asked::Finish(Up, 7), Answer::Finished, 0),
+    Row::Refuses(SEAT, Asked::Retire(Up, 7), StepFault::NotClear),
+    Row::Shows(Shown::Clear(Up, 7, false)),
     Row::Gives(S2, Outcome::Ignored(Why::Closed)),
-    Row::Answers(Does::Retire, Answer::Retired, 0),
-    Row::OpensUp(9, 2),
-    Row::PartUp(1, 3),
-    Row::PartUp(2, 4),
+    Row::Shows(Shown::Clear(Up, 7, true)),
+    Row::Answers(Asked::Retire(Up, 7), Answer::Retired, 0),
+    Row::Opens(Up, 7, 9, 2),
+    Row::Sends(Up, 7, 1, 3),
+    Row::Sends(Up, 7, 2, 4),
     Row::Takes(S1, 3),
     Row::Gives(S1, Outcome::Kept(7, 1)),
     Row::Takes(S1, 4),
     Row::Gives(S1, Outcome::Released(7, 9)),
+    Row::Shows(Shown::Packet(4, Some(&LAST_OCTET_LATER))),
 ];
 
 /// A load is claimed before the spacecraft starts anew: its reading comes too late, there is no request
 /// to be claimed, and nothing was loaded.
-static STARTING_ANEW: [Row; 7] = [
-    Row::Sends(Does::Plain(0, 2, &LOAD), 0),
+const STARTING_ANEW: [Row; 9] = [
+    Row::Requests(0, 2, &LOAD, 0),
     Row::Takes(S1, 0),
     Row::Gives(S1, Outcome::PlainReleased(27)),
     Row::Claims(0),
-    Row::Answers(Does::Restart, Answer::Restarted(1), 0),
-    Row::Answers(Does::Commit, Answer::Stale(0, 0), 0),
-    Row::Refuses(Does::Claim, StepFault::NoJob),
+    Row::Answers(Asked::Restart, Answer::Restarted(1), 0),
+    Row::Answers(Asked::Commit, Answer::Stale(0, 0), 0),
+    Row::Refuses(SEAT, Asked::Claim, StepFault::NoJob),
+    Row::Shows(Shown::Packet(0, Some(&LOADING))),
+    Row::Shows(Shown::Memory(16, &[0; 4])),
 ];
 
-fn retirement(rt: &impl Abort, alloc: Global) -> Result<bool, Fail> {
-    let it = Path {
+static PATHS: [Path; 2] = [
+    Path {
+        name: "a transaction is retired",
         config: CONFIG,
-        steps: &RETIRING,
-        packet: (4, &LAST_OCTET_LATER),
-        memory: (0, &[]),
-    };
-    walk(rt, alloc, &it)
-}
-
-fn new_start(rt: &impl Abort, alloc: Global) -> Result<bool, Fail> {
-    let it = Path {
+        memories: &ONE,
+        rows: &RETIRING,
+        opened: &[
+            (0, Some((Up, 7)), Content::Counting(20)),
+            (17, Some((Up, 7)), Content::Counting(9)),
+        ],
+        released: &[
+            (10, Some((Up, 7)), Content::Counting(20)),
+            (23, Some((Up, 7)), Content::Counting(9)),
+        ],
+    },
+    Path {
+        name: "the spacecraft starts anew",
         config: CONFIG,
-        steps: &STARTING_ANEW,
-        packet: (0, &LOADING),
-        memory: (16, &[0; 4]),
-    };
-    walk(rt, alloc, &it)
-}
+        memories: &ONE,
+        rows: &STARTING_ANEW,
+        opened: &[],
+        released: &[(2, None, Content::Octets(&LOADING))],
+    },
+];
 
-// Goes both ways, and gives whether a growth failed.
-fn both(rt: &impl Abort, alloc: Global) -> Result<bool, Fail> {
-    let retired = retirement(rt, alloc)?;
-    let started = new_start(rt, alloc)?;
-    Ok(retired || started)
+#[test]
+fn no_growth_fails(rt: HostRuntime) {
+    assert!(rt; !walk(&rt, rt.alloc(), &PATHS));
 }
 
 #[test]
-fn no_growth_fails(rt: HostRuntime) -> Result<(), Fail> {
-    assert!(rt; !both(&rt, rt.alloc())?);
-    Ok(())
-}
-
-#[test]
-fn each_growth_may_fail(rt: HostRuntime) -> Result<(), Fail> {
-    both(&rt, rt.alloc())?;
-    Ok(())
+fn each_growth_may_fail(rt: HostRuntime) {
+    walk(&rt, rt.alloc(), &PATHS);
 }

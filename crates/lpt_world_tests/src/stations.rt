@@ -1,4 +1,4 @@
-//! What the tests ask of nodes, and how they look at what comes.
+//! One end of the link, and for what its packets are read.
 
 ghost use Rattle.std.specs.Prelude.{◌≡◌};
 ghost use Rattle.lpt_part.specs.Splitting.{IsPartSize};
@@ -7,7 +7,6 @@ use lpt_node::{Accepted, Config, Node, Parsed, Side};
 use lpt_packet::{Name, Octets};
 use std::alloc::{AllocError, Global};
 use std::process::Abort;
-use std::test::Fail;
 
 /// The configuration of both ends.
 pub(crate) const PASS: Config = Config {
@@ -24,7 +23,7 @@ pub(crate) const PASS: Config = Config {
 #[derive(Drop)]
 pub(crate) struct Station {
     pub(crate) node: Node,
-    side: Side,
+    pub(crate) side: Side,
     pub(crate) config: Config,
     ghost side_is: { node.side ≡ side },
     ghost config_is: { node.config ≡ config },
@@ -71,38 +70,5 @@ impl Station {
             Ok(accepted) => Ok(accepted),
             Err(_) => Err(AllocError),
         }
-    }
-}
-
-/// The octets, as a message or a packet has them.
-pub(crate) fn octets_of(alloc: Global, octets: &[u8]) -> Result<Octets, AllocError> {
-    Ok(Octets::from_vec(octets.to_vec(alloc)?))
-}
-
-/// Whether there are octets, and they are these.
-pub(crate) fn is(octets: &Option<Octets>, wanted: &[u8]) -> bool {
-    octets.as_ref().is_some_and(|it| it.as_slice() == wanted)
-}
-
-/// The packet of a part of a message that a new node sends first.
-pub(crate) fn packet_of(
-    alloc: Global,
-    side: Side,
-    id: Name,
-    message: &[u8],
-    part: u16,
-) -> Result<Octets, Fail> {
-    let message = octets_of(alloc, message)?;
-    let mut node = Node::new(alloc, side, &PASS)?;
-    let came = first_packet(&mut node, id, message, part);
-    drop(node);
-    came
-}
-
-// The packet of a part of a message that is opened.
-fn first_packet(node: &mut Node, id: Name, message: Octets, part: u16) -> Result<Octets, Fail> {
-    match node.open(id, message) {
-        Ok(()) => Ok(node.send_part(id, part)?),
-        Err(_) => Err("not opened".into()),
     }
 }

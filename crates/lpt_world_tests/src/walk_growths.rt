@@ -4,19 +4,15 @@
 //! `tests/growths` has each growth fail in turn, in the tests as they are built.
 
 use crate::packets::EXPIRED;
-use crate::scenes::{Asked, CONFIG};
-use crate::steps::Row;
-use crate::walking::{Does, Path, walk};
+use crate::rows::{Asked, CONFIG, Content, ONE, Path, Row, SEAT, Shown};
+use crate::walking::walk;
 use lpt_events::Applied;
 use lpt_link::Lane::{G1, S1};
 use lpt_node::{Config, Outcome, Why};
-use lpt_packet::Direction::Up;
+use lpt_packet::Direction::{Down, Up};
 use lpt_part::Reason;
 use lpt_pus::FailureCode;
 use lpt_world::{Answer, StepFault};
-use std::alloc::Global;
-use std::process::Abort;
-use std::test::Fail;
 
 /// Bodies of requests: two areas of a load, of which the second has a wrong checksum; a load up to the
 /// end of the memory, and past it; a dump of two octets, and of three; a check of two.
@@ -46,6 +42,12 @@ const DUMPED: [u8; 31] = [
     0x00, 0x01, 0x01, 0x00, 0x00, 0x00, 0x10, 0x00, 0x02, 0x00, 0x00, 0x1d, 0x0f, 0xe7, 0x44,
 ];
 
+/// TM\[6,6\] of count 1 and clock 0: three octets of zero from address 16 on.
+const DUMPED_LARGE: [u8; 32] = [
+    0x08, 0x64, 0xc0, 0x01, 0x00, 0x19, 0x20, 0x06, 0x06, 0x00, 0x01, 0x00, 0x01, 0x00, 0x00, 0x00,
+    0x00, 0x01, 0x01, 0x00, 0x00, 0x00, 0x10, 0x00, 0x03, 0x00, 0x00, 0x00, 0xcc, 0x9c, 0xe9, 0x08,
+];
+
 /// TM\[6,10\] of count 2 and clock 0: the checksum of two octets of zero from address 0 on.
 const CHECKED: [u8; 29] = [
     0x08, 0x64, 0xc0, 0x02, 0x00, 0x16, 0x20, 0x06, 0x0a, 0x00, 0x00, 0x00, 0x01, 0x00, 0x00, 0x00,
@@ -54,46 +56,32 @@ const CHECKED: [u8; 29] = [
 
 /// Two of three parts come, the second a tick later. What they wait for is overdue two ticks after
 /// that; ground is told, and its sender is closed.
-static EXPIRY: [Row; 18] = [
-    Row::OpensUp(20, 3),
-    Row::PartUp(1, 0),
-    Row::PartUp(2, 1),
-    Row::PartUp(3, 2),
+const EXPIRY: [Row; 19] = [
+    Row::Opens(Up, 7, 20, 3),
+    Row::Sends(Up, 7, 1, 0),
+    Row::Sends(Up, 7, 2, 1),
+    Row::Sends(Up, 7, 3, 2),
     Row::Takes(S1, 0),
     Row::Gives(S1, Outcome::Kept(7, 1)),
     Row::Ticks(17),
     Row::Takes(S1, 1),
     Row::Gives(S1, Outcome::Kept(7, 2)),
     Row::Ticks(18),
-    Row::Refuses(Does::Expire, StepFault::NothingDue),
+    Row::Refuses(SEAT, Asked::Expire, StepFault::NothingDue),
     Row::Ticks(19),
-    Row::Answers(Does::Expire, Answer::Expired(Up, 7), 1),
+    Row::Answers(Asked::Expire, Answer::Expired(Up, 7), 1),
     Row::Takes(S1, 2),
     Row::Gives(S1, Outcome::Ignored(Why::Closed)),
     Row::Takes(G1, 3),
     Row::Gives(G1, Outcome::AbortNoted(7, Reason::Expired)),
-    Row::Refuses(Does::Asks(Asked::Send(Up, 7, 3)), StepFault::NotOpen),
+    Row::Refuses(SEAT, Asked::Send(Up, 7, 3), StepFault::NotOpen),
+    Row::Shows(Shown::Packet(3, Some(&EXPIRED))),
 ];
-
-fn expiry(rt: &impl Abort, alloc: Global) -> Result<bool, Fail> {
-    let config = Config {
-        clock: 16,
-        timeout: 2,
-        ..CONFIG
-    };
-    let it = Path {
-        config,
-        steps: &EXPIRY,
-        packet: (3, &EXPIRED),
-        memory: (0, &[]),
-    };
-    walk(rt, alloc, &it)
-}
 
 /// A load is refused for the checksum of its second area; one is carried out, and one is refused since
 /// it goes past the end.
-static REFUSALS: [Row; 20] = [
-    Row::Sends(Does::Plain(0, 2, &WRONG_CHECKSUM), 0),
+const REFUSALS: [Row; 22] = [
+    Row::Requests(0, 2, &WRONG_CHECKSUM, 0),
     Row::Takes(S1, 0),
     Row::Gives(S1, Outcome::PlainReleased(37)),
     Row::Claims(0),
@@ -101,52 +89,40 @@ static REFUSALS: [Row; 20] = [
     Row::Applies(Applied::Code(FailureCode::WrongChecksum), 1),
     Row::Takes(G1, 1),
     Row::Gives(G1, Outcome::ReportNoted(1, 4)),
-    Row::Sends(Does::Plain(0, 2, &UP_TO_THE_END), 2),
+    Row::Requests(0, 2, &UP_TO_THE_END, 2),
     Row::Takes(S1, 2),
     Row::Gives(S1, Outcome::PlainReleased(27)),
     Row::Claims(1),
     Row::Commits(1),
     Row::Applies(Applied::Done(None), 0),
-    Row::Sends(Does::Plain(0, 2, &PAST_THE_END), 3),
+    Row::Requests(0, 2, &PAST_THE_END, 3),
     Row::Takes(S1, 3),
     Row::Gives(S1, Outcome::PlainReleased(27)),
     Row::Claims(2),
     Row::Commits(2),
     Row::Applies(Applied::Code(FailureCode::OutOfRange), 1),
+    Row::Shows(Shown::Packet(1, Some(&NOT_STARTED))),
+    Row::Shows(Shown::Memory(252, &[0xab, 0xcd, 0xef, 0x01])),
 ];
 
-fn refusals(rt: &impl Abort, alloc: Global) -> Result<bool, Fail> {
-    let config = Config {
-        part_size: 16,
-        ..CONFIG
-    };
-    let it = Path {
-        config,
-        steps: &REFUSALS,
-        packet: (1, &NOT_STARTED),
-        memory: (252, &[0xab, 0xcd, 0xef, 0x01]),
-    };
-    walk(rt, alloc, &it)
-}
-
 /// A dump is answered by a packet, and one of an octet more by a message of four parts.
-static DUMPS: [Row; 24] = [
-    Row::Sends(Does::Plain(0, 5, &TWO), 0),
+const DUMPS: [Row; 26] = [
+    Row::Requests(0, 5, &TWO, 0),
     Row::Takes(S1, 0),
     Row::Gives(S1, Outcome::PlainReleased(21)),
     Row::Claims(0),
     Row::Commits(0),
     Row::Applies(Applied::Done(None), 1),
-    Row::Sends(Does::Plain(0, 5, &THREE), 2),
+    Row::Requests(0, 5, &THREE, 2),
     Row::Takes(S1, 2),
     Row::Gives(S1, Outcome::PlainReleased(21)),
     Row::Claims(1),
     Row::Commits(1),
     Row::Applies(Applied::Done(Some(0)), 0),
-    Row::PartDown(1, 3),
-    Row::PartDown(2, 4),
-    Row::PartDown(3, 5),
-    Row::PartDown(4, 6),
+    Row::Sends(Down, 0, 1, 3),
+    Row::Sends(Down, 0, 2, 4),
+    Row::Sends(Down, 0, 3, 5),
+    Row::Sends(Down, 0, 4, 6),
     Row::Takes(G1, 3),
     Row::Gives(G1, Outcome::Kept(0, 1)),
     Row::Takes(G1, 4),
@@ -155,21 +131,13 @@ static DUMPS: [Row; 24] = [
     Row::Gives(G1, Outcome::Kept(0, 3)),
     Row::Takes(G1, 6),
     Row::Gives(G1, Outcome::Released(0, 32)),
+    Row::Shows(Shown::Packet(1, Some(&DUMPED))),
+    Row::Shows(Shown::Memory(16, &[0, 0])),
 ];
 
-fn dumps(rt: &impl Abort, alloc: Global) -> Result<bool, Fail> {
-    let it = Path {
-        config: CONFIG,
-        steps: &DUMPS,
-        packet: (1, &DUMPED),
-        memory: (16, &[0, 0]),
-    };
-    walk(rt, alloc, &it)
-}
-
 /// A check that asks for all reports has four.
-static CHECKS: [Row; 14] = [
-    Row::Sends(Does::Plain(15, 9, &CHECK), 0),
+const CHECKS: [Row; 16] = [
+    Row::Requests(15, 9, &CHECK, 0),
     Row::Takes(S1, 0),
     Row::Gives(S1, Outcome::PlainReleased(21)),
     Row::Claims(0),
@@ -183,35 +151,66 @@ static CHECKS: [Row; 14] = [
     Row::Gives(G1, Outcome::ReportNoted(6, 10)),
     Row::Takes(G1, 4),
     Row::Gives(G1, Outcome::ReportNoted(1, 7)),
+    Row::Shows(Shown::Packet(3, Some(&CHECKED))),
+    Row::Shows(Shown::Memory(0, &[0, 0])),
 ];
 
-fn checks(rt: &impl Abort, alloc: Global) -> Result<bool, Fail> {
-    let it = Path {
+static PATHS: [Path; 4] = [
+    Path {
+        name: "a reception expires",
+        config: Config {
+            clock: 16,
+            timeout: 2,
+            ..CONFIG
+        },
+        memories: &ONE,
+        rows: &EXPIRY,
+        opened: &[(0, Some((Up, 7)), Content::Counting(20))],
+        released: &[],
+    },
+    Path {
+        name: "loads are refused",
+        config: Config {
+            part_size: 16,
+            ..CONFIG
+        },
+        memories: &ONE,
+        rows: &REFUSALS,
+        opened: &[],
+        released: &[
+            (2, None, Content::Packet(0)),
+            (10, None, Content::Packet(2)),
+            (16, None, Content::Packet(3)),
+        ],
+    },
+    Path {
+        name: "dumps are answered",
         config: CONFIG,
-        steps: &CHECKS,
-        packet: (3, &CHECKED),
-        memory: (0, &[0, 0]),
-    };
-    walk(rt, alloc, &it)
-}
+        memories: &ONE,
+        rows: &DUMPS,
+        opened: &[(11, Some((Down, 0)), Content::Octets(&DUMPED_LARGE))],
+        released: &[
+            (2, None, Content::Packet(0)),
+            (8, None, Content::Packet(2)),
+            (23, Some((Down, 0)), Content::Octets(&DUMPED_LARGE)),
+        ],
+    },
+    Path {
+        name: "a check has all its reports",
+        config: CONFIG,
+        memories: &ONE,
+        rows: &CHECKS,
+        opened: &[],
+        released: &[(2, None, Content::Packet(0))],
+    },
+];
 
-// Goes all ways, and gives whether a growth failed.
-fn all(rt: &impl Abort, alloc: Global) -> Result<bool, Fail> {
-    let expired = expiry(rt, alloc)?;
-    let refused = refusals(rt, alloc)?;
-    let dumped = dumps(rt, alloc)?;
-    let checked = checks(rt, alloc)?;
-    Ok(expired || refused || dumped || checked)
+#[test]
+fn no_growth_fails(rt: HostRuntime) {
+    assert!(rt; !walk(&rt, rt.alloc(), &PATHS));
 }
 
 #[test]
-fn no_growth_fails(rt: HostRuntime) -> Result<(), Fail> {
-    assert!(rt; !all(&rt, rt.alloc())?);
-    Ok(())
-}
-
-#[test]
-fn each_growth_may_fail(rt: HostRuntime) -> Result<(), Fail> {
-    all(&rt, rt.alloc())?;
-    Ok(())
+fn each_growth_may_fail(rt: HostRuntime) {
+    walk(&rt, rt.alloc(), &PATHS);
 }
