@@ -116,7 +116,10 @@ fn with_command<'a>(
 ) -> Result<clap::Command<'a>, AllocError> {
     match subcommand(alloc, name, about, word) {
         Ok(command) => program.subcommand(command),
-        Err(error) => Err(error),
+        Err(error) => {
+            drop(program);
+            Err(error)
+        }
     }
 }
 

@@ -7,12 +7,12 @@ use crate::watched::Watched;
 use lpt_events::Turns;
 use lpt_memory::Memories;
 use lpt_node::Config;
-use lpt_text::{Told, ToolFault};
-use lpt_tool::{run_script, run_threads_script};
+use lpt_text::{Source, Told, ToolFault, flush_out};
+use lpt_tool::{ScriptEnd, run_script, run_threads_script};
 use lpt_words::read_hex;
 use std::fs::File;
 use std::io;
-use std::io::{BufWriter, Printer, Read, Write};
+use std::io::{BufWriter, Printer, Read};
 use std::sync::Wait;
 use std::thread::Threads;
 
@@ -100,27 +100,52 @@ fn run_from<T: Threads + Wait + Sync, R: Read + Drop>(
     name: &str,
 ) -> Result<Status, Failure> {
     let mut source = Told::new(Watched::new(reader));
-    let mut out = output(rt)?;
-    let alloc = rt.alloc();
-    let ran = match turns {
-        None => run_script(alloc, config, memories, &mut source, &mut out),
-        Some(turns) => {
-            run_threads_script(
-                alloc,
-                threads,
-                config,
-                memories,
-                turns,
-                &mut source,
-                &mut out,
-            )
+    let ran = lines_run(rt, threads, config, memories, turns, &mut source);
+    let status = status_at_end(rt, source.inner(), name, ran);
+    drop(source);
+    status
+}
+
+// Runs the lines of a script, and writes what the output has kept back.
+fn lines_run<T: Threads + Wait + Sync, S: Source>(
+    rt: &HostRuntime,
+    threads: &T,
+    config: Config,
+    memories: Memories,
+    turns: Option<Turns>,
+    source: &mut S,
+) -> Result<ScriptEnd, ToolFault> {
+    let mut out = match output(rt) {
+        Ok(out) => out,
+        Err(fault) => {
+            drop(memories);
+            return Err(fault);
         }
     };
-    flush(out)?;
+    let alloc = rt.alloc();
+    let ran = match turns {
+        None => run_script(alloc, config, memories, source, &mut out),
+        Some(turns) => {
+            run_threads_script(alloc, threads, config, memories, turns, source, &mut out)
+        }
+    };
+    match flush(out) {
+        Ok(()) => ran,
+        Err(fault) => Err(fault),
+    }
+}
+
+// How a script's run ends that was read from this reader, of this name.
+fn status_at_end<R>(
+    rt: &HostRuntime,
+    reader: &Watched<R>,
+    name: &str,
+    ran: Result<ScriptEnd, ToolFault>,
+) -> Result<Status, Failure> {
     match ran {
         Ok(end) => Ok(status_of(end.refused > 0)),
         Err(ToolFault::Read) => {
-            let place = match source.inner().error() {
+            let place = match reader.error() {
                 Some(error) => format!(in rt.alloc(); "{name}: {error}"),
                 None => format!(in rt.alloc(); "{name}: more than 16777216 octets"),
             };
@@ -147,9 +172,8 @@ fn output(rt: &HostRuntime) -> Result<Output<'_>, ToolFault> {
 }
 
 // Writes what the output has kept back. Where that fails, a write of it failed before all else.
-fn flush(out: Output<'_>) -> Result<(), ToolFault> {
-    match out.into_inner().flush() {
-        Ok(()) => Ok(()),
-        Err(_) => Err(ToolFault::Write),
-    }
+fn flush(mut out: Output<'_>) -> Result<(), ToolFault> {
+    let flushed = flush_out(&mut out);
+    drop(out);
+    flushed
 }

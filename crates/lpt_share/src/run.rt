@@ -19,7 +19,7 @@ use std::alloc::{AllocError, Global};
 use std::marker::Brand;
 use std::sync::Wait;
 use std::thread;
-use std::thread::Threads;
+use std::thread::{JoinHandle, Threads};
 
 /// Why a run failed, and the world as it is then.
 #[derive(Drop)]
@@ -168,36 +168,50 @@ fn run_seats<'a, J: Origin + Send + Sync, R: Threads + Wait + Sync, G: Gate + Sy
     let Ok(mut handles) = Vec::with_capacity(pass.alloc, seats.len()) else {
         return Err(ShareFault::Memory);
     };
-    let Ok(mut logs) = Vec::with_capacity(pass.alloc, seats.len()) else {
+    let Ok(logs) = Vec::with_capacity(pass.alloc, seats.len()) else {
         return Err(ShareFault::Memory);
     };
     thread::scope(
         thread::scope_env(),
         pass.rt,
         move |scope| -> Result<Vec<SeatLog>, ShareFault> {
-            let mut outcome = Ok(());
+            let mut started = Ok(());
             for seat in seats {
                 match scope.spawn(move || pass.run(seat)) {
                     Ok(handle) => {
                         let _ = handles.push(handle);
                     }
                     Err(_) => {
-                        outcome = Err(ShareFault::NoThread);
+                        started = Err(ShareFault::NoThread);
                         break;
                     }
                 }
             }
-            for handle in handles {
-                let ended: Ended = handle.join(pass.rt);
-                let _ = logs.push(ended.log);
-                if let Some(fault) = ended.fault {
-                    outcome = Err(fault);
-                }
-            }
-            outcome?;
-            Ok(logs)
+            joined(pass.rt, handles, logs, started)
         },
     )
+}
+
+// The logs of threads that are waited for; or why one of them ended before its time, or, where none
+// did, why not all were started.
+fn joined<R: Threads>(
+    rt: &R,
+    handles: Vec<JoinHandle<Ended>>,
+    mut logs: Vec<SeatLog>,
+    started: Result<(), ShareFault>,
+) -> Result<Vec<SeatLog>, ShareFault> {
+    let mut outcome = started;
+    for handle in handles {
+        let Ended { log, fault } = handle.join(rt);
+        let _ = logs.push(log);
+        if let Some(fault) = fault {
+            outcome = Err(fault);
+        }
+    }
+    match outcome {
+        Ok(()) => Ok(logs),
+        Err(fault) => Err(fault),
+    }
 }
 
 // Whether nothing was left to do at the end of a run that began at this place with what was owed; or
@@ -215,7 +229,8 @@ fn is_all_done(
     ensures { IfOk result (λ done. IsTrue done → (given : Shown) → from ≡ length given.journal → owed.now ≡ owed_of given
         → IsFinishedIfShort turns.per_seat turns.ticks given world.now logs.now) }
 {
-    if !are_short(turns.per_seat, logs) {
+    let short = are_short(turns.per_seat, logs);
+    if !short {
         return Ok(true);
     }
     is_settled(alloc, world, from, owed, turns.ticks)

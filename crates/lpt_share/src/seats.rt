@@ -90,32 +90,31 @@ impl<'a, J: Origin, R: Wait, G: Gate> Pass<'a, J, R, G> {
         task: &Task,
         outlets: &mut Outlets,
     ) -> Result<bool, ShareFault> {
-        match task {
-            Task::Lane(lane, notices) => {
-                let Some(n) = self.notice(log, notices) else {
-                    return Ok(false);
-                };
-                self.shared.lane_turn(self.rt, log, *lane, n, self.gate)?;
-            }
-            Task::Timer(node) => {
-                self.tick(log, outlets, *node)?;
-                return Ok(false);
-            }
-            Task::Worker(worker, notices) => {
-                let Some(_notice) = self.notice(log, notices) else {
-                    return Ok(false);
-                };
-                self.shared
-                    .worker_turn(self.alloc, self.rt, log, *worker, self.gate)?;
-            }
-            Task::Sender(direction, notices) => {
-                let Some(id) = self.notice(log, notices) else {
-                    return Ok(false);
-                };
-                self.send_all(log, outlets, *direction, id)?;
-            }
+        let done = match task {
+            Task::Lane(lane, notices) => match self.notice(log, notices) {
+                Some(n) => self.shared.lane_turn(self.rt, log, *lane, n, self.gate),
+                None => return Ok(false),
+            },
+            Task::Timer(node) => match self.tick(log, outlets, *node) {
+                Ok(()) => return Ok(false),
+                Err(fault) => Err(fault),
+            },
+            Task::Worker(worker, notices) => match self.notice(log, notices) {
+                Some(_notice) => {
+                    self.shared
+                        .worker_turn(self.alloc, self.rt, log, *worker, self.gate)
+                }
+                None => return Ok(false),
+            },
+            Task::Sender(direction, notices) => match self.notice(log, notices) {
+                Some(id) => self.send_all(log, outlets, *direction, id),
+                None => return Ok(false),
+            },
+        };
+        match done {
+            Ok(_count) => Ok(true),
+            Err(fault) => Err(fault),
         }
-        Ok(true)
     }
 
     // Ticks so many times.
@@ -129,17 +128,18 @@ impl<'a, J: Origin, R: Wait, G: Gate> Pass<'a, J, R, G> {
         Ok(())
     }
 
-    // Sends each part of a transaction, until there is none of that number, and finishes it.
+    // Sends each part of a transaction, until there is none of that number, and finishes it. The answer
+    // is that of the last turn.
     fn send_all(
         &self,
         log: &mut SeatLog,
         outlets: &mut Outlets,
         direction: Direction,
         id: Name,
-    ) -> Result<(), ShareFault> {
+    ) -> Result<u64, ShareFault> {
         for k in 1..=u16::MAX {
             if self.is_full(log) {
-                return Ok(());
+                return Ok(0);
             }
             let sent = self
                 .shared
@@ -149,11 +149,11 @@ impl<'a, J: Origin, R: Wait, G: Gate> Pass<'a, J, R, G> {
             }
             outlets.tell_of(self.rt, log)?;
         }
-        if !self.is_full(log) {
-            self.shared
-                .sender_turn(self.rt, log, direction, id, None, self.gate)?;
+        if self.is_full(log) {
+            return Ok(0);
         }
-        Ok(())
+        self.shared
+            .sender_turn(self.rt, log, direction, id, None, self.gate)
     }
 
     // The next notice; none where those that give it have ended, or the log has enough calls.

@@ -64,6 +64,7 @@ fn calls_are_answered(rt: HostRuntime) -> Result<(), Fail> {
     assert!(rt; is_refused(&shared.call(&rt, &mut log, Event::Apply)));
     assert!(rt; is_torn(&shared.call(&rt, &mut other, Event::Apply)));
     assert!(rt; log.calls.len() == 1 && other.calls.is_empty());
+    drop(shared);
     Ok(())
 }
 

@@ -69,6 +69,7 @@ fn the_lock_is_free_at_each_point(rt: HostRuntime) -> Result<(), Fail> {
     let alloc = rt.alloc();
     let shared = Shared::new(world_after(alloc, SHORT, &reception()).ok_or("no world")?);
     passes(&rt, alloc, &shared);
+    drop(shared);
     Ok(())
 }
 

@@ -77,7 +77,10 @@ pub(crate) fn run<R: Threads + Wait + Sync, G: Gate + Sync>(
     let world = world_after(alloc, CONFIG, asked).ok_or("no world")?;
     match run_threads(alloc, rt, world, turns, gate) {
         Ok(done) => Ok(done),
-        Err(_) => Err("the run failed".into()),
+        Err(end) => {
+            drop(end);
+            Err("the run failed".into())
+        }
     }
 }
 
