@@ -1,10 +1,11 @@
 //! How a run ends where the script is too long, a read fails or a write fails.
 
+use crate::failing::{Breaking, Narrow};
 use crate::usual::{USUAL, ran, zeros};
 use lpt_text::{Told, ToolFault};
 use lpt_tool::run_script;
 use std::alloc::Global;
-use std::io::{self, ErrorKind, Read, Write};
+use std::io::{self, Read};
 use std::test::Fail;
 
 /// A message of 20 octets, opened and sent in three parts.
@@ -19,20 +20,21 @@ const LIMIT: u64 = 16_777_216;
 
 const TOO_LONG: u64 = 140_001;
 
+/// Line ends, then so many octets of a comment, and whether that is cut or too long.
+const LIMITS: [(u64, u64, Result<u64, ToolFault>); 4] = [
+    (LIMIT, 0, Ok(0)),
+    (LIMIT + 1, 0, Err(ToolFault::Read)),
+    (
+        LIMIT - TOO_LONG,
+        TOO_LONG + 1,
+        Err(ToolFault::Line(16_637_216)),
+    ),
+    (0, LIMIT + 1, Err(ToolFault::Line(1))),
+];
+
 #[test]
 fn a_script_has_16777216_octets_at_most(rt: HostRuntime) -> Result<(), Fail> {
-    // Line ends, then so many octets of a comment, and whether that is cut or too long.
-    let cases = [
-        (LIMIT, 0, Ok(0)),
-        (LIMIT + 1, 0, Err(ToolFault::Read)),
-        (
-            LIMIT - TOO_LONG,
-            TOO_LONG + 1,
-            Err(ToolFault::Line(16_637_216)),
-        ),
-        (0, LIMIT + 1, Err(ToolFault::Line(1))),
-    ];
-    for (ends, comment, expected) in cases {
+    for (ends, comment, expected) in LIMITS {
         let script = io::repeat(b'\n')
             .take(ends)
             .chain(io::repeat(b'#').take(comment));
@@ -48,38 +50,22 @@ fn a_script_has_16777216_octets_at_most(rt: HostRuntime) -> Result<(), Fail> {
     Ok(())
 }
 
-/// A reader that gives few octets at a time, and fails behind the last.
-#[derive(Drop)]
-struct Breaking {
-    text: &'static [u8],
-    step: usize,
-}
-
-impl Read for Breaking {
-    fn read(&mut self, buf: &mut [u8]) -> io::Result<usize> {
-        let count = buf.len().min(self.step).min(self.text.len());
-        if count == 0 {
-            return Err(io::Error::from(ErrorKind::BrokenPipe));
-        }
-        buf[..count].copy_from_slice(&self.text[..count]);
-        self.text = &self.text[count..];
-        Ok(count)
-    }
-}
+/// What is read before a read fails, how many octets at a time, and what is printed.
+static CUT: [(&[u8], usize, &[u8]); 4] = [
+    (b"", 1, b""),
+    (b"show journal", 1, b""),
+    (b"show journal\nshow journal", 1, b"journal 0\n"),
+    (
+        b"show journal\nshow journal\n",
+        20,
+        b"journal 0\njournal 0\n",
+    ),
+];
 
 #[test]
 fn a_failed_read_ends_the_run_behind_whole_lines(rt: HostRuntime) -> Result<(), Fail> {
-    let cases: [(&[u8], usize, &[u8]); 4] = [
-        (b"", 1, b""),
-        (b"show journal", 1, b""),
-        (b"show journal\nshow journal", 1, b"journal 0\n"),
-        (
-            b"show journal\nshow journal\n",
-            20,
-            b"journal 0\njournal 0\n",
-        ),
-    ];
-    for (text, step, printed) in cases {
+    for (text, step, printed) in &CUT {
+        let (text, step) = (*text, *step);
         let is_so = ends_unread(rt.alloc(), Breaking { text, step }, printed)?;
         assert!(rt; is_so, "{step}");
     }
@@ -93,46 +79,20 @@ fn ends_unread(alloc: Global, reader: Breaking, printed: &[u8]) -> Result<bool, 
     Ok(ended == Err(ToolFault::Read) && got.as_slice() == printed)
 }
 
-/// A writer that takes so many octets, and fails from then on, or at the first flush.
-#[derive(Drop)]
-struct Full {
-    held: Vec<u8>,
-    room: usize,
-    flushes: bool,
-}
-
-impl Write for Full {
-    fn write(&mut self, buf: &[u8]) -> io::Result<usize> {
-        let count = buf.len().min(self.room);
-        if count == 0 {
-            return Err(io::Error::from(ErrorKind::BrokenPipe));
-        }
-        self.held.extend_from_slice(&buf[..count])?;
-        self.room -= count;
-        Ok(count)
-    }
-
-    fn flush(&mut self) -> io::Result<()> {
-        if self.flushes {
-            Ok(())
-        } else {
-            Err(io::Error::from(ErrorKind::BrokenPipe))
-        }
-    }
-}
-
 // What a writer holds once the script of the message has failed with it, or nothing of it else.
 fn written(alloc: Global, room: usize, flushes: bool) -> Result<Option<Vec<u8>>, Fail> {
     let memories = zeros(alloc)?;
     let held = Vec::new(alloc);
     let mut reader = Told::new(SENT.as_bytes());
-    let mut out = Told::new(Full {
+    let mut out = Told::new(Narrow {
         held,
+        step: usize::MAX,
         room,
+        breaks: true,
         flushes,
     });
     let ended = run_script(alloc, USUAL, memories, &mut reader, &mut out);
-    let Full { held, .. } = out.into_inner();
+    let Narrow { held, .. } = out.into_inner();
     Ok(match ended {
         Err(ToolFault::Write) => Some(held),
         _ => None,

@@ -1,53 +1,12 @@
 //! Texts through readers and writers that give, take and fail in their own ways.
 
+use crate::failing::{Breaking, Narrow};
 use lpt_text::{End, LineBuffer, Told, ToolFault, flush_out, read_text, write_out};
 use std::alloc::Global;
-use std::io::{self, ErrorKind, Read, Write};
+use std::io::{self, Read};
 use std::test::Fail;
 
 const SCRIPT: &[u8] = b"open up 7 00010203\nshow journal\n";
-
-/// A writer that takes few octets at a time, and none past its room.
-#[derive(Drop)]
-struct Narrow {
-    held: Vec<u8>,
-    step: usize,
-    room: usize,
-    breaks: bool,
-}
-
-impl Write for Narrow {
-    fn write(&mut self, buf: &[u8]) -> io::Result<usize> {
-        let count = buf.len().min(self.step).min(self.room);
-        if count == 0 && self.breaks {
-            return Err(io::Error::from(ErrorKind::BrokenPipe));
-        }
-        self.held.extend_from_slice(&buf[..count])?;
-        self.room -= count;
-        Ok(count)
-    }
-
-    fn flush(&mut self) -> io::Result<()> {
-        Ok(())
-    }
-}
-
-/// A reader that gives `x` once, and fails from then on.
-#[derive(Drop)]
-struct Breaking {
-    has_read: bool,
-}
-
-impl Read for Breaking {
-    fn read(&mut self, buf: &mut [u8]) -> io::Result<usize> {
-        if self.has_read || buf.is_empty() {
-            return Err(io::Error::from(ErrorKind::BrokenPipe));
-        }
-        self.has_read = true;
-        buf[0] = b'x';
-        Ok(1)
-    }
-}
 
 #[test]
 fn writes_whole_texts_or_a_front_part(rt: HostRuntime) {
@@ -65,6 +24,7 @@ fn writes_whole_texts_or_a_front_part(rt: HostRuntime) {
             step,
             room,
             breaks,
+            flushes: true,
         };
         let (ended, is_front) = wrote(narrow, len);
         assert!(rt; ended == expected && is_front, "{step} of {room}");
@@ -96,7 +56,10 @@ fn reads_to_the_end(rt: HostRuntime) -> Result<(), Fail> {
 
 #[test]
 fn keeps_what_came_before_a_fault(rt: HostRuntime) -> Result<(), Fail> {
-    let mut reader = Told::new(Breaking { has_read: false });
+    let mut reader = Told::new(Breaking {
+        text: b"x",
+        step: 1,
+    });
     let (text, end) = read_text(rt.alloc(), &mut reader)?;
     assert!(rt; text.as_slice() == b"x".as_slice() && end == End::Failed);
     Ok(())

@@ -1,7 +1,7 @@
 //! The configuration and the memories of an empty file, and a script's run on them.
 
+use lpt_events::Config;
 use lpt_memory::Memories;
-use lpt_node::Config;
 use lpt_packet::Octets;
 use lpt_text::{Told, ToolFault};
 use lpt_tool::run_script;

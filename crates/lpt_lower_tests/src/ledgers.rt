@@ -1,0 +1,135 @@
+//! Worked values of a ledger.
+
+use lpt_ledger::{Ledger, LedgerFault, State};
+use lpt_packet::Name;
+use std::alloc::Global;
+use std::process::Abort;
+use std::test::Fail;
+
+/// A call. The first four name an identifier.
+#[derive(Clone, Copy)]
+enum Call {
+    Open,
+    Close,
+    Shut,
+    Retire,
+    CloseAll,
+    /// Opens each identifier.
+    OpenEach,
+}
+
+// The code of the fault that a call answers, or 0 where it answers none. Of `OpenEach` it is how many
+// were refused.
+fn code(ledger: &mut Ledger, call: Call, id: Name) -> u16 {
+    let answer = match call {
+        Call::Open => ledger.open(id),
+        Call::Close => ledger.close(id),
+        Call::Shut => ledger.shut(id),
+        Call::Retire => ledger.retire(id),
+        Call::CloseAll => {
+            ledger.close_all();
+            Ok(())
+        }
+        Call::OpenEach => return open_each(ledger),
+    };
+    match answer {
+        Ok(()) => 0,
+        Err(fault) => fault.code(),
+    }
+}
+
+// Opens each identifier, and answers how many were refused.
+fn open_each(ledger: &mut Ledger) -> u16 {
+    let mut refused = 0u16;
+    for id in 0..=Name::MAX {
+        if ledger.open(id).is_err() {
+            refused = refused.saturating_add(1);
+        }
+    }
+    refused
+}
+
+/// A call, its identifier, its code, the state in which it leaves that identifier, and the least free
+/// one behind it.
+type Row = (Call, Name, u16, State, Option<Name>);
+
+// Each call answers its code, and leaves its identifier in its state.
+fn check_calls(rt: &impl Abort, ledger: &mut Ledger, rows: &[Row]) {
+    for (at, (call, id, number, state, least)) in rows.iter().enumerate() {
+        let answer = code(ledger, *call, *id);
+        let left = (answer, ledger.state(*id), ledger.least_free());
+        assert!(rt; left == (*number, *state, *least), "row {at}");
+    }
+}
+
+// The same of a ledger of which all is free.
+fn check(rt: &impl Abort, alloc: Global, rows: &[Row]) -> Result<(), Fail> {
+    let mut ledger = Ledger::new(alloc)?;
+    assert!(rt; ledger.least_free() == Some(0));
+    check_calls(rt, &mut ledger, rows);
+    drop(ledger);
+    Ok(())
+}
+
+/// Each call changes one identifier.
+static CALLS: [Row; 16] = [
+    (Call::Open, 7, 0, State::Open, Some(0)),
+    (Call::Close, 6, 33, State::Free, Some(0)),
+    (Call::Close, 8, 33, State::Free, Some(0)),
+    (Call::Close, 7, 0, State::Closed, Some(0)),
+    (Call::Retire, 7, 0, State::Free, Some(0)),
+    (Call::Shut, 7, 0, State::Closed, Some(0)),
+    (Call::Open, 1, 0, State::Open, Some(0)),
+    (Call::Shut, 2, 0, State::Closed, Some(0)),
+    (Call::Close, 0, 33, State::Free, Some(0)),
+    (Call::Retire, 0, 33, State::Free, Some(0)),
+    (Call::Open, 1, 31, State::Open, Some(0)),
+    (Call::Shut, 1, 31, State::Open, Some(0)),
+    (Call::Retire, 1, 32, State::Open, Some(0)),
+    (Call::Open, 2, 31, State::Closed, Some(0)),
+    (Call::Close, 2, 33, State::Closed, Some(0)),
+    (Call::Shut, 2, 31, State::Closed, Some(0)),
+];
+
+/// The least free one rises with what is opened, and falls where one below it is retired.
+static LEAST_FREE: [Row; 6] = [
+    (Call::Open, 0, 0, State::Open, Some(1)),
+    (Call::Open, 2, 0, State::Open, Some(1)),
+    (Call::Open, 1, 0, State::Open, Some(3)),
+    (Call::Close, 1, 0, State::Closed, Some(3)),
+    (Call::Retire, 1, 0, State::Free, Some(1)),
+    (Call::Shut, 1, 0, State::Closed, Some(3)),
+];
+
+/// With every identifier taken none is free.
+static TAKEN: [Row; 8] = [
+    (Call::Shut, 1, 0, State::Closed, Some(0)),
+    (Call::CloseAll, 0, 0, State::Free, Some(0)),
+    (Call::CloseAll, 1, 0, State::Closed, Some(0)),
+    (Call::OpenEach, 0, 1, State::Open, None),
+    (Call::CloseAll, 65_535, 0, State::Closed, None),
+    (Call::Retire, 65_535, 0, State::Free, Some(65_535)),
+    (Call::Retire, 64, 0, State::Free, Some(64)),
+    (Call::Open, 64, 0, State::Open, Some(65_535)),
+];
+
+#[test]
+fn each_call_changes_one_identifier(rt: HostRuntime) -> Result<(), Fail> {
+    check(&rt, rt.alloc(), &CALLS)?;
+    check(&rt, rt.alloc(), &LEAST_FREE)?;
+    check(&rt, rt.alloc(), &TAKEN)
+}
+
+/// Faults with their names.
+static NAMES: [(LedgerFault, &str); 3] = [
+    (LedgerFault::InUse, "InUse"),
+    (LedgerFault::StillOpen, "StillOpen"),
+    (LedgerFault::NotOpen, "NotOpen"),
+];
+
+#[test]
+fn faults_have_names(rt: HostRuntime) {
+    for (fault, name) in &NAMES {
+        assert!(rt; fault.name() == *name, "{name}");
+    }
+}
