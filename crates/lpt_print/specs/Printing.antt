@@ -63,10 +63,6 @@ put_text n = line_of (codes "put" ∷ decimal n ∷ [])
 abbrev pub took_text : ℕ → List ℕ
 took_text n = line_of (codes "took" ∷ decimal n ∷ [])
 
--- a word and a number
-abbrev pub number_line : List ℕ → ℕ → List ℕ
-number_line word n = line_of (word ∷ decimal n ∷ [])
-
 -- a word, a transaction and a number
 abbrev pub transaction_line : List ℕ → Direction → Name → ℕ → List ℕ
 transaction_line word d id n = line_of (word ∷ direction_text d ∷ decimal id ∷ decimal n ∷ [])

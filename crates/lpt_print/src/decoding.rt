@@ -1,6 +1,6 @@
 //! What octets are, as a text.
 
-ghost use Rattle.std.specs.Prelude.{◌≡◌, ◌++◌, [], true, false, IfOk};
+ghost use Rattle.std.specs.Prelude.{◌≡◌, [], true, false, IfOk};
 ghost use Rattle.std.specs.String.{string_bytes};
 ghost use Rattle.lpt_packet.specs.Packets.{fields};
 ghost use Rattle.lpt_pus.specs.Commands.{command, tc_verdict};
@@ -8,8 +8,7 @@ ghost use Rattle.lpt_pus.specs.Telemetry.{telemetry, tm_verdict};
 ghost use Rattle.lpt_part.specs.Splitting.{IsPartSize};
 ghost use Rattle.lpt_print.specs.Decoding.{Says, decoding, tc_decoding, tm_decoding, fault_text, tc_text, tm_text, body_text, kind_text, part_line, abort_line, report_line, tc_carried, tm_carried};
 
-use crate::words::Word::{Number, Octets, Text};
-use crate::words::line;
+use crate::words::octets_word;
 use lpt_events::part_kind;
 use lpt_packet::{Direction, Packet, PacketKind, Seen, read_packet};
 use lpt_part::{ABORT, Kind, TRANSFER, read_abort, read_part};
@@ -21,7 +20,7 @@ use std::alloc::{AllocError, Global};
 const VERIFICATION: u8 = 1;
 
 /// What octets are, as a text, and whether they fail a test.
-#[derive(Drop)]
+#[derive(Debug, Drop)]
 pub struct Decoded {
     /// The lines that say what the octets are.
     pub text: String,
@@ -57,10 +56,10 @@ fn decoded_tc(alloc: Global, packet: &Packet<'_>, p: u32) -> Result<Decoded, All
 {
     match read_tc(packet) {
         Ok((head, body)) => {
-            let first = print_tc(alloc, &head)?;
-            let second = print_body(alloc, body)?;
-            let third = print_tc_carried(alloc, &head, body, p)?;
-            Ok(readable(joined(first, second, third)?))
+            let mut text = print_tc(alloc, &head)?;
+            text.push_str(print_body(alloc, body)?.as_str())?;
+            text.push_str(print_tc_carried(alloc, &head, body, p)?.as_str())?;
+            Ok(readable(text))
         }
         Err(fault) => Ok(faulty(print_fault(alloc, fault.code(), fault.name())?)),
     }
@@ -74,23 +73,13 @@ fn decoded_tm(alloc: Global, packet: &Packet<'_>, p: u32) -> Result<Decoded, All
 {
     match read_tm(packet) {
         Ok((head, body)) => {
-            let first = print_tm(alloc, &head)?;
-            let second = print_body(alloc, body)?;
-            let third = print_tm_carried(alloc, &head, body, p)?;
-            Ok(readable(joined(first, second, third)?))
+            let mut text = print_tm(alloc, &head)?;
+            text.push_str(print_body(alloc, body)?.as_str())?;
+            text.push_str(print_tm_carried(alloc, &head, body, p)?.as_str())?;
+            Ok(readable(text))
         }
         Err(fault) => Ok(faulty(print_fault(alloc, fault.code(), fault.name())?)),
     }
-}
-
-// Three texts, one behind another.
-fn joined(mut first: String, second: String, third: String) -> Result<String, AllocError>
-    ensures { IfOk result (λ t. string_bytes t
-        ≡ string_bytes first ++ (string_bytes second ++ string_bytes third)) }
-{
-    first.push_str(second.as_str())?;
-    first.push_str(third.as_str())?;
-    Ok(first)
 }
 
 // Octets that are read.
@@ -116,66 +105,56 @@ fn faulty(text: String) -> Decoded
 fn print_fault(alloc: Global, code: u16, name: &str) -> Result<String, AllocError>
     ensures { IfOk result (λ t. string_bytes t ≡ fault_text code name.now) }
 {
-    line(alloc, &[Text("fault"), Number(code as u64), Text(name)])
+    format!(in alloc; "fault {code} {name}\n")
 }
 
 // What a telecommand's headers say.
 fn print_tc(alloc: Global, head: &TcHead) -> Result<String, AllocError>
     ensures { IfOk result (λ t. string_bytes t ≡ tc_text (command head.now [])) }
 {
-    line(
-        alloc,
-        &[
-            Text("tc"),
-            Text("apid"),
-            Number(head.apid as u64),
-            Text("count"),
-            Number(head.count as u64),
-            Text("flags"),
-            Number(head.flags as u64),
-            Text("service"),
-            Number(head.service as u64),
-            Text("subtype"),
-            Number(head.subtype as u64),
-            Text("source"),
-            Number(head.source as u64),
-        ],
-    )
+    let TcHead {
+        apid,
+        count,
+        flags,
+        service,
+        subtype,
+        source,
+    } = *head;
+    let mut text = format!(in alloc; "tc apid {apid} count {count} flags {flags}")?;
+    let more = format!(in alloc; " service {service} subtype {subtype} source {source}\n")?;
+    text.push_str(more.as_str())?;
+    Ok(text)
 }
 
 // What a telemetry packet's headers say.
 fn print_tm(alloc: Global, head: &TmHead) -> Result<String, AllocError>
     ensures { IfOk result (λ t. string_bytes t ≡ tm_text (telemetry head.now [])) }
 {
-    line(
-        alloc,
-        &[
-            Text("tm"),
-            Text("apid"),
-            Number(head.apid as u64),
-            Text("count"),
-            Number(head.count as u64),
-            Text("status"),
-            Number(head.status as u64),
-            Text("service"),
-            Number(head.service as u64),
-            Text("subtype"),
-            Number(head.subtype as u64),
-            Text("counter"),
-            Number(head.counter as u64),
-            Text("destination"),
-            Number(head.destination as u64),
-            Text("time"),
-            Number(head.time as u64),
-        ],
-    )
+    let TmHead {
+        apid,
+        count,
+        status,
+        service,
+        subtype,
+        counter,
+        destination,
+        time,
+    } = *head;
+    let mut text = format!(in alloc; "tm apid {apid} count {count} status {status}")?;
+    let more = format!(in alloc;
+        " service {service} subtype {subtype} counter {counter} \
+        destination {destination} time {time}\n"
+    )?;
+    text.push_str(more.as_str())?;
+    Ok(text)
 }
 
 // The octets of a message's body.
 fn print_body(alloc: Global, body: &[u8]) -> Result<String, AllocError>
     ensures { IfOk result (λ t. string_bytes t ≡ body_text body.now) }
 {
-    line(alloc, &[Text("body"), Octets(body)])
+    let octets = octets_word(alloc, body)?;
+    format!(in alloc; "body {octets}\n")
 }
 
 // The part that a telecommand carries, where it carries one.
@@ -212,19 +191,11 @@ fn print_part(alloc: Global, kind: Kind, body: &[u8], p: u32) -> Result<String, 
     let Ok(part) = read_part(kind, body, p) else {
         return Ok(String::new(alloc));
     };
-    line(
-        alloc,
-        &[
-            Text("part"),
-            Text(kind_word(part.kind)),
-            Text("id"),
-            Number(part.id as u64),
-            Text("number"),
-            Number(part.number as u64),
-            Text("octets"),
-            Number(part.octets.len() as u64),
-        ],
-    )
+    let kind = kind_word(part.kind);
+    let id = part.id;
+    let number = part.number;
+    let octets = part.octets.len();
+    format!(in alloc; "part {kind} id {id} number {number} octets {octets}\n")
 }
 
 // The abortion report that a body is; nothing where it isn't read as one.
@@ -234,16 +205,8 @@ fn print_abort(alloc: Global, body: &[u8]) -> Result<String, AllocError>
     let Ok((id, reason)) = read_abort(body) else {
         return Ok(String::new(alloc));
     };
-    line(
-        alloc,
-        &[
-            Text("abort"),
-            Text("id"),
-            Number(id as u64),
-            Text("reason"),
-            Number(reason.code() as u64),
-        ],
-    )
+    let reason = reason.code();
+    format!(in alloc; "abort id {id} reason {reason}\n")
 }
 
 // The verification report that a body is; nothing where it isn't read as one.
@@ -253,20 +216,10 @@ fn print_report(alloc: Global, subtype: u8, body: &[u8]) -> Result<String, Alloc
     let Some(report) = read_report(subtype, body) else {
         return Ok(String::new(alloc));
     };
-    let request = report.request.value.to_be_bytes();
-    let request = Octets(&request);
+    let request = octets_word(alloc, &report.request.value.to_be_bytes())?;
     match report.code {
-        None => line(alloc, &[Text("report"), Text("request"), request]),
-        Some(code) => line(
-            alloc,
-            &[
-                Text("report"),
-                Text("request"),
-                request,
-                Text("code"),
-                Number(code as u64),
-            ],
-        ),
+        None => format!(in alloc; "report request {request}\n"),
+        Some(code) => format!(in alloc; "report request {request} code {code}\n"),
     }
 }
 

@@ -3,10 +3,9 @@
 ghost use Rattle.std.specs.Prelude.{◌≡◌, IfOk};
 ghost use Rattle.std.specs.Option.{option_copied};
 ghost use Rattle.std.specs.String.{string_bytes};
-ghost use Rattle.lpt_print.specs.Printing.{accepted_text, opened_text, finished_text, lost_text, expired_text, claimed_text, committed_text, stale_text, applied_text, retired_text, restarted_text, clock_text, put_text, took_text, outcome_text, refused_text, unreadable_text, journal_text, plain_count_text, applied_count_text, packet_text, clear_text, memory_text, release_text, none_text, number_line, job_line, named_line, transaction_line};
+ghost use Rattle.lpt_print.specs.Printing.{accepted_text, opened_text, finished_text, lost_text, expired_text, claimed_text, committed_text, stale_text, applied_text, retired_text, restarted_text, clock_text, put_text, took_text, outcome_text, refused_text, unreadable_text, journal_text, plain_count_text, applied_count_text, packet_text, clear_text, memory_text, release_text, none_text};
 
-use crate::words::Word::{Number, Octets, Text};
-use crate::words::{direction_word, line, side_word, why_word};
+use crate::words::{direction_word, octets_word, side_word, why_word};
 use lpt_events::{Answer, Applied, Event, Outcome, Release, Reply, Side, StepFault};
 use lpt_packet::{Direction, Name};
 use std::alloc::{AllocError, Global};
@@ -67,65 +66,59 @@ pub fn print_opened(
 ) -> Result<String, AllocError>
     ensures { IfOk result (λ t. string_bytes t ≡ opened_text direction id parts) }
 {
-    line(
-        alloc,
-        &[
-            Text("opened"),
-            Text(direction_word(direction)),
-            Number(id as u64),
-            Text("parts"),
-            Number(parts as u64),
-        ],
-    )
+    let direction = direction_word(direction);
+    format!(in alloc; "opened {direction} {id} parts {parts}\n")
 }
 
 /// `put 0`: the packet of this number was put on the link.
 pub fn print_put(alloc: Global, n: u64) -> Result<String, AllocError>
     ensures { IfOk result (λ t. string_bytes t ≡ put_text n) }
 {
-    number_line(alloc, "put", n)
+    format!(in alloc; "put {n}\n")
 }
 
 /// `took 2`: the packet of this number was taken into a hand.
 pub fn print_took(alloc: Global, n: u64) -> Result<String, AllocError>
     ensures { IfOk result (λ t. string_bytes t ≡ took_text n) }
 {
-    number_line(alloc, "took", n)
+    format!(in alloc; "took {n}\n")
 }
 
 /// `lost 0`: the packet of this number is lost.
 pub fn print_lost(alloc: Global, n: u64) -> Result<String, AllocError>
     ensures { IfOk result (λ t. string_bytes t ≡ lost_text n) }
 {
-    number_line(alloc, "lost", n)
+    format!(in alloc; "lost {n}\n")
 }
 
 /// `finished up 7`: the sender of this transaction was closed.
 pub fn print_finished(alloc: Global, direction: Direction, id: Name) -> Result<String, AllocError>
     ensures { IfOk result (λ t. string_bytes t ≡ finished_text direction id) }
 {
-    named_line(alloc, "finished", direction, id)
+    let direction = direction_word(direction);
+    format!(in alloc; "finished {direction} {id}\n")
 }
 
 /// `expired up 7`: the reception of this transaction was ended.
 pub fn print_expired(alloc: Global, direction: Direction, id: Name) -> Result<String, AllocError>
     ensures { IfOk result (λ t. string_bytes t ≡ expired_text direction id) }
 {
-    named_line(alloc, "expired", direction, id)
+    let direction = direction_word(direction);
+    format!(in alloc; "expired {direction} {id}\n")
 }
 
 /// `claimed 0 3`: a worker has the job of this boot and this number in it.
 pub fn print_claimed(alloc: Global, boot: u64, job: u64) -> Result<String, AllocError>
     ensures { IfOk result (λ t. string_bytes t ≡ claimed_text boot job) }
 {
-    pair_line(alloc, "claimed", boot, job)
+    format!(in alloc; "claimed {boot} {job}\n")
 }
 
 /// `committed 0 3`: the reading of the job of this boot and this number in it was handed in.
 pub fn print_committed(alloc: Global, boot: u64, job: u64) -> Result<String, AllocError>
     ensures { IfOk result (λ t. string_bytes t ≡ committed_text boot job) }
 {
-    pair_line(alloc, "committed", boot, job)
+    format!(in alloc; "committed {boot} {job}\n")
 }
 
 /// `stale 0 3`: the job of this boot and this number in it isn't there any more, so its reading was
@@ -133,24 +126,23 @@ pub fn print_committed(alloc: Global, boot: u64, job: u64) -> Result<String, All
 pub fn print_stale(alloc: Global, boot: u64, job: u64) -> Result<String, AllocError>
     ensures { IfOk result (λ t. string_bytes t ≡ stale_text boot job) }
 {
-    pair_line(alloc, "stale", boot, job)
+    format!(in alloc; "stale {boot} {job}\n")
 }
 
 /// `retired up 7`: this transaction is free at both ends.
 pub fn print_retired(alloc: Global, direction: Direction, id: Name) -> Result<String, AllocError>
     ensures { IfOk result (λ t. string_bytes t ≡ retired_text direction id) }
 {
-    named_line(alloc, "retired", direction, id)
+    let direction = direction_word(direction);
+    format!(in alloc; "retired {direction} {id}\n")
 }
 
 /// `restarted craft 1`: the node on this side was started anew, and has this boot now.
 pub fn print_restarted(alloc: Global, side: Side, boot: u64) -> Result<String, AllocError>
     ensures { IfOk result (λ t. string_bytes t ≡ restarted_text side boot) }
 {
-    line(
-        alloc,
-        &[Text("restarted"), Text(side_word(side)), Number(boot)],
-    )
+    let side = side_word(side);
+    format!(in alloc; "restarted {side} {boot}\n")
 }
 
 /// `applied done`, `applied done down 0` with the identifier of the report of data that was opened,
@@ -173,7 +165,7 @@ pub fn print_applied(alloc: Global, applied: Applied) -> Result<String, AllocErr
 pub fn print_clock(alloc: Global, ticks: u32) -> Result<String, AllocError>
     ensures { IfOk result (λ t. string_bytes t ≡ clock_text ticks) }
 {
-    number_line(alloc, "clock", ticks as u64)
+    format!(in alloc; "clock {ticks}\n")
 }
 
 /// What became of a packet that was delivered in this direction: `kept up 7 3` and `again up 7 1`
@@ -187,23 +179,27 @@ pub fn print_outcome(
 ) -> Result<String, AllocError>
     ensures { IfOk result (λ t. string_bytes t ≡ outcome_text direction outcome) }
 {
+    let direction = direction_word(direction);
     match outcome {
-        Outcome::Kept(id, part) => transaction_line(alloc, "kept", direction, id, part as u64),
-        Outcome::Again(id, part) => transaction_line(alloc, "again", direction, id, part as u64),
-        Outcome::Released(id, octets) => {
-            transaction_line(alloc, "released", direction, id, octets as u64)
-        }
-        Outcome::PlainReleased(octets) => number_line(alloc, "plain", octets as u64),
+        Outcome::Kept(id, part) => format!(in alloc; "kept {direction} {id} {part}\n"),
+        Outcome::Again(id, part) => format!(in alloc; "again {direction} {id} {part}\n"),
+        Outcome::Released(id, octets) => format!(in alloc; "released {direction} {id} {octets}\n"),
+        Outcome::PlainReleased(octets) => format!(in alloc; "plain {octets}\n"),
         Outcome::ReportNoted(service, subtype) => {
-            pair_line(alloc, "report", service as u64, subtype as u64)
+            format!(in alloc; "report {service} {subtype}\n")
         }
         Outcome::AbortNoted(id, reason) => {
-            pair_line(alloc, "abort", id as u64, reason.code() as u64)
+            let reason = reason.code();
+            format!(in alloc; "abort {id} {reason}\n")
         }
         Outcome::Broken(id, reason) => {
-            transaction_line(alloc, "broken", direction, id, reason.code() as u64)
+            let reason = reason.code();
+            format!(in alloc; "broken {direction} {id} {reason}\n")
         }
-        Outcome::Ignored(why) => line(alloc, &[Text("ignored"), Text(why_word(why))]),
+        Outcome::Ignored(why) => {
+            let why = why_word(why);
+            format!(in alloc; "ignored {why}\n")
+        }
     }
 }
 
@@ -211,14 +207,9 @@ pub fn print_outcome(
 pub fn print_refused(alloc: Global, fault: StepFault) -> Result<String, AllocError>
     ensures { IfOk result (λ t. string_bytes t ≡ refused_text fault) }
 {
-    line(
-        alloc,
-        &[
-            Text("refused"),
-            Number(fault.code() as u64),
-            Text(fault.name()),
-        ],
-    )
+    let code = fault.code();
+    let name = fault.name();
+    format!(in alloc; "refused {code} {name}\n")
 }
 
 /// `line 2: unreadable`: the script's line of this number, counted from 1, can't be read.
@@ -232,21 +223,21 @@ pub fn print_unreadable(alloc: Global, line: u64) -> Result<String, AllocError>
 pub fn print_journal(alloc: Global, n: u64) -> Result<String, AllocError>
     ensures { IfOk result (λ t. string_bytes t ≡ journal_text n) }
 {
-    number_line(alloc, "journal", n)
+    format!(in alloc; "journal {n}\n")
 }
 
 /// `plain 0`: so many plain requests were released.
 pub fn print_plain_count(alloc: Global, n: u64) -> Result<String, AllocError>
     ensures { IfOk result (λ t. string_bytes t ≡ plain_count_text n) }
 {
-    number_line(alloc, "plain", n)
+    format!(in alloc; "plain {n}\n")
 }
 
 /// `applied 5`: so many requests were executed.
 pub fn print_applied_count(alloc: Global, n: u64) -> Result<String, AllocError>
     ensures { IfOk result (λ t. string_bytes t ≡ applied_count_text n) }
 {
-    number_line(alloc, "applied", n)
+    format!(in alloc; "applied {n}\n")
 }
 
 /// `packet 0 1864c000`, or `packet 9 none`: the octets of the packet of this number, where there is
@@ -255,8 +246,11 @@ pub fn print_packet(alloc: Global, n: u64, packet: Option<&[u8]>) -> Result<Stri
     ensures { IfOk result (λ t. string_bytes t ≡ packet_text n (option_copied packet.entry)) }
 {
     match packet {
-        Some(octets) => line(alloc, &[Text("packet"), Number(n), Octets(octets)]),
-        None => line(alloc, &[Text("packet"), Number(n), Text("none")]),
+        Some(octets) => {
+            let octets = octets_word(alloc, octets)?;
+            format!(in alloc; "packet {n} {octets}\n")
+        }
+        None => format!(in alloc; "packet {n} none\n"),
     }
 }
 
@@ -265,7 +259,7 @@ pub fn print_clear(alloc: Global, clear: bool) -> Result<String, AllocError>
     ensures { IfOk result (λ t. string_bytes t ≡ clear_text clear) }
 {
     let clear = if clear { "yes" } else { "no" };
-    line(alloc, &[Text("clear"), Text(clear)])
+    format!(in alloc; "clear {clear}\n")
 }
 
 /// `memory 1 16 00ff`, or `memory 9 0 none`: octets of the memory of this identifier from this
@@ -278,26 +272,12 @@ pub fn print_memory(
 ) -> Result<String, AllocError>
     ensures { IfOk result (λ t. string_bytes t ≡ memory_text id address (option_copied octets.entry)) }
 {
-    let address = address as u64;
     match octets {
-        Some(octets) => line(
-            alloc,
-            &[
-                Text("memory"),
-                Number(id as u64),
-                Number(address),
-                Octets(octets),
-            ],
-        ),
-        None => line(
-            alloc,
-            &[
-                Text("memory"),
-                Number(id as u64),
-                Number(address),
-                Text("none"),
-            ],
-        ),
+        Some(octets) => {
+            let octets = octets_word(alloc, octets)?;
+            format!(in alloc; "memory {id} {address} {octets}\n")
+        }
+        None => format!(in alloc; "memory {id} {address} none\n"),
     }
 }
 
@@ -305,13 +285,13 @@ pub fn print_memory(
 pub fn print_release(alloc: Global, release: &Release) -> Result<String, AllocError>
     ensures { IfOk result (λ t. string_bytes t ≡ release_text release.now) }
 {
-    let octets = Octets(release.message.as_slice());
+    let octets = octets_word(alloc, release.message.as_slice())?;
     match release.of {
-        Some((direction, id)) => line(
-            alloc,
-            &[Text(direction_word(direction)), Number(id as u64), octets],
-        ),
-        None => line(alloc, &[Text("plain"), octets]),
+        Some((direction, id)) => {
+            let direction = direction_word(direction);
+            format!(in alloc; "{direction} {id} {octets}\n")
+        }
+        None => format!(in alloc; "plain {octets}\n"),
     }
 }
 
@@ -320,48 +300,4 @@ pub fn print_none(alloc: Global) -> Result<String, AllocError>
     ensures { IfOk result (λ t. string_bytes t ≡ none_text) }
 {
     String::from_str(alloc, "none\n")
-}
-
-// A word and a number.
-fn number_line(alloc: Global, word: &str, n: u64) -> Result<String, AllocError>
-    ensures { IfOk result (λ t. string_bytes t ≡ number_line word.now n) }
-{
-    line(alloc, &[Text(word), Number(n)])
-}
-
-// A word and two numbers.
-fn pair_line(alloc: Global, word: &str, first: u64, second: u64) -> Result<String, AllocError>
-    ensures { IfOk result (λ t. string_bytes t ≡ job_line word.now first second) }
-{
-    line(alloc, &[Text(word), Number(first), Number(second)])
-}
-
-// A word and a transaction.
-fn named_line(
-    alloc: Global,
-    word: &str,
-    direction: Direction,
-    id: Name,
-) -> Result<String, AllocError>
-    ensures { IfOk result (λ t. string_bytes t ≡ named_line word.now direction id) }
-{
-    let direction = direction_word(direction);
-    line(alloc, &[Text(word), Text(direction), Number(id as u64)])
-}
-
-// A word, a transaction and a number.
-fn transaction_line(
-    alloc: Global,
-    word: &str,
-    direction: Direction,
-    id: Name,
-    n: u64,
-) -> Result<String, AllocError>
-    ensures { IfOk result (λ t. string_bytes t ≡ transaction_line word.now direction id n) }
-{
-    let direction = direction_word(direction);
-    line(
-        alloc,
-        &[Text(word), Text(direction), Number(id as u64), Number(n)],
-    )
 }

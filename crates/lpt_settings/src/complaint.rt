@@ -14,7 +14,7 @@ use std::fmt;
 ///
 /// As a text it names the place and the reason, as in `apid: not from 0 to 2046`,
 /// `memory 2: size: not an integer` with the second memory, and `not TOML`.
-#[derive(Drop)]
+#[derive(Debug, Drop)]
 pub struct Complaint {
     line: Option<usize>,
     place: String,

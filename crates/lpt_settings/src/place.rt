@@ -4,13 +4,11 @@ ghost use Rattle.std.specs.Prelude.{◌≤◌, length};
 
 // The line of the octet of this place, counted from 1.
 pub(crate) fn line_at(text: &str, place: usize) -> usize {
-    let mut line = 1usize;
-    for octet in text.as_bytes().iter().take(place) {
-        if *octet == b'\n' {
-            line = line.saturating_add(1);
-        }
-    }
-    line
+    let before = text.as_bytes().iter().take(place);
+    before
+        .filter(|octet| **octet == b'\n')
+        .count()
+        .saturating_add(1)
 }
 
 // The line of a key, counted from 1: at the top, or in the memory of this place.

@@ -3,7 +3,7 @@
 use std::fmt;
 
 /// Why a configuration is refused.
-#[derive(Clone, Copy)]
+#[derive(Clone, Copy, Debug, PartialEq, Eq)]
 pub enum Reason {
     /// The text is no TOML document.
     NotToml,

@@ -3,23 +3,28 @@
 ghost use Rattle.std.specs.Prelude.{◌≡◌};
 ghost use Rattle.lpt_text.specs.FaultNames.{code_of, name_of};
 
-use std::error::Error;
-use std::fmt;
+use thiserror::Error;
 
 /// The fault by which a run of the tool ends.
-#[derive(Clone, Copy, Debug, PartialEq, Eq)]
+#[derive(Clone, Copy, Debug, PartialEq, Eq, Error)]
 pub enum ToolFault {
     /// A read failed, or the script has more than 16,777,216 octets.
+    #[error("the script can't be read")]
     Read,
     /// A write failed or took nothing.
+    #[error("the output can't be written")]
     Write,
     /// The line of that number, from 1, is unreadable.
+    #[error("line {0} is unreadable")]
     Line(u64),
     /// Want of memory.
+    #[error("want of memory")]
     Memory,
     /// The configuration is refused.
+    #[error("the configuration is refused")]
     Config,
     /// A run of threads ended by the fault of that number.
+    #[error("a run of threads ended by fault {0}")]
     Threads(u16),
 }
 
@@ -52,19 +57,3 @@ impl ToolFault {
         }
     }
 }
-
-impl fmt::Display for ToolFault {
-    fn fmt<W: fmt::Write>(&self, f: &mut fmt::Formatter<W>) -> fmt::Result {
-        let text = match self {
-            ToolFault::Read => "the script can't be read",
-            ToolFault::Write => "the output can't be written",
-            ToolFault::Line(number) => return write!(f, "line {number} is unreadable"),
-            ToolFault::Memory => "want of memory",
-            ToolFault::Config => "the configuration is refused",
-            ToolFault::Threads(code) => return write!(f, "a run of threads ended by fault {code}"),
-        };
-        f.write_str(text)
-    }
-}
-
-impl Error for ToolFault {}

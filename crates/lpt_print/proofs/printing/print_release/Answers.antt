@@ -3,5 +3,5 @@
 use Rattle.std.proofs.Common.{rules}
 use Rattle.lpt_print.proofs.printing.print_release.Goals as goal
 
-pub returns-in-None : goal.returns-in-None
-returns-in-None c = rw c.in-None.is (search rules)
+pub returns : goal.returns
+returns c = rw c.in-None.is (search rules)
