@@ -38,12 +38,7 @@ impl Ends {
 
     /// Delivers what is in a lane's hand, which was read before. The only error is want of memory;
     /// then what was read is handed back, and nothing has changed.
-    pub fn deliver_read(
-        &mut self,
-        place: u64,
-        lane: Lane,
-        parsed: Parsed,
-    ) -> Result<Reply, Parsed>
+    pub fn deliver_read(&mut self, place: u64, lane: Lane, parsed: Parsed) -> Result<Reply, Parsed>
         requires full { refusal_of self.old.config (state_of self.old) (Event.Deliver lane) ≡ None }
         requires read { IsReadOf self.old.config (octets_held self.old.link.at lane) lane parsed }
         requires numbers { numbered self.old.on_craft.at.jobs + 1 < 2 ^ 64 }

@@ -187,10 +187,11 @@ impl Prepared {
           };
         }) }
     {
+        let same_shape = memories.has_shape(&self.reading.shape);
         self.boot == boot
             && self.job == job
             && self.reading.apid == apid
-            && memories.has_shape(&self.reading.shape)
+            && same_shape
             && self.reading.message.as_slice() == message
     }
 

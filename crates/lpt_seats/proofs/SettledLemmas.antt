@@ -5,7 +5,7 @@ use Rattle.lpt_journal.specs.Senders.{opened}
 use Rattle.lpt_world.specs.Worlds.{Shown, history}
 use Rattle.lpt_log.specs.declared.log.SeatLog.{SeatLog}
 use Rattle.lpt_seats.specs.declared.owed.Owed.{Owed}
-use Rattle.lpt_seats.specs.Finished.{AreShort, IsIdle, HasTicked, AreOwedCarried, AreCarried, AreTaken, IsFinishedIfShort, owed_of}
+use Rattle.lpt_seats.specs.Finished.{IsIdle, HasTicked, AreOwedCarried, AreCarried, AreTaken, IsFinishedIfShort, owed_of}
 
 -- all that is asked
 pub all_done : (limit ticked from : ℕ) (owed : List Owed) (given w : Shown) (logs : List SeatLog)

@@ -1,7 +1,7 @@
 //! What a run has finished: nothing is left in a hand or with a worker, each job is executed, each
 //! packet is taken, each transaction is carried, and the timers have ticked.
 
-ghost use Rattle.std.specs.Prelude.{◌≡◌, ◌↔◌, ◌+◌, ◌<◌, ◌^◌, ◌≤◌, ◌-◌, ℕ, length, drop, get_or, false, IsTrue, IfOk};
+ghost use Rattle.std.specs.Prelude.{◌≡◌, ◌+◌, ◌<◌, ◌^◌, ◌≤◌, ◌-◌, ℕ, length, drop, get_or, false, IsTrue, IfOk};
 ghost use Rattle.lpt_journal.specs.Link.{sent};
 ghost use Rattle.lpt_journal.specs.Senders.{opened, notes_abort};
 ghost use Rattle.lpt_part.specs.Splitting.{IsPartSize, part_count};

@@ -1,10 +1,7 @@
 //! What stands under the lock: a world, of which the type says which world it began as.
 
-ghost use Rattle.std.specs.Prelude.{◌≡◌, ◌<◌, ◌+◌, ◌^◌, Some, None, length, IfOk, IfErr};
+ghost use Rattle.std.specs.Prelude.{◌≡◌, ◌<◌, ◌+◌, ◌^◌, None, length, IfOk, IfErr};
 ghost use Rattle.lpt_events.specs.Configs.{IsConfig};
-ghost use Rattle.lpt_journal.specs.Headline.{Holds};
-ghost use Rattle.lpt_memory.specs.Memories.{sizes_of};
-ghost use Rattle.lpt_world.specs.Worlds.{history};
 ghost use Rattle.lpt_seats.specs.Entering.{Enters, Refuses, IsLegal};
 ghost use Rattle.lpt_seats.specs.Origins.{GoesOn};
 

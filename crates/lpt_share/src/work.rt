@@ -1,12 +1,12 @@
 //! The calls of turns that have work outside the lock, and a worker's turn.
 
-ghost use Rattle.std.specs.Prelude.{◌≡◌, ◌+◌, ◌≤◌, ◌<◌, ◌^◌, [], ◌∷◌, length, vec_len, vec_capacity, IfOk, IfErr, OnOk, IfSome, Ok, Err};
+ghost use Rattle.std.specs.Prelude.{◌≡◌, ◌+◌, ◌≤◌, ◌<◌, ◌^◌, [], ◌∷◌, vec_len, vec_capacity, IfOk, IfSome, Ok, Err};
 ghost use Rattle.lpt_events.specs.Configs.{IsConfig};
 ghost use Rattle.lpt_share.specs.Turns.{Adds, Follow, IsAsked};
 
 use crate::turns::{Again, ended};
 use crate::{Gate, Point, SeatLog, ShareFault, Shared};
-use lpt_events::{Config, Event, Lane, Reply, StepFault, Worker};
+use lpt_events::{Config, Event, Lane, Reply, Worker};
 use lpt_memory::{Prepared, Shape, Ticket, prepare};
 use lpt_node::Parsed;
 use lpt_packet::Octets;

@@ -1,7 +1,6 @@
 //! What a world shows, printed.
 
 ghost use Rattle.std.specs.Prelude.{◌≡◌, ◌≢◌, IsErrOf, Err, true, option_map};
-ghost use Rattle.std.specs.Option.{option_and_then};
 ghost use Rattle.std.specs.List.{flat_map};
 ghost use Rattle.lpt_print.specs.Printing.{clear_text, memory_text, release_text, releases_text};
 ghost use Rattle.lpt_journal.specs.Clear.{is_clear};

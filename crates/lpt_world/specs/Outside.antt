@@ -1,7 +1,6 @@
 -- What is done outside a world: packets that are taken out of it, and what was read of them.
 use Rattle.std.specs.Prelude.{◌≡◌, ℕ, List, slice_get, Option, Some, None}
 use Rattle.std.specs.Option.{option_map, option_and_then}
-use Rattle.lpt_events.specs.declared.config.Config.{Config}
 use Rattle.lpt_events.specs.declared.fault.StepFault.{StepFault}
 use Rattle.lpt_events.specs.declared.fault.StepFault.TheVariants.{Memory, NotYours}
 use Rattle.lpt_events.specs.declared.lane.Lane.{Lane}

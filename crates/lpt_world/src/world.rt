@@ -1,22 +1,16 @@
 //! The world: two nodes, the link between them, the memories, and the journal.
 
-ghost use Rattle.std.specs.Prelude.{◌≡◌, ◌≤◌, length, [], take, slice_get, None, IfOk, IfErr, IfSome};
-ghost use Rattle.std.specs.Option.{option_map, option_copied};
-ghost use Rattle.lpt_journal.specs.Headline.{Holds, EachIsLastOpened, AtMostOncePerOpening};
-ghost use Rattle.lpt_journal.specs.Link.{sent};
-ghost use Rattle.lpt_journal.specs.Releases.{releases};
-ghost use Rattle.lpt_memory.specs.Memories.{content_of, sizes_of};
-ghost use Rattle.lpt_events.specs.Configs.{IsConfig, config_fault, ConfigRefusedBy};
+ghost use Rattle.std.specs.Prelude.{◌≡◌, ◌≤◌, length, take, slice_get, None, IfOk, IfErr, IfSome};
+ghost use Rattle.lpt_events.specs.Configs.{config_fault, ConfigRefusedBy};
 ghost use Rattle.lpt_journal.specs.Legal.{IsEvent};
 ghost use Rattle.lpt_journal.specs.Replies.{reply};
-ghost use Rattle.lpt_journal.specs.Senders.{opened};
-ghost use Rattle.lpt_world.specs.Worlds.{IsTold, Promised, new_world, history, memories_now, refusal_at, RefusedBy, with_entry, entered, AllAccepted, IsFaultOf};
+ghost use Rattle.lpt_world.specs.Worlds.{Promised, new_world, history, refusal_at, RefusedBy, with_entry, entered, AllAccepted, IsFaultOf};
 
+use crate::{ConfigFault, Entry, Event, Refused, Reply, RunEnd, StepFault};
 use lpt_ends::Ends;
-use crate::{ConfigFault, Entry, Event, Opening, Refused, Release, Reply, RunEnd, StepFault};
-use lpt_memory::{Memories, Shape};
+use lpt_memory::Memories;
 use lpt_node::Config;
-use std::alloc::{AllocError, Global};
+use std::alloc::Global;
 use std::marker::Model;
 
 /// The greatest seat.

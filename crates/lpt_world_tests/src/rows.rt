@@ -3,8 +3,7 @@
 use lpt_events::{Applied, Worker};
 use lpt_link::Lane::{self, S1};
 use lpt_node::{Config, Outcome, Side};
-use lpt_packet::Direction::{self, Up};
-use lpt_packet::{Name, Octets};
+use lpt_packet::{Direction, Name, Octets};
 use lpt_pus::AckFlags;
 use lpt_world::{Answer, Event, State, StepFault};
 use std::alloc::{AllocError, Global};
