@@ -2,20 +2,17 @@
 
 costs.py run KEPT NAME COMMAND..     runs the command, adds to the file KEPT what it cost, and ends
                                      with the command's status
-costs.py crates KEPT NAME COMMAND..  the same for `rt ci`: also what each crate's proof, tests and
-                                     must-fail edits cost
+costs.py crates KEPT NAME COMMAND..  the same for a command that proves crates or tries their edits:
+                                     also what each crate's proof, tests and must-fail edits cost
 costs.py table KEPT                  prints the file as tables, and the ratio of the whole to the
                                      proof of the crate lpt_packet, which says more than seconds do
-                                     where the machine's speed varies. That proof is the first, while
-                                     few others run, and takes as many jobs as there are processors to
-                                     spare: the ratio to its base is told too
+                                     where the machine's speed varies
 
 A command's seconds are those that the system counted for it and for all that it started and waited
 for. Those of crates are seen in /proc, four times a second: a process of the prover has --crate-name
-among its words, --test where it proves tests, and works in a folder rt-edit-* where it tries an edit.
-The builds of a program count as its proof. The base of a crate's edits, which is a part of their seconds,
-is the dearest of them: the first, which proves the whole crate in one job while the rest is at work. What
-a process used after it was last seen is in the whole alone.
+among its words, --test where it proves tests, and works in a folder lpt-edit-* where it tries edits.
+The builds of a program count as its proof. What a process used after it was last seen is in the whole
+alone.
 
 A line of KEPT is a name, a kind and seconds, with tabs between. Nothing here changes what a command
 reads, writes or answers: where measuring fails, lines are missing, and that is told.
@@ -29,7 +26,6 @@ import sys
 
 SECONDS_BETWEEN = 0.25
 KINDS = ["proof", "tests", "edits"]
-BASE = "base"
 MEASURE = "lpt_packet"
 TICKS = os.sysconf("SC_CLK_TCK")
 
@@ -63,7 +59,7 @@ def work_of(pid):
         return None
     crate = words[words.index("--crate-name") + 1]
     kind = "tests" if "--test" in words else "proof"
-    return crate, "edits" if folder.startswith("rt-edit-") else kind
+    return crate, "edits" if folder.startswith("lpt-edit-") else kind
 
 
 def below(top, found):
@@ -115,8 +111,6 @@ class Watch:
         for key, seconds in self.used.items():
             crate, kind = self.work[key]
             total[crate, kind] = total.get((crate, kind), 0.0) + seconds
-            if kind == "edits":
-                total[crate, BASE] = max(seconds, total.get((crate, BASE), 0.0))
         return [(crate, kind, seconds) for (crate, kind), seconds in sorted(total.items())]
 
 
@@ -162,11 +156,10 @@ def table(kept):
             names = commands if kind == "whole" else crates
             if name not in names:
                 names.append(name)
-    print("| Crate | Proof | Tests | Edits | Their base |\n|---|--:|--:|--:|--:|")
-    columns = [*KINDS, BASE]
+    print("| Crate | Proof | Tests | Edits |\n|---|--:|--:|--:|")
     for crate in crates:
-        print(f"| {crate} |", *(f"{cost.get((crate, kind), 0):.0f} |" for kind in columns))
-    sums = [sum(cost.get((crate, kind), 0) for crate in crates) for kind in columns]
+        print(f"| {crate} |", *(f"{cost.get((crate, kind), 0):.0f} |" for kind in KINDS))
+    sums = [sum(cost.get((crate, kind), 0) for crate in crates) for kind in KINDS]
     print("| all |", *(f"{seconds:.0f} |" for seconds in sums))
     print("\n| Command | Whole |\n|---|--:|")
     for name in commands:
@@ -178,9 +171,6 @@ def table(kept):
         print(f"costs: the whole is {whole / measure:.1f} times the proof of {MEASURE}")
     else:
         print(f"costs: the proof of {MEASURE} wasn't seen, so there is no ratio")
-    base = cost.get((MEASURE, BASE))
-    if base:
-        print(f"costs: and {whole / base:.1f} times the base of the edits of {MEASURE}")
 
 
 def main(words):
