@@ -2,6 +2,7 @@
 
 ghost use Rattle.std.specs.Prelude.{◌≡◌, ◌<◌, ◌+◌, ◌^◌, None, length, IfOk, IfErr};
 ghost use Rattle.lpt_events.specs.Configs.{IsConfig};
+ghost use Rattle.lpt_memory.specs.Memories.{sizes_of};
 ghost use Rattle.lpt_seats.specs.Entering.{Enters, Refuses, IsLegal};
 ghost use Rattle.lpt_seats.specs.Origins.{GoesOn};
 
@@ -78,14 +79,17 @@ impl<J: Origin> Held<J> {
 
     /// The configuration.
     pub fn config(&self) -> Config
-        ensures { IsConfig result }
+        ensures value { result ≡ self.now.config }
+        ensures ranges { IsConfig result }
     {
         self.world.config()
     }
 
     /// The shape of the memories. The only error is want of memory. It has no clause: a commit tests
     /// what was prepared for it.
-    pub fn shape(&self) -> Result<Shape, AllocError> {
+    pub fn shape(&self) -> Result<Shape, AllocError>
+        ensures { IfOk result (λ s. s ≡ sizes_of self.now.first) }
+    {
         self.world.shape()
     }
 
