@@ -9,8 +9,9 @@ after another over a second proof of the crate.
 
 Here the edits of different functions are tried at once. A function is proved by itself, over the contracts
 of those that it calls and never over their bodies. So the prover is given all of these edits in one text,
-is asked for their functions alone, and says of each whether it is proved. That each is proved as it stands,
-`rt ci` has said, with the same prover over the same libraries. An edit is refused where a goal of the very
+is asked for their functions alone, and says of each whether it is proved. Every other function is taken by
+its contract: its body is an endless loop, and its proof a hole. That all are proved as they stand, `rt ci`
+has said, with the same prover over the same libraries. An edit is refused where a goal of the very
 function that it turns is refused, and not only because its proof names what the edit took away. Two edits
 of one function are tried one after the other, and so is one that the prover didn't come to, since what its
 function calls was refused. Where a function is refused that no edit of the run turns, the run counts for
@@ -23,6 +24,7 @@ A line for each edit, and last 'edits: N passed, M failed'.
 """
 
 import concurrent.futures
+import json
 import os
 import pathlib
 import re
@@ -42,9 +44,18 @@ LONGEST_REASON = 160
 FUNCTION = re.compile(r"( *)(?:pub(?:\([a-z]+\))? )?(?:const )?fn (\w+)")
 IMPL = re.compile(r"impl(?:<.*?>)? (?:(\w+)(?:<.*>)? for )?(\w+)")
 
+# A function that is taken by its contract.
+NO_BODY = "loop {}"
+NO_PROOF = """use Rattle.{module}.Statement.{{statement}}
+
+pub {name}_spec : {{M : Type 1}} → statement M
+{name}_spec = ?
+"""
+
 # What the prover says of a function. Of one that is refused only since it calls one that is, it says
 # 'no proof: it calls ..'.
 STATE = re.compile(r"fn (\S+): (.*)")
+PROVED = re.compile(r"no holes|depends on a hole")
 REFUSED = re.compile(r"not proved|no proof: (?!it calls )")
 # A goal that is left open, in front of its function's line.
 OPEN_GOAL = re.compile(r"note: \S+:\d+:\d+: it is not proved ")
@@ -82,6 +93,9 @@ class Crate:
             self.words += ["-L", f"dependency={it}"]
         self.words += ["--antt-project", f"{KIT}/rattle/logic/antt-project.json"]
         self.words += ["--logic-built", f"{KIT}/logic_built", "--links", f"{name}=", "--jobs", "1"]
+        self.words += ["--allow-holes"]
+        code = (self.folder / f"out/rlib/{name}.rlib/toolchain/mir.json").read_text(encoding="utf-8")
+        self.known = [it for it, _ in json.loads(code) if it.startswith(f"{name}::")]
 
     def text(self, path):
         """The text of a file as it stands."""
@@ -96,6 +110,7 @@ class Crate:
                     shutil.copytree(self.folder / part, f"{folder}/{part}")
             for path, text in texts.items():
                 pathlib.Path(folder, path).write_text(text, encoding="utf-8")
+            self.cut(pathlib.Path(folder), functions)
             only = [word for it in sorted(functions) for word in ("--only", it)]
             ran = subprocess.run(
                 [*self.words, "--incremental", kept, *only],
@@ -107,18 +122,63 @@ class Crate:
             )
         return ran.stdout.splitlines()
 
+    def cut(self, folder, turned):
+        """Takes by its contract what this copy has of functions besides these, but for methods of a
+        trait, whose theorems have another form."""
+        ends = tuple(f"::{it}" for it in turned)
+        for file in folder.glob("src/**/*.rt"):
+            text = file.read_text(encoding="utf-8")
+            lines = text.split("\n")
+            for it in reversed(list(functions_of(file.relative_to(folder), text))):
+                whole = [name for name in self.known if name.endswith(f"::{it.name}")]
+                if it.is_plain and len(whole) == 1 and not whole[0].endswith(ends):
+                    lines[it.opening + 1 : it.end] = [NO_BODY]
+                    path = whole[0].split("::")
+                    proof = folder.joinpath("proofs", *path[1:])
+                    shutil.rmtree(proof, ignore_errors=True)
+                    proof.mkdir(parents=True)
+                    module = ".".join([path[0], "proofs", *path[1:]])
+                    text = NO_PROOF.format(module=module, name=path[-1])
+                    (proof / "Proof.antt").write_text(text, encoding="utf-8")
+            file.write_text("\n".join(lines), encoding="utf-8")
+
+
+class Function(NamedTuple):
+    """A function of a file: its name below the crate, and its lines."""
+
+    name: str
+    begin: int
+    opening: int
+    end: int
+    is_plain: bool
+
+
+def functions_of(path, text):
+    """The functions of a file that have a body of some lines."""
+    lines, of, is_own = text.split("\n"), None, True
+    module = [it for it in pathlib.PurePath(path).with_suffix("").parts[1:] if it != "lib"]
+    for begin, head in enumerate(lines):
+        impl, function = IMPL.match(head), FUNCTION.match(head)
+        if impl:
+            of, is_own = impl[2] + (impl[1] or ""), not impl[1]
+        elif head.startswith("}"):
+            of = None
+        if not function or function[1] and of is None:
+            continue
+        opening = begin
+        while not re.match(rf"{function[1]}\S.*[{{}}]$|{function[1]}[{{}}]$", lines[opening]):
+            opening += 1
+        if lines[opening].endswith("{"):
+            # A method goes by its type, in whatever file it stands.
+            name = "::".join([of, function[2]] if function[1] else [*module, function[2]])
+            end = lines.index(function[1] + "}", opening)
+            is_plain = "const fn" not in head and (is_own or not function[1])
+            yield Function(name, begin, opening, end, is_plain)
+
 
 def functions_at(path, text, line):
     """The names of the functions of a file that have this line, below the crate."""
-    lines, of = text.split("\n"), None
-    module = [it for it in pathlib.PurePath(path).with_suffix("").parts[1:] if it != "lib"]
-    for begin, head in enumerate(lines[: line + 1]):
-        impl, function = IMPL.match(head), FUNCTION.match(head)
-        if impl:
-            of = impl[2] + (impl[1] or "")
-        if function and line < begin + lines[begin:].index(function[1] + "}"):
-            # A method goes by its type, in whatever file it stands.
-            yield "::".join([of, function[2]] if function[1] else [*module, function[2]])
+    return [it.name for it in functions_of(path, text) if it.begin <= line < it.end]
 
 
 class Edit:
@@ -221,7 +281,7 @@ class Said:
             return True, f"refused, as it must be: {why[:LONGEST_REASON]}"
         if refused:
             return False, f"BAD EDIT: {refused[0]} is refused only for names that its proof misses"
-        if all(self.states[it] == "proved" for it in names):
+        if all(PROVED.match(self.states[it]) for it in names):
             return False, f"NOT REFUSED: still proved: {', '.join(names)}"
         return None
 
