@@ -82,7 +82,7 @@ class Crate:
         self.name, self.folder = name, room / "crates" / name
         kit = ["std", *[it for it in known[name] if it not in known]]
         own = [it for it in known[name] if it in known]
-        rlibs = {it: room / "crates" / it / "out/rlib" for it in own}
+        rlibs = {it: room / "crates" / it / "out/rlib" for it in below(name, known)}
         root = "src/main.rt" if (self.folder / "src/main.rt").exists() else "src/lib.rt"
         self.words = [f"{KIT}/bin/rattle", "check", "--crate-name", name, root]
         for it in kit:
@@ -323,6 +323,12 @@ def libraries(room):
             name, _, below = line.partition(":")
             found[name.split()[0]] = below.split()
     return found
+
+
+def below(name, known):
+    """The repository's libraries below a crate."""
+    own = [it for it in known[name] if it in known]
+    return sorted({*own, *(it for dep in own for it in below(dep, known))})
 
 
 def lanes():

@@ -1,15 +1,12 @@
 //! The configuration, the first memories, and their file.
 
 ghost use Rattle.std.specs.Prelude.{IfOk};
-ghost use Rattle.lpt_part.specs.Splitting.{IsPartSize};
+ghost use Rattle.lpt_tool.specs.LptPart.Splitting.{IsPartSize};
 
 use crate::end::Failure;
 use crate::watched::Watched;
-use lpt_events::Turns;
-use lpt_memory::Memories;
-use lpt_node::Config;
 use lpt_settings::{read_config, why_refused};
-use lpt_text::{End, Told, ToolFault, read_text};
+use lpt_tool::{Config, End, Memories, Told, ToolFault, Turns, read_text};
 use std::alloc::{AllocError, Global};
 use std::fs::File;
 use std::io::Read;

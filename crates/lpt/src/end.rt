@@ -1,7 +1,7 @@
 //! How the program ends: its status, and what it tells about a fault.
 
 use clap::error::ErrorKind;
-use lpt_text::ToolFault;
+use lpt_tool::ToolFault;
 use std::alloc::AllocError;
 
 /// What the program's status tells.

@@ -12,7 +12,7 @@ mod work;
 
 use command_line::{Asked, Command, read_words};
 use end::{Failure, Status};
-use lpt_text::ToolFault;
+use lpt_tool::ToolFault;
 use std::process::ExitCode;
 use std::sync::Wait;
 use std::thread::Threads;

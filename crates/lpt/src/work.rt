@@ -1,15 +1,13 @@
 //! What the program does: it runs scripts and decodes octets.
 
-ghost use Rattle.lpt_part.specs.Splitting.{IsPartSize};
+ghost use Rattle.lpt_tool.specs.LptPart.Splitting.{IsPartSize};
 
 use crate::end::{Failure, Status, tell_place};
 use crate::watched::Watched;
-use lpt_events::Turns;
-use lpt_memory::Memories;
-use lpt_node::Config;
-use lpt_text::{Source, Told, ToolFault, flush_out};
-use lpt_tool::{ScriptEnd, run_script, run_threads_script};
-use lpt_words::read_hex;
+use lpt_tool::{
+    Config, Memories, ScriptEnd, Source, Told, ToolFault, Turns, flush_out, read_hex, run_script,
+    run_threads_script,
+};
 use std::fs::File;
 use std::io;
 use std::io::{BufWriter, Printer, Read};

@@ -1,1 +1,2 @@
 pub mod LaneLemmas
+pub use Rattle.lpt_pus.proofs.LptPacket as LptPacket

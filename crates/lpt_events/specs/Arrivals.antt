@@ -2,10 +2,10 @@
 use Rattle.std.specs.Prelude.{ℕ, ◌==◌, ◌&&◌, not, if◌then◌else◌, List, Option, Some, None}
 use Rattle.std.specs.Option.{option_map_or}
 use Rattle.std.specs.Result.{result_ok}
-use Rattle.lpt_packet.specs.declared.direction.Direction.{Direction}
-use Rattle.lpt_packet.specs.declared.direction.Direction.TheVariants.{Up, Down}
-use Rattle.lpt_packet.specs.Names.{Name}
-use Rattle.lpt_packet.specs.Packets.{Fields, Sight, IdlePacket, APacket, seen}
+use Rattle.lpt_pus.specs.LptPacket.declared.direction.Direction.{Direction}
+use Rattle.lpt_pus.specs.LptPacket.declared.direction.Direction.TheVariants.{Up, Down}
+use Rattle.lpt_pus.specs.LptPacket.Names.{Name}
+use Rattle.lpt_pus.specs.LptPacket.Packets.{Fields, Sight, IdlePacket, APacket, seen}
 use Rattle.lpt_pus.specs.Commands.{Command, tc_verdict}
 use Rattle.lpt_pus.specs.Telemetry.{Telemetry, tm_verdict}
 use Rattle.lpt_part.specs.declared.kind.Kind.{Kind}
@@ -15,6 +15,8 @@ use Rattle.lpt_part.specs.Aborts.{abort_in}
 use Rattle.lpt_part.specs.Parts.{Piece, part_in}
 use Rattle.lpt_events.specs.declared.side.Side.{Side}
 use Rattle.lpt_events.specs.declared.side.Side.TheVariants.{Ground, Craft}
+use Rattle.lpt_events.specs.declared.config.Config.{Config}
+use Rattle.lpt_events.specs.Sides.{receiver_side}
 
 -- Not read as a packet, or not as a telecommand at the spacecraft or telemetry on ground; idle; of
 -- another APID; a telecommand or telemetry that is no part; a part or an abortion report whose
@@ -91,3 +93,7 @@ arrival side apid p b = sight_arrival side apid p b (seen b)
 abbrev pub part_name : Arrival → Option Name
 part_name (APart q) = Some q.id
 part_name _ = None
+
+-- what octets that go in this direction are
+abbrev pub arrival_in : Config → Direction → List ℕ → Arrival
+arrival_in c d b = arrival (receiver_side d) c.apid c.part_size b

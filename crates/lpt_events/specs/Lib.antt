@@ -9,3 +9,6 @@ pub mod Requests
 pub mod Sides
 pub mod TelemetryKinds
 pub mod Workers
+pub use Rattle.lpt_pus.specs.LptPacket as LptPacket
+pub use Rattle.lpt_pus.specs as LptPus
+pub use Rattle.lpt_part.specs as LptPart

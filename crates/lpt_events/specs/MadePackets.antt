@@ -1,9 +1,9 @@
 -- The packets that a node makes.
 use Rattle.std.specs.Prelude.{ℕ, List, length}
-use Rattle.lpt_packet.specs.declared.direction.Direction.{Direction}
-use Rattle.lpt_packet.specs.declared.direction.Direction.TheVariants.{Up, Down}
-use Rattle.lpt_packet.specs.Names.{Name}
-use Rattle.lpt_packet.specs.Packets.{spelling}
+use Rattle.lpt_pus.specs.LptPacket.declared.direction.Direction.{Direction}
+use Rattle.lpt_pus.specs.LptPacket.declared.direction.Direction.TheVariants.{Up, Down}
+use Rattle.lpt_pus.specs.LptPacket.Names.{Name}
+use Rattle.lpt_pus.specs.LptPacket.Packets.{spelling}
 use Rattle.lpt_pus.specs.Commands.{Command, packet_of}
 use Rattle.lpt_pus.specs.Telemetry.{Telemetry, tm_packet_of}
 use Rattle.lpt_part.specs.declared.reason.Reason.{Reason}

@@ -1,7 +1,6 @@
 //! What the execution of a request answers.
 
-use lpt_packet::Name;
-use lpt_pus::FailureCode;
+use lpt_pus::{FailureCode, Name};
 
 /// What became of the request that was executed.
 #[derive(Clone, Copy, Debug, PartialEq, Eq)]

@@ -1,7 +1,7 @@
 //! What stands in a journal, and what follows from it.
 
 use crate::{Event, Reply};
-use lpt_packet::{Direction, Name, Octets};
+use lpt_pus::{Direction, Name, Octets};
 
 /// An accepted event with the seat that asked for it and its reply. Its place is its index in the
 /// journal, from 0.

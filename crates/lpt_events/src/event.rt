@@ -3,8 +3,7 @@
 ghost use Rattle.std.specs.Prelude.{◌≡◌, IfOk};
 
 use crate::{Lane, Side, Worker};
-use lpt_packet::{Direction, Name, Octets};
-use lpt_pus::AckFlags;
+use lpt_pus::{AckFlags, Direction, Name, Octets};
 use std::alloc::AllocError;
 
 /// One event: one holding of the world, done whole or refused.

@@ -3,7 +3,7 @@
 ghost use Rattle.std.specs.Prelude.{◌≡◌};
 ghost use Rattle.lpt_events.specs.Lanes.{lane_direction};
 
-use lpt_packet::Direction;
+use lpt_pus::Direction;
 
 /// A lane. Each direction has two, so that one can deliver while another holds a packet back.
 #[derive(Clone, Copy, Debug, PartialEq, Eq)]

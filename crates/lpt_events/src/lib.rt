@@ -13,6 +13,7 @@ mod entry;
 mod event;
 mod fault;
 mod lane;
+mod log;
 mod message_types;
 mod outcome;
 mod refused;
@@ -29,6 +30,15 @@ pub use entry::{Entry, Opening, Release};
 pub use event::Event;
 pub use fault::StepFault;
 pub use lane::Lane;
+pub use log::{Call, SeatLog};
+pub use lpt_part::laws::parts_fit;
+pub use lpt_part::{
+    ABORT, Kind, Part, Reason, TRANSFER, abort_octets, count, read_abort, read_part, slice,
+};
+pub use lpt_pus::{
+    AckFlags, Direction, Name, Octets, Packet, PacketKind, Seen, TcHead, TmHead, read_packet,
+    read_tc, read_tm,
+};
 pub use message_types::part_kind;
 pub use outcome::{Outcome, Why};
 pub use refused::{Refused, RunEnd};

@@ -1,7 +1,7 @@
 //! What became of a delivered packet.
 
-use lpt_packet::Name;
 use lpt_part::Reason;
+use lpt_pus::Name;
 
 /// What a node made of a packet that was delivered to it.
 #[derive(Clone, Copy, Debug, PartialEq, Eq)]

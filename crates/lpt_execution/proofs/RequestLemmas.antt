@@ -2,17 +2,17 @@
 use Rattle.std.proofs.Common.{◌≡◌, ◌∙◌, true, ap, sym, refl, ℕ, ◌<◌, ◌^◌, List, [], ◌++◌, take, map, arith, Option, Some, None}
 use Rattle.std.proofs.lemmas.List.{append-nil}
 use Rattle.std.specs.Option.{option_map_or}
-use Rattle.lpt_packet.specs.Numbers.{be}
-use Rattle.lpt_packet.specs.declared.packet.PacketKind.{PacketKind}
-use Rattle.lpt_packet.specs.declared.packet.PacketKind.TheVariants.{Tm, Tc}
-use Rattle.lpt_packet.specs.Packets.{Fields, fields_of, spelling, APacket}
-use Rattle.lpt_packet.proofs.SightLemmas.{seen_sight}
-use Rattle.lpt_pus.specs.declared.failure_code.FailureCode.{FailureCode}
-use Rattle.lpt_pus.specs.declared.tc_head.TcHead.{TcHead}
-use Rattle.lpt_pus.specs.Codes.{number_of}
-use Rattle.lpt_pus.specs.Commands.{Command, command, command_in, is_tc, packet_of}
-use Rattle.lpt_pus.specs.Numbers.{long_at}
-use Rattle.lpt_pus.proofs.CommandLemmas.{command_in-found, tc_verdict-ok}
+use Rattle.lpt_memory.specs.LptPacket.Numbers.{be}
+use Rattle.lpt_memory.specs.LptPacket.declared.packet.PacketKind.{PacketKind}
+use Rattle.lpt_memory.specs.LptPacket.declared.packet.PacketKind.TheVariants.{Tm, Tc}
+use Rattle.lpt_memory.specs.LptPacket.Packets.{Fields, fields_of, spelling, APacket}
+use Rattle.lpt_memory.proofs.LptPacket.SightLemmas.{seen_sight}
+use Rattle.lpt_memory.specs.LptPus.declared.failure_code.FailureCode.{FailureCode}
+use Rattle.lpt_memory.specs.LptPus.declared.tc_head.TcHead.{TcHead}
+use Rattle.lpt_memory.specs.LptPus.Codes.{number_of}
+use Rattle.lpt_memory.specs.LptPus.Commands.{Command, command, command_in, is_tc, packet_of}
+use Rattle.lpt_memory.specs.LptPus.Numbers.{long_at}
+use Rattle.lpt_memory.proofs.LptPus.CommandLemmas.{command_in-found, tc_verdict-ok}
 use Rattle.lpt_memory.specs.Readings.{IsHeadIn}
 use Rattle.lpt_verify.specs.Reports.{reports_before, reports_after}
 use Rattle.lpt_execution.specs.declared.ending.Ending.{Ending}

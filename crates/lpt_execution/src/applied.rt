@@ -6,7 +6,7 @@ ghost use Rattle.lpt_execution.specs.Reporting.{applied_of};
 
 use crate::Ending;
 use lpt_events::Applied;
-use lpt_packet::{Name, Octets};
+use lpt_memory::{Name, Octets};
 
 impl Ending {
     /// What an execution answers that ended so and opened no message.

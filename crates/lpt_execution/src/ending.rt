@@ -1,8 +1,7 @@
 //! How an execution ends.
 
 use lpt_events::TelemetryKind;
-use lpt_packet::Octets;
-use lpt_pus::FailureCode;
+use lpt_memory::{FailureCode, Octets};
 
 /// A report to be sent: the kind of telemetry, and its body.
 #[derive(Drop, PartialEq, Eq)]

@@ -10,8 +10,7 @@ ghost use Rattle.lpt_execution.specs.Replies.{sent, IsReply};
 
 use crate::{Ending, Report};
 use lpt_events::TelemetryKind;
-use lpt_memory::{Asks, Effect, Memories, Reading, ReplyKind};
-use lpt_pus::FailureCode;
+use lpt_memory::{Asks, Effect, FailureCode, Memories, Reading, ReplyKind};
 use std::alloc::AllocError;
 
 /// Whether telemetry with a body of so many octets is a packet of the link, where a part has `p`.

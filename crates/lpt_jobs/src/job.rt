@@ -1,7 +1,6 @@
 //! A job in the queue.
 
-use lpt_memory::Reading;
-use lpt_packet::Octets;
+use lpt_memory::{Octets, Reading};
 
 /// A released request that isn't executed yet.
 #[derive(Drop)]

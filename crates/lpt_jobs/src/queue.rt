@@ -7,8 +7,7 @@ ghost use Rattle.lpt_jobs.specs.Jobs.{no_jobs, numbered, job_at, claimed_in, unc
 
 use crate::Front;
 use crate::job::{Job, Mark};
-use lpt_memory::Reading;
-use lpt_packet::Octets;
+use lpt_memory::{Octets, Reading};
 use std::alloc::{AllocError, Global};
 use std::collections::VecDeque;
 use std::marker::Model;

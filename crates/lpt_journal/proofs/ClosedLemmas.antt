@@ -4,25 +4,25 @@ use Rattle.std.specs.Option.{is_some}
 use Rattle.std.specs.FinMap as map
 use Rattle.std.specs.FinMap.{find}
 use Rattle.std.specs.Ordering.{nat_cmp}
-use Rattle.lpt_packet.specs.declared.direction.Direction.{Direction}
-use Rattle.lpt_packet.specs.Names.{Name, same_name}
-use Rattle.lpt_packet.proofs.NameLemmas.{same_name-true}
-use Rattle.lpt_part.specs.Parts.{Piece}
+use Rattle.lpt_reception.specs.LptPacket.declared.direction.Direction.{Direction}
+use Rattle.lpt_reception.specs.LptPacket.Names.{Name, same_name}
+use Rattle.lpt_reception.proofs.LptPacket.NameLemmas.{same_name-true}
+use Rattle.lpt_reception.specs.LptPart.Parts.{Piece}
 use Rattle.lpt_reception.specs.Received.{Kept as KeptPart, Parts, no_parts, contradicts, is_whole, spelled}
-use Rattle.lpt_packet.proofs.EntryLemmas.{found_first}
-use Rattle.lpt_events.proofs.LaneLemmas.{same_direction-true}
-use Rattle.lpt_events.specs.Lanes.{lane_direction, same_direction}
-use Rattle.lpt_events.specs.declared.config.Config.{Config}
-use Rattle.lpt_events.specs.declared.outcome.Outcome.{Outcome}
-use Rattle.lpt_events.specs.declared.outcome.Outcome.TheVariants.{Kept, Released, Broken}
-use Rattle.lpt_events.specs.Arrivals.{Arrival, APart}
-use Rattle.lpt_events.specs.declared.event.Event.{Event}
-use Rattle.lpt_events.specs.declared.event.Event.TheVariants.{Deliver, Expire, Retire, Restart}
-use Rattle.lpt_events.specs.declared.reply.Answer.TheVariants.{Delivered}
-use Rattle.lpt_events.specs.declared.entry.Opening.{Opening}
+use Rattle.lpt_reception.proofs.LptPacket.EntryLemmas.{found_first}
+use Rattle.lpt_execution.proofs.LptEvents.LaneLemmas.{same_direction-true}
+use Rattle.lpt_execution.specs.LptEvents.Lanes.{lane_direction, same_direction}
+use Rattle.lpt_execution.specs.LptEvents.declared.config.Config.{Config}
+use Rattle.lpt_execution.specs.LptEvents.declared.outcome.Outcome.{Outcome}
+use Rattle.lpt_execution.specs.LptEvents.declared.outcome.Outcome.TheVariants.{Kept, Released, Broken}
+use Rattle.lpt_execution.specs.LptEvents.Arrivals.{Arrival, APart}
+use Rattle.lpt_execution.specs.LptEvents.declared.event.Event.{Event}
+use Rattle.lpt_execution.specs.LptEvents.declared.event.Event.TheVariants.{Deliver, Expire, Retire, Restart}
+use Rattle.lpt_execution.specs.LptEvents.declared.reply.Answer.TheVariants.{Delivered}
+use Rattle.lpt_execution.specs.LptEvents.declared.entry.Opening.{Opening}
 use Rattle.lpt_journal.specs.Delivery.{judged, outcome}
 use Rattle.lpt_journal.specs.Expiries.{NothingIsKept}
-use Rattle.lpt_events.specs.Sides.{same_side, receiver_side}
+use Rattle.lpt_execution.specs.LptEvents.Sides.{same_side, receiver_side}
 use Rattle.lpt_journal.specs.Journal.{History}
 use Rattle.lpt_journal.specs.Hands.{in_hand}
 use Rattle.lpt_journal.specs.Receivers.{kept, with_piece, with_arrival, ends, heard_now, heard, has_parts, reception_count, is_closed}
@@ -30,7 +30,7 @@ use Rattle.lpt_journal.specs.Replies.{entry}
 use Rattle.lpt_journal.specs.Senders.{current}
 use Rattle.lpt_journal.proofs.CountLemmas.{none_open}
 use Rattle.lpt_journal.proofs.OutcomeLemmas.{chosen}
-use Rattle.lpt_memory.specs.Memories.{Contents}
+use Rattle.lpt_execution.specs.LptMemory.Memories.{Contents}
 use Rattle.lpt_journal.proofs.Steps.{IsSound}
 use Rattle.lpt_journal.proofs.TestLemmas.{and_r}
 

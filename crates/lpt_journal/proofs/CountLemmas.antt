@@ -6,21 +6,21 @@ use Rattle.std.proofs.lemmas.Bool.Decides.{nat_tests}
 use Rattle.std.specs.List.{list_any, find}
 use Rattle.std.specs.FinMap as maps
 use Rattle.std.specs.Ordering.{nat_cmp}
-use Rattle.lpt_packet.specs.declared.direction.Direction.{Direction}
-use Rattle.lpt_packet.specs.Names.{Name, same_name}
-use Rattle.lpt_packet.proofs.NameLemmas.{same_name-true}
-use Rattle.lpt_events.specs.Lanes.{lane_direction, same_direction}
-use Rattle.lpt_events.specs.declared.config.Config.{Config}
-use Rattle.lpt_events.specs.declared.outcome.Outcome.TheVariants.{Kept, Released, Broken}
-use Rattle.lpt_events.specs.Arrivals.{Arrival}
+use Rattle.lpt_reception.specs.LptPacket.declared.direction.Direction.{Direction}
+use Rattle.lpt_reception.specs.LptPacket.Names.{Name, same_name}
+use Rattle.lpt_reception.proofs.LptPacket.NameLemmas.{same_name-true}
+use Rattle.lpt_execution.specs.LptEvents.Lanes.{lane_direction, same_direction}
+use Rattle.lpt_execution.specs.LptEvents.declared.config.Config.{Config}
+use Rattle.lpt_execution.specs.LptEvents.declared.outcome.Outcome.TheVariants.{Kept, Released, Broken}
+use Rattle.lpt_execution.specs.LptEvents.Arrivals.{Arrival}
 use Rattle.lpt_reception.specs.Received.{Kept as Kept', Parts, no_parts}
-use Rattle.lpt_events.specs.declared.lane.Lane.{Lane}
-use Rattle.lpt_events.specs.declared.entry.Opening.{Opening}
-use Rattle.lpt_events.specs.declared.event.Event.{Event}
-use Rattle.lpt_events.specs.declared.event.Event.TheVariants.{Deliver, Expire, Restart}
-use Rattle.lpt_events.specs.declared.reply.Answer.{Answer}
-use Rattle.lpt_events.specs.declared.reply.Answer.TheVariants.{Delivered}
-use Rattle.lpt_events.specs.Sides.{same_side, receiver_side}
+use Rattle.lpt_execution.specs.LptEvents.declared.lane.Lane.{Lane}
+use Rattle.lpt_execution.specs.LptEvents.declared.entry.Opening.{Opening}
+use Rattle.lpt_execution.specs.LptEvents.declared.event.Event.{Event}
+use Rattle.lpt_execution.specs.LptEvents.declared.event.Event.TheVariants.{Deliver, Expire, Restart}
+use Rattle.lpt_execution.specs.LptEvents.declared.reply.Answer.{Answer}
+use Rattle.lpt_execution.specs.LptEvents.declared.reply.Answer.TheVariants.{Delivered}
+use Rattle.lpt_execution.specs.LptEvents.Sides.{same_side, receiver_side}
 use Rattle.lpt_journal.specs.Journal.{History, with_all}
 use Rattle.lpt_journal.specs.Hands.{in_hand}
 use Rattle.lpt_journal.specs.Receivers.{heard, ends, heard_now, heard_after, has_parts, heard_names, names_after, with_kept_name, with_arrival}

@@ -1,38 +1,38 @@
 -- What a delivery releases is the message last opened under its name.
 use Rattle.std.proofs.Common.{◌≡◌, ◌∙◌, ap, sym, subst, refl, ℕ, zero, suc, Bool, true, false, ◌&&◌, ◌||◌, length, Some, None}
 use Rattle.std.specs.List.{slice_get}
-use Rattle.lpt_packet.specs.declared.direction.Direction.{Direction}
-use Rattle.lpt_packet.specs.Names.{Name, same_name}
-use Rattle.lpt_packet.proofs.NameLemmas.{same_name-refl}
-use Rattle.lpt_part.specs.Parts.{Piece}
+use Rattle.lpt_reception.specs.LptPacket.declared.direction.Direction.{Direction}
+use Rattle.lpt_reception.specs.LptPacket.Names.{Name, same_name}
+use Rattle.lpt_reception.proofs.LptPacket.NameLemmas.{same_name-refl}
+use Rattle.lpt_reception.specs.LptPart.Parts.{Piece}
 use Rattle.lpt_reception.specs.Received.{Parts, with_part, is_whole, spelled}
 use Rattle.lpt_reception.specs.PartsOf.{IsPartsOf, kept_of}
 use Rattle.lpt_reception.proofs.MessageLemmas.{parts_spell, IsPartsOf-with_part}
-use Rattle.lpt_events.specs.declared.lane.Lane.{Lane}
-use Rattle.lpt_events.specs.Lanes.{lane_direction, same_direction}
-use Rattle.lpt_events.specs.declared.config.Config.{Config}
-use Rattle.lpt_events.specs.declared.outcome.Outcome.{Outcome}
-use Rattle.lpt_events.specs.declared.outcome.Outcome.TheVariants.{Released, PlainReleased}
-use Rattle.lpt_events.specs.Arrivals.{Arrival, ARequest, APart}
-use Rattle.lpt_events.specs.declared.event.Event.TheVariants.{Deliver}
-use Rattle.lpt_events.specs.declared.reply.Answer.TheVariants.{Delivered}
-use Rattle.lpt_events.specs.declared.entry.Opening.{Opening}
-use Rattle.lpt_events.specs.declared.entry.Release.{Release}
+use Rattle.lpt_execution.specs.LptEvents.declared.lane.Lane.{Lane}
+use Rattle.lpt_execution.specs.LptEvents.Lanes.{lane_direction, same_direction}
+use Rattle.lpt_execution.specs.LptEvents.declared.config.Config.{Config}
+use Rattle.lpt_execution.specs.LptEvents.declared.outcome.Outcome.{Outcome}
+use Rattle.lpt_execution.specs.LptEvents.declared.outcome.Outcome.TheVariants.{Released, PlainReleased}
+use Rattle.lpt_execution.specs.LptEvents.Arrivals.{Arrival, ARequest, APart}
+use Rattle.lpt_execution.specs.LptEvents.declared.event.Event.TheVariants.{Deliver}
+use Rattle.lpt_execution.specs.LptEvents.declared.reply.Answer.TheVariants.{Delivered}
+use Rattle.lpt_execution.specs.LptEvents.declared.entry.Opening.{Opening}
+use Rattle.lpt_execution.specs.LptEvents.declared.entry.Release.{Release}
 use Rattle.lpt_journal.specs.Journal.{History}
 use Rattle.lpt_journal.specs.Hands.{hand, in_hand}
 use Rattle.lpt_journal.specs.Senders.{current}
 use Rattle.lpt_journal.specs.Receivers.{kept, with_piece, heard, ends, is_closed}
 use Rattle.lpt_journal.specs.Delivery.{outcome}
 use Rattle.lpt_journal.specs.Releases.{released_now}
-use Rattle.lpt_events.specs.Configs.{IsConfig}
+use Rattle.lpt_execution.specs.LptEvents.Configs.{IsConfig}
 use Rattle.lpt_journal.specs.Replies.{entry}
-use Rattle.lpt_events.proofs.LaneLemmas.{same_direction-refl}
+use Rattle.lpt_execution.proofs.LptEvents.LaneLemmas.{same_direction-refl}
 use Rattle.lpt_journal.proofs.TestLemmas.{no_place}
 use Rattle.lpt_journal.proofs.Steps.{IsSound}
 use Rattle.lpt_journal.proofs.Soundness.{hand_current}
 use Rattle.lpt_journal.proofs.Deliveries.{heard_parts}
 use Rattle.lpt_journal.proofs.OutcomeLemmas.{TellsOf, judged_tells}
-use Rattle.lpt_memory.specs.Memories.{Contents}
+use Rattle.lpt_execution.specs.LptMemory.Memories.{Contents}
 use Rattle.lpt_journal.proofs.Releasing.{OwesReleases}
 
 -- ---- the message

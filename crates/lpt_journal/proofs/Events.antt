@@ -2,37 +2,37 @@
 use Rattle.std.proofs.Common.{◌≡◌, ◌∙◌, ap, sym, subst, refl, ℕ, zero, suc, ◌≤◌, nat_lt, nat_le, ◌==◌, cond, Bool, true, false, not, ◌&&◌, ◌||◌, ◌⊎◌, inl, inr, List, [], ◌∷◌, length, Option, Some, None, if◌then◌else◌, arith}
 use Rattle.std.specs.List.{slice_get, find}
 use Rattle.std.specs.Option.{is_some}
-use Rattle.lpt_packet.specs.declared.direction.Direction.{Direction}
-use Rattle.lpt_packet.specs.declared.direction.Direction.TheVariants.{Up, Down}
-use Rattle.lpt_packet.specs.Names.{Name, IsName}
-use Rattle.lpt_part.specs.Parts.{Piece}
-use Rattle.lpt_part.specs.Splitting.{part_count}
-use Rattle.lpt_part.proofs.SplitLemmas.{part_of-fits}
+use Rattle.lpt_reception.specs.LptPacket.declared.direction.Direction.{Direction}
+use Rattle.lpt_reception.specs.LptPacket.declared.direction.Direction.TheVariants.{Up, Down}
+use Rattle.lpt_reception.specs.LptPacket.Names.{Name, IsName}
+use Rattle.lpt_reception.specs.LptPart.Parts.{Piece}
+use Rattle.lpt_reception.specs.LptPart.Splitting.{part_count}
+use Rattle.lpt_reception.proofs.LptPart.SplitLemmas.{part_of-fits}
 use Rattle.lpt_reception.specs.PartsOf.{IsMessage}
-use Rattle.lpt_events.specs.declared.lane.Lane.{Lane}
-use Rattle.lpt_events.specs.Lanes.{lane_direction, same_lane}
-use Rattle.lpt_events.specs.declared.config.Config.{Config}
-use Rattle.lpt_events.specs.declared.side.Side.TheVariants.{Craft}
-use Rattle.lpt_events.specs.Arrivals.{APart, part_name, part_subtype}
-use Rattle.lpt_events.specs.MadePackets.{nth_part}
-use Rattle.lpt_events.specs.declared.event.Event.TheVariants.{Open, Send, Take}
-use Rattle.lpt_events.specs.declared.entry.Opening.{Opening}
-use Rattle.lpt_events.specs.declared.fault.StepFault.TheVariants.{InUse, Short, Long, TooMany, NotOpen, NoSuchPart, NotHeld, HandFull}
+use Rattle.lpt_execution.specs.LptEvents.declared.lane.Lane.{Lane}
+use Rattle.lpt_execution.specs.LptEvents.Lanes.{lane_direction, same_lane}
+use Rattle.lpt_execution.specs.LptEvents.declared.config.Config.{Config}
+use Rattle.lpt_execution.specs.LptEvents.declared.side.Side.TheVariants.{Craft}
+use Rattle.lpt_execution.specs.LptEvents.Arrivals.{APart, part_name, part_subtype}
+use Rattle.lpt_execution.specs.LptEvents.MadePackets.{nth_part}
+use Rattle.lpt_execution.specs.LptEvents.declared.event.Event.TheVariants.{Open, Send, Take}
+use Rattle.lpt_execution.specs.LptEvents.declared.entry.Opening.{Opening}
+use Rattle.lpt_execution.specs.LptEvents.declared.fault.StepFault.TheVariants.{InUse, Short, Long, TooMany, NotOpen, NoSuchPart, NotHeld, HandFull}
 use Rattle.lpt_journal.specs.Journal.{SentPacket, History}
 use Rattle.lpt_journal.specs.Link.{is_held, goes}
 use Rattle.lpt_journal.specs.Hands.{hand, arrival_of}
 use Rattle.lpt_journal.specs.Senders.{is_opening_of, current, is_over, Sender, FreeSender, OpenSender, ClosedSender, sender_of, sender, is_free, is_open, open_count, count, type_counter}
 use Rattle.lpt_journal.specs.Receivers.{clock}
-use Rattle.lpt_events.specs.Configs.{IsConfig}
+use Rattle.lpt_execution.specs.LptEvents.Configs.{IsConfig}
 use Rattle.lpt_journal.specs.Replies.{part_packet, send_puts, entry}
 use Rattle.lpt_journal.specs.Refusals.{parts_open, refusal}
 use Rattle.lpt_journal.specs.Headline.{IsPartOfCurrent}
-use Rattle.lpt_packet.proofs.Readings.{not_lt}
-use Rattle.lpt_events.proofs.LaneLemmas.{same_lane-true}
+use Rattle.lpt_reception.proofs.LptPacket.Readings.{not_lt}
+use Rattle.lpt_execution.proofs.LptEvents.LaneLemmas.{same_lane-true}
 use Rattle.lpt_journal.proofs.TestLemmas.{and_l, and_r, not_false, or_false_l, or_false_r, le_false, not_zero, two_pass, four_pass, no_place}
 use Rattle.lpt_journal.proofs.CalmEvents.{calm_owes}
 use Rattle.lpt_journal.proofs.SentParts.{AreCounts, part_arrives}
-use Rattle.lpt_memory.specs.Memories.{Contents}
+use Rattle.lpt_execution.specs.LptMemory.Memories.{Contents}
 use Rattle.lpt_journal.proofs.Steps.{IsRead, IsPut, IsSound, IsTaken, Owes, opening_found}
 
 -- ---- opening

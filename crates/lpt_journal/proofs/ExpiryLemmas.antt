@@ -2,18 +2,18 @@
 use Rattle.std.proofs.Common.{◌≡◌, ◌∙◌, ap, sym, ℕ, ◌<◌, true, false, inl, inr, List, [], ◌∷◌, length, Some, arith}
 use Rattle.std.specs.List.{slice_get}
 use Rattle.std.specs.Option.{is_some}
-use Rattle.lpt_packet.specs.declared.direction.Direction.{Direction}
-use Rattle.lpt_packet.specs.Names.{Name}
-use Rattle.lpt_events.specs.declared.config.Config.{Config}
-use Rattle.lpt_events.specs.declared.event.Event.{Event}
-use Rattle.lpt_events.specs.declared.entry.Opening.{Opening}
-use Rattle.lpt_events.specs.declared.entry.Release.{Release}
+use Rattle.lpt_reception.specs.LptPacket.declared.direction.Direction.{Direction}
+use Rattle.lpt_reception.specs.LptPacket.Names.{Name}
+use Rattle.lpt_execution.specs.LptEvents.declared.config.Config.{Config}
+use Rattle.lpt_execution.specs.LptEvents.declared.event.Event.{Event}
+use Rattle.lpt_execution.specs.LptEvents.declared.entry.Opening.{Opening}
+use Rattle.lpt_execution.specs.LptEvents.declared.entry.Release.{Release}
 use Rattle.lpt_journal.specs.Expiries.{Expiry, expiry_at, expiries, opening_of_expiry, NoneIsReleased, NothingIsKept, ReleasedIsUnheard, ExpiryIsFinal}
 use Rattle.lpt_journal.specs.Headline.{IsSameOpening}
 use Rattle.lpt_journal.specs.Journal.{Recorded, History}
 use Rattle.lpt_journal.specs.Receivers.{is_closed}
 use Rattle.lpt_journal.specs.Releases.{released_by, releases}
-use Rattle.lpt_events.specs.Configs.{IsConfig}
+use Rattle.lpt_execution.specs.LptEvents.Configs.{IsConfig}
 use Rattle.lpt_journal.specs.Replies.{entry, recorded}
 use Rattle.lpt_journal.specs.Legal.{Legal}
 use Rattle.lpt_journal.specs.Senders.{current}
@@ -23,7 +23,7 @@ use Rattle.lpt_journal.proofs.OnceLemmas.{past_closed, released_closed, clash, f
 use Rattle.lpt_journal.proofs.Releasing.{IsReleaseOf, OwesReleases, IsPast, ArePast, before_old, before_new, opening_is, is_large, closed_stays, was_current, new_past, old_past}
 use Rattle.lpt_journal.proofs.Steps.{IsSound, Owes}
 use Rattle.lpt_journal.proofs.TestLemmas.{no_place, IsOldOrNew, with_all_cases}
-use Rattle.lpt_memory.specs.Memories.{Contents}
+use Rattle.lpt_execution.specs.LptMemory.Memories.{Contents}
 use Rattle.lpt_journal.proofs.ExpiryOwed.{transaction, as_release, IsExpiryOf, owes_expiry}
 
 -- ---- what holds of past expiries

@@ -2,19 +2,19 @@
 use Rattle.std.proofs.Common.{◌≡◌, ◌∙◌, ap, sym, subst, refl, ℕ, Bool, true, false, not, ◌&&◌, ◌||◌, List, ◌∷◌, length, Option, Some, None}
 use Rattle.std.specs.List.{slice_get}
 use Rattle.std.specs.Option.{is_some}
-use Rattle.lpt_packet.specs.declared.direction.Direction.{Direction}
-use Rattle.lpt_packet.specs.Names.{Name}
-use Rattle.lpt_packet.proofs.NameLemmas.{same_name-refl}
-use Rattle.lpt_events.specs.declared.config.Config.{Config}
-use Rattle.lpt_events.specs.declared.side.Side.{Side}
-use Rattle.lpt_events.specs.declared.side.Side.TheVariants.{Ground, Craft}
-use Rattle.lpt_events.specs.declared.event.Event.{Event}
-use Rattle.lpt_events.specs.declared.event.Event.TheVariants.{Expire, Commit}
-use Rattle.lpt_events.specs.declared.fault.StepFault.TheVariants.{NothingDue}
-use Rattle.lpt_events.specs.declared.entry.Release.{Release}
+use Rattle.lpt_reception.specs.LptPacket.declared.direction.Direction.{Direction}
+use Rattle.lpt_reception.specs.LptPacket.Names.{Name}
+use Rattle.lpt_reception.proofs.LptPacket.NameLemmas.{same_name-refl}
+use Rattle.lpt_execution.specs.LptEvents.declared.config.Config.{Config}
+use Rattle.lpt_execution.specs.LptEvents.declared.side.Side.{Side}
+use Rattle.lpt_execution.specs.LptEvents.declared.side.Side.TheVariants.{Ground, Craft}
+use Rattle.lpt_execution.specs.LptEvents.declared.event.Event.{Event}
+use Rattle.lpt_execution.specs.LptEvents.declared.event.Event.TheVariants.{Expire, Commit}
+use Rattle.lpt_execution.specs.LptEvents.declared.fault.StepFault.TheVariants.{NothingDue}
+use Rattle.lpt_execution.specs.LptEvents.declared.entry.Release.{Release}
 use Rattle.lpt_journal.specs.Expiries.{Expiry, expiry_at, NothingIsKept}
 use Rattle.lpt_journal.specs.Due.{is_overdue, due}
-use Rattle.lpt_events.specs.Sides.{same_side, receiver_side, direction_to}
+use Rattle.lpt_execution.specs.LptEvents.Sides.{same_side, receiver_side, direction_to}
 use Rattle.lpt_journal.specs.Journal.{Recorded, History}
 use Rattle.lpt_journal.specs.Jobs.{boot, ticket}
 use Rattle.lpt_journal.specs.Receivers.{ends, heard, has_parts, last_tick, is_closed}
@@ -27,7 +27,7 @@ use Rattle.lpt_journal.proofs.DueLemmas.{Earliest, earliest_is, overdue_names, i
 use Rattle.lpt_journal.proofs.Events.{only_element}
 use Rattle.lpt_journal.proofs.Releasing.{IsReleaseOf}
 use Rattle.lpt_journal.proofs.Steps.{IsSound}
-use Rattle.lpt_memory.specs.Memories.{Contents}
+use Rattle.lpt_execution.specs.LptMemory.Memories.{Contents}
 use Rattle.lpt_journal.proofs.TestLemmas.{and_r, not_false, one_passes, no_place}
 
 -- ---- what an entry owes for what expires

@@ -4,27 +4,27 @@ use Rattle.std.specs.List.{slice_get}
 use Rattle.std.specs.Option.{is_some, option_map_or}
 use Rattle.std.specs.FinMap as map
 use Rattle.std.specs.Ordering.{nat_cmp}
-use Rattle.lpt_packet.specs.declared.direction.Direction.{Direction}
-use Rattle.lpt_packet.specs.Names.{Name}
-use Rattle.lpt_part.specs.Parts.{Piece}
+use Rattle.lpt_reception.specs.LptPacket.declared.direction.Direction.{Direction}
+use Rattle.lpt_reception.specs.LptPacket.Names.{Name}
+use Rattle.lpt_reception.specs.LptPart.Parts.{Piece}
 use Rattle.lpt_reception.specs.Received.{no_parts}
-use Rattle.lpt_events.specs.declared.lane.Lane.{Lane}
-use Rattle.lpt_events.specs.Lanes.{lane_direction}
-use Rattle.lpt_events.specs.declared.config.Config.{Config}
-use Rattle.lpt_events.specs.Arrivals.{NotRead, APart}
-use Rattle.lpt_events.specs.declared.event.Event.{Event}
-use Rattle.lpt_events.specs.declared.event.Event.TheVariants.{Open, Send, Plain, Damage, Take, Deliver, Tick, Expire, Commit, Apply, Retire, Restart}
-use Rattle.lpt_events.specs.declared.fault.StepFault.TheVariants.{HandEmpty}
-use Rattle.lpt_events.specs.declared.outcome.Outcome.{Outcome}
-use Rattle.lpt_events.specs.declared.reply.Answer.TheVariants.{Delivered}
-use Rattle.lpt_events.specs.Sides.{direction_to}
+use Rattle.lpt_execution.specs.LptEvents.declared.lane.Lane.{Lane}
+use Rattle.lpt_execution.specs.LptEvents.Lanes.{lane_direction}
+use Rattle.lpt_execution.specs.LptEvents.declared.config.Config.{Config}
+use Rattle.lpt_execution.specs.LptEvents.Arrivals.{NotRead, APart}
+use Rattle.lpt_execution.specs.LptEvents.declared.event.Event.{Event}
+use Rattle.lpt_execution.specs.LptEvents.declared.event.Event.TheVariants.{Open, Send, Plain, Damage, Take, Deliver, Tick, Expire, Commit, Apply, Retire, Restart}
+use Rattle.lpt_execution.specs.LptEvents.declared.fault.StepFault.TheVariants.{HandEmpty}
+use Rattle.lpt_execution.specs.LptEvents.declared.outcome.Outcome.{Outcome}
+use Rattle.lpt_execution.specs.LptEvents.declared.reply.Answer.TheVariants.{Delivered}
+use Rattle.lpt_execution.specs.LptEvents.Sides.{direction_to}
 use Rattle.lpt_journal.specs.Delivery.{outcome}
 use Rattle.lpt_journal.specs.Journal.{Recorded, History}
 use Rattle.lpt_journal.specs.Link.{is_damaged}
 use Rattle.lpt_journal.specs.Hands.{hand, arrival_at, in_hand}
 use Rattle.lpt_journal.specs.Jobs.{boot, applied, ticket, memories}
 use Rattle.lpt_journal.specs.Releases.{released_by}
-use Rattle.lpt_events.specs.Configs.{IsConfig}
+use Rattle.lpt_execution.specs.LptEvents.Configs.{IsConfig}
 use Rattle.lpt_journal.specs.Due.{due}
 use Rattle.lpt_journal.specs.Replies.{answer, expired_now, entry, recorded}
 use Rattle.lpt_journal.specs.Refusals.{refusal}
@@ -32,7 +32,7 @@ use Rattle.lpt_journal.specs.Legal.{IsEnabled, Legal}
 use Rattle.lpt_journal.proofs.JobLemmas.{memories_follow}
 use Rattle.lpt_journal.specs.Headline.{PartsAreCurrent, EachIsLastOpened, IsSoundOutcome, WasSoundDelivery, DeliveriesAreSound, DeliveriesWereSound, Headline}
 use Rattle.lpt_journal.proofs.TestLemmas.{one_passes, no_place}
-use Rattle.lpt_events.specs.declared.side.Side.TheVariants.{Craft}
+use Rattle.lpt_execution.specs.LptEvents.declared.side.Side.TheVariants.{Craft}
 use Rattle.lpt_journal.proofs.CalmEvents.{quiet_owes}
 use Rattle.lpt_journal.proofs.CommitLemmas.{commit_says}
 use Rattle.lpt_journal.proofs.RestartEvents.{restart_owes}
@@ -49,7 +49,7 @@ use Rattle.lpt_journal.proofs.TimeEvents.{tick_owes, expire_owes}
 use Rattle.lpt_journal.proofs.Deliveries.{delivery_sound, deliver_owes}
 use Rattle.lpt_journal.proofs.Releasing.{OwesReleases, ArePast, opening_is}
 use Rattle.lpt_journal.proofs.OnceLemmas.{past_step}
-use Rattle.lpt_memory.specs.Memories.{Contents}
+use Rattle.lpt_execution.specs.LptMemory.Memories.{Contents}
 use Rattle.lpt_journal.proofs.DeliveredReleases.{deliver_releases}
 
 -- ---- each event

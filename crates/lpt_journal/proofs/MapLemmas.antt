@@ -5,8 +5,8 @@ use Rattle.std.specs.FinMap as maps
 use Rattle.std.specs.FinMap.{FinMap}
 use Rattle.std.specs.Ordering.{nat_cmp}
 use Rattle.std.specs.Cmp.{nat_cmp_total, unsigned_tied}
-use Rattle.lpt_packet.specs.Names.{same_name}
-use Rattle.lpt_packet.proofs.NameLemmas.{same_name-refl, same_name-true}
+use Rattle.lpt_reception.specs.LptPacket.Names.{same_name}
+use Rattle.lpt_reception.proofs.LptPacket.NameLemmas.{same_name-refl, same_name-true}
 use Rattle.lpt_journal.specs.Senders.{once}
 
 -- ---- at a name

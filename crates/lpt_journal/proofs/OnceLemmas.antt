@@ -1,11 +1,11 @@
 -- No two releases have the same opening.
 use Rattle.std.proofs.Common.{◌≡◌, ◌∙◌, ap, sym, ℕ, true, false, inl, inr, ◌∷◌, length, Some, arith}
 use Rattle.std.specs.List.{slice_get}
-use Rattle.lpt_packet.specs.declared.direction.Direction.{Direction}
-use Rattle.lpt_packet.specs.Names.{Name}
-use Rattle.lpt_events.specs.declared.config.Config.{Config}
-use Rattle.lpt_events.specs.declared.entry.Opening.{Opening}
-use Rattle.lpt_events.specs.declared.entry.Release.{Release}
+use Rattle.lpt_reception.specs.LptPacket.declared.direction.Direction.{Direction}
+use Rattle.lpt_reception.specs.LptPacket.Names.{Name}
+use Rattle.lpt_execution.specs.LptEvents.declared.config.Config.{Config}
+use Rattle.lpt_execution.specs.LptEvents.declared.entry.Opening.{Opening}
+use Rattle.lpt_execution.specs.LptEvents.declared.entry.Release.{Release}
 use Rattle.lpt_journal.specs.Journal.{Recorded, History}
 use Rattle.lpt_journal.specs.Senders.{current}
 use Rattle.lpt_journal.specs.Receivers.{is_closed}
@@ -13,7 +13,7 @@ use Rattle.lpt_journal.specs.Releases.{released_by, releases}
 use Rattle.lpt_journal.specs.Headline.{opening_of, IsSameOpening, AtMostOncePerOpening}
 use Rattle.lpt_journal.proofs.TestLemmas.{IsOldOrNew, with_all_cases}
 use Rattle.lpt_journal.proofs.Steps.{IsSound, Owes}
-use Rattle.lpt_memory.specs.Memories.{Contents}
+use Rattle.lpt_execution.specs.LptMemory.Memories.{Contents}
 use Rattle.lpt_journal.proofs.Releasing.{IsReleaseOf, OwesReleases, opening_then, IsPast, ArePast, before_old, before_new, opening_is, is_large, each_step, closed_step}
 
 -- ---- once per opening

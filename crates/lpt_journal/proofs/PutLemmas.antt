@@ -3,9 +3,9 @@ use Rattle.std.proofs.Common.{◌≡◌, ◌∙◌, ap, sym, subst, refl, ℕ, z
 use Rattle.std.specs.List.{slice_get}
 use Rattle.std.proofs.lemmas.Bool.Decides.{nat_tests}
 use Rattle.std.proofs.lemmas.Option.{slice_get_within}
-use Rattle.lpt_events.specs.declared.config.Config.{Config}
-use Rattle.lpt_events.specs.Arrivals.{part_name}
-use Rattle.lpt_events.specs.declared.event.Event.{Event}
+use Rattle.lpt_execution.specs.LptEvents.declared.config.Config.{Config}
+use Rattle.lpt_execution.specs.LptEvents.Arrivals.{part_name}
+use Rattle.lpt_execution.specs.LptEvents.declared.event.Event.{Event}
 use Rattle.lpt_journal.specs.Journal.{SentPacket, Recorded, History, with_all}
 use Rattle.lpt_journal.specs.Link.{sent, tag_put, tags, damages, is_damaged}
 use Rattle.lpt_journal.specs.Hands.{arrival_of}

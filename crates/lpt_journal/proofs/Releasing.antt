@@ -2,23 +2,23 @@
 use Rattle.std.proofs.Common.{◌≡◌, ◌∙◌, ap, sym, refl, ℕ, suc, ◌-◌, ◌<◌, ◌≤◌, Bool, true, false, not, ◌&&◌, inl, inr, ◌∷◌, length, drop, Option, Some, None, if◌then◌else◌, arith}
 use Rattle.std.specs.List.{slice_get, find}
 use Rattle.std.specs.Option.{option_or, option_and_then}
-use Rattle.lpt_packet.specs.declared.direction.Direction.{Direction}
-use Rattle.lpt_packet.specs.Names.{Name, same_name}
-use Rattle.lpt_events.specs.Lanes.{lane_direction, same_direction}
-use Rattle.lpt_events.specs.declared.config.Config.{Config}
-use Rattle.lpt_events.specs.declared.event.Event.{Event}
-use Rattle.lpt_events.specs.declared.event.Event.TheVariants.{Deliver, Expire, Retire}
-use Rattle.lpt_events.specs.declared.reply.Answer.{Answer}
-use Rattle.lpt_events.specs.declared.entry.Opening.{Opening}
-use Rattle.lpt_events.specs.declared.entry.Release.{Release}
-use Rattle.lpt_events.specs.Sides.{same_side, receiver_side}
+use Rattle.lpt_reception.specs.LptPacket.declared.direction.Direction.{Direction}
+use Rattle.lpt_reception.specs.LptPacket.Names.{Name, same_name}
+use Rattle.lpt_execution.specs.LptEvents.Lanes.{lane_direction, same_direction}
+use Rattle.lpt_execution.specs.LptEvents.declared.config.Config.{Config}
+use Rattle.lpt_execution.specs.LptEvents.declared.event.Event.{Event}
+use Rattle.lpt_execution.specs.LptEvents.declared.event.Event.TheVariants.{Deliver, Expire, Retire}
+use Rattle.lpt_execution.specs.LptEvents.declared.reply.Answer.{Answer}
+use Rattle.lpt_execution.specs.LptEvents.declared.entry.Opening.{Opening}
+use Rattle.lpt_execution.specs.LptEvents.declared.entry.Release.{Release}
+use Rattle.lpt_execution.specs.LptEvents.Sides.{same_side, receiver_side}
 use Rattle.lpt_journal.specs.Journal.{Recorded, History}
 use Rattle.lpt_journal.specs.Senders.{is_opening_of, retires, current}
 use Rattle.lpt_journal.specs.Receivers.{ends, closed_after, is_closed}
 use Rattle.lpt_journal.specs.Releases.{released_by, releases}
 use Rattle.lpt_journal.specs.Headline.{before, opening_of, AtMostOncePerOpening}
 use Rattle.lpt_journal.proofs.TestLemmas.{or_true_r, IsOldOrNew, with_all_cases}
-use Rattle.lpt_memory.specs.Memories.{Contents}
+use Rattle.lpt_execution.specs.LptMemory.Memories.{Contents}
 use Rattle.lpt_journal.proofs.Steps.{IsSound, IsKnown, Owes}
 
 -- ---- what an entry owes for what it releases

@@ -1,10 +1,10 @@
 -- What the new start of a node owes, and that it pays it.
 use Rattle.std.proofs.Common.{inl}
-use Rattle.lpt_memory.specs.Memories.{Contents}
-use Rattle.lpt_events.specs.Sides.{same_side, receiver_side}
-use Rattle.lpt_events.specs.declared.config.Config.{Config}
-use Rattle.lpt_events.specs.declared.event.Event.TheVariants.{Restart}
-use Rattle.lpt_events.specs.declared.side.Side.{Side}
+use Rattle.lpt_execution.specs.LptMemory.Memories.{Contents}
+use Rattle.lpt_execution.specs.LptEvents.Sides.{same_side, receiver_side}
+use Rattle.lpt_execution.specs.LptEvents.declared.config.Config.{Config}
+use Rattle.lpt_execution.specs.LptEvents.declared.event.Event.TheVariants.{Restart}
+use Rattle.lpt_execution.specs.LptEvents.declared.side.Side.{Side}
 use Rattle.lpt_journal.specs.Journal.{History}
 use Rattle.lpt_journal.specs.Replies.{entry}
 use Rattle.lpt_journal.proofs.Steps.{IsSound, Owes, kept_or_none}

@@ -6,21 +6,21 @@ use Rattle.std.specs.List.{slice_get, list_any}
 use Rattle.std.specs.Option.{option_map_or, option_eq}
 use Rattle.std.specs.FinMap as maps
 use Rattle.std.specs.Ordering.{nat_cmp}
-use Rattle.lpt_packet.specs.declared.direction.Direction.{Direction}
-use Rattle.lpt_packet.specs.Names.{Name, same_name}
-use Rattle.lpt_packet.proofs.NameLemmas.{same_name-refl, same_name-true}
-use Rattle.lpt_packet.proofs.Readings.{true_eq}
-use Rattle.lpt_part.specs.Parts.{Piece}
+use Rattle.lpt_reception.specs.LptPacket.declared.direction.Direction.{Direction}
+use Rattle.lpt_reception.specs.LptPacket.Names.{Name, same_name}
+use Rattle.lpt_reception.proofs.LptPacket.NameLemmas.{same_name-refl, same_name-true}
+use Rattle.lpt_reception.proofs.LptPacket.Readings.{true_eq}
+use Rattle.lpt_reception.specs.LptPart.Parts.{Piece}
 use Rattle.lpt_reception.specs.Received.{Parts}
-use Rattle.lpt_memory.specs.Memories.{Contents}
-use Rattle.lpt_events.specs.Arrivals.{APart, part_name}
-use Rattle.lpt_events.specs.Lanes.{lanes, same_direction}
-use Rattle.lpt_events.specs.declared.config.Config.{Config}
-use Rattle.lpt_events.specs.declared.event.Event.TheVariants.{Retire}
-use Rattle.lpt_events.specs.declared.fault.StepFault.TheVariants.{NotOpen, NotClear, StillOpen}
-use Rattle.lpt_events.specs.declared.lane.Lane.{Lane}
-use Rattle.lpt_events.specs.declared.lane.Lane.TheVariants.{S1, S2, G1, G2}
-use Rattle.lpt_events.proofs.LaneLemmas.{same_direction-refl, same_direction-true}
+use Rattle.lpt_execution.specs.LptMemory.Memories.{Contents}
+use Rattle.lpt_execution.specs.LptEvents.Arrivals.{APart, part_name}
+use Rattle.lpt_execution.specs.LptEvents.Lanes.{lanes, same_direction}
+use Rattle.lpt_execution.specs.LptEvents.declared.config.Config.{Config}
+use Rattle.lpt_execution.specs.LptEvents.declared.event.Event.TheVariants.{Retire}
+use Rattle.lpt_execution.specs.LptEvents.declared.fault.StepFault.TheVariants.{NotOpen, NotClear, StillOpen}
+use Rattle.lpt_execution.specs.LptEvents.declared.lane.Lane.{Lane}
+use Rattle.lpt_execution.specs.LptEvents.declared.lane.Lane.TheVariants.{S1, S2, G1, G2}
+use Rattle.lpt_execution.proofs.LptEvents.LaneLemmas.{same_direction-refl, same_direction-true}
 use Rattle.lpt_journal.specs.Clear.{any_below, is_part_of, is_part_at, part_held, part_in_hand, is_clear}
 use Rattle.lpt_journal.specs.Hands.{hand, arrival_of}
 use Rattle.lpt_journal.specs.Journal.{SentPacket, History}

@@ -2,34 +2,33 @@
 use Rattle.std.proofs.Common.{◌≡◌, ◌∙◌, ap, sym, refl, ℕ, ◌+◌, ◌^◌, ◌<◌, ◌≤◌, false, if◌then◌else◌, List, length, Option, Some, Ok, arith}
 use Rattle.std.specs.Option.{option_map_or}
 use Rattle.std.specs.Result.{result_ok}
-use Rattle.lpt_packet.specs.declared.direction.Direction.{Direction}
-use Rattle.lpt_packet.specs.declared.direction.Direction.TheVariants.{Up, Down}
-use Rattle.lpt_packet.specs.Names.{Name}
-use Rattle.lpt_packet.specs.Numbers.{word_at}
-use Rattle.lpt_packet.specs.Packets.{Fields, spelling}
-use Rattle.lpt_packet.specs.Ranges.{InRange}
-use Rattle.lpt_packet.proofs.Readings.{eq_true, not_lt}
-use Rattle.lpt_packet.proofs.SightLemmas.{seen_again}
-use Rattle.lpt_pus.specs.Commands.{Command, CommandFits, packet_of, tc_field}
-use Rattle.lpt_pus.specs.Telemetry.{Telemetry, TelemetryFits, tm_packet_of, tm_field}
-use Rattle.lpt_pus.proofs.CommandLemmas.{length-tc_field, tc_verdict-packet_of}
-use Rattle.lpt_pus.proofs.TelemetryLemmas.{length-tm_field, tm_verdict-tm_packet_of}
-use Rattle.lpt_part.specs.declared.kind.Kind.{Kind}
-use Rattle.lpt_part.specs.declared.kind.Kind.TheVariants.{First, Middle, Last}
-use Rattle.lpt_part.specs.declared.reason.Reason.{Reason}
-use Rattle.lpt_part.specs.declared.reason.Reason.TheVariants.{Expired, Discontinuity, Conflict}
-use Rattle.lpt_part.specs.Aborts.{abort_body, abort_verdict}
-use Rattle.lpt_part.specs.PartRanges.{PartFits}
-use Rattle.lpt_part.specs.Parts.{Piece, body_of}
-use Rattle.lpt_part.proofs.BodyLemmas.{length-body_of, part_verdict-body_of}
-use Rattle.lpt_events.specs.declared.config.Config.{Config}
-use Rattle.lpt_events.specs.declared.side.Side.{Side}
-use Rattle.lpt_events.specs.declared.side.Side.TheVariants.{Ground, Craft}
-use Rattle.lpt_events.specs.Arrivals.{NotRead, Foreign, ARequest, NoPart, APart, AnAbort, report_arrival, part_subtype, carried_kind, part_arrival, command_arrival, telemetry_arrival, packet_arrival, sight_arrival, arrival}
-use Rattle.lpt_events.specs.MadePackets.{command_made, telemetry_made, part_made, abort_made, tc_made}
-use Rattle.lpt_events.specs.Requests.{is_part_request, is_too_long}
-use Rattle.lpt_journal.specs.Hands.{arrival_in}
-use Rattle.lpt_events.specs.Configs.{IsConfig}
+use Rattle.lpt_reception.specs.LptPacket.declared.direction.Direction.{Direction}
+use Rattle.lpt_reception.specs.LptPacket.declared.direction.Direction.TheVariants.{Up, Down}
+use Rattle.lpt_reception.specs.LptPacket.Names.{Name}
+use Rattle.lpt_reception.specs.LptPacket.Numbers.{word_at}
+use Rattle.lpt_reception.specs.LptPacket.Packets.{Fields, spelling}
+use Rattle.lpt_reception.specs.LptPacket.Ranges.{InRange}
+use Rattle.lpt_reception.proofs.LptPacket.Readings.{eq_true, not_lt}
+use Rattle.lpt_reception.proofs.LptPacket.SightLemmas.{seen_again}
+use Rattle.lpt_execution.specs.LptPus.Commands.{Command, CommandFits, packet_of, tc_field}
+use Rattle.lpt_execution.specs.LptPus.Telemetry.{Telemetry, TelemetryFits, tm_packet_of, tm_field}
+use Rattle.lpt_execution.proofs.LptPus.CommandLemmas.{length-tc_field, tc_verdict-packet_of}
+use Rattle.lpt_execution.proofs.LptPus.TelemetryLemmas.{length-tm_field, tm_verdict-tm_packet_of}
+use Rattle.lpt_reception.specs.LptPart.declared.kind.Kind.{Kind}
+use Rattle.lpt_reception.specs.LptPart.declared.kind.Kind.TheVariants.{First, Middle, Last}
+use Rattle.lpt_reception.specs.LptPart.declared.reason.Reason.{Reason}
+use Rattle.lpt_reception.specs.LptPart.declared.reason.Reason.TheVariants.{Expired, Discontinuity, Conflict}
+use Rattle.lpt_reception.specs.LptPart.Aborts.{abort_body, abort_verdict}
+use Rattle.lpt_reception.specs.LptPart.PartRanges.{PartFits}
+use Rattle.lpt_reception.specs.LptPart.Parts.{Piece, body_of}
+use Rattle.lpt_reception.proofs.LptPart.BodyLemmas.{length-body_of, part_verdict-body_of}
+use Rattle.lpt_execution.specs.LptEvents.declared.config.Config.{Config}
+use Rattle.lpt_execution.specs.LptEvents.declared.side.Side.{Side}
+use Rattle.lpt_execution.specs.LptEvents.declared.side.Side.TheVariants.{Ground, Craft}
+use Rattle.lpt_execution.specs.LptEvents.Arrivals.{NotRead, Foreign, ARequest, NoPart, APart, AnAbort, report_arrival, part_subtype, carried_kind, part_arrival, command_arrival, telemetry_arrival, packet_arrival, sight_arrival, arrival, arrival_in}
+use Rattle.lpt_execution.specs.LptEvents.MadePackets.{command_made, telemetry_made, part_made, abort_made, tc_made}
+use Rattle.lpt_execution.specs.LptEvents.Requests.{is_part_request, is_too_long}
+use Rattle.lpt_execution.specs.LptEvents.Configs.{IsConfig}
 use Rattle.lpt_journal.proofs.TestLemmas.{none_is}
 
 -- ---- subtypes

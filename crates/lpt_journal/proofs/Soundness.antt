@@ -6,23 +6,23 @@ use Rattle.std.specs.FinMap as maps
 use Rattle.std.specs.Ordering.{nat_cmp}
 use Rattle.std.specs.Cmp.{nat_cmp_total, unsigned_tied}
 use Rattle.std.proofs.lemmas.Option.{slice_get_within}
-use Rattle.lpt_packet.specs.declared.direction.Direction.{Direction}
-use Rattle.lpt_packet.specs.Names.{Name}
-use Rattle.lpt_packet.proofs.Readings.{true_eq}
-use Rattle.lpt_part.specs.Parts.{Piece}
+use Rattle.lpt_reception.specs.LptPacket.declared.direction.Direction.{Direction}
+use Rattle.lpt_reception.specs.LptPacket.Names.{Name}
+use Rattle.lpt_reception.proofs.LptPacket.Readings.{true_eq}
+use Rattle.lpt_reception.specs.LptPart.Parts.{Piece}
 use Rattle.lpt_reception.specs.Received.{Kept as KeptPart, Parts, no_parts}
-use Rattle.lpt_events.specs.declared.lane.Lane.{Lane}
-use Rattle.lpt_events.specs.Lanes.{lane_direction, same_direction}
-use Rattle.lpt_events.specs.declared.config.Config.{Config}
-use Rattle.lpt_events.specs.Arrivals.{NotRead, APart}
-use Rattle.lpt_events.specs.declared.entry.Opening.{Opening}
+use Rattle.lpt_execution.specs.LptEvents.declared.lane.Lane.{Lane}
+use Rattle.lpt_execution.specs.LptEvents.Lanes.{lane_direction, same_direction}
+use Rattle.lpt_execution.specs.LptEvents.declared.config.Config.{Config}
+use Rattle.lpt_execution.specs.LptEvents.Arrivals.{NotRead, APart, arrival_in}
+use Rattle.lpt_execution.specs.LptEvents.declared.entry.Opening.{Opening}
 use Rattle.lpt_journal.specs.Journal.{SentPacket, Recorded, History}
 use Rattle.lpt_journal.specs.Link.{sent, loses, is_lost, damages, is_held, goes}
-use Rattle.lpt_journal.specs.Hands.{hand, arrival_in, arrival_of, arrival_at, in_hand}
+use Rattle.lpt_journal.specs.Hands.{hand, arrival_of, arrival_at, in_hand}
 use Rattle.lpt_journal.specs.Senders.{is_opening_of, retires, current}
 use Rattle.lpt_journal.specs.Receivers.{kept, with_piece, heard}
 use Rattle.lpt_journal.specs.Headline.{IsPartOfCurrent, kept_piece}
-use Rattle.lpt_events.proofs.LaneLemmas.{same_direction-true}
+use Rattle.lpt_execution.proofs.LptEvents.LaneLemmas.{same_direction-true}
 use Rattle.lpt_journal.proofs.PutLemmas.{packets_step, names_step}
 use Rattle.lpt_journal.proofs.TestLemmas.{and_r, not_true, or_false_r, lt_true, get-with_all, IsOldOrNew, with_all_cases}
 use Rattle.lpt_journal.proofs.Steps.{IsKnown, IsSoundPut, IsInHand, IsSound, IsNew, IsTaken, IsKept, IsHeardNow, Owes, opening_found, part_stays}

@@ -3,26 +3,26 @@ use Rattle.std.proofs.Common.{◌&&◌, ◌≡◌, ◌∙◌, refl, ℕ, ◌^◌
 use Rattle.std.specs.List.{slice_get, find}
 use Rattle.std.specs.Option.{option_or}
 use Rattle.std.specs.FinMap as maps
-use Rattle.lpt_packet.specs.declared.direction.Direction.{Direction}
-use Rattle.lpt_packet.specs.Names.{Name, same_name}
-use Rattle.lpt_packet.proofs.NameLemmas.{same_name-true}
-use Rattle.lpt_part.specs.Parts.{Piece}
+use Rattle.lpt_reception.specs.LptPacket.declared.direction.Direction.{Direction}
+use Rattle.lpt_reception.specs.LptPacket.Names.{Name, same_name}
+use Rattle.lpt_reception.proofs.LptPacket.NameLemmas.{same_name-true}
+use Rattle.lpt_reception.specs.LptPart.Parts.{Piece}
 use Rattle.lpt_reception.specs.Received.{Kept as KeptPart, Parts, no_parts}
 use Rattle.lpt_reception.specs.PartsOf.{IsMessage}
-use Rattle.lpt_events.specs.declared.lane.Lane.{Lane}
-use Rattle.lpt_events.specs.Lanes.{lane_direction, same_direction}
-use Rattle.lpt_events.specs.declared.config.Config.{Config}
-use Rattle.lpt_events.specs.declared.side.Side.{Side}
-use Rattle.lpt_events.specs.Arrivals.{Arrival, NotRead, AnIdle, Foreign, NoPart, APart, part_name}
-use Rattle.lpt_events.specs.declared.entry.Opening.{Opening}
-use Rattle.lpt_events.specs.declared.event.Event.{Event}
+use Rattle.lpt_execution.specs.LptEvents.declared.lane.Lane.{Lane}
+use Rattle.lpt_execution.specs.LptEvents.Lanes.{lane_direction, same_direction}
+use Rattle.lpt_execution.specs.LptEvents.declared.config.Config.{Config}
+use Rattle.lpt_execution.specs.LptEvents.declared.side.Side.{Side}
+use Rattle.lpt_execution.specs.LptEvents.Arrivals.{Arrival, NotRead, AnIdle, Foreign, NoPart, APart, part_name}
+use Rattle.lpt_execution.specs.LptEvents.declared.entry.Opening.{Opening}
+use Rattle.lpt_execution.specs.LptEvents.declared.event.Event.{Event}
 use Rattle.lpt_journal.specs.Journal.{SentPacket, Recorded, History}
 use Rattle.lpt_journal.specs.Link.{sent, tag_put, tags, damages, is_damaged, is_held, goes}
 use Rattle.lpt_journal.specs.Hands.{hand, arrival_of, in_hand}
 use Rattle.lpt_journal.specs.Senders.{is_opening_of, retires, current}
 use Rattle.lpt_journal.specs.Receivers.{with_piece, heard, clock}
 use Rattle.lpt_journal.specs.Headline.{IsPartOfCurrent, kept_piece}
-use Rattle.lpt_events.proofs.LaneLemmas.{same_direction-true}
+use Rattle.lpt_execution.proofs.LptEvents.LaneLemmas.{same_direction-true}
 use Rattle.lpt_journal.proofs.TestLemmas.{and_l, and_r, find_passes}
 
 -- ---- what holds of a history

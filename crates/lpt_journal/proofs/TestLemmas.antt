@@ -4,7 +4,7 @@ use Rattle.std.proofs.lemmas.Bool.Decides.{nat_tests}
 use Rattle.std.proofs.lemmas.List.{map-append}
 use Rattle.std.specs.List.{slice_get, find, filter}
 use Rattle.std.specs.Option.{is_some}
-use Rattle.lpt_events.specs.declared.fault.StepFault.{StepFault}
+use Rattle.lpt_execution.specs.LptEvents.declared.fault.StepFault.{StepFault}
 use Rattle.lpt_journal.specs.Journal.{with_all}
 use Rattle.lpt_journal.specs.Refusals.{first_fault}
 

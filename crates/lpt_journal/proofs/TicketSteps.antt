@@ -2,19 +2,19 @@
 use Rattle.std.proofs.Common.{◌≡◌, ◌∙◌, ap, sym, refl, ℕ, ◌+◌, ◌<◌, ◌≤◌, ◌==◌, Bool, true, false, not, ◌&&◌, ◌||◌, if◌then◌else◌, inl, inr, List, [], ◌∷◌, Option, Some, None, arith}
 use Rattle.std.proofs.lemmas.Bool.Decides.{eqb_tells}
 use Rattle.std.specs.Option.{is_some}
-use Rattle.lpt_memory.specs.Memories.{Contents}
-use Rattle.lpt_memory.specs.Readings.{Job}
-use Rattle.lpt_events.specs.Workers.{same_worker}
-use Rattle.lpt_events.specs.declared.config.Config.{Config}
-use Rattle.lpt_events.specs.declared.event.Event.{Event}
-use Rattle.lpt_events.specs.declared.event.Event.TheVariants.{Expire, Claim, Commit, Apply, Restart}
-use Rattle.lpt_events.specs.declared.fault.StepFault.TheVariants.{HandEmpty, NoJob, NotReady}
-use Rattle.lpt_events.specs.declared.side.Side.TheVariants.{Craft}
-use Rattle.lpt_events.specs.declared.worker.Worker.{Worker}
-use Rattle.lpt_packet.specs.declared.direction.Direction.{Direction}
-use Rattle.lpt_packet.specs.Names.{Name}
-use Rattle.lpt_packet.proofs.Readings.{eq_false, true_eq}
-use Rattle.lpt_events.specs.Sides.{direction_to}
+use Rattle.lpt_execution.specs.LptMemory.Memories.{Contents}
+use Rattle.lpt_execution.specs.LptMemory.Readings.{Job}
+use Rattle.lpt_execution.specs.LptEvents.Workers.{same_worker}
+use Rattle.lpt_execution.specs.LptEvents.declared.config.Config.{Config}
+use Rattle.lpt_execution.specs.LptEvents.declared.event.Event.{Event}
+use Rattle.lpt_execution.specs.LptEvents.declared.event.Event.TheVariants.{Expire, Claim, Commit, Apply, Restart}
+use Rattle.lpt_execution.specs.LptEvents.declared.fault.StepFault.TheVariants.{HandEmpty, NoJob, NotReady}
+use Rattle.lpt_execution.specs.LptEvents.declared.side.Side.TheVariants.{Craft}
+use Rattle.lpt_execution.specs.LptEvents.declared.worker.Worker.{Worker}
+use Rattle.lpt_reception.specs.LptPacket.declared.direction.Direction.{Direction}
+use Rattle.lpt_reception.specs.LptPacket.Names.{Name}
+use Rattle.lpt_reception.proofs.LptPacket.Readings.{eq_false, true_eq}
+use Rattle.lpt_execution.specs.LptEvents.Sides.{direction_to}
 use Rattle.lpt_journal.specs.Due.{due}
 use Rattle.lpt_journal.specs.Journal.{History}
 use Rattle.lpt_journal.specs.Jobs.{boot, claimed, applied, ticket, commits, is_committed, front_job}

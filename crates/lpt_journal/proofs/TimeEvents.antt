@@ -2,28 +2,28 @@
 use Rattle.std.proofs.Common.{◌≡◌, ◌∙◌, ap, sym, subst, refl, ℕ, ◌+◌, ◌^◌, ◌<◌, ◌==◌, Bool, true, false, ◌&&◌, inl, ◌∷◌, Option, Some, None, if◌then◌else◌, arith}
 use Rattle.std.specs.List.{slice_get}
 use Rattle.std.proofs.lemmas.Bool.Decides.{nat_tests}
-use Rattle.lpt_packet.specs.declared.direction.Direction.TheVariants.{Down}
-use Rattle.lpt_packet.specs.Names.{Name}
-use Rattle.lpt_part.specs.declared.reason.Reason.{Reason}
-use Rattle.lpt_part.specs.declared.reason.Reason.TheVariants.{Expired as TimedOut}
-use Rattle.lpt_events.specs.declared.config.Config.{Config}
-use Rattle.lpt_events.specs.declared.side.Side.{Side}
-use Rattle.lpt_events.specs.declared.side.Side.TheVariants.{Ground, Craft}
-use Rattle.lpt_events.specs.Arrivals.{APart, AnAbort, part_name}
-use Rattle.lpt_events.specs.declared.event.Event.TheVariants.{Tick, Expire}
-use Rattle.lpt_events.specs.declared.fault.StepFault.TheVariants.{ClockEnd}
+use Rattle.lpt_reception.specs.LptPacket.declared.direction.Direction.TheVariants.{Down}
+use Rattle.lpt_reception.specs.LptPacket.Names.{Name}
+use Rattle.lpt_reception.specs.LptPart.declared.reason.Reason.{Reason}
+use Rattle.lpt_reception.specs.LptPart.declared.reason.Reason.TheVariants.{Expired as TimedOut}
+use Rattle.lpt_execution.specs.LptEvents.declared.config.Config.{Config}
+use Rattle.lpt_execution.specs.LptEvents.declared.side.Side.{Side}
+use Rattle.lpt_execution.specs.LptEvents.declared.side.Side.TheVariants.{Ground, Craft}
+use Rattle.lpt_execution.specs.LptEvents.Arrivals.{APart, AnAbort, part_name}
+use Rattle.lpt_execution.specs.LptEvents.declared.event.Event.TheVariants.{Tick, Expire}
+use Rattle.lpt_execution.specs.LptEvents.declared.fault.StepFault.TheVariants.{ClockEnd}
 use Rattle.lpt_journal.specs.Due.{due}
-use Rattle.lpt_events.specs.Sides.{same_side, receiver_side, direction_to}
+use Rattle.lpt_execution.specs.LptEvents.Sides.{same_side, receiver_side, direction_to}
 use Rattle.lpt_journal.specs.Journal.{History, SentPacket}
 use Rattle.lpt_journal.specs.Receivers.{ends, clock}
-use Rattle.lpt_events.specs.Configs.{IsConfig}
+use Rattle.lpt_execution.specs.LptEvents.Configs.{IsConfig}
 use Rattle.lpt_journal.specs.Replies.{abort_puts, expiry_puts, entry}
 use Rattle.lpt_journal.specs.Refusals.{refusal}
 use Rattle.lpt_journal.specs.Senders.{count, type_counter}
 use Rattle.lpt_journal.proofs.Events.{only_element}
 use Rattle.lpt_journal.proofs.SentParts.{AreCounts, abort_arrives}
 use Rattle.lpt_journal.proofs.TestLemmas.{one_passes, no_place}
-use Rattle.lpt_memory.specs.Memories.{Contents}
+use Rattle.lpt_execution.specs.LptMemory.Memories.{Contents}
 use Rattle.lpt_journal.proofs.Steps.{IsRead, IsPut, IsSound, Owes, kept_or_none}
 
 -- ---- ticks

@@ -3,22 +3,22 @@ use Rattle.std.proofs.Common.{◌≡◌, ◌∙◌, ap, sym, subst, refl, ℕ, z
 use Rattle.std.proofs.lemmas.Bool.Decides.{nat_tests}
 use Rattle.std.specs.List.{slice_get, find, filter, AllByRecursion}
 use Rattle.std.specs.Option.{is_some, option_map_or}
-use Rattle.lpt_packet.specs.declared.direction.Direction.{Direction}
-use Rattle.lpt_packet.specs.declared.direction.Direction.TheVariants.{Down}
-use Rattle.lpt_packet.specs.Names.{Name}
+use Rattle.lpt_reception.specs.LptPacket.declared.direction.Direction.{Direction}
+use Rattle.lpt_reception.specs.LptPacket.declared.direction.Direction.TheVariants.{Down}
+use Rattle.lpt_reception.specs.LptPacket.Names.{Name}
 use Rattle.lpt_reception.specs.PartsOf.{IsMessage}
 use Rattle.lpt_ledger.specs.LeastFree.{name_count}
 use Rattle.lpt_ledger.proofs.FirstLemmas.{IsFirst, IsFirst-first_of_numbers}
-use Rattle.lpt_memory.specs.Answers.{AnswerFits}
-use Rattle.lpt_memory.specs.Memories.{Contents}
-use Rattle.lpt_events.specs.declared.config.Config.{Config}
-use Rattle.lpt_events.specs.Arrivals.{AReport, APart, part_name}
-use Rattle.lpt_events.specs.Configs.{IsConfig}
-use Rattle.lpt_events.specs.TelemetryKinds.{service_of, subtype_of}
-use Rattle.lpt_events.specs.declared.entry.Opening.{Opening}
-use Rattle.lpt_events.specs.declared.entry.Release.{Release}
-use Rattle.lpt_events.specs.declared.event.Event.TheVariants.{Apply}
-use Rattle.lpt_events.specs.declared.side.Side.TheVariants.{Craft}
+use Rattle.lpt_execution.specs.LptMemory.Answers.{AnswerFits}
+use Rattle.lpt_execution.specs.LptMemory.Memories.{Contents}
+use Rattle.lpt_execution.specs.LptEvents.declared.config.Config.{Config}
+use Rattle.lpt_execution.specs.LptEvents.Arrivals.{AReport, APart, part_name}
+use Rattle.lpt_execution.specs.LptEvents.Configs.{IsConfig}
+use Rattle.lpt_execution.specs.LptEvents.TelemetryKinds.{service_of, subtype_of}
+use Rattle.lpt_execution.specs.LptEvents.declared.entry.Opening.{Opening}
+use Rattle.lpt_execution.specs.LptEvents.declared.entry.Release.{Release}
+use Rattle.lpt_execution.specs.LptEvents.declared.event.Event.TheVariants.{Apply}
+use Rattle.lpt_execution.specs.LptEvents.declared.side.Side.TheVariants.{Craft}
 use Rattle.lpt_execution.specs.Endings.{is_small}
 use Rattle.lpt_execution.specs.Reporting.{message_reports, link_packets, large_packets, opened_of}
 use Rattle.lpt_execution.specs.declared.ending.Report.{Report}

@@ -1,16 +1,16 @@
 -- No job is committed or executed outside the boot in which it was released.
 use Rattle.std.proofs.Common.{◌≡◌, ◌∙◌, ap, sym, subst, refl, zero, suc, ◌==◌, true, false, ◌&&◌, ◌||◌, if◌then◌else◌, List, [], ◌∷◌, Some, None}
 use Rattle.std.specs.List.{slice_get}
-use Rattle.lpt_memory.specs.Memories.{Contents}
-use Rattle.lpt_memory.specs.Readings.{Job}
-use Rattle.lpt_events.specs.Workers.{same_worker}
-use Rattle.lpt_events.specs.declared.config.Config.{Config}
-use Rattle.lpt_events.specs.declared.entry.Release.{Release}
-use Rattle.lpt_events.specs.declared.event.Event.{Event}
-use Rattle.lpt_events.specs.declared.event.Event.TheVariants.{Commit, Apply}
-use Rattle.lpt_events.specs.declared.side.Side.TheVariants.{Craft}
-use Rattle.lpt_events.specs.declared.worker.Worker.{Worker}
-use Rattle.lpt_events.specs.declared.worker.Worker.TheVariants.{W1, W2}
+use Rattle.lpt_execution.specs.LptMemory.Memories.{Contents}
+use Rattle.lpt_execution.specs.LptMemory.Readings.{Job}
+use Rattle.lpt_execution.specs.LptEvents.Workers.{same_worker}
+use Rattle.lpt_execution.specs.LptEvents.declared.config.Config.{Config}
+use Rattle.lpt_execution.specs.LptEvents.declared.entry.Release.{Release}
+use Rattle.lpt_execution.specs.LptEvents.declared.event.Event.{Event}
+use Rattle.lpt_execution.specs.LptEvents.declared.event.Event.TheVariants.{Commit, Apply}
+use Rattle.lpt_execution.specs.LptEvents.declared.side.Side.TheVariants.{Craft}
+use Rattle.lpt_execution.specs.LptEvents.declared.worker.Worker.{Worker}
+use Rattle.lpt_execution.specs.LptEvents.declared.worker.Worker.TheVariants.{W1, W2}
 use Rattle.lpt_journal.specs.Jobs.{boot, applied, ticket, is_committed, front_job, executed_by}
 use Rattle.lpt_journal.specs.Journal.{Recorded, History}
 use Rattle.lpt_journal.specs.Legal.{Legal}

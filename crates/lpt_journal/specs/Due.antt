@@ -1,10 +1,10 @@
 -- Which reception has waited too long for a part, and which of them is due first.
 use Rattle.std.specs.Prelude.{ℕ, ◌+◌, ◌==◌, nat_le, nat_lt, Bool, ◌&&◌, ◌||◌, if◌then◌else◌, List, [], ◌∷◌, Option, Some, None}
 use Rattle.std.specs.List.{filter}
-use Rattle.lpt_packet.specs.declared.direction.Direction.{Direction}
-use Rattle.lpt_packet.specs.Names.{Name, name_before}
-use Rattle.lpt_events.specs.declared.config.Config.{Config}
-use Rattle.lpt_events.specs.Sides.{receiver_side}
+use Rattle.lpt_reception.specs.LptPacket.declared.direction.Direction.{Direction}
+use Rattle.lpt_reception.specs.LptPacket.Names.{Name, name_before}
+use Rattle.lpt_execution.specs.LptEvents.declared.config.Config.{Config}
+use Rattle.lpt_execution.specs.LptEvents.Sides.{receiver_side}
 use Rattle.lpt_journal.specs.Journal.{History}
 use Rattle.lpt_journal.specs.Receivers.{open_names, clock, last_tick}
 

@@ -1,14 +1,13 @@
 -- The lanes' hands, and what is in them.
 use Rattle.std.specs.Prelude.{ℕ, if◌then◌else◌, List, [], ◌∷◌, slice_get, Option, Some, None}
 use Rattle.std.specs.Option.{option_map_or}
-use Rattle.lpt_packet.specs.declared.direction.Direction.{Direction}
-use Rattle.lpt_events.specs.declared.lane.Lane.{Lane}
-use Rattle.lpt_events.specs.Lanes.{lane_direction, same_lane}
-use Rattle.lpt_events.specs.Sides.{receiver_side}
-use Rattle.lpt_events.specs.declared.config.Config.{Config}
-use Rattle.lpt_events.specs.Arrivals.{Arrival, NotRead, arrival}
-use Rattle.lpt_events.specs.declared.event.Event.{Event}
-use Rattle.lpt_events.specs.declared.event.Event.TheVariants.{Take, Deliver}
+use Rattle.lpt_reception.specs.LptPacket.declared.direction.Direction.{Direction}
+use Rattle.lpt_execution.specs.LptEvents.declared.lane.Lane.{Lane}
+use Rattle.lpt_execution.specs.LptEvents.Lanes.{lane_direction, same_lane}
+use Rattle.lpt_execution.specs.LptEvents.declared.config.Config.{Config}
+use Rattle.lpt_execution.specs.LptEvents.Arrivals.{Arrival, NotRead, arrival_in}
+use Rattle.lpt_execution.specs.LptEvents.declared.event.Event.{Event}
+use Rattle.lpt_execution.specs.LptEvents.declared.event.Event.TheVariants.{Take, Deliver}
 use Rattle.lpt_journal.specs.Journal.{SentPacket, History}
 use Rattle.lpt_journal.specs.Link.{sent}
 
@@ -26,10 +25,6 @@ hand [] l = None
 hand (x ∷ h) l = hand_after x.event l (hand h l)
 
 -- ---- what a packet is to the node that receives it
-
--- what octets that go in this direction are
-abbrev pub arrival_in : Config → Direction → List ℕ → Arrival
-arrival_in c d b = arrival (receiver_side d) c.apid c.part_size b
 
 -- what a packet on the link is
 abbrev pub arrival_of : Config → SentPacket → Arrival

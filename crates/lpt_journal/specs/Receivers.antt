@@ -2,21 +2,21 @@
 use Rattle.std.specs.Prelude.{ℕ, ◌+◌, Bool, false, not, ◌&&◌, ◌||◌, ◌==◌, if◌then◌else◌, List, [], ◌∷◌, length}
 use Rattle.std.specs.List.{filter}
 use Rattle.std.specs.FinMap as map
-use Rattle.lpt_packet.specs.declared.direction.Direction.{Direction}
-use Rattle.lpt_packet.specs.Names.{Name, same_name}
-use Rattle.lpt_part.specs.Parts.{Piece}
+use Rattle.lpt_reception.specs.LptPacket.declared.direction.Direction.{Direction}
+use Rattle.lpt_reception.specs.LptPacket.Names.{Name, same_name}
+use Rattle.lpt_reception.specs.LptPart.Parts.{Piece}
 use Rattle.lpt_reception.specs.Received.{Kept as KeptPart, Parts, no_parts, with_part}
-use Rattle.lpt_events.specs.declared.lane.Lane.{Lane}
-use Rattle.lpt_events.specs.Lanes.{lane_direction, same_direction}
-use Rattle.lpt_events.specs.declared.config.Config.{Config}
-use Rattle.lpt_events.specs.declared.outcome.Outcome.TheVariants.{Kept, Again, Released, Broken}
-use Rattle.lpt_events.specs.declared.side.Side.{Side}
-use Rattle.lpt_events.specs.Arrivals.{Arrival, APart}
-use Rattle.lpt_events.specs.declared.event.Event.{Event}
-use Rattle.lpt_events.specs.declared.event.Event.TheVariants.{Deliver, Tick, Expire, Retire, Restart}
-use Rattle.lpt_events.specs.declared.reply.Answer.{Answer}
-use Rattle.lpt_events.specs.declared.reply.Answer.TheVariants.{Delivered, Expired}
-use Rattle.lpt_events.specs.Sides.{same_side, receiver_side}
+use Rattle.lpt_execution.specs.LptEvents.declared.lane.Lane.{Lane}
+use Rattle.lpt_execution.specs.LptEvents.Lanes.{lane_direction, same_direction}
+use Rattle.lpt_execution.specs.LptEvents.declared.config.Config.{Config}
+use Rattle.lpt_execution.specs.LptEvents.declared.outcome.Outcome.TheVariants.{Kept, Again, Released, Broken}
+use Rattle.lpt_execution.specs.LptEvents.declared.side.Side.{Side}
+use Rattle.lpt_execution.specs.LptEvents.Arrivals.{Arrival, APart}
+use Rattle.lpt_execution.specs.LptEvents.declared.event.Event.{Event}
+use Rattle.lpt_execution.specs.LptEvents.declared.event.Event.TheVariants.{Deliver, Tick, Expire, Retire, Restart}
+use Rattle.lpt_execution.specs.LptEvents.declared.reply.Answer.{Answer}
+use Rattle.lpt_execution.specs.LptEvents.declared.reply.Answer.TheVariants.{Delivered, Expired}
+use Rattle.lpt_execution.specs.LptEvents.Sides.{same_side, receiver_side}
 use Rattle.lpt_journal.specs.Journal.{History}
 use Rattle.lpt_journal.specs.Hands.{in_hand}
 use Rattle.lpt_journal.specs.Senders.{once}

@@ -1,15 +1,15 @@
 -- Why an event is refused.
 use Rattle.std.specs.Prelude.{ℕ, nat_lt, nat_le, ◌==◌, Bool, not, ◌&&◌, ◌||◌, if◌then◌else◌, List, [], ◌∷◌, length, Option, Some, None, is_some}
-use Rattle.lpt_part.specs.Splitting.{part_count}
-use Rattle.lpt_events.specs.Lanes.{lane_direction}
-use Rattle.lpt_events.specs.declared.config.Config.{Config}
-use Rattle.lpt_events.specs.Damages.{is_damage_long, looks_whole}
-use Rattle.lpt_events.specs.Requests.{is_part_request, is_too_long}
-use Rattle.lpt_events.specs.declared.event.Event.{Event}
-use Rattle.lpt_events.specs.declared.event.Event.TheVariants.{Open, Send, Plain, Finish, Lose, Damage, Take, Deliver, Tick, Expire, Claim, Commit, Apply, Retire, Restart}
-use Rattle.lpt_events.specs.declared.fault.StepFault.{StepFault}
-use Rattle.lpt_events.specs.declared.fault.StepFault.TheVariants.{InUse, Short, Long, TooMany, NotOpen, NoSuchPart, NotHeld, HandFull, HandEmpty, NothingDue, NoJob, NotReady, NotClear, LooksWhole, StillOpen, ClockEnd, PartRequest}
-use Rattle.lpt_events.specs.Sides.{direction_to}
+use Rattle.lpt_reception.specs.LptPart.Splitting.{part_count}
+use Rattle.lpt_execution.specs.LptEvents.Lanes.{lane_direction}
+use Rattle.lpt_execution.specs.LptEvents.declared.config.Config.{Config}
+use Rattle.lpt_execution.specs.LptEvents.Damages.{is_damage_long, looks_whole}
+use Rattle.lpt_execution.specs.LptEvents.Requests.{is_part_request, is_too_long}
+use Rattle.lpt_execution.specs.LptEvents.declared.event.Event.{Event}
+use Rattle.lpt_execution.specs.LptEvents.declared.event.Event.TheVariants.{Open, Send, Plain, Finish, Lose, Damage, Take, Deliver, Tick, Expire, Claim, Commit, Apply, Retire, Restart}
+use Rattle.lpt_execution.specs.LptEvents.declared.fault.StepFault.{StepFault}
+use Rattle.lpt_execution.specs.LptEvents.declared.fault.StepFault.TheVariants.{InUse, Short, Long, TooMany, NotOpen, NoSuchPart, NotHeld, HandFull, HandEmpty, NothingDue, NoJob, NotReady, NotClear, LooksWhole, StillOpen, ClockEnd, PartRequest}
+use Rattle.lpt_execution.specs.LptEvents.Sides.{direction_to}
 use Rattle.lpt_journal.specs.Clear.{is_clear}
 use Rattle.lpt_journal.specs.Journal.{History}
 use Rattle.lpt_journal.specs.Jobs.{jobs, claimed, applied, ticket, is_committed, front_job}

@@ -1,21 +1,21 @@
 -- What holds of claims, commits and executions in every legal journal, whatever node is started anew.
 use Rattle.std.specs.Prelude.{◌≡◌, ℕ, suc, Bool, true, false, ◌||◌, if◌then◌else◌, List, [], ◌∷◌, drop, slice_get, Some, None}
-use Rattle.lpt_packet.specs.declared.direction.Direction.{Direction}
-use Rattle.lpt_packet.specs.Names.{Name}
-use Rattle.lpt_memory.specs.Memories.{Contents}
-use Rattle.lpt_memory.specs.Readings.{Job}
-use Rattle.lpt_events.specs.Configs.{IsConfig}
-use Rattle.lpt_events.specs.Workers.{same_worker}
-use Rattle.lpt_events.specs.declared.config.Config.{Config}
-use Rattle.lpt_events.specs.declared.entry.Release.{Release}
-use Rattle.lpt_events.specs.declared.event.Event.{Event}
-use Rattle.lpt_events.specs.declared.event.Event.TheVariants.{Claim, Commit}
-use Rattle.lpt_events.specs.declared.lane.Lane.{Lane}
-use Rattle.lpt_events.specs.declared.reply.Answer.{Answer}
-use Rattle.lpt_events.specs.declared.reply.Answer.TheVariants.{Committed, Stale}
-use Rattle.lpt_events.specs.declared.side.Side.{Side}
-use Rattle.lpt_events.specs.declared.side.Side.TheVariants.{Craft}
-use Rattle.lpt_events.specs.declared.worker.Worker.{Worker}
+use Rattle.lpt_reception.specs.LptPacket.declared.direction.Direction.{Direction}
+use Rattle.lpt_reception.specs.LptPacket.Names.{Name}
+use Rattle.lpt_execution.specs.LptMemory.Memories.{Contents}
+use Rattle.lpt_execution.specs.LptMemory.Readings.{Job}
+use Rattle.lpt_execution.specs.LptEvents.Configs.{IsConfig}
+use Rattle.lpt_execution.specs.LptEvents.Workers.{same_worker}
+use Rattle.lpt_execution.specs.LptEvents.declared.config.Config.{Config}
+use Rattle.lpt_execution.specs.LptEvents.declared.entry.Release.{Release}
+use Rattle.lpt_execution.specs.LptEvents.declared.event.Event.{Event}
+use Rattle.lpt_execution.specs.LptEvents.declared.event.Event.TheVariants.{Claim, Commit}
+use Rattle.lpt_execution.specs.LptEvents.declared.lane.Lane.{Lane}
+use Rattle.lpt_execution.specs.LptEvents.declared.reply.Answer.{Answer}
+use Rattle.lpt_execution.specs.LptEvents.declared.reply.Answer.TheVariants.{Committed, Stale}
+use Rattle.lpt_execution.specs.LptEvents.declared.side.Side.{Side}
+use Rattle.lpt_execution.specs.LptEvents.declared.side.Side.TheVariants.{Craft}
+use Rattle.lpt_execution.specs.LptEvents.declared.worker.Worker.{Worker}
 use Rattle.lpt_journal.specs.Hands.{hand}
 use Rattle.lpt_journal.specs.Headline.{before}
 use Rattle.lpt_journal.specs.Jobs.{boot, jobs, claimed, applied, ticket, is_committed, executed_by, executed, memories}

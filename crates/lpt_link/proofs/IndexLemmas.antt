@@ -3,8 +3,8 @@ use Rattle.std.proofs.Common.{◌≡◌, ◌∙◌, refl, ap, sym, ℕ, ◌+◌,
 use Rattle.std.specs.List.{list_any, count_by}
 use Rattle.std.proofs.lemmas.Bool.Decides.{nat_tests}
 use Rattle.std.proofs.lemmas.List.Sums.{sum_by-cons, count_by-le-length}
-use Rattle.lpt_packet.specs.Names.{Name}
-use Rattle.lpt_packet.specs.declared.direction.Direction.{Direction}
+use Rattle.lpt_events.specs.LptPacket.Names.{Name}
+use Rattle.lpt_events.specs.LptPacket.declared.direction.Direction.{Direction}
 use Rattle.lpt_events.specs.Lanes.{lanes}
 use Rattle.lpt_link.specs.Links.{LinkData, is_of, hand_has, any_held, any_in_hand, holds}
 use Rattle.lpt_link.specs.Counts.{one_of, IsOneMore, count_of}

@@ -5,9 +5,9 @@ use Rattle.std.specs.Option.{option_map_or, option_and_then, option_eq}
 use Rattle.std.proofs.lemmas.Bool.{and_parts, and_from, or_cases, or_left, or_right}
 use Rattle.std.proofs.lemmas.List.Folds.{Any-from_list_any, list_any-from_Any}
 use Rattle.std.proofs.lemmas.Option.{slice_get_read, slice_get_within, get_or_from_slice_get}
-use Rattle.lpt_packet.proofs.NameLemmas.{same_name-refl, same_name-true}
-use Rattle.lpt_packet.specs.Names.{Name, same_name}
-use Rattle.lpt_packet.specs.declared.direction.Direction.{Direction}
+use Rattle.lpt_events.proofs.LptPacket.NameLemmas.{same_name-refl, same_name-true}
+use Rattle.lpt_events.specs.LptPacket.Names.{Name, same_name}
+use Rattle.lpt_events.specs.LptPacket.declared.direction.Direction.{Direction}
 use Rattle.lpt_events.specs.declared.lane.Lane.{Lane}
 use Rattle.lpt_events.specs.declared.lane.Lane.TheVariants.{S1, S2, G1, G2}
 use Rattle.lpt_link.specs.declared.packet.LinkPacket.{LinkPacket}

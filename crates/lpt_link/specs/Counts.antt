@@ -1,9 +1,9 @@
 -- A number for each transaction, in one list.
 use Rattle.std.specs.Prelude.{◌≡◌, ℕ, ◌+◌, ◌<◌, ◌&&◌, cond, List, Option, Some, get_or}
 use Rattle.std.specs.Option.{option_eq}
-use Rattle.lpt_packet.specs.Names.{Name, same_name}
-use Rattle.lpt_packet.specs.declared.direction.Direction.{Direction}
-use Rattle.lpt_packet.specs.declared.direction.Direction.TheVariants.{Up, Down}
+use Rattle.lpt_events.specs.LptPacket.Names.{Name, same_name}
+use Rattle.lpt_events.specs.LptPacket.declared.direction.Direction.{Direction}
+use Rattle.lpt_events.specs.LptPacket.declared.direction.Direction.TheVariants.{Up, Down}
 use Rattle.lpt_events.specs.Lanes.{same_direction}
 
 -- how many transactions there are

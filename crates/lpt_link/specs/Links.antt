@@ -2,8 +2,8 @@
 use Rattle.std.specs.Prelude.{◌≡◌, ℕ, zero, suc, ◌<◌, Bool, true, false, ◌&&◌, ◌||◌, ◌⊎◌, if◌then◌else◌, List, [], ◌∷◌, ◌++◌, length, Option, Some, None, is_some, IfSome, slice_get}
 use Rattle.std.specs.List.{list_any}
 use Rattle.std.specs.Option.{option_map, option_map_or, option_and_then, option_eq}
-use Rattle.lpt_packet.specs.declared.direction.Direction.{Direction}
-use Rattle.lpt_packet.specs.Names.{Name, same_name}
+use Rattle.lpt_events.specs.LptPacket.declared.direction.Direction.{Direction}
+use Rattle.lpt_events.specs.LptPacket.Names.{Name, same_name}
 use Rattle.lpt_link.specs.declared.fault.LinkFault.{LinkFault}
 use Rattle.lpt_link.specs.declared.fault.LinkFault.TheVariants.{NotHeld, HandFull, HandEmpty}
 use Rattle.lpt_link.specs.declared.hands.Hands.{Hands}

@@ -1,8 +1,8 @@
 -- What a link counts of each transaction.
 use Rattle.std.specs.Prelude.{◌≡◌, ℕ, ◌+◌, ◌<◌, ◌&&◌, List}
 use Rattle.std.specs.List.{count_by}
-use Rattle.lpt_packet.specs.Names.{Name}
-use Rattle.lpt_packet.specs.declared.direction.Direction.{Direction}
+use Rattle.lpt_events.specs.LptPacket.Names.{Name}
+use Rattle.lpt_events.specs.LptPacket.declared.direction.Direction.{Direction}
 use Rattle.lpt_events.specs.Lanes.{lanes}
 use Rattle.lpt_link.specs.Counts.{count_of}
 use Rattle.lpt_link.specs.Links.{LinkData, is_of, hand_has}

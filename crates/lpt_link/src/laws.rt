@@ -1,8 +1,8 @@
 //! What the definitions say of links, proved of all of them: functions with empty bodies.
 
 ghost use Rattle.std.specs.Prelude.{ℕ, ◌↔◌, IsTrue};
-ghost use Rattle.lpt_packet.specs.declared.direction.Direction.{Direction};
-ghost use Rattle.lpt_packet.specs.Names.{Name};
+ghost use Rattle.lpt_events.specs.LptPacket.declared.direction.Direction.{Direction};
+ghost use Rattle.lpt_events.specs.LptPacket.Names.{Name};
 ghost use Rattle.lpt_link.specs.Links.{LinkData, holds, IsPresent};
 
 /// The link holds a transaction exactly where some packet of it is held or in a lane's hand.

@@ -10,7 +10,7 @@ use crate::hands::Hands;
 use crate::packet::LinkPacket;
 use crate::tags::Tags;
 use crate::{Lane, LinkFault};
-use lpt_packet::{Direction, Name, Octets};
+use lpt_events::{Direction, Name, Octets};
 use std::alloc::{AllocError, Global};
 use std::marker::Model;
 use thiserror::Error;

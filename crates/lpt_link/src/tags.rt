@@ -3,7 +3,7 @@
 ghost use Rattle.std.specs.Prelude.{◌≡◌, ℕ, ◌+◌, ◌<◌, ◌≤◌, ◌^◌, IfOk, get_or, vec_len};
 ghost use Rattle.lpt_link.specs.Counts.{places, place, count_of, one_of, IsOneMore};
 
-use lpt_packet::{Direction, Name};
+use lpt_events::{Direction, Name};
 use std::alloc::{AllocError, Global};
 
 /// How many transactions there are: the identifiers of both directions.

@@ -1,9 +1,7 @@
 //! A job on its way, and memories that are copied.
 
 use crate::scenes::{memory, prepared, reading, request};
-use lpt_memory::{Memories, Prepared, Ticket, laws};
-use lpt_packet::Octets;
-use lpt_pus::TcHead;
+use lpt_memory::{Memories, Octets, Prepared, TcHead, Ticket, laws};
 use std::alloc::Global;
 use std::test::Fail;
 

@@ -1,7 +1,7 @@
 //! Worked values of a ledger.
 
 use lpt_ledger::{Ledger, LedgerFault, State};
-use lpt_packet::Name;
+use lpt_memory::Name;
 use std::alloc::Global;
 use std::process::Abort;
 use std::test::Fail;

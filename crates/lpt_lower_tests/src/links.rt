@@ -1,7 +1,7 @@
 //! Runs of a link whose answers are written out by hand.
 
 use lpt_link::{Lane, Link, LinkFault};
-use lpt_packet::{Direction, Name, Octets};
+use lpt_memory::{Direction, Name, Octets};
 use std::alloc::Global;
 use std::process::Abort;
 use std::test::Fail;

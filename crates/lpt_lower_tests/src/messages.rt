@@ -3,8 +3,9 @@
 use crate::vectors::{
     ABORT_EXPIRED, ACCEPTANCE_REPORT, DUMP_TWO_OCTETS, FIRST_PART, LAST_PART, packet_in,
 };
-use lpt_packet::{Packet, PacketKind};
-use lpt_pus::{AckFlags, PusFault, TcHead, TmHead, read_tc, read_tm, write_tc, write_tm};
+use lpt_memory::{
+    AckFlags, Packet, PacketKind, PusFault, TcHead, TmHead, read_tc, read_tm, write_tc, write_tm,
+};
 use std::alloc::Global;
 use std::test::Fail;
 

@@ -1,7 +1,7 @@
 //! Checksums of ECSS-E-ST-70-41C, whole packets, and what damage to them gives.
 
 use crate::vectors::{FIRST_PART, LAST_PART, PACKETS, packet_in};
-use lpt_packet::{
+use lpt_memory::{
     Octets, Packet, PacketKind, Seen, crc16, read_packet, write_packet, write_pieces,
 };
 use std::alloc::{AllocError, Global};

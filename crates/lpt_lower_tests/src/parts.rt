@@ -1,12 +1,11 @@
 //! Parts and abortion reports: worked values. The bodies are those of a first part, a last part and an abortion report.
 
 use crate::vectors::{ABORT_EXPIRED, FIRST_PART};
-use lpt_packet::Octets;
-use lpt_part::{
+use lpt_memory::{Octets, TcHead, TmHead, tc_pieces, tm_pieces};
+use lpt_table::{
     Kind, Part, PartFault, Reason, abort_octets, count, read_abort, read_part, slice, write_abort,
     write_part,
 };
-use lpt_pus::{TcHead, TmHead, tc_pieces, tm_pieces};
 use std::alloc::{AllocError, Global};
 use std::test::Fail;
 

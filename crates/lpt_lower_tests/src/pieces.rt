@@ -6,8 +6,7 @@
 ghost use Rattle.std.specs.Prelude.{◌<◌};
 
 use crate::scenes::{LOAD, applied, areas, memory, request};
-use lpt_memory::{Effect, Memories, write_load};
-use lpt_packet::crc16;
+use lpt_memory::{Effect, Memories, crc16, write_load};
 use std::alloc::{AllocError, Global};
 use std::test::Fail;
 

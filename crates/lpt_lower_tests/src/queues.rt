@@ -5,8 +5,7 @@ ghost use Rattle.lpt_jobs.specs.Jobs.{head_of, is_ready};
 
 use crate::scenes::{memory, reading, request};
 use lpt_jobs::{Front, JobQueue};
-use lpt_memory::Memories;
-use lpt_packet::Octets;
+use lpt_memory::{Memories, Octets};
 use std::alloc::Global;
 use std::process::Abort;
 use std::test::Fail;

@@ -2,10 +2,9 @@
 //! 8,193 parts of 8.
 
 ghost use Rattle.std.specs.Prelude.{◌≡◌, ◌≤◌, IfSome};
-ghost use Rattle.lpt_part.specs.Splitting.{IsPartSize};
+ghost use Rattle.lpt_table.specs.LptPart.Splitting.{IsPartSize};
 
-use lpt_part::{Kind, Part, Reason, count, slice};
-use lpt_reception::{Filling, Step, Whole};
+use lpt_table::{Filling, Kind, Part, Reason, Step, Whole, count, slice};
 use std::alloc::{AllocError, Global};
 use std::process::Abort;
 use std::test::Fail;

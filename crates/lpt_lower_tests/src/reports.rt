@@ -1,7 +1,7 @@
 //! Verification reports: worked values. The request is the telecommand of APID 100 and sequence count 0, whose packet
 //! begins 18 64 c0 00.
 
-use lpt_pus::{FailureCode, RequestId};
+use lpt_memory::{FailureCode, RequestId};
 use lpt_verify::{EncodedReport, read_report, reports};
 use std::alloc::Global;
 use std::test::Fail;

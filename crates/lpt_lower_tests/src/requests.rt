@@ -2,13 +2,11 @@
 
 use crate::scenes::{applied, asked_and_done, memory, request};
 use lpt_memory::Asks::{Fault, Load, Reply, Silent};
-use lpt_memory::ReplyKind::{Check, Dump};
-use lpt_memory::{Asks, Effect, Memories, ReplyKind};
-use lpt_packet::Octets;
-use lpt_pus::FailureCode::{
+use lpt_memory::FailureCode::{
     MalformedBody, OutOfRange, ReplyTooLong, UnknownMemory, UnknownRequest, WrongChecksum,
 };
-use lpt_pus::{TmHead, write_tm};
+use lpt_memory::ReplyKind::{Check, Dump};
+use lpt_memory::{Asks, Effect, Memories, Octets, ReplyKind, TmHead, write_tm};
 use std::alloc::Global;
 use std::test::Fail;
 

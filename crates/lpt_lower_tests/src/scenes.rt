@@ -3,9 +3,9 @@
 ghost use Rattle.std.specs.Prelude.{◌≡◌, IfOk};
 ghost use Rattle.lpt_memory.specs.Memories.{sizes_of};
 
-use lpt_memory::{Area, Asks, Effect, Memories, Prepared, Reading, Ticket, prepare};
-use lpt_packet::Octets;
-use lpt_pus::{TcHead, write_tc};
+use lpt_memory::{
+    Area, Asks, Effect, Memories, Octets, Prepared, Reading, TcHead, Ticket, prepare, write_tc,
+};
 use std::alloc::{AllocError, Global};
 use std::test::Fail;
 

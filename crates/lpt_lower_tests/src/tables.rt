@@ -2,10 +2,8 @@
 
 ghost use Rattle.std.specs.Prelude.{◌≡◌, None, IsSomeAnd};
 
-use lpt_packet::Name;
-use lpt_part::{Kind, Part, Reason};
-use lpt_reception::{Broken, Whole};
-use lpt_table::{Offer, Table};
+use lpt_memory::Name;
+use lpt_table::{Broken, Kind, Offer, Part, Reason, Table, Whole};
 use std::process::Abort;
 use std::test::Fail;
 

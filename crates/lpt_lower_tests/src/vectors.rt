@@ -1,6 +1,6 @@
 //! Whole packets from outside.
 
-use lpt_packet::{Packet, Seen, read_packet};
+use lpt_memory::{Packet, Seen, read_packet};
 
 /// A telecommand with the first part of a message: identifier 7, part 1, octets 00 to 07.
 pub(crate) const FIRST_PART: [u8; 25] = [

@@ -1,8 +1,7 @@
 //! Outside values: loads that are written, and those that can't be.
 
 use crate::scenes::{LOAD, areas};
-use lpt_memory::{Area, MemoryFault, load_fault, write_load};
-use lpt_packet::Octets;
+use lpt_memory::{Area, MemoryFault, Octets, load_fault, write_load};
 use std::alloc::{AllocError, Global};
 use std::test::Fail;
 

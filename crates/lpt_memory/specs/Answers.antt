@@ -1,8 +1,8 @@
 -- What a message is answered.
 use Rattle.std.specs.Prelude.{ℕ, ◌+◌, ◌*◌, ◌≤◌, List, [], ◌∷◌, ◌++◌, length, take, drop, sum_by, unwrap_or}
 use Rattle.std.specs.List.{flat_map}
-use Rattle.lpt_packet.specs.Numbers.{be}
-use Rattle.lpt_packet.specs.Checksums.{checksum}
+use Rattle.lpt_pus.specs.LptPacket.Numbers.{be}
+use Rattle.lpt_pus.specs.LptPacket.Checksums.{checksum}
 use Rattle.lpt_pus.specs.Codes.{number_of}
 use Rattle.lpt_memory.specs.declared.asks.Asks.{Asks}
 use Rattle.lpt_memory.specs.declared.asks.Asks.TheVariants as asks

@@ -11,3 +11,5 @@ pub mod ReplyKinds
 pub mod Requests
 pub mod Seen
 pub mod Spellings
+pub use Rattle.lpt_pus.specs.LptPacket as LptPacket
+pub use Rattle.lpt_pus.specs as LptPus

@@ -1,6 +1,6 @@
 -- What a message means for memories of these identifiers and sizes.
 use Rattle.std.specs.Prelude.{ℕ, ◌+◌, List, [], ◌∷◌, length, map, sum_by, Option, Some, None, nat_lt, ◌==◌, if◌then◌else◌}
-use Rattle.lpt_packet.specs.Checksums.{checksum}
+use Rattle.lpt_pus.specs.LptPacket.Checksums.{checksum}
 use Rattle.lpt_pus.specs.declared.failure_code.FailureCode.{FailureCode}
 use Rattle.lpt_pus.specs.declared.failure_code.FailureCode.TheVariants.{UnknownRequest, MalformedBody, UnknownMemory, OutOfRange, WrongChecksum, ReplyTooLong}
 use Rattle.lpt_pus.specs.Commands.{Command, command_in}

@@ -1,8 +1,8 @@
 -- The one spelling of each body, and of a load's packet.
 use Rattle.std.specs.Prelude.{ℕ, ◌+◌, ◌<◌, ◌^◌, List, [], ◌∷◌, ◌++◌, length, map, sum_by, Bool, false, ◌||◌, ◌==◌, nat_lt, if◌then◌else◌, Option, Some, None}
 use Rattle.std.specs.List.{flat_map, AllByRecursion}
-use Rattle.lpt_packet.specs.Numbers.{be}
-use Rattle.lpt_packet.specs.Checksums.{checksum}
+use Rattle.lpt_pus.specs.LptPacket.Numbers.{be}
+use Rattle.lpt_pus.specs.LptPacket.Checksums.{checksum}
 use Rattle.lpt_memory.specs.declared.fault.MemoryFault.{MemoryFault}
 use Rattle.lpt_memory.specs.declared.fault.MemoryFault.TheVariants.{TooLong, BadArea}
 use Rattle.lpt_memory.specs.declared.request.Area.{Area}

@@ -10,7 +10,7 @@ ghost use Rattle.lpt_memory.specs.Seen.{areas_in, AreWithin};
 
 use crate::reply;
 use crate::request::{AreaRange, StoredArea};
-use lpt_packet::Octets;
+use lpt_pus::Octets;
 use std::alloc::{AllocError, Global};
 
 /// The most memories.

@@ -1,8 +1,7 @@
 //! What applying a request came to.
 
 use crate::ReplyKind;
-use lpt_packet::Octets;
-use lpt_pus::FailureCode;
+use lpt_pus::{FailureCode, Octets};
 
 /// What applying a message to the memories came to.
 #[derive(Drop)]

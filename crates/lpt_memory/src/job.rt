@@ -4,8 +4,7 @@ ghost use Rattle.std.specs.Prelude.{◌≡◌, MatchResult};
 
 use crate::request::Content;
 use crate::{Asks, Memories, Shape, meaning, reply};
-use lpt_packet::Octets;
-use lpt_pus::TcHead;
+use lpt_pus::{Octets, TcHead};
 use std::alloc::Global;
 use std::marker::Model;
 

@@ -1,7 +1,7 @@
 //! What the definitions say of requests, proved of all of them: functions with empty bodies.
 
 ghost use Rattle.std.specs.Prelude.{◌≡◌, ◌≢◌, ℕ, ◌-◌, List, ◌∷◌, ◌++◌, length, slice_index, Some, None, map, nat_lt, if◌then◌else◌};
-ghost use Rattle.lpt_packet.specs.Numbers.{IsOctets};
+ghost use Rattle.lpt_pus.specs.LptPacket.Numbers.{IsOctets};
 ghost use Rattle.lpt_pus.specs.declared.failure_code.FailureCode.TheVariants.{UnknownRequest, MalformedBody, UnknownMemory, ReplyTooLong};
 ghost use Rattle.lpt_pus.specs.Commands.{Command, command_in};
 ghost use Rattle.lpt_memory.specs.declared.request.AreaRange.{AreaRange};

@@ -31,6 +31,13 @@ pub use asks::{Asks, ReplyKind};
 pub use effect::Effect;
 pub use fault::MemoryFault;
 pub use job::{Prepared, Reading, Ticket, prepare};
+pub use lpt_pus::laws::{bodies, lengths};
+pub use lpt_pus::{
+    AckFlags, Direction, FailureCode, LONGEST_PACKET, Name, Octets, Packet, PacketKind, PusFault,
+    RequestId, Seen, TC_HEADER, TM_HEADER, TcHead, TmHead, crc16, read_packet, read_tc, read_tm,
+    seen_is_read, tc_octets, tc_pieces, tm_octets, tm_pieces, write_packet, write_pieces, write_tc,
+    write_tm,
+};
 pub use memories::Memories;
 pub use request::Area;
 pub use shape::Shape;

@@ -9,7 +9,7 @@ ghost use Rattle.lpt_memory.specs.Seen.{seen, IsCounted};
 
 use crate::request::{AreaRange, Content};
 use crate::{Asks, ReplyKind};
-use lpt_packet::{Octets, crc16};
+use lpt_pus::{Octets, crc16};
 use std::alloc::{AllocError, Global};
 
 /// The octets of an answer's body, besides its areas.

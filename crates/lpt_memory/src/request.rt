@@ -3,8 +3,7 @@
 ghost use Rattle.std.specs.Prelude.{◌≡◌, ◌+◌, ◌≤◌, length};
 ghost use Rattle.lpt_memory.specs.Seen.{octets_at};
 
-use lpt_packet::Octets;
-use lpt_pus::FailureCode;
+use lpt_pus::{FailureCode, Octets};
 
 /// Octets, and the place in a memory that they go to.
 #[derive(Debug, Drop, PartialEq, Eq)]

@@ -2,16 +2,15 @@
 
 ghost use Rattle.std.specs.Prelude.{◌≡◌, ◌+◌, ◌<◌, ◌^◌, ◌++◌, length, nat_lt, None, Err, IfOk, IfErr, IfSome, IfNone, OnOk};
 ghost use Rattle.std.specs.List.{AllByRecursion};
-ghost use Rattle.lpt_packet.specs.Packets.{spelling};
+ghost use Rattle.lpt_pus.specs.LptPacket.Packets.{spelling};
 ghost use Rattle.lpt_pus.specs.Commands.{command, packet_of};
 ghost use Rattle.lpt_memory.specs.declared.fault.MemoryFault.TheVariants.{Memory};
 ghost use Rattle.lpt_memory.specs.Ranges.{MeansLoad};
 ghost use Rattle.lpt_memory.specs.Spellings.{load_area_text, stored, load_text, load_length, any_empty, write_fault};
 
 use crate::{Area, MemoryFault};
-use lpt_packet::{LONGEST_PACKET, Octets, crc16};
 use lpt_pus::laws::octets_read_again;
-use lpt_pus::{TcHead, tc_octets};
+use lpt_pus::{LONGEST_PACKET, Octets, TcHead, crc16, tc_octets};
 use std::alloc::{AllocError, Global};
 
 /// The octets of a load's packet, besides its areas.

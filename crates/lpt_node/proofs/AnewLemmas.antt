@@ -1,8 +1,8 @@
 -- What retirement and a new start make of the ledgers.
 use Rattle.std.proofs.Common.{◌≡◌, ◌∙◌, ap, sym, refl, Bool, true, false, cond, Option, Some, None, is_some}
 use Rattle.std.specs.FinMap as map
-use Rattle.lpt_packet.proofs.NameLemmas.{name_cmp_total, name_cmp-IsAntisymmetric, same_name-true}
-use Rattle.lpt_packet.specs.Names.{Name, same_name, name_cmp}
+use Rattle.lpt_execution.proofs.LptPacket.NameLemmas.{name_cmp_total, name_cmp-IsAntisymmetric, same_name-true}
+use Rattle.lpt_execution.specs.LptPacket.Names.{Name, same_name, name_cmp}
 use Rattle.lpt_ledger.specs.declared.state.State.TheVariants.{Free}
 use Rattle.lpt_ledger.specs.Marks.{Mark, Marks, Opened, Shut, all_closed, shut_mark}
 use Rattle.lpt_ledger.specs.States.{state_of, state_at}

@@ -4,21 +4,21 @@ use Rattle.std.specs.Option.{option_map_or}
 use Rattle.std.specs.Result.{result_ok}
 use Rattle.std.proofs.lemmas.Bool.Decides.{nat_tests}
 use Rattle.std.proofs.lemmas.List.{length-take}
-use Rattle.lpt_packet.specs.declared.fault.PacketFault.{PacketFault}
-use Rattle.lpt_packet.specs.declared.direction.Direction.TheVariants.{Up, Down}
-use Rattle.lpt_packet.specs.declared.packet.Seen.{Seen}
-use Rattle.lpt_packet.specs.Numbers.{word_at, same_octets}
-use Rattle.lpt_packet.specs.Packets.{Fields, Sight, IdlePacket, APacket, fields_at, is_idle, is_packet, seen, sight, spelling, verdict}
-use Rattle.lpt_pus.specs.declared.fault.PusFault.{PusFault}
-use Rattle.lpt_pus.specs.Commands.{Command, IsCommand, tc_field, tc_verdict}
-use Rattle.lpt_pus.specs.Telemetry.{Telemetry, IsTelemetry, tm_field, tm_verdict}
-use Rattle.lpt_part.specs.declared.kind.Kind.{Kind}
-use Rattle.lpt_part.specs.Splitting.{IsPartSize}
+use Rattle.lpt_execution.specs.LptPacket.declared.fault.PacketFault.{PacketFault}
+use Rattle.lpt_execution.specs.LptPacket.declared.direction.Direction.TheVariants.{Up, Down}
+use Rattle.lpt_execution.specs.LptPacket.declared.packet.Seen.{Seen}
+use Rattle.lpt_execution.specs.LptPacket.Numbers.{word_at, same_octets}
+use Rattle.lpt_execution.specs.LptPacket.Packets.{Fields, Sight, IdlePacket, APacket, fields_at, is_idle, is_packet, seen, sight, spelling, verdict}
+use Rattle.lpt_execution.specs.LptPus.declared.fault.PusFault.{PusFault}
+use Rattle.lpt_execution.specs.LptPus.Commands.{Command, IsCommand, tc_field, tc_verdict}
+use Rattle.lpt_execution.specs.LptPus.Telemetry.{Telemetry, IsTelemetry, tm_field, tm_verdict}
+use Rattle.lpt_execution.specs.LptPart.declared.kind.Kind.{Kind}
+use Rattle.lpt_execution.specs.LptPart.Splitting.{IsPartSize}
 use Rattle.lpt_node.specs.declared.found.Found.{Found}
 use Rattle.lpt_node.specs.declared.found.Found.TheVariants as found
-use Rattle.lpt_events.specs.declared.side.Side.{Side}
-use Rattle.lpt_events.specs.declared.side.Side.TheVariants.{Ground, Craft}
-use Rattle.lpt_events.specs.Arrivals.{NotRead, Foreign, ARequest, AReport, part_arrival, abort_arrival, carried_kind, command_arrival, report_arrival, telemetry_arrival, packet_arrival, sight_arrival, arrival}
+use Rattle.lpt_execution.specs.LptEvents.declared.side.Side.{Side}
+use Rattle.lpt_execution.specs.LptEvents.declared.side.Side.TheVariants.{Ground, Craft}
+use Rattle.lpt_execution.specs.LptEvents.Arrivals.{NotRead, Foreign, ARequest, AReport, part_arrival, abort_arrival, carried_kind, command_arrival, report_arrival, telemetry_arrival, packet_arrival, sight_arrival, arrival}
 use Rattle.lpt_node.specs.Found.{body_from, IsFound, IsFoundIn}
 
 -- ---- what is seen

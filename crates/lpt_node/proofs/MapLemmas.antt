@@ -1,8 +1,8 @@
 -- What is under a name in a finite map after a change, by comparison of names.
 use Rattle.std.proofs.Common.{◌≡◌, ◌∙◌, ap, cond, Some, None}
-use Rattle.lpt_packet.proofs.NameLemmas.{name_cmp_total, name_tied}
+use Rattle.lpt_execution.proofs.LptPacket.NameLemmas.{name_cmp_total, name_tied}
 use Rattle.std.specs.FinMap as map
-use Rattle.lpt_packet.specs.Names.{Name, same_name, name_cmp}
+use Rattle.lpt_execution.specs.LptPacket.Names.{Name, same_name, name_cmp}
 
 -- the value that was put under a name, and each other name's own
 pub get_insert : {A : Type 0} (m : map.FinMap name_cmp A) (id : Name) (x : A) (q : Name)

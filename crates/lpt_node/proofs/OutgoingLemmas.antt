@@ -5,8 +5,8 @@ use Rattle.std.specs.Cmp.{eq_by_cmp_equiv}
 use Rattle.std.specs.FinMap as map
 use Rattle.std.specs.Map.{lookup}
 use Rattle.std.specs.Ordering.{eq_by_cmp}
-use Rattle.lpt_packet.proofs.NameLemmas.{name_cmp-IsAntisymmetric, name_cmp_total}
-use Rattle.lpt_packet.specs.Names.{Name, name_cmp}
+use Rattle.lpt_execution.proofs.LptPacket.NameLemmas.{name_cmp-IsAntisymmetric, name_cmp_total}
+use Rattle.lpt_execution.specs.LptPacket.Names.{Name, name_cmp}
 use Rattle.lpt_node.specs.Nodes.{MessageFits}
 use Rattle.lpt_node.specs.OutgoingInside.{messages_of, IsOutgoing}
 

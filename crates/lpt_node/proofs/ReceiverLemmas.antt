@@ -2,15 +2,15 @@
 use Rattle.std.proofs.Common.{if◌then◌else◌, ◌≡◌, ◌∙◌, ap, sym, refl, ℕ, Bool, true, false, cond, Option, None, is_some, Result, Ok, Err}
 use Rattle.std.specs.FinMap as map
 use Rattle.std.specs.Result.{IfOk, OnOk, OnErr}
-use Rattle.lpt_packet.specs.Names.{Name}
-use Rattle.lpt_part.specs.declared.reason.Reason.{Reason}
-use Rattle.lpt_part.specs.Parts.{Piece}
-use Rattle.lpt_pus.specs.Telemetry.{Telemetry}
+use Rattle.lpt_execution.specs.LptPacket.Names.{Name}
+use Rattle.lpt_execution.specs.LptPart.declared.reason.Reason.{Reason}
+use Rattle.lpt_execution.specs.LptPart.Parts.{Piece}
+use Rattle.lpt_execution.specs.LptPus.Telemetry.{Telemetry}
 use Rattle.lpt_ledger.specs.declared.state.State.{State}
 use Rattle.lpt_ledger.specs.declared.state.State.TheVariants.{Free, Open, Closed}
 use Rattle.lpt_ledger.specs.Marks.{Marks, Shut}
 use Rattle.lpt_ledger.specs.States.{state_at, is_free}
-use Rattle.lpt_reception.specs.Received.{Received, Ended, BrokenOff, all_of, break_reason, is_whole, spelled}
+use Rattle.lpt_table.specs.LptReception.Received.{Received, Ended, BrokenOff, all_of, break_reason, is_whole, spelled}
 use Rattle.lpt_table.specs.Offering as offering
 use Rattle.lpt_table.specs.Offering.{OfferKind, TakesOut, offered, parts_at, put_back, received_at, taken_out, with_entry}
 use Rattle.lpt_table.specs.declared.offer.Offer.TheVariants.{Memory}

@@ -1,15 +1,15 @@
 -- A message is kept exactly where its sender is open.
 use Rattle.std.proofs.Common.{◌≡◌, ◌≢◌, ◌∙◌, ap, sym, subst, refl, Bool, true, false, cond, Option, Some, None, is_some, List, ℕ}
 use Rattle.std.specs.FinMap as map
-use Rattle.lpt_packet.specs.Names.{Name, same_name, name_cmp}
-use Rattle.lpt_packet.proofs.NameLemmas.{same_name-true}
+use Rattle.lpt_execution.specs.LptPacket.Names.{Name, same_name, name_cmp}
+use Rattle.lpt_execution.proofs.LptPacket.NameLemmas.{same_name-true}
 use Rattle.lpt_ledger.specs.declared.state.State.{State}
 use Rattle.lpt_ledger.specs.declared.state.State.TheVariants.{Free, Open, Closed}
 use Rattle.lpt_ledger.specs.Marks.{Marks, Mark, Opened, Shut}
 use Rattle.lpt_ledger.specs.States.{state_of, state_at}
 use Rattle.lpt_node.specs.Nodes.{Messages, is_open}
-use Rattle.lpt_events.specs.declared.config.Config.{Config}
-use Rattle.lpt_events.specs.Configs.{IsConfig}
+use Rattle.lpt_execution.specs.LptEvents.declared.config.Config.{Config}
+use Rattle.lpt_execution.specs.LptEvents.Configs.{IsConfig}
 use Rattle.lpt_node.specs.NodeInside.{OpenMessages, AreKept, IsConfigured, IsSound}
 use Rattle.lpt_node.specs.Receivers.{ReceiverState}
 use Rattle.lpt_node.proofs.MapLemmas.{get_insert, get_remove}

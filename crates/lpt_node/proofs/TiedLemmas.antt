@@ -2,13 +2,13 @@
 use Rattle.std.proofs.Common.{◌≡◌, ◌∙◌, ap, sym, subst, refl, ℕ, Bool, true, false, cond, Option, Some, None, Result, Ok, Err}
 use Rattle.std.specs.FinMap as map
 use Rattle.std.specs.Result.{OnOk, OnErr}
-use Rattle.lpt_packet.specs.Names.{Name, same_name, name_cmp}
-use Rattle.lpt_packet.proofs.NameLemmas.{same_name-true}
+use Rattle.lpt_execution.specs.LptPacket.Names.{Name, same_name, name_cmp}
+use Rattle.lpt_execution.proofs.LptPacket.NameLemmas.{same_name-true}
 use Rattle.lpt_ledger.specs.declared.state.State.{State}
 use Rattle.lpt_ledger.specs.declared.state.State.TheVariants.{Free, Open, Closed}
 use Rattle.lpt_ledger.specs.Marks.{Mark, Marks, Shut}
 use Rattle.lpt_ledger.specs.States.{state_of, state_at}
-use Rattle.lpt_reception.specs.Received.{Received}
+use Rattle.lpt_table.specs.LptReception.Received.{Received}
 use Rattle.lpt_table.specs.Offering.{TakesOut, parts_at, put_back, received_at}
 use Rattle.lpt_table.specs.Tables.{Entries, TableEntry, TableState, no_receptions}
 use Rattle.lpt_node.proofs.MapLemmas.{get_insert, get_remove}

@@ -1,13 +1,13 @@
 -- What an end does when a transaction is retired, and when it is started anew.
 use Rattle.std.specs.Prelude.{◌+◌, Bool, not, if◌then◌else◌, is_some}
 use Rattle.std.specs.FinMap as map
-use Rattle.lpt_packet.specs.declared.direction.Direction.{Direction}
-use Rattle.lpt_packet.specs.Names.{Name}
+use Rattle.lpt_execution.specs.LptPacket.declared.direction.Direction.{Direction}
+use Rattle.lpt_execution.specs.LptPacket.Names.{Name}
 use Rattle.lpt_jobs.specs.Jobs.{no_jobs}
 use Rattle.lpt_ledger.specs.Marks.{all_closed}
 use Rattle.lpt_ledger.specs.States.{state_at}
-use Rattle.lpt_events.specs.Lanes.{same_direction}
-use Rattle.lpt_events.specs.declared.side.Side.{Side}
+use Rattle.lpt_execution.specs.LptEvents.Lanes.{same_direction}
+use Rattle.lpt_execution.specs.LptEvents.declared.side.Side.{Side}
 use Rattle.lpt_node.specs.Counting.{no_types}
 use Rattle.lpt_node.specs.Nodes.{NodeData, direction_from, is_open}
 

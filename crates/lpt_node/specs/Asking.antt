@@ -1,6 +1,6 @@
 -- Why a call would be refused now.
 use Rattle.std.specs.Prelude.{Option}
-use Rattle.lpt_events.specs.declared.config.Config.{Config}
+use Rattle.lpt_execution.specs.LptEvents.declared.config.Config.{Config}
 use Rattle.lpt_node.specs.declared.ask.Ask.{Ask}
 use Rattle.lpt_node.specs.declared.ask.Ask.TheVariants.{Open, Send, Plain, Finish, Tick, Expire, Claim, Apply}
 use Rattle.lpt_node.specs.declared.fault.NodeFault.{NodeFault}

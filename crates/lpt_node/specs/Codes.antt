@@ -3,9 +3,9 @@ use Rattle.std.specs.Prelude.{◌≡◌, ℕ, Bool, true, false, List, refl}
 use Rattle.std.specs.Coded.{Coded, code_by, coded×, coded_ℕ, coded_bool, coded_list}
 use Rattle.lpt_ledger.specs.Marks.{Marks, coded_marks}
 use Rattle.lpt_table.specs.Tables.{Entries, coded_entries}
-use Rattle.lpt_events.specs.declared.side.Side.{Side}
-use Rattle.lpt_events.specs.declared.side.Side.TheVariants.{Ground, Craft}
-use Rattle.lpt_events.specs.declared.config.Config.{Config}
+use Rattle.lpt_execution.specs.LptEvents.declared.side.Side.{Side}
+use Rattle.lpt_execution.specs.LptEvents.declared.side.Side.TheVariants.{Ground, Craft}
+use Rattle.lpt_execution.specs.LptEvents.declared.config.Config.{Config}
 use Rattle.lpt_jobs.specs.Codes.{coded_jobs}
 use Rattle.lpt_jobs.specs.Jobs.{Jobs}
 use Rattle.lpt_node.specs.Nodes.{Messages, Sending, Receiving, NodeData, NodeView, is_craft}

@@ -1,7 +1,7 @@
 -- Sequence counts and message type counters.
 use Rattle.std.specs.Prelude.{ℕ, ◌+◌, ◌%◌, List, [], ◌∷◌, slice_index, slice_set}
-use Rattle.lpt_events.specs.declared.telemetry.TelemetryKind.{TelemetryKind}
-use Rattle.lpt_events.specs.TelemetryKinds.{place_of}
+use Rattle.lpt_execution.specs.LptEvents.declared.telemetry.TelemetryKind.{TelemetryKind}
+use Rattle.lpt_execution.specs.LptEvents.TelemetryKinds.{place_of}
 
 -- a packet sequence count has 14 bits, and 0 follows the greatest
 abbrev pub next_count : ℕ → ℕ

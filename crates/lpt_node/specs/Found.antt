@@ -1,14 +1,14 @@
 -- What a parsed packet keeps of what it is: where the body of a part or of an abortion report stands.
 use Rattle.std.specs.Prelude.{◌≡◌, ℕ, ◌+◌, ◌≤◌, List, length, drop}
-use Rattle.lpt_packet.specs.Packets.{Fields, fields_at}
-use Rattle.lpt_part.specs.Splitting.{IsPartSize}
-use Rattle.lpt_part.specs.Parts.{piece}
-use Rattle.lpt_events.specs.declared.side.Side.{Side}
+use Rattle.lpt_execution.specs.LptPacket.Packets.{Fields, fields_at}
+use Rattle.lpt_execution.specs.LptPart.Splitting.{IsPartSize}
+use Rattle.lpt_execution.specs.LptPart.Parts.{piece}
+use Rattle.lpt_execution.specs.LptEvents.declared.side.Side.{Side}
 use Rattle.lpt_node.specs.declared.found.Found.{Found}
 use Rattle.lpt_node.specs.declared.found.Found.TheVariants as found
 use Rattle.lpt_node.specs.declared.found.Sight.{Sight}
 use Rattle.lpt_node.specs.declared.found.Sight.TheVariants as sight
-use Rattle.lpt_events.specs.Arrivals.{Arrival, NotRead, AnIdle, Foreign, ARequest, AReport, NoPart, APart, AnAbort, part_arrival, abort_arrival, packet_arrival, arrival}
+use Rattle.lpt_execution.specs.LptEvents.Arrivals.{Arrival, NotRead, AnIdle, Foreign, ARequest, AReport, NoPart, APart, AnAbort, part_arrival, abort_arrival, packet_arrival, arrival}
 
 -- the body that stands in a packet's data field from a place on
 abbrev pub body_from : List ℕ → ℕ → List ℕ

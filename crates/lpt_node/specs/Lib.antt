@@ -16,3 +16,14 @@ pub mod Receiving
 pub mod Requests
 pub mod Sending
 pub mod Times
+pub use Rattle.lpt_execution.specs.LptPacket as LptPacket
+pub use Rattle.lpt_execution.specs.LptPus as LptPus
+pub use Rattle.lpt_execution.specs.LptMemory as LptMemory
+pub use Rattle.lpt_execution.specs.LptVerify as LptVerify
+pub use Rattle.lpt_execution.specs.LptPart as LptPart
+pub use Rattle.lpt_execution.specs.LptEvents as LptEvents
+pub use Rattle.lpt_execution.specs as LptExecution
+pub use Rattle.lpt_jobs.specs as LptJobs
+pub use Rattle.lpt_table.specs.LptReception as LptReception
+pub use Rattle.lpt_table.specs as LptTable
+pub use Rattle.lpt_ledger.specs as LptLedger

@@ -2,11 +2,11 @@
 use Rattle.std.specs.Prelude.{◌≡◌, ℕ, is_some, refl}
 use Rattle.std.specs.Coded.{Coded, code_by, coded×, coded_ℕ, coded_list}
 use Rattle.std.specs.FinMap as map
-use Rattle.lpt_packet.specs.Names.{Name}
+use Rattle.lpt_execution.specs.LptPacket.Names.{Name}
 use Rattle.lpt_ledger.specs.Marks.{Marks}
 use Rattle.lpt_ledger.specs.States.{state_at}
-use Rattle.lpt_events.specs.declared.config.Config.{Config}
-use Rattle.lpt_events.specs.Configs.{IsConfig}
+use Rattle.lpt_execution.specs.LptEvents.declared.config.Config.{Config}
+use Rattle.lpt_execution.specs.LptEvents.Configs.{IsConfig}
 use Rattle.lpt_node.specs.Nodes.{Messages, is_open}
 use Rattle.lpt_node.specs.Receivers.{ReceiverState}
 

@@ -1,7 +1,7 @@
 -- What a delivered packet was read from.
 use Rattle.std.specs.Prelude.{ℕ, List}
-use Rattle.lpt_events.specs.declared.side.Side.{Side}
-use Rattle.lpt_events.specs.Arrivals.{Arrival, arrival}
+use Rattle.lpt_execution.specs.LptEvents.declared.side.Side.{Side}
+use Rattle.lpt_execution.specs.LptEvents.Arrivals.{Arrival, arrival}
 
 -- the octets, and the side, the APID and the part size that they were read for
 pub record Origin : Type 0 where

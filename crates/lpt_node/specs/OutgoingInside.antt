@@ -1,7 +1,7 @@
 -- The map in which the open messages are kept.
 use Rattle.std.specs.Prelude.{◌≡◌, ℕ, List, length, Some}
 use Rattle.std.specs.FinMap as map
-use Rattle.lpt_packet.specs.Names.{Name}
+use Rattle.lpt_execution.specs.LptPacket.Names.{Name}
 use Rattle.lpt_node.specs.Nodes.{Messages, MessageFits}
 
 -- the messages of a map's entries

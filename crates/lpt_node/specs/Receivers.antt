@@ -2,17 +2,17 @@
 use Rattle.std.specs.Prelude.{Bool, true, false, is_some, ◌≡◌, ℕ, ◌≤◌, if◌then◌else◌, List, length, Option, Some, None, refl}
 use Rattle.std.specs.Coded.{Coded, code_by, coded×, coded_ℕ}
 use Rattle.std.specs.FinMap as map
-use Rattle.lpt_packet.specs.Names.{Name}
-use Rattle.lpt_packet.specs.Packets.{spelling}
-use Rattle.lpt_pus.specs.Telemetry.{Telemetry, tm_packet_of}
-use Rattle.lpt_part.specs.declared.reason.Reason.{Reason}
-use Rattle.lpt_part.specs.Parts.{Piece}
-use Rattle.lpt_part.specs.Aborts.{abort_body}
+use Rattle.lpt_execution.specs.LptPacket.Names.{Name}
+use Rattle.lpt_execution.specs.LptPacket.Packets.{spelling}
+use Rattle.lpt_execution.specs.LptPus.Telemetry.{Telemetry, tm_packet_of}
+use Rattle.lpt_execution.specs.LptPart.declared.reason.Reason.{Reason}
+use Rattle.lpt_execution.specs.LptPart.Parts.{Piece}
+use Rattle.lpt_execution.specs.LptPart.Aborts.{abort_body}
 use Rattle.lpt_ledger.specs.declared.state.State.{State}
 use Rattle.lpt_ledger.specs.declared.state.State.TheVariants.{Free, Open, Closed}
 use Rattle.lpt_ledger.specs.Marks.{Marks, Shut, coded_marks}
 use Rattle.lpt_ledger.specs.States.{state_at, is_free}
-use Rattle.lpt_reception.specs.Received.{Kept, Parts, with_part, spelled}
+use Rattle.lpt_table.specs.LptReception.Received.{Kept, Parts, with_part, spelled}
 use Rattle.lpt_table.specs.Tables.{Entries, TableEntry, TableState, coded_entries}
 use Rattle.lpt_table.specs.Offering.{OfferKind, parts_at, offered}
 use Rattle.lpt_table.specs.Offering as offering

@@ -1,21 +1,21 @@
 -- What an end does with a part that is delivered to it.
 use Rattle.std.specs.Prelude.{ℕ, List, [], length, Option, Some, None}
-use Rattle.lpt_packet.specs.Names.{Name}
-use Rattle.lpt_pus.specs.Telemetry.{Telemetry}
-use Rattle.lpt_part.specs.Parts.{Piece}
-use Rattle.lpt_events.specs.declared.side.Side.{Side}
-use Rattle.lpt_events.specs.declared.side.Side.TheVariants.{Ground, Craft}
-use Rattle.lpt_events.specs.declared.config.Config.{Config}
-use Rattle.lpt_events.specs.declared.outcome.Outcome.{Outcome}
-use Rattle.lpt_events.specs.declared.outcome.Outcome.TheVariants as outcome
-use Rattle.lpt_events.specs.declared.outcome.Why.{Why}
-use Rattle.lpt_events.specs.declared.outcome.Why.TheVariants as why
+use Rattle.lpt_execution.specs.LptPacket.Names.{Name}
+use Rattle.lpt_execution.specs.LptPus.Telemetry.{Telemetry}
+use Rattle.lpt_execution.specs.LptPart.Parts.{Piece}
+use Rattle.lpt_execution.specs.LptEvents.declared.side.Side.{Side}
+use Rattle.lpt_execution.specs.LptEvents.declared.side.Side.TheVariants.{Ground, Craft}
+use Rattle.lpt_execution.specs.LptEvents.declared.config.Config.{Config}
+use Rattle.lpt_execution.specs.LptEvents.declared.outcome.Outcome.{Outcome}
+use Rattle.lpt_execution.specs.LptEvents.declared.outcome.Outcome.TheVariants as outcome
+use Rattle.lpt_execution.specs.LptEvents.declared.outcome.Why.{Why}
+use Rattle.lpt_execution.specs.LptEvents.declared.outcome.Why.TheVariants as why
 use Rattle.lpt_node.specs.declared.accepted.Accepted.{Accepted}
 use Rattle.lpt_node.specs.declared.taken.Taken.{Taken}
 use Rattle.lpt_node.specs.declared.taken.Taken.TheVariants as taking
-use Rattle.lpt_events.specs.declared.telemetry.TelemetryKind.TheVariants.{Abort}
+use Rattle.lpt_execution.specs.LptEvents.declared.telemetry.TelemetryKind.TheVariants.{Abort}
 use Rattle.lpt_node.specs.Counting.{counter_of}
-use Rattle.lpt_events.specs.MadePackets.{telemetry_made}
+use Rattle.lpt_execution.specs.LptEvents.MadePackets.{telemetry_made}
 use Rattle.lpt_jobs.specs.Jobs.{Jobs, after_push}
 use Rattle.lpt_node.specs.Nodes.{Receiving, NodeData}
 use Rattle.lpt_node.specs.Receivers.{ReceiverState, received}

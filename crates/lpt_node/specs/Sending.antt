@@ -1,24 +1,24 @@
 -- What an end does with the messages that it sends.
 use Rattle.std.specs.Prelude.{◌≡◌, ℕ, ◌==◌, ◌||◌, nat_le, nat_lt, if◌then◌else◌, List, [], length, Option, Some, None}
 use Rattle.std.specs.FinMap as map
-use Rattle.lpt_packet.specs.Names.{Name}
-use Rattle.lpt_part.specs.declared.kind.Kind.{Kind}
-use Rattle.lpt_part.specs.declared.kind.Kind.TheVariants.{First, Middle, Last}
-use Rattle.lpt_part.specs.Parts.{Piece}
-use Rattle.lpt_part.specs.Splitting.{part_count}
+use Rattle.lpt_execution.specs.LptPacket.Names.{Name}
+use Rattle.lpt_execution.specs.LptPart.declared.kind.Kind.{Kind}
+use Rattle.lpt_execution.specs.LptPart.declared.kind.Kind.TheVariants.{First, Middle, Last}
+use Rattle.lpt_execution.specs.LptPart.Parts.{Piece}
+use Rattle.lpt_execution.specs.LptPart.Splitting.{part_count}
 use Rattle.lpt_ledger.specs.declared.state.State.{State}
 use Rattle.lpt_ledger.specs.declared.state.State.TheVariants.{Free, Open, Closed}
 use Rattle.lpt_ledger.specs.Marks.{Opened, Shut}
 use Rattle.lpt_ledger.specs.States.{state_at}
-use Rattle.lpt_events.specs.declared.side.Side.{Side}
-use Rattle.lpt_events.specs.declared.side.Side.TheVariants.{Ground, Craft}
-use Rattle.lpt_events.specs.declared.config.Config.{Config}
+use Rattle.lpt_execution.specs.LptEvents.declared.side.Side.{Side}
+use Rattle.lpt_execution.specs.LptEvents.declared.side.Side.TheVariants.{Ground, Craft}
+use Rattle.lpt_execution.specs.LptEvents.declared.config.Config.{Config}
 use Rattle.lpt_node.specs.declared.fault.NodeFault.{NodeFault}
 use Rattle.lpt_node.specs.declared.fault.NodeFault.TheVariants.{InUse, Short, Long, TooMany, NotOpen, NoSuchPart, Memory}
-use Rattle.lpt_events.specs.declared.telemetry.TelemetryKind.{TelemetryKind}
-use Rattle.lpt_events.specs.declared.telemetry.TelemetryKind.TheVariants.{FirstPart, MiddlePart, LastPart}
+use Rattle.lpt_execution.specs.LptEvents.declared.telemetry.TelemetryKind.{TelemetryKind}
+use Rattle.lpt_execution.specs.LptEvents.declared.telemetry.TelemetryKind.TheVariants.{FirstPart, MiddlePart, LastPart}
 use Rattle.lpt_node.specs.Counting.{counter_of, next_count, next_types}
-use Rattle.lpt_events.specs.MadePackets.{nth_part, part_made}
+use Rattle.lpt_execution.specs.LptEvents.MadePackets.{nth_part, part_made}
 use Rattle.lpt_node.specs.Nodes.{Sending, NodeData, direction_from, message_at}
 
 -- why a message of this length isn't taken, under a name of this state, where n are open

@@ -1,10 +1,10 @@
 -- The clock of an end, and what is given up for its age.
 use Rattle.std.specs.Prelude.{ℕ, ◌+◌, ◌==◌, if◌then◌else◌, List, Option, Some, None}
-use Rattle.lpt_packet.specs.Names.{Name}
-use Rattle.lpt_part.specs.declared.reason.Reason.TheVariants as reason
+use Rattle.lpt_execution.specs.LptPacket.Names.{Name}
+use Rattle.lpt_execution.specs.LptPart.declared.reason.Reason.TheVariants as reason
 use Rattle.lpt_table.specs.Deadlines.{due_of}
-use Rattle.lpt_events.specs.declared.side.Side.{Side}
-use Rattle.lpt_events.specs.declared.config.Config.{Config}
+use Rattle.lpt_execution.specs.LptEvents.declared.side.Side.{Side}
+use Rattle.lpt_execution.specs.LptEvents.declared.config.Config.{Config}
 use Rattle.lpt_node.specs.declared.expired.Expired.{Expired}
 use Rattle.lpt_node.specs.declared.fault.NodeFault.{NodeFault}
 use Rattle.lpt_node.specs.declared.fault.NodeFault.TheVariants.{ClockEnd, NothingDue}

@@ -1,7 +1,7 @@
 //! What a delivery answers.
 
 use crate::Outcome;
-use lpt_packet::Octets;
+use lpt_execution::Octets;
 
 /// What a node answers to a packet that was delivered to it.
 #[derive(Drop)]

@@ -3,7 +3,7 @@
 ghost use Rattle.std.specs.Prelude.{◌≡◌, ◌+◌, ◌<◌, ◌^◌, length, true, IfOk, IfErr, OnOk, OnErr};
 ghost use Rattle.std.specs.Option.{option_map};
 ghost use Rattle.lpt_jobs.specs.Jobs.{numbered};
-ghost use Rattle.lpt_part.specs.Parts.{piece};
+ghost use Rattle.lpt_execution.specs.LptPart.Parts.{piece};
 ghost use Rattle.lpt_node.specs.Accepting.{accepted, grows, IsFor};
 ghost use Rattle.lpt_node.specs.Origins.{arrival_from};
 ghost use Rattle.lpt_node.specs.Receiving.{ignored, noted, parted, plain_released, with_job, with_report};
@@ -12,8 +12,7 @@ use crate::found::Sight;
 use crate::taken::Taken;
 use crate::working::add_job;
 use crate::{Accepted, Node, Outcome, Parsed, Side, TelemetryKind, Why};
-use lpt_packet::Octets;
-use lpt_part::Part;
+use lpt_execution::{Octets, Part};
 use std::alloc::AllocError;
 
 impl Node {

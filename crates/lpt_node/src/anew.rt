@@ -4,7 +4,7 @@ ghost use Rattle.std.specs.Prelude.{◌≡◌, ◌≢◌, ◌+◌, ◌<◌, ◌^
 ghost use Rattle.std.specs.FinMap as map;
 ghost use Rattle.lpt_ledger.specs.Marks.{all_closed};
 ghost use Rattle.lpt_ledger.specs.States.{state_at};
-ghost use Rattle.lpt_events.specs.Lanes.{same_direction};
+ghost use Rattle.lpt_execution.specs.LptEvents.Lanes.{same_direction};
 ghost use Rattle.lpt_node.specs.Anew.{may_retire, retired, restarted};
 ghost use Rattle.lpt_node.specs.NodeInside.{AreKept};
 ghost use Rattle.lpt_node.specs.Nodes.{direction_from};
@@ -12,9 +12,9 @@ ghost use Rattle.lpt_node.specs.Nodes.{direction_from};
 use crate::counts::Counts;
 use crate::outgoing::Outgoing;
 use crate::{Node, Side};
+use lpt_execution::{Direction, Name};
 use lpt_ledger::laws::closes_each;
 use lpt_ledger::{Ledger, LedgerFault, State};
-use lpt_packet::{Direction, Name};
 
 impl Node {
     /// Makes the name of a transaction free at this end, so that it can be used again: in the

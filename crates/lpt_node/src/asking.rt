@@ -9,10 +9,9 @@ ghost use Rattle.lpt_node.specs.Sending.{refusal_open, refusal_send, refusal_fin
 ghost use Rattle.lpt_node.specs.Times.{refusal_tick, refusal_expire};
 
 use crate::{Ask, Node, NodeFault};
+use lpt_execution::{LONGEST_PACKET, Name, count};
 use lpt_jobs::Front;
 use lpt_ledger::State;
-use lpt_packet::{LONGEST_PACKET, Name};
-use lpt_part::count;
 
 impl Node {
     /// The first reason why this call would be refused now, or `None` where only want of memory

@@ -2,7 +2,7 @@
 
 ghost use Rattle.std.specs.Prelude.{◌≡◌, [], ◌∷◌, ◌++◌, length, IfOk, OnOk, OnErr, All, None};
 ghost use Rattle.lpt_ledger.specs.LeastFree.{least_free_in};
-ghost use Rattle.lpt_memory.specs.Memories.{sizes_of};
+ghost use Rattle.lpt_execution.specs.LptMemory.Memories.{sizes_of};
 ghost use Rattle.lpt_execution.specs.Ranges.{ReportFits};
 ghost use Rattle.lpt_execution.specs.Reporting.{applied_of, large_packets, link_packets, opened_of};
 ghost use Rattle.lpt_node.specs.Executions.{made_at, reports_at, with_counts};
@@ -12,10 +12,9 @@ ghost use Rattle.lpt_node.specs.Sending.{counted_kind};
 
 use crate::Node;
 use crate::counts::Counts;
-use lpt_events::Applied;
-use lpt_execution::{Report, ending_of, is_small, reports};
-use lpt_memory::{Memories, Reading};
-use lpt_packet::{Name, Octets};
+use lpt_execution::{
+    Applied, Memories, Name, Octets, Reading, Report, ending_of, is_small, reports,
+};
 use std::alloc::AllocError;
 
 /// The packets of an execution's reports, and the counts after them.

@@ -1,6 +1,6 @@
 //! What the giving up of a reception answers.
 
-use lpt_packet::{Name, Octets};
+use lpt_execution::{Name, Octets};
 
 /// What a node answers when it has given a reception up for its age.
 #[derive(Drop)]

@@ -1,7 +1,6 @@
 //! What was found in a packet's octets.
 
-use lpt_packet::Name;
-use lpt_part::{Kind, Part, Reason};
+use lpt_execution::{Kind, Name, Part, Reason};
 
 /// What was found in a packet's octets. Of a part and of an abortion report it is the place in the
 /// packet's data field from which the body stands.

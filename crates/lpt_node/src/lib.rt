@@ -34,6 +34,13 @@ pub use ask::Ask;
 pub use executed::Executed;
 pub use expired::Expired;
 pub use fault::NodeFault;
-pub use lpt_events::{Config, Outcome, Side, TelemetryKind, Why};
+pub use lpt_execution::{
+    AckFlags, Answer, Applied, Area, Call, Config, ConfigFault, Direction, Entry, Event,
+    FailureCode, LONGEST_PACKET, Lane, Memories, Name, Octets, Opening, Outcome, Packet,
+    PacketKind, Prepared, Puts, Reason, Refused, Release, Reply, RunEnd, SeatLog, Shape, Side,
+    StepFault, TelemetryKind, Ticket, TmHead, Turns, Why, Worker, count, crc16, prepare,
+    read_packet, seen_is_read, write_packet, write_tm,
+};
+pub use lpt_ledger::State;
 pub use node::Node;
 pub use parsed::Parsed;

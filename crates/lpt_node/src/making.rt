@@ -2,13 +2,13 @@
 
 ghost use Rattle.std.specs.Prelude.{◌≡◌, ◌+◌, length, [], true, is_some, IfOk, OnOk, OnErr};
 ghost use Rattle.std.specs.Option.{option_map};
-ghost use Rattle.lpt_part.specs.Parts.{piece};
-ghost use Rattle.lpt_pus.specs.Telemetry.{telemetry, as_written};
-ghost use Rattle.lpt_packet.specs.declared.direction.Direction.TheVariants.{Up};
-ghost use Rattle.lpt_events.specs.Arrivals.{part_subtype};
-ghost use Rattle.lpt_events.specs.TelemetryKinds.{service_of, subtype_of};
+ghost use Rattle.lpt_execution.specs.LptPart.Parts.{piece};
+ghost use Rattle.lpt_execution.specs.LptPus.Telemetry.{telemetry, as_written};
+ghost use Rattle.lpt_execution.specs.LptPacket.declared.direction.Direction.TheVariants.{Up};
+ghost use Rattle.lpt_execution.specs.LptEvents.Arrivals.{part_subtype};
+ghost use Rattle.lpt_execution.specs.LptEvents.TelemetryKinds.{service_of, subtype_of};
 ghost use Rattle.lpt_node.specs.Counting.{counter_of, next_count};
-ghost use Rattle.lpt_events.specs.MadePackets.{telemetry_made};
+ghost use Rattle.lpt_execution.specs.LptEvents.MadePackets.{telemetry_made};
 ghost use Rattle.lpt_execution.specs.Ranges.{ReportFits};
 ghost use Rattle.lpt_node.specs.Executions.{with_counts};
 ghost use Rattle.lpt_node.specs.Jobs.{report_packet};
@@ -18,11 +18,10 @@ ghost use Rattle.lpt_node.specs.Receiving.{abort_head_at};
 
 use crate::counts::Counts;
 use crate::{Node, Side, TelemetryKind};
-use lpt_execution::Report;
-use lpt_packet::{Name, Octets};
-use lpt_part::{Kind, Part, Reason, TRANSFER, abort_octets};
-use lpt_pus::laws::lengths;
-use lpt_pus::{TcHead, TmHead, tc_pieces, tm_octets, tm_pieces};
+use lpt_execution::{
+    Kind, Name, Octets, Part, Reason, Report, TRANSFER, TcHead, TmHead, abort_octets, lengths,
+    tc_pieces, tm_octets, tm_pieces,
+};
 use std::alloc::{AllocError, Global};
 
 impl Node {

@@ -3,16 +3,16 @@
 ghost use Rattle.std.specs.Prelude.{◌≡◌, IsTrue, IfOk, is_some};
 ghost use Rattle.std.specs.FinMap as map;
 ghost use Rattle.lpt_ledger.specs.States.{state_at};
-ghost use Rattle.lpt_events.specs.Configs.{IsConfig};
+ghost use Rattle.lpt_execution.specs.LptEvents.Configs.{IsConfig};
 ghost use Rattle.lpt_node.specs.Nodes.{new_node, is_open, message_at};
 
 use crate::counts::Counts;
 use crate::outgoing::Outgoing;
 use crate::receiver::Receiver;
 use crate::{Config, Side};
+use lpt_execution::Name;
 use lpt_jobs::JobQueue;
 use lpt_ledger::{Ledger, State};
-use lpt_packet::Name;
 use std::alloc::{AllocError, Global};
 use std::marker::Model;
 

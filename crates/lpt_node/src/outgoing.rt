@@ -5,7 +5,7 @@ ghost use Rattle.std.specs.Option.{option_map};
 ghost use Rattle.std.specs.FinMap as map;
 ghost use Rattle.lpt_node.specs.Nodes.{MessageFits};
 
-use lpt_packet::{Name, Octets};
+use lpt_execution::{Name, Octets};
 use std::alloc::Global;
 use std::collections::BTreeMap;
 use std::marker::Model;

@@ -1,21 +1,19 @@
 //! A delivered packet, read before the node that it is for is looked at.
 
 ghost use Rattle.std.specs.Prelude.{◌≡◌, ◌↔◌, ◌+◌, ◌≤◌, ℕ, List, length, Some, IsTrue};
-ghost use Rattle.lpt_packet.specs.Numbers.{IsOctets};
-ghost use Rattle.lpt_packet.specs.Packets.{APacket, fields, seen};
-ghost use Rattle.lpt_part.specs.Splitting.{IsPartSize};
-ghost use Rattle.lpt_events.specs.declared.side.Side.TheVariants.{Ground, Craft};
+ghost use Rattle.lpt_execution.specs.LptPacket.Numbers.{IsOctets};
+ghost use Rattle.lpt_execution.specs.LptPacket.Packets.{APacket, fields, seen};
+ghost use Rattle.lpt_execution.specs.LptPart.Splitting.{IsPartSize};
+ghost use Rattle.lpt_execution.specs.LptEvents.declared.side.Side.TheVariants.{Ground, Craft};
 ghost use Rattle.lpt_node.specs.Origins.{arrival_from};
 ghost use Rattle.lpt_node.specs.Found.{body_from, IsFound, IsFoundIn, Shows};
 
 use crate::Side;
 use crate::found::{Found, Sight};
-use lpt_events::part_kind;
-use lpt_packet::laws::seen_is_read;
-use lpt_packet::{Direction, Octets, Packet, Seen, read_packet};
-use lpt_part::{ABORT, TRANSFER, read_abort, read_part};
-use lpt_pus::laws::bodies;
-use lpt_pus::{TC_HEADER, TM_HEADER, read_tc, read_tm};
+use lpt_execution::{
+    ABORT, Direction, Octets, Packet, Seen, TC_HEADER, TM_HEADER, TRANSFER, bodies, part_kind,
+    read_abort, read_packet, read_part, read_tc, read_tm, seen_is_read,
+};
 use std::marker::Model;
 
 /// A delivered packet with what it is to an end of the link, so far as that depends on no state.

@@ -1,14 +1,12 @@
 //! Plain requests: telecommands besides the parts of messages.
 
 ghost use Rattle.std.specs.Prelude.{◌≡◌, ◌+◌, ◌≤◌, length, None, IfOk, IfErr, IfNone, OnOk, OnErr};
-ghost use Rattle.lpt_events.specs.declared.side.Side.TheVariants.{Ground};
+ghost use Rattle.lpt_execution.specs.LptEvents.declared.side.Side.TheVariants.{Ground};
 ghost use Rattle.lpt_node.specs.Requests.{refusal_plain, plain_made};
 ghost use Rattle.lpt_node.specs.Sending.{RefusedBy};
 
 use crate::{Node, NodeFault};
-use lpt_events::part_kind;
-use lpt_packet::{Direction, Octets};
-use lpt_pus::{AckFlags, TcHead, tc_octets};
+use lpt_execution::{AckFlags, Direction, Octets, TcHead, part_kind, tc_octets};
 
 /// How many octets a plain request's body may have more than a part.
 const BODY_MARGIN: usize = 10;

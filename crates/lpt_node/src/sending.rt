@@ -1,16 +1,14 @@
 //! Sending messages in parts.
 
 ghost use Rattle.std.specs.Prelude.{◌≡◌, ◌≤◌, length, None, Some, IfOk, IfErr, OnOk, OnErr};
-ghost use Rattle.lpt_part.specs.Parts.{piece};
-ghost use Rattle.lpt_part.specs.Splitting.{IsPartSize, part_count};
-ghost use Rattle.lpt_events.specs.MadePackets.{nth_part};
+ghost use Rattle.lpt_execution.specs.LptPart.Parts.{piece};
+ghost use Rattle.lpt_execution.specs.LptPart.Splitting.{IsPartSize, part_count};
+ghost use Rattle.lpt_execution.specs.LptEvents.MadePackets.{nth_part};
 ghost use Rattle.lpt_node.specs.Nodes.{MessageFits};
 ghost use Rattle.lpt_node.specs.Sending.{refusal_open, opened, refusal_send, sent, refusal_finish, closed, RefusedBy};
 
 use crate::{Node, NodeFault};
-use lpt_packet::{Name, Octets};
-use lpt_part::laws::parts_fit;
-use lpt_part::{Kind, Part, count, slice};
+use lpt_execution::{Kind, Name, Octets, Part, count, parts_fit, slice};
 
 impl Node {
     /// Takes a message to be sent under a free name.

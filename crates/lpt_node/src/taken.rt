@@ -1,7 +1,6 @@
 //! What a receiver makes of a part.
 
-use lpt_packet::Octets;
-use lpt_part::Reason;
+use lpt_execution::{Octets, Reason};
 
 /// What a receiver makes of a part.
 #[derive(Drop)]

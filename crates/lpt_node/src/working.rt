@@ -8,10 +8,8 @@ ghost use Rattle.lpt_node.specs.Sending.{RefusedBy};
 
 use crate::executing::Made;
 use crate::{Executed, Node, NodeFault};
-use lpt_execution::{applied_with, load};
+use lpt_execution::{Memories, Octets, Reading, Ticket, applied_with, load};
 use lpt_jobs::{Front, JobQueue};
-use lpt_memory::{Memories, Reading, Ticket};
-use lpt_packet::Octets;
 use std::alloc::AllocError;
 
 impl Node {

@@ -4,3 +4,4 @@ pub mod KindLemmas
 pub mod ResultLemmas
 pub mod SplitLemmas
 mod StandardFacts
+pub use Rattle.lpt_packet.proofs as LptPacket

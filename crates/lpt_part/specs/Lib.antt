@@ -4,3 +4,4 @@ pub mod Identifiers
 pub mod PartRanges
 pub mod Parts
 pub mod Splitting
+pub use Rattle.lpt_packet.specs as LptPacket

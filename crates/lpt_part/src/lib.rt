@@ -24,6 +24,7 @@ pub use abort::{abort_octets, read_abort, write_abort};
 pub use fault::PartFault;
 pub use identifier::TransactionId;
 pub use kind::Kind;
+pub use lpt_packet::{Name, Octets};
 pub use message_types::{ABORT, TRANSFER};
 pub use part::Part;
 pub use reading::read_part;

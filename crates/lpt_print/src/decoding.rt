@@ -2,17 +2,17 @@
 
 ghost use Rattle.std.specs.Prelude.{◌≡◌, [], true, false, IfOk};
 ghost use Rattle.std.specs.String.{string_bytes};
-ghost use Rattle.lpt_packet.specs.Packets.{fields};
-ghost use Rattle.lpt_pus.specs.Commands.{command, tc_verdict};
-ghost use Rattle.lpt_pus.specs.Telemetry.{telemetry, tm_verdict};
-ghost use Rattle.lpt_part.specs.Splitting.{IsPartSize};
+ghost use Rattle.lpt_events.specs.LptPacket.Packets.{fields};
+ghost use Rattle.lpt_events.specs.LptPus.Commands.{command, tc_verdict};
+ghost use Rattle.lpt_events.specs.LptPus.Telemetry.{telemetry, tm_verdict};
+ghost use Rattle.lpt_events.specs.LptPart.Splitting.{IsPartSize};
 ghost use Rattle.lpt_print.specs.Decoding.{Says, decoding, tc_decoding, tm_decoding, fault_text, tc_text, tm_text, body_text, kind_text, part_line, abort_line, report_line, tc_carried, tm_carried};
 
 use crate::words::octets_word;
-use lpt_events::part_kind;
-use lpt_packet::{Direction, Packet, PacketKind, Seen, read_packet};
-use lpt_part::{ABORT, Kind, TRANSFER, read_abort, read_part};
-use lpt_pus::{TcHead, TmHead, read_tc, read_tm};
+use lpt_events::{
+    ABORT, Direction, Kind, Packet, PacketKind, Seen, TRANSFER, TcHead, TmHead, part_kind,
+    read_abort, read_packet, read_part, read_tc, read_tm,
+};
 use lpt_verify::read_report;
 use std::alloc::{AllocError, Global};
 

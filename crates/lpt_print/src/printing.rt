@@ -6,8 +6,9 @@ ghost use Rattle.std.specs.String.{string_bytes};
 ghost use Rattle.lpt_print.specs.Printing.{accepted_text, opened_text, finished_text, lost_text, expired_text, claimed_text, committed_text, stale_text, applied_text, retired_text, restarted_text, clock_text, put_text, took_text, outcome_text, refused_text, unreadable_text, journal_text, plain_count_text, applied_count_text, packet_text, clear_text, memory_text, release_text, none_text};
 
 use crate::words::{direction_word, octets_word, side_word, why_word};
-use lpt_events::{Answer, Applied, Event, Outcome, Release, Reply, Side, StepFault};
-use lpt_packet::{Direction, Name};
+use lpt_events::{
+    Answer, Applied, Direction, Event, Name, Outcome, Release, Reply, Side, StepFault,
+};
 use std::alloc::{AllocError, Global};
 
 /// What an accepted event prints by its reply: the text of its own answer, and nothing for another.

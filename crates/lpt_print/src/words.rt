@@ -4,8 +4,7 @@ ghost use Rattle.std.specs.Prelude.{◌≡◌, IfOk};
 ghost use Rattle.std.specs.String.{string_bytes};
 ghost use Rattle.lpt_print.specs.Printing.{direction_text, octets_text, side_text, why_name};
 
-use lpt_events::{Side, Why};
-use lpt_packet::Direction;
+use lpt_events::{Direction, Side, Why};
 use std::alloc::{AllocError, Global};
 
 // A direction's word.

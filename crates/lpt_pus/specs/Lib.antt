@@ -6,3 +6,4 @@ pub mod Numbers
 pub mod Ranges
 pub mod Sizes
 pub mod Telemetry
+pub use Rattle.lpt_packet.specs as LptPacket

@@ -17,3 +17,5 @@ mod StoredLemmas
 mod TestLemmas
 mod WholeLemmas
 mod WholeStoreLemmas
+pub use Rattle.lpt_part.proofs.LptPacket as LptPacket
+pub use Rattle.lpt_part.proofs as LptPart

@@ -7,8 +7,7 @@ ghost use Rattle.lpt_reception.specs.Received.{no_parts, with_part, is_whole, sp
 
 use crate::store::{Place, Store};
 use crate::{Broken, Step, Whole};
-use lpt_packet::Octets;
-use lpt_part::{Part, Reason, TransactionId};
+use lpt_part::{Octets, Part, Reason, TransactionId};
 use std::alloc::{AllocError, Global};
 use std::marker::Model;
 

@@ -8,8 +8,7 @@ ghost use Rattle.lpt_settings.specs.MemoryTables.{memory_of, each_memory, if_mem
 use crate::keys::{MEMORY_KEYS, has_only, unknown_key};
 use crate::numbers::number;
 use crate::wrong::{Reason, Wrong};
-use lpt_memory::Memories;
-use lpt_packet::Octets;
+use lpt_memory::{Memories, Octets};
 use std::alloc::{AllocError, Global};
 use toml::{Table, Value};
 

@@ -1,8 +1,8 @@
 -- What was found at the end of a run.
 use Rattle.std.proofs.Common.{ℕ, List}
-use Rattle.lpt_world.specs.Worlds.{Shown}
-use Rattle.lpt_log.specs.declared.log.SeatLog.{SeatLog}
-use Rattle.lpt_seats.specs.Finished.{AreShort, IsFinishedIfShort}
+use Rattle.lpt_audit.specs.LptWorld.Worlds.{Shown}
+use Rattle.lpt_audit.specs.LptEvents.declared.log.SeatLog.{SeatLog}
+use Rattle.lpt_audit.specs.Finished.{AreShort, IsFinishedIfShort}
 
 -- nothing is asked where a log is full
 pub not_short : (limit ticked : ℕ) (given w : Shown) (logs : List SeatLog)

@@ -1,14 +1,14 @@
 -- What a turn adds to its seat's log: calls of its own events, in their order.
 use Rattle.std.specs.Prelude.{◌≡◌, ℕ, List, [], ◌∷◌, ◌++◌, Option, Some, None, Result, Ok, Err, ⊤}
-use Rattle.lpt_packet.specs.declared.direction.Direction.{Direction}
-use Rattle.lpt_packet.specs.Names.{Name}
-use Rattle.lpt_events.specs.declared.event.Event.{Event}
-use Rattle.lpt_events.specs.declared.event.Event.TheVariants.{Send, Finish, Expire, Apply}
-use Rattle.lpt_seats.specs.declared.fault.ShareFault.{ShareFault}
+use Rattle.lpt_audit.specs.LptPacket.declared.direction.Direction.{Direction}
+use Rattle.lpt_audit.specs.LptPacket.Names.{Name}
+use Rattle.lpt_audit.specs.LptEvents.declared.event.Event.{Event}
+use Rattle.lpt_audit.specs.LptEvents.declared.event.Event.TheVariants.{Send, Finish, Expire, Apply}
+use Rattle.lpt_share.specs.declared.fault.ShareFault.{ShareFault}
 use Rattle.lpt_share.specs.declared.turns.Again.{Again}
 use Rattle.lpt_share.specs.declared.turns.Again.TheVariants as agains
-use Rattle.lpt_log.specs.declared.log.Call.{Call}
-use Rattle.lpt_log.specs.declared.log.SeatLog.{SeatLog}
+use Rattle.lpt_audit.specs.LptEvents.declared.log.Call.{Call}
+use Rattle.lpt_audit.specs.LptEvents.declared.log.SeatLog.{SeatLog}
 
 -- the calls are of the first of these events, in this order
 abbrev pub Begin : List Event → List Call → Type 0

@@ -1,16 +1,15 @@
 //! The lock round a world, and calls through it.
 
 ghost use Rattle.std.specs.Prelude.{◌≡◌, ◌+◌, ◌≤◌, vec_len, vec_capacity, IfOk, IfErr};
-ghost use Rattle.lpt_journal.specs.Headline.{Holds};
-ghost use Rattle.lpt_world.specs.Worlds.{history};
+ghost use Rattle.lpt_audit.specs.LptJournal.Headline.{Holds};
+ghost use Rattle.lpt_audit.specs.LptWorld.Worlds.{history};
 ghost use Rattle.lpt_share.specs.Calls.{IsDone, IsCallFault};
-ghost use Rattle.lpt_seats.specs.Entering.{IsLegal};
-ghost use Rattle.lpt_seats.specs.Origins.{GoesOn};
+ghost use Rattle.lpt_share.specs.Entering.{IsLegal};
+ghost use Rattle.lpt_share.specs.Origins.{GoesOn};
 
 use crate::SeatLog;
-use lpt_events::{Event, Refused, Reply};
-use lpt_seats::{Held, Origin};
-use lpt_world::World;
+use crate::held::{Held, Origin};
+use lpt_audit::{Event, Refused, Reply, World};
 use std::marker::Brand;
 use std::sync::{Mutex, Wait};
 

@@ -7,14 +7,22 @@
 #![tactic(auto)]
 
 mod call;
+mod fault;
+mod first;
+mod held;
+mod notices;
 mod run;
 mod seats;
+mod task;
 mod turns;
 mod work;
 
 pub use call::{CallFault, Done, Shared};
-pub use lpt_events::Turns;
-pub use lpt_log::{Call, SeatLog};
-pub use lpt_seats::{ShareFault, agrees};
+pub use fault::ShareFault;
+pub use lpt_audit::{
+    AckFlags, Answer, Area, Call, Config, ConfigFault, Direction, Entry, Event, Lane, Memories,
+    Name, Octets, Outcome, Packet, PacketKind, Reason, Release, SeatLog, Side, StepFault, TmHead,
+    Turns, Why, Worker, World, agrees, write_packet, write_tm,
+};
 pub use run::{ShareEnd, run_threads};
 pub use turns::{Gate, Point};

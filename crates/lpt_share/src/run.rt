@@ -1,20 +1,20 @@
 //! The run of ten seats round one world, each in a thread of its own.
 
 ghost use Rattle.std.specs.Prelude.{◌≡◌, ◌≤◌, Some, length, IfOk, IfErr, IsTrue};
-ghost use Rattle.lpt_journal.specs.Headline.{Holds};
-ghost use Rattle.lpt_seats.specs.Agreeing.{Agree};
-ghost use Rattle.lpt_seats.specs.Entering.{IsLegal};
-ghost use Rattle.lpt_seats.specs.Finished.{IsFinishedIfShort, owed_of};
-ghost use Rattle.lpt_seats.specs.Origins.{Continues};
-ghost use Rattle.lpt_seats.specs.Runs.{IsInOrder};
-ghost use Rattle.lpt_world.specs.Worlds.{Shown, history};
+ghost use Rattle.lpt_audit.specs.LptJournal.Headline.{Holds};
+ghost use Rattle.lpt_audit.specs.Agreeing.{Agree};
+ghost use Rattle.lpt_share.specs.Entering.{IsLegal};
+ghost use Rattle.lpt_audit.specs.Finished.{IsFinishedIfShort, owed_of};
+ghost use Rattle.lpt_share.specs.Origins.{Continues};
+ghost use Rattle.lpt_audit.specs.Runs.{IsInOrder};
+ghost use Rattle.lpt_audit.specs.LptWorld.Worlds.{Shown, history};
 
+use crate::first::all_seats;
+use crate::held::Origin;
 use crate::seats::{Ended, Pass};
+use crate::task::Seat;
 use crate::{Gate, SeatLog, ShareFault, Shared, Turns, agrees};
-use lpt_seats::{
-    Origin, Owed, Seat, all_seats, are_in_order, are_short, is_settled, open_transactions,
-};
-use lpt_world::World;
+use lpt_audit::{Owed, World, are_in_order, are_short, is_settled, open_transactions};
 use std::alloc::{AllocError, Global};
 use std::marker::Brand;
 use std::sync::Wait;

@@ -1,11 +1,12 @@
 //! What each of the ten seats does in a run.
 
+use crate::held::Origin;
+use crate::notices::Outlets;
+use crate::task::{Seat, Task};
 use crate::turns::Again;
 use crate::{Gate, Point, SeatLog, ShareFault, Shared, Turns};
 use crossbeam_channel::Receiver;
-use lpt_events::{Event, Side};
-use lpt_packet::{Direction, Name};
-use lpt_seats::{Origin, Outlets, Seat, Task};
+use lpt_audit::{Direction, Event, Name, Side};
 use std::alloc::Global;
 use std::sync::Wait;
 

@@ -4,11 +4,9 @@
 ghost use Rattle.std.specs.Prelude.{◌≡◌, ◌+◌, [], ◌∷◌, None, vec_len, IfOk};
 ghost use Rattle.lpt_share.specs.Turns.{Adds, Begin, Follow, IsAsked, again_event, sender_event};
 
+use crate::held::Origin;
 use crate::{CallFault, SeatLog, ShareFault, Shared};
-use lpt_events::{Event, Lane, Reply, Side, StepFault};
-use lpt_node::Parsed;
-use lpt_packet::{Direction, Name};
-use lpt_seats::Origin;
+use lpt_audit::{Direction, Event, Lane, Name, Parsed, Reply, Side, StepFault};
 use std::sync::Wait;
 
 /// What a seat has just done. The lock is free.

@@ -1,16 +1,15 @@
 //! The calls of turns that have work outside the lock, and a worker's turn.
 
 ghost use Rattle.std.specs.Prelude.{◌≡◌, ◌+◌, ◌≤◌, ◌<◌, ◌^◌, [], ◌∷◌, vec_len, vec_capacity, IfOk, IfSome, Ok, Err};
-ghost use Rattle.lpt_events.specs.Configs.{IsConfig};
+ghost use Rattle.lpt_audit.specs.LptEvents.Configs.{IsConfig};
 ghost use Rattle.lpt_share.specs.Turns.{Adds, Follow, IsAsked};
 
+use crate::held::{Held, Origin};
 use crate::turns::{Again, ended};
 use crate::{Gate, Point, SeatLog, ShareFault, Shared};
-use lpt_events::{Config, Event, Lane, Reply, Worker};
-use lpt_memory::{Prepared, Shape, Ticket, prepare};
-use lpt_node::Parsed;
-use lpt_packet::Octets;
-use lpt_seats::{Held, Origin};
+use lpt_audit::{
+    Config, Event, Lane, Octets, Parsed, Prepared, Reply, Shape, Ticket, Worker, prepare,
+};
 use std::alloc::Global;
 use std::sync::Wait;
 

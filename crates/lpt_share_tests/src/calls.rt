@@ -1,10 +1,11 @@
 //! Calls and turns of one thread, and logs beside the journal.
 
 use crate::scenes::{Asked, CONFIG, Free, MESSAGE, world_after};
-use lpt_events::{Event, Lane, Side, Worker};
-use lpt_packet::Direction::{Down, Up};
-use lpt_share::{CallFault, Done, SeatLog, ShareFault, Shared, agrees};
-use lpt_world::{Answer, StepFault, World};
+use lpt_share::Direction::{Down, Up};
+use lpt_share::{
+    Answer, CallFault, Done, Event, Lane, SeatLog, ShareFault, Shared, Side, StepFault, Worker,
+    World, agrees,
+};
 use std::alloc::Global;
 use std::process::Abort;
 use std::sync::Wait;

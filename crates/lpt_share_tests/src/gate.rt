@@ -1,9 +1,8 @@
 //! The lock is free at each point of the gate.
 
 use crate::scenes::{Asked, CONFIG, MESSAGE, world_after};
-use lpt_events::{Config, Event, Lane, Side, Worker};
-use lpt_packet::Direction::Up;
-use lpt_share::{Gate, Point, SeatLog, Shared};
+use lpt_share::Direction::Up;
+use lpt_share::{Config, Event, Gate, Lane, Point, SeatLog, Shared, Side, Worker};
 use std::alloc::Global;
 use std::process::Abort;
 use std::sync::Wait;

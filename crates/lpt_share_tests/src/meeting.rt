@@ -1,9 +1,8 @@
 //! The work of two seats overlaps: a gate holds one until the other has come.
 
 use crate::scenes::{Asked, run};
-use lpt_link::Lane::S1;
-use lpt_share::{Gate, Point, SeatLog, Turns};
-use lpt_world::{Answer, World};
+use lpt_share::Lane::S1;
+use lpt_share::{Answer, Gate, Point, SeatLog, Turns, World};
 use std::process::Abort;
 use std::sync::atomic::AtomicBool;
 use std::sync::atomic::Ordering::SeqCst;

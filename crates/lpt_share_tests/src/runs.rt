@@ -1,11 +1,8 @@
 //! Runs of ten threads.
 
 use crate::scenes::{Asked, Free, MESSAGE, run};
-use lpt_events::{Lane, Outcome, Side, Why, Worker};
-use lpt_packet::Direction::{self, Down, Up};
-use lpt_packet::Name;
-use lpt_share::{SeatLog, Turns};
-use lpt_world::{Answer, World};
+use lpt_share::Direction::{self, Down, Up};
+use lpt_share::{Answer, Lane, Name, Outcome, SeatLog, Side, Turns, Why, Worker, World};
 use std::process::Abort;
 use std::test::Fail;
 

@@ -1,12 +1,9 @@
 //! Worlds for the tests, by what is asked of them before threads share them.
 
-use lpt_events::{Config, Event, Side, Worker};
-use lpt_link::Lane;
-use lpt_memory::Memories;
-use lpt_packet::{Direction, Name, Octets};
-use lpt_pus::AckFlags;
-use lpt_share::{Gate, Point, SeatLog, Turns, run_threads};
-use lpt_world::World;
+use lpt_share::{
+    AckFlags, Config, Direction, Event, Gate, Lane, Memories, Name, Octets, Point, SeatLog, Side,
+    Turns, Worker, World, run_threads,
+};
 use std::alloc::{AllocError, Global};
 use std::sync::Wait;
 use std::test::Fail;

@@ -5,8 +5,8 @@ use Rattle.std.specs.FinMap as map
 use Rattle.std.specs.FinMap.{get-entries, entries_sorted}
 use Rattle.std.specs.FinMap.Entries.{find, is_sorted}
 use Rattle.std.proofs.Common.{sym, ◌∙◌, ap, arith, inl, inr, ltb-true, ltb-false, leb-true, leb-false}
-use Rattle.lpt_packet.specs.Names.{Name, name_before, name_cmp}
-use Rattle.lpt_packet.proofs.EntryLemmas.{found_first, found_cases, found_above, found_still, up_low, up_rest}
+use Rattle.lpt_reception.specs.LptPacket.Names.{Name, name_before, name_cmp}
+use Rattle.lpt_reception.proofs.LptPacket.EntryLemmas.{found_first, found_cases, found_above, found_still, up_low, up_rest}
 use Rattle.lpt_table.specs.Deadlines.{IsDue, sooner, soonest, due_of}
 use Rattle.lpt_table.specs.Tables.{TableEntry, TableState}
 

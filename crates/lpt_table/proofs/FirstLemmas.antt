@@ -9,8 +9,8 @@ use Rattle.std.specs.Ordering.{is_lt, eq_by_cmp}
 use Rattle.std.specs.Cmp.{ranked}
 use Rattle.std.proofs.Common.{sym, ◌∙◌, ap, arith, inl, inr, leb-true, leb-false}
 use Rattle.slab.specs.Slab.{Slab}
-use Rattle.lpt_packet.proofs.NameLemmas.{name_cmp_total}
-use Rattle.lpt_packet.specs.Names.{Name, name_before, name_cmp}
+use Rattle.lpt_reception.proofs.LptPacket.NameLemmas.{name_cmp_total}
+use Rattle.lpt_reception.specs.LptPacket.Names.{Name, name_before, name_cmp}
 use Rattle.lpt_reception.specs.Received.{Received}
 use Rattle.lpt_table.specs.declared.places.Place.{Place}
 use Rattle.lpt_table.specs.Deadlines.{IsDue, due_of, soonest}

@@ -6,7 +6,7 @@ use Rattle.std.specs.declared.cmp.Ordering.{Ordering}
 use Rattle.std.specs.declared.cmp.Ordering.TheVariants.{Less, Equal, Greater}
 use Rattle.std.specs.Ordering.{is_lt}
 use Rattle.std.proofs.Common.{arith}
-use Rattle.lpt_packet.specs.Names.{Name}
+use Rattle.lpt_reception.specs.LptPacket.Names.{Name}
 use Rattle.lpt_table.specs.declared.places.Place.{Place}
 use Rattle.lpt_table.specs.Places.{by_moment, gap, when_cmp}
 use Rattle.lpt_table.proofs.OrderLemmas.{less, front, back, when_cmp_total}

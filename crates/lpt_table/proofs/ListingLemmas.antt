@@ -8,8 +8,8 @@ use Rattle.std.specs.Ordering.{eq_by_cmp}
 use Rattle.std.proofs.Common.{sym, ◌∙◌, ap, subst, arith}
 use Rattle.std.proofs.lemmas.List.{length-map}
 use Rattle.slab.specs.Slab.{Slab, get}
-use Rattle.lpt_packet.proofs.NameLemmas.{name_cmp_total, name_tied, same_name-refl, same_name-true}
-use Rattle.lpt_packet.specs.Names.{Name, name_cmp, same_name}
+use Rattle.lpt_reception.proofs.LptPacket.NameLemmas.{name_cmp_total, name_tied, same_name-refl, same_name-true}
+use Rattle.lpt_reception.specs.LptPacket.Names.{Name, name_cmp, same_name}
 use Rattle.lpt_reception.specs.Received.{Received}
 use Rattle.lpt_table.specs.declared.places.Place.{Place}
 use Rattle.lpt_table.specs.EntriesOf.{entry_at, parts_in, entries_of, map_of}

@@ -1,9 +1,9 @@
 -- What the answer of a reception makes of the table that it was taken out of.
 use Rattle.std.specs.Prelude.{◌≡◌, ℕ, false, not, ◌&&◌, nat_le, Some, None, is_some, IfSome, refl}
 use Rattle.std.specs.FinMap as map
-use Rattle.lpt_packet.proofs.NameLemmas.{name_cmp-IsAntisymmetric, name_cmp_total}
+use Rattle.lpt_reception.proofs.LptPacket.NameLemmas.{name_cmp-IsAntisymmetric, name_cmp_total}
 use Rattle.std.proofs.Common.{sym, ◌∙◌, ap, subst}
-use Rattle.lpt_packet.specs.Names.{Name}
+use Rattle.lpt_reception.specs.LptPacket.Names.{Name}
 use Rattle.lpt_reception.specs.declared.step.Step.TheVariants as step
 use Rattle.lpt_reception.specs.Answers.{Answers}
 use Rattle.lpt_reception.specs.Received.{Kept as KeptPart, Parts, Received, Ended, BrokenOff, with_part}

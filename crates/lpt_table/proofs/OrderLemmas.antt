@@ -8,8 +8,8 @@ use Rattle.std.specs.declared.cmp.Ordering.TheVariants.{Less, Equal, Greater}
 use Rattle.std.specs.Ordering.{is_eq, is_lt, eq_by_cmp, nat_cmp, ordering_then}
 use Rattle.std.specs.Cmp.{IsTotalOrder, nat_cmp_total, on_total, then_total, ranked}
 use Rattle.std.proofs.Common.{◌∙◌, ap, arith}
-use Rattle.lpt_packet.specs.Names.{Name, name_cmp}
-use Rattle.lpt_packet.proofs.NameLemmas.{name_cmp_total}
+use Rattle.lpt_reception.specs.LptPacket.Names.{Name, name_cmp}
+use Rattle.lpt_reception.proofs.LptPacket.NameLemmas.{name_cmp_total}
 use Rattle.lpt_table.specs.declared.places.Place.{Place}
 use Rattle.lpt_table.specs.Places.{by_name, by_moment, when_cmp}
 use Rattle.lpt_table.proofs.PlaceLemmas.{not_first}

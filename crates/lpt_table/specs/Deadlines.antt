@@ -2,7 +2,7 @@
 use Rattle.std.specs.Prelude.{◌≡◌, ℕ, ◌+◌, ◌≤◌, false, nat_le, nat_lt, if◌then◌else◌, List, [], ◌∷◌, Option, Some, None}
 use Rattle.std.specs.Option.{option_map}
 use Rattle.std.specs.FinMap as map
-use Rattle.lpt_packet.specs.Names.{Name, name_before}
+use Rattle.lpt_reception.specs.LptPacket.Names.{Name, name_before}
 use Rattle.lpt_table.specs.Tables.{TableEntry, TableState}
 
 -- the reception took no part for as long as the time-out

@@ -2,7 +2,7 @@
 use Rattle.std.specs.Prelude.{◌≡◌, ℕ, ◌≤◌, T, List, map, length, Option, Some, None}
 use Rattle.std.specs.FinMap as maps
 use Rattle.slab.specs.Slab.{Slab, get, slab_len}
-use Rattle.lpt_packet.specs.Names.{Name, name_cmp}
+use Rattle.lpt_reception.specs.LptPacket.Names.{Name, name_cmp}
 use Rattle.lpt_reception.specs.Received.{Parts, Received, no_parts}
 use Rattle.lpt_table.specs.declared.entries.Entry.{Entry}
 use Rattle.lpt_table.specs.declared.places.Place.{Place}

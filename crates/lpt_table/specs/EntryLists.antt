@@ -2,7 +2,7 @@
 use Rattle.std.specs.Prelude.{◌≡◌, ℕ, Option, Some, None, refl}
 use Rattle.std.specs.Coded.{Coded, code_by, coded×, coded_ℕ}
 use Rattle.std.specs.FinMap as maps
-use Rattle.lpt_packet.specs.Names.{Name}
+use Rattle.lpt_reception.specs.LptPacket.Names.{Name}
 use Rattle.lpt_table.specs.Tables.{TableEntry, TableState, Entries, coded_entries}
 
 -- how many places the list has, the part size, the receptions

@@ -2,8 +2,8 @@
 use Rattle.std.specs.Prelude.{◌≡◌, ℕ, Bool, if◌then◌else◌, not, ◌&&◌, nat_le, Option, Some, None, is_some}
 use Rattle.std.specs.Option.{option_map}
 use Rattle.std.specs.FinMap as map
-use Rattle.lpt_packet.specs.Names.{Name}
-use Rattle.lpt_part.specs.declared.reason.Reason.{Reason}
+use Rattle.lpt_reception.specs.LptPacket.Names.{Name}
+use Rattle.lpt_reception.specs.LptPart.declared.reason.Reason.{Reason}
 use Rattle.lpt_reception.specs.Received.{Kept as KeptPart, Parts, Received, no_parts, with_part, contradicts, break_reason, is_whole}
 use Rattle.lpt_table.specs.Tables.{TableEntry, TableState}
 

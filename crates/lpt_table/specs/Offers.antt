@@ -1,6 +1,6 @@
 -- What an offer of a part answers.
 use Rattle.std.specs.Prelude.{◌≡◌, ℕ, true, false, Option, Some, None}
-use Rattle.lpt_packet.specs.Names.{Name}
+use Rattle.lpt_reception.specs.LptPacket.Names.{Name}
 use Rattle.lpt_reception.specs.declared.step.Step.TheVariants as step
 use Rattle.lpt_reception.specs.Answers.{Answers}
 use Rattle.lpt_reception.specs.Received.{Kept as KeptPart, with_part}

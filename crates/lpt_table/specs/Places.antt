@@ -5,7 +5,7 @@ use Rattle.std.specs.Option.{option_map}
 use Rattle.std.specs.Ordering.{nat_cmp, on, then_cmp}
 use Rattle.std.specs.declared.cmp.Ordering.{Ordering}
 use Rattle.std.specs.FinMap.Entries.{by_order, find}
-use Rattle.lpt_packet.specs.Names.{Name, name_cmp}
+use Rattle.lpt_reception.specs.LptPacket.Names.{Name, name_cmp}
 use Rattle.lpt_table.specs.declared.places.Place.{Place}
 
 -- the places under their names

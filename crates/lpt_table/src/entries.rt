@@ -6,8 +6,7 @@ ghost use Rattle.std.specs.Option.{option_map};
 ghost use Rattle.lpt_table.specs.Deadlines.{soonest};
 
 use crate::places::{Place, first_due, gap_of, spot_of};
-use lpt_packet::Name;
-use lpt_reception::Filling;
+use lpt_reception::{Filling, Name};
 use slab::Slab;
 use std::alloc::{AllocError, Global};
 use std::marker::Model;

@@ -1,7 +1,7 @@
 //! What the definitions say of tables, proved of all of them: functions with empty bodies.
 
 ghost use Rattle.std.specs.Prelude.{◌≡◌, ℕ, Option, None};
-ghost use Rattle.lpt_packet.specs.Names.{Name};
+ghost use Rattle.lpt_reception.specs.LptPacket.Names.{Name};
 ghost use Rattle.lpt_table.specs.Deadlines.{IsDue, due_of};
 ghost use Rattle.lpt_table.specs.Offering.{TakesOut, put_back, parts_at};
 ghost use Rattle.lpt_table.specs.Tables.{TableState};

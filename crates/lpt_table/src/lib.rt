@@ -14,5 +14,9 @@ mod offer;
 mod places;
 mod table;
 
+pub use lpt_reception::{
+    Broken, Filling, Kind, Part, PartFault, Reason, Step, Whole, abort_octets, count, read_abort,
+    read_part, slice, write_abort, write_part,
+};
 pub use offer::Offer;
 pub use table::Table;

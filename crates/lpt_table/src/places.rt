@@ -2,10 +2,10 @@
 
 ghost use Rattle.std.specs.Prelude.{◌≡◌, T};
 ghost use Rattle.std.specs.FinMap as map;
-ghost use Rattle.lpt_packet.specs.Names.{name_cmp};
+ghost use Rattle.lpt_reception.specs.LptPacket.Names.{name_cmp};
 ghost use Rattle.lpt_table.specs.Places.{spot, gap, when_cmp, by_name, by_moment, first_overdue};
 
-use lpt_packet::Name;
+use lpt_reception::Name;
 use std::cmp::Ordering;
 
 /// Where an open reception is kept: the tick at which it last took a part, its name, and its key.

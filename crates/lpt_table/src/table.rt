@@ -9,9 +9,7 @@ ghost use Rattle.lpt_table.specs.Tables.{IsTableSize, TableState, no_receptions}
 
 use crate::Offer;
 use crate::entries::{Entry, EntryList};
-use lpt_packet::Name;
-use lpt_part::Part;
-use lpt_reception::{Filling, Step};
+use lpt_reception::{Filling, Name, Part, Step};
 use std::alloc::{AllocError, Global};
 use std::marker::Model;
 

@@ -1,6 +1,1 @@
-mod EndLemmas
-mod LineLemmas
-mod RunEnds
-mod RunLemmas
-mod TickLemmas
 mod ThreadLemmas

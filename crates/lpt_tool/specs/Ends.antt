@@ -1,82 +1,13 @@
--- How lines and scripts end: what the answer says of what was read and written.
-use Rattle.std.specs.Prelude.{◌≡◌, ◌⊎◌, ◌≤◌, ◌++◌, ℕ, Bool, true, false, List, Option, Some, None, Result, Ok, Err}
+-- How a script with threads ends: what the answer says of what was read and written.
+use Rattle.std.specs.Prelude.{◌≡◌, ◌⊎◌, ◌≤◌, ◌++◌, ℕ, Bool, true, List, Option, None, Result, Ok, Err}
 use Rattle.std.specs.Io.KnownBytes.{Appends}
-use Rattle.lpt_events.specs.declared.side.Side.{Side}
-use Rattle.lpt_print.specs.Decoding.{decoding}
-use Rattle.lpt_text.specs.Reading.{IsWhole, IsFront, IsCutFront}
-use Rattle.lpt_text.specs.Streams.{AppendsPart}
-use Rattle.lpt_text.specs.declared.fault.ToolFault.{ToolFault}
-use Rattle.lpt_text.specs.declared.fault.ToolFault.TheVariants as tool
-use Rattle.lpt_tool.specs.declared.end.ScriptEnd.{ScriptEnd}
-use Rattle.lpt_tool.specs.Scripts.{Ran, Script, script_ran, stepped, ticked}
-use Rattle.lpt_events.specs.declared.event.Event.TheVariants.{Tick}
-use Rattle.lpt_events.specs.declared.fault.StepFault.{StepFault}
-use Rattle.lpt_events.specs.declared.fault.StepFault.TheVariants.{Memory}
-use Rattle.lpt_world.specs.Worlds.{Shown, refusal_at}
-
--- how the writing of a text ends
-abbrev pub TextEnds : {A : Type 0} → List ℕ → Result A ToolFault → Option (List ℕ) → Option (List ℕ) → Type 0
-TextEnds text (Ok done) old new = Appends old new text
-TextEnds text (Err tool.Write) old new = AppendsPart old new text
-TextEnds text (Err tool.Memory) old new = AppendsPart old new text
-TextEnds text (Err _) old new = ⊥
-
--- how a line ends
-abbrev pub LineEnds : Ran → Result Bool ToolFault → Shown → Option (List ℕ) → Option (List ℕ) → Type 0
-LineEnds ran (Ok refused) w old new =
-    (ran.bad ≡ None) × (refused ≡ ran.refused) × (w ≡ ran.world) × Appends old new ran.text
-LineEnds ran (Err (tool.Line k)) w old new = (ran.bad ≡ Some k) × Appends old new ran.text
-LineEnds ran (Err tool.Write) w old new = AppendsPart old new ran.text
-LineEnds ran (Err tool.Memory) w old new = AppendsPart old new ran.text
-LineEnds ran (Err tool.Read) w old new = ⊥
-LineEnds ran (Err tool.Config) w old new = ⊥
-LineEnds ran (Err (tool.Threads k)) w old new = ⊥
-
--- how lines end
-abbrev pub LinesEnd : Script → Result ScriptEnd ToolFault → Option (List ℕ) → Option (List ℕ) → Type 0
-LinesEnd script (Ok end) old new =
-    (script.bad ≡ None) × (end.refused ≡ script.refused) × Appends old new script.text
-LinesEnd script (Err (tool.Line k)) old new = (script.bad ≡ Some k) × Appends old new script.text
-LinesEnd script (Err tool.Write) old new = AppendsPart old new script.text
-LinesEnd script (Err tool.Memory) old new = AppendsPart old new script.text
-LinesEnd script (Err tool.Read) old new = ⊥
-LinesEnd script (Err tool.Config) old new = ⊥
-LinesEnd script (Err (tool.Threads k)) old new = ⊥
-
--- How the run of a script's lines ends: what was read of the reader, what the writer gained, and what failed. Ok: all was read,
--- and the whole text written. Line: the text up to the unreadable line was written, that line's with it.
--- Read: a read failed or more came than a script may have; the lines before that were run. Write, Memory:
--- the writer gained a front part of the text.
-abbrev pub RunEnds :
-    (later : Bool) → Shown → Result ScriptEnd ToolFault
-    → (read_before read_after written_before written_after : Option (List ℕ))
-    → (read_failed write_failed : Bool) → Type 0
-RunEnds later w (Ok end) old new before after read_failed write_failed =
-    IsWhole old new (λ text. LinesEnd (script_ran later w text) (Ok end) before after)
-RunEnds later w (Err (tool.Line n)) old new before after read_failed write_failed =
-    IsFront old new (λ text. LinesEnd (script_ran later w text) (Err (tool.Line n)) before after)
-RunEnds later w (Err tool.Read) old new before after read_failed write_failed =
-    IsCutFront old new read_failed
-    (λ text. ((script_ran later w text).bad ≡ None) × Appends before after (script_ran later w text).text)
-RunEnds later w (Err tool.Write) old new before after read_failed write_failed =
-    IsFront old new (λ text. LinesEnd (script_ran later w text) (Err tool.Write) before after)
-    × (write_failed ≡ true)
-RunEnds later w (Err tool.Memory) old new before after read_failed write_failed =
-    IsFront old new (λ text. LinesEnd (script_ran later w text) (Err tool.Memory) before after)
-RunEnds later w (Err tool.Config) old new before after read_failed write_failed =
-    (old ≡ new) × (before ≡ after)
-RunEnds later w (Err (tool.Threads n)) old new before after read_failed write_failed = ⊥
-
--- the same where each line is run in its place
-abbrev pub ScriptEnds :
-    Shown → Result ScriptEnd ToolFault
-    → (read_before read_after written_before written_after : Option (List ℕ))
-    → (read_failed write_failed : Bool) → Type 0
-ScriptEnds = RunEnds false
-
--- what was written stays, and more may stand behind it
-abbrev pub Grows : Option (List ℕ) → Option (List ℕ) → Type 0
-Grows old new = (more : List ℕ) × Appends old new more
+use Rattle.lpt_script.specs.LptText.Reading.{IsWhole}
+use Rattle.lpt_script.specs.LptText.declared.fault.ToolFault.{ToolFault}
+use Rattle.lpt_script.specs.LptText.declared.fault.ToolFault.TheVariants as tool
+use Rattle.lpt_script.specs.declared.end.ScriptEnd.{ScriptEnd}
+use Rattle.lpt_script.specs.Ends.{Grows, RunEnds}
+use Rattle.lpt_script.specs.Scripts.{Script, script_ran}
+use Rattle.lpt_share.specs.LptWorld.Worlds.{Shown}
 
 -- the whole text of lines was written, and more may stand behind it
 abbrev pub LinesAndMore : Script → Option (List ℕ) → Option (List ℕ) → Type 0
@@ -130,24 +61,3 @@ GoesOn (Err (tool.Threads n)) before after write_failed = (before ≡ after) × 
 GoesOn (Err (tool.Line n)) before after write_failed = ⊥
 GoesOn (Err tool.Read) before after write_failed = ⊥
 GoesOn (Err tool.Config) before after write_failed = ⊥
-
--- the same where nothing was refused
-abbrev pub unrefused : Result Unit ToolFault → Result Bool ToolFault
-unrefused (Ok done) = Ok false
-unrefused (Err fault) = Err fault
-
--- how a decoding ends: the whole text was written, and the answer says whether it is a fault; or a write failed,
--- and the writer gained a front part of it; or memory was wanting, and the writer is as it was
-abbrev pub DecodeEnds : ℕ → List ℕ → Result Bool ToolFault → Option (List ℕ) → Option (List ℕ) → Type 0
-DecodeEnds p octets (Ok faulty) old new =
-    (faulty ≡ (decoding p octets).faulty) × Appends old new (decoding p octets).text
-DecodeEnds p octets (Err tool.Write) old new = AppendsPart old new (decoding p octets).text
-DecodeEnds p octets (Err tool.Memory) old new = new ≡ old
-DecodeEnds p octets (Err _) old new = ⊥
-
--- A tick before the last was refused, and this world is left: for want of memory, or for the reason that
--- the line tells.
-abbrev pub IsTickRefused : ℕ → Side → Shown → Shown → StepFault → Type 0
-IsTickRefused count side old new fault =
-    (fault ≡ Memory)
-    ⊎ ((refusal_at new 0 (Tick side) ≡ Some fault) × (ticked count side old ≡ stepped new (Tick side)))

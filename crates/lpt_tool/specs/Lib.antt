@@ -1,2 +1,2 @@
 pub mod Ends
-pub mod Scripts
+pub use Rattle.lpt_share.specs.LptPart as LptPart

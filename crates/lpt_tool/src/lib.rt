@@ -1,18 +1,23 @@
-//! Scripts: what each line does to a world, and what it prints.
+//! The tool: scripts, with ten threads behind them too, and a packet decoded.
+//!
+//! `run_script` runs a script line by line on a world of its own and prints what each line did.
+//! `run_threads_script` does the same for the lines that don't show, lets ten threads carry what they
+//! opened, and then prints what those left and what the other lines show. `decode` prints what octets
+//! are as a packet. The first and the last stand in `lpt_script`, which knows nothing of threads.
 #![tactic(auto)]
 
-mod command;
-mod decoding;
-mod end;
-mod loading;
-mod printed;
-mod script;
-mod showing;
-mod shows;
 mod summary;
 mod threads;
 
-pub use decoding::decode;
-pub use end::ScriptEnd;
-pub use script::run_script;
+pub use lpt_script::{
+    Command, End, LineBuffer, Load, Reading, ScriptEnd, Show, Source, Told, ToolFault, decode,
+    flush_out, print_clock, print_decoded, print_expired, print_finished, print_journal,
+    print_memory, print_none, print_opened, print_outcome, print_packet, print_put, print_refused,
+    print_release, print_restarted, print_retired, print_stale, print_took, print_unreadable,
+    read_hex, read_line, read_number, read_text, run_script, split_line, split_word, write_out,
+};
+pub use lpt_share::{
+    AckFlags, Area, Config, Direction, Event, Lane, Memories, Name, Octets, Outcome, Packet,
+    PacketKind, Reason, Release, Side, StepFault, TmHead, Turns, Why, write_packet, write_tm,
+};
 pub use threads::run_threads_script;

@@ -1,22 +1,18 @@
 //! Scripts whose events are followed by a run of threads.
 
 ghost use Rattle.std.specs.Prelude.{◌≡◌, ◌≢◌, ◌↔◌, ◌⊎◌, IfErr, IsErrOf, IsOk, IsSome, Err, true};
-ghost use Rattle.lpt_events.specs.Configs.{config_fault};
-ghost use Rattle.lpt_tool.specs.Ends.{GoesOn, Grows, IsOfThreads, ThreadsEnds};
-ghost use Rattle.lpt_world.specs.Worlds.{new_world};
+ghost use Rattle.lpt_share.specs.LptEvents.Configs.{config_fault};
+ghost use Rattle.lpt_script.specs.Ends.{Grows};
+ghost use Rattle.lpt_tool.specs.Ends.{GoesOn, IsOfThreads, ThreadsEnds};
+ghost use Rattle.lpt_share.specs.LptWorld.Worlds.{new_world};
 
-use crate::ScriptEnd;
-use crate::command::run_command;
-use crate::script::run_lines;
-use crate::shows::Shows;
 use crate::summary::put_summary;
-use lpt_events::Turns;
-use lpt_memory::Memories;
-use lpt_node::Config;
-use lpt_share::{Gate, Point, ShareEnd, ShareFault, run_threads};
-use lpt_text::{Sink, Source, ToolFault};
-use lpt_words::{Command, Show};
-use lpt_world::{ConfigFault, World};
+use lpt_script::{
+    Command, ScriptEnd, Show, Shows, Sink, Source, ToolFault, run_command, run_lines,
+};
+use lpt_share::{
+    Config, ConfigFault, Gate, Memories, Point, ShareEnd, ShareFault, Turns, World, run_threads,
+};
 use std::alloc::Global;
 use std::sync::Wait;
 use std::thread::Threads;

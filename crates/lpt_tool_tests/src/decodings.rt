@@ -1,12 +1,10 @@
 //! Whole packets with what they decode to, worked out by hand.
 
-ghost use Rattle.lpt_part.specs.Splitting.{IsPartSize};
+ghost use Rattle.lpt_tool.specs.LptPart.Splitting.{IsPartSize};
 
-use lpt_packet::{Octets, Packet, PacketKind, write_packet};
-use lpt_print::print_decoded;
-use lpt_pus::{TmHead, write_tm};
-use lpt_text::Told;
-use lpt_tool::decode;
+use lpt_tool::{
+    Octets, Packet, PacketKind, TmHead, Told, decode, print_decoded, write_packet, write_tm,
+};
 use std::alloc::Global;
 use std::test::Fail;
 

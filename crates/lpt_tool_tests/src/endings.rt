@@ -2,8 +2,7 @@
 
 use crate::failing::{Breaking, Narrow};
 use crate::usual::{USUAL, ran, zeros};
-use lpt_text::{Told, ToolFault};
-use lpt_tool::run_script;
+use lpt_tool::{Told, ToolFault, run_script};
 use std::alloc::Global;
 use std::io::{self, Read};
 use std::test::Fail;

@@ -3,9 +3,7 @@
 //! `tests/growths` has each growth fail in turn, in the tests as they are built.
 
 use crate::usual::{USUAL, contents};
-use lpt_memory::Memories;
-use lpt_text::{Told, ToolFault};
-use lpt_tool::run_script;
+use lpt_tool::{Memories, Told, ToolFault, run_script};
 use std::alloc::Global;
 use std::io::{self, ErrorKind, Write};
 use std::process::Abort;

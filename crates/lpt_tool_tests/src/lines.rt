@@ -1,11 +1,8 @@
 //! Lines of scripts with what they say, worked out by hand.
 
-use lpt_events::{Event, Lane, Side};
-use lpt_memory::Area;
-use lpt_packet::{Direction, Octets};
-use lpt_pus::AckFlags;
-use lpt_words::{
-    Command, Load, Reading, Show, read_hex, read_line, read_number, split_line, split_word,
+use lpt_tool::{
+    AckFlags, Area, Command, Direction, Event, Lane, Load, Octets, Reading, Show, Side, read_hex,
+    read_line, read_number, split_line, split_word,
 };
 use std::alloc::{AllocError, Global};
 use std::process::Abort;

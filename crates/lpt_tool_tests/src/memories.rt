@@ -1,10 +1,8 @@
 //! Memories of configurations that are read.
 
 use crate::usual::USUAL;
-use lpt_events::Config;
-use lpt_memory::Memories;
 use lpt_settings::read_config;
-use lpt_text::ToolFault;
+use lpt_tool::{Config, Memories, ToolFault};
 use std::alloc::{AllocError, Global};
 use std::test::Fail;
 

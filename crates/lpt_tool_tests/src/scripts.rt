@@ -1,8 +1,7 @@
 //! Whole scripts with the text that they print, written out by hand from the rules of the lines.
 
 use crate::usual::{USUAL, ran, zeros};
-use lpt_events::Config;
-use lpt_text::ToolFault;
+use lpt_tool::{Config, ToolFault};
 use std::test::Fail;
 
 /// A configuration, a script, how many of its lines are refused or the fault, and what it prints.

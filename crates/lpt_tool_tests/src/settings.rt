@@ -1,9 +1,8 @@
 //! Configurations that are read, and texts that are refused.
 
 use crate::usual::USUAL;
-use lpt_events::{Config, Turns};
 use lpt_settings::read_config;
-use lpt_text::ToolFault;
+use lpt_tool::{Config, ToolFault, Turns};
 use std::alloc::Global;
 
 // The configuration of a text, without its memories.

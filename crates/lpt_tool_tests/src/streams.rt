@@ -1,7 +1,7 @@
 //! Texts through readers and writers that give, take and fail in their own ways.
 
 use crate::failing::{Breaking, Narrow};
-use lpt_text::{End, LineBuffer, Told, ToolFault, flush_out, read_text, write_out};
+use lpt_tool::{End, LineBuffer, Told, ToolFault, flush_out, read_text, write_out};
 use std::alloc::Global;
 use std::io::{self, Read};
 use std::test::Fail;

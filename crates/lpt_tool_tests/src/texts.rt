@@ -1,12 +1,10 @@
 //! Each text of an event, an outcome and a show once, written out by hand.
 
-use lpt_events::{Outcome, Release, Side, StepFault, Why};
-use lpt_packet::{Direction, Name, Octets};
-use lpt_part::Reason;
-use lpt_print::{
-    print_clock, print_expired, print_finished, print_journal, print_memory, print_none,
-    print_opened, print_outcome, print_packet, print_put, print_refused, print_release,
-    print_restarted, print_retired, print_stale, print_took, print_unreadable,
+use lpt_tool::{
+    Direction, Name, Octets, Outcome, Reason, Release, Side, StepFault, Why, print_clock,
+    print_expired, print_finished, print_journal, print_memory, print_none, print_opened,
+    print_outcome, print_packet, print_put, print_refused, print_release, print_restarted,
+    print_retired, print_stale, print_took, print_unreadable,
 };
 use std::alloc::{AllocError, Global};
 use std::process::Abort;

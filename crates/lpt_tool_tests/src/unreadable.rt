@@ -1,7 +1,7 @@
 //! Lines of scripts that aren't read.
 
 use crate::lines::reads;
-use lpt_words::Reading;
+use lpt_tool::Reading;
 
 static UNREADABLE: [&str; 68] = [
     // Shows.

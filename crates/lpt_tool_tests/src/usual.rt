@@ -1,10 +1,6 @@
 //! The configuration and the memories of an empty file, and a script's run on them.
 
-use lpt_events::Config;
-use lpt_memory::Memories;
-use lpt_packet::Octets;
-use lpt_text::{Told, ToolFault};
-use lpt_tool::run_script;
+use lpt_tool::{Config, Memories, Octets, Told, ToolFault, run_script};
 use std::alloc::{AllocError, Global};
 use std::io::Read;
 use std::test::Fail;

@@ -1,7 +1,6 @@
 //! Reports as they are read and as they are written.
 
-use lpt_packet::Octets;
-use lpt_pus::RequestId;
+use lpt_pus::{Octets, RequestId};
 
 /// What a report's body says.
 #[derive(Clone, Copy, Debug, PartialEq, Eq)]

@@ -1,7 +1,7 @@
 -- What each line of a script asks for.
 use Rattle.std.specs.Prelude.{◌≡◌, ℕ, ◌==◌, Bool, false, not, is_some, if◌then◌else◌, nat_le, nat_lt, List, [], ◌∷◌, length, ◌⊎◌, Option, Some, None, codes, ⊤}
 use Rattle.std.specs.Option.{option_map, option_and_then, option_zip}
-use Rattle.lpt_packet.specs.declared.direction.Direction.{Direction}
+use Rattle.lpt_events.specs.LptPacket.declared.direction.Direction.{Direction}
 use Rattle.lpt_events.specs.declared.event.Event.TheVariants as event
 use Rattle.lpt_events.specs.declared.lane.Lane.{Lane}
 use Rattle.lpt_memory.specs.declared.request.Area.{Area}

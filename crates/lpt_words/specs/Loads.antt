@@ -3,8 +3,8 @@ use Rattle.std.specs.Prelude.{ℕ, ◌==◌, ◌||◌, nat_lt, is_some, if◌the
 use Rattle.std.specs.Ordering.{on, eq_of_both}
 use Rattle.std.specs.Cmp.{IsEquivalence, and_equiv, on_equiv, nat_eq_equiv}
 use Rattle.std.specs.Cmp.Lexicographic.{pointwise, lists_equiv}
-use Rattle.lpt_packet.specs.Packets.{spelling}
-use Rattle.lpt_pus.specs.Commands.{packet_of}
+use Rattle.lpt_events.specs.LptPacket.Packets.{spelling}
+use Rattle.lpt_events.specs.LptPus.Commands.{packet_of}
 use Rattle.lpt_memory.specs.Spellings.{load_text, write_fault}
 use Rattle.lpt_memory.specs.declared.request.Area.{Area}
 

@@ -1,8 +1,8 @@
 -- The words of a line that name something, each by itself.
 use Rattle.std.specs.Prelude.{ℕ, ◌==◌, if◌then◌else◌, List, [], ◌∷◌, Option, Some, None, codes}
 use Rattle.std.specs.Option.{option_and_then, option_zip}
-use Rattle.lpt_packet.specs.declared.direction.Direction.{Direction}
-use Rattle.lpt_packet.specs.declared.direction.Direction.TheVariants.{Up, Down}
+use Rattle.lpt_events.specs.LptPacket.declared.direction.Direction.{Direction}
+use Rattle.lpt_events.specs.LptPacket.declared.direction.Direction.TheVariants.{Up, Down}
 use Rattle.lpt_events.specs.declared.lane.Lane.{Lane}
 use Rattle.lpt_events.specs.declared.lane.Lane.TheVariants.{S1, S2, G1, G2}
 use Rattle.lpt_events.specs.declared.side.Side.{Side}

@@ -8,9 +8,8 @@ ghost use Rattle.lpt_words.specs.Words.{words};
 use crate::names::{read_flags, read_u8, read_u16, read_u32};
 use crate::numbers::{octets_spelled, read_hex};
 use crate::words::split_word;
+use lpt_events::{AckFlags, Name, Octets, TcHead};
 use lpt_memory::{Area, load_fault, write_load};
-use lpt_packet::{Name, Octets};
-use lpt_pus::{AckFlags, TcHead};
 use std::alloc::{AllocError, Global};
 use std::marker::Model;
 

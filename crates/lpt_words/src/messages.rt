@@ -8,8 +8,7 @@ use crate::grammar::Command;
 use crate::names::{read_flags, read_name, read_u8, read_u16};
 use crate::numbers::read_hex;
 use crate::words::{split_word, three_words, two_words};
-use lpt_events::Event;
-use lpt_packet::{Direction, Name};
+use lpt_events::{Direction, Event, Name};
 use std::alloc::{AllocError, Global};
 
 // The words after `open`.

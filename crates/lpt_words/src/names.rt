@@ -4,9 +4,7 @@ ghost use Rattle.std.specs.Prelude.{◌≡◌, map};
 ghost use Rattle.lpt_words.specs.Names.{count_of, direction_of, flags_of, keyword_in, keyword_of, lane_of, name_of, node_of, packet_number_of, u8_of, u16_of, u32_of, worker_of};
 
 use crate::numbers::read_number;
-use lpt_events::{Lane, Side, Worker};
-use lpt_packet::{Direction, Name};
-use lpt_pus::AckFlags;
+use lpt_events::{AckFlags, Direction, Lane, Name, Side, Worker};
 
 /// The greatest number of ten digits.
 const GREATEST_NUMBER: u64 = 9_999_999_999;

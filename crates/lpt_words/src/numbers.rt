@@ -6,7 +6,7 @@ ghost use Rattle.std.specs.Char.{is_ascii_digit, is_ascii_hexdigit};
 ghost use Rattle.hex.specs.Hex.{decode_of};
 ghost use Rattle.lpt_words.specs.Numbers.{is_numeral, spelled, number_of, decoded, octets_of};
 
-use lpt_packet::Octets;
+use lpt_events::Octets;
 use std::alloc::{AllocError, Global};
 
 /// Reads a number of 1 to 10 decimal digits that is at most `greatest`.

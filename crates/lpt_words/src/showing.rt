@@ -7,7 +7,7 @@ ghost use Rattle.lpt_words.specs.Words.{words};
 use crate::messages::read_transaction;
 use crate::names::{read_packet_number, read_u8, read_u32};
 use crate::words::{is_blank, one_word, split_word, three_words};
-use lpt_packet::{Direction, Name};
+use lpt_events::{Direction, Name};
 
 /// What a line asks to be printed.
 #[derive(Clone, Copy, PartialEq, Eq)]

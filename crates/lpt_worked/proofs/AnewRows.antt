@@ -2,21 +2,21 @@
 -- definitions.
 use Rattle.std.proofs.Common.{◌≡◌, ◌∙◌, ap, sym, refl, List, [], ◌∷◌, drop, reverse, Some}
 use Rattle.std.specs.List.{slice_get}
-use Rattle.lpt_packet.specs.declared.direction.Direction.TheVariants.{Up}
-use Rattle.lpt_packet.specs.Checksums.{checksum, octets_in, shift_all}
-use Rattle.lpt_packet.specs.Packets.{seen, spelling}
-use Rattle.lpt_pus.specs.Commands.{tc_field, tc_verdict}
-use Rattle.lpt_part.specs.Parts.{body_of, part_verdict}
-use Rattle.lpt_events.specs.Arrivals.{arrival}
-use Rattle.lpt_events.specs.declared.event.Event.{Event}
-use Rattle.lpt_events.specs.declared.event.Event.TheVariants.{Open, Send, Plain, Finish, Lose, Take, Deliver, Claim, Commit, Retire, Restart}
-use Rattle.lpt_events.specs.declared.fault.StepFault.TheVariants.{NotOpen, NoJob, NotClear, StillOpen}
-use Rattle.lpt_events.specs.declared.lane.Lane.TheVariants.{S1, S2}
-use Rattle.lpt_events.specs.declared.outcome.Outcome.TheVariants.{Kept, Released, PlainReleased, Ignored}
-use Rattle.lpt_events.specs.declared.outcome.Why.TheVariants.{Closed}
-use Rattle.lpt_events.specs.declared.reply.Answer.TheVariants.{Opened, Finished, Lost, Took, Delivered, Claimed, Committed, Stale, Retired, Restarted}
-use Rattle.lpt_events.specs.declared.side.Side.TheVariants.{Ground, Craft}
-use Rattle.lpt_events.specs.declared.worker.Worker.TheVariants.{W1}
+use Rattle.lpt_journal.specs.LptPacket.declared.direction.Direction.TheVariants.{Up}
+use Rattle.lpt_journal.specs.LptPacket.Checksums.{checksum, octets_in, shift_all}
+use Rattle.lpt_journal.specs.LptPacket.Packets.{seen, spelling}
+use Rattle.lpt_journal.specs.LptPus.Commands.{tc_field, tc_verdict}
+use Rattle.lpt_journal.specs.LptPart.Parts.{body_of, part_verdict}
+use Rattle.lpt_journal.specs.LptEvents.Arrivals.{arrival}
+use Rattle.lpt_journal.specs.LptEvents.declared.event.Event.{Event}
+use Rattle.lpt_journal.specs.LptEvents.declared.event.Event.TheVariants.{Open, Send, Plain, Finish, Lose, Take, Deliver, Claim, Commit, Retire, Restart}
+use Rattle.lpt_journal.specs.LptEvents.declared.fault.StepFault.TheVariants.{NotOpen, NoJob, NotClear, StillOpen}
+use Rattle.lpt_journal.specs.LptEvents.declared.lane.Lane.TheVariants.{S1, S2}
+use Rattle.lpt_journal.specs.LptEvents.declared.outcome.Outcome.TheVariants.{Kept, Released, PlainReleased, Ignored}
+use Rattle.lpt_journal.specs.LptEvents.declared.outcome.Why.TheVariants.{Closed}
+use Rattle.lpt_journal.specs.LptEvents.declared.reply.Answer.TheVariants.{Opened, Finished, Lost, Took, Delivered, Claimed, Committed, Stale, Retired, Restarted}
+use Rattle.lpt_journal.specs.LptEvents.declared.side.Side.TheVariants.{Ground, Craft}
+use Rattle.lpt_journal.specs.LptEvents.declared.worker.Worker.TheVariants.{W1}
 use Rattle.lpt_journal.specs.Jobs.{memories}
 use Rattle.lpt_journal.specs.Legal.{Legal}
 use Rattle.lpt_journal.specs.Link.{sent}

@@ -1,19 +1,19 @@
 -- A worked pass with packets that the link's noise left, computed by the definitions.
 use Rattle.std.proofs.Common.{◌≡◌, ap, true, false, ℕ, List, [], ◌∷◌, map}
 use Rattle.std.specs.Prelude.{replicate}
-use Rattle.lpt_packet.specs.declared.direction.Direction.TheVariants.{Up, Down}
-use Rattle.lpt_packet.specs.Checksums.{checksum, octets_in, shift_all}
-use Rattle.lpt_packet.specs.Packets.{seen, spelling}
-use Rattle.lpt_pus.specs.Commands.{tc_field, tc_verdict}
-use Rattle.lpt_part.specs.Parts.{body_of, part_verdict}
-use Rattle.lpt_events.specs.declared.event.Event.{Event}
-use Rattle.lpt_events.specs.declared.event.Event.TheVariants.{Open, Send, Damage, Take, Deliver}
-use Rattle.lpt_events.specs.declared.fault.StepFault.TheVariants.{Long, LooksWhole}
-use Rattle.lpt_events.specs.declared.lane.Lane.TheVariants.{S1, G1}
-use Rattle.lpt_events.specs.declared.outcome.Outcome.TheVariants.{Kept, Ignored}
-use Rattle.lpt_events.specs.declared.outcome.Why.TheVariants.{Unreadable}
-use Rattle.lpt_events.specs.declared.reply.Answer.TheVariants.{Opened, Took, Delivered}
-use Rattle.lpt_events.specs.Arrivals.{arrival}
+use Rattle.lpt_journal.specs.LptPacket.declared.direction.Direction.TheVariants.{Up, Down}
+use Rattle.lpt_journal.specs.LptPacket.Checksums.{checksum, octets_in, shift_all}
+use Rattle.lpt_journal.specs.LptPacket.Packets.{seen, spelling}
+use Rattle.lpt_journal.specs.LptPus.Commands.{tc_field, tc_verdict}
+use Rattle.lpt_journal.specs.LptPart.Parts.{body_of, part_verdict}
+use Rattle.lpt_journal.specs.LptEvents.declared.event.Event.{Event}
+use Rattle.lpt_journal.specs.LptEvents.declared.event.Event.TheVariants.{Open, Send, Damage, Take, Deliver}
+use Rattle.lpt_journal.specs.LptEvents.declared.fault.StepFault.TheVariants.{Long, LooksWhole}
+use Rattle.lpt_journal.specs.LptEvents.declared.lane.Lane.TheVariants.{S1, G1}
+use Rattle.lpt_journal.specs.LptEvents.declared.outcome.Outcome.TheVariants.{Kept, Ignored}
+use Rattle.lpt_journal.specs.LptEvents.declared.outcome.Why.TheVariants.{Unreadable}
+use Rattle.lpt_journal.specs.LptEvents.declared.reply.Answer.TheVariants.{Opened, Took, Delivered}
+use Rattle.lpt_journal.specs.LptEvents.Arrivals.{arrival}
 use Rattle.lpt_journal.specs.Link.{is_damaged}
 use Rattle.lpt_journal.specs.Senders.{count}
 use Rattle.lpt_worked.specs.Passes.{usual, m9}

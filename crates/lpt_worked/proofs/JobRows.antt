@@ -2,24 +2,24 @@
 use Rattle.std.proofs.Common.{◌≡◌, ap, refl, ℕ, List, [], ◌∷◌, ◌++◌, drop, reverse, Some, None}
 use Rattle.std.specs.List.{slice_get}
 use Rattle.std.specs.Prelude.{replicate}
-use Rattle.lpt_packet.specs.declared.direction.Direction.TheVariants.{Down}
-use Rattle.lpt_packet.specs.Checksums.{checksum, octets_in, shift_all}
-use Rattle.lpt_packet.specs.Packets.{seen, spelling}
-use Rattle.lpt_pus.specs.Commands.{tc_field, tc_verdict, command_in}
-use Rattle.lpt_pus.specs.Telemetry.{tm_field, tm_verdict}
-use Rattle.lpt_part.specs.Parts.{body_of}
-use Rattle.lpt_ledger.specs.LeastFree.{first_of_numbers}
-use Rattle.lpt_memory.specs.Requests.{front_load_area, front_range, front_head, request_in}
-use Rattle.lpt_memory.specs.Meanings.{body_meaning, meaning}
-use Rattle.lpt_events.specs.Arrivals.{arrival}
-use Rattle.lpt_events.specs.declared.applied.Applied.TheVariants.{Done}
-use Rattle.lpt_events.specs.declared.event.Event.{Event}
-use Rattle.lpt_events.specs.declared.event.Event.TheVariants.{Send, Plain, Take, Deliver, Claim, Commit, Apply}
-use Rattle.lpt_events.specs.declared.fault.StepFault.TheVariants.{HandFull, HandEmpty, NoJob, NotReady}
-use Rattle.lpt_events.specs.declared.lane.Lane.TheVariants.{S1}
-use Rattle.lpt_events.specs.declared.outcome.Outcome.TheVariants.{PlainReleased, ReportNoted}
-use Rattle.lpt_events.specs.declared.reply.Answer.TheVariants.{Took, Delivered, Claimed, Committed, Applied as AppliedSo}
-use Rattle.lpt_events.specs.declared.worker.Worker.TheVariants.{W1, W2}
+use Rattle.lpt_journal.specs.LptPacket.declared.direction.Direction.TheVariants.{Down}
+use Rattle.lpt_journal.specs.LptPacket.Checksums.{checksum, octets_in, shift_all}
+use Rattle.lpt_journal.specs.LptPacket.Packets.{seen, spelling}
+use Rattle.lpt_journal.specs.LptPus.Commands.{tc_field, tc_verdict, command_in}
+use Rattle.lpt_journal.specs.LptPus.Telemetry.{tm_field, tm_verdict}
+use Rattle.lpt_journal.specs.LptPart.Parts.{body_of}
+use Rattle.lpt_journal.specs.LptLedger.LeastFree.{first_of_numbers}
+use Rattle.lpt_journal.specs.LptMemory.Requests.{front_load_area, front_range, front_head, request_in}
+use Rattle.lpt_journal.specs.LptMemory.Meanings.{body_meaning, meaning}
+use Rattle.lpt_journal.specs.LptEvents.Arrivals.{arrival}
+use Rattle.lpt_journal.specs.LptEvents.declared.applied.Applied.TheVariants.{Done}
+use Rattle.lpt_journal.specs.LptEvents.declared.event.Event.{Event}
+use Rattle.lpt_journal.specs.LptEvents.declared.event.Event.TheVariants.{Send, Plain, Take, Deliver, Claim, Commit, Apply}
+use Rattle.lpt_journal.specs.LptEvents.declared.fault.StepFault.TheVariants.{HandFull, HandEmpty, NoJob, NotReady}
+use Rattle.lpt_journal.specs.LptEvents.declared.lane.Lane.TheVariants.{S1}
+use Rattle.lpt_journal.specs.LptEvents.declared.outcome.Outcome.TheVariants.{PlainReleased, ReportNoted}
+use Rattle.lpt_journal.specs.LptEvents.declared.reply.Answer.TheVariants.{Took, Delivered, Claimed, Committed, Applied as AppliedSo}
+use Rattle.lpt_journal.specs.LptEvents.declared.worker.Worker.TheVariants.{W1, W2}
 use Rattle.lpt_journal.specs.Jobs.{memories}
 use Rattle.lpt_journal.specs.Journal.{SentPacket}
 use Rattle.lpt_journal.specs.Legal.{Legal}

@@ -3,16 +3,16 @@ use Rattle.std.proofs.Common.{◌≡◌, ◌∙◌, ap, refl, ℕ, zero, suc, �
 use Rattle.std.proofs.lemmas.Bool.Decides.{nat_tests}
 use Rattle.std.specs.List.{list_all}
 use Rattle.std.specs.Option.{is_some}
-use Rattle.lpt_packet.specs.Checksums.{checksum, octets_in, shift_all}
-use Rattle.lpt_packet.specs.Numbers.{IsOctets}
-use Rattle.lpt_packet.specs.Packets.{seen, spelling}
-use Rattle.lpt_pus.specs.Commands.{tc_field, tc_verdict}
-use Rattle.lpt_part.specs.Parts.{body_of, part_verdict}
-use Rattle.lpt_events.specs.declared.config.Config.{Config}
-use Rattle.lpt_events.specs.Arrivals.{arrival}
-use Rattle.lpt_events.specs.declared.event.Event.{Event}
-use Rattle.lpt_events.specs.declared.event.Event.TheVariants.{Open, Send, Plain, Finish, Damage, Retire}
-use Rattle.lpt_events.specs.Configs.{IsConfig}
+use Rattle.lpt_journal.specs.LptPacket.Checksums.{checksum, octets_in, shift_all}
+use Rattle.lpt_journal.specs.LptPacket.Numbers.{IsOctets}
+use Rattle.lpt_journal.specs.LptPacket.Packets.{seen, spelling}
+use Rattle.lpt_journal.specs.LptPus.Commands.{tc_field, tc_verdict}
+use Rattle.lpt_journal.specs.LptPart.Parts.{body_of, part_verdict}
+use Rattle.lpt_journal.specs.LptEvents.declared.config.Config.{Config}
+use Rattle.lpt_journal.specs.LptEvents.Arrivals.{arrival}
+use Rattle.lpt_journal.specs.LptEvents.declared.event.Event.{Event}
+use Rattle.lpt_journal.specs.LptEvents.declared.event.Event.TheVariants.{Open, Send, Plain, Finish, Damage, Retire}
+use Rattle.lpt_journal.specs.LptEvents.Configs.{IsConfig}
 use Rattle.lpt_journal.specs.Replies.{recorded}
 use Rattle.lpt_journal.specs.Refusals.{refusal}
 use Rattle.lpt_journal.specs.Legal.{IsEvent, Legal}

@@ -5,26 +5,26 @@ use Rattle.std.specs.List.{filter}
 use Rattle.std.specs.FinMap as map
 use Rattle.std.specs.FinMap.{find}
 use Rattle.std.specs.Ordering.{nat_cmp}
-use Rattle.lpt_packet.specs.declared.direction.Direction.{Direction}
-use Rattle.lpt_packet.specs.Names.{Name}
-use Rattle.lpt_part.specs.declared.reason.Reason.TheVariants.{Conflict}
-use Rattle.lpt_part.specs.Parts.{Piece}
-use Rattle.lpt_reception.specs.Received.{Parts, is_whole}
-use Rattle.lpt_events.specs.declared.lane.Lane.{Lane}
-use Rattle.lpt_events.specs.Lanes.{lane_direction}
-use Rattle.lpt_events.specs.declared.config.Config.{Config}
-use Rattle.lpt_events.specs.declared.outcome.Outcome.{Outcome}
-use Rattle.lpt_events.specs.declared.outcome.Outcome.TheVariants.{Kept, Again, Released, Broken, Ignored}
-use Rattle.lpt_events.specs.declared.outcome.Why.TheVariants.{Closed, NoRoom}
-use Rattle.lpt_events.specs.Arrivals.{Arrival, APart}
-use Rattle.lpt_events.specs.declared.event.Event.{Event}
-use Rattle.lpt_events.specs.declared.event.Event.TheVariants.{Deliver, Expire, Retire}
-use Rattle.lpt_events.specs.declared.fault.StepFault.{StepFault}
-use Rattle.lpt_events.specs.declared.fault.StepFault.TheVariants.{NotOpen, NothingDue, NotClear, StillOpen}
-use Rattle.lpt_events.specs.declared.reply.Answer.{Answer}
-use Rattle.lpt_events.specs.declared.reply.Answer.TheVariants.{Delivered}
-use Rattle.lpt_events.specs.declared.reply.Reply.{Reply}
-use Rattle.lpt_events.specs.Sides.{receiver_side, direction_to}
+use Rattle.lpt_journal.specs.LptPacket.declared.direction.Direction.{Direction}
+use Rattle.lpt_journal.specs.LptPacket.Names.{Name}
+use Rattle.lpt_journal.specs.LptPart.declared.reason.Reason.TheVariants.{Conflict}
+use Rattle.lpt_journal.specs.LptPart.Parts.{Piece}
+use Rattle.lpt_journal.specs.LptReception.Received.{Parts, is_whole}
+use Rattle.lpt_journal.specs.LptEvents.declared.lane.Lane.{Lane}
+use Rattle.lpt_journal.specs.LptEvents.Lanes.{lane_direction}
+use Rattle.lpt_journal.specs.LptEvents.declared.config.Config.{Config}
+use Rattle.lpt_journal.specs.LptEvents.declared.outcome.Outcome.{Outcome}
+use Rattle.lpt_journal.specs.LptEvents.declared.outcome.Outcome.TheVariants.{Kept, Again, Released, Broken, Ignored}
+use Rattle.lpt_journal.specs.LptEvents.declared.outcome.Why.TheVariants.{Closed, NoRoom}
+use Rattle.lpt_journal.specs.LptEvents.Arrivals.{Arrival, APart}
+use Rattle.lpt_journal.specs.LptEvents.declared.event.Event.{Event}
+use Rattle.lpt_journal.specs.LptEvents.declared.event.Event.TheVariants.{Deliver, Expire, Retire}
+use Rattle.lpt_journal.specs.LptEvents.declared.fault.StepFault.{StepFault}
+use Rattle.lpt_journal.specs.LptEvents.declared.fault.StepFault.TheVariants.{NotOpen, NothingDue, NotClear, StillOpen}
+use Rattle.lpt_journal.specs.LptEvents.declared.reply.Answer.{Answer}
+use Rattle.lpt_journal.specs.LptEvents.declared.reply.Answer.TheVariants.{Delivered}
+use Rattle.lpt_journal.specs.LptEvents.declared.reply.Reply.{Reply}
+use Rattle.lpt_journal.specs.LptEvents.Sides.{receiver_side, direction_to}
 use Rattle.lpt_journal.specs.Journal.{Recorded, History, SentPacket}
 use Rattle.lpt_journal.specs.Clear.{part_held, part_in_hand}
 use Rattle.lpt_journal.specs.Hands.{in_hand}

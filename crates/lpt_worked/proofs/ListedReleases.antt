@@ -1,19 +1,19 @@
 -- The releases, with the kept parts as lists in the order of numbers: these compute.
 use Rattle.std.proofs.Common.{◌≡◌, ◌∙◌, ap, refl, ℕ, List, [], ◌∷◌, length, Some, None}
 use Rattle.std.specs.FinMap as map
-use Rattle.lpt_packet.specs.declared.direction.Direction.{Direction}
-use Rattle.lpt_packet.specs.Names.{Name}
-use Rattle.lpt_reception.specs.Received.{Parts}
-use Rattle.lpt_events.specs.declared.lane.Lane.{Lane}
-use Rattle.lpt_events.specs.Lanes.{lane_direction}
-use Rattle.lpt_events.specs.declared.config.Config.{Config}
-use Rattle.lpt_events.specs.declared.outcome.Outcome.TheVariants.{Released, PlainReleased}
-use Rattle.lpt_events.specs.Arrivals.{Arrival, ARequest, APart}
-use Rattle.lpt_events.specs.declared.event.Event.{Event}
-use Rattle.lpt_events.specs.declared.event.Event.TheVariants.{Deliver}
-use Rattle.lpt_events.specs.declared.reply.Answer.{Answer}
-use Rattle.lpt_events.specs.declared.reply.Answer.TheVariants.{Delivered}
-use Rattle.lpt_events.specs.declared.entry.Release.{Release}
+use Rattle.lpt_journal.specs.LptPacket.declared.direction.Direction.{Direction}
+use Rattle.lpt_journal.specs.LptPacket.Names.{Name}
+use Rattle.lpt_journal.specs.LptReception.Received.{Parts}
+use Rattle.lpt_journal.specs.LptEvents.declared.lane.Lane.{Lane}
+use Rattle.lpt_journal.specs.LptEvents.Lanes.{lane_direction}
+use Rattle.lpt_journal.specs.LptEvents.declared.config.Config.{Config}
+use Rattle.lpt_journal.specs.LptEvents.declared.outcome.Outcome.TheVariants.{Released, PlainReleased}
+use Rattle.lpt_journal.specs.LptEvents.Arrivals.{Arrival, ARequest, APart}
+use Rattle.lpt_journal.specs.LptEvents.declared.event.Event.{Event}
+use Rattle.lpt_journal.specs.LptEvents.declared.event.Event.TheVariants.{Deliver}
+use Rattle.lpt_journal.specs.LptEvents.declared.reply.Answer.{Answer}
+use Rattle.lpt_journal.specs.LptEvents.declared.reply.Answer.TheVariants.{Delivered}
+use Rattle.lpt_journal.specs.LptEvents.declared.entry.Release.{Release}
 use Rattle.lpt_journal.specs.Journal.{History, with_all}
 use Rattle.lpt_journal.specs.Hands.{in_hand}
 use Rattle.lpt_journal.specs.Receivers.{with_piece, heard}

@@ -6,20 +6,20 @@ use Rattle.std.specs.FinMap as map
 use Rattle.std.specs.FinMap.{find, put}
 use Rattle.std.specs.Ordering.{nat_cmp}
 use Rattle.std.specs.Cmp.{nat_cmp_total}
-use Rattle.lpt_packet.specs.declared.direction.Direction.{Direction}
-use Rattle.lpt_packet.specs.Names.{Name, same_name}
-use Rattle.lpt_part.specs.Parts.{Piece}
-use Rattle.lpt_reception.specs.Received.{Kept as KeptPart, Parts, no_parts, differs, is_last, contradicts, has_all_to, is_whole}
-use Rattle.lpt_events.specs.declared.lane.Lane.{Lane}
-use Rattle.lpt_events.specs.Lanes.{lane_direction, same_direction}
-use Rattle.lpt_events.specs.declared.config.Config.{Config}
-use Rattle.lpt_events.specs.declared.outcome.Outcome.TheVariants.{Kept, Released, Broken}
-use Rattle.lpt_events.specs.Arrivals.{Arrival, APart}
-use Rattle.lpt_events.specs.declared.event.Event.{Event}
-use Rattle.lpt_events.specs.declared.event.Event.TheVariants.{Deliver, Expire, Restart}
-use Rattle.lpt_events.specs.declared.reply.Answer.{Answer}
-use Rattle.lpt_events.specs.declared.reply.Answer.TheVariants.{Delivered}
-use Rattle.lpt_events.specs.Sides.{same_side, receiver_side}
+use Rattle.lpt_journal.specs.LptPacket.declared.direction.Direction.{Direction}
+use Rattle.lpt_journal.specs.LptPacket.Names.{Name, same_name}
+use Rattle.lpt_journal.specs.LptPart.Parts.{Piece}
+use Rattle.lpt_journal.specs.LptReception.Received.{Kept as KeptPart, Parts, no_parts, differs, is_last, contradicts, has_all_to, is_whole}
+use Rattle.lpt_journal.specs.LptEvents.declared.lane.Lane.{Lane}
+use Rattle.lpt_journal.specs.LptEvents.Lanes.{lane_direction, same_direction}
+use Rattle.lpt_journal.specs.LptEvents.declared.config.Config.{Config}
+use Rattle.lpt_journal.specs.LptEvents.declared.outcome.Outcome.TheVariants.{Kept, Released, Broken}
+use Rattle.lpt_journal.specs.LptEvents.Arrivals.{Arrival, APart}
+use Rattle.lpt_journal.specs.LptEvents.declared.event.Event.{Event}
+use Rattle.lpt_journal.specs.LptEvents.declared.event.Event.TheVariants.{Deliver, Expire, Restart}
+use Rattle.lpt_journal.specs.LptEvents.declared.reply.Answer.{Answer}
+use Rattle.lpt_journal.specs.LptEvents.declared.reply.Answer.TheVariants.{Delivered}
+use Rattle.lpt_journal.specs.LptEvents.Sides.{same_side, receiver_side}
 use Rattle.lpt_journal.specs.Journal.{History}
 use Rattle.lpt_journal.specs.Hands.{in_hand}
 use Rattle.lpt_journal.specs.Receivers.{kept, with_piece, with_arrival, ends, heard_now, heard_after, heard}

@@ -1,17 +1,17 @@
 -- A worked pass with a packet that is lost, computed by the definitions.
 use Rattle.std.proofs.Common.{◌≡◌, ap, List, [], ◌∷◌}
-use Rattle.lpt_packet.specs.declared.direction.Direction.TheVariants.{Up}
-use Rattle.lpt_packet.specs.Checksums.{checksum, octets_in, shift_all}
-use Rattle.lpt_packet.specs.Packets.{seen, spelling}
-use Rattle.lpt_pus.specs.Commands.{tc_field, tc_verdict}
-use Rattle.lpt_part.specs.Parts.{body_of, part_verdict}
-use Rattle.lpt_events.specs.declared.event.Event.{Event}
-use Rattle.lpt_events.specs.declared.event.Event.TheVariants.{Open, Send, Lose, Take, Deliver}
-use Rattle.lpt_events.specs.declared.fault.StepFault.TheVariants.{NotHeld}
-use Rattle.lpt_events.specs.declared.lane.Lane.TheVariants.{S1, S2}
-use Rattle.lpt_events.specs.declared.outcome.Outcome.TheVariants.{Kept}
-use Rattle.lpt_events.specs.declared.reply.Answer.TheVariants.{Opened, Lost, Took, Delivered}
-use Rattle.lpt_events.specs.Arrivals.{arrival}
+use Rattle.lpt_journal.specs.LptPacket.declared.direction.Direction.TheVariants.{Up}
+use Rattle.lpt_journal.specs.LptPacket.Checksums.{checksum, octets_in, shift_all}
+use Rattle.lpt_journal.specs.LptPacket.Packets.{seen, spelling}
+use Rattle.lpt_journal.specs.LptPus.Commands.{tc_field, tc_verdict}
+use Rattle.lpt_journal.specs.LptPart.Parts.{body_of, part_verdict}
+use Rattle.lpt_journal.specs.LptEvents.declared.event.Event.{Event}
+use Rattle.lpt_journal.specs.LptEvents.declared.event.Event.TheVariants.{Open, Send, Lose, Take, Deliver}
+use Rattle.lpt_journal.specs.LptEvents.declared.fault.StepFault.TheVariants.{NotHeld}
+use Rattle.lpt_journal.specs.LptEvents.declared.lane.Lane.TheVariants.{S1, S2}
+use Rattle.lpt_journal.specs.LptEvents.declared.outcome.Outcome.TheVariants.{Kept}
+use Rattle.lpt_journal.specs.LptEvents.declared.reply.Answer.TheVariants.{Opened, Lost, Took, Delivered}
+use Rattle.lpt_journal.specs.LptEvents.Arrivals.{arrival}
 use Rattle.lpt_worked.specs.Passes.{usual, m9}
 use Rattle.lpt_worked.proofs.Played.{Refuses, played, played_is, gives, puts_packet}
 

@@ -1,17 +1,17 @@
 -- A worked pass with plain requests, computed by the definitions.
 use Rattle.std.proofs.Common.{◌≡◌, ◌∙◌, ap, refl, ℕ, List, [], ◌∷◌, reverse, None, Some}
 use Rattle.std.specs.List.{slice_get}
-use Rattle.lpt_packet.specs.declared.direction.Direction.TheVariants.{Up}
-use Rattle.lpt_packet.specs.Checksums.{checksum, octets_in, shift_all}
-use Rattle.lpt_packet.specs.Packets.{seen, spelling}
-use Rattle.lpt_pus.specs.Commands.{tc_field, tc_verdict}
-use Rattle.lpt_events.specs.declared.lane.Lane.TheVariants.{S1}
-use Rattle.lpt_events.specs.declared.outcome.Outcome.TheVariants.{PlainReleased}
-use Rattle.lpt_events.specs.Arrivals.{arrival}
-use Rattle.lpt_events.specs.declared.event.Event.{Event}
-use Rattle.lpt_events.specs.declared.event.Event.TheVariants.{Plain, Take, Deliver}
-use Rattle.lpt_events.specs.declared.fault.StepFault.TheVariants.{PartRequest, Long}
-use Rattle.lpt_events.specs.declared.reply.Answer.TheVariants.{Took, Delivered}
+use Rattle.lpt_journal.specs.LptPacket.declared.direction.Direction.TheVariants.{Up}
+use Rattle.lpt_journal.specs.LptPacket.Checksums.{checksum, octets_in, shift_all}
+use Rattle.lpt_journal.specs.LptPacket.Packets.{seen, spelling}
+use Rattle.lpt_journal.specs.LptPus.Commands.{tc_field, tc_verdict}
+use Rattle.lpt_journal.specs.LptEvents.declared.lane.Lane.TheVariants.{S1}
+use Rattle.lpt_journal.specs.LptEvents.declared.outcome.Outcome.TheVariants.{PlainReleased}
+use Rattle.lpt_journal.specs.LptEvents.Arrivals.{arrival}
+use Rattle.lpt_journal.specs.LptEvents.declared.event.Event.{Event}
+use Rattle.lpt_journal.specs.LptEvents.declared.event.Event.TheVariants.{Plain, Take, Deliver}
+use Rattle.lpt_journal.specs.LptEvents.declared.fault.StepFault.TheVariants.{PartRequest, Long}
+use Rattle.lpt_journal.specs.LptEvents.declared.reply.Answer.TheVariants.{Took, Delivered}
 use Rattle.lpt_journal.specs.Link.{sent}
 use Rattle.lpt_journal.specs.Releases.{releases}
 use Rattle.lpt_journal.specs.Legal.{Legal}

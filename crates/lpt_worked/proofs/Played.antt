@@ -1,11 +1,11 @@
 -- Lists of events as they are asked for, some of them refused, with what each gives.
 use Rattle.std.proofs.Common.{◌≡◌, ℕ, List, [], ◌∷◌, Option, Some, None}
-use Rattle.lpt_events.specs.declared.config.Config.{Config}
-use Rattle.lpt_events.specs.declared.event.Event.{Event}
-use Rattle.lpt_events.specs.declared.fault.StepFault.{StepFault}
-use Rattle.lpt_events.specs.declared.reply.Answer.{Answer}
-use Rattle.lpt_events.specs.declared.reply.Answer.TheVariants.{Put}
-use Rattle.lpt_events.specs.declared.reply.Reply.{Reply}
+use Rattle.lpt_journal.specs.LptEvents.declared.config.Config.{Config}
+use Rattle.lpt_journal.specs.LptEvents.declared.event.Event.{Event}
+use Rattle.lpt_journal.specs.LptEvents.declared.fault.StepFault.{StepFault}
+use Rattle.lpt_journal.specs.LptEvents.declared.reply.Answer.{Answer}
+use Rattle.lpt_journal.specs.LptEvents.declared.reply.Answer.TheVariants.{Put}
+use Rattle.lpt_journal.specs.LptEvents.declared.reply.Reply.{Reply}
 use Rattle.lpt_journal.specs.Journal.{Recorded, History}
 use Rattle.lpt_journal.specs.Replies.{entry}
 use Rattle.lpt_journal.specs.Refusals.{refusal}

@@ -1,21 +1,21 @@
 -- Worked passes with several transactions and with refusals, computed by the definitions.
 use Rattle.std.proofs.Common.{◌≡◌, ◌∙◌, ap, ℕ, nat_lt, nat_le, false, List, [], ◌∷◌, length, Some}
 use Rattle.std.specs.List.{slice_get}
-use Rattle.lpt_packet.specs.declared.direction.Direction.TheVariants.{Up, Down}
-use Rattle.lpt_packet.specs.Checksums.{checksum, octets_in, shift_all}
-use Rattle.lpt_packet.specs.Packets.{seen, spelling}
-use Rattle.lpt_pus.specs.Commands.{tc_field, tc_verdict}
-use Rattle.lpt_pus.specs.Telemetry.{tm_field, tm_verdict}
-use Rattle.lpt_part.specs.Parts.{body_of, part_verdict}
-use Rattle.lpt_part.specs.Aborts.{abort_verdict}
-use Rattle.lpt_events.specs.declared.lane.Lane.TheVariants.{S1, S2, G1, G2}
-use Rattle.lpt_events.specs.declared.outcome.Outcome.TheVariants.{Kept, Released, Ignored}
-use Rattle.lpt_events.specs.declared.outcome.Why.TheVariants.{NoRoom}
-use Rattle.lpt_events.specs.Arrivals.{arrival}
-use Rattle.lpt_events.specs.declared.event.Event.{Event}
-use Rattle.lpt_events.specs.declared.event.Event.TheVariants.{Open, Send, Take, Deliver}
-use Rattle.lpt_events.specs.declared.fault.StepFault.TheVariants.{InUse, Short, Long, TooMany, NotOpen, NoSuchPart, NotHeld, HandFull, HandEmpty}
-use Rattle.lpt_events.specs.declared.reply.Answer.TheVariants.{Opened, Took, Delivered}
+use Rattle.lpt_journal.specs.LptPacket.declared.direction.Direction.TheVariants.{Up, Down}
+use Rattle.lpt_journal.specs.LptPacket.Checksums.{checksum, octets_in, shift_all}
+use Rattle.lpt_journal.specs.LptPacket.Packets.{seen, spelling}
+use Rattle.lpt_journal.specs.LptPus.Commands.{tc_field, tc_verdict}
+use Rattle.lpt_journal.specs.LptPus.Telemetry.{tm_field, tm_verdict}
+use Rattle.lpt_journal.specs.LptPart.Parts.{body_of, part_verdict}
+use Rattle.lpt_journal.specs.LptPart.Aborts.{abort_verdict}
+use Rattle.lpt_journal.specs.LptEvents.declared.lane.Lane.TheVariants.{S1, S2, G1, G2}
+use Rattle.lpt_journal.specs.LptEvents.declared.outcome.Outcome.TheVariants.{Kept, Released, Ignored}
+use Rattle.lpt_journal.specs.LptEvents.declared.outcome.Why.TheVariants.{NoRoom}
+use Rattle.lpt_journal.specs.LptEvents.Arrivals.{arrival}
+use Rattle.lpt_journal.specs.LptEvents.declared.event.Event.{Event}
+use Rattle.lpt_journal.specs.LptEvents.declared.event.Event.TheVariants.{Open, Send, Take, Deliver}
+use Rattle.lpt_journal.specs.LptEvents.declared.fault.StepFault.TheVariants.{InUse, Short, Long, TooMany, NotOpen, NoSuchPart, NotHeld, HandFull, HandEmpty}
+use Rattle.lpt_journal.specs.LptEvents.declared.reply.Answer.TheVariants.{Opened, Took, Delivered}
 use Rattle.lpt_journal.specs.Link.{sent}
 use Rattle.lpt_journal.specs.Releases.{releases}
 use Rattle.lpt_journal.specs.Refusals.{first_fault, refusal}

@@ -1,23 +1,23 @@
 -- Worked passes with ticks and expiry, computed by the definitions.
 use Rattle.std.proofs.Common.{◌≡◌, ap, List, [], ◌∷◌, ◌++◌, Some}
 use Rattle.std.specs.List.{slice_get}
-use Rattle.lpt_packet.specs.declared.direction.Direction.TheVariants.{Up, Down}
-use Rattle.lpt_packet.specs.Checksums.{checksum, octets_in, shift_all}
-use Rattle.lpt_packet.specs.Packets.{seen, spelling}
-use Rattle.lpt_pus.specs.Commands.{tc_field, tc_verdict}
-use Rattle.lpt_pus.specs.Telemetry.{tm_field, tm_verdict}
-use Rattle.lpt_part.specs.declared.reason.Reason.TheVariants.{Expired as TimedOut}
-use Rattle.lpt_part.specs.Aborts.{abort_body, abort_verdict}
-use Rattle.lpt_part.specs.Parts.{body_of, part_verdict}
-use Rattle.lpt_events.specs.declared.lane.Lane.TheVariants.{S1, G1}
-use Rattle.lpt_events.specs.declared.outcome.Outcome.TheVariants.{Kept, Ignored, AbortNoted}
-use Rattle.lpt_events.specs.declared.outcome.Why.TheVariants.{Closed}
-use Rattle.lpt_events.specs.declared.side.Side.TheVariants.{Ground, Craft}
-use Rattle.lpt_events.specs.Arrivals.{arrival}
-use Rattle.lpt_events.specs.declared.event.Event.{Event}
-use Rattle.lpt_events.specs.declared.event.Event.TheVariants.{Open, Send, Take, Deliver, Tick, Expire}
-use Rattle.lpt_events.specs.declared.fault.StepFault.TheVariants.{NotOpen, NothingDue, ClockEnd}
-use Rattle.lpt_events.specs.declared.reply.Answer.TheVariants.{Opened, Took, Delivered, Clock, Expired}
+use Rattle.lpt_journal.specs.LptPacket.declared.direction.Direction.TheVariants.{Up, Down}
+use Rattle.lpt_journal.specs.LptPacket.Checksums.{checksum, octets_in, shift_all}
+use Rattle.lpt_journal.specs.LptPacket.Packets.{seen, spelling}
+use Rattle.lpt_journal.specs.LptPus.Commands.{tc_field, tc_verdict}
+use Rattle.lpt_journal.specs.LptPus.Telemetry.{tm_field, tm_verdict}
+use Rattle.lpt_journal.specs.LptPart.declared.reason.Reason.TheVariants.{Expired as TimedOut}
+use Rattle.lpt_journal.specs.LptPart.Aborts.{abort_body, abort_verdict}
+use Rattle.lpt_journal.specs.LptPart.Parts.{body_of, part_verdict}
+use Rattle.lpt_journal.specs.LptEvents.declared.lane.Lane.TheVariants.{S1, G1}
+use Rattle.lpt_journal.specs.LptEvents.declared.outcome.Outcome.TheVariants.{Kept, Ignored, AbortNoted}
+use Rattle.lpt_journal.specs.LptEvents.declared.outcome.Why.TheVariants.{Closed}
+use Rattle.lpt_journal.specs.LptEvents.declared.side.Side.TheVariants.{Ground, Craft}
+use Rattle.lpt_journal.specs.LptEvents.Arrivals.{arrival}
+use Rattle.lpt_journal.specs.LptEvents.declared.event.Event.{Event}
+use Rattle.lpt_journal.specs.LptEvents.declared.event.Event.TheVariants.{Open, Send, Take, Deliver, Tick, Expire}
+use Rattle.lpt_journal.specs.LptEvents.declared.fault.StepFault.TheVariants.{NotOpen, NothingDue, ClockEnd}
+use Rattle.lpt_journal.specs.LptEvents.declared.reply.Answer.TheVariants.{Opened, Took, Delivered, Clock, Expired}
 use Rattle.lpt_journal.specs.Link.{sent}
 use Rattle.lpt_worked.specs.Passes.{usual, m20, m9, impatient, two_expire}
 use Rattle.lpt_worked.proofs.Played.{Given, Gives, Refuses, played, played_is, gives, puts_packet}

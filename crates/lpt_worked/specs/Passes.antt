@@ -1,13 +1,13 @@
 -- Worked passes: the configurations, the messages and the events.
 use Rattle.std.specs.Prelude.{ℕ, List, [], ◌∷◌, ◌++◌, replicate}
-use Rattle.lpt_memory.specs.Memories.{Contents}
-use Rattle.lpt_packet.specs.declared.direction.Direction.TheVariants.{Up}
-use Rattle.lpt_events.specs.declared.config.Config.{Config}
-use Rattle.lpt_events.specs.declared.event.Event.{Event}
-use Rattle.lpt_events.specs.declared.event.Event.TheVariants.{Open, Send, Plain, Finish, Lose, Take, Deliver, Tick, Expire, Claim, Commit, Apply, Retire, Restart}
-use Rattle.lpt_events.specs.declared.lane.Lane.TheVariants.{S1, S2, G1}
-use Rattle.lpt_events.specs.declared.side.Side.TheVariants.{Ground, Craft}
-use Rattle.lpt_events.specs.declared.worker.Worker.TheVariants.{W1}
+use Rattle.lpt_journal.specs.LptMemory.Memories.{Contents}
+use Rattle.lpt_journal.specs.LptPacket.declared.direction.Direction.TheVariants.{Up}
+use Rattle.lpt_journal.specs.LptEvents.declared.config.Config.{Config}
+use Rattle.lpt_journal.specs.LptEvents.declared.event.Event.{Event}
+use Rattle.lpt_journal.specs.LptEvents.declared.event.Event.TheVariants.{Open, Send, Plain, Finish, Lose, Take, Deliver, Tick, Expire, Claim, Commit, Apply, Retire, Restart}
+use Rattle.lpt_journal.specs.LptEvents.declared.lane.Lane.TheVariants.{S1, S2, G1}
+use Rattle.lpt_journal.specs.LptEvents.declared.side.Side.TheVariants.{Ground, Craft}
+use Rattle.lpt_journal.specs.LptEvents.declared.worker.Worker.TheVariants.{W1}
 
 -- ---- what passes have in common
 

@@ -1,25 +1,25 @@
 -- A world that shows its journal keeps what holds of every legal journal.
 use Rattle.std.proofs.Common.{List}
-use Rattle.lpt_memory.specs.Memories.{Contents}
-use Rattle.lpt_ends.specs.declared.ends.Ends.{Ends}
-use Rattle.lpt_events.specs.declared.entry.Entry.{Entry}
-use Rattle.lpt_journal.specs.Headline.{Holds}
+use Rattle.lpt_system.specs.LptMemory.Memories.{Contents}
+use Rattle.lpt_system.specs.declared.system.System.{System}
+use Rattle.lpt_system.specs.LptEvents.declared.entry.Entry.{Entry}
+use Rattle.lpt_refinement.specs.LptJournal.Headline.{Holds}
 use Rattle.lpt_world.specs.WorldInside.{IsShown}
 use Rattle.lpt_world.specs.Worlds.{Promised, events_of, history_of}
-use Rattle.lpt_journal.proofs.ExpiryLemmas.{expiry_is_final}
-use Rattle.lpt_journal.proofs.HeadlineLemmas.{headline}
-use Rattle.lpt_journal.proofs.WorkLemmas.{work_is_of_its_boot}
-use Rattle.lpt_machine.specs.GoesOn.{AreNamed}
+use Rattle.lpt_refinement.proofs.LptJournal.ExpiryLemmas.{expiry_is_final}
+use Rattle.lpt_refinement.proofs.LptJournal.HeadlineLemmas.{headline}
+use Rattle.lpt_refinement.proofs.LptJournal.WorkLemmas.{work_is_of_its_boot}
+use Rattle.lpt_refinement.specs.GoesOn.{AreNamed}
 use Rattle.lpt_world.proofs.LegalLemmas.{told_is_legal, fits}
 
-pub shown_holds : (e : Ends) (first : Contents) (j : List Entry)
+pub shown_holds : (e : System) (first : Contents) (j : List Entry)
     → IsShown e first j
     → Holds e.config first (history_of e.config first j)
 shown_holds e first j k =
     headline e.config first (events_of j) k.configured (told_is_legal e.config first j k.told)
 
 -- what is promised of a world that shows its journal
-pub shown_promised : (e : Ends) (first : Contents) (j : List Entry)
+pub shown_promised : (e : System) (first : Contents) (j : List Entry)
     → IsShown e first j
     → Promised (record { config = e.config; first = first; journal = j })
 shown_promised e first j k =
@@ -31,7 +31,7 @@ shown_promised e first j k =
     }
 
 -- the packets of a world have the tags of the parts that they are
-pub shown_named : (e : Ends) (first : Contents) (j : List Entry)
+pub shown_named : (e : System) (first : Contents) (j : List Entry)
     → IsShown e first j
     → AreNamed e.config (history_of e.config first j)
 shown_named e first j k = (fits e.config first j k.configured k.told).tags

@@ -4,30 +4,30 @@ use Rattle.std.specs.Option.{option_map}
 use Rattle.std.specs.Prelude.{slice_get}
 use Rattle.std.proofs.lemmas.Option.{slice_get-map}
 use Rattle.std.proofs.lemmas.List.{append-nil}
-use Rattle.lpt_packet.proofs.Readings.{lt_false}
-use Rattle.lpt_link.specs.declared.packet.LinkPacket.{LinkPacket}
-use Rattle.lpt_link.specs.Links.{octets_at}
-use Rattle.lpt_memory.specs.Memories.{Contents}
-use Rattle.lpt_events.specs.declared.config.Config.{Config}
-use Rattle.lpt_ends.specs.declared.ends.Ends.{Ends}
-use Rattle.lpt_events.specs.declared.entry.Entry.{Entry}
-use Rattle.lpt_events.specs.declared.event.Event.{Event}
-use Rattle.lpt_events.specs.declared.fault.StepFault.{StepFault}
-use Rattle.lpt_events.specs.declared.fault.StepFault.TheVariants.{NoSuchSeat}
-use Rattle.lpt_events.specs.declared.reply.Reply.{Reply}
-use Rattle.lpt_ends.specs.EndsInside.{state_of}
-use Rattle.lpt_journal.specs.Journal.{History, SentPacket}
-use Rattle.lpt_journal.specs.Link.{sent}
-use Rattle.lpt_events.specs.Configs.{IsConfig}
-use Rattle.lpt_journal.specs.Legal.{IsEvent, IsEnabled}
-use Rattle.lpt_journal.specs.Refusals.{refusal}
-use Rattle.lpt_journal.specs.Replies.{reply, entry, recorded}
-use Rattle.lpt_machine.specs.Shows.{Shows, sent_packet}
-use Rattle.lpt_machine.specs.State.{State, no_state, after, refusal_of, IsReady}
-use Rattle.lpt_machine.specs.Views.{views}
+use Rattle.lpt_system.proofs.LptPacket.Readings.{lt_false}
+use Rattle.lpt_system.specs.LptLink.declared.packet.LinkPacket.{LinkPacket}
+use Rattle.lpt_system.specs.LptLink.Links.{octets_at}
+use Rattle.lpt_system.specs.LptMemory.Memories.{Contents}
+use Rattle.lpt_system.specs.LptEvents.declared.config.Config.{Config}
+use Rattle.lpt_system.specs.declared.system.System.{System}
+use Rattle.lpt_system.specs.LptEvents.declared.entry.Entry.{Entry}
+use Rattle.lpt_system.specs.LptEvents.declared.event.Event.{Event}
+use Rattle.lpt_system.specs.LptEvents.declared.fault.StepFault.{StepFault}
+use Rattle.lpt_system.specs.LptEvents.declared.fault.StepFault.TheVariants.{NoSuchSeat}
+use Rattle.lpt_system.specs.LptEvents.declared.reply.Reply.{Reply}
+use Rattle.lpt_system.specs.SystemInside.{state_of}
+use Rattle.lpt_refinement.specs.LptJournal.Journal.{History, SentPacket}
+use Rattle.lpt_refinement.specs.LptJournal.Link.{sent}
+use Rattle.lpt_system.specs.LptEvents.Configs.{IsConfig}
+use Rattle.lpt_refinement.specs.LptJournal.Legal.{IsEvent, IsEnabled}
+use Rattle.lpt_refinement.specs.LptJournal.Refusals.{refusal}
+use Rattle.lpt_refinement.specs.LptJournal.Replies.{reply, entry, recorded}
+use Rattle.lpt_refinement.specs.Shows.{Shows, sent_packet}
+use Rattle.lpt_system.specs.LptModel.State.{State, no_state, after, refusal_of, IsReady}
+use Rattle.lpt_refinement.specs.Views.{views}
 use Rattle.lpt_world.specs.WorldInside.{IsShown, IsWorld}
 use Rattle.lpt_world.specs.Worlds.{IsTold, IsToldAfter, events_of, history_of, refusal_at}
-use Rattle.lpt_machine.proofs.Follows.{follows}
+use Rattle.lpt_refinement.proofs.Follows.{follows}
 use Rattle.lpt_world.proofs.LegalLemmas.{events_of-push, length-history_of, onto, onto-events_of, fits}
 
 -- ---- journals
@@ -41,18 +41,18 @@ told_push c first past [] x told enabled is = (enabled, is, tt)
 told_push c first past (y ∷ ys) x told enabled is =
     (told.0, told.1, told_push c first (y.event ∷ past) ys x told.2 enabled is)
 
--- ---- what the ends do
+-- ---- what the system does
 
--- what the ends don't refuse the journal doesn't
-accepted_shown : (e : Ends) (first : Contents) (j : List Entry) (ev : Event)
+-- what the system doesn't refuse the journal doesn't
+accepted_shown : (e : System) (first : Contents) (j : List Entry) (ev : Event)
     → IsShown e first j
     → refusal_of e.config (state_of e) ev ≡ None
     → refusal e.config (history_of e.config first j) ev ≡ None
 accepted_shown e first j ev k free =
     sym (follows.refuses e.config first (state_of e) (history_of e.config first j) ev k.shows (fits e.config first j k.configured k.told)) ∙ free
 
--- the reply of the ends is the journal's
-pub reply_shown : (e e' : Ends) (first : Contents) (j : List Entry) (ev : Event) (r : Reply)
+-- the reply of the system is the journal's
+pub reply_shown : (e e' : System) (first : Contents) (j : List Entry) (ev : Event) (r : Reply)
     → IsShown e first j
     → refusal_of e.config (state_of e) ev ≡ None
     → ◌≡◌ {A = State × Reply} (state_of e', r) (after e.config (length j) (state_of e) ev)
@@ -65,7 +65,7 @@ reply_shown e e' first j ev r k free done =
     ∙ goes.answered
 
 -- a world that has done an event shows it
-pub shown_push : (e e' : Ends) (first : Contents) (j : List Entry) (x : Entry)
+pub shown_push : (e e' : System) (first : Contents) (j : List Entry) (x : Entry)
     → IsShown e first j
     → IsEvent x.event
     → refusal_of e.config (state_of e) x.event ≡ None
@@ -96,8 +96,8 @@ shown_push e e' first j x k ranged free done same =
     subst (λ (d : Config). IsWorld d first e' (j ++ x ∷ [])) (sym same)
     (record { configured = k.configured; shows = shows; told = told })
 
--- what an event asks of the ends besides is there
-pub ready_shown : (e : Ends) (first : Contents) (j : List Entry) (ev : Event)
+-- what an event asks of the system besides is there
+pub ready_shown : (e : System) (first : Contents) (j : List Entry) (ev : Event)
     → IsShown e first j
     → refusal_of e.config (state_of e) ev ≡ None
     → IsReady e.config (state_of e) ev
@@ -106,7 +106,7 @@ ready_shown e first j ev k free =
     k.shows (fits e.config first j k.configured k.told) (accepted_shown e first j ev k free)).ready
 
 -- the octets of a packet are what the journal says
-pub packet_shown : (e : Ends) (first : Contents) (j : List Entry) (n : ℕ)
+pub packet_shown : (e : System) (first : Contents) (j : List Entry) (n : ℕ)
     → IsShown e first j
     → octets_at e.link.at n
     ≡ option_map (λ p. p.octets) (slice_get (sent (history_of e.config first j)) n)
@@ -123,8 +123,8 @@ packet_shown e first j n k =
 
 -- ---- calls
 
--- what the ends refuse is what the world refuses of a seat that there is
-pub refusal_at_shown : (e : Ends) (first : Contents) (j : List Entry) (seat : ℕ) (ev : Event)
+-- what the system refuse is what the world refuses of a seat that there is
+pub refusal_at_shown : (e : System) (first : Contents) (j : List Entry) (seat : ℕ) (ev : Event)
     → IsShown e first j
     → seat ≤ 10
     → refusal_of e.config (state_of e) ev
@@ -135,8 +135,8 @@ refusal_at_shown e first j seat ev k h =
     follows.refuses e.config first (state_of e) past ev k.shows (fits e.config first j k.configured k.told)
     ∙ sym (ap (λ t. if t then Some NoSuchSeat else refusal e.config past ev) there)
 
--- what the world doesn't refuse the ends don't
-pub free_shown : (e : Ends) (first : Contents) (j : List Entry) (seat : ℕ) (ev : Event)
+-- what the world doesn't refuse the system doesn't
+pub free_shown : (e : System) (first : Contents) (j : List Entry) (seat : ℕ) (ev : Event)
     → IsShown e first j
     → None ≡ refusal_at (record { config = e.config; first = first; journal = j }) seat ev
     → refusal_of e.config (state_of e) ev ≡ None
@@ -150,7 +150,7 @@ free_shown e first j seat ev k h =
 -- ---- a new world
 
 -- a new world shows the empty journal
-pub shown_new : (e : Ends) (c : Config) (first : Contents)
+pub shown_new : (e : System) (c : Config) (first : Contents)
     → e.config ≡ c
     → state_of e ≡ no_state c first
     → IsConfig c

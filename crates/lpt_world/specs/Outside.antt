@@ -1,13 +1,13 @@
 -- What is done outside a world: packets that are taken out of it, and what was read of them.
 use Rattle.std.specs.Prelude.{◌≡◌, ℕ, List, slice_get, Option, Some, None}
 use Rattle.std.specs.Option.{option_map, option_and_then}
-use Rattle.lpt_events.specs.declared.fault.StepFault.{StepFault}
-use Rattle.lpt_events.specs.declared.fault.StepFault.TheVariants.{Memory, NotYours}
-use Rattle.lpt_events.specs.declared.lane.Lane.{Lane}
-use Rattle.lpt_journal.specs.Hands.{hand}
-use Rattle.lpt_journal.specs.Link.{sent}
-use Rattle.lpt_ends.specs.Outside.{IsReadOf}
-use Rattle.lpt_node.specs.Origins.{Origin}
+use Rattle.lpt_system.specs.LptEvents.declared.fault.StepFault.{StepFault}
+use Rattle.lpt_system.specs.LptEvents.declared.fault.StepFault.TheVariants.{Memory, NotYours}
+use Rattle.lpt_system.specs.LptEvents.declared.lane.Lane.{Lane}
+use Rattle.lpt_refinement.specs.LptJournal.Hands.{hand}
+use Rattle.lpt_refinement.specs.LptJournal.Link.{sent}
+use Rattle.lpt_system.specs.Outside.{IsReadOf}
+use Rattle.lpt_system.specs.LptNode.Origins.{Origin}
 use Rattle.lpt_world.specs.Worlds.{Shown, history}
 
 -- the octets of the packet of a number

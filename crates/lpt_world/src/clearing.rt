@@ -1,14 +1,13 @@
 //! Whether anything is left of a transaction.
 
 ghost use Rattle.std.specs.Prelude.{◌≡◌, ◌||◌};
-ghost use Rattle.lpt_journal.specs.Clear.{is_clear, part_held, part_in_hand};
-ghost use Rattle.lpt_journal.specs.Receivers.{heard, has_parts};
-ghost use Rattle.lpt_journal.specs.Senders.{is_open, sender};
+ghost use Rattle.lpt_refinement.specs.LptJournal.Clear.{is_clear, part_held, part_in_hand};
+ghost use Rattle.lpt_refinement.specs.LptJournal.Receivers.{heard, has_parts};
+ghost use Rattle.lpt_refinement.specs.LptJournal.Senders.{is_open, sender};
 ghost use Rattle.lpt_world.specs.Worlds.{history};
 
 use crate::World;
-use lpt_ledger::State;
-use lpt_packet::{Direction, Name};
+use lpt_system::{Direction, Name, State};
 
 impl World {
     /// Whether a transaction is clear: no part of it is on the link or in a lane's hand, its
@@ -26,7 +25,7 @@ impl World {
         ensures { result ≡ (part_held self.now.config (history self.now) direction id
             || part_in_hand self.now.config (history self.now) direction id) }
     {
-        self.ends.link.holds(direction, id)
+        self.system.link.holds(direction, id)
     }
 
     // Whether its receiver keeps parts of it.
@@ -34,8 +33,8 @@ impl World {
         ensures { result ≡ has_parts (heard self.now.config (history self.now) direction id) }
     {
         match direction {
-            Direction::Up => self.ends.on_craft.is_open_reception(id),
-            Direction::Down => self.ends.on_ground.is_open_reception(id),
+            Direction::Up => self.system.on_craft.is_open_reception(id),
+            Direction::Down => self.system.on_ground.is_open_reception(id),
         }
     }
 

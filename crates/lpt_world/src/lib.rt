@@ -6,9 +6,12 @@ mod outside;
 mod readers;
 mod world;
 
-pub use lpt_events::{
-    Answer, ConfigFault, Entry, Event, Opening, Puts, Refused, Release, Reply, RunEnd, StepFault,
+pub use lpt_refinement::journal_laws as laws;
+pub use lpt_system::{
+    Accepted, AckFlags, Answer, Applied, Area, Ask, Call, Config, ConfigFault, Direction, Entry,
+    Event, FailureCode, LONGEST_PACKET, Lane, Memories, Name, Node, NodeFault, Octets, Opening,
+    Outcome, Packet, PacketKind, Parsed, Prepared, Puts, Reason, Refused, Release, Reply, RunEnd,
+    SeatLog, Shape, Side, State, StepFault, Ticket, TmHead, Turns, Why, Worker, count, crc16,
+    prepare, write_packet, write_tm,
 };
-pub use lpt_journal::laws;
-pub use lpt_ledger::State;
 pub use world::World;

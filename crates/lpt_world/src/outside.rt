@@ -2,18 +2,14 @@
 //! it is claimed, and what was read of them outside is delivered and committed.
 
 ghost use Rattle.std.specs.Prelude.{◌≡◌, length, Some, None, IfOk, IfErr, IsTrue, ◌↔◌};
-ghost use Rattle.lpt_journal.specs.Jobs.{job_given};
-ghost use Rattle.lpt_journal.specs.Replies.{reply};
+ghost use Rattle.lpt_refinement.specs.LptJournal.Jobs.{job_given};
+ghost use Rattle.lpt_refinement.specs.LptJournal.Replies.{reply};
 ghost use Rattle.lpt_world.specs.Outside.{octets_of, IsOfHand, ReadRefusedBy};
 ghost use Rattle.lpt_world.specs.Workers.{IsOfWorker};
 ghost use Rattle.lpt_world.specs.Worlds.{history, refusal_at, RefusedBy, with_entry};
 
 use crate::{Entry, Event, Refused, Reply, StepFault, World};
-use lpt_events::Worker;
-use lpt_link::Lane;
-use lpt_memory::{Prepared, Ticket};
-use lpt_node::Parsed;
-use lpt_packet::Octets;
+use lpt_system::{Lane, Octets, Parsed, Prepared, Ticket, Worker};
 use std::alloc::AllocError;
 
 impl World {
@@ -83,7 +79,7 @@ impl World {
             return Err((StepFault::Memory, parsed));
         }
         let place = self.journal.len() as u64;
-        match self.ends.deliver_read(place, lane, parsed) {
+        match self.system.deliver_read(place, lane, parsed) {
             Err(parsed) => Err((StepFault::Memory, parsed)),
             Ok(reply) => {
                 self.journal.push_reserved(Entry { seat, event, reply });
@@ -161,7 +157,7 @@ impl World {
         if self.journal.reserve(1).is_err() {
             return Err((StepFault::Memory, prepared));
         }
-        let reply = self.ends.commit_read(worker, prepared);
+        let reply = self.system.commit_read(worker, prepared);
         self.journal.push_reserved(Entry { seat, event, reply });
         Ok(reply)
     }
@@ -171,24 +167,24 @@ impl World {
         requires { refusal_at self.now seat (Event.Claim worker) ≡ None }
         ensures { IfOk result (λ t. job_given self.now.config (history self.now) ≡ Some t) }
     {
-        let Some((job, message)) = self.ends.on_craft.unclaimed() else {
+        let Some((job, message)) = self.system.on_craft.unclaimed() else {
             unreachable!()
         };
-        Ok(Ticket::new(self.ends.on_craft.boot(), job, message.copy()?))
+        Ok(Ticket::new(self.system.on_craft.boot(), job, message.copy()?))
     }
 
     // Whether this is the reading of the worker's job.
     fn is_of_worker(&self, worker: Worker, prepared: &Prepared) -> bool
         ensures { IsTrue result ↔ IsOfWorker self.now worker prepared.now }
     {
-        match self.ends.tickets.get(worker) {
+        match self.system.tickets.get(worker) {
             Some(held) => {
                 let message = held.message.as_slice();
                 prepared.is_of(
                     held.boot,
                     held.job,
                     message,
-                    self.ends.config.apid,
+                    self.system.config.apid,
                     &self.first,
                 )
             }
@@ -201,7 +197,7 @@ impl World {
         requires { refusal_at self.now seat (Event.Deliver lane) ≡ None }
         ensures { IsTrue result ↔ IsOfHand self.now lane parsed.now }
     {
-        self.ends.is_read_of(lane, parsed)
+        self.system.is_read_of(lane, parsed)
     }
 
     // A copy of the octets of a packet that the lane can take.
@@ -212,6 +208,6 @@ impl World {
         let Some(octets) = self.packet(n) else {
             unreachable!()
         };
-        Ok(Octets::from_vec(octets.to_vec(self.ends.alloc)?))
+        Ok(Octets::from_vec(octets.to_vec(self.system.alloc)?))
     }
 }

@@ -2,24 +2,19 @@
 
 ghost use Rattle.std.specs.Prelude.{◌≡◌, ◌-◌, length, slice_get, IfOk};
 ghost use Rattle.std.specs.Option.{option_map, option_copied};
-ghost use Rattle.lpt_journal.specs.Hands.{hand};
-ghost use Rattle.lpt_journal.specs.Headline.{EachIsLastOpened, AtMostOncePerOpening, MemoriesFollow};
-ghost use Rattle.lpt_journal.specs.Jobs.{jobs, claimed, applied, ticket};
-ghost use Rattle.lpt_journal.specs.Link.{sent, is_held};
-ghost use Rattle.lpt_journal.specs.Receivers.{clock};
-ghost use Rattle.lpt_journal.specs.Releases.{releases};
-ghost use Rattle.lpt_journal.specs.Senders.{opened, sender};
-ghost use Rattle.lpt_memory.specs.Memories.{content_of, sizes_of};
-ghost use Rattle.lpt_events.specs.Configs.{IsConfig};
+ghost use Rattle.lpt_refinement.specs.LptJournal.Hands.{hand};
+ghost use Rattle.lpt_refinement.specs.LptJournal.Headline.{EachIsLastOpened, AtMostOncePerOpening, MemoriesFollow};
+ghost use Rattle.lpt_refinement.specs.LptJournal.Jobs.{jobs, claimed, applied, ticket};
+ghost use Rattle.lpt_refinement.specs.LptJournal.Link.{sent, is_held};
+ghost use Rattle.lpt_refinement.specs.LptJournal.Receivers.{clock};
+ghost use Rattle.lpt_refinement.specs.LptJournal.Releases.{releases};
+ghost use Rattle.lpt_refinement.specs.LptJournal.Senders.{opened, sender};
+ghost use Rattle.lpt_system.specs.LptMemory.Memories.{content_of, sizes_of};
+ghost use Rattle.lpt_system.specs.LptEvents.Configs.{IsConfig};
 ghost use Rattle.lpt_world.specs.Worlds.{IsTold, Promised, history, memories_now, state_shown};
 
 use crate::{Entry, Opening, Release, World};
-use lpt_events::Worker;
-use lpt_ledger::State;
-use lpt_link::Lane;
-use lpt_memory::Shape;
-use lpt_node::{Config, Side};
-use lpt_packet::{Direction, Name};
+use lpt_system::{Config, Direction, Lane, Name, Shape, Side, State, Worker};
 use std::alloc::AllocError;
 
 impl World {
@@ -43,7 +38,7 @@ impl World {
     pub fn opened(&self) -> &[Opening]
         ensures { result.now ≡ opened (history self.now) }
     {
-        self.ends.opened.as_slice()
+        self.system.opened.as_slice()
     }
 
     /// All releases, in order of place. Each large message is byte for byte the one last opened
@@ -53,7 +48,7 @@ impl World {
         ensures last_opened { EachIsLastOpened self.now.config (history self.now) }
         ensures once { AtMostOncePerOpening self.now.config (history self.now) }
     {
-        self.ends.released.as_slice()
+        self.system.released.as_slice()
     }
 
     /// The octets of the packet of this number, whether the link still holds it or not; none where
@@ -61,7 +56,7 @@ impl World {
     pub fn packet(&self, n: u64) -> Option<&[u8]>
         ensures { option_copied result ≡ option_map (λ p. p.octets) (slice_get (sent (history self.now)) n) }
     {
-        self.ends.link.packet(n)
+        self.system.link.packet(n)
     }
 
     /// The octets of a memory now: its first content, changed by the requests that were executed, in
@@ -70,7 +65,7 @@ impl World {
         ensures content { option_map (λ x. x.now) result ≡ content_of id (memories_now self.now) }
         ensures follow { MemoriesFollow self.now.config self.now.first (history self.now) }
     {
-        self.ends.memories.content(id)
+        self.system.memories.content(id)
     }
 
     /// The octets that a memory had first, or none where there is no such memory.
@@ -94,28 +89,28 @@ impl World {
         ensures shown { result ≡ self.now.config }
         ensures configured { IsConfig result }
     {
-        self.ends.config
+        self.system.config
     }
 
     /// How many packets were put on the link so far; they are numbered from 0.
     pub fn packets(&self) -> u64
         ensures { result ≡ length (sent (history self.now)) }
     {
-        self.ends.link.packets()
+        self.system.link.packets()
     }
 
     /// Whether the link holds the packet of this number: it was put, and isn't lost.
     pub fn is_held(&self, n: u64) -> bool
         ensures { result ≡ is_held (history self.now) n }
     {
-        self.ends.link.is_held(n)
+        self.system.link.is_held(n)
     }
 
     /// The number of the packet in a lane's hand, where there is one.
     pub fn hand(&self, lane: Lane) -> Option<u64>
         ensures { result ≡ hand (history self.now) lane }
     {
-        self.ends.link.hand(lane)
+        self.system.link.hand(lane)
     }
 
     /// The state of a transaction at the node that sends in this direction.
@@ -123,8 +118,8 @@ impl World {
         ensures { result ≡ state_shown (sender (history self.now) direction id) }
     {
         match direction {
-            Direction::Up => self.ends.on_ground.sender(id),
-            Direction::Down => self.ends.on_craft.sender(id),
+            Direction::Up => self.system.on_ground.sender(id),
+            Direction::Down => self.system.on_craft.sender(id),
         }
     }
 
@@ -133,8 +128,8 @@ impl World {
         ensures { result ≡ clock self.now.config (history self.now) side }
     {
         match side {
-            Side::Ground => self.ends.on_ground.clock(),
-            Side::Craft => self.ends.on_craft.clock(),
+            Side::Ground => self.system.on_ground.clock(),
+            Side::Craft => self.system.on_craft.clock(),
         }
     }
 
@@ -142,7 +137,7 @@ impl World {
     pub fn ticket(&self, worker: Worker) -> Option<(u64, u64)>
         ensures { result ≡ option_map (λ t. (t.boot, t.job)) (ticket self.now.config (history self.now) worker) }
     {
-        let held = self.ends.tickets.get(worker)?;
+        let held = self.system.tickets.get(worker)?;
         Some((held.boot, held.job))
     }
 
@@ -151,7 +146,7 @@ impl World {
     pub fn jobs_left(&self) -> u64
         ensures { result ≡ length (jobs self.now.config (history self.now)) - claimed (history self.now) }
     {
-        self.ends.on_craft.waiting()
+        self.system.on_craft.waiting()
     }
 
     /// How many jobs of the spacecraft's boot that goes on aren't executed yet, claimed and committed
@@ -159,6 +154,6 @@ impl World {
     pub fn jobs_queued(&self) -> u64
         ensures { result ≡ length (jobs self.now.config (history self.now)) - applied (history self.now) }
     {
-        self.ends.on_craft.queued()
+        self.system.on_craft.queued()
     }
 }

@@ -1,15 +1,13 @@
 //! The world: two nodes, the link between them, the memories, and the journal.
 
 ghost use Rattle.std.specs.Prelude.{◌≡◌, ◌≤◌, length, take, slice_get, None, IfOk, IfErr, IfSome};
-ghost use Rattle.lpt_events.specs.Configs.{config_fault, ConfigRefusedBy};
-ghost use Rattle.lpt_journal.specs.Legal.{IsEvent};
-ghost use Rattle.lpt_journal.specs.Replies.{reply};
+ghost use Rattle.lpt_system.specs.LptEvents.Configs.{config_fault, ConfigRefusedBy};
+ghost use Rattle.lpt_refinement.specs.LptJournal.Legal.{IsEvent};
+ghost use Rattle.lpt_refinement.specs.LptJournal.Replies.{reply};
 ghost use Rattle.lpt_world.specs.Worlds.{Promised, new_world, history, refusal_at, RefusedBy, with_entry, entered, AllAccepted, IsFaultOf};
 
 use crate::{ConfigFault, Entry, Event, Refused, Reply, RunEnd, StepFault};
-use lpt_ends::Ends;
-use lpt_memory::Memories;
-use lpt_node::Config;
+use lpt_system::{Config, Memories, System};
 use std::alloc::Global;
 use std::marker::Model;
 
@@ -20,7 +18,7 @@ const LAST_SEAT: u8 = 10;
 /// were accepted.
 #[derive(Drop)]
 pub struct World {
-    pub(crate) ends: Ends,
+    pub(crate) system: System,
     pub(crate) first: Memories,
     pub(crate) journal: Vec<Entry>,
 }
@@ -32,9 +30,9 @@ impl Model for World {
 
     ghost use Rattle.lpt_world.specs.WorldInside.{IsShown};
 
-    ghost view = { λ w. record { config = w.ends.config; first = w.first; journal = w.journal.items } };
+    ghost view = { λ w. record { config = w.system.config; first = w.first; journal = w.journal.items } };
 
-    ghost invariant = { λ w. IsShown w.ends w.first w.journal.items };
+    ghost invariant = { λ w. IsShown w.system w.first w.journal.items };
 }
 
 impl World {
@@ -54,9 +52,9 @@ impl World {
         let Ok(copy) = memories.copy() else {
             return Err(ConfigFault::Memory);
         };
-        match Ends::new(alloc, config, copy) {
-            Ok(ends) => Ok(World {
-                ends,
+        match System::new(alloc, config, copy) {
+            Ok(system) => Ok(World {
+                system,
                 first: memories,
                 journal: Vec::new(alloc),
             }),
@@ -109,7 +107,7 @@ impl World {
         }
         in_range(&event);
         let place = self.journal.len() as u64;
-        match self.ends.apply(place, &event) {
+        match self.system.apply(place, &event) {
             Err(_) => Err((StepFault::Memory, event)),
             Ok(reply) => {
                 self.journal.push_reserved(Entry { seat, event, reply });
@@ -177,7 +175,7 @@ impl World {
         if seat > LAST_SEAT {
             return Some(StepFault::NoSuchSeat);
         }
-        self.ends.refusal(event)
+        self.system.refusal(event)
     }
 }
 

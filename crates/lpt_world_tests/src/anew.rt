@@ -3,10 +3,9 @@
 use crate::packets::*;
 use crate::playing::{Packet, Play, Row, play_all};
 use crate::stations::PASS;
-use lpt_ledger::State;
-use lpt_node::Outcome::{self, *};
-use lpt_node::Side::{Craft, Ground};
-use lpt_node::{Ask, NodeFault, Why};
+use lpt_world::Outcome::{self, *};
+use lpt_world::Side::{Craft, Ground};
+use lpt_world::{Ask, NodeFault, State, Why};
 
 const FIRST: Packet = (&FIRST_UP, &[]);
 

@@ -3,10 +3,9 @@
 use crate::packets::{FIRST_DOWN, FIRST_UP, MIDDLE_DOWN, MIDDLE_UP};
 use crate::playing::{Packet, Play, Row, play_all};
 use crate::stations::PASS;
-use lpt_node::Outcome::{self, *};
-use lpt_node::Side::{self, Craft, Ground};
-use lpt_node::Why;
-use lpt_part::Reason;
+use lpt_world::Outcome::{self, *};
+use lpt_world::Side::{self, Craft, Ground};
+use lpt_world::{Reason, Why};
 
 const BROKEN: Outcome = Broken(7, Reason::Conflict);
 

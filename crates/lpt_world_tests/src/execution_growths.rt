@@ -5,11 +5,10 @@
 use crate::packets::LOAD;
 use crate::rows::{CONFIG, Content, ONE, Path, Row, Shown};
 use crate::walking::walk;
-use lpt_events::Applied;
-use lpt_link::Lane::S1;
-use lpt_node::Outcome::PlainReleased;
-use lpt_packet::Direction::Down;
-use lpt_world::State;
+use lpt_world::Direction::Down;
+use lpt_world::Lane::S1;
+use lpt_world::Outcome::PlainReleased;
+use lpt_world::{Applied, State};
 
 /// The body of a dump of two octets of memory 1 from address 16 on, of which the report fits a packet.
 const DUMP: [u8; 8] = [1, 1, 0, 0, 0, 0x10, 0, 2];

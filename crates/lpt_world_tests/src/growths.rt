@@ -5,9 +5,9 @@
 use crate::packets::{FIRST_UP, LAST_UP};
 use crate::rows::{CONFIG, Content, ONE, Path, Row, Shown};
 use crate::walking::walk;
-use lpt_link::Lane::S1;
-use lpt_node::Outcome;
-use lpt_packet::Direction::Up;
+use lpt_world::Direction::Up;
+use lpt_world::Lane::S1;
+use lpt_world::Outcome;
 
 /// The first path: a message is opened, its three parts are sent and delivered as 3, 1, 2.
 const FIRST_PATH: [Row; 15] = [

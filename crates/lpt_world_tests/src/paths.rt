@@ -3,10 +3,9 @@
 use crate::packets::LAST_OCTET;
 use crate::rows::{Asked, CONFIG, Content, ONE, Path, Row, SEAT, Shown};
 use crate::walking::walk;
-use lpt_link::Lane::{G1, S1, S2};
-use lpt_node::{Config, Outcome, Why};
-use lpt_packet::Direction::{Down, Up};
-use lpt_world::StepFault;
+use lpt_world::Direction::{Down, Up};
+use lpt_world::Lane::{G1, S1, S2};
+use lpt_world::{Config, Outcome, StepFault, Why};
 
 const RELEASED_ONCE: [Row; 18] = [
     Row::Opens(Up, 7, 20, 3),

@@ -3,11 +3,8 @@
 use crate::executing::{executes, is_too_late};
 use crate::rows::{counting, octets_of};
 use crate::stations::Station;
-use lpt_ledger::State;
-use lpt_node::{Ask, Config, NodeFault, Outcome, Parsed, Side};
-use lpt_packet::Direction::Up;
-use lpt_packet::{Name, Octets};
-use lpt_pus::AckFlags;
+use lpt_world::Direction::Up;
+use lpt_world::{AckFlags, Ask, Config, Name, NodeFault, Octets, Outcome, Parsed, Side, State};
 use std::alloc::{AllocError, Global};
 use std::process::Abort;
 

@@ -2,10 +2,9 @@
 
 use crate::rows::{CONFIG, Content, ONE, Path, Row, Shown};
 use crate::walking::walk;
-use lpt_link::Lane::{G1, S1};
-use lpt_node::Side;
-use lpt_packet::Direction::{Down, Up};
-use lpt_world::{State, laws};
+use lpt_world::Direction::{Down, Up};
+use lpt_world::Lane::{G1, S1};
+use lpt_world::{Side, State, laws};
 
 /// The link, the hands and the ends.
 const SHOWN: [Row; 12] = [

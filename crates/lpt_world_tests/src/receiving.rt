@@ -3,11 +3,9 @@
 use crate::packets::*;
 use crate::playing::{Packet, Play, Row, play_all};
 use crate::stations::PASS;
-use lpt_ledger::State;
-use lpt_node::Outcome::{self, *};
-use lpt_node::Side::{self, Craft, Ground};
-use lpt_node::{Config, NodeFault, Why};
-use lpt_part::Reason;
+use lpt_world::Outcome::{self, *};
+use lpt_world::Side::{self, Craft, Ground};
+use lpt_world::{Config, NodeFault, Reason, State, Why};
 
 const FIRST: Packet = (&FIRST_UP, &FIRST_DOWN);
 

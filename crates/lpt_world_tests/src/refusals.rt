@@ -4,10 +4,9 @@
 use crate::packets::{FIRST_UP, FOREIGN, IDLE, REPORT};
 use crate::rows::{Asked, CONFIG, Content, ONE, Path, Row, SEAT, Shown};
 use crate::walking::{memories_of, walk};
-use lpt_link::Lane::{S1, S2};
-use lpt_node::{Config, Outcome, Why};
-use lpt_packet::Direction::{Down, Up};
-use lpt_world::{Answer, ConfigFault, StepFault, World};
+use lpt_world::Direction::{Down, Up};
+use lpt_world::Lane::{S1, S2};
+use lpt_world::{Answer, Config, ConfigFault, Outcome, StepFault, Why, World};
 use std::alloc::{AllocError, Global};
 
 const MOSTLY_REFUSED: [Row; 20] = [

@@ -1,11 +1,10 @@
 //! Rows of worlds: what is asked for, what comes of it, and what the world shows then.
 
-use lpt_events::{Applied, Worker};
-use lpt_link::Lane::{self, S1};
-use lpt_node::{Config, Outcome, Side};
-use lpt_packet::{Direction, Name, Octets};
-use lpt_pus::AckFlags;
-use lpt_world::{Answer, Event, State, StepFault};
+use lpt_world::Lane::{self, S1};
+use lpt_world::{
+    AckFlags, Answer, Applied, Config, Direction, Event, Name, Octets, Outcome, Side, State,
+    StepFault, Worker,
+};
 use std::alloc::{AllocError, Global};
 
 pub(crate) const CONFIG: Config = Config {

@@ -4,13 +4,9 @@ use crate::execution_growths::LARGE;
 use crate::growths::PATHS;
 use crate::rows::{CONFIG, ONE, Row, event_of, octets_of, step_of};
 use crate::walking::memories_of;
-use lpt_events::Applied;
-use lpt_link::Lane::S1;
-use lpt_node::Outcome;
-use lpt_packet::Direction::{Down, Up};
-use lpt_packet::Name;
-use lpt_pus::FailureCode;
-use lpt_world::{Answer, Event, StepFault, World};
+use lpt_world::Direction::{Down, Up};
+use lpt_world::Lane::S1;
+use lpt_world::{Answer, Applied, Event, FailureCode, Name, Outcome, StepFault, World};
 use std::alloc::{AllocError, Global};
 
 /// The second row isn't accepted.

@@ -6,8 +6,8 @@
 use crate::packets::*;
 use crate::playing::{Play, Row, play_all};
 use crate::stations::PASS;
-use lpt_node::Side::{Craft, Ground};
-use lpt_node::{Ask, Config, NodeFault};
+use lpt_world::Side::{Craft, Ground};
+use lpt_world::{Ask, Config, NodeFault};
 
 static PLAYS: [Play; 7] = [
     Play {

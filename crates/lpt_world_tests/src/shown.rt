@@ -1,11 +1,8 @@
 //! What worlds show.
 
 use crate::rows::{Content, Message, Row, Shown};
-use lpt_events::Worker;
-use lpt_node::Side;
-use lpt_packet::Direction::{self, Down, Up};
-use lpt_packet::{Name, Octets, crc16};
-use lpt_world::World;
+use lpt_world::Direction::{self, Down, Up};
+use lpt_world::{Name, Octets, Side, Worker, World, crc16};
 
 /// Whether a world shows what a row says.
 pub(crate) fn shows(world: &World, row: &Row) -> bool {

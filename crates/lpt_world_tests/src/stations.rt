@@ -1,10 +1,9 @@
 //! One end of the link, and for what its packets are read.
 
 ghost use Rattle.std.specs.Prelude.{◌≡◌};
-ghost use Rattle.lpt_part.specs.Splitting.{IsPartSize};
+ghost use Rattle.lpt_world.specs.LptPart.Splitting.{IsPartSize};
 
-use lpt_node::{Accepted, Config, Node, Parsed, Side};
-use lpt_packet::{Name, Octets};
+use lpt_world::{Accepted, Config, Name, Node, Octets, Parsed, Side};
 use std::alloc::{AllocError, Global};
 use std::process::Abort;
 

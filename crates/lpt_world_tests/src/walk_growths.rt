@@ -6,13 +6,9 @@
 use crate::packets::EXPIRED;
 use crate::rows::{Asked, CONFIG, Content, ONE, Path, Row, SEAT, Shown};
 use crate::walking::walk;
-use lpt_events::Applied;
-use lpt_link::Lane::{G1, S1};
-use lpt_node::{Config, Outcome, Why};
-use lpt_packet::Direction::{Down, Up};
-use lpt_part::Reason;
-use lpt_pus::FailureCode;
-use lpt_world::{Answer, StepFault};
+use lpt_world::Direction::{Down, Up};
+use lpt_world::Lane::{G1, S1};
+use lpt_world::{Answer, Applied, Config, FailureCode, Outcome, Reason, StepFault, Why};
 
 /// Bodies of requests: two areas of a load, of which the second has a wrong checksum; a load up to the
 /// end of the memory, and past it; a dump of two octets, and of three; a check of two.

@@ -4,8 +4,9 @@
 use crate::outside::comes_outside;
 use crate::rows::{Path, Row, Step, event_of, octets_of, step_of};
 use crate::shown::{has_opened, has_released, shows, sight_of};
-use lpt_memory::{Memories, Shape};
-use lpt_world::{ConfigFault, Entry, Event, Puts, Refused, Reply, StepFault, World};
+use lpt_world::{
+    ConfigFault, Entry, Event, Memories, Puts, Refused, Reply, Shape, StepFault, World,
+};
 use std::alloc::{AllocError, Global};
 use std::process::Abort;
 

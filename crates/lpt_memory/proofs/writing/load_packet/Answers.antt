@@ -1,7 +1,7 @@
 -- The body fits a packet, and its packet is read again as the load.
 use Rattle.std.proofs.Common.{◌≡◌, ◌∙◌, refl, ap, arith, ℕ, ◌<◌, List, length, Some}
 use Rattle.std.proofs.lemmas.Result.{IfOk-weaker}
-use Rattle.lpt_packet.specs.Packets.{spelling}
+use Rattle.lpt_pus.specs.LptPacket.Packets.{spelling}
 use Rattle.lpt_pus.specs.Commands.{Command, CommandFits, command, packet_of, command_in}
 use Rattle.lpt_memory.specs.Ranges.{MeansLoad}
 use Rattle.lpt_memory.specs.Spellings.{load_text}

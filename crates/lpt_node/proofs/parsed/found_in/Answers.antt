@@ -1,10 +1,10 @@
 -- What octets are to a side.
 use Rattle.std.proofs.Common.{◌∙◌, ap, subst, sym, Result}
 use Rattle.std.specs.Result.{result_ok}
-use Rattle.lpt_packet.specs.declared.fault.PacketFault.{PacketFault}
-use Rattle.lpt_packet.specs.declared.packet.Seen.TheVariants as seen_as
-use Rattle.lpt_packet.specs.Packets.{Sight, fields}
-use Rattle.lpt_events.specs.declared.side.Side.{Side}
+use Rattle.lpt_execution.specs.LptPacket.declared.fault.PacketFault.{PacketFault}
+use Rattle.lpt_execution.specs.LptPacket.declared.packet.Seen.TheVariants as seen_as
+use Rattle.lpt_execution.specs.LptPacket.Packets.{Sight, fields}
+use Rattle.lpt_execution.specs.LptEvents.declared.side.Side.{Side}
 use Rattle.lpt_node.specs.Found.{IsFoundIn}
 use Rattle.lpt_node.proofs.ArrivalLemmas.{seen-read, found_unreadable, found_idle, found_foreign, found_packet}
 use Rattle.lpt_node.proofs.parsed.found_in.Goals as goal

@@ -1,6 +1,6 @@
 -- What a packet is on ground.
-use Rattle.lpt_packet.specs.Packets.{fields}
-use Rattle.lpt_pus.specs.Telemetry.{telemetry}
+use Rattle.lpt_execution.specs.LptPacket.Packets.{fields}
+use Rattle.lpt_execution.specs.LptPus.Telemetry.{telemetry}
 use Rattle.lpt_node.proofs.ArrivalLemmas.{downlink_part, downlink_abort}
 use Rattle.lpt_node.proofs.parsed.found_in_downlink.Goals as goal
 

@@ -1,6 +1,6 @@
 -- What a packet is to the spacecraft.
-use Rattle.lpt_packet.specs.Packets.{fields}
-use Rattle.lpt_pus.specs.Commands.{command}
+use Rattle.lpt_execution.specs.LptPacket.Packets.{fields}
+use Rattle.lpt_execution.specs.LptPus.Commands.{command}
 use Rattle.lpt_node.proofs.ArrivalLemmas.{uplink_part, uplink_request}
 use Rattle.lpt_node.proofs.parsed.found_in_uplink.Goals as goal
 

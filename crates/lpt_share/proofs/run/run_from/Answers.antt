@@ -1,6 +1,6 @@
 -- The given world goes on from itself, and what was found at the end is so.
 use Rattle.std.proofs.Common.{refl, rules}
-use Rattle.lpt_seats.proofs.Going.{Begins-self}
+use Rattle.lpt_share.proofs.Going.{Begins-self}
 use Rattle.lpt_share.proofs.run.run_from.Goals as goal
 
 pub from_origin-shared-requires : goal.from_origin-shared-requires

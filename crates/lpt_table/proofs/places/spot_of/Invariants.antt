@@ -1,6 +1,6 @@
 use Rattle.std.proofs.Common.{◌≡◌, ◌+◌, ℕ, drop}
 use Rattle.std.specs.Option.{option_map}
-use Rattle.lpt_packet.specs.Names.{name_cmp}
+use Rattle.lpt_reception.specs.LptPacket.Names.{name_cmp}
 use Rattle.lpt_table.specs.Places.{spot, by_name}
 use Rattle.lpt_table.proofs.places.spot_of.Given as goal
 

@@ -1,5 +1,5 @@
 use Rattle.std.proofs.Common.{◌≡◌}
-use Rattle.lpt_tool.specs.Ends.{Grows}
+use Rattle.lpt_script.specs.Ends.{Grows}
 use Rattle.lpt_tool.proofs.threads.run_kept.Given as goal
 
 -- what was written stays, and no write has failed

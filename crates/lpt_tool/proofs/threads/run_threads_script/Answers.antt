@@ -1,10 +1,10 @@
 use Rattle.std.proofs.Common.{[], subst, inl, Ok, Err, true}
 use Rattle.std.proofs.KnownBytes.{Consumes-nil}
-use Rattle.lpt_tool.specs.Ends.{RunEnds}
-use Rattle.lpt_tool.specs.Scripts.{is_later}
-use Rattle.lpt_tool.proofs.RunEnds.{memory_ends}
+use Rattle.lpt_script.specs.Ends.{RunEnds}
+use Rattle.lpt_script.specs.Scripts.{is_later}
+use Rattle.lpt_script.proofs.RunEnds.{memory_ends}
 use Rattle.lpt_tool.proofs.ThreadLemmas.{after_fault, lines_fault, threads_done}
-use Rattle.lpt_world.specs.Worlds.{new_world}
+use Rattle.lpt_share.specs.LptWorld.Worlds.{new_world}
 use Rattle.lpt_tool.proofs.threads.run_threads_script.Goals as goal
 
 -- the lines ended by a fault: the world is the new one, and its lines that show are kept

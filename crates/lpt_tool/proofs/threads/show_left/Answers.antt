@@ -1,4 +1,4 @@
-use Rattle.lpt_tool.proofs.ThreadLemmas.{grows_on}
+use Rattle.lpt_script.proofs.GrowthLemmas.{grows_on}
 use Rattle.lpt_tool.proofs.threads.show_left.Goals as goal
 
 -- what was left, and then what the kept lines show

@@ -1,6 +1,6 @@
 -- The message is kept, and its sender open.
 use Rattle.std.proofs.Common.{◌∙◌, ap, sym, ℕ, List, Option, Some}
-use Rattle.lpt_packet.specs.Names.{Name}
+use Rattle.lpt_execution.specs.LptPacket.Names.{Name}
 use Rattle.lpt_ledger.specs.LeastFree.{least_free_in}
 use Rattle.lpt_execution.specs.Reporting.{opened_of}
 use Rattle.lpt_node.specs.Nodes.{NodeView}

@@ -1,15 +1,15 @@
 -- A reading that was prepared outside is handed in, and the longer journal is shown.
 use Rattle.std.proofs.Common.{◌≡◌, ◌∙◌, ap, sym, None}
-use Rattle.lpt_events.specs.declared.event.Event.TheVariants.{Commit}
-use Rattle.lpt_machine.specs.State.{refusal_of}
-use Rattle.lpt_ends.specs.EndsInside.{state_of}
+use Rattle.lpt_system.specs.LptEvents.declared.event.Event.TheVariants.{Commit}
+use Rattle.lpt_system.specs.LptModel.State.{refusal_of}
+use Rattle.lpt_system.specs.SystemInside.{state_of}
 use Rattle.lpt_world.specs.Worlds.{Shown, refusal_at}
 use Rattle.lpt_world.proofs.WorldLemmas.{free_shown, ready_shown, shown_push}
 use Rattle.lpt_world.proofs.world.World.commit_with.Goals as goal
 
 pub commit_read-reply-requires-clause-ready : goal.commit_read-reply-requires-clause-ready
 commit_read-reply-requires-clause-ready c =
-    let e = c.self.inside.ends in
+    let e = c.self.inside.system in
     let event = Commit c.args.worker in
     ready_shown e c.self.inside.first c.self.inside.journal.items event c.self.invariant
     (free_shown e c.self.inside.first c.self.inside.journal.items c.args.seat event c.self.invariant
@@ -17,7 +17,7 @@ commit_read-reply-requires-clause-ready c =
 
 pub invariant_of-self-2 : goal.invariant_of-self-2
 invariant_of-self-2 c =
-    let e = c.self.inside.ends in
+    let e = c.self.inside.system in
     let event = Commit c.args.worker in
     let free : refusal_of e.config (state_of e) event ≡ None =
     free_shown e c.self.inside.first c.self.inside.journal.items c.args.seat event c.self.invariant

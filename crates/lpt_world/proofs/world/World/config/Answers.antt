@@ -1,4 +1,4 @@
--- The configuration of the ends is the one that is shown.
+-- The configuration of the system is the one that is shown.
 use Rattle.std.proofs.Common.{ap}
 use Rattle.lpt_world.specs.Worlds.{Shown}
 use Rattle.lpt_world.proofs.world.World.config.Goals as goal

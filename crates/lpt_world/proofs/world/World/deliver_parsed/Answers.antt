@@ -1,9 +1,9 @@
 -- A delivery of what was read outside is done, and the longer journal is shown.
 use Rattle.std.proofs.Common.{arith, ◌≡◌, ◌∙◌, ap, subst, sym, length, None}
-use Rattle.lpt_events.specs.declared.event.Event.TheVariants.{Deliver}
-use Rattle.lpt_journal.specs.Replies.{reply}
-use Rattle.lpt_machine.specs.State.{refusal_of, after}
-use Rattle.lpt_ends.specs.EndsInside.{state_of}
+use Rattle.lpt_system.specs.LptEvents.declared.event.Event.TheVariants.{Deliver}
+use Rattle.lpt_refinement.specs.LptJournal.Replies.{reply}
+use Rattle.lpt_system.specs.LptModel.State.{refusal_of, after}
+use Rattle.lpt_system.specs.SystemInside.{state_of}
 use Rattle.lpt_world.specs.Outside.{IsOfHand}
 use Rattle.lpt_world.specs.Worlds.{Shown, refusal_at, history}
 use Rattle.lpt_world.proofs.LegalLemmas.{numbered_few}
@@ -13,7 +13,7 @@ use Rattle.lpt_world.proofs.world.World.deliver_parsed.Goals as goal
 
 pub deliver_read-requires-clause-read : goal.deliver_read-requires-clause-read
 deliver_read-requires-clause-read c =
-    read_of c.self.inside.ends c.self.inside.first c.self.inside.journal.items c.args.lane c.args.parsed c.self.invariant
+    read_of c.self.inside.system c.self.inside.first c.self.inside.journal.items c.args.lane c.args.parsed c.self.invariant
     (subst (λ (w : Shown). IsOfHand w c.args.lane c.args.parsed) (sym c.self.view_is)
     (c.is_of_hand.ensures.0 c.if-not-is_of_hand.false))
 
@@ -21,13 +21,13 @@ pub deliver_read-requires-clause-numbers : goal.deliver_read-requires-clause-num
 deliver_read-requires-clause-numbers c =
     omega (
       arith,
-      numbered_few c.self.inside.ends.config c.self.inside.first (state_of c.self.inside.ends)
+      numbered_few c.self.inside.system.config c.self.inside.first (state_of c.self.inside.system)
           c.self.inside.journal.items c.self.invariant.told c.self.invariant.shows,
     )
 
 pub invariant_of-self-in-Ok : goal.invariant_of-self-in-Ok
 invariant_of-self-in-Ok c =
-    let e = c.self.inside.ends in
+    let e = c.self.inside.system in
     let event = Deliver c.args.lane in
     let free : refusal_of e.config (state_of e) event ≡ None =
     free_shown e c.self.inside.first c.self.inside.journal.items c.args.seat event c.self.invariant
@@ -39,7 +39,7 @@ invariant_of-self-in-Ok c =
 
 pub returns-in-Ok-clause-reply : goal.returns-in-Ok-clause-reply
 returns-in-Ok-clause-reply c =
-    let e = c.self.inside.ends in
+    let e = c.self.inside.system in
     let event = Deliver c.args.lane in
     let free : refusal_of e.config (state_of e) event ≡ None =
     free_shown e c.self.inside.first c.self.inside.journal.items c.args.seat event c.self.invariant

@@ -1,15 +1,15 @@
 -- What the link holds of a transaction is what the journal says.
 use Rattle.std.proofs.Common.{◌∙◌, ap, ◌||◌}
-use Rattle.lpt_journal.specs.Clear.{part_held, part_in_hand}
-use Rattle.lpt_machine.proofs.ClearShown.{holds_shown}
-use Rattle.lpt_ends.specs.EndsInside.{state_of}
+use Rattle.lpt_refinement.specs.LptJournal.Clear.{part_held, part_in_hand}
+use Rattle.lpt_refinement.proofs.ClearShown.{holds_shown}
+use Rattle.lpt_system.specs.SystemInside.{state_of}
 use Rattle.lpt_world.specs.Worlds.{Shown, history, history_of}
 use Rattle.lpt_world.proofs.ToldLemmas.{shown_named}
 use Rattle.lpt_world.proofs.world.World.is_under_way.Goals as goal
 
 pub returns : goal.returns
 returns c =
-    let e = c.self.inside.ends in
+    let e = c.self.inside.system in
     let first = c.self.inside.first in
     let j = c.self.inside.journal.items in
     c.holds.ensures

@@ -1,7 +1,7 @@
 -- As many jobs wait as the journal says.
 use Rattle.std.proofs.Common.{◌∙◌, ap, ◌-◌, length}
-use Rattle.lpt_journal.specs.Jobs.{jobs, claimed}
-use Rattle.lpt_ends.specs.EndsInside.{state_of}
+use Rattle.lpt_refinement.specs.LptJournal.Jobs.{jobs, claimed}
+use Rattle.lpt_system.specs.SystemInside.{state_of}
 use Rattle.lpt_world.specs.Worlds.{Shown, history, history_of}
 use Rattle.lpt_world.proofs.WaitingLemmas.{waiting_shown}
 use Rattle.lpt_world.proofs.LegalLemmas.{jobs_fit}
@@ -9,7 +9,7 @@ use Rattle.lpt_world.proofs.world.World.jobs_left.Goals as goal
 
 pub returns : goal.returns
 returns c =
-    let e = c.self.inside.ends in
+    let e = c.self.inside.system in
     let first = c.self.inside.first in
     let j = c.self.inside.journal.items in
     c.waiting.ensures

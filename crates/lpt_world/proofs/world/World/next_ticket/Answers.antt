@@ -1,11 +1,11 @@
 -- The ticket is that of the job that the journal gives next.
 use Rattle.std.proofs.Common.{◌≡◌, ◌∙◌, ap, sym, Some}
 use Rattle.std.specs.Option.{option_map}
-use Rattle.lpt_events.specs.declared.event.Event.TheVariants.{Claim}
-use Rattle.lpt_jobs.specs.Jobs.{unclaimed}
-use Rattle.lpt_machine.specs.Tickets.{ticket_of}
-use Rattle.lpt_ends.specs.EndsInside.{state_of}
-use Rattle.lpt_journal.specs.Jobs.{job_given}
+use Rattle.lpt_system.specs.LptEvents.declared.event.Event.TheVariants.{Claim}
+use Rattle.lpt_system.specs.LptJobs.Jobs.{unclaimed}
+use Rattle.lpt_system.specs.LptModel.Tickets.{ticket_of}
+use Rattle.lpt_system.specs.SystemInside.{state_of}
+use Rattle.lpt_refinement.specs.LptJournal.Jobs.{job_given}
 use Rattle.lpt_world.specs.Worlds.{Shown, history, history_of, refusal_at}
 use Rattle.lpt_world.proofs.WaitingLemmas.{named, next_shown, not_none, one_waits}
 use Rattle.lpt_world.proofs.LegalLemmas.{jobs_fit}
@@ -14,7 +14,7 @@ use Rattle.lpt_world.proofs.world.World.next_ticket.Goals as goal
 
 pub unreachable-requires : goal.unreachable-requires
 unreachable-requires c =
-    let e = c.self.inside.ends in
+    let e = c.self.inside.system in
     let event = Claim c.args.worker in
     not_none (unclaimed e.on_craft.at.jobs)
     (one_waits e.on_craft.at (ticket_of (state_of e).tickets c.args.worker)
@@ -24,7 +24,7 @@ unreachable-requires c =
 
 pub returns : goal.returns
 returns c =
-    let e = c.self.inside.ends in
+    let e = c.self.inside.system in
     let first = c.self.inside.first in
     let j = c.self.inside.journal.items in
     let made : c.new.result ≡ named e.on_craft.at.boot (c.in-Some.job, c.in-Some.message.now) =

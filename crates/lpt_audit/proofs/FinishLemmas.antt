@@ -1,0 +1,128 @@
+-- What marks, and parts sent one after the other, say.
+use Rattle.std.proofs.Common.{◌≡◌, ◌∙◌, ◌≤◌, ◌<◌, ◌≢◌, ◌⊎◌, ◌&&◌, ◌||◌, not, inl, inr, nat_lt, refl, sym, subst, ℕ, zero, suc, ◌+◌, Bool, true, false, if◌then◌else◌, List, [], ◌∷◌, length, get_or, set, Option, Some, None, arith}
+use Rattle.std.proofs.lemmas.Bool.{false≢true, ltb-true}
+use Rattle.std.proofs.lemmas.Bool.Decides.{eqb_tells}
+use Rattle.std.proofs.lemmas.List.{get_or-set_other}
+use Rattle.lpt_world.specs.LptPacket.declared.direction.Direction.{Direction}
+use Rattle.lpt_world.specs.LptPacket.Names.{Name}
+use Rattle.lpt_world.specs.LptEvents.declared.entry.Entry.{Entry}
+use Rattle.lpt_world.specs.LptJournal.Link.{sent, is_held, is_lost}
+use Rattle.lpt_world.specs.Worlds.{Shown, history}
+use Rattle.lpt_audit.specs.Finished.{packet_taken, is_number, is_taken, sends, is_sent, finishes}
+use Rattle.lpt_audit.specs.FinishedInside.{mark, marked, AreMarked, sent_on}
+
+-- ---- marks
+
+or_left : (a b : Bool) → a ≡ true → (a || b) ≡ true
+or_left true b e = refl
+or_left false b e = absurd (false≢true e)
+
+or_right : (a b : Bool) → b ≡ true → (a || b) ≡ true
+or_right true b e = refl
+or_right false b e = e
+
+unset : (b : Bool) (k n : ℕ) (ms : List Bool) → n ≢ k
+    → get_or (if b then set ms k true else ms) n false ≡ get_or ms n false
+unset true k n ms other = get_or-set_other ms k n true false other
+unset false k n ms other = refl
+
+mark_says : (t : Option ℕ) (n : ℕ) (ms : List Bool)
+    → get_or (mark t ms) n false ≡ true
+    → (get_or ms n false ≡ true) ⊎ (is_number t n ≡ true)
+mark_says None n ms m = inl m
+mark_says (Some k) n ms m = elim (eqb_tells k n) [
+  | inl t ↦ inr t.0
+  | inr t ↦ inl (sym (unset (nat_lt k (length ms)) k n ms (λ e. t.1 (sym e))) ∙ m)
+]
+
+-- what is marked after entries was marked, or is taken by one of them
+marks_say : (xs : List Entry) (n : ℕ) (ms : List Bool)
+    → get_or (marked xs ms) n false ≡ true
+    → (get_or ms n false ≡ true) ⊎ (is_taken xs n ≡ true)
+marks_say [] n ms m = inl m
+marks_say (x ∷ xs) n ms m = elim (marks_say xs n (mark (packet_taken x.event) ms) m) [
+  | inl before ↦ elim (mark_says (packet_taken x.event) n ms before) [
+    | inl old ↦ inl old
+    | inr now ↦ inr (or_left (is_number (packet_taken x.event) n) (is_taken xs n) now)
+  ]
+  | inr later ↦ inr (or_right (is_number (packet_taken x.event) n) (is_taken xs n) later)
+]
+
+-- each held packet that has a place has its mark
+marked_at : (w : Shown) (n j : ℕ) (ms : List Bool) → AreMarked w n ms → j < length ms
+    → is_held (history w) (n + j) ≡ true → get_or ms j false ≡ true
+marked_at w n j [] all within held = absurd (omega arith)
+marked_at w n zero (m ∷ ms) all within held =
+    let same : n + 0 ≡ n = omega arith in
+    all.0 (subst (λ k. is_held (history w) k ≡ true) same held)
+marked_at w n (suc j) (m ∷ ms) all within held =
+    let same : n + suc j ≡ n + 1 + j = omega arith in
+    marked_at w (n + 1) j ms all.1 (omega arith)
+    (subst (λ k. is_held (history w) k ≡ true) same held)
+
+and_left : (a b : Bool) → (a && b) ≡ true → a ≡ true
+and_left true b e = refl
+and_left false b e = e
+
+-- where each held packet has its mark, and no mark was set before the entries, each is taken
+pub all_taken : (w : Shown) (xs : List Entry) (ms after : List Bool)
+    → length ms ≡ length (sent (history w))
+    → ((n : ℕ) → get_or ms n false ≡ false)
+    → after ≡ marked xs ms
+    → length after ≡ length ms
+    → AreMarked w 0 after
+    → (n : ℕ)
+    → is_held (history w) n ≡ true
+    → is_taken xs n ≡ true
+all_taken w xs ms after count none is long all n held =
+    let put : n < length (sent (history w)) = ltb-true n (length (sent (history w)))
+    (and_left (nat_lt n (length (sent (history w)))) (not (is_lost (history w) n)) held) in
+    let within : n < length after = omega arith in
+    let same : n ≡ 0 + n = omega arith in
+    let set_there : get_or after n false ≡ true =
+    marked_at w 0 n after all within (subst (λ k. is_held (history w) k ≡ true) same held) in
+    elim (marks_say xs n ms (subst (λ y. get_or y n false ≡ true) is set_there)) [
+      | inl old ↦ absurd (false≢true (sym (none n) ∙ old))
+      | inr now ↦ now
+    ]
+
+-- ---- parts
+
+after_not : {k n : ℕ} → k ≤ n → k ≢ n → k + 1 ≤ n
+after_not least differ = omega (arith, differ)
+
+at_entry : (fin snd : Bool) (x : Entry) (xs : List Entry) (d : Direction) (id : Name) (k n : ℕ)
+    → sends x.event d id k ≡ snd
+    → k ≤ n
+    → (k ≤ n → n < sent_on xs d id k → is_sent xs d id n ≡ true)
+    → (k + 1 ≤ n → n < sent_on xs d id (k + 1) → is_sent xs d id n ≡ true)
+    → n < (if fin then k else (if snd then sent_on xs d id (k + 1) else sent_on xs d id k))
+    → is_sent (x ∷ xs) d id n ≡ true
+at_entry true snd x xs d id k n is least same next within = absurd (omega arith)
+at_entry false false x xs d id k n is least same next within =
+    or_right (sends x.event d id n) (is_sent xs d id n) (same least within)
+at_entry false true x xs d id k n is least same next within = elim (eqb_tells k n) [
+  | inl t ↦ or_left (sends x.event d id n) (is_sent xs d id n)
+      (subst (λ j. sends x.event d id j ≡ true) t.1 is)
+  | inr t ↦ let differ = t.1 in
+      or_right (sends x.event d id n) (is_sent xs d id n) (next (after_not least differ) within)
+]
+
+-- each part before the next one is sent
+pub sent_before : (xs : List Entry) (d : Direction) (id : Name) (k n : ℕ)
+    → k ≤ n
+    → n < sent_on xs d id k
+    → is_sent xs d id n ≡ true
+sent_before [] d id k n least within = absurd (omega arith)
+sent_before (x ∷ xs) d id k n least within =
+    at_entry (finishes x.event d id) (sends x.event d id k) x xs d id k n refl least
+    (λ l b. sent_before xs d id k n l b)
+    (λ l b. sent_before xs d id (k + 1) n l b) within
+
+-- where the next part is behind the last, all are sent
+pub all_sent : (xs : List Entry) (d : Direction) (id : Name) (parts next : ℕ)
+    → next ≡ sent_on xs d id 1
+    → parts < next
+    → (k : ℕ) → 1 ≤ k → k ≤ parts → is_sent xs d id k ≡ true
+all_sent xs d id parts next is whole k least most =
+    sent_before xs d id 1 k least (omega (arith, is))

@@ -1,0 +1,2 @@
+pub mod FinishLemmas
+pub mod SettledLemmas

@@ -1,0 +1,10 @@
+pub mod Agreeing
+pub mod Finished
+pub mod FinishedInside
+pub mod Runs
+pub use Rattle.lpt_world.specs.LptPacket as LptPacket
+pub use Rattle.lpt_world.specs.LptMemory as LptMemory
+pub use Rattle.lpt_world.specs.LptPart as LptPart
+pub use Rattle.lpt_world.specs.LptEvents as LptEvents
+pub use Rattle.lpt_world.specs.LptJournal as LptJournal
+pub use Rattle.lpt_world.specs as LptWorld

@@ -1,0 +1,23 @@
+//! The audit of a run of threads: whether the seats' logs agree with the journal, and whether nothing
+//! is left to do.
+//!
+//! A run keeps a log for each seat. Behind it each call of a log is looked up in the journal, and each
+//! entry in the logs; then what seats that weren't cut short owe is looked for: each held packet
+//! taken, each job claimed and executed, each clock at its ticks, each transaction sent and finished.
+#![tactic(auto)]
+
+mod agree;
+mod finish;
+mod owed;
+mod same;
+mod settled;
+
+pub use agree::agrees;
+pub use lpt_world::{
+    AckFlags, Answer, Applied, Area, Call, Config, ConfigFault, Direction, Entry, Event, Lane,
+    Memories, Name, Octets, Outcome, Packet, PacketKind, Parsed, Prepared, Reason, Refused,
+    Release, Reply, SeatLog, Shape, Side, State, StepFault, Ticket, TmHead, Turns, Why, Worker,
+    World, prepare, write_packet, write_tm,
+};
+pub use owed::{Owed, open_transactions};
+pub use settled::{are_in_order, are_short, is_settled};

@@ -1,0 +1,81 @@
+//! The transactions that are open when a run begins, and that it owes.
+
+ghost use Rattle.std.specs.Prelude.{◌≡◌, ◌+◌, ◌<◌, ◌^◌, ◌&&◌, not, length, IsTrue, IfOk};
+ghost use Rattle.lpt_world.specs.LptJournal.Senders.{sender};
+ghost use Rattle.lpt_world.specs.LptNode.Nodes.{is_open};
+ghost use Rattle.lpt_world.specs.LptPart.Splitting.{IsPartSize};
+ghost use Rattle.lpt_world.specs.Worlds.{history, state_shown};
+ghost use Rattle.lpt_audit.specs.Finished.{is_opened, owed_of, AreOwedCarried};
+
+use crate::finish::is_carried;
+use lpt_world::{Direction, Entry, Name, Opening, State, World};
+use std::alloc::{AllocError, Global};
+
+/// An open transaction: its name in its direction, and the length of its message.
+#[derive(Clone, Copy)]
+pub struct Owed {
+    direction: Direction,
+    id: Name,
+    length: usize,
+}
+
+/// The open transactions of a world. The only error is want of memory.
+pub fn open_transactions(alloc: Global, world: &World) -> Result<Vec<Owed>, AllocError>
+    ensures { IfOk result (λ v. v.items ≡ owed_of world.now) }
+{
+    let mut owed = Vec::new(alloc);
+    let mut rest = world.opened();
+    while let Some((opening, later)) = rest.split_first() {
+        if is_open_last(world, opening, later) {
+            owed.push(Owed {
+                direction: opening.direction,
+                id: opening.id,
+                length: opening.message.as_slice().len(),
+            })?;
+        }
+        rest = later;
+    }
+    Ok(owed)
+}
+
+// Whether a transaction is open, and this is its last opening.
+fn is_open_last(world: &World, opening: &Opening, later: &[Opening]) -> bool
+    ensures { result ≡ (is_open (state_shown (sender (history world.now) opening.now.direction opening.now.id))
+        && not (is_opened later.now opening.now.direction opening.now.id)) }
+{
+    match world.sender(opening.direction, opening.id) {
+        State::Open => !is_opened(later, opening.direction, opening.id),
+        State::Free => false,
+        State::Closed => false,
+    }
+}
+
+// Whether one of these openings is of the transaction.
+fn is_opened(openings: &[Opening], direction: Direction, id: Name) -> bool
+    ensures { result ≡ is_opened openings.now direction id }
+{
+    let mut rest = openings;
+    while let Some((opening, tail)) = rest.split_first() {
+        if opening.direction == direction && opening.id == id {
+            return true;
+        }
+        rest = tail;
+    }
+    false
+}
+
+/// Whether each of these was sent whole and finished, or aborted.
+pub fn are_owed_carried(owed: &[Owed], p: u32, entries: &[Entry]) -> bool
+    requires size { IsPartSize p }
+    requires small { length entries.now + 1 < 2 ^ 64 }
+    ensures { IsTrue result → AreOwedCarried p entries.now owed.now }
+{
+    let mut rest = owed;
+    while let Some((one, tail)) = rest.split_first() {
+        if !is_carried(entries, one.direction, one.id, one.length, p) {
+            return false;
+        }
+        rest = tail;
+    }
+    true
+}

@@ -1,7 +1,0 @@
--- The receiver has what was in the hand, which is empty then.
--- The search alone proves it. It is written out so that a wrong body is refused at once.
-use Rattle.std.proofs.Common.{rules}
-use Rattle.lpt_ends.proofs.ends.Ends.deliver_read.Goals as goal
-
-pub returns-clause-ok : goal.returns-clause-ok
-returns-clause-ok c = search rules

@@ -1,4 +1,0 @@
-pub mod EndsInside
-pub mod EndsSound
-pub mod Outside
-pub mod TicketsInside

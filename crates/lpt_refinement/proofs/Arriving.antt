@@ -1,0 +1,109 @@
+-- The spacecraft gets no abortion report, and ground no request.
+use Rattle.std.proofs.Common.{ℕ, ◌==◌, ◌&&◌, Bool, true, false, if◌then◌else◌, List, Option, Some, None}
+use Rattle.std.specs.Option.{option_map_or}
+use Rattle.std.specs.Prelude.{slice_get}
+use Rattle.std.specs.Result.{result_ok}
+use Rattle.lpt_model.specs.LptPacket.declared.direction.Direction.{Direction}
+use Rattle.lpt_model.specs.LptPacket.declared.direction.Direction.TheVariants.{Up, Down}
+use Rattle.lpt_model.specs.LptPacket.Names.{Name}
+use Rattle.lpt_model.specs.LptPacket.Packets.{Fields, Sight, IdlePacket, APacket, seen}
+use Rattle.lpt_model.specs.LptPus.Commands.{Command, tc_verdict}
+use Rattle.lpt_model.specs.LptPus.Telemetry.{Telemetry, tm_verdict}
+use Rattle.lpt_model.specs.LptPart.declared.kind.Kind.{Kind}
+use Rattle.lpt_model.specs.LptPart.declared.reason.Reason.{Reason}
+use Rattle.lpt_model.specs.LptPart.Aborts.{abort_in}
+use Rattle.lpt_model.specs.LptPart.Parts.{Piece, part_in}
+use Rattle.lpt_model.specs.LptEvents.declared.lane.Lane.{Lane}
+use Rattle.lpt_model.specs.LptEvents.Lanes.{lane_direction}
+use Rattle.lpt_model.specs.LptEvents.Sides.{receiver_side}
+use Rattle.lpt_model.specs.LptEvents.declared.config.Config.{Config}
+use Rattle.lpt_model.specs.LptEvents.Arrivals.{Arrival, NotRead, AnIdle, Foreign, ARequest, AReport, NoPart, APart, AnAbort, arrival, sight_arrival, packet_arrival, command_arrival, telemetry_arrival, report_arrival, carried_kind, part_arrival, arrival_in}
+use Rattle.lpt_journal.specs.Journal.{History, SentPacket}
+use Rattle.lpt_journal.specs.Link.{sent}
+use Rattle.lpt_journal.specs.Hands.{hand, in_hand, arrival_at}
+
+-- what may come in a direction
+abbrev pub MayCome : Direction → Arrival → Type 0
+MayCome Up (AnAbort id reason) = ⊥
+MayCome Down (ARequest b) = ⊥
+MayCome d a = Unit {0}
+
+part_comes : (d : Direction) (o : Option Piece) → MayCome d (option_map_or APart o NoPart)
+part_comes Up None = tt
+part_comes Up (Some q) = tt
+part_comes Down None = tt
+part_comes Down (Some q) = tt
+
+command_comes : (p : ℕ) (b body : List ℕ) (o : Option Kind)
+    → MayCome Up (option_map_or (part_arrival p body) o (ARequest b))
+command_comes p b body None = tt
+command_comes p b body (Some kind) = part_comes Up (part_in p kind body)
+
+abort_comes : (o : Option (Name × Reason))
+    → MayCome Down (option_map_or (λ a. AnAbort a.0 a.1) o NoPart)
+abort_comes None = tt
+abort_comes (Some a) = tt
+
+report_comes : (t : Telemetry) → MayCome Down (report_arrival t)
+report_comes t = go ((t.service == 13) && (t.subtype == 16)) where
+  go : (u : Bool)
+      → MayCome Down
+      (if u then option_map_or (λ a. AnAbort a.0 a.1) (abort_in t.body) NoPart
+      else AReport t.service t.subtype)
+  go true = abort_comes (abort_in t.body)
+  go false = tt
+
+telemetry_comes : (p : ℕ) (t : Telemetry) (o : Option Kind)
+    → MayCome Down (option_map_or (part_arrival p t.body) o (report_arrival t))
+telemetry_comes p t None = report_comes t
+telemetry_comes p t (Some kind) = part_comes Down (part_in p kind t.body)
+
+packet_comes : (d : Direction) (p : ℕ) (b : List ℕ) (f : Fields)
+    → MayCome d (packet_arrival (receiver_side d) p b f)
+packet_comes Up p b f = go (result_ok (tc_verdict f)) where
+  go : (o : Option Command) → MayCome Up (option_map_or (command_arrival p b) o NotRead)
+  go None = tt
+  go (Some c) = command_comes p b c.body (carried_kind Up c.service c.subtype)
+packet_comes Down p b f = go (result_ok (tm_verdict f)) where
+  go : (o : Option Telemetry) → MayCome Down (option_map_or (telemetry_arrival p) o NotRead)
+  go None = tt
+  go (Some t) = telemetry_comes p t (carried_kind Down t.service t.subtype)
+
+foreign_comes : (d : Direction) → MayCome d Foreign
+foreign_comes Up = tt
+foreign_comes Down = tt
+
+unread_comes : (d : Direction) → MayCome d NotRead
+unread_comes Up = tt
+unread_comes Down = tt
+
+idle_comes : (d : Direction) → MayCome d AnIdle
+idle_comes Up = tt
+idle_comes Down = tt
+
+sight_comes : (d : Direction) (apid p : ℕ) (b : List ℕ) (o : Option Sight)
+    → MayCome d (sight_arrival (receiver_side d) apid p b o)
+sight_comes d apid p b None = unread_comes d
+sight_comes d apid p b (Some IdlePacket) = idle_comes d
+sight_comes d apid p b (Some (APacket f)) = go (f.apid == apid) where
+  go : (t : Bool) → MayCome d (if t then packet_arrival (receiver_side d) p b f else Foreign)
+  go true = packet_comes d p b f
+  go false = foreign_comes d
+
+octets_come : (d : Direction) (apid p : ℕ) (b : List ℕ)
+    → MayCome d (arrival (receiver_side d) apid p b)
+unfolding arrival
+octets_come d apid p b = sight_comes d apid p b (seen b)
+
+-- what is in a lane's hand may come in its direction
+pub in_hand_comes : (c : Config) (h : History) (l : Lane)
+    → MayCome (lane_direction l) (in_hand c h l)
+in_hand_comes c h l = go (lane_direction l) (hand h l) where
+  at : (d : Direction) (o : Option SentPacket)
+      → MayCome d (option_map_or (λ p. arrival_in c d p.octets) o NotRead)
+  at d None = unread_comes d
+  at d (Some p) = octets_come d c.apid c.part_size p.octets
+
+  go : (d : Direction) (o : Option ℕ) → MayCome d (option_map_or (arrival_at c h d) o NotRead)
+  go d None = unread_comes d
+  go d (Some n) = at d (slice_get (sent h) n)

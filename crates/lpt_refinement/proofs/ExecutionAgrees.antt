@@ -1,0 +1,216 @@
+-- What the node does with a message that is executed is what the journal tells.
+use Rattle.std.proofs.Common.{◌≡◌, ◌∙◌, ap, sym, refl, ℕ, nat_lt, List, [], ◌∷◌, ◌++◌, length, map, Option, Some, is_some}
+use Rattle.std.specs.FinMap as maps
+use Rattle.std.specs.Option.{option_map_or}
+use Rattle.std.proofs.lemmas.List.{map-append}
+use Rattle.lpt_model.specs.LptPacket.declared.direction.Direction.TheVariants.{Down}
+use Rattle.lpt_model.specs.LptPacket.Names.{Name}
+use Rattle.lpt_model.specs.LptLedger.LeastFree.{least_free_in, first_of_numbers, name_count}
+use Rattle.lpt_model.specs.LptLedger.States.{state_of, is_free as is_free_mark}
+use Rattle.lpt_model.specs.LptEvents.declared.config.Config.{Config}
+use Rattle.lpt_model.specs.LptEvents.declared.entry.Release.{Release}
+use Rattle.lpt_model.specs.LptEvents.declared.event.Event.TheVariants.{Apply}
+use Rattle.lpt_model.specs.LptEvents.declared.reply.Answer.{Answer}
+use Rattle.lpt_model.specs.LptEvents.declared.reply.Answer.TheVariants.{Applied}
+use Rattle.lpt_model.specs.LptEvents.declared.side.Side.TheVariants.{Craft}
+use Rattle.lpt_model.specs.LptMemory.Answers.{answer}
+use Rattle.lpt_model.specs.LptMemory.Meanings.{meaning}
+use Rattle.lpt_model.specs.LptMemory.Memories.{Contents, sizes_of, effect}
+use Rattle.lpt_model.specs.LptMemory.Readings.{meant}
+use Rattle.lpt_model.proofs.LptMemory.MeaningLemmas.{meaning-fits}
+use Rattle.lpt_model.proofs.LptMemory.PutLemmas.{sizes_of-effect}
+use Rattle.lpt_model.specs.LptJobs.Jobs.{without_front}
+use Rattle.lpt_model.specs.LptExecution.declared.ending.Ending.{Ending}
+use Rattle.lpt_model.specs.LptExecution.declared.ending.Ending.TheVariants.{Silent}
+use Rattle.lpt_model.specs.LptExecution.declared.ending.Report.{Report}
+use Rattle.lpt_model.specs.LptExecution.Endings.{ending}
+use Rattle.lpt_model.specs.LptExecution.Reporting.{message_reports, link_packets, large_packets, opened_of, applied_of}
+use Rattle.lpt_model.specs.LptNode.Jobs.{Execution, ending_at, report_packets, reported, executed_ending, with_opened as node_opened}
+use Rattle.lpt_model.specs.LptNode.Nodes.{NodeData, Sending}
+use Rattle.lpt_journal.specs.Journal.{SentPacket, Recorded, History, with_all}
+use Rattle.lpt_journal.specs.Link.{sent}
+use Rattle.lpt_journal.specs.Jobs.{executed, executed_now, left_by, memories}
+use Rattle.lpt_journal.specs.Executions.{ending_of, reports_after, opened_down}
+use Rattle.lpt_journal.specs.Receivers.{clock}
+use Rattle.lpt_journal.specs.Replies.{told}
+use Rattle.lpt_journal.specs.Senders.{Sender, FreeSender, OpenSender, ClosedSender, sender, is_free, least_free, made}
+use Rattle.lpt_refinement.specs.Shows.{Shows, ShowsSending, mark_of}
+use Rattle.lpt_model.specs.State.{State}
+use Rattle.lpt_refinement.specs.Views.{Views, views, sending_view}
+use Rattle.lpt_refinement.proofs.FrontShown.{source}
+use Rattle.lpt_refinement.proofs.Refusals.{open_as_many}
+use Rattle.lpt_refinement.proofs.ReportsMade.{packets_agree}
+
+-- ---- what is asked before it
+
+free_shown : (x : Sender) → is_free_mark (state_of (mark_of x)) ≡ is_free x
+free_shown FreeSender = refl
+free_shown (OpenSender m) = refl
+free_shown ClosedSender = refl
+
+-- the least free name of the ledger is the journal's
+least_shown : {x : Sending} (h : History)
+    → ShowsSending Craft x (sending_view h Down)
+    → least_free_in x.ledger ≡ least_free h Down
+unfolding least_free_in
+least_shown {x = x} h k =
+    let same : (id : Name)
+    → is_free_mark (state_of (maps.get x.ledger id)) ≡ is_free (sender h Down id) =
+    λ id. ap (λ m. is_free_mark (state_of m)) (k.ledger id) ∙ free_shown (sender h Down id) in
+    λ i. first_of_numbers name_count 0 (λ id. same id i)
+
+-- the execution ends as the journal tells
+ending_shown : (c : Config) (first : Contents) (s : State) (h : History) (m : List ℕ)
+    → Shows s (views c first h)
+    → ending_at c s.on_craft s.memories (source c first m) ≡ ending_of c first h m
+ending_shown c first s h m k =
+    let count = open_as_many h Down k.craft.sending in
+    let free = least_shown h k.craft.sending in
+    let sizes : sizes_of first ≡ sizes_of (memories c first h) = sym k.sizes in
+    λ i. ending c.part_size (is_some (free i)) (nat_lt (count i) c.outgoing)
+    (answer (meaning c.apid (sizes i) m) (k.memories i))
+
+-- ---- what the journal tells of a message that is executed
+
+-- its reports
+abbrev pub reports : Config → Contents → History → List ℕ → List Report
+reports c first h m = message_reports c.apid m (ending_of c first h m)
+
+-- with their packets
+abbrev pub packets : Config → Contents → History → List ℕ → List (Report × List ℕ)
+packets c first h m = reports_after c (made h Down) (clock c h Craft) (reports c first h m)
+
+-- what it opens
+abbrev pub message : Config → Contents → History → List ℕ → Option (Name × List ℕ)
+message c first h m =
+    opened_of (least_free h Down) (large_packets c.part_size (packets c first h m))
+
+-- what it answers
+abbrev pub told_answer : Config → Contents → History → List ℕ → Answer
+told_answer c first h m = Applied (applied_of (ending_of c first h m) (message c first h m))
+
+-- what it puts
+abbrev pub on_link : Config → Contents → History → List ℕ → List (List ℕ)
+on_link c first h m = link_packets c.part_size (packets c first h m)
+
+abbrev pub sent_down : List (List ℕ) → List SentPacket
+sent_down bs = map (λ b. record { direction = Down; octets = b }) bs
+
+-- the entry
+abbrev pub told_entry : Config → Contents → History → List ℕ → Recorded
+told_entry c first h m =
+    let ps = sent_down (on_link c first h m) in
+    record {
+      event = Apply;
+      reply = record { answer = told_answer c first h m; puts = told (length (sent h)) ps };
+      puts = ps;
+      opens = opened_down (length h) (message c first h m);
+    }
+
+-- the memories after it
+abbrev pub told_memories : Config → Contents → History → Option Release → Contents
+told_memories c first h o =
+    left_by c.apid (map (λ r. r.message) (with_all (executed c h) (executed_now Apply o))) first
+
+-- the view after it
+abbrev pub told_view : Config → Contents → History → Release → Views
+told_view c first h r =
+    record (views c first (told_entry c first h r.message ∷ h)) {
+      memories = told_memories c first h (Some r);
+    }
+
+-- the same of the job at the front, where there is one
+abbrev pub entry_by : Config → Contents → History → Option Release → Recorded
+entry_by c first h o =
+    let end = option_map_or (λ r. ending_of c first h r.message) o Silent in
+    let rs =
+    option_map_or (λ r. message_reports c.apid r.message (ending_of c first h r.message)) o [] in
+    let bs = reports_after c (made h Down) (clock c h Craft) rs in
+    let opens = opened_of (least_free h Down) (large_packets c.part_size bs) in
+    let ps = sent_down (link_packets c.part_size bs) in
+    record {
+      event = Apply;
+      reply = record {
+        answer = Applied (applied_of end opens);
+        puts = told (length (sent h)) ps;
+      };
+      puts = ps;
+      opens = opened_down (length h) opens;
+    }
+
+abbrev pub view_by : Config → Contents → History → Option Release → Views
+view_by c first h o =
+    record (views c first (entry_by c first h o ∷ h)) { memories = told_memories c first h o }
+
+-- ---- what the node does
+
+-- the end and its answer, where the execution ends so and these packets are made
+abbrev pub ended : Config
+    → NodeData
+    → Ending
+    → List Report
+    → List (Report × List ℕ)
+    → Option (Name × List ℕ)
+    → NodeData × Execution
+ended c d end rs bs opens = (
+  node_opened (record d { sending = reported d.sending rs; jobs = without_front d.jobs }) opens,
+  record {
+    applied = applied_of end opens;
+    packets = link_packets c.part_size bs;
+    opened = opens;
+  },
+)
+
+-- the same, as the journal tells
+abbrev pub ended_told : Config → Contents → State → History → List ℕ → NodeData × Execution
+ended_told c first s h m =
+    ended c s.on_craft (ending_of c first h m) (reports c first h m) (packets c first h m)
+    (message c first h m)
+
+-- the node does what the journal tells
+pub execution_agrees : (c : Config) (first : Contents) (s : State) (h : History) (m : List ℕ)
+    → Shows s (views c first h)
+    → executed_ending c s.on_craft (source c first m)
+    (ending_at c s.on_craft s.memories (source c first m))
+    ≡ ended_told c first s h m
+execution_agrees c first s h m k =
+    let free = least_shown h k.craft.sending in
+    let made : report_packets c s.on_craft.sending s.on_craft.clock (reports c first h m)
+    ≡ packets c first h m =
+    packets_agree c (reports c first h m) s.on_craft.clock (clock c h Craft) k.craft.clock
+    k.craft.sending in
+    ap (executed_ending c s.on_craft (source c first m)) (ending_shown c first s h m k)
+    ∙ (λ i. ended c s.on_craft (ending_of c first h m) (reports c first h m) (made i)
+    (opened_of (free i) (large_packets c.part_size (made i))))
+
+-- one request more
+left_by-more : (apid : ℕ) (ms : List (List ℕ)) (m : List ℕ) (first : Contents)
+    → left_by apid (ms ++ m ∷ []) first
+    ≡ effect (meaning apid (sizes_of (left_by apid ms first)) m) (left_by apid ms first)
+left_by-more apid [] m first = refl
+left_by-more apid (x ∷ ms) m first =
+    left_by-more apid ms m (effect (meaning apid (sizes_of first) x) first)
+
+told_more : (c : Config) (first : Contents) (h : History) (r : Release)
+    → told_memories c first h (Some r)
+    ≡ effect (meaning c.apid (sizes_of (memories c first h)) r.message) (memories c first h)
+told_more c first h r =
+    ap (λ ms. left_by c.apid ms first) (map-append (λ r. r.message) (executed c h) (r ∷ []))
+    ∙ left_by-more c.apid (map (λ r. r.message) (executed c h)) r.message first
+
+-- the memories after it
+pub memories_agree : (c : Config) (first : Contents) (s : State) (h : History) (r : Release)
+    → Shows s (views c first h)
+    → effect (meant (source c first r.message)) s.memories ≡ told_memories c first h (Some r)
+memories_agree c first s h r k =
+    (λ i. effect (meaning c.apid (sym k.sizes i) r.message) (k.memories i))
+    ∙ sym (told_more c first h r)
+
+-- an execution leaves the memories' sizes
+pub told_sizes : (c : Config) (first : Contents) (h : History) (r : Release)
+    → sizes_of (told_memories c first h (Some r)) ≡ sizes_of (memories c first h)
+told_sizes c first h r =
+    ap sizes_of (told_more c first h r)
+    ∙ sizes_of-effect (meaning c.apid (sizes_of (memories c first h)) r.message)
+    (memories c first h)
+    (meaning-fits c.apid (sizes_of (memories c first h)) r.message)

@@ -1,0 +1,232 @@
+-- The ends and the link refuse exactly what the journal says, where they show it.
+use Rattle.std.proofs.Common.{◌≡◌, ◌∙◌, ap, sym, refl, ℕ, ◌==◌, nat_lt, nat_le, Bool, true, false, not, ◌&&◌, ◌||◌, if◌then◌else◌, [], ◌∷◌, length, Option, Some, None, is_some}
+use Rattle.std.specs.Option.{option_map, option_map_or}
+use Rattle.std.specs.List.{filter}
+use Rattle.std.specs.Prelude.{slice_get}
+use Rattle.std.proofs.lemmas.Option.{slice_get-map}
+use Rattle.std.specs.FinMap as maps
+use Rattle.lpt_model.specs.LptPacket.declared.direction.Direction.{Direction}
+use Rattle.lpt_model.specs.LptPacket.Names.{Name}
+use Rattle.lpt_model.specs.LptPart.Splitting.{part_count}
+use Rattle.lpt_model.specs.LptLedger.States.{state_of}
+use Rattle.lpt_model.specs.LptLink.declared.fault.LinkFault.TheVariants as link
+use Rattle.lpt_model.specs.LptLink.declared.packet.LinkPacket.{LinkPacket}
+use Rattle.lpt_model.specs.LptEvents.Lanes.{lane_direction, same_direction}
+use Rattle.lpt_model.specs.LptLink.Links.{is_held_for}
+use Rattle.lpt_model.specs.LptEvents.declared.config.Config.{Config}
+use Rattle.lpt_model.specs.LptEvents.declared.side.Side.{Side}
+use Rattle.lpt_model.specs.LptEvents.Sides.{direction_to}
+use Rattle.lpt_model.specs.LptNode.declared.fault.NodeFault.TheVariants as node
+use Rattle.lpt_model.specs.LptNode.Nodes.{Sending}
+use Rattle.lpt_model.specs.LptEvents.Damages.{is_damage_long, looks_whole}
+use Rattle.lpt_model.specs.LptEvents.Requests.{is_part_request, is_too_long}
+use Rattle.lpt_model.specs.LptNode.Sending.{refusal_open_in, refusal_send_of, refusal_finish_in}
+use Rattle.lpt_model.specs.LptNode.Times.{refusal_expire_of}
+use Rattle.lpt_model.specs.LptEvents.declared.event.Event.{Event}
+use Rattle.lpt_model.specs.LptEvents.declared.event.Event.TheVariants.{Open, Send, Plain, Finish, Lose, Damage, Take, Deliver, Tick, Expire, Claim, Commit, Apply, Retire, Restart}
+use Rattle.lpt_model.specs.LptEvents.declared.fault.StepFault.TheVariants.{InUse, Short, Long, TooMany, NotOpen, NoSuchPart, NotHeld, HandFull, HandEmpty, NothingDue, LooksWhole, ClockEnd, PartRequest}
+use Rattle.lpt_journal.specs.Journal.{History}
+use Rattle.lpt_journal.specs.Link.{sent, is_held, goes}
+use Rattle.lpt_journal.specs.Hands.{hand}
+use Rattle.lpt_journal.specs.Receivers.{clock}
+use Rattle.lpt_journal.specs.Due.{due}
+use Rattle.lpt_journal.specs.Refusals.{refusal, first_fault, parts_open}
+use Rattle.lpt_journal.specs.Senders.{Sender, FreeSender, OpenSender, ClosedSender, sender, is_free, is_open, open_count, opened_names}
+use Rattle.lpt_model.specs.LptNode.Faults.{node_fault}
+use Rattle.lpt_refinement.specs.GoesOn.{Fits}
+use Rattle.lpt_model.specs.State.{State, link_fault, refusal_of}
+use Rattle.lpt_refinement.specs.Shows.{Shows, ShowsSending, mark_of, message_of, sent_packet}
+use Rattle.lpt_refinement.specs.Views.{views, sending_view}
+use Rattle.lpt_journal.proofs.MapLemmas.{len_once}
+use Rattle.lpt_journal.proofs.CountLemmas.{open_named}
+use Rattle.lpt_refinement.proofs.DueShown.{due_shown}
+use Rattle.lpt_refinement.proofs.Fields.{sending_at, clock_at}
+use Rattle.lpt_refinement.proofs.FrontShown.{apply_refused}
+use Rattle.lpt_refinement.proofs.ClaimsShown.{claim_refused}
+use Rattle.lpt_refinement.proofs.CommitsShown.{commit_refused}
+use Rattle.lpt_refinement.proofs.RetiredShown.{retire_refused}
+use Rattle.lpt_model.specs.LptMemory.Memories.{Contents}
+
+-- ---- opening
+
+by_lengths : (short long many : Bool)
+    → option_map node_fault
+    (if short then Some node.Short
+    else if long then Some node.Long
+    else if many then Some node.TooMany
+    else None)
+    ≡ first_fault ((short, Short) ∷ (long, Long) ∷ (many, TooMany) ∷ [])
+by_lengths true long many = refl
+by_lengths false true many = refl
+by_lengths false false true = refl
+by_lengths false false false = refl
+
+refuses_open : (c : Config) (x : Sender) (n len : ℕ)
+    → option_map node_fault (refusal_open_in c (state_of (mark_of x)) n len)
+    ≡ first_fault
+    ((not (is_free x), InUse)
+    ∷ (nat_le len c.part_size, Short)
+    ∷ (nat_lt 65542 len, Long)
+    ∷ (nat_le c.outgoing n, TooMany) ∷ [])
+refuses_open c FreeSender n len =
+    by_lengths (nat_le len c.part_size) (nat_lt 65542 len) (nat_le c.outgoing n)
+refuses_open c (OpenSender m) n len = refl
+refuses_open c ClosedSender n len = refl
+
+is_some-message : (x : Sender) → is_some (message_of x) ≡ is_open x
+is_some-message FreeSender = refl
+is_some-message (OpenSender m) = refl
+is_some-message ClosedSender = refl
+
+-- a node has as many open messages as the journal has open transactions
+pub open_as_many : {side : Side} {x : Sending} (h : History) (d : Direction)
+    → ShowsSending side x (sending_view h d)
+    → maps.len x.messages ≡ open_count h d
+open_as_many {x = x} h d k =
+    len_once x.messages (filter (λ q. is_open (sender h d q)) (opened_names h d))
+    (λ id. ap is_some (k.messages id) ∙ is_some-message (sender h d id) ∙ sym (open_named h d id))
+
+-- ---- sending and finishing
+
+by_number : (outside : Bool)
+    → option_map node_fault (if outside then Some node.NoSuchPart else None)
+    ≡ first_fault ((outside, NoSuchPart) ∷ [])
+by_number true = refl
+by_number false = refl
+
+refuses_send : (c : Config) (k : ℕ) (x : Sender)
+    → option_map node_fault (refusal_send_of c k (message_of x))
+    ≡ first_fault
+    ((not (is_open x), NotOpen) ∷ ((k == 0) || nat_lt (parts_open c x) k, NoSuchPart) ∷ [])
+refuses_send c k FreeSender = refl
+refuses_send c k (OpenSender m) =
+    by_number ((k == 0) || nat_lt (part_count (length m) c.part_size) k)
+refuses_send c k ClosedSender = refl
+
+refuses_finish : (x : Sender)
+    → option_map node_fault (refusal_finish_in (state_of (mark_of x)))
+    ≡ first_fault ((not (is_open x), NotOpen) ∷ [])
+refuses_finish FreeSender = refl
+refuses_finish (OpenSender m) = refl
+refuses_finish ClosedSender = refl
+
+-- ---- plain requests
+
+by_request : (part long : Bool)
+    → option_map node_fault
+    (if part then Some node.PartRequest else if long then Some node.Long else None)
+    ≡ first_fault ((part, PartRequest) ∷ (long, Long) ∷ [])
+by_request true long = refl
+by_request false true = refl
+by_request false false = refl
+
+-- ---- damaging
+
+by_damage : (long whole : Bool)
+    → (if long then Some Long else if whole then Some LooksWhole else None)
+    ≡ first_fault ((long, Long) ∷ (whole, LooksWhole) ∷ [])
+by_damage true whole = refl
+by_damage false true = refl
+by_damage false false = refl
+
+-- ---- taking and delivering
+
+held_for : (d : Direction) (o : Option LinkPacket)
+    → option_map_or (λ p. p.held && same_direction p.direction d) o false
+    ≡ (option_map_or (λ p. p.held) o false
+    && option_map_or (λ p. same_direction p.direction d) (option_map sent_packet o) false)
+held_for d None = refl
+held_for d (Some p) = refl
+
+-- the link has a packet for a lane where the journal holds it in its direction
+held_agrees : (c : Config) (first : Contents) (s : State) (h : History) (d : Direction) (n : ℕ)
+    → Shows s (views c first h)
+    → is_held_for s.link d n ≡ (is_held h n && goes h d n)
+held_agrees c first s h d n k =
+    let packet : option_map sent_packet (slice_get s.link.packets n) ≡ slice_get (sent h) n =
+    sym (slice_get-map sent_packet s.link.packets n) ∙ ap (λ ps. slice_get ps n) k.link.packets in
+    held_for d (slice_get s.link.packets n)
+    ∙ (λ i. k.link.held n i && option_map_or (λ p. same_direction p.direction d) (packet i) false)
+
+by_mark : (held : Bool)
+    → option_map link_fault (if held then None else Some link.NotHeld)
+    ≡ first_fault ((not held, NotHeld) ∷ [])
+by_mark true = refl
+by_mark false = refl
+
+by_hand : (full held : Bool)
+    → option_map link_fault
+    (if full then Some link.HandFull else if held then None else Some link.NotHeld)
+    ≡ first_fault ((full, HandFull) ∷ (not held, NotHeld) ∷ [])
+by_hand true held = refl
+by_hand false true = refl
+by_hand false false = refl
+
+by_empty_hand : (full : Bool)
+    → option_map link_fault (if full then None else Some link.HandEmpty)
+    ≡ first_fault ((not full, HandEmpty) ∷ [])
+by_empty_hand true = refl
+by_empty_hand false = refl
+
+-- ---- time
+
+by_clock : (last : Bool)
+    → option_map node_fault (if last then Some node.ClockEnd else None)
+    ≡ first_fault ((last, ClockEnd) ∷ [])
+by_clock true = refl
+by_clock false = refl
+
+by_due : (o : Option Name)
+    → option_map node_fault (refusal_expire_of o)
+    ≡ first_fault ((not (is_some o), NothingDue) ∷ [])
+by_due None = refl
+by_due (Some id) = refl
+
+-- ---- all events
+
+-- what is refused is what the journal refuses, for the same reason
+pub refusal_shown : (c : Config) (first : Contents) (s : State) (h : History) (e : Event)
+    → Shows s (views c first h)
+    → Fits c first h
+    → refusal_of c s e ≡ refusal c h e
+refusal_shown c first s h (Open d id m) k fits =
+    let own = sending_at c first h d k in
+    (λ i. option_map node_fault
+    (refusal_open_in c (state_of (own.ledger id i)) (open_as_many h d own i) (length m)))
+    ∙ refuses_open c (sender h d id) (open_count h d) (length m)
+refusal_shown c first s h (Send d id n) k fits =
+    ap (λ o. option_map node_fault (refusal_send_of c n o)) ((sending_at c first h d k).messages id)
+    ∙ refuses_send c n (sender h d id)
+refusal_shown c first s h (Plain flags service subtype body) k fits =
+    by_request (is_part_request service subtype) (is_too_long c (length body))
+refusal_shown c first s h (Finish d id) k fits =
+    ap (λ m. option_map node_fault (refusal_finish_in (state_of m)))
+    ((sending_at c first h d k).ledger id)
+    ∙ refuses_finish (sender h d id)
+refusal_shown c first s h (Lose n) k fits =
+    (λ i. option_map link_fault (if k.link.held n i then None else Some link.NotHeld))
+    ∙ by_mark (is_held h n)
+refusal_shown c first s h (Damage d b) k fits = by_damage (is_damage_long c b) (looks_whole b)
+refusal_shown c first s h (Take l n) k fits =
+    let w = lane_direction l in
+    (λ i. option_map link_fault
+    (if is_some (k.link.hands l i) then Some link.HandFull
+    else if held_agrees c first s h w n k i then None
+    else Some link.NotHeld))
+    ∙ by_hand (is_some (hand h l)) (is_held h n && goes h w n)
+refusal_shown c first s h (Deliver l) k fits =
+    ap (λ o. option_map link_fault (if is_some o then None else Some link.HandEmpty))
+    (k.link.hands l)
+    ∙ by_empty_hand (is_some (hand h l))
+refusal_shown c first s h (Tick side) k fits =
+    ap (λ n. option_map node_fault (if n == 4294967295 then Some node.ClockEnd else None))
+    (clock_at c first h side k)
+    ∙ by_clock (clock c h side == 4294967295)
+refusal_shown c first s h (Expire side) k fits =
+    ap (λ o. option_map node_fault (refusal_expire_of o)) (due_shown c first s h side k)
+    ∙ by_due (due c h (direction_to side))
+refusal_shown c first s h (Claim w) k fits = claim_refused c first s h w k fits.jobs
+refusal_shown c first s h (Commit w) k fits = commit_refused c first s h w k
+refusal_shown c first s h Apply k fits = apply_refused c first s h k fits.jobs
+refusal_shown c first s h (Retire d id) k fits = retire_refused c first s h d id k fits
+refusal_shown c first s h (Restart side) k fits = refl

@@ -1,0 +1,213 @@
+-- How the endings of events, lines and scripts follow from one another.
+use Rattle.std.proofs.Common.{◌≡◌, ℕ, ◌+◌, List, [], ◌∷◌, ◌++◌, length, take, drop, Option, None, Some, Result, Ok, Err, Bool, true, false, refl, sym, ap, ◌∙◌, subst, append-nil, IfOk, slice_index_or, suc, ◌<◌, arith}
+use Rattle.lpt_text.proofs.StreamLemmas.{part_after, part_of_front, part_unchanged}
+use Rattle.std.specs.List.{flat_map}
+use Rattle.std.proofs.lemmas.Grind.{flat_map-append}
+use Rattle.std.proofs.Math.Seq.{take-suc}
+use Rattle.std.proofs.lemmas.List.{take-append-drop}
+use Rattle.std.proofs.KnownBytes.{Appends-trans}
+use Rattle.std.specs.Io.KnownBytes.{Appends}
+use Rattle.lpt_print.specs.Printing.{accepted_text, refused_text}
+use Rattle.lpt_words.specs.declared.grammar.Reading.TheVariants.{Unreadable}
+use Rattle.lpt_text.specs.Streams.{AppendsPart}
+use Rattle.lpt_text.specs.declared.fault.ToolFault.{ToolFault}
+use Rattle.lpt_text.specs.declared.fault.ToolFault.TheVariants as tool
+use Rattle.lpt_script.specs.Ends.{TextEnds, LineEnds, LinesEnd, unrefused}
+use Rattle.lpt_script.specs.Scripts.{Ran, Script, unreadable, printed, answered, stepped, stepped_as, joined, unless_refused, and_then, line_ran}
+use Rattle.lpt_world.specs.LptEvents.declared.event.Event.{Event}
+use Rattle.lpt_world.specs.LptEvents.declared.fault.StepFault.{StepFault}
+use Rattle.lpt_world.specs.LptEvents.declared.fault.StepFault.TheVariants.{Memory}
+use Rattle.lpt_world.specs.Worlds.{Shown, refusal_at, with_entry, RefusedBy}
+
+-- ---- printed texts
+
+-- what is printed without an event leaves the world as it is
+pub quiet_ends : (w : Shown) (text : List ℕ) (r : Result Unit ToolFault) (a b : Option (List ℕ))
+    → TextEnds text r a b
+    → LineEnds (printed w text) (unrefused r) w a b
+quiet_ends w text (Ok u) a b p = (refl, refl, refl, p)
+quiet_ends w text (Err tool.Write) a b p = p
+quiet_ends w text (Err tool.Memory) a b p = p
+quiet_ends w text (Err tool.Read) a b p = p
+quiet_ends w text (Err tool.Config) a b p = p
+quiet_ends w text (Err (tool.Line k)) a b p = absurd p
+quiet_ends w text (Err (tool.Threads k)) a b p = p
+
+-- a text that can't be written
+pub text_fault : (script : Script) (fault : ToolFault) (a b : Option (List ℕ))
+    → TextEnds {A = Unit} script.text (Err fault) a b
+    → LinesEnd script (Err fault) a b
+text_fault script tool.Write a b p = p
+text_fault script tool.Memory a b p = p
+text_fault script tool.Read a b p = p
+text_fault script tool.Config a b p = p
+text_fault script (tool.Line k) a b p = absurd p
+text_fault script (tool.Threads k) a b p = p
+
+-- a line that is unreadable
+pub unreadable_ends : (n : ℕ) (w : Shown) (fault : ToolFault) (a b : Option (List ℕ))
+    → LinesEnd (unreadable n) (Err fault) a b
+    → LineEnds (line_ran Unreadable n w) (Err fault) w a b
+unreadable_ends n w tool.Write a b p = p
+unreadable_ends n w tool.Memory a b p = p
+unreadable_ends n w tool.Read a b p = p
+unreadable_ends n w tool.Config a b p = p
+unreadable_ends n w (tool.Line k) a b p = p
+unreadable_ends n w (tool.Threads k) a b p = p
+
+-- ---- events
+
+-- an accepted event
+pub accepted_ends : (w v : Shown) (e : Event) (r : Result Bool ToolFault) (a b : Option (List ℕ))
+    → refusal_at w 0 e ≡ None
+    → v ≡ with_entry w 0 e (answered w e)
+    → TextEnds (accepted_text e (answered w e)) r a b
+    → IfOk r (λ refused. refused ≡ false)
+    → LineEnds (stepped w e) r v a b
+accepted_ends w v e r a b none next p not_refused =
+    subst (λ x. LineEnds (stepped_as w e x) r v a b) (sym none) (told r p not_refused)
+  where
+    told : (r : Result Bool ToolFault) → TextEnds (accepted_text e (answered w e)) r a b → IfOk r (λ refused. refused ≡ false)
+        → LineEnds (stepped_as w e None) r v a b
+    told (Ok f) p q = (refl, q, next, p)
+    told (Err tool.Write) p q = p
+    told (Err tool.Memory) p q = p
+    told (Err tool.Read) p q = p
+    told (Err tool.Config) p q = p
+    told (Err (tool.Line k)) p q = absurd p
+    told (Err (tool.Threads k)) p q = p
+
+-- the answer of a refused event: want of memory prints nothing
+pub refused_ends : (w v : Shown) (e : Event) (fault : StepFault) (r : Result Bool ToolFault) (a b : Option (List ℕ))
+    → RefusedBy (refusal_at w 0 e) fault
+    → v ≡ w
+    → TextEnds (refused_text fault) r a b
+    → IfOk r (λ refused. refused ≡ true)
+    → (fault ≡ Memory → (r ≡ Err tool.Memory) × (a ≡ b))
+    → LineEnds (stepped w e) r v a b
+refused_ends w v e fault r a b by same p was_refused memory = by_reason (refusal_at w 0 e) by
+  where
+    told : (first : StepFault) → fault ≡ first → (r : Result Bool ToolFault) → TextEnds (refused_text fault) r a b
+        → IfOk r (λ refused. refused ≡ true) → LineEnds (stepped_as w e (Some first)) r v a b
+    told first is (Ok f) p q = (refl, q, same, subst (λ x. Appends a b (refused_text x)) is p)
+    told first is (Err tool.Write) p q = subst (λ x. AppendsPart a b (refused_text x)) is p
+    told first is (Err tool.Memory) p q = subst (λ x. AppendsPart a b (refused_text x)) is p
+    told first is (Err tool.Read) p q = p
+    told first is (Err tool.Config) p q = p
+    told first is (Err (tool.Line k)) p q = absurd p
+    told first is (Err (tool.Threads k)) p q = p
+
+    by_reason : (x : Option StepFault) → RefusedBy x fault → LineEnds (stepped_as w e x) r v a b
+    by_reason None is =
+        let ends = memory is in
+        subst (λ x. LineEnds (stepped_as w e None) x v a b) (sym ends.0)
+        (subst (λ x. AppendsPart a x (accepted_text e (answered w e))) ends.1 (part_unchanged a (accepted_text e (answered w e))))
+    by_reason (Some first) is = told first is r p was_refused
+
+-- ---- one event after another
+
+-- the second event, where the first was accepted
+pub then_ends : (first : Ran) (second : Shown → Ran) (r : Result Bool ToolFault) (w v : Shown) (a b c : Option (List ℕ))
+    → LineEnds first (Ok false) w a b
+    → LineEnds (second w) r v b c
+    → LineEnds (and_then first second) r v a c
+then_ends first second r w v a b c p q =
+    subst (λ x. LineEnds (unless_refused x first second) r v a c) p.1
+    (joined_ends r (subst (λ x. LineEnds (second x) r v b c) p.2 q))
+  where
+    joined_ends : (r : Result Bool ToolFault) → LineEnds (second first.world) r v b c
+        → LineEnds (joined first (second first.world)) r v a c
+    joined_ends (Ok f) q = (q.0, q.1, q.2, Appends-trans a b c first.text _ p.3 q.3)
+    joined_ends (Err (tool.Line k)) q = (q.0, Appends-trans a b c first.text _ p.3 q.1)
+    joined_ends (Err tool.Write) q = part_after a b c first.text _ p.3 q
+    joined_ends (Err tool.Memory) q = part_after a b c first.text _ p.3 q
+    joined_ends (Err tool.Read) q = q
+    joined_ends (Err tool.Config) q = q
+    joined_ends (Err (tool.Threads k)) q = q
+
+-- the first event alone, where it was refused or its text could not be written
+pub first_ends : (first : Ran) (v : Shown) (second : Shown → Ran) (r : Result Bool ToolFault) (a b : Option (List ℕ))
+    → first.bad ≡ None
+    → LineEnds first r v a b
+    → IfOk r (λ refused. refused ≡ true)
+    → LineEnds (and_then first second) r v a b
+first_ends first v second r a b good p q = by_refused first.refused refl r p q
+  where
+    by_refused : (t : Bool)
+        → first.refused ≡ t
+        → (r : Result Bool ToolFault)
+        → LineEnds first r v a b
+        → IfOk r (λ refused. refused ≡ true)
+        → LineEnds (unless_refused t first second) r v a b
+    by_refused true is r p q = p
+    by_refused false is (Ok f) p q = let never : true ≡ false = sym q ∙ p.1 ∙ is in absurd cc
+    by_refused false is (Err (tool.Line k)) p q = let never : None ≡ Some k = sym good ∙ p.0 in absurd cc
+    by_refused false is (Err tool.Write) p q = part_of_front a b _ _ p
+    by_refused false is (Err tool.Memory) p q = part_of_front a b _ _ p
+    by_refused false is (Err tool.Read) p q = p
+    by_refused false is (Err tool.Config) p q = p
+    by_refused false is (Err (tool.Threads k)) p q = p
+
+-- an event is no unreadable line
+pub good_event : (w : Shown) (e : Event) → (stepped w e).bad ≡ None
+good_event w e = go (refusal_at w 0 e) where
+  go : (o : Option StepFault) → (stepped_as w e o).bad ≡ None
+  go None = refl
+  go (Some f) = refl
+
+-- nor are two
+pub good_events : (w : Shown) (e f : Event) → (and_then (stepped w e) (λ v. stepped v f)).bad ≡ None
+good_events w e f = go (stepped w e).refused where
+  go : (t : Bool) → (unless_refused t (stepped w e) (λ v. stepped v f)).bad ≡ None
+  go true = good_event w e
+  go false = good_event (stepped w e).world f
+
+-- ---- a list of texts, one after another
+
+-- the first n texts with the next are the first n + 1
+front_next : {X : Type 0} (f : X → List ℕ) (xs : List X) (x : X) (n : ℕ) → n < length xs → x ≡ slice_index_or xs n x
+    → flat_map f (take (n + 1) xs) ≡ flat_map f (take n xs) ++ f x
+front_next f xs x n short at =
+    let next : take (n + 1) xs ≡ take n xs ++ x ∷ [] =
+    subst (λ k. take k xs ≡ take n xs ++ x ∷ []) (let e : suc n ≡ n + 1 = omega arith in e)
+    (take-suc xs n x short ∙ ap (λ y. take n xs ++ y ∷ []) (sym at)) in
+    ap (flat_map f) next ∙ flat_map-append f (take n xs) (x ∷ []) ∙ ap (λ t. flat_map f (take n xs) ++ t) (append-nil (f x))
+
+-- the next text is written behind the first n
+pub texts_next : {X : Type 0} (f : X → List ℕ) (xs : List X) (x : X) (n : ℕ) (a b c : Option (List ℕ))
+    → n < length xs
+    → x ≡ slice_index_or xs n x
+    → Appends a b (flat_map f (take n xs))
+    → Appends b c (f x)
+    → Appends a c (flat_map f (take (n + 1) xs))
+texts_next f xs x n a b c short at p q =
+    subst (Appends a c) (sym (front_next f xs x n short at)) (Appends-trans a b c (flat_map f (take n xs)) (f x) p q)
+
+-- a front part of the next behind the first n is a front part of all
+pub texts_part : {X : Type 0} (f : X → List ℕ) (xs : List X) (x : X) (n : ℕ) (a b c : Option (List ℕ))
+    → n < length xs
+    → x ≡ slice_index_or xs n x
+    → Appends a b (flat_map f (take n xs))
+    → AppendsPart b c (f x)
+    → AppendsPart a c (flat_map f xs)
+texts_part f xs x n a b c short at p q =
+    let rest = flat_map f (drop (n + 1) xs) in
+    let whole : flat_map f (take (n + 1) xs) ++ rest ≡ flat_map f xs =
+    sym (flat_map-append f (take (n + 1) xs) (drop (n + 1) xs)) ∙ ap (flat_map f) (take-append-drop (n + 1) xs) in
+    let front = subst (AppendsPart a c) (sym (front_next f xs x n short at))
+    (part_after a b c (flat_map f (take n xs)) (f x) p q) in
+    subst (AppendsPart a c) whole (part_of_front a c (flat_map f (take (n + 1) xs)) rest front)
+
+-- the fault of the next ends all
+pub texts_end : {X : Type 0} (f : X → List ℕ) (xs : List X) (x : X) (n : ℕ) (fault : ToolFault) (a b c : Option (List ℕ))
+    → n < length xs
+    → x ≡ slice_index_or xs n x
+    → Appends a b (flat_map f (take n xs))
+    → TextEnds {A = Unit} (f x) (Err fault) b c
+    → TextEnds {A = Unit} (flat_map f xs) (Err fault) a c
+texts_end f xs x n tool.Write a b c short at p q = texts_part f xs x n a b c short at p q
+texts_end f xs x n tool.Memory a b c short at p q = texts_part f xs x n a b c short at p q
+texts_end f xs x n tool.Read a b c short at p q = q
+texts_end f xs x n tool.Config a b c short at p q = q
+texts_end f xs x n (tool.Line k) a b c short at p q = absurd q
+texts_end f xs x n (tool.Threads k) a b c short at p q = absurd q

@@ -1,0 +1,179 @@
+//! What a command does to a world and what it prints.
+
+ghost use Rattle.std.specs.Prelude.{◌≡◌, ◌≢◌, ◌<◌, ◌-◌, length, slice_get, IsErrOf, None, IfErr, IfOk, IfSome, OnOk, Err, true, false};
+ghost use Rattle.lpt_print.specs.Printing.{accepted_text};
+ghost use Rattle.lpt_script.specs.Ends.{IsTickRefused, LineEnds, TextEnds, unrefused};
+ghost use Rattle.lpt_world.specs.Worlds.{RefusedBy, refusal_at, with_entry};
+ghost use Rattle.lpt_script.specs.Scripts.{and_then, answered, command_ran, stepped, ticked, worked};
+
+use crate::loading::run_load;
+use crate::printed::{put, put_refused};
+use crate::showing::run_show;
+use lpt_print::print_accepted;
+use lpt_text::{Sink, ToolFault};
+use lpt_words::Command;
+use lpt_world::{Entry, Event, Side, StepFault, Worker, World};
+use std::alloc::Global;
+
+/// The seat of the session, for which scripts ask.
+const SESSION: u8 = 0;
+
+/// Does a command, prints its text, and answers whether an event was refused.
+pub fn run_command<K: Sink>(
+    alloc: Global,
+    world: &mut World,
+    command: Command,
+    out: &mut K,
+) -> Result<bool, ToolFault>
+    ensures ends { LineEnds (command_ran command world.old) result world.new (K.contents out.old) (K.contents out.new) }
+    ensures cause { IsErrOf result ToolFault.Write → K.failed out.new ≡ true }
+    ensures told { result ≢ Err ToolFault.Write → K.failed out.new ≡ K.failed out.old }
+{
+    match command {
+        Command::Event(event) => run_event(alloc, world, event, out),
+        Command::Load(load) => run_load(alloc, world, &load, out),
+        Command::Tick(side, count) => run_ticks(alloc, world, side, count, out),
+        Command::Pass(lane, number) => {
+            let (take, deliver) = (Event::Take(lane, number), Event::Deliver(lane));
+            run_both(alloc, world, take, deliver, out)
+        }
+        Command::Work => run_work(alloc, world, out),
+        Command::Show(show) => quietly(run_show(alloc, world, show, out)),
+    }
+}
+
+// What printed nothing of an event has not been refused.
+fn quietly(written: Result<(), ToolFault>) -> Result<bool, ToolFault>
+    ensures { result ≡ unrefused written }
+{
+    match written {
+        Ok(()) => Ok(false),
+        Err(fault) => Err(fault),
+    }
+}
+
+/// Asks the world for an event, prints what it answers, and answers whether it was refused.
+pub(crate) fn run_event<K: Sink>(
+    alloc: Global,
+    world: &mut World,
+    event: Event,
+    out: &mut K,
+) -> Result<bool, ToolFault>
+    ensures ends { LineEnds (stepped world.old event) result world.new (K.contents out.old) (K.contents out.new) }
+    ensures cause { IsErrOf result ToolFault.Write → K.failed out.new ≡ true }
+    ensures told { result ≢ Err ToolFault.Write → K.failed out.new ≡ K.failed out.old }
+{
+    match world.step(SESSION, event) {
+        Ok(_) => put_last(alloc, world, out),
+        Err(refused) => put_refused(alloc, refused.fault, out),
+    }
+}
+
+// Prints what the last event of the journal answered.
+fn put_last<K: Sink>(alloc: Global, world: &World, out: &mut K) -> Result<bool, ToolFault>
+    ensures ends { IfSome (slice_get world.now.journal (length world.now.journal - 1))
+        (λ x. TextEnds (accepted_text x.event x.reply) result (K.contents out.old) (K.contents out.new)) }
+    ensures accepted { IfOk result (λ r. r ≡ false) }
+    ensures cause { IsErrOf result ToolFault.Write → K.failed out.new ≡ true }
+    ensures told { result ≢ Err ToolFault.Write → K.failed out.new ≡ K.failed out.old }
+{
+    match world.journal().last() {
+        Some(entry) => put_entry(alloc, entry, out),
+        None => Ok(false),
+    }
+}
+
+// Prints what an accepted event answered.
+fn put_entry<K: Sink>(alloc: Global, entry: &Entry, out: &mut K) -> Result<bool, ToolFault>
+    ensures ends { TextEnds (accepted_text entry.now.event entry.now.reply) result (K.contents out.old) (K.contents out.new) }
+    ensures accepted { IfOk result (λ r. r ≡ false) }
+    ensures cause { IsErrOf result ToolFault.Write → K.failed out.new ≡ true }
+    ensures told { result ≢ Err ToolFault.Write → K.failed out.new ≡ K.failed out.old }
+{
+    match put(out, print_accepted(alloc, &entry.event, &entry.reply)) {
+        Ok(()) => Ok(false),
+        Err(fault) => Err(fault),
+    }
+}
+
+// Asks for two events, for the second unless the first was refused.
+fn run_both<K: Sink>(
+    alloc: Global,
+    world: &mut World,
+    first: Event,
+    second: Event,
+    out: &mut K,
+) -> Result<bool, ToolFault>
+    ensures ends { LineEnds (and_then (stepped world.old first) (λ w. stepped w second))
+        result world.new (K.contents out.old) (K.contents out.new) }
+    ensures cause { IsErrOf result ToolFault.Write → K.failed out.new ≡ true }
+    ensures told { result ≢ Err ToolFault.Write → K.failed out.new ≡ K.failed out.old }
+{
+    match run_event(alloc, world, first, out) {
+        Ok(false) => run_event(alloc, world, second, out),
+        Ok(true) => Ok(true),
+        Err(fault) => Err(fault),
+    }
+}
+
+// Claims and commits a job with the first worker, and executes the oldest, up to the first of these
+// that is refused.
+fn run_work<K: Sink>(alloc: Global, world: &mut World, out: &mut K) -> Result<bool, ToolFault>
+    ensures ends { LineEnds (worked world.old) result world.new (K.contents out.old) (K.contents out.new) }
+    ensures cause { IsErrOf result ToolFault.Write → K.failed out.new ≡ true }
+    ensures told { result ≢ Err ToolFault.Write → K.failed out.new ≡ K.failed out.old }
+{
+    let (claim, commit) = (Event::Claim(Worker::W1), Event::Commit(Worker::W1));
+    match run_both(alloc, world, claim, commit, out) {
+        Ok(false) => run_event(alloc, world, Event::Apply, out),
+        ended => ended,
+    }
+}
+
+// Asks for so many ticks of a node's clock, up to the first that is refused, and prints the last.
+fn run_ticks<K: Sink>(
+    alloc: Global,
+    world: &mut World,
+    side: Side,
+    count: u32,
+    out: &mut K,
+) -> Result<bool, ToolFault>
+    ensures ends { LineEnds (ticked count side world.old) result world.new (K.contents out.old) (K.contents out.new) }
+    ensures cause { IsErrOf result ToolFault.Write → K.failed out.new ≡ true }
+    ensures told { result ≢ Err ToolFault.Write → K.failed out.new ≡ K.failed out.old }
+{
+    if count == 0 {
+        return Ok(false);
+    }
+    match tick_before_last(world, side, count) {
+        Ok(()) => run_event(alloc, world, Event::Tick(side), out),
+        Err(fault) => put_refused(alloc, fault, out),
+    }
+}
+
+// All ticks but the last.
+fn tick_before_last(world: &mut World, side: Side, count: u32) -> Result<(), StepFault>
+    requires { 0 < count }
+    ensures ok { OnOk result (ticked count side world.old ≡ stepped world.new (Event.Tick side)) }
+    ensures err { IfErr result (λ f. IsTickRefused count side world.old world.new f) }
+{
+    for _ in 1..count {
+        match tick(world, side) {
+            Ok(()) => {}
+            Err(fault) => return Err(fault),
+        }
+    }
+    Ok(())
+}
+
+// One tick, which prints nothing.
+fn tick(world: &mut World, side: Side) -> Result<(), StepFault>
+    ensures ok { OnOk result ((refusal_at world.old 0 (Event.Tick side) ≡ None)
+        × (world.new ≡ with_entry world.old 0 (Event.Tick side) (answered world.old (Event.Tick side)))) }
+    ensures err { IfErr result (λ f. (world.new ≡ world.old) × RefusedBy (refusal_at world.old 0 (Event.Tick side)) f) }
+{
+    match world.step(SESSION, Event::Tick(side)) {
+        Ok(_) => Ok(()),
+        Err(refused) => Err(refused.fault),
+    }
+}

@@ -1,0 +1,30 @@
+//! Scripts: what each line does to a world, and what it prints; and a packet decoded.
+#![tactic(auto)]
+
+mod command;
+mod decoding;
+mod end;
+mod loading;
+mod printed;
+mod script;
+mod showing;
+mod shows;
+
+pub use command::run_command;
+pub use decoding::decode;
+pub use end::ScriptEnd;
+pub use lpt_print::{
+    print_applied_count, print_clock, print_decoded, print_expired, print_finished, print_journal,
+    print_memory, print_none, print_opened, print_outcome, print_packet, print_plain_count,
+    print_put, print_refused, print_release, print_restarted, print_retired, print_stale,
+    print_took, print_unreadable,
+};
+pub use lpt_text::{
+    End, LineBuffer, Sink, Source, Told, ToolFault, flush_out, read_text, write_out,
+};
+pub use lpt_words::{
+    Command, Load, Reading, Show, read_hex, read_line, read_number, split_line, split_word,
+};
+pub use printed::put;
+pub use script::{run_lines, run_script};
+pub use shows::Shows;

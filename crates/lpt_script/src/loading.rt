@@ -1,0 +1,38 @@
+//! Loads that a script asks to be opened.
+
+ghost use Rattle.std.specs.Prelude.{◌≡◌, ◌≢◌, IsErrOf, Err, true};
+ghost use Rattle.lpt_script.specs.Ends.{LineEnds};
+ghost use Rattle.lpt_script.specs.Scripts.{stepped};
+ghost use Rattle.lpt_words.specs.Loads.{load_packet};
+
+use crate::command::run_event;
+use lpt_text::{Sink, ToolFault};
+use lpt_words::Load;
+use lpt_world::{Direction, Event, World};
+use std::alloc::Global;
+
+/// Opens the packet of a load upwards, with the configured APID and source, prints what came of it,
+/// and answers whether it was refused.
+pub(crate) fn run_load<K: Sink>(
+    alloc: Global,
+    world: &mut World,
+    load: &Load,
+    out: &mut K,
+) -> Result<bool, ToolFault>
+    ensures ends { LineEnds (stepped world.old (Event.Open Direction.Up load.now.id
+        (load_packet world.old.config.apid world.old.config.source load.now)))
+        result world.new (K.contents out.old) (K.contents out.new) }
+    ensures cause { IsErrOf result ToolFault.Write → K.failed out.new ≡ true }
+    ensures told { result ≢ Err ToolFault.Write → K.failed out.new ≡ K.failed out.old }
+{
+    let config = world.config();
+    match load.packet(alloc, config.apid, config.source) {
+        Ok(packet) => run_event(
+            alloc,
+            world,
+            Event::Open(Direction::Up, load.id(), packet),
+            out,
+        ),
+        Err(_) => Err(ToolFault::Memory),
+    }
+}

@@ -1,0 +1,46 @@
+//! Texts on their way to the writer.
+
+ghost use Rattle.std.specs.Prelude.{◌≡◌, ◌≢◌, ◌⊎◌, ℕ, List, IfErr, IfOk, IsErrOf, Err, string_bytes, true};
+ghost use Rattle.lpt_print.specs.Printing.{refused_text};
+ghost use Rattle.lpt_script.specs.Ends.{Grows, TextEnds};
+
+use lpt_print::print_refused;
+use lpt_text::{Sink, ToolFault, write_out};
+use lpt_world::StepFault;
+use std::alloc::{AllocError, Global};
+
+/// Writes a text, where it could be made.
+pub fn put<K: Sink>(out: &mut K, text: Result<String, AllocError>) -> Result<(), ToolFault>
+    ensures ends { (t : List ℕ) → IfOk text (λ s. string_bytes s ≡ t) → TextEnds t result (K.contents out.old) (K.contents out.new) }
+    ensures grows { Grows (K.contents out.old) (K.contents out.new) }
+    ensures only { IfErr result (λ e. (e ≡ ToolFault.Write) ⊎ (e ≡ ToolFault.Memory)) }
+    ensures cause { IsErrOf result ToolFault.Write → K.failed out.new ≡ true }
+    ensures told { result ≢ Err ToolFault.Write → K.failed out.new ≡ K.failed out.old }
+{
+    match text {
+        Ok(text) => write_out(out, text.as_bytes()),
+        Err(_) => Err(ToolFault::Memory),
+    }
+}
+
+/// Writes why an event was refused, and answers that it was. Nothing is written for want of memory,
+/// which ends the run.
+pub(crate) fn put_refused<K: Sink>(
+    alloc: Global,
+    fault: StepFault,
+    out: &mut K,
+) -> Result<bool, ToolFault>
+    ensures refused { IfOk result (λ r. r ≡ true) }
+    ensures ends { TextEnds (refused_text fault) result (K.contents out.old) (K.contents out.new) }
+    ensures memory { fault ≡ StepFault.Memory → (result ≡ Err ToolFault.Memory) × (K.contents out.old ≡ K.contents out.new) }
+    ensures cause { IsErrOf result ToolFault.Write → K.failed out.new ≡ true }
+    ensures told { result ≢ Err ToolFault.Write → K.failed out.new ≡ K.failed out.old }
+{
+    if fault == StepFault::Memory {
+        return Err(ToolFault::Memory);
+    }
+    match put(out, print_refused(alloc, fault)) {
+        Ok(()) => Ok(true),
+        Err(fault) => Err(fault),
+    }
+}

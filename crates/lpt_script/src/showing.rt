@@ -1,0 +1,113 @@
+//! What a world shows, printed.
+
+ghost use Rattle.std.specs.Prelude.{◌≡◌, ◌≢◌, IsErrOf, Err, true, option_map};
+ghost use Rattle.std.specs.List.{flat_map};
+ghost use Rattle.lpt_print.specs.Printing.{clear_text, memory_text, release_text, releases_text};
+ghost use Rattle.lpt_world.specs.LptJournal.Clear.{is_clear};
+ghost use Rattle.lpt_world.specs.Worlds.{history};
+ghost use Rattle.lpt_script.specs.Ends.{TextEnds};
+ghost use Rattle.lpt_script.specs.Scripts.{memory_octets, octets_from, show_text};
+
+use crate::printed::put;
+use lpt_print::{
+    print_clear, print_journal, print_memory, print_none, print_packet, print_release,
+};
+use lpt_text::{Sink, ToolFault};
+use lpt_words::Show;
+use lpt_world::{Direction, Name, Release, World};
+use std::alloc::Global;
+
+/// Prints what a line asks for.
+pub(crate) fn run_show<K: Sink>(
+    alloc: Global,
+    world: &World,
+    show: Show,
+    out: &mut K,
+) -> Result<(), ToolFault>
+    ensures ends { TextEnds (show_text show world.now) result (K.contents out.old) (K.contents out.new) }
+    ensures cause { IsErrOf result ToolFault.Write → K.failed out.new ≡ true }
+    ensures told { result ≢ Err ToolFault.Write → K.failed out.new ≡ K.failed out.old }
+{
+    match show {
+        Show::Released => show_released(alloc, world.released(), out),
+        Show::Packet(number) => put(out, print_packet(alloc, number, world.packet(number))),
+        Show::Memory(id, address, len) => show_memory(alloc, world, id, address, len, out),
+        Show::Clear(direction, id) => show_clear(alloc, world, direction, id, out),
+        Show::Journal => put(out, print_journal(alloc, world.journal().len() as u64)),
+    }
+}
+
+// Prints so many octets of a memory from an address on.
+fn show_memory<K: Sink>(
+    alloc: Global,
+    world: &World,
+    id: u8,
+    address: u32,
+    len: u32,
+    out: &mut K,
+) -> Result<(), ToolFault>
+    ensures ends { TextEnds (memory_text id address (memory_octets world.now id address len)) result (K.contents out.old) (K.contents out.new) }
+    ensures cause { IsErrOf result ToolFault.Write → K.failed out.new ≡ true }
+    ensures told { result ≢ Err ToolFault.Write → K.failed out.new ≡ K.failed out.old }
+{
+    let octets = match world.memory(id) {
+        Some(content) => octets_from(content, address, len),
+        None => None,
+    };
+    put(out, print_memory(alloc, id, address, octets))
+}
+
+// Prints whether nothing is left of a transaction.
+fn show_clear<K: Sink>(
+    alloc: Global,
+    world: &World,
+    direction: Direction,
+    id: Name,
+    out: &mut K,
+) -> Result<(), ToolFault>
+    ensures ends { TextEnds (clear_text (is_clear world.now.config (history world.now) direction id)) result (K.contents out.old) (K.contents out.new) }
+    ensures cause { IsErrOf result ToolFault.Write → K.failed out.new ≡ true }
+    ensures told { result ≢ Err ToolFault.Write → K.failed out.new ≡ K.failed out.old }
+{
+    put(out, print_clear(alloc, world.is_clear(direction, id)))
+}
+
+// So many octets from an address on, where they lie within the content.
+fn octets_from(content: &[u8], address: u32, len: u32) -> Option<&[u8]>
+    ensures { option_map (λ x. x.now) result ≡ octets_from address len content.now }
+{
+    let start = address as usize;
+    let end = start + len as usize;
+    if content.len() < end {
+        return None;
+    }
+    Some(&content[start..end])
+}
+
+// Prints the released messages, or that there is none.
+fn show_released<K: Sink>(alloc: Global, releases: &[Release], out: &mut K) -> Result<(), ToolFault>
+    ensures ends { TextEnds (releases_text releases.now) result (K.contents out.old) (K.contents out.new) }
+    ensures cause { IsErrOf result ToolFault.Write → K.failed out.new ≡ true }
+    ensures told { result ≢ Err ToolFault.Write → K.failed out.new ≡ K.failed out.old }
+{
+    if releases.is_empty() {
+        put(out, print_none(alloc))
+    } else {
+        put_releases(alloc, releases, out)
+    }
+}
+
+// Prints released messages, one a line.
+fn put_releases<K: Sink>(alloc: Global, releases: &[Release], out: &mut K) -> Result<(), ToolFault>
+    ensures ends { TextEnds (flat_map release_text releases.now) result (K.contents out.old) (K.contents out.new) }
+    ensures cause { IsErrOf result ToolFault.Write → K.failed out.new ≡ true }
+    ensures told { result ≢ Err ToolFault.Write → K.failed out.new ≡ K.failed out.old }
+{
+    for release in releases {
+        match put(out, print_release(alloc, release)) {
+            Ok(()) => {}
+            Err(fault) => return Err(fault),
+        }
+    }
+    Ok(())
+}

@@ -1,3 +1,0 @@
-pub mod FinishLemmas
-pub mod Going
-pub mod SettledLemmas

@@ -1,0 +1,188 @@
+//! The seats of a run at its beginning: who tells whom, and the first notices.
+
+use crate::ShareFault;
+use crate::notices::{Outlets, send};
+use crate::task::{Seat, Task};
+use crossbeam_channel::{Receiver, Sender, unbounded};
+use lpt_audit::{Direction, Lane, Name, Side, State, Worker, World};
+use std::alloc::{AllocError, Global};
+use std::sync::Wait;
+
+/// An unbounded channel of notices.
+#[derive(Drop)]
+struct Channel<T: Drop> {
+    to: Sender<T>,
+    from: Receiver<T>,
+}
+
+/// All channels of a run, before any seat has its ends.
+#[derive(Drop)]
+struct Channels {
+    up: Channel<u64>,
+    down: Channel<u64>,
+    jobs: Channel<u64>,
+    opened_up: Channel<Name>,
+    opened_down: Channel<Name>,
+}
+
+/// All seats, from 1 to 10. They have notices of what stands in the world: each held packet, each
+/// job that waits, and each open transaction by rising identifier. No end of a channel is left that
+/// no seat has. Errors: want of memory.
+pub fn all_seats<R: Wait>(alloc: Global, rt: &R, world: &World) -> Result<Vec<Seat>, ShareFault> {
+    let channels = new_channels(alloc)?;
+    let seats = told_seats(alloc, rt, world, &channels);
+    drop(channels);
+    seats
+}
+
+// The seats, each with its ends of these channels, into which the first notices are given.
+fn told_seats<R: Wait>(
+    alloc: Global,
+    rt: &R,
+    world: &World,
+    channels: &Channels,
+) -> Result<Vec<Seat>, ShareFault> {
+    tell_packets(rt, world, channels)?;
+    tell_jobs(rt, world, &channels.jobs.to)?;
+    tell_opened(alloc, rt, world, Direction::Up, &channels.opened_up.to)?;
+    tell_opened(alloc, rt, world, Direction::Down, &channels.opened_down.to)?;
+    Ok(seats(alloc, channels)?)
+}
+
+// A channel.
+fn new_channel<T: Drop>(alloc: Global) -> Result<Channel<T>, AllocError> {
+    let (to, from) = unbounded(alloc)?;
+    Ok(Channel { to, from })
+}
+
+// Two channels, one for each direction.
+fn new_pair<T: Drop>(alloc: Global) -> Result<(Channel<T>, Channel<T>), AllocError> {
+    let up = new_channel(alloc)?;
+    Ok((up, new_channel(alloc)?))
+}
+
+// The channels of a run.
+fn new_channels(alloc: Global) -> Result<Channels, AllocError> {
+    let (up, down) = new_pair(alloc)?;
+    let (opened_up, opened_down) = new_pair(alloc)?;
+    Ok(Channels {
+        up,
+        down,
+        jobs: new_channel(alloc)?,
+        opened_up,
+        opened_down,
+    })
+}
+
+// Gives notice of each held packet. Its direction isn't asked for: the lanes of the other one are
+// refused it.
+fn tell_packets<R: Wait>(rt: &R, world: &World, channels: &Channels) -> Result<(), ShareFault> {
+    for n in 0..world.packets() {
+        if world.is_held(n) {
+            send(rt, &channels.up.to, n)?;
+            send(rt, &channels.down.to, n)?;
+        }
+    }
+    Ok(())
+}
+
+// Gives notice of each job that waits.
+fn tell_jobs<R: Wait>(rt: &R, world: &World, jobs: &Sender<u64>) -> Result<(), ShareFault> {
+    for _ in 0..world.jobs_left() {
+        send(rt, jobs, 0)?;
+    }
+    Ok(())
+}
+
+// Gives notice of each open transaction of a direction.
+fn tell_opened<R: Wait>(
+    alloc: Global,
+    rt: &R,
+    world: &World,
+    direction: Direction,
+    to: &Sender<Name>,
+) -> Result<(), ShareFault> {
+    for id in &open_names(alloc, world, direction)? {
+        send(rt, to, *id)?;
+    }
+    Ok(())
+}
+
+// The names of the open transactions of a direction, rising. One that was opened more than once may
+// stand there as often.
+fn open_names(alloc: Global, world: &World, direction: Direction) -> Result<Vec<Name>, AllocError> {
+    let mut names = Vec::new(alloc);
+    for opening in world.opened() {
+        if opening.direction == direction && world.sender(direction, opening.id) == State::Open {
+            names.push(opening.id)?;
+        }
+    }
+    names.sort()?;
+    Ok(names)
+}
+
+// The ten seats, each with its ends of the channels.
+fn seats(alloc: Global, channels: &Channels) -> Result<Vec<Seat>, AllocError> {
+    let mut all = Vec::new(alloc);
+    for seat in 1..=10 {
+        all.push(seat_of(seat, channels)?)?;
+    }
+    Ok(all)
+}
+
+// The seat of this number.
+fn seat_of(seat: u8, channels: &Channels) -> Result<Seat, AllocError> {
+    let task = task_of(seat, channels)?;
+    Ok(Seat {
+        seat,
+        task,
+        outlets: outlets_of(seat, channels)?,
+    })
+}
+
+// What the seat of this number does.
+fn task_of(seat: u8, channels: &Channels) -> Result<Task, AllocError> {
+    Ok(match seat {
+        1 => Task::Lane(Lane::S1, channels.up.from.clone()?),
+        2 => Task::Lane(Lane::S2, channels.up.from.clone()?),
+        3 => Task::Lane(Lane::G1, channels.down.from.clone()?),
+        4 => Task::Lane(Lane::G2, channels.down.from.clone()?),
+        5 => Task::Timer(Side::Craft),
+        6 => Task::Timer(Side::Ground),
+        7 => Task::Worker(Worker::W1, channels.jobs.from.clone()?),
+        8 => Task::Worker(Worker::W2, channels.jobs.from.clone()?),
+        9 => Task::Sender(Direction::Up, channels.opened_up.from.clone()?),
+        _ => Task::Sender(Direction::Down, channels.opened_down.from.clone()?),
+    })
+}
+
+// Whom the seat of this number tells. Seats 3, 4 and 6 tell nobody.
+fn outlets_of(seat: u8, channels: &Channels) -> Result<Outlets, AllocError> {
+    match seat {
+        1 | 2 => Ok(Outlets {
+            packets: Some(channels.down.to.clone()?),
+            jobs: Some(channels.jobs.to.clone()?),
+            opened: None,
+            told: 0,
+        }),
+        7 | 8 => Ok(Outlets {
+            packets: Some(channels.down.to.clone()?),
+            jobs: None,
+            opened: Some(channels.opened_down.to.clone()?),
+            told: 0,
+        }),
+        5 | 10 => puts_on(&channels.down.to),
+        9 => puts_on(&channels.up.to),
+        _ => Ok(Outlets::none()),
+    }
+}
+
+// What a seat tells that only puts packets.
+fn puts_on(packets: &Sender<u64>) -> Result<Outlets, AllocError> {
+    Ok(Outlets {
+        packets: Some(packets.clone()?),
+        jobs: None,
+        opened: None,
+        told: 0,
+    })
+}

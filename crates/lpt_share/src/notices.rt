@@ -1,0 +1,87 @@
+//! Notices: how a seat tells others that there is work. A notice is a hint; what it leads to may be
+//! refused.
+
+use crate::ShareFault;
+use crossbeam_channel::{SendError, Sender};
+use lpt_audit::{Answer, Applied, Call, Name, Outcome, Reply, SeatLog};
+use std::sync::Wait;
+
+/// Whom a seat tells of what its calls gave.
+#[derive(Drop)]
+pub struct Outlets {
+    /// The lanes that take the packets that the seat puts on the link, by their numbers.
+    pub packets: Option<Sender<u64>>,
+    /// The workers, of each job that the seat releases; the number says nothing.
+    pub jobs: Option<Sender<u64>>,
+    /// The spacecraft's sender, of each transaction that the seat opens.
+    pub opened: Option<Sender<Name>>,
+    /// Of how many of the seat's calls they were told.
+    pub told: usize,
+}
+
+impl Outlets {
+    /// Tells nobody.
+    pub fn none() -> Outlets {
+        Outlets {
+            packets: None,
+            jobs: None,
+            opened: None,
+            told: 0,
+        }
+    }
+
+    /// Tells of the calls of a log that weren't told yet. The only error is want of memory.
+    pub fn tell_of<R: Wait>(&mut self, rt: &R, log: &SeatLog) -> Result<(), ShareFault> {
+        for call in log.calls.get(self.told..).unwrap_or(&[]) {
+            self.tell(rt, call)?;
+        }
+        self.told = log.calls.len();
+        Ok(())
+    }
+
+    // Tells of a call.
+    fn tell<R: Wait>(&self, rt: &R, call: &Call) -> Result<(), ShareFault> {
+        if let Some(packets) = &self.packets {
+            tell_packets(rt, packets, &call.reply)?;
+        }
+        if let Some(jobs) = &self.jobs {
+            if releases(call.reply.answer) {
+                send(rt, jobs, 0)?;
+            }
+        }
+        if let Some(opened) = &self.opened {
+            if let Answer::Applied(Applied::Done(Some(id))) = call.reply.answer {
+                send(rt, opened, id)?;
+            }
+        }
+        Ok(())
+    }
+}
+
+// Tells of each packet that was put.
+fn tell_packets<R: Wait>(rt: &R, packets: &Sender<u64>, reply: &Reply) -> Result<(), ShareFault> {
+    if let Some(puts) = reply.puts {
+        for k in 0..puts.count {
+            send(rt, packets, puts.first.saturating_add(k))?;
+        }
+    }
+    Ok(())
+}
+
+// Whether an answer says that a message was released.
+fn releases(answer: Answer) -> bool {
+    match answer {
+        Answer::Delivered(Outcome::Released(_, _)) => true,
+        Answer::Delivered(Outcome::PlainReleased(_)) => true,
+        _ => false,
+    }
+}
+
+/// Gives a notice. Nobody may be left to take it; the only error is want of memory.
+pub fn send<T: Drop, R: Wait>(rt: &R, to: &Sender<T>, notice: T) -> Result<(), ShareFault> {
+    match to.send(rt, notice) {
+        Ok(()) => Ok(()),
+        Err(SendError::Disconnected(_notice)) => Ok(()),
+        Err(SendError::OutOfMemory(_notice)) => Err(ShareFault::Memory),
+    }
+}

@@ -1,0 +1,18 @@
+//! The faults of the link, as the world tells them.
+
+ghost use Rattle.std.specs.Prelude.{◌≡◌};
+ghost use Rattle.lpt_model.specs.State.{link_fault};
+
+use lpt_model::{LinkFault, StepFault};
+
+// The link's fault.
+pub(crate) fn of_link(fault: LinkFault) -> StepFault
+    ensures { result ≡ link_fault fault }
+{
+    match fault {
+        LinkFault::NotHeld => StepFault::NotHeld,
+        LinkFault::HandFull => StepFault::HandFull,
+        LinkFault::HandEmpty => StepFault::HandEmpty,
+        LinkFault::Memory => StepFault::Memory,
+    }
+}
