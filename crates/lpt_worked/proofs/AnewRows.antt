@@ -1,6 +1,6 @@
 -- A worked pass in which both nodes are started anew and a name is used again, computed by the
 -- definitions.
-use Rattle.std.proofs.Common.{◌≡◌, ◌∙◌, ap, sym, refl, List, [], ◌∷◌, drop, reverse, Some}
+use Rattle.std.proofs.Common.{◌≡◌, ◌∙◌, ap, sym, refl, List, [], ◌∷◌, map, reverse, Some, None}
 use Rattle.std.specs.List.{slice_get}
 use Rattle.lpt_journal.specs.LptPacket.declared.direction.Direction.TheVariants.{Up}
 use Rattle.lpt_journal.specs.LptPacket.Checksums.{checksum, octets_in, shift_all}
@@ -18,15 +18,14 @@ use Rattle.lpt_journal.specs.LptEvents.declared.reply.Answer.TheVariants.{Opened
 use Rattle.lpt_journal.specs.LptEvents.declared.side.Side.TheVariants.{Ground, Craft}
 use Rattle.lpt_journal.specs.LptEvents.declared.worker.Worker.TheVariants.{W1}
 use Rattle.lpt_journal.specs.Jobs.{memories}
-use Rattle.lpt_journal.specs.Legal.{Legal}
 use Rattle.lpt_journal.specs.Link.{sent}
 use Rattle.lpt_journal.specs.Releases.{releases}
 use Rattle.lpt_journal.specs.Replies.{recorded}
-use Rattle.lpt_worked.proofs.LegalRows.{legal}
-use Rattle.lpt_worked.proofs.Listed.{recorded_listed, recorded_is}
-use Rattle.lpt_worked.proofs.ListedReleases.{releases_is}
+use Rattle.lpt_worked.proofs.LegalRows.{usual_pass}
+use Rattle.lpt_worked.proofs.Listed.{recorded_is}
+use Rattle.lpt_worked.proofs.ListedReleases.{releases_passed}
 use Rattle.lpt_worked.proofs.Played.{Refuses, played, played_is, gives, puts_packet}
-use Rattle.lpt_worked.specs.Passes.{usual, usual_memories, m20, m9, load, renewed}
+use Rattle.lpt_worked.specs.Passes.{IsPass, passed, answers, usual, usual_memories, m20, m9, load, load_packet, renewed}
 
 -- the pass, with events between that are refused
 abbrev asked : List Event
@@ -74,30 +73,33 @@ unfolding seen spelling checksum octets_in shift_all tc_field tc_verdict body_of
     arrival
 asked-after = ap (λ p. p.after) (played_is usual asked) ∙ sym (recorded_is usual (reverse renewed))
 
--- it is a legal journal, so what is said of all of them holds of it
-pub renewed-legal : Legal usual usual_memories (reverse renewed)
+-- none of its events is refused
+pub renewed-pass : IsPass usual renewed
 unfolding seen spelling checksum octets_in shift_all tc_field tc_verdict body_of part_verdict
     arrival
-renewed-legal = legal usual (reverse renewed) refl
+renewed-pass = usual_pass renewed refl
 
--- nothing was executed
-pub renewed-memories :
-    memories usual usual_memories (recorded usual usual_memories (reverse renewed))
-    ≡ usual_memories
+-- the commit of what was claimed before the new start is stale
+pub renewed-stale : slice_get (answers usual renewed) 5 ≡ Some (Stale 0 0)
 unfolding seen spelling checksum octets_in shift_all tc_field tc_verdict body_of part_verdict
     arrival
-renewed-memories = ap (memories usual usual_memories) (recorded_is usual (reverse renewed))
+renewed-stale =
+    ap (λ h. slice_get (reverse (map (λ x. x.reply.answer) h)) 5) (recorded_is usual (reverse renewed))
 
--- both messages of the name were released, each as it was opened
-pub renewed-released :
-    drop 1 (releases usual (recorded usual usual_memories (reverse renewed)))
-    ≡ record { place = 16; of = Some (Up, 7); message = m20 }
+-- the request was released, and both messages of the name, each as it was opened
+pub renewed-released : releases usual (passed usual renewed)
+    ≡ record { place = 2; of = None; message = load_packet }
+    ∷ record { place = 16; of = Some (Up, 7); message = m20 }
     ∷ record { place = 29; of = Some (Up, 7); message = m9 } ∷ []
 unfolding seen spelling checksum octets_in shift_all tc_field tc_verdict body_of part_verdict
     arrival
-renewed-released =
-    ap (λ h. drop 1 (releases usual h)) (recorded_is usual (reverse renewed))
-    ∙ ap (drop 1) (releases_is usual (recorded_listed usual (reverse renewed)))
+renewed-released = releases_passed usual renewed
+
+-- nothing was executed
+pub renewed-left : memories usual usual_memories (passed usual renewed) ≡ usual_memories
+unfolding seen spelling checksum octets_in shift_all tc_field tc_verdict body_of part_verdict
+    arrival
+renewed-left = ap (memories usual usual_memories) (recorded_is usual (reverse renewed))
 
 -- ground counts its packets from 0 again
 pub renewed-packet :

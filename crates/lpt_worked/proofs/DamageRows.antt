@@ -24,8 +24,8 @@ abbrev idle : List ℕ
 idle = 7 ∷ 255 ∷ 192 ∷ 0 ∷ 0 ∷ 0 ∷ 0 ∷ []
 
 -- before and behind a part, noise leaves three octets and none; 32 octets are more than 8 and 23
-abbrev noisy : List Event
-noisy =
+abbrev tried : List Event
+tried =
     Open Up 7 m9
     ∷ Damage Up (24 ∷ 100 ∷ 192 ∷ []) ∷ Send Up 7 1 ∷ Damage Down []
     ∷ Damage Up (replicate 32 0) ∷ Damage Up idle ∷ Damage Down idle
@@ -33,7 +33,7 @@ noisy =
     ∷ Take G1 2 ∷ Deliver G1 ∷ []
 
 -- what noise left isn't read, and the part is kept
-pub noisy-given : (played usual noisy).given ≡
+pub tried-given : (played usual tried).given ≡
     gives (Opened 2)
     ∷ puts_packet 0 ∷ puts_packet 1 ∷ puts_packet 2
     ∷ Refuses Long ∷ Refuses LooksWhole ∷ Refuses LooksWhole
@@ -42,17 +42,17 @@ pub noisy-given : (played usual noisy).given ≡
     ∷ gives (Took 2) ∷ gives (Delivered (Ignored Unreadable)) ∷ []
 unfolding seen spelling checksum octets_in shift_all tc_field tc_verdict body_of part_verdict
     arrival
-noisy-given = ap (λ p. p.given) (played_is usual noisy)
+tried-given = ap (λ p. p.given) (played_is usual tried)
 
 -- the first and the last packet were damaged
-pub noisy-damaged : map (is_damaged (played usual noisy).after) (0 ∷ 1 ∷ 2 ∷ 3 ∷ [])
+pub tried-damaged : map (is_damaged (played usual tried).after) (0 ∷ 1 ∷ 2 ∷ 3 ∷ [])
     ≡ true ∷ false ∷ true ∷ false ∷ []
 unfolding seen spelling checksum octets_in shift_all tc_field tc_verdict body_of part_verdict
     arrival
-noisy-damaged = ap (λ p. map (is_damaged p.after) (0 ∷ 1 ∷ 2 ∷ 3 ∷ [])) (played_is usual noisy)
+tried-damaged = ap (λ p. map (is_damaged p.after) (0 ∷ 1 ∷ 2 ∷ 3 ∷ [])) (played_is usual tried)
 
 -- ground has made one packet, the spacecraft none
-pub noisy-counts : map (count (played usual noisy).after) (Up ∷ Down ∷ []) ≡ 1 ∷ 0 ∷ []
+pub tried-counts : map (count (played usual tried).after) (Up ∷ Down ∷ []) ≡ 1 ∷ 0 ∷ []
 unfolding seen spelling checksum octets_in shift_all tc_field tc_verdict body_of part_verdict
     arrival
-noisy-counts = ap (λ p. map (count p.after) (Up ∷ Down ∷ [])) (played_is usual noisy)
+tried-counts = ap (λ p. map (count p.after) (Up ∷ Down ∷ [])) (played_is usual tried)

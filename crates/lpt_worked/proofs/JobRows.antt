@@ -1,13 +1,12 @@
 -- Worked passes in which requests are executed, computed by the definitions.
-use Rattle.std.proofs.Common.{◌≡◌, ap, refl, ℕ, List, [], ◌∷◌, ◌++◌, drop, reverse, Some, None}
+use Rattle.std.proofs.Common.{◌≡◌, ap, refl, ℕ, List, [], ◌∷◌, drop, map, reverse, Some, None}
 use Rattle.std.specs.List.{slice_get}
-use Rattle.std.specs.Prelude.{replicate}
 use Rattle.lpt_journal.specs.LptPacket.declared.direction.Direction.TheVariants.{Down}
 use Rattle.lpt_journal.specs.LptPacket.Checksums.{checksum, octets_in, shift_all}
 use Rattle.lpt_journal.specs.LptPacket.Packets.{seen, spelling}
 use Rattle.lpt_journal.specs.LptPus.Commands.{tc_field, tc_verdict, command_in}
 use Rattle.lpt_journal.specs.LptPus.Telemetry.{tm_field, tm_verdict}
-use Rattle.lpt_journal.specs.LptPart.Parts.{body_of}
+use Rattle.lpt_journal.specs.LptPart.Parts.{body_of, part_verdict}
 use Rattle.lpt_journal.specs.LptLedger.LeastFree.{first_of_numbers}
 use Rattle.lpt_journal.specs.LptMemory.Requests.{front_load_area, front_range, front_head, request_in}
 use Rattle.lpt_journal.specs.LptMemory.Meanings.{body_meaning, meaning}
@@ -20,16 +19,16 @@ use Rattle.lpt_journal.specs.LptEvents.declared.lane.Lane.TheVariants.{S1}
 use Rattle.lpt_journal.specs.LptEvents.declared.outcome.Outcome.TheVariants.{PlainReleased, ReportNoted}
 use Rattle.lpt_journal.specs.LptEvents.declared.reply.Answer.TheVariants.{Took, Delivered, Claimed, Committed, Applied as AppliedSo}
 use Rattle.lpt_journal.specs.LptEvents.declared.worker.Worker.TheVariants.{W1, W2}
-use Rattle.lpt_journal.specs.Jobs.{memories}
+use Rattle.lpt_journal.specs.Jobs.{executed, memories}
 use Rattle.lpt_journal.specs.Journal.{SentPacket}
-use Rattle.lpt_journal.specs.Legal.{Legal}
 use Rattle.lpt_journal.specs.Link.{sent}
-use Rattle.lpt_journal.specs.Replies.{recorded}
+use Rattle.lpt_journal.specs.Releases.{releases}
 use Rattle.lpt_journal.specs.Senders.{opened}
-use Rattle.lpt_worked.proofs.LegalRows.{legal}
+use Rattle.lpt_worked.proofs.LegalRows.{usual_pass}
 use Rattle.lpt_worked.proofs.Listed.{recorded_is}
+use Rattle.lpt_worked.proofs.ListedReleases.{releases_passed}
 use Rattle.lpt_worked.proofs.Played.{Given, Gives, Refuses, played, played_is, gives, puts_packet}
-use Rattle.lpt_worked.specs.Passes.{usual, usual_memories, load, executed_load, loaded_memories}
+use Rattle.lpt_worked.specs.Passes.{IsPass, passed, answers, usual, usual_memories, load, executed_load, loaded_memories, clear, two_loads, cleared_memories, dump, dump_packet, report_packet, large_report}
 
 -- an execution that puts so many packets, the first of which gets this number
 abbrev applied_puts : (first count : ℕ) → Given
@@ -66,30 +65,32 @@ unfolding seen spelling checksum octets_in shift_all tc_field tc_verdict command
     tm_verdict first_of_numbers front_load_area front_head request_in body_meaning meaning arrival
 executed_load-reports = ap (λ p. drop 1 (sent p.after)) (played_is usual executed_load)
 
--- it is a legal journal, so what is said of all of them holds of it
-pub executed_load-legal : Legal usual usual_memories (reverse executed_load)
+-- none of its events is refused
+pub executed_load-pass : IsPass usual executed_load
 unfolding seen spelling checksum octets_in shift_all tc_field tc_verdict command_in tm_field
     tm_verdict first_of_numbers front_load_area front_head request_in body_meaning meaning arrival
-executed_load-legal = legal usual (reverse executed_load) refl
+executed_load-pass = usual_pass executed_load refl
 
 -- the octets stand in the memory, and nothing else changed
-pub executed_load-memories :
-    memories usual usual_memories (recorded usual usual_memories (reverse executed_load))
-    ≡ loaded_memories
+pub executed_load-left : memories usual usual_memories (passed usual executed_load) ≡ loaded_memories
 unfolding seen spelling checksum octets_in shift_all tc_field tc_verdict command_in tm_field
     tm_verdict first_of_numbers front_load_area front_head request_in body_meaning meaning arrival
-executed_load-memories =
-    ap (memories usual usual_memories) (recorded_is usual (reverse executed_load))
+executed_load-left = ap (memories usual usual_memories) (recorded_is usual (reverse executed_load))
+
+-- ground gets the report of completion last
+pub executed_load-reported :
+    slice_get (answers usual executed_load) 11 ≡ Some (Delivered (ReportNoted 1 7))
+unfolding seen spelling checksum octets_in shift_all tc_field tc_verdict command_in tm_field
+    tm_verdict first_of_numbers front_load_area front_head request_in body_meaning meaning arrival
+executed_load-reported =
+    ap (λ h. slice_get (reverse (map (λ x. x.reply.answer) h)) 11)
+    (recorded_is usual (reverse executed_load))
 
 -- ---- two loads
 
--- the body of a request to load two octets of 0 over the first two of those
-abbrev clear : List ℕ
-clear = 1 ∷ 1 ∷ 0 ∷ 0 ∷ 0 ∷ 16 ∷ 0 ∷ 2 ∷ 0 ∷ 0 ∷ 29 ∷ 15 ∷ []
-
--- the second request's reading is handed in first
-abbrev two_loads : List Event
-two_loads =
+-- the pass, with events between that are refused
+abbrev asked_loads : List Event
+asked_loads =
     Apply ∷ Plain 0 6 2 load ∷ Plain 0 6 2 clear
     ∷ Take S1 0 ∷ Deliver S1 ∷ Take S1 1 ∷ Deliver S1
     ∷ Commit W1 ∷ Claim W1 ∷ Claim W1 ∷ Claim W2
@@ -97,7 +98,7 @@ two_loads =
     ∷ Commit W1 ∷ Apply ∷ Apply ∷ Apply ∷ []
 
 -- nothing is executed before the first request's reading is there too
-pub two_loads-given : (played usual two_loads).given ≡
+pub asked_loads-given : (played usual asked_loads).given ≡
     Refuses NoJob ∷ puts_packet 0 ∷ puts_packet 1
     ∷ gives (Took 0) ∷ gives (Delivered (PlainReleased 27))
     ∷ gives (Took 1) ∷ gives (Delivered (PlainReleased 25))
@@ -107,20 +108,28 @@ pub two_loads-given : (played usual two_loads).given ≡
     ∷ Refuses NoJob ∷ []
 unfolding seen spelling checksum octets_in shift_all tc_field tc_verdict command_in tm_field
     tm_verdict first_of_numbers front_load_area front_head request_in body_meaning meaning arrival
-two_loads-given = ap (λ p. p.given) (played_is usual two_loads)
+asked_loads-given = ap (λ p. p.given) (played_is usual asked_loads)
 
--- they are executed in order of release: the second one's octets stand over the first one's
-pub two_loads-memories : memories usual usual_memories (played usual two_loads).after
-    ≡ (1, replicate 18 0 ++ 239 ∷ 1 ∷ replicate 236 0) ∷ []
+-- none of the pass's events is refused
+pub two_loads-pass : IsPass usual two_loads
 unfolding seen spelling checksum octets_in shift_all tc_field tc_verdict command_in tm_field
     tm_verdict first_of_numbers front_load_area front_head request_in body_meaning meaning arrival
-two_loads-memories = ap (λ p. memories usual usual_memories p.after) (played_is usual two_loads)
+two_loads-pass = usual_pass two_loads refl
+
+-- the requests are executed in order of release
+pub two_loads-in_order : map (λ r. r.place) (executed usual (passed usual two_loads)) ≡ 3 ∷ 5 ∷ []
+unfolding seen spelling checksum octets_in shift_all tc_field tc_verdict command_in tm_field
+    tm_verdict first_of_numbers front_load_area front_head request_in body_meaning meaning arrival
+two_loads-in_order =
+    ap (λ h. map (λ r. r.place) (executed usual h)) (recorded_is usual (reverse two_loads))
+
+-- the second one's octets stand over the first one's
+pub two_loads-left : memories usual usual_memories (passed usual two_loads) ≡ cleared_memories
+unfolding seen spelling checksum octets_in shift_all tc_field tc_verdict command_in tm_field
+    tm_verdict first_of_numbers front_load_area front_head request_in body_meaning meaning arrival
+two_loads-left = ap (memories usual usual_memories) (recorded_is usual (reverse two_loads))
 
 -- ---- two dumps
-
--- the body of a request to dump so many octets of the memory from place 16 on
-abbrev dump : ℕ → List ℕ
-dump len = 1 ∷ 1 ∷ 0 ∷ 0 ∷ 0 ∷ 16 ∷ 0 ∷ len ∷ []
 
 -- two octets are dumped, then three
 abbrev dumps : List Event
@@ -159,3 +168,31 @@ pub dumps-opened : opened (played usual dumps).after ≡ record {
 unfolding seen spelling checksum octets_in shift_all tc_field tc_verdict command_in tm_field
     tm_verdict body_of first_of_numbers front_range front_head request_in body_meaning meaning arrival
 dumps-opened = ap (λ p. opened p.after) (played_is usual dumps)
+
+-- ---- a report that goes down in parts
+
+-- none of the pass's events is refused
+pub large_report-pass : IsPass usual large_report
+unfolding seen spelling checksum octets_in shift_all tc_field tc_verdict command_in tm_field
+    tm_verdict body_of part_verdict first_of_numbers front_range front_head request_in body_meaning
+    meaning arrival
+large_report-pass = usual_pass large_report refl
+
+-- the execution opens the report under the least free name
+pub large_report-opened :
+    slice_get (answers usual large_report) 5 ≡ Some (AppliedSo (Done (Some 0)))
+unfolding seen spelling checksum octets_in shift_all tc_field tc_verdict command_in tm_field
+    tm_verdict body_of part_verdict first_of_numbers front_range front_head request_in body_meaning
+    meaning arrival
+large_report-opened =
+    ap (λ h. slice_get (reverse (map (λ x. x.reply.answer) h)) 5)
+    (recorded_is usual (reverse large_report))
+
+-- the request is released as it is, and the report on ground
+pub large_report-released : releases usual (passed usual large_report)
+    ≡ record { place = 2; of = None; message = dump_packet }
+    ∷ record { place = 17; of = Some (Down, 0); message = report_packet } ∷ []
+unfolding seen spelling checksum octets_in shift_all tc_field tc_verdict command_in tm_field
+    tm_verdict body_of part_verdict first_of_numbers front_range front_head request_in body_meaning
+    meaning arrival
+large_report-released = releases_passed usual large_report

@@ -1,29 +1,18 @@
--- Worked passes are legal journals, so what is said of all of them speaks of something.
-use Rattle.std.proofs.Common.{◌≡◌, ◌∙◌, ap, refl, ℕ, zero, suc, ◌<◌, ◌≤◌, nat_lt, Bool, true, not, ◌&&◌, List, [], ◌∷◌, reverse, arith}
+-- A list of events of which none is refused is a legal journal.
+use Rattle.std.proofs.Common.{◌≡◌, ◌∙◌, ap, ℕ, zero, suc, ◌<◌, ◌≤◌, nat_lt, Bool, true, not, ◌&&◌, List, [], ◌∷◌, reverse, arith}
 use Rattle.std.proofs.lemmas.Bool.Decides.{nat_tests}
 use Rattle.std.specs.List.{list_all}
 use Rattle.std.specs.Option.{is_some}
-use Rattle.lpt_journal.specs.LptPacket.Checksums.{checksum, octets_in, shift_all}
 use Rattle.lpt_journal.specs.LptPacket.Numbers.{IsOctets}
-use Rattle.lpt_journal.specs.LptPacket.Packets.{seen, spelling}
-use Rattle.lpt_journal.specs.LptPus.Commands.{tc_field, tc_verdict}
-use Rattle.lpt_journal.specs.LptPart.Parts.{body_of, part_verdict}
 use Rattle.lpt_journal.specs.LptEvents.declared.config.Config.{Config}
-use Rattle.lpt_journal.specs.LptEvents.Arrivals.{arrival}
 use Rattle.lpt_journal.specs.LptEvents.declared.event.Event.{Event}
 use Rattle.lpt_journal.specs.LptEvents.declared.event.Event.TheVariants.{Open, Send, Plain, Finish, Damage, Retire}
 use Rattle.lpt_journal.specs.LptEvents.Configs.{IsConfig}
-use Rattle.lpt_journal.specs.Replies.{recorded}
 use Rattle.lpt_journal.specs.Refusals.{refusal}
 use Rattle.lpt_journal.specs.Legal.{IsEvent, Legal}
 use Rattle.lpt_journal.proofs.TestLemmas.{and_l, and_r, not_true, none_is}
 use Rattle.lpt_worked.proofs.Listed.{recorded_listed, recorded_is, refusal_listed, refusal_is}
-use Rattle.lpt_journal.specs.Expiries.{EndsAreFinal}
-use Rattle.lpt_journal.specs.Headline.{Holds}
-use Rattle.lpt_journal.proofs.HeadlineLemmas.{headline}
-use Rattle.lpt_journal.proofs.ExpiryLemmas.{expiry_is_final}
-use Rattle.lpt_worked.specs.Passes.{usual, out_of_order, usual_memories}
-use Rattle.lpt_worked.specs.Passes.{impatient, two_expire}
+use Rattle.lpt_worked.specs.Passes.{IsPass, usual, impatient, usual_memories}
 
 -- ---- a test of legality
 
@@ -72,7 +61,7 @@ is_event (Damage d b) h = are_octets b h
 is_event e h = tt
 
 -- whether no event is refused, by the lists
-abbrev passes : Config → List Event → Bool
+abbrev pub passes : Config → List Event → Bool
 passes c [] = true
 passes c (e ∷ es) =
     passes c es && (in_range e && not (is_some (refusal_listed c (recorded_listed c es) e)))
@@ -94,7 +83,7 @@ legal c (e ∷ es) h =
       },
     )
 
--- ---- two worked passes
+-- ---- the configurations
 
 usual_with : (timeout : ℕ)
     → 1 ≤ timeout
@@ -113,26 +102,16 @@ usual_with timeout some fits = record {
   clock_fits = omega arith;
 }
 
--- three parts that come in another order
-pub out_of_order-legal : Legal usual usual_memories (reverse out_of_order)
-unfolding seen spelling checksum octets_in shift_all tc_field tc_verdict body_of part_verdict
-    arrival
-out_of_order-legal = legal usual (reverse out_of_order) refl
+-- a list of events of which none is refused is a pass of the usual configuration
+pub usual_pass : (es : List Event) → passes usual (reverse es) ≡ true → IsPass usual es
+usual_pass es h = record {
+  configured = usual_with 10 (omega arith) (omega arith);
+  legal = legal usual (reverse es) h;
+}
 
--- so what the main theorem says holds of it
-pub out_of_order-holds : Holds usual usual_memories (recorded usual usual_memories (reverse out_of_order))
-out_of_order-holds =
-    headline usual usual_memories (reverse out_of_order) (usual_with 10 (omega arith) (omega arith))
-    out_of_order-legal
-
--- two receptions that expire
-pub two_expire-legal : Legal impatient usual_memories (reverse two_expire)
-unfolding seen spelling checksum octets_in shift_all tc_field tc_verdict body_of part_verdict
-    arrival
-two_expire-legal = legal impatient (reverse two_expire) refl
-
--- so their openings are never released
-pub two_expire-final : EndsAreFinal impatient (recorded impatient usual_memories (reverse two_expire))
-two_expire-final =
-    expiry_is_final impatient usual_memories (reverse two_expire) (usual_with 1 (omega arith) (omega arith))
-    two_expire-legal
+-- or of that with a time-out of one tick
+pub impatient_pass : (es : List Event) → passes impatient (reverse es) ≡ true → IsPass impatient es
+impatient_pass es h = record {
+  configured = usual_with 1 (omega arith) (omega arith);
+  legal = legal impatient (reverse es) h;
+}

@@ -6,6 +6,7 @@ pub mod Listed
 pub mod ListedReleases
 pub mod ListedSets
 pub mod LossRows
+pub mod PassRows
 pub mod PlainRows
 pub mod Played
 pub mod Rows

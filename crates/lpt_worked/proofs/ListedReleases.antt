@@ -1,5 +1,5 @@
 -- The releases, with the kept parts as lists in the order of numbers: these compute.
-use Rattle.std.proofs.Common.{◌≡◌, ◌∙◌, ap, refl, ℕ, List, [], ◌∷◌, length, Some, None}
+use Rattle.std.proofs.Common.{◌≡◌, ◌∙◌, ap, refl, ℕ, List, [], ◌∷◌, length, reverse, Some, None}
 use Rattle.std.specs.FinMap as map
 use Rattle.lpt_journal.specs.LptPacket.declared.direction.Direction.{Direction}
 use Rattle.lpt_journal.specs.LptPacket.Names.{Name}
@@ -20,6 +20,8 @@ use Rattle.lpt_journal.specs.Receivers.{with_piece, heard}
 use Rattle.lpt_journal.specs.Releases.{released_now, release_after, released_by, releases}
 use Rattle.lpt_worked.proofs.ListedSets.{Listed, with_listed, spelled_listed, entries-with_piece, listed, entries-heard}
 use Rattle.lpt_journal.specs.Replies.{answer}
+use Rattle.lpt_worked.proofs.Listed.{recorded_listed, recorded_is}
+use Rattle.lpt_worked.specs.Passes.{passed}
 
 abbrev released_list : (place : ℕ) → Direction → Answer → (Name → Listed) → Arrival → List Release
 released_list place d (Delivered (Released id len)) s (APart q) =
@@ -75,3 +77,9 @@ releases_is c (x ∷ h) =
     = release_is x.event (length h) x.reply.answer (heard c h) (listed c h) (in_hand c h)
     (entries-heard c h) in
     λ i. with_all (releases_is c h i) (now i)
+
+-- the releases of a pass, by the lists
+pub releases_passed : (c : Config) (es : List Event)
+    → releases c (passed c es) ≡ releases_listed c (recorded_listed c (reverse es))
+releases_passed c es =
+    ap (releases c) (recorded_is c (reverse es)) ∙ releases_is c (recorded_listed c (reverse es))

@@ -1,5 +1,5 @@
 -- A worked pass with plain requests, computed by the definitions.
-use Rattle.std.proofs.Common.{◌≡◌, ◌∙◌, ap, refl, ℕ, List, [], ◌∷◌, reverse, None, Some}
+use Rattle.std.proofs.Common.{◌≡◌, ◌∙◌, ap, refl, List, [], ◌∷◌, None, Some}
 use Rattle.std.specs.List.{slice_get}
 use Rattle.lpt_journal.specs.LptPacket.declared.direction.Direction.TheVariants.{Up}
 use Rattle.lpt_journal.specs.LptPacket.Checksums.{checksum, octets_in, shift_all}
@@ -14,17 +14,10 @@ use Rattle.lpt_journal.specs.LptEvents.declared.fault.StepFault.TheVariants.{Par
 use Rattle.lpt_journal.specs.LptEvents.declared.reply.Answer.TheVariants.{Took, Delivered}
 use Rattle.lpt_journal.specs.Link.{sent}
 use Rattle.lpt_journal.specs.Releases.{releases}
-use Rattle.lpt_journal.specs.Legal.{Legal}
-use Rattle.lpt_worked.proofs.LegalRows.{legal}
+use Rattle.lpt_worked.proofs.LegalRows.{usual_pass}
 use Rattle.lpt_worked.proofs.ListedReleases.{releases_is}
 use Rattle.lpt_worked.proofs.Played.{Refuses, played, played_listed, played_is, gives, puts_packet}
-use Rattle.lpt_worked.specs.Passes.{usual, m20, load, usual_memories}
-
--- the packet of a request to load four octets
-abbrev loading_packet : List ℕ
-loading_packet =
-    24 ∷ 100 ∷ 192 ∷ 0 ∷ 0 ∷ 20 ∷ 32 ∷ 6 ∷ 2 ∷ 0 ∷ 1 ∷ 1 ∷ 1 ∷ 0 ∷ 0 ∷ 0 ∷ 16 ∷ 0 ∷ 4 ∷ 171 ∷ 205
-    ∷ 239 ∷ 1 ∷ 4 ∷ 162 ∷ 127 ∷ 186 ∷ []
+use Rattle.lpt_worked.specs.Passes.{IsPass, usual, m20, load, load_packet}
 
 -- a request is put and delivered; a part's and one that is too long are refused
 abbrev pub loading : List Event
@@ -44,13 +37,13 @@ loading-given = ap (λ p. p.given) (played_is usual loading)
 
 -- the packet is that of the request
 pub loading-sent : slice_get (sent (played usual loading).after) 0
-    ≡ Some (record { direction = Up; octets = loading_packet })
+    ≡ Some (record { direction = Up; octets = load_packet })
 unfolding seen spelling checksum octets_in shift_all tc_field tc_verdict arrival
 loading-sent = ap (λ p. slice_get (sent p.after) 0) (played_is usual loading)
 
 -- it is released as it is, with no transaction
 pub loading-released : releases usual (played usual loading).after
-    ≡ record { place = 2; of = None; message = loading_packet } ∷ []
+    ≡ record { place = 2; of = None; message = load_packet } ∷ []
 unfolding seen spelling checksum octets_in shift_all tc_field tc_verdict arrival
 loading-released =
     ap (λ p. releases usual p.after) (played_is usual loading)
@@ -60,7 +53,7 @@ loading-released =
 abbrev accepted : List Event
 accepted = Plain 0 6 2 load ∷ Take S1 0 ∷ Deliver S1 ∷ Plain 15 13 12 [] ∷ []
 
--- it is a legal journal, so what is said of all of them holds of it
-pub accepted-legal : Legal usual usual_memories (reverse accepted)
+-- it is a pass
+pub accepted-pass : IsPass usual accepted
 unfolding seen spelling checksum octets_in shift_all tc_field tc_verdict arrival
-accepted-legal = legal usual (reverse accepted) refl
+accepted-pass = usual_pass accepted refl

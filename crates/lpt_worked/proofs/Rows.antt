@@ -55,15 +55,6 @@ unfolding seen spelling checksum octets_in shift_all tc_field tc_verdict body_of
     arrival
 last_packet = ap (λ p. slice_get (sent p.after) 2) (played_is usual out_of_order)
 
--- the release is the message
-pub out_of_order-released : releases usual (played usual out_of_order).after
-    ≡ record { place = 9; of = Some (Up, 7); message = m20 } ∷ []
-unfolding seen spelling checksum octets_in shift_all tc_field tc_verdict body_of part_verdict
-    arrival
-out_of_order-released =
-    ap (λ p. releases usual p.after) (played_is usual out_of_order)
-    ∙ releases_is usual (played_listed usual out_of_order).after
-
 -- ---- parts that come again
 
 abbrev repeated : List Event

@@ -1,5 +1,5 @@
 -- Worked passes with several transactions and with refusals, computed by the definitions.
-use Rattle.std.proofs.Common.{◌≡◌, ◌∙◌, ap, ℕ, nat_lt, nat_le, false, List, [], ◌∷◌, length, Some}
+use Rattle.std.proofs.Common.{◌≡◌, ap, ℕ, nat_lt, nat_le, false, List, [], ◌∷◌, ◌++◌, length, Some}
 use Rattle.std.specs.List.{slice_get}
 use Rattle.lpt_journal.specs.LptPacket.declared.direction.Direction.TheVariants.{Up, Down}
 use Rattle.lpt_journal.specs.LptPacket.Checksums.{checksum, octets_in, shift_all}
@@ -8,7 +8,7 @@ use Rattle.lpt_journal.specs.LptPus.Commands.{tc_field, tc_verdict}
 use Rattle.lpt_journal.specs.LptPus.Telemetry.{tm_field, tm_verdict}
 use Rattle.lpt_journal.specs.LptPart.Parts.{body_of, part_verdict}
 use Rattle.lpt_journal.specs.LptPart.Aborts.{abort_verdict}
-use Rattle.lpt_journal.specs.LptEvents.declared.lane.Lane.TheVariants.{S1, S2, G1, G2}
+use Rattle.lpt_journal.specs.LptEvents.declared.lane.Lane.TheVariants.{S1, S2, G1}
 use Rattle.lpt_journal.specs.LptEvents.declared.outcome.Outcome.TheVariants.{Kept, Released, Ignored}
 use Rattle.lpt_journal.specs.LptEvents.declared.outcome.Why.TheVariants.{NoRoom}
 use Rattle.lpt_journal.specs.LptEvents.Arrivals.{arrival}
@@ -17,11 +17,9 @@ use Rattle.lpt_journal.specs.LptEvents.declared.event.Event.TheVariants.{Open, S
 use Rattle.lpt_journal.specs.LptEvents.declared.fault.StepFault.TheVariants.{InUse, Short, Long, TooMany, NotOpen, NoSuchPart, NotHeld, HandFull, HandEmpty}
 use Rattle.lpt_journal.specs.LptEvents.declared.reply.Answer.TheVariants.{Opened, Took, Delivered}
 use Rattle.lpt_journal.specs.Link.{sent}
-use Rattle.lpt_journal.specs.Releases.{releases}
 use Rattle.lpt_journal.specs.Refusals.{first_fault, refusal}
-use Rattle.lpt_worked.proofs.ListedReleases.{releases_is}
-use Rattle.lpt_worked.specs.Passes.{usual, m20, m9}
-use Rattle.lpt_worked.proofs.Played.{Refuses, played, played_listed, played_is, gives, puts_packet}
+use Rattle.lpt_worked.specs.Passes.{usual, m9, both_ways}
+use Rattle.lpt_worked.proofs.Played.{Refuses, played, played_is, gives, puts_packet}
 
 -- ---- a second transaction meets no room
 
@@ -74,19 +72,8 @@ too_long-refused m e =
 
 -- ---- one identifier in both directions
 
-abbrev both_ways : List Event
-both_ways =
-    Open Up 7 m20 ∷ Open Down 7 m9
-    ∷ Send Up 7 1 ∷ Send Down 7 1 ∷ Send Up 7 2 ∷ Send Down 7 2 ∷ Send Up 7 3
-    ∷ Take S1 0 ∷ Deliver S1
-    ∷ Take G1 1 ∷ Deliver G1
-    ∷ Take S2 2 ∷ Deliver S2
-    ∷ Take G2 3 ∷ Deliver G2
-    ∷ Take S1 4 ∷ Deliver S1
-    ∷ Take S1 1 ∷ []
-
 -- up 7 and down 7 are two names, and a lane takes what goes its way
-pub both_ways-given : (played usual both_ways).given ≡
+pub both_ways-given : (played usual (both_ways ++ Take S1 1 ∷ [])).given ≡
     gives (Opened 3) ∷ gives (Opened 2)
     ∷ puts_packet 0 ∷ puts_packet 1 ∷ puts_packet 2 ∷ puts_packet 3 ∷ puts_packet 4
     ∷ gives (Took 0) ∷ gives (Delivered (Kept 7 1))
@@ -97,17 +84,7 @@ pub both_ways-given : (played usual both_ways).given ≡
     ∷ Refuses NotHeld ∷ []
 unfolding seen spelling checksum octets_in shift_all tc_field tc_verdict tm_field tm_verdict body_of
     part_verdict abort_verdict arrival
-both_ways-given = ap (λ p. p.given) (played_is usual both_ways)
-
--- each message is released in its own direction
-pub both_ways-released : releases usual (played usual both_ways).after
-    ≡ record { place = 14; of = Some (Down, 7); message = m9 }
-    ∷ record { place = 16; of = Some (Up, 7); message = m20 } ∷ []
-unfolding seen spelling checksum octets_in shift_all tc_field tc_verdict tm_field tm_verdict body_of
-    part_verdict abort_verdict arrival
-both_ways-released =
-    ap (λ p. releases usual p.after) (played_is usual both_ways)
-    ∙ releases_is usual (played_listed usual both_ways).after
+both_ways-given = ap (λ p. p.given) (played_is usual (both_ways ++ Take S1 1 ∷ []))
 
 -- the spacecraft's second packet: counts are each node's own, and a type counter each type's
 pub down_packet : slice_get (sent (played usual both_ways).after) 3 ≡ Some (record {

@@ -1,13 +1,18 @@
 -- Worked passes: the configurations, the messages and the events.
-use Rattle.std.specs.Prelude.{ℕ, List, [], ◌∷◌, ◌++◌, replicate}
+use Rattle.std.specs.Prelude.{ℕ, List, [], ◌∷◌, ◌++◌, map, replicate, reverse}
 use Rattle.lpt_journal.specs.LptMemory.Memories.{Contents}
-use Rattle.lpt_journal.specs.LptPacket.declared.direction.Direction.TheVariants.{Up}
+use Rattle.lpt_journal.specs.LptPacket.declared.direction.Direction.TheVariants.{Up, Down}
+use Rattle.lpt_journal.specs.LptEvents.Configs.{IsConfig}
 use Rattle.lpt_journal.specs.LptEvents.declared.config.Config.{Config}
 use Rattle.lpt_journal.specs.LptEvents.declared.event.Event.{Event}
-use Rattle.lpt_journal.specs.LptEvents.declared.event.Event.TheVariants.{Open, Send, Plain, Finish, Lose, Take, Deliver, Tick, Expire, Claim, Commit, Apply, Retire, Restart}
-use Rattle.lpt_journal.specs.LptEvents.declared.lane.Lane.TheVariants.{S1, S2, G1}
+use Rattle.lpt_journal.specs.LptEvents.declared.event.Event.TheVariants.{Open, Send, Plain, Finish, Lose, Damage, Take, Deliver, Tick, Expire, Claim, Commit, Apply, Retire, Restart}
+use Rattle.lpt_journal.specs.LptEvents.declared.lane.Lane.TheVariants.{S1, S2, G1, G2}
+use Rattle.lpt_journal.specs.LptEvents.declared.reply.Answer.{Answer}
 use Rattle.lpt_journal.specs.LptEvents.declared.side.Side.TheVariants.{Ground, Craft}
-use Rattle.lpt_journal.specs.LptEvents.declared.worker.Worker.TheVariants.{W1}
+use Rattle.lpt_journal.specs.LptEvents.declared.worker.Worker.TheVariants.{W1, W2}
+use Rattle.lpt_journal.specs.Journal.{History}
+use Rattle.lpt_journal.specs.Legal.{Legal}
+use Rattle.lpt_journal.specs.Replies.{recorded}
 
 -- ---- what passes have in common
 
@@ -27,6 +32,19 @@ usual =
 -- one memory 1 of 256 octets of 0
 abbrev pub usual_memories : Contents
 usual_memories = (1, replicate 256 0) ∷ []
+
+-- the history of a pass over that memory; a pass has its oldest event first
+abbrev pub passed : Config → List Event → History
+passed c es = recorded c usual_memories (reverse es)
+
+-- what its events answered
+abbrev pub answers : Config → List Event → List Answer
+answers c es = reverse (map (λ x. x.reply.answer) (passed c es))
+
+-- what is said of all legal journals is said of the pass: its configuration is one, and it is legal
+pub record IsPass (c : Config) (es : List Event) : Type 0 where
+  pub configured : IsConfig c
+  pub legal : Legal c usual_memories (reverse es)
 
 -- 20 octets, the numbers from 0
 abbrev pub m20 : List ℕ
@@ -51,6 +69,29 @@ out_of_order =
     ∷ Take S1 0 ∷ Deliver S1
     ∷ Take S1 1 ∷ Deliver S1 ∷ []
 
+-- ---- one name in both directions
+
+-- up 7 and down 7 are two transactions
+abbrev pub both_ways : List Event
+both_ways =
+    Open Up 7 m20 ∷ Open Down 7 m9
+    ∷ Send Up 7 1 ∷ Send Down 7 1 ∷ Send Up 7 2 ∷ Send Down 7 2 ∷ Send Up 7 3
+    ∷ Take S1 0 ∷ Deliver S1
+    ∷ Take G1 1 ∷ Deliver G1
+    ∷ Take S2 2 ∷ Deliver S2
+    ∷ Take G2 3 ∷ Deliver G2
+    ∷ Take S1 4 ∷ Deliver S1 ∷ []
+
+-- ---- what the link's noise leaves
+
+-- before and behind the first part, noise leaves three octets and none
+abbrev pub noisy : List Event
+noisy =
+    Open Up 7 m9
+    ∷ Damage Up (24 ∷ 100 ∷ 192 ∷ []) ∷ Send Up 7 1 ∷ Damage Down [] ∷ Send Up 7 2
+    ∷ Take S1 0 ∷ Deliver S1 ∷ Take S1 1 ∷ Deliver S1
+    ∷ Take G1 2 ∷ Deliver G1 ∷ Take S1 3 ∷ Deliver S1 ∷ []
+
 -- ---- two receptions with one last tick
 
 -- a time-out of one tick
@@ -72,6 +113,12 @@ two_expire =
 abbrev pub load : List ℕ
 load = 1 ∷ 1 ∷ 0 ∷ 0 ∷ 0 ∷ 16 ∷ 0 ∷ 4 ∷ 171 ∷ 205 ∷ 239 ∷ 1 ∷ 4 ∷ 162 ∷ []
 
+-- the packet of the request with no flag set
+abbrev pub load_packet : List ℕ
+load_packet =
+    24 ∷ 100 ∷ 192 ∷ 0 ∷ 0 ∷ 20 ∷ 32 ∷ 6 ∷ 2 ∷ 0 ∷ 1 ∷ 1 ∷ 1 ∷ 0 ∷ 0 ∷ 0 ∷ 16 ∷ 0 ∷ 4 ∷ 171 ∷ 205
+    ∷ 239 ∷ 1 ∷ 4 ∷ 162 ∷ 127 ∷ 186 ∷ []
+
 -- a worker reads the request before it is executed; ground gets the three reports that it asked for
 abbrev pub executed_load : List Event
 executed_load =
@@ -85,6 +132,49 @@ executed_load =
 -- the memory with those octets
 abbrev pub loaded_memories : Contents
 loaded_memories = (1, replicate 16 0 ++ 171 ∷ 205 ∷ 239 ∷ 1 ∷ replicate 236 0) ∷ []
+
+-- ---- loads that are handed in in another order
+
+-- the body of a request to load two octets of 0 over the first two of those
+abbrev pub clear : List ℕ
+clear = 1 ∷ 1 ∷ 0 ∷ 0 ∷ 0 ∷ 16 ∷ 0 ∷ 2 ∷ 0 ∷ 0 ∷ 29 ∷ 15 ∷ []
+
+-- the second request's reading is handed in first
+abbrev pub two_loads : List Event
+two_loads =
+    Plain 0 6 2 load ∷ Plain 0 6 2 clear
+    ∷ Take S1 0 ∷ Deliver S1 ∷ Take S1 1 ∷ Deliver S1
+    ∷ Claim W1 ∷ Claim W2 ∷ Commit W2 ∷ Commit W1 ∷ Apply ∷ Apply ∷ []
+
+-- the memory with the second one's octets over the first one's
+abbrev pub cleared_memories : Contents
+cleared_memories = (1, replicate 18 0 ++ 239 ∷ 1 ∷ replicate 236 0) ∷ []
+
+-- ---- a report that is too long for a packet of the link
+
+-- the body of a request to dump so many octets of the memory from place 16 on
+abbrev pub dump : ℕ → List ℕ
+dump len = 1 ∷ 1 ∷ 0 ∷ 0 ∷ 0 ∷ 16 ∷ 0 ∷ len ∷ []
+
+-- the packet of a request to dump three
+abbrev pub dump_packet : List ℕ
+dump_packet =
+    24 ∷ 100 ∷ 192 ∷ 0 ∷ 0 ∷ 14 ∷ 32 ∷ 6 ∷ 5 ∷ 0 ∷ 1 ∷ 1 ∷ 1 ∷ 0 ∷ 0 ∷ 0 ∷ 16 ∷ 0 ∷ 3 ∷ 77 ∷ 44 ∷ []
+
+-- the packet of the report of them
+abbrev pub report_packet : List ℕ
+report_packet =
+    8 ∷ 100 ∷ 192 ∷ 0 ∷ 0 ∷ 25 ∷ 32 ∷ 6 ∷ 6 ∷ 0 ∷ 0 ∷ 0 ∷ 1 ∷ 0 ∷ 0 ∷ 0 ∷ 0 ∷ 1 ∷ 1 ∷ 0 ∷ 0 ∷ 0
+    ∷ 16 ∷ 0 ∷ 3 ∷ 0 ∷ 0 ∷ 0 ∷ 204 ∷ 156 ∷ 201 ∷ 221 ∷ []
+
+-- the report has 32 octets: it is opened, and goes down in four parts
+abbrev pub large_report : List Event
+large_report =
+    Plain 0 6 5 (dump 3) ∷ Take S1 0 ∷ Deliver S1
+    ∷ Claim W1 ∷ Commit W1 ∷ Apply
+    ∷ Send Down 0 1 ∷ Send Down 0 2 ∷ Send Down 0 3 ∷ Send Down 0 4
+    ∷ Take G1 1 ∷ Deliver G1 ∷ Take G1 2 ∷ Deliver G1
+    ∷ Take G1 3 ∷ Deliver G1 ∷ Take G1 4 ∷ Deliver G1 ∷ []
 
 -- ---- both nodes are started anew, and a name is used again
 

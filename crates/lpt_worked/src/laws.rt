@@ -1,30 +1,86 @@
-//! Passes that are legal journals: functions with empty bodies.
+//! Passes that are legal journals of a configuration, and what comes of them: functions with empty
+//! bodies.
 
-ghost use Rattle.std.specs.Prelude.{◌≡◌, reverse};
-ghost use Rattle.lpt_journal.specs.Jobs.{memories};
-ghost use Rattle.lpt_journal.specs.Legal.{Legal};
-ghost use Rattle.lpt_journal.specs.Replies.{recorded};
-ghost use Rattle.lpt_worked.specs.Passes.{usual, impatient, out_of_order, two_expire, executed_load, renewed, usual_memories, loaded_memories};
+ghost use Rattle.std.specs.Prelude.{◌≡◌, [], ◌∷◌, map, slice_get, Some, None};
+ghost use Rattle.lpt_journal.specs.LptEvents.declared.applied.Applied.TheVariants.{Done};
+ghost use Rattle.lpt_journal.specs.LptEvents.declared.outcome.Outcome.TheVariants.{ReportNoted, Ignored};
+ghost use Rattle.lpt_journal.specs.LptEvents.declared.outcome.Why.TheVariants.{Unreadable};
+ghost use Rattle.lpt_journal.specs.LptEvents.declared.reply.Answer.TheVariants.{Delivered, Stale, Applied};
+ghost use Rattle.lpt_journal.specs.LptPacket.declared.direction.Direction.TheVariants.{Up, Down};
+ghost use Rattle.lpt_journal.specs.Expiries.{expiries};
+ghost use Rattle.lpt_journal.specs.Jobs.{executed, memories};
+ghost use Rattle.lpt_journal.specs.Releases.{releases};
+ghost use Rattle.lpt_worked.specs.Passes.{IsPass, passed, answers, usual, impatient, m9, m20, out_of_order, both_ways, noisy, two_expire, executed_load, two_loads, dump_packet, report_packet, large_report, renewed, load_packet, usual_memories, loaded_memories, cleared_memories};
 
 /// A message of three parts is delivered with its last part first, and released.
 pub fn out_of_order_is_legal()
-    ensures { Legal usual usual_memories (reverse out_of_order) }
+    ensures pass { IsPass usual out_of_order }
+    ensures released { releases usual (passed usual out_of_order)
+        ≡ record { place = 9; of = Some (Up, 7); message = m20 } ∷ [] }
 {}
 
-/// Two receptions expire, one after the other.
+/// One name is opened in both directions, and the message of each is released in its own.
+pub fn both_ways_is_legal()
+    ensures pass { IsPass usual both_ways }
+    ensures released { releases usual (passed usual both_ways)
+        ≡ record { place = 14; of = Some (Down, 7); message = m9 }
+        ∷ record { place = 16; of = Some (Up, 7); message = m20 } ∷ [] }
+{}
+
+/// What the link's noise left before and behind a part isn't read at either end, and the message is
+/// released.
+pub fn noisy_is_legal()
+    ensures pass { IsPass usual noisy }
+    ensures up { slice_get (answers usual noisy) 6 ≡ Some (Delivered (Ignored Unreadable)) }
+    ensures down { slice_get (answers usual noisy) 10 ≡ Some (Delivered (Ignored Unreadable)) }
+    ensures released { releases usual (passed usual noisy)
+        ≡ record { place = 12; of = Some (Up, 7); message = m9 } ∷ [] }
+{}
+
+/// Two receptions expire, one after the other: of equal last ticks the least name first. Nothing is
+/// released.
 pub fn two_expire_is_legal()
-    ensures { Legal impatient usual_memories (reverse two_expire) }
+    ensures pass { IsPass impatient two_expire }
+    ensures expired { expiries (passed impatient two_expire)
+        ≡ record { place = 9; direction = Up; id = 3 }
+        ∷ record { place = 10; direction = Up; id = 9 } ∷ [] }
+    ensures released { releases impatient (passed impatient two_expire) ≡ [] }
 {}
 
-/// A request to load four octets is claimed, committed and executed: they stand in the memory.
+/// A request to load four octets is claimed, committed and executed: they stand in the memory, and
+/// ground gets the report of completion.
 pub fn executed_load_is_legal()
-    ensures legal { Legal usual usual_memories (reverse executed_load) }
-    ensures left { memories usual usual_memories (recorded usual usual_memories (reverse executed_load)) ≡ loaded_memories }
+    ensures pass { IsPass usual executed_load }
+    ensures left { memories usual usual_memories (passed usual executed_load) ≡ loaded_memories }
+    ensures reported { slice_get (answers usual executed_load) 11 ≡ Some (Delivered (ReportNoted 1 7)) }
 {}
 
-/// Both nodes are started anew, a request of the earlier boot is handed in, and a name is used for
-/// three messages, one after the other. No memory is changed.
+/// Of two loads the second one's reading is handed in first. They are executed in the order in which
+/// they were released: the second one's octets stand over the first one's.
+pub fn two_loads_is_legal()
+    ensures pass { IsPass usual two_loads }
+    ensures in_order { map (λ r. r.place) (executed usual (passed usual two_loads)) ≡ 3 ∷ 5 ∷ [] }
+    ensures left { memories usual usual_memories (passed usual two_loads) ≡ cleared_memories }
+{}
+
+/// The report of dumped octets is too long for a packet of the link. It is opened, goes down in
+/// parts and is released on ground.
+pub fn large_report_is_legal()
+    ensures pass { IsPass usual large_report }
+    ensures opened { slice_get (answers usual large_report) 5 ≡ Some (Applied (Done (Some 0))) }
+    ensures released { releases usual (passed usual large_report)
+        ≡ record { place = 2; of = None; message = dump_packet }
+        ∷ record { place = 17; of = Some (Down, 0); message = report_packet } ∷ [] }
+{}
+
+/// Both nodes are started anew, a request of the earlier boot is handed in and is stale, and a name
+/// is used for three messages, one after the other; two of them are released. No memory is changed.
 pub fn renewed_is_legal()
-    ensures legal { Legal usual usual_memories (reverse renewed) }
-    ensures left { memories usual usual_memories (recorded usual usual_memories (reverse renewed)) ≡ usual_memories }
+    ensures pass { IsPass usual renewed }
+    ensures stale { slice_get (answers usual renewed) 5 ≡ Some (Stale 0 0) }
+    ensures released { releases usual (passed usual renewed)
+        ≡ record { place = 2; of = None; message = load_packet }
+        ∷ record { place = 16; of = Some (Up, 7); message = m20 }
+        ∷ record { place = 29; of = Some (Up, 7); message = m9 } ∷ [] }
+    ensures left { memories usual usual_memories (passed usual renewed) ≡ usual_memories }
 {}

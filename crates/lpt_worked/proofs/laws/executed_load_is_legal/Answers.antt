@@ -1,6 +1,6 @@
 -- The pass is computed.
-use Rattle.lpt_worked.proofs.JobRows.{executed_load-legal, executed_load-memories}
+use Rattle.lpt_worked.proofs.JobRows.{executed_load-pass, executed_load-left, executed_load-reported}
 use Rattle.lpt_worked.proofs.laws.executed_load_is_legal.Goals as goal
 
 pub returns : goal.returns
-returns c = record { legal = executed_load-legal; left = executed_load-memories }
+returns c = record { pass = executed_load-pass; left = executed_load-left; reported = executed_load-reported }

@@ -1,6 +1,6 @@
 -- The pass is computed.
-use Rattle.lpt_worked.proofs.LegalRows.{out_of_order-legal}
+use Rattle.lpt_worked.proofs.PassRows.{out_of_order-pass, out_of_order-released}
 use Rattle.lpt_worked.proofs.laws.out_of_order_is_legal.Goals as goal
 
 pub returns : goal.returns
-returns c = out_of_order-legal
+returns c = record { pass = out_of_order-pass; released = out_of_order-released }
