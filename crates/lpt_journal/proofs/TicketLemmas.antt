@@ -67,7 +67,7 @@ pub record IsJobless (c : Config) (h : History) (x : Recorded) : Type 0 where
   pub keeps : jobs c (x ∷ h) ≡ with_all (jobs c h) released
 
 -- a list with others behind it is no shorter
-longer : {A : Type 0} (xs ys : List A) → length xs ≤ length (with_all xs ys)
+pub longer : {A : Type 0} (xs ys : List A) → length xs ≤ length (with_all xs ys)
 longer xs [] = omega arith
 longer xs (y ∷ ys) = omega (arith, length-append xs (y ∷ ys))
 

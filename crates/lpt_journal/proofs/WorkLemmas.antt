@@ -1,6 +1,7 @@
 -- No job is committed or executed outside the boot in which it was released.
-use Rattle.std.proofs.Common.{◌≡◌, ◌∙◌, ap, sym, subst, refl, zero, suc, ◌==◌, true, false, ◌&&◌, ◌||◌, if◌then◌else◌, List, [], ◌∷◌, Some, None}
+use Rattle.std.proofs.Common.{◌≡◌, ◌∙◌, ap, sym, subst, refl, ℕ, zero, suc, ◌≤◌, ◌==◌, nat_lt, Bool, true, false, ◌&&◌, ◌||◌, if◌then◌else◌, List, [], ◌∷◌, length, Some, None, arith}
 use Rattle.std.specs.List.{slice_get}
+use Rattle.std.proofs.lemmas.Bool.Decides.{nat_tests}
 use Rattle.lpt_execution.specs.LptMemory.Memories.{Contents}
 use Rattle.lpt_execution.specs.LptMemory.Readings.{Job}
 use Rattle.lpt_execution.specs.LptEvents.Workers.{same_worker}
@@ -14,6 +15,7 @@ use Rattle.lpt_execution.specs.LptEvents.declared.worker.Worker.TheVariants.{W1,
 use Rattle.lpt_journal.specs.Jobs.{boot, applied, ticket, is_committed, front_job, executed_by}
 use Rattle.lpt_journal.specs.Journal.{Recorded, History}
 use Rattle.lpt_journal.specs.Legal.{Legal}
+use Rattle.lpt_journal.specs.Link.{sent, damages, is_damaged}
 use Rattle.lpt_journal.specs.Refusals.{refusal}
 use Rattle.lpt_journal.specs.Replies.{committed_now, entry, recorded}
 use Rattle.lpt_journal.specs.Work.{commit_answer, IsSameBut, IsCommit, CommitsAreOfTheirBoot, WasOfThisBoot, ExecutionsAreOfTheirBoot, WorkIsOfItsBoot}
@@ -21,7 +23,7 @@ use Rattle.lpt_journal.proofs.BootLemmas.{job_boot}
 use Rattle.lpt_journal.proofs.CommitLemmas.{commit_is, committed_then}
 use Rattle.lpt_journal.proofs.NewJobs.{new_executed}
 use Rattle.lpt_journal.proofs.TestLemmas.{not_true, no_place}
-use Rattle.lpt_journal.proofs.TicketLemmas.{JobsAreSound}
+use Rattle.lpt_journal.proofs.TicketLemmas.{JobsAreSound, longer}
 use Rattle.lpt_journal.proofs.TicketSteps.{commits_one, ready_to_apply, jobs_sound}
 
 -- ---- commits
@@ -29,6 +31,33 @@ use Rattle.lpt_journal.proofs.TicketSteps.{commits_one, ready_to_apply, jobs_sou
 same_worker-refl : (w : Worker) → same_worker w w ≡ true
 same_worker-refl W1 = refl
 same_worker-refl W2 = refl
+
+and_no : (b : Bool) → (b && false) ≡ false
+and_no true = refl
+and_no false = refl
+
+-- a packet that wasn't put was not damaged
+not_damaged : (h : History) (n : ℕ) → length (sent h) ≤ n → is_damaged h n ≡ false
+not_damaged [] n late = refl
+not_damaged (x ∷ h) n late =
+    let more = longer (sent h) x.puts in
+    let old : nat_lt n (length (sent h)) ≡ false = grind (arith, nat_tests, more, late) in
+    let new : nat_lt n (length (sent (x ∷ h))) ≡ false = grind (arith, nat_tests, late) in
+    ap (λ b. if b then is_damaged h n else damages x.event && nat_lt n (length (sent (x ∷ h)))) old
+    ∙ ap (λ b. damages x.event && b) new
+    ∙ and_no (damages x.event)
+
+-- what puts nothing damages nothing
+undamaged : (h : History) (n : ℕ)
+    → (if nat_lt n (length (sent h)) then is_damaged h n else false) ≡ is_damaged h n
+undamaged h n = go (nat_lt n (length (sent h))) refl where
+  go : (b : Bool)
+      → nat_lt n (length (sent h)) ≡ b
+      → (if b then is_damaged h n else false) ≡ is_damaged h n
+  go true put = refl
+  go false put =
+      let late : length (sent h) ≤ n = grind (arith, nat_tests, put) in
+      sym (not_damaged h n late)
 
 -- a commit of a job of an earlier boot changes only that the worker has no job any more
 stale_same : (c : Config) (first : Contents) (h : History) (w : Worker) (t : Job)
@@ -48,13 +77,16 @@ stale_same c first h w t had earlier = record {
   memories = refl;
   boots = λ side. refl;
   sent = refl;
+  tags = refl;
   held = λ n. refl;
+  damaged = undamaged h;
   hands = λ l. refl;
   opened = refl;
   current = λ d id. refl;
   senders = λ d id. refl;
   made = λ d. refl;
   heard = λ d id. refl;
+  receptions = λ d. refl;
   closed = λ d id. refl;
   ticks = λ d id. refl;
   clocks = λ side. refl;

@@ -21,8 +21,8 @@ use Rattle.lpt_journal.specs.Headline.{before}
 use Rattle.lpt_journal.specs.Jobs.{boot, jobs, claimed, applied, ticket, is_committed, executed_by, executed, memories}
 use Rattle.lpt_journal.specs.Journal.{Recorded, History}
 use Rattle.lpt_journal.specs.Legal.{Legal}
-use Rattle.lpt_journal.specs.Link.{sent, is_held}
-use Rattle.lpt_journal.specs.Receivers.{heard, is_closed, last_tick, clock}
+use Rattle.lpt_journal.specs.Link.{sent, tags, is_held, is_damaged}
+use Rattle.lpt_journal.specs.Receivers.{heard, open_names, is_closed, last_tick, clock}
 use Rattle.lpt_journal.specs.Releases.{releases}
 use Rattle.lpt_journal.specs.Replies.{recorded}
 use Rattle.lpt_journal.specs.Senders.{restarts, current, sender, opened, made}
@@ -57,13 +57,16 @@ pub record IsSameBut (c : Config) (first : Contents) (w : Worker) (new old : His
   pub memories : memories c first new ≡ memories c first old
   pub boots : (side : Side) → boot new side ≡ boot old side
   pub sent : sent new ≡ sent old
+  pub tags : tags new ≡ tags old
   pub held : (n : ℕ) → is_held new n ≡ is_held old n
+  pub damaged : (n : ℕ) → is_damaged new n ≡ is_damaged old n
   pub hands : (l : Lane) → hand new l ≡ hand old l
   pub opened : opened new ≡ opened old
   pub current : (d : Direction) (id : Name) → current new d id ≡ current old d id
   pub senders : (d : Direction) (id : Name) → sender new d id ≡ sender old d id
   pub made : (d : Direction) → made new d ≡ made old d
   pub heard : (d : Direction) (id : Name) → heard c new d id ≡ heard c old d id
+  pub receptions : (d : Direction) → open_names c new d ≡ open_names c old d
   pub closed : (d : Direction) (id : Name) → is_closed new d id ≡ is_closed old d id
   pub ticks : (d : Direction) (id : Name) → last_tick c new d id ≡ last_tick c old d id
   pub clocks : (side : Side) → clock c new side ≡ clock c old side
