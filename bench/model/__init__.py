@@ -11,3 +11,4 @@ from .packets import checksum, hexadecimal, write_command
 from .parts import part_count
 from .scripts import Session, run
 from .settings import LAST_TICK, RANGES, Settings, settings_of
+from .threads import run_threads

@@ -103,11 +103,12 @@ def read_line(words):
 
 
 class Session:
-    """A script's run: a new world, which answers lines."""
+    """A script's run: a new world, which answers lines; those that show may be kept for later."""
 
-    def __init__(self, settings):
+    def __init__(self, settings, keeps_shows=False):
         self.world = World(settings)
         self.refused = False
+        self.kept = [] if keeps_shows else None
 
     def answer(self, line):
         """What a line prints, line by line. (Each octet is a character here, whatever it is.)"""
@@ -116,7 +117,10 @@ class Session:
             return []
         name, asked = read_line(words)
         if name.startswith("show"):
-            return self._show(name, asked)
+            if self.kept is None:
+                return self.show(name, asked)
+            self.kept.append((name, asked))
+            return []
         printed = []
         try:
             for event, *values in self._events(name, asked):
@@ -138,7 +142,7 @@ class Session:
             return [(getattr(jobs, name), *asked)]
         return [(getattr(world, name), *asked)]
 
-    def _show(self, name, asked):
+    def show(self, name, asked):
         """What a `show` line prints."""
         world = self.world
         if name == "show released":
@@ -167,15 +171,20 @@ def lines_of(script):
         yield None if len(last) > LONGEST_LINE else last
 
 
-def run(script, settings):
-    """What a script prints, and its status."""
-    session, printed = Session(settings), []
+def told_lines(session, script):
+    """The lines that a script prints in a session, and its status."""
+    printed = []
     for place, line in enumerate(lines_of(script), 1):
         try:
             if line is None:
                 raise Unreadable
             printed += session.answer(line)
         except Unreadable:
-            printed.append(f"line {place}: unreadable")
-            return "".join(line + "\n" for line in printed), 2
-    return "".join(line + "\n" for line in printed), int(session.refused)
+            return printed + [f"line {place}: unreadable"], 2
+    return printed, int(session.refused)
+
+
+def run(script, settings):
+    """What a script prints, and its status."""
+    printed, status = told_lines(Session(settings), script)
+    return "".join(line + "\n" for line in printed), status

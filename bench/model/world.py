@@ -31,6 +31,7 @@ class World:
         self.jobs = Jobs()
         self.memories = Memories(settings.memory)
         self.released = []
+        self.executed = 0
         self.events = 0
 
     def sender(self, direction):
@@ -176,6 +177,7 @@ class World:
     def apply(self):
         """Executes the oldest job, and puts its reports on the link."""
         message = self.jobs.take()
+        self.executed += 1
         request = parsed(message)
         if request is None or request.packet[:2] != (True, self.settings.apid):
             return "applied silent"
