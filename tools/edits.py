@@ -41,7 +41,7 @@ GIB_A_RUN = 3
 LONGEST_REASON = 160
 
 # In rt fmt's layout.
-FUNCTION = re.compile(r"( *)(?:pub(?:\([a-z]+\))? )?(?:const )?fn (\w+)")
+FUNCTION = re.compile(r"( *)(?:pub(?:\([a-z]+\))? )?(?:const |extern \"C\" )?fn (\w+)")
 IMPL = re.compile(r"impl(?:<.*?>)? (?:(\w+)(?:<.*>)? for )?(\w+)")
 
 # A function that is taken by its contract.
@@ -94,8 +94,21 @@ class Crate:
         self.words += ["--antt-project", f"{KIT}/rattle/logic/antt-project.json"]
         self.words += ["--logic-built", f"{KIT}/logic_built", "--links", f"{name}=", "--jobs", "1"]
         self.words += ["--allow-holes"]
-        code = (self.folder / f"out/rlib/{name}.rlib/toolchain/mir.json").read_text(encoding="utf-8")
-        self.known = [it for it, _ in json.loads(code) if it.startswith(f"{name}::")]
+        self.known = list(self.functions())
+
+    def functions(self):
+        """The crate's functions, by their whole names; of a static library, of which no library is
+        built, those that are no methods."""
+        code = self.folder / f"out/rlib/{self.name}.rlib/toolchain/mir.json"
+        if code.exists():
+            for name, _ in json.loads(code.read_text(encoding="utf-8")):
+                if name.startswith(f"{self.name}::"):
+                    yield name
+            return
+        for file in self.folder.glob("src/**/*.rt"):
+            for it in functions_of(file.relative_to(self.folder), file.read_text(encoding="utf-8")):
+                if not it.name[0].isupper():
+                    yield f"{self.name}::{it.name}"
 
     def text(self, path):
         """The text of a file as it stands."""

@@ -1,0 +1,10 @@
+pub mod Aborts
+pub mod Buffers
+pub mod Codes
+pub mod Commands
+pub mod Packets
+pub mod Parts
+pub mod Readings
+pub mod Reports
+pub mod Streams
+pub mod Telemetry

@@ -1,0 +1,116 @@
+//! Writing to the front of a buffer of the caller's.
+
+ghost use Rattle.std.specs.Prelude.{◌≡◌, ◌+◌, ◌≤◌, ◌++◌, length, drop, Ok};
+ghost use Rattle.lpt_pus.specs.LptPacket.Packets.{fields_of, header_of, sealed, spelling};
+ghost use Rattle.lpt_pus.specs.LptPacket.Sizes.{longest_field, longest_packet};
+ghost use Rattle.lpt_c.specs.Buffers.{code_for, left_by};
+
+use crate::codes::{DONE, ROOM};
+use lpt_pus::lpt_packet::{ERROR_CONTROL, PRIMARY_HEADER, PacketKind, crc16};
+
+// Writes a packet to the front of a buffer, where it has room. Its data field is given in two
+// pieces, one behind the other.
+#[tactic(auto, using(crate::proofs::TextLemmas::length_packet))]
+pub(crate) fn fill_packet(
+    kind: PacketKind,
+    apid: u16,
+    count: u16,
+    header: &[u8],
+    body: &[u8],
+    out: &mut [u8],
+    needed: &mut usize,
+) -> u32
+    requires apid { apid ≤ 2046 }
+    requires count { count ≤ 16383 }
+    requires field { length header.now + length body.now ≤ longest_field }
+    ensures code { result
+        ≡ code_for (Ok (spelling (fields_of kind apid count (header.now ++ body.now)))) out.old }
+    ensures buffer { out.new
+        ≡ left_by (Ok (spelling (fields_of kind apid count (header.now ++ body.now)))) out.old }
+    ensures needed { needed.new
+        ≡ length (spelling (fields_of kind apid count (header.now ++ body.now))) }
+{
+    *needed = PRIMARY_HEADER + header.len() + body.len() + ERROR_CONTROL;
+    if out.len() < *needed {
+        return ROOM;
+    }
+    write_packet_into(kind, apid, count, header, body, out);
+    DONE
+}
+
+// Writes a packet to the front of a buffer that has room for it.
+fn write_packet_into(
+    kind: PacketKind,
+    apid: u16,
+    count: u16,
+    header: &[u8],
+    body: &[u8],
+    out: &mut [u8],
+)
+    requires apid { apid ≤ 2046 }
+    requires count { count ≤ 16383 }
+    requires field { length header.now + length body.now ≤ longest_field }
+    requires room { length header.now + length body.now + 8 ≤ length out.old }
+    ensures { out.new ≡ spelling (fields_of kind apid count (header.now ++ body.now))
+        ++ drop (length header.now + length body.now + 8) out.old }
+{
+    let len = header.len() + body.len();
+    let primary = primary_header(kind, apid, count, len);
+    let (packet, _) = out.split_at_mut(PRIMARY_HEADER + len + ERROR_CONTROL);
+    seal_into(&primary, header, body, packet);
+}
+
+// The primary header of a packet whose data field has so many octets.
+fn primary_header(kind: PacketKind, apid: u16, count: u16, len: usize) -> [u8; PRIMARY_HEADER]
+    requires apid { apid ≤ 2046 }
+    requires count { count ≤ 16383 }
+    requires len { len ≤ longest_field }
+    ensures { result ≡ header_of kind apid count len }
+{
+    let packet_type = match kind {
+        PacketKind::Tm => 0,
+        PacketKind::Tc => 0x1000,
+    };
+    let first = (packet_type + 0x0800 + apid).to_be_bytes();
+    let second = (0xc000 + count).to_be_bytes();
+    let third = (len as u16 + 1).to_be_bytes();
+    [first[0], first[1], second[0], second[1], third[0], third[1]]
+}
+
+// The pieces, one behind the other, and their checksum, into a buffer of just their length.
+fn seal_into(primary: &[u8; PRIMARY_HEADER], header: &[u8], body: &[u8], out: &mut [u8])
+    requires { length header.now + length body.now + 8 ≡ length out.old }
+    ensures { out.new ≡ sealed (primary.now ++ header.now ++ body.now) }
+{
+    let (before, last) = out.split_at_mut(out.len() - ERROR_CONTROL);
+    join_into(primary, header, body, before);
+    last.copy_from_slice(&crc16(before).to_be_bytes());
+}
+
+// Three pieces, one behind the other, into a buffer of just their length.
+fn join_into(first: &[u8], second: &[u8], third: &[u8], out: &mut [u8])
+    requires { length first.now + length second.now + length third.now ≡ length out.old }
+    ensures { out.new ≡ first.now ++ second.now ++ third.now }
+{
+    let (a, left) = out.split_at_mut(first.len());
+    a.copy_from_slice(first);
+    let (b, c) = left.split_at_mut(second.len());
+    b.copy_from_slice(second);
+    c.copy_from_slice(third);
+}
+
+// Writes two pieces, one behind the other, to the front of a buffer, where it has room.
+pub(crate) fn fill(front: &[u8], rest: &[u8], out: &mut [u8], needed: &mut usize) -> u32
+    requires { length front.now + length rest.now ≤ longest_packet }
+    ensures code { result ≡ code_for (Ok (front.now ++ rest.now)) out.old }
+    ensures buffer { out.new ≡ left_by (Ok (front.now ++ rest.now)) out.old }
+    ensures needed { needed.new ≡ length (front.now ++ rest.now) }
+{
+    *needed = front.len() + rest.len();
+    if out.len() < *needed {
+        return ROOM;
+    }
+    let (text, _) = out.split_at_mut(*needed);
+    join_into(&[], front, rest, text);
+    DONE
+}

@@ -1,0 +1,89 @@
+//! Packets.
+
+ghost use Rattle.std.specs.Prelude.{◌≡◌};
+ghost use Rattle.lpt_c.specs.Buffers.{code_for, left_by, needed_by};
+ghost use Rattle.lpt_c.specs.Packets.{kind_of_number, packet_text, packet_told};
+ghost use Rattle.lpt_c.specs.Readings.{code_read, left_in, packet_read};
+
+use crate::codes::{DONE, IDLE, RANGE, TOO_LONG};
+use crate::filling::fill_packet;
+use lpt_pus::lpt_packet::{LONGEST_FIELD, PRIMARY_HEADER, PacketKind, Seen, read_packet};
+
+/// A packet that was read.
+#[repr(C)]
+#[derive(Clone, Copy, Debug)]
+pub struct LptPacket {
+    /// 0 telemetry, 1 a telecommand.
+    pub kind: u32,
+    /// The application process identifier, 0 to 2046.
+    pub apid: u16,
+    /// The packet sequence count, 0 to 16,383.
+    pub count: u16,
+    /// Where the data field stands in the octets that were read.
+    pub at: usize,
+    /// How many octets the data field has.
+    pub len: usize,
+}
+
+/// Reads octets as a packet.
+///
+/// 0, and `out` says what it is; 101 of an idle packet; 1 to 6, the first fault of what is no
+/// packet.
+#[unsafe(no_mangle)]
+pub extern "C" fn lpt_read_packet(octets: &[u8], out: &mut LptPacket) -> u32
+    ensures code { result ≡ code_read (packet_read octets.now) }
+    ensures out { out.new ≡ left_in packet_told (packet_read octets.now) out.old }
+{
+    match read_packet(octets) {
+        Err(fault) => u32::from(fault.code()),
+        Ok(Seen::Idle) => IDLE,
+        Ok(Seen::Packet(packet)) => {
+            *out = LptPacket {
+                kind: match packet.kind {
+                    PacketKind::Tm => 0,
+                    PacketKind::Tc => 1,
+                },
+                apid: packet.apid,
+                count: packet.count,
+                at: PRIMARY_HEADER,
+                len: packet.field.len(),
+            };
+            DONE
+        }
+    }
+}
+
+/// Writes a packet of telemetry, `kind` 0, or of a telecommand, 1, to the front of a buffer.
+///
+/// 0; 102 where the kind is another, the APID above 2046 or the count above 16,383; 14 where the
+/// packet would have more than 65,542 octets; 103 where the buffer is too short. At 0 and at 103
+/// `needed` tells how many octets the packet has.
+#[unsafe(no_mangle)]
+pub extern "C" fn lpt_write_packet(
+    kind: u32,
+    apid: u16,
+    count: u16,
+    field: &[u8],
+    out: &mut [u8],
+    needed: &mut usize,
+) -> u32
+    ensures code { result
+        ≡ code_for (packet_text (kind_of_number kind) apid count field.now) out.old }
+    ensures buffer { out.new
+        ≡ left_by (packet_text (kind_of_number kind) apid count field.now) out.old }
+    ensures needed { needed.new
+        ≡ needed_by (packet_text (kind_of_number kind) apid count field.now) needed.old }
+{
+    let kind = match kind {
+        0 => PacketKind::Tm,
+        1 => PacketKind::Tc,
+        _ => return RANGE,
+    };
+    if apid > 2046 || count > 16383 {
+        return RANGE;
+    }
+    if field.len() > LONGEST_FIELD {
+        return TOO_LONG;
+    }
+    fill_packet(kind, apid, count, &[], field, out, needed)
+}

@@ -1,0 +1,242 @@
+//! Parts of large messages.
+
+ghost use Rattle.std.specs.Prelude.{◌≡◌, ◌+◌, ◌<◌, ◌≤◌, ◌++◌, length, Ok, IsTrue, Some};
+ghost use Rattle.lpt_part.specs.LptPacket.Sizes.{longest_packet};
+ghost use Rattle.lpt_part.specs.Parts.{body_of, number_test, length_test};
+ghost use Rattle.lpt_part.specs.Splitting.{IsPartSize, kind_at, part_count, part_of};
+ghost use Rattle.lpt_c.specs.Buffers.{code_for, left_by, needed_by};
+ghost use Rattle.lpt_c.specs.Parts.{count_told, is_part_size, kind_in, kind_named, kind_number, kind_told, part_read, part_text, part_told, piece_of, slice_text};
+ghost use Rattle.lpt_c.specs.Readings.{code_read, left_in};
+
+use crate::codes::{DONE, KIND_NUMBER, LONG, NO_SUCH_PART, PART_LENGTH, RANGE, SHORT, ZERO};
+use crate::filling::fill;
+use lpt_part::lpt_packet::LONGEST_PACKET;
+use lpt_part::{Kind, count, read_part, slice};
+
+/// A part that was read.
+#[repr(C)]
+#[derive(Clone, Copy, Debug)]
+pub struct LptPart {
+    /// The transaction identifier.
+    pub id: u16,
+    /// The part sequence number, from 1.
+    pub number: u16,
+    /// 1 the first part, 2 an intermediate one, 3 the last.
+    pub kind: u32,
+    /// Where the part's octets stand in the body that was read.
+    pub at: usize,
+    /// How many octets the part has.
+    pub len: usize,
+}
+
+/// How many parts of `p` octets a message of `len` octets has; 0 where `p` isn't 4 to 1024.
+#[unsafe(no_mangle)]
+pub extern "C" fn lpt_part_count(len: u32, p: u32) -> u32
+    ensures { result ≡ count_told len p }
+{
+    if p < 4 || p > 1024 {
+        return 0;
+    }
+    count(len, p)
+}
+
+/// Reads a message's body as a part of this kind, for parts of `p` octets.
+///
+/// 0, and `out` says what it is; 102 where the kind isn't 1 to 3 or `p` isn't 4 to 1024; 20 to 23,
+/// the first fault of a body that is no such part.
+#[unsafe(no_mangle)]
+pub extern "C" fn lpt_read_part(kind: u32, body: &[u8], p: u32, out: &mut LptPart) -> u32
+    ensures code { result ≡ code_read (part_read (kind_named kind) body.now p) }
+    ensures out { out.new ≡ left_in part_told (part_read (kind_named kind) body.now p) out.old }
+{
+    let Some(of_kind) = named(kind) else {
+        return RANGE;
+    };
+    if p < 4 || p > 1024 {
+        return RANGE;
+    }
+    match read_part(of_kind, body, p) {
+        Err(fault) => u32::from(fault.code()),
+        Ok(part) => {
+            *out = LptPart {
+                id: part.id,
+                number: part.number,
+                kind: number_of(part.kind),
+                at: 4,
+                len: part.octets.len(),
+            };
+            DONE
+        }
+    }
+}
+
+/// Writes the body of a message that carries a part to the front of a buffer.
+///
+/// 0; 102 where the kind isn't 1 to 3 or `p` isn't 4 to 1024; 21, 22 or 23 where there is no part
+/// of this kind, number and length; 103 where the buffer is too short. At 0 and at 103 `needed`
+/// tells how many octets the body has, 4 more than the part.
+#[unsafe(no_mangle)]
+pub extern "C" fn lpt_write_part(
+    kind: u32,
+    id: u16,
+    number: u16,
+    octets: &[u8],
+    p: u32,
+    out: &mut [u8],
+    needed: &mut usize,
+) -> u32
+    ensures code { result
+        ≡ code_for (part_text (kind_named kind) id number p octets.now) out.old }
+    ensures buffer { out.new
+        ≡ left_by (part_text (kind_named kind) id number p octets.now) out.old }
+    ensures needed { needed.new
+        ≡ needed_by (part_text (kind_named kind) id number p octets.now) needed.old }
+{
+    let Some(of_kind) = named(kind) else {
+        return RANGE;
+    };
+    if p < 4 || p > 1024 {
+        return RANGE;
+    }
+    if number == 0 {
+        return ZERO;
+    }
+    if !number_fits(of_kind, number) {
+        return KIND_NUMBER;
+    }
+    if !length_fits(of_kind, number, octets.len(), p) {
+        return PART_LENGTH;
+    }
+    fill_part(of_kind, id, number, octets, out, needed)
+}
+
+/// Writes the body of the message that carries part `k` of a message, in parts of `p` octets, to
+/// the front of a buffer, and tells the part's kind, 1 to 3.
+///
+/// 0; 102 where `p` isn't 4 to 1024; 42 where the message isn't longer than a part, 43 where it has
+/// more than 65,542 octets; 46 where it has no part `k`; 103 where the buffer is too short. At 0
+/// and at 103 the kind is told, and `needed` tells how many octets the body has.
+#[unsafe(no_mangle)]
+pub extern "C" fn lpt_slice_part(
+    message: &[u8],
+    p: u32,
+    id: u16,
+    k: u16,
+    kind: &mut u32,
+    out: &mut [u8],
+    needed: &mut usize,
+) -> u32
+    ensures code { result ≡ code_for (slice_text message.now p id k) out.old }
+    ensures buffer { out.new ≡ left_by (slice_text message.now p id k) out.old }
+    ensures needed { needed.new ≡ needed_by (slice_text message.now p id k) needed.old }
+    ensures kind { kind.new
+        ≡ kind_told (slice_text message.now p id k) (kind_in message.now p k) kind.old }
+{
+    if p < 4 || p > 1024 {
+        return RANGE;
+    }
+    if message.len() <= p as usize {
+        return SHORT;
+    }
+    if message.len() > LONGEST_PACKET {
+        return LONG;
+    }
+    let parts = count(message.len() as u32, p);
+    if k == 0 || u32::from(k) > parts {
+        return NO_SUCH_PART;
+    }
+    let of_kind = kind_of_part(u32::from(k), parts);
+    *kind = number_of(of_kind);
+    fill_part(of_kind, id, k, part(message, p, k), out, needed)
+}
+
+// The octets of a part that the message has.
+fn part(message: &[u8], p: u32, k: u16) -> &[u8]
+    requires size { IsPartSize p }
+    requires first { 1 ≤ k }
+    requires last { k ≤ part_count (length message.now) p }
+    ensures { result.now ≡ part_of message.now p k }
+{
+    slice(message, p, u32::from(k)).unwrap_or(&[])
+}
+
+// The kind of part k of so many.
+fn kind_of_part(k: u32, parts: u32) -> Kind
+    ensures { result ≡ kind_at k parts }
+{
+    if k == 1 {
+        Kind::First
+    } else if k == parts {
+        Kind::Last
+    } else {
+        Kind::Middle
+    }
+}
+
+// Writes a part's body to the front of a buffer, where it has room.
+#[tactic(auto, unfolding(lpt_part::specs::Parts::body_of))]
+fn fill_part(
+    kind: Kind,
+    id: u16,
+    number: u16,
+    octets: &[u8],
+    out: &mut [u8],
+    needed: &mut usize,
+) -> u32
+    requires { length octets.now ≤ 1024 }
+    ensures code { result ≡ code_for (Ok (body_of (piece_of id number kind octets.now))) out.old }
+    ensures buffer { out.new ≡ left_by (Ok (body_of (piece_of id number kind octets.now))) out.old }
+    ensures needed { needed.new ≡ length (body_of (piece_of id number kind octets.now)) }
+{
+    let _ = kind;
+    let id = id.to_be_bytes();
+    let number = number.to_be_bytes();
+    fill(&[id[0], id[1], number[0], number[1]], octets, out, needed)
+}
+
+// The kind of a number.
+fn named(kind: u32) -> Option<Kind>
+    ensures { result ≡ kind_named kind }
+{
+    match kind {
+        1 => Some(Kind::First),
+        2 => Some(Kind::Middle),
+        3 => Some(Kind::Last),
+        _ => None,
+    }
+}
+
+// The number of a kind.
+fn number_of(kind: Kind) -> u32
+    ensures { result ≡ kind_number kind }
+{
+    match kind {
+        Kind::First => 1,
+        Kind::Middle => 2,
+        Kind::Last => 3,
+    }
+}
+
+// Whether a part of this kind may have this number.
+fn number_fits(kind: Kind, number: u16) -> bool
+    ensures { result ≡ number_test kind number }
+{
+    match kind {
+        Kind::First => number == 1,
+        Kind::Middle | Kind::Last => number >= 2,
+    }
+}
+
+// Whether a part of this kind and number may have so many octets.
+fn length_fits(kind: Kind, number: u16, len: usize, p: u32) -> bool
+    requires { IsPartSize p }
+    ensures { result ≡ length_test kind number len p }
+{
+    let p = p as usize;
+    let least = match kind {
+        Kind::First | Kind::Middle => p,
+        Kind::Last => 1,
+    };
+    let before = usize::from(number).saturating_sub(1) * p;
+    least <= len && len <= p && before + len <= LONGEST_PACKET
+}

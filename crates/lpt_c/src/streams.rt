@@ -1,0 +1,45 @@
+//! How long the packet is that begins a stream.
+
+ghost use Rattle.std.specs.Prelude.{◌≡◌, ◌+◌, ◌<◌, length};
+ghost use Rattle.lpt_pus.specs.LptPacket.Numbers.{word_at};
+ghost use Rattle.lpt_c.specs.Streams.{stream_code, stream_length};
+
+use crate::codes::{DONE, IDLE, MORE};
+use lpt_pus::lpt_packet::PRIMARY_HEADER;
+
+// The fault of octets that begin with another version than 000.
+const VERSION: u32 = 2;
+
+/// Tells how many octets the packet has that begins a stream.
+///
+/// 0 of a packet and 101 of an idle one, and then `length` is told, 7 to 65,542; 104 where there
+/// are too few octets yet to know; 2 where no packet begins so.
+#[unsafe(no_mangle)]
+pub extern "C" fn lpt_packet_length(octets: &[u8], length: &mut usize) -> u32
+    ensures code { result ≡ stream_code octets.now }
+    ensures told { length.new ≡ stream_length octets.now length.old }
+{
+    if octets.is_empty() {
+        return MORE;
+    }
+    if octets[0] >> 5 != 0 {
+        return VERSION;
+    }
+    if octets.len() < PRIMARY_HEADER {
+        return MORE;
+    }
+    *length = 7 + usize::from(word(octets, 4));
+    if word(octets, 0) % 2048 == 2047 {
+        IDLE
+    } else {
+        DONE
+    }
+}
+
+// The 16-bit number at a place.
+fn word(octets: &[u8], at: usize) -> u16
+    requires { at + 1 < length octets.now }
+    ensures { result ≡ word_at octets.now at }
+{
+    u16::from_be_bytes([octets[at], octets[at + 1]])
+}
