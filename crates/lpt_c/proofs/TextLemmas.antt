@@ -1,8 +1,8 @@
 -- How long what is written is.
 use Rattle.std.proofs.Common.{◌≡◌, ℕ, ◌+◌, List, ◌++◌, length, arith, length-append}
-use Rattle.lpt_pus.specs.LptPacket.declared.packet.PacketKind.{PacketKind}
-use Rattle.lpt_pus.specs.LptPacket.Packets.{fields_of, spelling}
-use Rattle.lpt_pus.proofs.LptPacket.Codec.{length-spelling}
+use Rattle.lpt_packet.specs.declared.packet.PacketKind.{PacketKind}
+use Rattle.lpt_packet.specs.Packets.{fields_of, spelling}
+use Rattle.lpt_packet.proofs.Codec.{length-spelling}
 
 -- a packet has eight octets besides the two pieces of its data field
 pub length_packet : (kind : PacketKind) (apid count : ℕ) (h b : List ℕ)

@@ -2,8 +2,8 @@
 use Rattle.std.specs.Prelude.{ℕ}
 use Rattle.lpt_pus.specs.FaultNames as pus
 use Rattle.lpt_pus.specs.declared.fault.PusFault.TheVariants as pus_fault
-use Rattle.lpt_pus.specs.LptPacket.FaultNames as packet
-use Rattle.lpt_pus.specs.LptPacket.declared.fault.PacketFault.TheVariants as packet_fault
+use Rattle.lpt_packet.specs.FaultNames as packet
+use Rattle.lpt_packet.specs.declared.fault.PacketFault.TheVariants as packet_fault
 use Rattle.lpt_part.specs.FaultNames as part
 use Rattle.lpt_part.specs.declared.fault.PartFault.TheVariants as part_fault
 

@@ -1,8 +1,8 @@
 -- Telecommands, as they are read and written.
 use Rattle.std.specs.Prelude.{ℕ, ◌+◌, nat_le, Bool, ◌&&◌, if◌then◌else◌, List, length, Result, Ok, Err}
 use Rattle.lpt_pus.specs.Commands.{Command, packet_of, tc_verdict}
-use Rattle.lpt_pus.specs.LptPacket.Packets.{spelling}
-use Rattle.lpt_pus.specs.LptPacket.Sizes.{primary_header}
+use Rattle.lpt_packet.specs.Packets.{spelling}
+use Rattle.lpt_packet.specs.Sizes.{primary_header}
 use Rattle.lpt_pus.specs.Sizes.{tc_header, longest_tc_body}
 use Rattle.lpt_c.specs.declared.commands.LptTcHead.{LptTcHead}
 use Rattle.lpt_c.specs.declared.commands.LptTc.{LptTc}

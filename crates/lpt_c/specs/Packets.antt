@@ -1,9 +1,9 @@
 -- Packets, as they are read and written.
 use Rattle.std.specs.Prelude.{ℕ, ◌==◌, nat_le, Bool, ◌&&◌, if◌then◌else◌, List, length, Option, Some, None, Ok, Err}
-use Rattle.lpt_pus.specs.LptPacket.declared.packet.PacketKind.{PacketKind}
-use Rattle.lpt_pus.specs.LptPacket.declared.packet.PacketKind.TheVariants.{Tm, Tc}
-use Rattle.lpt_pus.specs.LptPacket.Packets.{Fields, fields_of, packet_type, spelling}
-use Rattle.lpt_pus.specs.LptPacket.Sizes.{primary_header, longest_field}
+use Rattle.lpt_packet.specs.declared.packet.PacketKind.{PacketKind}
+use Rattle.lpt_packet.specs.declared.packet.PacketKind.TheVariants.{Tm, Tc}
+use Rattle.lpt_packet.specs.Packets.{Fields, fields_of, packet_type, spelling}
+use Rattle.lpt_packet.specs.Sizes.{primary_header, longest_field}
 use Rattle.lpt_c.specs.declared.packets.LptPacket.{LptPacket}
 use Rattle.lpt_c.specs.Buffers.{Text}
 use Rattle.lpt_c.specs.Codes.{range, too_long}

@@ -1,6 +1,6 @@
 -- Parts of large messages, as they are read and written.
 use Rattle.std.specs.Prelude.{ℕ, ◌==◌, nat_lt, nat_le, Bool, ◌&&◌, if◌then◌else◌, List, length, Option, Some, None, Result, Ok, Err}
-use Rattle.lpt_part.specs.LptPacket.Sizes.{longest_packet}
+use Rattle.lpt_packet.specs.Sizes.{longest_packet}
 use Rattle.lpt_part.specs.declared.fault.PartFault.{PartFault}
 use Rattle.lpt_part.specs.FaultNames.{code_of}
 use Rattle.lpt_part.specs.declared.kind.Kind.{Kind}

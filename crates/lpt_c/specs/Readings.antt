@@ -1,8 +1,8 @@
 -- What a reader answers, and what it leaves where its answer goes.
 use Rattle.std.specs.Prelude.{ℕ, List, Result, Ok, Err}
-use Rattle.lpt_pus.specs.LptPacket.declared.fault.PacketFault.{PacketFault}
-use Rattle.lpt_pus.specs.LptPacket.FaultNames.{code_of}
-use Rattle.lpt_pus.specs.LptPacket.Packets.{Fields, Sight, IdlePacket, APacket, verdict}
+use Rattle.lpt_packet.specs.declared.fault.PacketFault.{PacketFault}
+use Rattle.lpt_packet.specs.FaultNames.{code_of}
+use Rattle.lpt_packet.specs.Packets.{Fields, Sight, IdlePacket, APacket, verdict}
 use Rattle.lpt_pus.specs.declared.fault.PusFault.{PusFault}
 use Rattle.lpt_pus.specs.FaultNames as pus
 use Rattle.lpt_c.specs.Codes.{done, idle}

@@ -1,6 +1,6 @@
 -- The length of the packet that begins a stream.
 use Rattle.std.specs.Prelude.{ℕ, ◌+◌, ◌/◌, ◌%◌, ◌==◌, nat_lt, if◌then◌else◌, List, length, slice_index}
-use Rattle.lpt_pus.specs.LptPacket.Numbers.{word_at}
+use Rattle.lpt_packet.specs.Numbers.{word_at}
 use Rattle.lpt_c.specs.Codes.{done, version, idle, more}
 
 -- what begins the stream: a packet or an idle one, nothing known yet, or no packet

@@ -1,8 +1,8 @@
 -- Telemetry, as it is read and written.
 use Rattle.std.specs.Prelude.{ℕ, ◌+◌, nat_le, Bool, ◌&&◌, if◌then◌else◌, List, length, Result, Ok, Err}
 use Rattle.lpt_pus.specs.Telemetry.{Telemetry, as_written, tm_packet_of, tm_verdict}
-use Rattle.lpt_pus.specs.LptPacket.Packets.{spelling}
-use Rattle.lpt_pus.specs.LptPacket.Sizes.{primary_header}
+use Rattle.lpt_packet.specs.Packets.{spelling}
+use Rattle.lpt_packet.specs.Sizes.{primary_header}
 use Rattle.lpt_pus.specs.Sizes.{tm_header, longest_tm_body}
 use Rattle.lpt_c.specs.declared.telemetry.LptTmHead.{LptTmHead}
 use Rattle.lpt_c.specs.declared.telemetry.LptTm.{LptTm}

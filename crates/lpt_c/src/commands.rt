@@ -1,7 +1,7 @@
 //! Telecommands.
 
 ghost use Rattle.std.specs.Prelude.{◌≡◌, ◌+◌, ◌≤◌, length, take, if◌then◌else◌, List, ℕ, Ok, IsTrue};
-ghost use Rattle.lpt_pus.specs.LptPacket.Numbers.{be};
+ghost use Rattle.lpt_packet.specs.Numbers.{be};
 ghost use Rattle.lpt_pus.specs.Sizes.{longest_tc_body};
 ghost use Rattle.lpt_c.specs.Buffers.{code_for, left_by, needed_by};
 ghost use Rattle.lpt_c.specs.Codes.{done, range};
@@ -10,7 +10,7 @@ ghost use Rattle.lpt_c.specs.Readings.{code_read, left_in};
 
 use crate::codes::{DONE, IDLE, RANGE, TOO_LONG};
 use crate::filling::fill_packet;
-use lpt_pus::lpt_packet::{PRIMARY_HEADER, PacketKind, Seen, read_packet};
+use lpt_packet::{PRIMARY_HEADER, PacketKind, Seen, read_packet};
 use lpt_pus::{LONGEST_TC_BODY, TC_HEADER, read_tc};
 
 /// What a telecommand's headers say.

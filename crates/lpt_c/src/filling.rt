@@ -1,12 +1,12 @@
 //! Writing to the front of a buffer of the caller's.
 
 ghost use Rattle.std.specs.Prelude.{◌≡◌, ◌+◌, ◌≤◌, ◌++◌, length, drop, Ok};
-ghost use Rattle.lpt_pus.specs.LptPacket.Packets.{fields_of, header_of, sealed, spelling};
-ghost use Rattle.lpt_pus.specs.LptPacket.Sizes.{longest_field, longest_packet};
+ghost use Rattle.lpt_packet.specs.Packets.{fields_of, header_of, sealed, spelling};
+ghost use Rattle.lpt_packet.specs.Sizes.{longest_field, longest_packet};
 ghost use Rattle.lpt_c.specs.Buffers.{code_for, left_by};
 
 use crate::codes::{DONE, ROOM};
-use lpt_pus::lpt_packet::{ERROR_CONTROL, PRIMARY_HEADER, PacketKind, crc16};
+use lpt_packet::{ERROR_CONTROL, PRIMARY_HEADER, PacketKind, crc16};
 
 // Writes a packet to the front of a buffer, where it has room. Its data field is given in two
 // pieces, one behind the other.

@@ -7,7 +7,7 @@ ghost use Rattle.lpt_c.specs.Readings.{code_read, left_in, packet_read};
 
 use crate::codes::{DONE, IDLE, RANGE, TOO_LONG};
 use crate::filling::fill_packet;
-use lpt_pus::lpt_packet::{LONGEST_FIELD, PRIMARY_HEADER, PacketKind, Seen, read_packet};
+use lpt_packet::{LONGEST_FIELD, PRIMARY_HEADER, PacketKind, Seen, read_packet};
 
 /// A packet that was read.
 #[repr(C)]

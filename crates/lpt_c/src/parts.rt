@@ -1,7 +1,7 @@
 //! Parts of large messages.
 
 ghost use Rattle.std.specs.Prelude.{◌≡◌, ◌+◌, ◌<◌, ◌≤◌, ◌++◌, length, Ok, IsTrue, Some};
-ghost use Rattle.lpt_part.specs.LptPacket.Sizes.{longest_packet};
+ghost use Rattle.lpt_packet.specs.Sizes.{longest_packet};
 ghost use Rattle.lpt_part.specs.Parts.{body_of, number_test, length_test};
 ghost use Rattle.lpt_part.specs.Splitting.{IsPartSize, kind_at, part_count, part_of};
 ghost use Rattle.lpt_c.specs.Buffers.{code_for, left_by, needed_by};
@@ -10,7 +10,7 @@ ghost use Rattle.lpt_c.specs.Readings.{code_read, left_in};
 
 use crate::codes::{DONE, KIND_NUMBER, LONG, NO_SUCH_PART, PART_LENGTH, RANGE, SHORT, ZERO};
 use crate::filling::fill;
-use lpt_part::lpt_packet::LONGEST_PACKET;
+use lpt_packet::LONGEST_PACKET;
 use lpt_part::{Kind, count, read_part, slice};
 
 /// A part that was read.

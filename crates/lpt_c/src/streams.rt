@@ -1,11 +1,11 @@
 //! How long the packet is that begins a stream.
 
 ghost use Rattle.std.specs.Prelude.{◌≡◌, ◌+◌, ◌<◌, length};
-ghost use Rattle.lpt_pus.specs.LptPacket.Numbers.{word_at};
+ghost use Rattle.lpt_packet.specs.Numbers.{word_at};
 ghost use Rattle.lpt_c.specs.Streams.{stream_code, stream_length};
 
 use crate::codes::{DONE, IDLE, MORE};
-use lpt_pus::lpt_packet::PRIMARY_HEADER;
+use lpt_packet::PRIMARY_HEADER;
 
 // The fault of octets that begin with another version than 000.
 const VERSION: u32 = 2;

@@ -8,7 +8,7 @@ ghost use Rattle.lpt_c.specs.Telemetry.{tm_fits, tm_packet, tm_text, tm_read, tm
 
 use crate::codes::{DONE, IDLE, RANGE, TOO_LONG};
 use crate::filling::fill_packet;
-use lpt_pus::lpt_packet::{PRIMARY_HEADER, PacketKind, Seen, read_packet};
+use lpt_packet::{PRIMARY_HEADER, PacketKind, Seen, read_packet};
 use lpt_pus::{LONGEST_TM_BODY, TM_HEADER, read_tm};
 
 /// What telemetry's headers say.

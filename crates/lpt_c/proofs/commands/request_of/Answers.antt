@@ -1,8 +1,8 @@
 -- The first four octets are the two words of a header, one behind the other. It is written out so
 -- that a wrong body is refused at once.
 use Rattle.std.proofs.Common.{◌∙◌, ◌++◌, arith}
-use Rattle.lpt_pus.specs.LptPacket.Numbers.{be}
-use Rattle.lpt_pus.specs.LptPacket.Packets.{spelling}
+use Rattle.lpt_packet.specs.Numbers.{be}
+use Rattle.lpt_packet.specs.Packets.{spelling}
 use Rattle.lpt_pus.proofs.LongLemmas.{be-joined}
 use Rattle.lpt_c.proofs.commands.request_of.Goals as goal
 

@@ -1,6 +1,6 @@
 -- The pieces are as long as the data field that they make, and behind them the buffer is as it was.
 use Rattle.std.proofs.Common.{◌≡◌, ◌∙◌, ap, subst, ℕ, ◌+◌, List, ◌++◌, length, drop, arith, length-append}
-use Rattle.lpt_pus.specs.LptPacket.Packets.{fields_of, header_of, sealed, spelling}
+use Rattle.lpt_packet.specs.Packets.{fields_of, header_of, sealed, spelling}
 use Rattle.lpt_c.proofs.filling.write_packet_into.Goals as goal
 
 pub returns : goal.returns
