@@ -21,7 +21,7 @@ use Rattle.lpt_execution.specs.LptEvents.declared.event.Event.TheVariants.{Deliv
 use Rattle.lpt_execution.specs.LptEvents.declared.reply.Answer.TheVariants.{Delivered}
 use Rattle.lpt_execution.specs.LptEvents.declared.entry.Opening.{Opening}
 use Rattle.lpt_journal.specs.Delivery.{judged, outcome}
-use Rattle.lpt_journal.specs.Expiries.{NothingIsKept}
+use Rattle.lpt_journal.specs.Abortions.{NothingIsKept}
 use Rattle.lpt_execution.specs.LptEvents.Sides.{same_side, receiver_side}
 use Rattle.lpt_journal.specs.Journal.{History}
 use Rattle.lpt_journal.specs.Hands.{in_hand}

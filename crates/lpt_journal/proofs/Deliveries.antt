@@ -1,5 +1,5 @@
 -- A delivery pays what it owes.
-use Rattle.std.proofs.Common.{◌≡◌, ◌∙◌, ap, sym, subst, refl, ℕ, ◌≤◌, Bool, true, false, inl, inr, length, Option, Some, None, if◌then◌else◌}
+use Rattle.std.proofs.Common.{◌≡◌, ◌∙◌, ap, sym, subst, refl, ℕ, ◌≤◌, Bool, true, false, inl, inr, ◌∷◌, length, Option, Some, None, if◌then◌else◌}
 use Rattle.std.specs.List.{slice_get}
 use Rattle.lpt_reception.specs.LptPacket.declared.direction.Direction.{Direction}
 use Rattle.lpt_reception.specs.LptPacket.Names.{Name, same_name}
@@ -16,11 +16,13 @@ use Rattle.lpt_execution.specs.LptEvents.declared.config.Config.{Config}
 use Rattle.lpt_execution.specs.LptEvents.declared.outcome.Outcome.{Outcome}
 use Rattle.lpt_execution.specs.LptEvents.declared.outcome.Outcome.TheVariants.{Kept, Released, Broken}
 use Rattle.lpt_execution.specs.LptEvents.declared.side.Side.{Side}
+use Rattle.lpt_execution.specs.LptEvents.declared.side.Side.TheVariants.{Ground, Craft}
 use Rattle.lpt_execution.specs.LptEvents.Arrivals.{Arrival, NotRead, AnIdle, Foreign, NoPart, APart}
 use Rattle.lpt_execution.specs.LptEvents.declared.event.Event.TheVariants.{Deliver}
 use Rattle.lpt_execution.specs.LptEvents.declared.reply.Answer.TheVariants.{Delivered}
 use Rattle.lpt_execution.specs.LptEvents.declared.entry.Opening.{Opening}
 use Rattle.lpt_execution.specs.LptEvents.Sides.{receiver_side}
+use Rattle.lpt_execution.specs.LptEvents.Configs.{IsConfig}
 use Rattle.lpt_journal.specs.Journal.{SentPacket, History}
 use Rattle.lpt_journal.specs.Link.{is_damaged}
 use Rattle.lpt_journal.specs.Hands.{hand, in_hand}
@@ -31,9 +33,10 @@ use Rattle.lpt_journal.specs.Replies.{outcome_puts, entry}
 use Rattle.lpt_journal.specs.Headline.{IsPartOfCurrent, kept_piece, IsSoundOutcome}
 use Rattle.lpt_execution.proofs.LptEvents.LaneLemmas.{same_direction-true}
 use Rattle.lpt_journal.proofs.TestLemmas.{no_place}
-use Rattle.lpt_journal.proofs.Steps.{IsAsPut, IsSound, IsHeardNow, Owes}
+use Rattle.lpt_journal.proofs.Steps.{IsAsPut, IsPut, IsSound, IsHeardNow, Owes}
 use Rattle.lpt_journal.proofs.OutcomeLemmas.{TellsOf, judged_tells}
 use Rattle.lpt_execution.specs.LptMemory.Memories.{Contents}
+use Rattle.lpt_journal.proofs.ReportEvents.{report_put}
 use Rattle.lpt_journal.proofs.Soundness.{in_hand_is, hand_current}
 
 -- ---- parts of the current message agree
@@ -120,7 +123,7 @@ delivery_sound c h l n sound e =
           let t = subst (λ o. TellsOf c h d a o) is tells in
           let no : contradicts (heard c h d t.0.id) t.0.number (kept t.0) ≡ false =
           agrees c h l n t.0 sound e t.1 in
-          let yes : contradicts (heard c h d t.0.id) t.0.number (kept t.0) ≡ true = t.2 in
+          let yes : contradicts (heard c h d t.0.id) t.0.number (kept t.0) ≡ true = t.2.why.0 in
           cc;
       not_bad_part = λ is. subst (λ b. IsNoStranger b) (subst (λ o. TellsOf c h d a o) is tells) known;
       not_idle = λ is. subst (λ b. IsNoStranger b) (subst (λ o. TellsOf c h d a o) is tells) known;
@@ -134,13 +137,17 @@ delivery_sound c h l n sound e =
 
 -- ---- what a delivery owes
 
--- an outcome that breaks nothing puts nothing
-no_puts : (c : Config) (h : History) (side : Side) (o : Outcome) (k : ℕ) (p : SentPacket)
-    → ((id : Name) (reason : Reason) → ¬ (o ≡ Broken id reason))
+-- an outcome puts the report of what was broken off, or nothing
+puts_outcome : (c : Config) (h g : History) (l : Lane) (side : Side) (o : Outcome) (k : ℕ)
+    (p : SentPacket)
+    → IsConfig c
+    → IsSound c h
     → slice_get (outcome_puts c h side o) k ≡ Some p
-    → ⊥
-no_puts c h side (Broken id reason) k p not_broken e = not_broken id reason refl
-no_puts c h side o k p not_broken e = no_place k p e
+    → IsPut c g (Deliver l) p
+puts_outcome c h g l Ground (Broken id reason) k p good sound e = absurd (no_place k p e)
+puts_outcome c h g l Craft (Broken id reason) k p good sound e =
+    report_put c h g (Deliver l) id reason k p good sound refl refl e
+puts_outcome c h g l side o k p good sound e = absurd (no_place k p e)
 
 taken_before : (k l : Lane) (before : Option ℕ) (n : ℕ)
     → (if same_lane k l then None else before) ≡ Some n
@@ -196,15 +203,16 @@ hears c h l n d id o e tells = go (same_direction (lane_direction l) d) refl o t
 
 -- a delivery pays what it owes
 pub deliver_owes : (c : Config) (first : Contents) (h : History) (l : Lane) (n : ℕ)
+    → IsConfig c
     → IsSound c h
     → hand h l ≡ Some n
     → Owes c h (entry c first h (Deliver l))
-deliver_owes c first h l n sound e = record {
+deliver_owes c first h l n good sound e = record {
   opens = λ d id o f. absurd cc;
   retires = λ d id r. absurd cc;
   puts =
-      λ k p f. absurd (no_puts c h (receiver_side (lane_direction l)) (outcome c h l) k p
-      (delivery_sound c h l n sound e).not_broken f);
+      λ k p f. puts_outcome c h (entry c first h (Deliver l) ∷ h) l (receiver_side (lane_direction l))
+      (outcome c h l) k p good sound f;
   takes = λ m k f. inl (taken_before l m (hand h m) k f);
   hears =
       λ d id. hears c h l n d id (outcome c h l) e

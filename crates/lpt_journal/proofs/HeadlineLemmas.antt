@@ -87,7 +87,7 @@ owes c first h (Tick side) good sound up can = tick_owes c first h side sound ca
 owes c first h (Expire side) good sound up can = expire_owes c first h side good sound
 owes c first h (Take l n) good sound up can = take_owes c first h l n sound can.accepted
 owes c first h (Deliver l) good sound up can =
-    let n = delivered c h l can.accepted in deliver_owes c first h l n.0 sound n.1
+    let n = delivered c h l can.accepted in deliver_owes c first h l n.0 good sound n.1
 owes c first h Apply good sound up can =
     apply_owes c first h good sound
     (λ r e. answer_fits c.apid (memories c first h) r.message (up.requests (applied h) r e))
@@ -155,7 +155,7 @@ every c first (e ∷ es) good legal =
 -- ---- the main theorem
 
 -- a lane with a part in its hand has taken it
-taken : (c : Config) (h : History) (l : Lane) (q : Piece)
+pub taken : (c : Config) (h : History) (l : Lane) (q : Piece)
     → in_hand c h l ≡ APart q
     → (n : ℕ) × (hand h l ≡ Some n)
 taken c h l q e = go (hand h l) refl e where

@@ -1,3 +1,5 @@
+pub mod AbortionLemmas
+pub mod AbortionOwed
 pub mod AnswerLengths
 pub mod BootLemmas
 pub mod CalmEvents
@@ -10,8 +12,6 @@ pub mod DeliveredReleases
 pub mod Deliveries
 pub mod DueLemmas
 pub mod Events
-pub mod ExpiryLemmas
-pub mod ExpiryOwed
 pub mod HeadlineLemmas
 pub mod JobLemmas
 pub mod MapLemmas
@@ -22,6 +22,7 @@ pub mod OutcomeLemmas
 pub mod PlainEvents
 pub mod PutLemmas
 pub mod Releasing
+pub mod ReportEvents
 pub mod RestartEvents
 pub mod Retirement
 pub mod SentParts

@@ -4,6 +4,7 @@ use Rattle.std.specs.Option.{is_some}
 use Rattle.std.specs.FinMap as map
 use Rattle.lpt_reception.specs.LptPacket.declared.direction.Direction.{Direction}
 use Rattle.lpt_reception.specs.LptPacket.Names.{Name}
+use Rattle.lpt_reception.specs.LptPart.declared.reason.Reason.{Reason}
 use Rattle.lpt_reception.specs.LptPart.declared.reason.Reason.TheVariants.{Conflict}
 use Rattle.lpt_reception.specs.LptPart.Parts.{Piece}
 use Rattle.lpt_reception.specs.Received.{contradicts, is_whole, spelled}
@@ -34,10 +35,17 @@ pub record IsReleased (closed whole : Bool) (q : Piece) (i : Name) : Type 0 wher
   pub was_open : closed ≡ false
   pub is_all : whole ≡ true
 
+-- a part that broke its reception off: its transaction was not closed, and it contradicted what was
+-- kept
+pub record IsBroken (closed clash : Bool) (q : Piece) (i : Name) (reason : Reason) : Type 0 where
+  pub same_id : i ≡ q.id
+  pub was_open : closed ≡ false
+  pub why : (clash ≡ true) × (reason ≡ Conflict)
+
 abbrev Tells : (closed clash whole : Bool) → Piece → Outcome → Type 0
 Tells closed clash whole q (Kept i k) = i ≡ q.id
 Tells closed clash whole q (Released i len) = IsReleased closed whole q i
-Tells closed clash whole q (Broken i reason) = clash ≡ true
+Tells closed clash whole q (Broken i reason) = IsBroken closed clash q i reason
 Tells closed clash whole q (Ignored Unreadable) = ⊥
 Tells closed clash whole q (Ignored Idle) = ⊥
 Tells closed clash whole q (Ignored ForeignApid) = ⊥
@@ -48,7 +56,8 @@ chosen_tells : (closed full clash again whole : Bool) (q : Piece) (len : ℕ)
     → Tells closed clash whole q (chosen closed full clash again whole q len)
 chosen_tells true full clash again whole q len = tt
 chosen_tells false true clash again whole q len = tt
-chosen_tells false false true again whole q len = refl
+chosen_tells false false true again whole q len =
+    record { same_id = refl; was_open = refl; why = (refl, refl) }
 chosen_tells false false false true whole q len = tt
 chosen_tells false false false false true q len =
     record { same_id = refl; was_open = refl; is_all = refl }
@@ -61,7 +70,8 @@ TellsOf c h d a (Released i len) =
     (q : Piece) × (a ≡ APart q) × IsReleased (is_closed h d q.id)
     (is_whole (with_piece (heard c h d q.id) q)) q i
 TellsOf c h d a (Broken i reason) =
-    (q : Piece) × (a ≡ APart q) × (contradicts (heard c h d q.id) q.number (kept q) ≡ true)
+    (q : Piece) × (a ≡ APart q)
+    × IsBroken (is_closed h d q.id) (contradicts (heard c h d q.id) q.number (kept q)) q i reason
 TellsOf c h d a (Ignored Unreadable) = a ≡ NotRead
 TellsOf c h d a (Ignored Idle) = a ≡ AnIdle
 TellsOf c h d a (Ignored ForeignApid) = a ≡ Foreign

@@ -21,7 +21,7 @@ use Rattle.lpt_journal.specs.Replies.{abort_puts, expiry_puts, entry}
 use Rattle.lpt_journal.specs.Refusals.{refusal}
 use Rattle.lpt_journal.specs.Senders.{count, type_counter}
 use Rattle.lpt_journal.proofs.Events.{only_element}
-use Rattle.lpt_journal.proofs.SentParts.{AreCounts, abort_arrives}
+use Rattle.lpt_journal.proofs.ReportEvents.{report_put}
 use Rattle.lpt_journal.proofs.TestLemmas.{one_passes, no_place}
 use Rattle.lpt_execution.specs.LptMemory.Memories.{Contents}
 use Rattle.lpt_journal.proofs.Steps.{IsRead, IsPut, IsSound, Owes, kept_or_none}
@@ -66,31 +66,6 @@ tick_owes c first h t sound accepted =
 
 -- ---- expiry
 
--- an abortion report is read, and is no part
-report_sound : (c : Config) (h g : History) (side : Side) (id : Name) (reason : Reason) (k : ℕ)
-    (p : SentPacket)
-    → IsConfig c
-    → IsSound c h
-    → slice_get (abort_puts c h Craft id reason) k ≡ Some p
-    → IsPut c g (Expire side) p
-report_sound c h g side id reason k p good sound f =
-    let counter = type_counter h 13 16 in
-    let counts : AreCounts (count h Down) counter (clock c h Craft) =
-    record {
-      count_fits = omega arith;
-      counter_fits = omega arith;
-      time_fits = sound.clocks Craft;
-    } in
-    let it = abort_arrives c (count h Down) counter (clock c h Craft) id reason good counts in
-    subst (λ x. IsPut c g (Expire side) x) (only_element _ k p f)
-    (record {
-      sound = record {
-        is_read = subst (λ a. IsRead a) (sym it.1) tt;
-        part = λ q e. let no : AnAbort it.0 reason ≡ APart q = sym it.1 ∙ e in absurd cc;
-      };
-      name = ap part_name it.1;
-    })
-
 puts_report : (c : Config) (h g : History) (side : Side) (o : Option Name) (k : ℕ) (p : SentPacket)
     → IsConfig c
     → IsSound c h
@@ -99,7 +74,7 @@ puts_report : (c : Config) (h g : History) (side : Side) (o : Option Name) (k : 
 puts_report c h g side None k p good sound f = absurd (no_place k p f)
 puts_report c h g Ground (Some id) k p good sound f = absurd (no_place k p f)
 puts_report c h g Craft (Some id) k p good sound f =
-    report_sound c h g Craft id TimedOut k p good sound f
+    report_put c h g (Expire Craft) id TimedOut k p good sound refl refl f
 
 -- the end of what is due pays what it owes
 pub expire_owes : (c : Config) (first : Contents) (h : History) (side : Side)

@@ -1,8 +1,8 @@
+pub mod Abortions
 pub mod Clear
 pub mod Delivery
 pub mod Due
 pub mod Executions
-pub mod Expiries
 pub mod Hands
 pub mod Headline
 pub mod Jobs

@@ -1,6 +1,6 @@
 //! What the definitions say of journals, proved of all of them: functions with empty bodies.
 
-ghost use Rattle.lpt_journal.specs.Expiries.{ExpiryIsFinal};
+ghost use Rattle.lpt_journal.specs.Abortions.{AbortionIsFinal};
 ghost use Rattle.lpt_journal.specs.Headline.{Headline};
 ghost use Rattle.lpt_journal.specs.Work.{WorkIsOfItsBoot};
 
@@ -14,11 +14,11 @@ pub fn headline()
     ensures { Headline }
 {}
 
-/// Over every legal journal, each reception that expired was of an opening that is never released,
-/// an opening that was released is never heard again, and nothing is kept of a transaction whose
-/// reception has ended.
-pub fn expiry_is_final()
-    ensures { ExpiryIsFinal }
+/// Over every legal journal, each reception that expired or was broken off was of an opening that is
+/// never released, an opening that was released is never heard again, and nothing is kept of a
+/// transaction whose reception has ended.
+pub fn abortion_is_final()
+    ensures { AbortionIsFinal }
 {}
 
 /// Over every legal journal, a commit answers that its job is stale exactly where the spacecraft was

@@ -12,7 +12,7 @@ use Rattle.lpt_journal.specs.LptEvents.Arrivals.{arrival}
 use Rattle.lpt_journal.specs.LptEvents.declared.outcome.Outcome.TheVariants.{Ignored}
 use Rattle.lpt_journal.specs.LptEvents.declared.outcome.Why.TheVariants.{Unreadable}
 use Rattle.lpt_journal.specs.LptEvents.declared.reply.Answer.TheVariants.{Delivered}
-use Rattle.lpt_journal.specs.Expiries.{expiries}
+use Rattle.lpt_journal.specs.Abortions.{abortions}
 use Rattle.lpt_journal.specs.Releases.{releases}
 use Rattle.lpt_worked.proofs.LegalRows.{usual_pass, impatient_pass}
 use Rattle.lpt_worked.proofs.Listed.{recorded_is}
@@ -78,11 +78,11 @@ unfolding seen spelling checksum octets_in shift_all tc_field tc_verdict body_of
     arrival
 two_expire-pass = impatient_pass two_expire refl
 
-pub two_expire-expired : expiries (passed impatient two_expire)
+pub two_expire-expired : abortions (passed impatient two_expire)
     ≡ record { place = 9; direction = Up; id = 3 } ∷ record { place = 10; direction = Up; id = 9 } ∷ []
 unfolding seen spelling checksum octets_in shift_all tc_field tc_verdict body_of part_verdict
     arrival
-two_expire-expired = ap expiries (recorded_is impatient (reverse two_expire))
+two_expire-expired = ap abortions (recorded_is impatient (reverse two_expire))
 
 pub two_expire-released : releases impatient (passed impatient two_expire) ≡ []
 unfolding seen spelling checksum octets_in shift_all tc_field tc_verdict body_of part_verdict

@@ -7,7 +7,7 @@ ghost use Rattle.lpt_journal.specs.LptEvents.declared.outcome.Outcome.TheVariant
 ghost use Rattle.lpt_journal.specs.LptEvents.declared.outcome.Why.TheVariants.{Unreadable};
 ghost use Rattle.lpt_journal.specs.LptEvents.declared.reply.Answer.TheVariants.{Delivered, Stale, Applied};
 ghost use Rattle.lpt_journal.specs.LptPacket.declared.direction.Direction.TheVariants.{Up, Down};
-ghost use Rattle.lpt_journal.specs.Expiries.{expiries};
+ghost use Rattle.lpt_journal.specs.Abortions.{abortions};
 ghost use Rattle.lpt_journal.specs.Jobs.{executed, memories};
 ghost use Rattle.lpt_journal.specs.Releases.{releases};
 ghost use Rattle.lpt_worked.specs.Passes.{IsPass, passed, answers, usual, impatient, m9, m20, out_of_order, both_ways, noisy, two_expire, executed_load, two_loads, dump_packet, report_packet, large_report, renewed, load_packet, usual_memories, loaded_memories, cleared_memories};
@@ -41,7 +41,7 @@ pub fn noisy_is_legal()
 /// released.
 pub fn two_expire_is_legal()
     ensures pass { IsPass impatient two_expire }
-    ensures expired { expiries (passed impatient two_expire)
+    ensures expired { abortions (passed impatient two_expire)
         ≡ record { place = 9; direction = Up; id = 3 }
         ∷ record { place = 10; direction = Up; id = 9 } ∷ [] }
     ensures released { releases impatient (passed impatient two_expire) ≡ [] }

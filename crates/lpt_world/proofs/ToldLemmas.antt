@@ -6,7 +6,7 @@ use Rattle.lpt_system.specs.LptEvents.declared.entry.Entry.{Entry}
 use Rattle.lpt_refinement.specs.LptJournal.Headline.{Holds}
 use Rattle.lpt_world.specs.WorldInside.{IsShown}
 use Rattle.lpt_world.specs.Worlds.{Promised, events_of, history_of}
-use Rattle.lpt_refinement.proofs.LptJournal.ExpiryLemmas.{expiry_is_final}
+use Rattle.lpt_refinement.proofs.LptJournal.AbortionLemmas.{abortion_is_final}
 use Rattle.lpt_refinement.proofs.LptJournal.HeadlineLemmas.{headline}
 use Rattle.lpt_refinement.proofs.LptJournal.WorkLemmas.{work_is_of_its_boot}
 use Rattle.lpt_refinement.specs.GoesOn.{AreNamed}
@@ -26,7 +26,7 @@ shown_promised e first j k =
     let legal = told_is_legal e.config first j k.told in
     record {
       headline = shown_holds e first j k;
-      final = expiry_is_final e.config first (events_of j) k.configured legal;
+      final = abortion_is_final e.config first (events_of j) k.configured legal;
       work = work_is_of_its_boot e.config first (events_of j) k.configured legal;
     }
 

@@ -12,7 +12,7 @@ use Rattle.lpt_system.specs.LptEvents.declared.reply.Reply.{Reply}
 use Rattle.lpt_refinement.specs.LptJournal.Journal.{History}
 use Rattle.lpt_refinement.specs.LptJournal.Senders.{Sender, FreeSender, OpenSender, ClosedSender}
 use Rattle.lpt_refinement.specs.LptJournal.Jobs.{memories}
-use Rattle.lpt_refinement.specs.LptJournal.Expiries.{EndsAreFinal}
+use Rattle.lpt_refinement.specs.LptJournal.Abortions.{EndsAreFinal}
 use Rattle.lpt_refinement.specs.LptJournal.Headline.{Holds}
 use Rattle.lpt_refinement.specs.LptJournal.Legal.{IsEnabled}
 use Rattle.lpt_refinement.specs.LptJournal.Work.{WorkKeepsItsBoot}
@@ -58,7 +58,7 @@ abbrev pub IsTold : Config → Contents → List Entry → Type 0
 IsTold c first j = IsToldAfter c first [] j
 
 -- What is promised of a world, whatever the link did and the nodes were asked: the headline; that what
--- expired or was released is final; and that no job is done outside the boot of its release.
+-- expired, was broken off or was released is final; and that no job is done outside the boot of its release.
 pub record Promised (w : Shown) : Type 0 where
   pub headline : Holds w.config w.first (history w)
   pub final : EndsAreFinal w.config (history w)

@@ -1,4 +1,4 @@
--- The receptions that expired, and what holds of them in every legal journal.
+-- The receptions that expired or were broken off, and what holds of them in every legal journal.
 use Rattle.std.specs.Prelude.{◌≡◌, ℕ, true, false, List, [], ◌∷◌, length, slice_get, Option, Some, is_some}
 use Rattle.lpt_reception.specs.LptPacket.declared.direction.Direction.{Direction}
 use Rattle.lpt_reception.specs.LptPacket.Names.{Name}
@@ -6,7 +6,10 @@ use Rattle.lpt_execution.specs.LptMemory.Memories.{Contents}
 use Rattle.lpt_execution.specs.LptEvents.declared.config.Config.{Config}
 use Rattle.lpt_execution.specs.LptEvents.declared.event.Event.{Event}
 use Rattle.lpt_execution.specs.LptEvents.declared.reply.Answer.{Answer}
-use Rattle.lpt_execution.specs.LptEvents.declared.reply.Answer.TheVariants.{Expired}
+use Rattle.lpt_execution.specs.LptEvents.declared.event.Event.TheVariants.{Deliver}
+use Rattle.lpt_execution.specs.LptEvents.Lanes.{lane_direction}
+use Rattle.lpt_execution.specs.LptEvents.declared.outcome.Outcome.TheVariants.{Broken}
+use Rattle.lpt_execution.specs.LptEvents.declared.reply.Answer.TheVariants.{Delivered, Expired}
 use Rattle.lpt_execution.specs.LptEvents.declared.entry.Opening.{Opening}
 use Rattle.lpt_execution.specs.LptEvents.declared.entry.Release.{Release}
 use Rattle.lpt_journal.specs.Headline.{before, opening_of, IsSameOpening}
@@ -18,39 +21,41 @@ use Rattle.lpt_journal.specs.Replies.{recorded}
 use Rattle.lpt_journal.specs.Legal.{Legal}
 use Rattle.lpt_journal.specs.Senders.{current}
 
--- the place of an entry at which a reception expired, and the reception's transaction
-pub record Expiry : Type 0 where
+-- the place of an entry at which a reception expired or was broken off, and its transaction
+pub record Abortion : Type 0 where
   pub place : ℕ
   pub direction : Direction
   pub id : Name
 
--- the reception that expired by an answer at this place, where one did
-abbrev pub expiry_at : (place : ℕ) → Answer → List Expiry
-expiry_at place (Expired d id) = record { place = place; direction = d; id = id } ∷ []
-expiry_at place _ = []
+-- the reception that expired or was broken off by an event at this place, where one was
+abbrev pub abortion_at : (place : ℕ) → Event → Answer → List Abortion
+abortion_at place (Deliver l) (Delivered (Broken id reason)) =
+    record { place = place; direction = lane_direction l; id = id } ∷ []
+abortion_at place e (Expired d id) = record { place = place; direction = d; id = id } ∷ []
+abortion_at place _ _ = []
 
--- all receptions that expired, in order of place
-abbrev pub expiries : History → List Expiry
-expiries [] = []
-expiries (x ∷ h) = with_all (expiries h) (expiry_at (length h) x.reply.answer)
+-- all receptions that expired or were broken off, in order of place
+abbrev pub abortions : History → List Abortion
+abortions [] = []
+abortions (x ∷ h) = with_all (abortions h) (abortion_at (length h) x.event x.reply.answer)
 
--- the opening that was the last one of the transaction when its reception expired
-abbrev pub opening_of_expiry : History → Expiry → Option Opening
-opening_of_expiry h e = current (before e.place h) e.direction e.id
+-- the opening that was the last one of the transaction when its reception ended so
+abbrev pub opening_of_abortion : History → Abortion → Option Opening
+opening_of_abortion h e = current (before e.place h) e.direction e.id
 
--- each reception that expired was of an opening
+-- each reception that expired or was broken off was of an opening
 abbrev pub EachHasOpening : History → Type 0
 EachHasOpening h =
-    (j : ℕ) (e : Expiry)
-    → slice_get (expiries h) j ≡ Some e
-    → is_some (opening_of_expiry h e) ≡ true
+    (j : ℕ) (e : Abortion)
+    → slice_get (abortions h) j ≡ Some e
+    → is_some (opening_of_abortion h e) ≡ true
 
--- no release is of the opening of a reception that expired
+-- no release is of the opening of a reception that expired or was broken off
 abbrev pub NoneIsReleased : Config → History → Type 0
 NoneIsReleased c h =
-    (j k : ℕ) (e : Expiry) (r : Release) (o u : Opening)
-    → slice_get (expiries h) j ≡ Some e → slice_get (releases c h) k ≡ Some r
-    → opening_of_expiry h e ≡ Some o → opening_of h r ≡ Some u
+    (j k : ℕ) (e : Abortion) (r : Release) (o u : Opening)
+    → slice_get (abortions h) j ≡ Some e → slice_get (releases c h) k ≡ Some r
+    → opening_of_abortion h e ≡ Some o → opening_of h r ≡ Some u
     → ¬ (IsSameOpening o u)
 
 -- of a transaction whose reception has ended nothing is kept
@@ -70,8 +75,8 @@ ReleasedIsUnheard c h =
     → IsSameOpening o u
     → has_parts (heard c h d id) ≡ false
 
--- An opening whose reception expired is never released, and one that was released is never heard
--- again; of an ended reception nothing is kept.
+-- An opening whose reception expired or was broken off is never released, and one that was released
+-- is never heard again; of an ended reception nothing is kept.
 pub record EndsAreFinal (c : Config) (h : History) : Type 0 where
   pub opened : EachHasOpening h
   pub unreleased : NoneIsReleased c h
@@ -79,8 +84,8 @@ pub record EndsAreFinal (c : Config) (h : History) : Type 0 where
   pub not_again : ReleasedIsUnheard c h
 
 -- it holds of every legal journal
-abbrev pub ExpiryIsFinal : Type 0
-ExpiryIsFinal =
+abbrev pub AbortionIsFinal : Type 0
+AbortionIsFinal =
     (c : Config) (first : Contents) (es : List Event)
     → IsConfig c
     → Legal c first es

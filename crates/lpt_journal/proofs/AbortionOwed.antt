@@ -1,5 +1,5 @@
--- What an event owes for the reception that it says has expired, and that it pays it.
-use Rattle.std.proofs.Common.{◌≡◌, ◌∙◌, ap, sym, subst, refl, ℕ, Bool, true, false, not, ◌&&◌, ◌||◌, List, ◌∷◌, length, Option, Some, None}
+-- What an event owes for the reception that it says was aborted, and that it pays it.
+use Rattle.std.proofs.Common.{◌≡◌, ◌∙◌, ap, sym, subst, refl, ℕ, Bool, true, false, not, ◌&&◌, ◌||◌, List, [], ◌∷◌, length, Option, Some, None}
 use Rattle.std.specs.List.{slice_get}
 use Rattle.std.specs.Option.{is_some}
 use Rattle.lpt_reception.specs.LptPacket.declared.direction.Direction.{Direction}
@@ -9,16 +9,27 @@ use Rattle.lpt_execution.specs.LptEvents.declared.config.Config.{Config}
 use Rattle.lpt_execution.specs.LptEvents.declared.side.Side.{Side}
 use Rattle.lpt_execution.specs.LptEvents.declared.side.Side.TheVariants.{Ground, Craft}
 use Rattle.lpt_execution.specs.LptEvents.declared.event.Event.{Event}
-use Rattle.lpt_execution.specs.LptEvents.declared.event.Event.TheVariants.{Expire, Commit}
+use Rattle.lpt_execution.specs.LptEvents.declared.event.Event.TheVariants.{Expire, Deliver, Commit}
+use Rattle.lpt_execution.specs.LptEvents.declared.outcome.Outcome.{Outcome}
+use Rattle.lpt_execution.specs.LptEvents.declared.outcome.Outcome.TheVariants.{Broken}
+use Rattle.lpt_execution.specs.LptEvents.declared.reply.Answer.TheVariants.{Delivered}
+use Rattle.lpt_execution.specs.LptEvents.Lanes.{lane_direction, same_direction}
+use Rattle.lpt_execution.proofs.LptEvents.LaneLemmas.{same_direction-refl}
+use Rattle.lpt_journal.specs.Delivery.{outcome}
+use Rattle.lpt_journal.specs.Hands.{in_hand}
+use Rattle.lpt_journal.specs.Senders.{current}
+use Rattle.lpt_journal.proofs.HeadlineLemmas.{taken}
+use Rattle.lpt_journal.proofs.OutcomeLemmas.{TellsOf, judged_tells}
+use Rattle.lpt_journal.proofs.Soundness.{hand_current}
 use Rattle.lpt_execution.specs.LptEvents.declared.fault.StepFault.TheVariants.{NothingDue}
 use Rattle.lpt_execution.specs.LptEvents.declared.entry.Release.{Release}
-use Rattle.lpt_journal.specs.Expiries.{Expiry, expiry_at, NothingIsKept}
+use Rattle.lpt_journal.specs.Abortions.{Abortion, abortion_at, NothingIsKept}
 use Rattle.lpt_journal.specs.Due.{is_overdue, due}
 use Rattle.lpt_execution.specs.LptEvents.Sides.{same_side, receiver_side, direction_to}
 use Rattle.lpt_journal.specs.Journal.{Recorded, History}
 use Rattle.lpt_journal.specs.Jobs.{boot, ticket}
 use Rattle.lpt_journal.specs.Receivers.{ends, heard, has_parts, last_tick, is_closed}
-use Rattle.lpt_journal.specs.Releases.{released_by}
+use Rattle.lpt_journal.specs.Releases.{released_by, released_now}
 use Rattle.lpt_journal.specs.Replies.{expired_now, entry}
 use Rattle.lpt_journal.specs.Refusals.{refusal}
 use Rattle.lpt_journal.proofs.ClosedLemmas.{open_opening}
@@ -30,18 +41,18 @@ use Rattle.lpt_journal.proofs.Steps.{IsSound}
 use Rattle.lpt_execution.specs.LptMemory.Memories.{Contents}
 use Rattle.lpt_journal.proofs.TestLemmas.{and_r, not_false, one_passes, no_place}
 
--- ---- what an entry owes for what expires
+-- ---- what an entry owes for an abortion
 
--- the transaction of a reception that expired
-abbrev pub transaction : Expiry → Direction × Name
+-- the transaction of a reception that expired or was broken off
+abbrev pub transaction : Abortion → Direction × Name
 transaction e = (e.direction, e.id)
 
--- a release of this message in place of the expiry
-abbrev pub as_release : Expiry → List ℕ → Release
+-- a release of this message in place of the abortion
+abbrev pub as_release : Abortion → List ℕ → Release
 as_release e m = record { place = e.place; of = Some (transaction e); message = m }
 
--- a reception that expires is of an opening, was not ended before, and nothing is released then
-pub record IsExpiryOf (c : Config) (h : History) (x : Recorded) (e : Expiry) : Type 0 where
+-- an aborted reception is of an opening, was not ended before, and nothing is released then
+pub record IsAbortionOf (c : Config) (h : History) (x : Recorded) (e : Abortion) : Type 0 where
   pub place : e.place ≡ length h
   pub message : List ℕ
   pub ends_it : IsReleaseOf h x (as_release e message) (transaction e)
@@ -70,23 +81,23 @@ open_still : (closed has : Bool) → (closed ≡ true → has ≡ false) → has
 open_still true has none e = let no : has ≡ false = none refl in absurd cc
 open_still false has none e = refl
 
--- an event that can happen pays what it owes for what expires
-pub owes_expiry : (c : Config) (first : Contents) (h : History) (ev : Event)
+-- an event that can happen pays what it owes for an abortion
+pub owes_abortion : (c : Config) (first : Contents) (h : History) (ev : Event)
     → IsSound c h
     → NothingIsKept c h
     → refusal c h ev ≡ None
-    → (j : ℕ) (e : Expiry)
-    → slice_get (expiry_at (length h) (entry c first h ev).reply.answer) j ≡ Some e
-    → IsExpiryOf c h (entry c first h ev) e
-owes_expiry c first h (Expire side) sound none can j e f =
+    → (j : ℕ) (e : Abortion)
+    → slice_get (abortion_at (length h) ev (entry c first h ev).reply.answer) j ≡ Some e
+    → IsAbortionOf c h (entry c first h ev) e
+owes_abortion c first h (Expire side) sound none can j e f =
     go (due c h (direction_to side)) refl
     (not_false (is_some (due c h (direction_to side)))
     (one_passes (not (is_some (due c h (direction_to side)))) NothingDue can)) f where
       go : (o : Option Name)
           → due c h (direction_to side) ≡ o
           → is_some o ≡ true
-          → slice_get (expiry_at (length h) (expired_now (direction_to side) o)) j ≡ Some e
-          → IsExpiryOf c h (entry c first h (Expire side)) e
+          → slice_get (abortion_at (length h) (Expire side) (expired_now (direction_to side) o)) j ≡ Some e
+          → IsAbortionOf c h (entry c first h (Expire side)) e
       go None is t k = absurd cc
       go (Some id) is t k =
           let of : record { place = length h; direction = direction_to side; id = id } ≡ e =
@@ -103,7 +114,7 @@ owes_expiry c first h (Expire side) sound none can j e f =
           || is_closed h (direction_to side) id) is
           ∙ (λ i. (receives_there side i && same_name-refl id i)
           || is_closed h (direction_to side) id) in
-          subst (λ (y : Expiry). IsExpiryOf c h (entry c first h (Expire side)) y) of (record {
+          subst (λ (y : Abortion). IsAbortionOf c h (entry c first h (Expire side)) y) of (record {
             place = refl;
             message = opening.0.message;
             ends_it = record {
@@ -115,7 +126,40 @@ owes_expiry c first h (Expire side) sound none can j e f =
             };
             releases_none = λ m r n. no_place m r n;
           })
-owes_expiry c first h (Commit w) sound none can j e f =
-    absurd (commit_says (λ a. ¬ (slice_get (expiry_at (length h) a) j ≡ Some e)) (boot h Craft)
+owes_abortion c first h (Deliver l) sound none can j e f = go (outcome c h l) refl f where
+  d : Direction
+  d = lane_direction l
+
+  go : (o : Outcome)
+      → outcome c h l ≡ o
+      → slice_get (abortion_at (length h) (Deliver l) (Delivered o)) j ≡ Some e
+      → IsAbortionOf c h (entry c first h (Deliver l)) e
+  go (Broken id reason) is k =
+      let of : record { place = length h; direction = d; id = id } ≡ e = only_element _ j e k in
+      let t =
+      subst (λ o. TellsOf c h d (in_hand c h l) o) is (judged_tells c h d (in_hand c h l)) in
+      let n = taken c h l t.0 t.1 in
+      let part = hand_current c h l n.0 t.0 sound n.1 t.1 in
+      let name : id ≡ t.0.id = t.2.same_id in
+      let now : is_closed (entry c first h (Deliver l) ∷ h) d id ≡ true =
+      ap (λ (o : Outcome). (same_direction d d && ends (Delivered o) id) || is_closed h d id) is
+      ∙ (λ i. (same_direction-refl d i && same_name-refl id i) || is_closed h d id) in
+      let nothing : released_by c (entry c first h (Deliver l)) h ≡ [] =
+      ap (λ (o : Outcome). released_now (length h) d (Delivered o) (heard c h d) (in_hand c h l)) is in
+      subst (λ (y : Abortion). IsAbortionOf c h (entry c first h (Deliver l)) y) of (record {
+        place = refl;
+        message = part.opening.message;
+        ends_it = record {
+          opening = part.opening;
+          is_current = ap (current h d) name ∙ part.is_current;
+          is_message = refl;
+          was_open = ap (is_closed h d) name ∙ t.2.was_open;
+          is_ended = now;
+        };
+        releases_none = λ m r k. no_place m r (ap (λ rs. slice_get rs m) (sym nothing) ∙ k);
+      })
+  go o is k = absurd (no_place j e k)
+owes_abortion c first h (Commit w) sound none can j e f =
+    absurd (commit_says (λ a. ¬ (slice_get (abortion_at (length h) (Commit w) a) j ≡ Some e)) (boot h Craft)
     (ticket c h w) (λ b n. no_place j e) (λ b n. no_place j e) f)
-owes_expiry c first h ev sound none can j e f = absurd (no_place j e f)
+owes_abortion c first h ev sound none can j e f = absurd (no_place j e f)

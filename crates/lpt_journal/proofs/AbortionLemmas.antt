@@ -1,4 +1,4 @@
--- An opening whose reception expired is never released.
+-- An opening whose reception expired or was broken off is never released.
 use Rattle.std.proofs.Common.{◌≡◌, ◌∙◌, ap, sym, ℕ, ◌<◌, true, false, inl, inr, List, [], ◌∷◌, length, Some, arith}
 use Rattle.std.specs.List.{slice_get}
 use Rattle.std.specs.Option.{is_some}
@@ -8,7 +8,7 @@ use Rattle.lpt_execution.specs.LptEvents.declared.config.Config.{Config}
 use Rattle.lpt_execution.specs.LptEvents.declared.event.Event.{Event}
 use Rattle.lpt_execution.specs.LptEvents.declared.entry.Opening.{Opening}
 use Rattle.lpt_execution.specs.LptEvents.declared.entry.Release.{Release}
-use Rattle.lpt_journal.specs.Expiries.{Expiry, expiry_at, expiries, opening_of_expiry, NoneIsReleased, NothingIsKept, ReleasedIsUnheard, ExpiryIsFinal}
+use Rattle.lpt_journal.specs.Abortions.{Abortion, abortion_at, abortions, opening_of_abortion, NoneIsReleased, NothingIsKept, ReleasedIsUnheard, AbortionIsFinal}
 use Rattle.lpt_journal.specs.Headline.{IsSameOpening}
 use Rattle.lpt_journal.specs.Journal.{Recorded, History}
 use Rattle.lpt_journal.specs.Receivers.{is_closed}
@@ -24,20 +24,20 @@ use Rattle.lpt_journal.proofs.Releasing.{IsReleaseOf, OwesReleases, IsPast, AreP
 use Rattle.lpt_journal.proofs.Steps.{IsSound, Owes}
 use Rattle.lpt_journal.proofs.TestLemmas.{no_place, IsOldOrNew, with_all_cases}
 use Rattle.lpt_execution.specs.LptMemory.Memories.{Contents}
-use Rattle.lpt_journal.proofs.ExpiryOwed.{transaction, as_release, IsExpiryOf, owes_expiry}
+use Rattle.lpt_journal.proofs.AbortionOwed.{transaction, as_release, IsAbortionOf, owes_abortion}
 
--- ---- what holds of past expiries
+-- ---- what holds of past abortions
 
--- an expiry is past: some release in its place would be
-abbrev IsPastExpiry : History → Expiry → Type 0
-IsPastExpiry h e = (m : List ℕ) × IsPast h (as_release e m) (transaction e)
+-- an abortion is past: some release in its place would be
+abbrev IsPastAbortion : History → Abortion → Type 0
+IsPastAbortion h e = (m : List ℕ) × IsPast h (as_release e m) (transaction e)
 
--- each expiry is past, its transaction is closed until opened again, and its opening isn't released
-record AreExpired (c : Config) (h : History) : Type 0 where
-  each : (j : ℕ) (e : Expiry) → slice_get (expiries h) j ≡ Some e → IsPastExpiry h e
-  closed : (j : ℕ) (e : Expiry) (o u : Opening)
-      → slice_get (expiries h) j ≡ Some e
-      → opening_of_expiry h e ≡ Some o
+-- each abortion is past, its transaction is closed until opened again, and its opening isn't released
+record AreAborted (c : Config) (h : History) : Type 0 where
+  each : (j : ℕ) (e : Abortion) → slice_get (abortions h) j ≡ Some e → IsPastAbortion h e
+  closed : (j : ℕ) (e : Abortion) (o u : Opening)
+      → slice_get (abortions h) j ≡ Some e
+      → opening_of_abortion h e ≡ Some o
       → current h e.direction e.id ≡ Some u
       → u.place ≡ o.place
       → is_closed h e.direction e.id ≡ true
@@ -45,16 +45,16 @@ record AreExpired (c : Config) (h : History) : Type 0 where
 
 module _ (c : Config) (h : History) (x : Recorded) (pays : Owes c h x) (sound : IsSound c h)
     (frees : OwesReleases c h x)
-    (ends_now : (j : ℕ) (e : Expiry)
-    → slice_get (expiry_at (length h) x.reply.answer) j ≡ Some e → IsExpiryOf c h x e)
-    (past : ArePast c h) (gone : AreExpired c h) where
-  each_expired : (j : ℕ) (e : Expiry)
-      → slice_get (expiries (x ∷ h)) j ≡ Some e
-      → IsPastExpiry (x ∷ h) e
-  each_expired j e f =
-      go (with_all_cases (expiries h) (expiry_at (length h) x.reply.answer) j e f) where
-        go : IsOldOrNew (expiries h) (expiry_at (length h) x.reply.answer) j e
-            → IsPastExpiry (x ∷ h) e
+    (ends_now : (j : ℕ) (e : Abortion)
+    → slice_get (abortion_at (length h) x.event x.reply.answer) j ≡ Some e → IsAbortionOf c h x e)
+    (past : ArePast c h) (gone : AreAborted c h) where
+  each_aborted : (j : ℕ) (e : Abortion)
+      → slice_get (abortions (x ∷ h)) j ≡ Some e
+      → IsPastAbortion (x ∷ h) e
+  each_aborted j e f =
+      go (with_all_cases (abortions h) (abortion_at (length h) x.event x.reply.answer) j e f) where
+        go : IsOldOrNew (abortions h) (abortion_at (length h) x.event x.reply.answer) j e
+            → IsPastAbortion (x ∷ h) e
         go (inl old) =
             let p = gone.each j e old in
             (p.0, old_past h x (as_release e p.0) (transaction e) p.1)
@@ -64,38 +64,38 @@ module _ (c : Config) (h : History) (x : Recorded) (pays : Owes c h x) (sound : 
               new_past c h x (as_release e n.message) (transaction e) sound n.place n.ends_it,
             )
 
-  -- the opening of an old expiry, and of a new one
-  expired_before : (j : ℕ) (e : Expiry) (o : Opening)
-      → slice_get (expiries h) j ≡ Some e
-      → opening_of_expiry (x ∷ h) e ≡ Some o
-      → opening_of_expiry h e ≡ Some o
-  expired_before j e o f is =
+  -- the opening of an old abortion, and of a new one
+  aborted_before : (j : ℕ) (e : Abortion) (o : Opening)
+      → slice_get (abortions h) j ≡ Some e
+      → opening_of_abortion (x ∷ h) e ≡ Some o
+      → opening_of_abortion h e ≡ Some o
+  aborted_before j e o f is =
       let p = (gone.each j e f).1 in
       let old = before_old h x e.place (omega (arith, p.place_fits)) in
       ap (λ g. current g e.direction e.id) (sym old) ∙ is
 
-  expired_now_of : (e : Expiry) (o : Opening)
+  aborted_now_of : (e : Abortion) (o : Opening)
       → e.place ≡ length h
-      → opening_of_expiry (x ∷ h) e ≡ Some o
+      → opening_of_abortion (x ∷ h) e ≡ Some o
       → current h e.direction e.id ≡ Some o
-  expired_now_of e o place is =
+  aborted_now_of e o place is =
       ap (λ g. current g e.direction e.id) (sym (before_new h x e.place place)) ∙ is
 
-  closed_expired : (j : ℕ) (e : Expiry) (o u : Opening)
-      → slice_get (expiries (x ∷ h)) j ≡ Some e
-      → opening_of_expiry (x ∷ h) e ≡ Some o
+  closed_aborted : (j : ℕ) (e : Abortion) (o u : Opening)
+      → slice_get (abortions (x ∷ h)) j ≡ Some e
+      → opening_of_abortion (x ∷ h) e ≡ Some o
       → current (x ∷ h) e.direction e.id ≡ Some u
       → u.place ≡ o.place
       → is_closed (x ∷ h) e.direction e.id ≡ true
-  closed_expired j e o u f was now at =
-      go (with_all_cases (expiries h) (expiry_at (length h) x.reply.answer) j e f) where
-        go : IsOldOrNew (expiries h) (expiry_at (length h) x.reply.answer) j e
+  closed_aborted j e o u f was now at =
+      go (with_all_cases (abortions h) (abortion_at (length h) x.event x.reply.answer) j e f) where
+        go : IsOldOrNew (abortions h) (abortion_at (length h) x.event x.reply.answer) j e
             → is_closed (x ∷ h) e.direction e.id ≡ true
         go (inl old) =
             let p = (gone.each j e old).1 in
-            let first_is : opening_of_expiry h e ≡ Some o = expired_before j e o old was in
+            let first_is : opening_of_abortion h e ≡ Some o = aborted_before j e o old was in
             let same : p.opening ≡ o =
-            let is : opening_of_expiry h e ≡ Some p.opening = p.is_current in cc in
+            let is : opening_of_abortion h e ≡ Some p.opening = p.is_current in cc in
             let older : u.place < length h =
             let q : p.opening.place ≡ o.place =
             ap (λ (v : Opening). v.place) same in omega (arith, p.was_before) in
@@ -103,15 +103,15 @@ module _ (c : Config) (h : History) (x : Recorded) (pays : Owes c h x) (sound : 
             closed_stays h x e.direction e.id (gone.closed j e o u old first_is w.0 at) w.1
         go (inr fresh) = (ends_now fresh.0 e fresh.2).ends_it.is_ended
 
-  -- a new release hasn't the opening of an old expiry: that transaction is closed
-  expired_clash : (j : ℕ) (e : Expiry) (s : Release) (v : Direction × Name) (o u : Opening)
-      → slice_get (expiries h) j ≡ Some e
+  -- a new release hasn't the opening of an old abortion: that transaction is closed
+  aborted_clash : (j : ℕ) (e : Abortion) (s : Release) (v : Direction × Name) (o u : Opening)
+      → slice_get (abortions h) j ≡ Some e
       → IsReleaseOf h x s v
-      → opening_of_expiry h e ≡ Some o
+      → opening_of_abortion h e ≡ Some o
       → current h v.0 v.1 ≡ Some u
       → IsSameOpening o u
       → ⊥
-  expired_clash j e s v o u f fresh was now same =
+  aborted_clash j e s v o u f fresh was now same =
       let p = gone.each j e f in
       let closed : is_closed h v.0 v.1 ≡ true =
       past_closed c h (as_release e p.0) (transaction e) v o u sound p.1 was now same
@@ -120,50 +120,50 @@ module _ (c : Config) (h : History) (x : Recorded) (pays : Owes c h x) (sound : 
 
   unreleased_now : NoneIsReleased c (x ∷ h)
   unreleased_now j k e r o u f g is_o is_u same =
-      go (with_all_cases (expiries h) (expiry_at (length h) x.reply.answer) j e f)
+      go (with_all_cases (abortions h) (abortion_at (length h) x.event x.reply.answer) j e f)
       (with_all_cases (releases c h) (released_by c x h) k r g) (is_large (x ∷ h) r u is_u) where
-        go : IsOldOrNew (expiries h) (expiry_at (length h) x.reply.answer) j e
+        go : IsOldOrNew (abortions h) (abortion_at (length h) x.event x.reply.answer) j e
             → IsOldOrNew (releases c h) (released_by c x h) k r
             → ((t : Direction × Name) × (r.of ≡ Some t))
             → ⊥
         go (inl a) (inl b) (t, p) =
-            gone.unreleased j k e r o u a b (expired_before j e o a is_o)
+            gone.unreleased j k e r o u a b (aborted_before j e o a is_o)
             (opening_is h r t p ∙ old_opening c h x k r t u past b p is_u) same
         go (inl a) (inr b) (t, p) =
-            expired_clash j e r t o u a (frees.large b.0 r t b.2 p) (expired_before j e o a is_o)
+            aborted_clash j e r t o u a (frees.large b.0 r t b.2 p) (aborted_before j e o a is_o)
             (new_opening h x r t u (frees.place b.0 r b.2) p is_u) same
         go (inr a) (inl b) (t, p) =
             let n = ends_now a.0 e a.2 in
             clash c h x k r (as_release e n.message) t (transaction e) u o sound past b p n.ends_it
             (old_opening c h x k r t u past b p is_u)
-            (expired_now_of e o n.place is_o) (flipped o u same)
+            (aborted_now_of e o n.place is_o) (flipped o u same)
         go (inr a) (inr b) (t, p) = (ends_now a.0 e a.2).releases_none b.0 r b.2
 
-  expired_step : AreExpired c (x ∷ h)
-  expired_step =
-      record { each = each_expired; closed = closed_expired; unreleased = unreleased_now }
+  aborted_step : AreAborted c (x ∷ h)
+  aborted_step =
+      record { each = each_aborted; closed = closed_aborted; unreleased = unreleased_now }
 
 -- ---- every journal
 
-expired_start : (c : Config) → AreExpired c []
-expired_start c = record {
+aborted_start : (c : Config) → AreAborted c []
+aborted_start c = record {
   each = λ j e f. absurd (no_place j e f);
   closed = λ j e o u f was now at. absurd (no_place j e f);
   unreleased = λ j k e r o u f g is_o is_u same. no_place j e f;
 }
 
-every_expired : (c : Config) (first : Contents) (es : List Event)
+every_aborted : (c : Config) (first : Contents) (es : List Event)
     → IsConfig c
     → Legal c first es
-    → AreExpired c (recorded c first es) × NothingIsKept c (recorded c first es)
-every_expired c first [] good legal = (expired_start c, λ d id e. absurd cc)
-every_expired c first (ev ∷ es) good legal =
+    → AreAborted c (recorded c first es) × NothingIsKept c (recorded c first es)
+every_aborted c first [] good legal = (aborted_start c, λ d id e. absurd cc)
+every_aborted c first (ev ∷ es) good legal =
     let h = recorded c first es in
     let had = every c first es good legal.0 in
-    let gone = every_expired c first es good legal.0 in (
-      expired_step c h (entry c first h ev) (owes c first h ev good had.0 had.2 legal.1) had.0
+    let gone = every_aborted c first es good legal.0 in (
+      aborted_step c h (entry c first h ev) (owes c first h ev good had.0 had.2 legal.1) had.0
           (owes_releases c first h ev good had.0 legal.1)
-          (owes_expiry c first h ev had.0 gone.1 legal.1.accepted) had.1 gone.0,
+          (owes_abortion c first h ev had.0 gone.1 legal.1.accepted) had.1 gone.0,
       unheard_step c first h ev gone.1,
     )
 
@@ -178,13 +178,13 @@ unheard_again c h sound past none k r o u d id e is now same =
     none d id (released_closed c h k r t.0 (d, id) o u sound past e t.1
     (sym (opening_is h r t.0 t.1) ∙ is) now same)
 
--- an opening whose reception expired is never released, and one that was released is never heard
--- again; of an ended reception nothing is kept
-pub expiry_is_final : ExpiryIsFinal
-expiry_is_final c first es good legal =
+-- an opening whose reception expired or was broken off is never released, and one that was released
+-- is never heard again; of an ended reception nothing is kept
+pub abortion_is_final : AbortionIsFinal
+abortion_is_final c first es good legal =
     let h = recorded c first es in
     let sound = every c first es good legal in
-    let all = every_expired c first es good legal in
+    let all = every_aborted c first es good legal in
     record {
       opened = λ j e f. ap is_some (all.0.each j e f).1.is_current;
       unreleased = all.0.unreleased;
