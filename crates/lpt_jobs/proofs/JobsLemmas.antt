@@ -155,13 +155,14 @@ is_claimed-at q n d is = by (nat_lt n q.first) is
 
 -- ---- what a queue keeps
 
--- a queue that a message is released to
-pub kept-push : (first : ℕ) (jobs : List Job) (claimed : ℕ) (j : Job)
+-- a queue to which a message is released, where there was memory for it
+pub kept-push : (first : ℕ) (jobs : List Job) (claimed : ℕ) (j : Job) (added : Bool)
     → IsKept first jobs claimed
     → test j ≡ false
     → first + length jobs + 1 < 2 ^ 64
-    → IsKept first (jobs ++ j ∷ []) claimed
-kept-push first jobs claimed j kept is room = record {
+    → IsKept first (if added then jobs ++ j ∷ [] else jobs) claimed
+kept-push first jobs claimed j false kept is room = kept
+kept-push first jobs claimed j true kept is room = record {
   count = kept.count ∙ sym (claimed_in-push jobs j is);
   order = order-push jobs j kept.order is;
   numbers = omega (arith, length-append jobs (j ∷ []));

@@ -5,7 +5,7 @@ use Rattle.lpt_memory.specs.Readings.{Source}
 use Rattle.lpt_jobs.specs.declared.job.Job.{Job}
 use Rattle.lpt_jobs.specs.declared.job.Mark.{Mark}
 use Rattle.lpt_jobs.specs.declared.job.Mark.TheVariants.{Waiting, Claimed, Committed}
-use Rattle.lpt_jobs.specs.Jobs.{Jobs, QueueView}
+use Rattle.lpt_jobs.specs.Jobs.{Jobs}
 
 -- the code of a reading
 abbrev pub coded_source : Coded Source
@@ -47,9 +47,3 @@ abbrev pub coded_jobs : Coded Jobs
 coded_jobs =
     code_by (ℕ × List Job) (coded× coded_ℕ (coded_list coded_job))
     (λ q. (q.first, q.jobs)) (λ p. record { first = p.0; jobs = p.1 }) (λ _. refl)
-
--- the code of the jobs and their room
-abbrev pub coded_queue : Coded QueueView
-coded_queue =
-    code_by (Jobs × ℕ) (coded× coded_jobs coded_ℕ)
-    (λ v. (v.at, v.spare)) (λ p. record { at = p.0; spare = p.1 }) (λ _. refl)

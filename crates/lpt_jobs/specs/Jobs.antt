@@ -17,11 +17,6 @@ pub record Jobs : Type 0 where
   pub first : ℕ
   pub jobs : List Job
 
--- the jobs, and how many can be added without taking memory
-pub record QueueView : Type 0 where
-  pub at : Jobs
-  pub spare : ℕ
-
 -- no jobs, in a boot that hasn't numbered one
 abbrev pub no_jobs : Jobs
 no_jobs = record { first = 0; jobs = [] }

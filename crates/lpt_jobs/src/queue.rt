@@ -1,6 +1,6 @@
 //! The queue.
 
-ghost use Rattle.std.specs.Prelude.{◌≡◌, ◌+◌, ◌-◌, ◌<◌, ◌≤◌, ◌^◌, ◌∷◌, length, IsSome, IsTrue, OnOk};
+ghost use Rattle.std.specs.Prelude.{◌≡◌, ◌+◌, ◌-◌, ◌<◌, ◌^◌, ◌∷◌, length, IsSome, IsTrue, IfErr, OnOk, OnErr};
 ghost use Rattle.std.specs.Option.{option_map, option_copied};
 ghost use Rattle.lpt_jobs.specs.declared.job.Mark.TheVariants.{Committed};
 ghost use Rattle.lpt_jobs.specs.Jobs.{no_jobs, numbered, job_at, claimed_in, unclaimed, is_claimed, head, head_of, is_ready, after_push, after_claim, after_commit, without_front, AreInOrder};
@@ -8,7 +8,7 @@ ghost use Rattle.lpt_jobs.specs.Jobs.{no_jobs, numbered, job_at, claimed_in, unc
 use crate::Front;
 use crate::job::{Job, Mark};
 use lpt_memory::{Octets, Reading};
-use std::alloc::{AllocError, Global};
+use std::alloc::{AllocFailed, Global};
 use std::collections::VecDeque;
 use std::marker::Model;
 
@@ -24,20 +24,15 @@ pub struct JobQueue {
 }
 
 impl Model for JobQueue {
-    ghost use Rattle.std.specs.Prelude.{◌-◌};
-    ghost use Rattle.std.specs.VecDeque.{deque_len, deque_capacity};
-    ghost use Rattle.lpt_jobs.specs.Codes.{coded_queue};
-    ghost use Rattle.lpt_jobs.specs.Jobs.{QueueView};
+    ghost use Rattle.lpt_jobs.specs.Codes.{coded_jobs};
+    ghost use Rattle.lpt_jobs.specs.Jobs.{Jobs};
     ghost use Rattle.lpt_jobs.specs.JobsInside.{IsKept};
 
-    ghost Value = { QueueView };
+    ghost Value = { Jobs };
 
-    ghost coded = { coded_queue };
+    ghost coded = { coded_jobs };
 
-    ghost view = { λ q. record {
-      at = record { first = q.first; jobs = q.jobs.items };
-      spare = deque_capacity q.jobs - deque_len q.jobs;
-    } };
+    ghost view = { λ q. record { first = q.first; jobs = q.jobs.items } };
 
     ghost invariant = { λ q. IsKept q.first q.jobs.items q.claimed };
 }
@@ -45,7 +40,7 @@ impl Model for JobQueue {
 impl JobQueue {
     /// No jobs, in a boot that hasn't numbered one. It takes no memory.
     pub fn new(alloc: Global) -> JobQueue
-        ensures { result.at ≡ no_jobs }
+        ensures { result ≡ no_jobs }
     {
         JobQueue {
             first: 0,
@@ -57,31 +52,31 @@ impl JobQueue {
     /// How many jobs have got a number in this boot, executed ones among them. It is the number of
     /// the next job.
     pub fn numbered(&self) -> u64
-        ensures { result ≡ numbered self.now.at }
+        ensures { result ≡ numbered self.now }
     {
         self.first + self.jobs.len() as u64
     }
 
     /// How many jobs aren't executed yet.
     pub fn len(&self) -> usize
-        ensures { result ≡ length self.now.at.jobs }
+        ensures { result ≡ length self.now.jobs }
     {
         self.jobs.len()
     }
 
     /// How many jobs wait: no worker has claimed them.
     pub fn waiting(&self) -> usize
-        ensures { result ≡ length self.now.at.jobs - claimed_in self.now.at.jobs }
+        ensures { result ≡ length self.now.jobs - claimed_in self.now.jobs }
     {
         self.jobs.len() - self.claimed
     }
 
     /// The number and the message of the oldest job that waits. `None` where none does.
     pub fn unclaimed(&self) -> Option<(u64, &Octets)>
-        ensures value { option_map (λ x. (x.0, x.1.now)) result ≡ unclaimed self.now.at }
+        ensures value { option_map (λ x. (x.0, x.1.now)) result ≡ unclaimed self.now }
 
         // Behind the oldest job that waits, all wait.
-        ensures order { AreInOrder self.now.at.jobs }
+        ensures order { AreInOrder self.now.jobs }
     {
         let job = self.jobs.get(self.claimed)?;
         Some((self.first + self.claimed as u64, &job.message))
@@ -90,7 +85,7 @@ impl JobQueue {
     /// Whether the job of this number is claimed, and no reading of it committed. A number that no
     /// job has now is answered with no.
     pub fn is_claimed(&self, number: u64) -> bool
-        ensures { result ≡ is_claimed self.now.at number }
+        ensures { result ≡ is_claimed self.now number }
     {
         match self.job(number) {
             Some(job) => matches!(&job.mark, Mark::Claimed),
@@ -100,7 +95,7 @@ impl JobQueue {
 
     /// What stands at the front.
     pub fn front(&self) -> Front<'_>
-        ensures { head result ≡ head_of self.now.at.jobs }
+        ensures { head result ≡ head_of self.now.jobs }
     {
         let Some(job) = self.jobs.front() else {
             return Front::Empty;
@@ -112,36 +107,29 @@ impl JobQueue {
         }
     }
 
-    /// Makes room for one job more.
+    /// Adds the job of a released message, with the next number.
     ///
-    /// Errors: want of memory alone. Then nothing has changed.
-    pub fn reserve(&mut self) -> Result<(), AllocError>
-        ensures ok { OnOk result (0 < self.new.spare) }
-        ensures same { self.new.at ≡ self.old.at }
-        ensures spare { self.old.spare ≤ self.new.spare }
+    /// Errors: want of memory alone, which gives the message back. Then nothing has changed.
+    pub fn push(&mut self, message: Octets) -> Result<(), Octets>
+        requires { numbered self.old + 1 < 2 ^ 64 }
+        ensures ok { OnOk result (self.new ≡ after_push self.old message) }
+        ensures back { IfErr result (λ m. m ≡ message) }
+        ensures err { OnErr result (self.new ≡ self.old) }
     {
-        self.jobs.reserve(1)
-    }
-
-    /// Adds the job of a released message, with the next number. It takes the room of one job,
-    /// which must be there, and no memory.
-    pub fn push_reserved(&mut self, message: Octets)
-        requires room { 0 < self.old.spare }
-        requires numbers { numbered self.old.at + 1 < 2 ^ 64 }
-        ensures at { self.new.at ≡ after_push self.old.at message }
-        ensures spare { self.new.spare + 1 ≡ self.old.spare }
-    {
-        self.jobs.push_back_reserved(Job {
+        let job = Job {
             message,
             mark: Mark::Waiting,
-        });
+        };
+        match self.jobs.push_back(job) {
+            Ok(()) => Ok(()),
+            Err(AllocFailed { value }) => Err(value.message),
+        }
     }
 
     /// Marks the oldest job that waits as claimed.
     pub fn claim(&mut self)
-        requires { IsSome (unclaimed self.old.at) }
-        ensures at { self.new.at ≡ after_claim self.old.at }
-        ensures spare { self.new.spare ≡ self.old.spare }
+        requires { IsSome (unclaimed self.old) }
+        ensures { self.new ≡ after_claim self.old }
     {
         self.jobs[self.claimed].mark = Mark::Claimed;
         self.claimed += 1;
@@ -149,9 +137,8 @@ impl JobQueue {
 
     /// Commits a reading of the job of this number, which must be claimed.
     pub fn commit(&mut self, number: u64, reading: Reading)
-        requires { IsTrue (is_claimed self.old.at number) }
-        ensures at { self.new.at ≡ after_commit self.old.at number reading }
-        ensures spare { self.new.spare ≡ self.old.spare }
+        requires { IsTrue (is_claimed self.old number) }
+        ensures { self.new ≡ after_commit self.old number reading }
     {
         let place = (number - self.first) as usize;
         self.jobs[place].mark = Mark::Committed(reading);
@@ -159,11 +146,10 @@ impl JobQueue {
 
     /// Takes the job at the front out, which must be ready: its message and its reading.
     pub fn pop_front(&mut self) -> (Octets, Reading)
-        requires { IsTrue (is_ready (head_of self.old.at.jobs)) }
-        ensures front { self.old.at.jobs
-            ≡ record { message = result.0; mark = Committed result.1 } ∷ self.new.at.jobs }
-        ensures at { self.new.at ≡ without_front self.old.at }
-        ensures spare { self.new.spare ≡ self.old.spare + 1 }
+        requires { IsTrue (is_ready (head_of self.old.jobs)) }
+        ensures front { self.old.jobs
+            ≡ record { message = result.0; mark = Committed result.1 } ∷ self.new.jobs }
+        ensures left { self.new ≡ without_front self.old }
     {
         let Some(Job { message, mark }) = self.jobs.pop_front() else {
             unreachable!()
@@ -178,8 +164,7 @@ impl JobQueue {
 
     /// Drops all jobs, and begins their numbers at 0 again.
     pub fn clear(&mut self)
-        ensures at { self.new.at ≡ no_jobs }
-        ensures spare { self.old.spare ≤ self.new.spare }
+        ensures { self.new ≡ no_jobs }
     {
         self.first = 0;
         self.jobs.clear();
@@ -188,7 +173,7 @@ impl JobQueue {
 
     // The job of this number.
     fn job(&self, number: u64) -> Option<&Job>
-        ensures { option_copied result ≡ job_at self.now.at number }
+        ensures { option_copied result ≡ job_at self.now number }
     {
         let place = number.checked_sub(self.first)?;
         self.jobs.get(place as usize)

@@ -21,13 +21,7 @@ fn add(queue: &mut JobQueue, message: Octets) -> bool {
     if queue.numbered() == u64::MAX {
         return false;
     }
-    match queue.reserve() {
-        Ok(()) => {
-            queue.push_reserved(message);
-            true
-        }
-        Err(_) => false,
-    }
+    queue.push(message).is_ok()
 }
 
 // Adds the job of a check with this body. The answer is whether there was room for it.
@@ -72,7 +66,7 @@ fn pop(alloc: Global, queue: &mut JobQueue, body: &[u8]) -> Result<bool, Fail> {
 
 // Whether the job at the front can be executed.
 fn front_is_ready(queue: &JobQueue) -> bool
-    ensures { result ≡ is_ready (head_of queue.now.at.jobs) }
+    ensures { result ≡ is_ready (head_of queue.now.jobs) }
 {
     matches!(queue.front(), Front::Ready(_))
 }

@@ -10,7 +10,6 @@ ghost use Rattle.lpt_node.specs.Receiving.{ignored, noted, parted, plain_release
 
 use crate::found::Sight;
 use crate::taken::Taken;
-use crate::working::add_job;
 use crate::{Accepted, Node, Outcome, Parsed, Side, TelemetryKind, Why};
 use lpt_execution::{Octets, Part};
 use std::alloc::AllocError;
@@ -70,7 +69,10 @@ impl Node {
     {
         match self.side {
             Side::Ground => Ok(()),
-            Side::Craft => add_job(&mut self.jobs, octets.copy()?),
+            Side::Craft => match self.jobs.push(octets.copy()?) {
+                Ok(()) => Ok(()),
+                Err(_) => Err(AllocError),
+            },
         }
     }
 

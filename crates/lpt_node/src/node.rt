@@ -61,7 +61,7 @@ impl Model for Node {
         receiving = record { ledger = a.receiver.ledger; entries = a.receiver.entries };
         clock = a.clock;
         boot = a.boot;
-        jobs = a.jobs.at;
+        jobs = a.jobs;
       };
     } };
 

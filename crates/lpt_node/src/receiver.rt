@@ -21,7 +21,6 @@ use crate::Side;
 use crate::anew::free;
 use crate::making::abort_report;
 use crate::taken::Taken;
-use crate::working::add_job;
 use lpt_execution::{Name, Octets, Part, Reason, TmHead};
 use lpt_jobs::JobQueue;
 use lpt_ledger::{Ledger, State};
@@ -117,10 +116,10 @@ impl Receiver {
         now: u32,
     ) -> Result<Taken, AllocError>
         requires p { part.now.p ≡ self.old.p }
-        requires numbers { numbered jobs.old.at + 1 < 2 ^ 64 }
+        requires numbers { numbered jobs.old + 1 < 2 ^ 64 }
         ensures ok { IfOk result (λ t. (self.new, t)
             ≡ received (option_map (λ h. as_written (telemetry h [])) head) self.old (piece part.now) now) }
-        ensures jobs { IfOk result (λ t. jobs.new.at ≡ jobs_after side jobs.old.at t) }
+        ensures jobs { IfOk result (λ t. jobs.new ≡ jobs_after side jobs.old t) }
         ensures short { IfOk result IsShort }
 
         ensures same { IsSameReceiver self.old self.new }
@@ -129,7 +128,7 @@ impl Receiver {
         ensures memory { OnErr result
             (grows (received (option_map (λ h. as_written (telemetry h [])) head) self.old (piece part.now) now).1 ≡ true) }
         ensures err { OnErr result (self.new ≡ self.old) }
-        ensures no_job { OnErr result (jobs.new.at ≡ jobs.old.at) }
+        ensures no_job { OnErr result (jobs.new ≡ jobs.old) }
     {
         if self.ledger.state(part.id) != State::Free {
             return Ok(Taken::Closed);
@@ -218,16 +217,16 @@ fn release(
     requires out { IsSomeAnd table.old.out (λ o. o.0 ≡ id) }
     requires id { whole.before.id ≡ id }
     requires p { whole.before.p ≡ table.old.p }
-    requires numbers { numbered jobs.old.at + 1 < 2 ^ 64 }
+    requires numbers { numbered jobs.old + 1 < 2 ^ 64 }
     ensures ok { IfOk result (λ t. t ≡ taking.Whole (spelled (all_of whole))) }
-    ensures jobs { OnOk result (jobs.new.at ≡ jobs_with side jobs.old.at (spelled (all_of whole))) }
+    ensures jobs { OnOk result (jobs.new ≡ jobs_with side jobs.old (spelled (all_of whole))) }
     ensures shut { OnOk result (ledger.new ≡ map.insert ledger.old id Shut) }
     ensures settled { OnOk result (table.new ≡ record table.old { out = None }) }
     ensures short { IfOk result IsShort }
 
     ensures unshut { OnErr result (ledger.new ≡ ledger.old) }
     ensures back { OnErr result (table.new ≡ put_back table.old id whole.before.parts) }
-    ensures no_job { OnErr result (jobs.new.at ≡ jobs.old.at) }
+    ensures no_job { OnErr result (jobs.new ≡ jobs.old) }
 {
     if add_whole(side, jobs, &whole).is_err() {
         table.put_back(id, whole.back());
@@ -248,13 +247,16 @@ fn release(
 
 // Makes a job of a whole message, at the spacecraft alone. The only error is want of memory.
 fn add_whole(side: Side, jobs: &mut JobQueue, whole: &Whole) -> Result<(), AllocError>
-    requires { numbered jobs.old.at + 1 < 2 ^ 64 }
-    ensures ok { OnOk result (jobs.new.at ≡ jobs_with side jobs.old.at (spelled (all_of whole.now))) }
-    ensures err { OnErr result (jobs.new.at ≡ jobs.old.at) }
+    requires { numbered jobs.old + 1 < 2 ^ 64 }
+    ensures ok { OnOk result (jobs.new ≡ jobs_with side jobs.old (spelled (all_of whole.now))) }
+    ensures err { OnErr result (jobs.new ≡ jobs.old) }
 {
     match side {
         Side::Ground => Ok(()),
-        Side::Craft => add_job(jobs, whole.joined()?),
+        Side::Craft => match jobs.push(whole.joined()?) {
+            Ok(()) => Ok(()),
+            Err(_) => Err(AllocError),
+        },
     }
 }
 

@@ -1,16 +1,15 @@
 //! Jobs: the requests that were released, claimed by workers, and executed in order of release.
 
-ghost use Rattle.std.specs.Prelude.{◌≡◌, ◌+◌, ◌-◌, ◌<◌, ◌^◌, length, IsTrue, None, Some, IfOk, IfErr, OnOk, OnErr};
+ghost use Rattle.std.specs.Prelude.{◌≡◌, ◌-◌, length, IsTrue, None, Some, IfOk, IfErr, OnOk, OnErr};
 ghost use Rattle.std.specs.Option.{option_map};
-ghost use Rattle.lpt_jobs.specs.Jobs.{Ready, after_push, claimed_in, head_of, is_claimed, numbered, unclaimed};
+ghost use Rattle.lpt_jobs.specs.Jobs.{Ready, claimed_in, head_of, is_claimed, numbered, unclaimed};
 ghost use Rattle.lpt_node.specs.Jobs.{refusal_claim, claimed, committed, refusal_apply, executed, execution, IsReadFor};
 ghost use Rattle.lpt_node.specs.Sending.{RefusedBy};
 
 use crate::executing::Made;
 use crate::{Executed, Node, NodeFault};
 use lpt_execution::{Memories, Octets, Reading, Ticket, applied_with, load};
-use lpt_jobs::{Front, JobQueue};
-use std::alloc::AllocError;
+use lpt_jobs::Front;
 
 impl Node {
     /// The number of this boot: how many times the node was started anew.
@@ -144,15 +143,4 @@ impl Node {
             Front::Ready(reading) => Ok(reading),
         }
     }
-}
-
-// Adds the job of a released message. The only error is want of memory.
-pub(crate) fn add_job(jobs: &mut JobQueue, message: Octets) -> Result<(), AllocError>
-    requires { numbered jobs.old.at + 1 < 2 ^ 64 }
-    ensures ok { OnOk result (jobs.new.at ≡ after_push jobs.old.at message) }
-    ensures err { OnErr result (jobs.new.at ≡ jobs.old.at) }
-{
-    jobs.reserve()?;
-    jobs.push_reserved(message);
-    Ok(())
 }

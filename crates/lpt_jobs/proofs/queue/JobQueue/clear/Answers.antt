@@ -5,7 +5,7 @@ use Rattle.lpt_jobs.specs.declared.job.Job.{Job}
 use Rattle.lpt_jobs.specs.Jobs.{Jobs}
 use Rattle.lpt_jobs.proofs.queue.JobQueue.clear.Goals as goal
 
-pub returns-clause-at : goal.returns-clause-at
-returns-clause-at c =
+pub returns : goal.returns
+returns c =
     let with_jobs : List Job → Jobs = λ jobs. record { first = 0; jobs = jobs } in
     ap with_jobs c.clear.ensures.items

@@ -4,7 +4,7 @@ use Rattle.std.proofs.Common.{◌∙◌, ap, ◌-◌, List, refl, rules}
 use Rattle.lpt_jobs.specs.declared.job.Job.{Job}
 use Rattle.lpt_jobs.specs.declared.job.Mark.TheVariants.{Committed}
 use Rattle.lpt_jobs.proofs.JobsLemmas.{set-with_mark, is_claimed-at, kept-commit}
-use Rattle.lpt_jobs.specs.Jobs.{Jobs, QueueView, after_commit}
+use Rattle.lpt_jobs.specs.Jobs.{Jobs, after_commit}
 use Rattle.lpt_jobs.proofs.queue.JobQueue.commit.Goals as goal
 
 pub invariant_of-self : goal.invariant_of-self
@@ -15,11 +15,11 @@ invariant_of-self c =
     (c.args.number - c.self.inside.first) _ c.index_mut.result.now
     c.self.invariant there.0 there.1 refl
 
-pub returns-clause-at : goal.returns-clause-at
-returns-clause-at c =
+pub returns : goal.returns
+returns c =
     let q = c.self.inside in
     let with_jobs : List Job → Jobs = λ jobs. record { first = q.first; jobs = jobs } in
     let written = set-with_mark q.jobs.items (c.args.number - q.first)
     (Committed c.args.reading) c.index_mut.result.now c.index_mut.ensures.value in
     ap with_jobs written
-    ∙ ap (λ (v : QueueView). after_commit v.at c.args.number c.args.reading) c.self.view_is
+    ∙ ap (λ (v : Jobs). after_commit v c.args.number c.args.reading) c.self.view_is

@@ -2,7 +2,7 @@
 -- refused at once.
 use Rattle.std.proofs.Common.{◌∙◌, ap, sym, ◌+◌, List, drop}
 use Rattle.lpt_jobs.specs.declared.job.Job.{Job}
-use Rattle.lpt_jobs.specs.Jobs.{Jobs, QueueView, was_claimed, without_front}
+use Rattle.lpt_jobs.specs.Jobs.{Jobs, was_claimed, without_front}
 use Rattle.lpt_jobs.proofs.JobsLemmas.{kept-pop}
 use Rattle.lpt_jobs.proofs.queue.JobQueue.pop_front.Goals as goal
 
@@ -12,9 +12,9 @@ invariant_of-self c =
     kept-pop c.self.inside.first c.self.inside.jobs.items c.pop_front.new.self.items
     c.self.inside.claimed c.in-Some.field-0 c.self.invariant c.in-Some.ensures.items claimed
 
-pub returns-clause-at : goal.returns-clause-at
-returns-clause-at c =
+pub returns-clause-left : goal.returns-clause-left
+returns-clause-left c =
     let rest : List Job → Jobs
     = λ jobs. record { first = c.self.inside.first + 1; jobs = drop 1 jobs } in
     ap rest (sym c.in-Some.ensures.items)
-    ∙ ap (λ (v : QueueView). without_front v.at) c.self.view_is
+    ∙ ap (λ (v : Jobs). without_front v) c.self.view_is

@@ -28,7 +28,7 @@ returns-clause-at c =
       receiving = record { ledger = c.self.inside.receiver.ledger; entries = c.self.inside.receiver.entries };
       clock = c.self.inside.clock;
       boot = c.self.inside.boot;
-      jobs = c.self.inside.jobs.at;
+      jobs = c.self.inside.jobs;
     })
     ∙ ap (λ (n : NodeView). opened n.at c.in-Some.id c.in-Some-next.message) c.self.view_is
     ∙ ap (λ (m : List ℕ). opened c.args.self.now.at c.in-Some.id m) (sym c.in_ok-copy.ensures)
