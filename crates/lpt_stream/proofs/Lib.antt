@@ -1,0 +1,3 @@
+pub mod BufferLemmas
+pub mod StreamLemmas
+pub use Rattle.lpt_packet.proofs as LptPacket

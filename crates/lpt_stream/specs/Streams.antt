@@ -1,0 +1,61 @@
+-- How a stream of octets is cut into packets, by the lengths that their headers say.
+use Rattle.std.specs.Prelude.{◌≡◌, ℕ, ◌+◌, ◌<◌, ◌≤◌, ◌⊎◌, nat_lt, if◌then◌else◌, List, [], ◌∷◌, ◌++◌, length, take, drop, Option, Some, None}
+use Rattle.std.specs.List.{flat_map}
+use Rattle.lpt_packet.specs.Numbers.{word_at}
+use Rattle.lpt_packet.specs.Packets.{Fields, IsPacket, IsIdle}
+use Rattle.lpt_packet.specs.Sizes.{primary_header}
+
+-- ---- the front
+
+-- how many octets the packet at the front has, once its header has come
+abbrev pub length_at : List ℕ → Option ℕ
+length_at b = if nat_lt (length b) primary_header then None else Some (7 + word_at b 4)
+
+-- how many octets must have come before more can be said: a header's, and then the packet's
+abbrev pub wanted : List ℕ → ℕ
+wanted b = if nat_lt (length b) primary_header then primary_header else 7 + word_at b 4
+
+-- less than a packet
+abbrev pub IsUnfinished : List ℕ → Type 0
+IsUnfinished b = length b < wanted b
+
+-- the octets up to a place, and those behind it
+abbrev pub cut_at : ℕ → List ℕ → List ℕ × List ℕ
+cut_at n b = (take n b, drop n b)
+
+-- the packet at the front and what comes behind it, where it has come whole
+unfoldable pub front_of : List ℕ → Option (List ℕ × List ℕ)
+front_of b = if nat_lt (length b) (wanted b) then None else Some (cut_at (7 + word_at b 4) b)
+
+-- ---- the stream
+
+-- as many octets as their header says
+pub record IsFramed (b : List ℕ) : Type 0 where
+  pub headed : primary_header ≤ length b
+  pub whole : length b ≡ 7 + word_at b 4
+
+-- each is as many octets as its header says
+abbrev pub AllFramed : List (List ℕ) → Type 0
+AllFramed [] = Unit {0}
+AllFramed (b ∷ bs) = IsFramed b × AllFramed bs
+
+-- the octets of pieces, one behind the other
+abbrev pub all_octets : List (List ℕ) → List ℕ
+all_octets pieces = flat_map (λ b. b) pieces
+
+-- the stream is these pieces, and then less than a packet
+pub record Splits (stream : List ℕ) (pieces : List (List ℕ)) (rest : List ℕ) : Type 0 where
+  pub joined : stream ≡ all_octets pieces ++ rest
+  pub each : AllFramed pieces
+  pub unfinished : IsUnfinished rest
+
+-- ---- packets
+
+-- the octets are a packet, or an idle one
+abbrev pub IsPacketOrIdle : List ℕ → Type 0
+IsPacketOrIdle b = ((f : Fields) × IsPacket b f) ⊎ IsIdle b
+
+-- each is a packet, or an idle one
+abbrev pub IsStream : List (List ℕ) → Type 0
+IsStream [] = Unit {0}
+IsStream (b ∷ bs) = IsPacketOrIdle b × IsStream bs

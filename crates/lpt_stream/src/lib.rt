@@ -1,0 +1,14 @@
+//! A stream of octets as space packets (CCSDS 133.0-B), one behind the other.
+//!
+//! A stream is cut by the lengths that the primary headers say, as it comes: no more of it is held
+//! than one packet and what one read gives. Whether a piece is a packet, `lpt_packet` says.
+#![tactic(auto)]
+
+mod buffer;
+mod cutting;
+pub mod laws;
+
+pub use buffer::PacketBuffer;
+pub use cutting::{packet_length, whole_length};
+pub use lpt_packet;
+pub use lpt_text;
