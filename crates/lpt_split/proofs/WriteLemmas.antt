@@ -1,0 +1,74 @@
+-- Packets written one behind the other.
+use Rattle.std.proofs.Common.{◌≡◌, ◌∙◌, ap, sym, subst, refl, ℕ, ◌+◌, ◌<◌, List, ◌∷◌, ◌++◌, length, drop, get_or, Option, append_assoc, add-one, drop-cons}
+use Rattle.std.proofs.KnownBytes.{Appends-trans}
+use Rattle.std.specs.Io.KnownBytes.{Appends}
+use Rattle.lpt_text.specs.Streams.{AppendsPart}
+use Rattle.lpt_text.proofs.StreamLemmas.{part_after, part_of_front, part_whole}
+use Rattle.lpt_events.specs.LptPacket.declared.direction.Direction.{Direction}
+use Rattle.lpt_events.specs.declared.config.Config.{Config}
+use Rattle.lpt_events.specs.MadePackets.{part_made, nth_part}
+use Rattle.lpt_split.specs.Splits.{AreNumbers, next_count, octets_of, split_of}
+
+-- ---- what is written, and what is left
+
+-- octets that were written, which with those that are left are all
+abbrev pub Wrote : (old new : Option (List ℕ)) → (left all : List ℕ) → Type 0
+Wrote old new left all = (done : List ℕ) × Appends old new done × (done ++ left ≡ all)
+
+-- with more written
+pub wrote-more : (old mid new : Option (List ℕ)) (more left rest all : List ℕ)
+    → Wrote old mid left all
+    → left ≡ more ++ rest
+    → Appends mid new more
+    → Wrote old new rest all
+wrote-more old mid new more left rest all h is step = (
+  h.0 ++ more,
+  Appends-trans old mid new h.0 more h.1 step,
+  append_assoc h.0 more rest ∙ ap (λ x. h.0 ++ x) (sym is) ∙ h.2,
+)
+
+-- what was written is a front part
+pub wrote-part : (old new : Option (List ℕ)) (left all : List ℕ)
+    → Wrote old new left all
+    → AppendsPart old new all
+wrote-part old new left all h =
+    subst (AppendsPart old new) h.2 (part_of_front old new h.0 left (part_whole old new h.0 h.1))
+
+-- and so it is with a front part of more
+pub wrote-part-more : (old mid new : Option (List ℕ)) (more left rest all : List ℕ)
+    → Wrote old mid left all
+    → left ≡ more ++ rest
+    → AppendsPart mid new more
+    → AppendsPart old new all
+wrote-part-more old mid new more left rest all h is part =
+    subst (AppendsPart old new) h.2
+    (part_after old mid new h.0 left h.1
+    (subst (AppendsPart mid new) (sym is) (part_of_front mid new more rest part)))
+
+-- ---- packets
+
+module _ (c : Config) (d : Direction) (id : ℕ) (m : List ℕ) (ns : List ℕ) (i : ℕ) where
+  -- the packet of the part at a place of the list
+  abbrev pub packet_at : ℕ → List ℕ
+  packet_at count = part_made c d count 0 c.clock (nth_part c.part_size id m (get_or ns i 0))
+
+  -- the packets of the parts from there on are that packet, and the others
+  pub octets-next : (count next : ℕ)
+      → i < length ns
+      → next ≡ next_count count
+      → octets_of (split_of c d id m count (drop i ns))
+      ≡ packet_at count ++ octets_of (split_of c d id m next (drop (i + 1) ns))
+  octets-next count next h is =
+      let cons : drop i ns ≡ get_or ns i 0 ∷ drop (i + 1) ns = rw (add-one, drop-cons ns i 0) refl in
+      ap (λ ks. octets_of (split_of c d id m count ks)) cons
+      ∙ ap (λ n. packet_at count ++ octets_of (split_of c d id m n (drop (i + 1) ns))) (sym is)
+
+-- the numbers behind the one at a place
+pub numbers-next : (parts : ℕ) (ns : List ℕ) (i : ℕ)
+    → i < length ns
+    → AreNumbers parts (drop i ns)
+    → AreNumbers parts (drop (i + 1) ns)
+numbers-next parts ns i h are =
+    let cons : drop i ns ≡ get_or ns i 0 ∷ drop (i + 1) ns = rw (add-one, drop-cons ns i 0) refl in
+    let split : AreNumbers parts (get_or ns i 0 ∷ drop (i + 1) ns) = subst (AreNumbers parts) cons are in
+    split.1

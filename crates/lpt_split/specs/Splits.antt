@@ -1,0 +1,32 @@
+-- The packets of a message's parts.
+use Rattle.std.specs.Prelude.{ℕ, ◌+◌, ◌%◌, ◌≤◌, List, [], ◌∷◌}
+use Rattle.std.specs.List.{flat_map}
+use Rattle.lpt_events.specs.LptPacket.declared.direction.Direction.{Direction}
+use Rattle.lpt_events.specs.LptPacket.Names.{Name}
+use Rattle.lpt_events.specs.declared.config.Config.{Config}
+use Rattle.lpt_events.specs.MadePackets.{nth_part, part_made}
+
+-- the sequence count after this one
+abbrev pub next_count : ℕ → ℕ
+next_count count = (count + 1) % 16384
+
+-- it is the number of one of so many parts
+pub record IsNumber (parts n : ℕ) : Type 0 where
+  pub some : 1 ≤ n
+  pub within : n ≤ parts
+
+-- each is the number of one of so many parts
+abbrev pub AreNumbers : ℕ → List ℕ → Type 0
+AreNumbers parts [] = Unit {0}
+AreNumbers parts (n ∷ ns) = IsNumber parts n × AreNumbers parts ns
+
+-- the packets of these parts, of sequence counts from this one on
+abbrev pub split_of : Config → Direction → Name → List ℕ → (count : ℕ) → List ℕ → List (List ℕ)
+split_of c d id m count [] = []
+split_of c d id m count (n ∷ ns) =
+    part_made c d count 0 c.clock (nth_part c.part_size id m n)
+    ∷ split_of c d id m (next_count count) ns
+
+-- the octets of packets, one behind the other
+abbrev pub octets_of : List (List ℕ) → List ℕ
+octets_of packets = flat_map (λ b. b) packets

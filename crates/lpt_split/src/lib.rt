@@ -1,0 +1,14 @@
+//! The packets of a message's parts (ECSS-E-ST-70-41C, large packet transfer), as a stream has them.
+//!
+//! Part by part, in the order in which they are asked for, and as often. A packet is the one that
+//! the sending node puts on the link for that part, of a sequence count of the caller's.
+#![tactic(auto)]
+
+mod packet;
+mod splitting;
+
+pub use packet::{part_at, part_packet};
+pub use splitting::split;
+pub use lpt_events;
+pub use lpt_events::{lpt_packet, lpt_part, lpt_pus};
+pub use lpt_text;

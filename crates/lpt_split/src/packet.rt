@@ -1,0 +1,130 @@
+//! A part of a message, and the packet that carries it.
+
+ghost use Rattle.std.specs.Prelude.{◌≡◌, ◌<◌, ◌≤◌, length, IfOk};
+ghost use Rattle.lpt_events.specs.LptPacket.declared.direction.Direction.TheVariants.{Up, Down};
+ghost use Rattle.lpt_events.specs.LptPart.Parts.{piece};
+ghost use Rattle.lpt_events.specs.LptPart.Splitting.{IsPartSize, part_count};
+ghost use Rattle.lpt_events.specs.Arrivals.{part_subtype};
+ghost use Rattle.lpt_events.specs.Configs.{IsConfig};
+ghost use Rattle.lpt_events.specs.MadePackets.{nth_part, part_made};
+ghost use Rattle.lpt_split.specs.Splits.{IsNumber};
+
+use lpt_events::Config;
+use lpt_events::lpt_packet::{Direction, Name, Octets};
+use lpt_events::lpt_part::laws::parts_fit;
+use lpt_events::lpt_part::{Kind, Part, TRANSFER, count, slice};
+use lpt_events::lpt_pus::{TcHead, TmHead, tc_pieces, tm_pieces};
+use std::alloc::{AllocError, Global};
+
+/// Part `k` of a message that has as many, for parts of `p` octets; parts are counted from 1.
+pub fn part_at(message: &[u8], p: u32, id: Name, k: u16) -> Part<'_>
+    requires part_size { IsPartSize p }
+    requires long { p < length message.now }
+    requires short { length message.now ≤ 65542 }
+    requires number { IsNumber (part_count (length message.now) p) k }
+    ensures part { piece result ≡ nth_part p id message.now k }
+    ensures size { result.p ≡ p }
+{
+    parts_fit();
+    let total = count(message.len() as u32, p);
+    let kind = if k == 1 {
+        Kind::First
+    } else if u32::from(k) == total {
+        Kind::Last
+    } else {
+        Kind::Middle
+    };
+    let Some(octets) = slice(message, p, u32::from(k)) else {
+        unreachable!();
+    };
+    Part {
+        id,
+        number: k,
+        kind,
+        octets,
+        p,
+    }
+}
+
+/// The packet that carries a part, of this sequence count (0 to 16,383), up as a telecommand and
+/// down as telemetry. Telemetry has message type counter 0 and the configuration's clock as its
+/// time. The only error is want of memory.
+pub fn part_packet(
+    alloc: Global,
+    config: &Config,
+    direction: Direction,
+    count: u16,
+    part: &Part<'_>,
+) -> Result<Octets, AllocError>
+    requires config { IsConfig config.now }
+    requires count { count ≤ 16383 }
+    ensures { IfOk result (λ o. o
+        ≡ part_made config.now direction count 0 config.now.clock (piece part.now)) }
+{
+    match direction {
+        Direction::Up => uplink_packet(alloc, config, count, part),
+        Direction::Down => downlink_packet(alloc, config, count, part),
+    }
+}
+
+// The telecommand that carries a part.
+fn uplink_packet(
+    alloc: Global,
+    config: &Config,
+    count: u16,
+    part: &Part<'_>,
+) -> Result<Octets, AllocError>
+    requires config { IsConfig config.now }
+    requires count { count ≤ 16383 }
+    ensures { IfOk result (λ o. o
+        ≡ part_made config.now Up count 0 config.now.clock (piece part.now)) }
+{
+    let head = TcHead {
+        apid: config.apid,
+        count,
+        flags: 0,
+        service: TRANSFER,
+        subtype: subtype_of(Direction::Up, part.kind),
+        source: config.source,
+    };
+    tc_pieces(alloc, &head, &part.header(), part.octets)
+}
+
+// The telemetry that carries a part.
+fn downlink_packet(
+    alloc: Global,
+    config: &Config,
+    count: u16,
+    part: &Part<'_>,
+) -> Result<Octets, AllocError>
+    requires config { IsConfig config.now }
+    requires count { count ≤ 16383 }
+    ensures { IfOk result (λ o. o
+        ≡ part_made config.now Down count 0 config.now.clock (piece part.now)) }
+{
+    let head = TmHead {
+        apid: config.apid,
+        count,
+        status: 0,
+        service: TRANSFER,
+        subtype: subtype_of(Direction::Down, part.kind),
+        counter: 0,
+        destination: config.source,
+        time: config.clock,
+    };
+    tm_pieces(alloc, &head, &part.header(), part.octets)
+}
+
+// The message subtype of a part of this kind (ECSS-E-ST-70-41C, service 13).
+fn subtype_of(direction: Direction, kind: Kind) -> u8
+    ensures { result ≡ part_subtype direction kind }
+{
+    match (direction, kind) {
+        (Direction::Up, Kind::First) => 9,
+        (Direction::Up, Kind::Middle) => 10,
+        (Direction::Up, Kind::Last) => 11,
+        (Direction::Down, Kind::First) => 1,
+        (Direction::Down, Kind::Middle) => 2,
+        (Direction::Down, Kind::Last) => 3,
+    }
+}
