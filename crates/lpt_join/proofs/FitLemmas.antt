@@ -1,0 +1,143 @@
+-- A part that a packet carries may be a part.
+use Rattle.std.proofs.Common.{◌≡◌, sym, subst, refl, ℕ, ◌-◌, ◌==◌, ◌&&◌, nat_lt, Bool, true, false, if◌then◌else◌, List, length, length-drop, Option, Some, None, Result, Ok, Err, arith}
+use Rattle.std.specs.Option.{option_map_or}
+use Rattle.std.specs.Result.{result_ok}
+use Rattle.std.proofs.lemmas.Bool.Decides.{nat_tests}
+use Rattle.std.proofs.lemmas.Grind.{common_steps}
+use Rattle.lpt_pus.specs.LptPacket.Numbers.{word_at}
+use Rattle.lpt_pus.specs.LptPacket.Packets.{Fields, Sight, IdlePacket, APacket, seen}
+use Rattle.lpt_pus.specs.declared.fault.PusFault.{PusFault}
+use Rattle.lpt_pus.specs.Commands.{Command, tc_verdict}
+use Rattle.lpt_pus.specs.Telemetry.{Telemetry, tm_verdict}
+use Rattle.lpt_reception.specs.LptPart.declared.fault.PartFault.{PartFault}
+use Rattle.lpt_reception.specs.LptPart.declared.fault.PartFault.TheVariants.{ShortPart, Zero, KindNumber, PartLength}
+use Rattle.lpt_reception.specs.LptPart.declared.kind.Kind.{Kind}
+use Rattle.lpt_reception.specs.LptPart.declared.reason.Reason.{Reason}
+use Rattle.lpt_reception.specs.LptPart.Aborts.{abort_in}
+use Rattle.lpt_reception.specs.LptPart.PartRanges.{NumberFits, LengthFits, PartFits}
+use Rattle.lpt_reception.specs.LptPart.Parts.{Piece, number_test, length_test, piece_at, part_verdict, part_in}
+use Rattle.lpt_split.specs.LptEvents.declared.side.Side.{Side}
+use Rattle.lpt_split.specs.LptEvents.declared.side.Side.TheVariants.{Ground, Craft}
+use Rattle.lpt_pus.specs.LptPacket.declared.direction.Direction.TheVariants.{Up, Down}
+use Rattle.lpt_split.specs.LptEvents.Arrivals.{NotRead, Foreign, ARequest, AReport, NoPart, APart, AnAbort, carried_kind, part_arrival, abort_arrival, command_arrival, report_arrival, telemetry_arrival, packet_arrival, sight_arrival, arrival}
+use Rattle.lpt_split.specs.LptEvents.Sides.{receiver_side}
+use Rattle.lpt_reception.specs.Received.{Kept}
+use Rattle.lpt_join.specs.declared.transaction.Transaction.{Transaction}
+use Rattle.lpt_join.specs.Offers.{piece_of, piece_in, part_of_id, part_of_piece, offered}
+
+-- where it is a part, it fits
+abbrev pub Fits : ℕ → Option Piece → Type 0
+Fits p None = Unit {0}
+Fits p (Some q) = PartFits q.kind q.number (length q.octets) p
+
+-- ---- the body
+
+abbrev chain : Bool → Bool → Bool → Bool → Piece → Result Piece PartFault
+chain short zero number len q =
+    if short then Err ShortPart
+    else if zero then Err Zero
+    else if number then (if len then Ok q else Err PartLength)
+    else Err KindNumber
+
+chain_fits : (p : ℕ) (short zero number len : Bool) (q : Piece)
+    → (number ≡ true → len ≡ true → PartFits q.kind q.number (length q.octets) p)
+    → Fits p (result_ok (chain short zero number len q))
+chain_fits p true zero number len q h = tt
+chain_fits p false true number len q h = tt
+chain_fits p false false false len q h = tt
+chain_fits p false false true false q h = tt
+chain_fits p false false true true q h = h refl refl
+
+number_fits : (kind : Kind) (n : ℕ) → number_test kind n ≡ true → NumberFits kind n
+number_fits kind n h = grind (arith, nat_tests, common_steps)
+
+length_fits : (kind : Kind) (n len p : ℕ) → length_test kind n len p ≡ true → LengthFits kind n len p
+length_fits kind n len p h = grind (arith, nat_tests, common_steps)
+
+verdict_fits : (p : ℕ) (kind : Kind) (b : List ℕ) → Fits p (result_ok (part_verdict kind b p))
+unfolding part_verdict
+verdict_fits p kind b =
+    chain_fits p (nat_lt (length b) 4) (word_at b 2 == 0) (number_test kind (word_at b 2))
+    (length_test kind (word_at b 2) (length b - 4) p) (piece_at kind b)
+    (λ number len. record {
+      number_fits = number_fits kind (word_at b 2) number;
+      length_fits = subst (λ l. LengthFits kind (word_at b 2) l p) (sym (length-drop 4 b))
+          (length_fits kind (word_at b 2) (length b - 4) p len);
+    })
+
+-- ---- the packet
+
+part_by : (p : ℕ) (o : Option Piece) → Fits p o → Fits p (piece_of (option_map_or APart o NoPart))
+part_by p None h = tt
+part_by p (Some q) h = h
+
+part_fits : (p : ℕ) (body : List ℕ) (kind : Kind) → Fits p (piece_of (part_arrival p body kind))
+part_fits p body kind = part_by p (part_in p kind body) (verdict_fits p kind body)
+
+abort_by : (p : ℕ) (o : Option (ℕ × Reason)) → Fits p (piece_of (option_map_or (λ a. AnAbort a.0 a.1) o NoPart))
+abort_by p None = tt
+abort_by p (Some a) = tt
+
+command_by : (p : ℕ) (b body : List ℕ) (o : Option Kind) → Fits p (piece_of (option_map_or (part_arrival p body) o (ARequest b)))
+command_by p b body None = tt
+command_by p b body (Some kind) = part_fits p body kind
+
+report_by : (p : ℕ) (t : Telemetry) (abort : Bool)
+    → Fits p (piece_of (if abort then abort_arrival t.body else AReport t.service t.subtype))
+report_by p t true = abort_by p (abort_in t.body)
+report_by p t false = tt
+
+telemetry_by : (p : ℕ) (t : Telemetry) (o : Option Kind) → Fits p (piece_of (option_map_or (part_arrival p t.body) o (report_arrival t)))
+telemetry_by p t None = report_by p t ((t.service == 13) && (t.subtype == 16))
+telemetry_by p t (Some kind) = part_fits p t.body kind
+
+up_by : (p : ℕ) (b : List ℕ) (r : Result Command PusFault) → Fits p (piece_of (option_map_or (command_arrival p b) (result_ok r) NotRead))
+up_by p b (Err e) = tt
+up_by p b (Ok c) = command_by p b c.body (carried_kind Up c.service c.subtype)
+
+down_by : (p : ℕ) (r : Result Telemetry PusFault) → Fits p (piece_of (option_map_or (telemetry_arrival p) (result_ok r) NotRead))
+down_by p (Err e) = tt
+down_by p (Ok t) = telemetry_by p t (carried_kind Down t.service t.subtype)
+
+packet_fits : (side : Side) (p : ℕ) (b : List ℕ) (f : Fields) → Fits p (piece_of (packet_arrival side p b f))
+packet_fits Craft p b f = up_by p b (tc_verdict f)
+packet_fits Ground p b f = down_by p (tm_verdict f)
+
+foreign_by : (side : Side) (p : ℕ) (b : List ℕ) (f : Fields) (same : Bool)
+    → Fits p (piece_of (if same then packet_arrival side p b f else Foreign))
+foreign_by side p b f true = packet_fits side p b f
+foreign_by side p b f false = tt
+
+sight_fits : (side : Side) (apid p : ℕ) (b : List ℕ) (o : Option Sight) → Fits p (piece_of (sight_arrival side apid p b o))
+sight_fits side apid p b None = tt
+sight_fits side apid p b (Some IdlePacket) = tt
+sight_fits side apid p b (Some (APacket f)) = foreign_by side p b f (f.apid == apid)
+
+piece_fits : (t : Transaction) (b : List ℕ) → Fits t.part_size (piece_in t b)
+unfolding arrival
+piece_fits t b = sight_fits (receiver_side t.direction) t.apid t.part_size b (seen b)
+
+-- ---- the transaction
+
+id_by : (p : ℕ) (q : Piece) (same : Bool) (n : ℕ) (x : Kept)
+    → PartFits q.kind q.number (length q.octets) p
+    → ◌≡◌ {A = Option (ℕ × Kept)} (if same then Some (part_of_piece q) else None) (Some (n, x))
+    → PartFits x.kind n (length x.octets) p
+id_by p q true n x h e =
+    let same : ◌≡◌ {A = ℕ × Kept} (part_of_piece q) (n, x) = cc in
+    subst (λ (y : ℕ × Kept). PartFits y.1.kind y.0 (length y.1.octets) p) same h
+id_by p q false n x h e = absurd cc
+
+of_by : (p id : ℕ) (o : Option Piece) (n : ℕ) (x : Kept)
+    → Fits p o
+    → part_of_id id o ≡ Some (n, x)
+    → PartFits x.kind n (length x.octets) p
+of_by p id None n x h e = absurd cc
+of_by p id (Some q) n x h e = id_by p q (q.id == id) n x h e
+
+-- a part that octets carry may be one
+pub offered-fits : (t : Transaction) (b : List ℕ) (n : ℕ) (x : Kept)
+    → offered t b ≡ Some (n, x)
+    → PartFits x.kind n (length x.octets) t.part_size
+unfolding offered
+offered-fits t b n x e = of_by t.part_size t.id (piece_in t b) n x (piece_fits t b) e

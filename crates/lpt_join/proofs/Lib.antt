@@ -1,0 +1,12 @@
+mod DamageLemmas
+mod EndLemmas
+mod FitLemmas
+mod GatherLemmas
+mod LawLemmas
+mod MadeLemmas
+mod OtherLemmas
+mod ReadLemmas
+mod RoundLemmas
+mod SentLemmas
+mod SetLemmas
+mod ThereLemmas

@@ -1,0 +1,54 @@
+-- The part that octets carry, by what they are seen as.
+use Rattle.std.proofs.Common.{◌≡◌, ◌≢◌, ◌∙◌, ap, sym, ℕ, Bool, if◌then◌else◌, List, Option, Some, None, Result, Ok, Err}
+use Rattle.std.specs.Result.{result_ok}
+use Rattle.lpt_pus.specs.LptPacket.declared.fault.PacketFault.{PacketFault}
+use Rattle.lpt_pus.specs.LptPacket.declared.packet.Seen.{Seen}
+use Rattle.lpt_pus.specs.LptPacket.Packets.{Fields, Sight, IdlePacket, APacket, seen, sight, verdict}
+use Rattle.lpt_pus.proofs.LptPacket.Readings.{eq_true, eq_false}
+use Rattle.lpt_split.specs.LptEvents.Arrivals.{Foreign, packet_arrival, sight_arrival, arrival}
+use Rattle.lpt_split.specs.LptEvents.Sides.{receiver_side}
+use Rattle.lpt_join.specs.declared.transaction.Transaction.{Transaction}
+use Rattle.lpt_join.specs.Offers.{piece_of, piece_in}
+
+-- by what is seen
+pub piece-seen : (t : Transaction) (b : List ℕ) (o : Option Sight)
+    → seen b ≡ o
+    → piece_of (sight_arrival (receiver_side t.direction) t.apid t.part_size b o) ≡ piece_in t b
+unfolding arrival
+piece-seen t b o e = ap (λ (o : Option Sight). piece_of (sight_arrival (receiver_side t.direction) t.apid t.part_size b o)) (sym e)
+
+-- octets that aren't read carry none
+pub none-unread : (t : Transaction) (b : List ℕ) (e : PacketFault)
+    → seen b ≡ result_ok (verdict b)
+    → verdict b ≡ Err e
+    → None ≡ piece_in t b
+none-unread t b e law h =
+    piece-seen t b None (law ∙ ap (λ (r : Result Sight PacketFault). result_ok r) h)
+
+-- what a reader saw is seen
+pub seen-read : (b : List ℕ) (s r : Seen)
+    → seen b ≡ result_ok (verdict b)
+    → verdict b ≡ Ok (sight s)
+    → s ≡ r
+    → seen b ≡ Some (sight r)
+seen-read b s r law reads same =
+    law ∙ ap (λ (r : Result Sight PacketFault). result_ok r) reads ∙ ap (λ (s : Seen). Some (sight s)) same
+
+pub none-idle : (t : Transaction) (b : List ℕ) → seen b ≡ Some IdlePacket → None ≡ piece_in t b
+none-idle t b e = piece-seen t b (Some IdlePacket) e
+
+pub none-foreign : (t : Transaction) (b : List ℕ) (f : Fields)
+    → seen b ≡ Some (APacket f)
+    → f.apid ≢ t.apid
+    → None ≡ piece_in t b
+none-foreign t b f e other =
+    ap (λ (same : Bool). piece_of (if same then packet_arrival (receiver_side t.direction) t.part_size b f else Foreign)) (sym (eq_false f.apid t.apid other))
+    ∙ piece-seen t b (Some (APacket f)) e
+
+pub piece-packet : (t : Transaction) (b : List ℕ) (f : Fields)
+    → seen b ≡ Some (APacket f)
+    → f.apid ≡ t.apid
+    → piece_of (packet_arrival (receiver_side t.direction) t.part_size b f) ≡ piece_in t b
+piece-packet t b f e same =
+    ap (λ (same : Bool). piece_of (if same then packet_arrival (receiver_side t.direction) t.part_size b f else Foreign)) (sym (eq_true f.apid t.apid same))
+    ∙ piece-seen t b (Some (APacket f)) e

@@ -1,0 +1,70 @@
+-- Packet after packet, until less than one is left.
+use Rattle.std.proofs.Common.{◌∙◌, ◌++◌, [], ℕ, Option, Ok, ap, subst, take, refl}
+use Rattle.std.proofs.KnownBytes.{Consumes-nil, Consumes-trans}
+use Rattle.lpt_stream.specs.Buffers.{held, FindsPacket}
+use Rattle.lpt_join.proofs.EndLemmas.{message_given}
+use Rattle.lpt_join.proofs.GatherLemmas.{read-none, read-more, read-next, read-end}
+use Rattle.lpt_join.proofs.stream.join_stream.Goals as goal
+
+pub loop-count-init : goal.loop-count-init
+loop-count-init g c = record {
+  read = ([], Consumes-nil (g.S.Source.remaining c.args.source.now),
+      read-none c.args.transaction.now c.new-gathering.result (held c.new-buffer.result)
+      (c.new-gathering.ensures c.args.transaction.now) c.new-buffer.ensures);
+  told = refl;
+}
+
+-- the stream is at its end, and less than a packet is left
+pub returns-in-Ok-None-clause-joined : goal.returns-in-Ok-None-clause-joined
+returns-in-Ok-None-clause-joined g c =
+    let a = g.S.Source.remaining c.args.source.now in
+    let b = g.S.Source.remaining c.loop-count.source in
+    let d = g.S.Source.remaining c.find_packet.new.source in
+    let found = subst (λ (f : Option ℕ). FindsPacket (Ok f) c.loop-count.buffer c.find_packet.new.self b d
+    (g.S.Source.failed c.loop-count.source) (g.S.Source.failed c.find_packet.new.source))
+    c.in-Ok-None.field-0-is c.in-Ok-None.ensures in
+    let was = c.loop-count.invariant.read in
+    let read = read-more c.args.transaction.now was.0 (held c.loop-count.buffer) found.0
+    (held c.find_packet.new.self) c.loop-count.gathering c.loop-count.count was.2 found.1.behind in (
+      was.0 ++ found.0,
+      read.packets,
+      held c.find_packet.new.self,
+      Consumes-trans a b d was.0 found.0 was.1 found.1.consumed,
+      found.3,
+      read-end c.args.transaction.now (was.0 ++ found.0) (held c.find_packet.new.self)
+          c.loop-count.gathering c.loop-count.count read found.2,
+      read.gives,
+    )
+
+pub returns-in-Ok-None-clause-message : goal.returns-in-Ok-None-clause-message
+returns-in-Ok-None-clause-message g c =
+    message_given c.args.transaction.now c.loop-count.gathering
+    (g.S.Source.remaining c.args.source.now) (g.S.Source.remaining c.find_packet.new.source)
+    (returns-in-Ok-None-clause-joined g c)
+
+-- a packet was taken
+pub loop-count-preserved : goal.loop-count-preserved
+loop-count-preserved g c =
+    let t = c.args.transaction.now in
+    let a = g.S.Source.remaining c.args.source.now in
+    let b = g.S.Source.remaining c.loop-count.source in
+    let d = g.S.Source.remaining c.find_packet.new.source in
+    let now = held c.find_packet.new.self in
+    let len = c.in-Ok-Some.len in
+    let found = subst (λ (f : Option ℕ). FindsPacket (Ok f) c.loop-count.buffer c.find_packet.new.self b d
+    (g.S.Source.failed c.loop-count.source) (g.S.Source.failed c.find_packet.new.source))
+    c.in-Ok-Some.field-0-is c.in-Ok-Some.ensures in
+    let was = c.loop-count.invariant.read in
+    let read = read-more t was.0 (held c.loop-count.buffer) found.0 now
+    c.loop-count.gathering c.loop-count.count was.2 found.1.behind in
+    let step = c.in-Ok.ensures read.packets read.gives in
+    record {
+      read = (
+        was.0 ++ found.0,
+        Consumes-trans a b d was.0 found.0 was.1 found.1.consumed,
+        read-next t (was.0 ++ found.0) now (held c.skip.new.self) _ len
+            c.loop-count.gathering c.in-Ok.more c.loop-count.count read found.2 c.skip.ensures
+            (ap (take len) c.held.ensures) step,
+      );
+      told = found.4 ∙ c.loop-count.invariant.told;
+    }

@@ -1,0 +1,31 @@
+-- What is kept of a stream's packets.
+use Rattle.std.specs.Prelude.{◌≡◌, ℕ, List}
+use Rattle.lpt_reception.specs.Received.{no_parts}
+use Rattle.lpt_join.specs.declared.gathering.Gathering.{Gathering}
+use Rattle.lpt_join.specs.declared.joining.Joining.{Joining}
+use Rattle.lpt_join.specs.declared.joining.Joining.TheVariants as joining
+use Rattle.lpt_join.specs.declared.transaction.Transaction.{Transaction}
+use Rattle.lpt_join.specs.CameInside.{has, is_ended}
+use Rattle.lpt_join.specs.Joins.{Joined, Missing, Complete, Broken, joined}
+use Rattle.lpt_join.specs.Laws.{came, ended}
+
+-- what the parts are joined to
+abbrev pub state : Joining → Joined
+state joining.Nothing = Missing no_parts
+state (joining.Missing f) = Missing f.parts
+state (joining.Complete m) = Complete m
+state joining.BrokenOff = Broken
+
+-- the reception is the transaction's
+abbrev pub IsJoiningOf : Transaction → Joining → Type 0
+IsJoiningOf t joining.Nothing = Unit {0}
+IsJoiningOf t (joining.Missing f) = (f.id ≡ t.id) × (f.p ≡ t.part_size)
+IsJoiningOf t (joining.Complete m) = Unit {0}
+IsJoiningOf t joining.BrokenOff = Unit {0}
+
+-- it keeps what these packets give of the transaction, and which of its parts came
+pub record Gives (t : Transaction) (packets : List (List ℕ)) (g : Gathering) : Type 0 where
+  pub of : IsJoiningOf t g.joining
+  pub state_is : state g.joining ≡ joined t packets
+  pub came_is : (n : ℕ) → has g.came n ≡ came t n packets
+  pub ended_is : is_ended g.came ≡ ended t packets

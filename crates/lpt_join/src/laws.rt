@@ -1,0 +1,96 @@
+//! The law of joining, proved of all streams: functions whose bodies only call laws from below.
+
+ghost use Rattle.std.specs.Prelude.{◌≡◌, ◌≢◌, ◌<◌, ◌≤◌, ℕ, List, [], length, None, Some, is_some};
+ghost use Rattle.std.specs.FinMap as map;
+ghost use Rattle.lpt_pus.specs.LptPacket.Bursts.{DifferInBurst};
+ghost use Rattle.lpt_pus.specs.LptPacket.Packets.{Fields, IdlePacket, APacket, IsPacket, seen};
+ghost use Rattle.lpt_reception.specs.LptPart.Parts.{Piece};
+ghost use Rattle.lpt_reception.specs.LptPart.Splitting.{part_count};
+ghost use Rattle.lpt_split.specs.LptEvents.declared.config.Config.{Config};
+ghost use Rattle.lpt_split.specs.LptEvents.MadePackets.{part_made, nth_part};
+ghost use Rattle.lpt_reception.specs.PartsOf.{IsMessage, kept_of, IsPartsOf};
+ghost use Rattle.lpt_reception.specs.Received.{Parts};
+ghost use Rattle.lpt_stream.specs.Streams.{Splits, all_octets};
+ghost use Rattle.lpt_split.specs.Splits.{AreNumbers, split_of};
+ghost use Rattle.lpt_join.specs.declared.transaction.Transaction.{Transaction};
+ghost use Rattle.lpt_join.specs.Joins.{Missing, Complete, joined};
+ghost use Rattle.lpt_join.specs.Laws.{AllBelong, AllCame, came, AreCounts, IsSending, AllMadeOrOther, EachIsAmong, IsThere, HasNumber};
+ghost use Rattle.lpt_join.specs.Offers.{offered, piece_in};
+
+use lpt_reception::laws::whole_is_split;
+
+/// What the packets of a split message are joined to: whichever parts were sent, in any order and
+/// as often, once each part is among them it is the message. One behind the other they are a stream
+/// that is cut into just these packets.
+pub fn split_joins()
+    ensures message { (t : Transaction) (c : Config) (m : List ℕ) (first : ℕ) (numbers : List ℕ)
+        → IsSending t c m → first ≤ 16383
+        → AreNumbers (part_count (length m) t.part_size) numbers
+        → ((n : ℕ) → 1 ≤ n → n ≤ part_count (length m) t.part_size → HasNumber n numbers)
+        → joined t (split_of c t.direction t.id m first numbers) ≡ Complete m }
+    ensures stream { (t : Transaction) (c : Config) (m : List ℕ) (first : ℕ) (numbers : List ℕ)
+        → IsSending t c m → first ≤ 16383
+        → AreNumbers (part_count (length m) t.part_size) numbers
+        → Splits (all_octets (split_of c t.direction t.id m first numbers))
+            (split_of c t.direction t.id m first numbers) [] }
+{}
+
+/// Over packets each of which is made of a part of the message, or carries no part of its
+/// transaction, in any order and with repeats: once a packet of each part is there, exactly the
+/// message is joined.
+pub fn made_is_joined()
+    ensures { (t : Transaction) (c : Config) (m : List ℕ) (packets : List (List ℕ))
+        → IsSending t c m → AllMadeOrOther t c m packets → EachIsAmong t c m packets
+        → joined t packets ≡ Complete m }
+{}
+
+/// Over packets each of which carries a part of the message, or no part of its transaction, in
+/// any order and with repeats: once each part is there, the message and nothing else is joined.
+/// As long as one isn't, parts of the message are kept, those that came and no others.
+pub fn split_is_joined()
+    ensures whole { (t : Transaction) (m : List ℕ) (packets : List (List ℕ))
+        → IsMessage m t.part_size → AllBelong t m packets
+        → AllCame t m packets → joined t packets ≡ Complete m }
+    ensures missing { (t : Transaction) (m : List ℕ) (packets : List (List ℕ)) (s : Parts)
+        → AllBelong t m packets → joined t packets ≡ Missing s
+        → IsPartsOf m t.part_size s
+        × ((n : ℕ) → is_some (map.get s n) ≡ came t n packets) }
+{}
+
+/// What is joined is a message each part of which stands among the packets, whatever these are.
+pub fn joined_is_there()
+    ensures { (t : Transaction) (packets : List (List ℕ)) (m : List ℕ)
+        → joined t packets ≡ Complete m
+        → IsMessage m t.part_size
+        × ((n : ℕ) → 1 ≤ n → n ≤ part_count (length m) t.part_size
+        → IsThere t n (kept_of m t.part_size n) packets) }
+{
+    whole_is_split();
+}
+
+/// The packet that is made of a message's part carries that part.
+pub fn made_is_carried()
+    ensures { (t : Transaction) (c : Config) (m : List ℕ) (n count counter time : ℕ)
+        → IsSending t c m → AreCounts count counter time
+        → 1 ≤ n → n ≤ part_count (length m) t.part_size
+        → offered t (part_made c t.direction count counter time (nth_part t.part_size t.id m n))
+        ≡ Some (n, kept_of m t.part_size n) }
+{}
+
+/// Octets that are no packet carry no part of any transaction, nor do those of an idle packet, of a
+/// packet of another APID, or of one that carries a part of another transaction, or none.
+pub fn others_carry_none()
+    ensures unread { (t : Transaction) (b : List ℕ) → seen b ≡ None → offered t b ≡ None }
+    ensures idle { (t : Transaction) (b : List ℕ) → seen b ≡ Some IdlePacket → offered t b ≡ None }
+    ensures foreign { (t : Transaction) (b : List ℕ) (f : Fields)
+        → seen b ≡ Some (APacket f) → f.apid ≢ t.apid → offered t b ≡ None }
+    ensures other { (t : Transaction) (b : List ℕ) (q : Piece)
+        → piece_in t b ≡ Some q → q.id ≢ t.id → offered t b ≡ None }
+    ensures none { (t : Transaction) (b : List ℕ) → piece_in t b ≡ None → offered t b ≡ None }
+{}
+
+/// A packet that a burst of 1 to 16 changed bits has changed carries no part of any transaction.
+pub fn damage_is_left_out()
+    ensures { (t : Transaction) (x y : List ℕ) (f : Fields)
+        → DifferInBurst x y → IsPacket x f → offered t y ≡ None }
+{}

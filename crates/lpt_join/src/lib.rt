@@ -1,0 +1,26 @@
+//! The parts of one transaction among the packets of a stream, joined to its message
+//! (ECSS-E-ST-70-41C, large packet transfer).
+//!
+//! The packets may come in any order, more than once, and with others in between. What octets are
+//! is what they are to a node that receives them.
+#![tactic(auto)]
+
+mod came;
+mod gaps;
+mod gathering;
+mod joining;
+pub mod laws;
+mod reading;
+mod stream;
+mod transaction;
+
+pub use came::Came;
+pub use gathering::Gathering;
+pub use joining::Joining;
+pub use gaps::missing;
+pub use reading::part_in;
+pub use stream::join_stream;
+pub use transaction::Transaction;
+pub use lpt_split;
+pub use lpt_split::{lpt_events, lpt_packet, lpt_part, lpt_pus, lpt_text};
+pub use lpt_stream;

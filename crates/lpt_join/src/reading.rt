@@ -1,0 +1,94 @@
+//! The part that a packet carries.
+
+ghost use Rattle.std.specs.Prelude.{◌≡◌, ℕ, List, IfSome};
+ghost use Rattle.std.specs.Option.{option_map};
+ghost use Rattle.lpt_pus.specs.LptPacket.Packets.{fields};
+ghost use Rattle.lpt_reception.specs.LptPart.Parts.{piece};
+ghost use Rattle.lpt_reception.specs.LptPart.Splitting.{IsPartSize};
+ghost use Rattle.lpt_split.specs.LptEvents.Arrivals.{packet_arrival};
+ghost use Rattle.lpt_split.specs.LptEvents.declared.side.Side.TheVariants.{Ground, Craft};
+ghost use Rattle.lpt_join.specs.Offers.{piece_of, piece_in, part_of_piece, offered};
+
+use crate::Transaction;
+use lpt_split::lpt_events::part_kind;
+use lpt_pus::lpt_packet::laws::seen_is_read;
+use lpt_pus::lpt_packet::{Direction, Packet, Seen, read_packet};
+use lpt_reception::lpt_part::{Part, read_part};
+use lpt_pus::{read_tc, read_tm};
+
+/// The part of this transaction that octets carry; none where they are no packet, an idle one, one
+/// of another APID, type, service or transaction, or one whose part isn't read for this part size.
+#[tactic(auto, unfolding(crate::specs::Offers::offered))]
+pub fn part_in<'a>(octets: &'a [u8], transaction: &Transaction) -> Option<Part<'a>>
+    ensures part { option_map (λ x. part_of_piece (piece x)) result
+        ≡ offered transaction.now octets.now }
+    ensures id { IfSome result (λ x. x.id ≡ transaction.now.id) }
+    ensures size { IfSome result (λ x. x.p ≡ transaction.now.part_size) }
+{
+    let Some(part) = any_part_in(octets, transaction) else {
+        return None;
+    };
+    if part.id != transaction.id {
+        return None;
+    }
+    Some(part)
+}
+
+// The part of any transaction of this direction that octets carry, where they do.
+fn any_part_in<'a>(octets: &'a [u8], transaction: &Transaction) -> Option<Part<'a>>
+    ensures part { option_map piece result ≡ piece_in transaction.now octets.now }
+    ensures size { IfSome result (λ x. x.p ≡ transaction.now.part_size) }
+{
+    seen_is_read();
+    match read_packet(octets) {
+        Err(_) => None,
+        Ok(Seen::Idle) => None,
+        Ok(Seen::Packet(packet)) => {
+            if packet.apid != transaction.apid {
+                return None;
+            }
+            match transaction.direction {
+                Direction::Up => part_in_uplink(&packet, transaction.part_size),
+                Direction::Down => part_in_downlink(&packet, transaction.part_size),
+            }
+        }
+    }
+}
+
+// The part that a telecommand carries.
+fn part_in_uplink<'a>(packet: &Packet<'a>, p: u32) -> Option<Part<'a>>
+    requires { IsPartSize p }
+    ensures part { (b : List ℕ) → option_map piece result
+        ≡ piece_of (packet_arrival Craft p b (fields packet.now)) }
+    ensures size { IfSome result (λ x. x.p ≡ p) }
+{
+    let Ok((head, body)) = read_tc(packet) else {
+        return None;
+    };
+    let Some(kind) = part_kind(Direction::Up, head.service, head.subtype) else {
+        return None;
+    };
+    let Ok(part) = read_part(kind, body, p) else {
+        return None;
+    };
+    Some(part)
+}
+
+// The part that telemetry carries.
+fn part_in_downlink<'a>(packet: &Packet<'a>, p: u32) -> Option<Part<'a>>
+    requires { IsPartSize p }
+    ensures part { (b : List ℕ) → option_map piece result
+        ≡ piece_of (packet_arrival Ground p b (fields packet.now)) }
+    ensures size { IfSome result (λ x. x.p ≡ p) }
+{
+    let Ok((head, body)) = read_tm(packet) else {
+        return None;
+    };
+    let Some(kind) = part_kind(Direction::Down, head.service, head.subtype) else {
+        return None;
+    };
+    let Ok(part) = read_part(kind, body, p) else {
+        return None;
+    };
+    Some(part)
+}

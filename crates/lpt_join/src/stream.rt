@@ -1,0 +1,57 @@
+//! The message of a transaction, joined as a stream of packets comes.
+
+ghost use Rattle.std.specs.Prelude.{◌≡◌, ◌≢◌, ◌⊎◌, ◌≤◌, ℕ, List, length, true, Some, IfOk, IfErr, IsErrOf, OnOk, Err};
+ghost use Rattle.std.specs.Io.KnownBytes.{Consumes, IsAtEnd};
+ghost use Rattle.lpt_split.specs.LptEvents.declared.config.Config.{Config};
+ghost use Rattle.lpt_stream.specs.Streams.{Splits};
+ghost use Rattle.lpt_join.specs.Gatherings.{state, Gives};
+ghost use Rattle.lpt_join.specs.Joins.{Complete};
+ghost use Rattle.lpt_join.specs.Laws.{AllMadeOrOther, EachIsAmong, IsSending};
+ghost use Rattle.lpt_join.specs.Reads.{ReadsAll};
+
+use crate::{Gathering, Transaction};
+use lpt_stream::PacketBuffer;
+use lpt_stream::lpt_text::{Source, ToolFault};
+use std::alloc::Global;
+
+/// Joins the parts of a transaction that a stream's packets carry, up to the stream's end.
+///
+/// What is left at the end and is less than a packet is passed over.
+///
+/// Errors: `Read` where a read failed, or where 2^64 - 1 packets came; `Memory`.
+pub fn join_stream<S: Source>(
+    alloc: Global,
+    transaction: &Transaction,
+    source: &mut S,
+) -> Result<Gathering, ToolFault>
+    // The stream is read to its end, and what is kept is what its packets give.
+    ensures joined { IfOk result (λ g. ReadsAll (S.remaining source.old) (S.remaining source.new)
+        (λ packets. Gives transaction.now packets g)) }
+
+    // Over packets that are made of a message, and others that carry no part of its transaction, in
+    // any order and with repeats: once each part is among them, it is that message.
+    ensures message { IfOk result (λ g. (c : Config) (m stream rest : List ℕ)
+        (packets : List (List ℕ)) → S.remaining source.old ≡ Some stream
+        → Splits stream packets rest → IsSending transaction.now c m
+        → AllMadeOrOther transaction.now c m packets → EachIsAmong transaction.now c m packets
+        → state g.joining ≡ Complete m) }
+
+    ensures told { OnOk result (S.failed source.new ≡ S.failed source.old) }
+    ensures fault { IfErr result (λ e. (e ≡ ToolFault.Read) ⊎ (e ≡ ToolFault.Memory)) }
+{
+    let mut buffer = PacketBuffer::new(alloc);
+    let mut gathering = Gathering::new(alloc);
+    for count in 0..u64::MAX {
+        let len = match buffer.find_packet(source) {
+            Ok(Some(len)) => len,
+            Ok(None) => return Ok(gathering),
+            Err(fault) => return Err(fault),
+        };
+        match gathering.take(alloc, transaction, &buffer.held()[..len]) {
+            Ok(more) => gathering = more,
+            Err(_) => return Err(ToolFault::Memory),
+        }
+        buffer.skip(len);
+    }
+    Err(ToolFault::Read)
+}

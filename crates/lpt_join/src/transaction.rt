@@ -1,0 +1,19 @@
+//! A transaction of the link.
+
+ghost use Rattle.lpt_reception.specs.LptPart.Splitting.{IsPartSize};
+
+use lpt_pus::lpt_packet::{Direction, Name};
+
+/// Which transaction, and how its packets are read.
+#[derive(Clone, Copy, Debug)]
+pub struct Transaction {
+    /// The direction of its packets.
+    pub direction: Direction,
+    /// Its identifier.
+    pub id: Name,
+    /// The application process identifier of its packets.
+    pub apid: u16,
+    /// The part size in octets, 4 to 1024.
+    pub part_size: u32,
+    ghost size: { IsPartSize part_size },
+}
