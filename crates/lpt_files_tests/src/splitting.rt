@@ -1,0 +1,36 @@
+//! A message split into packets.
+
+use crate::packets::{FIRST, MESSAGE, SECOND, THIRD};
+use lpt_join::lpt_events::Config;
+use lpt_join::lpt_packet::Direction;
+use lpt_join::lpt_split::split;
+use lpt_join::lpt_text::{Told, ToolFault};
+use std::alloc::Global;
+
+/// The configuration that a file without keys has.
+const USUAL: Config = Config {
+    apid: 100,
+    source: 1,
+    part_size: 8,
+    timeout: 10,
+    receptions: 8,
+    outgoing: 8,
+    clock: 0,
+};
+
+// The packets of the message's parts 1, 2 and 3, of sequence counts from 0 on.
+fn packets(alloc: Global) -> Result<Vec<u8>, ToolFault> {
+    let mut out = Told::new(Vec::new(alloc));
+    split(alloc, &USUAL, Direction::Up, 7, &MESSAGE, &[1, 2, 3], 0, &mut out)?;
+    Ok(out.into_inner())
+}
+
+#[test]
+fn writes_the_packets_of_the_parts(rt: HostRuntime) -> Result<(), ToolFault> {
+    let written = packets(rt.alloc())?;
+    let (first, behind) = written.as_slice().split_at(written.len().min(FIRST.len()));
+    let (second, third) = behind.split_at(behind.len().min(SECOND.len()));
+    assert!(rt; first == FIRST.as_slice() && second == SECOND.as_slice());
+    assert!(rt; third == THIRD.as_slice());
+    Ok(())
+}
