@@ -1,8 +1,7 @@
 //! Streams cut into packets.
 
 use crate::packets::{FIRST, IDLE, THIRD};
-use lpt_join::lpt_stream::{PacketBuffer, packet_length, whole_length};
-use lpt_join::lpt_text::{Told, ToolFault};
+use lpt_join::{PacketBuffer, Told, ToolFault, packet_length, whole_length};
 use std::alloc::Global;
 use std::test::Fail;
 

@@ -1,9 +1,7 @@
 //! Packets joined to a message.
 
 use crate::packets::{DAMAGED, FIRST, IDLE, MESSAGE, SECOND, THIRD};
-use lpt_join::lpt_packet::Direction;
-use lpt_join::lpt_text::Told;
-use lpt_join::{Came, Gathering, Joining, Transaction, join_stream, missing};
+use lpt_join::{Came, Direction, Gathering, Joining, Told, Transaction, join_stream, missing};
 use std::alloc::Global;
 use std::test::Fail;
 

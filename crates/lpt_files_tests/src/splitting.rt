@@ -1,10 +1,7 @@
 //! A message split into packets.
 
 use crate::packets::{FIRST, MESSAGE, SECOND, THIRD};
-use lpt_join::lpt_events::Config;
-use lpt_join::lpt_packet::Direction;
-use lpt_join::lpt_split::split;
-use lpt_join::lpt_text::{Told, ToolFault};
+use lpt_join::{Config, Direction, Told, ToolFault, split};
 use std::alloc::Global;
 
 /// The configuration that a file without keys has.
@@ -21,7 +18,16 @@ const USUAL: Config = Config {
 // The packets of the message's parts 1, 2 and 3, of sequence counts from 0 on.
 fn packets(alloc: Global) -> Result<Vec<u8>, ToolFault> {
     let mut out = Told::new(Vec::new(alloc));
-    split(alloc, &USUAL, Direction::Up, 7, &MESSAGE, &[1, 2, 3], 0, &mut out)?;
+    split(
+        alloc,
+        &USUAL,
+        Direction::Up,
+        7,
+        &MESSAGE,
+        &[1, 2, 3],
+        0,
+        &mut out,
+    )?;
     Ok(out.into_inner())
 }
 

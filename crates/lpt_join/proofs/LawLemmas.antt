@@ -188,8 +188,10 @@ pub joined_missing : (t : Transaction) (m : List ℕ) (bs : List (List ℕ)) (s 
     → IsPartsOf m t.part_size s × ((n : ℕ) → is_some (map.get s n) ≡ came t n bs)
 joined_missing t m bs s size l e =
     let start = gathered_none m t.part_size in
-    let all = subst (λ j. IsGathered m t.part_size j) e (gathered_all t m bs (Missing no_parts) size start l) in
-    (all.0, λ n.
-    subst (λ j. Keeps n (came t n bs || false) j) e
-    (keeps_all t m bs (Missing no_parts) n false size start l (nothing_kept n))
-    ∙ or_none (came t n bs))
+    let all = subst (λ j. IsGathered m t.part_size j) e (gathered_all t m bs (Missing no_parts) size start l) in (
+      all.0,
+      λ n.
+          subst (λ j. Keeps n (came t n bs || false) j) e
+          (keeps_all t m bs (Missing no_parts) n false size start l (nothing_kept n))
+          ∙ or_none (came t n bs),
+    )

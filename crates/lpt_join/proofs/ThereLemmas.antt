@@ -116,9 +116,11 @@ complete_there t bs m messages splits e =
     let split = splits p s t.size w.1.fit w.1.agree w.2 in
     subst (λ (m : List ℕ). IsMessage m p
     × ((n : ℕ) → 1 ≤ n → n ≤ part_count (length m) p → IsThere t n (kept_of m p n) bs))
-    (sym w.3)
-    (message, λ n some within.
-    let at = there s n (map.get s n) refl
-    (all_there s (part_count (length (spelled s)) p) n split.all some within) in
-    let is = (split.parts n at.0 at.1).is in
-    subst (λ (x : Kept). IsThere t n x bs) is (w.1.there n at.0 at.1))
+    (sym w.3) (
+      message,
+      λ n some within.
+          let at = there s n (map.get s n) refl
+          (all_there s (part_count (length (spelled s)) p) n split.all some within) in
+          let is = (split.parts n at.0 at.1).is in
+          subst (λ (x : Kept). IsThere t n x bs) is (w.1.there n at.0 at.1),
+    )

@@ -5,10 +5,3 @@ pub mod Laws
 pub mod Missing
 pub mod Offers
 pub mod Reads
-pub use Rattle.lpt_split.specs.LptPacket as LptPacket
-pub use Rattle.lpt_split.specs.LptPart as LptPart
-pub use Rattle.lpt_split.specs.LptEvents as LptEvents
-pub use Rattle.lpt_split.specs.LptText as LptText
-pub use Rattle.lpt_split.specs as LptSplit
-pub use Rattle.lpt_stream.specs as LptStream
-pub use Rattle.lpt_reception.specs as LptReception

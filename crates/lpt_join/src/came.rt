@@ -2,7 +2,7 @@
 
 ghost use Rattle.std.specs.Prelude.{◌≤◌, length};
 
-use lpt_reception::lpt_part::Kind;
+use lpt_reception::Kind;
 use std::alloc::{AllocError, Global};
 
 /// The numbers of the parts that came, and whether a last part is among them.

@@ -10,9 +10,8 @@ ghost use Rattle.lpt_join.specs.Offers.{part_of_piece};
 ghost use Rattle.lpt_join.specs.Gatherings.{state, IsJoiningOf};
 
 use crate::Transaction;
-use lpt_pus::lpt_packet::Octets;
-use lpt_reception::lpt_part::Part;
-use lpt_reception::{Filling, Step};
+use lpt_pus::Octets;
+use lpt_reception::{Filling, Part, Step};
 use std::alloc::{AllocError, Global};
 
 /// What the parts of one transaction that came are joined to.

@@ -32,7 +32,7 @@ pub fn split_joins()
         → IsSending t c m → first ≤ 16383
         → AreNumbers (part_count (length m) t.part_size) numbers
         → Splits (all_octets (split_of c t.direction t.id m first numbers))
-            (split_of c t.direction t.id m first numbers) [] }
+        (split_of c t.direction t.id m first numbers) [] }
 {}
 
 /// Over packets each of which is made of a part of the message, or carries no part of its

@@ -15,12 +15,12 @@ mod stream;
 mod transaction;
 
 pub use came::Came;
+pub use gaps::missing;
 pub use gathering::Gathering;
 pub use joining::Joining;
-pub use gaps::missing;
+pub use lpt_pus::Direction;
+pub use lpt_split::{Config, Told, ToolFault, split};
+pub use lpt_stream::{PacketBuffer, packet_length, whole_length};
 pub use reading::part_in;
 pub use stream::join_stream;
 pub use transaction::Transaction;
-pub use lpt_split;
-pub use lpt_split::{lpt_events, lpt_packet, lpt_part, lpt_pus, lpt_text};
-pub use lpt_stream;

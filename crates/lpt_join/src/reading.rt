@@ -10,11 +10,9 @@ ghost use Rattle.lpt_split.specs.LptEvents.declared.side.Side.TheVariants.{Groun
 ghost use Rattle.lpt_join.specs.Offers.{piece_of, piece_in, part_of_piece, offered};
 
 use crate::Transaction;
-use lpt_split::lpt_events::part_kind;
-use lpt_pus::lpt_packet::laws::seen_is_read;
-use lpt_pus::lpt_packet::{Direction, Packet, Seen, read_packet};
-use lpt_reception::lpt_part::{Part, read_part};
-use lpt_pus::{read_tc, read_tm};
+use lpt_pus::{Direction, Packet, Seen, read_packet, read_tc, read_tm, seen_is_read};
+use lpt_reception::{Part, read_part};
+use lpt_split::part_kind;
 
 /// The part of this transaction that octets carry; none where they are no packet, an idle one, one
 /// of another APID, type, service or transaction, or one whose part isn't read for this part size.

@@ -10,8 +10,8 @@ ghost use Rattle.lpt_join.specs.Laws.{AllMadeOrOther, EachIsAmong, IsSending};
 ghost use Rattle.lpt_join.specs.Reads.{ReadsAll};
 
 use crate::{Gathering, Transaction};
+use lpt_split::{Source, ToolFault};
 use lpt_stream::PacketBuffer;
-use lpt_stream::lpt_text::{Source, ToolFault};
 use std::alloc::Global;
 
 /// Joins the parts of a transaction that a stream's packets carry, up to the stream's end.

@@ -2,7 +2,7 @@
 
 ghost use Rattle.lpt_reception.specs.LptPart.Splitting.{IsPartSize};
 
-use lpt_pus::lpt_packet::{Direction, Name};
+use lpt_pus::{Direction, Name};
 
 /// Which transaction, and how its packets are read.
 #[derive(Clone, Copy, Debug)]

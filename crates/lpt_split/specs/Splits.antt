@@ -1,8 +1,8 @@
 -- The packets of a message's parts.
 use Rattle.std.specs.Prelude.{ℕ, ◌+◌, ◌%◌, ◌≤◌, List, [], ◌∷◌}
 use Rattle.std.specs.List.{flat_map}
-use Rattle.lpt_events.specs.LptPacket.declared.direction.Direction.{Direction}
-use Rattle.lpt_events.specs.LptPacket.Names.{Name}
+use Rattle.lpt_pus.specs.LptPacket.declared.direction.Direction.{Direction}
+use Rattle.lpt_pus.specs.LptPacket.Names.{Name}
 use Rattle.lpt_events.specs.declared.config.Config.{Config}
 use Rattle.lpt_events.specs.MadePackets.{nth_part, part_made}
 

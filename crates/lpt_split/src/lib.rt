@@ -7,8 +7,7 @@
 mod packet;
 mod splitting;
 
+pub use lpt_events::{Config, part_kind};
+pub use lpt_text::{Source, Told, ToolFault};
 pub use packet::{part_at, part_packet};
 pub use splitting::split;
-pub use lpt_events;
-pub use lpt_events::{lpt_packet, lpt_part, lpt_pus};
-pub use lpt_text;

@@ -1,19 +1,18 @@
 //! A part of a message, and the packet that carries it.
 
 ghost use Rattle.std.specs.Prelude.{◌≡◌, ◌<◌, ◌≤◌, length, IfOk};
-ghost use Rattle.lpt_events.specs.LptPacket.declared.direction.Direction.TheVariants.{Up, Down};
-ghost use Rattle.lpt_events.specs.LptPart.Parts.{piece};
-ghost use Rattle.lpt_events.specs.LptPart.Splitting.{IsPartSize, part_count};
+ghost use Rattle.lpt_pus.specs.LptPacket.declared.direction.Direction.TheVariants.{Up, Down};
+ghost use Rattle.lpt_part.specs.Parts.{piece};
+ghost use Rattle.lpt_part.specs.Splitting.{IsPartSize, part_count};
 ghost use Rattle.lpt_events.specs.Arrivals.{part_subtype};
 ghost use Rattle.lpt_events.specs.Configs.{IsConfig};
 ghost use Rattle.lpt_events.specs.MadePackets.{nth_part, part_made};
 ghost use Rattle.lpt_split.specs.Splits.{IsNumber};
 
 use lpt_events::Config;
-use lpt_events::lpt_packet::{Direction, Name, Octets};
-use lpt_events::lpt_part::laws::parts_fit;
-use lpt_events::lpt_part::{Kind, Part, TRANSFER, count, slice};
-use lpt_events::lpt_pus::{TcHead, TmHead, tc_pieces, tm_pieces};
+use lpt_part::laws::parts_fit;
+use lpt_part::{Kind, Part, TRANSFER, count, slice};
+use lpt_pus::{Direction, Name, Octets, TcHead, TmHead, tc_pieces, tm_pieces};
 use std::alloc::{AllocError, Global};
 
 /// Part `k` of a message that has as many, for parts of `p` octets; parts are counted from 1.

@@ -2,14 +2,14 @@
 
 ghost use Rattle.std.specs.Prelude.{◌≡◌, ◌<◌, ◌≤◌, ◌⊎◌, length, true, IfErr, OnOk};
 ghost use Rattle.std.specs.Io.KnownBytes.{Appends};
-ghost use Rattle.lpt_events.specs.LptPart.Splitting.{part_count};
+ghost use Rattle.lpt_part.specs.Splitting.{part_count};
 ghost use Rattle.lpt_events.specs.Configs.{IsConfig};
 ghost use Rattle.lpt_text.specs.Streams.{AppendsPart};
 ghost use Rattle.lpt_split.specs.Splits.{next_count, octets_of, split_of, AreNumbers};
 
 use crate::packet::{part_at, part_packet};
 use lpt_events::Config;
-use lpt_events::lpt_packet::{Direction, Name};
+use lpt_pus::{Direction, Name};
 use lpt_text::{Sink, ToolFault, write_out};
 use std::alloc::Global;
 

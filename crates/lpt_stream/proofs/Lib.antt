@@ -1,3 +1,2 @@
 pub mod BufferLemmas
 pub mod StreamLemmas
-pub use Rattle.lpt_packet.proofs as LptPacket

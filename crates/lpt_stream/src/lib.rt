@@ -10,5 +10,3 @@ pub mod laws;
 
 pub use buffer::PacketBuffer;
 pub use cutting::{packet_length, whole_length};
-pub use lpt_packet;
-pub use lpt_text;

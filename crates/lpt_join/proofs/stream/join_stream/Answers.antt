@@ -8,9 +8,12 @@ use Rattle.lpt_join.proofs.stream.join_stream.Goals as goal
 
 pub loop-count-init : goal.loop-count-init
 loop-count-init g c = record {
-  read = ([], Consumes-nil (g.S.Source.remaining c.args.source.now),
-      read-none c.args.transaction.now c.new-gathering.result (held c.new-buffer.result)
-      (c.new-gathering.ensures c.args.transaction.now) c.new-buffer.ensures);
+  read = (
+    [],
+    Consumes-nil (g.S.Source.remaining c.args.source.now),
+    read-none c.args.transaction.now c.new-gathering.result (held c.new-buffer.result)
+        (c.new-gathering.ensures c.args.transaction.now) c.new-buffer.ensures,
+  );
   told = refl;
 }
 

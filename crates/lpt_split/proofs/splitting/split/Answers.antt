@@ -1,6 +1,6 @@
 use Rattle.std.proofs.Common.{◌∙◌, ap, refl, subst, length}
 use Rattle.std.specs.Io.KnownBytes.{Appends}
-use Rattle.lpt_events.specs.LptPart.Splitting.{part_count}
+use Rattle.lpt_part.specs.Splitting.{part_count}
 use Rattle.lpt_events.specs.MadePackets.{part_made}
 use Rattle.lpt_text.specs.Streams.{AppendsPart}
 use Rattle.lpt_split.specs.Splits.{next_count}

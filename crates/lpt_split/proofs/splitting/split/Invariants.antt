@@ -1,6 +1,6 @@
 use Rattle.std.proofs.Common.{◌≡◌, ◌≤◌, ◌++◌, ℕ, List, length, drop}
 use Rattle.std.specs.Io.KnownBytes.{Appends}
-use Rattle.lpt_events.specs.LptPart.Splitting.{part_count}
+use Rattle.lpt_part.specs.Splitting.{part_count}
 use Rattle.lpt_split.specs.Splits.{AreNumbers, octets_of, split_of}
 use Rattle.lpt_split.proofs.splitting.split.Given as goal
 
