@@ -1,14 +1,14 @@
 -- What the link's noise leaves of a packet, and why octets can't be that.
-use Rattle.std.specs.Prelude.{ℕ, ◌+◌, nat_lt, Bool, if◌then◌else◌, List, length, Option, Some, None, is_some}
+use Rattle.std.specs.Prelude.{ℕ, nat_lt, Bool, if◌then◌else◌, List, length, Option, Some, None, is_some}
 use Rattle.lpt_pus.specs.LptPacket.Packets.{seen}
 use Rattle.lpt_events.specs.declared.config.Config.{Config}
+use Rattle.lpt_events.specs.LinkPackets.{longest_on_link}
 use Rattle.lpt_events.specs.declared.fault.StepFault.{StepFault}
 use Rattle.lpt_events.specs.declared.fault.StepFault.TheVariants.{Long, LooksWhole}
 
--- whether there are more octets than the longest packet of a node has: no packet has more than the
--- part size and 23
+-- whether there are more octets than the longest packet of a node has
 abbrev pub is_damage_long : Config → List ℕ → Bool
-is_damage_long c b = nat_lt (c.part_size + 23) (length b)
+is_damage_long c b = nat_lt (longest_on_link c.part_size) (length b)
 
 -- whether octets are read as a packet: telemetry or a telecommand of any APID, or an idle packet
 abbrev pub looks_whole : List ℕ → Bool

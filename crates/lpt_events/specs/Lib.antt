@@ -2,8 +2,10 @@ pub mod Arrivals
 pub mod ConfigFaultNames
 pub mod Configs
 pub mod Damages
+pub mod Events
 pub mod FaultNames
 pub mod Lanes
+pub mod LinkPackets
 pub mod MadePackets
 pub mod Requests
 pub mod Sides

@@ -1,6 +1,7 @@
 //! What can be asked of a world.
 
 ghost use Rattle.std.specs.Prelude.{◌≡◌, IfOk};
+ghost use Rattle.lpt_events.specs.Events.{IsEvent};
 
 use crate::{Lane, Side, Worker};
 use lpt_pus::{AckFlags, Direction, Name, Octets};
@@ -76,5 +77,45 @@ impl Event {
             Event::Retire(direction, id) => Event::Retire(*direction, *id),
             Event::Restart(side) => Event::Restart(*side),
         })
+    }
+
+    /// Says that the event's numbers and octets are in the ranges of their types. It does nothing.
+    pub fn in_range(&self)
+        ensures { IsEvent self.now }
+    {
+        match self {
+            Event::Open(_, id, message) => {
+                let _id = *id;
+                let _octets = message.as_slice();
+            }
+            Event::Send(_, id, k) => {
+                let _id = *id;
+                let _k = *k;
+            }
+            Event::Plain(flags, service, subtype, body) => {
+                let _flags = flags.bits();
+                let _service = *service;
+                let _subtype = *subtype;
+                let _octets = body.as_slice();
+            }
+            Event::Finish(_, id) => {
+                let _id = *id;
+            }
+            Event::Lose(_) => {}
+            Event::Damage(_, octets) => {
+                let _octets = octets.as_slice();
+            }
+            Event::Take(_, _) => {}
+            Event::Deliver(_) => {}
+            Event::Tick(_) => {}
+            Event::Expire(_) => {}
+            Event::Claim(_) => {}
+            Event::Commit(_) => {}
+            Event::Apply => {}
+            Event::Retire(_, id) => {
+                let _id = *id;
+            }
+            Event::Restart(_) => {}
+        }
     }
 }

@@ -63,8 +63,9 @@ pub enum StepFault {
     /// Want of memory.
     #[error("want of memory")]
     Memory,
-    /// What was read isn't what the lane has in its hand, or was read for another receiver.
-    #[error("what was read isn't what the lane has in its hand")]
+    /// What was read isn't what the lane has in its hand, or of the request that the worker has; or
+    /// it was read for another receiver, APID, part size or shape of memories.
+    #[error("what was read isn't what the lane or the worker has")]
     NotYours,
     /// The service type and the message subtype are those of a part.
     #[error("the service type and the message subtype are those of a part")]

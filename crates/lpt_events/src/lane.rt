@@ -2,7 +2,9 @@
 
 ghost use Rattle.std.specs.Prelude.{◌≡◌};
 ghost use Rattle.lpt_events.specs.Lanes.{lane_direction};
+ghost use Rattle.lpt_events.specs.Sides.{receiver_side};
 
+use crate::Side;
 use lpt_pus::Direction;
 
 /// A lane. Each direction has two, so that one can deliver while another holds a packet back.
@@ -19,9 +21,6 @@ pub enum Lane {
 }
 
 impl Lane {
-    /// All lanes.
-    pub const ALL: [Lane; 4] = [Lane::S1, Lane::S2, Lane::G1, Lane::G2];
-
     /// The direction of the packets that the lane takes: up to the spacecraft, or down to ground.
     pub fn direction(self) -> Direction
         ensures { result ≡ lane_direction self }
@@ -30,5 +29,12 @@ impl Lane {
             Lane::S1 | Lane::S2 => Direction::Up,
             Lane::G1 | Lane::G2 => Direction::Down,
         }
+    }
+
+    /// The side that receives the packets that the lane takes.
+    pub fn receiver(self) -> Side
+        ensures { result ≡ receiver_side (lane_direction self) }
+    {
+        Side::receiver(self.direction())
     }
 }

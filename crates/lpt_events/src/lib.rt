@@ -13,6 +13,7 @@ mod entry;
 mod event;
 mod fault;
 mod lane;
+mod link_packets;
 mod log;
 mod message_types;
 mod outcome;
@@ -30,6 +31,7 @@ pub use entry::{Entry, Opening, Release};
 pub use event::Event;
 pub use fault::StepFault;
 pub use lane::Lane;
+pub use link_packets::longest_on_link;
 pub use log::{Call, SeatLog};
 pub use lpt_part::laws::parts_fit;
 pub use lpt_part::{

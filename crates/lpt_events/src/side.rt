@@ -1,4 +1,9 @@
-//! The two ends of the link.
+//! The two ends of the link, and which of them sends and receives in a direction.
+
+ghost use Rattle.std.specs.Prelude.{◌≡◌};
+ghost use Rattle.lpt_events.specs.Sides.{sender_side, receiver_side, direction_to};
+
+use lpt_pus::Direction;
 
 /// Which end of the link a node is.
 #[derive(Clone, Copy, Debug, PartialEq, Eq)]
@@ -7,4 +12,36 @@ pub enum Side {
     Ground,
     /// The spacecraft: it sends down and receives up.
     Craft,
+}
+
+impl Side {
+    /// The side that sends in a direction.
+    pub fn sender(direction: Direction) -> Side
+        ensures { result ≡ sender_side direction }
+    {
+        match direction {
+            Direction::Up => Side::Ground,
+            Direction::Down => Side::Craft,
+        }
+    }
+
+    /// The side that receives in a direction.
+    pub fn receiver(direction: Direction) -> Side
+        ensures { result ≡ receiver_side direction }
+    {
+        match direction {
+            Direction::Up => Side::Craft,
+            Direction::Down => Side::Ground,
+        }
+    }
+
+    /// The direction in which this side receives.
+    pub fn receives(self) -> Direction
+        ensures { result ≡ direction_to self }
+    {
+        match self {
+            Side::Ground => Direction::Down,
+            Side::Craft => Direction::Up,
+        }
+    }
 }

@@ -1,3 +1,4 @@
+pub mod EndingLemmas
 pub mod RequestLemmas
 pub use Rattle.lpt_memory.proofs.LptPacket as LptPacket
 pub use Rattle.lpt_memory.proofs.LptPus as LptPus

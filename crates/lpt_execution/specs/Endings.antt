@@ -1,20 +1,20 @@
 -- How the execution of a request ends.
-use Rattle.std.specs.Prelude.{ℕ, ◌+◌, nat_le, Bool, not, if◌then◌else◌, List, length, Option, Some, None}
+use Rattle.std.specs.Prelude.{ℕ, ◌+◌, nat_le, Bool, false, not, if◌then◌else◌, List, length, Option, Some, None, is_some}
 use Rattle.lpt_memory.specs.LptPus.declared.failure_code.FailureCode.{FailureCode}
 use Rattle.lpt_memory.specs.LptPus.declared.failure_code.FailureCode.TheVariants.{NoFreeIdentifier, TooManyOpen}
-use Rattle.lpt_memory.specs.declared.asks.ReplyKind.{ReplyKind}
-use Rattle.lpt_memory.specs.declared.asks.ReplyKind.TheVariants as reply
+use Rattle.lpt_memory.specs.declared.reply_kind.ReplyKind.{ReplyKind}
+use Rattle.lpt_memory.specs.declared.reply_kind.ReplyKind.TheVariants as reply
 use Rattle.lpt_memory.specs.declared.effect.Effect.{Effect}
 use Rattle.lpt_memory.specs.declared.effect.Effect.TheVariants as effect
+use Rattle.lpt_events.specs.LinkPackets.{longest_on_link}
 use Rattle.lpt_events.specs.declared.telemetry.TelemetryKind.{TelemetryKind}
 use Rattle.lpt_events.specs.declared.telemetry.TelemetryKind.TheVariants as kind
 use Rattle.lpt_execution.specs.declared.ending.Ending.{Ending}
 use Rattle.lpt_execution.specs.declared.ending.Ending.TheVariants.{Silent, Refused, Carried}
 
--- whether telemetry with a body of so many octets is a packet of the link: it has 19 octets besides,
--- and no packet there has more octets than a part and 23
+-- whether telemetry with a body of so many octets is a packet of the link: it has 19 octets besides
 abbrev pub is_small : (p len : ℕ) → Bool
-is_small p len = nat_le (len + 19) (p + 23)
+is_small p len = nat_le (len + 19) (longest_on_link p)
 
 -- why a reply with a body of so many octets isn't sent: where it is no packet of the link, it is
 -- opened as a message, and needs a free name and room for an open message more
@@ -41,3 +41,16 @@ ending p free room effect.Silent = Silent
 ending p free room (effect.Code code) = Refused code
 ending p free room effect.Done = Carried None
 ending p free room (effect.Reply k body) = replied (reply_fault p (length body) free room) k body
+
+-- why the reply that a request comes to isn't sent, where it comes to one
+abbrev pub reply_refusal : (p : ℕ) → (free room : Bool) → Effect → Option FailureCode
+reply_refusal p free room effect.Silent = None
+reply_refusal p free room (effect.Code code) = None
+reply_refusal p free room effect.Done = None
+reply_refusal p free room (effect.Reply k body) = reply_fault p (length body) free room
+
+-- whether there is a report of data
+abbrev pub has_data : Ending → Bool
+has_data Silent = false
+has_data (Refused code) = false
+has_data (Carried r) = is_some r

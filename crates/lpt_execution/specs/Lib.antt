@@ -1,6 +1,5 @@
 pub mod Endings
 pub mod Ranges
-pub mod Replies
 pub mod Reporting
 pub use Rattle.lpt_memory.specs.LptPacket as LptPacket
 pub use Rattle.lpt_memory.specs.LptPus as LptPus

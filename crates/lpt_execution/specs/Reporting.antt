@@ -73,3 +73,9 @@ abbrev pub applied_of : Ending → Option (Name × List ℕ) → Applied
 applied_of Silent opened = applied.Silent
 applied_of (Refused code) opened = applied.Code code
 applied_of (Carried r) opened = applied.Done (option_map (λ x. x.0) opened)
+
+-- an answer with the name of what was opened, or none
+abbrev pub with_name : Applied → Option (Name × List ℕ) → Applied
+with_name applied.Silent opened = applied.Silent
+with_name (applied.Code code) opened = applied.Code code
+with_name (applied.Done name) opened = applied.Done (option_map (λ x. x.0) opened)

@@ -2,7 +2,7 @@
 
 ghost use Rattle.std.specs.Prelude.{◌≡◌, None};
 ghost use Rattle.lpt_execution.specs.declared.ending.Ending.{Ending};
-ghost use Rattle.lpt_execution.specs.Reporting.{applied_of};
+ghost use Rattle.lpt_execution.specs.Reporting.{applied_of, with_name};
 
 use crate::Ending;
 use lpt_events::Applied;
@@ -21,13 +21,19 @@ impl Ending {
     }
 }
 
-/// What an execution answers that opened this message, or none; with none it answers `applied`.
+/// An execution's answer with the name of the message that it opened, or none: a request that was
+/// carried out tells it, and no other does.
 pub fn applied_with(applied: Applied, opened: &Option<(Name, Octets)>) -> Applied
-    ensures { (end : Ending) → applied ≡ applied_of end None
+    ensures value { result ≡ with_name applied opened.now }
+
+    // It is what an execution answers that ended so and opened this.
+    ensures ended { (end : Ending) → applied ≡ applied_of end None
         → result ≡ applied_of end opened.now }
 {
     match (applied, opened) {
+        (Applied::Silent, _) => Applied::Silent,
+        (Applied::Code(code), _) => Applied::Code(code),
+        (Applied::Done(_), None) => Applied::Done(None),
         (Applied::Done(_), Some((id, _))) => Applied::Done(Some(*id)),
-        (applied, _) => applied,
     }
 }

@@ -1,23 +1,27 @@
 //! The execution of a request over the memories.
 
-ghost use Rattle.std.specs.Prelude.{◌≡◌, IfOk};
+ghost use Rattle.std.specs.Prelude.{◌≡◌, true, IfOk, OnErr};
 ghost use Rattle.lpt_memory.specs.Answers.{answer};
-ghost use Rattle.lpt_memory.specs.Memories.{effect, sizes_of};
+ghost use Rattle.lpt_memory.specs.Memories.{Contents, sizes_of};
 ghost use Rattle.lpt_memory.specs.Readings.{meant};
-ghost use Rattle.lpt_execution.specs.Endings.{ending, is_small, reply_fault, reply_report};
+ghost use Rattle.lpt_execution.specs.Endings.{ending, has_data, is_small, reply_fault, reply_refusal, reply_report};
 ghost use Rattle.lpt_execution.specs.Ranges.{EndingFits};
-ghost use Rattle.lpt_execution.specs.Replies.{sent, IsReply};
 
 use crate::{Ending, Report};
-use lpt_events::TelemetryKind;
-use lpt_memory::{Asks, Effect, FailureCode, Memories, Reading, ReplyKind};
+use lpt_events::{TelemetryKind, longest_on_link};
+use lpt_memory::{
+    ERROR_CONTROL, Effect, FailureCode, Memories, PRIMARY_HEADER, Reading, ReplyKind, TM_HEADER,
+};
 use std::alloc::AllocError;
+
+// The octets that stand around the body of telemetry.
+const AROUND_A_BODY: usize = PRIMARY_HEADER + TM_HEADER + ERROR_CONTROL;
 
 /// Whether telemetry with a body of so many octets is a packet of the link, where a part has `p`.
 pub fn is_small(p: u32, length: usize) -> bool
     ensures { result ≡ is_small p length }
 {
-    length <= p as usize + 4
+    length <= longest_on_link(p) - AROUND_A_BODY
 }
 
 /// Why a reply with a body of so many octets isn't sent. Where it is no packet of the link it needs
@@ -36,52 +40,48 @@ pub fn reply_fault(p: u32, length: usize, free: bool, room: bool) -> Option<Fail
     }
 }
 
+// Why the reply to a message isn't sent, where it has one.
+fn reply_refusal(p: u32, free: bool, room: bool, reading: &Reading) -> Option<FailureCode>
+    ensures { (ms : Contents) → reading.now.sizes ≡ sizes_of ms
+        → result ≡ reply_refusal p free room (answer (meant reading.now) ms) }
+{
+    match reading.reply_len() {
+        Some(length) => reply_fault(p, length, free, room),
+        None => None,
+    }
+}
+
 /// How the execution of a request ends, with its reply, where it has one. A load isn't done yet,
 /// and no memory changes. `free` and `room` say whether a reply could be opened as a message.
 ///
-/// The only error is want of memory, for a reply.
+/// The only error is want of memory, for a reply that is sent.
 pub fn ending_of(
     p: u32,
     free: bool,
     room: bool,
-    memories: &mut Memories,
+    memories: &Memories,
     reading: &Reading,
 ) -> Result<Ending, AllocError>
-    requires { reading.now.sizes ≡ sizes_of memories.old }
+    requires { reading.now.sizes ≡ sizes_of memories.now }
     ensures ending { IfOk result (λ e.
-        e ≡ ending p free room (answer (meant reading.now) memories.old)) }
+        e ≡ ending p free room (answer (meant reading.now) memories.now)) }
     ensures fits { IfOk result EndingFits }
 
-    ensures kept { memories.new ≡ memories.old }
+    // Memory is wanting only where a reply is made.
+    ensures memory { OnErr result
+        (has_data (ending p free room (answer (meant reading.now) memories.now)) ≡ true) }
 {
-    match reading.asks() {
-        Asks::Silent => Ok(Ending::Silent),
-        Asks::Fault(code) => Ok(Ending::Refused(code)),
-        Asks::Load => Ok(Ending::Carried(None)),
-        Asks::Reply(_, length) => match reply_fault(p, length, free, room) {
-            Some(code) => Ok(Ending::Refused(code)),
-            None => reply(memories, reading),
-        },
+    if let Some(code) = reply_refusal(p, free, room, reading) {
+        return Ok(Ending::Refused(code));
     }
-}
-
-// A request is carried out that has a reply.
-fn reply(memories: &mut Memories, reading: &Reading) -> Result<Ending, AllocError>
-    requires sizes { reading.now.sizes ≡ sizes_of memories.old }
-    requires asks { IsReply (answer (meant reading.now) memories.old) }
-    ensures sent { IfOk result (λ e. e ≡ sent (answer (meant reading.now) memories.old)) }
-    ensures fits { IfOk result EndingFits }
-
-    ensures kept { memories.new ≡ memories.old }
-{
-    match memories.apply(reading)? {
+    match memories.answer(reading)? {
+        Effect::Silent => Ok(Ending::Silent),
+        Effect::Code(code) => Ok(Ending::Refused(code)),
+        Effect::Done => Ok(Ending::Carried(None)),
         Effect::Reply(kind, body) => {
             let kind = reply_report(kind);
             Ok(Ending::Carried(Some(Report { kind, body })))
         }
-        Effect::Silent => unreachable!(),
-        Effect::Code(_) => unreachable!(),
-        Effect::Done => unreachable!(),
     }
 }
 
@@ -92,22 +92,5 @@ fn reply_report(kind: ReplyKind) -> TelemetryKind
     match kind {
         ReplyKind::Dump => TelemetryKind::Dump,
         ReplyKind::Check => TelemetryKind::Check,
-    }
-}
-
-/// Does what a request asks of the memories: a load is done, and any other request changes nothing.
-/// It takes no memory.
-pub fn load(memories: &mut Memories, reading: &Reading)
-    requires { reading.now.sizes ≡ sizes_of memories.old }
-    ensures { memories.new ≡ effect (meant reading.now) memories.old }
-{
-    match reading.asks() {
-        Asks::Silent => {}
-        Asks::Fault(_) => {}
-        Asks::Load => match memories.apply(reading) {
-            Ok(_) => {}
-            Err(AllocError) => unreachable!(),
-        },
-        Asks::Reply(_, _) => {}
     }
 }

@@ -1,8 +1,8 @@
 //! The reports of an execution.
 
-ghost use Rattle.std.specs.Prelude.{◌≡◌, ◌++◌, map, option_map, IfOk, OnOk, All};
+ghost use Rattle.std.specs.Prelude.{◌≡◌, ◌≢◌, [], ◌++◌, map, option_map, IfOk, OnOk, OnErr, All};
 ghost use Rattle.lpt_memory.specs.LptPus.Codes.{number_of};
-ghost use Rattle.lpt_verify.specs.Reports.{reports_before, reports_after};
+ghost use Rattle.lpt_verify.specs.Reports.{reports_before, reports_after, all_reports};
 ghost use Rattle.lpt_execution.specs.Ranges.{EndingFits, ReportFits};
 ghost use Rattle.lpt_execution.specs.Reporting.{data_report, message_reports, verification, verification_kind};
 
@@ -14,13 +14,17 @@ use std::alloc::{AllocError, Global};
 
 /// The reports of a request whose execution ends so, in the order in which they are sent.
 ///
-/// The only error is want of memory.
+/// The only error is want of memory, for a report.
 pub fn reports(alloc: Global, reading: &Reading, ending: Ending) -> Result<Vec<Report>, AllocError>
     ensures reports { IfOk result (λ v.
         v.items ≡ message_reports reading.now.apid reading.now.message ending) }
 
     // The body of each fits a packet, where that of the data report does.
     ensures fits { EndingFits ending → IfOk result (λ v. All ReportFits v.items) }
+
+    // Memory is wanting only where there is a report.
+    ensures memory { OnErr result
+        (message_reports reading.now.apid reading.now.message ending ≢ []) }
 {
     let Some(head) = reading.head() else {
         return Ok(Vec::new(alloc));
@@ -41,10 +45,14 @@ fn reports_around(
     code: Option<FailureCode>,
     report: Option<Report>,
 ) -> Result<Vec<Report>, AllocError>
-    ensures { IfOk result (λ v. v.items
+    ensures reports { IfOk result (λ v. v.items
         ≡ map verification (reports_before request.value flags (option_map number_of code))
         ++ data_report report
         ++ map verification (reports_after request.value flags (option_map number_of code))) }
+    ensures memory { OnErr result
+        (map verification (reports_before request.value flags (option_map number_of code))
+        ++ data_report report
+        ++ map verification (reports_after request.value flags (option_map number_of code)) ≢ []) }
 {
     let Reports { before, after } = lpt_verify::reports(alloc, request, flags, code)?;
     let mut reports = Vec::new(alloc);
@@ -61,8 +69,9 @@ fn push_verifications(
     reports: &mut Vec<Report>,
     verifications: Vec<EncodedReport>,
 ) -> Result<(), AllocError>
-    ensures { OnOk result (reports.new.items
+    ensures reports { OnOk result (reports.new.items
         ≡ reports.old.items ++ map verification verifications.items) }
+    ensures memory { OnErr result (verifications.items ≢ []) }
 {
     for EncodedReport { subtype, body } in verifications {
         let kind = verification_kind(subtype);

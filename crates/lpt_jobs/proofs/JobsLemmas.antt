@@ -1,7 +1,7 @@
--- Jobs whose marks change: which were claimed, and their order.
-use Rattle.std.proofs.Common.{◌≡◌, ◌∙◌, refl, sym, ap, subst, ℕ, zero, suc, ◌+◌, ◌-◌, ◌^◌, ◌<◌, ◌≤◌, Bool, true, false, cond, if◌then◌else◌, List, [], ◌∷◌, ◌++◌, length, get_or, set, map, None, IsSome, nat_lt, arith}
+-- Jobs that change: which were claimed, and their order.
+use Rattle.std.proofs.Common.{◌≡◌, ◌≢◌, ◌∙◌, refl, sym, ap, subst, ℕ, zero, suc, ◌+◌, ◌-◌, ◌^◌, ◌<◌, ◌≤◌, Bool, true, false, cond, if◌then◌else◌, List, [], ◌∷◌, ◌++◌, length, get_or, set, None, IsSome, nat_lt, arith}
 use Rattle.std.specs.List.{slice_get}
-use Rattle.std.specs.Option.{option_map, option_map_or}
+use Rattle.std.specs.Option.{option_map, option_map_or, option_and_then}
 use Rattle.std.proofs.lemmas.Bool.{cases_eq, false≢true}
 use Rattle.std.proofs.lemmas.List.{get_or-set_same, get_or-set_other, length-set}
 use Rattle.std.proofs.lemmas.List.Folds.{prefix_len-set, prefix_len-append}
@@ -9,74 +9,77 @@ use Rattle.std.proofs.lemmas.List.Sums.{prefix_len_is, prefix_len_passes}
 use Rattle.std.proofs.Math.ListN.{get_or-append, length-append}
 use Rattle.std.proofs.Math.Seq.{get_or-append_seam}
 use Rattle.lpt_jobs.specs.declared.job.Job.{Job}
-use Rattle.lpt_jobs.specs.declared.job.Mark.{Mark}
-use Rattle.lpt_jobs.specs.declared.job.Mark.TheVariants.{Waiting, Claimed, Committed}
-use Rattle.lpt_jobs.specs.Jobs.{Jobs, claimed_in, was_claimed, is_out, is_claimed, with_mark, AreInOrder}
+use Rattle.lpt_jobs.specs.declared.job.Job.TheVariants.{Waiting, Claimed, Committed}
+use Rattle.lpt_jobs.specs.Jobs.{Jobs, claimed_in, was_claimed, message_in, oldest, unclaimed, is_out, is_claimed, job_at, AreInOrder}
 use Rattle.lpt_jobs.specs.JobsInside.{IsKept}
-
--- a mark is changed by writing the job back with it
-pub with_mark-set : (jobs : List Job) (n : ℕ) (mark : Mark) (d : Job)
-    → with_mark jobs n mark ≡ set jobs n (record (get_or jobs n d) { mark = mark })
-with_mark-set [] n mark d = refl
-with_mark-set (j ∷ jobs) zero mark d = refl
-with_mark-set (j ∷ jobs) (suc n) mark d =
-    ap (λ (rest : List Job). j ∷ rest) (with_mark-set jobs n mark d)
-
--- the same of a job that was read
-pub set-with_mark : (jobs : List Job) (n : ℕ) (mark : Mark) (j : Job)
-    → j ≡ get_or jobs n j
-    → set jobs n (record j { mark = mark }) ≡ with_mark jobs n mark
-set-with_mark jobs n mark j is =
-    ap (λ (k : Job). set jobs n (record k { mark = mark })) is ∙ sym (with_mark-set jobs n mark j)
-
--- the messages stay
-pub messages-with_mark : (jobs : List Job) (n : ℕ) (mark : Mark)
-    → map (λ (j : Job). j.message) (with_mark jobs n mark) ≡ map (λ (j : Job). j.message) jobs
-messages-with_mark [] n mark = refl
-messages-with_mark (j ∷ jobs) zero mark = refl
-messages-with_mark (j ∷ jobs) (suc n) mark =
-    ap (λ (rest : List (List ℕ)). j.message ∷ rest) (messages-with_mark jobs n mark)
 
 -- ---- a claim
 
--- whether a job was claimed
-abbrev pub test : Job → Bool
-test j = was_claimed j.mark
-
--- where there is a job to claim, it stands in the queue
-pub some-within : {A : Type 0} (f : Job → A) (jobs : List Job) (i : ℕ)
-    → IsSome (option_map f (slice_get jobs i))
+-- where the message of a job is there, the job stands in the queue
+pub some-within : (f : List ℕ → ℕ × List ℕ) (jobs : List Job) (i : ℕ)
+    → IsSome (option_map f (option_and_then message_in (slice_get jobs i)))
     → i < length jobs
 some-within f [] i is = absurd (false≢true is)
 some-within f (j ∷ jobs) zero is = omega arith
 some-within f (j ∷ jobs) (suc i) is = omega (arith, some-within f jobs i is)
 
+-- the message of the job at a place
+pub message-at : (jobs : List Job) (i : ℕ) (d : Job)
+    → i < length jobs
+    → option_and_then message_in (slice_get jobs i) ≡ message_in (get_or jobs i d)
+message-at [] i d lt = absurd (omega arith)
+message-at (j ∷ jobs) zero d lt = refl
+message-at (j ∷ jobs) (suc i) d lt = message-at jobs i d (omega arith)
+
+-- the oldest job that waits, by the count of those before it
+pub unclaimed-at : (q : Jobs) (claimed : ℕ) (j : Job)
+    → claimed ≡ claimed_in q.jobs
+    → claimed < length q.jobs
+    → j ≡ get_or q.jobs claimed j
+    → unclaimed q ≡ option_map {U = ℕ × List ℕ} (λ m. (q.first + claimed, m)) (message_in j)
+unclaimed-at q claimed j count some is =
+    let found : oldest q.jobs ≡ message_in j =
+    ap (λ i. option_and_then message_in (slice_get q.jobs i)) (sym count)
+    ∙ message-at q.jobs claimed j some ∙ ap message_in (sym is) in
+    λ i. option_map {U = ℕ × List ℕ} (λ m. (q.first + sym count i, m)) (found i)
+
 -- one job more was claimed once the oldest that waits is
 pub claimed_in-claim : (jobs : List Job) (j : Job)
     → AreInOrder jobs
     → claimed_in jobs < length jobs
-    → test j ≡ true
+    → was_claimed j ≡ true
     → claimed_in (set jobs (claimed_in jobs) j) ≡ claimed_in jobs + 1
 claimed_in-claim jobs j order some is =
-    prefix_len_is test (set jobs n j) (n + 1) j (omega (arith, length-set jobs n j)) before behind
+    prefix_len_is was_claimed (set jobs n j) (n + 1) j (omega (arith, length-set jobs n j)) before behind
   where
     n : ℕ
     n = claimed_in jobs
 
-    before : (k : ℕ) → k < n + 1 → test (get_or (set jobs n j) k j) ≡ true
+    before : (k : ℕ) → k < n + 1 → was_claimed (get_or (set jobs n j) k j) ≡ true
     before k lt =
         grind (
           arith,
           cases_eq k n,
           get_or-set_same jobs n j j,
           get_or-set_other jobs n k j j,
-          prefix_len_passes test jobs k j,
+          prefix_len_passes was_claimed jobs k j,
         )
 
-    behind : n + 1 < length (set jobs n j) → test (get_or (set jobs n j) (n + 1) j) ≡ false
+    behind : n + 1 < length (set jobs n j) → was_claimed (get_or (set jobs n j) (n + 1) j) ≡ false
     behind lt =
-        ap test (get_or-set_other jobs n (n + 1) j j (λ e. absurd (omega arith)))
+        ap was_claimed (get_or-set_other jobs n (n + 1) j j (λ e. absurd (omega arith)))
         ∙ order (n + 1) j (omega arith) (omega (arith, length-set jobs n j))
+
+-- the other jobs stay as they were
+pub other-jobs : (jobs : List Job) (k i : ℕ) (j : Job)
+    → i ≢ k
+    → slice_get (set jobs k j) i ≡ slice_get jobs i
+other-jobs [] k i j other = refl
+other-jobs (x ∷ jobs) zero zero j other = absurd (other refl)
+other-jobs (x ∷ jobs) zero (suc i) j other = refl
+other-jobs (x ∷ jobs) (suc k) zero j other = refl
+other-jobs (x ∷ jobs) (suc k) (suc i) j other =
+    other-jobs jobs k i j (λ e. other (ap suc e))
 
 -- ---- the order
 
@@ -84,7 +87,7 @@ claimed_in-claim jobs j order some is =
 pub is_before : (jobs : List Job) (i : ℕ) (d : Job)
     → AreInOrder jobs
     → i < length jobs
-    → test (get_or jobs i d) ≡ true
+    → was_claimed (get_or jobs i d) ≡ true
     → i < claimed_in jobs
 is_before jobs i d order lt is = grind (arith, order i d)
 
@@ -95,21 +98,21 @@ pub order-set : (jobs : List Job) (i : ℕ) (j : Job)
     → i < claimed_in (set jobs i j)
     → AreInOrder (set jobs i j)
 order-set jobs i j order more before k d past lt =
-    ap test (get_or-set_other jobs i k j d (λ e. absurd (omega arith)))
+    ap was_claimed (get_or-set_other jobs i k j d (λ e. absurd (omega arith)))
     ∙ order k d (omega arith) (omega (arith, length-set jobs i j))
 
 -- ---- a release
 
 -- a job that waits is counted by none
 pub claimed_in-push : (jobs : List Job) (j : Job)
-    → test j ≡ false
+    → was_claimed j ≡ false
     → claimed_in (jobs ++ j ∷ []) ≡ claimed_in jobs
-claimed_in-push jobs j is = grind (arith, prefix_len-append test jobs (j ∷ []), is)
+claimed_in-push jobs j is = grind (arith, prefix_len-append was_claimed jobs (j ∷ []), is)
 
 -- at the end it leaves the order
 pub order-push : (jobs : List Job) (j : Job)
     → AreInOrder jobs
-    → test j ≡ false
+    → was_claimed j ≡ false
     → AreInOrder (jobs ++ j ∷ [])
 order-push jobs j order is k d past lt =
     grind (
@@ -125,17 +128,17 @@ order-push jobs j order is k d past lt =
 -- ---- a commit
 
 -- a worker has only what was claimed
-is_out-claimed : (m : Mark) → is_out m ≡ true → was_claimed m ≡ true
-is_out-claimed Waiting is = is
+is_out-claimed : (j : Job) → is_out j ≡ true → was_claimed j ≡ true
+is_out-claimed (Waiting m) is = is
 is_out-claimed Claimed is = refl
 is_out-claimed (Committed r) is = refl
 
 -- the same of the job at a place
 is_out-at : (jobs : List Job) (i : ℕ) (d : Job)
-    → option_map_or (λ j. is_out j.mark) (slice_get jobs i) false ≡ true
-    → (i < length jobs) × (test (get_or jobs i d) ≡ true)
+    → option_map_or is_out (slice_get jobs i) false ≡ true
+    → (i < length jobs) × (was_claimed (get_or jobs i d) ≡ true)
 is_out-at [] i d is = absurd (false≢true is)
-is_out-at (j ∷ jobs) zero d is = (omega arith, is_out-claimed j.mark is)
+is_out-at (j ∷ jobs) zero d is = (omega arith, is_out-claimed j is)
 is_out-at (j ∷ jobs) (suc i) d is =
     let rest = is_out-at jobs i d is in
     (omega (arith, rest.0), rest.1)
@@ -143,13 +146,13 @@ is_out-at (j ∷ jobs) (suc i) d is =
 -- the job of a number that is claimed stands in the queue, and was claimed
 pub is_claimed-at : (q : Jobs) (n : ℕ) (d : Job)
     → is_claimed q n ≡ true
-    → (n - q.first < length q.jobs) × (test (get_or q.jobs (n - q.first) d) ≡ true)
+    → (n - q.first < length q.jobs) × (was_claimed (get_or q.jobs (n - q.first) d) ≡ true)
 is_claimed-at q n d is = by (nat_lt n q.first) is
   where
     by : (past : Bool)
-        → option_map_or (λ (j : Job). is_out j.mark)
+        → option_map_or is_out
         (if past then None else slice_get q.jobs (n - q.first)) false ≡ true
-        → (n - q.first < length q.jobs) × (test (get_or q.jobs (n - q.first) d) ≡ true)
+        → (n - q.first < length q.jobs) × (was_claimed (get_or q.jobs (n - q.first) d) ≡ true)
     by true is = absurd (false≢true is)
     by false is = is_out-at q.jobs (n - q.first) d is
 
@@ -158,7 +161,7 @@ is_claimed-at q n d is = by (nat_lt n q.first) is
 -- a queue to which a message is released, where there was memory for it
 pub kept-push : (first : ℕ) (jobs : List Job) (claimed : ℕ) (j : Job) (added : Bool)
     → IsKept first jobs claimed
-    → test j ≡ false
+    → was_claimed j ≡ false
     → first + length jobs + 1 < 2 ^ 64
     → IsKept first (if added then jobs ++ j ∷ [] else jobs) claimed
 kept-push first jobs claimed j false kept is room = kept
@@ -172,7 +175,7 @@ kept-push first jobs claimed j true kept is room = record {
 pub kept-claim : (first : ℕ) (jobs : List Job) (claimed : ℕ) (j : Job)
     → IsKept first jobs claimed
     → claimed < length jobs
-    → test j ≡ true
+    → was_claimed j ≡ true
     → IsKept first (set jobs claimed j) (claimed + 1)
 kept-claim first jobs claimed j kept some is =
     let n = claimed_in jobs in
@@ -186,16 +189,16 @@ kept-claim first jobs claimed j kept some is =
       numbers = omega (arith, length-set jobs claimed j);
     }
 
--- a queue of which a job that was claimed gets another mark of that kind
+-- a queue of which a job that was claimed is written over by another
 pub kept-commit : (first : ℕ) (jobs : List Job) (claimed i : ℕ) (j d : Job)
     → IsKept first jobs claimed
     → i < length jobs
-    → test (get_or jobs i d) ≡ true
-    → test j ≡ true
+    → was_claimed (get_or jobs i d) ≡ true
+    → was_claimed j ≡ true
     → IsKept first (set jobs i j) claimed
 kept-commit first jobs claimed i j d kept within was is =
     let same : claimed_in (set jobs i j) ≡ claimed_in jobs
-    = prefix_len-set test jobs i j d (is ∙ sym was) in
+    = prefix_len-set was_claimed jobs i j d (is ∙ sym was) in
     let before = is_before jobs i d kept.order within was in
     record {
       count = kept.count ∙ sym same;
@@ -207,7 +210,7 @@ kept-commit first jobs claimed i j d kept within was is =
 pub kept-pop : (first : ℕ) (jobs rest : List Job) (claimed : ℕ) (j : Job)
     → IsKept first jobs claimed
     → jobs ≡ j ∷ rest
-    → test j ≡ true
+    → was_claimed j ≡ true
     → IsKept (first + 1) rest (claimed - 1)
 kept-pop first jobs rest claimed j kept front is =
     let all : IsKept first (j ∷ rest) claimed

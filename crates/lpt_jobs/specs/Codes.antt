@@ -1,10 +1,10 @@
 -- How what is seen of a queue is coded: the values of models are data.
-use Rattle.std.specs.Prelude.{◌≡◌, ℕ, List, Option, Some, None, refl}
-use Rattle.std.specs.Coded.{Coded, code_by, coded×, coded_ℕ, coded_list, coded_option}
+use Rattle.std.specs.Prelude.{◌≡◌, ◌⊎◌, ℕ, List, Option, Some, None, refl}
+use mathlib.Core.Logic.{inl, inr}
+use Rattle.std.specs.Coded.{Coded, code_by, coded×, coded⊎, coded_ℕ, coded_list, coded_option}
 use Rattle.lpt_memory.specs.Readings.{Source}
 use Rattle.lpt_jobs.specs.declared.job.Job.{Job}
-use Rattle.lpt_jobs.specs.declared.job.Mark.{Mark}
-use Rattle.lpt_jobs.specs.declared.job.Mark.TheVariants.{Waiting, Claimed, Committed}
+use Rattle.lpt_jobs.specs.declared.job.Job.TheVariants.{Waiting, Claimed, Committed}
 use Rattle.lpt_jobs.specs.Jobs.{Jobs}
 
 -- the code of a reading
@@ -16,31 +16,25 @@ coded_source =
     (λ q. record { apid = q.0; sizes = q.1.0; message = q.1.1 })
     (λ _. refl)
 
--- the reading that a mark has, where it is claimed
-abbrev pub committed_in : Mark → Option (Option Source)
-committed_in Waiting = None
-committed_in Claimed = Some None
-committed_in (Committed r) = Some (Some r)
+-- the message of a job that waits, or the reading of another, where there is one
+abbrev pub parts_of : Job → List ℕ ⊎ Option Source
+parts_of (Waiting m) = inl m
+parts_of Claimed = inr None
+parts_of (Committed r) = inr (Some r)
 
--- the mark that has it
-abbrev pub mark_with : Option (Option Source) → Mark
-mark_with None = Waiting
-mark_with (Some None) = Claimed
-mark_with (Some (Some r)) = Committed r
-
--- the code of a mark
-abbrev pub coded_mark : Coded Mark
-coded_mark =
-    code_by (Option (Option Source)) (coded_option (coded_option coded_source))
-    committed_in mark_with
-    (λ m. elim m as (λ x. mark_with (committed_in x) ≡ x)
-    [ Waiting ↦ refl | Claimed ↦ refl | Committed r ↦ refl ])
+-- the job of these
+abbrev pub job_of : List ℕ ⊎ Option Source → Job
+job_of (inl m) = Waiting m
+job_of (inr None) = Claimed
+job_of (inr (Some r)) = Committed r
 
 -- the code of a job
 abbrev pub coded_job : Coded Job
 coded_job =
-    code_by (List ℕ × Mark) (coded× (coded_list coded_ℕ) coded_mark)
-    (λ j. (j.message, j.mark)) (λ q. record { message = q.0; mark = q.1 }) (λ _. refl)
+    code_by (List ℕ ⊎ Option Source) (coded⊎ (coded_list coded_ℕ) (coded_option coded_source))
+    parts_of job_of
+    (λ j. elim j as (λ x. job_of (parts_of x) ≡ x)
+    [ Waiting m ↦ refl | Claimed ↦ refl | Committed r ↦ refl ])
 
 -- the code of the jobs
 abbrev pub coded_jobs : Coded Jobs

@@ -2,22 +2,13 @@
 
 use lpt_memory::{Octets, Reading};
 
-/// A released request that isn't executed yet.
+/// A released request that isn't executed yet, by how far it has come.
 #[derive(Drop)]
-pub(crate) struct Job {
-    /// The message that was released.
-    pub(crate) message: Octets,
-    /// How far the job has come.
-    pub(crate) mark: Mark,
-}
-
-/// How far a job has come.
-#[derive(Drop)]
-pub(crate) enum Mark {
-    /// No worker has claimed it.
-    Waiting,
-    /// A worker has it, and hasn't committed a reading.
+pub(crate) enum Job {
+    /// No worker has claimed it: the message that was released.
+    Waiting(Octets),
+    /// A worker has it, with its message, and hasn't committed a reading.
     Claimed,
-    /// A worker has committed this reading.
+    /// A worker has committed this reading of its message.
     Committed(Reading),
 }

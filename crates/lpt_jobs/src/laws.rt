@@ -1,8 +1,8 @@
 //! What the definitions say of all queues: functions with empty bodies.
 
-ghost use Rattle.std.specs.Prelude.{◌≡◌, ℕ, List, ◌+◌, map, IsSome, IsTrue};
+ghost use Rattle.std.specs.Prelude.{◌≡◌, ◌≢◌, ℕ, List, ◌+◌, IsSome, IsTrue};
 ghost use Rattle.lpt_memory.specs.Readings.{Source};
-ghost use Rattle.lpt_jobs.specs.Jobs.{Jobs, AreInOrder, next_claim, unclaimed, is_claimed, head_of, is_ready, after_push, after_claim, after_commit, without_front};
+ghost use Rattle.lpt_jobs.specs.Jobs.{Jobs, AreInOrder, job_at, next_claim, unclaimed, is_claimed, head_of, is_ready, after_push, after_claim, after_commit, without_front};
 
 /// Jobs are claimed in the order of their numbers: a claim is of the number after the last one, and
 /// no other call changes which is next.
@@ -17,10 +17,10 @@ pub fn claims_go_in_order()
         → next_claim (without_front q) ≡ next_claim q }
 {}
 
-/// A job keeps its message when it is claimed, and when a reading of it is committed.
-pub fn keeps_messages()
-    ensures claim { (q : Jobs)
-        → map (λ j. j.message) (after_claim q).jobs ≡ map (λ j. j.message) q.jobs }
-    ensures commit { (q : Jobs) (n : ℕ) (reading : Source)
-        → map (λ j. j.message) (after_commit q n reading).jobs ≡ map (λ j. j.message) q.jobs }
+/// A claim and a commit change one job, and leave each other one as it was.
+pub fn changes_one_job()
+    ensures claim { (q : Jobs) (n : ℕ) → n ≢ next_claim q
+        → job_at (after_claim q) n ≡ job_at q n }
+    ensures commit { (q : Jobs) (n k : ℕ) (reading : Source) → IsTrue (is_claimed q n) → k ≢ n
+        → job_at (after_commit q n reading) k ≡ job_at q k }
 {}

@@ -1,18 +1,19 @@
 //! The queue.
 
-ghost use Rattle.std.specs.Prelude.{◌≡◌, ◌+◌, ◌-◌, ◌<◌, ◌^◌, ◌∷◌, length, IsSome, IsTrue, IfErr, OnOk, OnErr};
+ghost use Rattle.std.specs.Prelude.{◌≡◌, ◌+◌, ◌-◌, ◌<◌, ◌^◌, ◌∷◌, length, Some, IsSome, IsTrue, IfErr, OnOk, OnErr};
 ghost use Rattle.std.specs.Option.{option_map, option_copied};
-ghost use Rattle.lpt_jobs.specs.declared.job.Mark.TheVariants.{Committed};
+ghost use Rattle.lpt_jobs.specs.declared.job.Job.TheVariants.{Committed};
 ghost use Rattle.lpt_jobs.specs.Jobs.{no_jobs, numbered, job_at, claimed_in, unclaimed, is_claimed, head, head_of, is_ready, after_push, after_claim, after_commit, without_front, AreInOrder};
 
 use crate::Front;
-use crate::job::{Job, Mark};
+use crate::job::Job;
 use lpt_memory::{Octets, Reading};
 use std::alloc::{AllocFailed, Global};
 use std::collections::VecDeque;
 use std::marker::Model;
+use std::mem;
 
-/// The jobs that aren't executed yet, each with its message and how far it has come.
+/// The jobs that aren't executed yet, each as far as it has come.
 #[derive(Drop)]
 pub struct JobQueue {
     // The number of the job at the front, or of the next one where there is none.
@@ -78,8 +79,10 @@ impl JobQueue {
         // Behind the oldest job that waits, all wait.
         ensures order { AreInOrder self.now.jobs }
     {
-        let job = self.jobs.get(self.claimed)?;
-        Some((self.first + self.claimed as u64, &job.message))
+        match self.jobs.get(self.claimed)? {
+            Job::Waiting(message) => Some((self.first + self.claimed as u64, message)),
+            Job::Claimed | Job::Committed(_) => None,
+        }
     }
 
     /// Whether the job of this number is claimed, and no reading of it committed. A number that no
@@ -88,7 +91,7 @@ impl JobQueue {
         ensures { result ≡ is_claimed self.now number }
     {
         match self.job(number) {
-            Some(job) => matches!(&job.mark, Mark::Claimed),
+            Some(job) => matches!(job, Job::Claimed),
             None => false,
         }
     }
@@ -100,10 +103,9 @@ impl JobQueue {
         let Some(job) = self.jobs.front() else {
             return Front::Empty;
         };
-        match &job.mark {
-            Mark::Waiting => Front::NotReady,
-            Mark::Claimed => Front::NotReady,
-            Mark::Committed(reading) => Front::Ready(reading),
+        match job {
+            Job::Waiting(_) | Job::Claimed => Front::NotReady,
+            Job::Committed(reading) => Front::Ready(reading),
         }
     }
 
@@ -116,23 +118,29 @@ impl JobQueue {
         ensures back { IfErr result (λ m. m ≡ message) }
         ensures err { OnErr result (self.new ≡ self.old) }
     {
-        let job = Job {
-            message,
-            mark: Mark::Waiting,
-        };
-        match self.jobs.push_back(job) {
+        match self.jobs.push_back(Job::Waiting(message)) {
             Ok(()) => Ok(()),
-            Err(AllocFailed { value }) => Err(value.message),
+            Err(AllocFailed {
+                value: Job::Waiting(message),
+            }) => Err(message),
+            Err(_) => unreachable!(),
         }
     }
 
-    /// Marks the oldest job that waits as claimed.
-    pub fn claim(&mut self)
+    /// Claims the oldest job that waits, of which there must be one: its number and its message,
+    /// which is moved out. It takes no memory.
+    pub fn claim(&mut self) -> (u64, Octets)
         requires { IsSome (unclaimed self.old) }
-        ensures { self.new ≡ after_claim self.old }
+        ensures job { unclaimed self.old ≡ Some result }
+        ensures left { self.new ≡ after_claim self.old }
     {
-        self.jobs[self.claimed].mark = Mark::Claimed;
+        let number = self.first + self.claimed as u64;
+        let oldest = mem::replace(&mut self.jobs[self.claimed], Job::Claimed);
         self.claimed += 1;
+        let Job::Waiting(message) = oldest else {
+            unreachable!()
+        };
+        (number, message)
     }
 
     /// Commits a reading of the job of this number, which must be claimed.
@@ -141,25 +149,21 @@ impl JobQueue {
         ensures { self.new ≡ after_commit self.old number reading }
     {
         let place = (number - self.first) as usize;
-        self.jobs[place].mark = Mark::Committed(reading);
+        self.jobs[place] = Job::Committed(reading);
     }
 
-    /// Takes the job at the front out, which must be ready: its message and its reading.
-    pub fn pop_front(&mut self) -> (Octets, Reading)
+    /// Takes the job at the front out, which must be ready: its reading.
+    pub fn pop_front(&mut self) -> Reading
         requires { IsTrue (is_ready (head_of self.old.jobs)) }
-        ensures front { self.old.jobs
-            ≡ record { message = result.0; mark = Committed result.1 } ∷ self.new.jobs }
+        ensures front { self.old.jobs ≡ Committed result ∷ self.new.jobs }
         ensures left { self.new ≡ without_front self.old }
     {
-        let Some(Job { message, mark }) = self.jobs.pop_front() else {
-            unreachable!()
-        };
-        let Mark::Committed(reading) = mark else {
+        let Some(Job::Committed(reading)) = self.jobs.pop_front() else {
             unreachable!()
         };
         self.first += 1;
         self.claimed -= 1;
-        (message, reading)
+        reading
     }
 
     /// Drops all jobs, and begins their numbers at 0 again.

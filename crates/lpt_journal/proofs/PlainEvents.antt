@@ -9,7 +9,7 @@ use Rattle.lpt_execution.specs.LptEvents.declared.event.Event.TheVariants.{Plain
 use Rattle.lpt_execution.specs.LptEvents.declared.fault.StepFault.TheVariants.{PartRequest, Long}
 use Rattle.lpt_journal.specs.Journal.{History}
 use Rattle.lpt_journal.specs.Replies.{plain_packet, entry}
-use Rattle.lpt_journal.specs.Legal.{IsEvent}
+use Rattle.lpt_execution.specs.LptEvents.Events.{IsEvent}
 use Rattle.lpt_journal.specs.Refusals.{refusal}
 use Rattle.lpt_journal.specs.Senders.{count}
 use Rattle.lpt_journal.proofs.CalmEvents.{calm_owes}

@@ -14,8 +14,8 @@ use Rattle.lpt_reception.specs.LptPart.declared.kind.Kind.TheVariants.{First, Mi
 use Rattle.lpt_execution.specs.LptVerify.declared.report.EncodedReport.{EncodedReport}
 use Rattle.lpt_execution.specs.LptVerify.Reports.{success_if, asks, failure, accepted, started, completed, reports_before, reports_after}
 use Rattle.lpt_execution.specs.LptMemory.Answers.{AnswerFits}
-use Rattle.lpt_execution.specs.LptMemory.declared.asks.ReplyKind.{ReplyKind}
-use Rattle.lpt_execution.specs.LptMemory.declared.asks.ReplyKind.TheVariants as reply
+use Rattle.lpt_execution.specs.LptMemory.declared.reply_kind.ReplyKind.{ReplyKind}
+use Rattle.lpt_execution.specs.LptMemory.declared.reply_kind.ReplyKind.TheVariants as reply
 use Rattle.lpt_execution.specs.LptMemory.declared.effect.Effect.{Effect}
 use Rattle.lpt_execution.specs.LptMemory.declared.effect.Effect.TheVariants as effect
 use Rattle.lpt_execution.specs.LptEvents.declared.config.Config.{Config}

@@ -17,6 +17,7 @@ use Rattle.lpt_journal.specs.Link.{is_held, goes}
 use Rattle.lpt_journal.specs.Hands.{hand}
 use Rattle.lpt_journal.specs.Senders.{Sender, OpenSender, sender, is_free, is_open, open_count}
 use Rattle.lpt_journal.specs.Receivers.{clock}
+use Rattle.lpt_reception.specs.LptPacket.Sizes.{longest_packet}
 use Rattle.lpt_journal.specs.Due.{due}
 
 -- the first fault whose test holds
@@ -34,7 +35,7 @@ abbrev pub reasons : Config → History → Event → List (Bool × StepFault)
 reasons c h (Open d id m) =
     (not (is_free (sender h d id)), InUse)
     ∷ (nat_le (length m) c.part_size, Short)
-    ∷ (nat_lt 65542 (length m), Long)
+    ∷ (nat_lt longest_packet (length m), Long)
     ∷ (nat_le c.outgoing (open_count h d), TooMany) ∷ []
 reasons c h (Send d id k) =
     (not (is_open (sender h d id)), NotOpen)

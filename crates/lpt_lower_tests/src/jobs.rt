@@ -103,7 +103,7 @@ fn copies_memories(rt: HostRuntime) -> Result<(), Fail> {
 #[test]
 fn states_the_laws_of_memories_and_jobs(_rt: HostRuntime) {
     lpt_jobs::laws::claims_go_in_order();
-    lpt_jobs::laws::keeps_messages();
+    lpt_jobs::laws::changes_one_job();
     laws::message_meanings();
     laws::load_bodies();
     laws::range_bodies();

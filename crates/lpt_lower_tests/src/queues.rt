@@ -32,8 +32,8 @@ fn release(alloc: Global, queue: &mut JobQueue, body: &[u8]) -> Result<bool, Fai
 
 // Claims the oldest job that waits. The answer is its number.
 fn claim(queue: &mut JobQueue) -> Option<u64> {
-    let (number, _) = queue.unclaimed()?;
-    queue.claim();
+    queue.unclaimed()?;
+    let (number, _) = queue.claim();
     Some(number)
 }
 

@@ -1,12 +1,12 @@
 //! Outside values: requests with faults and without, and what they come to.
 
-use crate::scenes::{applied, asked_and_done, memory, request};
-use lpt_memory::Asks::{Fault, Load, Reply, Silent};
+use crate::scenes::Told::{Fault, Load, Reply, Silent};
+use crate::scenes::{Told, applied, foreseen_and_done, memory, request};
 use lpt_memory::FailureCode::{
     MalformedBody, OutOfRange, ReplyTooLong, UnknownMemory, UnknownRequest, WrongChecksum,
 };
 use lpt_memory::ReplyKind::{Check, Dump};
-use lpt_memory::{Asks, Effect, Memories, Octets, ReplyKind, TmHead, write_tm};
+use lpt_memory::{Effect, Memories, Octets, ReplyKind, TmHead, write_tm};
 use std::alloc::Global;
 use std::test::Fail;
 
@@ -24,15 +24,29 @@ const SECOND_WRONG: [u8; 24] = [
     1, 2, 0, 0, 0, 0, 0, 4, 0xab, 0xcd, 0xef, 0x01, 0x04, 0xa2, 0, 0, 0, 8, 0, 2, 0, 0, 0x1d, 0x0e,
 ];
 
-// What a request to memory 1 of so many zero octets asks, and what it comes to.
-fn both(alloc: Global, size: usize, subtype: u8, body: &[u8]) -> Result<(Asks, Asks), Fail> {
+// How long the reply to a request to memory 1 of so many zero octets will be, what it is answered,
+// and what it comes to.
+fn all(
+    alloc: Global,
+    size: usize,
+    subtype: u8,
+    body: &[u8],
+) -> Result<(Option<usize>, Told, Told), Fail> {
     let message = request(alloc, subtype, body)?;
     let mut memories = memory(alloc, size)?;
-    asked_and_done(alloc, &mut memories, message)
+    foreseen_and_done(alloc, &mut memories, message)
 }
 
-/// How many octets the memory has, a request's subtype and body, and what it asks.
-static REQUESTS: [(usize, u8, &[u8], Asks); 16] = [
+// The length of a reply.
+fn len_in(told: Told) -> Option<usize> {
+    match told {
+        Reply(_, len) => Some(len),
+        _ => None,
+    }
+}
+
+/// How many octets the memory has, a request's subtype and body, and what it comes to.
+static REQUESTS: [(usize, u8, &[u8], Told); 16] = [
     (256, 1, &[], Fault(UnknownRequest)),
     (256, 2, &[1, 0], Fault(MalformedBody)),
     (256, 2, &[0], Fault(MalformedBody)),
@@ -82,8 +96,8 @@ static REQUESTS: [(usize, u8, &[u8], Asks); 16] = [
 #[test]
 fn requests_come_to_what_they_ask(rt: HostRuntime) -> Result<(), Fail> {
     for (row, (size, subtype, body, wanted)) in REQUESTS.iter().enumerate() {
-        let (asks, done) = both(rt.alloc(), *size, *subtype, body)?;
-        assert!(rt; asks == *wanted && done == *wanted, "row {row}");
+        let (len, answer, done) = all(rt.alloc(), *size, *subtype, body)?;
+        assert!(rt; answer == *wanted && done == *wanted && len == len_in(*wanted), "row {row}");
     }
     Ok(())
 }
@@ -92,8 +106,8 @@ fn requests_come_to_what_they_ask(rt: HostRuntime) -> Result<(), Fail> {
 fn what_is_no_telecommand_is_passed_over(rt: HostRuntime) -> Result<(), Fail> {
     let noise = Octets::from_vec([0x18, 0x64, 0xc0].to_vec(rt.alloc())?);
     let mut memories = memory(rt.alloc(), 256)?;
-    let (asks, done) = asked_and_done(rt.alloc(), &mut memories, noise)?;
-    assert!(rt; asks == Silent && done == Silent);
+    let (len, answer, done) = foreseen_and_done(rt.alloc(), &mut memories, noise)?;
+    assert!(rt; len == None && answer == Silent && done == Silent);
     Ok(())
 }
 

@@ -4,7 +4,8 @@ ghost use Rattle.std.specs.Prelude.{◌≡◌, IfOk};
 ghost use Rattle.lpt_memory.specs.Memories.{sizes_of};
 
 use lpt_memory::{
-    Area, Asks, Effect, Memories, Octets, Prepared, Reading, TcHead, Ticket, prepare, write_tc,
+    Area, Effect, FailureCode, Memories, Octets, Prepared, Reading, ReplyKind, TcHead, Ticket,
+    prepare, write_tc,
 };
 use std::alloc::{AllocError, Global};
 use std::test::Fail;
@@ -80,24 +81,38 @@ pub(crate) fn applied(
     Ok(memories.apply(&reading)?)
 }
 
-// What a message asks, and what it comes to, in the same words.
-pub(crate) fn asked_and_done(
+/// What a message comes to, a reply by its kind and length.
+#[derive(Clone, Copy, PartialEq, Eq)]
+pub(crate) enum Told {
+    /// Nothing is said.
+    Silent,
+    /// A fault.
+    Fault(FailureCode),
+    /// A load was done.
+    Load,
+    /// A reply.
+    Reply(ReplyKind, usize),
+}
+
+// How long a message's reply will be, what it is answered, and what it comes to.
+pub(crate) fn foreseen_and_done(
     alloc: Global,
     memories: &mut Memories,
     message: Octets,
-) -> Result<(Asks, Asks), Fail> {
+) -> Result<(Option<usize>, Told, Told), Fail> {
     let reading = reading(alloc, memories, message)?;
-    let asks = reading.asks();
+    let len = reading.reply_len();
+    let answer = memories.answer(&reading)?;
     let effect = memories.apply(&reading)?;
-    Ok((asks, told(&effect)))
+    Ok((len, told(&answer), told(&effect)))
 }
 
-// What an effect answers to.
-fn told(effect: &Effect) -> Asks {
+// What an effect tells.
+fn told(effect: &Effect) -> Told {
     match effect {
-        Effect::Silent => Asks::Silent,
-        Effect::Code(code) => Asks::Fault(*code),
-        Effect::Done => Asks::Load,
-        Effect::Reply(kind, body) => Asks::Reply(*kind, body.as_slice().len()),
+        Effect::Silent => Told::Silent,
+        Effect::Code(code) => Told::Fault(*code),
+        Effect::Done => Told::Load,
+        Effect::Reply(kind, body) => Told::Reply(*kind, body.as_slice().len()),
     }
 }

@@ -1,5 +1,5 @@
--- How long the answers to dumps and checks are, and that they are what was asked.
-use Rattle.std.proofs.Common.{◌≡◌, ◌∙◌, ap, refl, ℕ, ◌+◌, ◌*◌, ◌≤◌, List, [], ◌∷◌, length, drop, sum_by, arith}
+-- How long the answers to dumps and checks are.
+use Rattle.std.proofs.Common.{◌≡◌, ◌∙◌, ap, refl, ℕ, ◌+◌, ◌*◌, ◌<◌, ◌≤◌, List, [], ◌∷◌, length, drop, sum_by, Some, IfSome, arith}
 use Rattle.std.specs.List.{flat_map}
 use Rattle.std.proofs.lemmas.List.{length-append, length-take, length-drop}
 use Rattle.std.proofs.lemmas.List.Concat.{flat_map-cons}
@@ -7,12 +7,13 @@ use Rattle.std.proofs.lemmas.List.Sums.{sum_by-cons}
 use Rattle.lpt_pus.specs.LptPacket.Checksums.{checksum}
 use Rattle.lpt_pus.specs.LptPacket.Numbers.{be}
 use Rattle.lpt_memory.specs.declared.request.AreaRange.{AreaRange}
-use Rattle.lpt_memory.specs.declared.asks.Asks.TheVariants.{Reply}
-use Rattle.lpt_memory.specs.declared.asks.ReplyKind.TheVariants as kinds
-use Rattle.lpt_memory.specs.Answers.{octets_in, dump_area, check_area, octets_of, dump_body, check_body, answer, asked, asked_by}
-use Rattle.lpt_memory.specs.Meanings.{Meaning, Silent, Fault, Load, Dump, Check, dump_length}
+use Rattle.lpt_memory.specs.declared.request.Content.{Content}
+use Rattle.lpt_memory.specs.declared.request.Content.TheVariants as contents
+use Rattle.lpt_memory.specs.Answers.{octets_in, dump_area, check_area, octets_of, dump_body, check_body, answer, reply_length, length_replied}
+use Rattle.lpt_memory.specs.Meanings.{Meaning, Silent, Fault, Load, Dump, Check, Sizes, dump_length}
 use Rattle.lpt_memory.specs.Memories.{Contents, sizes_of}
 use Rattle.lpt_memory.specs.Ranges.{RangesFit, ReadFits, MeaningFits}
+use Rattle.lpt_memory.specs.Seen.{seen, IsCounted}
 use Rattle.lpt_memory.proofs.MemoriesLemmas.{RangesFit-octets_of}
 
 length-dump_area : (content : List ℕ) (r : AreaRange)
@@ -61,14 +62,27 @@ pub length-check_body : (id : ℕ) (ranges : List AreaRange) (ms : Contents)
     → length (check_body id ranges ms) ≡ 2 + 8 * length ranges
 length-check_body id ranges ms = omega (arith, length-check_areas (octets_of id ms) ranges)
 
--- what is answered was asked so
-pub asked_by-answer : (m : Meaning) (ms : Contents)
+-- the reply that is answered is as long as the message's meaning says
+pub replied-answer : (m : Meaning) (ms : Contents)
     → MeaningFits (sizes_of ms) m
-    → asked_by (answer m ms) ≡ asked m
-asked_by-answer Silent ms fits = refl
-asked_by-answer (Fault code) ms fits = refl
-asked_by-answer (Load id areas) ms fits = refl
-asked_by-answer (Dump id ranges) ms fits =
-    ap (Reply kinds.Dump) (omega (arith, length-dump_body id ranges ms fits.0))
-asked_by-answer (Check id ranges) ms fits =
-    ap (Reply kinds.Check) (length-check_body id ranges ms)
+    → length_replied (answer m ms) ≡ reply_length m
+replied-answer Silent ms fits = refl
+replied-answer (Fault code) ms fits = refl
+replied-answer (Load id areas) ms fits = refl
+replied-answer (Dump id ranges) ms fits =
+    ap (λ n. Some n) (omega (arith, length-dump_body id ranges ms fits.0))
+replied-answer (Check id ranges) ms fits =
+    ap (λ n. Some n) (length-check_body id ranges ms)
+
+-- a reply fits a packet
+pub reply-short : (content : Content) (body : List ℕ) (sizes : Sizes)
+    → IsCounted content
+    → MeaningFits sizes (seen body content)
+    → IfSome (reply_length (seen body content)) (λ n. n ≤ 65523)
+reply-short contents.Silent body sizes counted fits = tt
+reply-short (contents.Code code) body sizes counted fits = tt
+reply-short (contents.Load id areas) body sizes counted fits = tt
+reply-short (contents.Dump id ranges) body sizes counted fits =
+    let short : dump_length ranges.items ≤ 65542 = fits.1 in omega (arith, short)
+reply-short (contents.Check id ranges) body sizes counted fits =
+    let few : length ranges.items < 256 = counted in omega (arith, few)

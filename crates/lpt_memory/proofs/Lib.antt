@@ -2,6 +2,7 @@ pub mod AnswerLemmas
 pub mod BodyLemmas
 pub mod BodyMeanings
 pub mod FieldLemmas
+pub mod FittingLemmas
 pub mod LoopLemmas
 pub mod MeaningLemmas
 pub mod MemoriesLemmas

@@ -1,12 +1,10 @@
 -- What a message is answered.
-use Rattle.std.specs.Prelude.{ℕ, ◌+◌, ◌*◌, ◌≤◌, List, [], ◌∷◌, ◌++◌, length, take, drop, sum_by, unwrap_or}
+use Rattle.std.specs.Prelude.{ℕ, ◌+◌, ◌*◌, ◌≤◌, List, [], ◌∷◌, ◌++◌, length, take, drop, sum_by, unwrap_or, Option, Some, None}
 use Rattle.std.specs.List.{flat_map}
 use Rattle.lpt_pus.specs.LptPacket.Numbers.{be}
 use Rattle.lpt_pus.specs.LptPacket.Checksums.{checksum}
 use Rattle.lpt_pus.specs.Codes.{number_of}
-use Rattle.lpt_memory.specs.declared.asks.Asks.{Asks}
-use Rattle.lpt_memory.specs.declared.asks.Asks.TheVariants as asks
-use Rattle.lpt_memory.specs.declared.asks.ReplyKind.TheVariants as kinds
+use Rattle.lpt_memory.specs.declared.reply_kind.ReplyKind.TheVariants as kinds
 use Rattle.lpt_memory.specs.declared.request.AreaRange.{AreaRange}
 use Rattle.lpt_memory.specs.declared.effect.Effect.{Effect}
 use Rattle.lpt_memory.specs.declared.effect.Effect.TheVariants as effects
@@ -62,18 +60,18 @@ AnswerFits (effects.Code code) = number_of code ≤ 6
 AnswerFits effects.Done = Unit {0}
 AnswerFits (effects.Reply kind body) = length body ≤ 65523
 
--- what a message asks, by what it means; a reply has 2 octets, and 8 in each area; a dump has those
--- of the memory besides
-abbrev pub asked : Meaning → Asks
-asked Silent = asks.Silent
-asked (Fault code) = asks.Fault code
-asked (Load id areas) = asks.Load
-asked (Dump id ranges) = asks.Reply kinds.Dump (2 + sum_by (λ r. 8 + r.len) ranges)
-asked (Check id ranges) = asks.Reply kinds.Check (2 + 8 * length ranges)
+-- how many octets the body of the reply has, where there is one: 2, and 8 in each area; in a dump
+-- those of the memory besides
+abbrev pub reply_length : Meaning → Option ℕ
+reply_length Silent = None
+reply_length (Fault code) = None
+reply_length (Load id areas) = None
+reply_length (Dump id ranges) = Some (2 + sum_by (λ r. 8 + r.len) ranges)
+reply_length (Check id ranges) = Some (2 + 8 * length ranges)
 
--- what was asked, by what is answered
-abbrev pub asked_by : Effect → Asks
-asked_by effects.Silent = asks.Silent
-asked_by (effects.Code code) = asks.Fault code
-asked_by effects.Done = asks.Load
-asked_by (effects.Reply kind body) = asks.Reply kind (length body)
+-- how many octets the reply has that was answered, where it is one
+abbrev pub length_replied : Effect → Option ℕ
+length_replied effects.Silent = None
+length_replied (effects.Code code) = None
+length_replied effects.Done = None
+length_replied (effects.Reply kind body) = Some (length body)

@@ -6,6 +6,7 @@ use Rattle.lpt_pus.specs.declared.failure_code.FailureCode.TheVariants.{UnknownR
 use Rattle.lpt_pus.specs.Commands.{Command, command_in}
 use Rattle.lpt_memory.specs.declared.request.Area.{Area}
 use Rattle.lpt_memory.specs.declared.request.AreaRange.{AreaRange}
+use Rattle.lpt_pus.specs.LptPacket.Sizes.{longest_packet}
 use Rattle.lpt_memory.specs.Requests.{LoadArea, Request, front_load_area, front_range, request_in}
 
 -- no telecommand, one with a fault of this code, or a request
@@ -60,7 +61,7 @@ load_meaning size r = unless (load_fault size r.areas) (Load r.memory (map area 
 abbrev pub dump_meaning : ℕ → Request AreaRange → Meaning
 dump_meaning size r =
     unless (range_fault size r.areas)
-    (if nat_lt 65542 (dump_length r.areas) then Fault ReplyTooLong else Dump r.memory r.areas)
+    (if nat_lt longest_packet (dump_length r.areas) then Fault ReplyTooLong else Dump r.memory r.areas)
 
 -- a check, or the first fault of its ranges
 abbrev pub check_meaning : ℕ → Request AreaRange → Meaning

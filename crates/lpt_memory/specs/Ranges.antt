@@ -3,6 +3,7 @@ use Rattle.std.specs.Prelude.{◌≡◌, ℕ, ◌+◌, ◌≤◌, List, [], ◌�
 use Rattle.lpt_pus.specs.Codes.{number_of}
 use Rattle.lpt_memory.specs.declared.request.Area.{Area}
 use Rattle.lpt_memory.specs.declared.request.AreaRange.{AreaRange}
+use Rattle.lpt_pus.specs.LptPacket.Sizes.{longest_packet}
 use Rattle.lpt_memory.specs.Meanings.{Meaning, Silent, Fault, Load, Dump, Check, Sizes, size_of, dump_length, meaning}
 
 -- areas end within a memory of this size
@@ -33,7 +34,7 @@ abbrev pub MeaningFits : Sizes → Meaning → Type 0
 MeaningFits sizes Silent = Unit {0}
 MeaningFits sizes (Fault code) = number_of code ≤ 6
 MeaningFits sizes (Load id areas) = LoadFits sizes id areas
-MeaningFits sizes (Dump id ranges) = ReadFits sizes id ranges × (dump_length ranges ≤ 65542)
+MeaningFits sizes (Dump id ranges) = ReadFits sizes id ranges × (dump_length ranges ≤ longest_packet)
 MeaningFits sizes (Check id ranges) = ReadFits sizes id ranges
 
 -- the octets mean this load at a node with this APID, in all memories that it is within

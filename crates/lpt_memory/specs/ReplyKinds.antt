@@ -1,7 +1,7 @@
 -- The message subtypes of the reports that answer requests.
 use Rattle.std.specs.Prelude.{ℕ}
-use Rattle.lpt_memory.specs.declared.asks.ReplyKind.{ReplyKind}
-use Rattle.lpt_memory.specs.declared.asks.ReplyKind.TheVariants.{Dump, Check}
+use Rattle.lpt_memory.specs.declared.reply_kind.ReplyKind.{ReplyKind}
+use Rattle.lpt_memory.specs.declared.reply_kind.ReplyKind.TheVariants.{Dump, Check}
 
 -- raw memory data report, or raw memory checksum report
 abbrev pub subtype_of : ReplyKind → ℕ

@@ -7,6 +7,7 @@ use Rattle.lpt_memory.specs.declared.fault.MemoryFault.{MemoryFault}
 use Rattle.lpt_memory.specs.declared.fault.MemoryFault.TheVariants.{TooLong, BadArea}
 use Rattle.lpt_memory.specs.declared.request.Area.{Area}
 use Rattle.lpt_memory.specs.declared.request.AreaRange.{AreaRange}
+use Rattle.lpt_pus.specs.LptPacket.Sizes.{longest_packet}
 use Rattle.lpt_memory.specs.Requests.{LoadArea}
 
 -- start address 32 bits, length 16, so many octets, checksum 16
@@ -59,6 +60,6 @@ any_empty (a ∷ rest) = length a.octets == 0 || any_empty rest
 -- more than 255, or an empty one
 abbrev pub write_fault : List Area → Option MemoryFault
 write_fault areas =
-    if nat_lt 65542 (load_length areas) then Some TooLong
+    if nat_lt longest_packet (load_length areas) then Some TooLong
     else if length areas == 0 || nat_lt 255 (length areas) || any_empty areas then Some BadArea
     else None

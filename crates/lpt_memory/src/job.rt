@@ -3,7 +3,7 @@
 ghost use Rattle.std.specs.Prelude.{◌≡◌, MatchResult};
 
 use crate::request::Content;
-use crate::{Asks, Memories, Shape, meaning, reply};
+use crate::{Memories, Shape, meaning, reply};
 use lpt_pus::{Octets, TcHead};
 use std::alloc::Global;
 use std::marker::Model;
@@ -217,8 +217,8 @@ impl Prepared {
 }
 
 impl Reading {
-    ghost use Rattle.std.specs.Prelude.{◌≡◌};
-    ghost use Rattle.lpt_memory.specs.Answers.{answer, asked, asked_by};
+    ghost use Rattle.std.specs.Prelude.{◌≡◌, ◌≤◌, IfSome};
+    ghost use Rattle.lpt_memory.specs.Answers.{answer, reply_length, length_replied};
     ghost use Rattle.lpt_memory.specs.Memories.{Contents, sizes_of};
     ghost use Rattle.lpt_memory.specs.Readings.{meant, IsHeadIn};
     ghost use Rattle.lpt_memory.specs.Seen.{body_of, seen, IsWithin, IsCounted};
@@ -232,17 +232,17 @@ impl Reading {
         self.head
     }
 
-    /// What the message asks of memories of its shape, before anything is changed: nothing, a fault,
-    /// a load, or a reply and its length. `Memories::apply` does and answers no other thing. It takes
-    /// no memory.
-    pub fn asks(&self) -> Asks
-        ensures meant { result ≡ asked (meant self.now) }
+    /// How many octets the body of the reply to the message has, at most 65,523. `None` where it has
+    /// no reply: it is no telecommand, has a fault or is a load. It takes no memory.
+    pub fn reply_len(&self) -> Option<usize>
+        ensures meant { result ≡ reply_length (meant self.now) }
+        ensures fits { IfSome result (λ n. n ≤ 65523) }
 
-        // What any memories of that shape answer was asked so, the reply's length included.
+        // The reply of any memories of that shape has so many.
         ensures answer { (ms : Contents) → self.now.sizes ≡ sizes_of ms
-            → asked_by (answer (meant self.now) ms) ≡ result }
+            → length_replied (answer (meant self.now) ms) ≡ result }
     {
-        reply::asked(self.content())
+        reply::reply_len(self.content())
     }
 
     // What stands where the message has its body.

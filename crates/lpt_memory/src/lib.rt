@@ -12,7 +12,6 @@
 //! project's own.
 #![tactic(auto)]
 
-mod asks;
 mod contents;
 mod effect;
 mod fault;
@@ -23,22 +22,23 @@ mod meaning;
 mod memories;
 mod reading;
 mod reply;
+mod reply_kind;
 mod request;
 mod shape;
 mod writing;
 
-pub use asks::{Asks, ReplyKind};
 pub use effect::Effect;
 pub use fault::MemoryFault;
 pub use job::{Prepared, Reading, Ticket, prepare};
 pub use lpt_pus::laws::{bodies, lengths};
 pub use lpt_pus::{
-    AckFlags, Direction, FailureCode, LONGEST_PACKET, Name, Octets, Packet, PacketKind, PusFault,
-    RequestId, Seen, TC_HEADER, TM_HEADER, TcHead, TmHead, crc16, read_packet, read_tc, read_tm,
-    seen_is_read, tc_octets, tc_pieces, tm_octets, tm_pieces, write_packet, write_pieces, write_tc,
-    write_tm,
+    AckFlags, Direction, ERROR_CONTROL, FailureCode, LONGEST_PACKET, Name, Octets, PRIMARY_HEADER,
+    Packet, PacketKind, PusFault, RequestId, Seen, TC_HEADER, TM_HEADER, TcHead, TmHead, crc16,
+    read_packet, read_tc, read_tm, seen_is_read, tc_octets, tc_pieces, tm_octets, tm_pieces,
+    write_packet, write_pieces, write_tc, write_tm,
 };
 pub use memories::Memories;
+pub use reply_kind::ReplyKind;
 pub use request::Area;
 pub use shape::Shape;
 pub use writing::{load_fault, write_load};

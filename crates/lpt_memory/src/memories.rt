@@ -84,7 +84,51 @@ impl Memories {
         contents::have_sizes(&self.items, shape.sizes())
     }
 
-    /// Does what a message means, and says what it came to. Each octet of a load is copied once.
+    /// What a message is answered. It changes nothing: a load isn't done by it.
+    ///
+    /// The only error is want of memory, for the answer to a dump or a check.
+    pub fn answer(&self, reading: &Reading) -> Result<Effect, AllocError>
+        requires { reading.now.sizes ≡ sizes_of self.now }
+        ensures answer { IfOk result (λ e. e ≡ answer (meant reading.now) self.now) }
+        ensures fits { IfOk result (λ e. AnswerFits e) }
+
+        // It fails only where there is a reply to be made.
+        ensures no_reply { HasNoReply (meant reading.now) → IsOk result }
+    {
+        match reading.content() {
+            Content::Silent => Ok(Effect::Silent),
+            Content::Code(code) => Ok(Effect::Code(*code)),
+            Content::Load(_, _) => Ok(Effect::Done),
+            Content::Dump(id, ranges) => {
+                let body = contents::dump(self.alloc(), &self.items, *id, ranges)?;
+                Ok(Effect::Reply(ReplyKind::Dump, body))
+            }
+            Content::Check(id, ranges) => {
+                let body = contents::check(self.alloc(), &self.items, *id, ranges)?;
+                Ok(Effect::Reply(ReplyKind::Check, body))
+            }
+        }
+    }
+
+    /// Does what a message means: a load is done, each of its octets copied once, and any other
+    /// message changes nothing. It takes no memory.
+    pub fn load(&mut self, reading: &Reading)
+        requires { reading.now.sizes ≡ sizes_of self.old }
+        ensures ok { self.new ≡ effect (meant reading.now) self.old }
+        ensures shape { sizes_of self.new ≡ sizes_of self.old }
+    {
+        match reading.content() {
+            Content::Silent => {}
+            Content::Code(_) => {}
+            Content::Load(id, areas) => {
+                contents::load(&mut self.items, *id, reading.body(), areas);
+            }
+            Content::Dump(_, _) => {}
+            Content::Check(_, _) => {}
+        }
+    }
+
+    /// Does what a message means, and says what it came to.
     ///
     /// The only error is want of memory, for the answer to a dump or a check. It leaves the
     /// memories as they were.
@@ -102,21 +146,8 @@ impl Memories {
         ensures no_reply { HasNoReply (meant reading.now) → IsOk result }
         ensures err { OnErr result (self.new ≡ self.old) }
     {
-        match reading.content() {
-            Content::Silent => Ok(Effect::Silent),
-            Content::Code(code) => Ok(Effect::Code(*code)),
-            Content::Load(id, areas) => {
-                contents::load(&mut self.items, *id, reading.body(), areas);
-                Ok(Effect::Done)
-            }
-            Content::Dump(id, ranges) => {
-                let body = contents::dump(self.alloc(), &self.items, *id, ranges)?;
-                Ok(Effect::Reply(ReplyKind::Dump, body))
-            }
-            Content::Check(id, ranges) => {
-                let body = contents::check(self.alloc(), &self.items, *id, ranges)?;
-                Ok(Effect::Reply(ReplyKind::Check, body))
-            }
-        }
+        let effect = self.answer(reading)?;
+        self.load(reading);
+        Ok(effect)
     }
 }

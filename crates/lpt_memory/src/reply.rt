@@ -2,13 +2,12 @@
 
 ghost use Rattle.std.specs.Prelude.{◌≡◌, ℕ, List, ◌+◌, ◌*◌, ◌<◌, ◌≤◌, ◌∷◌, ◌++◌, length, IfOk, OnOk};
 ghost use Rattle.std.specs.List.{flat_map};
-ghost use Rattle.lpt_memory.specs.Answers.{octets_in, dump_area, check_area, asked};
+ghost use Rattle.lpt_memory.specs.Answers.{octets_in, dump_area, check_area, reply_length};
 ghost use Rattle.lpt_memory.specs.Meanings.{dump_length};
 ghost use Rattle.lpt_memory.specs.Ranges.{RangesFit};
 ghost use Rattle.lpt_memory.specs.Seen.{seen, IsCounted};
 
 use crate::request::{AreaRange, Content};
-use crate::{Asks, ReplyKind};
 use lpt_pus::{Octets, crc16};
 use std::alloc::{AllocError, Global};
 
@@ -38,17 +37,17 @@ fn check_len(ranges: &[AreaRange]) -> usize
     BODY_HEAD + BODY_AREA * ranges.len()
 }
 
-// What is asked by content of a message, whatever its body is.
-pub(crate) fn asked(content: &Content) -> Asks
+// How many octets the body of the reply has, where there is one, whatever the message's body is.
+pub(crate) fn reply_len(content: &Content) -> Option<usize>
     requires { IsCounted content.now }
-    ensures { (body : List ℕ) → result ≡ asked (seen body content.now) }
+    ensures { (body : List ℕ) → result ≡ reply_length (seen body content.now) }
 {
     match content {
-        Content::Silent => Asks::Silent,
-        Content::Code(code) => Asks::Fault(*code),
-        Content::Load(_, _) => Asks::Load,
-        Content::Dump(_, ranges) => Asks::Reply(ReplyKind::Dump, dump_len(ranges)),
-        Content::Check(_, ranges) => Asks::Reply(ReplyKind::Check, check_len(ranges)),
+        Content::Silent => None,
+        Content::Code(_) => None,
+        Content::Load(_, _) => None,
+        Content::Dump(_, ranges) => Some(dump_len(ranges)),
+        Content::Check(_, ranges) => Some(check_len(ranges)),
     }
 }
 

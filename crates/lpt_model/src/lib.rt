@@ -12,5 +12,5 @@ pub use lpt_node::{
     Event, Executed, Expired, FailureCode, LONGEST_PACKET, Lane, Memories, Name, Node, NodeFault,
     Octets, Opening, Outcome, Packet, PacketKind, Parsed, Prepared, Puts, Reason, Refused, Release,
     Reply, RunEnd, SeatLog, Shape, Side, State, StepFault, Ticket, TmHead, Turns, Why, Worker,
-    count, crc16, prepare, read_packet, seen_is_read, write_packet, write_tm,
+    count, crc16, longest_on_link, prepare, read_packet, seen_is_read, write_packet, write_tm,
 };

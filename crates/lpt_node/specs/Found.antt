@@ -8,6 +8,7 @@ use Rattle.lpt_node.specs.declared.found.Found.{Found}
 use Rattle.lpt_node.specs.declared.found.Found.TheVariants as found
 use Rattle.lpt_node.specs.declared.found.Sight.{Sight}
 use Rattle.lpt_node.specs.declared.found.Sight.TheVariants as sight
+use Rattle.lpt_execution.specs.LptPacket.Sizes.{longest_packet}
 use Rattle.lpt_execution.specs.LptEvents.Arrivals.{Arrival, NotRead, AnIdle, Foreign, ARequest, AReport, NoPart, APart, AnAbort, part_arrival, abort_arrival, packet_arrival, arrival}
 
 -- the body that stands in a packet's data field from a place on
@@ -29,7 +30,7 @@ abbrev pub IsWithin : List ℕ → Found → Type 0
 IsWithin b found.Unreadable = Unit {0}
 IsWithin b found.Idle = Unit {0}
 IsWithin b found.Foreign = Unit {0}
-IsWithin b found.Request = length b ≤ 65542
+IsWithin b found.Request = length b ≤ longest_packet
 IsWithin b (found.Report service subtype) = Unit {0}
 IsWithin b (found.Part kind from) = from + 8 ≤ length b
 IsWithin b (found.Abort from) = from + 8 ≤ length b
@@ -50,7 +51,7 @@ abbrev pub Shows : ℕ → List ℕ → Sight → Arrival → Type 0
 Shows p b sight.Unreadable a = a ≡ NotRead
 Shows p b sight.Idle a = a ≡ AnIdle
 Shows p b sight.Foreign a = a ≡ Foreign
-Shows p b sight.Request a = (a ≡ ARequest b) × (length b ≤ 65542)
+Shows p b sight.Request a = (a ≡ ARequest b) × (length b ≤ longest_packet)
 Shows p b (sight.Report service subtype) a = a ≡ AReport service subtype
 Shows p b sight.BadPart a = a ≡ NoPart
 Shows p b (sight.Part part) a = (a ≡ APart (piece part)) × (part.p ≡ p)

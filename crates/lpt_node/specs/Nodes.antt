@@ -12,6 +12,7 @@ use Rattle.lpt_execution.specs.LptEvents.declared.side.Side.{Side}
 use Rattle.lpt_execution.specs.LptEvents.declared.side.Side.TheVariants.{Ground, Craft}
 use Rattle.lpt_execution.specs.LptEvents.declared.config.Config.{Config}
 use Rattle.lpt_node.specs.Counting.{no_types}
+use Rattle.lpt_execution.specs.LptPacket.Sizes.{longest_packet}
 use Rattle.lpt_jobs.specs.Jobs.{Jobs, no_jobs}
 
 -- the messages of the open outgoing transactions, by their names
@@ -59,7 +60,7 @@ direction_from Craft = Down
 -- lengths that a message may have where a part has p octets
 pub record MessageFits (p len : ℕ) : Type 0 where
   pub least : p < len
-  pub greatest : len ≤ 65542
+  pub greatest : len ≤ longest_packet
 
 -- whether a transaction is open
 abbrev pub is_open : State → Bool

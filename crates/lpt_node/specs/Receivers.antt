@@ -17,6 +17,7 @@ use Rattle.lpt_table.specs.Tables.{Entries, TableEntry, TableState, coded_entrie
 use Rattle.lpt_table.specs.Offering.{OfferKind, parts_at, offered}
 use Rattle.lpt_table.specs.Offering as offering
 use Rattle.lpt_node.specs.declared.taken.Taken.{Taken}
+use Rattle.lpt_execution.specs.LptPacket.Sizes.{longest_packet}
 use Rattle.lpt_node.specs.declared.taken.Taken.TheVariants as taking
 
 -- how many receptions may be open, the time-out in ticks, the part size, the state of each name,
@@ -140,5 +141,5 @@ IsShort taking.Closed = Unit {0}
 IsShort taking.Kept = Unit {0}
 IsShort taking.Again = Unit {0}
 IsShort taking.NoRoom = Unit {0}
-IsShort (taking.Whole m) = length m ≤ 65542
+IsShort (taking.Whole m) = length m ≤ longest_packet
 IsShort (taking.Broken reason packet) = Unit {0}

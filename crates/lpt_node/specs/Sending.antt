@@ -19,6 +19,7 @@ use Rattle.lpt_execution.specs.LptEvents.declared.telemetry.TelemetryKind.{Telem
 use Rattle.lpt_execution.specs.LptEvents.declared.telemetry.TelemetryKind.TheVariants.{FirstPart, MiddlePart, LastPart}
 use Rattle.lpt_node.specs.Counting.{counter_of, next_count, next_types}
 use Rattle.lpt_execution.specs.LptEvents.MadePackets.{nth_part, part_made}
+use Rattle.lpt_execution.specs.LptPacket.Sizes.{longest_packet}
 use Rattle.lpt_node.specs.Nodes.{Sending, NodeData, direction_from, message_at}
 
 -- why a message of this length isn't taken, under a name of this state, where n are open
@@ -27,7 +28,7 @@ refusal_open_in c Open n len = Some InUse
 refusal_open_in c Closed n len = Some InUse
 refusal_open_in c Free n len =
     if nat_le len c.part_size then Some Short
-    else if nat_lt 65542 len then Some Long
+    else if nat_lt longest_packet len then Some Long
     else if nat_le c.outgoing n then Some TooMany
     else None
 

@@ -83,7 +83,7 @@ impl Node {
     }
 
     // Why the clock doesn't tick.
-    fn refusal_tick(&self) -> Option<NodeFault>
+    pub(crate) fn refusal_tick(&self) -> Option<NodeFault>
         ensures { result ≡ refusal_tick self.now.at }
     {
         if self.clock == u32::MAX {

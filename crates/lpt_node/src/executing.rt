@@ -1,6 +1,6 @@
 //! What is made for an execution before anything is changed.
 
-ghost use Rattle.std.specs.Prelude.{◌≡◌, [], ◌∷◌, ◌++◌, length, IfOk, OnOk, OnErr, All, None};
+ghost use Rattle.std.specs.Prelude.{◌≡◌, ◌≢◌, [], ◌∷◌, ◌++◌, length, IfOk, OnOk, OnErr, All, None};
 ghost use Rattle.lpt_ledger.specs.LeastFree.{least_free_in};
 ghost use Rattle.lpt_execution.specs.LptMemory.Memories.{sizes_of};
 ghost use Rattle.lpt_execution.specs.Ranges.{ReportFits};
@@ -32,25 +32,27 @@ impl Node {
     // reports. A load isn't done yet.
     pub(crate) fn execution(
         &self,
-        memories: &mut Memories,
+        memories: &Memories,
         reading: &Reading,
     ) -> Result<(Applied, Made), AllocError>
-        requires { reading.now.sizes ≡ sizes_of memories.old }
+        requires { reading.now.sizes ≡ sizes_of memories.now }
         ensures applied { IfOk result (λ x. x.0
-            ≡ applied_of (ending_at self.now.config self.now.at memories.old reading.now) None) }
+            ≡ applied_of (ending_at self.now.config self.now.at memories.now reading.now) None) }
         ensures packets { IfOk result (λ x. x.1.packets.items
             ≡ link_packets self.now.config.part_size
-            (made_at self.now.config self.now.at memories.old reading.now)) }
+            (made_at self.now.config self.now.at memories.now reading.now)) }
         ensures large { IfOk result (λ x. x.1.large.items
             ≡ large_packets self.now.config.part_size
-            (made_at self.now.config self.now.at memories.old reading.now)) }
+            (made_at self.now.config self.now.at memories.now reading.now)) }
         ensures counts { IfOk result (λ x. with_counts self.now.at.sending x.1.counts
             ≡ reported self.now.at.sending
-            (reports_at self.now.config self.now.at memories.old reading.now)) }
+            (reports_at self.now.config self.now.at memories.now reading.now)) }
         ensures fits { IfOk result (λ x.
             All (λ m. MessageFits self.now.config.part_size (length m)) x.1.large.items) }
 
-        ensures kept { memories.new ≡ memories.old }
+        // Memory is wanting only where there is a report.
+        ensures memory { OnErr result
+            (reports_at self.now.config self.now.at memories.now reading.now ≢ []) }
     {
         let p = self.config.part_size;
         let free = self.senders.least_free().is_some();
@@ -74,6 +76,7 @@ impl Node {
             ≡ reported self.now.at.sending reports.items) }
         ensures fits { IfOk result (λ m.
             All (λ b. MessageFits self.now.config.part_size (length b)) m.large.items) }
+        ensures memory { OnErr result (reports.items ≢ []) }
     {
         let mut made = Made {
             counts: self.counts,
@@ -129,11 +132,12 @@ impl Node {
         ensures jobs { self.new.at.jobs ≡ self.old.at.jobs }
 
         ensures err { OnErr result (self.new.at ≡ self.old.at) }
+        ensures memory { OnErr result (messages.items ≢ []) }
     {
-        let Some(id) = self.senders.least_free() else {
+        let Some(message) = messages.into_iter().next() else {
             return Ok(None);
         };
-        let Some(message) = messages.into_iter().next() else {
+        let Some(id) = self.senders.least_free() else {
             return Ok(None);
         };
         let copy = message.copy()?;

@@ -38,8 +38,8 @@ pub use lpt_execution::{
     AckFlags, Answer, Applied, Area, Call, Config, ConfigFault, Direction, Entry, Event,
     FailureCode, LONGEST_PACKET, Lane, Memories, Name, Octets, Opening, Outcome, Packet,
     PacketKind, Prepared, Puts, Reason, Refused, Release, Reply, RunEnd, SeatLog, Shape, Side,
-    StepFault, TelemetryKind, Ticket, TmHead, Turns, Why, Worker, count, crc16, prepare,
-    read_packet, seen_is_read, write_packet, write_tm,
+    StepFault, TelemetryKind, Ticket, TmHead, Turns, Why, Worker, count, crc16, longest_on_link,
+    prepare, read_packet, seen_is_read, write_packet, write_tm,
 };
 pub use lpt_ledger::State;
 pub use node::Node;

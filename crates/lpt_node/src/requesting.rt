@@ -6,10 +6,13 @@ ghost use Rattle.lpt_node.specs.Requests.{refusal_plain, plain_made};
 ghost use Rattle.lpt_node.specs.Sending.{RefusedBy};
 
 use crate::{Node, NodeFault};
-use lpt_execution::{AckFlags, Direction, Octets, TcHead, part_kind, tc_octets};
+use lpt_execution::{
+    AckFlags, Direction, ERROR_CONTROL, Octets, PRIMARY_HEADER, TC_HEADER, TcHead, longest_on_link,
+    part_kind, tc_octets,
+};
 
-/// How many octets a plain request's body may have more than a part.
-const BODY_MARGIN: usize = 10;
+// The octets that stand around the body of a telecommand.
+const AROUND_A_BODY: usize = PRIMARY_HEADER + TC_HEADER + ERROR_CONTROL;
 
 impl Node {
     /// Makes the packet of a plain request: a telecommand of this service type, message subtype and
@@ -36,9 +39,8 @@ impl Node {
         ensures refused { IfErr result (λ e. RefusedBy (refusal_plain self.old.config service subtype (length body.now)) e) }
         ensures err { OnErr result (self.new.at ≡ self.old.at) }
     {
-        match self.refusal_plain(service, subtype, body.len()) {
-            Some(fault) => return Err(fault),
-            None => {}
+        if let Some(fault) = self.refusal_plain(service, subtype, body.len()) {
+            return Err(fault);
         }
         let mut counts = self.counts;
         let head = TcHead {
@@ -62,11 +64,10 @@ impl Node {
         ensures value { result ≡ refusal_plain self.now.config service subtype length }
         ensures fits { IfNone result (length ≤ 1034) }
     {
-        match part_kind(Direction::Up, service, subtype) {
-            Some(_) => return Some(NodeFault::PartRequest),
-            None => {}
+        if part_kind(Direction::Up, service, subtype).is_some() {
+            return Some(NodeFault::PartRequest);
         }
-        if length > self.config.part_size as usize + BODY_MARGIN {
+        if length > longest_on_link(self.config.part_size) - AROUND_A_BODY {
             return Some(NodeFault::Long);
         }
         None

@@ -28,9 +28,8 @@ impl Node {
         ensures back { IfErr result (λ e. e.1 ≡ message) }
         ensures err { OnErr result (self.new.at ≡ self.old.at) }
     {
-        match self.refusal_open(id, message.as_slice().len()) {
-            Some(fault) => return Err((fault, message)),
-            None => {}
+        if let Some(fault) = self.refusal_open(id, message.as_slice().len()) {
+            return Err((fault, message));
         }
         match self.outgoing.insert(id, message) {
             Ok(()) => {}
@@ -56,12 +55,11 @@ impl Node {
         ensures refused { IfErr result (λ e. RefusedBy (refusal_send self.old.config self.old.at id k) e) }
         ensures err { OnErr result (self.new.at ≡ self.old.at) }
     {
-        match self.refusal_send(id, k) {
-            Some(fault) => return Err(fault),
-            None => {}
+        if let Some(fault) = self.refusal_send(id, k) {
+            return Err(fault);
         }
         let Some(message) = self.outgoing.get(id) else {
-            return Err(NodeFault::NotOpen);
+            unreachable!()
         };
         let part = part_at(message, self.config.part_size, id, k);
         let mut counts = self.counts;
@@ -85,9 +83,8 @@ impl Node {
         ensures refused { IfErr result (λ e. refusal_finish self.old.at id ≡ Some e) }
         ensures err { OnErr result (self.new.at ≡ self.old.at) }
     {
-        match self.refusal_finish(id) {
-            Some(fault) => return Err(fault),
-            None => {}
+        if let Some(fault) = self.refusal_finish(id) {
+            return Err(fault);
         }
         self.close(id);
         Ok(())

@@ -20,8 +20,8 @@ impl Node {
         ensures refused { IfErr result (λ e. refusal_tick self.old.at ≡ Some e) }
         ensures err { OnErr result (self.new.at ≡ self.old.at) }
     {
-        if self.clock == u32::MAX {
-            return Err(NodeFault::ClockEnd);
+        if let Some(fault) = self.refusal_tick() {
+            return Err(fault);
         }
         self.clock += 1;
         Ok(())

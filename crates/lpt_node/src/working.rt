@@ -1,14 +1,15 @@
 //! Jobs: the requests that were released, claimed by workers, and executed in order of release.
 
-ghost use Rattle.std.specs.Prelude.{◌≡◌, ◌-◌, length, IsTrue, None, Some, IfOk, IfErr, OnOk, OnErr};
+ghost use Rattle.std.specs.Prelude.{◌≡◌, ◌≢◌, ◌-◌, [], length, IsTrue, None, Some, IfOk, IfErr, OnOk, OnErr};
 ghost use Rattle.std.specs.Option.{option_map};
-ghost use Rattle.lpt_jobs.specs.Jobs.{Ready, claimed_in, head_of, is_claimed, numbered, unclaimed};
+ghost use Rattle.lpt_jobs.specs.Jobs.{claimed_in, head_of, is_claimed, numbered, unclaimed};
+ghost use Rattle.lpt_node.specs.Executions.{front_reports};
 ghost use Rattle.lpt_node.specs.Jobs.{refusal_claim, claimed, committed, refusal_apply, executed, execution, IsReadFor};
 ghost use Rattle.lpt_node.specs.Sending.{RefusedBy};
 
 use crate::executing::Made;
 use crate::{Executed, Node, NodeFault};
-use lpt_execution::{Memories, Octets, Reading, Ticket, applied_with, load};
+use lpt_execution::{Memories, Octets, Reading, Ticket, applied_with};
 use lpt_jobs::Front;
 
 impl Node {
@@ -47,9 +48,9 @@ impl Node {
         self.jobs.unclaimed()
     }
 
-    /// Gives the oldest job that waits to a worker, with a copy of its message.
+    /// Gives the oldest job that waits to a worker, with its message. It takes no memory.
     ///
-    /// Errors, with nothing changed, the first that applies: `NoJob`, none waits; `Memory`.
+    /// Errors: `NoJob` where none waits. Nothing has changed then.
     pub fn claim(&mut self) -> Result<Ticket, NodeFault>
         ensures enabled { OnOk result (refusal_claim self.old.at ≡ None) }
         ensures ok { IfOk result (λ t. (self.new.at, t) ≡ claimed self.old.at) }
@@ -60,16 +61,13 @@ impl Node {
         ensures side { self.new.side ≡ self.old.side }
         ensures config { self.new.config ≡ self.old.config }
 
-        ensures refused { IfErr result (λ e. RefusedBy (refusal_claim self.old.at) e) }
+        ensures refused { IfErr result (λ e. refusal_claim self.old.at ≡ Some e) }
         ensures err { OnErr result (self.new.at ≡ self.old.at) }
     {
-        let Some((number, message)) = self.jobs.unclaimed() else {
-            return Err(NodeFault::NoJob);
-        };
-        let Ok(message) = message.copy() else {
-            return Err(NodeFault::Memory);
-        };
-        self.jobs.claim();
+        if let Some(fault) = self.refusal_claim() {
+            return Err(fault);
+        }
+        let (number, message) = self.jobs.claim();
         Ok(Ticket::new(self.boot, number, message))
     }
 
@@ -94,7 +92,7 @@ impl Node {
     /// long for a packet on the link is opened under the least free name.
     ///
     /// Errors, with node and memories unchanged, the first that applies: `NoJob`, there is none;
-    /// `NotReady`, no reading of the oldest was handed in; `Memory`.
+    /// `NotReady`, no reading of the oldest was handed in; `Memory`, where there is a report.
     pub fn apply_front(&mut self, memories: &mut Memories) -> Result<Executed, NodeFault>
         requires { IsReadFor self.old memories.old }
         ensures enabled { OnOk result (refusal_apply self.old.at ≡ None) }
@@ -107,8 +105,18 @@ impl Node {
         ensures refused { IfErr result (λ e. RefusedBy (refusal_apply self.old.at) e) }
         ensures err { OnErr result (self.new.at ≡ self.old.at) }
         ensures kept { OnErr result (memories.new ≡ memories.old) }
+
+        // Memory is wanting only where there is a report.
+        ensures memory { OnErr result (refusal_apply self.old.at ≡ None
+            → front_reports self.old.config self.old.at memories.old (head_of self.old.at.jobs.jobs)
+            ≢ []) }
     {
-        let reading = self.front()?;
+        if let Some(fault) = self.refusal_apply() {
+            return Err(fault);
+        }
+        let Front::Ready(reading) = self.jobs.front() else {
+            unreachable!()
+        };
         // All that takes memory comes first, and the new message last of it.
         let Ok((applied, made)) = self.execution(memories, reading) else {
             return Err(NodeFault::Memory);
@@ -122,25 +130,12 @@ impl Node {
             return Err(NodeFault::Memory);
         };
         self.counts = counts;
-        let (_, reading) = self.jobs.pop_front();
-        load(memories, &reading);
+        let reading = self.jobs.pop_front();
+        memories.load(&reading);
         Ok(Executed {
             applied: applied_with(applied, &opened),
             packets,
             opened,
         })
-    }
-
-    // The reading of the oldest job. Errors: `NoJob`, there is none; `NotReady`, no reading was
-    // handed in.
-    fn front(&self) -> Result<&Reading, NodeFault>
-        ensures ok { IfOk result (λ r. head_of self.now.at.jobs.jobs ≡ Ready r.now) }
-        ensures refused { IfErr result (λ e. refusal_apply self.now.at ≡ Some e) }
-    {
-        match self.jobs.front() {
-            Front::Empty => Err(NodeFault::NoJob),
-            Front::NotReady => Err(NodeFault::NotReady),
-            Front::Ready(reading) => Ok(reading),
-        }
     }
 }

@@ -27,7 +27,7 @@ use Rattle.lpt_model.specs.State.{State, refusal_of, refusal_claim_by, claimed_o
 use Rattle.lpt_model.specs.Tickets.{ticket_of}
 use Rattle.lpt_refinement.specs.Views.{views, jobs_view}
 use Rattle.lpt_refinement.proofs.Fields.{with_jobs, with_tickets}
-use Rattle.lpt_refinement.proofs.MarksShown.{unclaimed_shown, claim_shown}
+use Rattle.lpt_refinement.proofs.WorkersShown.{unclaimed_shown, claim_shown}
 use Rattle.lpt_refinement.proofs.QueueLemmas.{is_some-slice_get}
 use Rattle.lpt_refinement.proofs.TicketsShown.{is_some-map, ticket_set}
 

@@ -24,7 +24,7 @@ use Rattle.lpt_model.specs.State.{State, IsReady, refusal_of, refusal_commit_of,
 use Rattle.lpt_model.specs.Tickets.{ticket_of}
 use Rattle.lpt_refinement.specs.Views.{Views, views, jobs_view}
 use Rattle.lpt_refinement.proofs.Fields.{with_jobs, with_tickets}
-use Rattle.lpt_refinement.proofs.MarksShown.{commit_shown, is_out_shown}
+use Rattle.lpt_refinement.proofs.WorkersShown.{commit_shown, is_out_shown}
 use Rattle.lpt_refinement.proofs.TicketsShown.{ticket_set}
 
 commit_by : (t : Option Job)

@@ -14,10 +14,10 @@ use Rattle.lpt_model.specs.LptNode.Jobs.{FrontIsFor, refusal_apply_of}
 use Rattle.lpt_journal.specs.Journal.{History}
 use Rattle.lpt_journal.specs.Jobs.{jobs, applied, ticket, is_committed, front_job}
 use Rattle.lpt_journal.specs.Refusals.{refusal, first_fault}
-use Rattle.lpt_refinement.specs.Shows.{Shows, JobsFit, mark_at}
+use Rattle.lpt_refinement.specs.Shows.{Shows, JobsFit, job_shown}
 use Rattle.lpt_model.specs.State.{State, IsReady, refusal_of}
 use Rattle.lpt_refinement.specs.Views.{views, jobs_view}
-use Rattle.lpt_refinement.proofs.JobsShown.{front_shown, mark_is, lt_yes}
+use Rattle.lpt_refinement.proofs.JobsShown.{front_shown, job_is, lt_yes}
 use Rattle.lpt_refinement.proofs.QueueLemmas.{head_from}
 
 -- ---- the front
@@ -39,28 +39,28 @@ head_shown : (c : Config) (first : Contents) (s : State) (h : History)
     ≡ head_told c first (front_job c h) (is_committed h (applied h))
 head_shown c first s h k fits =
     front_shown k.jobs
-    ∙ ap (head_from (mark_at (jobs_view c first h) (applied h)))
+    ∙ ap (head_from (job_shown (jobs_view c first h) (applied h)))
     (slice_get-map (λ r. r.message) (jobs c h) (applied h))
     ∙ go (front_job c h) (is_committed h (applied h)) refl where
       waiting : (m : List ℕ) (t : Bool)
           → is_committed h (applied h) ≡ false
           → nat_lt (applied h) (jobs_view c first h).claimed ≡ t
-          → head_from (mark_at (jobs_view c first h) (applied h)) (Some m) ≡ HeadNotReady
+          → head_from (job_shown (jobs_view c first h) (applied h)) (Some m) ≡ HeadNotReady
       waiting m true e f =
           ap (λ a. head_from (λ q. a) (Some m))
-          (mark_is (jobs_view c first h) (applied h) m true false f e)
+          (job_is (jobs_view c first h) (applied h) m true false f e)
       waiting m false e f =
           ap (λ a. head_from (λ q. a) (Some m))
-          (mark_is (jobs_view c first h) (applied h) m false false f e)
+          (job_is (jobs_view c first h) (applied h) m false false f e)
 
       go : (o : Option Release) (t : Bool)
           → is_committed h (applied h) ≡ t
-          → head_from (mark_at (jobs_view c first h) (applied h)) (option_map (λ r. r.message) o)
+          → head_from (job_shown (jobs_view c first h) (applied h)) (option_map (λ r. r.message) o)
           ≡ head_told c first o t
       go None t e = refl
       go (Some r) true e =
           ap (λ a. head_from (λ q. a) (Some r.message))
-          (mark_is (jobs_view c first h) (applied h) r.message true true
+          (job_is (jobs_view c first h) (applied h) r.message true true
           (lt_yes (applied h) _ (fits.committed (applied h) e)) e)
       go (Some r) false e = waiting r.message _ e refl
 

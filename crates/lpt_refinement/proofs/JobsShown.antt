@@ -4,42 +4,42 @@ use Rattle.std.specs.Prelude.{slice_get}
 use Rattle.std.proofs.lemmas.Bool.Decides.{nat_tests}
 use Rattle.std.proofs.lemmas.List.{drop-append-le, map-append}
 use Rattle.lpt_model.specs.LptEvents.declared.entry.Release.{Release}
-use Rattle.lpt_model.specs.LptJobs.declared.job.Mark.TheVariants.{Waiting, Claimed, Committed}
+use Rattle.lpt_model.specs.LptJobs.declared.job.Job.TheVariants.{Waiting, Claimed, Committed}
 use Rattle.lpt_model.specs.LptJobs.Jobs.{Jobs, was_claimed, head_of, after_push, without_front}
-use Rattle.lpt_refinement.specs.Shows.{Shows, ShowsJobs, mark_at, jobs_from}
+use Rattle.lpt_refinement.specs.Shows.{Shows, ShowsJobs, job_shown, jobs_from}
 use Rattle.lpt_model.specs.State.{State}
 use Rattle.lpt_refinement.specs.Views.{Views, JobsView}
 use Rattle.lpt_refinement.proofs.Fields.{with_jobs}
 use Rattle.lpt_refinement.proofs.QueueLemmas.{slice_get-drop, drop_one, jobs_from-append, drop-jobs_from, head_from, head_of-jobs_from}
 
--- ---- marks
+-- ---- one job
 
 -- a job was claimed where its number is below that of the next to be claimed
-pub was_claimed-mark_at : (v : JobsView) (i : ℕ) (m : List ℕ)
-    → was_claimed (mark_at v i m) ≡ nat_lt i v.claimed
-was_claimed-mark_at v i m = go (nat_lt i v.claimed) (v.committed i) where
+pub was_claimed-job_shown : (v : JobsView) (i : ℕ) (m : List ℕ)
+    → was_claimed (job_shown v i m) ≡ nat_lt i v.claimed
+was_claimed-job_shown v i m = go (nat_lt i v.claimed) (v.committed i) where
   go : (t u : Bool)
       → was_claimed
       (if t then
       (if u then Committed (record { apid = v.apid; sizes = v.sizes; message = m }) else Claimed)
-      else Waiting)
+      else Waiting m)
       ≡ t
   go true true = refl
   go true false = refl
   go false u = refl
 
--- the mark by its tests
-pub mark_is : (v : JobsView) (i : ℕ) (m : List ℕ) (t u : Bool)
+-- the job by its tests
+pub job_is : (v : JobsView) (i : ℕ) (m : List ℕ) (t u : Bool)
     → nat_lt i v.claimed ≡ t
     → v.committed i ≡ u
-    → mark_at v i m
+    → job_shown v i m
     ≡ (if t then
     (if u then Committed (record { apid = v.apid; sizes = v.sizes; message = m }) else Claimed)
-    else Waiting)
-mark_is v i m t u e f =
+    else Waiting m)
+job_is v i m t u e f =
     λ j. if e j then
     (if f j then Committed (record { apid = v.apid; sizes = v.sizes; message = m }) else Claimed)
-    else Waiting
+    else Waiting m
 
 pub lt_yes : (a b : ℕ) → a < b → nat_lt a b ≡ true
 lt_yes a b e = grind (arith, nat_tests)
@@ -58,11 +58,11 @@ push_shown : {x : Jobs} {v : JobsView} (m : List ℕ)
 push_shown {x = x} {v = v} m least most k = record {
   first = k.first;
   jobs =
-      ap (λ js. js ++ record { message = m; mark = Waiting } ∷ []) k.jobs
-      ∙ ap (λ a. jobs_from (mark_at v) v.applied rest ++ record { message = m; mark = a } ∷ [])
-      (sym (mark_is v at m false (v.committed at) waits refl))
-      ∙ sym (jobs_from-append (mark_at v) v.applied rest m at refl)
-      ∙ ap (λ ms. jobs_from (mark_at v) v.applied ms)
+      ap (λ js. js ++ Waiting m ∷ []) k.jobs
+      ∙ ap (λ a. jobs_from (job_shown v) v.applied rest ++ a ∷ [])
+      (sym (job_is v at m false (v.committed at) waits refl))
+      ∙ sym (jobs_from-append (job_shown v) v.applied rest m at refl)
+      ∙ ap (λ ms. jobs_from (job_shown v) v.applied ms)
       (sym (drop-append-le v.applied v.messages (m ∷ []) (omega arith)));
 } where
   rest : List (List ℕ)
@@ -96,11 +96,11 @@ with_release {s = s} {v = v} rs r e least most k =
 -- the oldest job stands at the front
 pub front_shown : {x : Jobs} {v : JobsView}
     → ShowsJobs x v
-    → head_of x.jobs ≡ head_from (mark_at v v.applied) (slice_get v.messages v.applied)
+    → head_of x.jobs ≡ head_from (job_shown v v.applied) (slice_get v.messages v.applied)
 front_shown {x = x} {v = v} k =
     ap head_of k.jobs
-    ∙ head_of-jobs_from (mark_at v) v.applied (drop v.applied v.messages)
-    ∙ ap (head_from (mark_at v v.applied))
+    ∙ head_of-jobs_from (job_shown v) v.applied (drop v.applied v.messages)
+    ∙ ap (head_from (job_shown v v.applied))
     (slice_get-drop v.messages v.applied 0 v.applied (omega arith))
 
 -- the job at the front has left
@@ -111,6 +111,6 @@ pop_shown {x = x} {v = v} k = record {
   first = ap (λ n. n + 1) k.first;
   jobs =
       ap (λ js. drop 1 js) k.jobs
-      ∙ drop-jobs_from (mark_at v) v.applied (drop v.applied v.messages)
-      ∙ ap (jobs_from (mark_at v) (v.applied + 1)) (drop_one v.messages v.applied);
+      ∙ drop-jobs_from (job_shown v) v.applied (drop v.applied v.messages)
+      ∙ ap (jobs_from (job_shown v) (v.applied + 1)) (drop_one v.messages v.applied);
 }

@@ -17,7 +17,7 @@ pub mod FrontShown
 pub mod JobsShown
 pub mod LinkShown
 pub mod MadeShown
-pub mod MarksShown
+pub mod WorkersShown
 pub mod OpenedShown
 pub mod QueueLemmas
 pub mod ReceivingShown

@@ -1,10 +1,10 @@
--- The jobs of a list of messages: one more, marks that change, and the front.
-use Rattle.std.proofs.Common.{◌≡◌, ◌≢◌, ◌∙◌, ap, sym, refl, ℕ, zero, suc, ◌+◌, ◌<◌, ◌≤◌, nat_lt, nat_le, Bool, true, false, not, cond, List, [], ◌∷◌, ◌++◌, length, drop, Option, Some, None, is_some, arith}
+-- The jobs of a list of messages: one more, one that changes, and the front.
+use Rattle.std.proofs.Common.{◌≡◌, ◌≢◌, ◌∙◌, ap, sym, refl, ℕ, zero, suc, ◌+◌, ◌<◌, ◌≤◌, nat_lt, nat_le, Bool, true, false, not, cond, List, [], ◌∷◌, ◌++◌, length, set, drop, Option, Some, None, is_some, arith}
 use Rattle.std.specs.Prelude.{slice_get}
 use Rattle.std.specs.Option.{option_map}
 use Rattle.std.proofs.lemmas.Bool.Decides.{nat_tests}
-use Rattle.lpt_model.specs.LptJobs.declared.job.Mark.{Mark}
-use Rattle.lpt_model.specs.LptJobs.Jobs.{Head, NoJob, claimed_in, was_claimed, with_mark, head_of, head_by}
+use Rattle.lpt_model.specs.LptJobs.declared.job.Job.{Job}
+use Rattle.lpt_model.specs.LptJobs.Jobs.{Head, NoJob, claimed_in, was_claimed, head_of, head_by}
 use Rattle.lpt_refinement.specs.Shows.{jobs_from}
 
 -- ---- places
@@ -42,66 +42,66 @@ is_some-slice_get (x ∷ xs) (suc n) =
 -- ---- jobs of messages
 
 -- one message more is one job more
-pub jobs_from-append : (f : ℕ → List ℕ → Mark) (n : ℕ) (ms : List (List ℕ)) (m : List ℕ)
+pub jobs_from-append : (f : ℕ → List ℕ → Job) (n : ℕ) (ms : List (List ℕ)) (m : List ℕ)
     (at : ℕ)
     → at ≡ n + length ms
     → jobs_from f n (ms ++ m ∷ [])
-    ≡ jobs_from f n ms ++ record { message = m; mark = f at m } ∷ []
+    ≡ jobs_from f n ms ++ f at m ∷ []
 jobs_from-append f n [] m at e =
     let same : n ≡ at = omega arith in
-    ap (λ k. record { message = m; mark = f k m } ∷ []) same
+    ap (λ k. f k m ∷ []) same
 jobs_from-append f n (x ∷ ms) m at e =
-    ap (λ js. record { message = x; mark = f n x } ∷ js)
+    ap (λ js. f n x ∷ js)
     (jobs_from-append f (suc n) ms m at (omega arith))
 
 -- the job at a place
-pub slice_get-jobs_from : (f : ℕ → List ℕ → Mark) (n : ℕ) (ms : List (List ℕ)) (k at : ℕ)
+pub slice_get-jobs_from : (f : ℕ → List ℕ → Job) (n : ℕ) (ms : List (List ℕ)) (k at : ℕ)
     → at ≡ n + k
     → slice_get (jobs_from f n ms) k
-    ≡ option_map (λ m. record { message = m; mark = f at m }) (slice_get ms k)
+    ≡ option_map (f at) (slice_get ms k)
 slice_get-jobs_from f n [] k at e = refl
 slice_get-jobs_from f n (x ∷ ms) zero at e =
     let same : n ≡ at = omega arith in
-    ap (λ i. Some (record { message = x; mark = f i x })) same
+    ap (λ i. Some (f i x)) same
 slice_get-jobs_from f n (x ∷ ms) (suc k) at e =
     slice_get-jobs_from f (suc n) ms k at (omega arith)
 
 -- without the first job
-pub drop-jobs_from : (f : ℕ → List ℕ → Mark) (n : ℕ) (ms : List (List ℕ))
+pub drop-jobs_from : (f : ℕ → List ℕ → Job) (n : ℕ) (ms : List (List ℕ))
     → drop 1 (jobs_from f n ms) ≡ jobs_from f (n + 1) (drop 1 ms)
 drop-jobs_from f n [] = refl
 drop-jobs_from f n (m ∷ ms) =
     let e : suc n ≡ n + 1 = omega arith in
     ap (λ k. jobs_from f k ms) e
 
--- marks that agree from a number on
-jobs_from-same : (f g : ℕ → List ℕ → Mark) (n : ℕ) (ms : List (List ℕ))
+-- jobs that agree from a number on
+jobs_from-same : (f g : ℕ → List ℕ → Job) (n : ℕ) (ms : List (List ℕ))
     → ((i : ℕ) (m : List ℕ) → n ≤ i → f i m ≡ g i m)
     → jobs_from f n ms ≡ jobs_from g n ms
 jobs_from-same f g n [] same = refl
 jobs_from-same f g n (m ∷ ms) same =
     let here : f n m ≡ g n m = same n m (omega arith) in
     let rest = jobs_from-same f g (suc n) ms (λ i x late. same i x (omega arith)) in
-    λ i. record { message = m; mark = here i } ∷ rest i
+    λ i. here i ∷ rest i
 
--- one job gets another mark, and the others keep theirs
-pub with_mark-jobs_from : (f g : ℕ → List ℕ → Mark) (mark : Mark) (n : ℕ)
+-- one job is written over, and the others stay
+pub set-jobs_from : (f g : ℕ → List ℕ → Job) (job : Job) (n : ℕ)
     (ms : List (List ℕ)) (k at : ℕ)
     → at ≡ n + k
     → ((i : ℕ) (m : List ℕ) → i ≢ at → f i m ≡ g i m)
-    → ((m : List ℕ) → slice_get ms k ≡ Some m → mark ≡ g at m)
-    → with_mark (jobs_from f n ms) k mark ≡ jobs_from g n ms
-with_mark-jobs_from f g mark n [] k at e same new = refl
-with_mark-jobs_from f g mark n (x ∷ ms) zero at e same new =
+    → ((m : List ℕ) → slice_get ms k ≡ Some m → job ≡ g at m)
+    → set (jobs_from f n ms) k job ≡ jobs_from g n ms
+set-jobs_from f g job n [] k at e same new = refl
+set-jobs_from f g job n (x ∷ ms) zero at e same new =
     let here : at ≡ n = omega arith in
-    let marked : mark ≡ g n x = new x refl ∙ ap (λ j. g j x) here in
+    let written : job ≡ g n x = new x refl ∙ ap (λ j. g j x) here in
     let rest : jobs_from f (suc n) ms ≡ jobs_from g (suc n) ms =
     jobs_from-same f g (suc n) ms (λ i m late. same i m (λ s. absurd (omega arith))) in
-    λ i. record { message = x; mark = marked i } ∷ rest i
-with_mark-jobs_from f g mark n (x ∷ ms) (suc k) at e same new =
+    λ i. written i ∷ rest i
+set-jobs_from f g job n (x ∷ ms) (suc k) at e same new =
     let here : f n x ≡ g n x = same n x (λ s. absurd (omega arith)) in
-    let rest = with_mark-jobs_from f g mark (suc n) ms k at (omega arith) same new in
-    λ i. record { message = x; mark = here i } ∷ rest i
+    let rest = set-jobs_from f g job (suc n) ms k at (omega arith) same new in
+    λ i. here i ∷ rest i
 
 -- ---- claimed jobs, and the front
 
@@ -112,7 +112,7 @@ none_claimed : (t : Bool) (k : ℕ) → t ≡ false → cond t (1 + k) 0 ≡ 0
 none_claimed t k e = ap (λ u. cond u (1 + k) 0) e
 
 -- where exactly the jobs before a number are claimed, that is the next to be claimed
-pub claimed_in-jobs_from : (f : ℕ → List ℕ → Mark) (claimed n : ℕ) (ms : List (List ℕ))
+pub claimed_in-jobs_from : (f : ℕ → List ℕ → Job) (claimed n : ℕ) (ms : List (List ℕ))
     → ((i : ℕ) (m : List ℕ) → was_claimed (f i m) ≡ nat_lt i claimed)
     → n ≤ claimed
     → claimed ≤ n + length ms
@@ -138,11 +138,11 @@ claimed_in-jobs_from f claimed n (m ∷ ms) marks least most =
           omega arith
 
 -- what stands at the front, by the first message
-abbrev pub head_from : (List ℕ → Mark) → Option (List ℕ) → Head
-head_from mark None = NoJob
-head_from mark (Some m) = head_by (mark m)
+abbrev pub head_from : (List ℕ → Job) → Option (List ℕ) → Head
+head_from job None = NoJob
+head_from job (Some m) = head_by (job m)
 
-pub head_of-jobs_from : (f : ℕ → List ℕ → Mark) (n : ℕ) (ms : List (List ℕ))
+pub head_of-jobs_from : (f : ℕ → List ℕ → Job) (n : ℕ) (ms : List (List ℕ))
     → head_of (jobs_from f n ms) ≡ head_from (f n) (slice_get ms 0)
 head_of-jobs_from f n [] = refl
 head_of-jobs_from f n (m ∷ ms) = refl

@@ -20,8 +20,7 @@ use Rattle.lpt_model.specs.LptMemory.Memories.{sizes_of}
 use Rattle.lpt_model.specs.LptMemory.Readings.{Job as Ticket}
 use Rattle.lpt_model.specs.LptJobs.declared.job.Job.{Job}
 use Rattle.lpt_model.specs.LptJobs.Jobs.{Jobs}
-use Rattle.lpt_model.specs.LptJobs.declared.job.Mark.{Mark as JobMark}
-use Rattle.lpt_model.specs.LptJobs.declared.job.Mark.TheVariants.{Waiting, Claimed, Committed}
+use Rattle.lpt_model.specs.LptJobs.declared.job.Job.TheVariants.{Waiting, Claimed, Committed}
 use Rattle.lpt_journal.specs.Journal.{SentPacket}
 use Rattle.lpt_journal.specs.Receivers.{has_parts}
 use Rattle.lpt_journal.specs.Senders.{Sender, FreeSender, OpenSender, ClosedSender, is_report}
@@ -93,23 +92,24 @@ pub record ShowsLink (x : LinkData) (y : LinkView) : Type 0 where
   pub lost_before : (n : ℕ) → length y.sent ≤ n → y.lost n ≡ false
   pub hands : (l : Lane) → hand_of x l ≡ y.hands l
 
--- the mark of the job of this number and message
-abbrev pub mark_at : JobsView → ℕ → List ℕ → JobMark
-mark_at v n m =
+-- the job of this number and message: the queue has the message until the job is claimed, and the
+-- reading once one was committed
+abbrev pub job_shown : JobsView → ℕ → List ℕ → Job
+job_shown v n m =
     if nat_lt n v.claimed then
     (if v.committed n then Committed (record { apid = v.apid; sizes = v.sizes; message = m })
     else Claimed)
-    else Waiting
+    else Waiting m
 
--- the jobs of these messages with these marks, the first of which has the number n
-abbrev pub jobs_from : (ℕ → List ℕ → JobMark) → ℕ → List (List ℕ) → List Job
-jobs_from mark n [] = []
-jobs_from mark n (m ∷ ms) = record { message = m; mark = mark n m } ∷ jobs_from mark (suc n) ms
+-- the jobs of these messages, the first of which has the number n
+abbrev pub jobs_from : (ℕ → List ℕ → Job) → ℕ → List (List ℕ) → List Job
+jobs_from job n [] = []
+jobs_from job n (m ∷ ms) = job n m ∷ jobs_from job (suc n) ms
 
 -- the queue has the jobs that aren't executed
 pub record ShowsJobs (x : Jobs) (v : JobsView) : Type 0 where
   pub first : x.first ≡ v.applied
-  pub jobs : x.jobs ≡ jobs_from (mark_at v) v.applied (drop v.applied v.messages)
+  pub jobs : x.jobs ≡ jobs_from (job_shown v) v.applied (drop v.applied v.messages)
 
 pub record Shows (s : State) (v : Views) : Type 0 where
   pub ground : ShowsEnd Ground s.on_ground v.ground

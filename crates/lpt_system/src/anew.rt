@@ -16,7 +16,7 @@ impl System {
     pub(crate) fn refusal_retire(&self, direction: Direction, id: Name) -> Option<StepFault>
         ensures { result ≡ refusal_of self.now.config (state_of self.now) (Event.Retire direction id) }
     {
-        match self.known(direction, id) {
+        match self.sender(direction, id) {
             State::Free => Some(StepFault::NotOpen),
             State::Open => Some(StepFault::StillOpen),
             State::Closed => {
@@ -30,7 +30,7 @@ impl System {
     }
 
     /// The state of a transaction at its sender.
-    pub(crate) fn known(&self, direction: Direction, id: Name) -> State
+    pub fn sender(&self, direction: Direction, id: Name) -> State
         ensures { result ≡ state_at (end_of (state_of self.now) (sender_side direction)).sending.ledger id }
     {
         match direction {
@@ -47,7 +47,7 @@ impl System {
     }
 
     /// Whether a reception of a transaction is open.
-    pub(crate) fn is_receiving(&self, direction: Direction, id: Name) -> bool
+    pub fn is_receiving(&self, direction: Direction, id: Name) -> bool
         ensures { result ≡ is_some (map.get (end_of (state_of self.now) (receiver_side direction)).receiving.entries id) }
     {
         match direction {

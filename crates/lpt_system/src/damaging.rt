@@ -6,7 +6,9 @@ ghost use Rattle.lpt_model.specs.LptEvents.Damages.{looks_whole};
 ghost use Rattle.lpt_model.specs.State.{refusal_of, after};
 
 use crate::system::{System, put_one, put_reserved};
-use lpt_model::{Answer, Direction, Event, Octets, Reply, StepFault, read_packet, seen_is_read};
+use lpt_model::{
+    Answer, Direction, Event, Octets, Reply, StepFault, longest_on_link, read_packet, seen_is_read,
+};
 use std::alloc::AllocError;
 
 impl System {
@@ -17,7 +19,7 @@ impl System {
         ensures { result ≡ refusal_of self.now.config (state_of self.now) (Event.Damage direction octets.now) }
     {
         let octets = octets.as_slice();
-        if octets.len() > self.config.part_size as usize + 23 {
+        if octets.len() > longest_on_link(self.config.part_size) {
             return Some(StepFault::Long);
         }
         if can_be_read(octets) {

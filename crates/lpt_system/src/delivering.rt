@@ -12,7 +12,7 @@ ghost use Rattle.lpt_system.specs.Outside.{octets_held, IsReadOf};
 
 use crate::system::System;
 use lpt_model::{
-    Accepted, Answer, Direction, Event, Lane, Name, Octets, Outcome, Parsed, Release, Reply, Side,
+    Accepted, Answer, Direction, Event, Lane, Name, Octets, Outcome, Parsed, Release, Reply,
 };
 use std::alloc::AllocError;
 
@@ -113,7 +113,7 @@ impl System {
         let octets = Octets::from_vec(self.held(lane).to_vec(self.alloc)?);
         Ok(Parsed::read(
             octets,
-            receiver(lane),
+            lane.receiver(),
             self.config.apid,
             self.config.part_size,
         ))
@@ -127,7 +127,7 @@ impl System {
         let octets = self.held(lane);
         parsed.is_of(
             octets,
-            receiver(lane),
+            lane.receiver(),
             self.config.apid,
             self.config.part_size,
         )
@@ -145,16 +145,6 @@ impl System {
             unreachable!()
         };
         octets
-    }
-}
-
-// The side that receives what a lane carries.
-fn receiver(lane: Lane) -> Side
-    ensures { result ≡ receiver_side (lane_direction lane) }
-{
-    match lane.direction() {
-        Direction::Up => Side::Craft,
-        Direction::Down => Side::Ground,
     }
 }
 

@@ -1,4 +1,5 @@
-//! Both ends, the link between them, and what was opened and released: all that an event changes.
+//! Both ends, the link between them, the tickets, the memories, and what was opened and released:
+//! all that an event changes.
 
 ghost use Rattle.std.specs.Prelude.{◌≡◌, ◌+◌, ◌<◌, ◌≤◌, ◌^◌, IfOk, OnErr, None, Some, length};
 ghost use Rattle.std.specs.Option.{option_map};
@@ -8,7 +9,6 @@ ghost use Rattle.lpt_model.specs.LptNode.Asking.{refusal_of as node_refusal};
 ghost use Rattle.lpt_model.specs.LptNode.Faults.{node_fault};
 ghost use Rattle.lpt_model.specs.LptNode.Nodes.{new_node};
 ghost use Rattle.lpt_system.specs.SystemSound.{IsSound};
-ghost use Rattle.lpt_model.specs.LptEvents.Sides.{sender_side};
 ghost use Rattle.lpt_model.specs.LptEvents.Configs.{IsConfig};
 ghost use Rattle.lpt_model.specs.State.{no_state, end_of, refusal_of, after, as_list, put_report, put_some, IsReady, quiet as quiet_reply, put_one as put_one_reply};
 
@@ -20,7 +20,7 @@ use lpt_model::{
 };
 use std::alloc::{AllocError, Global};
 
-/// Both ends and the link. It knows nothing of a journal.
+/// Both ends, the link, the workers' tickets and the memories. It knows nothing of a journal.
 #[derive(Drop)]
 pub struct System {
     pub alloc: Global,
@@ -64,14 +64,15 @@ impl System {
     {
         match event {
             Event::Open(direction, id, message) => {
-                self.ask(sender(*direction), Ask::Open(*id, message.as_slice().len()))
+                let ask = Ask::Open(*id, message.as_slice().len());
+                self.ask(Side::sender(*direction), ask)
             }
-            Event::Send(direction, id, k) => self.ask(sender(*direction), Ask::Send(*id, *k)),
+            Event::Send(direction, id, k) => self.ask(Side::sender(*direction), Ask::Send(*id, *k)),
             Event::Plain(_, service, subtype, body) => {
                 let ask = Ask::Plain(*service, *subtype, body.as_slice().len());
                 self.ask(Side::Ground, ask)
             }
-            Event::Finish(direction, id) => self.ask(sender(*direction), Ask::Finish(*id)),
+            Event::Finish(direction, id) => self.ask(Side::sender(*direction), Ask::Finish(*id)),
             Event::Lose(n) => self.refusal_lose(*n),
             Event::Damage(direction, octets) => self.refusal_damage(*direction, octets),
             Event::Take(lane, n) => self.link.refusal_take(*lane, *n).map(of_link),
@@ -121,7 +122,7 @@ impl System {
             Event::Deliver(lane) => self.deliver(place, *lane),
             Event::Tick(side) => Ok(self.tick(*side)),
             Event::Expire(side) => self.expire(*side),
-            Event::Claim(worker) => self.claim(*worker),
+            Event::Claim(worker) => Ok(self.claim(*worker)),
             Event::Commit(worker) => self.commit(*worker),
             Event::Apply => self.execute(place),
             Event::Retire(direction, id) => Ok(self.retire(*direction, *id)),
@@ -254,16 +255,6 @@ impl System {
             }
             None => quiet(answer),
         }
-    }
-}
-
-// The side that sends in a direction.
-fn sender(direction: Direction) -> Side
-    ensures { result ≡ sender_side direction }
-{
-    match direction {
-        Direction::Up => Side::Ground,
-        Direction::Down => Side::Craft,
     }
 }
 

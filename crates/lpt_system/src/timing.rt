@@ -1,11 +1,10 @@
 //! The nodes' clocks, and receptions that end for their age.
 
 ghost use Rattle.std.specs.Prelude.{◌≡◌, None, IfOk, OnErr};
-ghost use Rattle.lpt_model.specs.LptEvents.Sides.{direction_to};
 ghost use Rattle.lpt_model.specs.State.{end_of, refusal_of, after};
 
 use crate::system::{System, quiet};
-use lpt_model::{Answer, Direction, Event, Expired, Reply, Side};
+use lpt_model::{Answer, Event, Expired, Reply, Side};
 use std::alloc::AllocError;
 
 impl System {
@@ -44,29 +43,19 @@ impl System {
         };
         match expired {
             Ok(Expired { id, packet }) => {
-                Ok(self.report(Answer::Expired(received_by(side), id), packet))
+                Ok(self.report(Answer::Expired(side.receives(), id), packet))
             }
             Err(_) => Err(AllocError),
         }
     }
 
     // A node's clock.
-    fn clock(&self, side: Side) -> u32
+    pub fn clock(&self, side: Side) -> u32
         ensures { result ≡ (end_of (state_of self.now) side).clock }
     {
         match side {
             Side::Ground => self.on_ground.clock(),
             Side::Craft => self.on_craft.clock(),
         }
-    }
-}
-
-// The direction in which a side receives.
-fn received_by(side: Side) -> Direction
-    ensures { result ≡ direction_to side }
-{
-    match side {
-        Side::Ground => Direction::Down,
-        Side::Craft => Direction::Up,
     }
 }

@@ -44,17 +44,16 @@ impl System {
         }
     }
 
-    /// Gives a worker the oldest job that waits. The only error is want of memory, and then nothing
-    /// has changed.
-    pub(crate) fn claim(&mut self, worker: Worker) -> Result<Reply, AllocError>
+    /// Gives a worker the oldest job that waits. It takes no memory.
+    pub(crate) fn claim(&mut self, worker: Worker) -> Reply
         requires { refusal_of self.old.config (state_of self.old) (Event.Claim worker) ≡ None }
-        ensures ok { IfOk result (λ r. (state_of self.new, r)
-            ≡ after self.old.config 0 (state_of self.old) (Event.Claim worker)) }
-        ensures err { OnErr result (state_of self.new ≡ state_of self.old) }
+        ensures ok { (state_of self.new, result)
+            ≡ after self.old.config 0 (state_of self.old) (Event.Claim worker) }
         ensures config { self.new.config ≡ self.old.config }
     {
-        let Ok(ticket) = self.on_craft.claim() else {
-            return Err(AllocError);
+        let ticket = match self.on_craft.claim() {
+            Ok(ticket) => ticket,
+            Err(_) => unreachable!(),
         };
         let (boot, job) = (ticket.boot(), ticket.job());
         let held = HeldJob {
@@ -63,7 +62,7 @@ impl System {
             message: ticket.into_message(),
         };
         self.tickets.set(worker, Some(held));
-        Ok(quiet(Answer::Claimed(boot, job)))
+        quiet(Answer::Claimed(boot, job))
     }
 
     /// Reads a worker's job and hands the reading in. The only error is want of memory, and then

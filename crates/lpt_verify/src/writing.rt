@@ -1,8 +1,8 @@
 //! The reports of a request.
 
-ghost use Rattle.std.specs.Prelude.{◌≡◌, ◌≤◌, ◌↔◌, IsTrue, [], Some, None, IfOk, option_map};
+ghost use Rattle.std.specs.Prelude.{◌≡◌, ◌≤◌, ◌≢◌, ◌↔◌, IsTrue, [], Some, None, IfOk, OnErr, option_map};
 ghost use Rattle.lpt_pus.specs.Codes.{number_of};
-ghost use Rattle.lpt_verify.specs.Reports.{IsFlag, asks, success, failure, reports_before, reports_after};
+ghost use Rattle.lpt_verify.specs.Reports.{IsFlag, asks, success, failure, reports_before, reports_after, all_reports};
 
 use crate::{EncodedReport, Reports};
 use lpt_pus::{FailureCode, Octets, RequestId};
@@ -36,7 +36,7 @@ const COMPLETED: u8 = 7;
 /// after it. A request that isn't known or has a malformed body has failed its acceptance; any
 /// other failure is one of the start of its execution.
 ///
-/// The only error is want of memory.
+/// The only error is want of memory, for a report.
 pub fn reports(
     alloc: Global,
     request: RequestId,
@@ -47,6 +47,10 @@ pub fn reports(
         ≡ reports_before request.value flags (option_map number_of code)) }
     ensures after { IfOk result (λ r. r.after.items
         ≡ reports_after request.value flags (option_map number_of code)) }
+
+    // Memory is wanting only where there is a report.
+    ensures memory { OnErr result
+        (all_reports request.value flags (option_map number_of code) ≢ []) }
 {
     match code {
         None => succeeded(alloc, request, flags),
@@ -58,6 +62,7 @@ pub fn reports(
 fn succeeded(alloc: Global, request: RequestId, flags: u8) -> Result<Reports, AllocError>
     ensures before { IfOk result (λ r. r.before.items ≡ reports_before request.value flags None) }
     ensures after { IfOk result (λ r. r.after.items ≡ reports_after request.value flags None) }
+    ensures memory { OnErr result (all_reports request.value flags None ≢ []) }
 {
     let mut before = Vec::new(alloc);
     let mut after = Vec::new(alloc);

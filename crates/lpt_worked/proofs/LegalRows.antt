@@ -9,7 +9,8 @@ use Rattle.lpt_journal.specs.LptEvents.declared.event.Event.{Event}
 use Rattle.lpt_journal.specs.LptEvents.declared.event.Event.TheVariants.{Open, Send, Plain, Finish, Damage, Retire}
 use Rattle.lpt_journal.specs.LptEvents.Configs.{IsConfig}
 use Rattle.lpt_journal.specs.Refusals.{refusal}
-use Rattle.lpt_journal.specs.Legal.{IsEvent, Legal}
+use Rattle.lpt_journal.specs.LptEvents.Events.{IsEvent}
+use Rattle.lpt_journal.specs.Legal.{Legal}
 use Rattle.lpt_journal.proofs.TestLemmas.{and_l, and_r, not_true, none_is}
 use Rattle.lpt_worked.proofs.Listed.{recorded_listed, recorded_is, refusal_listed, refusal_is}
 use Rattle.lpt_worked.specs.Passes.{IsPass, usual, impatient, usual_memories}

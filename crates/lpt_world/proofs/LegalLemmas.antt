@@ -1,8 +1,8 @@
--- A journal that is told is legal, and its jobs fit.
+-- The events and the jobs of a journal that is told.
 use Rattle.std.proofs.Common.{arith, ◌≡◌, ◌∙◌, ap, sym, subst, refl, ◌+◌, ◌≤◌, ℕ, suc, Bool, true, false, if◌then◌else◌, List, [], ◌∷◌, ◌++◌, length, map, reverse, drop, slice_get, Some}
 use Rattle.std.proofs.lemmas.List.{append-nil, append_assoc, reverse-append, length-append, length-reverse, length-map, length-drop, map-append}
 use Rattle.lpt_system.specs.LptMemory.Memories.{Contents}
-use Rattle.lpt_system.specs.LptJobs.declared.job.Mark.{Mark}
+use Rattle.lpt_system.specs.LptJobs.declared.job.Job.{Job as QueuedJob}
 use Rattle.lpt_system.specs.LptJobs.Jobs.{numbered}
 use Rattle.lpt_system.specs.LptEvents.declared.config.Config.{Config}
 use Rattle.lpt_system.specs.LptEvents.declared.entry.Entry.{Entry}
@@ -25,7 +25,7 @@ use Rattle.lpt_refinement.specs.Shows.{Shows, JobsFit, jobs_from}
 use Rattle.lpt_refinement.specs.GoesOn.{Fits}
 use Rattle.lpt_system.specs.LptModel.State.{State, end_of}
 use Rattle.lpt_refinement.specs.Views.{jobs_view, views}
-use Rattle.lpt_world.specs.Worlds.{IsTold, IsToldAfter, events_of, history_of}
+use Rattle.lpt_world.specs.Worlds.{IsTold, events_of, history_of}
 
 -- ---- journals
 
@@ -51,34 +51,6 @@ length-history_of c first j =
     ∙ length-reverse (events j)
     ∙ length-map j (λ (y : Entry). y.event)
 
--- the events behind a past, newest first
-abbrev pub onto : List Event → List Entry → List Event
-onto past [] = past
-onto past (x ∷ xs) = onto (x.event ∷ past) xs
-
-pub onto-events_of : (past : List Event) (j : List Entry) → onto past j ≡ events_of j ++ past
-onto-events_of past [] = refl
-onto-events_of past (x ∷ xs) =
-    onto-events_of (x.event ∷ past) xs
-    ∙ sym (ap (λ es. es ++ past) (reverse-append (x.event ∷ []) (events xs))
-    ∙ append_assoc (reverse (events xs)) (x.event ∷ []) past)
-
-legal_after : (c : Config) (first : Contents) (past : List Event) (j : List Entry)
-    → Legal c first past
-    → IsToldAfter c first past j
-    → Legal c first (onto past j)
-legal_after c first past [] legal told = legal
-legal_after c first past (x ∷ xs) legal told =
-    legal_after c first (x.event ∷ past) xs (legal, told.0) told.2
-
--- a journal that is told is legal
-pub told_is_legal : (c : Config) (first : Contents) (j : List Entry)
-    → IsTold c first j
-    → Legal c first (events_of j)
-told_is_legal c first j told =
-    subst (Legal c first) (onto-events_of [] j ∙ append-nil (events_of j))
-    (legal_after c first [] j tt told)
-
 -- ---- jobs
 
 -- the jobs of a journal that is told fit
@@ -87,7 +59,7 @@ pub jobs_fit : (c : Config) (first : Contents) (j : List Entry)
     → JobsFit (jobs_view c first (history_of c first j)) (ticket c (history_of c first j))
 jobs_fit c first j told =
     let h = history_of c first j in
-    let sound = jobs_sound c first (events_of j) (told_is_legal c first j told) in
+    let sound = jobs_sound c first (events_of j) told.legal in
     record {
       executed = sound.applied_fits;
       claimed = omega (arith, sound.claimed_fits, length-map (jobs c h) (λ (r : Release). r.message));
@@ -111,7 +83,7 @@ pub fits : (c : Config) (first : Contents) (j : List Entry)
     → Fits c first (history_of c first j)
 fits c first j good told = record {
   jobs = jobs_fit c first j told;
-  tags = (every c first (events_of j) good (told_is_legal c first j told)).0.names;
+  tags = (every c first (events_of j) good told.legal).0.names;
 }
 
 -- a list whose places are all the first has one element at most
@@ -147,10 +119,10 @@ jobs_few c (x ∷ h) = go (restarts x.event Craft) (jobs_few c h)
         )
 
 -- there are as many jobs as messages
-pub length-jobs_from : (mark : ℕ → List ℕ → Mark) (n : ℕ) (ms : List (List ℕ))
-    → length (jobs_from mark n ms) ≡ length ms
-length-jobs_from mark n [] = refl
-length-jobs_from mark n (m ∷ ms) = ap (λ k. suc k) (length-jobs_from mark (suc n) ms)
+pub length-jobs_from : (job : ℕ → List ℕ → QueuedJob) (n : ℕ) (ms : List (List ℕ))
+    → length (jobs_from job n ms) ≡ length ms
+length-jobs_from job n [] = refl
+length-jobs_from job n (m ∷ ms) = ap (λ k. suc k) (length-jobs_from job (suc n) ms)
 
 -- the spacecraft has numbered no more jobs than events have happened
 pub numbered_few : (c : Config) (first : Contents) (s : State) (j : List Entry)
@@ -165,7 +137,7 @@ numbered_few c first s j told shows =
       arith,
       shows.jobs.first,
       ap length shows.jobs.jobs,
-      length-jobs_from (Rattle.lpt_refinement.specs.Shows.mark_at v) v.applied (drop v.applied v.messages),
+      length-jobs_from (Rattle.lpt_refinement.specs.Shows.job_shown v) v.applied (drop v.applied v.messages),
       length-drop v.applied v.messages,
       fit.executed,
       fit.claimed,

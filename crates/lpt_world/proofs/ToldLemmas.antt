@@ -10,20 +10,20 @@ use Rattle.lpt_refinement.proofs.LptJournal.AbortionLemmas.{abortion_is_final}
 use Rattle.lpt_refinement.proofs.LptJournal.HeadlineLemmas.{headline}
 use Rattle.lpt_refinement.proofs.LptJournal.WorkLemmas.{work_is_of_its_boot}
 use Rattle.lpt_refinement.specs.GoesOn.{AreNamed}
-use Rattle.lpt_world.proofs.LegalLemmas.{told_is_legal, fits}
+use Rattle.lpt_world.proofs.LegalLemmas.{fits}
 
 pub shown_holds : (e : System) (first : Contents) (j : List Entry)
     → IsShown e first j
     → Holds e.config first (history_of e.config first j)
 shown_holds e first j k =
-    headline e.config first (events_of j) k.configured (told_is_legal e.config first j k.told)
+    headline e.config first (events_of j) k.configured k.told.legal
 
 -- what is promised of a world that shows its journal
 pub shown_promised : (e : System) (first : Contents) (j : List Entry)
     → IsShown e first j
     → Promised (record { config = e.config; first = first; journal = j })
 shown_promised e first j k =
-    let legal = told_is_legal e.config first j k.told in
+    let legal = k.told.legal in
     record {
       headline = shown_holds e first j k;
       final = abortion_is_final e.config first (events_of j) k.configured legal;

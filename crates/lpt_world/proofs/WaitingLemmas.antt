@@ -15,11 +15,11 @@ use Rattle.lpt_system.specs.LptNode.Jobs.{refusal_claim_of}
 use Rattle.lpt_system.specs.LptNode.Nodes.{NodeData}
 use Rattle.lpt_refinement.specs.LptJournal.Journal.{History}
 use Rattle.lpt_refinement.specs.LptJournal.Jobs.{boot, jobs, claimed, applied, job_given, ticket}
-use Rattle.lpt_refinement.specs.Shows.{Shows, JobsFit, mark_at}
+use Rattle.lpt_refinement.specs.Shows.{Shows, JobsFit, job_shown}
 use Rattle.lpt_system.specs.LptModel.State.{State, refusal_claim_by}
 use Rattle.lpt_refinement.specs.Views.{jobs_view, views}
-use Rattle.lpt_refinement.proofs.JobsShown.{was_claimed-mark_at}
-use Rattle.lpt_refinement.proofs.MarksShown.{unclaimed_shown}
+use Rattle.lpt_refinement.proofs.JobsShown.{was_claimed-job_shown}
+use Rattle.lpt_refinement.proofs.WorkersShown.{unclaimed_shown}
 use Rattle.lpt_refinement.proofs.QueueLemmas.{claimed_in-jobs_from}
 use Rattle.lpt_world.proofs.LegalLemmas.{length-jobs_from}
 
@@ -74,7 +74,7 @@ queued_shown c first s h k =
     omega (
       arith,
       ap length k.jobs.jobs,
-      length-jobs_from (mark_at v) v.applied (drop v.applied v.messages),
+      length-jobs_from (job_shown v) v.applied (drop v.applied v.messages),
       length-drop v.applied v.messages,
       length-map (jobs c h) (λ (r : Release). r.message),
     )
@@ -90,8 +90,8 @@ waiting_shown c first s h k fits =
       arith,
       queued_shown c first s h k,
       ap claimed_in k.jobs.jobs,
-      claimed_in-jobs_from (mark_at v) v.claimed v.applied (drop v.applied v.messages)
-          (was_claimed-mark_at v) fits.executed
+      claimed_in-jobs_from (job_shown v) v.claimed v.applied (drop v.applied v.messages)
+          (was_claimed-job_shown v) fits.executed
           (omega (arith, length-drop v.applied v.messages, fits.executed, fits.claimed)),
       fits.executed,
       fits.claimed,

@@ -1,9 +1,9 @@
 -- A world that enters an event shows its longer journal.
-use Rattle.std.proofs.Common.{◌≤◌, nat_lt, Bool, true, false, if◌then◌else◌, ◌≡◌, ◌∙◌, ap, sym, subst, refl, ℕ, List, [], ◌∷◌, ◌++◌, length, Option, Some, None}
+use Rattle.std.proofs.Common.{◌≤◌, nat_lt, Bool, true, false, if◌then◌else◌, ◌≡◌, ◌∙◌, ap, sym, subst, refl, ℕ, List, [], ◌∷◌, ◌++◌, length, map, reverse, Option, Some, None}
 use Rattle.std.specs.Option.{option_map}
 use Rattle.std.specs.Prelude.{slice_get}
 use Rattle.std.proofs.lemmas.Option.{slice_get-map}
-use Rattle.std.proofs.lemmas.List.{append-nil}
+use Rattle.std.proofs.lemmas.List.{reverse-append, map-append}
 use Rattle.lpt_system.proofs.LptPacket.Readings.{lt_false}
 use Rattle.lpt_system.specs.LptLink.declared.packet.LinkPacket.{LinkPacket}
 use Rattle.lpt_system.specs.LptLink.Links.{octets_at}
@@ -12,34 +12,49 @@ use Rattle.lpt_system.specs.LptEvents.declared.config.Config.{Config}
 use Rattle.lpt_system.specs.declared.system.System.{System}
 use Rattle.lpt_system.specs.LptEvents.declared.entry.Entry.{Entry}
 use Rattle.lpt_system.specs.LptEvents.declared.event.Event.{Event}
+use Rattle.lpt_system.specs.LptEvents.Events.{IsEvent}
 use Rattle.lpt_system.specs.LptEvents.declared.fault.StepFault.{StepFault}
 use Rattle.lpt_system.specs.LptEvents.declared.fault.StepFault.TheVariants.{NoSuchSeat}
 use Rattle.lpt_system.specs.LptEvents.declared.reply.Reply.{Reply}
 use Rattle.lpt_system.specs.SystemInside.{state_of}
-use Rattle.lpt_refinement.specs.LptJournal.Journal.{History, SentPacket}
+use Rattle.lpt_refinement.specs.LptJournal.Journal.{Recorded, History, SentPacket}
 use Rattle.lpt_refinement.specs.LptJournal.Link.{sent}
 use Rattle.lpt_system.specs.LptEvents.Configs.{IsConfig}
-use Rattle.lpt_refinement.specs.LptJournal.Legal.{IsEvent, IsEnabled}
+use Rattle.lpt_refinement.specs.LptJournal.Legal.{IsEnabled, Legal}
 use Rattle.lpt_refinement.specs.LptJournal.Refusals.{refusal}
 use Rattle.lpt_refinement.specs.LptJournal.Replies.{reply, entry, recorded}
 use Rattle.lpt_refinement.specs.Shows.{Shows, sent_packet}
 use Rattle.lpt_system.specs.LptModel.State.{State, no_state, after, refusal_of, IsReady}
 use Rattle.lpt_refinement.specs.Views.{views}
 use Rattle.lpt_world.specs.WorldInside.{IsShown, IsWorld}
-use Rattle.lpt_world.specs.Worlds.{IsTold, IsToldAfter, events_of, history_of, refusal_at}
+use Rattle.lpt_world.specs.Worlds.{IsTold, events_of, history_of, refusal_at}
 use Rattle.lpt_refinement.proofs.Follows.{follows}
-use Rattle.lpt_world.proofs.LegalLemmas.{events_of-push, length-history_of, onto, onto-events_of, fits}
+use Rattle.lpt_world.proofs.LegalLemmas.{events_of-push, length-history_of, fits}
 
 -- ---- journals
 
-told_push : (c : Config) (first : Contents) (past : List Event) (j : List Entry) (x : Entry)
-    → IsToldAfter c first past j
-    → IsEnabled c (recorded c first (onto past j)) x.event
-    → x.reply ≡ reply c first (recorded c first (onto past j)) x.event
-    → IsToldAfter c first past (j ++ x ∷ [])
-told_push c first past [] x told enabled is = (enabled, is, tt)
-told_push c first past (y ∷ ys) x told enabled is =
-    (told.0, told.1, told_push c first (y.event ∷ past) ys x told.2 enabled is)
+-- the replies of a history, the oldest first
+abbrev replies_of : History → List Reply
+replies_of h = reverse (map (λ (y : Recorded). y.reply) h)
+
+-- a journal is told with an event behind it that can happen then, and its reply
+told_push : (c : Config) (first : Contents) (j : List Entry) (x : Entry)
+    → IsTold c first j
+    → IsEnabled c (history_of c first j) x.event
+    → x.reply ≡ reply c first (history_of c first j) x.event
+    → IsTold c first (j ++ x ∷ [])
+told_push c first j x told enabled is =
+    let h : History = history_of c first j in
+    let r : Reply = reply c first h x.event in
+    record {
+      legal = subst (Legal c first) (sym (events_of-push j x)) (told.legal, enabled);
+      replies =
+          map-append (λ (y : Entry). y.reply) j (x ∷ [])
+          ∙ ap (λ rs. rs ++ x.reply ∷ []) told.replies
+          ∙ ap (λ a. replies_of h ++ a ∷ []) is
+          ∙ sym (ap (λ es. replies_of (recorded c first es)) (events_of-push j x)
+          ∙ reverse-append (r ∷ []) (map (λ (y : Recorded). y.reply) h));
+    }
 
 -- ---- what the system does
 
@@ -82,17 +97,12 @@ shown_push e e' first j x k ranged free done same =
     ∙ sym (ap (λ (y : State × Reply). y.0) done) in
     let longer : history_of c first (j ++ x ∷ []) ≡ entry c first h x.event ∷ h =
     ap (recorded c first) (events_of-push j x) in
-    let past : onto [] j ≡ events_of j = onto-events_of [] j ∙ append-nil (events_of j) in
     let shows : Shows (state_of e') (views c first (history_of c first (j ++ x ∷ []))) =
     subst (λ (g : History). Shows (state_of e') (views c first g)) (sym longer)
     (subst (λ (s : State). Shows s (views c first (entry c first h x.event ∷ h))) state goes.shown) in
-    let enabled : IsEnabled c (recorded c first (onto [] j)) x.event =
-    subst (λ (es : List Event). IsEnabled c (recorded c first es) x.event) (sym past)
-    (record { in_range = ranged; accepted = accepted }) in
     let told : IsTold c first (j ++ x ∷ []) =
-    told_push c first [] j x k.told enabled
-    (reply_shown e e' first j x.event x.reply k free done
-    ∙ ap (λ es. reply c first (recorded c first es) x.event) (sym past)) in
+    told_push c first j x k.told (record { in_range = ranged; accepted = accepted })
+    (reply_shown e e' first j x.event x.reply k free done) in
     subst (λ (d : Config). IsWorld d first e' (j ++ x ∷ [])) (sym same)
     (record { configured = k.configured; shows = shows; told = told })
 
@@ -158,4 +168,4 @@ pub shown_new : (e : System) (c : Config) (first : Contents)
 shown_new e c first same state configured =
     let shows = subst (λ (s : State). Shows s (views c first [])) (sym state) (follows.begins c first) in
     subst (λ (d : Config). IsWorld d first e []) (sym same)
-    (record { configured = configured; shows = shows; told = tt })
+    (record { configured = configured; shows = shows; told = record { legal = tt; replies = refl } })

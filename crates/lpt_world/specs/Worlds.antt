@@ -14,7 +14,7 @@ use Rattle.lpt_refinement.specs.LptJournal.Senders.{Sender, FreeSender, OpenSend
 use Rattle.lpt_refinement.specs.LptJournal.Jobs.{memories}
 use Rattle.lpt_refinement.specs.LptJournal.Abortions.{EndsAreFinal}
 use Rattle.lpt_refinement.specs.LptJournal.Headline.{Holds}
-use Rattle.lpt_refinement.specs.LptJournal.Legal.{IsEnabled}
+use Rattle.lpt_refinement.specs.LptJournal.Legal.{Legal}
 use Rattle.lpt_refinement.specs.LptJournal.Work.{WorkKeepsItsBoot}
 use Rattle.lpt_refinement.specs.LptJournal.Replies.{recorded, reply}
 use Rattle.lpt_refinement.specs.LptJournal.Refusals.{refusal}
@@ -45,17 +45,10 @@ history w = history_of w.config w.first w.journal
 abbrev pub memories_now : Shown → Contents
 memories_now w = memories w.config w.first (history w)
 
--- each entry's event can happen after those before it, and its reply is the one that it gives then
-abbrev pub IsToldAfter : Config → Contents → List Event → List Entry → Type 0
-IsToldAfter c first past [] = Unit {0}
-IsToldAfter c first past (x ∷ xs) =
-    IsEnabled c (recorded c first past) x.event
-    × (x.reply ≡ reply c first (recorded c first past) x.event)
-    × IsToldAfter c first (x.event ∷ past) xs
-
--- a journal from its beginning
-abbrev pub IsTold : Config → Contents → List Entry → Type 0
-IsTold c first j = IsToldAfter c first [] j
+-- a journal is told: its events are legal, and each reply is the one that its event gives then
+pub record IsTold (c : Config) (first : Contents) (j : List Entry) : Type 0 where
+  pub legal : Legal c first (events_of j)
+  pub replies : map (λ x. x.reply) j ≡ reverse (map (λ x. x.reply) (history_of c first j))
 
 -- What is promised of a world, whatever the link did and the nodes were asked: the headline; that what
 -- expired, was broken off or was released is final; and that no job is done outside the boot of its release.

@@ -32,10 +32,7 @@ impl World {
     fn is_receiving(&self, direction: Direction, id: Name) -> bool
         ensures { result ≡ has_parts (heard self.now.config (history self.now) direction id) }
     {
-        match direction {
-            Direction::Up => self.system.on_craft.is_open_reception(id),
-            Direction::Down => self.system.on_ground.is_open_reception(id),
-        }
+        self.system.is_receiving(direction, id)
     }
 
     // Whether its sender is open.

@@ -6,7 +6,7 @@ ghost use Rattle.lpt_refinement.specs.LptJournal.Jobs.{job_given};
 ghost use Rattle.lpt_refinement.specs.LptJournal.Replies.{reply};
 ghost use Rattle.lpt_world.specs.Outside.{octets_of, IsOfHand, ReadRefusedBy};
 ghost use Rattle.lpt_world.specs.Workers.{IsOfWorker};
-ghost use Rattle.lpt_world.specs.Worlds.{history, refusal_at, RefusedBy, with_entry};
+ghost use Rattle.lpt_world.specs.Worlds.{Promised, history, refusal_at, RefusedBy, with_entry};
 
 use crate::{Entry, Event, Refused, Reply, StepFault, World};
 use lpt_system::{Lane, Octets, Parsed, Prepared, Ticket, Worker};
@@ -24,6 +24,9 @@ impl World {
         ensures entered { IfOk result (λ r. self.new ≡ with_entry self.old seat (Event.Take lane n) r.0) }
         ensures octets { IfOk result (λ r. octets_of self.old n ≡ Some r.1) }
 
+        // Whatever was asked, the promise holds of the journal.
+        ensures promised { Promised self.new }
+
         ensures refused { IfErr result (λ e. RefusedBy (refusal_at self.old seat (Event.Take lane n)) e.fault) }
         ensures back { IfErr result (λ e. e.event ≡ Event.Take lane n) }
         ensures at { IfErr result (λ e. e.at ≡ length self.old.journal) }
@@ -31,19 +34,33 @@ impl World {
     {
         let event = Event::Take(lane, n);
         let at = self.journal.len() as u64;
-        match self.refusal(seat, &event) {
-            Some(fault) => return Err(Refused { fault, at, event }),
-            None => {}
+        let taken = self.try_take(seat, lane, n);
+        self.keep_promise();
+        match taken {
+            Ok(taken) => Ok(taken),
+            Err(fault) => Err(Refused { fault, at, event }),
+        }
+    }
+
+    // The same, with the fault alone where it is refused.
+    fn try_take(&mut self, seat: u8, lane: Lane, n: u64) -> Result<(Reply, Octets), StepFault>
+        ensures enabled { IfOk result (λ r. refusal_at self.old seat (Event.Take lane n) ≡ None) }
+        ensures reply { IfOk result (λ r. r.0 ≡ reply self.old.config self.old.first (history self.old) (Event.Take lane n)) }
+        ensures entered { IfOk result (λ r. self.new ≡ with_entry self.old seat (Event.Take lane n) r.0) }
+        ensures octets { IfOk result (λ r. octets_of self.old n ≡ Some r.1) }
+        ensures refused { IfErr result (λ f. RefusedBy (refusal_at self.old seat (Event.Take lane n)) f) }
+        ensures unchanged { IfErr result (λ f. self.new ≡ self.old) }
+    {
+        let event = Event::Take(lane, n);
+        if let Some(fault) = self.refusal(seat, &event) {
+            return Err(fault);
         }
         match self.packet_copy(seat, lane, n) {
-            Ok(octets) => match self.step(seat, event) {
+            Ok(octets) => match self.enter(seat, event) {
                 Ok(reply) => Ok((reply, octets)),
-                Err(refused) => Err(refused),
+                Err(_) => Err(StepFault::Memory),
             },
-            Err(_) => {
-                let fault = StepFault::Memory;
-                Err(Refused { fault, at, event })
-            }
+            Err(_) => Err(StepFault::Memory),
         }
     }
 
@@ -63,6 +80,29 @@ impl World {
         ensures reply { IfOk result (λ r. r ≡ reply self.old.config self.old.first (history self.old) (Event.Deliver lane)) }
         ensures entered { IfOk result (λ r. self.new ≡ with_entry self.old seat (Event.Deliver lane) r) }
 
+        // Whatever was asked, the promise holds of the journal.
+        ensures promised { Promised self.new }
+
+        ensures refused { IfErr result (λ e. ReadRefusedBy (IsOfHand self.old lane parsed) (refusal_at self.old seat (Event.Deliver lane)) e.0) }
+        ensures back { IfErr result (λ e. e.1 ≡ parsed) }
+        ensures unchanged { IfErr result (λ e. self.new ≡ self.old) }
+    {
+        let done = self.try_deliver(seat, lane, parsed);
+        self.keep_promise();
+        done
+    }
+
+    // The same without the promise.
+    fn try_deliver(
+        &mut self,
+        seat: u8,
+        lane: Lane,
+        parsed: Parsed,
+    ) -> Result<Reply, (StepFault, Parsed)>
+        ensures enabled { IfOk result (λ r. refusal_at self.old seat (Event.Deliver lane) ≡ None) }
+        ensures read { IfOk result (λ r. IsOfHand self.old lane parsed) }
+        ensures reply { IfOk result (λ r. r ≡ reply self.old.config self.old.first (history self.old) (Event.Deliver lane)) }
+        ensures entered { IfOk result (λ r. self.new ≡ with_entry self.old seat (Event.Deliver lane) r) }
         ensures refused { IfErr result (λ e. ReadRefusedBy (IsOfHand self.old lane parsed) (refusal_at self.old seat (Event.Deliver lane)) e.0) }
         ensures back { IfErr result (λ e. e.1 ≡ parsed) }
         ensures unchanged { IfErr result (λ e. self.new ≡ self.old) }
@@ -99,6 +139,9 @@ impl World {
         ensures entered { IfOk result (λ r. self.new ≡ with_entry self.old seat (Event.Claim worker) r.0) }
         ensures ticket { IfOk result (λ r. job_given self.old.config (history self.old) ≡ Some r.1) }
 
+        // Whatever was asked, the promise holds of the journal.
+        ensures promised { Promised self.new }
+
         ensures refused { IfErr result (λ e. RefusedBy (refusal_at self.old seat (Event.Claim worker)) e.fault) }
         ensures back { IfErr result (λ e. e.event ≡ Event.Claim worker) }
         ensures at { IfErr result (λ e. e.at ≡ length self.old.journal) }
@@ -106,22 +149,36 @@ impl World {
     {
         let event = Event::Claim(worker);
         let at = self.journal.len() as u64;
-        match self.refusal(seat, &event) {
-            Some(fault) => return Err(Refused { fault, at, event }),
-            None => {}
+        let claimed = self.try_claim(seat, worker);
+        self.keep_promise();
+        match claimed {
+            Ok(claimed) => Ok(claimed),
+            Err(fault) => Err(Refused { fault, at, event }),
+        }
+    }
+
+    // The same, with the fault alone where it is refused.
+    fn try_claim(&mut self, seat: u8, worker: Worker) -> Result<(Reply, Ticket), StepFault>
+        ensures enabled { IfOk result (λ r. refusal_at self.old seat (Event.Claim worker) ≡ None) }
+        ensures reply { IfOk result (λ r. r.0 ≡ reply self.old.config self.old.first (history self.old) (Event.Claim worker)) }
+        ensures entered { IfOk result (λ r. self.new ≡ with_entry self.old seat (Event.Claim worker) r.0) }
+        ensures ticket { IfOk result (λ r. job_given self.old.config (history self.old) ≡ Some r.1) }
+        ensures refused { IfErr result (λ f. RefusedBy (refusal_at self.old seat (Event.Claim worker)) f) }
+        ensures unchanged { IfErr result (λ f. self.new ≡ self.old) }
+    {
+        let event = Event::Claim(worker);
+        if let Some(fault) = self.refusal(seat, &event) {
+            return Err(fault);
         }
         match self.next_ticket(seat, worker) {
-            Ok(ticket) => match self.step(seat, event) {
+            Ok(ticket) => match self.enter(seat, event) {
                 Ok(reply) => Ok((reply, ticket)),
-                Err(refused) => {
+                Err(_) => {
                     ticket.abandon();
-                    Err(refused)
+                    Err(StepFault::Memory)
                 }
             },
-            Err(_) => {
-                let fault = StepFault::Memory;
-                Err(Refused { fault, at, event })
-            }
+            Err(_) => Err(StepFault::Memory),
         }
     }
 
@@ -142,6 +199,29 @@ impl World {
         ensures reply { IfOk result (λ r. r ≡ reply self.old.config self.old.first (history self.old) (Event.Commit worker)) }
         ensures entered { IfOk result (λ r. self.new ≡ with_entry self.old seat (Event.Commit worker) r) }
 
+        // Whatever was asked, the promise holds of the journal.
+        ensures promised { Promised self.new }
+
+        ensures refused { IfErr result (λ e. ReadRefusedBy (IsOfWorker self.old worker prepared) (refusal_at self.old seat (Event.Commit worker)) e.0) }
+        ensures back { IfErr result (λ e. e.1 ≡ prepared) }
+        ensures unchanged { IfErr result (λ e. self.new ≡ self.old) }
+    {
+        let done = self.try_commit(seat, worker, prepared);
+        self.keep_promise();
+        done
+    }
+
+    // The same without the promise.
+    fn try_commit(
+        &mut self,
+        seat: u8,
+        worker: Worker,
+        prepared: Prepared,
+    ) -> Result<Reply, (StepFault, Prepared)>
+        ensures enabled { IfOk result (λ r. refusal_at self.old seat (Event.Commit worker) ≡ None) }
+        ensures read { IfOk result (λ r. IsOfWorker self.old worker prepared) }
+        ensures reply { IfOk result (λ r. r ≡ reply self.old.config self.old.first (history self.old) (Event.Commit worker)) }
+        ensures entered { IfOk result (λ r. self.new ≡ with_entry self.old seat (Event.Commit worker) r) }
         ensures refused { IfErr result (λ e. ReadRefusedBy (IsOfWorker self.old worker prepared) (refusal_at self.old seat (Event.Commit worker)) e.0) }
         ensures back { IfErr result (λ e. e.1 ≡ prepared) }
         ensures unchanged { IfErr result (λ e. self.new ≡ self.old) }

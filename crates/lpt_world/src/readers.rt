@@ -117,20 +117,14 @@ impl World {
     pub fn sender(&self, direction: Direction, id: Name) -> State
         ensures { result ≡ state_shown (sender (history self.now) direction id) }
     {
-        match direction {
-            Direction::Up => self.system.on_ground.sender(id),
-            Direction::Down => self.system.on_craft.sender(id),
-        }
+        self.system.sender(direction, id)
     }
 
     /// The clock of a node, in ticks.
     pub fn clock(&self, side: Side) -> u32
         ensures { result ≡ clock self.now.config (history self.now) side }
     {
-        match side {
-            Side::Ground => self.system.on_ground.clock(),
-            Side::Craft => self.system.on_craft.clock(),
-        }
+        self.system.clock(side)
     }
 
     /// The boot and the number of the job that a worker has claimed and not committed.

@@ -2,7 +2,6 @@
 
 ghost use Rattle.std.specs.Prelude.{◌≡◌, ◌≤◌, length, take, slice_get, None, IfOk, IfErr, IfSome};
 ghost use Rattle.lpt_system.specs.LptEvents.Configs.{config_fault, ConfigRefusedBy};
-ghost use Rattle.lpt_refinement.specs.LptJournal.Legal.{IsEvent};
 ghost use Rattle.lpt_refinement.specs.LptJournal.Replies.{reply};
 ghost use Rattle.lpt_world.specs.Worlds.{Promised, new_world, history, refusal_at, RefusedBy, with_entry, entered, AllAccepted, IsFaultOf};
 
@@ -43,6 +42,7 @@ impl World {
     pub fn new(alloc: Global, config: Config, memories: Memories) -> Result<World, ConfigFault>
         ensures ok { IfOk result (λ w. w ≡ new_world config memories) }
         ensures configured { IfOk result (λ w. config_fault config ≡ None) }
+        ensures promised { IfOk result (λ w. Promised w) }
         ensures refused { IfErr result (λ f. ConfigRefusedBy (config_fault config) f) }
     {
         match config.fault() {
@@ -53,11 +53,15 @@ impl World {
             return Err(ConfigFault::Memory);
         };
         match System::new(alloc, config, copy) {
-            Ok(system) => Ok(World {
-                system,
-                first: memories,
-                journal: Vec::new(alloc),
-            }),
+            Ok(system) => {
+                let world = World {
+                    system,
+                    first: memories,
+                    journal: Vec::new(alloc),
+                };
+                world.keep_promise();
+                Ok(world)
+            }
             Err(_) => Err(ConfigFault::Memory),
         }
     }
@@ -81,34 +85,36 @@ impl World {
         ensures unchanged { IfErr result (λ e. self.new ≡ self.old) }
     {
         let at = self.journal.len() as u64;
-        let done = self.try_step(seat, event);
+        let done = match self.refusal(seat, &event) {
+            Some(fault) => Err(Refused { fault, at, event }),
+            None => match self.enter(seat, event) {
+                Ok(reply) => Ok(reply),
+                Err(event) => {
+                    let fault = StepFault::Memory;
+                    Err(Refused { fault, at, event })
+                }
+            },
+        };
         self.keep_promise();
-        match done {
-            Ok(reply) => Ok(reply),
-            Err((fault, event)) => Err(Refused { fault, at, event }),
-        }
+        done
     }
 
-    // The same, with the fault and the event where it is refused.
-    fn try_step(&mut self, seat: u8, event: Event) -> Result<Reply, (StepFault, Event)>
-        ensures enabled { IfOk result (λ r. refusal_at self.old seat event ≡ None) }
+    // Does an event that can happen, and enters it. The only error is want of memory: the event
+    // comes back, and nothing has changed.
+    pub(crate) fn enter(&mut self, seat: u8, event: Event) -> Result<Reply, Event>
+        requires { refusal_at self.old seat event ≡ None }
         ensures reply { IfOk result (λ r. r ≡ reply self.old.config self.old.first (history self.old) event) }
         ensures entered { IfOk result (λ r. self.new ≡ with_entry self.old seat event r) }
-        ensures refused { IfErr result (λ e. RefusedBy (refusal_at self.old seat event) e.0) }
-        ensures back { IfErr result (λ e. e.1 ≡ event) }
+        ensures back { IfErr result (λ e. e ≡ event) }
         ensures unchanged { IfErr result (λ e. self.new ≡ self.old) }
     {
-        match self.refusal(seat, &event) {
-            Some(fault) => return Err((fault, event)),
-            None => {}
-        }
         if self.journal.reserve(1).is_err() {
-            return Err((StepFault::Memory, event));
+            return Err(event);
         }
-        in_range(&event);
+        event.in_range();
         let place = self.journal.len() as u64;
         match self.system.apply(place, &event) {
-            Err(_) => Err((StepFault::Memory, event)),
+            Err(_) => Err(event),
             Ok(reply) => {
                 self.journal.push_reserved(Entry { seat, event, reply });
                 Ok(reply)
@@ -142,7 +148,7 @@ impl World {
     }
 
     // What is promised holds of every world.
-    fn keep_promise(&self)
+    pub(crate) fn keep_promise(&self)
         ensures { Promised self.now }
     {
         let _ = self.journal();
@@ -155,15 +161,14 @@ impl World {
         ensures refused { IfSome result (λ f. RefusedBy (refusal_at self.old 0 event.now) f) }
         ensures unchanged { IfSome result (λ f. self.new ≡ self.old) }
     {
-        match self.refusal(0, event) {
-            Some(fault) => return Some(fault),
-            None => {}
+        if let Some(fault) = self.refusal(0, event) {
+            return Some(fault);
         }
         match event.copy() {
             Err(_) => Some(StepFault::Memory),
-            Ok(event) => match self.step(0, event) {
+            Ok(event) => match self.enter(0, event) {
                 Ok(_) => None,
-                Err(refused) => Some(refused.fault),
+                Err(_) => Some(StepFault::Memory),
             },
         }
     }
@@ -176,45 +181,5 @@ impl World {
             return Some(StepFault::NoSuchSeat);
         }
         self.system.refusal(event)
-    }
-}
-
-// The numbers and octets of an event are in the ranges of their types.
-fn in_range(event: &Event)
-    ensures { IsEvent event.now }
-{
-    match event {
-        Event::Open(_, id, message) => {
-            let _id = *id;
-            let _octets = message.as_slice();
-        }
-        Event::Send(_, id, k) => {
-            let _id = *id;
-            let _k = *k;
-        }
-        Event::Plain(flags, service, subtype, body) => {
-            let _flags = flags.bits();
-            let _service = *service;
-            let _subtype = *subtype;
-            let _octets = body.as_slice();
-        }
-        Event::Finish(_, id) => {
-            let _id = *id;
-        }
-        Event::Lose(_) => {}
-        Event::Damage(_, octets) => {
-            let _octets = octets.as_slice();
-        }
-        Event::Take(_, _) => {}
-        Event::Deliver(_) => {}
-        Event::Tick(_) => {}
-        Event::Expire(_) => {}
-        Event::Claim(_) => {}
-        Event::Commit(_) => {}
-        Event::Apply => {}
-        Event::Retire(_, id) => {
-            let _id = *id;
-        }
-        Event::Restart(_) => {}
     }
 }

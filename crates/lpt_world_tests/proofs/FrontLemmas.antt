@@ -1,9 +1,8 @@
 -- What stands at the front once the first reading was committed.
-use Rattle.std.proofs.Common.{◌≡◌, sym, subst, ℕ, zero, suc, Bool, true, false, List, [], ◌∷◌, Some, ◌==◌, if◌then◌else◌}
+use Rattle.std.proofs.Common.{◌≡◌, sym, subst, ℕ, zero, suc, Bool, true, false, List, [], ◌∷◌, set, Some, ◌==◌, if◌then◌else◌}
 use Rattle.lpt_world.specs.LptJobs.declared.job.Job.{Job}
-use Rattle.lpt_world.specs.LptJobs.declared.job.Mark.{Mark}
-use Rattle.lpt_world.specs.LptJobs.declared.job.Mark.TheVariants.{Waiting, Claimed, Committed}
-use Rattle.lpt_world.specs.LptJobs.Jobs.{after_commit, head_by, head_of, with_mark}
+use Rattle.lpt_world.specs.LptJobs.declared.job.Job.TheVariants.{Waiting, Claimed, Committed}
+use Rattle.lpt_world.specs.LptJobs.Jobs.{after_commit, head_by, head_of}
 use Rattle.lpt_world.specs.LptMemory.Memories.{Contents, sizes_of}
 use Rattle.lpt_world.specs.LptMemory.Readings.{Source}
 use Rattle.lpt_world.specs.LptNode.declared.fault.NodeFault.TheVariants.{NotReady}
@@ -11,23 +10,23 @@ use Rattle.lpt_world.specs.LptNode.Jobs.{FrontIsFor, committed, refusal_apply, r
 use Rattle.lpt_world.specs.LptNode.Nodes.{NodeData}
 
 module _ (r : Source) (apid : ℕ) (ms : Contents) (its : r.apid ≡ apid) (sizes : r.sizes ≡ sizes_of ms) where
-  unread : (m : Mark) → refusal_apply_of (head_by m) ≡ Some NotReady → FrontIsFor (head_by m) apid ms
-  unread Waiting h = tt
+  unread : (j : Job) → refusal_apply_of (head_by j) ≡ Some NotReady → FrontIsFor (head_by j) apid ms
+  unread (Waiting m) h = tt
   unread Claimed h = tt
   unread (Committed s) h = cc
 
   front : (jobs : List Job) (n : ℕ)
       → refusal_apply_of (head_of jobs) ≡ Some NotReady
-      → FrontIsFor (head_of (with_mark jobs n (Committed r))) apid ms
+      → FrontIsFor (head_of (set jobs n (Committed r))) apid ms
   front [] n h = cc
   front (j ∷ js) zero h = (its, sizes)
-  front (j ∷ js) (suc n) h = unread j.mark h
+  front (j ∷ js) (suc n) h = unread j h
 
   still : (jobs : List Job)
       → refusal_apply_of (head_of jobs) ≡ Some NotReady
       → FrontIsFor (head_of jobs) apid ms
   still [] h = cc
-  still (j ∷ js) h = unread j.mark h
+  still (j ∷ js) h = unread j h
 
   abbrev first_of : NodeData × Bool → NodeData
   first_of x = x.0

@@ -10,7 +10,7 @@ returns-in-Refused-clause-reports c =
     (reports-refused c.args.reading.now.apid c.args.reading.now.message c.in-Some.head
     c.request-request.result.value c.args.ending c.in-Refused.code
     (search rules) (search rules) c.request-request.ensures c.in-Refused.is)
-    c.reports_around.ensures
+    c.reports_around.ensures.reports
 
 pub returns-in-Carried-clause-reports : goal.returns-in-Carried-clause-reports
 returns-in-Carried-clause-reports c =
@@ -19,4 +19,4 @@ returns-in-Carried-clause-reports c =
     (reports-carried c.args.reading.now.apid c.args.reading.now.message c.in-Some.head
     c.request-request.result.value c.args.ending c.in-Carried.report
     (search rules) (search rules) c.request-request.ensures c.in-Carried.is)
-    c.reports_around-in-Carried.ensures
+    c.reports_around-in-Carried.ensures.reports

@@ -1,9 +1,8 @@
--- The job is written back as it was, but for its mark. It is written out so that a wrong body is
--- refused at once.
-use Rattle.std.proofs.Common.{◌∙◌, ap, ◌-◌, List, refl, rules}
+-- The reading stands in the job's place. It is written out so that a wrong body is refused at once.
+use Rattle.std.proofs.Common.{◌≡◌, ap, ◌-◌, List, get_or, refl, rules}
 use Rattle.lpt_jobs.specs.declared.job.Job.{Job}
-use Rattle.lpt_jobs.specs.declared.job.Mark.TheVariants.{Committed}
-use Rattle.lpt_jobs.proofs.JobsLemmas.{set-with_mark, is_claimed-at, kept-commit}
+use Rattle.lpt_jobs.specs.declared.job.Job.TheVariants.{Committed}
+use Rattle.lpt_jobs.proofs.JobsLemmas.{is_claimed-at, kept-commit}
 use Rattle.lpt_jobs.specs.Jobs.{Jobs, after_commit}
 use Rattle.lpt_jobs.proofs.queue.JobQueue.commit.Goals as goal
 
@@ -16,10 +15,4 @@ invariant_of-self c =
     c.self.invariant there.0 there.1 refl
 
 pub returns : goal.returns
-returns c =
-    let q = c.self.inside in
-    let with_jobs : List Job → Jobs = λ jobs. record { first = q.first; jobs = jobs } in
-    let written = set-with_mark q.jobs.items (c.args.number - q.first)
-    (Committed c.args.reading) c.index_mut.result.now c.index_mut.ensures.value in
-    ap with_jobs written
-    ∙ ap (λ (v : Jobs). after_commit v c.args.number c.args.reading) c.self.view_is
+returns c = ap (λ (v : Jobs). after_commit v c.args.number c.args.reading) c.self.view_is

@@ -9,8 +9,5 @@ returns-in_default c = search rules
 pub returns-in-Waiting : goal.returns-in-Waiting
 returns-in-Waiting c = search rules
 
-pub returns-in-Claimed : goal.returns-in-Claimed
-returns-in-Claimed c = search rules
-
 pub returns-in-Committed : goal.returns-in-Committed
 returns-in-Committed c = search rules

@@ -8,13 +8,13 @@ use Rattle.lpt_jobs.proofs.queue.JobQueue.pop_front.Goals as goal
 
 pub invariant_of-self : goal.invariant_of-self
 invariant_of-self c =
-    let claimed = ap was_claimed c.in-Committed.is in
     kept-pop c.self.inside.first c.self.inside.jobs.items c.pop_front.new.self.items
-    c.self.inside.claimed c.in-Some.field-0 c.self.invariant c.in-Some.ensures.items claimed
+    c.self.inside.claimed _ c.self.invariant c.in-Some-Committed.ensures.items
+    (ap was_claimed c.in-Some-Committed.field-0-is)
 
 pub returns-clause-left : goal.returns-clause-left
 returns-clause-left c =
     let rest : List Job → Jobs
     = λ jobs. record { first = c.self.inside.first + 1; jobs = drop 1 jobs } in
-    ap rest (sym c.in-Some.ensures.items)
+    ap rest (sym c.in-Some-Committed.ensures.items)
     ∙ ap (λ (v : Jobs). without_front v) c.self.view_is

@@ -3,6 +3,3 @@ use Rattle.lpt_node.proofs.node.Node.apply_front.Goals as goal
 
 pub returns-in_default-open_first-clause-err : goal.returns-in_default-open_first-clause-err
 returns-in_default-open_first-clause-err c = c.in_default-open_first.ensures.err
-
-pub returns-in_default-open_first-clause-kept : goal.returns-in_default-open_first-clause-kept
-returns-in_default-open_first-clause-kept c = c.execution.ensures.kept

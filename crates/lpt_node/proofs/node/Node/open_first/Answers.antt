@@ -11,7 +11,7 @@ use Rattle.lpt_node.proofs.node.Node.open_first.Goals as goal
 pub invariant_of-self-2 : goal.invariant_of-self-2
 invariant_of-self-2 c =
     sound-opened c.self.inside.config c.self.inside.senders c.open.new.self c.self.inside.receiver
-    c.self.inside.outgoing c.insert.new.self c.in-Some.id c.in-Some-next.message
+    c.self.inside.outgoing c.insert.new.self c.in-Some-least_free.id c.in-Some.message
     c.self.invariant
     c.in-Ok-open.ensures.ok
     c.in-Ok.ensures.ok
@@ -30,12 +30,12 @@ returns-clause-at c =
       boot = c.self.inside.boot;
       jobs = c.self.inside.jobs;
     })
-    ∙ ap (λ (n : NodeView). opened n.at c.in-Some.id c.in-Some-next.message) c.self.view_is
-    ∙ ap (λ (m : List ℕ). opened c.args.self.now.at c.in-Some.id m) (sym c.in_ok-copy.ensures)
+    ∙ ap (λ (n : NodeView). opened n.at c.in-Some-least_free.id c.in-Some.message) c.self.view_is
+    ∙ ap (λ (m : List ℕ). opened c.args.self.now.at c.in-Some-least_free.id m) (sym c.in_ok-copy.ensures)
 
 pub returns-clause-opened : goal.returns-clause-opened
 returns-clause-opened c =
-    ap (λ (m : List ℕ). Some (c.in-Some.id, m)) c.in_ok-copy.ensures
-    ∙ ap (λ (ms : List (List ℕ)). opened_of (Some c.in-Some.id) ms) (sym c.in-Some-next.ensures.items ∙ c.into_iter.ensures.rest)
-    ∙ ap (λ (o : Option Name). opened_of o c.args.messages.items) c.in-Some.ensures.value
+    ap (λ (m : List ℕ). Some (c.in-Some-least_free.id, m)) c.in_ok-copy.ensures
+    ∙ ap (λ (ms : List (List ℕ)). opened_of (Some c.in-Some-least_free.id) ms) (sym c.in-Some.ensures.items ∙ c.into_iter.ensures.rest)
+    ∙ ap (λ (o : Option Name). opened_of o c.args.messages.items) c.in-Some-least_free.ensures.value
     ∙ ap (λ (n : NodeView). opened_of (least_free_in n.at.sending.ledger) c.args.messages.items) c.self.view_is

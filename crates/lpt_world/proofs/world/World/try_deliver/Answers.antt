@@ -9,7 +9,7 @@ use Rattle.lpt_world.specs.Worlds.{Shown, refusal_at, history}
 use Rattle.lpt_world.proofs.LegalLemmas.{numbered_few}
 use Rattle.lpt_world.proofs.OutsideLemmas.{read_of}
 use Rattle.lpt_world.proofs.WorldLemmas.{free_shown, shown_push, reply_shown}
-use Rattle.lpt_world.proofs.world.World.deliver_parsed.Goals as goal
+use Rattle.lpt_world.proofs.world.World.try_deliver.Goals as goal
 
 pub deliver_read-requires-clause-read : goal.deliver_read-requires-clause-read
 deliver_read-requires-clause-read c =

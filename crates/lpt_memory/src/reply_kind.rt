@@ -1,9 +1,7 @@
-//! What a message asks, as it is known before anything is changed.
+//! The reports that answer requests.
 
 ghost use Rattle.std.specs.Prelude.{◌≡◌};
 ghost use Rattle.lpt_memory.specs.ReplyKinds.{subtype_of};
-
-use lpt_pus::FailureCode;
 
 /// Which report answers a request.
 #[derive(Clone, Copy, Debug, PartialEq, Eq)]
@@ -24,17 +22,4 @@ impl ReplyKind {
             ReplyKind::Check => 10,
         }
     }
-}
-
-/// What a message asks of memories of the shape that it was read for.
-#[derive(Clone, Copy, Debug, PartialEq, Eq)]
-pub enum Asks {
-    /// Nothing: it is no telecommand for this node.
-    Silent,
-    /// A request that has this fault, and changes nothing.
-    Fault(FailureCode),
-    /// A load that will be done.
-    Load,
-    /// A report of this kind. Its body has so many octets, at most 65,523.
-    Reply(ReplyKind, usize),
 }

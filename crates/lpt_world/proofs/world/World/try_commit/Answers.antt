@@ -5,7 +5,7 @@ use Rattle.lpt_system.specs.LptModel.State.{refusal_of}
 use Rattle.lpt_system.specs.SystemInside.{state_of}
 use Rattle.lpt_world.specs.Worlds.{Shown, refusal_at}
 use Rattle.lpt_world.proofs.WorldLemmas.{free_shown, ready_shown, shown_push}
-use Rattle.lpt_world.proofs.world.World.commit_with.Goals as goal
+use Rattle.lpt_world.proofs.world.World.try_commit.Goals as goal
 
 pub commit_read-reply-requires-clause-ready : goal.commit_read-reply-requires-clause-ready
 commit_read-reply-requires-clause-ready c =
