@@ -3,6 +3,9 @@
 from .packets import LONGEST_PACKET, Fault, Packet, write_command, write_packet
 from .parts import PART_SUBTYPES, part_count
 
+# Why a reception is broken off by a part that isn't the next one.
+DISCONTINUITY = 2
+
 
 class Reception:
     """The parts of a message that came so far, by their numbers, and when the last one did."""
@@ -105,6 +108,9 @@ class Node:
         reception.tick = self.clock
         if part.number in reception.parts:
             return f"again {self.receives} {name} {part.number}", None
+        if self.settings.mode == "strict" and part.number != max(reception.parts, default=0) + 1:
+            self._end(name)
+            return f"broken {self.receives} {name} {DISCONTINUITY}", None
         reception.parts[part.number] = part.octets
         if part.place == 2:
             reception.count = part.number

@@ -15,6 +15,7 @@ class Settings(NamedTuple):
     receptions: int = 8
     outgoing: int = 8
     clock: int = 0
+    mode: str = "any"
     per_seat: int = 100000
     ticks: int = 0
     memory: tuple = ((1, 256, 0),)
@@ -31,6 +32,7 @@ RANGES = {
     "per_seat": (1, 1000000),
     "ticks": (0, 65535),
 }
+MODES = ("any", "strict")
 MEMORY_RANGES = {"id": (0, 255), "size": (1, 1048576), "fill": (0, 255)}
 
 
@@ -67,6 +69,7 @@ def settings_of(text):
     except (UnicodeDecodeError, tomllib.TOMLDecodeError):
         return None
     memory = memories_of(table.pop("memory")) if "memory" in table else Settings().memory
-    if memory is None or not has_numbers(table, RANGES):
+    mode = table.pop("mode", Settings().mode)
+    if memory is None or mode not in MODES or not has_numbers(table, RANGES):
         return None
-    return Settings(**table, memory=memory)
+    return Settings(**table, mode=mode, memory=memory)

@@ -3,10 +3,13 @@
 from .jobs import Jobs
 from .link import Link
 from .memories import Failure, Memories, load_body
-from .nodes import Node
+from .nodes import DISCONTINUITY, Node
 from .packets import Fault, hexadecimal, number_of, read_headers, read_packet, write_command
 from .parts import ABORT_SUBTYPE, PART_SUBTYPES, read_part
 from .settings import LAST_TICK
+
+# Why a reception is broken off that took no part for as long as the time-out.
+EXPIRED = 1
 
 # The octets of telemetry with a part, beside the part's own.
 ROOM_BESIDE_PART = 23
@@ -111,11 +114,18 @@ class World:
             outcome, message = node.accept(part)
             if message is not None:
                 self._release(node, f"{node.receives} {part.identifier}", message)
+            if node.is_craft and outcome.startswith("broken"):
+                self._report(node, part.identifier, DISCONTINUITY)
             return outcome
         if node.is_craft:
             self._release(node, "plain", octets)
             return f"plain {len(octets)}"
         return self._note(headers)
+
+    def _report(self, node, identifier, reason):
+        """Puts a report on the link that a reception was broken off."""
+        body = identifier.to_bytes(2, "big") + bytes([reason])
+        self.link.put("down", node.make(13, ABORT_SUBTYPE, body))
 
     def _release(self, node, words, message):
         """Releases a message; on the spacecraft it becomes a job."""
@@ -149,8 +159,7 @@ class World:
         node = self.nodes[name]
         identifier = node.expire()
         if node.is_craft:
-            body = identifier.to_bytes(2, "big") + b"\x01"
-            self.link.put("down", node.make(13, ABORT_SUBTYPE, body))
+            self._report(node, identifier, EXPIRED)
         return f"expired {node.receives} {identifier}"
 
     def retire(self, direction, identifier):

@@ -15,7 +15,7 @@ mod settled;
 pub use agree::agrees;
 pub use lpt_world::{
     AckFlags, Answer, Applied, Area, Call, Config, ConfigFault, Direction, Entry, Event, Lane,
-    Memories, Name, Octets, Outcome, Packet, PacketKind, Parsed, Prepared, Reason, Refused,
+    Memories, Mode, Name, Octets, Outcome, Packet, PacketKind, Parsed, Prepared, Reason, Refused,
     Release, Reply, SeatLog, Shape, Side, State, StepFault, Ticket, TmHead, Turns, Why, Worker,
     World, prepare, write_packet, write_tm,
 };

@@ -3,6 +3,7 @@
 ghost use Rattle.std.specs.Prelude.{◌≡◌, ◌↔◌, None};
 
 use crate::ConfigFault;
+use lpt_part::Mode;
 
 /// What is fixed for a whole pass. A world refuses values that are out of their ranges.
 #[derive(Clone, Copy, Debug, PartialEq, Eq)]
@@ -21,6 +22,8 @@ pub struct Config {
     pub outgoing: u32,
     /// The first value of both clocks in ticks.
     pub clock: u32,
+    /// In which order both nodes take the parts of a message.
+    pub mode: Mode,
 }
 
 impl Config {
@@ -33,6 +36,7 @@ impl Config {
     {
         let _source = self.source;
         let _clock = self.clock;
+        let _mode = self.mode;
         if self.apid > 2046 {
             return Some(ConfigFault::Apid);
         }

@@ -35,7 +35,7 @@ pub use link_packets::longest_on_link;
 pub use log::{Call, SeatLog};
 pub use lpt_part::laws::parts_fit;
 pub use lpt_part::{
-    ABORT, Kind, Part, Reason, TRANSFER, abort_octets, count, read_abort, read_part, slice,
+    ABORT, Kind, Mode, Part, Reason, TRANSFER, abort_octets, count, read_abort, read_part, slice,
 };
 pub use lpt_pus::{
     AckFlags, Direction, Name, Octets, Packet, PacketKind, Seen, TcHead, TmHead, read_packet,

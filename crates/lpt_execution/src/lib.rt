@@ -17,10 +17,10 @@ pub use applied::applied_with;
 pub use ending::{Ending, Report};
 pub use executing::{ending_of, is_small, reply_fault};
 pub use lpt_events::{
-    ABORT, Answer, Applied, Call, Config, ConfigFault, Entry, Event, Kind, Lane, Opening, Outcome,
-    Part, Puts, Reason, Refused, Release, Reply, RunEnd, SeatLog, Side, StepFault, TRANSFER,
-    TelemetryKind, Turns, Why, Worker, abort_octets, count, longest_on_link, part_kind, parts_fit,
-    read_abort, read_part, slice,
+    ABORT, Answer, Applied, Call, Config, ConfigFault, Entry, Event, Kind, Lane, Mode, Opening,
+    Outcome, Part, Puts, Reason, Refused, Release, Reply, RunEnd, SeatLog, Side, StepFault,
+    TRANSFER, TelemetryKind, Turns, Why, Worker, abort_octets, count, longest_on_link, part_kind,
+    parts_fit, read_abort, read_part, slice,
 };
 pub use lpt_memory::{
     AckFlags, Area, Direction, ERROR_CONTROL, FailureCode, LONGEST_PACKET, Memories, Name, Octets,

@@ -1,7 +1,7 @@
 //! A message split into packets.
 
 use crate::packets::{FIRST, MESSAGE, SECOND, THIRD};
-use lpt_join::{Config, Direction, Told, ToolFault, split};
+use lpt_join::{Config, Direction, Mode, Told, ToolFault, split};
 use std::alloc::Global;
 
 /// The configuration that a file without keys has.
@@ -13,6 +13,7 @@ const USUAL: Config = Config {
     receptions: 8,
     outgoing: 8,
     clock: 0,
+    mode: Mode::Any,
 };
 
 // The packets of the message's parts 1, 2 and 3, of sequence counts from 0 on.

@@ -1,3 +1,4 @@
+mod BreakLemmas
 mod DamageLemmas
 mod EndLemmas
 mod FitLemmas

@@ -1,6 +1,7 @@
 //! What the parts that came are joined to.
 
 ghost use Rattle.std.specs.Prelude.{◌≡◌, ℕ, Some, IfOk};
+ghost use Rattle.lpt_reception.specs.LptPart.declared.mode.Mode.TheVariants.{Any};
 ghost use Rattle.lpt_reception.specs.LptPart.Parts.{piece};
 ghost use Rattle.lpt_reception.specs.Answers.{Answers};
 ghost use Rattle.lpt_reception.specs.Received.{Received, Kept};
@@ -57,9 +58,9 @@ impl Joining {
 
 // What a reception's answer makes of it.
 fn after(step: Step) -> Result<Joining, AllocError>
-    ensures state { (s : Received) (n : ℕ) (x : Kept) → Answers s n x step
+    ensures state { (s : Received) (n : ℕ) (x : Kept) → Answers Any s n x step
         → IfOk result (λ j. state j ≡ added s.parts n x) }
-    ensures same { (s : Received) (n : ℕ) (x : Kept) (t : Transaction) → Answers s n x step
+    ensures same { (s : Received) (n : ℕ) (x : Kept) (t : Transaction) → Answers Any s n x step
         → s.id ≡ t.id → s.p ≡ t.part_size → IfOk result (IsJoiningOf t) }
 {
     match step {

@@ -19,6 +19,7 @@ pub use gaps::missing;
 pub use gathering::Gathering;
 pub use joining::Joining;
 pub use lpt_pus::Direction;
+pub use lpt_reception::Mode;
 pub use lpt_split::{Config, Told, ToolFault, split};
 pub use lpt_stream::{PacketBuffer, packet_length, whole_length};
 pub use reading::part_in;

@@ -8,7 +8,7 @@ use Rattle.lpt_reception.specs.LptPacket.declared.direction.Direction.{Direction
 use Rattle.lpt_reception.specs.LptPacket.Names.{Name, same_name}
 use Rattle.lpt_reception.proofs.LptPacket.NameLemmas.{same_name-true}
 use Rattle.lpt_reception.specs.LptPart.Parts.{Piece}
-use Rattle.lpt_reception.specs.Received.{Kept as KeptPart, Parts, no_parts, contradicts, is_whole, spelled}
+use Rattle.lpt_reception.specs.Received.{Kept as KeptPart, Parts, no_parts, contradicts, is_gap, is_whole, spelled}
 use Rattle.lpt_reception.proofs.LptPacket.EntryLemmas.{found_first}
 use Rattle.lpt_execution.proofs.LptEvents.LaneLemmas.{same_direction-true}
 use Rattle.lpt_execution.specs.LptEvents.Lanes.{lane_direction, same_direction}
@@ -37,15 +37,16 @@ use Rattle.lpt_journal.proofs.TestLemmas.{and_r}
 -- ---- nothing is kept of a closed transaction
 
 -- a part that is kept is of a transaction that isn't closed
-kept_open : (closed full clash again whole : Bool) (q : Piece) (len i k : ℕ)
-    → chosen closed full clash again whole q len ≡ Kept i k
+kept_open : (closed full clash again gap whole : Bool) (q : Piece) (len i k : ℕ)
+    → chosen closed full clash again gap whole q len ≡ Kept i k
     → (closed ≡ false) × (q.id ≡ i)
-kept_open true full clash again whole q len i k e = absurd cc
-kept_open false true clash again whole q len i k e = absurd cc
-kept_open false false true again whole q len i k e = absurd cc
-kept_open false false false true whole q len i k e = absurd cc
-kept_open false false false false true q len i k e = absurd cc
-kept_open false false false false false q len i k e = (refl, cc)
+kept_open true full clash again gap whole q len i k e = absurd cc
+kept_open false true clash again gap whole q len i k e = absurd cc
+kept_open false false true again gap whole q len i k e = absurd cc
+kept_open false false false true gap whole q len i k e = absurd cc
+kept_open false false false false true whole q len i k e = absurd cc
+kept_open false false false false false true q len i k e = absurd cc
+kept_open false false false false false false q len i k e = (refl, cc)
 
 judged_open : (c : Config) (h : History) (d : Direction) (a : Arrival) (i k : ℕ)
     → judged c h d a ≡ Kept i k
@@ -55,7 +56,8 @@ judged_open c h d (APart q) i k e =
     let it =
     kept_open (is_closed h d q.id)
     (not (has_parts s) && nat_le c.receptions (reception_count c h d))
-    (contradicts s q.number (kept q)) (is_some (map.get s q.number)) (is_whole (with_piece s q)) q
+    (contradicts s q.number (kept q)) (is_some (map.get s q.number)) (is_gap c.mode s q.number)
+    (is_whole (with_piece s q)) q
     (length (spelled (with_piece s q))) i k e in
     ap (is_closed h d) (sym it.1) ∙ it.0
 judged_open c h d a i k e = absurd cc

@@ -1,13 +1,16 @@
 -- A delivery pays what it owes.
-use Rattle.std.proofs.Common.{◌≡◌, ◌∙◌, ap, sym, subst, refl, ℕ, ◌≤◌, Bool, true, false, inl, inr, ◌∷◌, length, Option, Some, None, if◌then◌else◌}
+use Rattle.std.proofs.Common.{◌≡◌, ◌∙◌, ap, sym, subst, refl, ℕ, ◌≤◌, Bool, true, false, inl, inr, ◌⊎◌, ◌∷◌, length, Option, Some, None, if◌then◌else◌}
 use Rattle.std.specs.List.{slice_get}
 use Rattle.lpt_reception.specs.LptPacket.declared.direction.Direction.{Direction}
 use Rattle.lpt_reception.specs.LptPacket.Names.{Name, same_name}
 use Rattle.lpt_reception.proofs.LptPacket.NameLemmas.{same_name-true}
+use Rattle.lpt_reception.specs.LptPart.declared.mode.Mode.{Mode}
+use Rattle.lpt_reception.specs.LptPart.declared.mode.Mode.TheVariants.{Any, Strict}
 use Rattle.lpt_reception.specs.LptPart.declared.reason.Reason.{Reason}
+use Rattle.lpt_reception.specs.LptPart.declared.reason.Reason.TheVariants.{Conflict, Discontinuity}
 use Rattle.lpt_reception.specs.LptPart.Parts.{Piece}
 use Rattle.lpt_reception.specs.LptPart.Splitting.{part_count}
-use Rattle.lpt_reception.specs.Received.{no_parts, contradicts}
+use Rattle.lpt_reception.specs.Received.{Parts, no_parts, contradicts, is_gap}
 use Rattle.lpt_reception.specs.PartsOf.{IsPartOf, IsPartsOf, kept_of}
 use Rattle.lpt_reception.proofs.MessageLemmas.{parts_agree}
 use Rattle.lpt_execution.specs.LptEvents.declared.lane.Lane.{Lane}
@@ -106,11 +109,21 @@ damaged_unread : (damaged : Bool) (a : Arrival) → IsAsPut damaged a → damage
 damaged_unread true a put e = put
 damaged_unread false a put e = absurd cc
 
+-- what contradicts nothing breaks off in strict mode alone, and for a gap
+gap_alone : (mode : Mode) (s : Parts) (n : ℕ) (clash : Bool) (reason : Reason)
+    → clash ≡ false
+    → ((clash ≡ true) × (reason ≡ Conflict)) ⊎ ((is_gap mode s n ≡ true) × (reason ≡ Discontinuity))
+    → (mode ≡ Strict) × (reason ≡ Discontinuity)
+gap_alone Any s n clash reason none (inl w) = let some : clash ≡ true = w.0 in absurd cc
+gap_alone Any s n clash reason none (inr w) = let some : false ≡ true = w.0 in absurd cc
+gap_alone Strict s n clash reason none (inl w) = let some : clash ≡ true = w.0 in absurd cc
+gap_alone Strict s n clash reason none (inr w) = (refl, w.1)
+
 -- the delivery of what is in a lane's hand is sound
 pub delivery_sound : (c : Config) (h : History) (l : Lane) (n : ℕ)
     → IsSound c h
     → hand h l ≡ Some n
-    → IsSoundOutcome (is_damaged h n) (outcome c h l)
+    → IsSoundOutcome c.mode (is_damaged h n) (outcome c h l)
 delivery_sound c h l n sound e =
     let d = lane_direction l in
     let a = in_hand c h l in
@@ -119,12 +132,11 @@ delivery_sound c h l n sound e =
     let damaged = is_damaged h n in
     let known = no_stranger damaged a put in
     record {
-      not_broken = λ id reason is.
+      only_gaps = λ id reason is.
           let t = subst (λ o. TellsOf c h d a o) is tells in
-          let no : contradicts (heard c h d t.0.id) t.0.number (kept t.0) ≡ false =
-          agrees c h l n t.0 sound e t.1 in
-          let yes : contradicts (heard c h d t.0.id) t.0.number (kept t.0) ≡ true = t.2.why.0 in
-          cc;
+          gap_alone c.mode (heard c h d t.0.id) t.0.number
+          (contradicts (heard c h d t.0.id) t.0.number (kept t.0)) reason
+          (agrees c h l n t.0 sound e t.1) t.2.why;
       not_bad_part = λ is. subst (λ b. IsNoStranger b) (subst (λ o. TellsOf c h d a o) is tells) known;
       not_idle = λ is. subst (λ b. IsNoStranger b) (subst (λ o. TellsOf c h d a o) is tells) known;
       not_foreign = λ is. subst (λ b. IsNoStranger b) (subst (λ o. TellsOf c h d a o) is tells) known;

@@ -196,7 +196,7 @@ delivered_sound : (c : Config) (first : Contents) (h : History) (e : Event) (o :
     → IsSound c h
     → refusal c h e ≡ None
     → answer c first h e ≡ Delivered o
-    → WasSoundDelivery h e o
+    → WasSoundDelivery c.mode h e o
 delivered_sound c first h (Deliver l) o sound can is =
     let n = delivered c h l can in
     let same : outcome c h l ≡ o = cc in
@@ -206,7 +206,8 @@ delivered_sound c first h (Deliver l) o sound can is =
       delivers = refl;
       was_in_hand = n.1;
       sound =
-          subst (λ r. IsSoundOutcome (is_damaged h n.0) r) same (delivery_sound c h l n.0 sound n.1);
+          subst (λ r. IsSoundOutcome c.mode (is_damaged h n.0) r) same
+          (delivery_sound c h l n.0 sound n.1);
     }
 delivered_sound c first h (Expire side) o sound can is =
     absurd (none_delivered (due c h (direction_to side)) is)
@@ -222,12 +223,12 @@ delivered_sound c first h e o sound can is = absurd cc
 each_delivered : (c : Config) (first : Contents) (es : List Event)
     → IsConfig c
     → Legal c first es
-    → DeliveriesWereSound (recorded c first es)
+    → DeliveriesWereSound c.mode (recorded c first es)
 each_delivered c first [] good legal k x o f is = absurd (no_place k x f)
 each_delivered c first (e ∷ es) good legal zero x o f is =
     let h = recorded c first es in
     let same : entry c first h e ≡ x = cc in
-    subst (λ (y : Recorded). WasSoundDelivery h y.event o) same
+    subst (λ (y : Recorded). WasSoundDelivery c.mode h y.event o) same
     (delivered_sound c first h e o (every c first es good legal.0).0 legal.1.accepted
     (ap (λ (y : Recorded). y.reply.answer) same ∙ is))
 each_delivered c first (e ∷ es) good legal (suc k) x o f is =

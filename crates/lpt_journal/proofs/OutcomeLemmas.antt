@@ -1,13 +1,13 @@
 -- What an outcome tells of the packet that was delivered.
-use Rattle.std.proofs.Common.{◌≡◌, refl, ℕ, nat_le, Bool, true, false, not, ◌&&◌, length, if◌then◌else◌}
+use Rattle.std.proofs.Common.{◌≡◌, ◌⊎◌, inl, inr, refl, ℕ, nat_le, Bool, true, false, not, ◌&&◌, length, if◌then◌else◌}
 use Rattle.std.specs.Option.{is_some}
 use Rattle.std.specs.FinMap as map
 use Rattle.lpt_reception.specs.LptPacket.declared.direction.Direction.{Direction}
 use Rattle.lpt_reception.specs.LptPacket.Names.{Name}
 use Rattle.lpt_reception.specs.LptPart.declared.reason.Reason.{Reason}
-use Rattle.lpt_reception.specs.LptPart.declared.reason.Reason.TheVariants.{Conflict}
+use Rattle.lpt_reception.specs.LptPart.declared.reason.Reason.TheVariants.{Conflict, Discontinuity}
 use Rattle.lpt_reception.specs.LptPart.Parts.{Piece}
-use Rattle.lpt_reception.specs.Received.{contradicts, is_whole, spelled}
+use Rattle.lpt_reception.specs.Received.{contradicts, is_gap, is_whole, spelled}
 use Rattle.lpt_execution.specs.LptEvents.declared.config.Config.{Config}
 use Rattle.lpt_execution.specs.LptEvents.declared.outcome.Outcome.{Outcome}
 use Rattle.lpt_execution.specs.LptEvents.declared.outcome.Outcome.TheVariants.{Kept, Again, Released, Broken, Ignored}
@@ -20,12 +20,13 @@ use Rattle.lpt_journal.specs.Delivery.{judged}
 -- ---- what an outcome tells
 
 -- the outcome of a part, by its tests
-abbrev pub chosen : (closed full clash again whole : Bool) → Piece → (len : ℕ) → Outcome
-chosen closed full clash again whole q len =
+abbrev pub chosen : (closed full clash again gap whole : Bool) → Piece → (len : ℕ) → Outcome
+chosen closed full clash again gap whole q len =
     if closed then Ignored Closed
     else if full then Ignored NoRoom
     else if clash then Broken q.id Conflict
     else if again then Again q.id q.number
+    else if gap then Broken q.id Discontinuity
     else if whole then Released q.id len
     else Kept q.id q.number
 
@@ -36,32 +37,34 @@ pub record IsReleased (closed whole : Bool) (q : Piece) (i : Name) : Type 0 wher
   pub is_all : whole ≡ true
 
 -- a part that broke its reception off: its transaction was not closed, and it contradicted what was
--- kept
-pub record IsBroken (closed clash : Bool) (q : Piece) (i : Name) (reason : Reason) : Type 0 where
+-- kept or wasn't the next one
+pub record IsBroken (closed clash gap : Bool) (q : Piece) (i : Name) (reason : Reason) : Type 0 where
   pub same_id : i ≡ q.id
   pub was_open : closed ≡ false
-  pub why : (clash ≡ true) × (reason ≡ Conflict)
+  pub why : ((clash ≡ true) × (reason ≡ Conflict)) ⊎ ((gap ≡ true) × (reason ≡ Discontinuity))
 
-abbrev Tells : (closed clash whole : Bool) → Piece → Outcome → Type 0
-Tells closed clash whole q (Kept i k) = i ≡ q.id
-Tells closed clash whole q (Released i len) = IsReleased closed whole q i
-Tells closed clash whole q (Broken i reason) = IsBroken closed clash q i reason
-Tells closed clash whole q (Ignored Unreadable) = ⊥
-Tells closed clash whole q (Ignored Idle) = ⊥
-Tells closed clash whole q (Ignored ForeignApid) = ⊥
-Tells closed clash whole q (Ignored BadPart) = ⊥
-Tells closed clash whole q _ = Unit {0}
+abbrev Tells : (closed clash gap whole : Bool) → Piece → Outcome → Type 0
+Tells closed clash gap whole q (Kept i k) = i ≡ q.id
+Tells closed clash gap whole q (Released i len) = IsReleased closed whole q i
+Tells closed clash gap whole q (Broken i reason) = IsBroken closed clash gap q i reason
+Tells closed clash gap whole q (Ignored Unreadable) = ⊥
+Tells closed clash gap whole q (Ignored Idle) = ⊥
+Tells closed clash gap whole q (Ignored ForeignApid) = ⊥
+Tells closed clash gap whole q (Ignored BadPart) = ⊥
+Tells closed clash gap whole q _ = Unit {0}
 
-chosen_tells : (closed full clash again whole : Bool) (q : Piece) (len : ℕ)
-    → Tells closed clash whole q (chosen closed full clash again whole q len)
-chosen_tells true full clash again whole q len = tt
-chosen_tells false true clash again whole q len = tt
-chosen_tells false false true again whole q len =
-    record { same_id = refl; was_open = refl; why = (refl, refl) }
-chosen_tells false false false true whole q len = tt
-chosen_tells false false false false true q len =
+chosen_tells : (closed full clash again gap whole : Bool) (q : Piece) (len : ℕ)
+    → Tells closed clash gap whole q (chosen closed full clash again gap whole q len)
+chosen_tells true full clash again gap whole q len = tt
+chosen_tells false true clash again gap whole q len = tt
+chosen_tells false false true again gap whole q len =
+    record { same_id = refl; was_open = refl; why = inl (refl, refl) }
+chosen_tells false false false true gap whole q len = tt
+chosen_tells false false false false true whole q len =
+    record { same_id = refl; was_open = refl; why = inr (refl, refl) }
+chosen_tells false false false false false true q len =
     record { same_id = refl; was_open = refl; is_all = refl }
-chosen_tells false false false false false q len = refl
+chosen_tells false false false false false false q len = refl
 
 -- what the outcome of what arrives tells of it
 abbrev pub TellsOf : Config → History → Direction → Arrival → Outcome → Type 0
@@ -71,7 +74,8 @@ TellsOf c h d a (Released i len) =
     (is_whole (with_piece (heard c h d q.id) q)) q i
 TellsOf c h d a (Broken i reason) =
     (q : Piece) × (a ≡ APart q)
-    × IsBroken (is_closed h d q.id) (contradicts (heard c h d q.id) q.number (kept q)) q i reason
+    × IsBroken (is_closed h d q.id) (contradicts (heard c h d q.id) q.number (kept q))
+    (is_gap c.mode (heard c h d q.id) q.number) q i reason
 TellsOf c h d a (Ignored Unreadable) = a ≡ NotRead
 TellsOf c h d a (Ignored Idle) = a ≡ AnIdle
 TellsOf c h d a (Ignored ForeignApid) = a ≡ Foreign
@@ -80,6 +84,7 @@ TellsOf c h d a _ = Unit {0}
 
 part_tells : (c : Config) (h : History) (d : Direction) (q : Piece) (o : Outcome)
     → Tells (is_closed h d q.id) (contradicts (heard c h d q.id) q.number (kept q))
+    (is_gap c.mode (heard c h d q.id) q.number)
     (is_whole (with_piece (heard c h d q.id) q)) q o
     → TellsOf c h d (APart q) o
 part_tells c h d q (Kept i k) t = (q, refl, t)
@@ -106,5 +111,6 @@ judged_tells c h d (APart q) =
     part_tells c h d q (judged c h d (APart q))
     (chosen_tells (is_closed h d q.id)
     (not (has_parts s) && nat_le c.receptions (reception_count c h d))
-    (contradicts s q.number (kept q)) (is_some (map.get s q.number)) (is_whole (with_piece s q)) q
+    (contradicts s q.number (kept q)) (is_some (map.get s q.number)) (is_gap c.mode s q.number)
+    (is_whole (with_piece s q)) q
     (length (spelled (with_piece s q))))

@@ -6,7 +6,10 @@ use Rattle.std.specs.Option.{option_and_then}
 use Rattle.std.specs.FinMap as map
 use Rattle.lpt_reception.specs.LptPacket.declared.direction.Direction.{Direction}
 use Rattle.lpt_reception.specs.LptPacket.Names.{Name}
+use Rattle.lpt_reception.specs.LptPart.declared.mode.Mode.{Mode}
+use Rattle.lpt_reception.specs.LptPart.declared.mode.Mode.TheVariants.{Strict}
 use Rattle.lpt_reception.specs.LptPart.declared.reason.Reason.{Reason}
+use Rattle.lpt_reception.specs.LptPart.declared.reason.Reason.TheVariants.{Discontinuity}
 use Rattle.lpt_reception.specs.LptPart.Parts.{Piece}
 use Rattle.lpt_reception.specs.LptPart.Splitting.{part_count}
 use Rattle.lpt_execution.specs.LptMemory.Memories.{Contents}
@@ -107,36 +110,39 @@ AtMostOncePerOpening c h =
 -- ---- deliveries
 
 -- What was delivered is read as a part that contradicts nothing, or as a message that is no part,
--- but where the packet was damaged: exactly then it isn't read.
-pub record IsSoundOutcome (damaged : Bool) (o : Outcome) : Type 0 where
-  pub not_broken : (id : Name) (reason : Reason) → ¬ (o ≡ Broken id reason)
+-- but where the packet was damaged: exactly then it isn't read. A part breaks its reception off in
+-- strict mode alone, and there only since it isn't the next one.
+pub record IsSoundOutcome (mode : Mode) (damaged : Bool) (o : Outcome) : Type 0 where
+  pub only_gaps : (id : Name) (reason : Reason)
+      → o ≡ Broken id reason
+      → (mode ≡ Strict) × (reason ≡ Discontinuity)
   pub not_bad_part : ¬ (o ≡ Ignored BadPart)
   pub not_idle : ¬ (o ≡ Ignored Idle)
   pub not_foreign : ¬ (o ≡ Ignored ForeignApid)
   pub unreadable : (o ≡ Ignored Unreadable) ↔ (damaged ≡ true)
 
 -- after this history an event delivered a packet from a lane's hand, with a sound outcome
-pub record WasSoundDelivery (h : History) (e : Event) (o : Outcome) : Type 0 where
+pub record WasSoundDelivery (mode : Mode) (h : History) (e : Event) (o : Outcome) : Type 0 where
   pub lane : Lane
   pub number : ℕ
   pub delivers : e ≡ Deliver lane
   pub was_in_hand : hand h lane ≡ Some number
-  pub sound : IsSoundOutcome (is_damaged h number) o
+  pub sound : IsSoundOutcome mode (is_damaged h number) o
 
 -- each delivery that happened was sound; behind an entry stands the history before it
-abbrev pub DeliveriesWereSound : History → Type 0
-DeliveriesWereSound h =
+abbrev pub DeliveriesWereSound : Mode → History → Type 0
+DeliveriesWereSound mode h =
     (k : ℕ) (x : Recorded) (o : Outcome)
     → slice_get h k ≡ Some x
     → x.reply.answer ≡ Delivered o
-    → WasSoundDelivery (drop (suc k) h) x.event o
+    → WasSoundDelivery mode (drop (suc k) h) x.event o
 
 -- whatever packet a lane has in its hand, its delivery is sound
 abbrev pub DeliveriesAreSound : Config → History → Type 0
 DeliveriesAreSound c h =
     (l : Lane) (n : ℕ)
     → hand h l ≡ Some n
-    → IsSoundOutcome (is_damaged h n) (outcome c h l)
+    → IsSoundOutcome c.mode (is_damaged h n) (outcome c h l)
 
 -- ---- memories
 
@@ -164,7 +170,7 @@ pub record Holds (c : Config) (first : Contents) (h : History) : Type 0 where
   pub messages : EachIsLastOpened c h
   pub once : AtMostOncePerOpening c h
   pub deliveries : DeliveriesAreSound c h
-  pub delivered : DeliveriesWereSound h
+  pub delivered : DeliveriesWereSound c.mode h
   pub memories : MemoriesFollow c first h
 
 -- it holds of every legal journal, whatever its events, their order and their number

@@ -8,7 +8,8 @@ ghost use Rattle.lpt_journal.specs.Work.{WorkIsOfItsBoot};
 /// last opened under its name; each large message that was released is byte for byte the one last
 /// opened under its name in its direction, so by the other node, and at most once per opening. What
 /// is delivered is a message that contradicts nothing; it isn't read exactly where the link's noise
-/// left it. The memories are their first content, changed by released requests, each executed at
+/// left it. In strict mode alone a part breaks its reception off, and only one that isn't the next.
+/// The memories are their first content, changed by released requests, each executed at
 /// most once and in order of release.
 pub fn headline()
     ensures { Headline }

@@ -258,6 +258,72 @@ fn no_part_contradicts_another(rt: HostRuntime) {
     assert!(rt; Reason::Conflict.code() == 3);
 }
 
+// What a reception that takes parts in order answers to a part, and why it is broken off.
+fn judge_in_order(filling: Filling, part: &Part<'_>) -> (Said, Option<Reason>)
+    requires id { part.now.id ≡ filling.id }
+    requires p { part.now.p ≡ filling.p }
+{
+    match filling.accept_strict(part) {
+        Step::Conflict(broken) => (Said::Conflict, Some(broken.abort())),
+        Step::Whole(whole) => {
+            drop(whole.back());
+            (Said::Whole, None)
+        }
+        Step::Again(left) => {
+            drop(left);
+            (Said::Again, None)
+        }
+        Step::Filling(left) => {
+            drop(left);
+            (Said::Kept, None)
+        }
+        Step::NoMemory(left) => {
+            drop(left);
+            (Said::NoMemory, None)
+        }
+    }
+}
+
+// The same of one that begins with the first of two parts, and the second.
+fn answer_in_order(alloc: Global, first: Fields, second: Fields) -> (Said, Option<Reason>) {
+    let (Some(first), Some(second)) = (
+        part(first.0, first.1, first.2),
+        part(second.0, second.1, second.2),
+    ) else {
+        return (Said::NoPart, None);
+    };
+    match Filling::start(alloc, &first, 8) {
+        Ok(filling) => judge_in_order(filling, &second),
+        Err(_) => (Said::NoMemory, None),
+    }
+}
+
+/// Two parts, and what is said of the second where parts are taken in order.
+static PAIRS_IN_ORDER: [(Fields, Fields, Said, Option<Reason>); 7] = [
+    (FIRST, LAST_OF_TWO, Said::Whole, None),
+    (FIRST, (2, Kind::Middle, &EIGHT), Said::Kept, None),
+    // A late repeat is no gap.
+    (THIRD, THIRD, Said::Again, None),
+    (FIRST, THIRD, Said::Conflict, Some(Reason::Discontinuity)),
+    (THIRD, FIRST, Said::Conflict, Some(Reason::Discontinuity)),
+    // A contradiction comes before a gap, and where there is none.
+    (THIRD, LAST_OF_TWO, Said::Conflict, Some(Reason::Conflict)),
+    (LAST, FOURTH, Said::Conflict, Some(Reason::Conflict)),
+];
+
+const FOURTH: Fields = (4, Kind::Middle, &EIGHT);
+
+#[test]
+fn a_gap_breaks_off_where_parts_are_taken_in_order(rt: HostRuntime) {
+    for (row, (first, second, said, reason)) in PAIRS_IN_ORDER.iter().enumerate() {
+        assert!(rt;
+            answer_in_order(rt.alloc(), *first, *second) == (*said, *reason),
+            "row {row}"
+        );
+    }
+    assert!(rt; Reason::Discontinuity.code() == 2);
+}
+
 // The longest message.
 fn longest(alloc: Global) -> Result<Vec<u8>, AllocError> {
     let mut message = Vec::with_capacity(alloc, 65_542)?;

@@ -3,7 +3,7 @@
 ghost use Rattle.std.specs.Prelude.{◌≡◌, None, IsSomeAnd};
 
 use lpt_memory::Name;
-use lpt_table::{Broken, Kind, Offer, Part, Reason, Table, Whole};
+use lpt_table::{Broken, Kind, Mode, Offer, Part, Reason, Table, Whole};
 use std::process::Abort;
 use std::test::Fail;
 
@@ -24,6 +24,7 @@ enum Came {
     Again,
     Released(usize),
     BrokenOff(Reason),
+    Gap,
     PutBack,
     NoRoom,
     Memory,
@@ -109,6 +110,7 @@ fn offer(table: &mut Table, part: &Part<'_>, now: u32, way: Way) -> Came
         Offer::Kept => Came::Kept,
         Offer::Again => Came::Again,
         Offer::NoRoom => Came::NoRoom,
+        Offer::Gap => Came::Gap,
         Offer::Memory => Came::Memory,
         Offer::Conflict(broken) => break_off(table, part.id, broken, way),
         Offer::Whole(whole) => end(table, part.id, whole, way),
@@ -178,8 +180,39 @@ fn check_room(rt: &impl Abort, table: &mut Table)
 
 #[test]
 fn one_reception_at_a_time(rt: HostRuntime) -> Result<(), Fail> {
-    let mut table = Table::new(rt.alloc(), 1, 10, 4)?;
+    let mut table = Table::new(rt.alloc(), 1, 10, 4, Mode::Any)?;
     check_room(&rt, &mut table);
+    drop(table);
+    Ok(())
+}
+
+// Where parts are taken in order, a part that is neither kept nor the next one breaks off.
+fn check_in_order(rt: &impl Abort, table: &mut Table)
+    requires p { table.old.p ≡ 4 }
+    requires settled { table.old.out ≡ None }
+{
+    let gap = Came::BrokenOff(Reason::Discontinuity);
+    let contradiction = Came::BrokenOff(Reason::Conflict);
+    let rows = [
+        (7, 2, Kind::Last, ONES, 0, Came::Gap),
+        (7, 1, Kind::First, ZEROS, 0, Came::Kept),
+        (8, 2, Kind::Last, ONES, 0, Came::NoRoom),
+        (7, 2, Kind::Middle, ONES, 1, Came::Kept),
+        (7, 1, Kind::First, ZEROS, 2, Came::Again),
+        (7, 4, Kind::Last, ONES, 3, gap),
+        (8, 1, Kind::First, ZEROS, 4, Came::Kept),
+        (8, 1, Kind::First, ONES, 5, contradiction),
+        (9, 1, Kind::First, ZEROS, 6, Came::Kept),
+        (9, 2, Kind::Last, ONES, 7, Came::Released(8)),
+    ];
+    offer_rows(rt, table, &rows);
+    assert!(rt; table.len() == 0);
+}
+
+#[test]
+fn parts_in_order(rt: HostRuntime) -> Result<(), Fail> {
+    let mut table = Table::new(rt.alloc(), 1, 10, 4, Mode::Strict)?;
+    check_in_order(&rt, &mut table);
     drop(table);
     Ok(())
 }
@@ -208,7 +241,7 @@ fn check_cleared(rt: &impl Abort, table: &mut Table)
 
 #[test]
 fn the_oldest_and_then_the_least_is_due(rt: HostRuntime) -> Result<(), Fail> {
-    let mut table = Table::new(rt.alloc(), 3, 10, 4)?;
+    let mut table = Table::new(rt.alloc(), 3, 10, 4, Mode::Any)?;
     offer_rows(&rt, &mut table, &THREE);
     check_due(&rt, &mut table);
     check_cleared(&rt, &mut table);
@@ -238,7 +271,7 @@ fn check_ticks(rt: &impl Abort, table: &mut Table)
 
 #[test]
 fn a_repeated_part_renews_and_what_is_put_back_does_not(rt: HostRuntime) -> Result<(), Fail> {
-    let mut table = Table::new(rt.alloc(), 1, 10, 4)?;
+    let mut table = Table::new(rt.alloc(), 1, 10, 4, Mode::Any)?;
     check_ticks(&rt, &mut table);
     drop(table);
     Ok(())
@@ -262,7 +295,7 @@ fn check_order(rt: &impl Abort, table: &mut Table)
 
 #[test]
 fn a_renewed_reception_is_due_behind_the_others(rt: HostRuntime) -> Result<(), Fail> {
-    let mut table = Table::new(rt.alloc(), 2, 10, 4)?;
+    let mut table = Table::new(rt.alloc(), 2, 10, 4, Mode::Any)?;
     check_order(&rt, &mut table);
     drop(table);
     Ok(())

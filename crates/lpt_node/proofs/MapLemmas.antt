@@ -1,8 +1,9 @@
 -- What is under a name in a finite map after a change, by comparison of names.
-use Rattle.std.proofs.Common.{◌≡◌, ◌∙◌, ap, cond, Some, None}
-use Rattle.lpt_execution.proofs.LptPacket.NameLemmas.{name_cmp_total, name_tied}
+use Rattle.std.proofs.Common.{◌≡◌, ◌∙◌, ap, cond, Option, Some, None, false, is_some, refl}
+use Rattle.lpt_execution.proofs.LptPacket.NameLemmas.{name_cmp_total, name_cmp-IsAntisymmetric, name_tied}
 use Rattle.std.specs.FinMap as map
 use Rattle.lpt_execution.specs.LptPacket.Names.{Name, same_name, name_cmp}
+use Rattle.lpt_table.proofs.MapLemmas.{remove-absent}
 
 -- the value that was put under a name, and each other name's own
 pub get_insert : {A : Type 0} (m : map.FinMap name_cmp A) (id : Name) (x : A) (q : Name)
@@ -15,3 +16,14 @@ pub get_remove : {A : Type 0} (m : map.FinMap name_cmp A) (id q : Name)
     → map.get (map.remove m id) q ≡ cond (same_name q id) None (map.get m q)
 get_remove m id q =
     map.get-remove name_cmp_total m id q ∙ ap (λ b. cond b None (map.get m q)) (name_tied q id)
+
+-- to take out a name under which nothing stands changes nothing
+pub remove-none : {A : Type 0} (m : map.FinMap name_cmp A) (id : Name)
+    → is_some (map.get m id) ≡ false
+    → map.remove m id ≡ m
+remove-none m id h =
+    remove-absent name_cmp_total name_cmp-IsAntisymmetric m id (none (map.get m id) h)
+  where
+    none : {A : Type 0} (o : Option A) → is_some o ≡ false → o ≡ None
+    none None e = refl
+    none (Some x) e = absurd cc

@@ -10,22 +10,24 @@ use Rattle.lpt_ledger.specs.declared.state.State.{State}
 use Rattle.lpt_ledger.specs.declared.state.State.TheVariants.{Free, Open, Closed}
 use Rattle.lpt_ledger.specs.Marks.{Marks, Shut}
 use Rattle.lpt_ledger.specs.States.{state_at, is_free}
-use Rattle.lpt_table.specs.LptReception.Received.{Received, Ended, BrokenOff, all_of, break_reason, is_whole, spelled}
+use Rattle.lpt_execution.specs.LptPart.declared.reason.Reason.TheVariants as reason
+use Rattle.lpt_table.specs.LptReception.Received.{Received, Ended, BrokenOff, all_of, is_whole, spelled}
 use Rattle.lpt_table.specs.Offering as offering
-use Rattle.lpt_table.specs.Offering.{OfferKind, TakesOut, offered, parts_at, put_back, received_at, taken_out, with_entry}
+use Rattle.lpt_table.specs.Offering.{OfferKind, TakesOut, at_gap, is_open, offered, parts_at, put_back, received_at, taken_out, with_entry}
 use Rattle.lpt_table.specs.declared.offer.Offer.TheVariants.{Memory}
 use Rattle.lpt_table.specs.Offers.{Offers}
 use Rattle.lpt_table.specs.Tables.{Entries, TableState}
 use Rattle.lpt_node.specs.declared.taken.Taken.{Taken}
 use Rattle.lpt_node.specs.declared.taken.Taken.TheVariants as taking
 use Rattle.lpt_node.specs.Receivers.{ReceiverState, IsReceiver, abort_report, after_offer, ended, grows, if_free, kept_of, parts_with, received, received_from}
+use Rattle.lpt_node.proofs.MapLemmas.{remove-none}
 
 -- ---- an offer
 
 -- what is seen of a ledger and a table
 abbrev pub view : Marks → TableState → ReceiverState
 view m t =
-    record { limit = t.limit; timeout = t.timeout; p = t.p; ledger = m; entries = t.entries }
+    record { limit = t.limit; timeout = t.timeout; p = t.p; mode = t.mode; ledger = m; entries = t.entries }
 
 not_free : (s : State) → (s ≡ Free → ⊥) → is_free s ≡ false
 not_free Free other = absurd (other refl)
@@ -43,12 +45,14 @@ received-closed head r q now other =
       limit = r.limit;
       timeout = r.timeout;
       p = r.p;
+      mode = r.mode;
       entries = r.entries;
       out = None;
     }) q) (offered (record {
       limit = r.limit;
       timeout = r.timeout;
       p = r.p;
+      mode = r.mode;
       entries = r.entries;
       out = None;
     }) q.id q.number (kept_of q) now)) (r, taking.Closed))
@@ -101,6 +105,26 @@ module _ (head : Option Telemetry) (m : Marks) (old mid : TableState) (q : Piece
       → (view m mid, taking.NoRoom) ≡ received head seen q now
   received-no_room e new =
       ap (λ (t : TableState). (view m t, taking.NoRoom)) new ∙ received-offered offering.NoRoom e
+
+  -- there was a gap before a reception was open
+  pub received-gap : {E : Type 0} (r : Result Taken E) (after : Marks)
+      → OnOk r (after ≡ map.insert m q.id Shut)
+      → IfOk r (λ t. t ≡ taking.Broken reason.Discontinuity (abort_report head q.id reason.Discontinuity))
+      → offered old q.id q.number (kept_of q) now ≡ (offering.Gap, mid)
+      → is_open old q.id ≡ false
+      → mid ≡ old
+      → IfOk r (λ t. ◌≡◌ {A = ReceiverState × Taken} (view after mid, t) (received head seen q now))
+  received-gap (Ok t) after a is e none new =
+      (λ i. (
+        record (view m (new i)) {
+          ledger = a i;
+          entries = (ap (λ (t : TableState). t.entries) new
+              ∙ sym (remove-none old.entries q.id none)) i;
+        },
+        is i,
+      ))
+      ∙ received-offered offering.Gap e
+  received-gap (Err x) after a is e none new = tt
 
   module _ {E : Type 0} (r : Result Taken E) (after : Marks) (new : TableState)
       (shut : OnOk r (after ≡ map.insert m q.id Shut))
@@ -171,19 +195,28 @@ module _ (head : Option Telemetry) (m : Marks) (old mid : TableState) (q : Piece
   grows-broken (Ok x) reason made e = tt
   grows-broken (Err x) reason made e = sym (as_offered (offering.Conflict reason) e) ∙ made
 
+  -- a gap was found, and a report is made
+  pub grows-gap : {X E : Type 0} (r : Result X E)
+      → OnErr r (is_some (abort_report head q.id reason.Discontinuity) ≡ true)
+      → offered old q.id q.number (kept_of q) now ≡ (offering.Gap, mid)
+      → OnErr r (grows (received head seen q now).1 ≡ true)
+  grows-gap (Ok x) made e = tt
+  grows-gap (Err x) made e = sym (as_offered offering.Gap e) ∙ made
+
   -- what an offer comes to, by the table's tests
-  abbrev made : (full contra again whole : Bool) → OfferKind × TableState
-  made full contra again whole =
+  abbrev made : (full contra again gap whole : Bool) → OfferKind × TableState
+  made full contra again gap whole =
       if full then (offering.NoRoom, old)
-      else if contra then (offering.Conflict break_reason, taken_out old q.id)
+      else if contra then (offering.Conflict reason.Conflict, taken_out old q.id)
       else if again then (offering.Again, with_entry old q.id (parts_at old q.id) now)
+      else if gap then at_gap old q.id
       else if whole then (offering.Whole, taken_out old q.id)
       else (offering.Kept, with_entry old q.id (parts_with old q) now)
 
   abbrev grows_as : OfferKind × TableState → Bool
   grows_as o = grows (received_from head (view m old) q.id (parts_with old q) o).1
 
-  kept_or_whole : (whole : Bool) → grows_as (made false false false whole) ≡ true
+  kept_or_whole : (whole : Bool) → grows_as (made false false false false whole) ≡ true
   kept_or_whole true = refl
   kept_or_whole false = refl
 
@@ -195,7 +228,7 @@ module _ (head : Option Telemetry) (m : Marks) (old mid : TableState) (q : Piece
       let o = offered old q.id q.number (kept_of q) now in
       sym (ap (λ (x : ReceiverState × Taken). grows x.1)
       (received-offered head m old o.1 q now seen is sound free o.0 refl))
-      ∙ (λ i. grows_as (made (h.0 i) (h.1.0.agrees i) (is_some (h.1.0.absent i)) (is_whole (parts_with old q))))
+      ∙ (λ i. grows_as (made (h.0 i) (h.1.0.new.agrees i) (is_some (h.1.0.new.absent i)) (h.1.0.in_order i) (is_whole (parts_with old q))))
       ∙ kept_or_whole (is_whole (parts_with old q))
 
 -- what came out is put back

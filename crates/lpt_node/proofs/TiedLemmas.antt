@@ -8,10 +8,11 @@ use Rattle.lpt_ledger.specs.declared.state.State.{State}
 use Rattle.lpt_ledger.specs.declared.state.State.TheVariants.{Free, Open, Closed}
 use Rattle.lpt_ledger.specs.Marks.{Mark, Marks, Shut}
 use Rattle.lpt_ledger.specs.States.{state_of, state_at}
+use Rattle.lpt_execution.specs.LptPart.declared.mode.Mode.{Mode}
 use Rattle.lpt_table.specs.LptReception.Received.{Received}
-use Rattle.lpt_table.specs.Offering.{TakesOut, parts_at, put_back, received_at}
+use Rattle.lpt_table.specs.Offering.{TakesOut, is_open, parts_at, put_back, received_at}
 use Rattle.lpt_table.specs.Tables.{Entries, TableEntry, TableState, no_receptions}
-use Rattle.lpt_node.proofs.MapLemmas.{get_insert, get_remove}
+use Rattle.lpt_node.proofs.MapLemmas.{get_insert, get_remove, remove-none}
 use Rattle.lpt_node.specs.Receivers.{IsTied, AllTied, IsReceiver}
 
 -- ---- names stay tied
@@ -78,6 +79,25 @@ sound-out (Err x) m after old mid new id before sound out a b c d is law =
     subst (λ (t : TableState). IsReceiver after t) (sym (d ∙ ap (λ (s : Received). put_back mid id s.parts) is ∙ law))
     (subst (λ (m : Marks). IsReceiver m old) (sym c) sound)
 
+-- a gap was found before a reception was open
+pub sound-gap : {X E : Type 0} (r : Result X E) (m after : Marks) (old new : TableState) (id : Name)
+    → IsReceiver m old
+    → OnOk r (after ≡ map.insert m id Shut)
+    → OnErr r (after ≡ m)
+    → is_open old id ≡ false
+    → new ≡ old
+    → IsReceiver after new
+sound-gap (Ok x) m after old new id sound a b none is =
+    subst (λ (t : TableState). IsReceiver after t) (sym is)
+    (subst (λ (m : Marks). IsReceiver m old) (sym a) (record {
+      settled = sound.settled;
+      tied = subst (λ es. AllTied (map.insert m id Shut) es)
+          (remove-none old.entries id none) (tied-ended m old.entries id sound.tied);
+    }))
+sound-gap (Err x) m after old new id sound a b none is =
+    subst (λ (t : TableState). IsReceiver after t) (sym is)
+    (subst (λ (m : Marks). IsReceiver m old) (sym b) sound)
+
 -- a reception ended for its age
 pub sound-expired : (m after : Marks) (old new : TableState) (id : Name)
     → IsReceiver m old
@@ -130,16 +150,16 @@ sound-cleared m old new sound is =
     go Closed e tied = refl
 
 -- nothing has happened
-pub sound-new : (limit timeout p : ℕ) (m : Marks) (t : TableState)
+pub sound-new : (limit timeout p : ℕ) (mode : Mode) (m : Marks) (t : TableState)
     → m ≡ map.empty
-    → t ≡ no_receptions limit timeout p
+    → t ≡ no_receptions limit timeout p mode
     → IsReceiver m t
-sound-new limit timeout p m t a b =
+sound-new limit timeout p mode m t a b =
     subst (λ (t : TableState). IsReceiver m t) (sym b)
-    (subst (λ (m : Marks). IsReceiver m (no_receptions limit timeout p)) (sym a)
+    (subst (λ (m : Marks). IsReceiver m (no_receptions limit timeout p mode)) (sym a)
     (record { settled = refl; tied = λ q. nothing q }))
   where
-    nothing : (q : Name) → IsTied (state_at map.empty q) (map.get (no_receptions limit timeout p).entries q)
+    nothing : (q : Name) → IsTied (state_at map.empty q) (map.get (no_receptions limit timeout p mode).entries q)
     nothing q =
-        subst (λ o. IsTied (state_of o) (map.get (no_receptions limit timeout p).entries q))
+        subst (λ o. IsTied (state_of o) (map.get (no_receptions limit timeout p mode).entries q))
         (sym (map.get-empty name_cmp q)) tt

@@ -2,7 +2,9 @@
 use Rattle.std.specs.Prelude.{◌≡◌, ℕ, Bool, true, false, List, refl}
 use Rattle.std.specs.Coded.{Coded, code_by, coded×, coded_ℕ, coded_bool, coded_list}
 use Rattle.lpt_ledger.specs.Marks.{Marks, coded_marks}
+use Rattle.lpt_table.specs.LptReception.Codes.{coded_mode}
 use Rattle.lpt_table.specs.Tables.{Entries, coded_entries}
+use Rattle.lpt_execution.specs.LptPart.declared.mode.Mode.{Mode}
 use Rattle.lpt_execution.specs.LptEvents.declared.side.Side.{Side}
 use Rattle.lpt_execution.specs.LptEvents.declared.side.Side.TheVariants.{Ground, Craft}
 use Rattle.lpt_execution.specs.LptEvents.declared.config.Config.{Config}
@@ -25,9 +27,10 @@ coded_side =
 -- the code of a configuration
 abbrev pub coded_config : Coded Config
 coded_config =
-    code_by (ℕ × (ℕ × (ℕ × (ℕ × (ℕ × (ℕ × ℕ))))))
-    (coded× coded_ℕ (coded× coded_ℕ (coded× coded_ℕ (coded× coded_ℕ (coded× coded_ℕ (coded× coded_ℕ coded_ℕ))))))
-    (λ c. (c.apid, (c.source, (c.part_size, (c.timeout, (c.receptions, (c.outgoing, c.clock)))))))
+    code_by (ℕ × (ℕ × (ℕ × (ℕ × (ℕ × (ℕ × (ℕ × Mode)))))))
+    (coded× coded_ℕ (coded× coded_ℕ (coded× coded_ℕ (coded× coded_ℕ (coded× coded_ℕ
+    (coded× coded_ℕ (coded× coded_ℕ coded_mode)))))))
+    (λ c. (c.apid, (c.source, (c.part_size, (c.timeout, (c.receptions, (c.outgoing, (c.clock, c.mode))))))))
     (λ q. record {
       apid = q.0;
       source = q.1.0;
@@ -35,7 +38,8 @@ coded_config =
       timeout = q.1.1.1.0;
       receptions = q.1.1.1.1.0;
       outgoing = q.1.1.1.1.1.0;
-      clock = q.1.1.1.1.1.1;
+      clock = q.1.1.1.1.1.1.0;
+      mode = q.1.1.1.1.1.1.1;
     })
     (λ _. refl)
 

@@ -30,6 +30,7 @@ pub record IsConfigured (c : Config) (r : ReceiverState) : Type 0 where
   pub limit : r.limit ≡ c.receptions
   pub timeout : r.timeout ≡ c.timeout
   pub p : r.p ≡ c.part_size
+  pub mode : r.mode ≡ c.mode
 
 -- a message is kept exactly where the sender is open
 abbrev pub AreKept : Marks → Messages → Type 0

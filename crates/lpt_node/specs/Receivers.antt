@@ -12,6 +12,9 @@ use Rattle.lpt_ledger.specs.declared.state.State.{State}
 use Rattle.lpt_ledger.specs.declared.state.State.TheVariants.{Free, Open, Closed}
 use Rattle.lpt_ledger.specs.Marks.{Marks, Shut, coded_marks}
 use Rattle.lpt_ledger.specs.States.{state_at, is_free}
+use Rattle.lpt_execution.specs.LptPart.declared.mode.Mode.{Mode}
+use Rattle.lpt_table.specs.LptReception.Codes.{coded_mode}
+use Rattle.lpt_execution.specs.LptPart.declared.reason.Reason.TheVariants as reason
 use Rattle.lpt_table.specs.LptReception.Received.{Kept, Parts, with_part, spelled}
 use Rattle.lpt_table.specs.Tables.{Entries, TableEntry, TableState, coded_entries}
 use Rattle.lpt_table.specs.Offering.{OfferKind, parts_at, offered}
@@ -26,22 +29,23 @@ pub record ReceiverState : Type 0 where
   pub limit : ℕ
   pub timeout : ℕ
   pub p : ℕ
+  pub mode : Mode
   pub ledger : Marks
   pub entries : Entries
 
 -- the code of a receiver
 abbrev pub coded_receiver : Coded ReceiverState
 coded_receiver =
-    code_by (ℕ × (ℕ × (ℕ × (Marks × Entries))))
-    (coded× coded_ℕ (coded× coded_ℕ (coded× coded_ℕ (coded× coded_marks coded_entries))))
-    (λ r. (r.limit, (r.timeout, (r.p, (r.ledger, r.entries)))))
-    (λ x. record { limit = x.0; timeout = x.1.0; p = x.1.1.0; ledger = x.1.1.1.0; entries = x.1.1.1.1 })
+    code_by (ℕ × (ℕ × (ℕ × (Mode × (Marks × Entries)))))
+    (coded× coded_ℕ (coded× coded_ℕ (coded× coded_ℕ (coded× coded_mode (coded× coded_marks coded_entries)))))
+    (λ r. (r.limit, (r.timeout, (r.p, (r.mode, (r.ledger, r.entries))))))
+    (λ x. record { limit = x.0; timeout = x.1.0; p = x.1.1.0; mode = x.1.1.1.0; ledger = x.1.1.1.1.0; entries = x.1.1.1.1.1 })
     (λ _. refl)
 
 -- the open receptions as a table, none of them out
 abbrev pub table_in : ReceiverState → TableState
 table_in r =
-    record { limit = r.limit; timeout = r.timeout; p = r.p; entries = r.entries; out = None }
+    record { limit = r.limit; timeout = r.timeout; p = r.p; mode = r.mode; entries = r.entries; out = None }
 
 -- a name is free where a reception of it is open, and is never open
 abbrev pub IsTied : State → Option TableEntry → Type 0
@@ -95,6 +99,8 @@ abbrev pub after_offer : Option Telemetry
     → ReceiverState × Taken
 after_offer head r id parts offering.Kept es = (record r { entries = es }, taking.Kept)
 after_offer head r id parts offering.Again es = (record r { entries = es }, taking.Again)
+after_offer head r id parts offering.Gap es =
+    (ended r id, taking.Broken reason.Discontinuity (abort_report head id reason.Discontinuity))
 after_offer head r id parts offering.NoRoom es = (r, taking.NoRoom)
 after_offer head r id parts offering.Whole es = (ended r id, taking.Whole (spelled parts))
 after_offer head r id parts (offering.Conflict reason) es =
@@ -125,6 +131,7 @@ pub record IsSameReceiver (old new : ReceiverState) : Type 0 where
   pub limit : new.limit ≡ old.limit
   pub timeout : new.timeout ≡ old.timeout
   pub p : new.p ≡ old.p
+  pub mode : new.mode ≡ old.mode
 
 -- whether memory is taken for it: a part is kept, a message let out, or a report made
 abbrev pub grows : Taken → Bool

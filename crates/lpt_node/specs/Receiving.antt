@@ -27,6 +27,7 @@ receiver_of c r = record {
   limit = c.receptions;
   timeout = c.timeout;
   p = c.part_size;
+  mode = c.mode;
   ledger = r.ledger;
   entries = r.entries;
 }

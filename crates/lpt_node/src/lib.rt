@@ -36,7 +36,7 @@ pub use expired::Expired;
 pub use fault::NodeFault;
 pub use lpt_execution::{
     AckFlags, Answer, Applied, Area, Call, Config, ConfigFault, Direction, Entry, Event,
-    FailureCode, LONGEST_PACKET, Lane, Memories, Name, Octets, Opening, Outcome, Packet,
+    FailureCode, LONGEST_PACKET, Lane, Memories, Mode, Name, Octets, Opening, Outcome, Packet,
     PacketKind, Prepared, Puts, Reason, Refused, Release, Reply, RunEnd, SeatLog, Shape, Side,
     StepFault, TelemetryKind, Ticket, TmHead, Turns, Why, Worker, count, crc16, longest_on_link,
     prepare, read_packet, seen_is_read, write_packet, write_tm,

@@ -78,10 +78,11 @@ impl Node {
             part_size,
             timeout,
             receptions,
+            mode,
             ..
         } = *config;
         let senders = Ledger::new(alloc)?;
-        let receiver = Receiver::new(alloc, receptions, timeout, part_size)?;
+        let receiver = Receiver::new(alloc, receptions, timeout, part_size, mode)?;
         Ok(Node {
             alloc,
             side,

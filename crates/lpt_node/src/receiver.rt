@@ -21,7 +21,7 @@ use crate::Side;
 use crate::anew::free;
 use crate::making::abort_report;
 use crate::taken::Taken;
-use lpt_execution::{Name, Octets, Part, Reason, TmHead};
+use lpt_execution::{Mode, Name, Octets, Part, Reason, TmHead};
 use lpt_jobs::JobQueue;
 use lpt_ledger::{Ledger, State};
 use lpt_table::laws::put_back_undoes;
@@ -52,6 +52,7 @@ impl Model for Receiver {
       limit = a.table.limit;
       timeout = a.table.timeout;
       p = a.table.p;
+      mode = a.table.mode;
       ledger = a.ledger;
       entries = a.table.entries;
     } };
@@ -67,12 +68,14 @@ impl Receiver {
         limit: u32,
         timeout: u32,
         p: u32,
+        mode: Mode,
     ) -> Result<Receiver, AllocError>
         requires { IsTableSize limit timeout p }
         ensures { IfOk result (λ r. r ≡ record {
           limit = limit;
           timeout = timeout;
           p = p;
+          mode = mode;
           ledger = map.empty;
           entries = map.empty;
         }) }
@@ -80,7 +83,7 @@ impl Receiver {
         Ok(Receiver {
             alloc,
             ledger: Ledger::new(alloc)?,
-            table: Table::new(alloc, limit, timeout, p)?,
+            table: Table::new(alloc, limit, timeout, p, mode)?,
         })
     }
 
@@ -149,6 +152,7 @@ impl Receiver {
                     whole,
                 )
             }
+            Offer::Gap => break_off(self.alloc, &mut self.ledger, head, part.id),
             Offer::Conflict(broken) => {
                 abort(
                     self.alloc,
@@ -296,6 +300,29 @@ fn abort(
             Err(AllocError)
         }
     }
+}
+
+// Closes the name of a reception that a gap has broken off before it was open, with a report of it.
+// The only error is want of memory, and then nothing has changed.
+fn break_off(
+    alloc: Global,
+    ledger: &mut Ledger,
+    head: Option<TmHead>,
+    id: Name,
+) -> Result<Taken, AllocError>
+    requires free { state_at ledger.old id ≡ State.Free }
+    ensures ok { IfOk result (λ t. t ≡ taking.Broken why.Discontinuity
+        (abort_report (option_map (λ h. as_written (telemetry h [])) head) id why.Discontinuity)) }
+    ensures shut { OnOk result (ledger.new ≡ map.insert ledger.old id Shut) }
+    ensures short { IfOk result IsShort }
+
+    ensures memory { OnErr result
+        (is_some (abort_report (option_map (λ h. as_written (telemetry h [])) head) id why.Discontinuity) ≡ true) }
+    ensures unshut { OnErr result (ledger.new ≡ ledger.old) }
+{
+    let report = abort_report(alloc, head, id, Reason::Discontinuity)?;
+    shut(ledger, id);
+    Ok(Taken::Broken(Reason::Discontinuity, report))
 }
 
 // Closes a free name.

@@ -2,6 +2,7 @@ mod AddLemmas
 mod BufferLemmas
 mod CutLemmas
 mod EndingLemmas
+pub mod GreatestLemmas
 mod LessLemmas
 mod MarkLemmas
 pub mod MessageLemmas
@@ -11,7 +12,7 @@ mod PlaceLemmas
 mod RunLemmas
 mod SetLemmas
 mod ShapeLemmas
-mod StartLemmas
+pub mod StartLemmas
 mod StoreLemmas
 mod StoredLemmas
 mod TestLemmas

@@ -2,12 +2,13 @@
 
 ghost use Rattle.std.specs.Prelude.{◌≡◌, ◌≤◌, true, false, length, IfOk, IsSome};
 ghost use Rattle.std.specs.FinMap as map;
+ghost use Rattle.lpt_part.specs.declared.mode.Mode.TheVariants as Mode;
 ghost use Rattle.lpt_reception.specs.PartsOf.{IsMessageOf};
 ghost use Rattle.lpt_reception.specs.Received.{no_parts, with_part, is_whole, spelled};
 
 use crate::store::{Place, Store};
 use crate::{Broken, Step, Whole};
-use lpt_part::{Octets, Part, Reason, TransactionId};
+use lpt_part::{Mode, Octets, Part, Reason, TransactionId};
 use std::alloc::{AllocError, Global};
 use std::marker::Model;
 
@@ -67,13 +68,32 @@ impl Filling {
         self.id
     }
 
-    /// Adds a part of this transaction. Want of memory leaves the reception as it was.
-    pub fn accept(mut self, part: &Part<'_>) -> Step
+    /// Adds a part of this transaction, in any order. Want of memory leaves the reception as it was.
+    pub fn accept(self, part: &Part<'_>) -> Step
         requires id { part.now.id ≡ self.id }
         requires p { part.now.p ≡ self.p }
-        ensures { Answers self part.now.number (kept part.now) result }
+        ensures { Answers Mode.Any self part.now.number (kept part.now) result }
     {
-        match self.store.place_of(part) {
+        self.accept_in(Mode::Any, part)
+    }
+
+    /// The same in the order of the parts' numbers: one that is neither kept nor the next breaks the
+    /// reception off.
+    pub fn accept_strict(self, part: &Part<'_>) -> Step
+        requires id { part.now.id ≡ self.id }
+        requires p { part.now.p ≡ self.p }
+        ensures { Answers Mode.Strict self part.now.number (kept part.now) result }
+    {
+        self.accept_in(Mode::Strict, part)
+    }
+
+    // Adds a part in this mode.
+    fn accept_in(mut self, mode: Mode, part: &Part<'_>) -> Step
+        requires id { part.now.id ≡ self.id }
+        requires p { part.now.p ≡ self.p }
+        ensures { Answers mode self part.now.number (kept part.now) result }
+    {
+        match self.store.place_of(mode, part) {
             Place::Clash => {
                 return Step::Conflict(Broken {
                     before: self,
@@ -81,6 +101,12 @@ impl Filling {
                 });
             }
             Place::Known => return Step::Again(self),
+            Place::Gap => {
+                return Step::Conflict(Broken {
+                    before: self,
+                    reason: Reason::Discontinuity,
+                });
+            }
             Place::New => {}
         }
         let Ok(()) = self.store.add(part) else {

@@ -6,11 +6,11 @@ ghost use Rattle.lpt_part.specs.Parts.{same_kind};
 ghost use Rattle.lpt_part.specs.Splitting.{IsPartSize, kind_at};
 ghost use Rattle.lpt_reception.specs.Answers.{kept, IsNew};
 ghost use Rattle.lpt_reception.specs.Marks.{is_marked};
-ghost use Rattle.lpt_reception.specs.Received.{no_parts, with_part, same_kept, is_last, is_whole};
+ghost use Rattle.lpt_reception.specs.Received.{no_parts, with_part, same_kept, is_gap, is_last, is_whole};
 ghost use Rattle.lpt_reception.specs.Stored.{top, last_number, kept_at, stored, overruns, written, zeroed, IsSound, IsPlace};
 
 use crate::marks::Marks;
-use lpt_part::{Kind, Part, count, slice};
+use lpt_part::{Kind, Mode, Part, count, slice};
 use std::alloc::{AllocError, Global};
 
 /// The parts that were kept.
@@ -33,6 +33,8 @@ pub(crate) enum Place {
     Clash,
     /// It is one of them.
     Known,
+    /// It is new, and in this mode not the next one.
+    Gap,
     /// It is new.
     New,
 }
@@ -51,10 +53,10 @@ impl Store {
         }
     }
 
-    /// What a part is to those that were kept.
-    pub(crate) fn place_of(&self, part: &Part<'_>) -> Place
+    /// What a part is to those that were kept, in this mode.
+    pub(crate) fn place_of(&self, mode: Mode, part: &Part<'_>) -> Place
         requires { IsSound part.now.p self.now }
-        ensures { IsPlace (stored part.now.p self.now) part.now.number (kept part.now) result }
+        ensures { IsPlace mode (stored part.now.p self.now) part.now.number (kept part.now) result }
     {
         if self.marks.has(part.number) {
             if self.holds(part) {
@@ -64,8 +66,22 @@ impl Store {
             }
         } else if self.is_overrun_by(part) {
             Place::Clash
+        } else if self.is_gap(mode, part) {
+            Place::Gap
         } else {
             Place::New
+        }
+    }
+
+    // Whether another part than this is the next one in this mode.
+    #[tactic(auto, using(crate::proofs::GreatestLemmas::greatest_is))]
+    fn is_gap(&self, mode: Mode, part: &Part<'_>) -> bool
+        requires { IsSound part.now.p self.now }
+        ensures { result ≡ is_gap mode (stored part.now.p self.now) part.now.number }
+    {
+        match mode {
+            Mode::Any => false,
+            Mode::Strict => part.number as u32 != self.top(part.p) + 1,
         }
     }
 

@@ -21,8 +21,9 @@ use Rattle.lpt_model.specs.LptEvents.Arrivals.{NotRead, arrival_in}
 use Rattle.lpt_model.specs.LptNode.Nodes.{NodeData}
 use Rattle.lpt_model.specs.LptNode.Receivers.{ReceiverState, table_in, received, received_from, if_free}
 use Rattle.lpt_model.specs.LptNode.Receiving.{after_received, receiver_of, abort_head, parted}
-use Rattle.lpt_model.specs.LptReception.Received.{Parts, contradicts, break_reason, is_whole}
-use Rattle.lpt_model.specs.LptTable.Offering.{OfferKind, Kept, Again, Whole, Conflict, NoRoom, offered, is_full, parts_at, taken_out, with_entry}
+use Rattle.lpt_model.specs.LptReception.Received.{Parts, contradicts, is_gap, is_whole}
+use Rattle.lpt_model.specs.LptPart.declared.reason.Reason.TheVariants as reason
+use Rattle.lpt_model.specs.LptTable.Offering.{OfferKind, Kept, Again, Whole, Conflict, Gap, NoRoom, offered, is_full, is_open, parts_at, taken_out, with_entry}
 use Rattle.lpt_model.specs.LptTable.Tables.{TableState}
 use Rattle.lpt_journal.specs.Journal.{History}
 use Rattle.lpt_journal.specs.Hands.{hand, arrival_at, in_hand}
@@ -36,33 +37,34 @@ use Rattle.lpt_model.specs.LptMemory.Memories.{Contents}
 -- ---- a part
 
 -- what an offer comes to, and the table after it, by the table's tests
-abbrev made_of : (full contra again whole : Bool)
+abbrev made_of : (full contra again gap there whole : Bool)
     → TableState
     → Name
     → (before with_it : Parts)
     → ℕ
     → OfferKind × TableState
-made_of full contra again whole t id before with_it now =
+made_of full contra again gap there whole t id before with_it now =
     if full then (NoRoom, t)
-    else if contra then (Conflict break_reason, taken_out t id)
+    else if contra then (Conflict reason.Conflict, taken_out t id)
     else if again then (Again, with_entry t id before now)
+    else if gap then (if there then (Conflict reason.Discontinuity, taken_out t id) else (Gap, t))
     else if whole then (Whole, taken_out t id)
     else (Kept, with_entry t id with_it now)
 
 -- the end after a part, and its answer, by all tests
 abbrev pub delivery : Side
-    → (closed full contra again whole : Bool)
+    → (closed full contra again gap there whole : Bool)
     → Option Telemetry
     → NodeData
     → ReceiverState
     → Piece
     → (before with_it : Parts)
     → NodeData × Accepted
-delivery side closed full contra again whole head d r q before with_it =
+delivery side closed full contra again gap there whole head d r q before with_it =
     after_received side d q
     (if_free (state_of (closed_mark closed)) r
     (received_from head r q.id with_it
-    (made_of full contra again whole (table_in r) q.id before with_it d.clock)))
+    (made_of full contra again gap there whole (table_in r) q.id before with_it d.clock)))
 
 -- the end's step goes by the tests
 part_delivered : (side : Side) (c : Config) (d : NodeData) (q : Piece) (closed full : Bool)
@@ -72,7 +74,9 @@ part_delivered : (side : Side) (c : Config) (d : NodeData) (q : Piece) (closed f
     → parts_at (table_in (receiver_of c d.receiving)) q.id ≡ before
     → parted side c d q
     ≡ delivery side closed full (contradicts before q.number (kept q))
-    (is_some (maps.get before q.number)) (is_whole (with_piece before q)) (abort_head side c d) d
+    (is_some (maps.get before q.number)) (is_gap c.mode before q.number)
+    (is_open (table_in (receiver_of c d.receiving)) q.id) (is_whole (with_piece before q))
+    (abort_head side c d) d
     (receiver_of c d.receiving) q before (with_piece before q)
 unfolding received offered
 part_delivered side c d q closed full before e1 e2 e3 =
@@ -81,7 +85,7 @@ part_delivered side c d q closed full before e1 e2 e3 =
     (if_free (state_of (e1 i)) r
     (received_from (abort_head side c d) r q.id (with_piece (e3 i) q)
     (made_of (e2 i) (contradicts (e3 i) q.number (kept q)) (is_some (maps.get (e3 i) q.number))
-    (is_whole (with_piece (e3 i) q)) (table_in r) q.id (e3 i) (with_piece (e3 i) q) d.clock)))
+    (is_gap c.mode (e3 i) q.number) (is_open (table_in r) q.id) (is_whole (with_piece (e3 i) q)) (table_in r) q.id (e3 i) (with_piece (e3 i) q) d.clock)))
 
 -- the same, by what the journal says of the part's transaction
 abbrev pub delivery_told : Config → History → Direction → NodeData → Piece → NodeData × Accepted
@@ -89,8 +93,9 @@ delivery_told c h w d q =
     let s = heard c h w q.id in
     delivery (receiver_side w) (is_closed h w q.id)
     (not (has_parts s) && nat_le c.receptions (reception_count c h w))
-    (contradicts s q.number (kept q)) (is_some (maps.get s q.number)) (is_whole (with_piece s q))
-    (abort_head (receiver_side w) c d) d (receiver_of c d.receiving) q s (with_piece s q)
+    (contradicts s q.number (kept q)) (is_some (maps.get s q.number))
+    (is_gap c.mode s q.number) (is_open (table_in (receiver_of c d.receiving)) q.id)
+    (is_whole (with_piece s q)) (abort_head (receiver_side w) c d) d (receiver_of c d.receiving) q s (with_piece s q)
 
 pub part_agrees : (c : Config) (h : History) (w : Direction) (d : NodeData) (q : Piece)
     → ShowsReceiving d.receiving (receiving_view c h w)

@@ -4,7 +4,9 @@ use Rattle.std.specs.FinMap as maps
 use Rattle.lpt_model.specs.LptPacket.declared.direction.Direction.{Direction}
 use Rattle.lpt_model.specs.LptPacket.declared.direction.Direction.TheVariants.{Up, Down}
 use Rattle.lpt_model.specs.LptPart.Parts.{Piece}
-use Rattle.lpt_model.specs.LptPart.declared.reason.Reason.TheVariants.{Conflict}
+use Rattle.lpt_model.specs.LptPart.declared.reason.Reason.TheVariants.{Conflict, Discontinuity}
+use Rattle.lpt_model.specs.LptNode.Receivers.{table_in}
+use Rattle.lpt_model.specs.LptTable.Offering.{is_open}
 use Rattle.lpt_model.specs.LptEvents.declared.lane.Lane.{Lane}
 use Rattle.lpt_model.specs.LptEvents.declared.lane.Lane.TheVariants.{S1, S2, G1, G2}
 use Rattle.lpt_model.specs.LptEvents.Lanes.{lane_direction}
@@ -17,7 +19,7 @@ use Rattle.lpt_model.specs.LptNode.Accepting.{accepted}
 use Rattle.lpt_model.specs.LptEvents.Arrivals.{Arrival, NotRead, AnIdle, Foreign, ARequest, AReport, NoPart, APart, AnAbort}
 use Rattle.lpt_model.specs.LptNode.Nodes.{NodeData}
 use Rattle.lpt_model.specs.LptNode.Receiving.{abort_head, receiver_of}
-use Rattle.lpt_model.specs.LptReception.Received.{contradicts, is_whole, spelled}
+use Rattle.lpt_model.specs.LptReception.Received.{contradicts, is_gap, is_whole, spelled}
 use Rattle.lpt_model.specs.LptEvents.declared.event.Event.TheVariants.{Deliver}
 use Rattle.lpt_journal.specs.Delivery.{judged}
 use Rattle.lpt_journal.specs.Jobs.{jobs, ticket}
@@ -48,18 +50,18 @@ abbrev PartShown : Config
     → Hands
     → Direction
     → Piece
-    → (closed full contra again whole : Bool)
+    → (closed full contra again gap there whole : Bool)
     → Type 0
-PartShown c first h s hands w q closed full contra again whole =
+PartShown c first h s hands w q closed full contra again gap there whole =
     let d = end_of s (receiver_side w) in
     let parts = heard c h w q.id in
     let with_it = with_piece parts q in
     Shows
     (received_as (length h) w s
-    (delivery (receiver_side w) closed full contra again whole (abort_head (receiver_side w) c d) d
+    (delivery (receiver_side w) closed full contra again gap there whole (abort_head (receiver_side w) c d) d
     (receiver_of c d.receiving) q parts with_it))
     (outcome_view c first h w hands (APart q)
-    (chosen closed full contra again whole q (length (spelled with_it))))
+    (chosen closed full contra again gap whole q (length (spelled with_it))))
 
 module _ (c : Config) (first : Contents) (h : History) (s : State) (hands : Hands)
     (fits : JobsFit (jobs_view c first h) (ticket c h))
@@ -67,23 +69,32 @@ module _ (c : Config) (first : Contents) (h : History) (s : State) (hands : Hand
     (own : ShowsReceiving (end_of s (receiver_side w)).receiving (receiving_view c h w))
     (time : (end_of s (receiver_side w)).clock ≡ clock c h (receiver_side w)) where
   -- whatever the tests answer
-  part : (q : Piece) (closed full contra again whole : Bool)
+  part : (q : Piece) (closed full contra again gap there whole : Bool)
       → (again ≡ true → has_parts (heard c h w q.id) ≡ true)
-      → PartShown c first h s hands w q closed full contra again whole
-  part q true full contra again whole some = receives w k own k.released
-  part q false true contra again whole some = receives w k own k.released
-  part q false false true again whole some = broken w own where
+      → PartShown c first h s hands w q closed full contra again gap there whole
+  part q true full contra again gap there whole some = receives w k own k.released
+  part q false true contra again gap there whole some = receives w k own k.released
+  part q false false true again gap there whole some = broken w own where
     broken : (w : Direction)
         → ShowsReceiving (end_of s (receiver_side w)).receiving (receiving_view c h w)
-        → PartShown c first h s hands w q false false true again whole
+        → PartShown c first h s hands w q false false true again gap there whole
     broken Up f = report_shown c q.id Conflict (receives Up k (ended_shown q.id f) k.released)
     broken Down f = receives Down k (ended_shown q.id f) k.released
-  part q false false false true whole some =
+  part q false false false false true there whole some = broken w own there where
+    broken : (w : Direction)
+        → ShowsReceiving (end_of s (receiver_side w)).receiving (receiving_view c h w)
+        → (there : Bool)
+        → PartShown c first h s hands w q false false false false true there whole
+    broken Up f true = report_shown c q.id Discontinuity (receives Up k (ended_shown q.id f) k.released)
+    broken Up f false = report_shown c q.id Discontinuity (receives Up k (ended_shown q.id f) k.released)
+    broken Down f true = receives Down k (ended_shown q.id f) k.released
+    broken Down f false = receives Down k (ended_shown q.id f) k.released
+  part q false false false true gap there whole some =
       receives w k (again_shown q.id _ _ time (some refl) own) k.released
-  part q false false false false true some = releasing w own where
+  part q false false false false false there true some = releasing w own where
     releasing : (w : Direction)
         → ShowsReceiving (end_of s (receiver_side w)).receiving (receiving_view c h w)
-        → PartShown c first h s hands w q false false false false true
+        → PartShown c first h s hands w q false false false false false there true
     releasing Up f =
         let out = release (length h) (Some (Up, q.id))
         (spelled (with_piece (heard c h Up q.id) q)) in
@@ -93,7 +104,7 @@ module _ (c : Config) (first : Contents) (h : History) (s : State) (hands : Hand
         let out = release (length h) (Some (Down, q.id))
         (spelled (with_piece (heard c h Down q.id) q)) in
         receives Down k (ended_shown q.id f) (ap (λ rs. rs ++ out ∷ []) k.released)
-  part q false false false false false some =
+  part q false false false false false there false some =
       receives w k (kept_shown q _ _ time own) k.released
 
   -- whatever arrives that may come
@@ -137,6 +148,8 @@ module _ (c : Config) (first : Contents) (h : History) (s : State) (hands : Hand
       (part q (is_closed h w q.id)
       (not (has_parts parts) && nat_le c.receptions (reception_count c h w))
       (contradicts parts q.number (kept q)) (is_some (maps.get parts q.number))
+      (is_gap c.mode parts q.number)
+      (is_open (table_in (receiver_of c (end_of s (receiver_side w)).receiving)) q.id)
       (is_whole (with_piece parts q)) (some_parts parts q.number))
 
 -- ---- lanes

@@ -26,7 +26,9 @@ use Rattle.lpt_model.specs.LptNode.Nodes.{NodeData}
 use Rattle.lpt_model.specs.LptNode.Receivers.{ReceiverState, abort_report}
 use Rattle.lpt_model.specs.LptNode.Receiving.{abort_head, receiver_of}
 use Rattle.lpt_model.specs.LptNode.Times.{expired_of}
-use Rattle.lpt_model.specs.LptReception.Received.{Parts, contradicts, is_whole, spelled}
+use Rattle.lpt_model.specs.LptReception.Received.{Parts, contradicts, is_gap, is_whole, spelled}
+use Rattle.lpt_model.specs.LptNode.Receivers.{table_in}
+use Rattle.lpt_model.specs.LptTable.Offering.{is_open as is_there}
 use Rattle.lpt_journal.specs.Delivery.{judged, outcome}
 use Rattle.lpt_journal.specs.Due.{due}
 use Rattle.lpt_journal.specs.Jobs.{ticket}
@@ -83,17 +85,21 @@ abbrev reply_told : Config → History → Side → ℕ → Outcome → Reply
 reply_told c h side n o = reply_with n (Delivered o) (outcome_puts c h side o)
 
 told_part : (c : Config) (h : History) (side : Side) (n : ℕ) (d : NodeData) (t : ReceiverState)
-    (q : Piece) (before with_it : Parts) (closed full contra again whole : Bool)
+    (q : Piece) (before with_it : Parts) (closed full contra again gap there whole : Bool)
     → reply_to n
-    (delivery side closed full contra again whole (abort_head side c d) d t q before with_it)
-    ≡ reply_told c h side n (chosen closed full contra again whole q (length (spelled with_it)))
-told_part c h side n d t q before with_it true full contra again whole = refl
-told_part c h side n d t q before with_it false true contra again whole = refl
-told_part c h side n d t q before with_it false false true again whole =
+    (delivery side closed full contra again gap there whole (abort_head side c d) d t q before with_it)
+    ≡ reply_told c h side n (chosen closed full contra again gap whole q (length (spelled with_it)))
+told_part c h side n d t q before with_it true full contra again gap there whole = refl
+told_part c h side n d t q before with_it false true contra again gap there whole = refl
+told_part c h side n d t q before with_it false false true again gap there whole =
     told_report c h side d n (Delivered (Broken q.id reason.Conflict)) q.id reason.Conflict
-told_part c h side n d t q before with_it false false false true whole = refl
-told_part c h side n d t q before with_it false false false false true = refl
-told_part c h side n d t q before with_it false false false false false = refl
+told_part c h side n d t q before with_it false false false true gap there whole = refl
+told_part c h side n d t q before with_it false false false false true true whole =
+    told_report c h side d n (Delivered (Broken q.id reason.Discontinuity)) q.id reason.Discontinuity
+told_part c h side n d t q before with_it false false false false true false whole =
+    told_report c h side d n (Delivered (Broken q.id reason.Discontinuity)) q.id reason.Discontinuity
+told_part c h side n d t q before with_it false false false false false there true = refl
+told_part c h side n d t q before with_it false false false false false there false = refl
 
 reply_delivered : (c : Config) (h : History) (w : Direction) (d : NodeData) (n : ℕ)
     → ShowsReceiving d.receiving (receiving_view c h w)
@@ -112,7 +118,9 @@ reply_delivered c h w d n own (APart q) =
     ap (reply_to n) (part_agrees c h w d q own)
     ∙ told_part c h (receiver_side w) n d (receiver_of c d.receiving) q s (with_piece s q)
     (is_closed h w q.id) (not (has_parts s) && nat_le c.receptions (reception_count c h w))
-    (contradicts s q.number (kept q)) (is_some (maps.get s q.number)) (is_whole (with_piece s q))
+    (contradicts s q.number (kept q)) (is_some (maps.get s q.number))
+    (is_gap c.mode s q.number) (is_there (table_in (receiver_of c d.receiving)) q.id)
+    (is_whole (with_piece s q))
 
 -- ---- expiry
 

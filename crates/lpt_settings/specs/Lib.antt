@@ -1,4 +1,5 @@
 pub mod Keys
 pub mod MemoryTables
+pub mod Modes
 pub mod Numbers
 pub mod Settings

@@ -3,18 +3,21 @@ use Rattle.std.specs.Prelude.{ℕ, if◌then◌else◌, List, [], ◌∷◌, cod
 use Rattle.toml.specs.Data.{Members}
 use Rattle.lpt_memory.specs.Fields.{◌>>=◌}
 use Rattle.lpt_memory.specs.Memories.{Contents}
+use Rattle.lpt_events.specs.LptPart.declared.mode.Mode.TheVariants.{Any}
 use Rattle.lpt_events.specs.declared.config.Config.{Config}
 use Rattle.lpt_events.specs.declared.turns.Turns.{Turns}
 use Rattle.lpt_settings.specs.Keys.{has_only}
 use Rattle.lpt_settings.specs.MemoryTables.{memories_of, default_memories}
+use Rattle.lpt_settings.specs.Modes.{mode_at}
 use Rattle.lpt_settings.specs.Numbers.{number_at}
 
 -- the keys that there are
 abbrev pub known_keys : List (List ℕ)
 known_keys = codes "apid" ∷ codes "source" ∷ codes "part_size" ∷ codes "timeout"
-    ∷ codes "receptions" ∷ codes "outgoing" ∷ codes "clock" ∷ codes "per_seat" ∷ codes "ticks" ∷ codes "memory" ∷ []
+    ∷ codes "receptions" ∷ codes "outgoing" ∷ codes "clock" ∷ codes "mode"
+    ∷ codes "per_seat" ∷ codes "ticks" ∷ codes "memory" ∷ []
 
--- the configuration of a table: each number is in its range or absent
+-- the configuration of a table: each number is in its range or absent, and so is the mode
 abbrev pub config_of : Members → Option Config
 config_of members = do
   apid ← number_at (codes "apid") 0 2046 (Some 100) members
@@ -24,6 +27,7 @@ config_of members = do
   receptions ← number_at (codes "receptions") 1 64 (Some 8) members
   outgoing ← number_at (codes "outgoing") 1 64 (Some 8) members
   clock ← number_at (codes "clock") 0 4294967295 (Some 0) members
+  mode ← mode_at members
   Some (record {
     apid = apid;
     source = source;
@@ -32,6 +36,7 @@ config_of members = do
     receptions = receptions;
     outgoing = outgoing;
     clock = clock;
+    mode = mode;
   })
 
 -- how much each seat does in a run of threads, by a table
@@ -67,6 +72,7 @@ default_config = record {
   receptions = 8;
   outgoing = 8;
   clock = 0;
+  mode = Any;
 }
 
 -- how much each seat does where no key is set

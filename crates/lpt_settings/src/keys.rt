@@ -9,7 +9,7 @@ ghost use Rattle.lpt_settings.specs.Keys.{is_one_of, has_only};
 use toml::Table;
 
 /// The keys of a configuration.
-pub(crate) const KEYS: [&str; 10] = [
+pub(crate) const KEYS: [&str; 11] = [
     "apid",
     "source",
     "part_size",
@@ -17,6 +17,7 @@ pub(crate) const KEYS: [&str; 10] = [
     "receptions",
     "outgoing",
     "clock",
+    "mode",
     "per_seat",
     "ticks",
     "memory",

@@ -1,5 +1,5 @@
-//! The configuration file: a TOML document of numbers, each with its range and its default, and of
-//! the memories.
+//! The configuration file: a TOML document of numbers, each with its range and its default, of the
+//! mode, and of the memories.
 //!
 //! | Key | Range | Default |
 //! |---|---|---|
@@ -10,6 +10,7 @@
 //! | `receptions` | 1 to 64 | 8 |
 //! | `outgoing` | 1 to 64 | 8 |
 //! | `clock` | 0 to 4,294,967,295 ticks | 0 |
+//! | `mode` | `"any"` or `"strict"` | `"any"` |
 //! | `per_seat` | 1 to 1,000,000 calls | 100,000 |
 //! | `ticks` | 0 to 65,535 ticks | 0 |
 //! | `memory` | an array of 1 to 16 tables | one memory 1 of 256 octets of 0 |
@@ -30,6 +31,7 @@
 mod complaint;
 mod keys;
 mod memories;
+mod mode;
 mod numbers;
 mod place;
 mod settings;

@@ -10,6 +10,7 @@ ghost use Rattle.lpt_settings.specs.Settings.{config_of, turns_of, numbers_of, s
 
 use crate::keys::{KEYS, has_only, unknown_key};
 use crate::memories::{judge_memories, memories};
+use crate::mode::mode;
 use crate::numbers::number;
 use crate::wrong::{Reason, Wrong};
 use lpt_events::{Config, Turns};
@@ -103,7 +104,7 @@ fn read_turns(table: &Table) -> Result<Turns, Wrong<'static>>
     Ok(Turns { per_seat, ticks })
 }
 
-// The configuration that the numbers of a table mean.
+// The configuration that the numbers and the mode of a table mean.
 fn read_fixed(table: &Table) -> Result<Config, Wrong<'static>>
     ensures value { result_ok result ≡ config_of (table_view table.now) }
     ensures ranges { IfOk result IsConfig }
@@ -115,6 +116,7 @@ fn read_fixed(table: &Table) -> Result<Config, Wrong<'static>>
     let receptions = number(table, "receptions", 1, 64, Some(8))?;
     let outgoing = number(table, "outgoing", 1, 64, Some(8))?;
     let clock = number(table, "clock", 0, u32::MAX, Some(0))?;
+    let mode = mode(table)?;
     Ok(Config {
         apid: apid as u16,
         source: source as u16,
@@ -123,5 +125,6 @@ fn read_fixed(table: &Table) -> Result<Config, Wrong<'static>>
         receptions,
         outgoing,
         clock,
+        mode,
     })
 }

@@ -15,6 +15,8 @@ pub enum Reason {
     NotInteger,
     /// The integer isn't from the first number to the second.
     OutOfRange(u32, u32),
+    /// The value names no mode.
+    NotMode,
     /// The value isn't an array.
     NotArray,
     /// The item of the array isn't a table.
@@ -35,6 +37,7 @@ impl fmt::Display for Reason {
             Reason::OutOfRange(least, greatest) => {
                 return write!(f, "not from {least} to {greatest}");
             }
+            Reason::NotMode => "neither \"any\" nor \"strict\"",
             Reason::NotArray => "not an array of tables",
             Reason::NotTable => "not a table",
             Reason::Count => "not 1 to 16 tables",

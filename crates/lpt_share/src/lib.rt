@@ -21,8 +21,8 @@ pub use call::{CallFault, Done, Shared};
 pub use fault::ShareFault;
 pub use lpt_audit::{
     AckFlags, Answer, Area, Call, Config, ConfigFault, Direction, Entry, Event, Lane, Memories,
-    Name, Octets, Outcome, Packet, PacketKind, Reason, Release, SeatLog, Side, StepFault, TmHead,
-    Turns, Why, Worker, World, agrees, write_packet, write_tm,
+    Mode, Name, Octets, Outcome, Packet, PacketKind, Reason, Release, SeatLog, Side, StepFault,
+    TmHead, Turns, Why, Worker, World, agrees, write_packet, write_tm,
 };
 pub use run::{ShareEnd, run_threads};
 pub use turns::{Gate, Point};

@@ -1,8 +1,8 @@
 //! Worlds for the tests, by what is asked of them before threads share them.
 
 use lpt_share::{
-    AckFlags, Config, Direction, Event, Gate, Lane, Memories, Name, Octets, Point, SeatLog, Side,
-    Turns, Worker, World, run_threads,
+    AckFlags, Config, Direction, Event, Gate, Lane, Memories, Mode, Name, Octets, Point, SeatLog,
+    Side, Turns, Worker, World, run_threads,
 };
 use std::alloc::{AllocError, Global};
 use std::sync::Wait;
@@ -18,6 +18,7 @@ pub(crate) const CONFIG: Config = Config {
     receptions: 8,
     outgoing: 8,
     clock: 0,
+    mode: Mode::Any,
 };
 
 /// The octets 0, 1, 2, .. of a message, of which some are a shorter one.

@@ -14,10 +14,10 @@ mod working;
 
 pub use lpt_model::{
     Accepted, AckFlags, Answer, Applied, Area, Ask, Call, Config, ConfigFault, Direction, Entry,
-    Event, FailureCode, LONGEST_PACKET, Lane, Memories, Name, Node, NodeFault, Octets, Opening,
-    Outcome, Packet, PacketKind, Parsed, Prepared, Puts, Reason, Refused, Release, Reply, RunEnd,
-    SeatLog, Shape, Side, State, StepFault, Ticket, TmHead, Turns, Why, Worker, count, crc16,
-    prepare, write_packet, write_tm,
+    Event, FailureCode, LONGEST_PACKET, Lane, Memories, Mode, Name, Node, NodeFault, Octets,
+    Opening, Outcome, Packet, PacketKind, Parsed, Prepared, Puts, Reason, Refused, Release, Reply,
+    RunEnd, SeatLog, Shape, Side, State, StepFault, Ticket, TmHead, Turns, Why, Worker, count,
+    crc16, prepare, write_packet, write_tm,
 };
 pub use system::System;
 pub use tickets::{HeldJob, Tickets};

@@ -11,6 +11,7 @@ use Rattle.std.proofs.Common.{sym, ◌∙◌, ap, arith, inl, inr, leb-true, leb
 use Rattle.slab.specs.Slab.{Slab}
 use Rattle.lpt_reception.proofs.LptPacket.NameLemmas.{name_cmp_total}
 use Rattle.lpt_reception.specs.LptPacket.Names.{Name, name_before, name_cmp}
+use Rattle.lpt_reception.specs.LptPart.declared.mode.Mode.TheVariants.{Any}
 use Rattle.lpt_reception.specs.Received.{Received}
 use Rattle.lpt_table.specs.declared.places.Place.{Place}
 use Rattle.lpt_table.specs.Deadlines.{IsDue, due_of, soonest}
@@ -88,7 +89,7 @@ module _ (s : Slab Received) (x : Place) (xs : List Place)
 -- the receptions at these places, under this time-out
 abbrev at_places : ℕ → Slab Received → List Place → TableState
 at_places timeout s xs =
-    record { limit = 0; timeout = timeout; p = 0; entries = map_of s xs; out = None }
+    record { limit = 0; timeout = timeout; p = 0; mode = Any; entries = map_of s xs; out = None }
 
 found : (s : Slab Received) (xs : List Place) (q : Name) (f : TableEntry)
     → map.get (map_of s xs) q ≡ Some f

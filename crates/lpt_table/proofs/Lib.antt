@@ -1,10 +1,11 @@
 pub mod DueLemmas
 mod FirstLemmas
-mod GapLemmas
+mod FirstParts
 mod ListingLemmas
-mod MapLemmas
+pub mod MapLemmas
 mod OfferLemmas
 mod OrderLemmas
 mod PlaceLemmas
 mod PuttingLemmas
+mod RankLemmas
 mod TakingLemmas

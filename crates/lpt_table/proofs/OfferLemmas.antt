@@ -1,15 +1,19 @@
 -- What the answer of a reception makes of the table that it was taken out of.
-use Rattle.std.specs.Prelude.{◌≡◌, ℕ, false, not, ◌&&◌, nat_le, Some, None, is_some, IfSome, refl}
+use Rattle.std.specs.Prelude.{◌≡◌, ◌⊎◌, ℕ, Bool, true, false, if◌then◌else◌, Option, not, ◌&&◌, nat_le, Some, None, is_some, IfSome, refl}
 use Rattle.std.specs.FinMap as map
 use Rattle.lpt_reception.proofs.LptPacket.NameLemmas.{name_cmp-IsAntisymmetric, name_cmp_total}
-use Rattle.std.proofs.Common.{sym, ◌∙◌, ap, subst}
+use Rattle.std.proofs.Common.{sym, ◌∙◌, ap, subst, inl, inr}
 use Rattle.lpt_reception.specs.LptPacket.Names.{Name}
+use Rattle.lpt_reception.specs.LptPart.declared.mode.Mode.{Mode}
+use Rattle.lpt_reception.specs.LptPart.declared.reason.Reason.{Reason}
+use Rattle.lpt_reception.specs.LptPart.declared.reason.Reason.TheVariants as reason
+use Rattle.lpt_reception.specs.declared.step.Step.{Step}
 use Rattle.lpt_reception.specs.declared.step.Step.TheVariants as step
 use Rattle.lpt_reception.specs.Answers.{Answers}
 use Rattle.lpt_reception.specs.Received.{Kept as KeptPart, Parts, Received, Ended, BrokenOff, with_part}
 use Rattle.lpt_table.specs.declared.entries.Entry.{Entry}
 use Rattle.lpt_table.specs.declared.offer.Offer.{Offer}
-use Rattle.lpt_table.specs.declared.offer.Offer.TheVariants.{Kept, Again, Whole, Conflict, NoRoom, Memory}
+use Rattle.lpt_table.specs.declared.offer.Offer.TheVariants.{Kept, Again, Whole, Conflict, Gap, NoRoom, Memory}
 use Rattle.lpt_table.specs.EntriesOf.{entry_in}
 use Rattle.lpt_table.specs.EntryLists.{IsWithout}
 use Rattle.lpt_table.specs.Offering.{is_full, parts_of, parts_at, received_at, with_entry, TakesOut, put_back, offered}
@@ -70,6 +74,11 @@ module _ (t r new : TableState) (id n now : ℕ) (x : KeptPart) (e : Entry)
   not_full : is_full t id ≡ false
   not_full = ap (λ o. not (is_some o) && nat_le t.limit (map.len t.entries)) w.was
 
+  as_there : (step : Step) → Answers r.mode e.filling n x step → Answers t.mode (received_at t id) n x step
+  as_there step a =
+      subst (λ (s : Received). Answers t.mode s n x step) same
+      (subst (λ (m : Mode). Answers m e.filling n x step) (ap (λ (t : TableState). t.mode) w.now) a)
+
   renewed : (parts : Parts) (last : ℕ) → with_entry r id parts last ≡ with_entry t id parts last
   renewed parts last =
       ap (λ (r : TableState). with_entry r id parts last) w.now
@@ -83,11 +92,11 @@ module _ (t r new : TableState) (id n now : ℕ) (x : KeptPart) (e : Entry)
   }
 
   pub offers_kept : (f : Received)
-      → Answers e.filling n x (step.Filling f)
+      → Answers r.mode e.filling n x (step.Filling f)
       → new ≡ with_entry r id f.parts now
       → Offers t id n x now Kept new
   offers_kept f a is =
-      let b = subst (λ (s : Received). Answers s n x (step.Filling f)) same a in (
+      let b = as_there (step.Filling f) a in (
         not_full,
         (b.0, b.1, refl),
         is ∙ ap (λ (f : Received). with_entry r id f.parts now) b.2
@@ -95,41 +104,57 @@ module _ (t r new : TableState) (id n now : ℕ) (x : KeptPart) (e : Entry)
       )
 
   pub offers_again : (f : Received)
-      → Answers e.filling n x (step.Again f)
+      → Answers r.mode e.filling n x (step.Again f)
       → new ≡ with_entry r id f.parts now
       → Offers t id n x now Again new
   offers_again f a is =
-      let b = subst (λ (s : Received). Answers s n x (step.Again f)) same a in (
+      let b = as_there (step.Again f) a in (
         not_full,
         (b.0, b.1, refl),
         is ∙ ap (λ (f : Received). with_entry r id f.parts now) b.2 ∙ renewed (parts_at t id) now,
       )
 
   pub offers_whole : (v : Ended)
-      → Answers e.filling n x (step.Whole v)
+      → Answers r.mode e.filling n x (step.Whole v)
       → new ≡ record r { out = Some (id, e.last) }
       → Offers t id n x now (Whole v) new
   offers_whole v a is =
-      (not_full, subst (λ (s : Received). Answers s n x (step.Whole v)) same a, takes_out is)
+      (not_full, as_there (step.Whole v) a, takes_out is)
 
   pub offers_conflict : (b : BrokenOff)
-      → Answers e.filling n x (step.Conflict b)
+      → Answers r.mode e.filling n x (step.Conflict b)
       → new ≡ record r { out = Some (id, e.last) }
       → Offers t id n x now (Conflict b) new
   offers_conflict b a is =
-      (not_full, subst (λ (s : Received). Answers s n x (step.Conflict b)) same a, takes_out is)
+      (not_full, as_there (step.Conflict b) a, takes_out is)
 
   pub offers_memory : (f : Received)
-      → Answers e.filling n x (step.NoMemory f)
+      → Answers r.mode e.filling n x (step.NoMemory f)
       → new ≡ with_entry r id f.parts e.last
       → Offers t id n x now Memory new
   offers_memory f a is =
-      let b = subst (λ (s : Received). Answers s n x (step.NoMemory f)) same a in (
+      let b = as_there (step.NoMemory f) a in (
         not_full,
         (b.0, refl),
         is ∙ ap (λ (f : Received). with_entry r id f.parts e.last) b.1
             ∙ renewed (parts_at t id) e.last ∙ same_again t id (entry_in e) w.was,
       )
+
+some_or : Option Reason → Reason → Reason
+some_or None r = r
+some_or (Some x) r = x
+
+-- why a part breaks a reception off, by its tests
+break_cases : (clash again gap : Bool) (r : Reason)
+    → (if clash then Some reason.Conflict else if again then None
+    else if gap then Some reason.Discontinuity else None) ≡ Some r
+    → ((clash ≡ true) × (reason.Conflict ≡ r))
+    ⊎ ((clash ≡ false) × (again ≡ false) × (gap ≡ true) × (reason.Discontinuity ≡ r))
+unfolding some_or
+break_cases true again gap r e = inl (refl, ap (λ o. some_or o r) e)
+break_cases false true gap r e = absurd cc
+break_cases false false true r e = inr (refl, refl, refl, ap (λ o. some_or o r) e)
+break_cases false false false r e = absurd cc
 
 -- ---- what an answer says
 
@@ -141,7 +166,8 @@ module _ (old new : TableState) (id n now : ℕ) (x : KeptPart) where
   offers_its (Whole v) h =
       (ap (λ (v : Ended). v.before.id) h.1.2, ap (λ (v : Ended). v.before.p) h.1.2)
   offers_its (Conflict b) h =
-      (ap (λ (b : BrokenOff). b.before.id) h.1.1, ap (λ (b : BrokenOff). b.before.p) h.1.1)
+      (ap (λ (r : Received). r.id) h.1.1, ap (λ (r : Received). r.p) h.1.1)
+  offers_its Gap h = tt
   offers_its NoRoom h = tt
   offers_its Memory h = tt
 
@@ -150,11 +176,16 @@ module _ (old new : TableState) (id n now : ℕ) (x : KeptPart) where
       → Offers old id n x now offer new
       → IfSome (kind_of offer) (λ k. offered old id n x now ≡ (k, new))
   unfolding offered
-  offers_offered Kept h = rw (h.0, h.1.0.agrees, h.1.0.absent, h.1.1, h.2)
+  offers_offered Kept h =
+      rw (h.0, h.1.0.new.agrees, h.1.0.new.absent, h.1.0.in_order, h.1.1, h.2)
   offers_offered Again h = rw (h.0, h.1.0, h.1.1, h.2)
   offers_offered (Whole v) h =
-      rw (h.0, h.1.0.agrees, h.1.0.absent, h.1.1, h.2.now, h.2.was)
+      rw (h.0, h.1.0.new.agrees, h.1.0.new.absent, h.1.0.in_order, h.1.1, h.2.now, h.2.was)
   offers_offered (Conflict b) h =
-      rw (h.0, h.1.0, h.2.now, h.2.was, ap (λ (x : BrokenOff). x.reason) h.1.1)
+      elim (break_cases _ _ _ b.reason h.1.0) [
+        | inl w ↦ rw (h.0, w.0, h.2.now, h.2.was, w.1)
+        | inr w ↦ rw (h.0, w.0, w.1, w.2, h.2.now, h.2.was, w.3)
+      ]
+  offers_offered Gap h = rw (h.0, h.2.agrees, h.2.absent, h.3, h.1, h.4)
   offers_offered NoRoom h = rw (h.0, h.1)
   offers_offered Memory h = tt

@@ -11,7 +11,7 @@ use Rattle.std.specs.declared.cmp.Ordering.TheVariants.{Less, Equal, Greater}
 use Rattle.std.specs.Ordering.{is_eq, eq_by_cmp}
 use Rattle.std.specs.Cmp.{IsTotalOrder, eq_by_cmp_equiv, tied_back}
 use Rattle.std.proofs.Common.{sym, ◌∙◌, ap, arith}
-use Rattle.lpt_table.specs.Places.{spot, gap, AreApart}
+use Rattle.lpt_table.specs.Places.{spot, rank, AreApart}
 use Rattle.lpt_table.proofs.MapLemmas.{is_other, equal}
 
 -- where a search that looks at one entry first finds nothing, that entry is not the one
@@ -118,29 +118,29 @@ module _ {K X : Type 0} (R : K → K → Ordering) where
   -- ---- where a key belongs
 
   -- a key belongs into the list or at its end
-  pub gap-within : (k : K) (es : List (K × X)) → gap R k es ≤ length es
-  gap-within k [] = omega arith
-  gap-within k (e ∷ es) =
-      let more : suc (gap R k es) ≤ suc (length es) = omega (arith, gap-within k es) in
+  pub rank-within : (k : K) (es : List (K × X)) → rank R k es ≤ length es
+  rank-within k [] = omega arith
+  rank-within k (e ∷ es) =
+      let more : suc (rank R k es) ≤ suc (length es) = omega (arith, rank-within k es) in
       elim (R k e.0) as (λ r.
-      by_order r 0 (suc (gap R k es)) (suc (gap R k es)) ≤ suc (length es)) [
+      by_order r 0 (suc (rank R k es)) (suc (rank R k es)) ≤ suc (length es)) [
         | Less ↦ omega arith
         | Equal ↦ more
         | Greater ↦ more
       ]
 
   -- a new key is put where it belongs
-  pub put-gap : (k : K) (v : X) (es : List (K × X))
+  pub put-rank : (k : K) (v : X) (es : List (K × X))
       → find R k es ≡ None
-      → put R k v es ≡ insert es (gap R k es) (k, v)
-  put-gap k v [] none = refl
-  put-gap k v (e ∷ es) none =
+      → put R k v es ≡ insert es (rank R k es) (k, v)
+  put-rank k v [] none = refl
+  put-rank k v (e ∷ es) none =
       elim (R k e.0) as (λ r. cond (is_eq r) (Some e.1) (find R k es) ≡ None
       → by_order r ((k, v) ∷ e ∷ es) ((e.0, v) ∷ es) (e ∷ put R k v es)
-      ≡ insert (e ∷ es) (by_order r 0 (suc (gap R k es)) (suc (gap R k es))) (k, v)) [
+      ≡ insert (e ∷ es) (by_order r 0 (suc (rank R k es)) (suc (rank R k es))) (k, v)) [
         | Less ↦ λ g. refl
         | Equal ↦ λ g. absurd cc
-        | Greater ↦ λ g. ap (λ l. e ∷ l) (put-gap k v es g)
+        | Greater ↦ λ g. ap (λ l. e ∷ l) (put-rank k v es g)
       ] none
 
   module _ (o : IsTotalOrder R) where

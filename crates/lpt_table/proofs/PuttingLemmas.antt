@@ -16,9 +16,9 @@ use Rattle.lpt_reception.specs.Received.{Received}
 use Rattle.lpt_table.specs.declared.entries.Entry.{Entry}
 use Rattle.lpt_table.specs.declared.places.Place.{Place}
 use Rattle.lpt_table.specs.EntriesOf.{entry_in, entry_at, parts_in, map_of, IsIts, IsHeld, IsListed}
-use Rattle.lpt_table.specs.Places.{by_name, by_moment, when_cmp, gap, AreApart}
+use Rattle.lpt_table.specs.Places.{by_name, by_moment, when_cmp, rank, AreApart}
 use Rattle.lpt_table.proofs.OrderLemmas.{when_cmp_total, find-by_moment}
-use Rattle.lpt_table.proofs.PlaceLemmas.{AreApart-inserted, find-inserted, gap-within, put-gap}
+use Rattle.lpt_table.proofs.PlaceLemmas.{AreApart-inserted, find-inserted, rank-within, put-rank}
 use Rattle.lpt_table.proofs.ListingLemmas.{equal_tied, inside, get-map_of, len-map_of, same_entries}
 
 by_name_insert : (xs : List Place) (i : ℕ) (x : Place)
@@ -31,11 +31,11 @@ by_moment_insert xs i x = simp (map-append, take-map, drop-map)
 
 -- a last tick and a name belong into the list or at its end
 pub belongs-within : (last id : ℕ) (xs : List Place)
-    → gap when_cmp (last, id) (by_moment xs) ≤ length xs
+    → rank when_cmp (last, id) (by_moment xs) ≤ length xs
 belongs-within last id xs =
     omega (
       arith,
-      gap-within when_cmp (last, id) (by_moment xs),
+      rank-within when_cmp (last, id) (by_moment xs),
       length-map {A = Place} {B = (ℕ × Name) × ℕ} xs (λ x. ((x.last, x.id), x.key)),
     )
 
@@ -52,7 +52,7 @@ module _ (limit p capacity : ℕ) (s : Slab Received) (xs : List Place)
 
     -- where its last tick and name belong
     abbrev pub belongs : ℕ
-    belongs = gap when_cmp (e.last, e.id) (by_moment xs)
+    belongs = rank when_cmp (e.last, e.id) (by_moment xs)
 
     module _ (t : Slab Received) (key : ℕ) (u : Updates s t key (Some e.filling))
         (vacant : get s key ≡ None) where
@@ -79,7 +79,7 @@ module _ (limit p capacity : ℕ) (s : Slab Received) (xs : List Place)
       placed-ordered : T (is_sorted when_cmp (by_moment placed))
       placed-ordered =
           subst (λ es. T (is_sorted when_cmp es))
-          (put-gap when_cmp (e.last, e.id) key (by_moment xs)
+          (put-rank when_cmp (e.last, e.id) key (by_moment xs)
           (find-by_moment e.last e.id xs none) ∙ sym (by_moment_insert xs belongs _))
           (is_sorted-put when_cmp when_cmp_total (e.last, e.id) key (by_moment xs) l.ordered)
 

@@ -4,7 +4,8 @@ use Rattle.std.specs.Option.{option_map}
 use Rattle.std.specs.FinMap as map
 use Rattle.lpt_reception.specs.LptPacket.Names.{Name}
 use Rattle.lpt_reception.specs.LptPart.declared.reason.Reason.{Reason}
-use Rattle.lpt_reception.specs.Received.{Kept as KeptPart, Parts, Received, no_parts, with_part, contradicts, break_reason, is_whole}
+use Rattle.lpt_reception.specs.LptPart.declared.reason.Reason.TheVariants as reason
+use Rattle.lpt_reception.specs.Received.{Kept as KeptPart, Parts, Received, no_parts, with_part, contradicts, is_gap, is_whole}
 use Rattle.lpt_table.specs.Tables.{TableEntry, TableState}
 
 -- whether a reception of this name is open
@@ -54,6 +55,7 @@ pub data OfferKind : Type 0 where
   Again : OfferKind
   Whole : OfferKind
   Conflict : Reason → OfferKind
+  Gap : OfferKind
   NoRoom : OfferKind
 
 -- the reception of a name, if one is open, is taken out, and its last tick is remembered
@@ -64,12 +66,19 @@ taken_out t id =
       out = option_map (λ e. (id, e.last)) (map.get t.entries id);
     }
 
+-- what an offer of a part that isn't the next one comes to: its reception is broken off, where one is
+-- open
+abbrev pub at_gap : TableState → Name → OfferKind × TableState
+at_gap t id =
+    if is_open t id then (Conflict reason.Discontinuity, taken_out t id) else (Gap, t)
+
 -- what an offer of part n of a transaction comes to, and what it makes of the table, where there is
 -- memory for the part
 unfoldable pub offered : TableState → Name → ℕ → KeptPart → ℕ → OfferKind × TableState
 offered t id n x now =
     if is_full t id then (NoRoom, t)
-    else if contradicts (parts_at t id) n x then (Conflict break_reason, taken_out t id)
+    else if contradicts (parts_at t id) n x then (Conflict reason.Conflict, taken_out t id)
     else if is_some (map.get (parts_at t id) n) then (Again, with_entry t id (parts_at t id) now)
+    else if is_gap t.mode (parts_at t id) n then at_gap t id
     else if is_whole (with_part (parts_at t id) n x) then (Whole, taken_out t id)
     else (Kept, with_entry t id (with_part (parts_at t id) n x) now)

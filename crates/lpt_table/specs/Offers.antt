@@ -2,39 +2,46 @@
 use Rattle.std.specs.Prelude.{◌≡◌, ℕ, true, false, Option, Some, None}
 use Rattle.lpt_reception.specs.LptPacket.Names.{Name}
 use Rattle.lpt_reception.specs.declared.step.Step.TheVariants as step
-use Rattle.lpt_reception.specs.Answers.{Answers}
-use Rattle.lpt_reception.specs.Received.{Kept as KeptPart, with_part}
+use Rattle.lpt_reception.specs.Answers.{IsNew, Answers}
+use Rattle.lpt_reception.specs.Received.{Kept as KeptPart, with_part, is_gap}
 use Rattle.lpt_table.specs.declared.offer.Offer.{Offer}
-use Rattle.lpt_table.specs.declared.offer.Offer.TheVariants.{Kept, Again, Whole, Conflict, NoRoom, Memory}
+use Rattle.lpt_table.specs.declared.offer.Offer.TheVariants.{Kept, Again, Whole, Conflict, Gap, NoRoom, Memory}
 use Rattle.lpt_table.specs.Offering as kind
 use Rattle.lpt_table.specs.Tables.{TableState}
-use Rattle.lpt_table.specs.Offering.{OfferKind, is_full, parts_at, received_at, with_entry, TakesOut}
+use Rattle.lpt_table.specs.Offering.{OfferKind, is_full, is_open, parts_at, received_at, with_entry, TakesOut}
 
 -- what an offer of part n of a transaction answers, and what it makes of the table: no room where
--- the table is full, else as the reception answers; a part that is kept, or was kept, sets the last
--- tick, and a reception that is whole or broken off is taken out
+-- the table is full, a gap where none is open and the part isn't the next one in the table's mode,
+-- else as the reception answers; a part that is kept, or was kept, sets the last tick, and a reception
+-- that is whole or broken off is taken out
 abbrev pub Offers : TableState → Name → ℕ → KeptPart → ℕ → Offer → TableState → Type 0
 Offers old id n x now NoRoom new = (is_full old id ≡ true) × (new ≡ old)
 Offers old id n x now Kept new =
     (is_full old id ≡ false)
-    × Answers (received_at old id) n x
+    × Answers old.mode (received_at old id) n x
     (step.Filling (record (received_at old id) { parts = with_part (parts_at old id) n x }))
     × (new ≡ with_entry old id (with_part (parts_at old id) n x) now)
 Offers old id n x now Again new =
     (is_full old id ≡ false)
-    × Answers (received_at old id) n x (step.Again (received_at old id))
+    × Answers old.mode (received_at old id) n x (step.Again (received_at old id))
     × (new ≡ with_entry old id (parts_at old id) now)
 Offers old id n x now (Whole w) new =
     (is_full old id ≡ false)
-    × Answers (received_at old id) n x (step.Whole w)
+    × Answers old.mode (received_at old id) n x (step.Whole w)
     × TakesOut old new id
 Offers old id n x now (Conflict b) new =
     (is_full old id ≡ false)
-    × Answers (received_at old id) n x (step.Conflict b)
+    × Answers old.mode (received_at old id) n x (step.Conflict b)
     × TakesOut old new id
+Offers old id n x now Gap new =
+    (is_full old id ≡ false)
+    × (is_open old id ≡ false)
+    × IsNew (parts_at old id) n x
+    × (is_gap old.mode (parts_at old id) n ≡ true)
+    × (new ≡ old)
 Offers old id n x now Memory new =
     (is_full old id ≡ false)
-    × Answers (received_at old id) n x (step.NoMemory (received_at old id))
+    × Answers old.mode (received_at old id) n x (step.NoMemory (received_at old id))
     × (new ≡ old)
 
 -- what comes out is of this name and part size
@@ -43,6 +50,7 @@ Its id p Kept = Unit {0}
 Its id p Again = Unit {0}
 Its id p (Whole w) = (w.before.id ≡ id) × (w.before.p ≡ p)
 Its id p (Conflict b) = (b.before.id ≡ id) × (b.before.p ≡ p)
+Its id p Gap = Unit {0}
 Its id p NoRoom = Unit {0}
 Its id p Memory = Unit {0}
 
@@ -52,5 +60,6 @@ kind_of Kept = Some kind.Kept
 kind_of Again = Some kind.Again
 kind_of (Whole w) = Some kind.Whole
 kind_of (Conflict b) = Some (kind.Conflict b.reason)
+kind_of Gap = Some kind.Gap
 kind_of NoRoom = Some kind.NoRoom
 kind_of Memory = None

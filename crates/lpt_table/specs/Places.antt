@@ -27,9 +27,9 @@ spot R k (e ∷ es) =
     by_order (R k e.0) (option_map suc (spot R k es)) (Some 0) (option_map suc (spot R k es))
 
 -- how many keys stand before the first one that is above this one
-abbrev pub gap : {K X : Type 0} → (K → K → Ordering) → K → List (K × X) → ℕ
-gap R k [] = 0
-gap R k (e ∷ es) = by_order (R k e.0) 0 (suc (gap R k es)) (suc (gap R k es))
+abbrev pub rank : {K X : Type 0} → (K → K → Ordering) → K → List (K × X) → ℕ
+rank R k [] = 0
+rank R k (e ∷ es) = by_order (R k e.0) 0 (suc (rank R k es)) (suc (rank R k es))
 
 -- no key stands twice
 abbrev pub AreApart : {K X : Type 0} → (K → K → Ordering) → List (K × X) → Type 0

@@ -4,7 +4,8 @@ use Rattle.std.specs.Coded.{Coded, code_by, coded×, coded_ℕ, coded_option}
 use Rattle.std.specs.FinMap as map
 use Rattle.lpt_reception.specs.LptPacket.Names.{Name, name_cmp}
 use Rattle.lpt_reception.specs.LptPart.Splitting.{IsPartSize}
-use Rattle.lpt_reception.specs.Codes.{coded_kept}
+use Rattle.lpt_reception.specs.LptPart.declared.mode.Mode.{Mode}
+use Rattle.lpt_reception.specs.Codes.{coded_kept, coded_mode}
 use Rattle.lpt_reception.specs.Received.{Parts}
 
 -- so many receptions may be open, a time-out has so many ticks, and parts have so many octets
@@ -24,19 +25,20 @@ pub record TableEntry : Type 0 where
 abbrev pub Entries : Type 0
 Entries = map.FinMap name_cmp TableEntry
 
--- how many receptions may be open, the time-out in ticks, the part size, the open receptions, and
--- the name and last tick of the reception that is out
+-- how many receptions may be open, the time-out in ticks, the part size, the order in which parts are
+-- taken, the open receptions, and the name and last tick of the reception that is out
 pub record TableState : Type 0 where
   pub limit : ℕ
   pub timeout : ℕ
   pub p : ℕ
+  pub mode : Mode
   pub entries : Entries
   pub out : Option (Name × ℕ)
 
 -- no reception is open, and none is out
-abbrev pub no_receptions : ℕ → ℕ → ℕ → TableState
-no_receptions limit timeout p =
-    record { limit = limit; timeout = timeout; p = p; entries = map.empty; out = None }
+abbrev pub no_receptions : ℕ → ℕ → ℕ → Mode → TableState
+no_receptions limit timeout p mode =
+    record { limit = limit; timeout = timeout; p = p; mode = mode; entries = map.empty; out = None }
 
 -- an entry is coded as the pair of its fields
 abbrev pub coded_table_entry : Coded TableEntry
@@ -51,15 +53,16 @@ coded_entries = map.code coded_ℕ coded_table_entry
 -- a table is coded as the tuple of its fields
 abbrev pub coded_table_state : Coded TableState
 coded_table_state =
-    code_by (ℕ × (ℕ × (ℕ × (Entries × Option (Name × ℕ)))))
-    (coded× coded_ℕ (coded× coded_ℕ (coded× coded_ℕ
-    (coded× coded_entries (coded_option (coded× coded_ℕ coded_ℕ))))))
-    (λ t. (t.limit, (t.timeout, (t.p, (t.entries, t.out)))))
+    code_by (ℕ × (ℕ × (ℕ × (Mode × (Entries × Option (Name × ℕ))))))
+    (coded× coded_ℕ (coded× coded_ℕ (coded× coded_ℕ (coded× coded_mode
+    (coded× coded_entries (coded_option (coded× coded_ℕ coded_ℕ)))))))
+    (λ t. (t.limit, (t.timeout, (t.p, (t.mode, (t.entries, t.out))))))
     (λ x. record {
       limit = x.0;
       timeout = x.1.0;
       p = x.1.1.0;
-      entries = x.1.1.1.0;
-      out = x.1.1.1.1;
+      mode = x.1.1.1.0;
+      entries = x.1.1.1.1.0;
+      out = x.1.1.1.1.1;
     })
     (λ _. refl)

@@ -5,7 +5,7 @@ ghost use Rattle.std.specs.FinMap as map;
 ghost use Rattle.std.specs.Option.{option_map};
 ghost use Rattle.lpt_table.specs.Deadlines.{soonest};
 
-use crate::places::{Place, first_due, gap_of, spot_of};
+use crate::places::{Place, first_due, rank_of, spot_of};
 use lpt_reception::{Filling, Name};
 use slab::Slab;
 use std::alloc::{AllocError, Global};
@@ -124,7 +124,7 @@ impl EntryList {
         ensures len { map.len self.new.entries ≡ map.len self.old.entries + 1 }
     {
         let Entry { id, filling, last } = entry;
-        let at = gap_of(&self.places, last, id);
+        let at = rank_of(&self.places, last, id);
         let key = self.fillings.insert_reserved(filling);
         match self.places.insert(at, Place { last, id, key }) {
             Ok(()) => {}

@@ -15,8 +15,8 @@ mod places;
 mod table;
 
 pub use lpt_reception::{
-    Broken, Filling, Kind, Part, PartFault, Reason, Step, Whole, abort_octets, count, read_abort,
-    read_part, slice, write_abort, write_part,
+    Broken, Filling, Kind, Mode, Part, PartFault, Reason, Step, Whole, abort_octets, count,
+    read_abort, read_part, slice, write_abort, write_part,
 };
 pub use offer::Offer;
 pub use table::Table;

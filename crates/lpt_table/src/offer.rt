@@ -12,8 +12,12 @@ pub enum Offer {
     Again,
     /// With the part all parts are there. The reception is out of the table.
     Whole(Whole),
-    /// The part contradicts those that were kept. The reception is out of the table.
+    /// The part contradicts those that were kept or, in strict mode, is neither one of them nor the
+    /// next one. The reception is out of the table.
     Conflict(Broken),
+    /// In strict mode: no reception of this name is open, and the part isn't the first one. Nothing
+    /// has changed.
+    Gap,
     /// No reception of this name is open, and as many are open as the limit. Nothing has changed.
     NoRoom,
     /// There was no memory for the part. Nothing has changed.

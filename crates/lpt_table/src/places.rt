@@ -3,7 +3,7 @@
 ghost use Rattle.std.specs.Prelude.{◌≡◌, T};
 ghost use Rattle.std.specs.FinMap as map;
 ghost use Rattle.lpt_reception.specs.LptPacket.Names.{name_cmp};
-ghost use Rattle.lpt_table.specs.Places.{spot, gap, when_cmp, by_name, by_moment, first_overdue};
+ghost use Rattle.lpt_table.specs.Places.{spot, rank, when_cmp, by_name, by_moment, first_overdue};
 
 use lpt_reception::Name;
 use std::cmp::Ordering;
@@ -32,9 +32,9 @@ pub(crate) fn spot_of(places: &[Place], id: Name) -> Option<usize>
 
 // At which place one of this last tick and name belongs. One that took a part just now belongs at
 // the end, so the search begins there.
-pub(crate) fn gap_of(places: &[Place], last: u32, id: Name) -> usize
+pub(crate) fn rank_of(places: &[Place], last: u32, id: Name) -> usize
     requires { T (map.is_sorted when_cmp (by_moment places.now)) }
-    ensures { result ≡ gap when_cmp (last, id) (by_moment places.now) }
+    ensures { result ≡ rank when_cmp (last, id) (by_moment places.now) }
 {
     for at in (0..places.len()).rev() {
         let place = &places[at];

@@ -2,6 +2,8 @@
 
 ghost use Rattle.std.specs.Prelude.{◌≡◌, ◌<◌, IfOk, IfSome, IsSomeAnd, None, Some};
 ghost use Rattle.std.specs.FinMap as map;
+ghost use Rattle.lpt_reception.specs.Answers.{Answers, kept};
+ghost use Rattle.lpt_reception.specs.Received.{is_gap, no_parts};
 ghost use Rattle.lpt_table.specs.Deadlines.{IsDue, due_of};
 ghost use Rattle.lpt_table.specs.EntryLists.{IsWithout};
 ghost use Rattle.lpt_table.specs.Offering.{is_open, offered, put_back, with_entry};
@@ -9,7 +11,7 @@ ghost use Rattle.lpt_table.specs.Tables.{IsTableSize, TableState, no_receptions}
 
 use crate::Offer;
 use crate::entries::{Entry, EntryList};
-use lpt_reception::{Filling, Name, Part, Step};
+use lpt_reception::{Filling, Mode, Name, Part, Step};
 use std::alloc::{AllocError, Global};
 use std::marker::Model;
 
@@ -23,6 +25,7 @@ pub struct Table {
     alloc: Global,
     receptions: EntryList,
     timeout: u32,
+    mode: Mode,
     // The name and the last tick of the reception that is out.
     out: Option<(Name, u32)>,
 }
@@ -42,6 +45,7 @@ impl Model for Table {
       limit = a.receptions.limit;
       timeout = a.timeout;
       p = a.receptions.p;
+      mode = a.mode;
       entries = a.receptions.entries;
       out = a.out;
     } };
@@ -52,21 +56,28 @@ impl Model for Table {
 }
 
 impl Table {
-    ghost use Rattle.lpt_reception.specs.Answers.{kept};
+    ghost use Rattle.lpt_reception.specs.Answers.{IsNew};
     ghost use Rattle.lpt_table.specs.Offers.{Offers, Its, kind_of};
     ghost use Rattle.lpt_table.specs.EntriesOf.{entry_in, IsIts};
 
     /// A table with places for `limit` receptions, 1 to 64, in which none is open. A reception is
     /// overdue when it took no part for `timeout` ticks, 1 to 65,535. Parts are of `p` octets, 4 to
-    /// 1024. The only error is want of memory.
-    pub fn new(alloc: Global, limit: u32, timeout: u32, p: u32) -> Result<Table, AllocError>
+    /// 1024, and are taken in this mode. The only error is want of memory.
+    pub fn new(
+        alloc: Global,
+        limit: u32,
+        timeout: u32,
+        p: u32,
+        mode: Mode,
+    ) -> Result<Table, AllocError>
         requires { IsTableSize limit timeout p }
-        ensures { IfOk result (λ t. t ≡ no_receptions limit timeout p) }
+        ensures { IfOk result (λ t. t ≡ no_receptions limit timeout p mode) }
     {
         Ok(Table {
             alloc,
             receptions: EntryList::new(alloc, limit, p)?,
             timeout,
+            mode,
             out: None,
         })
     }
@@ -74,9 +85,10 @@ impl Table {
     /// Offers a part to its transaction's reception, and opens one where none is open. `now` is the
     /// tick at which the part has come; it isn't compared with earlier ticks.
     ///
-    /// The answer is the first of these that applies: `NoRoom`; `Conflict`; `Again`; `Whole`;
-    /// `Kept`. `Memory` comes in place of the last two alone. A reception that comes out leaves its
-    /// last tick and its place in the table.
+    /// The answer is the first of these that applies: `NoRoom`; `Conflict` for a contradiction;
+    /// `Again`; in strict mode, for a part that isn't the next one, `Conflict` where a reception is
+    /// open and `Gap` where none is; `Whole`; `Kept`. `Memory` comes in place of the last two alone.
+    /// A reception that comes out leaves its last tick and its place in the table.
     pub fn offer(&mut self, part: &Part<'_>, now: u32) -> Offer
         requires p { part.now.p ≡ self.old.p }
         requires settled { self.old.out ≡ None }
@@ -112,7 +124,7 @@ impl Table {
             filling,
             last,
         } = entry;
-        match filling.accept(part) {
+        match self.step(filling, part) {
             Step::Filling(filling) => {
                 self.keep(part.id, filling, now);
                 Offer::Kept
@@ -146,12 +158,39 @@ impl Table {
         if self.receptions.is_full() {
             return Offer::NoRoom;
         }
+        if self.skips(part) {
+            return Offer::Gap;
+        }
         match Filling::start(self.alloc, part, part.p) {
             Ok(filling) => {
                 self.keep(part.id, filling, now);
                 Offer::Kept
             }
             Err(AllocError) => Offer::Memory,
+        }
+    }
+
+    // Adds a part to its reception in the table's mode.
+    fn step(&self, filling: Filling, part: &Part<'_>) -> Step
+        requires id { part.now.id ≡ filling.id }
+        requires p { part.now.p ≡ filling.p }
+        ensures { Answers self.now.mode filling part.now.number (kept part.now) result }
+    {
+        match self.mode {
+            Mode::Any => filling.accept(part),
+            Mode::Strict => filling.accept_strict(part),
+        }
+    }
+
+    // Whether this part can't open a reception in the table's mode.
+    #[tactic(auto, using(crate::proofs::FirstParts::gap_alone))]
+    fn skips(&self, part: &Part<'_>) -> bool
+        ensures gap { result ≡ is_gap self.now.mode no_parts part.now.number }
+        ensures new { IsNew no_parts part.now.number (kept part.now) }
+    {
+        match self.mode {
+            Mode::Any => false,
+            Mode::Strict => part.number != 1,
         }
     }
 

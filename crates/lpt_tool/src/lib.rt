@@ -17,7 +17,7 @@ pub use lpt_script::{
     read_hex, read_line, read_number, read_text, run_script, split_line, split_word, write_out,
 };
 pub use lpt_share::{
-    AckFlags, Area, Config, Direction, Event, Lane, Memories, Name, Octets, Outcome, Packet,
+    AckFlags, Area, Config, Direction, Event, Lane, Memories, Mode, Name, Octets, Outcome, Packet,
     PacketKind, Reason, Release, Side, StepFault, TmHead, Turns, Why, write_packet, write_tm,
 };
 pub use threads::run_threads_script;

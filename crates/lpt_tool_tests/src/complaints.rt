@@ -23,7 +23,7 @@ fn says(alloc: Global, complaint: &Complaint, reason: &str) -> bool {
 /// A text, the line that is told, 0 where none is, and the reason.
 type Case = (&'static str, usize, &'static str);
 
-static CASES: [Case; 23] = [
+static CASES: [Case; 25] = [
     ("apid = 2047", 1, "apid: not from 0 to 2046"),
     ("# one\n\n  'source' = -1", 3, "source: not from 0 to 65535"),
     ("apid = 1\npart_size=3", 2, "part_size: not from 4 to 1024"),
@@ -31,6 +31,12 @@ static CASES: [Case; 23] = [
     ("receptions = 65", 1, "receptions: not from 1 to 64"),
     ("outgoing = 65", 1, "outgoing: not from 1 to 64"),
     ("clock = 4294967296", 1, "clock: not from 0 to 4294967295"),
+    ("mode = \"none\"", 1, "mode: neither \"any\" nor \"strict\""),
+    (
+        "apid = 1\nmode = 1",
+        2,
+        "mode: neither \"any\" nor \"strict\"",
+    ),
     ("clock = 1\napid = 1.0", 2, "apid: not an integer"),
     ("apid = 1\n\n[apids]\nid = 1", 3, "apids: no such key"),
     ("parts = 8", 1, "parts: no such key"),

@@ -1,7 +1,7 @@
 //! Whole scripts with the text that they print, written out by hand from the rules of the lines.
 
 use crate::usual::{USUAL, ran, zeros};
-use lpt_tool::{Config, ToolFault};
+use lpt_tool::{Config, Mode, ToolFault};
 use std::test::Fail;
 
 /// A configuration, a script, how many of its lines are refused or the fault, and what it prints.
@@ -17,13 +17,20 @@ const LATE: Config = Config {
     ..USUAL
 };
 
+/// Parts are taken in the order of their numbers alone, of one message at a time.
+const STRICT: Config = Config {
+    mode: Mode::Strict,
+    receptions: 1,
+    ..USUAL
+};
+
 /// Out of its ranges.
 const NARROW: Config = Config {
     part_size: 3,
     ..USUAL
 };
 
-static SCRIPTS: [Row; 18] = [
+static SCRIPTS: [Row; 22] = [
     // A message goes up in parts.
     (
         USUAL,
@@ -162,6 +169,47 @@ static SCRIPTS: [Row; 18] = [
         "# comment\n  \nopen up 7 -\nopen up 7 0\n",
         Err(ToolFault::Line(4)),
         "refused 42 Short\nline 4: unreadable\n",
+    ),
+    // In strict mode a gap breaks a reception off, and the spacecraft reports it.
+    (
+        STRICT,
+        "open up 7 000102030405060708090a0b0c0d0e0f10111213\n\
+        send up 7 1\nsend up 7 2\nsend up 7 3\n\
+        pass s1 0\npass s1 2\npass s1 1\npass g1 3\nsend up 7 2\n",
+        Ok(1),
+        "opened up 7 parts 3\nput 0\nput 1\nput 2\n\
+        took 0\nkept up 7 1\ntook 2\nbroken up 7 2\ntook 1\nignored Closed\n\
+        took 3\nabort 7 2\nrefused 45 NotOpen\n",
+    ),
+    // So does one before a part was kept.
+    (
+        STRICT,
+        "open up 7 000102030405060708090a0b0c0d0e0f10111213\n\
+        send up 7 1\nsend up 7 2\nsend up 7 3\n\
+        pass s1 2\npass s1 0\npass s1 1\nshow released\n",
+        Ok(0),
+        "opened up 7 parts 3\nput 0\nput 1\nput 2\n\
+        took 2\nbroken up 7 2\ntook 0\nignored Closed\ntook 1\nignored Closed\nnone\n",
+    ),
+    // A part that comes again is no gap.
+    (
+        STRICT,
+        "open up 7 000102030405060708090a0b0c0d0e0f10111213\n\
+        send up 7 1\nsend up 7 2\nsend up 7 3\n\
+        pass s1 0\npass s1 0\npass s1 1\npass s1 2\n",
+        Ok(0),
+        "opened up 7 parts 3\nput 0\nput 1\nput 2\n\
+        took 0\nkept up 7 1\ntook 0\nagain up 7 1\ntook 1\nkept up 7 2\n\
+        took 2\nreleased up 7 20\n",
+    ),
+    // Nor is one for which there is no room.
+    (
+        STRICT,
+        "open up 7 000102030405060708\nopen up 8 000102030405060708\n\
+        send up 7 1\nsend up 8 2\npass s1 0\npass s1 1\n",
+        Ok(0),
+        "opened up 7 parts 2\nopened up 8 parts 2\nput 0\nput 1\n\
+        took 0\nkept up 7 1\ntook 1\nignored NoRoom\n",
     ),
     // A configuration out of its ranges is refused.
     (NARROW, "show journal\n", Err(ToolFault::Config), ""),

@@ -2,7 +2,7 @@
 
 use crate::usual::USUAL;
 use lpt_settings::read_config;
-use lpt_tool::{Config, ToolFault, Turns};
+use lpt_tool::{Config, Mode, ToolFault, Turns};
 use std::alloc::Global;
 
 // The configuration of a text, without its memories.
@@ -26,10 +26,11 @@ const KEYS: &str = "
         part_size = 16
         source = 2
         'apid' = 1
+        mode = 'strict'
     ";
 
 /// Texts with their configurations.
-static CONFIGS: [(&str, Config); 26] = [
+static CONFIGS: [(&str, Config); 28] = [
     // Blank ones have the defaults.
     ("", USUAL),
     ("\n", USUAL),
@@ -46,6 +47,7 @@ static CONFIGS: [(&str, Config); 26] = [
             receptions: 5,
             outgoing: 6,
             clock: 7,
+            mode: Mode::Strict,
         },
     ),
     // The ends of each range.
@@ -160,6 +162,15 @@ static CONFIGS: [(&str, Config); 26] = [
     ),
     ("clock = +9", Config { clock: 9, ..USUAL }),
     ("clock = -0", Config { clock: 0, ..USUAL }),
+    // Each mode.
+    ("mode = \"any\"", USUAL),
+    (
+        "mode = \"strict\"",
+        Config {
+            mode: Mode::Strict,
+            ..USUAL
+        },
+    ),
 ];
 
 #[test]
@@ -169,7 +180,11 @@ fn reads_configurations(rt: HostRuntime) {
     }
 }
 
-static OTHERS: [&str; 83] = [
+static OTHERS: [&str; 86] = [
+    // What names no mode.
+    "mode = \"Strict\"",
+    "mode = \"\"",
+    "mode = 1",
     // Numbers outside their range.
     "apid = -1",
     "apid = 2047",

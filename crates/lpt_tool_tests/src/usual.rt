@@ -1,6 +1,6 @@
 //! The configuration and the memories of an empty file, and a script's run on them.
 
-use lpt_tool::{Config, Memories, Octets, Told, ToolFault, run_script};
+use lpt_tool::{Config, Memories, Mode, Octets, Told, ToolFault, run_script};
 use std::alloc::{AllocError, Global};
 use std::io::Read;
 use std::test::Fail;
@@ -14,6 +14,7 @@ pub(crate) const USUAL: Config = Config {
     receptions: 8,
     outgoing: 8,
     clock: 0,
+    mode: Mode::Any,
 };
 
 /// What the memories of an empty file hold: one memory 1 of 256 octets of zero.

@@ -13,7 +13,7 @@ use Rattle.lpt_journal.specs.LptEvents.Events.{IsEvent}
 use Rattle.lpt_journal.specs.Legal.{Legal}
 use Rattle.lpt_journal.proofs.TestLemmas.{and_l, and_r, not_true, none_is}
 use Rattle.lpt_worked.proofs.Listed.{recorded_listed, recorded_is, refusal_listed, refusal_is}
-use Rattle.lpt_worked.specs.Passes.{IsPass, usual, impatient, usual_memories}
+use Rattle.lpt_worked.specs.Passes.{IsPass, usual, strict, impatient, usual_memories}
 
 -- ---- a test of legality
 
@@ -108,6 +108,24 @@ pub usual_pass : (es : List Event) → passes usual (reverse es) ≡ true → Is
 usual_pass es h = record {
   configured = usual_with 10 (omega arith) (omega arith);
   legal = legal usual (reverse es) h;
+}
+
+-- or of that in which parts are taken in order
+pub strict_pass : (es : List Event) → passes strict (reverse es) ≡ true → IsPass strict es
+strict_pass es h = record {
+  configured = record {
+    apid_fits = omega arith;
+    source_fits = omega arith;
+    part_size_fits = (omega arith, omega arith);
+    some_timeout = omega arith;
+    timeout_fits = omega arith;
+    some_receptions = omega arith;
+    receptions_fit = omega arith;
+    some_outgoing = omega arith;
+    outgoing_fits = omega arith;
+    clock_fits = omega arith;
+  };
+  legal = legal strict (reverse es) h;
 }
 
 -- or of that with a time-out of one tick

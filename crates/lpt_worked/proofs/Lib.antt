@@ -11,4 +11,5 @@ pub mod PlainRows
 pub mod Played
 pub mod Rows
 pub mod SharedRows
+pub mod StrictRows
 pub mod TimeRows

@@ -1,5 +1,5 @@
 -- The definitions with the kept parts as lists in the order of numbers: these compute.
-use Rattle.std.proofs.Common.{◌≡◌, ◌∙◌, ap, refl, ℕ, ◌==◌, nat_le, Bool, not, ◌&&◌, ◌||◌, if◌then◌else◌, List, [], ◌∷◌, length, Option}
+use Rattle.std.proofs.Common.{◌≡◌, ◌∙◌, ap, refl, ℕ, ◌+◌, ◌==◌, nat_le, Bool, not, ◌&&◌, ◌||◌, if◌then◌else◌, List, [], ◌∷◌, length, Option}
 use Rattle.std.specs.Option.{is_some}
 use Rattle.std.specs.List.{filter}
 use Rattle.std.specs.FinMap as map
@@ -7,9 +7,10 @@ use Rattle.std.specs.FinMap.{find}
 use Rattle.std.specs.Ordering.{nat_cmp}
 use Rattle.lpt_journal.specs.LptPacket.declared.direction.Direction.{Direction}
 use Rattle.lpt_journal.specs.LptPacket.Names.{Name}
-use Rattle.lpt_journal.specs.LptPart.declared.reason.Reason.TheVariants.{Conflict}
+use Rattle.lpt_journal.specs.LptPart.declared.mode.Mode.{Mode}
+use Rattle.lpt_journal.specs.LptPart.declared.reason.Reason.TheVariants.{Conflict, Discontinuity}
 use Rattle.lpt_journal.specs.LptPart.Parts.{Piece}
-use Rattle.lpt_journal.specs.LptReception.Received.{Parts, is_whole}
+use Rattle.lpt_journal.specs.LptReception.Received.{Parts, greatest_of, is_strict, is_whole}
 use Rattle.lpt_journal.specs.LptEvents.declared.lane.Lane.{Lane}
 use Rattle.lpt_journal.specs.LptEvents.Lanes.{lane_direction}
 use Rattle.lpt_journal.specs.LptEvents.declared.config.Config.{Config}
@@ -46,19 +47,24 @@ has_listed s = not (length s == 0)
 has_parts_is : (s : Parts) → has_parts s ≡ has_listed (map.entries s)
 has_parts_is s = λ i. not (map.len-entries s i == 0)
 
-abbrev judged_list : (limit : ℕ) (closed : Bool) (open_now : ℕ) → Listed → Piece → Outcome
-judged_list limit closed open_now s q =
+abbrev gap_listed : Mode → Listed → ℕ → Bool
+gap_listed mode s n = is_strict mode && not (n == greatest_of s + 1)
+
+abbrev judged_list : Mode → (limit : ℕ) (closed : Bool) (open_now : ℕ) → Listed → Piece → Outcome
+judged_list mode limit closed open_now s q =
     if closed then Ignored Closed
     else if not (has_listed s) && nat_le limit open_now then Ignored NoRoom
     else if contradicts_listed s q then Broken q.id Conflict
     else if is_some (find nat_cmp q.number s) then Again q.id q.number
+    else if gap_listed mode s q.number then Broken q.id Discontinuity
     else if whole_listed (with_listed s q)
     then Released q.id (length (spelled_listed (with_listed s q)))
     else Kept q.id q.number
 
-judged_part_is : (limit : ℕ) (closed : Bool) (open_now : ℕ) (s : Parts) (q : Piece)
-    → judged_part limit closed open_now s q ≡ judged_list limit closed open_now (map.entries s) q
-judged_part_is limit closed open_now s q =
+judged_part_is : (mode : Mode) (limit : ℕ) (closed : Bool) (open_now : ℕ) (s : Parts) (q : Piece)
+    → judged_part mode limit closed open_now s q
+    ≡ judged_list mode limit closed open_now (map.entries s) q
+judged_part_is mode limit closed open_now s q =
     let whole : is_whole (with_piece s q) ≡ whole_listed (with_listed (map.entries s) q) =
     whole_is (with_piece s q) ∙ ap whole_listed (entries-with_piece s q) in
     λ i.
@@ -66,6 +72,7 @@ judged_part_is limit closed open_now s q =
     else if not (has_parts_is s i) && nat_le limit open_now then Ignored NoRoom
     else if contradicts_is s q i then Broken q.id Conflict
     else if is_some (map.get-entries s q.number i) then Again q.id q.number
+    else if gap_listed mode (map.entries s) q.number then Broken q.id Discontinuity
     else if whole i then Released q.id (length (spelled_listed (entries-with_piece s q i)))
     else Kept q.id q.number
 
@@ -74,7 +81,7 @@ names_listed c h d = once (filter (λ id. has_listed (listed c h d id)) (heard_n
 
 abbrev judged_listed : Config → History → Direction → Arrival → Outcome
 judged_listed c h d (APart q) =
-    judged_list c.receptions (is_closed h d q.id) (length (names_listed c h d))
+    judged_list c.mode c.receptions (is_closed h d q.id) (length (names_listed c h d))
     (listed c h d q.id) q
 judged_listed c h d a = judged c h d a
 
@@ -89,9 +96,9 @@ has_is c h d id = has_parts_is (heard c h d id) ∙ ap has_listed (entries-heard
 judged_is : (c : Config) (h : History) (d : Direction) (a : Arrival)
     → judged c h d a ≡ judged_listed c h d a
 judged_is c h d (APart q) =
-    judged_part_is c.receptions (is_closed h d q.id) (length (open_names c h d))
+    judged_part_is c.mode c.receptions (is_closed h d q.id) (length (open_names c h d))
     (heard c h d q.id) q
-    ∙ (λ i. judged_list c.receptions (is_closed h d q.id)
+    ∙ (λ i. judged_list c.mode c.receptions (is_closed h d q.id)
     (length (once (filter (λ id. has_is c h d id i) (heard_names h d)))) (entries-heard c h d q.id i) q)
 judged_is c h d a = refl
 

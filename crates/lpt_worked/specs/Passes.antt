@@ -2,6 +2,7 @@
 use Rattle.std.specs.Prelude.{ℕ, List, [], ◌∷◌, ◌++◌, map, replicate, reverse}
 use Rattle.lpt_journal.specs.LptMemory.Memories.{Contents}
 use Rattle.lpt_journal.specs.LptPacket.declared.direction.Direction.TheVariants.{Up, Down}
+use Rattle.lpt_journal.specs.LptPart.declared.mode.Mode.TheVariants.{Any, Strict}
 use Rattle.lpt_journal.specs.LptEvents.Configs.{IsConfig}
 use Rattle.lpt_journal.specs.LptEvents.declared.config.Config.{Config}
 use Rattle.lpt_journal.specs.LptEvents.declared.event.Event.{Event}
@@ -27,6 +28,7 @@ usual =
       receptions = 8;
       outgoing = 8;
       clock = 0;
+      mode = Any;
     }
 
 -- one memory 1 of 256 octets of 0
@@ -91,6 +93,32 @@ noisy =
     ∷ Damage Up (24 ∷ 100 ∷ 192 ∷ []) ∷ Send Up 7 1 ∷ Damage Down [] ∷ Send Up 7 2
     ∷ Take S1 0 ∷ Deliver S1 ∷ Take S1 1 ∷ Deliver S1
     ∷ Take G1 2 ∷ Deliver G1 ∷ Take S1 3 ∷ Deliver S1 ∷ []
+
+-- ---- parts that are taken in the order of their numbers alone
+
+-- parts are taken in order
+abbrev pub strict : Config
+strict = record usual { mode = Strict }
+
+-- the third part comes behind the first, and then the second; ground gets the report of it
+abbrev pub second_part_missing : List Event
+second_part_missing =
+    Open Up 7 m20
+    ∷ Send Up 7 1 ∷ Send Up 7 2 ∷ Send Up 7 3
+    ∷ Take S1 0 ∷ Deliver S1
+    ∷ Take S1 2 ∷ Deliver S1
+    ∷ Take S1 1 ∷ Deliver S1
+    ∷ Take G1 3 ∷ Deliver G1 ∷ []
+
+-- the first part comes twice, and then each other one
+abbrev pub in_order : List Event
+in_order =
+    Open Up 7 m20
+    ∷ Send Up 7 1 ∷ Send Up 7 2 ∷ Send Up 7 3
+    ∷ Take S1 0 ∷ Deliver S1
+    ∷ Take S1 0 ∷ Deliver S1
+    ∷ Take S1 1 ∷ Deliver S1
+    ∷ Take S1 2 ∷ Deliver S1 ∷ []
 
 -- ---- two receptions with one last tick
 

@@ -3,14 +3,15 @@
 
 ghost use Rattle.std.specs.Prelude.{◌≡◌, [], ◌∷◌, map, slice_get, Some, None};
 ghost use Rattle.lpt_journal.specs.LptEvents.declared.applied.Applied.TheVariants.{Done};
-ghost use Rattle.lpt_journal.specs.LptEvents.declared.outcome.Outcome.TheVariants.{ReportNoted, Ignored};
+ghost use Rattle.lpt_journal.specs.LptEvents.declared.outcome.Outcome.TheVariants.{ReportNoted, AbortNoted, Broken, Ignored};
 ghost use Rattle.lpt_journal.specs.LptEvents.declared.outcome.Why.TheVariants.{Unreadable};
 ghost use Rattle.lpt_journal.specs.LptEvents.declared.reply.Answer.TheVariants.{Delivered, Stale, Applied};
 ghost use Rattle.lpt_journal.specs.LptPacket.declared.direction.Direction.TheVariants.{Up, Down};
+ghost use Rattle.lpt_journal.specs.LptPart.declared.reason.Reason.TheVariants.{Discontinuity};
 ghost use Rattle.lpt_journal.specs.Abortions.{abortions};
 ghost use Rattle.lpt_journal.specs.Jobs.{executed, memories};
 ghost use Rattle.lpt_journal.specs.Releases.{releases};
-ghost use Rattle.lpt_worked.specs.Passes.{IsPass, passed, answers, usual, impatient, m9, m20, out_of_order, both_ways, noisy, two_expire, executed_load, two_loads, dump_packet, report_packet, large_report, renewed, load_packet, usual_memories, loaded_memories, cleared_memories};
+ghost use Rattle.lpt_worked.specs.Passes.{IsPass, passed, answers, usual, strict, impatient, m9, m20, out_of_order, second_part_missing, in_order, both_ways, noisy, two_expire, executed_load, two_loads, dump_packet, report_packet, large_report, renewed, load_packet, usual_memories, loaded_memories, cleared_memories};
 
 /// A message of three parts is delivered with its last part first, and released.
 pub fn out_of_order_is_legal()
@@ -35,6 +36,37 @@ pub fn noisy_is_legal()
     ensures down { slice_get (answers usual noisy) 10 ≡ Some (Delivered (Ignored Unreadable)) }
     ensures released { releases usual (passed usual noisy)
         ≡ record { place = 12; of = Some (Up, 7); message = m9 } ∷ [] }
+{}
+
+/// Where parts are taken in the order of their numbers, the third one breaks a reception off that has
+/// the first one alone. Ground notes the report of it, and nothing is released.
+pub fn second_part_missing_is_legal()
+    ensures pass { IsPass strict second_part_missing }
+    ensures broken { slice_get (answers strict second_part_missing) 7
+        ≡ Some (Delivered (Broken 7 Discontinuity)) }
+    ensures noted { slice_get (answers strict second_part_missing) 11
+        ≡ Some (Delivered (AbortNoted 7 Discontinuity)) }
+    ensures aborted { abortions (passed strict second_part_missing)
+        ≡ record { place = 7; direction = Up; id = 7 } ∷ [] }
+    ensures released { releases strict (passed strict second_part_missing) ≡ [] }
+{}
+
+/// Where parts are taken in the order of their numbers, the last one breaks a reception off before it
+/// is open, and nothing is released.
+pub fn last_part_first_is_legal()
+    ensures pass { IsPass strict out_of_order }
+    ensures broken { slice_get (answers strict out_of_order) 5
+        ≡ Some (Delivered (Broken 7 Discontinuity)) }
+    ensures aborted { abortions (passed strict out_of_order)
+        ≡ record { place = 5; direction = Up; id = 7 } ∷ [] }
+    ensures released { releases strict (passed strict out_of_order) ≡ [] }
+{}
+
+/// Parts in order, the first one twice: the message is released.
+pub fn in_order_is_legal()
+    ensures pass { IsPass strict in_order }
+    ensures released { releases strict (passed strict in_order)
+        ≡ record { place = 11; of = Some (Up, 7); message = m20 } ∷ [] }
 {}
 
 /// Two receptions expire, one after the other: of equal last ticks the least name first. Nothing is

@@ -1,13 +1,16 @@
-//! Parts that contradict what a lone node has kept, and parts at the end of the longest message.
+//! Parts that contradict what a lone node has kept, or come out of order where that breaks off, and
+//! parts at the end of the longest message.
 
 use crate::packets::{FIRST_DOWN, FIRST_UP, MIDDLE_DOWN, MIDDLE_UP};
 use crate::playing::{Packet, Play, Row, play_all};
 use crate::stations::PASS;
 use lpt_world::Outcome::{self, *};
 use lpt_world::Side::{self, Craft, Ground};
-use lpt_world::{Reason, Why};
+use lpt_world::{Config, Mode, Reason, Why};
 
 const BROKEN: Outcome = Broken(7, Reason::Conflict);
+
+const GAP: Outcome = Broken(7, Reason::Discontinuity);
 
 const CLOSED: Outcome = Ignored(Why::Closed);
 
@@ -17,6 +20,12 @@ const BAD: Outcome = Ignored(Why::BadPart);
 const REPORT: [u8; 22] = [
     0x08, 0x64, 0xc0, 0x00, 0x00, 0x0f, 0x20, 0x0d, 0x10, 0x00, 0x00, 0x00, 0x01, 0x00, 0x00, 0x00,
     0x09, 0x00, 0x07, 0x03, 0x1d, 0xd9,
+];
+
+/// TM\[13,16\] of count 0 at clock 9: the reception of message 7 was broken off for a gap.
+const GAP_REPORT: [u8; 22] = [
+    0x08, 0x64, 0xc0, 0x00, 0x00, 0x0f, 0x20, 0x0d, 0x10, 0x00, 0x00, 0x00, 0x01, 0x00, 0x00, 0x00,
+    0x09, 0x00, 0x07, 0x02, 0x0d, 0xf8,
 ];
 
 /// TC\[13,9\] of count 0: another first part of transaction 7, the octets 4 to 11.
@@ -125,8 +134,14 @@ const LAST_8193: Packet = (&LAST_8193_UP, &LAST_8193_DOWN);
 
 const BOTH: [Side; 2] = [Craft, Ground];
 
+/// Parts are taken in the order of their numbers alone.
+const STRICT: Config = Config {
+    mode: Mode::Strict,
+    ..PASS
+};
+
 /// What breaks a reception off leaves it closed. Nothing is kept of a part that no message has.
-static PLAYS: [Play; 8] = [
+static PLAYS: [Play; 11] = [
     Play {
         name: "another first part",
         sides: &BOTH,
@@ -204,6 +219,38 @@ static PLAYS: [Play; 8] = [
         rows: &[
             Row::Hears(LAST_8193, Kept(7, 8193), &[]),
             Row::Hears(FIRST, Kept(7, 1), &[]),
+        ],
+    },
+    Play {
+        name: "a gap behind a part",
+        sides: &BOTH,
+        config: STRICT,
+        rows: &[
+            Row::Hears(FIRST, Kept(7, 1), &[]),
+            Row::Hears(MIDDLE_3, GAP, &GAP_REPORT),
+            Row::Hears(MIDDLE, CLOSED, &[]),
+            Row::Receives(7, false),
+        ],
+    },
+    Play {
+        name: "a gap before all parts",
+        sides: &BOTH,
+        config: STRICT,
+        rows: &[
+            Row::Hears(MIDDLE, GAP, &GAP_REPORT),
+            Row::Hears(FIRST, CLOSED, &[]),
+            Row::Receives(7, false),
+        ],
+    },
+    Play {
+        name: "in order, a late repeat, and a contradiction out of order",
+        sides: &BOTH,
+        config: STRICT,
+        rows: &[
+            Row::Hears(FIRST, Kept(7, 1), &[]),
+            Row::Hears(MIDDLE, Kept(7, 2), &[]),
+            Row::Hears(FIRST, Again(7, 1), &[]),
+            Row::Hears(OTHER, BROKEN, &REPORT),
         ],
     },
 ];

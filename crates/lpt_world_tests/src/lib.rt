@@ -13,6 +13,8 @@
 #[cfg(test)]
 mod anew;
 #[cfg(test)]
+mod callers;
+#[cfg(test)]
 mod contradictions;
 #[cfg(test)]
 mod executing;

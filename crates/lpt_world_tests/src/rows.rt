@@ -2,7 +2,7 @@
 
 use lpt_world::Lane::{self, S1};
 use lpt_world::{
-    AckFlags, Answer, Applied, Config, Direction, Event, Name, Octets, Outcome, Side, State,
+    AckFlags, Answer, Applied, Config, Direction, Event, Mode, Name, Octets, Outcome, Side, State,
     StepFault, Worker,
 };
 use std::alloc::{AllocError, Global};
@@ -15,6 +15,7 @@ pub(crate) const CONFIG: Config = Config {
     receptions: 8,
     outgoing: 8,
     clock: 0,
+    mode: Mode::Any,
 };
 
 /// The seat that asks for what is accepted.

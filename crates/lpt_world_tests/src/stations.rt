@@ -3,7 +3,7 @@
 ghost use Rattle.std.specs.Prelude.{◌≡◌};
 ghost use Rattle.lpt_world.specs.LptPart.Splitting.{IsPartSize};
 
-use lpt_world::{Accepted, Config, Name, Node, Octets, Parsed, Side};
+use lpt_world::{Accepted, Config, Mode, Name, Node, Octets, Parsed, Side};
 use std::alloc::{AllocError, Global};
 use std::process::Abort;
 
@@ -16,6 +16,7 @@ pub(crate) const PASS: Config = Config {
     receptions: 2,
     outgoing: 2,
     clock: 9,
+    mode: Mode::Any,
 };
 
 /// One end, and for what its packets are read.

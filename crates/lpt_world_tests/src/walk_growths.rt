@@ -1,5 +1,5 @@
-//! Growths that fail: a reception expires, requests are refused, dumps are answered by a packet and by
-//! a message, and a check has all its reports, where one growth fails.
+//! Growths that fail: a reception expires, gaps break receptions off, requests are refused, dumps are
+//! answered by a packet and by a message, and a check has all its reports, where one growth fails.
 //!
 //! `tests/growths` has each growth fail in turn, in the tests as they are built.
 
@@ -8,7 +8,7 @@ use crate::rows::{Asked, CONFIG, Content, ONE, Path, Row, SEAT, Shown};
 use crate::walking::walk;
 use lpt_world::Direction::{Down, Up};
 use lpt_world::Lane::{G1, S1};
-use lpt_world::{Answer, Applied, Config, FailureCode, Outcome, Reason, StepFault, Why};
+use lpt_world::{Answer, Applied, Config, FailureCode, Mode, Outcome, Reason, StepFault, Why};
 
 /// Bodies of requests: two areas of a load, of which the second has a wrong checksum; a load up to the
 /// end of the memory, and past it; a dump of two octets, and of three; a check of two.
@@ -48,6 +48,40 @@ const DUMPED_LARGE: [u8; 32] = [
 const CHECKED: [u8; 29] = [
     0x08, 0x64, 0xc0, 0x02, 0x00, 0x16, 0x20, 0x06, 0x0a, 0x00, 0x00, 0x00, 0x01, 0x00, 0x00, 0x00,
     0x00, 0x01, 0x01, 0x00, 0x00, 0x00, 0x00, 0x00, 0x02, 0x1d, 0x0f, 0x53, 0xd3,
+];
+
+/// TM\[13,16\] of count 0 and clock 0: the reception of message 7 was broken off for a gap.
+const GAP_REPORT: [u8; 22] = [
+    0x08, 0x64, 0xc0, 0x00, 0x00, 0x0f, 0x20, 0x0d, 0x10, 0x00, 0x00, 0x00, 0x01, 0x00, 0x00, 0x00,
+    0x00, 0x00, 0x07, 0x02, 0xfe, 0x8f,
+];
+
+/// What is answered where a gap breaks a reception off.
+const GAP_7: Answer = Answer::Delivered(Outcome::Broken(7, Reason::Discontinuity));
+
+const GAP_8: Answer = Answer::Delivered(Outcome::Broken(8, Reason::Discontinuity));
+
+/// A gap comes behind a part that was kept, and one before any; the spacecraft reports both, and ground
+/// none of its own.
+const GAPS: [Row; 18] = [
+    Row::Opens(Up, 7, 20, 3),
+    Row::Sends(Up, 7, 1, 0),
+    Row::Sends(Up, 7, 3, 1),
+    Row::Takes(S1, 0),
+    Row::Gives(S1, Outcome::Kept(7, 1)),
+    Row::Takes(S1, 1),
+    Row::Answers(Asked::Deliver(S1), GAP_7, 1),
+    Row::Takes(G1, 2),
+    Row::Gives(G1, Outcome::AbortNoted(7, Reason::Discontinuity)),
+    Row::Opens(Up, 8, 20, 3),
+    Row::Sends(Up, 8, 2, 3),
+    Row::Takes(S1, 3),
+    Row::Answers(Asked::Deliver(S1), GAP_8, 1),
+    Row::Opens(Down, 9, 20, 3),
+    Row::Sends(Down, 9, 2, 5),
+    Row::Takes(G1, 5),
+    Row::Gives(G1, Outcome::Broken(9, Reason::Discontinuity)),
+    Row::Shows(Shown::Packet(2, Some(&GAP_REPORT))),
 ];
 
 /// Two of three parts come, the second a tick later. What they wait for is overdue two ticks after
@@ -151,7 +185,7 @@ const CHECKS: [Row; 16] = [
     Row::Shows(Shown::Memory(0, &[0, 0])),
 ];
 
-static PATHS: [Path; 4] = [
+static PATHS: [Path; 5] = [
     Path {
         name: "a reception expires",
         config: Config {
@@ -162,6 +196,21 @@ static PATHS: [Path; 4] = [
         memories: &ONE,
         rows: &EXPIRY,
         opened: &[(0, Some((Up, 7)), Content::Counting(20))],
+        released: &[],
+    },
+    Path {
+        name: "gaps break receptions off",
+        config: Config {
+            mode: Mode::Strict,
+            ..CONFIG
+        },
+        memories: &ONE,
+        rows: &GAPS,
+        opened: &[
+            (0, Some((Up, 7)), Content::Counting(20)),
+            (9, Some((Up, 8)), Content::Counting(20)),
+            (13, Some((Down, 9)), Content::Counting(20)),
+        ],
         released: &[],
     },
     Path {

@@ -1,6 +1,7 @@
 //! Paths through new worlds, in which one growth of memory may fail: what was refused for it comes
 //! back, the world is as it was, and what is asked again is accepted.
 
+use crate::callers::is_last_opened;
 use crate::outside::comes_outside;
 use crate::rows::{Path, Row, Step, event_of, octets_of, step_of};
 use crate::shown::{has_opened, has_released, shows, sight_of};
@@ -138,6 +139,7 @@ fn puts_of(first: u64, count: u64) -> Option<Puts> {
 
 // Whether a world tells of the first rows of its path, so many, and of nothing else.
 fn tells(alloc: Global, world: &World, path: &Path, done: usize) -> Result<bool, AllocError> {
+    is_last_opened(world);
     let config = world.config() == path.config;
     let messages = has_opened(world, path.opened) && has_released(world, path.released);
     Ok(config && messages && is_told(alloc, world.journal(), path.rows, done)?)

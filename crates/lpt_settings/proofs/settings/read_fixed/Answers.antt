@@ -1,4 +1,4 @@
--- The configuration has the numbers that were read.
+-- The configuration has the numbers and the mode that were read.
 -- It is written out so that a wrong body is refused at once.
 use Rattle.std.proofs.Common.{Some}
 use Rattle.lpt_memory.specs.Fields.{◌>>=◌}
@@ -13,6 +13,7 @@ returns-clause-value c = λ i. do
   receptions ← c.in_ok-receptions.ensures.value i
   outgoing ← c.in_ok-outgoing.ensures.value i
   clock ← c.in_ok-clock.ensures.value i
+  mode ← c.in_ok-mode.ensures.value i
   Some (record {
     apid = apid;
     source = source;
@@ -21,4 +22,5 @@ returns-clause-value c = λ i. do
     receptions = receptions;
     outgoing = outgoing;
     clock = clock;
+    mode = mode;
   })

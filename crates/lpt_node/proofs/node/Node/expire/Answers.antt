@@ -23,6 +23,7 @@ due_is seen n r o same of is at =
       limit = sym same.limit i;
       timeout = sym same.timeout i;
       p = sym same.p i;
+      mode = sym same.mode i;
       entries = (of i).entries;
       out = None;
     }) seen.at.clock)

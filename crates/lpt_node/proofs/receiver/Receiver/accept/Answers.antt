@@ -4,8 +4,8 @@ use Rattle.std.specs.Option.{option_map}
 use Rattle.lpt_execution.specs.LptPart.Parts.{piece}
 use Rattle.lpt_execution.specs.LptPus.Telemetry.{telemetry, as_written}
 use Rattle.lpt_table.specs.LptReception.Received.{Ended, BrokenOff}
-use Rattle.lpt_node.proofs.ReceiverLemmas.{received-closed, received-kept, received-again, received-no_room, received-whole, received-broken, grows-kept, grows-whole, grows-broken}
-use Rattle.lpt_node.proofs.TiedLemmas.{sound-kept, sound-out}
+use Rattle.lpt_node.proofs.ReceiverLemmas.{received-closed, received-kept, received-again, received-no_room, received-whole, received-broken, received-gap, grows-gap, grows-kept, grows-whole, grows-broken}
+use Rattle.lpt_node.proofs.TiedLemmas.{sound-kept, sound-out, sound-gap}
 use Rattle.lpt_node.proofs.receiver.Receiver.accept.Goals as goal
 
 pub returns-then-ne-clause-ok : goal.returns-then-ne-clause-ok
@@ -50,7 +50,7 @@ invariant_of-self-in-Conflict c =
     c.abort.ensures.settled
     c.abort.ensures.unshut
     c.abort.ensures.back
-    (ap (λ (b : BrokenOff). b.before) c.in-Conflict.ensures.answer.1.1)
+    c.in-Conflict.ensures.answer.1.1
     (c.put_back_undoes.ensures c.self.inside.table c.offer.new.self c.args.part.now.id c.self.invariant.settled c.in-Conflict.ensures.answer.2)
 
 pub returns-in-Kept-clause-ok : goal.returns-in-Kept-clause-ok
@@ -145,3 +145,38 @@ returns-in-Conflict-clause-memory c =
     c.abort.result c.in-Conflict.broken.reason
     c.abort.ensures.memory
     c.in-Conflict.ensures.offered
+
+pub invariant_of-self-in-Gap : goal.invariant_of-self-in-Gap
+invariant_of-self-in-Gap c =
+    sound-gap c.break_off.result c.self.inside.ledger c.break_off.new.ledger
+    c.self.inside.table c.offer.new.self c.args.part.now.id
+    c.self.invariant
+    c.break_off.ensures.shut
+    c.break_off.ensures.unshut
+    c.in-Gap.ensures.answer.1
+    c.in-Gap.ensures.answer.4
+
+pub returns-in-Gap-clause-ok : goal.returns-in-Gap-clause-ok
+returns-in-Gap-clause-ok c =
+    received-gap (option_map (λ h. as_written (telemetry h [])) c.args.head) c.self.inside.ledger c.self.inside.table c.offer.new.self
+    (piece c.args.part.now) c.args.now c.args.self.now
+    c.self.view_is
+    c.self.invariant
+    (search rules)
+    c.break_off.result c.break_off.new.ledger
+    c.break_off.ensures.shut
+    c.break_off.ensures.ok
+    c.in-Gap.ensures.offered
+    c.in-Gap.ensures.answer.1
+    c.in-Gap.ensures.answer.4
+
+pub returns-in-Gap-clause-memory : goal.returns-in-Gap-clause-memory
+returns-in-Gap-clause-memory c =
+    grows-gap (option_map (λ h. as_written (telemetry h [])) c.args.head) c.self.inside.ledger c.self.inside.table c.offer.new.self
+    (piece c.args.part.now) c.args.now c.args.self.now
+    c.self.view_is
+    c.self.invariant
+    (search rules)
+    c.break_off.result
+    c.break_off.ensures.memory
+    c.in-Gap.ensures.offered

@@ -3,15 +3,15 @@ use Rattle.std.specs.FinMap as map
 use Rattle.std.specs.Vec.{vec_capacity}
 use Rattle.lpt_table.specs.EntriesOf.{map_of, entry_in, IsIts}
 use Rattle.lpt_table.specs.EntryLists.{Listing}
-use Rattle.lpt_table.specs.Places.{by_moment, gap, when_cmp}
+use Rattle.lpt_table.specs.Places.{by_moment, rank, when_cmp}
 use Rattle.lpt_table.proofs.ListingLemmas.{changed, free}
 use Rattle.lpt_table.proofs.PuttingLemmas.{belongs-within, placed-map, placed-len, placed-listed}
 use Rattle.lpt_table.proofs.entries.EntryList.put.Goals as goal
 use Rattle.lpt_table.proofs.entries.EntryList.put.Goals.{In-Ok}
 
 -- the places are in order
-pub gap_of-at-requires : goal.gap_of-at-requires
-gap_of-at-requires c =
+pub rank_of-at-requires : goal.rank_of-at-requires
+rank_of-at-requires c =
     subst (λ xs. T (map.is_sorted when_cmp (by_moment xs))) (sym c.deref.ensures.value)
     c.self.invariant.ordered
 
@@ -27,8 +27,8 @@ insert_reserved-key-requires c =
 
 pub insert-requires : goal.insert-requires
 insert-requires c =
-    let place : c.gap_of-at.result
-    ≡ gap when_cmp (c.args.entry.last, c.args.entry.id) (by_moment c.self.inside.places.items) = cc
+    let place : c.rank_of-at.result
+    ≡ rank when_cmp (c.args.entry.last, c.args.entry.id) (by_moment c.self.inside.places.items) = cc
     in
     omega (
       arith,
@@ -60,8 +60,8 @@ absent c =
     ap (λ (l : Listing). map.get l.entries c.args.entry.id) c.self.view_is ∙ c.requires.absent
 
 place_is : (c : In-Ok)
-    → c.gap_of-at.result
-    ≡ gap when_cmp (c.args.entry.last, c.args.entry.id) (by_moment c.self.inside.places.items)
+    → c.rank_of-at.result
+    ≡ rank when_cmp (c.args.entry.last, c.args.entry.id) (by_moment c.self.inside.places.items)
 place_is c = cc
 
 pub invariant_of-self : goal.invariant_of-self

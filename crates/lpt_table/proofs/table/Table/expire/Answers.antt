@@ -21,7 +21,7 @@ pub returns-clause-removed : goal.returns-clause-removed
 returns-clause-removed c =
     let s = c.self.inside in
     let with : Listing → TableState =
-    λ l. record { limit = l.limit; timeout = s.timeout; p = l.p; entries = l.entries; out = s.out } in
+    λ l. record { limit = l.limit; timeout = s.timeout; p = l.p; mode = s.mode; entries = l.entries; out = s.out } in
     ap with c.take.ensures.rest
     ∙ ap (λ (t : TableState). record t { entries = map.remove t.entries c.args.id }) c.self.view_is
 

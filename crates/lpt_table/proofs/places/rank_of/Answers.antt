@@ -1,10 +1,10 @@
 use Rattle.std.proofs.Common.{◌≡◌, ◌∙◌, ◌+◌, ◌-◌, arith, sym, slice_index_or, Less}
 use Rattle.lpt_table.specs.declared.places.Place.{Place}
-use Rattle.lpt_table.specs.Places.{by_moment, gap, when_cmp}
-use Rattle.lpt_table.proofs.GapLemmas.{beside, gap-at-most, gap-beyond}
+use Rattle.lpt_table.specs.Places.{by_moment, rank, when_cmp}
+use Rattle.lpt_table.proofs.RankLemmas.{beside, rank-at-most, rank-beyond}
 use Rattle.lpt_table.proofs.PuttingLemmas.{belongs-within}
-use Rattle.lpt_table.proofs.places.gap_of.Goals as goal
-use Rattle.lpt_table.proofs.places.gap_of.Goals.{After-then}
+use Rattle.lpt_table.proofs.places.rank_of.Goals as goal
+use Rattle.lpt_table.proofs.places.rank_of.Goals.{After-then}
 
 -- what a place is that isn't there
 abbrev none : Place
@@ -21,7 +21,7 @@ loop-at-init c = belongs-within c.args.last c.args.id c.args.places.now
 
 pub loop-at-preserved : goal.loop-at-preserved
 loop-at-preserved c =
-    gap-at-most (c.args.last, c.args.id) c.args.places.now (c.loop-at.at - 1) none
+    rank-at-most (c.args.last, c.args.id) c.args.places.now (c.loop-at.at - 1) none
     (omega (arith, c.loop-at.auto.at, c.loop-at-test.true))
     (sym (compared (goal.at.loop-at-preserved c).After-then) ∙ c.in-Less.is)
 
@@ -29,14 +29,14 @@ loop-at-preserved c =
 behind : (c : After-then)
     → (c.then.result ≡ Less → ⊥)
     → c.loop-at.at - 1 + 1
-    ≡ gap when_cmp (c.args.last, c.args.id) (by_moment c.args.places.now)
+    ≡ rank when_cmp (c.args.last, c.args.id) (by_moment c.args.places.now)
 behind c h =
     omega (
       arith,
       c.loop-at.auto.at,
       c.loop-at-test.true,
       c.loop-at.invariant,
-      gap-beyond (c.args.last, c.args.id) c.args.places.now (c.loop-at.at - 1) none
+      rank-beyond (c.args.last, c.args.id) c.args.places.now (c.loop-at.at - 1) none
           c.requires (omega (arith, c.loop-at.auto.at, c.loop-at-test.true))
           (λ e. h (compared c ∙ e)),
     )

@@ -8,7 +8,7 @@ use Rattle.std.specs.Ordering.{is_lt}
 use Rattle.std.proofs.Common.{arith}
 use Rattle.lpt_reception.specs.LptPacket.Names.{Name}
 use Rattle.lpt_table.specs.declared.places.Place.{Place}
-use Rattle.lpt_table.specs.Places.{by_moment, gap, when_cmp}
+use Rattle.lpt_table.specs.Places.{by_moment, rank, when_cmp}
 use Rattle.lpt_table.proofs.OrderLemmas.{less, front, back, when_cmp_total}
 
 -- a last tick and a name beside those of a place
@@ -16,16 +16,16 @@ abbrev pub beside : ℕ × Name → Place → Ordering
 beside m x = when_cmp m (x.last, x.id)
 
 -- before a place that is later, it belongs at that place or before
-pub gap-at-most : (m : ℕ × Name) (xs : List Place) (i : ℕ) (d : Place)
+pub rank-at-most : (m : ℕ × Name) (xs : List Place) (i : ℕ) (d : Place)
     → i < length xs
     → beside m (slice_index_or xs i d) ≡ Less
-    → gap when_cmp m (by_moment xs) ≤ i
-gap-at-most m [] i d in_it h = absurd (omega (arith, in_it))
-gap-at-most m (x ∷ xs) zero d in_it h =
-    let n = gap when_cmp m (by_moment xs) in rw h (omega arith)
-gap-at-most m (x ∷ xs) (suc i) d in_it h =
-    let n = gap when_cmp m (by_moment xs) in
-    let rest = gap-at-most m xs i d (omega (arith, in_it)) h in
+    → rank when_cmp m (by_moment xs) ≤ i
+rank-at-most m [] i d in_it h = absurd (omega (arith, in_it))
+rank-at-most m (x ∷ xs) zero d in_it h =
+    let n = rank when_cmp m (by_moment xs) in rw h (omega arith)
+rank-at-most m (x ∷ xs) (suc i) d in_it h =
+    let n = rank when_cmp m (by_moment xs) in
+    let rest = rank-at-most m xs i d (omega (arith, in_it)) h in
     elim (beside m x) as (λ r. by_order r 0 (suc n) (suc n) ≤ suc i) [
       | Less ↦ omega arith
       | Equal ↦ omega (arith, rest)
@@ -45,25 +45,25 @@ below_each m (x ∷ xs) (suc i) d in_it up =
     (back (is_lt (beside m x)) (below_all when_cmp m (by_moment xs)) up)
 
 -- it belongs behind a place that is not later
-pub gap-beyond : (m : ℕ × Name) (xs : List Place) (i : ℕ) (d : Place)
+pub rank-beyond : (m : ℕ × Name) (xs : List Place) (i : ℕ) (d : Place)
     → T (is_sorted when_cmp (by_moment xs))
     → i < length xs
     → (beside m (slice_index_or xs i d) ≡ Less → ⊥)
-    → i < gap when_cmp m (by_moment xs)
-gap-beyond m [] i d up in_it h = absurd (omega (arith, in_it))
-gap-beyond m (x ∷ xs) zero d up in_it h =
-    let n = gap when_cmp m (by_moment xs) in
+    → i < rank when_cmp m (by_moment xs)
+rank-beyond m [] i d up in_it h = absurd (omega (arith, in_it))
+rank-beyond m (x ∷ xs) zero d up in_it h =
+    let n = rank when_cmp m (by_moment xs) in
     elim (beside m x) as (λ r. (r ≡ Less → ⊥) → 0 < by_order r 0 (suc n) (suc n)) [
       | Less ↦ λ g. absurd (g refl)
       | Equal ↦ λ g. omega arith
       | Greater ↦ λ g. omega arith
     ] h
-gap-beyond m (x ∷ xs) (suc i) d up in_it h =
-    let n = gap when_cmp m (by_moment xs) in
+rank-beyond m (x ∷ xs) (suc i) d up in_it h =
+    let n = rank when_cmp m (by_moment xs) in
     let below = below_all when_cmp (x.last, x.id) (by_moment xs) in
     let within : i < length xs = omega (arith, in_it) in
     let rest =
-    gap-beyond m xs i d (back below (is_sorted when_cmp (by_moment xs)) up) within h
+    rank-beyond m xs i d (back below (is_sorted when_cmp (by_moment xs)) up) within h
     in
     elim (beside m x) as (λ r. beside m x ≡ r → suc i < by_order r 0 (suc n) (suc n)) [
       | Less ↦ λ e.
