@@ -1,9 +1,9 @@
-//! The audit of a run of threads: whether the seats' logs agree with the journal, and whether nothing
-//! is left to do.
+//! The audit of a run of threads: whether the seats' logs agree with the journal, and whether
+//! nothing is left to do: each held packet taken, each job executed, each clock at its ticks, each
+//! transaction sent and finished.
 //!
-//! A run keeps a log for each seat. Behind it each call of a log is looked up in the journal, and each
-//! entry in the logs; then what seats that weren't cut short owe is looked for: each held packet
-//! taken, each job claimed and executed, each clock at its ticks, each transaction sent and finished.
+//! The main types are `SeatLog`, a seat's calls, and `Owed`, a transaction that was open. The first
+//! calls are `agrees`, `open_transactions` and `is_settled`.
 #![tactic(auto)]
 
 mod agree;

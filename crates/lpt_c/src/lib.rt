@@ -1,10 +1,12 @@
 //! The codecs for C, as a static library: space packets, their headers, and the bodies of parts,
-//! abortion reports and verification reports, read from and written to the caller's buffers.
+//! abortion reports and verification reports, read from and written to the caller's buffers. The
+//! types are those of `include/lpt.h`; a first call is `lpt_read_packet`, and docs/C.md has the
+//! rest.
 //!
 //! No call takes memory, and each is total: whatever the octets and the numbers are, it answers 0,
-//! or the number of what is wrong, and then it has left all but a told length as it was. A writer
-//! writes to the front of a buffer and leaves the rest of it; it tells how many octets it needs
-//! also where the buffer is too short. The numbers are those of the faults, and a few of this
+//! or the number of what is wrong, and then it has left all but a reported length as it was. A
+//! writer writes to the front of a buffer and leaves the rest of it; it reports how many octets it
+//! needs also where the buffer is too short. The numbers are those of the faults, and a few of this
 //! library's own (`codes`). A caller in C promises what the types of the parameters say: that
 //! lengths are true, that no pointer is null, and that nothing overlaps.
 #![tactic(auto)]

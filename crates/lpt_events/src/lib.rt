@@ -1,9 +1,10 @@
-//! The vocabulary of a pass: what can be asked of a world, what it answers, and what its packets are.
+//! The vocabulary of a pass: what can be asked of a world, what it answers, and what its packets
+//! are. The definitions say which packets the nodes make, and what octets are to the node that
+//! receives them, whatever that node has kept.
 //!
-//! The configuration, the sides, the lanes, the workers, the events, their replies and faults, the
-//! outcomes of deliveries, the kinds of telemetry, the entries of a journal, and how much a run of
-//! threads does. The definitions say which packets the nodes make, and what octets are to the node
-//! that receives them, whatever that node has kept.
+//! The main types are `Config`, `Event` and its `Reply`, `StepFault`, `Outcome` of a delivery,
+//! `Entry` of a journal, and `SeatLog`. The first call is `Config::fault`, the first number out of
+//! its range.
 #![tactic(auto)]
 
 mod applied;

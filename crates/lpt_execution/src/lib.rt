@@ -1,10 +1,10 @@
-//! What comes of a released request when it is executed: how that ends, and which reports tell of
-//! it.
+//! How the execution of a released request ends, and which reports say so: for its first fault
+//! refused, or carried out. The reports are those of request verification (ECSS-E-ST-70-41C,
+//! service 1), with the report of data of a dump or a check (service 6) between them. The node that
+//! sends them gives them their counts and their time.
 //!
-//! A request is refused for its first fault, or carried out. The reports are those of request
-//! verification (ECSS-E-ST-70-41C, service 1) and, of a dump or a check, the report of data
-//! (service 6) between them. They have neither counts nor time yet: the node that sends them
-//! gives them these.
+//! The main types are `Ending` and `Report`. The first calls are `ending_of` with a reading and the
+//! memories, then `reports`, and `load` for what a load does.
 #![tactic(auto)]
 
 mod applied;

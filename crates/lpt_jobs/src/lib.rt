@@ -1,9 +1,10 @@
-//! The queue of requests that a spacecraft node has released and not executed yet.
+//! The queue of requests that a spacecraft node has released and not executed yet. Jobs are
+//! numbered from 0 in each boot, in order of release. A worker claims the oldest job that waits,
+//! reads its message, and commits the reading. Only the oldest is executed, and a restart drops
+//! all.
 //!
-//! Each release becomes a job. Jobs are numbered from 0 in each boot, in order of release. A
-//! worker claims the oldest job that waits, reads its message, and commits the reading. Only the
-//! oldest job is executed, once its reading was committed; then it leaves the queue. A restart
-//! drops all jobs.
+//! The main types are `JobQueue` and `Front`, what is at its front. The first calls are
+//! `JobQueue::new`, `push` with a message, `claim`, `commit` and `pop_front`.
 #![tactic(auto)]
 
 mod front;

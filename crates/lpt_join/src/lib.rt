@@ -1,8 +1,9 @@
 //! The parts of one transaction among the packets of a stream, joined to its message
-//! (ECSS-E-ST-70-41C, large packet transfer).
+//! (ECSS-E-ST-70-41C, large packet transfer). The packets may come in any order, more than once,
+//! and with others in between. What octets are is what they are to a node that receives them.
 //!
-//! The packets may come in any order, more than once, and with others in between. What octets are
-//! is what they are to a node that receives them.
+//! The main types are `Transaction`, `Joining` and `Gathering`, what was kept so far. The first
+//! calls are `join_stream` for a whole stream, and `missing` for the numbers that haven't come.
 #![tactic(auto)]
 
 mod came;

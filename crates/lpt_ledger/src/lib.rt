@@ -1,8 +1,9 @@
 //! The state of each transaction identifier at one end of a large packet transfer
-//! (ECSS-E-ST-70-41C).
+//! (ECSS-E-ST-70-41C): free, open or closed.
 //!
-//! An identifier is free, open or closed. A ledger keeps the state of all 65,536 of them. It takes
-//! memory once, when it is made.
+//! The main type is `Ledger`, which keeps the `State` of all 65,536 identifiers and takes memory
+//! once, when it is made. The first calls are `Ledger::new` and `open`; `state` and `least_free`
+//! look, and a refused call answers a `LedgerFault` and changes nothing.
 #![tactic(auto)]
 
 mod bits;

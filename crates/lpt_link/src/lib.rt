@@ -1,9 +1,10 @@
-//! The link between the two nodes: its packets, the marks of those that it still holds, and the
-//! hands of the four lanes.
+//! The link between the two nodes: numbered packets, which of them it still holds, and the hands of
+//! the four lanes. A packet is held until it is lost. A lane takes a held packet of its direction
+//! into its one hand, where it stays until the hand is emptied, whether or not it is lost
+//! meanwhile.
 //!
-//! Each packet put on the link gets the next number, from 0. The link holds it until it is lost.
-//! A lane takes a held packet of its direction into its one hand; the packet stays held. What is in
-//! a hand stays there until the hand is emptied, whether or not the packet is lost meanwhile.
+//! The main types are `Link`, `Lane` and `LinkFault`. The first calls are `Link::new`, `put` with
+//! the octets of a packet, `take` and `drop_hand`.
 #![tactic(auto)]
 
 mod fault;

@@ -1,12 +1,14 @@
 //! Raw memory management (ECSS-E-ST-70-41C, service 6): what a message asks of the memories, what
 //! it makes of them, and what it answers.
 //!
-//! A load, a dump or a check is read outside any lock, for memories of known identifiers and sizes,
-//! and applied later to memories of that shape. A request with a fault in one area changes nothing.
+//! The main types are `Memories`; `Ticket`, `Prepared` and `Reading`, a message on its way; and
+//! `Effect`, what came of it. The first calls are `Memories::new`, `prepare` on a ticket, outside
+//! any lock, and `Memories::apply`. A request with a fault in one area changes nothing.
 //!
 //! The body of a request is a memory identifier (8 bits), the number of areas (8), and the areas: a
-//! start address (32), a length (16), and in a load so many octets and their checksum (16). The body
-//! that answers a dump is spelled as a load's; the one that answers a check leaves the octets out.
+//! start address (32), a length (16), and in a load so many octets and their checksum (16). The
+//! body that answers a dump is encoded as a load's; the one that answers a check leaves the octets
+//! out.
 //!
 //! Deviation: a fault in any area refuses the whole request, and the widths of the fields are this
 //! project's own.

@@ -1,10 +1,10 @@
 //! One end of the link: what it sends, what it keeps of what it receives, and what it refuses.
+//! Large messages go in parts (ECSS-E-ST-70-41C, large packet transfer), each part in a space
+//! packet. At the spacecraft a released message becomes a job, which is claimed, read, and executed
+//! in its turn.
 //!
-//! A node sends large messages in parts (ECSS-E-ST-70-41C, large packet transfer), each part in a
-//! space packet, and joins the parts that are delivered to it. Ground sends telecommands and
-//! receives telemetry, the spacecraft the other way round. At the spacecraft a released message
-//! becomes a job, which a worker claims and reads, and which is executed in its turn. A node is seen
-//! as plain data, and each call as one function of it.
+//! The main types are `Node`, seen as plain data of which each call is one function, and `Parsed`,
+//! a packet read outside it. The first calls are `Node::new`, `open`, `send_part` and `accept`.
 #![tactic(auto)]
 
 mod accepted;

@@ -1,7 +1,10 @@
-//! Space packets (CCSDS 133.0-B) and their checksum: what octets are a packet, read and written exactly.
+//! Space packets (CCSDS 133.0-B) and their checksum: what octets are a packet, read and written
+//! exactly.
 //!
 //! A packet has a primary header of 6 octets, a data field, and here always a packet error control
-//! of 2 octets. Reading borrows and takes no memory.
+//! of 2 octets. Reading borrows and takes no memory. The main types are `Packet`, whose fields are
+//! always in their ranges, `Seen`, a packet or an idle one, and `Octets`. The first call is
+//! `read_packet`, or `Packet::new` and then `write_packet`.
 #![tactic(auto)]
 
 mod checksum;

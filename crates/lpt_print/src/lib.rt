@@ -1,9 +1,10 @@
-//! The texts that the tool prints: what an event did or why it was refused, what a world shows,
-//! and what octets are when they are decoded.
-//!
-//! A text is lines of words, with a space between the words and a line end behind each line.
+//! The texts that the tool prints: what an event did or why it was refused, what a world shows, and
+//! what octets are when they are decoded. A text is lines of words, with a space between the words.
 //! Numbers are decimal; octets are hexadecimal digits in lower case, or `-` where there are none.
-//! Texts are made here and written nowhere; the only error is want of memory.
+//!
+//! Texts are made here and written nowhere; the only error is out of memory. A text is a `String`.
+//! The first calls are `print_accepted` with an event and its reply, and `print_decoded` with
+//! octets.
 #![tactic(auto)]
 
 mod decoding;

@@ -1,8 +1,9 @@
 //! PUS headers (ECSS-E-ST-70-41C) over whole space packets: telecommands and telemetry, read and
-//! written exactly.
+//! written exactly. A packet's data field begins with a secondary header, of 5 octets in a
+//! telecommand and of 11 in telemetry; the body follows. Reading borrows and takes no memory.
 //!
-//! A packet's data field begins with a secondary header, of 5 octets in a telecommand and of 11 in
-//! telemetry. The body follows. Reading borrows and takes no memory.
+//! The main types are `TcHead` and `TmHead`, `RequestId` and `FailureCode`. The first call is
+//! `read_tc` on a `Packet`, or `TcHead::new` and then `write_tc`.
 //!
 //! Deviation: the time field of telemetry is 32 bits wide and counts the ticks of the sender's
 //! clock, and neither header has a spare field.

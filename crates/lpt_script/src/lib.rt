@@ -1,4 +1,8 @@
-//! Scripts: what each line does to a world, and what it prints; and a packet decoded.
+//! Scripts: what each line does to a world, and what it prints; and a packet decoded. It knows
+//! nothing of threads.
+//!
+//! The main types are `Source` and `Sink`, which a caller gives, `ScriptEnd`, and `ToolFault`. The
+//! first calls are `run_script` with a configuration, memories, a source and a sink, and `decode`.
 #![tactic(auto)]
 
 mod command;

@@ -1,9 +1,11 @@
 //! A world that threads share: the lock round it, the seats' logs, and the run of ten seats.
+//! Packets are read and requests prepared while the lock is free. Threads send each other notices
+//! that there is work; a notice that leads to a refusal is dropped. After a run the logs are
+//! compared with the journal.
 //!
-//! Each holding of the lock does one event. Packets are read, their checksums taken and requests
-//! prepared while the lock is free. Threads tell each other by channels that there is work; such a
-//! notice is a hint, and one that leads to a refusal is dropped. Each seat keeps a log of its calls,
-//! and after a run the logs are compared with the journal.
+//! The main types are `Shared`, `SeatLog`, `Gate` and `ShareFault`. The first calls are
+//! `run_threads` with a world, or `Shared::new` and `call`. Every call that takes the lock may
+//! wait.
 #![tactic(auto)]
 
 mod call;

@@ -1,7 +1,9 @@
-//! The packets of a message's parts (ECSS-E-ST-70-41C, large packet transfer), as a stream has them.
+//! The packets of a message's parts (ECSS-E-ST-70-41C, large packet transfer), as a stream has
+//! them: part by part, in the order in which they are asked for, and as often. A packet is the one
+//! that the sending node puts on the link for that part, of a sequence count of the caller's.
 //!
-//! Part by part, in the order in which they are asked for, and as often. A packet is the one that
-//! the sending node puts on the link for that part, of a sequence count of the caller's.
+//! The main type is `Config`, with the APID and the part size. The first call is `split`, which
+//! writes to a sink; `part_packet` makes one packet.
 #![tactic(auto)]
 
 mod packet;

@@ -1,5 +1,8 @@
 //! Both ends, the link between them, the workers' jobs and the memories: all that an event changes.
-//! They refuse, answer and go on as the machine does, and know nothing of a journal.
+//! They refuse, answer and go on as the model does (`lpt_model`), and know nothing of a journal.
+//!
+//! The main type is `System`, which `lpt_world` alone uses, with `Tickets`, what the workers have.
+//! The first calls are `System::new`, `refusal`, and `apply` for an event that isn't refused.
 #![tactic(auto)]
 
 mod anew;

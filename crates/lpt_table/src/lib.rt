@@ -1,11 +1,10 @@
 //! The receptions that are open at one end, and when each last took a part (ECSS-E-ST-70-41C, large
-//! packet transfer).
+//! packet transfer). One that took no part for as long as the time-out is overdue. A table is seen
+//! as a finite map from names to the parts that were kept and the tick of the last one.
 //!
-//! A table is seen as a finite map from names to the parts that were kept and the tick of the last
-//! one. A part that is offered is kept in its transaction's reception, and opens one where there is
-//! room. A reception that has become whole, or that a part has broken off, comes out of the table;
-//! until it is settled or put back the table remembers its last tick and has a place for it, so
-//! neither call takes memory. A reception that took no part for as long as the time-out is overdue.
+//! The main types are `Table` and `Offer`, what becomes of a part. The first calls are `Table::new`
+//! and `offer`. A reception that has become whole, or that a part has contradicted, comes out of
+//! the table; `settle` or `put_back` must follow, and neither takes memory.
 #![tactic(auto)]
 
 mod entries;

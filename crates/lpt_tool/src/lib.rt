@@ -1,9 +1,10 @@
 //! The tool: scripts, with ten threads behind them too, and a packet decoded.
 //!
 //! `run_script` runs a script line by line on a world of its own and prints what each line did.
-//! `run_threads_script` does the same for the lines that don't show, lets ten threads carry what they
-//! opened, and then prints what those left and what the other lines show. `decode` prints what octets
-//! are as a packet. The first and the last stand in `lpt_script`, which knows nothing of threads.
+//! `run_threads_script` does the same for the lines that don't show, lets ten threads carry what
+//! they opened, and then prints what those left and what the other lines show. `decode` prints what
+//! octets are as a packet. The first and the last stand in `lpt_script`. The faults are
+//! `ToolFault`.
 #![tactic(auto)]
 
 mod summary;

@@ -1,8 +1,10 @@
-//! The lines of a script: how a text is cut into lines and words, and what each line asks for.
+//! The lines of a script: how a text is cut into lines and words, and what each line asks for. A
+//! script is text: lines end with a line feed, and the words of a line stand between spaces. This
+//! crate reads lines; it runs and prints nothing. A line is read as a load only where its areas can
+//! be written.
 //!
-//! A script is text: lines end with a line feed, and the words of a line stand between spaces. This
-//! crate reads lines; it runs and prints nothing. A line is read as a load only where its areas,
-//! which are those of `lpt_memory`, can be written as one.
+//! The main types are `Reading`, what a line says, `Command`, what it asks for, and `Load`. The
+//! first call is `read_line`.
 #![tactic(auto)]
 
 mod grammar;

@@ -1,4 +1,9 @@
 //! The world of two nodes and the link between them, and the journal of all that happened.
+//!
+//! The main types are `World`, `Event`, what can be asked of it, and `Reply`, what it answers. The
+//! first calls are `World::new` with a `Config` and `Memories`, `step` with an event, and the
+//! readers, `journal` and `released` first. Each call leaves a world of which the main theorem
+//! holds (the clause `promised`). docs/CALLING.md has a caller.
 #![tactic(auto)]
 
 mod clearing;
