@@ -1,7 +1,7 @@
 //! Calling `lpt_memory`: a service that carries out one message after another.
 
 ghost use Rattle.std.specs.Prelude.{◌≡◌, IfOk, OnOk, OnErr};
-ghost use Rattle.lpt_memory.specs.Answers.{answer};
+ghost use Rattle.lpt_memory.specs.Effects.{answer};
 ghost use Rattle.lpt_memory.specs.Meanings.{meaning};
 ghost use Rattle.lpt_memory.specs.Memories.{effect, sizes_of};
 

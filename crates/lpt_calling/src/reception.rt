@@ -1,7 +1,7 @@
 //! Calling `lpt_reception`: what becomes of a reception when a part comes.
 
 ghost use Rattle.std.specs.Prelude.{◌≡◌};
-ghost use Rattle.lpt_reception.specs.Answers.{kept};
+ghost use Rattle.lpt_reception.specs.Steps.{kept};
 ghost use Rattle.lpt_calling.specs.Hearing.{Hears};
 
 use lpt_packet::Octets;

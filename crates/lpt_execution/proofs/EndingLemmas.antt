@@ -6,7 +6,7 @@ use Rattle.lpt_memory.specs.declared.reply_kind.ReplyKind.{ReplyKind}
 use Rattle.lpt_memory.specs.declared.reply_kind.ReplyKind.TheVariants as kinds
 use Rattle.lpt_memory.specs.declared.effect.Effect.{Effect}
 use Rattle.lpt_memory.specs.declared.effect.Effect.TheVariants as effect
-use Rattle.lpt_memory.specs.Answers.{answer, dump_body, check_body, HasNoReply, length_replied}
+use Rattle.lpt_memory.specs.Effects.{answer, dump_body, check_body, HasNoReply, length_replied}
 use Rattle.lpt_memory.specs.LptPus.Commands.{Command, command_in}
 use Rattle.lpt_memory.specs.LptPus.Numbers.{long_at}
 use Rattle.lpt_memory.specs.Meanings.{Meaning, Silent, Fault, Load, Dump, Check, command_meaning, meaning}

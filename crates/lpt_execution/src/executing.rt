@@ -1,7 +1,7 @@
 //! The execution of a request over the memories.
 
 ghost use Rattle.std.specs.Prelude.{◌≡◌, true, IfOk, OnErr};
-ghost use Rattle.lpt_memory.specs.Answers.{answer};
+ghost use Rattle.lpt_memory.specs.Effects.{answer};
 ghost use Rattle.lpt_memory.specs.Memories.{Contents, sizes_of};
 ghost use Rattle.lpt_memory.specs.Readings.{meant};
 ghost use Rattle.lpt_execution.specs.Endings.{ending, has_data, is_small, reply_fault, reply_refusal, reply_report};

@@ -120,9 +120,11 @@ impl JobQueue {
     {
         match self.jobs.push_back(Job::Waiting(message)) {
             Ok(()) => Ok(()),
-            Err(AllocFailed {
-                value: Job::Waiting(message),
-            }) => Err(message),
+            Err(
+                AllocFailed {
+                    value: Job::Waiting(message),
+                },
+            ) => Err(message),
             Err(_) => unreachable!(),
         }
     }

@@ -3,7 +3,7 @@
 ghost use Rattle.std.specs.Prelude.{◌≡◌, ℕ, Some, IfOk};
 ghost use Rattle.lpt_reception.specs.LptPart.declared.mode.Mode.TheVariants.{Any};
 ghost use Rattle.lpt_reception.specs.LptPart.Parts.{piece};
-ghost use Rattle.lpt_reception.specs.Answers.{Answers};
+ghost use Rattle.lpt_reception.specs.Steps.{Answers};
 ghost use Rattle.lpt_reception.specs.Received.{Received, Kept};
 ghost use Rattle.lpt_join.specs.declared.transaction.Transaction.{Transaction};
 ghost use Rattle.lpt_join.specs.Joins.{added, join_part};

@@ -10,7 +10,7 @@ use Rattle.lpt_execution.specs.LptPus.declared.failure_code.FailureCode.{Failure
 use Rattle.lpt_execution.specs.LptPus.declared.failure_code.FailureCode.TheVariants.{ReplyTooLong}
 use Rattle.lpt_execution.specs.LptPus.Commands.{Command, command_in}
 use Rattle.lpt_execution.proofs.LptPus.CommandLemmas.{command_in-found, body-tc_verdict}
-use Rattle.lpt_execution.specs.LptMemory.Answers.{answer, AnswerFits}
+use Rattle.lpt_execution.specs.LptMemory.Effects.{answer, AnswerFits}
 use Rattle.lpt_execution.specs.LptMemory.Meanings.{Meaning, Silent, Fault, Load, Dump, Check, Sizes, size_of, load_fault, range_fault, area, dump_length, unless, load_meaning, dump_meaning, check_meaning, in_memory, if_formed, body_meaning, command_meaning, meaning}
 use Rattle.lpt_execution.specs.LptMemory.Memories.{Contents, sizes_of}
 use Rattle.lpt_execution.specs.LptMemory.Ranges.{MeaningFits}

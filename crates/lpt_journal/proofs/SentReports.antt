@@ -13,7 +13,7 @@ use Rattle.lpt_reception.specs.LptPart.declared.kind.Kind.{Kind}
 use Rattle.lpt_reception.specs.LptPart.declared.kind.Kind.TheVariants.{First, Middle, Last}
 use Rattle.lpt_execution.specs.LptVerify.declared.report.EncodedReport.{EncodedReport}
 use Rattle.lpt_execution.specs.LptVerify.Reports.{success_if, asks, failure, accepted, started, completed, reports_before, reports_after}
-use Rattle.lpt_execution.specs.LptMemory.Answers.{AnswerFits}
+use Rattle.lpt_execution.specs.LptMemory.Effects.{AnswerFits}
 use Rattle.lpt_execution.specs.LptMemory.declared.reply_kind.ReplyKind.{ReplyKind}
 use Rattle.lpt_execution.specs.LptMemory.declared.reply_kind.ReplyKind.TheVariants as reply
 use Rattle.lpt_execution.specs.LptMemory.declared.effect.Effect.{Effect}

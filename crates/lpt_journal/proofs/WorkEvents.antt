@@ -9,7 +9,7 @@ use Rattle.lpt_reception.specs.LptPacket.Names.{Name}
 use Rattle.lpt_reception.specs.PartsOf.{IsMessage}
 use Rattle.lpt_ledger.specs.LeastFree.{name_count}
 use Rattle.lpt_ledger.proofs.FirstLemmas.{IsFirst, IsFirst-first_of_numbers}
-use Rattle.lpt_execution.specs.LptMemory.Answers.{AnswerFits}
+use Rattle.lpt_execution.specs.LptMemory.Effects.{AnswerFits}
 use Rattle.lpt_execution.specs.LptMemory.Memories.{Contents}
 use Rattle.lpt_execution.specs.LptEvents.declared.config.Config.{Config}
 use Rattle.lpt_execution.specs.LptEvents.Arrivals.{AReport, APart, part_name}

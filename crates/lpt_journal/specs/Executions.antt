@@ -4,7 +4,7 @@ use Rattle.std.specs.Option.{option_map_or}
 use Rattle.lpt_reception.specs.LptPacket.declared.direction.Direction.TheVariants.{Down}
 use Rattle.lpt_reception.specs.LptPacket.Names.{Name}
 use Rattle.lpt_execution.specs.LptMemory.declared.effect.Effect.{Effect}
-use Rattle.lpt_execution.specs.LptMemory.Answers.{answer}
+use Rattle.lpt_execution.specs.LptMemory.Effects.{answer}
 use Rattle.lpt_execution.specs.LptMemory.Meanings.{meaning}
 use Rattle.lpt_execution.specs.LptMemory.Memories.{Contents, sizes_of}
 use Rattle.lpt_execution.specs.LptEvents.TelemetryKinds.{service_of, subtype_of}

@@ -13,8 +13,14 @@ use std::test::Fail;
 /// The body of a check of two octets.
 const FIRST: [u8; 8] = [1, 1, 0, 0, 0, 0, 0, 2];
 
-/// The body of a check of the three octets behind them.
-const SECOND: [u8; 8] = [1, 1, 0, 0, 0, 2, 0, 3];
+/// The octets of its reply's body.
+const FIRST_REPLY: usize = 10;
+
+/// The body of a check of the three octets behind them, and of one more.
+const SECOND: [u8; 14] = [1, 2, 0, 0, 0, 2, 0, 3, 0, 0, 0, 5, 0, 1];
+
+/// The octets of its reply's body.
+const SECOND_REPLY: usize = 18;
 
 // Adds a job. The answer is whether there was room for it.
 fn add(queue: &mut JobQueue, message: Octets) -> bool {
@@ -54,14 +60,9 @@ fn commit(
     Ok(true)
 }
 
-// Takes the job at the front out. The answer is whether it was ready, and a check with this body.
-fn pop(alloc: Global, queue: &mut JobQueue, body: &[u8]) -> Result<bool, Fail> {
-    let expected = request(alloc, 9, body)?;
-    if !front_is_ready(queue) {
-        return Ok(false);
-    }
-    let (message, _) = queue.pop_front();
-    Ok(message == expected)
+// Takes the job at the front out. The answer is whether it was ready, and has a reply so long.
+fn pop(queue: &mut JobQueue, len: usize) -> bool {
+    front_is_ready(queue) && queue.pop_front().reply_len() == Some(len)
 }
 
 // Whether the job at the front can be executed.
@@ -91,7 +92,7 @@ fn run(
     let first = commit(alloc, queue, memories, 0, &FIRST)?;
     let again = commit(alloc, queue, memories, 0, &FIRST)?;
     assert!(rt; (second, waits, first, again) == (true, true, true, false));
-    let popped = (pop(alloc, queue, &FIRST)?, pop(alloc, queue, &SECOND)?);
+    let popped = (pop(queue, FIRST_REPLY), pop(queue, SECOND_REPLY));
     let is_empty = matches!(queue.front(), Front::Empty);
     let left = (queue.numbered(), queue.len());
     assert!(rt; popped == (true, true) && is_empty && left == (2, 0));

@@ -97,7 +97,10 @@ static REQUESTS: [(usize, u8, &[u8], Told); 16] = [
 fn requests_come_to_what_they_ask(rt: HostRuntime) -> Result<(), Fail> {
     for (row, (size, subtype, body, wanted)) in REQUESTS.iter().enumerate() {
         let (len, answer, done) = all(rt.alloc(), *size, *subtype, body)?;
-        assert!(rt; answer == *wanted && done == *wanted && len == len_in(*wanted), "row {row}");
+        assert!(rt;
+            answer == *wanted && done == *wanted && len == len_in(*wanted),
+            "row {row}"
+        );
     }
     Ok(())
 }

@@ -104,11 +104,11 @@ pub(crate) fn foreseen_and_done(
     let len = reading.reply_len();
     let answer = memories.answer(&reading)?;
     let effect = memories.apply(&reading)?;
-    Ok((len, told(&answer), told(&effect)))
+    Ok((len, as_told(&answer), as_told(&effect)))
 }
 
 // What an effect tells.
-fn told(effect: &Effect) -> Told {
+fn as_told(effect: &Effect) -> Told {
     match effect {
         Effect::Silent => Told::Silent,
         Effect::Code(code) => Told::Fault(*code),

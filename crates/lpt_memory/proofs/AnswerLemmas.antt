@@ -7,9 +7,9 @@ use Rattle.std.proofs.lemmas.List.Sums.{sum_by-cons}
 use Rattle.lpt_pus.specs.LptPacket.Checksums.{checksum}
 use Rattle.lpt_pus.specs.LptPacket.Numbers.{be}
 use Rattle.lpt_memory.specs.declared.request.AreaRange.{AreaRange}
-use Rattle.lpt_memory.specs.declared.request.Content.{Content}
-use Rattle.lpt_memory.specs.declared.request.Content.TheVariants as contents
-use Rattle.lpt_memory.specs.Answers.{octets_in, dump_area, check_area, octets_of, dump_body, check_body, answer, reply_length, length_replied}
+use Rattle.lpt_memory.specs.declared.request.Plan.{Plan}
+use Rattle.lpt_memory.specs.declared.request.Plan.TheVariants as contents
+use Rattle.lpt_memory.specs.Effects.{octets_in, dump_area, check_area, octets_of, dump_body, check_body, answer, reply_length, length_replied}
 use Rattle.lpt_memory.specs.Meanings.{Meaning, Silent, Fault, Load, Dump, Check, Sizes, dump_length}
 use Rattle.lpt_memory.specs.Memories.{Contents, sizes_of}
 use Rattle.lpt_memory.specs.Ranges.{RangesFit, ReadFits, MeaningFits}
@@ -75,7 +75,7 @@ replied-answer (Check id ranges) ms fits =
     ap (λ n. Some n) (length-check_body id ranges ms)
 
 -- a reply fits a packet
-pub reply-short : (content : Content) (body : List ℕ) (sizes : Sizes)
+pub reply-short : (content : Plan) (body : List ℕ) (sizes : Sizes)
     → IsCounted content
     → MeaningFits sizes (seen body content)
     → IfSome (reply_length (seen body content)) (λ n. n ≤ 65523)

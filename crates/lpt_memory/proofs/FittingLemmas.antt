@@ -1,8 +1,8 @@
 -- What the content stands for is what the message means, which is within the memories.
 use Rattle.std.proofs.Common.{◌≡◌, ◌∙◌, ap, sym, subst, ℕ, ◌≤◌, List, length, arith}
 use Rattle.lpt_memory.specs.declared.request.AreaRange.{AreaRange}
-use Rattle.lpt_memory.specs.declared.request.Content.{Content}
-use Rattle.lpt_memory.specs.Answers.{dump_body}
+use Rattle.lpt_memory.specs.declared.request.Plan.{Plan}
+use Rattle.lpt_memory.specs.Effects.{dump_body}
 use Rattle.lpt_memory.specs.Meanings.{Sizes, Dump, dump_length}
 use Rattle.lpt_memory.specs.Memories.{Contents, sizes_of}
 use Rattle.lpt_memory.specs.Ranges.{ReadFits, MeaningFits}
@@ -23,7 +23,7 @@ fits_memories {A} Fits sizes ms items xs same is fits =
     (subst (λ (s : Sizes). Fits s items) same fits)
 
 -- what the content stands for fits the sizes that it was read for
-pub seen_fits : (r : Source) {x y : Content}
+pub seen_fits : (r : Source) {x y : Plan}
     → x ≡ y
     → seen (body_of r.message) x ≡ meant r
     → MeaningFits r.sizes (seen (body_of r.message) y)

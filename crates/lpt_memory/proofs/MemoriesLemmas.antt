@@ -6,7 +6,7 @@ use Rattle.std.proofs.lemmas.List.{set_split, at_drop_more}
 use Rattle.std.proofs.Math.Seq.{map-set_same}
 use Rattle.lpt_memory.specs.declared.request.Area.{Area}
 use Rattle.lpt_memory.specs.declared.request.AreaRange.{AreaRange}
-use Rattle.lpt_memory.specs.Answers.{octets_of}
+use Rattle.lpt_memory.specs.Effects.{octets_of}
 use Rattle.lpt_memory.specs.Meanings.{Sizes, size_of}
 use Rattle.lpt_memory.specs.Memories.{Contents, size, sizes_of, put_all, loaded}
 use Rattle.lpt_memory.specs.MemoriesInside.{same_sizes}

@@ -1,4 +1,4 @@
-pub mod Answers
+pub mod Effects
 pub mod FaultNames
 pub mod Fields
 pub mod Meanings

@@ -4,8 +4,8 @@ use Rattle.lpt_pus.specs.LptPacket.Sizes.{primary_header, error_control}
 use Rattle.lpt_pus.specs.Sizes.{tc_header}
 use Rattle.lpt_memory.specs.declared.request.Area.{Area}
 use Rattle.lpt_memory.specs.declared.request.StoredArea.{StoredArea}
-use Rattle.lpt_memory.specs.declared.request.Content.{Content}
-use Rattle.lpt_memory.specs.declared.request.Content.TheVariants as contents
+use Rattle.lpt_memory.specs.declared.request.Plan.{Plan}
+use Rattle.lpt_memory.specs.declared.request.Plan.TheVariants as plans
 use Rattle.lpt_memory.specs.Requests.{LoadArea}
 use Rattle.lpt_memory.specs.Meanings.{Meaning, Silent, Fault, Load, Dump, Check, area}
 
@@ -35,26 +35,26 @@ abbrev pub AreWithin : ℕ → List StoredArea → Type 0
 AreWithin len [] = Unit {0}
 AreWithin len (a ∷ rest) = (a.from + a.len ≤ len) × AreWithin len rest
 
--- what content stands for, at a message with this body
-abbrev pub seen : List ℕ → Content → Meaning
-seen body contents.Silent = Silent
-seen body (contents.Code c) = Fault c
-seen body (contents.Load m areas) = Load m (areas_in body areas.items)
-seen body (contents.Dump m ranges) = Dump m ranges.items
-seen body (contents.Check m ranges) = Check m ranges.items
+-- what a plan stands for, at a message with this body
+abbrev pub seen : List ℕ → Plan → Meaning
+seen body plans.Silent = Silent
+seen body (plans.Code c) = Fault c
+seen body (plans.Load m areas) = Load m (areas_in body areas.items)
+seen body (plans.Dump m ranges) = Dump m ranges.items
+seen body (plans.Check m ranges) = Check m ranges.items
 
 -- the areas of a load lie within the body
-abbrev pub IsWithin : List ℕ → Content → Type 0
-IsWithin body contents.Silent = Unit {0}
-IsWithin body (contents.Code c) = Unit {0}
-IsWithin body (contents.Load m areas) = AreWithin (length body) areas.items
-IsWithin body (contents.Dump m ranges) = Unit {0}
-IsWithin body (contents.Check m ranges) = Unit {0}
+abbrev pub IsWithin : List ℕ → Plan → Type 0
+IsWithin body plans.Silent = Unit {0}
+IsWithin body (plans.Code c) = Unit {0}
+IsWithin body (plans.Load m areas) = AreWithin (length body) areas.items
+IsWithin body (plans.Dump m ranges) = Unit {0}
+IsWithin body (plans.Check m ranges) = Unit {0}
 
 -- there are no more ranges than an octet counts
-abbrev pub IsCounted : Content → Type 0
-IsCounted contents.Silent = Unit {0}
-IsCounted (contents.Code c) = Unit {0}
-IsCounted (contents.Load m areas) = Unit {0}
-IsCounted (contents.Dump m ranges) = length ranges.items < 256
-IsCounted (contents.Check m ranges) = length ranges.items < 256
+abbrev pub IsCounted : Plan → Type 0
+IsCounted plans.Silent = Unit {0}
+IsCounted (plans.Code c) = Unit {0}
+IsCounted (plans.Load m areas) = Unit {0}
+IsCounted (plans.Dump m ranges) = length ranges.items < 256
+IsCounted (plans.Check m ranges) = length ranges.items < 256

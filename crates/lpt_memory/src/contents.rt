@@ -3,7 +3,7 @@
 ghost use Rattle.std.specs.Prelude.{◌≡◌, ◌<◌, length, option_map, is_some, IfOk, IsTrue};
 ghost use Rattle.lpt_memory.specs.Meanings.{size_of};
 ghost use Rattle.lpt_memory.specs.Memories.{content_of, sizes_of, are_distinct, are_memories, put_all, loaded};
-ghost use Rattle.lpt_memory.specs.Answers.{octets_of, dump_body, check_body};
+ghost use Rattle.lpt_memory.specs.Effects.{octets_of, dump_body, check_body};
 ghost use Rattle.lpt_memory.specs.Ranges.{AreasFit, LoadFits, ReadFits};
 ghost use Rattle.lpt_memory.specs.MemoriesInside.{same_sizes};
 ghost use Rattle.lpt_memory.specs.Seen.{areas_in, AreWithin};

@@ -2,7 +2,7 @@
 
 ghost use Rattle.std.specs.Prelude.{◌≡◌, MatchResult};
 
-use crate::request::Content;
+use crate::request::Plan;
 use crate::{Memories, Shape, meaning, reply};
 use lpt_pus::{Octets, TcHead};
 use std::alloc::Global;
@@ -31,7 +31,7 @@ pub struct Reading {
     shape: Shape,
     message: Octets,
     head: Option<TcHead>,
-    content: Content,
+    plan: Plan,
 }
 
 impl Model for Reading {
@@ -46,9 +46,9 @@ impl Model for Reading {
 
     ghost view = { λ a. record { apid = a.apid; sizes = a.shape; message = a.message } };
 
-    ghost invariant = { λ a. (seen (body_of a.message) a.content ≡ meaning a.apid a.shape a.message)
-        × IsWithin (body_of a.message) a.content
-        × IsCounted a.content
+    ghost invariant = { λ a. (seen (body_of a.message) a.plan ≡ meaning a.apid a.shape a.message)
+        × IsWithin (body_of a.message) a.plan
+        × IsCounted a.plan
         × IsHeadIn a.head a.apid a.message };
 }
 
@@ -142,7 +142,7 @@ pub fn prepare(alloc: Global, shape: &Shape, apid: u16, ticket: Ticket) -> Resul
     let octets = ticket.message.as_slice();
     let head = meaning::head_in(apid, octets);
     let body = meaning::body_of(octets);
-    let Ok(content) = meaning::content(alloc, shape.sizes(), head, body) else {
+    let Ok(plan) = meaning::plan(alloc, shape.sizes(), head, body) else {
         return Err(ticket);
     };
     let Ticket { boot, job, message } = ticket;
@@ -151,7 +151,7 @@ pub fn prepare(alloc: Global, shape: &Shape, apid: u16, ticket: Ticket) -> Resul
         shape: copy,
         message,
         head,
-        content,
+        plan,
     };
     Ok(Prepared { boot, job, reading })
 }
@@ -218,7 +218,7 @@ impl Prepared {
 
 impl Reading {
     ghost use Rattle.std.specs.Prelude.{◌≡◌, ◌≤◌, IfSome};
-    ghost use Rattle.lpt_memory.specs.Answers.{answer, reply_length, length_replied};
+    ghost use Rattle.lpt_memory.specs.Effects.{answer, reply_length, length_replied};
     ghost use Rattle.lpt_memory.specs.Memories.{Contents, sizes_of};
     ghost use Rattle.lpt_memory.specs.Readings.{meant, IsHeadIn};
     ghost use Rattle.lpt_memory.specs.Seen.{body_of, seen, IsWithin, IsCounted};
@@ -242,7 +242,7 @@ impl Reading {
         ensures answer { (ms : Contents) → self.now.sizes ≡ sizes_of ms
             → length_replied (answer (meant self.now) ms) ≡ result }
     {
-        reply::reply_len(self.content())
+        reply::reply_len(self.plan())
     }
 
     // What stands where the message has its body.
@@ -253,11 +253,11 @@ impl Reading {
     }
 
     // What the message means.
-    pub(crate) fn content(&self) -> &Content
+    pub(crate) fn plan(&self) -> &Plan
         ensures seen { seen (body_of self.now.message) result.now ≡ meant self.now }
         ensures within { IsWithin (body_of self.now.message) result.now }
         ensures counted { IsCounted result.now }
     {
-        &self.content
+        &self.plan
     }
 }

@@ -9,7 +9,7 @@ ghost use Rattle.lpt_memory.specs.Meanings.{size_of, load_fault, range_fault, lo
 
 use crate::reading::{load_request, range_request};
 use crate::reply::dump_len;
-use crate::request::{AreaRange, Content, StoredArea};
+use crate::request::{AreaRange, Plan, StoredArea};
 use lpt_pus::{
     ERROR_CONTROL, FailureCode, LONGEST_TM_BODY, PRIMARY_HEADER, Seen, TC_HEADER, TcHead, crc16,
     read_packet, read_tc, seen_is_read,
@@ -73,88 +73,88 @@ fn range_fault_in(size: u32, ranges: &[AreaRange]) -> Option<FailureCode>
 }
 
 // What the body of a load means. The only error is want of memory.
-fn load(alloc: Global, sizes: &[(u8, u32)], body: &[u8]) -> Result<Content, AllocError>
+fn load(alloc: Global, sizes: &[(u8, u32)], body: &[u8]) -> Result<Plan, AllocError>
     ensures seen { IfOk result (λ x.
         seen body.now x ≡ if_formed sizes.now load_meaning (request_in front_load_area body.now)) }
     ensures within { IfOk result (λ x. IsWithin body.now x) }
     ensures counted { IfOk result (λ x. IsCounted x) }
 {
     let Some((memory, areas)) = load_request(alloc, body)? else {
-        return Ok(Content::Code(FailureCode::MalformedBody));
+        return Ok(Plan::Code(FailureCode::MalformedBody));
     };
     let Some(size) = size_in(sizes, memory) else {
-        return Ok(Content::Code(FailureCode::UnknownMemory));
+        return Ok(Plan::Code(FailureCode::UnknownMemory));
     };
     if let Some(code) = load_fault_in(size, body, &areas) {
-        return Ok(Content::Code(code));
+        return Ok(Plan::Code(code));
     }
-    Ok(Content::Load(memory, areas))
+    Ok(Plan::Load(memory, areas))
 }
 
 // What the body of a dump means. The only error is want of memory.
-fn dump(alloc: Global, sizes: &[(u8, u32)], body: &[u8]) -> Result<Content, AllocError>
+fn dump(alloc: Global, sizes: &[(u8, u32)], body: &[u8]) -> Result<Plan, AllocError>
     ensures seen { IfOk result (λ x.
         seen body.now x ≡ if_formed sizes.now dump_meaning (request_in front_range body.now)) }
     ensures within { IfOk result (λ x. IsWithin body.now x) }
     ensures counted { IfOk result (λ x. IsCounted x) }
 {
     let Some((memory, ranges)) = range_request(alloc, body)? else {
-        return Ok(Content::Code(FailureCode::MalformedBody));
+        return Ok(Plan::Code(FailureCode::MalformedBody));
     };
     let Some(size) = size_in(sizes, memory) else {
-        return Ok(Content::Code(FailureCode::UnknownMemory));
+        return Ok(Plan::Code(FailureCode::UnknownMemory));
     };
     if let Some(code) = range_fault_in(size, &ranges) {
-        return Ok(Content::Code(code));
+        return Ok(Plan::Code(code));
     }
     if dump_len(&ranges) > LONGEST_TM_BODY {
-        return Ok(Content::Code(FailureCode::ReplyTooLong));
+        return Ok(Plan::Code(FailureCode::ReplyTooLong));
     }
-    Ok(Content::Dump(memory, ranges))
+    Ok(Plan::Dump(memory, ranges))
 }
 
 // What the body of a check means. The only error is want of memory.
-fn check(alloc: Global, sizes: &[(u8, u32)], body: &[u8]) -> Result<Content, AllocError>
+fn check(alloc: Global, sizes: &[(u8, u32)], body: &[u8]) -> Result<Plan, AllocError>
     ensures seen { IfOk result (λ x.
         seen body.now x ≡ if_formed sizes.now check_meaning (request_in front_range body.now)) }
     ensures within { IfOk result (λ x. IsWithin body.now x) }
     ensures counted { IfOk result (λ x. IsCounted x) }
 {
     let Some((memory, ranges)) = range_request(alloc, body)? else {
-        return Ok(Content::Code(FailureCode::MalformedBody));
+        return Ok(Plan::Code(FailureCode::MalformedBody));
     };
     let Some(size) = size_in(sizes, memory) else {
-        return Ok(Content::Code(FailureCode::UnknownMemory));
+        return Ok(Plan::Code(FailureCode::UnknownMemory));
     };
     if let Some(code) = range_fault_in(size, &ranges) {
-        return Ok(Content::Code(code));
+        return Ok(Plan::Code(code));
     }
-    Ok(Content::Check(memory, ranges))
+    Ok(Plan::Check(memory, ranges))
 }
 
 // What the body of a telecommand of this service and subtype means. The only error is want of
 // memory.
 #[tactic(auto, unfolding(crate::specs::Meanings::body_meaning))]
-fn body_content(
+fn body_plan(
     alloc: Global,
     sizes: &[(u8, u32)],
     service: u8,
     subtype: u8,
     body: &[u8],
-) -> Result<Content, AllocError>
+) -> Result<Plan, AllocError>
     ensures seen { IfOk result (λ x.
         seen body.now x ≡ body_meaning sizes.now service subtype body.now) }
     ensures within { IfOk result (λ x. IsWithin body.now x) }
     ensures counted { IfOk result (λ x. IsCounted x) }
 {
     if service != MEMORY {
-        return Ok(Content::Code(FailureCode::UnknownRequest));
+        return Ok(Plan::Code(FailureCode::UnknownRequest));
     }
     match subtype {
         LOAD => load(alloc, sizes, body),
         DUMP => dump(alloc, sizes, body),
         CHECK => check(alloc, sizes, body),
-        _ => Ok(Content::Code(FailureCode::UnknownRequest)),
+        _ => Ok(Plan::Code(FailureCode::UnknownRequest)),
     }
 }
 
@@ -187,19 +187,19 @@ pub(crate) fn head_in(apid: u16, octets: &[u8]) -> Option<TcHead>
 
 // What the telecommand that a message is means, or nothing where it is none. The only error is
 // want of memory.
-pub(crate) fn content(
+pub(crate) fn plan(
     alloc: Global,
     sizes: &[(u8, u32)],
     head: Option<TcHead>,
     body: &[u8],
-) -> Result<Content, AllocError>
+) -> Result<Plan, AllocError>
     ensures seen { IfOk result (λ x. seen body.now x
         ≡ command_meaning sizes.now (option_map (λ h. command h body.now) head)) }
     ensures within { IfOk result (λ x. IsWithin body.now x) }
     ensures counted { IfOk result (λ x. IsCounted x) }
 {
     let Some(head) = head else {
-        return Ok(Content::Silent);
+        return Ok(Plan::Silent);
     };
-    body_content(alloc, sizes, head.service, head.subtype, body)
+    body_plan(alloc, sizes, head.service, head.subtype, body)
 }

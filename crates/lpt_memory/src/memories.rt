@@ -2,7 +2,7 @@
 
 ghost use Rattle.std.specs.Prelude.{◌≡◌};
 
-use crate::request::Content;
+use crate::request::Plan;
 use crate::{Effect, MemoryFault, Reading, ReplyKind, Shape, contents};
 use lpt_pus::Octets;
 use std::alloc::{AllocError, Global};
@@ -31,7 +31,7 @@ impl Memories {
     ghost use Rattle.std.specs.Prelude.{◌↔◌, IsTrue, IsOk, IfOk, IfErr, OnOk, OnErr, option_map};
     ghost use Rattle.lpt_memory.specs.declared.fault.MemoryFault.TheVariants.{BadMemories};
     ghost use Rattle.lpt_memory.specs.Memories.{are_memories, sizes_of, content_of, effect};
-    ghost use Rattle.lpt_memory.specs.Answers.{answer, HasNoReply, AnswerFits};
+    ghost use Rattle.lpt_memory.specs.Effects.{answer, HasNoReply, AnswerFits};
     ghost use Rattle.lpt_memory.specs.Readings.{meant};
 
     /// Memories of these identifiers and octets, which are not copied. It takes no memory.
@@ -95,15 +95,15 @@ impl Memories {
         // It fails only where there is a reply to be made.
         ensures no_reply { HasNoReply (meant reading.now) → IsOk result }
     {
-        match reading.content() {
-            Content::Silent => Ok(Effect::Silent),
-            Content::Code(code) => Ok(Effect::Code(*code)),
-            Content::Load(_, _) => Ok(Effect::Done),
-            Content::Dump(id, ranges) => {
+        match reading.plan() {
+            Plan::Silent => Ok(Effect::Silent),
+            Plan::Code(code) => Ok(Effect::Code(*code)),
+            Plan::Load(_, _) => Ok(Effect::Done),
+            Plan::Dump(id, ranges) => {
                 let body = contents::dump(self.alloc(), &self.items, *id, ranges)?;
                 Ok(Effect::Reply(ReplyKind::Dump, body))
             }
-            Content::Check(id, ranges) => {
+            Plan::Check(id, ranges) => {
                 let body = contents::check(self.alloc(), &self.items, *id, ranges)?;
                 Ok(Effect::Reply(ReplyKind::Check, body))
             }
@@ -117,14 +117,14 @@ impl Memories {
         ensures ok { self.new ≡ effect (meant reading.now) self.old }
         ensures shape { sizes_of self.new ≡ sizes_of self.old }
     {
-        match reading.content() {
-            Content::Silent => {}
-            Content::Code(_) => {}
-            Content::Load(id, areas) => {
+        match reading.plan() {
+            Plan::Silent => {}
+            Plan::Code(_) => {}
+            Plan::Load(id, areas) => {
                 contents::load(&mut self.items, *id, reading.body(), areas);
             }
-            Content::Dump(_, _) => {}
-            Content::Check(_, _) => {}
+            Plan::Dump(_, _) => {}
+            Plan::Check(_, _) => {}
         }
     }
 

@@ -2,12 +2,12 @@
 
 ghost use Rattle.std.specs.Prelude.{◌≡◌, ℕ, List, ◌+◌, ◌*◌, ◌<◌, ◌≤◌, ◌∷◌, ◌++◌, length, IfOk, OnOk};
 ghost use Rattle.std.specs.List.{flat_map};
-ghost use Rattle.lpt_memory.specs.Answers.{octets_in, dump_area, check_area, reply_length};
+ghost use Rattle.lpt_memory.specs.Effects.{octets_in, dump_area, check_area, reply_length};
 ghost use Rattle.lpt_memory.specs.Meanings.{dump_length};
 ghost use Rattle.lpt_memory.specs.Ranges.{RangesFit};
 ghost use Rattle.lpt_memory.specs.Seen.{seen, IsCounted};
 
-use crate::request::{AreaRange, Content};
+use crate::request::{AreaRange, Plan};
 use lpt_pus::{Octets, crc16};
 use std::alloc::{AllocError, Global};
 
@@ -38,16 +38,16 @@ fn check_len(ranges: &[AreaRange]) -> usize
 }
 
 // How many octets the body of the reply has, where there is one, whatever the message's body is.
-pub(crate) fn reply_len(content: &Content) -> Option<usize>
-    requires { IsCounted content.now }
-    ensures { (body : List ℕ) → result ≡ reply_length (seen body content.now) }
+pub(crate) fn reply_len(plan: &Plan) -> Option<usize>
+    requires { IsCounted plan.now }
+    ensures { (body : List ℕ) → result ≡ reply_length (seen body plan.now) }
 {
-    match content {
-        Content::Silent => None,
-        Content::Code(_) => None,
-        Content::Load(_, _) => None,
-        Content::Dump(_, ranges) => Some(dump_len(ranges)),
-        Content::Check(_, ranges) => Some(check_len(ranges)),
+    match plan {
+        Plan::Silent => None,
+        Plan::Code(_) => None,
+        Plan::Load(_, _) => None,
+        Plan::Dump(_, ranges) => Some(dump_len(ranges)),
+        Plan::Check(_, ranges) => Some(check_len(ranges)),
     }
 }
 

@@ -44,7 +44,7 @@ impl StoredArea {
 
 /// What a message means: nothing at all, a fault's code, or a memory and its areas.
 #[derive(Drop)]
-pub(crate) enum Content {
+pub(crate) enum Plan {
     Silent,
     Code(FailureCode),
     Load(u8, Vec<StoredArea>),

@@ -2,7 +2,7 @@
 use Rattle.std.specs.Prelude.{◌≡◌, ℕ, ◌==◌, nat_lt, Bool, true, false, if◌then◌else◌, List, [], ◌∷◌, Option, Some, None, is_some}
 use Rattle.std.specs.FinMap as map
 use Rattle.lpt_execution.specs.LptPacket.Names.{Name}
-use Rattle.lpt_execution.specs.LptMemory.Answers.{answer}
+use Rattle.lpt_execution.specs.LptMemory.Effects.{answer}
 use Rattle.lpt_execution.specs.LptMemory.Memories.{Contents, sizes_of, effect}
 use Rattle.lpt_execution.specs.LptMemory.Readings.{Source, Job as Ticket, meant}
 use Rattle.lpt_jobs.specs.Jobs.{Head, NoJob as NoHead, NotReady as HeadNotReady, Ready, head_of, unclaimed, after_claim, after_commit, without_front}

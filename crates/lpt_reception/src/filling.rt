@@ -36,7 +36,7 @@ impl Model for Filling {
 }
 
 impl Filling {
-    ghost use Rattle.lpt_reception.specs.Answers.{kept, IsNew, Answers};
+    ghost use Rattle.lpt_reception.specs.Steps.{kept, IsNew, Answers};
 
     /// A reception with its first part, for parts of `p` octets. The only error is want of memory.
     #[tactic(auto, using(crate::proofs::StartLemmas::not_whole_alone))]

@@ -4,7 +4,7 @@ ghost use Rattle.std.specs.Prelude.{◌≡◌, ℕ, ◌+◌, ◌<◌, ◌≤◌,
 ghost use Rattle.std.specs.FinMap as map;
 ghost use Rattle.lpt_part.specs.Parts.{same_kind};
 ghost use Rattle.lpt_part.specs.Splitting.{IsPartSize, kind_at};
-ghost use Rattle.lpt_reception.specs.Answers.{kept, IsNew};
+ghost use Rattle.lpt_reception.specs.Steps.{kept, IsNew};
 ghost use Rattle.lpt_reception.specs.Marks.{is_marked};
 ghost use Rattle.lpt_reception.specs.Received.{no_parts, with_part, same_kept, is_gap, is_last, is_whole};
 ghost use Rattle.lpt_reception.specs.Stored.{top, last_number, kept_at, stored, overruns, written, zeroed, IsSound, IsPlace};

@@ -13,7 +13,7 @@ use Rattle.lpt_model.specs.LptEvents.declared.event.Event.TheVariants.{Apply}
 use Rattle.lpt_model.specs.LptEvents.declared.reply.Answer.{Answer}
 use Rattle.lpt_model.specs.LptEvents.declared.reply.Answer.TheVariants.{Applied}
 use Rattle.lpt_model.specs.LptEvents.declared.side.Side.TheVariants.{Craft}
-use Rattle.lpt_model.specs.LptMemory.Answers.{answer}
+use Rattle.lpt_model.specs.LptMemory.Effects.{answer}
 use Rattle.lpt_model.specs.LptMemory.Meanings.{meaning}
 use Rattle.lpt_model.specs.LptMemory.Memories.{Contents, sizes_of, effect}
 use Rattle.lpt_model.specs.LptMemory.Readings.{meant}

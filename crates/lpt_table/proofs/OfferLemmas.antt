@@ -9,7 +9,7 @@ use Rattle.lpt_reception.specs.LptPart.declared.reason.Reason.{Reason}
 use Rattle.lpt_reception.specs.LptPart.declared.reason.Reason.TheVariants as reason
 use Rattle.lpt_reception.specs.declared.step.Step.{Step}
 use Rattle.lpt_reception.specs.declared.step.Step.TheVariants as step
-use Rattle.lpt_reception.specs.Answers.{Answers}
+use Rattle.lpt_reception.specs.Steps.{Answers}
 use Rattle.lpt_reception.specs.Received.{Kept as KeptPart, Parts, Received, Ended, BrokenOff, with_part}
 use Rattle.lpt_table.specs.declared.entries.Entry.{Entry}
 use Rattle.lpt_table.specs.declared.offer.Offer.{Offer}

@@ -2,7 +2,7 @@
 use Rattle.std.specs.Prelude.{◌≡◌, ℕ, true, false, Option, Some, None}
 use Rattle.lpt_reception.specs.LptPacket.Names.{Name}
 use Rattle.lpt_reception.specs.declared.step.Step.TheVariants as step
-use Rattle.lpt_reception.specs.Answers.{IsNew, Answers}
+use Rattle.lpt_reception.specs.Steps.{IsNew, Answers}
 use Rattle.lpt_reception.specs.Received.{Kept as KeptPart, with_part, is_gap}
 use Rattle.lpt_table.specs.declared.offer.Offer.{Offer}
 use Rattle.lpt_table.specs.declared.offer.Offer.TheVariants.{Kept, Again, Whole, Conflict, Gap, NoRoom, Memory}

@@ -2,7 +2,7 @@
 
 ghost use Rattle.std.specs.Prelude.{◌≡◌, ◌<◌, IfOk, IfSome, IsSomeAnd, None, Some};
 ghost use Rattle.std.specs.FinMap as map;
-ghost use Rattle.lpt_reception.specs.Answers.{Answers, kept};
+ghost use Rattle.lpt_reception.specs.Steps.{Answers, kept};
 ghost use Rattle.lpt_reception.specs.Received.{is_gap, no_parts};
 ghost use Rattle.lpt_table.specs.Deadlines.{IsDue, due_of};
 ghost use Rattle.lpt_table.specs.EntryLists.{IsWithout};
@@ -56,7 +56,7 @@ impl Model for Table {
 }
 
 impl Table {
-    ghost use Rattle.lpt_reception.specs.Answers.{IsNew};
+    ghost use Rattle.lpt_reception.specs.Steps.{IsNew};
     ghost use Rattle.lpt_table.specs.Offers.{Offers, Its, kind_of};
     ghost use Rattle.lpt_table.specs.EntriesOf.{entry_in, IsIts};
 

@@ -1,6 +1,6 @@
 -- A reply is refused by its length, and what has none is not refused.
 use Rattle.std.proofs.Common.{◌∙◌, sym}
-use Rattle.lpt_memory.specs.Answers.{answer}
+use Rattle.lpt_memory.specs.Effects.{answer}
 use Rattle.lpt_memory.specs.Readings.{meant}
 use Rattle.lpt_execution.proofs.EndingLemmas.{refusal-replied, refusal-none}
 use Rattle.lpt_execution.proofs.executing.reply_refusal.Goals as goal

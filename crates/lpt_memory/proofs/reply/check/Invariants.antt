@@ -1,7 +1,7 @@
 -- What is left is within the memory, and the body so far has the areas that were gone over.
 use Rattle.std.proofs.Common.{◌≡◌, ◌∷◌, ◌++◌, length, drop}
 use Rattle.std.specs.List.{flat_map}
-use Rattle.lpt_memory.specs.Answers.{check_area}
+use Rattle.lpt_memory.specs.Effects.{check_area}
 use Rattle.lpt_memory.specs.Ranges.{RangesFit}
 use Rattle.lpt_memory.proofs.reply.check.Given as goal
 

@@ -1,7 +1,7 @@
 -- What is left is within the memory, and the body so far has the areas that were gone over.
 use Rattle.std.proofs.Common.{◌≡◌, ◌∷◌, ◌++◌, length, drop}
 use Rattle.std.specs.List.{flat_map}
-use Rattle.lpt_memory.specs.Answers.{dump_area}
+use Rattle.lpt_memory.specs.Effects.{dump_area}
 use Rattle.lpt_memory.specs.Ranges.{RangesFit}
 use Rattle.lpt_memory.proofs.reply.dump.Given as goal
 

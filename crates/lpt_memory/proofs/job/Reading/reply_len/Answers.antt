@@ -1,6 +1,6 @@
 -- The reply of memories of that shape is as long as the content says, and fits a packet.
 use Rattle.std.proofs.Common.{◌∙◌, ap, sym, subst, Option, IfSome, ℕ, ◌≤◌}
-use Rattle.lpt_memory.specs.Answers.{reply_length}
+use Rattle.lpt_memory.specs.Effects.{reply_length}
 use Rattle.lpt_memory.specs.Meanings.{Meaning, Sizes}
 use Rattle.lpt_memory.specs.Ranges.{MeaningFits}
 use Rattle.lpt_memory.specs.Readings.{meant}
@@ -11,7 +11,7 @@ use Rattle.lpt_memory.proofs.job.Reading.reply_len.Goals as goal
 
 pub returns-clause-meant : goal.returns-clause-meant
 returns-clause-meant c =
-    c.reply_len.ensures (body_of c.args.self.now.message) ∙ ap reply_length c.content.ensures.seen
+    c.reply_len.ensures (body_of c.args.self.now.message) ∙ ap reply_length c.plan.ensures.seen
 
 pub returns-clause-answer : goal.returns-clause-answer
 returns-clause-answer c = λ ms same.
@@ -24,7 +24,7 @@ pub returns-clause-fits : goal.returns-clause-fits
 returns-clause-fits c =
     let r = c.args.self.now in
     let body = body_of r.message in
-    let fits = subst (MeaningFits r.sizes) (sym c.content.ensures.seen)
+    let fits = subst (MeaningFits r.sizes) (sym c.plan.ensures.seen)
     (meaning-fits r.apid r.sizes r.message) in
     subst (λ (o : Option ℕ). IfSome o (λ n. n ≤ 65523)) (sym (c.reply_len.ensures body))
-    (reply-short c.content.result.now body r.sizes c.content.ensures.counted fits)
+    (reply-short c.plan.result.now body r.sizes c.plan.ensures.counted fits)

@@ -10,7 +10,7 @@ pub dump-requires-clause-fit : goal.dump-requires-clause-fit
 dump-requires-clause-fit c =
     let r = c.args.reading.now in
     let i = c.in-Dump in
-    let fits = seen_fits r i.is c.content.ensures.seen in
+    let fits = seen_fits r i.is c.plan.ensures.seen in
     fits_memories (λ (s : Sizes). ReadFits s i.id) r.sizes c.deref.result.now
     i.ranges.items c.deref-in-Dump.result.now (cc) c.deref-in-Dump.ensures.value fits.0
 
@@ -20,11 +20,11 @@ check-requires-clause-fit c =
     let i = c.in-Check in
     fits_memories (λ (s : Sizes). ReadFits s i.id) r.sizes c.deref-in-Check.result.now
     i.ranges.items c.deref-in-Check-2.result.now (cc) c.deref-in-Check-2.ensures.value
-    (seen_fits r i.is c.content.ensures.seen)
+    (seen_fits r i.is c.plan.ensures.seen)
 
 pub returns-in-Code-clause-fits : goal.returns-in-Code-clause-fits
 returns-in-Code-clause-fits c =
-    seen_fits c.args.reading.now c.in-Code.is c.content.ensures.seen
+    seen_fits c.args.reading.now c.in-Code.is c.plan.ensures.seen
 
 pub returns-in_ok-body-in-Dump-clause-fits : goal.returns-in_ok-body-in-Dump-clause-fits
 returns-in_ok-body-in-Dump-clause-fits c =
@@ -32,7 +32,7 @@ returns-in_ok-body-in-Dump-clause-fits c =
     let i = c.in-Dump in
     dump_short r.sizes c.deref.result.now i.id i.ranges.items c.deref-in-Dump.result.now
     c.in_ok-body-in-Dump.body (cc) c.deref-in-Dump.ensures.value
-    (seen_fits r i.is c.content.ensures.seen) c.in_ok-body-in-Dump.ensures
+    (seen_fits r i.is c.plan.ensures.seen) c.in_ok-body-in-Dump.ensures
 
 pub returns-in_ok-body-in-Check-clause-fits : goal.returns-in_ok-body-in-Check-clause-fits
 returns-in_ok-body-in-Check-clause-fits c =

@@ -9,7 +9,7 @@ use Rattle.lpt_memory.proofs.memories.Memories.load.Goals as goal
 pub load-requires-clause-within : goal.load-requires-clause-within
 load-requires-clause-within c =
     let body = body_of c.args.reading.now.message in
-    let within = subst (IsWithin body) c.in-Load.is c.content.ensures.within in
+    let within = subst (IsWithin body) c.in-Load.is c.plan.ensures.within in
     subst (λ (b : List ℕ). AreWithin (length b) c.deref.result.now) (sym c.body.ensures)
     (subst (AreWithin (length body)) (sym c.deref.ensures.value) within)
 
@@ -24,4 +24,4 @@ load-requires-clause-fit c =
     in
     fits_memories (λ (s : Sizes). LoadFits s i.id) r.sizes c.deref_mut.result.now
     (areas_in body i.areas.items) (areas_in c.body.result.now c.deref.result.now) (cc) same
-    (seen_fits r i.is c.content.ensures.seen)
+    (seen_fits r i.is c.plan.ensures.seen)

@@ -1,6 +1,6 @@
 use Rattle.std.proofs.Common.{◌∙◌, ap, rules}
 use Rattle.std.specs.FinMap as map
-use Rattle.lpt_reception.specs.Answers.{kept}
+use Rattle.lpt_reception.specs.Steps.{kept}
 use Rattle.lpt_table.specs.EntryLists.{Listing}
 use Rattle.lpt_table.specs.Offers.{Offers}
 use Rattle.lpt_table.proofs.OfferLemmas.{get-without, offers_its, offers_offered}

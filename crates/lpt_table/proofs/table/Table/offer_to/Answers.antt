@@ -1,5 +1,5 @@
 use Rattle.std.proofs.Common.{◌∙◌}
-use Rattle.lpt_reception.specs.Answers.{kept}
+use Rattle.lpt_reception.specs.Steps.{kept}
 use Rattle.lpt_table.proofs.OfferLemmas.{offers_kept, offers_again, offers_whole, offers_conflict, offers_memory}
 use Rattle.lpt_table.proofs.table.Table.offer_to.Goals as goal
 

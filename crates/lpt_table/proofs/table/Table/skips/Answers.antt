@@ -1,5 +1,5 @@
 -- A part contradicts nothing where nothing is kept.
-use Rattle.lpt_reception.specs.Answers.{kept}
+use Rattle.lpt_reception.specs.Steps.{kept}
 use Rattle.lpt_reception.proofs.StartLemmas.{new_alone}
 use Rattle.lpt_table.proofs.table.Table.skips.Goals as goal
 
