@@ -1,7 +1,7 @@
-//! The configuration file: a TOML document of numbers, each with its range and its default, of
-//! the mode, and of the memories. The main types are lpt_events' `Config` and `Turns` and lpt_memory's `Memories`,
-//! and `Complaint`, what is wrong with a text. The first calls are `read_config` and, where it
-//! refuses a text, `why_refused`.
+//! The configuration file: a TOML document of numbers, each with its range and its default, of the
+//! mode, and of the memories. The main types are lpt_events' `Config` and `Turns`, lpt_memory's
+//! `Memories`, and `Complaint`, what is wrong with a text. The first calls are `read_config` and,
+//! where it refuses a text, `why_refused`.
 //!
 //! | Key | Range | Default |
 //! |---|---|---|

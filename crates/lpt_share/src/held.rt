@@ -84,8 +84,7 @@ impl<J: Origin> Held<J> {
         self.world.config()
     }
 
-    /// The shape of the memories. The only error is want of memory. It has no clause: a commit tests
-    /// what was prepared for it.
+    /// The shape of the memories, for which requests are prepared. The only error is want of memory.
     pub fn shape(&self) -> Result<Shape, AllocError>
         ensures { IfOk result (λ s. s ≡ sizes_of self.now.first) }
     {

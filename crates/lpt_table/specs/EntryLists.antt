@@ -1,4 +1,4 @@
--- The list in which a table keeps its receptions, in the order of their names.
+-- The receptions of a table, as a finite map from their names.
 use Rattle.std.specs.Prelude.{◌≡◌, ℕ, Option, Some, None, refl}
 use Rattle.std.specs.Coded.{Coded, code_by, coded×, coded_ℕ}
 use Rattle.std.specs.FinMap as maps
