@@ -1,179 +1,39 @@
-"""Makes scripts, runs the program on each, and prints what that took. Then does so with requests.
+"""Runs the program on the scripts of workloads.py, and prints what that took.
 
-measure.py PROGRAM REQUESTS FOLDER RUNS [OTHER]: REQUESTS is the program that measures requests.
-OTHER is another build of PROGRAM, which is then measured on the same scripts, in turn with it.
+measure.py alone PROGRAM REQUESTS FOLDER RUNS: as a table; then what requests took, by the program
+REQUESTS, which measures those.
+measure.py against PROGRAM OTHER FOLDER RUNS: beside another program, in pairs of runs, as ratios.
 """
 
 import os
-import random
 import statistics
 import subprocess
 import sys
 import time
+from typing import NamedTuple
+
+sys.dont_write_bytecode = True
+
+from workloads import WORKLOADS  # noqa: E402: it stands beside this file
+
+# An event may have been refused, as some are meant to be.
+GOOD_STATUSES = (0, 1)
+# How often what takes nearly no time is run.
+SHORT_RUNS = 100
 
 
-# A part size, and a memory of the most octets that there can be.
-GREATEST_MEMORY = """part_size = 1024
+class Run(NamedTuple):
+    """What a run of a program did and took: seconds from its start to its end, and its own."""
 
-[[memory]]
-id = 1
-size = 1048576
-"""
-
-# The smallest parts that there can be, of which a message has the most.
-SMALLEST_PARTS = "part_size = 4\n"
-
-# As many open receptions as there can be, and a time-out that doesn't come.
-MANY_RECEPTIONS = """receptions = 64
-outgoing = 64
-timeout = 65535
-"""
-
-# The most octets of an area whose load, of this one area, is a packet of 65,542 octets.
-LONGEST_AREA = 65519
+    status: int
+    length: int
+    text: bytes
+    seconds: float
+    processor: float
 
 
-def octets(seed, length):
-    """So many octets, as hexadecimal digits."""
-    return random.Random(seed).randbytes(length).hex()
-
-
-def message_in(order):
-    """The longest message there is, its parts delivered in this order."""
-    lines = [f"open up 7 {octets(7, 65542)}"]
-    lines += [f"send up 7 {k}" for k in range(1, len(order) + 1)]
-    lines += [f"pass s1 {n}" for n in order]
-    return lines + ["show released"]
-
-
-def in_order():
-    """The longest message there is, its parts delivered in their order."""
-    return message_in(range(8193))
-
-
-def backwards():
-    """The same message, its parts delivered in the opposite order."""
-    return message_in(range(8192, -1, -1))
-
-
-def shuffled():
-    """The same message, its parts delivered in a shuffled order."""
-    order = list(range(8193))
-    random.Random(1).shuffle(order)
-    return message_in(order)
-
-
-def repeats():
-    """The same message, each part but its last delivered twenty times."""
-    parts = 8193
-    lines = [f"open up 7 {octets(7, 65542)}"]
-    lines += [f"send up 7 {k}" for k in range(1, parts + 1)]
-    return lines + [f"pass s1 {n}" for n in range(parts - 1)] * 20
-
-
-def one_part_again():
-    """16 MiB: the longest message in parts of 4 octets, all but one delivered, and one of them again."""
-    parts = 16386
-    lines = [f"open up 7 {octets(7, 65542)}"]
-    lines += [f"send up 7 {k}" for k in range(1, parts + 1)]
-    lines += [f"pass s1 {n}" for n in range(parts - 1)]
-    left = 16777216 - sum(len(line) + 1 for line in lines)
-    return lines + ["pass s1 9"] * (left // 10)
-
-
-def eight_messages():
-    """Eight messages of 60,000 octets, sent and delivered in turns."""
-    names, parts = range(8), 7500
-    lines = [f"open up {i} {octets(i, 60000)}" for i in names]
-    lines += [f"send up {i} {k}" for k in range(1, parts + 1) for i in names]
-    lines += [f"pass s{n % 2 + 1} {n}" for n in range(len(names) * parts)]
-    return lines + ["show released"]
-
-
-def loads():
-    """112 loads of the longest area there can be, their parts of 1,024 octets sent and delivered."""
-    lines, packets = [], 0
-    for n in range(112):
-        address = n % 16 * LONGEST_AREA
-        lines.append(f"load {n} {n} 0 1 {address} {octets(n, LONGEST_AREA)}")
-        for part in range(1, 66):
-            lines += [f"send up {n} {part}", f"pass s1 {packets}"]
-            packets += 1
-        lines.append(f"finish up {n}")
-    return lines
-
-
-def renewed(receptions):
-    """Receptions whose first part comes again in turn; each time the oldest is asked for."""
-    lines = []
-    for n in range(receptions):
-        lines += [f"open up {n} {octets(n, 9)}", f"send up {n} 1", f"pass s1 {n}"]
-    for n in range(450000):
-        lines += ["tick craft", f"pass s1 {n % receptions}", "expire craft"]
-    return lines
-
-
-def one_reception():
-    """One open reception, renewed 450,000 times, with a tick and an expiry that is refused."""
-    return renewed(1)
-
-
-def sixty_four_receptions():
-    """64 open receptions, renewed in turn as often, with as many ticks and expiries."""
-    return renewed(64)
-
-
-def reports(count):
-    """So many dumps, each answered by a report that is opened downwards and finished."""
-    lines = []
-    for n in range(count):
-        lines += ["plain 0 6 5 0101000000100003", f"pass s1 {n}", "work", f"finish down {n}"]
-    return lines
-
-
-def ten_thousand_reports():
-    """10,000 dumps, each answered by a report that is opened and finished."""
-    return reports(10000)
-
-
-def twenty_thousand_reports():
-    """20,000 dumps, each answered by a report that is opened and finished."""
-    return reports(20000)
-
-
-def sixty_thousand_reports():
-    """60,000 dumps, each answered by a report that is opened and finished."""
-    return reports(60000)
-
-
-def many_ticks():
-    """100 lines that ask for 100,000 ticks each."""
-    return ["tick craft 100000"] * 100
-
-
-def shown_memory():
-    """A memory of 1 MiB, shown whole sixteen times."""
-    return ["show memory 1 0 1048576"] * 16
-
-
-def short_lines():
-    """16 MiB of short lines: comments, and as many that print."""
-    lines, size = [], 0
-    while True:
-        line = "show journal" if len(lines) % 2 else "# a comment"
-        size += len(line) + 1
-        if size > 16777216:
-            return lines
-        lines.append(line)
-
-
-def long_lines():
-    """16 MiB in 256 long lines: comments."""
-    return ["#" + "0" * 65534] * 256
-
-
-def run(words, script):
-    """Runs a program once: its status, how much it wrote, and the seconds that it took."""
+def run(words, script, keeps=False):
+    """Runs a program once, and keeps what it writes if that is asked for."""
     read, write = os.pipe()
     actions = [
         (os.POSIX_SPAWN_OPEN, 0, script, os.O_RDONLY, 0),
@@ -182,13 +42,16 @@ def run(words, script):
     begun = time.monotonic()
     child = os.posix_spawn(words[0], words, os.environ, file_actions=actions)
     os.close(write)
-    written = 0
+    length, kept = 0, []
     while chunk := os.read(read, 1 << 20):
-        written += len(chunk)
-    _, status = os.waitpid(child, 0)
+        length += len(chunk)
+        if keeps:
+            kept.append(chunk)
+    _, status, usage = os.wait4(child, 0)
     seconds = time.monotonic() - begun
     os.close(read)
-    return os.waitstatus_to_exitcode(status), written, seconds
+    status = os.waitstatus_to_exitcode(status)
+    return Run(status, length, b"".join(kept), seconds, usage.ru_utime + usage.ru_stime)
 
 
 def peak(words, script, folder):
@@ -199,87 +62,59 @@ def peak(words, script, folder):
         return int(file.read()) * 1024
 
 
-def measure(programs, words, script, runs):
-    """The median seconds of some runs of each program, in turn, and how much each run wrote."""
-    taken = {program: [] for program in programs}
-    lengths = set()
+def median_seconds(words, script, runs):
+    """The median seconds of some runs, and how much each wrote."""
+    taken, lengths = [], set()
     for _ in range(runs):
-        for program in programs:
-            status, written, seconds = run([program, *words], script)
-            # 1: an event was refused, as some are meant to be.
-            if status not in (0, 1):
-                sys.exit(f"{program} {words} on {script}: status {status}")
-            taken[program].append(seconds)
-            lengths.add(written)
+        ran = run(words, script)
+        if ran.status not in GOOD_STATUSES:
+            sys.exit(f"{words} on {script}: status {ran.status}")
+        taken.append(ran.seconds)
+        lengths.add(ran.length)
     if len(lengths) > 1:
         sys.exit(f"{words} on {script}: {sorted(lengths)} octets written")
-    return [statistics.median(taken[program]) for program in programs], lengths.pop()
+    return statistics.median(taken), lengths.pop()
 
 
-def beside(seconds, memory):
-    """What the other build took, where there is one: two columns more."""
-    return "".join(f" {s:.4f} | {m / 1e6:.1f} |" for s, m in zip(seconds[1:], memory[1:]))
+def written(workload, folder):
+    """Writes a workload's script and configuration: its path, and the program's words for it."""
+    script = os.path.join(folder, workload.name)
+    words = ["run", "-"]
+    with open(script, "w", encoding="ascii") as file:
+        file.write(workload.script())
+    if workload.config is not None:
+        with open(script + ".toml", "w", encoding="ascii") as file:
+            file.write(workload.config)
+        words += ["--config", script + ".toml"]
+    return script, words
 
 
-def print_scripts(programs, folder, runs):
-    """Prints a table, a line a workload: its script, and its configuration where it has one."""
-    more = len(programs) - 1
-    print(
-        "| Workload | Lines | Octets | Printed | Seconds | Lines/s | MB/s | Peak MB |"
-        + " Other build's seconds | Its peak MB |" * more
-    )
-    print("|---|--:|--:|--:|--:|--:|--:|--:|" + "--:|--:|" * more)
-    for workload, config in [
-        (in_order, None),
-        (backwards, None),
-        (shuffled, None),
-        (repeats, None),
-        (one_part_again, SMALLEST_PARTS),
-        (eight_messages, None),
-        (one_reception, MANY_RECEPTIONS),
-        (sixty_four_receptions, MANY_RECEPTIONS),
-        (ten_thousand_reports, None),
-        (twenty_thousand_reports, None),
-        (sixty_thousand_reports, None),
-        (many_ticks, None),
-        (short_lines, None),
-        (long_lines, None),
-        (loads, GREATEST_MEMORY),
-        (shown_memory, GREATEST_MEMORY),
-    ]:
-        script = os.path.join(folder, workload.__name__)
-        with open(script, "w", encoding="ascii") as file:
-            count = file.write("\n".join(workload()) + "\n")
+# ---- The program alone
+
+
+def print_scripts(program, folder, runs):
+    """Prints a table, a line a workload."""
+    print("| Workload | Lines | Octets | Printed | Seconds | Lines/s | MB/s | Peak MB |")
+    print("|---|--:|--:|--:|--:|--:|--:|--:|")
+    for workload in WORKLOADS:
+        script, words = written(workload, folder)
+        count = os.path.getsize(script)
         with open(script, encoding="ascii") as file:
             lines = sum(1 for _ in file)
-        words = ["run", "-"]
-        if config is not None:
-            with open(script + ".toml", "w", encoding="ascii") as file:
-                file.write(config)
-            words += ["--config", script + ".toml"]
-        seconds, written = measure(programs, words, script, runs)
-        memory = [peak([program, *words], script, folder) for program in programs]
+        seconds, printed = median_seconds([program, *words], script, runs if count else SHORT_RUNS)
+        memory = peak([program, *words], script, folder)
         print(
-            f"| {workload.__doc__.rstrip('.')} | {lines:,} | {count:,} | {written:,} "
-            f"| {seconds[0]:.3f} | {lines / seconds[0]:,.0f} | {count / seconds[0] / 1e6:.1f} "
-            f"| {memory[0] / 1e6:.1f} |" + beside(seconds, memory),
+            f"| {workload.title} | {lines:,} | {count:,} | {printed:,} | {seconds:.4f} "
+            f"| {lines / seconds:,.0f} | {count / seconds / 1e6:.1f} | {memory / 1e6:.1f} |",
             flush=True,
         )
-    print_start(programs, folder)
-
-
-def print_start(programs, folder):
-    """Prints what it takes to start, and what it takes to start nearly nothing."""
-    seconds, _ = measure(programs, ["--version"], os.devnull, 100)
-    memory = [peak([program, "--version"], os.devnull, folder) for program in programs]
-    print(
-        f"| Start-up: `--version` | | | | {seconds[0]:.4f} | | | {memory[0] / 1e6:.1f} |"
-        + beside(seconds, memory)
-    )
-    seconds, _ = measure(["/bin/true"], [], os.devnull, 100)
-    memory = peak(["/bin/true"], os.devnull, folder) / 1e6
-    more = " | |" * (len(programs) - 1)
-    print(f"| `/bin/true`, to compare | | | | {seconds[0]:.4f} | | | {memory:.1f} |" + more)
+    for title, words in [
+        ("Start-up: `--version`", [program, "--version"]),
+        ("`/bin/true`, to compare", ["/bin/true"]),
+    ]:
+        seconds, _ = median_seconds(words, os.devnull, SHORT_RUNS)
+        memory = peak(words, os.devnull, folder)
+        print(f"| {title} | | | | {seconds:.4f} | | | {memory / 1e6:.1f} |")
 
 
 def print_requests(program, runs):
@@ -297,12 +132,56 @@ def print_requests(program, runs):
         print(f"| {name} | {count:,} | {seconds:.6f} | {count / seconds:,.0f} |")
 
 
+# ---- Beside another program
+
+
+def ratios(pairs):
+    """The median of the ratios of pairs, the least and the greatest, as three columns."""
+    found = [one / other for one, other in pairs]
+    return f"{statistics.median(found):.2f} | {min(found):.2f} | {max(found):.2f}"
+
+
+def medians(pairs, unit, digits):
+    """The median of each side of pairs, as two columns."""
+    return " | ".join(f"{statistics.median(side) / unit:.{digits}f}" for side in zip(*pairs))
+
+
+def print_against(programs, folder, runs):
+    """Prints a table of ratios, a line a workload. Both have to print the same first."""
+    columns = " | Other's | Ratio | Least | Greatest |"
+    print(f"| Workload | Seconds{columns} Peak MB{columns}")
+    print("|---|" + "--:|" * 10)
+    for workload in WORKLOADS:
+        script, words = written(workload, folder)
+        ran = [run([program, *words], script, keeps=True) for program in programs]
+        if len({(it.status, it.text) for it in ran}) > 1 or ran[0].status not in GOOD_STATUSES:
+            sys.exit(f"{words} on {script}: the programs print different text, or end differently")
+        times, peaks = [], []
+        for n in range(runs if os.path.getsize(script) else SHORT_RUNS):
+            # Each program is the first one in every other pair.
+            order = programs[:: 1 if n % 2 == 0 else -1]
+            seconds = {it: run([it, *words], script).processor for it in order}
+            times.append([seconds[it] for it in programs])
+            if n < runs:
+                memory = {it: peak([it, *words], script, folder) for it in order}
+                peaks.append([memory[it] for it in programs])
+        print(
+            f"| {workload.title} | {medians(times, 1, 4)} | {ratios(times)} "
+            f"| {medians(peaks, 1e6, 1)} | {ratios(peaks)} |",
+            flush=True,
+        )
+
+
 def main():
     """Prints the tables."""
-    program, requests, folder, runs = *sys.argv[1:4], int(sys.argv[4])
-    print_scripts([program, *sys.argv[5:6]], folder, runs)
+    way, program, other, folder, runs = *sys.argv[1:5], int(sys.argv[5])
+    if way == "against":
+        print_against([program, other], folder, runs)
+        return
+    print_scripts(program, folder, runs)
     print()
-    print_requests(requests, runs)
+    print_requests(other, runs)
 
 
-main()
+if __name__ == "__main__":
+    main()
