@@ -1,5 +1,19 @@
 //! The packets of a message of 20 octets in parts of 8, as the standards' layouts give them, and others.
 
+use lpt_join::{Config, Mode};
+
+/// The configuration that a file without keys has.
+pub(crate) const USUAL: Config = Config {
+    apid: 100,
+    source: 1,
+    part_size: 8,
+    timeout: 10,
+    receptions: 8,
+    outgoing: 8,
+    clock: 0,
+    mode: Mode::Any,
+};
+
 /// The message.
 pub(crate) const MESSAGE: [u8; 20] = [
     0x00, 0x01, 0x02, 0x03, 0x04, 0x05, 0x06, 0x07, 0x08, 0x09, 0x0a, 0x0b, 0x0c, 0x0d, 0x0e, 0x0f,

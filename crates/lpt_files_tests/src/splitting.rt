@@ -1,20 +1,8 @@
 //! A message split into packets.
 
-use crate::packets::{FIRST, MESSAGE, SECOND, THIRD};
-use lpt_join::{Config, Direction, Mode, Told, ToolFault, split};
+use crate::packets::{FIRST, MESSAGE, SECOND, THIRD, USUAL};
+use lpt_join::{Direction, Told, ToolFault, split};
 use std::alloc::Global;
-
-/// The configuration that a file without keys has.
-const USUAL: Config = Config {
-    apid: 100,
-    source: 1,
-    part_size: 8,
-    timeout: 10,
-    receptions: 8,
-    outgoing: 8,
-    clock: 0,
-    mode: Mode::Any,
-};
 
 // The packets of the message's parts 1, 2 and 3, of sequence counts from 0 on.
 fn packets(alloc: Global) -> Result<Vec<u8>, ToolFault> {

@@ -19,9 +19,11 @@ pub use came::Came;
 pub use gaps::missing;
 pub use gathering::Gathering;
 pub use joining::Joining;
-pub use lpt_pus::Direction;
+pub use lpt_pus::{Direction, LONGEST_PACKET, Name, Octets};
 pub use lpt_reception::Mode;
-pub use lpt_split::{Config, Told, ToolFault, split};
+pub use lpt_split::{
+    Config, End, Sink, Source, Told, ToolFault, count, flush_out, read_text, split, write_out,
+};
 pub use lpt_stream::{PacketBuffer, packet_length, whole_length};
 pub use reading::part_in;
 pub use stream::join_stream;

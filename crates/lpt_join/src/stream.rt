@@ -7,7 +7,7 @@ ghost use Rattle.lpt_stream.specs.Streams.{Splits};
 ghost use Rattle.lpt_join.specs.Gatherings.{state, Gives};
 ghost use Rattle.lpt_join.specs.Joins.{Complete};
 ghost use Rattle.lpt_join.specs.Laws.{AllMadeOrOther, EachIsAmong, IsSending};
-ghost use Rattle.lpt_join.specs.Reads.{ReadsAll};
+ghost use Rattle.lpt_join.specs.Reads.{IsEndless, ReadsAll};
 
 use crate::{Gathering, Transaction};
 use lpt_split::{Source, ToolFault};
@@ -37,7 +37,12 @@ pub fn join_stream<S: Source>(
         → state g.joining ≡ Complete m) }
 
     ensures told { OnOk result (S.failed source.new ≡ S.failed source.old) }
-    ensures fault { IfErr result (λ e. (e ≡ ToolFault.Read) ⊎ (e ≡ ToolFault.Memory)) }
+
+    // Each fault is that of a read or of memory, but for a stream of more packets than there are.
+    ensures fault { IfErr result (λ e.
+        ((e ≡ ToolFault.Read) × ((S.failed source.new ≡ true)
+        ⊎ IsEndless (S.remaining source.old) (S.remaining source.new)))
+        ⊎ ((e ≡ ToolFault.Memory) × (S.failed source.new ≡ S.failed source.old))) }
 {
     let mut buffer = PacketBuffer::new(alloc);
     let mut gathering = Gathering::new(alloc);

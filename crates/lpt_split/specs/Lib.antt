@@ -1,2 +1,3 @@
 pub mod Splits
 pub use Rattle.lpt_events.specs as LptEvents
+pub use Rattle.lpt_text.specs as LptText

@@ -9,7 +9,7 @@
 mod packet;
 mod splitting;
 
-pub use lpt_events::{Config, part_kind};
-pub use lpt_text::{Source, Told, ToolFault};
+pub use lpt_events::{Config, count, part_kind};
+pub use lpt_text::{End, Sink, Source, Told, ToolFault, flush_out, read_text, write_out};
 pub use packet::{part_at, part_packet};
 pub use splitting::split;

@@ -1,5 +1,5 @@
 -- Octets of a stream that are read behind those that are held.
-use Rattle.std.proofs.Common.{◌≡◌, ◌∙◌, ap, sym, subst, ℕ, Bool, List, [], ◌++◌, Option, Err, append_assoc, append-nil}
+use Rattle.std.proofs.Common.{◌≡◌, ◌⊎◌, ◌∙◌, ap, sym, subst, inl, inr, ℕ, Bool, true, refl, List, [], ◌++◌, Option, Err, append_assoc, append-nil}
 use Rattle.std.proofs.KnownBytes.{Consumes-trans}
 use Rattle.lpt_text.specs.declared.fault.ToolFault.{ToolFault}
 use Rattle.lpt_text.specs.declared.fault.ToolFault.TheVariants as tool
@@ -37,3 +37,14 @@ fill-fault tool.Write old mid new a b c read had told failed p few same q = q
 fill-fault tool.Config old mid new a b c read had told failed p few same q = q
 fill-fault (tool.Line n) old mid new a b c read had told failed p few same q = q
 fill-fault (tool.Threads n) old mid new a b c read had told failed p few same q = q
+
+-- a search ends by a read that failed, or for want of memory
+pub find-fault : (fault : ToolFault) (old new : PacketBuffer) (a b : Option (List ℕ)) (had failed : Bool)
+    → FindsPacket (Err fault) old new a b had failed
+    → ((fault ≡ tool.Read) × (failed ≡ true)) ⊎ ((fault ≡ tool.Memory) × (failed ≡ had))
+find-fault tool.Read old new a b had failed h = inl (refl, h.3)
+find-fault tool.Memory old new a b had failed h = inr (refl, h.2)
+find-fault tool.Write old new a b had failed h = absurd h
+find-fault tool.Config old new a b had failed h = absurd h
+find-fault (tool.Line n) old new a b had failed h = absurd h
+find-fault (tool.Threads n) old new a b had failed h = absurd h

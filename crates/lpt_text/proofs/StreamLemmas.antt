@@ -1,9 +1,9 @@
 -- Front parts of a text, and texts appended one after another.
-use Rattle.std.proofs.Common.{◌≡◌, ℕ, ◌+◌, ◌≤◌, List, [], ◌++◌, Option, None, Some, unwrap_or, length, take, drop, min, sym, ap, subst, arith, take_all, take-add}
+use Rattle.std.proofs.Common.{◌≡◌, ℕ, ◌+◌, ◌≤◌, List, [], ◌++◌, Option, None, Some, unwrap_or, length, take, drop, min, refl, sym, ◌∙◌, append-nil, ap, subst, arith, take_all, take-add}
 use Rattle.std.proofs.Math.Seq.{take-append-add}
 use Rattle.std.proofs.lemmas.List.{take-append-le, take_min}
 use Rattle.std.proofs.KnownBytes.{Appends-nil, Appends-trans}
-use Rattle.std.specs.Io.KnownBytes.{Appends}
+use Rattle.std.specs.Io.KnownBytes.{Appends, append_known}
 use Rattle.lpt_text.specs.Streams.{AppendsPart}
 
 -- ---- texts appended one after another
@@ -60,6 +60,13 @@ part_whole a b text all =
 -- nothing done is a front part of anything
 pub part_unchanged : (a : Option (List ℕ)) (text : List ℕ) → AppendsPart a a text
 part_unchanged a text = part_of_nothing a a text (Appends-nil a)
+
+-- ---- what is passed on
+
+-- known octets with nothing kept back behind them
+pub nothing_behind : (known : Option (List ℕ)) (kept : List ℕ) → kept ≡ [] → known ≡ append_known known kept
+nothing_behind None kept none = refl
+nothing_behind (Some xs) kept none = ap Some (sym (ap (λ ys. xs ++ ys) none ∙ append-nil xs))
 
 -- ---- counts
 

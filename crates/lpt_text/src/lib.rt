@@ -9,10 +9,12 @@
 mod fault;
 mod line_end;
 mod lines;
+mod passing;
 mod reading;
 mod stream;
 
 pub use fault::ToolFault;
 pub use lines::LineBuffer;
+pub use passing::Passes;
 pub use reading::{End, read_text};
 pub use stream::{Sink, Source, Told, flush_out, write_out};

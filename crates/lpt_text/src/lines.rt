@@ -26,7 +26,7 @@ pub struct LineBuffer {
 }
 
 impl LineBuffer {
-    ghost use Rattle.std.specs.Prelude.{◌≡◌, ◌≢◌, ◌+◌, ◌++◌, [], drop, true, Err, IfErr, OnOk, OnErr, IsErrOf};
+    ghost use Rattle.std.specs.Prelude.{◌≡◌, ◌≢◌, ◌⊎◌, ◌+◌, ◌++◌, [], drop, true, Err, IfErr, OnOk, OnErr, IsErrOf};
     ghost use Rattle.std.specs.Io.KnownBytes.{Keeps};
     ghost use Rattle.lpt_text.specs.Lines.{held, room_of, Fills, FindsLine};
 
@@ -74,8 +74,10 @@ impl LineBuffer {
         ensures finds { FindsLine result self.old self.new (S.remaining source.old)
             (S.remaining source.new) (S.failed source.old) (S.failed source.new) }
 
-        // What was written stays.
+        // What was written stays, and where something was read, all of it was passed on before.
         ensures same { Keeps (K.contents out.old) (K.contents out.new) }
+        ensures passed { result ≢ Err ToolFault.Write →
+            (source.new ≡ source.old) ⊎ (K.passed out.new ≡ K.contents out.new) }
         ensures cause { IsErrOf result ToolFault.Write → K.failed out.new ≡ true }
         ensures told { result ≢ Err ToolFault.Write → K.failed out.new ≡ K.failed out.old }
     {

@@ -1,11 +1,12 @@
 //! Readers and writers that tell their octets and their faults.
 
-ghost use Rattle.std.specs.Prelude.{◌≡◌, ◌≤◌, ◌<◌, ℕ, List, Bool, true, false, length, take, Option, MatchOption, IfSome, IfErr, OnOk};
+ghost use Rattle.std.specs.Prelude.{◌≡◌, ◌≤◌, ◌<◌, ℕ, List, Bool, true, false, length, take, Option, MatchOption, IfSome, IfErr, IsTrue, OnOk};
 ghost use Rattle.std.specs.Io.KnownBytes.{Keeps, Appends, Consumes, IsAtEnd};
 ghost use Rattle.lpt_text.specs.Streams.{read_failed, write_failed, flush_failed, AppendsPart};
 ghost use Rattle.lpt_text.specs.ToldInside.{inner_of, has_failed};
 
 use crate::fault::ToolFault;
+use crate::passing::Passes;
 use std::io;
 
 /// Where a text is read from.
@@ -33,6 +34,9 @@ pub trait Sink {
     // The octets that were written, where they are known.
     ghost contents: { Self → Option (List ℕ) };
 
+    // The octets that were passed on, where they are known: the others are kept back.
+    ghost passed: { Self → Option (List ℕ) };
+
     // Whether a write has failed or taken nothing.
     ghost failed: { Self → Bool };
 
@@ -46,10 +50,11 @@ pub trait Sink {
             (λ n. Appends (contents self.old) (contents self.new) (take n buf.now)) }
         ensures cause { failed self.new ≡ write_failed result (failed self.old) };
 
-    /// Passes on what the sink has kept back of what was written, and answers whether it could. If
-    /// not, the sink has failed from then on.
+    /// Passes on what the sink has kept back of what was written, and answers whether it could: then
+    /// nothing is kept back. If not, the sink has failed from then on.
     fn flush(&mut self) -> bool
         ensures bytes { Keeps (contents self.old) (contents self.new) }
+        ensures all { IsTrue result → passed self.new ≡ contents self.new }
         ensures cause { failed self.new ≡ flush_failed result (failed self.old) };
 }
 
@@ -104,8 +109,10 @@ impl<R: io::Read> Source for Told<R> {
     }
 }
 
-impl<W: io::Write> Sink for Told<W> {
+impl<W: Passes> Sink for Told<W> {
     ghost contents = { λ told. W.contents (inner_of told) };
+
+    ghost passed = { λ told. W.passed (inner_of told) };
 
     ghost failed = { λ told. has_failed told };
 
@@ -125,7 +132,7 @@ impl<W: io::Write> Sink for Told<W> {
     }
 
     fn flush(&mut self) -> bool {
-        let flushed = self.inner.flush().is_ok();
+        let flushed = self.inner.pass_on().is_ok();
         if !flushed {
             self.failed = true;
         }
@@ -162,6 +169,7 @@ pub fn write_out<K: Sink>(out: &mut K, text: &[u8]) -> Result<(), ToolFault>
 /// Errors: `Write` where it couldn't.
 pub fn flush_out<K: Sink>(out: &mut K) -> Result<(), ToolFault>
     ensures same { Keeps (K.contents out.old) (K.contents out.new) }
+    ensures all { OnOk result (K.passed out.new ≡ K.contents out.new) }
     ensures told { OnOk result (K.failed out.new ≡ K.failed out.old) }
     ensures fault { IfErr result (λ e. (e ≡ ToolFault.Write) × (K.failed out.new ≡ true)) }
 {

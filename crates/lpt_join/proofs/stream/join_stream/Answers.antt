@@ -1,7 +1,8 @@
 -- Packet after packet, until less than one is left.
-use Rattle.std.proofs.Common.{◌∙◌, ◌++◌, [], ℕ, Option, Ok, ap, subst, take, refl}
+use Rattle.std.proofs.Common.{◌∙◌, inl, inr, ◌++◌, [], ℕ, Option, Ok, ap, subst, take, refl}
 use Rattle.std.proofs.KnownBytes.{Consumes-nil, Consumes-trans}
 use Rattle.lpt_stream.specs.Buffers.{held, FindsPacket}
+use Rattle.lpt_stream.proofs.BufferLemmas.{find-fault}
 use Rattle.lpt_join.proofs.EndLemmas.{message_given}
 use Rattle.lpt_join.proofs.GatherLemmas.{read-none, read-more, read-next, read-end}
 use Rattle.lpt_join.proofs.stream.join_stream.Goals as goal
@@ -71,3 +72,11 @@ loop-count-preserved g c =
       );
       told = found.4 ∙ c.loop-count.invariant.told;
     }
+
+-- a read failed, or memory was wanting
+pub returns-in-Err-clause-fault : goal.returns-in-Err-clause-fault
+returns-in-Err-clause-fault g c =
+    elim (find-fault c.in-Err.fault _ _ _ _ _ _ c.in-Err.ensures) [
+      | inl h ↦ inl (h.0, inl h.1)
+      | inr h ↦ inr (h.0, h.1 ∙ c.loop-count.invariant.told)
+    ]

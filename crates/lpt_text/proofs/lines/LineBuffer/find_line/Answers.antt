@@ -66,6 +66,7 @@ loop-place-preserved g c =
       told = more.3 ∙ c.loop-place.invariant.told;
       same = Keeps-trans (g.K.Sink.contents c.args.out.now) (g.K.Sink.contents c.loop-place.out) (g.K.Sink.contents c.flush_out.new.out)
           c.loop-place.invariant.same c.in-Ok.ensures.same;
+      passed = inr c.in-Ok.ensures.all;
       written = c.in-Ok.ensures.told ∙ c.loop-place.invariant.written;
       within = kept.0;
       none = kept.1;

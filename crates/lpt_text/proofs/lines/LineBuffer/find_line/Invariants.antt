@@ -1,4 +1,4 @@
-use Rattle.std.proofs.Common.{◌≡◌, ◌≤◌, ℕ, List, [], None, length, take}
+use Rattle.std.proofs.Common.{◌≡◌, ◌≤◌, ◌⊎◌, ℕ, List, [], None, length, take}
 use Rattle.std.specs.Io.KnownBytes.{Keeps}
 use Rattle.lpt_text.specs.Lines.{held, room_of, line_end, Adds}
 use Rattle.lpt_text.proofs.lines.LineBuffer.find_line.Given as goal
@@ -10,6 +10,7 @@ invariant-loop-place g l = record {
       (g.S.Source.remaining l.source) read [];
   told : g.S.Source.failed l.source ≡ g.S.Source.failed l.fn.source;
   same : Keeps (g.K.Sink.contents l.fn.out) (g.K.Sink.contents l.out);
+  passed : (l.source ≡ l.fn.source) ⊎ (g.K.Sink.passed l.out ≡ g.K.Sink.contents l.out);
   written : g.K.Sink.failed l.out ≡ g.K.Sink.failed l.fn.out;
   within : l.searched ≤ length (held l.self);
   none : line_end (take l.searched (held l.self)) ≡ None;

@@ -1,0 +1,146 @@
+-- What draws a flight, and what draws none.
+use Rattle.std.proofs.Common.{◌≡◌, ◌∙◌, ℕ, zero, suc, ◌-◌, ◌==◌, Bool, true, false, List, length, refl, Option, Some, None, if◌then◌else◌}
+use Rattle.std.specs.Option.{option_map_or}
+use Rattle.lpt_events.specs.LptPacket.declared.direction.Direction.{Direction}
+use Rattle.lpt_events.specs.LptPacket.declared.direction.Direction.TheVariants.{Up, Down}
+use Rattle.lpt_events.specs.LptPacket.Names.{Name}
+use Rattle.lpt_events.specs.declared.applied.Applied.{Applied}
+use Rattle.lpt_events.specs.declared.applied.Applied.TheVariants.{Done, Silent, Code}
+use Rattle.lpt_events.specs.declared.lane.Lane.{Lane}
+use Rattle.lpt_events.specs.declared.outcome.Outcome.{Outcome}
+use Rattle.lpt_events.specs.declared.outcome.Outcome.TheVariants as outcome
+use Rattle.lpt_events.specs.declared.side.Side.{Side}
+use Rattle.lpt_events.specs.declared.side.Side.TheVariants.{Ground, Craft}
+use Rattle.lpt_chart.specs.declared.marks.Content.{Content}
+use Rattle.lpt_chart.specs.declared.marks.Content.TheVariants.{Report}
+use Rattle.lpt_chart.specs.declared.marks.Held.{Held}
+use Rattle.lpt_chart.specs.declared.marks.Saying.{Saying}
+use Rattle.lpt_chart.specs.declared.marks.Saying.TheVariants as say
+use Rattle.lpt_chart.specs.declared.marks.Stage.{Stage}
+use Rattle.lpt_chart.specs.declared.marks.Task.{Task}
+use Rattle.lpt_chart.specs.Events.{came_to, executed, expired, finished, message_opened, packet_lost, packet_put, packet_taken, restarted, worked}
+use Rattle.lpt_chart.specs.Pictures.{Picture, cleared, landed, lost, one_more, passed, put, reported, retold, rowed, run_of, said, said_on, same_ground, taken, takes, ticked, tracked, with_job, without_job}
+
+-- ---- what draws no flight
+
+-- a row
+pub said-flights : (p : Picture) (s : Saying) → (said p s).flights ≡ p.flights
+unfolding rowed
+said-flights p s = refl
+
+-- a delivery's row
+pub landed-flights : (p : Picture) (l : Lane) (s : Saying) → (landed p l s).flights ≡ p.flights
+unfolding landed rowed
+landed-flights p l s =
+    elim (option_map_or (λ r. takes l r.saying) p.last false)
+    as (λ b. (if b then rowed (record p { last = passed p.last }) (p.next - 1) (same_ground p.last) s else said p s).flights ≡ p.flights)
+    [ true ↦ refl | false ↦ refl ]
+
+-- and it stands at the delivery's place
+pub landed-place : (p : Picture) (l : Lane) (s : Saying) → (landed p l s).place ≡ p.place
+unfolding landed rowed
+landed-place p l s =
+    elim (option_map_or (λ r. takes l r.saying) p.last false)
+    as (λ b. (if b then rowed (record p { last = passed p.last }) (p.next - 1) (same_ground p.last) s else said p s).place ≡ p.place)
+    [ true ↦ refl | false ↦ refl ]
+
+-- a tick
+pub ticked-flights : (p : Picture) (side : Side) (clock : ℕ) → (ticked p side clock).flights ≡ p.flights
+unfolding ticked rowed
+ticked-flights p side clock =
+    elim (run_of side p.last == 0)
+    as (λ b. (if b then said p (say.Ticked side clock 1) else record p { last = retold p.last side clock (one_more (run_of side p.last)) }).flights ≡ p.flights)
+    [ true ↦ refl | false ↦ refl ]
+
+-- an execution
+pub executed-flights : (p : Picture) (a : Applied) → (executed p a).flights ≡ p.flights
+unfolding without_job tracked rowed
+executed-flights p (Done None) = refl
+executed-flights p (Done (Some id)) = refl
+executed-flights p Silent = refl
+executed-flights p (Code c) = refl
+
+-- a new start
+pub restarted-flights : (p : Picture) (side : Side) (boot : ℕ) → (restarted p side boot).flights ≡ p.flights
+unfolding cleared rowed
+restarted-flights p Ground boot = refl
+restarted-flights p Craft boot = refl
+
+-- a packet of the spacecraft's own
+pub report-flights : (p : Picture) (s : Saying) (d : Direction) (content : Content)
+    → (put (said_on p s) d content None).flights ≡ p.flights
+unfolding put rowed
+report-flights p s d content = refl
+
+-- so many of them
+pub reported-flights : (k : ℕ) (p : Picture) → (reported k p).flights ≡ p.flights
+reported-flights zero p = refl
+reported-flights (suc k) p =
+    reported-flights k (put (said_on p (say.Put Down (length p.sent) Report)) Down Report None)
+    ∙ report-flights p (say.Put Down (length p.sent) Report) Down Report
+
+-- what a delivery does to the tracks
+pub came_to-flights : (p : Picture) (held : Option Held) (d : Direction) (o : Outcome)
+    → (came_to p held d o).flights ≡ p.flights
+unfolding came_to tracked with_job
+came_to-flights p held d (outcome.Kept id k) = refl
+came_to-flights p held Up (outcome.Released id len) = refl
+came_to-flights p held Down (outcome.Released id len) = refl
+came_to-flights p held d (outcome.PlainReleased len) = refl
+came_to-flights p held d (outcome.AbortNoted id reason) = refl
+came_to-flights p held d (outcome.Broken id reason) = refl
+came_to-flights p held d (outcome.Again id k) = refl
+came_to-flights p held d (outcome.ReportNoted service subtype) = refl
+came_to-flights p held d (outcome.Ignored why) = refl
+
+-- ---- where an answer tells something
+
+-- what it tells draws no flight
+pub told-flights : {A : Type 0} (f : A → Picture) (x : Option A) (q p : Picture)
+    → ((y : A) → (f y).flights ≡ p.flights)
+    → q.flights ≡ p.flights
+    → (option_map_or f x q).flights ≡ p.flights
+told-flights f (Some y) q p told other = told y
+told-flights f None q p told other = other
+
+-- nor does what it says to be so
+pub so-flights : (b : Bool) (q p : Picture) → q.flights ≡ p.flights → (if b then q else p).flights ≡ p.flights
+so-flights true q p e = e
+so-flights false q p e = refl
+
+-- a message is opened
+pub opened-flights : (p : Picture) (d : Direction) (id : Name) (m : List ℕ) (n : ℕ)
+    → (message_opened p d id m n).flights ≡ p.flights
+unfolding rowed tracked
+opened-flights p d id m n = refl
+
+-- a packet is put
+pub put-flights : (p : Picture) (d : Direction) (n : ℕ) (content : Content) (task : Option Task)
+    → (packet_put p d n content task).flights ≡ p.flights
+unfolding put rowed
+put-flights p d n content task = refl
+
+-- a sender is closed
+pub finished-flights : (p : Picture) (d : Direction) (id : Name) → (finished p d id).flights ≡ p.flights
+unfolding rowed tracked
+finished-flights p d id = refl
+
+-- a packet is lost
+pub lost-flights : (p : Picture) (n : ℕ) → (packet_lost p n).flights ≡ p.flights
+unfolding lost rowed
+lost-flights p n = refl
+
+-- a lane takes a packet
+pub taken-flights : (p : Picture) (l : Lane) (n : ℕ) → (packet_taken p l n).flights ≡ p.flights
+unfolding rowed taken
+taken-flights p l n = refl
+
+-- a reception expires
+pub expired-flights : (p : Picture) (d : Direction) (id : Name) → (expired p d id).flights ≡ p.flights
+unfolding rowed tracked
+expired-flights p d id = refl
+
+-- a job comes to a stage
+pub worked-flights : (p : Picture) (s : Saying) (job : ℕ) (stage : Stage) → (worked p s job stage).flights ≡ p.flights
+unfolding rowed tracked
+worked-flights p s job stage = refl

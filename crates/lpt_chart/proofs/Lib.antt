@@ -1,0 +1,5 @@
+pub mod EscapeLemmas
+pub mod EventFlights
+pub mod FlightLemmas
+pub mod JournalFlights
+pub mod PictureLemmas

@@ -1,0 +1,58 @@
+-- What loops over entries, columns and own packets draw.
+use Rattle.std.proofs.Common.{◌≡◌, ◌∙◌, ℕ, ◌+◌, ◌<◌, ◌++◌, List, ◌∷◌, drop, length, refl, ap, sym, append_assoc, add-one, Option, None, get_or, option_to_list}
+use Rattle.std.proofs.Math.Seq.{drop-cons}
+use Rattle.lpt_events.specs.LptPacket.declared.direction.Direction.TheVariants.{Down}
+use Rattle.lpt_events.specs.declared.entry.Entry.{Entry}
+use Rattle.lpt_events.specs.declared.side.Side.{Side}
+use Rattle.lpt_chart.specs.declared.marks.Bar.{Bar}
+use Rattle.lpt_chart.specs.declared.marks.Content.TheVariants.{Report}
+use Rattle.lpt_chart.specs.declared.marks.Saying.TheVariants as say
+use Rattle.lpt_chart.specs.declared.marks.Track.{Track}
+use Rattle.lpt_chart.specs.Events.{after, after_all}
+use Rattle.lpt_chart.specs.Pictures.{Picture, put, reported, said_on}
+use Rattle.lpt_chart.specs.Tracks.{all_bars, bar_up_to}
+
+-- the rest of a list begins with its next element
+pub drop_step : {A : Type 0} (xs : List A) (i : ℕ) (d : A)
+    → i < length xs
+    → drop i xs ≡ get_or xs i d ∷ drop (i + 1) xs
+drop_step xs i d within = drop-cons xs i d within ∙ ap (λ n. get_or xs i d ∷ drop n xs) (sym (add-one i))
+
+-- one packet of the spacecraft's own, and then the rest
+pub reported_more : (a b : ℕ) (p : Picture)
+    → a ≡ b + 1
+    → reported a p ≡ reported b (put (said_on p (say.Put Down (length p.sent) Report)) Down Report None)
+reported_more a b p e = ap (λ n. reported n p) (e ∙ add-one b)
+
+-- the same, by the pictures after its row and after it
+pub reported_next : (a b : ℕ) (p q r : Picture)
+    → a ≡ b + 1
+    → q ≡ said_on p (say.Put Down (length p.sent) Report)
+    → r ≡ put q Down Report None
+    → reported b r ≡ reported a p
+reported_next a b p q r e row packet =
+    ap (reported b) (packet ∙ ap (λ x. put x Down Report None) row) ∙ sym (reported_more a b p e)
+
+-- an entry more
+pub after_next : (p q : Picture) (place : ℕ) (x : Entry) (xs more : List Entry)
+    → xs ≡ x ∷ more
+    → q ≡ after p place x
+    → after_all q (place + 1) more ≡ after_all p place xs
+after_next p q place x xs more e row =
+    ap (λ y. after_all y (place + 1) more) row ∙ sym (ap (after_all p place) e)
+
+-- the entry of a place, and those after it
+pub entry_step : (p : Picture) (i : ℕ) (xs : List Entry) (d : Entry)
+    → i < length xs
+    → after_all (after p i (get_or xs i d)) (i + 1) (drop (i + 1) xs) ≡ after_all p i (drop i xs)
+entry_step p i xs d within =
+    after_next p (after p i (get_or xs i d)) i (get_or xs i d) (drop i xs) (drop (i + 1) xs) (drop_step xs i d within) refl
+
+-- a column, and those after it
+pub column_step : (front : List Bar) (side : Side) (here i : ℕ) (columns : List (Option Track)) (d : Option Track)
+    → i < length columns
+    → (front ++ option_to_list (bar_up_to side here i (get_or columns i d))) ++ all_bars side here (i + 1) (drop (i + 1) columns)
+    ≡ front ++ all_bars side here i (drop i columns)
+column_step front side here i columns d within =
+    append_assoc front (option_to_list (bar_up_to side here i (get_or columns i d))) (all_bars side here (i + 1) (drop (i + 1) columns))
+    ∙ ap (λ c. front ++ all_bars side here i c) (sym (drop_step columns i d within))

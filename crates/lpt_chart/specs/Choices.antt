@@ -1,0 +1,106 @@
+-- Which rows are drawn, how wide a picture is, and the lines of its title.
+use Rattle.std.specs.Prelude.{ℕ, ◌+◌, ◌-◌, ◌*◌, ◌/◌, ◌==◌, min, max, nat_le, nat_lt, Bool, true, false, if◌then◌else◌, List, length, take, drop, position, slice_get, fold, is_none}
+use Rattle.std.specs.Option.{option_map_or}
+use Rattle.lpt_events.specs.declared.side.Side.{Side}
+use Rattle.lpt_events.specs.declared.side.Side.TheVariants.{Ground, Craft}
+use Rattle.lpt_chart.specs.declared.choice.Choice.{Choice}
+use Rattle.lpt_chart.specs.declared.frame.Frame.{Frame}
+use Rattle.lpt_chart.specs.declared.marks.Row.{Row}
+use Rattle.lpt_chart.specs.declared.marks.Saying.{Saying}
+use Rattle.lpt_chart.specs.Pictures.{Picture}
+use Rattle.lpt_chart.specs.Sayings.{saying_side, saying_words}
+
+-- ---- which rows are drawn
+
+-- the first row of this place or a later one
+abbrev pub row_from : (place : ℕ) → List Row → ℕ
+row_from place rows = option_map_or (λ i. i) (position (λ r. nat_le place r.place) rows) (length rows)
+
+-- the first row of a later place
+abbrev pub row_behind : (place : ℕ) → List Row → ℕ
+row_behind place rows = option_map_or (λ i. i) (position (λ r. nat_lt place r.place) rows) (length rows)
+
+-- how many rows above are left out
+abbrev pub hidden_above : Choice → List Row → ℕ
+hidden_above c rows = option_map_or (λ place. row_from place rows) c.from 0
+
+-- how many rows there are up to the last that is drawn: 400 where nothing is chosen
+abbrev pub row_end : Choice → List Row → ℕ
+row_end c rows =
+    option_map_or (λ place. row_behind place rows) c.to
+    (if is_none c.from then min (length rows) 400 else length rows)
+
+-- how many rows below are left out
+abbrev pub hidden_below : Choice → List Row → ℕ
+hidden_below c rows = length rows - row_end c rows
+
+-- the height of a row, or of the end
+abbrev pub height_of : Picture → ℕ → ℕ
+height_of p i = option_map_or (λ r. r.at) (slice_get p.rows i) p.next
+
+-- ---- the lines of a title
+
+-- where a line of a title ends: at a space between the 46th and the 60th letter, or there
+abbrev pub line_end : List ℕ → ℕ
+line_end t =
+    if nat_le (length t) 60 then length t
+    else option_map_or (λ k. min k 14 + 46) (position (λ b. b == 32) (drop 46 t)) 60
+
+-- a line, and what follows it
+abbrev pub title_front : List ℕ → List ℕ
+title_front t = take (line_end t) t
+
+abbrev pub title_rest : List ℕ → List ℕ
+title_rest t = drop (line_end t) t
+
+-- what follows two lines
+abbrev pub title_end : List ℕ → List ℕ
+title_end t = title_rest (title_rest t)
+
+-- the room for the lines behind the first
+abbrev pub title_room : List ℕ → ℕ
+title_room t =
+    if nat_le (length t) 60 then 0
+    else if nat_le (length (title_rest t)) 60 then 24
+    else 48
+
+-- ---- how wide a picture is
+
+-- the width of so many letters
+abbrev pub wide_of : ℕ → ℕ
+wide_of n = (29 * n + 3) / 4
+
+-- whether two sides are the same
+abbrev pub same_side : Side → Side → Bool
+same_side Ground Ground = true
+same_side Craft Craft = true
+same_side _ _ = false
+
+-- how many letters a row has at a side
+unfoldable pub letters_at : Side → Saying → ℕ
+letters_at side saying =
+    if same_side side (saying_side saying) then min (length (saying_words saying)) 60 else 0
+
+-- how many letters the widest row has at a side, 16 at least
+abbrev pub widest_at : Side → List Row → ℕ
+widest_at side rows = fold (λ n r. max n (letters_at side r.saying)) 16 rows
+
+-- the frame of a picture by its widths: its columns have 12 pixels each
+unfoldable pub frame_with : Choice → (title : List ℕ) → Picture → (left right : ℕ) → Frame
+frame_with c title p left right = record {
+  words = 60 + wide_of left;
+  left = 60 + wide_of left + (46 + 12 * min (length p.ground) 64);
+  right = 60 + wide_of left + (46 + 12 * min (length p.ground) 64) + (420 + 12 * min (length p.craft) 64);
+  wide =
+      60 + wide_of left + (46 + 12 * min (length p.ground) 64) + (420 + 12 * min (length p.craft) 64)
+      + (24 + wide_of right);
+  head = 92 + title_room title;
+  window = 130 + title_room title;
+  margin = 8;
+  top = height_of p (hidden_above c p.rows);
+  bottom = height_of p (row_end c p.rows);
+}
+
+-- the frame of a picture
+abbrev pub frame_of : Choice → (title : List ℕ) → Picture → Frame
+frame_of c title p = frame_with c title p (widest_at Ground p.rows) (widest_at Craft p.rows)

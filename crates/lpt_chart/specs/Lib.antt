@@ -1,0 +1,17 @@
+pub mod Answers
+pub mod Bars
+pub mod Charts
+pub mod Choices
+pub mod Deliveries
+pub mod Events
+pub mod Flights
+pub mod Frames
+pub mod Legends
+pub mod Pictures
+pub mod Rows
+pub mod Sayings
+pub mod Shapes
+pub mod Tasks
+pub mod Tellings
+pub mod Tracks
+pub mod Words

@@ -1,0 +1,241 @@
+//! What each event draws.
+
+ghost use Rattle.std.specs.Prelude.{◌≡◌, IfOk, OnOk};
+ghost use Rattle.lpt_chart.specs.Events.{after, direction_of, drawn, executed, expired, finished, message_opened, own_puts, packet_lost, packet_put, packet_taken, part_put, picture, restarted, worked};
+
+use crate::marks::{Content, Kind, Saying, Sent, Stage, Task};
+use crate::picture::{Picture, from_side};
+use crate::task::{asked_from, asked_in};
+use lpt_events::{Answer, Applied, Direction, Entry, Event, Lane, Name, Puts, Side};
+use std::alloc::{AllocError, Global};
+
+/// What is drawn of a journal.
+#[tactic(auto, using(crate::proofs::PictureLemmas::entry_step))]
+pub(crate) fn draw_journal(alloc: Global, journal: &[Entry]) -> Result<Picture, AllocError>
+    ensures { IfOk result (λ p. p ≡ picture journal.now) }
+{
+    let mut drawn = Picture::new(alloc);
+    for (place, entry) in journal.iter().enumerate() {
+        drawn.add(place as u64, entry)?;
+    }
+    drawn.close()?;
+    Ok(drawn)
+}
+
+impl Picture {
+    // Draws the entry of this place.
+    fn add(&mut self, place: u64, entry: &Entry) -> Result<(), AllocError>
+        ensures { OnOk result (self.new ≡ after self.old place entry.now) }
+    {
+        self.turn_to(place);
+        self.draw(&entry.event, entry.reply.answer)?;
+        self.report(own_puts(&entry.event, entry.reply.puts))
+    }
+
+    // Draws an event by its answer.
+    fn draw(&mut self, event: &Event, answer: Answer) -> Result<(), AllocError>
+        ensures { OnOk result (self.new ≡ drawn self.old event.now answer) }
+    {
+        match (event, answer) {
+            (Event::Open(direction, id, message), Answer::Opened(parts)) => {
+                self.draw_opening(*direction, *id, message.as_slice(), parts)
+            }
+            (Event::Send(direction, id, part), Answer::Put(number)) => {
+                self.put_part(*direction, *id, *part, number)
+            }
+            (Event::Plain(_, service, subtype, body), Answer::Put(number)) => {
+                let task = asked_from(*service, *subtype, body.as_slice(), 0);
+                let content = Content::Request(*service, *subtype);
+                self.put_packet(Direction::Up, number, content, Some(task))
+            }
+            (Event::Finish(direction, id), Answer::Finished) => self.finish(*direction, *id),
+            (Event::Lose(number), Answer::Lost) => self.lose_packet(*number),
+            (Event::Damage(direction, octets), Answer::Put(number)) => {
+                let noise = Content::Noise(octets.as_slice().len() as u64);
+                self.put_packet(*direction, number, noise, None)
+            }
+            (Event::Take(lane, number), Answer::Took(_)) => self.take_packet(*lane, *number),
+            (Event::Deliver(lane), Answer::Delivered(outcome)) => self.deliver(*lane, outcome),
+            (Event::Tick(side), Answer::Clock(clock)) => self.tick(*side, clock),
+            (Event::Expire(_), Answer::Expired(direction, id)) => self.expire(direction, id),
+            (Event::Claim(worker), Answer::Claimed(boot, job)) => {
+                self.work(Saying::Claimed(*worker, boot, job), job, Stage::Claimed)
+            }
+            (Event::Commit(worker), Answer::Committed(boot, job)) => {
+                self.work(Saying::Committed(*worker, boot, job), job, Stage::Committed)
+            }
+            (Event::Commit(worker), Answer::Stale(boot, job)) => {
+                self.say(Saying::Stale(*worker, boot, job))
+            }
+            (Event::Apply, Answer::Applied(applied)) => self.execute(applied),
+            (Event::Retire(direction, id), Answer::Retired) => {
+                self.say(Saying::Retired(*direction, *id))
+            }
+            (Event::Restart(side), Answer::Restarted(boot)) => self.restart(*side, boot),
+            // Each event by its name, so that a new one is missed here.
+            (
+                Event::Open(_, _, _)
+                | Event::Send(_, _, _)
+                | Event::Plain(_, _, _, _)
+                | Event::Lose(_)
+                | Event::Damage(_, _)
+                | Event::Take(_, _)
+                | Event::Deliver(_)
+                | Event::Finish(_, _)
+                | Event::Tick(_)
+                | Event::Expire(_)
+                | Event::Claim(_)
+                | Event::Commit(_)
+                | Event::Apply
+                | Event::Retire(_, _)
+                | Event::Restart(_),
+                _,
+            ) => Ok(()),
+        }
+    }
+
+    // A message is opened.
+    fn draw_opening(
+        &mut self,
+        direction: Direction,
+        id: Name,
+        message: &[u8],
+        parts: u16,
+    ) -> Result<(), AllocError>
+        ensures { OnOk result (self.new ≡ message_opened self.old direction id message.now parts) }
+    {
+        self.say(Saying::Opened(direction, id, message.len() as u64, parts))?;
+        let stage = Some(Stage::Sending(parts, asked_in(direction, message)));
+        self.track(from_side(direction), Kind::Sender, u64::from(id), stage)
+    }
+
+    // A part is put.
+    fn put_part(
+        &mut self,
+        direction: Direction,
+        id: Name,
+        part: u16,
+        number: u64,
+    ) -> Result<(), AllocError>
+        ensures { OnOk result (self.new ≡ part_put self.old direction id part number) }
+    {
+        let content = Content::Part(id, part, self.parts_of(direction, id));
+        self.put_packet(direction, number, content, self.task_of(direction, id))
+    }
+
+    // A packet is put.
+    fn put_packet(
+        &mut self,
+        direction: Direction,
+        number: u64,
+        content: Content,
+        task: Option<Task>,
+    ) -> Result<(), AllocError>
+        ensures { OnOk result (self.new ≡ packet_put self.old direction number content task) }
+    {
+        self.say(Saying::Put(direction, number, content))?;
+        self.put(direction, content, task)
+    }
+
+    // A sender is closed.
+    fn finish(&mut self, direction: Direction, id: Name) -> Result<(), AllocError>
+        ensures { OnOk result (self.new ≡ finished self.old direction id) }
+    {
+        self.say(Saying::Finished(direction, id))?;
+        self.track(from_side(direction), Kind::Sender, u64::from(id), None)
+    }
+
+    // A packet is lost.
+    fn lose_packet(&mut self, number: u64) -> Result<(), AllocError>
+        ensures { OnOk result (self.new ≡ packet_lost self.old number) }
+    {
+        let direction = direction_of(self.packet(number));
+        self.say(Saying::Lost(direction, number))?;
+        self.lose(number)
+    }
+
+    // A lane takes a packet.
+    fn take_packet(&mut self, lane: Lane, number: u64) -> Result<(), AllocError>
+        ensures { OnOk result (self.new ≡ packet_taken self.old lane number) }
+    {
+        self.say(Saying::Taken(lane, number))?;
+        self.take(lane, number);
+        Ok(())
+    }
+
+    // A reception has expired.
+    fn expire(&mut self, direction: Direction, id: Name) -> Result<(), AllocError>
+        ensures { OnOk result (self.new ≡ expired self.old direction id) }
+    {
+        let kept = self.kept_of(direction, id);
+        let parts = self.parts_awaited(direction, id);
+        self.say(Saying::Expired(direction, id, kept, parts))?;
+        self.receive(direction, id, None)
+    }
+
+    // A job comes to a stage.
+    fn work(&mut self, saying: Saying, job: u64, stage: Stage) -> Result<(), AllocError>
+        ensures { OnOk result (self.new ≡ worked self.old saying job stage) }
+    {
+        self.say(saying)?;
+        self.track(Side::Craft, Kind::Job, job, Some(stage))
+    }
+
+    // A job is executed.
+    fn execute(&mut self, applied: Applied) -> Result<(), AllocError>
+        ensures { OnOk result (self.new ≡ executed self.old applied) }
+    {
+        let (boot, job) = (self.boot(), self.applied());
+        self.say(Saying::Applied(boot, job, self.task_next(), applied))?;
+        self.apply()?;
+        match applied {
+            Applied::Done(Some(id)) => {
+                let stage = Some(Stage::Sending(0, None));
+                self.track(Side::Craft, Kind::Sender, u64::from(id), stage)
+            }
+            Applied::Done(None) | Applied::Silent | Applied::Code(_) => Ok(()),
+        }
+    }
+
+    // A node is started anew.
+    fn restart(&mut self, side: Side, boot: u64) -> Result<(), AllocError>
+        ensures { OnOk result (self.new ≡ restarted self.old side boot) }
+    {
+        self.say(Saying::Restarted(side, boot))?;
+        self.clear(side)?;
+        match side {
+            Side::Ground => Ok(()),
+            Side::Craft => {
+                self.begin_boot(boot);
+                Ok(())
+            }
+        }
+    }
+}
+
+// How many packets of its own an event puts.
+fn own_puts(event: &Event, puts: Option<Puts>) -> u64
+    ensures { result ≡ own_puts event.now puts }
+{
+    let count = match puts {
+        Some(puts) => puts.count,
+        None => 0,
+    };
+    match event {
+        Event::Deliver(_) | Event::Expire(_) | Event::Apply => count,
+        Event::Open(_, _, _) | Event::Send(_, _, _) | Event::Plain(_, _, _, _) => 0,
+        Event::Lose(_) | Event::Damage(_, _) | Event::Take(_, _) | Event::Finish(_, _) => 0,
+        Event::Tick(_) | Event::Claim(_) | Event::Commit(_) => 0,
+        Event::Retire(_, _) | Event::Restart(_) => 0,
+    }
+}
+
+// The direction of a packet; up where there is no such packet.
+fn direction_of(sent: Option<Sent>) -> Direction
+    ensures { result ≡ direction_of sent }
+{
+    match sent {
+        Some(sent) => sent.direction,
+        None => Direction::Up,
+    }
+}

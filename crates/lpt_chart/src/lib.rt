@@ -1,0 +1,41 @@
+//! A run as a picture: what is drawn of a journal, and that as one SVG.
+#![tactic(auto)]
+
+mod arriving;
+mod bar;
+mod choice;
+mod drawing;
+mod flight;
+mod frame;
+mod hands;
+mod head;
+mod job_words;
+mod last_row;
+pub mod laws;
+mod legend;
+mod mark;
+mod marks;
+mod packet_words;
+mod picture;
+mod pieces;
+mod readers;
+mod row;
+mod saying;
+mod shape;
+mod style;
+mod svg;
+mod task;
+mod telling;
+mod title;
+mod tracks;
+mod words;
+
+pub use choice::Choice;
+pub use frame::Frame;
+pub use marks::{
+    Bar, Content, Flight, Hands, Held, Kind, Loss, Row, Saying, Sent, Stage, Task, Track,
+};
+pub use picture::Picture;
+pub use shape::Shape;
+pub use style::{Letters, Style, Weight};
+pub use svg::chart;

@@ -1,0 +1,187 @@
+//! How shapes and letters look, as attributes of elements.
+
+ghost use Rattle.std.specs.Prelude.{◌≡◌};
+ghost use Rattle.lpt_chart.specs.Shapes.{letters_text, style_text};
+
+use lpt_events::Direction;
+
+/// How a shape looks.
+#[derive(Clone, Copy)]
+pub enum Style {
+    /// The ground of all.
+    Paper,
+    /// A dark row's ground.
+    Ground,
+    /// Black, filled.
+    Ink,
+    /// A black edge.
+    InkEdge,
+    /// A node's line of life.
+    Life,
+    /// A hair line.
+    Hair,
+    /// A lane.
+    Lane,
+    /// From end to end, where a transaction is freed.
+    Retiring,
+    /// A packet's way.
+    Way(Direction),
+    /// The way of a packet that was taken before.
+    WayAgain(Direction),
+    /// The way of what the link's noise left.
+    WayNoise(Direction),
+    /// A packet in a lane's hand.
+    InHand(Direction),
+    /// The way of a packet that was lost after a lane had taken it.
+    Late,
+    /// A cross.
+    Cross,
+    /// Filled.
+    Filled(Direction),
+    /// An edge.
+    Hollow(Direction),
+    /// A dashed edge.
+    Dashed(Direction),
+    /// A thick edge.
+    Ring(Direction),
+    /// A thick dashed edge.
+    Noise(Direction),
+    /// Filled lightly.
+    Light(Direction),
+    /// A job that waits.
+    JobWaits,
+    /// A job that a worker has.
+    JobHollow,
+    /// A job whose reading was handed in.
+    JobFilled,
+}
+
+/// How words are told.
+#[derive(Clone, Copy)]
+pub enum Weight {
+    /// Grey.
+    Quiet,
+    /// Black.
+    Plain,
+    /// Bold.
+    Strong,
+}
+
+/// How letters look, and on which side of their point they stand.
+#[derive(Clone, Copy)]
+pub enum Letters {
+    /// The title.
+    Title,
+    /// Grey, right of the point.
+    Grey,
+    /// Grey and small, left of the point.
+    Place,
+    /// Grey and small, round the point.
+    Small,
+    /// Left of the point.
+    Left,
+    /// Left of the point, grey.
+    LeftQuiet,
+    /// Left of the point, bold.
+    LeftStrong,
+    /// Right of the point.
+    Right,
+    /// Right of the point, grey.
+    RightQuiet,
+    /// Right of the point, bold.
+    RightStrong,
+    /// White on black, bold, round the point.
+    Node,
+    /// Small, in the direction's colour, round the point.
+    Bead(Direction),
+    /// Small, white, round the point.
+    BeadWhite,
+    /// Those of the legend, right of the point.
+    Key,
+}
+
+// The attributes of a style.
+#[tactic(auto, unfolding(crate::specs::Shapes::style_text))]
+pub(crate) fn style_word(style: Style) -> &'static str
+    ensures { result.now ≡ style_text style }
+{
+    match style {
+        Style::Paper => "fill='#ffffff'",
+        Style::Ground => "fill='#f6f6f6'",
+        Style::Ink => "fill='#1a1a1a'",
+        Style::InkEdge => "fill='#ffffff' stroke='#1a1a1a' stroke-width='2'",
+        Style::Life => "stroke='#1a1a1a' stroke-width='2'",
+        Style::Hair => "stroke='#cccccc'",
+        Style::Lane => "stroke='#cccccc' stroke-dasharray='1 4'",
+        Style::Retiring => "stroke='#1a1a1a' stroke-dasharray='2 6'",
+        Style::Way(Direction::Up) => "stroke='#0b5fa5' stroke-width='2'",
+        Style::Way(Direction::Down) => "stroke='#a84300' stroke-width='2'",
+        Style::WayAgain(Direction::Up) => {
+            "stroke='#0b5fa5' stroke-width='2' stroke-dasharray='6 4'"
+        }
+        Style::WayAgain(Direction::Down) => {
+            "stroke='#a84300' stroke-width='2' stroke-dasharray='6 4'"
+        }
+        Style::WayNoise(Direction::Up) => {
+            "stroke='#0b5fa5' stroke-width='2' stroke-dasharray='2 3'"
+        }
+        Style::WayNoise(Direction::Down) => {
+            "stroke='#a84300' stroke-width='2' stroke-dasharray='2 3'"
+        }
+        Style::InHand(Direction::Up) => {
+            "stroke='#0b5fa5' stroke-width='5' stroke-linecap='round'"
+        }
+        Style::InHand(Direction::Down) => {
+            "stroke='#a84300' stroke-width='5' stroke-linecap='round'"
+        }
+        Style::Late => "stroke='#6b6b6b' stroke-width='2' stroke-dasharray='1 3'",
+        Style::Cross => "stroke='#1a1a1a' stroke-width='3'",
+        Style::Filled(Direction::Up) => "fill='#0b5fa5' stroke='#0b5fa5'",
+        Style::Filled(Direction::Down) => "fill='#a84300' stroke='#a84300'",
+        Style::Hollow(Direction::Up) => "fill='#ffffff' stroke='#0b5fa5'",
+        Style::Hollow(Direction::Down) => "fill='#ffffff' stroke='#a84300'",
+        Style::Dashed(Direction::Up) => { "fill='#ffffff' stroke='#0b5fa5' stroke-dasharray='2 2'" }
+        Style::Dashed(Direction::Down) => {
+            "fill='#ffffff' stroke='#a84300' stroke-dasharray='2 2'"
+        }
+        Style::Ring(Direction::Up) => "fill='#ffffff' stroke='#0b5fa5' stroke-width='2'",
+        Style::Ring(Direction::Down) => "fill='#ffffff' stroke='#a84300' stroke-width='2'",
+        Style::Noise(Direction::Up) => {
+            "fill='#ffffff' stroke='#0b5fa5' stroke-width='2' stroke-dasharray='2 2'"
+        }
+        Style::Noise(Direction::Down) => {
+            "fill='#ffffff' stroke='#a84300' stroke-width='2' stroke-dasharray='2 2'"
+        }
+        Style::Light(Direction::Up) => "fill='#8fbfe6'",
+        Style::Light(Direction::Down) => "fill='#f0b184'",
+        Style::JobWaits => "fill='#ffffff' stroke='#5b3a8e' stroke-dasharray='1 3'",
+        Style::JobHollow => "fill='#ffffff' stroke='#5b3a8e'",
+        Style::JobFilled => "fill='#5b3a8e' stroke='#5b3a8e'",
+    }
+}
+
+// The attributes of letters.
+#[tactic(auto, unfolding(crate::specs::Shapes::letters_text))]
+pub(crate) fn letters_word(letters: Letters) -> &'static str
+    ensures { result.now ≡ letters_text letters }
+{
+    match letters {
+        Letters::Title => {
+            "font-family='DejaVu Sans, Helvetica, Arial, sans-serif' font-size='17' font-weight='bold'"
+        }
+        Letters::Grey => "fill='#555555'",
+        Letters::Place => "fill='#6b6b6b' font-size='10' text-anchor='end'",
+        Letters::Small => "fill='#555555' font-size='10' text-anchor='middle'",
+        Letters::Left => "text-anchor='end'",
+        Letters::LeftQuiet => "fill='#555555' text-anchor='end'",
+        Letters::LeftStrong => "font-weight='bold' text-anchor='end'",
+        Letters::Right => "text-anchor='start'",
+        Letters::RightQuiet => "fill='#555555' text-anchor='start'",
+        Letters::RightStrong => "font-weight='bold' text-anchor='start'",
+        Letters::Node => "fill='#ffffff' font-weight='bold' text-anchor='middle'",
+        Letters::Bead(Direction::Up) => "fill='#0b5fa5' font-size='10' text-anchor='middle'",
+        Letters::Bead(Direction::Down) => { "fill='#a84300' font-size='10' text-anchor='middle'" }
+        Letters::Key => "font-size='11' text-anchor='start'",
+        Letters::BeadWhite => "fill='#ffffff' font-size='10' text-anchor='middle'",
+    }
+}

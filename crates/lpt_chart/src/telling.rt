@@ -1,0 +1,108 @@
+//! How the words of a row are told: where, and in which letters.
+
+ghost use Rattle.std.specs.Prelude.{◌≡◌};
+ghost use Rattle.lpt_chart.specs.Sayings.{saying_side};
+ghost use Rattle.lpt_chart.specs.Tellings.{has_place, is_told, outcome_weight, side_letters, weight_of};
+
+use crate::marks::{Content, Saying};
+use crate::picture::{from_side, to_side};
+use crate::style::{Letters, Weight};
+use lpt_events::{Outcome, Side};
+
+// The node at whose side the words stand.
+#[tactic(auto, unfolding(crate::specs::Sayings::saying_side))]
+pub(crate) fn saying_side(saying: Saying) -> Side
+    ensures { result ≡ saying_side saying }
+{
+    match saying {
+        Saying::Opened(direction, _, _, _)
+        | Saying::Put(direction, _, _)
+        | Saying::Finished(direction, _)
+        | Saying::Lost(direction, _)
+        | Saying::Retired(direction, _) => from_side(direction),
+        Saying::Taken(lane, _) | Saying::Passed(lane, _) | Saying::Delivered(lane, _, _, _) => {
+            to_side(lane.direction())
+        }
+        Saying::Expired(direction, _, _, _) => to_side(direction),
+        Saying::Ticked(side, _, _) | Saying::Restarted(side, _) => side,
+        Saying::Claimed(_, _, _)
+        | Saying::Committed(_, _, _)
+        | Saying::Stale(_, _, _)
+        | Saying::Applied(_, _, _, _) => Side::Craft,
+    }
+}
+
+// How an outcome is told: what is released or broken off is bold, what changed nothing grey.
+fn outcome_weight(outcome: Outcome) -> Weight
+    ensures { result ≡ outcome_weight outcome }
+{
+    match outcome {
+        Outcome::Released(_, _) | Outcome::PlainReleased(_) | Outcome::Broken(_, _) => {
+            Weight::Strong
+        }
+        Outcome::Kept(_, _) | Outcome::ReportNoted(_, _) | Outcome::AbortNoted(_, _) => {
+            Weight::Plain
+        }
+        Outcome::Again(_, _) | Outcome::Ignored(_) => Weight::Quiet,
+    }
+}
+
+// How a row's words are told.
+#[tactic(auto, unfolding(crate::specs::Tellings::weight_of))]
+pub(crate) fn weight(saying: Saying) -> Weight
+    ensures { result ≡ weight_of saying }
+{
+    match saying {
+        Saying::Delivered(_, outcome, _, _) => outcome_weight(outcome),
+        Saying::Expired(_, _, _, _) | Saying::Applied(_, _, _, _) | Saying::Restarted(_, _) => {
+            Weight::Strong
+        }
+        Saying::Put(_, _, _)
+        | Saying::Taken(_, _)
+        | Saying::Passed(_, _)
+        | Saying::Ticked(_, _, _) => Weight::Quiet,
+        Saying::Opened(_, _, _, _)
+        | Saying::Finished(_, _)
+        | Saying::Lost(_, _)
+        | Saying::Claimed(_, _, _)
+        | Saying::Committed(_, _, _)
+        | Saying::Stale(_, _, _)
+        | Saying::Retired(_, _) => Weight::Plain,
+    }
+}
+
+// The letters of words at a node's side.
+#[tactic(auto, unfolding(crate::specs::Tellings::side_letters))]
+pub(crate) fn side_letters(side: Side, weight: Weight) -> Letters
+    ensures { result ≡ side_letters side weight }
+{
+    match (side, weight) {
+        (Side::Ground, Weight::Quiet) => Letters::LeftQuiet,
+        (Side::Ground, Weight::Plain) => Letters::Left,
+        (Side::Ground, Weight::Strong) => Letters::LeftStrong,
+        (Side::Craft, Weight::Quiet) => Letters::RightQuiet,
+        (Side::Craft, Weight::Plain) => Letters::Right,
+        (Side::Craft, Weight::Strong) => Letters::RightStrong,
+    }
+}
+
+// Whether a row has words. A take that is delivered right after has none.
+pub(crate) fn is_told(saying: Saying) -> bool
+    ensures { result ≡ is_told saying }
+{
+    match saying {
+        Saying::Passed(_, _) => false,
+        _ => true,
+    }
+}
+
+// Whether a row shows its place. A packet that the spacecraft puts of its own goes on with its
+// event.
+pub(crate) fn has_place(saying: Saying) -> bool
+    ensures { result ≡ has_place saying }
+{
+    match saying {
+        Saying::Put(_, _, Content::Report) => false,
+        _ => true,
+    }
+}

@@ -1,0 +1,60 @@
+//! The lines of a title.
+
+ghost use Rattle.std.specs.Prelude.{◌≡◌, ◌≤◌, ◌==◌, length, position};
+ghost use Rattle.lpt_chart.specs.Choices.{line_end, title_end, title_front, title_rest, title_room};
+
+// The first space behind the 46th letter, counted from there.
+fn space_behind(tail: &[u8]) -> Option<usize>
+    ensures { result ≡ position (λ b. b == 32) tail.now }
+{
+    tail.iter().position(|octet| *octet == 32)
+}
+
+// Where a line ends: at a space between the 46th and the 60th letter, or there.
+fn line_end(text: &[u8]) -> usize
+    ensures value { result ≡ line_end text.now }
+    ensures within { result ≤ length text.now }
+{
+    if text.len() <= 60 {
+        return text.len();
+    }
+    match space_behind(text.split_at(46).1) {
+        Some(at) => at.min(14) + 46,
+        None => 60,
+    }
+}
+
+/// The first line of a text.
+pub(crate) fn title_front(text: &[u8]) -> &[u8]
+    ensures { result.now ≡ title_front text.now }
+{
+    text.split_at(line_end(text)).0
+}
+
+/// What follows the first line.
+pub(crate) fn title_rest(text: &[u8]) -> &[u8]
+    ensures { result.now ≡ title_rest text.now }
+{
+    text.split_at(line_end(text)).1
+}
+
+/// What follows two lines.
+pub(crate) fn title_end(text: &[u8]) -> &[u8]
+    ensures { result.now ≡ title_end text.now }
+{
+    title_rest(title_rest(text))
+}
+
+/// The room for the lines behind the first.
+pub(crate) fn title_room(text: &[u8]) -> u32
+    ensures value { result ≡ title_room text.now }
+    ensures small { result ≤ 48 }
+{
+    if text.len() <= 60 {
+        0
+    } else if title_rest(text).len() <= 60 {
+        24
+    } else {
+        48
+    }
+}

@@ -1,0 +1,208 @@
+//! What is open at a node, each in a column of its own.
+
+ghost use Rattle.std.specs.Prelude.{◌≡◌, ◌<◌, length, slice_get, IfSome, OnOk};
+ghost use Rattle.lpt_chart.specs.Tracks.{bar_of, bar_up_to, begun, column_of, free_column, has_track, kept_in, kept_of, moved, parts_in, parts_of, same_kind, task_in, task_of, track_at, track_of};
+
+use crate::marks::{Bar, Kind, Stage, Task, Track};
+use lpt_events::Side;
+use std::alloc::AllocError;
+
+/// The most columns that are drawn.
+const COLUMNS: usize = 64;
+
+// Whether two kinds are the same.
+fn is_kind(one: Kind, other: Kind) -> bool
+    ensures { result ≡ same_kind one other }
+{
+    match (one, other) {
+        (Kind::Sender, Kind::Sender) => true,
+        (Kind::Reception, Kind::Reception) => true,
+        (Kind::Job, Kind::Job) => true,
+        (Kind::Sender | Kind::Reception | Kind::Job, _) => false,
+    }
+}
+
+// Whether a column has the track of this kind and number.
+fn is_track(column: Option<Track>, kind: Kind, number: u64) -> bool
+    ensures { result ≡ has_track kind number column }
+{
+    match column {
+        Some(track) => is_kind(track.kind, kind) && track.number == number,
+        None => false,
+    }
+}
+
+// The column of the track of this kind and number.
+fn column(columns: &[Option<Track>], kind: Kind, number: u64) -> Option<usize>
+    ensures at { result ≡ column_of columns.now kind number }
+    ensures bound { IfSome result (λ i. i < length columns.now) }
+{
+    columns.iter().position(|it| is_track(*it, kind, number))
+}
+
+// The first column that is free.
+fn first_free(columns: &[Option<Track>]) -> Option<usize>
+    ensures at { result ≡ free_column columns.now }
+    ensures bound { IfSome result (λ i. i < length columns.now) }
+{
+    columns.iter().position(|it| it.is_none())
+}
+
+// Begins a track in the first column that is free. Of more than 64 none is drawn.
+fn begin(columns: &mut Vec<Option<Track>>, track: Track) -> Result<(), AllocError>
+    ensures { OnOk result (columns.new.items ≡ begun columns.old.items (free_column columns.old.items) track) }
+{
+    match first_free(columns) {
+        Some(at) => columns[at] = Some(track),
+        None => {
+            if columns.len() < COLUMNS {
+                columns.push(Some(track))?;
+            }
+        }
+    }
+    Ok(())
+}
+
+// The track that a column has.
+fn track_at(columns: &[Option<Track>], at: usize) -> Option<Track>
+    ensures { result ≡ track_at (slice_get columns.now at) }
+{
+    match columns.get(at) {
+        Some(track) => *track,
+        None => None,
+    }
+}
+
+// The piece of a column's track up to here, where it has one.
+pub(crate) fn piece_up_to(side: Side, here: u32, column: u64, track: Option<Track>) -> Option<Bar>
+    ensures { result ≡ bar_up_to side here column track }
+{
+    match track {
+        Some(track) => Some(Bar {
+            side,
+            column,
+            track,
+            to: here,
+        }),
+        None => None,
+    }
+}
+
+// The piece of a track up to here, where there is such a track.
+pub(crate) fn piece(
+    columns: &[Option<Track>],
+    side: Side,
+    here: u32,
+    kind: Kind,
+    number: u64,
+) -> Option<Bar>
+    ensures { result ≡ bar_of side here columns.now kind number }
+{
+    match column(columns, kind, number) {
+        Some(at) => piece_up_to(side, here, at as u64, track_at(columns, at)),
+        None => None,
+    }
+}
+
+// Brings a track to a stage, or to its end.
+pub(crate) fn bring(
+    columns: &mut Vec<Option<Track>>,
+    here: u32,
+    kind: Kind,
+    number: u64,
+    stage: Option<Stage>,
+) -> Result<(), AllocError>
+    ensures { OnOk result (columns.new.items ≡ moved here columns.old.items kind number stage) }
+{
+    let track = match stage {
+        Some(stage) => Some(Track {
+            kind,
+            number,
+            from: here,
+            stage,
+        }),
+        None => None,
+    };
+    match (column(columns, kind, number), track) {
+        (Some(at), track) => {
+            columns[at] = track;
+            Ok(())
+        }
+        (None, None) => Ok(()),
+        (None, Some(track)) => begin(columns, track),
+    }
+}
+
+// The track of this kind and number.
+#[tactic(auto, unfolding(crate::specs::Tracks::track_of))]
+fn found(columns: &[Option<Track>], kind: Kind, number: u64) -> Option<Track>
+    ensures { result ≡ track_of columns.now kind number }
+{
+    match column(columns, kind, number) {
+        Some(at) => track_at(columns, at),
+        None => None,
+    }
+}
+
+// How many parts were kept at a stage.
+fn kept_by(stage: Stage) -> u16
+    ensures { result ≡ kept_in stage }
+{
+    match stage {
+        Stage::Kept(kept, _) => kept,
+        Stage::Sending(_, _) | Stage::Waits | Stage::Claimed | Stage::Committed => 0,
+    }
+}
+
+// How many parts the track of this kind and number has kept.
+#[tactic(auto, unfolding(crate::specs::Tracks::kept_of))]
+pub(crate) fn kept(columns: &[Option<Track>], kind: Kind, number: u64) -> u16
+    ensures { result ≡ kept_of columns.now kind number }
+{
+    match found(columns, kind, number) {
+        Some(track) => kept_by(track.stage),
+        None => 0,
+    }
+}
+
+// Of how many parts the message is at a stage.
+fn parts_by(stage: Stage) -> u16
+    ensures { result ≡ parts_in stage }
+{
+    match stage {
+        Stage::Kept(_, parts) | Stage::Sending(parts, _) => parts,
+        Stage::Waits | Stage::Claimed | Stage::Committed => 0,
+    }
+}
+
+// Of how many parts the message of the track of this kind and number is; 0 where that isn't known.
+#[tactic(auto, unfolding(crate::specs::Tracks::parts_of))]
+pub(crate) fn parts(columns: &[Option<Track>], kind: Kind, number: u64) -> u16
+    ensures { result ≡ parts_of columns.now kind number }
+{
+    match found(columns, kind, number) {
+        Some(track) => parts_by(track.stage),
+        None => 0,
+    }
+}
+
+// What the message of a sender asks for.
+fn task_by(stage: Stage) -> Option<Task>
+    ensures { result ≡ task_in stage }
+{
+    match stage {
+        Stage::Sending(_, task) => task,
+        Stage::Kept(_, _) | Stage::Waits | Stage::Claimed | Stage::Committed => None,
+    }
+}
+
+// What the message of the track of this kind and number asks for.
+#[tactic(auto, unfolding(crate::specs::Tracks::task_of))]
+pub(crate) fn task(columns: &[Option<Track>], kind: Kind, number: u64) -> Option<Task>
+    ensures { result ≡ task_of columns.now kind number }
+{
+    match found(columns, kind, number) {
+        Some(track) => task_by(track.stage),
+        None => None,
+    }
+}

@@ -1,0 +1,5 @@
+pub mod Joins
+pub mod Lists
+pub mod MissingLists
+pub mod Splits
+pub use Rattle.lpt_join.specs.LptEvents as LptEvents

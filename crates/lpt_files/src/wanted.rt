@@ -1,0 +1,21 @@
+//! Which packets of a message are wanted.
+
+ghost use Rattle.std.specs.Prelude.{◌≤◌};
+
+use lpt_join::{Direction, Name};
+
+/// Which packets of a message are wanted.
+#[derive(Clone, Copy, Debug)]
+pub struct Wanted<'a> {
+    /// The direction in which the message goes.
+    pub direction: Direction,
+    /// Its identifier.
+    pub id: Name,
+    /// A list of its parts: `1-` for all of them.
+    pub parts: &'a [u8],
+    /// The sequence count of the first packet, 0 to 16,383.
+    pub first: u16,
+    /// Whether a message that has no more octets than a part goes as it is.
+    pub whole: bool,
+    ghost counts: { first ≤ 16383 },
+}
