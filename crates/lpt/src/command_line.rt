@@ -1,11 +1,16 @@
 //! The words of the command line.
 
-use clap::error::ErrorKind;
+use crate::file_words::{
+    JoinWords, SplitWords, join_command, join_words, split_command, split_words,
+};
+use crate::request_words::{RequestWords, request_command, request_words};
+use crate::word_fault::WordFault;
 use clap::{Arg, ArgAction, ArgMatches, Error};
+use lpt_chart::Choice;
 use std::alloc::{AllocError, Global};
 
 /// What the words ask for.
-#[derive(Clone, Copy, Debug, PartialEq, Eq)]
+#[derive(Debug, Drop)]
 pub struct Asked<'a> {
     /// What is to be done.
     pub command: Command<'a>,
@@ -14,46 +19,110 @@ pub struct Asked<'a> {
 }
 
 /// A command of the program.
-#[derive(Clone, Copy, Debug, PartialEq, Eq)]
+#[derive(Debug, Drop)]
 pub enum Command<'a> {
     /// `run SCRIPT`: the script's path, or `-` for standard input.
     Run(&'a str),
     /// `threads SCRIPT`: the script's path, or `-` for standard input.
     Threads(&'a str),
+    /// `chart SCRIPT`: the script's path, or `-` for standard input, and which rows are drawn.
+    Chart(&'a str, Choice),
     /// `decode HEX`: octets as hexadecimal digits.
     Decode(&'a str),
+    /// `split up|down ID [FILE]`.
+    Split(SplitWords<'a>),
+    /// `join up|down [FILE]`.
+    Join(JoinWords<'a>),
+    /// `request load|dump|check MEMORY ..`.
+    Request(RequestWords<'a>),
+}
+
+/// Why the words ask for nothing that is to be done.
+#[derive(Drop)]
+pub enum Unasked<'a> {
+    /// They are a mistake, or ask for the help or the version: what is to be printed.
+    Said(Error),
+    /// What is wrong with them.
+    Fault(WordFault<'a>),
+}
+
+impl From<AllocError> for Unasked<'_> {
+    fn from(_: AllocError) -> Self {
+        Unasked::Fault(WordFault::Memory)
+    }
 }
 
 /// Reads the words of the command line, the program's name first.
 ///
-/// Errors: what is to be printed where the words are a mistake, or ask for the help or the version;
-/// and want of memory.
-pub fn read_words<'a>(alloc: Global, words: &'a [String]) -> Result<Asked<'a>, Error> {
+/// Errors: why they ask for nothing that is to be done, and want of memory.
+pub fn read_words<'a>(alloc: Global, words: &'a [String]) -> Result<Asked<'a>, Unasked<'a>> {
     let mut program = program(alloc)?;
-    let asked = ask(&mut program, words);
+    let asked = ask(alloc, &mut program, words);
     drop(program);
     asked
 }
 
 // Reads the words as this program's.
-fn ask<'a>(program: &mut clap::Command<'a>, words: &'a [String]) -> Result<Asked<'a>, Error> {
-    let matches = program.try_get_matches_from_mut(words)?;
-    match meant(&matches) {
-        Some(asked) => Ok(asked),
-        None => Err(program.error(ErrorKind::MissingRequiredArgument, "a word is missing")?),
+fn ask<'a>(
+    alloc: Global,
+    program: &mut clap::Command<'a>,
+    words: &'a [String],
+) -> Result<Asked<'a>, Unasked<'a>> {
+    let matches = match program.try_get_matches_from_mut(words) {
+        Ok(matches) => matches,
+        Err(error) => return Err(Unasked::Said(error)),
+    };
+    match meant(alloc, &matches) {
+        Ok(asked) => Ok(asked),
+        Err(fault) => Err(Unasked::Fault(fault)),
     }
 }
 
-// What the words that were read ask for, where none that is required is missing.
-fn meant<'a>(matches: &ArgMatches<'a>) -> Option<Asked<'a>> {
-    let (name, inner) = matches.subcommand()?;
-    let command = match name {
-        "run" => Command::Run(inner.get_str("SCRIPT")?),
-        "threads" => Command::Threads(inner.get_str("SCRIPT")?),
-        _ => Command::Decode(inner.get_str("HEX")?),
+// What the words that were read ask for.
+fn meant<'a>(alloc: Global, matches: &ArgMatches<'a>) -> Result<Asked<'a>, WordFault<'a>> {
+    let Some((name, inner)) = matches.subcommand() else {
+        return Err(WordFault::Missing);
     };
-    let config = inner.get_str("config");
-    Some(Asked { command, config })
+    let command = match name {
+        "request" => Some(Command::Request(request_words(alloc, inner)?)),
+        _ => command_of(name, inner),
+    };
+    let Some(command) = command else {
+        return Err(WordFault::Missing);
+    };
+    let config = configuration_in(name, inner);
+    Ok(Asked { command, config })
+}
+
+// What the words of a command of this name ask for, where none that is required is missing.
+fn command_of<'a>(name: &str, inner: &ArgMatches<'a>) -> Option<Command<'a>> {
+    match name {
+        "run" => inner.get_str("SCRIPT").map(Command::Run),
+        "threads" => inner.get_str("SCRIPT").map(Command::Threads),
+        "chart" => match inner.get_str("SCRIPT") {
+            Some(script) => Some(Command::Chart(script, chosen(inner))),
+            None => None,
+        },
+        "split" => split_words(inner).map(Command::Split),
+        "join" => join_words(inner).map(Command::Join),
+        _ => inner.get_str("HEX").map(Command::Decode),
+    }
+}
+
+// The path of the configuration, where one is given.
+fn configuration_in<'a>(name: &str, matches: &ArgMatches<'a>) -> Option<&'a str> {
+    match (name, matches.subcommand()) {
+        ("request", Some((_, inner))) => inner.get_str("config"),
+        _ => matches.get_str("config"),
+    }
+}
+
+// Which rows are to be drawn.
+fn chosen(matches: &ArgMatches<'_>) -> Choice {
+    Choice {
+        from: matches.get_one("from"),
+        to: matches.get_one("to"),
+    }
 }
 
 /// What stands below the help of the program.
@@ -62,11 +131,15 @@ Examples:
   lpt run examples/first_path.script    run the script of that file
   lpt run - --config settings.toml      run the one on standard input, line by line
   lpt threads examples/threads.script   run it, and then ten threads
+  lpt chart examples/first_path.script  draw what happened, as an SVG
   lpt decode 07ffc000000000             say what these octets are as a packet
+  lpt request load 1 0 image            write the telecommand that loads this file
+  lpt split up 7 load                   write the packets of this message
+  lpt join up --id 7 packets            write the message that they carry
 
 Statuses:
   0  all was done
-  1  all was done; an event was refused, or the octets are no packet
+  1  an event was refused, a message isn't whole or can't be sent, or the octets are no packet
   2  the words, a line of the script, HEX or the configuration can't be read
   3  a file can't be read, the output can't be written, memory is wanting, or threads failed
 
@@ -75,52 +148,76 @@ docs/SCRIPT.md tells the script language and the configuration, docs/lpt.1 is th
 // The program and its commands, as clap reads them.
 fn program<'a>(alloc: Global) -> Result<clap::Command<'a>, AllocError> {
     let script = "The script's path, or - for standard input";
-    let program = clap::Command::new(alloc, "lpt")
+    let about = "Run a script on a new world";
+    let program = with(
+        named_program(alloc),
+        subcommand(alloc, "run", about, word(alloc, "SCRIPT", script)),
+    )?;
+    let about = "Run a script on a new world, and then ten threads";
+    let program = with(
+        program,
+        subcommand(alloc, "threads", about, word(alloc, "SCRIPT", script)),
+    )?;
+    let program = with(program, chart(alloc))?;
+    let hex = word(alloc, "HEX", "Octets as hexadecimal digits, or - for none");
+    let about = "Say what octets are as a packet";
+    let program = with(program, subcommand(alloc, "decode", about, hex))?;
+    let program = with(program, split_command(alloc))?;
+    let program = with(program, join_command(alloc))?;
+    with(program, request_command(alloc))
+}
+
+// The program without its commands.
+fn named_program<'a>(alloc: Global) -> clap::Command<'a> {
+    clap::Command::new(alloc, "lpt")
         .version("0.1.0")
         .about("Large packet transfer: two nodes and the link between them")
         .after_help(MORE)
         .propagate_version(true)
         .arg_required_else_help(true)
-        .subcommand_required(true);
-    let program = with_command(
-        alloc,
-        program,
-        "run",
-        "Run a script on a new world",
-        word(alloc, "SCRIPT", script),
-    )?;
-    let program = with_command(
-        alloc,
-        program,
-        "threads",
-        "Run a script on a new world, and then ten threads",
-        word(alloc, "SCRIPT", script),
-    )?;
-    let hex = word(alloc, "HEX", "Octets as hexadecimal digits, or - for none");
-    with_command(
-        alloc,
-        program,
-        "decode",
-        "Say what octets are as a packet",
-        hex,
-    )
+        .subcommand_required(true)
 }
 
-// The program with one command more, which takes one word, and perhaps a configuration.
-fn with_command<'a>(
-    alloc: Global,
-    program: clap::Command<'a>,
-    name: &'a str,
-    about: &'a str,
-    word: Arg<'a>,
+/// A command with one more below it.
+pub(crate) fn with<'a>(
+    above: clap::Command<'a>,
+    below: Result<clap::Command<'a>, AllocError>,
 ) -> Result<clap::Command<'a>, AllocError> {
-    match subcommand(alloc, name, about, word) {
-        Ok(command) => program.subcommand(command),
+    match below {
+        Ok(below) => above.subcommand(below),
         Err(error) => {
-            drop(program);
+            drop(above);
             Err(error)
         }
     }
+}
+
+// The command that draws.
+fn chart<'a>(alloc: Global) -> Result<clap::Command<'a>, AllocError> {
+    clap::Command::new(alloc, "chart")
+        .about("Draw a script's run as an SVG")
+        .arg(word(
+            alloc,
+            "SCRIPT",
+            "The script's path, or - for standard input",
+        ))?
+        .arg(config(alloc))?
+        .arg(place(
+            alloc,
+            "from",
+            "The first place of the journal that is drawn",
+        ))?
+        .arg(place(alloc, "to", "The last place of the journal that is drawn"))
+}
+
+// A place of the journal, which may be given.
+fn place<'a>(alloc: Global, name: &'a str, help: &'a str) -> Arg<'a> {
+    Arg::new(alloc, name)
+        .long(name)
+        .value_name("N")
+        .value_parser(clap::value_parser!(u64))
+        .action(ArgAction::Set)
+        .help(help)
 }
 
 // A command that takes one word, and perhaps a configuration.
@@ -134,8 +231,8 @@ fn subcommand<'a>(
     command.arg(config(alloc))
 }
 
-// The path of a configuration, which may be given.
-fn config<'a>(alloc: Global) -> Arg<'a> {
+/// The path of a configuration, which may be given.
+pub fn config<'a>(alloc: Global) -> Arg<'a> {
     Arg::new(alloc, "config")
         .long("config")
         .value_name("FILE")

@@ -1,7 +1,7 @@
 //! The configuration, the first memories, and their file.
 
 ghost use Rattle.std.specs.Prelude.{IfOk};
-ghost use Rattle.lpt_tool.specs.LptPart.Splitting.{IsPartSize};
+ghost use Rattle.lpt_files.specs.LptEvents.Configs.{IsConfig};
 
 use crate::end::Failure;
 use crate::watched::Watched;
@@ -21,7 +21,7 @@ const LONGEST_FILE: usize = 1_048_576;
 /// Errors: `Read` where the file can't be opened or read; `Config` where it has more than 1,048,576
 /// octets, isn't UTF-8 or is refused; `Memory`.
 pub fn read(rt: &HostRuntime, path: Option<&str>) -> Result<(Config, Memories, Turns), Failure>
-    ensures { IfOk result (λ s. IsPartSize s.0.part_size) }
+    ensures { IfOk result (λ s. IsConfig s.0) }
 {
     let Some(path) = path else {
         return Ok(read_config(rt.alloc(), "")?);

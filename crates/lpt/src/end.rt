@@ -1,17 +1,19 @@
 //! How the program ends: its status, and what it tells about a fault.
 
+use crate::command_line::Unasked;
+use crate::word_fault::WordFault;
 use clap::error::ErrorKind;
 use lpt_tool::ToolFault;
-use std::alloc::AllocError;
+use std::alloc::{AllocError, Global};
 
 /// What the program's status tells.
 #[derive(Clone, Copy, Debug, PartialEq, Eq)]
 pub enum Status {
     /// All was done.
     Done = 0,
-    /// All was done; an event was refused, or the octets are no packet.
+    /// An event was refused, a message isn't whole or can't be sent, or the octets are no packet.
     Refused = 1,
-    /// The words, a line of the script, the octets or the configuration can't be read.
+    /// The words, a line of the script, HEX or the configuration can't be read.
     Unreadable = 2,
     /// A file can't be read, the output can't be written, or memory is wanting.
     Failed = 3,
@@ -21,6 +23,8 @@ pub enum Status {
 #[derive(Debug, Drop)]
 pub struct Failure {
     fault: ToolFault,
+    // Whether nothing is told of it.
+    quiet: bool,
     // Where it is, and what is wrong there, where that is known.
     place: Option<String>,
 }
@@ -31,14 +35,28 @@ impl Failure {
     pub fn at(fault: ToolFault, place: Result<String, AllocError>) -> Self {
         Failure {
             fault,
+            quiet: false,
             place: place.ok(),
+        }
+    }
+
+    /// That nobody reads the output any more, of which nothing is told.
+    pub fn unread() -> Self {
+        Failure {
+            fault: ToolFault::Write,
+            quiet: true,
+            place: None,
         }
     }
 }
 
 impl From<ToolFault> for Failure {
     fn from(fault: ToolFault) -> Self {
-        Failure { fault, place: None }
+        Failure {
+            fault,
+            quiet: false,
+            place: None,
+        }
     }
 }
 
@@ -51,6 +69,9 @@ pub fn told(rt: &impl Eprint, ended: Result<Status, Failure>) -> Status {
         Ok(status) => return status,
         Err(failure) => failure,
     };
+    if failure.quiet {
+        return Status::Failed;
+    }
     let status = named(rt, failure.fault);
     if let Some(place) = &failure.place {
         tell_place(rt, place.as_str());
@@ -81,7 +102,24 @@ fn named(rt: &impl Eprint, fault: ToolFault) -> Status {
 
 /// The status by which the program ends where its words ask for nothing that is to be done, after
 /// that was printed: a usage fault, or the help or the version that was asked for.
-pub fn explained<R: Print + Eprint>(rt: &R, error: &clap::Error) -> Status {
+pub fn explained<R: Print + Eprint>(rt: &R, alloc: Global, unasked: &Unasked<'_>) -> Status {
+    match unasked {
+        Unasked::Said(error) => said(rt, error),
+        Unasked::Fault(WordFault::Memory) => named(rt, ToolFault::Memory),
+        Unasked::Fault(fault) => match fault.text(alloc) {
+            Ok(text) => {
+                let _ = rt.eprint("error: ");
+                let _ = rt.eprintln(text.as_str());
+                let _ = rt.eprintln("\nFor more information, try '--help'.");
+                Status::Unreadable
+            }
+            Err(_) => named(rt, ToolFault::Memory),
+        },
+    }
+}
+
+// The status by which the program ends that only had to say this, after it was printed.
+fn said<R: Print + Eprint>(rt: &R, error: &clap::Error) -> Status {
     if error.kind() == ErrorKind::OutOfMemory {
         return named(rt, ToolFault::Memory);
     }

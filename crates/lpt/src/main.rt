@@ -1,13 +1,22 @@
-//! `lpt`: runs scripts of large packet transfer, and says what octets are as a packet.
+//! `lpt`: runs scripts of large packet transfer, draws what they did, splits messages into packets
+//! and joins them, writes requests to a memory, and says what octets are as a packet.
 //!
 //! It reads its words, its files and its input, and prints; what is done with them stands in the
 //! crates below.
 #![tactic(auto)]
 
+mod charting;
 mod command_line;
 mod configuration;
 mod end;
+mod file_words;
+mod files;
+mod request_words;
+mod requests;
+mod streams;
+mod title;
 mod watched;
+mod word_fault;
 mod work;
 
 use command_line::{Asked, Command, read_words};
@@ -50,7 +59,7 @@ fn given_words(rt: &HostRuntime) -> Result<Vec<String>, Status> {
 fn serve<T: Threads + Wait + Sync>(rt: &HostRuntime, threads: &T, words: &[String]) -> Status {
     match read_words(rt.alloc(), words) {
         Ok(asked) => end::told(rt, done(rt, threads, &asked)),
-        Err(error) => end::explained(rt, &error),
+        Err(unasked) => end::explained(rt, rt.alloc(), &unasked),
     }
 }
 
@@ -61,9 +70,13 @@ fn done<T: Threads + Wait + Sync>(
     asked: &Asked<'_>,
 ) -> Result<Status, Failure> {
     let (config, memories, turns) = configuration::read(rt, asked.config)?;
-    match asked.command {
+    match &asked.command {
         Command::Run(script) => work::run(rt, threads, config, memories, None, script),
         Command::Threads(script) => work::run(rt, threads, config, memories, Some(turns), script),
+        Command::Chart(script, choice) => charting::chart(rt, config, memories, *choice, script),
         Command::Decode(hex) => work::decode(rt, config, hex),
+        Command::Split(words) => files::split(rt, &config, words),
+        Command::Join(words) => files::join(rt, &config, words),
+        Command::Request(words) => requests::request(rt, &config, words),
     }
 }

@@ -1,8 +1,8 @@
-//! Readers that keep why they failed.
+//! Readers and writers that keep why they failed.
 
-use std::io::{self, Read};
+use std::io::{self, Read, Write};
 
-/// A reader with the error of its last read that failed.
+/// A reader or a writer with the error of its last call that failed.
 #[derive(Drop)]
 pub struct Watched<R> {
     inner: R,
@@ -10,12 +10,12 @@ pub struct Watched<R> {
 }
 
 impl<R> Watched<R> {
-    /// A reader of which no read has failed.
+    /// A reader or a writer of which no call has failed.
     pub fn new(inner: R) -> Self {
         Watched { inner, error: None }
     }
 
-    /// Why its last read that failed did.
+    /// Why its last call that failed did.
     pub fn error(&self) -> Option<&io::Error> {
         self.error.as_ref()
     }
@@ -25,6 +25,28 @@ impl<R: Read> Read for Watched<R> {
     fn read(&mut self, buf: &mut [u8]) -> io::Result<usize> {
         match self.inner.read(buf) {
             Ok(count) => Ok(count),
+            Err(error) => {
+                self.error = Some(error);
+                Err(error)
+            }
+        }
+    }
+}
+
+impl<W: Write> Write for Watched<W> {
+    fn write(&mut self, buf: &[u8]) -> io::Result<usize> {
+        match self.inner.write(buf) {
+            Ok(count) => Ok(count),
+            Err(error) => {
+                self.error = Some(error);
+                Err(error)
+            }
+        }
+    }
+
+    fn flush(&mut self) -> io::Result<()> {
+        match self.inner.flush() {
+            Ok(()) => Ok(()),
             Err(error) => {
                 self.error = Some(error);
                 Err(error)

@@ -3,19 +3,15 @@
 ghost use Rattle.lpt_tool.specs.LptPart.Splitting.{IsPartSize};
 
 use crate::end::{Failure, Status, tell_place};
+use crate::streams::{STANDARD_INPUT, flush, opened, output};
 use crate::watched::Watched;
 use lpt_tool::{
-    Config, Memories, ScriptEnd, Source, Told, ToolFault, Turns, flush_out, read_hex, run_script,
+    Config, Memories, ScriptEnd, Source, Told, ToolFault, Turns, read_hex, run_script,
     run_threads_script,
 };
-use std::fs::File;
-use std::io;
-use std::io::{BufWriter, Printer, Read};
+use std::io::Read;
 use std::sync::Wait;
 use std::thread::Threads;
-
-/// Standard output, written when there is enough of it.
-type Output<'a> = Told<BufWriter<Printer<'a, HostRuntime>>>;
 
 /// Runs a script on a new world of these memories: the one at this path, or standard input for `-`.
 /// With turns, ten threads run after the script's events.
@@ -38,14 +34,14 @@ pub fn run<T: Threads + Wait + Sync>(
             memories,
             turns,
             rt.reader(),
-            "standard input",
+            STANDARD_INPUT,
         );
     }
-    match File::open(rt, script) {
+    match opened(rt, script) {
         Ok(file) => run_from(rt, threads, config, memories, turns, file, script),
-        Err(error) => {
-            let place = format!(in rt.alloc(); "{script}: {error}");
-            Err(Failure::at(ToolFault::Read, place))
+        Err(failure) => {
+            drop(memories);
+            Err(failure)
         }
     }
 }
@@ -134,7 +130,7 @@ fn lines_run<T: Threads + Wait + Sync, S: Source>(
 }
 
 // How a script's run ends that was read from this reader, of this name.
-fn status_at_end<R>(
+pub(crate) fn status_at_end<R>(
     rt: &HostRuntime,
     reader: &Watched<R>,
     name: &str,
@@ -160,18 +156,4 @@ fn status_of(refused: bool) -> Status {
     } else {
         Status::Done
     }
-}
-
-fn output(rt: &HostRuntime) -> Result<Output<'_>, ToolFault> {
-    match BufWriter::new(rt.alloc(), io::writer(rt)) {
-        Ok(writer) => Ok(Told::new(writer)),
-        Err(_) => Err(ToolFault::Memory),
-    }
-}
-
-// Writes what the output has kept back. Where that fails, a write of it failed before all else.
-fn flush(mut out: Output<'_>) -> Result<(), ToolFault> {
-    let flushed = flush_out(&mut out);
-    drop(out);
-    flushed
 }

@@ -1,15 +1,16 @@
 -- What marks, and parts sent one after the other, say.
-use Rattle.std.proofs.Common.{◌≡◌, ◌∙◌, ◌≤◌, ◌<◌, ◌≢◌, ◌⊎◌, ◌&&◌, ◌||◌, not, inl, inr, nat_lt, refl, sym, subst, ℕ, zero, suc, ◌+◌, Bool, true, false, if◌then◌else◌, List, [], ◌∷◌, length, get_or, set, Option, Some, None, arith}
-use Rattle.std.proofs.lemmas.Bool.{false≢true, ltb-true}
+use Rattle.std.proofs.Common.{◌≡◌, ◌∙◌, ◌≤◌, ◌<◌, ◌≢◌, ◌⊎◌, ◌&&◌, ◌||◌, not, inl, inr, nat_lt, refl, sym, subst, ℕ, zero, suc, ◌+◌, Bool, true, false, if◌then◌else◌, List, [], ◌∷◌, length, drop, get_or, set, Option, Some, None, arith}
+use Rattle.std.proofs.lemmas.Bool.{false≢true, ltb-true, lt-ltb, eqb-true}
 use Rattle.std.proofs.lemmas.Bool.Decides.{eqb_tells}
-use Rattle.std.proofs.lemmas.List.{get_or-set_other}
+use Rattle.std.proofs.lemmas.List.{get_or-set_other, get_or-set_same, length-set}
 use Rattle.lpt_world.specs.LptPacket.declared.direction.Direction.{Direction}
 use Rattle.lpt_world.specs.LptPacket.Names.{Name}
 use Rattle.lpt_world.specs.LptEvents.declared.entry.Entry.{Entry}
 use Rattle.lpt_world.specs.LptJournal.Link.{sent, is_held, is_lost}
 use Rattle.lpt_world.specs.Worlds.{Shown, history}
 use Rattle.lpt_audit.specs.Finished.{packet_taken, is_number, is_taken, sends, is_sent, finishes}
-use Rattle.lpt_audit.specs.FinishedInside.{mark, marked, AreMarked, sent_on}
+use Rattle.lpt_audit.specs.FinishedInside.{mark, marked, AreMarked}
+use Rattle.lpt_audit.specs.Settled.{sent_on, IsCarriedInOrder}
 
 -- ---- marks
 
@@ -25,6 +26,24 @@ unset : (b : Bool) (k n : ℕ) (ms : List Bool) → n ≢ k
     → get_or (if b then set ms k true else ms) n false ≡ get_or ms n false
 unset true k n ms other = get_or-set_other ms k n true false other
 unset false k n ms other = refl
+
+-- a mark that is set stays, where it is set once more or not
+still : (b : Bool) (k : ℕ) (ms : List Bool)
+    → nat_lt k (length ms) ≡ b
+    → get_or ms k false ≡ true
+    → get_or (if b then set ms k true else ms) k false ≡ true
+still true k ms is m = get_or-set_same ms k true false (ltb-true k (length ms) is)
+still false k ms is m = m
+
+-- a mark that has a place is set
+put : (b : Bool) (k : ℕ) (ms : List Bool) → b ≡ true → k < length ms
+    → get_or (if b then set ms k true else ms) k false ≡ true
+put true k ms is within = get_or-set_same ms k true false within
+put false k ms is within = absurd (false≢true is)
+
+long : (b : Bool) (k : ℕ) (ms : List Bool) → length (if b then set ms k true else ms) ≡ length ms
+long true k ms = length-set ms k true
+long false k ms = refl
 
 mark_says : (t : Option ℕ) (n : ℕ) (ms : List Bool)
     → get_or (mark t ms) n false ≡ true
@@ -86,6 +105,80 @@ all_taken w xs ms after count none is long all n held =
       | inr now ↦ now
     ]
 
+-- ---- the same the other way
+
+mark_keeps : (t : Option ℕ) (n : ℕ) (ms : List Bool)
+    → get_or ms n false ≡ true
+    → get_or (mark t ms) n false ≡ true
+mark_keeps None n ms m = m
+mark_keeps (Some k) n ms m = elim (eqb_tells k n) [
+  | inl t ↦ subst (λ j. get_or (mark (Some k) ms) j false ≡ true) t.1
+      (still (nat_lt k (length ms)) k ms refl (subst (λ j. get_or ms j false ≡ true) (sym t.1) m))
+  | inr t ↦ unset (nat_lt k (length ms)) k n ms (λ e. t.1 (sym e)) ∙ m
+]
+
+mark_sets : (t : Option ℕ) (n : ℕ) (ms : List Bool)
+    → n < length ms
+    → is_number t n ≡ true
+    → get_or (mark t ms) n false ≡ true
+mark_sets None n ms within is = absurd (false≢true is)
+mark_sets (Some k) n ms within is =
+    let same : k ≡ n = eqb-true k n is in
+    subst (λ j. get_or (mark (Some k) ms) j false ≡ true) same
+    (put (nat_lt k (length ms)) k ms (lt-ltb k (length ms) (subst (λ j. j < length ms) (sym same) within))
+    (subst (λ j. j < length ms) (sym same) within))
+
+mark_long : (t : Option ℕ) (ms : List Bool) → length (mark t ms) ≡ length ms
+mark_long None ms = refl
+mark_long (Some k) ms = long (nat_lt k (length ms)) k ms
+
+either : (a b : Bool) → (a || b) ≡ true → (a ≡ true) ⊎ (b ≡ true)
+either true b e = inl refl
+either false b e = inr e
+
+-- what was marked, or is taken by one of the entries, is marked after them
+mark_after : (xs : List Entry) (n : ℕ) (ms : List Bool)
+    → n < length ms
+    → (get_or ms n false ≡ true) ⊎ (is_taken xs n ≡ true)
+    → get_or (marked xs ms) n false ≡ true
+mark_after [] n ms within (inl m) = m
+mark_after [] n ms within (inr t) = absurd (false≢true t)
+mark_after (x ∷ xs) n ms within had =
+    let there : n < length (mark (packet_taken x.event) ms) = omega (arith, mark_long (packet_taken x.event) ms) in
+    elim had [
+      | inl m ↦ mark_after xs n (mark (packet_taken x.event) ms) there
+          (inl (mark_keeps (packet_taken x.event) n ms m))
+      | inr t ↦ elim (either (is_number (packet_taken x.event) n) (is_taken xs n) t) [
+        | inl now ↦ mark_after xs n (mark (packet_taken x.event) ms) there
+            (inl (mark_sets (packet_taken x.event) n ms within now))
+        | inr later ↦ mark_after xs n (mark (packet_taken x.event) ms) there (inr later)
+      ]
+    ]
+
+marked_from : (w : Shown) (n : ℕ) (ms : List Bool)
+    → ((j : ℕ) → j < length ms → is_held (history w) (n + j) ≡ true → get_or ms j false ≡ true)
+    → AreMarked w n ms
+marked_from w n [] all = tt
+marked_from w n (m ∷ ms) all =
+    let none : n + 0 ≡ n = omega arith in (
+      λ held. all zero (omega arith) (subst (λ k. is_held (history w) k ≡ true) (sym none) held),
+      marked_from w (n + 1) ms (λ j below held.
+          let same : n + 1 + j ≡ n + suc j = omega arith in
+          all (suc j) (omega arith) (subst (λ k. is_held (history w) k ≡ true) same held)),
+    )
+
+-- where each held packet is taken by the entries, each has its mark after them
+pub all_marked : (w : Shown) (xs : List Entry) (ms after : List Bool)
+    → after ≡ marked xs ms
+    → length after ≡ length ms
+    → ((n : ℕ) → is_held (history w) n ≡ true → is_taken xs n ≡ true)
+    → AreMarked w 0 after
+all_marked w xs ms after is long all = marked_from w 0 after (λ j below held.
+    let within : j < length ms = omega arith in
+    let same : 0 + j ≡ j = omega arith in
+    subst (λ y. get_or y j false ≡ true) (sym is)
+    (mark_after xs j ms within (inr (all j (subst (λ k. is_held (history w) k ≡ true) same held)))))
+
 -- ---- parts
 
 after_not : {k n : ℕ} → k ≤ n → k ≢ n → k + 1 ≤ n
@@ -119,10 +212,13 @@ sent_before (x ∷ xs) d id k n least within =
     (λ l b. sent_before xs d id k n l b)
     (λ l b. sent_before xs d id (k + 1) n l b) within
 
--- where the next part is behind the last, all are sent
-pub all_sent : (xs : List Entry) (d : Direction) (id : Name) (parts next : ℕ)
-    → next ≡ sent_on xs d id 1
-    → parts < next
-    → (k : ℕ) → 1 ≤ k → k ≤ parts → is_sent xs d id k ≡ true
-all_sent xs d id parts next is whole k least most =
-    sent_before xs d id 1 k least (omega (arith, is))
+-- nothing is carried behind the last entry
+pub none_behind : (xs : List Entry) (n : ℕ) (d : Direction) (id : Name) (parts : ℕ)
+    → length xs ≤ n
+    → ¬ (IsCarriedInOrder (drop n xs) d id parts)
+none_behind [] zero d id parts past (inl a) = false≢true a
+none_behind [] zero d id parts past (inr s) = false≢true s.1
+none_behind [] (suc n) d id parts past (inl a) = false≢true a
+none_behind [] (suc n) d id parts past (inr s) = false≢true s.1
+none_behind (x ∷ xs) zero d id parts past c = absurd (omega arith)
+none_behind (x ∷ xs) (suc n) d id parts past c = none_behind xs n d id parts (omega arith) c

@@ -1,34 +1,56 @@
 -- What was found at the end of a run.
-use Rattle.std.proofs.Common.{◌≡◌, ℕ, ap, subst, List, length, drop}
-use Rattle.lpt_world.specs.LptEvents.declared.side.Side.TheVariants.{Ground, Craft}
+use Rattle.std.proofs.Common.{◌≡◌, ◌≤◌, ◌+◌, ◌-◌, ℕ, ap, refl, subst, inl, inr, List, [], ◌∷◌, length, drop, arith}
+use Rattle.lpt_world.specs.LptPacket.declared.direction.Direction.{Direction}
+use Rattle.lpt_world.specs.LptPacket.Names.{Name}
+use Rattle.lpt_world.specs.LptPart.Splitting.{part_count}
+use Rattle.lpt_world.specs.LptEvents.declared.entry.Entry.{Entry}
+use Rattle.lpt_world.specs.LptEvents.declared.entry.Opening.{Opening}
 use Rattle.lpt_world.specs.LptJournal.Senders.{opened}
 use Rattle.lpt_world.specs.Worlds.{Shown, history}
-use Rattle.lpt_world.specs.LptEvents.declared.log.SeatLog.{SeatLog}
 use Rattle.lpt_audit.specs.declared.owed.Owed.{Owed}
-use Rattle.lpt_audit.specs.Finished.{IsIdle, HasTicked, AreOwedCarried, AreCarried, AreTaken, IsFinishedIfShort, owed_of}
+use Rattle.lpt_audit.specs.Finished.{AreOwedCarried, AreCarried, IsCarried, IsFinished, owed_of}
+use Rattle.lpt_audit.specs.Settled.{AreCarriedInOrder, AreOwedInOrder, IsCarriedInOrder, IsSettled}
+use Rattle.lpt_audit.proofs.FinishLemmas.{sent_before}
 
--- all that is asked
-pub all_done : (limit ticked from : ℕ) (owed : List Owed) (given w : Shown) (logs : List SeatLog)
-    → IsIdle w
-    → HasTicked w (drop from w.journal) 5 Craft ticked
-    → HasTicked w (drop from w.journal) 6 Ground ticked
-    → AreOwedCarried w.config.part_size (drop from w.journal) owed
-    → AreCarried w.config.part_size from (drop from w.journal) (opened (history w))
-    → AreTaken w (drop from w.journal)
+-- what was sent part after part was sent whole
+carried : (xs : List Entry) (d : Direction) (id : Name) (parts : ℕ)
+    → IsCarriedInOrder xs d id parts
+    → IsCarried xs d id parts
+carried xs d id parts (inl aborted) = inl aborted
+carried xs d id parts (inr sent) =
+    inr ((λ k least most. sent_before xs d id 1 k least (omega (arith, sent.0))), sent.1)
+
+all_carried : (p from : ℕ) (xs : List Entry) (os : List Opening)
+    → AreCarriedInOrder p from xs os
+    → AreCarried p from xs os
+all_carried p from xs [] all = tt
+all_carried p from xs (o ∷ os) all = (
+  λ since. carried (drop (o.place - from) xs) o.direction o.id (part_count (length o.message) p) (all.0 since),
+  all_carried p from xs os all.1,
+)
+
+all_owed : (p : ℕ) (xs : List Entry) (os : List Owed) → AreOwedInOrder p xs os → AreOwedCarried p xs os
+all_owed p xs [] all = tt
+all_owed p xs (o ∷ os) all =
+    (carried xs o.direction o.id (part_count o.length p) all.0, all_owed p xs os all.1)
+
+-- a run that is settled has finished
+pub finished : (ticked from : ℕ) (owed : List Owed) (given w : Shown)
+    → IsSettled ticked from owed w
     → from ≡ length given.journal
     → owed ≡ owed_of given
-    → IsFinishedIfShort limit ticked given w logs
-all_done limit ticked from owed given w logs idle craft ground at_start later taken place same =
+    → IsFinished ticked given w
+finished ticked from owed given w settled place same =
+    let at : IsSettled ticked (length given.journal) (owed_of given) w =
+    subst (λ n. IsSettled ticked n (owed_of given) w) place
+    (subst (λ o. IsSettled ticked from o w) same settled) in
     let xs = drop (length given.journal) w.journal in
-    let moved : drop from w.journal ≡ xs = ap (λ n. drop n w.journal) place in
+    let through = at.0 in
     record {
-      finished = λ short. record {
-        at_start = subst (λ o. AreOwedCarried w.config.part_size xs o) same
-            (subst (λ y. AreOwedCarried w.config.part_size y owed) moved at_start);
-        since = subst (λ n. AreCarried w.config.part_size n (drop n w.journal) (opened (history w))) place later;
-        taken = subst (λ y. AreTaken w y) moved taken;
-        idle = idle;
-        craft_ticked = subst (λ y. HasTicked w y 5 Craft ticked) moved craft;
-        ground_ticked = subst (λ y. HasTicked w y 6 Ground ticked) moved ground;
-      };
+      at_start = all_owed w.config.part_size xs (owed_of given) through.3;
+      since = all_carried w.config.part_size (length given.journal) xs (opened (history w)) through.4;
+      taken = at.1;
+      idle = through.0;
+      craft_ticked = through.1;
+      ground_ticked = through.2;
     }

@@ -1,11 +1,9 @@
--- How it is found out what a run has finished: by marks, and by the parts sent one after the other.
+-- How it is found out which packets a run has taken: by marks.
 use Rattle.std.specs.Prelude.{◌≡◌, ℕ, ◌+◌, nat_lt, Bool, true, if◌then◌else◌, List, [], ◌∷◌, length, set, Option, Some, None, ⊤}
-use Rattle.lpt_world.specs.LptPacket.declared.direction.Direction.{Direction}
-use Rattle.lpt_world.specs.LptPacket.Names.{Name}
 use Rattle.lpt_world.specs.LptEvents.declared.entry.Entry.{Entry}
 use Rattle.lpt_world.specs.LptJournal.Link.{is_held}
 use Rattle.lpt_world.specs.Worlds.{Shown, history}
-use Rattle.lpt_audit.specs.Finished.{packet_taken, sends, finishes}
+use Rattle.lpt_audit.specs.Finished.{packet_taken}
 
 -- the marks with that of a packet that is taken
 abbrev pub mark : Option ℕ → List Bool → List Bool
@@ -21,11 +19,3 @@ marked (x ∷ xs) ms = marked xs (mark (packet_taken x.event) ms)
 abbrev pub AreMarked : Shown → ℕ → List Bool → Type 0
 AreMarked w n [] = ⊤
 AreMarked w n (m ∷ ms) = (is_held (history w) n ≡ true → m ≡ true) × AreMarked w (n + 1) ms
-
--- the part after those that are sent one after the other from part k on, before the transaction is
--- finished
-abbrev pub sent_on : List Entry → Direction → Name → ℕ → ℕ
-sent_on [] d id k = k
-sent_on (x ∷ xs) d id k =
-    if finishes x.event d id then k
-    else (if sends x.event d id k then sent_on xs d id (k + 1) else sent_on xs d id k)

@@ -1,7 +1,9 @@
 pub mod Agreeing
 pub mod Finished
 pub mod FinishedInside
+pub mod Kinds
 pub mod Runs
+pub mod Settled
 pub use Rattle.lpt_world.specs.LptPacket as LptPacket
 pub use Rattle.lpt_world.specs.LptMemory as LptMemory
 pub use Rattle.lpt_world.specs.LptPart as LptPart

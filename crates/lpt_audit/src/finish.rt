@@ -1,23 +1,23 @@
 //! What a run has finished: nothing is left in a hand or with a worker, each job is executed, each
 //! packet is taken, each transaction is carried, and the timers have ticked.
 
-ghost use Rattle.std.specs.Prelude.{◌≡◌, ◌+◌, ◌<◌, ◌^◌, ◌≤◌, ◌-◌, ℕ, length, drop, get_or, false, IsTrue, IfOk};
+ghost use Rattle.std.specs.Prelude.{◌≡◌, ◌↔◌, ◌+◌, ◌<◌, ◌^◌, ◌≤◌, ◌-◌, ℕ, length, drop, get_or, false, IsTrue, IfOk};
 ghost use Rattle.lpt_world.specs.LptJournal.Link.{sent};
 ghost use Rattle.lpt_world.specs.LptJournal.Senders.{opened, notes_abort};
 ghost use Rattle.lpt_world.specs.LptPart.Splitting.{IsPartSize, part_count};
 ghost use Rattle.lpt_world.specs.Worlds.{history};
-ghost use Rattle.lpt_audit.specs.Finished.{packet_taken, ticks, tick_count, sends, finishes, is_finished, is_aborted, AreTaken, IsCarried, AreCarried, IsIdle, HasTicked};
-ghost use Rattle.lpt_audit.specs.FinishedInside.{marked, AreMarked, sent_on};
+ghost use Rattle.lpt_audit.specs.Finished.{packet_taken, ticks, tick_count, sends, finishes, is_finished, is_aborted, AreTaken, IsIdle, HasTicked};
+ghost use Rattle.lpt_audit.specs.FinishedInside.{marked, AreMarked};
+ghost use Rattle.lpt_audit.specs.Settled.{sent_on, IsSentWhole, IsCarriedInOrder, AreCarriedInOrder};
 
 use lpt_world::{
-    Answer, Direction, Entry, Event, LONGEST_PACKET, Lane, Name, Opening, Outcome, Side, Worker,
-    World, count,
+    Answer, Direction, Entry, Event, Lane, Name, Opening, Outcome, Side, Worker, World,
 };
 use std::alloc::{AllocError, Global};
 
 /// Whether no hand and no worker has anything, and each job is executed.
 pub fn is_idle(world: &World) -> bool
-    ensures { IsTrue result → IsIdle world.now }
+    ensures { IsTrue result ↔ IsIdle world.now }
 {
     world.hand(Lane::S1).is_none()
         && world.hand(Lane::S2).is_none()
@@ -30,7 +30,7 @@ pub fn is_idle(world: &World) -> bool
 
 /// Whether a seat ticked so often among these entries, or the clock is at its greatest.
 pub fn has_ticked(world: &World, entries: &[Entry], seat: u8, side: Side, count: u32) -> bool
-    ensures { IsTrue result → HasTicked world.now entries.now seat side count }
+    ensures { IsTrue result ↔ HasTicked world.now entries.now seat side count }
 {
     world.clock(side) == u32::MAX || tick_count(entries, seat, side) == u64::from(count)
 }
@@ -63,7 +63,7 @@ fn is_tick(event: &Event, side: Side) -> bool
 /// Whether these entries take each packet that was put and never lost. The only error is want of
 /// memory for a mark for each packet.
 pub fn are_taken(alloc: Global, world: &World, entries: &[Entry]) -> Result<bool, AllocError>
-    ensures { IfOk result (λ all. IsTrue all → AreTaken world.now entries.now) }
+    ensures { IfOk result (λ all. IsTrue all ↔ AreTaken world.now entries.now) }
 {
     let mut marks = no_marks(alloc, world.packets() as usize)?;
     mark_taken(&mut marks, entries);
@@ -106,7 +106,7 @@ fn packet_taken(event: &Event) -> Option<u64>
 
 // Whether each packet that the link holds has its mark.
 fn are_marked(world: &World, marks: &[bool]) -> bool
-    ensures { IsTrue result → AreMarked world.now 0 marks.now }
+    ensures { IsTrue result ↔ AreMarked world.now 0 marks.now }
 {
     let mut n = 0;
     let mut rest = marks;
@@ -120,11 +120,11 @@ fn are_marked(world: &World, marks: &[bool]) -> bool
     true
 }
 
-/// Whether each transaction that was opened from this place on was sent whole and finished, or
-/// aborted, after its opening. The entries are those from there on.
+/// Whether each transaction that was opened from this place on was sent, part after part, and finished,
+/// or aborted, after its opening. The entries are those from there on.
 pub fn are_carried(world: &World, from: u64, entries: &[Entry]) -> bool
     requires { length entries.now + 1 < 2 ^ 64 }
-    ensures { IsTrue result → AreCarried world.now.config.part_size from entries.now (opened (history world.now)) }
+    ensures { IsTrue result ↔ AreCarriedInOrder world.now.config.part_size from entries.now (opened (history world.now)) }
 {
     let p = world.config().part_size;
     let mut rest = world.opened();
@@ -138,11 +138,12 @@ pub fn are_carried(world: &World, from: u64, entries: &[Entry]) -> bool
 }
 
 // Whether an opening from this place on was carried.
+#[tactic(auto, using(crate::proofs::FinishLemmas::none_behind))]
 fn is_opening_carried(opening: &Opening, p: u32, from: u64, entries: &[Entry]) -> bool
     requires size { IsPartSize p }
     requires behind { from ≤ opening.now.place }
     requires small { length entries.now + 1 < 2 ^ 64 }
-    ensures { IsTrue result → IsCarried (drop (opening.now.place - from) entries.now) opening.now.direction opening.now.id (part_count (length opening.now.message) p) }
+    ensures { IsTrue result ↔ IsCarriedInOrder (drop (opening.now.place - from) entries.now) opening.now.direction opening.now.id (part_count (length opening.now.message) p) }
 {
     let past = opening.place - from;
     let length = opening.message.as_slice().len();
@@ -153,8 +154,8 @@ fn is_opening_carried(opening: &Opening, p: u32, from: u64, entries: &[Entry]) -
     is_carried(after, opening.direction, opening.id, length, p)
 }
 
-/// Whether a transaction whose message has so many octets was sent whole and finished, or aborted.
-#[tactic(auto, using(crate::proofs::FinishLemmas::all_sent))]
+/// Whether a transaction whose message has so many octets was sent, part after part, and finished, or
+/// aborted.
 pub(crate) fn is_carried(
     entries: &[Entry],
     direction: Direction,
@@ -164,17 +165,26 @@ pub(crate) fn is_carried(
 ) -> bool
     requires size { IsPartSize p }
     requires small { length entries.now + 1 < 2 ^ 64 }
-    ensures { IsTrue result → IsCarried entries.now direction id (part_count octets p) }
+    ensures { IsTrue result ↔ IsCarriedInOrder entries.now direction id (part_count octets p) }
 {
-    if octets > LONGEST_PACKET {
-        return false;
-    }
-    let parts = u64::from(count(octets as u32, p));
-    let next = next_part(entries, direction, id);
-    if next > parts && is_finished(entries, direction, id) {
-        return true;
-    }
-    is_aborted(entries, direction, id)
+    let parts = parts_of(octets, p);
+    is_sent_whole(entries, direction, id, parts) || is_aborted(entries, direction, id)
+}
+
+// How many parts a message of so many octets has.
+fn parts_of(octets: usize, p: u32) -> u64
+    requires { IsPartSize p }
+    ensures { result ≡ part_count octets p }
+{
+    (octets as u64).div_ceil(u64::from(p))
+}
+
+// Whether so many parts were sent, one after the other, and the transaction finished.
+fn is_sent_whole(entries: &[Entry], direction: Direction, id: Name, parts: u64) -> bool
+    requires { length entries.now + 1 < 2 ^ 64 }
+    ensures { IsTrue result ↔ IsSentWhole entries.now direction id parts }
+{
+    next_part(entries, direction, id) > parts && is_finished(entries, direction, id)
 }
 
 // The part after those that were sent one after the other from the first on.

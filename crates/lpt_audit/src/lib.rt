@@ -8,11 +8,13 @@
 
 mod agree;
 mod finish;
+mod kinds;
 mod owed;
 mod same;
 mod settled;
 
 pub use agree::agrees;
+pub use kinds::are_of_seats;
 pub use lpt_world::{
     AckFlags, Answer, Applied, Area, Call, Config, ConfigFault, Direction, Entry, Event, Lane,
     Memories, Mode, Name, Octets, Outcome, Packet, PacketKind, Parsed, Prepared, Reason, Refused,

@@ -1,11 +1,12 @@
 //! The transactions that are open when a run begins, and that it owes.
 
-ghost use Rattle.std.specs.Prelude.{◌≡◌, ◌+◌, ◌<◌, ◌^◌, ◌&&◌, not, length, IsTrue, IfOk};
+ghost use Rattle.std.specs.Prelude.{◌≡◌, ◌↔◌, ◌+◌, ◌<◌, ◌^◌, ◌&&◌, not, length, IsTrue, IfOk};
 ghost use Rattle.lpt_world.specs.LptJournal.Senders.{sender};
 ghost use Rattle.lpt_world.specs.LptNode.Nodes.{is_open};
 ghost use Rattle.lpt_world.specs.LptPart.Splitting.{IsPartSize};
 ghost use Rattle.lpt_world.specs.Worlds.{history, state_shown};
-ghost use Rattle.lpt_audit.specs.Finished.{is_opened, owed_of, AreOwedCarried};
+ghost use Rattle.lpt_audit.specs.Finished.{is_opened, owed_of};
+ghost use Rattle.lpt_audit.specs.Settled.{AreOwedInOrder};
 
 use crate::finish::is_carried;
 use lpt_world::{Direction, Entry, Name, Opening, State, World};
@@ -64,11 +65,11 @@ fn is_opened(openings: &[Opening], direction: Direction, id: Name) -> bool
     false
 }
 
-/// Whether each of these was sent whole and finished, or aborted.
+/// Whether each of these was sent, part after part, and finished, or aborted.
 pub fn are_owed_carried(owed: &[Owed], p: u32, entries: &[Entry]) -> bool
     requires size { IsPartSize p }
     requires small { length entries.now + 1 < 2 ^ 64 }
-    ensures { IsTrue result → AreOwedCarried p entries.now owed.now }
+    ensures { IsTrue result ↔ AreOwedInOrder p entries.now owed.now }
 {
     let mut rest = owed;
     while let Some((one, tail)) = rest.split_first() {

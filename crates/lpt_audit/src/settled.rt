@@ -1,14 +1,13 @@
 //! What is looked at when the threads of a run have ended.
 
-ghost use Rattle.std.specs.Prelude.{◌≡◌, ◌↔◌, ◌≤◌, ℕ, List, length, IfOk, IsTrue};
-ghost use Rattle.lpt_world.specs.LptEvents.declared.log.SeatLog.{SeatLog};
-ghost use Rattle.lpt_audit.specs.Finished.{IsFinishedIfShort, AreShort, owed_of};
+ghost use Rattle.std.specs.Prelude.{◌↔◌, ◌≤◌, ◌<◌, ◌+◌, ◌^◌, length, IfOk, IsTrue};
+ghost use Rattle.lpt_audit.specs.Finished.{AreShort};
 ghost use Rattle.lpt_audit.specs.Runs.{IsInOrder};
-ghost use Rattle.lpt_world.specs.Worlds.{Shown};
+ghost use Rattle.lpt_audit.specs.Settled.{AreThrough, IsSettled};
 
 use crate::finish::{are_carried, are_taken, has_ticked, is_idle};
 use crate::owed::{Owed, are_owed_carried};
-use lpt_world::{SeatLog, Side, World};
+use lpt_world::{Entry, SeatLog, Side, World};
 use std::alloc::{AllocError, Global};
 
 /// The last seat that has a thread.
@@ -16,7 +15,6 @@ const LAST_SEAT: u8 = 10;
 
 /// Whether nothing was left to do at the end of a run that began at this place with what was owed, where
 /// each log is short. The only error is want of memory.
-#[tactic(auto, using(crate::proofs::SettledLemmas::all_done))]
 pub fn is_settled(
     alloc: Global,
     world: &World,
@@ -25,20 +23,26 @@ pub fn is_settled(
     ticks: u32,
 ) -> Result<bool, AllocError>
     requires { from ≤ length world.now.journal }
-    ensures { IfOk result (λ done. IsTrue done → (given : Shown) → from ≡ length given.journal → owed.now ≡ owed_of given
-        → (limit : ℕ) → (logs : List SeatLog) → IsFinishedIfShort limit ticks given world.now logs) }
+    ensures { IfOk result (λ done. IsTrue done ↔ IsSettled ticks from owed.now world.now) }
 {
     let entries = &world.journal()[from as usize..];
-    let p = world.config().part_size;
-    if !is_idle(world)
-        || !has_ticked(world, entries, 5, Side::Craft, ticks)
-        || !has_ticked(world, entries, 6, Side::Ground, ticks)
-        || !are_owed_carried(owed, p, entries)
-        || !are_carried(world, from, entries)
-    {
+    if !are_through(world, from, entries, owed, ticks) {
         return Ok(false);
     }
     are_taken(alloc, world, entries)
+}
+
+// Whether hands, workers and jobs are done with, the timers have ticked, and what was owed or was opened
+// from this place on is carried. The entries are those from there on.
+fn are_through(world: &World, from: u64, entries: &[Entry], owed: &[Owed], ticks: u32) -> bool
+    requires { length entries.now + 1 < 2 ^ 64 }
+    ensures { IsTrue result ↔ AreThrough ticks from owed.now world.now entries.now }
+{
+    is_idle(world)
+        && has_ticked(world, entries, 5, Side::Craft, ticks)
+        && has_ticked(world, entries, 6, Side::Ground, ticks)
+        && are_owed_carried(owed, world.config().part_size, entries)
+        && are_carried(world, from, entries)
 }
 
 /// Whether each log has fewer calls than this.

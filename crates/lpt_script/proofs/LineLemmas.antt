@@ -10,7 +10,8 @@ use Rattle.lpt_text.specs.Streams.{AppendsPart}
 use Rattle.lpt_text.specs.declared.fault.ToolFault.{ToolFault}
 use Rattle.lpt_text.specs.declared.fault.ToolFault.TheVariants as tool
 use Rattle.lpt_script.specs.Ends.{LineEnds, LinesEnd}
-use Rattle.lpt_script.specs.Scripts.{Ran, Script, behind, then_rest, lines_ran, line_ran, says, says_now}
+use Rattle.lpt_script.specs.Scripts.{Ran, Script, behind, left_of, then_rest, lines_left, lines_ran, line_ran, says, says_now, shows_left}
+use Rattle.lpt_words.specs.declared.showing.Show.{Show}
 use Rattle.lpt_text.proofs.StreamLemmas.{part_after, part_of_front}
 use Rattle.lpt_script.specs.declared.end.ScriptEnd.{ScriptEnd}
 use Rattle.lpt_words.proofs.Pieces.{lines-nowhere}
@@ -158,6 +159,18 @@ last_done later line w v n refused f b c none some ends =
     let all = lines_ran later (lines line) w n refused in
     goes_end later all v (n + 1) (refused + from_bool f) b c
     (line_done later all (lines line) [] line w v n refused f b b c (last_goes later line w n refused b) (lines-nowhere line none some) ends)
+
+-- what it leaves then
+pub last_left : (later : Bool) (line : List ℕ) (w v : Shown) (n : ℕ) (f : Bool) (b c : Option (List ℕ)) (before after : List Show)
+    → line_end line ≡ None
+    → 0 < length line
+    → LineEnds (line_ran (says later line) n w) (Ok f) v b c
+    → after ≡ before ++ shows_left later (reading_of line)
+    → lines_left later (lines line) w n before ≡ left_of v after
+last_left later line w v n f b c before after none some ends is =
+    ap (λ x. lines_left later x w n before) (lines-nowhere line none some)
+    ∙ ap (λ x. left_of x (before ++ shows_left later (reading_of line))) (sym ends.2)
+    ∙ ap (left_of v) (sym is)
 
 -- it ended by a fault
 pub last_fault : (later : Bool) (line : List ℕ) (w v : Shown) (n refused : ℕ) (fault : ToolFault) (b c : Option (List ℕ))

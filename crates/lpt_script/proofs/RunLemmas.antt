@@ -12,7 +12,9 @@ use Rattle.lpt_text.specs.Reading.{EndsLine}
 use Rattle.lpt_text.specs.declared.lines.LineBuffer.{LineBuffer}
 use Rattle.lpt_script.proofs.LineLemmas.{Goes, line_first}
 use Rattle.lpt_script.specs.Ends.{LineEnds}
-use Rattle.lpt_script.specs.Scripts.{behind, lines_ran, line_ran, script_ran, says}
+use Rattle.lpt_script.specs.Scripts.{behind, lines_left, lines_ran, line_ran, script_ran, says, shows_left}
+use Rattle.lpt_words.specs.Grammar.{reading_of}
+use Rattle.lpt_words.specs.declared.showing.Show.{Show}
 use Rattle.lpt_words.proofs.Pieces.{lines-place}
 use Rattle.lpt_words.specs.Words.{ended_line, lines}
 use Rattle.lpt_world.specs.Worlds.{Shown}
@@ -39,7 +41,7 @@ lines-first text more n at =
 -- ---- a run under way
 
 -- these octets were run, and this was written; the rest that is held is still to be run
-pub record Runs (later : Bool) (first w : Shown) (n refused : ℕ) (rest : List ℕ) (room : ℕ) (old now a b : Option (List ℕ)) : Type 0 where
+pub record Runs (later : Bool) (had kept : List Show) (first w : Shown) (n refused : ℕ) (rest : List ℕ) (room : ℕ) (old now a b : Option (List ℕ)) : Type 0 where
   pub given : List ℕ
   pub done : List ℕ
   pub consumed : Consumes old now (given ++ rest)
@@ -47,16 +49,17 @@ pub record Runs (later : Bool) (first w : Shown) (n refused : ℕ) (rest : List 
   pub counted : length given + (length rest + room) ≡ 16777216
   pub written : Appends a b done
   pub follows : (more : List ℕ) → script_ran later first (given ++ more) ≡ behind done (lines_ran later (lines more) w n refused)
+  pub left : (more : List ℕ) → lines_left later (lines (given ++ more)) first 1 had ≡ lines_left later (lines more) w n kept
   pub numbered : n ≤ length given + 1
   pub some : refused + 1 ≤ n
 
 -- nothing was read
-pub runs_start : (later : Bool) (first : Shown) (rest : List ℕ) (room : ℕ) (old a b : Option (List ℕ))
+pub runs_start : (later : Bool) (had : List Show) (first : Shown) (rest : List ℕ) (room : ℕ) (old a b : Option (List ℕ))
     → rest ≡ []
     → room ≡ 16777216
     → Appends a b []
-    → Runs later first first 1 0 rest room old old a b
-runs_start later first rest room old a b none all nothing = record {
+    → Runs later had had first first 1 0 rest room old old a b
+runs_start later had first rest room old a b none all nothing = record {
   given = [];
   done = [];
   consumed = subst (Consumes old old) (sym none) (Consumes-nil old);
@@ -64,17 +67,18 @@ runs_start later first rest room old a b none all nothing = record {
   counted = grind (arith, common_steps, none, all);
   written = nothing;
   follows = λ more. refl;
+  left = λ more. refl;
   numbered = omega arith;
   some = omega arith;
 }
 
 -- more was read
-pub runs_read : (later : Bool) (first w : Shown) (n refused : ℕ) (before after : LineBuffer) (read : List ℕ) (old now next a b c : Option (List ℕ))
-    → Runs later first w n refused (held before) (room_of before) old now a b
+pub runs_read : (later : Bool) (had kept : List Show) (first w : Shown) (n refused : ℕ) (before after : LineBuffer) (read : List ℕ) (old now next a b c : Option (List ℕ))
+    → Runs later had kept first w n refused (held before) (room_of before) old now a b
     → Adds before after now next read []
     → Keeps b c
-    → Runs later first w n refused (held after) (room_of after) old next a c
-runs_read later first w n refused before after read old now next a b c runs adds keeps = record {
+    → Runs later had kept first w n refused (held after) (room_of after) old next a c
+runs_read later had kept first w n refused before after read old now next a b c runs adds keeps = record {
   given = runs.given;
   done = runs.done;
   consumed = subst (Consumes old next)
@@ -85,18 +89,19 @@ runs_read later first w n refused before after read old now next a b c runs adds
   counted = grind (arith, common_steps, runs.counted, adds.counted, adds.behind);
   written = Appends-kept a b c runs.done runs.written keeps;
   follows = runs.follows;
+  left = runs.left;
   numbered = runs.numbered;
   some = runs.some;
 }
 
 -- the next line is the first of what is left to do
-pub goes_line : (later : Bool) (first w : Shown) (n refused place : ℕ) (text : List ℕ) (room : ℕ) (old now a b : Option (List ℕ))
-    → (runs : Runs later first w n refused text room old now a b)
+pub goes_line : (later : Bool) (had kept : List Show) (first w : Shown) (n refused place : ℕ) (text : List ℕ) (room : ℕ) (old now a b : Option (List ℕ))
+    → (runs : Runs later had kept first w n refused text room old now a b)
     → line_end text ≡ Some place
     → (more : List ℕ)
     → script_ran later first ((runs.given ++ take (place + 1) text) ++ more)
     ≡ behind runs.done (lines_ran later (ended_line (take place text) ∷ lines more) w n refused)
-goes_line later first w n refused place text room old now a b runs at more =
+goes_line later had kept first w n refused place text room old now a b runs at more =
     ap (script_ran later first) (append_assoc runs.given (take (place + 1) text) more)
     ∙ runs.follows (take (place + 1) text ++ more)
     ∙ ap (λ x. behind runs.done (lines_ran later x w n refused)) (lines-first text more place at)
@@ -123,13 +128,14 @@ at_most_one true = omega arith
 at_most_one false = omega arith
 
 -- a line ended well
-pub runs_line : (later : Bool) (first w v : Shown) (n refused place : ℕ) (f : Bool) (text rest : List ℕ) (room : ℕ) (old now a b c : Option (List ℕ))
-    → Runs later first w n refused text room old now a b
+pub runs_line : (later : Bool) (had kept next : List Show) (first w v : Shown) (n refused place : ℕ) (f : Bool) (text rest : List ℕ) (room : ℕ) (old now a b c : Option (List ℕ))
+    → Runs later had kept first w n refused text room old now a b
     → line_end text ≡ Some place
     → rest ≡ drop (place + 1) text
     → LineEnds (line_ran (says later (ended_line (take place text))) n w) (Ok f) v b c
-    → Runs later first v (n + 1) (refused + from_bool f) rest room old now a c
-runs_line later first w v n refused place f text rest room old now a b c runs at is ends =
+    → next ≡ kept ++ shows_left later (reading_of (ended_line (take place text)))
+    → Runs later had next first v (n + 1) (refused + from_bool f) rest room old now a c
+runs_line later had kept next first w v n refused place f text rest room old now a b c runs at is ends keeps =
     let line = ended_line (take place text) in
     let ran = line_ran (says later line) n w in
     let found = position-Some (λ b. b == 10) text place 0 at in
@@ -151,11 +157,17 @@ runs_line later first w v n refused place f text rest room old now a b c runs at
           let goes : Goes later (script_ran later first ((runs.given ++ take (place + 1) text) ++ more)) (line ∷ lines more) w n refused a b = record {
             done = runs.done;
             written = runs.written;
-            follows = goes_line later first w n refused place text room old now a b runs at more;
+            follows = goes_line later had kept first w n refused place text room old now a b runs at more;
           } in
           line_first later (script_ran later first ((runs.given ++ take (place + 1) text) ++ more)) line (lines more) w n refused a b goes ends.0
           ∙ ap (λ x. behind (runs.done ++ ran.text) (lines_ran later (lines more) x (n + 1) (refused + from_bool ran.refused))) (sym ends.2)
           ∙ ap (λ x. behind (runs.done ++ ran.text) (lines_ran later (lines more) v (n + 1) (refused + from_bool x))) (sym ends.1);
+      left = λ more.
+          ap (λ x. lines_left later (lines x) first 1 had) (append_assoc runs.given (take (place + 1) text) more)
+          ∙ runs.left (take (place + 1) text ++ more)
+          ∙ ap (λ x. lines_left later x w n kept) (lines-first text more place at)
+          ∙ ap (λ x. lines_left later (lines more) x (n + 1) (kept ++ shows_left later (reading_of line))) (sym ends.2)
+          ∙ ap (lines_left later (lines more) v (n + 1)) (sym keeps);
       numbered = omega (arith, runs.numbered, long, longer);
       some = omega (arith, runs.some, at_most_one f);
     }

@@ -8,7 +8,9 @@ use Rattle.lpt_text.specs.Streams.{AppendsPart}
 use Rattle.lpt_text.specs.declared.fault.ToolFault.{ToolFault}
 use Rattle.lpt_text.specs.declared.fault.ToolFault.TheVariants as tool
 use Rattle.lpt_script.specs.declared.end.ScriptEnd.{ScriptEnd}
-use Rattle.lpt_script.specs.Scripts.{Ran, Script, script_ran, stepped, ticked}
+use Rattle.lpt_script.specs.Scripts.{Left, Ran, Script, lines_left, script_ran, stepped, ticked}
+use Rattle.lpt_words.specs.Words.{lines}
+use Rattle.lpt_words.specs.declared.showing.Show.{Show}
 use Rattle.lpt_world.specs.LptEvents.declared.event.Event.TheVariants.{Tick}
 use Rattle.lpt_world.specs.LptEvents.declared.fault.StepFault.{StepFault}
 use Rattle.lpt_world.specs.LptEvents.declared.fault.StepFault.TheVariants.{Memory}
@@ -67,7 +69,17 @@ RunEnds later w (Err tool.Config) old new before after read_failed write_failed 
     (old ≡ new) × (before ≡ after)
 RunEnds later w (Err (tool.Threads n)) old new before after read_failed write_failed = ⊥
 
--- the same where each line is run in its place
+-- All was read, its lines were run and their text written, and this is left of them, with so much kept
+-- before.
+abbrev pub LinesLeave :
+    (later : Bool) → (had : List Show) → Shown → ScriptEnd → Left
+    → (read_before read_after written_before written_after : Option (List ℕ)) → Type 0
+LinesLeave later had w end left old new before after =
+    IsWhole old new
+    (λ text. LinesEnd (script_ran later w text) (Ok end) before after
+    × (lines_left later (lines text) w 1 had ≡ left))
+
+-- how such a run ends where each line is run in its place
 abbrev pub ScriptEnds :
     Shown → Result ScriptEnd ToolFault
     → (read_before read_after written_before written_after : Option (List ℕ))

@@ -41,6 +41,11 @@ abbrev pub is_later : Shows → Bool
 is_later shows.Now = false
 is_later (shows.Later kept) = true
 
+-- the lines that were kept to be shown later, in order
+abbrev pub kept_of : Shows → List Show
+kept_of shows.Now = []
+kept_of (shows.Later kept) = kept.items
+
 -- a line that prints this, and leaves this world
 abbrev pub printed : Shown → List ℕ → Ran
 printed w text = record { world = w; text = text; refused = false; bad = None }
@@ -183,3 +188,37 @@ lines_ran later (line ∷ more) w n refused =
 -- what a script does to a world
 abbrev pub script_ran : (later : Bool) → Shown → List ℕ → Script
 script_ran later w text = lines_ran later (lines text) w 1 0
+
+-- what a command leaves to be shown later
+abbrev pub shown_later : (later : Bool) → Command → List Show
+shown_later later (command.Event e) = []
+shown_later later (command.Load l) = []
+shown_later later (command.Pass l n) = []
+shown_later later (command.Tick side count) = []
+shown_later later command.Work = []
+shown_later later (command.Show s) = if later then s ∷ [] else []
+
+-- what a line leaves to be shown later, by what it says
+abbrev pub shows_left : (later : Bool) → Reading → List Show
+shows_left later Skipped = []
+shows_left later (Asks c) = shown_later later c
+shows_left later Unreadable = []
+
+-- what lines leave that end well: the world after them, and what they left to be shown later
+pub record Left : Type 0 where
+  pub world : Shown
+  pub kept : List Show
+
+abbrev pub left_of : Shown → List Show → Left
+left_of w kept = record { world = w; kept = kept }
+
+-- what these lines leave, from this world on, the first of which has this number, with so much kept before
+abbrev pub lines_left : (later : Bool) → List (List ℕ) → Shown → ℕ → (kept : List Show) → Left
+lines_left later [] w n kept = left_of w kept
+lines_left later (line ∷ more) w n kept =
+    lines_left later more (line_ran (says later line) n w).world (n + 1)
+    (kept ++ shows_left later (reading_of line))
+
+-- what a script leaves of a world
+abbrev pub script_left : (later : Bool) → Shown → List ℕ → Left
+script_left later w text = lines_left later (lines text) w 1 []

@@ -24,11 +24,12 @@ pub use lpt_print::{
     print_took, print_unreadable,
 };
 pub use lpt_text::{
-    End, LineBuffer, Sink, Source, Told, ToolFault, flush_out, read_text, write_out,
+    End, LineBuffer, Passes, Sink, Source, Told, ToolFault, flush_out, read_text, write_out,
 };
 pub use lpt_words::{
     Command, Load, Reading, Show, read_hex, read_line, read_number, split_line, split_word,
 };
 pub use printed::put;
 pub use script::{run_lines, run_script};
+pub use showing::run_show;
 pub use shows::Shows;

@@ -1,9 +1,10 @@
 //! Scripts: lines of text that ask a world for events, or show what is in it.
 
-ghost use Rattle.std.specs.Prelude.{◌≡◌, ◌≢◌, ◌↔◌, ◌+◌, ◌<◌, ◌^◌, IsErrOf, IsOk, IsSome, Err, None, true};
+ghost use Rattle.std.specs.Prelude.{◌≡◌, ◌≢◌, ◌↔◌, ◌+◌, ◌++◌, ◌<◌, ◌^◌, IfOk, IsErrOf, IsOk, IsSome, Err, None, true};
 ghost use Rattle.lpt_text.specs.Lines.{line_end};
-ghost use Rattle.lpt_script.specs.Ends.{LineEnds, LinesEnd, RunEnds, ScriptEnds};
-ghost use Rattle.lpt_script.specs.Scripts.{is_later, line_ran, lines_ran, says, unreadable};
+ghost use Rattle.lpt_script.specs.Ends.{LineEnds, LinesEnd, LinesLeave, RunEnds, ScriptEnds};
+ghost use Rattle.lpt_script.specs.Scripts.{is_later, kept_of, left_of, line_ran, lines_left, lines_ran, says, shows_left, unreadable};
+ghost use Rattle.lpt_words.specs.Grammar.{reading_of};
 ghost use Rattle.lpt_words.specs.Words.{lines};
 ghost use Rattle.lpt_world.specs.LptEvents.Configs.{config_fault};
 ghost use Rattle.lpt_world.specs.Worlds.{new_world};
@@ -13,7 +14,7 @@ use crate::command::run_command;
 use crate::printed::put;
 use crate::shows::Shows;
 use lpt_print::print_unreadable;
-use lpt_text::{LineBuffer, Sink, Source, ToolFault};
+use lpt_text::{LineBuffer, Sink, Source, ToolFault, flush_out};
 use lpt_words::{Reading, ended, read_line};
 use lpt_world::{Config, ConfigFault, Memories, World};
 use std::alloc::Global;
@@ -22,8 +23,9 @@ use std::alloc::Global;
 /// what its lines print.
 ///
 /// Each line is run as it comes: before more is read, every whole line that came has been run, and
-/// `out` has passed on what it printed. A script has 16,777,216 octets at most; what it takes of
-/// memory depends on its longest line, and on the journal of its world.
+/// `out` has passed on what it printed. Where the run ends well, `out` has passed on all of it. A script
+/// has 16,777,216 octets at most; what it takes of memory depends on its longest line, and on the journal
+/// of its world.
 ///
 /// Errors: `Config` for a configuration out of its ranges, before anything is read; `Line` at the
 /// first unreadable line, which ends the run; `Read` where a read failed or more octets came than a
@@ -43,15 +45,41 @@ pub fn run_script<S: Source, K: Sink>(
     // A fault of a write is told, and so is one of a read, unless the run ended by another.
     ensures told { result ≢ Err ToolFault.Write → K.failed out.new ≡ K.failed out.old }
     ensures read { IsOk result → S.failed reader.new ≡ S.failed reader.old }
+    ensures passed { IsOk result → K.passed out.new ≡ K.contents out.new }
 {
     match World::new(alloc, config, memories) {
         Ok(mut world) => {
-            let ran = run_lines(alloc, &mut world, &mut Shows::Now, reader, out);
+            let ran = run_all(alloc, &mut world, reader, out);
             drop(world);
             ran
         }
         Err(ConfigFault::Memory) => Err(ToolFault::Memory),
         Err(_) => Err(ToolFault::Config),
+    }
+}
+
+// Runs the lines that a reader gives, each in its place, and has what they printed passed on.
+#[tactic(auto, using(crate::proofs::RunEnds::ok_kept))]
+fn run_all<S: Source, K: Sink>(
+    alloc: Global,
+    world: &mut World,
+    reader: &mut S,
+    out: &mut K,
+) -> Result<ScriptEnd, ToolFault>
+    ensures ends { ScriptEnds world.old result (S.remaining reader.old) (S.remaining reader.new)
+        (K.contents out.old) (K.contents out.new) (S.failed reader.new) (K.failed out.new) }
+    ensures config { result ≢ Err ToolFault.Config }
+    ensures told { result ≢ Err ToolFault.Write → K.failed out.new ≡ K.failed out.old }
+    ensures read { IsOk result → S.failed reader.new ≡ S.failed reader.old }
+    ensures passed { IsOk result → K.passed out.new ≡ K.contents out.new }
+{
+    let end = match run_lines(alloc, world, &mut Shows::Now, reader, out) {
+        Ok(end) => end,
+        Err(fault) => return Err(fault),
+    };
+    match flush_out(out) {
+        Ok(()) => Ok(end),
+        Err(fault) => Err(fault),
     }
 }
 
@@ -68,6 +96,8 @@ pub fn run_lines<S: Source, K: Sink>(
 ) -> Result<ScriptEnd, ToolFault>
     ensures ends { RunEnds (is_later shows.old) world.old result (S.remaining reader.old) (S.remaining reader.new)
         (K.contents out.old) (K.contents out.new) (S.failed reader.new) (K.failed out.new) }
+    ensures left { IfOk result (λ end. LinesLeave (is_later shows.old) (kept_of shows.old) world.old end (left_of world.new (kept_of shows.new))
+        (S.remaining reader.old) (S.remaining reader.new) (K.contents out.old) (K.contents out.new)) }
     ensures config { result ≢ Err ToolFault.Config }
     ensures told { result ≢ Err ToolFault.Write → K.failed out.new ≡ K.failed out.old }
     ensures read { IsOk result → S.failed reader.new ≡ S.failed reader.old }
@@ -111,6 +141,7 @@ fn run_last<K: Sink>(
     requires one { line_end last.now ≡ None }
     requires fits { refused + 1 < 2 ^ 64 }
     ensures ends { LinesEnd (lines_ran (is_later shows.old) (lines last.now) world.old number refused) result (K.contents out.old) (K.contents out.new) }
+    ensures left { IfOk result (λ _. lines_left (is_later shows.old) (lines last.now) world.old number (kept_of shows.old) ≡ left_of world.new (kept_of shows.new)) }
     ensures cause { IsErrOf result ToolFault.Write → K.failed out.new ≡ true }
     ensures told { result ≢ Err ToolFault.Write → K.failed out.new ≡ K.failed out.old }
 {
@@ -135,6 +166,7 @@ fn run_line<K: Sink>(
     out: &mut K,
 ) -> Result<bool, ToolFault>
     ensures same { is_later shows.new ≡ is_later shows.old }
+    ensures left { IfOk result (λ _. kept_of shows.new ≡ kept_of shows.old ++ shows_left (is_later shows.old) (reading_of line.now)) }
     ensures ends { LineEnds (line_ran (says (is_later shows.old) line.now) number world.old) result world.new (K.contents out.old) (K.contents out.new) }
     ensures cause { IsErrOf result ToolFault.Write → K.failed out.new ≡ true }
     ensures told { result ≢ Err ToolFault.Write → K.failed out.new ≡ K.failed out.old }

@@ -18,7 +18,7 @@ use lpt_world::{Direction, Name, Release, World};
 use std::alloc::Global;
 
 /// Prints what a line asks for.
-pub(crate) fn run_show<K: Sink>(
+pub fn run_show<K: Sink>(
     alloc: Global,
     world: &World,
     show: Show,

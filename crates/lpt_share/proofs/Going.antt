@@ -4,7 +4,7 @@ use Rattle.lpt_audit.specs.LptEvents.declared.entry.Entry.{Entry}
 use Rattle.lpt_audit.specs.LptEvents.declared.event.Event.{Event}
 use Rattle.lpt_audit.specs.LptEvents.declared.reply.Reply.{Reply}
 use Rattle.lpt_audit.specs.LptWorld.Worlds.{Shown, with_entry}
-use Rattle.lpt_share.specs.Origins.{Begins, GoesOn}
+use Rattle.lpt_share.specs.Origins.{Begins, Continues, GoesOn}
 
 pub Begins-append : (gs xs ys : List Entry) → Begins gs xs → Begins gs (xs ++ ys)
 Begins-append [] xs ys b = tt
@@ -14,6 +14,10 @@ Begins-append (g ∷ gs) (x ∷ xs) ys b = (b.0, Begins-append gs xs ys b.1)
 pub Begins-self : (xs : List Entry) → Begins xs xs
 Begins-self [] = tt
 Begins-self (x ∷ xs) = (refl, Begins-self xs)
+
+-- a world goes on from itself
+pub continues_itself : (w : Shown) → Continues w w
+continues_itself w = (refl, refl, Begins-self w.journal)
 
 pub goes_on_entered : (given : Option Shown) (w : Shown) (seat : ℕ) (e : Event) (r : Reply)
     → GoesOn given w → GoesOn given (with_entry w seat e r)

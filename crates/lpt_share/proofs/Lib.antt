@@ -1,3 +1,4 @@
+pub mod DoingLemmas
 pub mod Going
 pub mod RunLemmas
 pub mod TurnLemmas

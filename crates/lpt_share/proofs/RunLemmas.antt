@@ -1,11 +1,45 @@
--- What was found at the end of a run.
-use Rattle.std.proofs.Common.{ℕ, List}
-use Rattle.lpt_audit.specs.LptWorld.Worlds.{Shown}
+-- When a run is whole, and what follows.
+use Rattle.std.proofs.Common.{◌≡◌, ◌↔◌, sym, subst, ℕ, Bool, true, List, length, Result, Ok, Err, IfOk, IsTrue}
+use Rattle.lpt_audit.specs.Agreeing.{Agree}
+use Rattle.lpt_audit.specs.Finished.{AreShort, IsFinishedIfShort, owed_of}
+use Rattle.lpt_audit.specs.Kinds.{are_of_seats}
 use Rattle.lpt_audit.specs.LptEvents.declared.log.SeatLog.{SeatLog}
-use Rattle.lpt_audit.specs.Finished.{AreShort, IsFinishedIfShort}
+use Rattle.lpt_audit.specs.LptEvents.declared.turns.Turns.{Turns}
+use Rattle.lpt_audit.specs.LptWorld.Worlds.{Shown}
+use Rattle.lpt_audit.specs.Runs.{IsInOrder}
+use Rattle.lpt_audit.specs.Settled.{IsSettled}
+use Rattle.lpt_audit.specs.declared.owed.Owed.{Owed}
+use Rattle.lpt_audit.proofs.SettledLemmas.{finished}
+use Rattle.lpt_share.specs.WholeRuns.{IsWholeRun}
+use Rattle.lpt_share.specs.declared.fault.ShareFault.{ShareFault}
+use Rattle.lpt_share.specs.declared.fault.ShareFault.TheVariants.{Torn}
 
--- nothing is asked where a log is full
-pub not_short : (limit ticked : ℕ) (given w : Shown) (logs : List SeatLog)
-    → ¬ (AreShort limit logs)
-    → IsFinishedIfShort limit ticked given w logs
-not_short limit ticked given w logs full = record { finished = λ short. absurd (full short) }
+-- it has finished, where no log is full
+pub whole_finished : (turns : Turns) (from : ℕ) (owed : List Owed) (given w : Shown) (logs : List SeatLog)
+    → IsWholeRun turns from owed w logs
+    → from ≡ length given.journal
+    → owed ≡ owed_of given
+    → IsFinishedIfShort turns.per_seat turns.ticks given w logs
+whole_finished turns from owed given w logs whole place same = record {
+  finished = λ short. finished turns.ticks from owed given w (whole.1 short) place same;
+}
+
+-- where the logs are those of the run, it is whole exactly where all is done
+pub whole_if : {E : Type 0} (turns : Turns) (from : ℕ) (owed : List Owed) (w : Shown) (logs : List SeatLog) (r : Result Bool E)
+    → IsInOrder 1 logs × (are_of_seats logs ≡ true) × Agree w from logs
+    → IfOk r (λ done. IsTrue done ↔ (AreShort turns.per_seat logs → IsSettled turns.ticks from owed w))
+    → IfOk r (λ whole. IsTrue whole ↔ IsWholeRun turns from owed w logs)
+whole_if turns from owed w logs (Ok b) of_run done = (λ is. (of_run, done.0 is), λ whole. done.1 whole.1)
+whole_if turns from owed w logs (Err e) of_run done = tt
+
+-- where it was found torn, it isn't whole
+pub torn_shown : (turns : Turns) (from : ℕ) (owed : List Owed) (given w : Shown) (logs : List SeatLog) (fault : ShareFault)
+    → (fault ≡ Torn → ¬ (IsWholeRun turns from owed w logs))
+    → from ≡ length given.journal
+    → owed ≡ owed_of given
+    → fault ≡ Torn
+    → ¬ (IsWholeRun turns (length given.journal) (owed_of given) w logs)
+torn_shown turns from owed given w logs fault torn place same is whole =
+    torn is
+    (subst (λ n. IsWholeRun turns n owed w logs) (sym place)
+    (subst (λ o. IsWholeRun turns (length given.journal) o w logs) (sym same) whole))

@@ -30,6 +30,10 @@ MayRefuse at seat e fault =
 abbrev pub HasSameCalls : SeatLog → SeatLog → Type 0
 HasSameCalls old new = (new.seat ≡ old.seat) × (new.calls.items ≡ old.calls.items)
 
+-- the same, and the seat has seen no less
+abbrev pub IsLeft : SeatLog → SeatLog → Type 0
+IsLeft old new = HasSameCalls old new × (old.seen ≤ new.seen)
+
 -- the log has one call more, behind all others, at a place that the seat hadn't seen yet
 abbrev pub IsDone : SeatLog → SeatLog → Event → Done → Type 0
 IsDone old new e done =

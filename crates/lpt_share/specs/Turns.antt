@@ -1,10 +1,16 @@
--- What a turn adds to its seat's log: calls of its own events, in their order.
-use Rattle.std.specs.Prelude.{◌≡◌, ℕ, List, [], ◌∷◌, ◌++◌, Option, Some, None, Result, Ok, Err, ⊤}
+-- What a turn adds to its seat's log: calls of its own events, in their order, each of which was done.
+use Rattle.std.specs.Prelude.{◌≡◌, ◌≤◌, ◌+◌, ℕ, List, [], ◌∷◌, ◌++◌, Option, Some, None, Result, Ok, Err, ⊤}
 use Rattle.lpt_audit.specs.LptPacket.declared.direction.Direction.{Direction}
 use Rattle.lpt_audit.specs.LptPacket.Names.{Name}
 use Rattle.lpt_audit.specs.LptEvents.declared.event.Event.{Event}
 use Rattle.lpt_audit.specs.LptEvents.declared.event.Event.TheVariants.{Send, Finish, Expire, Apply}
+use Rattle.lpt_audit.specs.LptEvents.declared.fault.StepFault.{StepFault}
+use Rattle.lpt_audit.specs.LptEvents.declared.fault.StepFault.TheVariants as steps
+use Rattle.lpt_share.specs.Calls.{IsLeft, MayAnswer}
+use Rattle.lpt_share.specs.declared.call.CallFault.{CallFault}
+use Rattle.lpt_share.specs.declared.call.CallFault.TheVariants as calls
 use Rattle.lpt_share.specs.declared.fault.ShareFault.{ShareFault}
+use Rattle.lpt_share.specs.declared.fault.ShareFault.TheVariants as shares
 use Rattle.lpt_share.specs.declared.turns.Again.{Again}
 use Rattle.lpt_share.specs.declared.turns.Again.TheVariants as agains
 use Rattle.lpt_audit.specs.LptEvents.declared.log.Call.{Call}
@@ -23,10 +29,23 @@ Follow es again [] = ⊤
 Follow [] again (call ∷ calls) = (call.event ≡ again) × Follow [] again calls
 Follow (e ∷ es) again (call ∷ calls) = (call.event ≡ e) × Follow es again calls
 
--- the calls that the new log has more than the old one meet the fact
+-- The calls were answered one after the other by legal journals, each at a place that the seat, which
+-- had seen so much before, hadn't seen yet; and so much was seen after.
+abbrev pub AreDone : (seat seen : ℕ) → List Call → (after : ℕ) → Type 0
+AreDone seat seen [] after = seen ≤ after
+AreDone seat seen (call ∷ calls) after =
+    (seen ≤ call.place)
+    × MayAnswer call.place seat call.event call.reply
+    × AreDone seat (call.place + 1) calls after
+
+-- the calls that the new log has more than the old one meet the fact, and were done
 abbrev pub Adds : (List Call → Type 0) → SeatLog → SeatLog → Type 0
 Adds P old new =
-    (xs : List Call) × (new.seat ≡ old.seat) × (new.calls.items ≡ old.calls.items ++ xs) × P xs
+    (xs : List Call)
+    × (new.seat ≡ old.seat)
+    × (new.calls.items ≡ old.calls.items ++ xs)
+    × P xs
+    × AreDone old.seat old.seen xs new.seen
 
 -- what a sender's turn asks for: a part, or the end of the transaction
 abbrev pub sender_event : Direction → Name → Option ℕ → Event
@@ -38,12 +57,27 @@ abbrev pub again_event : Again → Event
 again_event (agains.Expire node) = Expire node
 again_event agains.Apply = Apply
 
--- the log has one call more where the event was accepted, and else the same calls
+-- the log has one call more where the event was accepted, which was done; and else the same calls
 abbrev pub IsAsked : {A : Type 0} → Event → SeatLog → SeatLog → Result (Option A) ShareFault → Type 0
 IsAsked e old new (Ok (Some answer)) =
     (call : Call)
     × (new.seat ≡ old.seat)
     × (call.event ≡ e)
     × (new.calls.items ≡ old.calls.items ++ call ∷ [])
-IsAsked e old new (Ok None) = (new.seat ≡ old.seat) × (new.calls.items ≡ old.calls.items)
-IsAsked e old new (Err fault) = (new.seat ≡ old.seat) × (new.calls.items ≡ old.calls.items)
+    × (old.seen ≤ call.place)
+    × MayAnswer call.place old.seat call.event call.reply
+    × (new.seen ≡ call.place + 1)
+IsAsked e old new (Ok None) = IsLeft old new
+IsAsked e old new (Err fault) = IsLeft old new
+
+-- how a turn ends at a call that was refused for this reason: with no answer, and only want of memory is
+-- a fault
+abbrev pub ended_by : {A : Type 0} → StepFault → Result (Option A) ShareFault
+ended_by steps.Memory = Err shares.Memory
+ended_by _ = Ok None
+
+-- how a turn ends at a call that did nothing
+abbrev pub failed_by : {A : Type 0} → CallFault → Result (Option A) ShareFault
+failed_by (calls.Refused r) = ended_by r.fault
+failed_by (calls.Torn length event) = Err shares.Torn
+failed_by (calls.Memory event) = Err shares.Memory

@@ -1,10 +1,9 @@
 //! The lock round a world, and calls through it.
 
-ghost use Rattle.std.specs.Prelude.{◌≡◌, ◌+◌, ◌≤◌, vec_len, vec_capacity, IfOk, IfErr};
-ghost use Rattle.lpt_audit.specs.LptJournal.Headline.{Holds};
-ghost use Rattle.lpt_audit.specs.LptWorld.Worlds.{history};
+ghost use Rattle.std.specs.Prelude.{◌≡◌, ◌+◌, ◌≤◌, length, vec_len, vec_capacity, IfOk, IfErr};
+ghost use Rattle.lpt_audit.specs.LptWorld.Worlds.{Promised};
 ghost use Rattle.lpt_share.specs.Calls.{IsDone, IsCallFault};
-ghost use Rattle.lpt_share.specs.Entering.{IsLegal};
+ghost use Rattle.lpt_share.specs.Entering.{Enters, IsLegal};
 ghost use Rattle.lpt_share.specs.Origins.{GoesOn};
 
 use crate::SeatLog;
@@ -40,15 +39,17 @@ pub struct Shared<J: Origin = Brand> {
 }
 
 impl Shared {
-    /// A lock round a world. It has no clause: what it keeps is said by its type, and by `into_world`.
+    /// A lock round a world that it doesn't name: of what comes out of it is known only that its
+    /// journal is legal and what is promised of all such worlds. `from_origin` makes one that knows
+    /// the world with which it was opened.
     pub fn new(world: World) -> Shared {
         Shared::from_origin(world)
     }
 }
 
 impl<J: Origin> Shared<J> {
-    // A lock round a world that goes on from the named one.
-    pub(crate) fn from_origin(world: World) -> Shared<J>
+    /// A lock round a world that goes on from the named one.
+    pub fn from_origin(world: World) -> Shared<J>
         requires { GoesOn J.given world }
     {
         Shared {
@@ -56,13 +57,15 @@ impl<J: Origin> Shared<J> {
         }
     }
 
-    /// The world. Its journal is legal, and the main theorem holds of it: each large message that was
-    /// released is byte for byte the one last opened under its name by the other node, at most once
-    /// per opening, and the memories are their first content, changed by the executed requests in
-    /// order of release. It goes on from the world that the lock was opened with, where one was named.
+    /// The world. Its journal is legal, and what is promised of each world holds of it: each large
+    /// message that was released is byte for byte the one last opened under its name by the other node,
+    /// at most once per opening; the memories are their first content, changed by the executed requests
+    /// in order of release; what expired or was released is final; and no request is executed in another
+    /// boot than that of its release. It goes on from the world that the lock was opened with, where
+    /// one was named.
     pub fn into_world(self) -> World
         ensures legal { IsLegal result }
-        ensures headline { Holds result.config result.first (history result) }
+        ensures promised { Promised result }
         ensures goes_on { GoesOn J.given result }
     {
         let Shared { world } = self;
@@ -100,6 +103,10 @@ fn answer<J: Origin>(
 ) -> Result<Done, CallFault>
     requires copied { copy ≡ event }
     requires room { vec_len log.old.calls + 1 ≤ vec_capacity log.old.calls }
+    // One event was entered at the place that is noted, or the world stays as it was.
+    ensures place { IfOk result (λ d. d.place ≡ length world.old.journal) }
+    ensures entered { IfOk result (λ d. Enters world.old world.new log.old.seat event d.reply) }
+    ensures unchanged { IfErr result (λ f. world.new ≡ world.old) }
     ensures done { IfOk result (λ d. IsDone log.old log.new event d) }
     ensures fault { IfErr result (λ f. IsCallFault log.old log.new event f) }
 {
@@ -123,7 +130,7 @@ fn answer<J: Origin>(
 fn shown(world: World) -> World
     ensures same { result ≡ world }
     ensures legal { IsLegal result }
-    ensures headline { Holds result.config result.first (history result) }
+    ensures promised { Promised result }
 {
     let _ = world.journal();
     world

@@ -1,6 +1,5 @@
 //! The seats of a run at its beginning: who tells whom, and the first notices.
 
-use crate::ShareFault;
 use crate::notices::{Outlets, send};
 use crate::task::{Seat, Task};
 use crossbeam_channel::{Receiver, Sender, unbounded};
@@ -28,7 +27,7 @@ struct Channels {
 /// All seats, from 1 to 10. They have notices of what stands in the world: each held packet, each
 /// job that waits, and each open transaction by rising identifier. No end of a channel is left that
 /// no seat has. Errors: want of memory.
-pub fn all_seats<R: Wait>(alloc: Global, rt: &R, world: &World) -> Result<Vec<Seat>, ShareFault> {
+pub fn all_seats<R: Wait>(alloc: Global, rt: &R, world: &World) -> Result<Vec<Seat>, AllocError> {
     let channels = new_channels(alloc)?;
     let seats = told_seats(alloc, rt, world, &channels);
     drop(channels);
@@ -41,12 +40,12 @@ fn told_seats<R: Wait>(
     rt: &R,
     world: &World,
     channels: &Channels,
-) -> Result<Vec<Seat>, ShareFault> {
+) -> Result<Vec<Seat>, AllocError> {
     tell_packets(rt, world, channels)?;
     tell_jobs(rt, world, &channels.jobs.to)?;
     tell_opened(alloc, rt, world, Direction::Up, &channels.opened_up.to)?;
     tell_opened(alloc, rt, world, Direction::Down, &channels.opened_down.to)?;
-    Ok(seats(alloc, channels)?)
+    seats(alloc, channels)
 }
 
 // A channel.
@@ -76,7 +75,7 @@ fn new_channels(alloc: Global) -> Result<Channels, AllocError> {
 
 // Gives notice of each held packet. Its direction isn't asked for: the lanes of the other one are
 // refused it.
-fn tell_packets<R: Wait>(rt: &R, world: &World, channels: &Channels) -> Result<(), ShareFault> {
+fn tell_packets<R: Wait>(rt: &R, world: &World, channels: &Channels) -> Result<(), AllocError> {
     for n in 0..world.packets() {
         if world.is_held(n) {
             send(rt, &channels.up.to, n)?;
@@ -87,7 +86,7 @@ fn tell_packets<R: Wait>(rt: &R, world: &World, channels: &Channels) -> Result<(
 }
 
 // Gives notice of each job that waits.
-fn tell_jobs<R: Wait>(rt: &R, world: &World, jobs: &Sender<u64>) -> Result<(), ShareFault> {
+fn tell_jobs<R: Wait>(rt: &R, world: &World, jobs: &Sender<u64>) -> Result<(), AllocError> {
     for _ in 0..world.jobs_left() {
         send(rt, jobs, 0)?;
     }
@@ -101,7 +100,7 @@ fn tell_opened<R: Wait>(
     world: &World,
     direction: Direction,
     to: &Sender<Name>,
-) -> Result<(), ShareFault> {
+) -> Result<(), AllocError> {
     for id in &open_names(alloc, world, direction)? {
         send(rt, to, *id)?;
     }

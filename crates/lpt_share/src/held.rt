@@ -1,8 +1,12 @@
 //! What stands under the lock: a world, of which the type says which world it began as.
 
-ghost use Rattle.std.specs.Prelude.{◌≡◌, ◌<◌, ◌+◌, ◌^◌, None, length, IfOk, IfErr};
+ghost use Rattle.std.specs.Prelude.{◌≡◌, ◌<◌, ◌+◌, ◌^◌, None, length, Some, IfOk, IfErr};
 ghost use Rattle.lpt_audit.specs.LptEvents.Configs.{IsConfig};
+ghost use Rattle.lpt_audit.specs.LptJournal.Jobs.{job_given};
 ghost use Rattle.lpt_audit.specs.LptMemory.Memories.{sizes_of};
+ghost use Rattle.lpt_audit.specs.LptWorld.Outside.{octets_of, IsOfHand, ReadRefusedBy};
+ghost use Rattle.lpt_audit.specs.LptWorld.Workers.{IsOfWorker};
+ghost use Rattle.lpt_audit.specs.LptWorld.Worlds.{history, refusal_at};
 ghost use Rattle.lpt_share.specs.Entering.{Enters, Refuses, IsLegal};
 ghost use Rattle.lpt_share.specs.Origins.{GoesOn};
 
@@ -13,7 +17,9 @@ use lpt_audit::{
 use std::alloc::AllocError;
 use std::marker::{Brand, Model, PhantomData};
 
-/// The world that a lock was opened with, where one was named.
+/// The world that a lock was opened with, where one was named: a function that is generic in it may
+/// require that the given world is its own, and knows then that what comes out of the lock goes on from
+/// that one.
 pub trait Origin {
     ghost use Rattle.std.specs.Prelude.{Option};
     ghost use Rattle.lpt_audit.specs.LptWorld.Worlds.{Shown};
@@ -107,6 +113,7 @@ impl<J: Origin> Held<J> {
     #[tactic(auto, using(crate::proofs::Going::goes_on_entered))]
     pub fn take_out(&mut self, seat: u8, lane: Lane, n: u64) -> Result<(Reply, Octets), Refused>
         ensures ok { IfOk result (λ r. Enters self.old self.new seat (Event.Take lane n) r.0) }
+        ensures octets { IfOk result (λ r. octets_of self.old n ≡ Some r.1) }
         ensures err { IfErr result (λ e. Refuses self.old self.new seat (Event.Take lane n) e) }
     {
         match self.world.take_out(seat, lane, n) {
@@ -124,7 +131,10 @@ impl<J: Origin> Held<J> {
         parsed: Parsed,
     ) -> Result<Reply, (StepFault, Parsed)>
         ensures ok { IfOk result (λ r. Enters self.old self.new seat (Event.Deliver lane) r) }
+        ensures read { IfOk result (λ r. IsOfHand self.old lane parsed) }
         ensures err { IfErr result (λ e. self.new ≡ self.old) }
+        ensures refused { IfErr result (λ e. ReadRefusedBy (IsOfHand self.old lane parsed) (refusal_at self.old seat (Event.Deliver lane)) e.0) }
+        ensures back { IfErr result (λ e. e.1 ≡ parsed) }
     {
         match self.world.deliver_parsed(seat, lane, parsed) {
             Ok(reply) => Ok(reply),
@@ -136,6 +146,7 @@ impl<J: Origin> Held<J> {
     #[tactic(auto, using(crate::proofs::Going::goes_on_entered))]
     pub fn claim_out(&mut self, seat: u8, worker: Worker) -> Result<(Reply, Ticket), Refused>
         ensures ok { IfOk result (λ r. Enters self.old self.new seat (Event.Claim worker) r.0) }
+        ensures ticket { IfOk result (λ r. job_given self.old.config (history self.old) ≡ Some r.1) }
         ensures err { IfErr result (λ e. Refuses self.old self.new seat (Event.Claim worker) e) }
     {
         match self.world.claim_out(seat, worker) {
@@ -153,7 +164,10 @@ impl<J: Origin> Held<J> {
         prepared: Prepared,
     ) -> Result<Reply, (StepFault, Prepared)>
         ensures ok { IfOk result (λ r. Enters self.old self.new seat (Event.Commit worker) r) }
+        ensures read { IfOk result (λ r. IsOfWorker self.old worker prepared) }
         ensures err { IfErr result (λ e. self.new ≡ self.old) }
+        ensures refused { IfErr result (λ e. ReadRefusedBy (IsOfWorker self.old worker prepared) (refusal_at self.old seat (Event.Commit worker)) e.0) }
+        ensures back { IfErr result (λ e. e.1 ≡ prepared) }
     {
         match self.world.commit_with(seat, worker, prepared) {
             Ok(reply) => Ok(reply),

@@ -12,6 +12,7 @@ mod call;
 mod fault;
 mod first;
 mod held;
+mod judging;
 mod notices;
 mod run;
 mod seats;
@@ -21,6 +22,7 @@ mod work;
 
 pub use call::{CallFault, Done, Shared};
 pub use fault::ShareFault;
+pub use held::Origin;
 pub use lpt_audit::{
     AckFlags, Answer, Area, Call, Config, ConfigFault, Direction, Entry, Event, Lane, Memories,
     Mode, Name, Octets, Outcome, Packet, PacketKind, Reason, Release, SeatLog, Side, StepFault,

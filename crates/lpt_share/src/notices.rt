@@ -1,9 +1,9 @@
 //! Notices: how a seat tells others that there is work. A notice is a hint; what it leads to may be
 //! refused.
 
-use crate::ShareFault;
 use crossbeam_channel::{SendError, Sender};
 use lpt_audit::{Answer, Applied, Call, Name, Outcome, Reply, SeatLog};
+use std::alloc::AllocError;
 use std::sync::Wait;
 
 /// Whom a seat tells of what its calls gave.
@@ -31,7 +31,7 @@ impl Outlets {
     }
 
     /// Tells of the calls of a log that weren't told yet. The only error is want of memory.
-    pub fn tell_of<R: Wait>(&mut self, rt: &R, log: &SeatLog) -> Result<(), ShareFault> {
+    pub fn tell_of<R: Wait>(&mut self, rt: &R, log: &SeatLog) -> Result<(), AllocError> {
         for call in log.calls.get(self.told..).unwrap_or(&[]) {
             self.tell(rt, call)?;
         }
@@ -40,7 +40,7 @@ impl Outlets {
     }
 
     // Tells of a call.
-    fn tell<R: Wait>(&self, rt: &R, call: &Call) -> Result<(), ShareFault> {
+    fn tell<R: Wait>(&self, rt: &R, call: &Call) -> Result<(), AllocError> {
         if let Some(packets) = &self.packets {
             tell_packets(rt, packets, &call.reply)?;
         }
@@ -59,7 +59,7 @@ impl Outlets {
 }
 
 // Tells of each packet that was put.
-fn tell_packets<R: Wait>(rt: &R, packets: &Sender<u64>, reply: &Reply) -> Result<(), ShareFault> {
+fn tell_packets<R: Wait>(rt: &R, packets: &Sender<u64>, reply: &Reply) -> Result<(), AllocError> {
     if let Some(puts) = reply.puts {
         for k in 0..puts.count {
             send(rt, packets, puts.first.saturating_add(k))?;
@@ -78,10 +78,10 @@ fn releases(answer: Answer) -> bool {
 }
 
 /// Gives a notice. Nobody may be left to take it; the only error is want of memory.
-pub fn send<T: Drop, R: Wait>(rt: &R, to: &Sender<T>, notice: T) -> Result<(), ShareFault> {
+pub fn send<T: Drop, R: Wait>(rt: &R, to: &Sender<T>, notice: T) -> Result<(), AllocError> {
     match to.send(rt, notice) {
         Ok(()) => Ok(()),
         Err(SendError::Disconnected(_notice)) => Ok(()),
-        Err(SendError::OutOfMemory(_notice)) => Err(ShareFault::Memory),
+        Err(SendError::OutOfMemory(_notice)) => Err(AllocError),
     }
 }

@@ -2,7 +2,9 @@
 //! while the lock is free.
 
 ghost use Rattle.std.specs.Prelude.{◌≡◌, ◌+◌, [], ◌∷◌, None, vec_len, IfOk};
-ghost use Rattle.lpt_share.specs.Turns.{Adds, Begin, Follow, IsAsked, again_event, sender_event};
+ghost use Rattle.lpt_audit.specs.LptEvents.Lanes.{lane_direction};
+ghost use Rattle.lpt_audit.specs.LptEvents.Sides.{receiver_side};
+ghost use Rattle.lpt_share.specs.Turns.{Adds, Begin, Follow, IsAsked, again_event, ended_by, failed_by, sender_event};
 
 use crate::held::Origin;
 use crate::{CallFault, SeatLog, ShareFault, Shared};
@@ -187,7 +189,8 @@ impl<J: Origin> Shared<J> {
 
 // How a turn ends at a call that did nothing.
 fn failed<T>(fault: &CallFault) -> Result<Option<T>, ShareFault>
-    ensures { IfOk result (λ answer. answer ≡ None) }
+    ensures none { IfOk result (λ answer. answer ≡ None) }
+    ensures exact { result ≡ failed_by fault.now }
 {
     match fault {
         CallFault::Refused(refused) => ended(refused.fault),
@@ -199,16 +202,19 @@ fn failed<T>(fault: &CallFault) -> Result<Option<T>, ShareFault>
 // How a turn ends at a call that was refused for this reason: with no answer, and only want of memory
 // is a fault.
 pub(crate) fn ended<T>(fault: StepFault) -> Result<Option<T>, ShareFault>
-    ensures { IfOk result (λ answer. answer ≡ None) }
+    ensures none { IfOk result (λ answer. answer ≡ None) }
+    ensures exact { result ≡ ended_by fault }
 {
-    if fault == StepFault::Memory {
-        return Err(ShareFault::Memory);
+    match fault {
+        StepFault::Memory => Err(ShareFault::Memory),
+        _ => Ok(None),
     }
-    Ok(None)
 }
 
 // The node that receives what a lane takes.
-fn receiver(lane: Lane) -> Side {
+fn receiver(lane: Lane) -> Side
+    ensures { result ≡ receiver_side (lane_direction lane) }
+{
     match lane.direction() {
         Direction::Up => Side::Craft,
         Direction::Down => Side::Ground,

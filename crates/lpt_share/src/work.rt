@@ -1,7 +1,13 @@
 //! The calls of turns that have work outside the lock, and a worker's turn.
 
-ghost use Rattle.std.specs.Prelude.{◌≡◌, ◌+◌, ◌≤◌, ◌<◌, ◌^◌, [], ◌∷◌, vec_len, vec_capacity, IfOk, IfSome, Ok, Err};
+ghost use Rattle.std.specs.Prelude.{◌≡◌, ◌+◌, ◌≤◌, ◌<◌, ◌^◌, [], ◌∷◌, length, vec_len, vec_capacity, Some, IfOk, IfErr, IfSome, Ok, Err};
 ghost use Rattle.lpt_audit.specs.LptEvents.Configs.{IsConfig};
+ghost use Rattle.lpt_audit.specs.LptJournal.Jobs.{job_given};
+ghost use Rattle.lpt_audit.specs.LptMemory.Memories.{sizes_of};
+ghost use Rattle.lpt_audit.specs.LptWorld.Outside.{octets_of};
+ghost use Rattle.lpt_audit.specs.LptWorld.Worlds.{history};
+ghost use Rattle.lpt_share.specs.Doing.{DoesOne};
+ghost use Rattle.lpt_share.specs.Entering.{IsLegal};
 ghost use Rattle.lpt_share.specs.Turns.{Adds, Follow, IsAsked};
 
 use crate::held::{Held, Origin};
@@ -62,6 +68,7 @@ impl<J: Origin> Shared<J> {
     }
 
     // Takes a packet, for a reader under this configuration.
+    #[tactic(auto, using(crate::proofs::DoingLemmas::unasked))]
     pub(crate) fn taken<R: Wait>(
         &self,
         rt: &R,
@@ -77,6 +84,7 @@ impl<J: Origin> Shared<J> {
     }
 
     // Delivers what was read of the lane's packet.
+    #[tactic(auto, using(crate::proofs::DoingLemmas::unasked))]
     pub(crate) fn delivered<R: Wait>(
         &self,
         rt: &R,
@@ -91,6 +99,7 @@ impl<J: Origin> Shared<J> {
     }
 
     // Claims a job, with the memories' shape and the APID for which it is prepared.
+    #[tactic(auto, using(crate::proofs::DoingLemmas::unasked))]
     fn claimed<R: Wait>(
         &self,
         rt: &R,
@@ -104,6 +113,7 @@ impl<J: Origin> Shared<J> {
     }
 
     // Commits a job that was prepared. Where it is refused, the preparation is given up.
+    #[tactic(auto, using(crate::proofs::DoingLemmas::unasked))]
     fn committed<R: Wait>(
         &self,
         rt: &R,
@@ -137,7 +147,11 @@ fn prepare_job(alloc: Global, job: (Ticket, Shape, u16)) -> Result<Prepared, Sha
 
 // The place of the log's next call, where the journal isn't shorter than the seat has seen it.
 fn next_place<J: Origin>(world: &Held<J>, log: &SeatLog) -> Result<u64, ShareFault>
-    ensures { IfOk result (λ place. place + 1 < 2 ^ 64) }
+    ensures place { IfOk result (λ place. place ≡ length world.now.journal) }
+    ensures seen { IfOk result (λ place. log.now.seen ≤ place) }
+    ensures small { IfOk result (λ place. place + 1 < 2 ^ 64) }
+    ensures legal { IsLegal world.now }
+    ensures torn { IfErr result (λ fault. length world.now.journal < log.now.seen) }
 {
     let place = world.len();
     if place < log.seen {
@@ -147,7 +161,7 @@ fn next_place<J: Origin>(world: &Held<J>, log: &SeatLog) -> Result<u64, ShareFau
 }
 
 // Takes a packet under the lock.
-#[tactic(auto, using(crate::proofs::TurnLemmas::refused))]
+#[tactic(auto, using(crate::proofs::DoingLemmas::refused))]
 fn take<J: Origin>(
     world: &mut Held<J>,
     log: &mut SeatLog,
@@ -155,7 +169,10 @@ fn take<J: Origin>(
     n: u64,
 ) -> Result<Option<(Octets, Config)>, ShareFault>
     requires room { vec_len log.old.calls + 1 ≤ vec_capacity log.old.calls }
-    ensures asked { IsAsked (Event.Take lane n) log.old log.new result }
+    ensures legal { IsLegal world.old }
+    ensures one { DoesOne (Event.Take lane n) world.old world.new log.old log.new result }
+    ensures octets { IfOk result (λ r. IfSome r (λ t. octets_of world.old n ≡ Some t.0)) }
+    ensures config { IfOk result (λ r. IfSome r (λ t. t.1 ≡ world.old.config)) }
     ensures configured { IfOk result (λ r. IfSome r (λ t. IsConfig t.1)) }
 {
     let place = next_place(world, log)?;
@@ -174,7 +191,7 @@ fn take<J: Origin>(
 }
 
 // Delivers a packet under the lock.
-#[tactic(auto, using(crate::proofs::TurnLemmas::refused))]
+#[tactic(auto, using(crate::proofs::DoingLemmas::refused))]
 fn deliver<J: Origin>(
     world: &mut Held<J>,
     log: &mut SeatLog,
@@ -182,7 +199,8 @@ fn deliver<J: Origin>(
     parsed: Parsed,
 ) -> Result<Option<Reply>, ShareFault>
     requires room { vec_len log.old.calls + 1 ≤ vec_capacity log.old.calls }
-    ensures { IsAsked (Event.Deliver lane) log.old log.new result }
+    ensures legal { IsLegal world.old }
+    ensures one { DoesOne (Event.Deliver lane) world.old world.new log.old log.new result }
 {
     let place = next_place(world, log)?;
     match world.deliver_parsed(log.seat, lane, parsed) {
@@ -198,14 +216,18 @@ fn deliver<J: Origin>(
 }
 
 // Claims a job under the lock.
-#[tactic(auto, using(crate::proofs::TurnLemmas::refused))]
+#[tactic(auto, using(crate::proofs::DoingLemmas::refused))]
 fn claim<J: Origin>(
     world: &mut Held<J>,
     log: &mut SeatLog,
     worker: Worker,
 ) -> Result<Option<(Ticket, Shape, u16)>, ShareFault>
     requires room { vec_len log.old.calls + 1 ≤ vec_capacity log.old.calls }
-    ensures { IsAsked (Event.Claim worker) log.old log.new result }
+    ensures legal { IsLegal world.old }
+    ensures one { DoesOne (Event.Claim worker) world.old world.new log.old log.new result }
+    ensures ticket { IfOk result (λ r. IfSome r (λ t. job_given world.old.config (history world.old) ≡ Some t.0)) }
+    ensures shape { IfOk result (λ r. IfSome r (λ t. t.1 ≡ sizes_of world.old.first)) }
+    ensures apid { IfOk result (λ r. IfSome r (λ t. t.2 ≡ world.old.config.apid)) }
 {
     let place = next_place(world, log)?;
     let Ok(shape) = world.shape() else {
@@ -224,7 +246,7 @@ fn claim<J: Origin>(
 }
 
 // Commits a job under the lock. Where it is refused, the preparation is given up.
-#[tactic(auto, using(crate::proofs::TurnLemmas::refused))]
+#[tactic(auto, using(crate::proofs::DoingLemmas::refused))]
 fn commit<J: Origin>(
     world: &mut Held<J>,
     log: &mut SeatLog,
@@ -232,7 +254,8 @@ fn commit<J: Origin>(
     prepared: Prepared,
 ) -> Result<Option<Reply>, ShareFault>
     requires room { vec_len log.old.calls + 1 ≤ vec_capacity log.old.calls }
-    ensures { IsAsked (Event.Commit worker) log.old log.new result }
+    ensures legal { IsLegal world.old }
+    ensures one { DoesOne (Event.Commit worker) world.old world.new log.old log.new result }
 {
     let place = match next_place(world, log) {
         Ok(place) => place,

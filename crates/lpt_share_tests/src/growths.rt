@@ -31,7 +31,12 @@ fn walk<R: Threads + Wait + Sync>(rt: &impl Abort, threads: &R, alloc: Global) -
 
 // Memory was wanting, or a thread couldn't be started; the world can be stepped on.
 fn goes_on(rt: &impl Abort, end: ShareEnd) {
-    let ShareEnd { fault, mut world } = end;
+    let ShareEnd {
+        fault,
+        mut world,
+        logs,
+    } = end;
+    drop(logs);
     assert!(rt; fault.code() == 62 || fault.code() == 63);
     assert!(rt; world.step(0, Event::Tick(Side::Craft)).is_ok());
     drop(world);

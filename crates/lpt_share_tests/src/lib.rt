@@ -4,11 +4,15 @@
 #[cfg(test)]
 mod calls;
 #[cfg(test)]
+mod edges;
+#[cfg(test)]
 mod gate;
 #[cfg(test)]
 mod growths;
 #[cfg(test)]
 mod meeting;
+#[cfg(test)]
+mod origins;
 #[cfg(test)]
 mod runs;
 #[cfg(test)]

@@ -80,8 +80,8 @@ fn is_released(world: &World, direction: Direction, id: Name, octets: usize) -> 
         && it.message.as_slice().len() == octets)
 }
 
-// How many requests were executed.
-fn executed(world: &World) -> usize {
+/// How many requests were executed.
+pub(crate) fn executed(world: &World) -> usize {
     world
         .journal()
         .iter()

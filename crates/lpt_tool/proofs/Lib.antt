@@ -1,1 +1,2 @@
+mod SummaryLemmas
 mod ThreadLemmas

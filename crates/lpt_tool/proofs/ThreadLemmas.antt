@@ -1,18 +1,23 @@
 -- How a script with threads ends.
-use Rattle.std.proofs.Common.{◌≤◌, ℕ, List, [], ◌++◌, take, Option, Result, Ok, Err, OnOk, IfErr, Bool, true, arith, subst, inl, inr}
-use Rattle.std.proofs.KnownBytes.{Appends-nil, Appends-trans}
-use Rattle.std.specs.Io.KnownBytes.{Appends}
+use Rattle.std.proofs.Common.{◌≤◌, ℕ, List, [], ◌++◌, take, Option, Result, Ok, Err, OnOk, IfErr, Bool, true, arith, ◌≡◌, sym, subst, inl, inr}
+use Rattle.std.proofs.KnownBytes.{Appends-kept, Appends-nil, Appends-trans}
+use Rattle.std.specs.Io.KnownBytes.{Appends, Keeps}
 use Rattle.lpt_share.specs.FaultNames.{code_of}
 use Rattle.lpt_share.specs.declared.fault.ShareFault.{ShareFault}
 use Rattle.lpt_share.specs.declared.fault.ShareFault.TheVariants.{Torn, Memory, NoThread}
 use Rattle.lpt_script.specs.LptText.Streams.{AppendsPart}
 use Rattle.lpt_script.specs.LptText.declared.fault.ToolFault.{ToolFault}
 use Rattle.lpt_script.specs.LptText.declared.fault.ToolFault.TheVariants as tool
-use Rattle.lpt_script.specs.Ends.{Grows, LinesEnd, RunEnds}
-use Rattle.lpt_tool.specs.Ends.{GoesOn, LinesAndMore, ThreadsEnds}
-use Rattle.lpt_script.specs.Scripts.{script_ran}
+use Rattle.lpt_script.specs.Ends.{Grows, LinesEnd, LinesLeave, RunEnds, TextEnds}
+use Rattle.lpt_script.specs.LptWords.declared.showing.Show.{Show}
+use Rattle.lpt_script.specs.Scripts.{Left, script_ran}
+use Rattle.lpt_share.specs.LptEvents.declared.turns.Turns.{Turns}
+use Rattle.lpt_share.specs.LptJournal.Releases.{releases}
+use Rattle.lpt_share.specs.WholeRuns.{IsRun}
+use Rattle.lpt_tool.specs.Ends.{shown_text, GoesOn, IsShownBehind, LinesAndMore, ThreadsEnds}
+use Rattle.lpt_tool.specs.Summary.{IsSummary}
 use Rattle.lpt_script.specs.declared.end.ScriptEnd.{ScriptEnd}
-use Rattle.lpt_share.specs.LptWorld.Worlds.{Shown}
+use Rattle.lpt_share.specs.LptWorld.Worlds.{Shown, history}
 
 -- ---- behind the text of lines
 
@@ -23,33 +28,46 @@ lines_and_more : (w : Shown) (text : List ℕ) (end : ScriptEnd) (a b c : Option
 lines_and_more w text end a b c p q =
     (p.0, q.0, Appends-trans a b c (script_ran true w text).text q.0 p.2 q.1)
 
+-- what was printed was passed on, and stays
+pub grown_kept : (a b c : Option (List ℕ)) → Grows a b → Keeps b c → Grows a c
+grown_kept a b c p q = (p.0, Appends-kept a b c p.0 p.1 q)
+
+-- what was printed could not be passed on
+pub flush_failed : (turns : Turns) (left : Left) (fault : ToolFault) (a b c : Option (List ℕ)) (more : Bool)
+    → Grows a b
+    → Keeps b c
+    → (fault ≡ tool.Write) × (more ≡ true)
+    → GoesOn turns left (Err fault) a c more
+flush_failed turns left fault a b c more p q cause =
+    subst (λ f. GoesOn turns left (Err f) a c more) (sym cause.0) (grown_kept a b c p q, cause.1)
+
 -- ---- the ends
 
 -- a fault of the lines
-pub lines_fault : (w : Shown) (fault : ToolFault) (old new a b : Option (List ℕ)) (failed wrote : Bool)
+pub lines_fault : (turns : Turns) (w : Shown) (fault : ToolFault) (old new a b : Option (List ℕ)) (failed wrote : Bool)
     → RunEnds true w (Err fault) old new a b failed wrote
-    → ThreadsEnds w (Err fault) old new a b failed wrote
-lines_fault w (tool.Line k) old new a b failed wrote p = p
-lines_fault w tool.Read old new a b failed wrote p = p
-lines_fault w tool.Config old new a b failed wrote p = p
-lines_fault w tool.Write old new a b failed wrote p = inl p
-lines_fault w tool.Memory old new a b failed wrote p = inl p
-lines_fault w (tool.Threads k) old new a b failed wrote p = absurd p
+    → ThreadsEnds turns w (Err fault) old new a b failed wrote
+lines_fault turns w (tool.Line k) old new a b failed wrote p = p
+lines_fault turns w tool.Read old new a b failed wrote p = p
+lines_fault turns w tool.Config old new a b failed wrote p = p
+lines_fault turns w tool.Write old new a b failed wrote p = inl p
+lines_fault turns w tool.Memory old new a b failed wrote p = inl p
+lines_fault turns w (tool.Threads k) old new a b failed wrote p = absurd p
 
 -- a fault of the threads, or of what is printed after them
-pub after_fault : (w : Shown) (end : ScriptEnd) (fault : ToolFault) (old new a b c : Option (List ℕ)) (failed wrote more : Bool)
+pub after_fault : (turns : Turns) (left : Left) (w : Shown) (end : ScriptEnd) (fault : ToolFault) (old new a b c : Option (List ℕ)) (failed wrote more : Bool)
     → RunEnds true w (Ok end) old new a b failed wrote
-    → GoesOn (Err fault) b c more
-    → ThreadsEnds w (Err fault) old new a c failed more
-after_fault w end (tool.Threads k) old new a b c failed wrote more p q =
+    → GoesOn turns left (Err fault) b c more
+    → ThreadsEnds turns w (Err fault) old new a c failed more
+after_fault turns left w end (tool.Threads k) old new a b c failed wrote more p q =
     ((p.0, p.1, p.2, p.3, (p.4.0, subst (λ x. Appends a x (script_ran true w p.0).text) q.0 p.4.2)), q.1, q.2)
-after_fault w end tool.Write old new a b c failed wrote more p q =
+after_fault turns left w end tool.Write old new a b c failed wrote more p q =
     inr ((p.0, p.1, p.2, p.3, lines_and_more w p.0 end a b c p.4 q.0), q.1)
-after_fault w end tool.Memory old new a b c failed wrote more p q =
+after_fault turns left w end tool.Memory old new a b c failed wrote more p q =
     inr (p.0, p.1, p.2, p.3, lines_and_more w p.0 end a b c p.4 q)
-after_fault w end (tool.Line k) old new a b c failed wrote more p q = absurd q
-after_fault w end tool.Read old new a b c failed wrote more p q = absurd q
-after_fault w end tool.Config old new a b c failed wrote more p q = absurd q
+after_fault turns left w end (tool.Line k) old new a b c failed wrote more p q = absurd q
+after_fault turns left w end tool.Read old new a b c failed wrote more p q = absurd q
+after_fault turns left w end tool.Config old new a b c failed wrote more p q = absurd q
 
 -- the number of a fault of the threads
 pub code_within : (fault : ShareFault) → (61 ≤ code_of fault) × (code_of fault ≤ 63)
@@ -57,10 +75,31 @@ code_within Torn = (omega arith, omega arith)
 code_within Memory = (omega arith, omega arith)
 code_within NoThread = (omega arith, omega arith)
 
--- all was done
-pub threads_done : (w : Shown) (end : ScriptEnd) (old new a b c : Option (List ℕ)) (failed wrote wrote_more : Bool)
-    → RunEnds true w (Ok end) old new a b failed wrote
-    → Grows b c
-    → ThreadsEnds w (Ok end) old new a c failed wrote_more
-threads_done w end old new a b c failed wrote wrote_more p q =
-    (p.0, p.1, p.2, p.3, (p.4.1, lines_and_more w p.0 end a b c p.4 q))
+-- all was done: the lines left this, and behind their text stands what is shown of the run
+pub threads_done : (turns : Turns) (left : Left) (w : Shown) (end : ScriptEnd) (old new a b c : Option (List ℕ)) (failed wrote : Bool)
+    → LinesLeave true [] w end left old new a b
+    → GoesOn turns left (Ok tt) b c wrote
+    → ThreadsEnds turns w (Ok end) old new a c failed wrote
+threads_done turns left w end old new a b c failed wrote p q =
+    let text = (script_ran true w p.0).text in
+    let after = q.2 ++ shown_text left.kept q.0 in
+    let shown : IsShownBehind text turns left a c =
+    (q.0, q.1, q.2, q.3, Appends-trans a b c text after p.4.0.2 q.4) in
+    (p.0, p.1, p.2, p.3, (p.4.0.0, p.4.0.1, subst (λ l. IsShownBehind text turns l a c) (sym p.4.1) shown))
+
+-- what is shown of the run was written and passed on
+pub shown_passed : (turns : Turns) (left : Left) (w : Shown) (a b c : Option (List ℕ)) (wrote : Bool)
+    → IsRun turns left.world w
+    → ((summary : List ℕ) × IsSummary (releases w.config (history w)) w.journal summary × Appends a b (summary ++ shown_text left.kept w))
+    → Keeps b c
+    → GoesOn turns left (Ok tt) a c wrote
+shown_passed turns left w a b c wrote ran p q =
+    (w, ran, p.0, p.1, Appends-kept a b c (p.0 ++ shown_text left.kept w) p.2 q)
+
+-- what a run left, and what kept lines show of it
+pub left_shown : (kept : List Show) (w : Shown) (r : Result Unit ToolFault) (a b c : Option (List ℕ))
+    → ((summary : List ℕ) × IsSummary (releases w.config (history w)) w.journal summary × Appends a b summary)
+    → TextEnds (shown_text kept w) r b c
+    → OnOk r ((summary : List ℕ) × IsSummary (releases w.config (history w)) w.journal summary × Appends a c (summary ++ shown_text kept w))
+left_shown kept w (Ok u) a b c p q = (p.0, p.1, Appends-trans a b c p.0 (shown_text kept w) p.2 q)
+left_shown kept w (Err fault) a b c p q = tt

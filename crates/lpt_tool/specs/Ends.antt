@@ -1,42 +1,64 @@
 -- How a script with threads ends: what the answer says of what was read and written.
-use Rattle.std.specs.Prelude.{◌≡◌, ◌⊎◌, ◌≤◌, ◌++◌, ℕ, Bool, true, List, Option, None, Result, Ok, Err}
+use Rattle.std.specs.Prelude.{◌≡◌, ◌⊎◌, ◌≤◌, ◌++◌, ℕ, Bool, true, List, [], Option, None, Result, Ok, Err}
 use Rattle.std.specs.Io.KnownBytes.{Appends}
+use Rattle.std.specs.List.{flat_map}
 use Rattle.lpt_script.specs.LptText.Reading.{IsWhole}
 use Rattle.lpt_script.specs.LptText.declared.fault.ToolFault.{ToolFault}
 use Rattle.lpt_script.specs.LptText.declared.fault.ToolFault.TheVariants as tool
 use Rattle.lpt_script.specs.declared.end.ScriptEnd.{ScriptEnd}
+use Rattle.lpt_script.specs.LptWords.declared.showing.Show.{Show}
 use Rattle.lpt_script.specs.Ends.{Grows, RunEnds}
-use Rattle.lpt_script.specs.Scripts.{Script, script_ran}
-use Rattle.lpt_share.specs.LptWorld.Worlds.{Shown}
+use Rattle.lpt_script.specs.Scripts.{Left, Script, script_left, script_ran, show_text}
+use Rattle.lpt_share.specs.LptEvents.declared.turns.Turns.{Turns}
+use Rattle.lpt_share.specs.LptJournal.Releases.{releases}
+use Rattle.lpt_share.specs.LptWorld.Worlds.{Shown, history}
+use Rattle.lpt_share.specs.WholeRuns.{IsRun}
+use Rattle.lpt_tool.specs.Summary.{IsSummary}
 
 -- the whole text of lines was written, and more may stand behind it
 abbrev pub LinesAndMore : Script → Option (List ℕ) → Option (List ℕ) → Type 0
 LinesAndMore script old new = (script.bad ≡ None) × (more : List ℕ) × Appends old new (script.text ++ more)
 
+-- what is shown of a world by lines that were kept, in order
+abbrev pub shown_text : List Show → Shown → List ℕ
+shown_text shows w = flat_map (λ s. show_text s w) shows
+
+-- a run of threads from what lines left: behind this text the summary of what it left was written, and then
+-- what the kept lines show of it
+abbrev pub IsShownBehind : List ℕ → Turns → Left → (before after : Option (List ℕ)) → Type 0
+IsShownBehind text turns left before after =
+    (w : Shown)
+    × IsRun turns left.world w
+    × (summary : List ℕ)
+    × IsSummary (releases w.config (history w)) w.journal summary
+    × Appends before after (text ++ (summary ++ shown_text left.kept w))
+
 -- How a script with threads ends. Ok: all was read, each line could be, and what those print that don't
--- show was written, with what the threads left behind it. Line, Read, Config: as without threads. Write,
+-- show was written, with what the threads left behind it, and what the other lines show of that. Line, Read, Config: as without threads. Write,
 -- Memory: as without threads, or behind the whole text of those lines. Threads: all was read, and the
 -- text of those lines written, no more.
 abbrev pub ThreadsEnds :
-    Shown → Result ScriptEnd ToolFault
+    Turns → Shown → Result ScriptEnd ToolFault
     → (read_before read_after written_before written_after : Option (List ℕ))
     → (read_failed write_failed : Bool) → Type 0
-ThreadsEnds w (Ok end) old new before after read_failed write_failed =
+ThreadsEnds turns w (Ok end) old new before after read_failed write_failed =
     IsWhole old new
-    (λ text. (end.refused ≡ (script_ran true w text).refused) × LinesAndMore (script_ran true w text) before after)
-ThreadsEnds w (Err (tool.Line n)) old new before after read_failed write_failed =
+    (λ text. ((script_ran true w text).bad ≡ None)
+    × (end.refused ≡ (script_ran true w text).refused)
+    × IsShownBehind (script_ran true w text).text turns (script_left true w text) before after)
+ThreadsEnds turns w (Err (tool.Line n)) old new before after read_failed write_failed =
     RunEnds true w (Err (tool.Line n)) old new before after read_failed write_failed
-ThreadsEnds w (Err tool.Read) old new before after read_failed write_failed =
+ThreadsEnds turns w (Err tool.Read) old new before after read_failed write_failed =
     RunEnds true w (Err tool.Read) old new before after read_failed write_failed
-ThreadsEnds w (Err tool.Config) old new before after read_failed write_failed =
+ThreadsEnds turns w (Err tool.Config) old new before after read_failed write_failed =
     (old ≡ new) × (before ≡ after)
-ThreadsEnds w (Err tool.Write) old new before after read_failed write_failed =
+ThreadsEnds turns w (Err tool.Write) old new before after read_failed write_failed =
     RunEnds true w (Err tool.Write) old new before after read_failed write_failed
     ⊎ (IsWhole old new (λ text. LinesAndMore (script_ran true w text) before after) × (write_failed ≡ true))
-ThreadsEnds w (Err tool.Memory) old new before after read_failed write_failed =
+ThreadsEnds turns w (Err tool.Memory) old new before after read_failed write_failed =
     RunEnds true w (Err tool.Memory) old new before after read_failed write_failed
     ⊎ IsWhole old new (λ text. LinesAndMore (script_ran true w text) before after)
-ThreadsEnds w (Err (tool.Threads n)) old new before after read_failed write_failed =
+ThreadsEnds turns w (Err (tool.Threads n)) old new before after read_failed write_failed =
     IsWhole old new
     (λ text. ((script_ran true w text).bad ≡ None)
     × Appends before after (script_ran true w text).text)
@@ -53,11 +75,11 @@ IsOfThreads tool.Memory = ⊥
 IsOfThreads tool.Config = ⊥
 
 -- how the threads and what is printed after them end: where the threads fail, nothing was written
-abbrev pub GoesOn : Result Unit ToolFault → (before after : Option (List ℕ)) → (write_failed : Bool) → Type 0
-GoesOn (Ok u) before after write_failed = Grows before after
-GoesOn (Err tool.Write) before after write_failed = Grows before after × (write_failed ≡ true)
-GoesOn (Err tool.Memory) before after write_failed = Grows before after
-GoesOn (Err (tool.Threads n)) before after write_failed = (before ≡ after) × (61 ≤ n) × (n ≤ 63)
-GoesOn (Err (tool.Line n)) before after write_failed = ⊥
-GoesOn (Err tool.Read) before after write_failed = ⊥
-GoesOn (Err tool.Config) before after write_failed = ⊥
+abbrev pub GoesOn : Turns → Left → Result Unit ToolFault → (before after : Option (List ℕ)) → (write_failed : Bool) → Type 0
+GoesOn turns left (Ok u) before after write_failed = IsShownBehind [] turns left before after
+GoesOn turns left (Err tool.Write) before after write_failed = Grows before after × (write_failed ≡ true)
+GoesOn turns left (Err tool.Memory) before after write_failed = Grows before after
+GoesOn turns left (Err (tool.Threads n)) before after write_failed = (before ≡ after) × (61 ≤ n) × (n ≤ 63)
+GoesOn turns left (Err (tool.Line n)) before after write_failed = ⊥
+GoesOn turns left (Err tool.Read) before after write_failed = ⊥
+GoesOn turns left (Err tool.Config) before after write_failed = ⊥

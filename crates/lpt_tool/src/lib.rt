@@ -11,14 +11,16 @@ mod summary;
 mod threads;
 
 pub use lpt_script::{
-    Command, End, LineBuffer, Load, Reading, ScriptEnd, Show, Source, Told, ToolFault, decode,
-    flush_out, print_clock, print_decoded, print_expired, print_finished, print_journal,
-    print_memory, print_none, print_opened, print_outcome, print_packet, print_put, print_refused,
-    print_release, print_restarted, print_retired, print_stale, print_took, print_unreadable,
-    read_hex, read_line, read_number, read_text, run_script, split_line, split_word, write_out,
+    Command, End, LineBuffer, Load, Passes, Reading, ScriptEnd, Show, Shows, Source, Told,
+    ToolFault, decode, flush_out, print_clock, print_decoded, print_expired, print_finished,
+    print_journal, print_memory, print_none, print_opened, print_outcome, print_packet, print_put,
+    print_refused, print_release, print_restarted, print_retired, print_stale, print_took,
+    print_unreadable, read_hex, read_line, read_number, read_text, run_lines, run_script,
+    split_line, split_word, write_out,
 };
 pub use lpt_share::{
-    AckFlags, Area, Config, Direction, Event, Lane, Memories, Mode, Name, Octets, Outcome, Packet,
-    PacketKind, Reason, Release, Side, StepFault, TmHead, Turns, Why, write_packet, write_tm,
+    AckFlags, Area, Config, ConfigFault, Direction, Event, Lane, Memories, Mode, Name, Octets,
+    Outcome, Packet, PacketKind, Reason, Release, Side, StepFault, TmHead, Turns, Why, World,
+    write_packet, write_tm,
 };
 pub use threads::run_threads_script;

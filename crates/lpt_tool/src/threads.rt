@@ -1,17 +1,21 @@
 //! Scripts whose events are followed by a run of threads.
 
-ghost use Rattle.std.specs.Prelude.{◌≡◌, ◌≢◌, ◌↔◌, ◌⊎◌, IfErr, IsErrOf, IsOk, IsSome, Err, true};
+ghost use Rattle.std.specs.Prelude.{◌≡◌, ◌≢◌, ◌↔◌, ◌⊎◌, ◌++◌, ℕ, List, IfErr, IfOk, IsErrOf, IsOk, IsSome, OnOk, Err, true};
+ghost use Rattle.std.specs.Io.KnownBytes.{Appends};
 ghost use Rattle.lpt_share.specs.LptEvents.Configs.{config_fault};
-ghost use Rattle.lpt_script.specs.Ends.{Grows};
-ghost use Rattle.lpt_tool.specs.Ends.{GoesOn, IsOfThreads, ThreadsEnds};
-ghost use Rattle.lpt_share.specs.LptWorld.Worlds.{new_world};
+ghost use Rattle.lpt_script.specs.Ends.{Grows, TextEnds};
+ghost use Rattle.lpt_script.specs.Scripts.{left_of};
+ghost use Rattle.lpt_share.specs.FaultNames.{code_of};
+ghost use Rattle.lpt_share.specs.LptJournal.Releases.{releases};
+ghost use Rattle.lpt_share.specs.LptWorld.Worlds.{history, new_world};
+ghost use Rattle.lpt_share.specs.WholeRuns.{IsRun};
+ghost use Rattle.lpt_tool.specs.Ends.{shown_text, GoesOn, IsOfThreads, ThreadsEnds};
+ghost use Rattle.lpt_tool.specs.Summary.{IsSummary};
 
 use crate::summary::put_summary;
-use lpt_script::{
-    Command, ScriptEnd, Show, Shows, Sink, Source, ToolFault, run_command, run_lines,
-};
+use lpt_script::{ScriptEnd, Show, Shows, Sink, Source, ToolFault, flush_out, run_lines, run_show};
 use lpt_share::{
-    Config, ConfigFault, Gate, Memories, Point, ShareEnd, ShareFault, Turns, World, run_threads,
+    Config, ConfigFault, Gate, Memories, Point, ShareFault, Turns, World, run_threads,
 };
 use std::alloc::Global;
 use std::sync::Wait;
@@ -30,7 +34,8 @@ impl Gate for Open {
 /// The lines that don't show are run as `run_script` runs them, and print the same; those that show
 /// are read with them, so an unreadable one ends the run in its place, and no thread runs. Behind that
 /// text stand the large releases, by direction and identifier, how many plain requests were released
-/// and how many requests executed; then what the kept lines show, in order.
+/// and how many requests executed; then what the kept lines show, in order. Where the run ends well,
+/// `out` has passed on all that was written.
 ///
 /// Errors: those of `run_script`, and `Threads` with the number of the fault by which the threads
 /// ended, 61 to 63.
@@ -43,11 +48,12 @@ pub fn run_threads_script<R: Threads + Wait + Sync, S: Source, K: Sink>(
     reader: &mut S,
     out: &mut K,
 ) -> Result<ScriptEnd, ToolFault>
-    ensures ends { ThreadsEnds (new_world config memories) result (S.remaining reader.old) (S.remaining reader.new)
+    ensures ends { ThreadsEnds turns (new_world config memories) result (S.remaining reader.old) (S.remaining reader.new)
         (K.contents out.old) (K.contents out.new) (S.failed reader.new) (K.failed out.new) }
     ensures config { IsErrOf result ToolFault.Config ↔ IsSome (config_fault config) }
     ensures told { result ≢ Err ToolFault.Write → K.failed out.new ≡ K.failed out.old }
     ensures read { IsOk result → S.failed reader.new ≡ S.failed reader.old }
+    ensures passed { IsOk result → K.passed out.new ≡ K.contents out.new }
 {
     let mut world = match World::new(alloc, config, memories) {
         Ok(world) => world,
@@ -68,7 +74,8 @@ pub fn run_threads_script<R: Threads + Wait + Sync, S: Source, K: Sink>(
     }
 }
 
-// Runs the threads, and prints what they left.
+// Runs the threads, prints what they left, and has it passed on.
+#[tactic(auto, using(crate::proofs::ThreadLemmas::shown_passed, crate::proofs::ThreadLemmas::flush_failed))]
 fn go_on<R: Threads + Wait + Sync, K: Sink>(
     alloc: Global,
     rt: &R,
@@ -77,14 +84,21 @@ fn go_on<R: Threads + Wait + Sync, K: Sink>(
     kept: Vec<Show>,
     out: &mut K,
 ) -> Result<(), ToolFault>
-    ensures ends { GoesOn result (K.contents out.old) (K.contents out.new) (K.failed out.new) }
+    ensures ends { GoesOn turns (left_of world kept.items) result (K.contents out.old) (K.contents out.new) (K.failed out.new) }
+    ensures passed { IsOk result → K.passed out.new ≡ K.contents out.new }
     ensures told { result ≢ Err ToolFault.Write → K.failed out.new ≡ K.failed out.old }
 {
     match run_ten(alloc, rt, world, turns) {
-        Ok(mut world) => {
-            let shown = show_left(alloc, &mut world, kept, out);
+        Ok(world) => {
+            let shown = show_left(alloc, &world, kept.as_slice(), out);
             drop(world);
-            shown
+            match shown {
+                Ok(()) => match flush_out(out) {
+                    Ok(()) => Ok(()),
+                    Err(fault) => Err(fault),
+                },
+                Err(fault) => Err(fault),
+            }
         }
         Err(fault) => Err(fault),
     }
@@ -97,91 +111,67 @@ fn run_ten<R: Threads + Wait + Sync>(
     world: World,
     turns: Turns,
 ) -> Result<World, ToolFault>
-    ensures { IfErr result IsOfThreads }
+    ensures ok { IfOk result (λ left. IsRun turns world left) }
+    ensures err { IfErr result IsOfThreads }
 {
     match run_threads(alloc, rt, world, turns, &Open) {
         Ok((world, logs)) => {
             drop(logs);
             Ok(world)
         }
-        Err(ShareEnd { fault, world }) => {
-            drop(world);
+        Err(end) => {
+            let fault = end.fault;
+            drop(end);
             Err(threads_fault(fault))
         }
     }
 }
 
 // The fault of a run that ended by this one.
+#[tactic(auto, using(crate::proofs::ThreadLemmas::code_within))]
 fn threads_fault(fault: ShareFault) -> ToolFault
-    ensures { IsOfThreads result }
+    ensures exact { result ≡ ToolFault.Threads (code_of fault) }
+    ensures within { IsOfThreads result }
 {
     ToolFault::Threads(fault.code())
 }
 
-// Prints what threads left, and runs the lines that show.
+// Prints what threads left, and then what the kept lines show of it.
 fn show_left<K: Sink>(
     alloc: Global,
-    world: &mut World,
-    kept: Vec<Show>,
+    world: &World,
+    kept: &[Show],
     out: &mut K,
 ) -> Result<(), ToolFault>
+    ensures all { OnOk result ((summary : List ℕ) × IsSummary (releases world.now.config (history world.now)) world.now.journal summary
+        × Appends (K.contents out.old) (K.contents out.new) (summary ++ shown_text kept.now world.now)) }
     ensures grows { Grows (K.contents out.old) (K.contents out.new) }
     ensures only { IfErr result (λ e. (e ≡ ToolFault.Write) ⊎ (e ≡ ToolFault.Memory)) }
     ensures cause { IsErrOf result ToolFault.Write → K.failed out.new ≡ true }
     ensures told { result ≢ Err ToolFault.Write → K.failed out.new ≡ K.failed out.old }
 {
-    match put_left(alloc, world, out) {
-        Ok(()) => run_kept(alloc, world, kept, out),
+    match put_summary(alloc, world.released(), world.journal(), out) {
+        Ok(()) => show_kept(alloc, world, kept, out),
         Err(fault) => Err(fault),
     }
 }
 
-// Prints what threads left.
-fn put_left<K: Sink>(alloc: Global, world: &World, out: &mut K) -> Result<(), ToolFault>
-    ensures grows { Grows (K.contents out.old) (K.contents out.new) }
-    ensures only { IfErr result (λ e. (e ≡ ToolFault.Write) ⊎ (e ≡ ToolFault.Memory)) }
-    ensures cause { IsErrOf result ToolFault.Write → K.failed out.new ≡ true }
-    ensures told { result ≢ Err ToolFault.Write → K.failed out.new ≡ K.failed out.old }
-{
-    put_summary(alloc, world.released(), world.journal(), out)
-}
-
-// Runs the lines that show.
-fn run_kept<K: Sink>(
+// Prints what the kept lines show.
+fn show_kept<K: Sink>(
     alloc: Global,
-    world: &mut World,
-    kept: Vec<Show>,
+    world: &World,
+    kept: &[Show],
     out: &mut K,
 ) -> Result<(), ToolFault>
-    ensures grows { Grows (K.contents out.old) (K.contents out.new) }
-    ensures only { IfErr result (λ e. (e ≡ ToolFault.Write) ⊎ (e ≡ ToolFault.Memory)) }
+    ensures ends { TextEnds (shown_text kept.now world.now) result (K.contents out.old) (K.contents out.new) }
     ensures cause { IsErrOf result ToolFault.Write → K.failed out.new ≡ true }
     ensures told { result ≢ Err ToolFault.Write → K.failed out.new ≡ K.failed out.old }
 {
     for show in kept {
-        match run_kept_one(alloc, world, show, out) {
+        match run_show(alloc, world, *show, out) {
             Ok(()) => {}
             Err(fault) => return Err(fault),
         }
     }
     Ok(())
-}
-
-// Runs a line that shows, which ends by no other fault than these two.
-fn run_kept_one<K: Sink>(
-    alloc: Global,
-    world: &mut World,
-    show: Show,
-    out: &mut K,
-) -> Result<(), ToolFault>
-    ensures grows { Grows (K.contents out.old) (K.contents out.new) }
-    ensures only { IfErr result (λ e. (e ≡ ToolFault.Write) ⊎ (e ≡ ToolFault.Memory)) }
-    ensures cause { IsErrOf result ToolFault.Write → K.failed out.new ≡ true }
-    ensures told { result ≢ Err ToolFault.Write → K.failed out.new ≡ K.failed out.old }
-{
-    match run_command(alloc, world, Command::Show(show), out) {
-        Ok(_) => Ok(()),
-        Err(ToolFault::Write) => Err(ToolFault::Write),
-        Err(_) => Err(ToolFault::Memory),
-    }
 }

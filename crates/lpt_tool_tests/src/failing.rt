@@ -1,5 +1,6 @@
 //! A reader and a writer that fail.
 
+use lpt_tool::Passes;
 use std::io::{self, ErrorKind, Read, Write};
 
 /// A reader that gives few octets at a time, and fails behind the last.
@@ -49,5 +50,11 @@ impl Write for Narrow {
         } else {
             Err(io::Error::from(ErrorKind::BrokenPipe))
         }
+    }
+}
+
+impl Passes for Narrow {
+    fn pass_on(&mut self) -> io::Result<()> {
+        self.flush()
     }
 }

@@ -3,7 +3,7 @@
 //! `tests/growths` has each growth fail in turn, in the tests as they are built.
 
 use crate::usual::{USUAL, contents};
-use lpt_tool::{Memories, Told, ToolFault, run_script};
+use lpt_tool::{Memories, Passes, Told, ToolFault, run_script};
 use std::alloc::Global;
 use std::io::{self, ErrorKind, Write};
 use std::process::Abort;
@@ -35,6 +35,12 @@ impl Write for Fixed {
 
     fn flush(&mut self) -> io::Result<()> {
         Ok(())
+    }
+}
+
+impl Passes for Fixed {
+    fn pass_on(&mut self) -> io::Result<()> {
+        self.flush()
     }
 }
 

@@ -3,7 +3,7 @@
 use crate::failing::{Breaking, Narrow};
 use lpt_tool::{End, LineBuffer, Told, ToolFault, flush_out, read_text, write_out};
 use std::alloc::Global;
-use std::io::{self, Read};
+use std::io::{self, BufWriter, Read};
 use std::test::Fail;
 
 const SCRIPT: &[u8] = b"open up 7 00010203\nshow journal\n";
@@ -43,6 +43,21 @@ fn wrote(narrow: Narrow, len: usize) -> (Result<(), ToolFault>, bool) {
 fn flushes_a_writer(rt: HostRuntime) {
     let mut out = Told::new(Vec::new(rt.alloc()));
     assert!(rt; flush_out(&mut out) == Ok(()));
+}
+
+// What a writer keeps back it passes on at a flush.
+#[test]
+fn passes_on_what_was_kept_back(rt: HostRuntime) -> Result<(), Fail> {
+    let Ok(writer) = BufWriter::new(rt.alloc(), Vec::new(rt.alloc())) else {
+        return Err("no memory for a buffer".into());
+    };
+    let mut out = Told::new(writer);
+    let wrote = write_out(&mut out, SCRIPT);
+    let before = out.inner().get_ref().len();
+    let flushed = flush_out(&mut out);
+    assert!(rt; (wrote, before, flushed) == (Ok(()), 0, Ok(())));
+    assert!(rt; out.inner().get_ref().as_slice() == SCRIPT);
+    Ok(())
 }
 
 #[test]

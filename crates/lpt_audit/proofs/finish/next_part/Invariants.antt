@@ -1,6 +1,6 @@
 -- The parts sent so far go on with those of the rest.
 use Rattle.std.proofs.Common.{◌≡◌, ◌≤◌, ◌+◌, length}
-use Rattle.lpt_audit.specs.FinishedInside.{sent_on}
+use Rattle.lpt_audit.specs.Settled.{sent_on}
 use Rattle.lpt_audit.proofs.finish.next_part.Given as goal
 
 abbrev pub invariant-loop-entry : goal.invariant-loop-entry

@@ -1,6 +1,7 @@
 -- The given world goes on from itself, and what was found at the end is so.
 use Rattle.std.proofs.Common.{refl, rules}
 use Rattle.lpt_share.proofs.Going.{Begins-self}
+use Rattle.lpt_share.proofs.RunLemmas.{torn_shown, whole_finished}
 use Rattle.lpt_share.proofs.run.run_from.Goals as goal
 
 pub from_origin-shared-requires : goal.from_origin-shared-requires
@@ -8,4 +9,10 @@ from_origin-shared-requires g c = rw c.requires (refl, refl, Begins-self c.args.
 
 -- nothing was left to do
 pub returns-in-Ok-judged-clause-finished : goal.returns-in-Ok-judged-clause-finished
-returns-in-Ok-judged-clause-finished g c = c.in-Ok-judged.ensures.finished c.args.world (search rules) (search rules)
+returns-in-Ok-judged-clause-finished g c =
+    whole_finished c.args.turns _ _ c.args.world _ _ c.in-Ok-judged.ensures.whole (search rules) (search rules)
+
+-- the logs and the world show what was left
+pub returns-clause-torn : goal.returns-clause-torn
+returns-clause-torn g c =
+    torn_shown c.args.turns _ _ c.args.world _ _ _ c.in-Err-judged.ensures.torn (search rules) (search rules)

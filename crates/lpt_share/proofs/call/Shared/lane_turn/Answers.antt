@@ -1,7 +1,7 @@
 -- The calls of the turn as far as it went.
-use Rattle.std.proofs.Common.{rules, refl, [], ◌∷◌}
+use Rattle.std.proofs.Common.{rules, [], ◌∷◌}
 use Rattle.lpt_audit.specs.LptEvents.declared.event.Event.TheVariants.{Take, Deliver}
-use Rattle.lpt_share.proofs.TurnLemmas.{begins, begins_none}
+use Rattle.lpt_share.proofs.TurnLemmas.{begins, begins_none, itself}
 use Rattle.lpt_share.proofs.call.Shared.lane_turn.Goals as goal
 
 pub returns-in_err-octets-clause-added : goal.returns-in_err-octets-clause-added
@@ -26,4 +26,4 @@ pub returns-clause-added : goal.returns-clause-added
 returns-clause-added g c =
     begins (Take c.args.lane c.args.n) (Deliver c.args.lane ∷ []) c.args.log.now c.taken.new.log c.delivered.new.log (search rules)
     (begins (Deliver c.args.lane) [] c.taken.new.log c.delivered.new.log c.delivered.new.log (search rules)
-    (begins_none [] c.delivered.new.log c.delivered.new.log (refl, refl)))
+    (begins_none [] c.delivered.new.log c.delivered.new.log (itself c.delivered.new.log)))

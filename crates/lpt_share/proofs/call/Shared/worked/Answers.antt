@@ -1,12 +1,12 @@
 -- The calls of the turn as far as it went, behind the claim.
-use Rattle.std.proofs.Common.{refl, rules, [], ◌∷◌}
+use Rattle.std.proofs.Common.{rules, [], ◌∷◌}
 use Rattle.lpt_audit.specs.LptEvents.declared.event.Event.TheVariants.{Commit, Apply}
-use Rattle.lpt_share.proofs.TurnLemmas.{stays, goes_on}
+use Rattle.lpt_share.proofs.TurnLemmas.{stays, goes_on, itself}
 use Rattle.lpt_share.proofs.call.Shared.worked.Goals as goal
 
 pub returns-in_err-prepared-clause-added : goal.returns-in_err-prepared-clause-added
 returns-in_err-prepared-clause-added g c =
-    stays (Commit c.args.worker ∷ []) Apply c.args.log.now c.args.log.now (refl, refl)
+    stays (Commit c.args.worker ∷ []) Apply c.args.log.now c.args.log.now (itself c.args.log.now)
 
 pub returns-in_err-_reply-clause-added : goal.returns-in_err-_reply-clause-added
 returns-in_err-_reply-clause-added g c =

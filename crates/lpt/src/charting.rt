@@ -1,0 +1,137 @@
+//! The picture of a script's run.
+
+use crate::end::{Failure, Status};
+use crate::streams::{Nowhere, STANDARD_INPUT, flush, opened, output};
+use crate::title::title_of;
+use crate::watched::Watched;
+use crate::work::status_at_end;
+use lpt_chart::Choice;
+use lpt_tool::{
+    Config, ConfigFault, End, Memories, ScriptEnd, Shows, Told, ToolFault, World, read_text,
+    run_lines, write_out,
+};
+use std::alloc::Global;
+use std::io::Read;
+
+/// Runs a script on a new world of these memories, the one at this path or standard input for `-`,
+/// and writes the picture of what happened.
+///
+/// Errors: `Line` at an unreadable line, `Read` where the script can't be opened or read: then the
+/// picture is of what happened before; `Write` where a write failed, `Memory`.
+pub fn chart(
+    rt: &HostRuntime,
+    config: Config,
+    memories: Memories,
+    choice: Choice,
+    script: &str,
+) -> Result<Status, Failure> {
+    if script == "-" {
+        return chart_from(rt, config, memories, choice, rt.reader(), STANDARD_INPUT);
+    }
+    match opened(rt, script) {
+        Ok(file) => chart_from(rt, config, memories, choice, file, script),
+        Err(failure) => {
+            drop(memories);
+            Err(failure)
+        }
+    }
+}
+
+// Draws the script that a reader of this name gives.
+fn chart_from<R: Read + Drop>(
+    rt: &HostRuntime,
+    config: Config,
+    memories: Memories,
+    choice: Choice,
+    reader: R,
+    name: &str,
+) -> Result<Status, Failure> {
+    let mut source = Told::new(Watched::new(reader));
+    let ran = match read_text(rt.alloc(), &mut source) {
+        Ok((text, End::Whole)) => drawn(rt, config, memories, choice, text.as_slice()),
+        Ok((text, _)) => {
+            let lines = whole_lines(text.as_slice());
+            match drawn(rt, config, memories, choice, lines) {
+                Ok(_) => Err(ToolFault::Read),
+                Err(fault) => Err(fault),
+            }
+        }
+        Err(fault) => {
+            drop(memories);
+            Err(fault)
+        }
+    };
+    let status = match ran {
+        Err(ToolFault::Line(number)) => {
+            let place = format!(in rt.alloc(); "{name}:{number}: unreadable");
+            Err(Failure::at(ToolFault::Line(number), place))
+        }
+        ran => status_at_end(rt, source.inner(), name, ran),
+    };
+    drop(source);
+    status
+}
+
+// The lines of a text that end in it.
+fn whole_lines(text: &[u8]) -> &[u8] {
+    let mut end = 0;
+    for (place, octet) in text.iter().enumerate() {
+        if *octet == b'\n' {
+            end = place;
+        }
+    }
+    text.split_at(end.min(text.len())).0
+}
+
+// Runs the lines of a script, and writes the picture of what happened: of all, or of what was before
+// an unreadable line.
+fn drawn(
+    rt: &HostRuntime,
+    config: Config,
+    memories: Memories,
+    choice: Choice,
+    script: &[u8],
+) -> Result<ScriptEnd, ToolFault> {
+    let alloc = rt.alloc();
+    let mut world = match World::new(alloc, config, memories) {
+        Ok(world) => world,
+        Err(ConfigFault::Memory) => return Err(ToolFault::Memory),
+        Err(_) => return Err(ToolFault::Config),
+    };
+    let mut lines = Told::new(script);
+    let mut printed = Nowhere::new();
+    let ran = run_lines(alloc, &mut world, &mut Shows::Now, &mut lines, &mut printed);
+    let picture = match ran {
+        Err(ToolFault::Memory) => Err(ToolFault::Memory),
+        _ => picture_of(alloc, choice, script, &world),
+    };
+    drop(world);
+    write_picture(rt, picture?.as_bytes())?;
+    ran
+}
+
+// The picture of what happened in a world, by the title of its script.
+fn picture_of(
+    alloc: Global,
+    choice: Choice,
+    script: &[u8],
+    world: &World,
+) -> Result<String, ToolFault> {
+    let Ok(title) = title_of(alloc, script) else {
+        return Err(ToolFault::Memory);
+    };
+    match lpt_chart::chart(alloc, choice, title.as_slice(), world.journal()) {
+        Ok(picture) => Ok(picture),
+        Err(_) => Err(ToolFault::Memory),
+    }
+}
+
+// Writes a picture.
+fn write_picture(rt: &HostRuntime, picture: &[u8]) -> Result<(), ToolFault> {
+    let mut out = output(rt)?;
+    let written = write_out(&mut out, picture);
+    match flush(out) {
+        Ok(()) => written,
+        Err(fault) => Err(fault),
+    }
+}

@@ -1,0 +1,106 @@
+//! Requests to a memory, written to standard output.
+
+ghost use Rattle.lpt_files.specs.LptEvents.Configs.{IsConfig};
+
+use crate::end::{Failure, Status, tell_place};
+use crate::request_words::{RequestWords, What};
+use crate::streams::{STANDARD_INPUT, finish, opened, output, read_failure};
+use crate::watched::Watched;
+use lpt_files::{Config, End, Octets, Told, ToolFault, read_text, write_out};
+use lpt_requests::{Area, MemoryFault, Request, write_request};
+use std::io::Read;
+
+/// Writes a request to a memory as a telecommand.
+///
+/// Errors: `Read` where a file can't be opened or read; `Write`, `Memory`.
+pub fn request(
+    rt: &HostRuntime,
+    config: &Config,
+    words: &RequestWords<'_>,
+) -> Result<Status, Failure>
+    requires { IsConfig config.now }
+{
+    let request = asked(rt, words)?;
+    let apid = config.apid;
+    let written = write_request(
+        rt.alloc(),
+        apid,
+        config.source,
+        words.count,
+        words.flags,
+        &request,
+    );
+    drop(request);
+    match written {
+        Ok(octets) => put(rt, octets.as_slice()),
+        Err(MemoryFault::TooLong) => Ok(refused(rt, "a packet has no more than 65542 octets")),
+        Err(MemoryFault::Memory) => Err(Failure::from(ToolFault::Memory)),
+        Err(_) => Ok(refused(rt, "a request has 1 to 255 areas, none of them empty")),
+    }
+}
+
+// Says on standard error why a request isn't written.
+fn refused(rt: &HostRuntime, why: &str) -> Status {
+    tell_place(rt, why);
+    Status::Refused
+}
+
+// Writes octets to standard output.
+fn put(rt: &HostRuntime, octets: &[u8]) -> Result<Status, Failure> {
+    let mut out = output(rt)?;
+    let written = write_out(&mut out, octets);
+    finish(out)?;
+    match written {
+        Ok(()) => Ok(Status::Done),
+        Err(fault) => Err(Failure::from(fault)),
+    }
+}
+
+// What the words ask of the memory, with the octets of the files that they name.
+fn asked(rt: &HostRuntime, words: &RequestWords<'_>) -> Result<Request, Failure> {
+    let memory = words.memory;
+    match &words.what {
+        What::Load(files) => {
+            let mut areas = Vec::new(rt.alloc());
+            for (address, file) in files {
+                let octets = octets_of(rt, file)?;
+                let address = *address;
+                if areas.push(Area { address, octets }).is_err() {
+                    return Err(Failure::from(ToolFault::Memory));
+                }
+            }
+            Ok(Request::Load(memory, areas))
+        }
+        What::Dump(places) => match places.clone() {
+            Ok(places) => Ok(Request::Dump(memory, places)),
+            Err(_) => Err(Failure::from(ToolFault::Memory)),
+        },
+        What::Check(places) => match places.clone() {
+            Ok(places) => Ok(Request::Check(memory, places)),
+            Err(_) => Err(Failure::from(ToolFault::Memory)),
+        },
+    }
+}
+
+// The octets of a file, or of standard input.
+fn octets_of(rt: &HostRuntime, file: &str) -> Result<Octets, Failure> {
+    if file == "-" {
+        return octets_from(rt, rt.reader(), STANDARD_INPUT);
+    }
+    octets_from(rt, opened(rt, file)?, file)
+}
+
+// The octets that a reader of this name gives.
+fn octets_from<R: Read + Drop>(rt: &HostRuntime, reader: R, name: &str) -> Result<Octets, Failure> {
+    let mut source = Told::new(Watched::new(reader));
+    let (octets, end) = read_text(rt.alloc(), &mut source)?;
+    let failure = match end {
+        End::Failed => Some(read_failure(rt, source.inner(), name)),
+        _ => None,
+    };
+    drop(source);
+    match failure {
+        Some(failure) => Err(failure),
+        None => Ok(Octets::from_vec(octets)),
+    }
+}

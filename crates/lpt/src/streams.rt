@@ -1,0 +1,109 @@
+//! Files that are read, and standard output.
+
+ghost use Rattle.std.specs.Prelude.{None};
+
+use crate::end::Failure;
+use crate::watched::Watched;
+use lpt_files::{Sink, Told, ToolFault, flush_out};
+use std::fs::File;
+use std::io;
+use std::io::{BufWriter, ErrorKind, Printer};
+
+/// The name by which standard input is told.
+pub const STANDARD_INPUT: &str = "standard input";
+
+/// Standard output, written when there is enough of it.
+pub type Output<'a> = Told<BufWriter<Watched<Printer<'a, HostRuntime>>>>;
+
+/// The file at this path, to be read.
+///
+/// Errors: `Read` where it can't be opened.
+pub fn opened(rt: &HostRuntime, path: &str) -> Result<File, Failure> {
+    match File::open(rt, path) {
+        Ok(file) => Ok(file),
+        Err(error) => {
+            let place = format!(in rt.alloc(); "{path}: {error}");
+            Err(Failure::at(ToolFault::Read, place))
+        }
+    }
+}
+
+/// Why a reader of this name failed.
+pub fn read_failure<R>(rt: &HostRuntime, reader: &Watched<R>, name: &str) -> Failure {
+    match reader.error() {
+        Some(error) => {
+            let place = format!(in rt.alloc(); "{name}: {error}");
+            Failure::at(ToolFault::Read, place)
+        }
+        None => Failure::from(ToolFault::Read),
+    }
+}
+
+/// Standard output.
+///
+/// Errors: `Memory`.
+pub fn output(rt: &HostRuntime) -> Result<Output<'_>, ToolFault> {
+    match BufWriter::new(rt.alloc(), Watched::new(io::writer(rt))) {
+        Ok(writer) => Ok(Told::new(writer)),
+        Err(_) => Err(ToolFault::Memory),
+    }
+}
+
+/// Writes what the output has kept back. Where that fails, a write of it failed before all else.
+///
+/// Errors: `Write`.
+pub fn flush(mut out: Output<'_>) -> Result<(), ToolFault> {
+    let flushed = flush_out(&mut out);
+    drop(out);
+    flushed
+}
+
+/// Writes what the output has kept back, and gives the failure of that, about which nothing is told
+/// where nobody reads the output any more.
+pub fn finish(mut out: Output<'_>) -> Result<(), Failure> {
+    let failure = match flush_out(&mut out) {
+        Ok(()) => None,
+        Err(fault) => Some(match out.inner().get_ref().error() {
+            Some(error) if error.kind() == ErrorKind::BrokenPipe => Failure::unread(),
+            _ => Failure::from(fault),
+        }),
+    };
+    drop(out);
+    match failure {
+        None => Ok(()),
+        Some(failure) => Err(failure),
+    }
+}
+
+/// A sink of which nothing is kept.
+#[derive(Drop)]
+pub struct Nowhere {
+    failed: bool,
+}
+
+impl Nowhere {
+    /// A sink that nothing was written to.
+    pub fn new() -> Self {
+        Nowhere { failed: false }
+    }
+}
+
+impl Sink for Nowhere {
+    ghost contents = { λ _. None };
+
+    ghost passed = { λ _. None };
+
+    ghost failed = { λ sink. sink.failed };
+
+    // That nothing was written counts as a failure.
+    fn write(&mut self, buf: &[u8]) -> Option<usize> {
+        if buf.is_empty() {
+            self.failed = true;
+        }
+        Some(buf.len())
+    }
+
+    fn flush(&mut self) -> bool {
+        true
+    }
+}

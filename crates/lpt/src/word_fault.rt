@@ -1,0 +1,51 @@
+//! What is wrong with words that are more than one to a thing.
+
+use std::alloc::{AllocError, AllocFailed, Global};
+
+/// What is wrong with words that were read.
+#[derive(Clone, Copy, Debug)]
+pub enum WordFault<'a> {
+    /// One is missing.
+    Missing,
+    /// This one is no address.
+    Address(&'a str),
+    /// This one is no number of octets.
+    Length(&'a str),
+    /// Behind this address no number of octets stands.
+    NoLength(&'a str),
+    /// Memory is wanting.
+    Memory,
+}
+
+impl From<AllocError> for WordFault<'_> {
+    fn from(_: AllocError) -> Self {
+        WordFault::Memory
+    }
+}
+
+impl<T: Drop> From<AllocFailed<T>> for WordFault<'_> {
+    fn from(_: AllocFailed<T>) -> Self {
+        WordFault::Memory
+    }
+}
+
+impl WordFault<'_> {
+    /// What is told of it. The only error is want of memory.
+    pub fn text(&self, alloc: Global) -> Result<String, AllocError> {
+        match self {
+            WordFault::Missing => format!(in alloc; "a word is missing"),
+            WordFault::Address(word) => {
+                format!(in alloc;
+                    "invalid value '{word}' for '<ADDRESS>': no number of 0 to 4294967295"
+                )
+            }
+            WordFault::Length(word) => {
+                format!(in alloc; "invalid value '{word}' for '<LENGTH>': no number of 1 to 65535")
+            }
+            WordFault::NoLength(word) => {
+                format!(in alloc; "no '<LENGTH>' stands behind the '<ADDRESS>' {word}")
+            }
+            WordFault::Memory => format!(in alloc; "memory is wanting"),
+        }
+    }
+}

@@ -1,0 +1,27 @@
+-- What a function that is lent the locked world does to it: one event, or nothing.
+use Rattle.std.specs.Prelude.{◌≡◌, ◌≤◌, ◌+◌, ℕ, [], ◌∷◌, ◌++◌, length, Option, Some, None, Result, Ok, Err}
+use Rattle.lpt_audit.specs.LptEvents.declared.event.Event.{Event}
+use Rattle.lpt_audit.specs.LptEvents.declared.log.SeatLog.{SeatLog}
+use Rattle.lpt_audit.specs.LptEvents.declared.reply.Reply.{Reply}
+use Rattle.lpt_audit.specs.LptWorld.Worlds.{Shown}
+use Rattle.lpt_share.specs.Calls.{HasSameCalls, IsLeft}
+use Rattle.lpt_share.specs.Entering.{Enters}
+use Rattle.lpt_share.specs.declared.fault.ShareFault.{ShareFault}
+
+-- the log has one call more, behind all others: the event at the end of this world's journal
+abbrev pub IsNoted : Event → Reply → Shown → SeatLog → SeatLog → Type 0
+IsNoted e r world old new =
+    (old.seen ≤ length world.journal)
+    × (new.seat ≡ old.seat)
+    × (new.seen ≡ length world.journal + 1)
+    × (new.calls.items ≡ old.calls.items ++ record { place = length world.journal; event = e; reply = r } ∷ [])
+
+-- One event of the log's seat was entered in the world and noted at its place; or it was refused, the
+-- world stays, and the log has seen its length; or there was a fault, and the world stays too.
+abbrev pub DoesOne : {A : Type 0} → Event → Shown → Shown → SeatLog → SeatLog → Result (Option A) ShareFault → Type 0
+DoesOne e world after old new (Ok (Some answer)) =
+    (r : Reply) × Enters world after old.seat e r × IsNoted e r world old new
+DoesOne e world after old new (Ok None) =
+    (after ≡ world) × HasSameCalls old new × (old.seen ≤ length world.journal) × (new.seen ≡ length world.journal)
+DoesOne e world after old new (Err fault) =
+    (after ≡ world) × IsLeft old new

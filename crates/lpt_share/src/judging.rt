@@ -1,0 +1,111 @@
+//! What is found when the threads of a run have ended.
+
+ghost use Rattle.std.specs.Prelude.{◌≡◌, ◌↔◌, ◌≤◌, Some, None, true, length, IfOk, IfErr, IsTrue};
+ghost use Rattle.lpt_audit.specs.Agreeing.{Agree};
+ghost use Rattle.lpt_audit.specs.Finished.{AreShort};
+ghost use Rattle.lpt_audit.specs.Kinds.{are_of_seats};
+ghost use Rattle.lpt_audit.specs.Runs.{IsInOrder};
+ghost use Rattle.lpt_audit.specs.Settled.{IsSettled};
+ghost use Rattle.lpt_share.specs.WholeRuns.{IsWholeRun};
+
+use crate::{SeatLog, ShareFault, Turns, agrees};
+use lpt_audit::{Owed, World, are_in_order, are_of_seats, are_short, is_settled};
+use std::alloc::{AllocError, Global};
+
+/// How the threads of a run ended: with these logs, and why not all were run to their end.
+#[derive(Drop)]
+pub(crate) struct Ran {
+    pub(crate) logs: Vec<SeatLog>,
+    pub(crate) fault: Option<ShareFault>,
+}
+
+/// The logs of a run that began at this place with what was owed. A seat that found the journal torn has
+/// only ended before its time: what that left is found as for any other.
+///
+/// Errors: `Torn` where the run isn't whole; `Memory` and `NoThread`.
+pub(crate) fn judged(
+    alloc: Global,
+    world: &World,
+    from: u64,
+    owed: &[Owed],
+    turns: Turns,
+    ran: Ran,
+) -> Result<Vec<SeatLog>, (ShareFault, Vec<SeatLog>)>
+    ensures whole { IfOk result (λ logs. IsWholeRun turns from owed.now world.now logs.items) }
+    ensures torn { IfErr result (λ e. e.0 ≡ ShareFault.Torn → ¬ (IsWholeRun turns from owed.now world.now e.1.items)) }
+{
+    let Ran { logs, fault } = ran;
+    let why = match fault {
+        None | Some(ShareFault::Torn) => found(alloc, world, from, owed, turns, logs.as_slice()),
+        Some(ShareFault::Memory) => Some(ShareFault::Memory),
+        Some(ShareFault::NoThread) => Some(ShareFault::NoThread),
+    };
+    match why {
+        None => Ok(logs),
+        Some(fault) => Err((fault, logs)),
+    }
+}
+
+// Why a run isn't whole, or that memory is wanting to see it.
+fn found(
+    alloc: Global,
+    world: &World,
+    from: u64,
+    owed: &[Owed],
+    turns: Turns,
+    logs: &[SeatLog],
+) -> Option<ShareFault>
+    ensures whole { result ≡ None → IsWholeRun turns from owed.now world.now logs.now }
+    ensures torn { result ≡ Some ShareFault.Torn → ¬ (IsWholeRun turns from owed.now world.now logs.now) }
+{
+    match is_whole(alloc, world, from, owed, turns, logs) {
+        Ok(true) => None,
+        Ok(false) => Some(ShareFault::Torn),
+        Err(_) => Some(ShareFault::Memory),
+    }
+}
+
+// Whether the logs of a run are those of its seats and agree with the journal, and nothing was left to
+// do. The only error is want of memory.
+fn is_whole(
+    alloc: Global,
+    world: &World,
+    from: u64,
+    owed: &[Owed],
+    turns: Turns,
+    logs: &[SeatLog],
+) -> Result<bool, AllocError>
+    ensures { IfOk result (λ whole. IsTrue whole ↔ IsWholeRun turns from owed.now world.now logs.now) }
+{
+    if !are_of_run(world, from, logs) {
+        return Ok(false);
+    }
+    is_all_done(alloc, world, from, owed, turns, logs)
+}
+
+// Whether logs are in order and of their seats' events, and agree with the journal.
+fn are_of_run(world: &World, from: u64, logs: &[SeatLog]) -> bool
+    ensures { IsTrue result ↔ (IsInOrder 1 logs.now × (are_of_seats logs.now ≡ true) × Agree world.now from logs.now) }
+{
+    are_in_order(logs) && are_of_seats(logs) && agrees(world, from, logs)
+}
+
+// Whether nothing was left to do at the end of a run that began at this place with what was owed; or
+// a log is full, and nothing is asked. The only error is want of memory.
+fn is_all_done(
+    alloc: Global,
+    world: &World,
+    from: u64,
+    owed: &[Owed],
+    turns: Turns,
+    logs: &[SeatLog],
+) -> Result<bool, AllocError>
+    requires { from ≤ length world.now.journal }
+    ensures { IfOk result (λ done. IsTrue done ↔ (AreShort turns.per_seat logs.now → IsSettled turns.ticks from owed.now world.now)) }
+{
+    let short = are_short(turns.per_seat, logs);
+    if !short {
+        return Ok(true);
+    }
+    is_settled(alloc, world, from, owed, turns.ticks)
+}

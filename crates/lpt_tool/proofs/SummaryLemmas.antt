@@ -1,0 +1,70 @@
+-- What is printed behind the text of a script's lines.
+use Rattle.std.proofs.Common.{◌≡◌, ◌⊎◌, refl, inl, inr, ℕ, List, [], ◌++◌, take, Option, Result, Ok, Err, OnOk, IfErr, Bool}
+use Rattle.std.proofs.KnownBytes.{Appends-kept, Appends-trans}
+use Rattle.std.specs.Io.KnownBytes.{Appends, Keeps}
+use Rattle.lpt_script.specs.Ends.{Grows, TextEnds}
+use Rattle.lpt_script.specs.LptPrint.Printing.{plain_count_text, applied_count_text}
+use Rattle.lpt_script.specs.LptText.declared.fault.ToolFault.{ToolFault}
+use Rattle.lpt_script.specs.LptText.declared.fault.ToolFault.TheVariants as tool
+use Rattle.lpt_share.specs.LptEvents.declared.entry.Entry.{Entry}
+use Rattle.lpt_share.specs.LptEvents.declared.entry.Release.{Release}
+use Rattle.lpt_share.specs.LptPacket.Names.{Name}
+use Rattle.lpt_share.specs.LptPacket.declared.direction.Direction.{Direction}
+use Rattle.lpt_share.specs.LptPacket.declared.direction.Direction.TheVariants.{Up, Down}
+use Rattle.lpt_tool.specs.Summary.{applied_count, large_of, large_text, plain_count, IsByName, IsSummary}
+
+-- ---- a text
+
+-- what was written stays
+pub text_grows : (text : List ℕ) (r : Result Unit ToolFault) (a b : Option (List ℕ)) → TextEnds text r a b → Grows a b
+text_grows text (Ok u) a b p = (text, p)
+text_grows text (Err tool.Write) a b p = (take p.0 text, p.1)
+text_grows text (Err tool.Memory) a b p = (take p.0 text, p.1)
+text_grows text (Err tool.Read) a b p = absurd p
+text_grows text (Err tool.Config) a b p = absurd p
+text_grows text (Err (tool.Line k)) a b p = absurd p
+text_grows text (Err (tool.Threads k)) a b p = absurd p
+
+-- it ends by no other faults
+pub text_only : (text : List ℕ) (r : Result Unit ToolFault) (a b : Option (List ℕ))
+    → TextEnds text r a b
+    → IfErr r (λ e. (e ≡ tool.Write) ⊎ (e ≡ tool.Memory))
+text_only text (Ok u) a b p = tt
+text_only text (Err tool.Write) a b p = inl refl
+text_only text (Err tool.Memory) a b p = inr refl
+text_only text (Err tool.Read) a b p = absurd p
+text_only text (Err tool.Config) a b p = absurd p
+text_only text (Err (tool.Line k)) a b p = absurd p
+text_only text (Err (tool.Threads k)) a b p = absurd p
+
+-- ---- the summary
+
+-- the lines of large releases by name
+abbrev pub AreWritten : Direction → List Release → (a b : Option (List ℕ)) → Type 0
+AreWritten d rs a b =
+    (sorted : List (Name × ℕ)) × IsByName (large_of d rs) sorted × Appends a b (large_text d sorted)
+
+pub large_written : (d : Direction) (rs : List Release) (sorted : List (Name × ℕ)) (r : Result Unit ToolFault) (a b : Option (List ℕ))
+    → IsByName (large_of d rs) sorted
+    → TextEnds (large_text d sorted) r a b
+    → OnOk r (AreWritten d rs a b)
+large_written d rs sorted (Ok u) a b is p = (sorted, is, p)
+large_written d rs sorted (Err fault) a b is p = tt
+
+-- the counts behind the large releases of both directions
+pub summary_written : (rs : List Release) (xs : List Entry) (r : Result Unit ToolFault) (a b c d e : Option (List ℕ))
+    → AreWritten Up rs a b
+    → AreWritten Down rs b c
+    → Appends c d (plain_count_text (plain_count rs))
+    → TextEnds (applied_count_text (applied_count xs)) r d e
+    → OnOk r ((text : List ℕ) × IsSummary rs xs text × Appends a e text)
+summary_written rs xs (Err fault) a b c d e ups downs plain applied = tt
+summary_written rs xs (Ok u) a b c d e ups downs plain applied =
+    let counts = plain_count_text (plain_count rs) ++ applied_count_text (applied_count xs) in
+    let behind = large_text Down downs.0 ++ counts in (
+      large_text Up ups.0 ++ behind,
+      (ups.0, downs.0, ups.1, downs.1, refl),
+      Appends-trans a b e (large_text Up ups.0) behind ups.2
+          (Appends-trans b c e (large_text Down downs.0) counts downs.2
+          (Appends-trans c d e (plain_count_text (plain_count rs)) (applied_count_text (applied_count xs)) plain applied)),
+    )
