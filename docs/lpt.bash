@@ -2,27 +2,49 @@
 
 _lpt() {
     local word=${COMP_WORDS[COMP_CWORD]} before=${COMP_WORDS[COMP_CWORD - 1]}
-    local command='' i
+    local command='' request='' offered='' i
     for ((i = 1; i < COMP_CWORD; i++)); do
-        case ${COMP_WORDS[i]} in
-        run | threads | decode | help)
+        case $command:${COMP_WORDS[i]} in
+        :run | :threads | :chart | :decode | :split | :join | :request | :help)
             command=${COMP_WORDS[i]}
+            ;;
+        request:load | request:dump | request:check | request:help)
+            request=${COMP_WORDS[i]}
             break
             ;;
         esac
     done
+    local options='--config --help --version'
+    case $command:$request in
+    chart:*) options+=' --from --to' ;;
+    split:*) options+=' --parts --count --whole' ;;
+    join:*) options+=' --id' ;;
+    request:load) options+=' --area --ack --count' ;;
+    request:dump | request:check) options+=' --ack --count' ;;
+    esac
     COMPREPLY=()
-    if [[ $before == --config ]]; then
+    case $command:$request:$before:$word in
+    *:*:--config:*)
         mapfile -t COMPREPLY < <(compgen -f -- "$word")
-    elif [[ -z $command ]]; then
-        mapfile -t COMPREPLY < <(compgen -W 'run threads decode help --help --version' -- "$word")
-    elif [[ $command == help ]]; then
-        mapfile -t COMPREPLY < <(compgen -W 'run threads decode help' -- "$word")
-    elif [[ $word == -* ]]; then
-        mapfile -t COMPREPLY < <(compgen -W '--config --help --version' -- "$word")
-    elif [[ $command == run || $command == threads ]]; then
+        return
+        ;;
+    *:*:--from:* | *:*:--to:* | *:*:--parts:* | *:*:--id:* | *:*:--ack:* | *:*:--count:* | *:*:--area:*)
+        return
+        ;;
+    :*) offered='run threads chart decode split join request help --help --version' ;;
+    help::help:*) offered='run threads chart decode split join request help' ;;
+    help::request:* | request:help:help:*) offered='load dump check' ;;
+    help:* | request:help:*) return ;;
+    request::*) offered='load dump check help --help --version' ;;
+    *:*:*:-*) offered=$options ;;
+    split::split:* | join::join:*) offered='up down' ;;
+    decode:*) return ;;
+    *)
         mapfile -t COMPREPLY < <(compgen -f -- "$word")
-    fi
+        return
+        ;;
+    esac
+    mapfile -t COMPREPLY < <(compgen -W "$offered" -- "$word")
 }
 
 complete -o filenames -F _lpt lpt ./lpt

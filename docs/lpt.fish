@@ -1,0 +1,59 @@
+# Completions of lpt for fish: `source docs/lpt.fish`.
+
+# Whether the words begin with these commands.
+function __lpt_at
+    set -l words (commandline -opc)[2..-1]
+    for command in $argv
+        test "$words[1]" = "$command"; or return 1
+        set -e words[1]
+    end
+end
+
+# Whether the words are these commands, and no more stand behind them.
+function __lpt_is
+    __lpt_at $argv; and test (count (commandline -opc)) -eq (math 1 + (count $argv))
+end
+
+complete -c lpt -f
+
+# Commands.
+complete -c lpt -n '__lpt_is' -a run -d 'Run a script on a new world'
+complete -c lpt -n '__lpt_is' -a threads -d 'Run a script on a new world, and then ten threads'
+complete -c lpt -n '__lpt_is' -a chart -d "Draw a script's run as an SVG"
+complete -c lpt -n '__lpt_is' -a decode -d 'Say what octets are as a packet'
+complete -c lpt -n '__lpt_is' -a split -d "Write the packets of a message's parts"
+complete -c lpt -n '__lpt_is' -a join -d 'Write the message that packets carry'
+complete -c lpt -n '__lpt_is' -a request -d 'Write a request to a memory as a telecommand'
+complete -c lpt -n '__lpt_is' -a help -d 'Print the help of a command'
+complete -c lpt -n '__lpt_is help' -a 'run threads chart decode split join request help'
+complete -c lpt -n '__lpt_is help request; or __lpt_is request help' -a 'load dump check'
+complete -c lpt -n '__lpt_is request' -a load -d 'Load octets into a memory'
+complete -c lpt -n '__lpt_is request' -a dump -d 'Ask for octets of a memory'
+complete -c lpt -n '__lpt_is request' -a check -d 'Ask for checksums of a memory'
+complete -c lpt -n '__lpt_is request' -a help -d 'Print the help of a command'
+
+# Words.
+complete -c lpt -n '__lpt_is split; or __lpt_is join' -a 'up down'
+complete -c lpt -n '__lpt_at run; or __lpt_at threads; or __lpt_at chart' -F
+complete -c lpt -n '__lpt_at split up; or __lpt_at split down' -F
+complete -c lpt -n '__lpt_at join up; or __lpt_at join down' -F
+complete -c lpt -n '__lpt_at request load' -F
+
+# Options.
+complete -c lpt -n 'not __lpt_at help; and not __lpt_at request help' -s h -l help -d 'Print help'
+complete -c lpt -n 'not __lpt_at help; and not __lpt_at request help' -s V -l version -d 'Print version'
+for command in run threads chart decode split join 'request load' 'request dump' 'request check'
+    complete -c lpt -n "__lpt_at $command" -l config -r -F -d 'The configuration, a TOML file'
+end
+complete -c lpt -n '__lpt_at chart' -l from -x -d 'The first place of the journal that is drawn'
+complete -c lpt -n '__lpt_at chart' -l to -x -d 'The last place of the journal that is drawn'
+complete -c lpt -n '__lpt_at split' -l parts -x -d 'The parts to write, as 3,7-9,12-'
+complete -c lpt -n '__lpt_at split' -l whole -d 'Pass on a message that has no more octets than a part'
+complete -c lpt -n '__lpt_at join' -l id -x -d "The message's identifier, 0 to 65535"
+complete -c lpt -n '__lpt_at request load' -l area -x -d 'Octets for another address'
+for command in 'request load' 'request dump' 'request check'
+    complete -c lpt -n "__lpt_at $command" -l ack -x -d 'The acknowledgement flags, 0 to 15'
+end
+for command in split 'request load' 'request dump' 'request check'
+    complete -c lpt -n "__lpt_at $command" -l count -x -d 'The sequence count of the first packet, 0 to 16383'
+end
