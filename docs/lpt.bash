@@ -5,7 +5,7 @@ _lpt() {
     local command='' request='' offered='' i
     for ((i = 1; i < COMP_CWORD; i++)); do
         case $command:${COMP_WORDS[i]} in
-        :run | :threads | :chart | :decode | :split | :join | :request | :help)
+        :run | :threads | :lint | :chart | :decode | :split | :join | :request | :help)
             command=${COMP_WORDS[i]}
             ;;
         request:load | request:dump | request:check | request:help)
@@ -16,6 +16,7 @@ _lpt() {
     done
     local options='--config --help --version'
     case $command:$request in
+    lint:*) options='--help --version' ;;
     chart:*) options+=' --from --to' ;;
     split:*) options+=' --parts --count --whole' ;;
     join:*) options+=' --id' ;;
@@ -31,8 +32,8 @@ _lpt() {
     *:*:--from:* | *:*:--to:* | *:*:--parts:* | *:*:--id:* | *:*:--ack:* | *:*:--count:* | *:*:--area:*)
         return
         ;;
-    :*) offered='run threads chart decode split join request help --help --version' ;;
-    help::help:*) offered='run threads chart decode split join request help' ;;
+    :*) offered='run threads lint chart decode split join request help --help --version' ;;
+    help::help:*) offered='run threads lint chart decode split join request help' ;;
     help::request:* | request:help:help:*) offered='load dump check' ;;
     help:* | request:help:*) return ;;
     request::*) offered='load dump check help --help --version' ;;

@@ -19,13 +19,14 @@ complete -c lpt -f
 # Commands.
 complete -c lpt -n '__lpt_is' -a run -d 'Run a script on a new world'
 complete -c lpt -n '__lpt_is' -a threads -d 'Run a script on a new world, and then ten threads'
+complete -c lpt -n '__lpt_is' -a lint -d "Print every line of a script that can't be read, and why"
 complete -c lpt -n '__lpt_is' -a chart -d "Draw a script's run as an SVG"
 complete -c lpt -n '__lpt_is' -a decode -d 'Say what octets are as a packet'
 complete -c lpt -n '__lpt_is' -a split -d "Write the packets of a message's parts"
 complete -c lpt -n '__lpt_is' -a join -d 'Write the message that packets carry'
 complete -c lpt -n '__lpt_is' -a request -d 'Write a request to a memory as a telecommand'
 complete -c lpt -n '__lpt_is' -a help -d 'Print the help of a command'
-complete -c lpt -n '__lpt_is help' -a 'run threads chart decode split join request help'
+complete -c lpt -n '__lpt_is help' -a 'run threads lint chart decode split join request help'
 complete -c lpt -n '__lpt_is help request; or __lpt_is request help' -a 'load dump check'
 complete -c lpt -n '__lpt_is request' -a load -d 'Load octets into a memory'
 complete -c lpt -n '__lpt_is request' -a dump -d 'Ask for octets of a memory'
@@ -34,7 +35,7 @@ complete -c lpt -n '__lpt_is request' -a help -d 'Print the help of a command'
 
 # Words.
 complete -c lpt -n '__lpt_is split; or __lpt_is join' -a 'up down'
-complete -c lpt -n '__lpt_at run; or __lpt_at threads; or __lpt_at chart' -F
+complete -c lpt -n '__lpt_at run; or __lpt_at threads; or __lpt_at lint; or __lpt_at chart' -F
 complete -c lpt -n '__lpt_at split up; or __lpt_at split down' -F
 complete -c lpt -n '__lpt_at join up; or __lpt_at join down' -F
 complete -c lpt -n '__lpt_at request load' -F

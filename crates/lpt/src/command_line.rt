@@ -25,6 +25,8 @@ pub enum Command<'a> {
     Run(&'a str),
     /// `threads SCRIPT`: the script's path, or `-` for standard input.
     Threads(&'a str),
+    /// `lint SCRIPT`: the script's path, or `-` for standard input.
+    Lint(&'a str),
     /// `chart SCRIPT`: the script's path, or `-` for standard input, and which rows are drawn.
     Chart(&'a str, Choice),
     /// `decode HEX`: octets as hexadecimal digits.
@@ -99,6 +101,7 @@ fn command_of<'a>(name: &str, inner: &ArgMatches<'a>) -> Option<Command<'a>> {
     match name {
         "run" => inner.get_str("SCRIPT").map(Command::Run),
         "threads" => inner.get_str("SCRIPT").map(Command::Threads),
+        "lint" => inner.get_str("SCRIPT").map(Command::Lint),
         "chart" => match inner.get_str("SCRIPT") {
             Some(script) => Some(Command::Chart(script, chosen(inner))),
             None => None,
@@ -113,6 +116,7 @@ fn command_of<'a>(name: &str, inner: &ArgMatches<'a>) -> Option<Command<'a>> {
 fn configuration_in<'a>(name: &str, matches: &ArgMatches<'a>) -> Option<&'a str> {
     match (name, matches.subcommand()) {
         ("request", Some((_, inner))) => inner.get_str("config"),
+        ("lint", _) => None,
         _ => matches.get_str("config"),
     }
 }
@@ -131,6 +135,7 @@ Examples:
   lpt run examples/first_path.script    run the script of that file
   lpt run - --config settings.toml      run the one on standard input, line by line
   lpt threads examples/threads.script   run it, and then ten threads
+  lpt lint examples/first_path.script   print where it can't be read, and why
   lpt chart examples/first_path.script  draw what happened, as an SVG
   lpt decode 07ffc000000000             say what these octets are as a packet
   lpt request load 1 0 image            write the telecommand that loads this file
@@ -139,7 +144,7 @@ Examples:
 
 Statuses:
   0  all was done
-  1  an event was refused, a message isn't whole or can't be sent, or the octets are no packet
+  1  an event or a line was refused, a message isn't whole or can't be sent, or octets are no packet
   2  the words, a line of the script, HEX or the configuration can't be read
   3  a file can't be read, the output can't be written, memory is wanting, or threads failed
 
@@ -158,6 +163,7 @@ fn program<'a>(alloc: Global) -> Result<clap::Command<'a>, AllocError> {
         program,
         subcommand(alloc, "threads", about, word(alloc, "SCRIPT", script)),
     )?;
+    let program = with(program, lint(alloc))?;
     let program = with(program, chart(alloc))?;
     let hex = word(alloc, "HEX", "Octets as hexadecimal digits, or - for none");
     let about = "Say what octets are as a packet";
@@ -190,6 +196,17 @@ pub(crate) fn with<'a>(
             Err(error)
         }
     }
+}
+
+// The command that judges a script.
+fn lint<'a>(alloc: Global) -> Result<clap::Command<'a>, AllocError> {
+    clap::Command::new(alloc, "lint")
+        .about("Print every line of a script that can't be read, and why")
+        .arg(word(
+            alloc,
+            "SCRIPT",
+            "The script's path, or - for standard input",
+        ))
 }
 
 // The command that draws.

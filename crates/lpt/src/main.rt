@@ -11,6 +11,7 @@ mod configuration;
 mod end;
 mod file_words;
 mod files;
+mod linting;
 mod request_words;
 mod requests;
 mod streams;
@@ -73,6 +74,7 @@ fn done<T: Threads + Wait + Sync>(
     match &asked.command {
         Command::Run(script) => work::run(rt, threads, config, memories, None, script),
         Command::Threads(script) => work::run(rt, threads, config, memories, Some(turns), script),
+        Command::Lint(script) => linting::lint(rt, script),
         Command::Chart(script, choice) => charting::chart(rt, config, memories, *choice, script),
         Command::Decode(hex) => work::decode(rt, config, hex),
         Command::Split(words) => files::split(rt, &config, words),
