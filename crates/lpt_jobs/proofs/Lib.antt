@@ -1,1 +1,1 @@
-mod JobsLemmas
+pub mod JobsLemmas

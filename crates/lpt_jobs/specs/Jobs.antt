@@ -103,6 +103,10 @@ is_ready (Ready r) = true
 abbrev pub after_push : Jobs → List ℕ → Jobs
 after_push q message = record { first = q.first; jobs = q.jobs ++ Waiting message ∷ [] }
 
+-- the youngest job waits
+abbrev pub IsPushed : Jobs → Type 0
+IsPushed q = (before : Jobs) × (message : List ℕ) × (q ≡ after_push before message)
+
 -- the oldest job that waits is claimed, and its message is the worker's
 abbrev pub after_claim : Jobs → Jobs
 after_claim q = record { first = q.first; jobs = set q.jobs (claimed_in q.jobs) Claimed }

@@ -3,7 +3,7 @@
 ghost use Rattle.std.specs.Prelude.{◌≡◌, ◌+◌, ◌-◌, ◌<◌, ◌^◌, ◌∷◌, length, Some, IsSome, IsTrue, IfErr, OnOk, OnErr};
 ghost use Rattle.std.specs.Option.{option_map, option_copied};
 ghost use Rattle.lpt_jobs.specs.declared.job.Job.TheVariants.{Committed};
-ghost use Rattle.lpt_jobs.specs.Jobs.{no_jobs, numbered, job_at, claimed_in, unclaimed, is_claimed, head, head_of, is_ready, after_push, after_claim, after_commit, without_front, AreInOrder};
+ghost use Rattle.lpt_jobs.specs.Jobs.{no_jobs, numbered, job_at, claimed_in, unclaimed, is_claimed, head, head_of, is_ready, after_push, after_claim, after_commit, without_front, AreInOrder, IsPushed};
 
 use crate::Front;
 use crate::job::Job;
@@ -127,6 +127,17 @@ impl JobQueue {
             ) => Err(message),
             Err(_) => unreachable!(),
         }
+    }
+
+    /// Takes the youngest job out, which must wait: its message. Its number is given again.
+    pub fn pop_back(&mut self) -> Octets
+        requires { IsPushed self.old }
+        ensures { self.old ≡ after_push self.new result }
+    {
+        let Some(Job::Waiting(message)) = self.jobs.pop_back() else {
+            unreachable!()
+        };
+        message
     }
 
     /// Claims the oldest job that waits, of which there must be one: its number and its message,

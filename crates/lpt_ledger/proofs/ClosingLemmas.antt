@@ -1,16 +1,19 @@
 -- What closing each open identifier does to the marks.
-use Rattle.std.proofs.Common.{◌≡◌, ◌≢◌, ◌∙◌, refl, sym, ap, ℕ, zero, suc, ◌+◌, ◌<◌, Bool, true, false, cond, List, [], ◌∷◌, ◌++◌, take, drop, length, get_or, map as mapped, Option, Some, None, arith, add-one}
-use Rattle.std.proofs.Math.ListN.{set, get_or-map}
+use Rattle.std.proofs.Common.{◌≡◌, ◌≢◌, ◌∙◌, refl, sym, ap, ℕ, ◌+◌, ◌/◌, ◌%◌, ◌<◌, ◌≤◌, Bool, true, false, cond, List, [], ◌∷◌, map as mapped, Option, Some, None, inl, inr, arith}
+use Rattle.std.proofs.lemmas.Bool.{cases_lt}
+use Rattle.std.proofs.lemmas.Bool.Decides.{eqb_tells}
+use Rattle.std.specs.BTreeMap.{is_at}
+use Rattle.std.specs.Ordering.{nat_cmp}
 use Rattle.std.specs.FinMap.{get, entries, find, get-entries, get-from_entries}
 use Rattle.lpt_packet.proofs.NameLemmas.{name_cmp_total}
 use Rattle.std.specs.Ordering.{eq_by_cmp}
 use Rattle.lpt_packet.specs.Names.{Name, name_cmp}
-use Rattle.lpt_ledger.specs.declared.state.State.{State}
-use Rattle.lpt_ledger.specs.declared.state.State.TheVariants.{Free, Open, Closed}
+use Rattle.lpt_ledger.specs.declared.page.Page.{Page}
+use Rattle.lpt_ledger.specs.LeastFree.{name_count}
 use Rattle.lpt_ledger.specs.Marks.{Mark, Opened, Shut, Marks, shut_mark, all_closed}
 use Rattle.lpt_ledger.specs.States.{state_of, state_at, closed_state}
-use Rattle.lpt_ledger.specs.LedgerInside.{mark_of, marks}
-use Rattle.lpt_ledger.proofs.MarksLemmas.{get-marks, same_marks}
+use Rattle.lpt_ledger.specs.LedgerInside.{mark_at, mark_on, marks, page_in}
+use Rattle.lpt_ledger.proofs.MarksLemmas.{at_same, at_other, get-marks, get-marks_past, same_marks}
 
 -- ---- all at once
 
@@ -47,64 +50,49 @@ pub state_at-all_closed : (m : Marks) (q : Name)
     → state_at (all_closed m) q ≡ closed_state (state_at m q)
 state_at-all_closed m q = ap state_of (get-all_closed m q) ∙ state_of-shut_mark (get m q)
 
--- the mark of a state that is closed where it was open
-mark_of-closed_state : (s : State) → mark_of (closed_state s) ≡ shut_mark (mark_of s)
-mark_of-closed_state Free = refl
-mark_of-closed_state Open = refl
-mark_of-closed_state Closed = refl
+-- ---- one page after another
 
--- to close each open state is to shut all marks
-pub marks-closed : (states : List State)
-    → marks (mapped closed_state states) ≡ all_closed (marks states)
-marks-closed states =
-    same_marks (marks (mapped closed_state states)) (all_closed (marks states)) (λ q.
-    get-marks (mapped closed_state states) q
-    ∙ ap mark_of (get_or-map closed_state states q Free)
-    ∙ mark_of-closed_state (get_or states q Free)
-    ∙ ap shut_mark (sym (get-marks states q))
-    ∙ sym (get-all_closed (marks states) q))
+-- the pages of numbers below n are closed, and the others are as they were
+pub record AreClosed (es fs : List (ℕ × Page)) (n : ℕ) : Type 0 where
+  pub closed : (q : Name) → q / 64 < n → mark_at fs q ≡ shut_mark (mark_at es q)
+  pub others : (q : Name) → n ≤ q / 64 → mark_at fs q ≡ mark_at es q
 
--- ---- one after another
+-- so they are at first
+pub AreClosed-none : (es : List (ℕ × Page)) → AreClosed es es 0
+AreClosed-none es = record { closed = λ q less. absurd (omega (arith, less)); others = λ q more. refl }
 
--- the states once those before place i are closed where they were open
-abbrev closed_before : ℕ → List State → List State
-closed_before i states = mapped closed_state (take i states) ++ drop i states
+module _ (es fs gs : List (ℕ × Page)) (n : ℕ) (before : AreClosed es fs n)
+    (put : (q b : ℕ) → mark_on (page_in gs q) b
+    ≡ cond (is_at (nat_cmp n) q) (shut_mark (mark_on (page_in fs q) b)) (mark_on (page_in fs q) b)) where
+  another : (q : Name) → q / 64 ≢ n → mark_at gs q ≡ mark_at fs q
+  another q other =
+      put (q / 64) (q % 64)
+      ∙ ap (λ b. cond b (shut_mark (mark_at fs q)) (mark_at fs q)) (at_other n (q / 64) other)
 
--- the next place is as it was
-get_or-closed_before : (states : List State) (i : ℕ)
-    → get_or (closed_before i states) i Free ≡ get_or states i Free
-get_or-closed_before [] zero = refl
-get_or-closed_before [] (suc i) = refl
-get_or-closed_before (s ∷ rest) zero = refl
-get_or-closed_before (s ∷ rest) (suc i) = get_or-closed_before rest i
+  -- and once page n is closed too
+  pub AreClosed-more : AreClosed es gs (n + 1)
+  AreClosed-more = record {
+    closed = λ q less. elim (eqb_tells (q / 64) n) [
+      | inl t ↦
+          put (q / 64) (q % 64)
+          ∙ ap (λ b. cond b (shut_mark (mark_at fs q)) (mark_at fs q)) (at_same n (q / 64) t.1)
+          ∙ ap shut_mark (before.others q (omega (arith, t.1)))
+      | inr t ↦ another q t.1 ∙ before.closed q (omega (arith, less, t.1))
+    ];
+    others = λ q more. another q (λ same. omega (arith, more, same)) ∙ before.others q (omega (arith, more));
+  }
 
--- once it is closed one more is
-set-closed_before : (states : List State) (i : ℕ) (s : State)
-    → i < length states
-    → s ≡ closed_state (get_or states i Free)
-    → set (closed_before i states) i s ≡ closed_before (suc i) states
-set-closed_before [] i s h e = absurd (omega arith)
-set-closed_before (t ∷ rest) zero s h e = ap (λ z. z ∷ rest) e
-set-closed_before (t ∷ rest) (suc i) s h e =
-    ap (λ (more : List State). closed_state t ∷ more) (set-closed_before rest i s (omega arith) e)
-
--- the step of a loop over the states
-pub set-closed : (states now : List State) (i : ℕ) (s : State)
-    → i < length states
-    → now ≡ mapped closed_state (take i states) ++ drop i states
-    → s ≡ closed_state (get_or now i Free)
-    → set now i s ≡ mapped closed_state (take (i + 1) states) ++ drop (i + 1) states
-set-closed states now i s h is e =
-    let here : get_or now i Free ≡ get_or states i Free =
-    ap (λ (ss : List State). get_or ss i Free) is ∙ get_or-closed_before states i
-    in
-    rw add-one (
-    ap (λ (ss : List State). set ss i s) is
-    ∙ set-closed_before states i s h (e ∙ ap closed_state here)
-    )
-
--- a state that isn't open stays
-pub closed_state-other : (s : State) → s ≢ Open → s ≡ closed_state s
-closed_state-other Free other = refl
-closed_state-other Open other = absurd (other refl)
-closed_state-other Closed other = refl
+-- to close each page is to shut all marks
+pub marks-closed : (es fs : List (ℕ × Page)) → AreClosed es fs 1024 → marks fs ≡ all_closed (marks es)
+marks-closed es fs all =
+    same_marks (marks fs) (all_closed (marks es)) (λ q. elim (cases_lt q name_count) [
+      | inl within ↦
+          get-marks fs q within
+          ∙ all.closed q (omega (arith, within))
+          ∙ ap shut_mark (sym (get-marks es q within))
+          ∙ sym (get-all_closed (marks es) q)
+      | inr past ↦
+          get-marks_past fs q past
+          ∙ ap shut_mark (sym (get-marks_past es q past))
+          ∙ sym (get-all_closed (marks es) q)
+    ])

@@ -1,15 +1,16 @@
 -- The first number that passes a test, and the least free identifier.
-use Rattle.std.proofs.Common.{◌≡◌, ◌≢◌, ◌∙◌, refl, sym, ap, subst, ℕ, zero, suc, ◌+◌, ◌<◌, ◌≤◌, Bool, true, false, not, List, get_or, Option, Some, None, inl, inr, arith}
+use Rattle.std.proofs.Common.{◌≡◌, ◌≢◌, ◌∙◌, refl, sym, ap, ℕ, zero, suc, ◌+◌, ◌*◌, ◌/◌, ◌%◌, ◌<◌, ◌≤◌, Bool, true, false, List, Option, Some, None, is_some, inl, inr, arith}
+use Rattle.std.proofs.lemmas.Bool.{cases_lt}
 use Rattle.std.proofs.lemmas.Bool.Decides.{nat_tests, eqb_tells}
 use Rattle.lpt_packet.specs.Names.{Name}
+use Rattle.lpt_ledger.specs.declared.page.Page.{Page}
 use Rattle.lpt_ledger.specs.declared.state.State.{State}
 use Rattle.lpt_ledger.specs.declared.state.State.TheVariants.{Free, Open, Closed}
-use Rattle.lpt_ledger.specs.Bits.{bit_for, IsFirstClear}
-use Rattle.lpt_ledger.specs.Marks.{Marks}
-use Rattle.lpt_ledger.specs.States.{state_at, is_free}
-use Rattle.lpt_ledger.specs.LedgerInside.{marks, IsKept}
+use Rattle.lpt_ledger.specs.Marks.{Mark, Opened, Shut, Marks}
+use Rattle.lpt_ledger.specs.States.{state_of, state_at, is_free}
+use Rattle.lpt_ledger.specs.LedgerInside.{mark_at, mark_on, marks, page_in}
 use Rattle.lpt_ledger.specs.LeastFree.{name_count, IsLeastFree, first_of_numbers, least_free_in}
-use Rattle.lpt_ledger.proofs.MarksLemmas.{state_at-marks}
+use Rattle.lpt_ledger.proofs.MarksLemmas.{get-marks}
 
 -- ---- the first number that passes
 
@@ -101,7 +102,7 @@ not_free_by : (s : State) → is_free s ≡ false → s ≢ Free
 not_free_by s h e = absurd (let t : true ≡ false = sym (ap is_free e) ∙ h in cc)
 
 -- the first that passes the test is the least free one
-IsLeastFree-first : (m : Marks) (o : Option Name)
+pub IsLeastFree-first : (m : Marks) (o : Option Name)
     → IsFirst name_count 0 (λ id. is_free (state_at m id)) o
     → IsLeastFree m o
 IsLeastFree-first m None none = λ id h.
@@ -122,57 +123,76 @@ IsLeastFree-least_free_in m =
     IsLeastFree-first m (first_of_numbers name_count 0 test)
     (IsFirst-first_of_numbers name_count 0 test)
 
--- a bit that says whether a state is taken
-free_bit : (b : Bool) → bit_for (not b) ≡ 0 → b ≡ true
-free_bit true h = refl
-free_bit false h = absurd (omega (arith, h))
-
-taken_bit : (b : Bool) → bit_for (not b) ≡ 1 → b ≡ false
-taken_bit true h = absurd (omega (arith, h))
-taken_bit false h = refl
-
--- the first bit that is clear is that of the first free one
-first_clear-is : (states : List State) (taken full : List ℕ) (o : Option ℕ)
-    → IsKept states taken full
-    → IsFirstClear taken o
-    → IsFirst name_count 0 (λ id. is_free (state_at (marks states) id)) o
-first_clear-is states taken full None k none = λ i from to.
-    let within : i < name_count = omega arith in
-    ap is_free (state_at-marks states i)
-    ∙ taken_bit (is_free (get_or states i Free))
-    (sym (k.tells i within) ∙ none i (omega (arith, k.words, within)))
-first_clear-is states taken full (Some n) k first =
-    let within : n < name_count = omega (arith, first.within, k.words) in
-    record {
-      from = omega arith;
-      to = omega (arith, within);
-      passes = ap is_free (state_at-marks states n)
-          ∙ free_bit (is_free (get_or states n Free)) (sym (k.tells n within) ∙ first.clear);
-      none_before = λ j from to.
-          ap is_free (state_at-marks states j)
-          ∙ taken_bit (is_free (get_or states j Free))
-          (sym (k.tells j (omega (arith, within, to))) ∙ first.none_before j to);
-    }
-
--- so it is what is sought upwards
-pub least_free_in-found : (states : List State) (taken full : List ℕ) (m : Marks) (o : Option Name)
-    → marks states ≡ m
-    → IsKept states taken full
-    → IsFirstClear taken o
+-- a first that passes is what is sought upwards
+pub least_free_in-first : (m : Marks) (o : Option Name)
+    → IsFirst name_count 0 (λ id. is_free (state_at m id)) o
     → o ≡ least_free_in m
 unfolding least_free_in
-least_free_in-found states taken full m o seen k first =
-    let test = λ (id : Name). is_free (state_at (marks states) id) in
-    IsFirst-unique name_count 0 test o (first_of_numbers name_count 0 test)
-    (first_clear-is states taken full o k first) (IsFirst-first_of_numbers name_count 0 test)
-    ∙ ap least_free_in seen
+least_free_in-first m o first =
+    let test = λ (id : Name). is_free (state_at m id) in
+    IsFirst-unique name_count 0 test o (first_of_numbers name_count 0 test) first
+    (IsFirst-first_of_numbers name_count 0 test)
 
--- and it is the least free identifier
-pub IsLeastFree-found : (states : List State) (taken full : List ℕ) (m : Marks) (o : Option Name)
-    → marks states ≡ m
-    → IsKept states taken full
-    → IsFirstClear taken o
-    → IsLeastFree m o
-IsLeastFree-found states taken full m o seen k first =
-    subst (IsLeastFree m) (sym (least_free_in-found states taken full m o seen k first))
-    (IsLeastFree-least_free_in m)
+-- ---- the first free one of pages
+
+free_mark : (o : Option Mark) → o ≡ None → is_free (state_of o) ≡ true
+free_mark None h = refl
+free_mark (Some x) h = absurd cc
+
+taken_mark : (o : Option Mark) → is_some o ≡ true → is_free (state_of o) ≡ false
+taken_mark None h = absurd cc
+taken_mark (Some Opened) h = refl
+taken_mark (Some Shut) h = refl
+
+-- the identifiers below n are taken
+abbrev pub AreTaken : List (ℕ × Page) → ℕ → Type 0
+AreTaken es n = (i : ℕ) → i < n → is_some (mark_at es i) ≡ true
+
+module _ (es : List (ℕ × Page)) where
+  taken_at : (n i : ℕ) → AreTaken es n → n ≤ name_count → i < n → is_free (state_at (marks es) i) ≡ false
+  taken_at n i taken most below =
+      ap (λ o. is_free (state_of o)) (get-marks es i (omega (arith, most, below)))
+      ∙ taken_mark (mark_at es i) (taken i below)
+
+  -- where all of them are taken none is free
+  pub none_free : AreTaken es name_count
+      → IsFirst name_count 0 (λ id. is_free (state_at (marks es) id)) None
+  none_free taken = λ i from to. taken_at name_count i taken (omega arith) (omega (arith, to))
+
+  module _ (n : ℕ) (before : AreTaken es (n * 64)) where
+    in_page : (k : ℕ)
+        → ((i : ℕ) → i < k → is_some (mark_on (page_in es n) i) ≡ true)
+        → k ≤ 64
+        → AreTaken es (n * 64 + k)
+    in_page k taken most i below = elim (cases_lt i (n * 64)) [
+      | inl low ↦ before i low
+      | inr high ↦
+          let page : i / 64 ≡ n = omega (arith, below, high, most) in
+          let place : i % 64 < k = omega (arith, below, high, most) in
+          ap (λ (p : ℕ). is_some (mark_on (page_in es p) (i % 64))) page ∙ taken (i % 64) place
+    ]
+
+    -- where all of a page are taken too, those below the next one are
+    pub page_taken : ((i : ℕ) → i < 64 → is_some (mark_on (page_in es n) i) ≡ true)
+        → AreTaken es ((n + 1) * 64)
+    page_taken taken i below = in_page 64 taken (omega arith) i (omega (arith, below))
+
+    -- the first of a page that is free, behind pages that are taken
+    pub first_in_page : (b : ℕ)
+        → n < 1024
+        → b < 64
+        → mark_on (page_in es n) b ≡ None
+        → ((i : ℕ) → i < b → is_some (mark_on (page_in es n) i) ≡ true)
+        → IsFirst name_count 0 (λ id. is_free (state_at (marks es) id)) (Some (n * 64 + b))
+    first_in_page b within place free taken = record {
+      from = omega arith;
+      to = omega (arith, within, place);
+      passes =
+          let page : (n * 64 + b) / 64 ≡ n = omega (arith, place) in
+          let at : (n * 64 + b) % 64 ≡ b = omega (arith, place) in
+          ap (λ o. is_free (state_of o)) (get-marks es (n * 64 + b) (omega (arith, within, place)))
+          ∙ free_mark (mark_at es (n * 64 + b)) ((λ i. mark_on (page_in es (page i)) (at i)) ∙ free);
+      none_before = λ j from to.
+          taken_at (n * 64 + b) j (in_page b taken (omega (arith, place)))
+          (omega (arith, within, place)) to;
+    }

@@ -1,5 +1,5 @@
 mod BitLemmas
 pub mod ClosingLemmas
 pub mod FirstLemmas
-mod KeptLemmas
 mod MarksLemmas
+mod TellsLemmas

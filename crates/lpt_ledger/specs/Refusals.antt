@@ -1,9 +1,9 @@
 -- Why an identifier of this state can't be changed as asked; none where it can.
-use Rattle.std.specs.Prelude.{Option, Some, None}
+use Rattle.std.specs.Prelude.{◌≡◌, Option, Some, None}
 use Rattle.lpt_ledger.specs.declared.state.State.{State}
 use Rattle.lpt_ledger.specs.declared.state.State.TheVariants.{Free, Open, Closed}
 use Rattle.lpt_ledger.specs.declared.fault.LedgerFault.{LedgerFault}
-use Rattle.lpt_ledger.specs.declared.fault.LedgerFault.TheVariants.{InUse, StillOpen, NotOpen}
+use Rattle.lpt_ledger.specs.declared.fault.LedgerFault.TheVariants.{InUse, StillOpen, NotOpen, Memory}
 
 -- only a free one is opened
 abbrev pub refusal_open : State → Option LedgerFault
@@ -28,3 +28,8 @@ abbrev pub refusal_retire : State → Option LedgerFault
 refusal_retire Free = Some NotOpen
 refusal_retire Open = Some StillOpen
 refusal_retire Closed = None
+
+-- a call that takes memory is refused for the state, or where that lets it through for want of memory
+abbrev pub RefusedBy : Option LedgerFault → LedgerFault → Type 0
+RefusedBy (Some first) e = e ≡ first
+RefusedBy None e = e ≡ Memory

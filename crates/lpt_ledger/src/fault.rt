@@ -17,10 +17,13 @@ pub enum LedgerFault {
     /// The identifier is to be closed and isn't open, or to be retired and is free.
     #[error("the identifier isn't open")]
     NotOpen,
+    /// There is no memory for the identifier's place.
+    #[error("want of memory")]
+    Memory,
 }
 
 impl LedgerFault {
-    /// The fault's number, 31 to 33.
+    /// The fault's number: 31 to 33, and 38 for want of memory.
     pub fn code(self) -> u16
         ensures { result ≡ code_of self }
     {
@@ -28,6 +31,7 @@ impl LedgerFault {
             LedgerFault::InUse => 31,
             LedgerFault::StillOpen => 32,
             LedgerFault::NotOpen => 33,
+            LedgerFault::Memory => 38,
         }
     }
 
@@ -39,6 +43,7 @@ impl LedgerFault {
             LedgerFault::InUse => "InUse",
             LedgerFault::StillOpen => "StillOpen",
             LedgerFault::NotOpen => "NotOpen",
+            LedgerFault::Memory => "Memory",
         }
     }
 }

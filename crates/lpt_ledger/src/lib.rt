@@ -1,15 +1,16 @@
 //! The state of each transaction identifier at one end of a large packet transfer
 //! (ECSS-E-ST-70-41C): free, open or closed.
 //!
-//! The main type is `Ledger`, which keeps the `State` of all 65,536 identifiers and takes memory
-//! once, when it is made. The first calls are `Ledger::new` and `open`; `state` and `least_free`
-//! look, and a refused call answers a `LedgerFault` and changes nothing.
+//! The main type is `Ledger`, which keeps the `State` of all 65,536 identifiers, and takes memory
+//! for those that aren't free alone. The first calls are `Ledger::new` and `open`; `state` and
+//! `least_free` look, and a refused call answers a `LedgerFault` and changes nothing.
 #![tactic(auto)]
 
 mod bits;
 mod fault;
 pub mod laws;
 mod ledger;
+mod page;
 mod state;
 
 pub use fault::LedgerFault;

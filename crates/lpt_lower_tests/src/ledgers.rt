@@ -64,7 +64,7 @@ fn check_calls(rt: &impl Abort, ledger: &mut Ledger, rows: &[Row]) {
 
 // The same of a ledger of which all is free.
 fn check(rt: &impl Abort, alloc: Global, rows: &[Row]) -> Result<(), Fail> {
-    let mut ledger = Ledger::new(alloc)?;
+    let mut ledger = Ledger::new(alloc);
     assert!(rt; ledger.least_free() == Some(0));
     check_calls(rt, &mut ledger, rows);
     drop(ledger);
@@ -121,10 +121,11 @@ fn each_call_changes_one_identifier(rt: HostRuntime) -> Result<(), Fail> {
 }
 
 /// Faults with their names.
-static NAMES: [(LedgerFault, &str); 3] = [
+static NAMES: [(LedgerFault, &str); 4] = [
     (LedgerFault::InUse, "InUse"),
     (LedgerFault::StillOpen, "StillOpen"),
     (LedgerFault::NotOpen, "NotOpen"),
+    (LedgerFault::Memory, "Memory"),
 ];
 
 #[test]

@@ -129,3 +129,22 @@ fn numbers_jobs_from_0_again_once_it_is_cleared(rt: HostRuntime) -> Result<(), F
     let mut queue = JobQueue::new(rt.alloc());
     restart(&rt, rt.alloc(), &mut queue)
 }
+
+// Adds a job and takes it out again. The answer is how many octets its message has.
+fn add_and_pop_back(queue: &mut JobQueue, message: Octets) -> Option<usize> {
+    if queue.numbered() == u64::MAX {
+        return None;
+    }
+    queue.push(message).ok()?;
+    Some(queue.pop_back().as_slice().len())
+}
+
+#[test]
+fn gives_the_number_of_a_job_that_is_taken_out_again(rt: HostRuntime) -> Result<(), Fail> {
+    let message = request(rt.alloc(), 9, &FIRST)?;
+    let octets = message.as_slice().len();
+    let mut queue = JobQueue::new(rt.alloc());
+    let popped = add_and_pop_back(&mut queue, message);
+    assert!(rt; (popped, queue.numbered()) == (Some(octets), 0));
+    Ok(())
+}

@@ -2,6 +2,7 @@ pub mod AnewLemmas
 pub mod ArrivalLemmas
 pub mod BodyLemmas
 pub mod ClaimLemmas
+pub mod JobLemmas
 pub mod MapLemmas
 pub mod OutgoingLemmas
 pub mod ReceiverLemmas

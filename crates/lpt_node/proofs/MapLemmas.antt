@@ -1,6 +1,6 @@
 -- What is under a name in a finite map after a change, by comparison of names.
-use Rattle.std.proofs.Common.{◌≡◌, ◌∙◌, ap, cond, Option, Some, None, false, is_some, refl}
-use Rattle.lpt_execution.proofs.LptPacket.NameLemmas.{name_cmp_total, name_cmp-IsAntisymmetric, name_tied}
+use Rattle.std.proofs.Common.{◌≡◌, ◌∙◌, ap, sym, cond, Bool, Option, Some, None, true, false, is_some, refl}
+use Rattle.lpt_execution.proofs.LptPacket.NameLemmas.{name_cmp_total, name_cmp-IsAntisymmetric, name_tied, same_name-true}
 use Rattle.std.specs.FinMap as map
 use Rattle.lpt_execution.specs.LptPacket.Names.{Name, same_name, name_cmp}
 use Rattle.lpt_table.proofs.MapLemmas.{remove-absent}
@@ -27,3 +27,19 @@ remove-none m id h =
     none : {A : Type 0} (o : Option A) → is_some o ≡ false → o ≡ None
     none None e = refl
     none (Some x) e = absurd cc
+
+-- to take out what was put under a name under which nothing stood changes nothing
+pub remove-insert : {A : Type 0} (m : map.FinMap name_cmp A) (id : Name) (x : A)
+    → map.get m id ≡ None
+    → map.remove (map.insert m id x) id ≡ m
+remove-insert m id x absent =
+    map.same_map name_cmp_total name_cmp-IsAntisymmetric _ _ (λ q.
+    get_remove (map.insert m id x) id q
+    ∙ ap (λ o. cond (same_name q id) None o) (get_insert m id x q)
+    ∙ go q (same_name q id) refl)
+  where
+    go : (q : Name) (b : Bool)
+        → same_name q id ≡ b
+        → cond b None (cond b (Some x) (map.get m q)) ≡ map.get m q
+    go q true same = sym (ap (λ (n : Name). map.get m n) (same_name-true q id same) ∙ absent)
+    go q false apart = refl

@@ -187,21 +187,17 @@ module _ (head : Option Telemetry) (m : Marks) (old mid : TableState) (q : Piece
       → OnErr r (grows (received head seen q now).1 ≡ true)
   grows-whole r e = on_err r _ (sym (as_offered offering.Whole e))
 
-  -- a report is made
+  -- a reception is broken off
   pub grows-broken : {X E : Type 0} (r : Result X E) (reason : Reason)
-      → OnErr r (is_some (abort_report head q.id reason) ≡ true)
       → offered old q.id q.number (kept_of q) now ≡ (offering.Conflict reason, mid)
       → OnErr r (grows (received head seen q now).1 ≡ true)
-  grows-broken (Ok x) reason made e = tt
-  grows-broken (Err x) reason made e = sym (as_offered (offering.Conflict reason) e) ∙ made
+  grows-broken r reason e = on_err r _ (sym (as_offered (offering.Conflict reason) e))
 
-  -- a gap was found, and a report is made
+  -- a gap was found
   pub grows-gap : {X E : Type 0} (r : Result X E)
-      → OnErr r (is_some (abort_report head q.id reason.Discontinuity) ≡ true)
       → offered old q.id q.number (kept_of q) now ≡ (offering.Gap, mid)
       → OnErr r (grows (received head seen q now).1 ≡ true)
-  grows-gap (Ok x) made e = tt
-  grows-gap (Err x) made e = sym (as_offered offering.Gap e) ∙ made
+  grows-gap r e = on_err r _ (sym (as_offered offering.Gap e))
 
   -- what an offer comes to, by the table's tests
   abbrev made : (full contra again gap whole : Bool) → OfferKind × TableState

@@ -1,5 +1,6 @@
 -- A message is kept exactly where its sender is open.
-use Rattle.std.proofs.Common.{◌≡◌, ◌≢◌, ◌∙◌, ap, sym, subst, refl, Bool, true, false, cond, Option, Some, None, is_some, List, ℕ}
+use Rattle.std.proofs.Common.{◌≡◌, ◌≢◌, ◌∙◌, ap, sym, subst, refl, Bool, true, false, cond, Option, Some, None, is_some, List, ℕ, Result, Ok, Err}
+use Rattle.std.specs.Result.{OnOk, OnErr}
 use Rattle.std.specs.FinMap as map
 use Rattle.lpt_execution.specs.LptPacket.Names.{Name, same_name, name_cmp}
 use Rattle.lpt_execution.proofs.LptPacket.NameLemmas.{same_name-true}
@@ -86,6 +87,20 @@ sound-opened c m after r o new id x s a b = record {
   kept = subst (λ (n : OpenMessages). AreKept after n.messages) (sym b)
       (subst (λ (m : Marks). AreKept m (map.insert o.messages id x)) (sym a) (kept-opened m o.messages id x s.kept));
 }
+
+-- a message was opened, or handed back
+pub sound-begun : {X E : Type 0} (t : Result X E) (c : Config) (m after : Marks) (r : ReceiverState)
+    (o new : OpenMessages) (id : Name) (x : List ℕ)
+    → IsSound c m r o
+    → OnOk t (after ≡ map.insert m id Opened)
+    → OnOk t (new ≡ record o { messages = map.insert o.messages id x })
+    → OnErr t (after ≡ m)
+    → OnErr t (new ≡ o)
+    → IsSound c after r new
+sound-begun (Ok y) c m after r o new id x s a b d e = sound-opened c m after r o new id x s a b
+sound-begun (Err y) c m after r o new id x s a b d e =
+    subst (λ (n : OpenMessages). IsSound c after r n) (sym e)
+    (subst (λ (n : Marks). IsSound c n r o) (sym d) s)
 
 -- a sender was closed
 pub sound-closed : (c : Config) (m after : Marks) (r : ReceiverState) (o new : OpenMessages) (id : Name)

@@ -1,5 +1,5 @@
 -- What an end does with a packet that is delivered to it.
-use Rattle.std.specs.Prelude.{◌≡◌, ◌+◌, ◌<◌, ◌^◌, Bool, true, false, ◌||◌, is_some}
+use Rattle.std.specs.Prelude.{◌≡◌, ◌+◌, ◌<◌, ◌^◌, Bool, true, false}
 use Rattle.lpt_execution.specs.LptEvents.declared.side.Side.{Side}
 use Rattle.lpt_execution.specs.LptEvents.declared.config.Config.{Config}
 use Rattle.lpt_node.specs.declared.accepted.Accepted.{Accepted}
@@ -31,17 +31,17 @@ pub record IsFor (n : NodeView) (o : Origin) : Type 0 where
   pub p : o.p ≡ n.config.part_size
   pub numbers : numbered n.at.jobs + 1 < 2 ^ 64
 
--- whether memory is taken for an outcome: a part is kept, or a message released
-abbrev pub keeps_or_releases : Outcome → Bool
-keeps_or_releases (outcome.Kept id number) = true
-keeps_or_releases (outcome.Again id number) = false
-keeps_or_releases (outcome.Released id len) = true
-keeps_or_releases (outcome.PlainReleased len) = true
-keeps_or_releases (outcome.ReportNoted service subtype) = false
-keeps_or_releases (outcome.AbortNoted id reason) = false
-keeps_or_releases (outcome.Broken id reason) = false
-keeps_or_releases (outcome.Ignored w) = false
+-- whether memory is taken for an outcome: a part is kept, a message released, or a reception broken off
+abbrev pub takes_memory : Outcome → Bool
+takes_memory (outcome.Kept id number) = true
+takes_memory (outcome.Again id number) = false
+takes_memory (outcome.Released id len) = true
+takes_memory (outcome.PlainReleased len) = true
+takes_memory (outcome.ReportNoted service subtype) = false
+takes_memory (outcome.AbortNoted id reason) = false
+takes_memory (outcome.Broken id reason) = true
+takes_memory (outcome.Ignored w) = false
 
--- whether memory is taken for an answer: for its outcome, or for a report
+-- the same of an answer
 abbrev pub grows : Accepted → Bool
-grows r = keeps_or_releases r.outcome || is_some r.packet
+grows r = takes_memory r.outcome

@@ -1,5 +1,5 @@
 -- What receives at one end, and what it makes of a part that is delivered to it.
-use Rattle.std.specs.Prelude.{Bool, true, false, is_some, ◌≡◌, ℕ, ◌≤◌, if◌then◌else◌, List, length, Option, Some, None, refl}
+use Rattle.std.specs.Prelude.{Bool, true, false, ◌≡◌, ℕ, ◌≤◌, if◌then◌else◌, List, length, Option, Some, None, refl}
 use Rattle.std.specs.Coded.{Coded, code_by, coded×, coded_ℕ}
 use Rattle.std.specs.FinMap as map
 use Rattle.lpt_execution.specs.LptPacket.Names.{Name}
@@ -133,14 +133,14 @@ pub record IsSameReceiver (old new : ReceiverState) : Type 0 where
   pub p : new.p ≡ old.p
   pub mode : new.mode ≡ old.mode
 
--- whether memory is taken for it: a part is kept, a message let out, or a report made
+-- whether memory is taken for it: a part is kept, a message let out, or a reception broken off
 abbrev pub grows : Taken → Bool
 grows taking.Closed = false
 grows taking.Kept = true
 grows taking.Again = false
 grows taking.NoRoom = false
 grows (taking.Whole m) = true
-grows (taking.Broken reason packet) = is_some packet
+grows (taking.Broken reason packet) = true
 
 -- a message that was taken as whole is no longer than a packet
 abbrev pub IsShort : Taken → Type 0

@@ -30,7 +30,7 @@ impl Node {
         ensures side { self.new.side ≡ self.old.side }
         ensures config { self.new.config ≡ self.old.config }
 
-        // Memory is wanting only where a part is kept, a message released or a report made.
+        // Memory is wanting only where a part is kept, a message released or a reception broken off.
         ensures memory { OnErr result
             (grows (accepted self.old.side self.old.config self.old.at (arrival_from parsed)).1 ≡ true) }
         ensures back { IfErr result (λ p. p ≡ parsed) }

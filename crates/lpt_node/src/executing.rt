@@ -12,6 +12,7 @@ ghost use Rattle.lpt_node.specs.Sending.{counted_kind};
 
 use crate::Node;
 use crate::counts::Counts;
+use crate::sending::begin;
 use lpt_execution::{
     Applied, Memories, Name, Octets, Reading, Report, ending_of, is_small, reports,
 };
@@ -141,13 +142,10 @@ impl Node {
             return Ok(None);
         };
         let copy = message.copy()?;
-        match self.outgoing.insert(id, message) {
+        match begin(&mut self.senders, &mut self.outgoing, id, message) {
             Ok(()) => {}
             Err(_) => return Err(AllocError),
         }
-        match self.senders.open(id) {
-            Ok(()) => Ok(Some((id, copy))),
-            Err(_) => unreachable!(),
-        }
+        Ok(Some((id, copy)))
     }
 }

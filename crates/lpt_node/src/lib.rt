@@ -13,6 +13,7 @@ mod anew;
 mod ask;
 mod asking;
 mod counts;
+mod ending;
 mod executed;
 mod executing;
 mod expired;

@@ -81,13 +81,12 @@ impl Node {
             mode,
             ..
         } = *config;
-        let senders = Ledger::new(alloc)?;
         let receiver = Receiver::new(alloc, receptions, timeout, part_size, mode)?;
         Ok(Node {
             alloc,
             side,
             config: *config,
-            senders,
+            senders: Ledger::new(alloc),
             outgoing: Outgoing::new(alloc, part_size),
             counts: Counts::new(),
             receiver,

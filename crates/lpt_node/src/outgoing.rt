@@ -1,6 +1,6 @@
 //! The messages that are being sent.
 
-ghost use Rattle.std.specs.Prelude.{◌≡◌, ◌+◌, true, if◌then◌else◌, length, None, is_some, IfSome, IfNone, IfErr, OnOk, OnErr};
+ghost use Rattle.std.specs.Prelude.{◌≡◌, ◌+◌, true, if◌then◌else◌, length, None, Some, is_some, IfSome, IfNone, IfErr, OnOk, OnErr};
 ghost use Rattle.std.specs.Option.{option_map};
 ghost use Rattle.std.specs.FinMap as map;
 ghost use Rattle.lpt_node.specs.Nodes.{MessageFits};
@@ -86,6 +86,18 @@ impl Outgoing {
         ensures { self.new ≡ record self.old { messages = map.remove self.old.messages id } }
     {
         let _ = self.messages.remove(&id);
+    }
+
+    /// Takes the message of a name out, which has one.
+    pub(crate) fn take(&mut self, id: Name) -> Octets
+        requires { is_some (map.get self.old.messages id) ≡ true }
+        ensures message { map.get self.old.messages id ≡ Some result }
+        ensures rest { self.new ≡ record self.old { messages = map.remove self.old.messages id } }
+    {
+        match self.messages.remove(&id) {
+            Some(message) => message,
+            None => unreachable!(),
+        }
     }
 
     /// Lets the message of the least name go, and answers that name. `None` where there is no

@@ -1,14 +1,19 @@
 //! Sending messages in parts.
 
 ghost use Rattle.std.specs.Prelude.{◌≡◌, ◌≤◌, length, None, Some, IfOk, IfErr, OnOk, OnErr};
+ghost use Rattle.std.specs.FinMap as map;
 ghost use Rattle.lpt_execution.specs.LptPart.Parts.{piece};
 ghost use Rattle.lpt_execution.specs.LptPart.Splitting.{IsPartSize, part_count};
 ghost use Rattle.lpt_execution.specs.LptEvents.MadePackets.{nth_part};
+ghost use Rattle.lpt_ledger.specs.Marks.{Opened};
+ghost use Rattle.lpt_ledger.specs.States.{state_at};
 ghost use Rattle.lpt_node.specs.Nodes.{MessageFits};
 ghost use Rattle.lpt_node.specs.Sending.{refusal_open, opened, refusal_send, sent, refusal_finish, closed, RefusedBy};
 
+use crate::outgoing::Outgoing;
 use crate::{Node, NodeFault};
 use lpt_execution::{Kind, Name, Octets, Part, count, parts_fit, slice};
+use lpt_ledger::{Ledger, State};
 
 impl Node {
     /// Takes a message to be sent under a free name.
@@ -31,13 +36,9 @@ impl Node {
         if let Some(fault) = self.refusal_open(id, message.as_slice().len()) {
             return Err((fault, message));
         }
-        match self.outgoing.insert(id, message) {
-            Ok(()) => {}
-            Err(message) => return Err((NodeFault::Memory, message)),
-        }
-        match self.senders.open(id) {
+        match begin(&mut self.senders, &mut self.outgoing, id, message) {
             Ok(()) => Ok(()),
-            Err(_) => unreachable!(),
+            Err(message) => Err((NodeFault::Memory, message)),
         }
     }
 
@@ -100,6 +101,33 @@ impl Node {
             Ok(()) => self.outgoing.remove(id),
             Err(_) => {}
         }
+    }
+}
+
+// Opens a free name with its message. Where memory is wanting the message is handed back, and nothing
+// has changed.
+pub(crate) fn begin(
+    senders: &mut Ledger,
+    outgoing: &mut Outgoing,
+    id: Name,
+    message: Octets,
+) -> Result<(), Octets>
+    requires free { state_at senders.old id ≡ State.Free }
+    requires fits { MessageFits outgoing.old.p (length message) }
+    requires absent { map.get outgoing.old.messages id ≡ None }
+    ensures opened { OnOk result (senders.new ≡ map.insert senders.old id Opened) }
+    ensures kept { OnOk result (outgoing.new ≡ record outgoing.old {
+      messages = map.insert outgoing.old.messages id message;
+    }) }
+
+    ensures back { IfErr result (λ m. m ≡ message) }
+    ensures unopened { OnErr result (senders.new ≡ senders.old) }
+    ensures unkept { OnErr result (outgoing.new ≡ outgoing.old) }
+{
+    outgoing.insert(id, message)?;
+    match senders.open(id) {
+        Ok(()) => Ok(()),
+        Err(_) => Err(outgoing.take(id)),
     }
 }
 

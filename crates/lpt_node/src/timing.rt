@@ -1,6 +1,6 @@
 //! The clock, and receptions that took no part for too long.
 
-ghost use Rattle.std.specs.Prelude.{◌≡◌, true, is_some, None, Some, IfOk, IfErr, OnOk, OnErr};
+ghost use Rattle.std.specs.Prelude.{◌≡◌, None, Some, IfOk, IfErr, OnOk, OnErr};
 ghost use Rattle.lpt_node.specs.Sending.{RefusedBy};
 ghost use Rattle.lpt_node.specs.Times.{refusal_tick, ticked, refusal_expire, expired};
 
@@ -41,9 +41,6 @@ impl Node {
         ensures config { self.new.config ≡ self.old.config }
 
         ensures refused { IfErr result (λ e. RefusedBy (refusal_expire self.old.config self.old.at) e) }
-        // Memory is wanting only where a report is made.
-        ensures memory { OnErr result (refusal_expire self.old.config self.old.at ≡ None
-            → is_some (expired self.old.side self.old.config self.old.at).1.packet ≡ true) }
         ensures err { OnErr result (self.new.at ≡ self.old.at) }
     {
         let Some(id) = self.receiver.due(self.clock) else {

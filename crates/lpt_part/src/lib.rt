@@ -27,7 +27,7 @@ pub use abort::{abort_octets, read_abort, write_abort};
 pub use fault::PartFault;
 pub use identifier::TransactionId;
 pub use kind::Kind;
-pub use lpt_packet::{Name, Octets};
+pub use lpt_packet::{LONGEST_PACKET, Name, Octets};
 pub use message_types::{ABORT, TRANSFER};
 pub use mode::Mode;
 pub use part::Part;

@@ -128,8 +128,7 @@ impl Filling {
         ensures short { IfOk result (λ m. length m ≤ 65542) }
         ensures split { IfOk result (IsMessageOf self.now.parts self.now.p) }
     {
-        let octets = &self.store.octets;
-        Ok(Octets::from_vec(octets.to_vec(*octets.allocator())?))
+        Ok(Octets::from_vec(self.store.octets.copy()?))
     }
 
     /// The message, where all parts are there.

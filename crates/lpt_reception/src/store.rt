@@ -7,8 +7,9 @@ ghost use Rattle.lpt_part.specs.Splitting.{IsPartSize, kind_at};
 ghost use Rattle.lpt_reception.specs.Steps.{kept, IsNew};
 ghost use Rattle.lpt_reception.specs.Marks.{is_marked};
 ghost use Rattle.lpt_reception.specs.Received.{no_parts, with_part, same_kept, is_gap, is_last, is_whole};
-ghost use Rattle.lpt_reception.specs.Stored.{top, last_number, kept_at, stored, overruns, written, zeroed, IsSound, IsPlace};
+ghost use Rattle.lpt_reception.specs.Stored.{top, last_number, kept_at, stored, overruns, IsSound, IsPlace};
 
+use crate::buffer::Buffer;
 use crate::marks::Marks;
 use lpt_part::{Kind, Mode, Part, count, slice};
 use std::alloc::{AllocError, Global};
@@ -18,7 +19,7 @@ use std::alloc::{AllocError, Global};
 pub(crate) struct Store {
     // The octets of each part at its place, and zeros for parts that are missing. They end with
     // the part of the highest number.
-    pub(crate) octets: Vec<u8>,
+    pub(crate) octets: Buffer,
     // The numbers of the parts.
     marks: Marks,
     // How many parts there are.
@@ -46,7 +47,7 @@ impl Store {
         ensures sound { (p : ℕ) → IsPartSize p → IsSound p result }
     {
         Store {
-            octets: Vec::new(alloc),
+            octets: Buffer::new(alloc),
             marks: Marks::new(alloc),
             so_many: 0,
             ended: false,
@@ -88,9 +89,9 @@ impl Store {
     // The highest number of a part, 0 where there is none.
     fn top(&self, p: u32) -> u32
         requires { IsSound p self.now }
-        ensures { result ≡ top p self.now.octets.items }
+        ensures { result ≡ top p self.now.octets }
     {
-        count(self.octets.len() as u32, p)
+        count(self.octets.as_slice().len() as u32, p)
     }
 
     // The kind of a part that was kept.
@@ -114,7 +115,7 @@ impl Store {
         requires marked { is_marked self.now.marks.words.items part.now.number ≡ true }
         ensures { result ≡ same_kept (kept_at part.now.p self.now part.now.number) (kept part.now) }
     {
-        let Some(octets) = slice(&self.octets, part.p, part.number as u32) else {
+        let Some(octets) = slice(self.octets.as_slice(), part.p, part.number as u32) else {
             unreachable!()
         };
         same_kind(self.kind_of(part.number, part.p), part.kind) && octets == part.octets
@@ -142,7 +143,7 @@ impl Store {
     {
         let start = (part.number - 1) as usize * part.p as usize;
         self.marks.reserve(part.number)?;
-        write_at(&mut self.octets, start, part.octets)?;
+        self.octets.write(start, part.octets)?;
         self.marks.set(part.number);
         self.so_many += 1;
         self.ended |= is_last(part);
@@ -159,7 +160,7 @@ impl Store {
 
     /// The octets.
     pub(crate) fn into_octets(self) -> Vec<u8>
-        ensures { result.items ≡ self.octets.items }
+        ensures { result.items ≡ self.octets }
     {
         let Store {
             octets,
@@ -167,7 +168,7 @@ impl Store {
             so_many: _,
             ended: _,
         } = self;
-        octets
+        octets.into_vec()
     }
 
     /// Takes a part out of a whole message, and leaves what was there before it came.
@@ -186,7 +187,7 @@ impl Store {
             self.octets.truncate(start);
             self.ended = false;
         } else {
-            zero_at(&mut self.octets, start, p as usize);
+            self.octets.write_zeros(start, p as usize);
         }
     }
 }
@@ -202,27 +203,4 @@ fn same_kind(a: Kind, b: Kind) -> bool
     ensures { result ≡ same_kind a b }
 {
     a == b
-}
-
-// Writes octets from a place on, behind zeros where the buffer ends before it. Want of memory
-// leaves the buffer as it was.
-fn write_at(buffer: &mut Vec<u8>, start: usize, octets: &[u8]) -> Result<(), AllocError>
-    requires { start + length octets.now < 4294967296 }
-    ensures ok { OnOk result (buffer.new.items ≡ written buffer.old.items start octets.now) }
-    ensures err { OnErr result (buffer.new.items ≡ buffer.old.items) }
-{
-    let end = start + octets.len();
-    if buffer.len() < end {
-        buffer.resize(end, 0)?;
-    }
-    buffer[start..end].copy_from_slice(octets);
-    Ok(())
-}
-
-// Writes so many zeros from a place on.
-fn zero_at(buffer: &mut Vec<u8>, start: usize, so_many: usize)
-    requires { start + so_many ≤ length buffer.old.items }
-    ensures { buffer.new.items ≡ zeroed buffer.old.items start so_many }
-{
-    buffer[start..start + so_many].fill(0);
 }

@@ -1,5 +1,6 @@
-use Rattle.std.proofs.Common.{arith, ℕ, ◌<◌}
-use Rattle.lpt_ledger.proofs.BitLemmas.{first_in_word, none_clear}
+-- The first clear bit of the first word that has one, or none.
+use Rattle.std.proofs.Common.{arith}
+use Rattle.lpt_ledger.proofs.BitLemmas.{first_in_word, full_bits}
 use Rattle.lpt_ledger.proofs.bits.first_clear.Goals as goal
 
 pub returns-in-Some : goal.returns-in-Some
@@ -8,6 +9,4 @@ returns-in-Some c =
     c.loop-at.invariant c.in-Some.ensures.within c.in-Some.ensures.clear c.in-Some.ensures.first
 
 pub returns : goal.returns
-returns c =
-    none_clear c.args.words.now (λ (w : ℕ) (h : w < _).
-    c.loop-at.invariant w (omega (arith, h, c.loop-at-test.false)))
+returns c = λ i below. full_bits c.args.words.now c.loop-at.at i c.loop-at.invariant (omega (arith, below, c.loop-at-test.false))

@@ -1,7 +1,6 @@
-use Rattle.std.proofs.Common.{◌≡◌, ◌<◌, ℕ}
-use Rattle.lpt_ledger.specs.Bits.{word_of, all_ones}
+-- In the words so far each bit is set.
+use Rattle.lpt_ledger.proofs.BitLemmas.{AreFull}
 use Rattle.lpt_ledger.proofs.bits.first_clear.Given as goal
 
--- in the words so far each bit is set
 abbrev pub invariant-loop-at : goal.invariant-loop-at
-invariant-loop-at l = (w : ℕ) → w < l.at → word_of l.words w ≡ all_ones
+invariant-loop-at l = AreFull l.words l.at

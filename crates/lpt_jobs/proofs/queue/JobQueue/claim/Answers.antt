@@ -1,6 +1,6 @@
 -- The oldest job that waits gives its message. It is written out so that a wrong body is refused at
 -- once.
-use Rattle.std.proofs.Common.{◌≡◌, ◌∙◌, ap, sym, ℕ, ◌<◌, ◌+◌, List, length, set, Option, rules}
+use Rattle.std.proofs.Common.{◌∙◌, ap, sym, ℕ, ◌<◌, ◌+◌, List, length, set, Option, rules}
 use Rattle.std.specs.Option.{option_map}
 use Rattle.lpt_jobs.specs.declared.job.Job.{Job}
 use Rattle.lpt_jobs.specs.declared.job.Job.TheVariants.{Claimed}

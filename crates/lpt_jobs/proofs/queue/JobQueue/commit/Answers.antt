@@ -1,7 +1,5 @@
 -- The reading stands in the job's place. It is written out so that a wrong body is refused at once.
-use Rattle.std.proofs.Common.{◌≡◌, ap, ◌-◌, List, get_or, refl, rules}
-use Rattle.lpt_jobs.specs.declared.job.Job.{Job}
-use Rattle.lpt_jobs.specs.declared.job.Job.TheVariants.{Committed}
+use Rattle.std.proofs.Common.{ap, ◌-◌, refl, rules}
 use Rattle.lpt_jobs.proofs.JobsLemmas.{is_claimed-at, kept-commit}
 use Rattle.lpt_jobs.specs.Jobs.{Jobs, after_commit}
 use Rattle.lpt_jobs.proofs.queue.JobQueue.commit.Goals as goal

@@ -1,31 +1,29 @@
--- To close each open place is to shut all marks.
-use Rattle.std.proofs.Common.{◌≡◌, ◌∙◌, ap, sym, subst, List, map as mapped, arith}
-use Rattle.std.proofs.lemmas.List.{with_items_is}
+-- All pages are closed.
+use Rattle.std.proofs.Common.{◌≡◌, ◌∙◌, ap, subst, ℕ, arith}
 use Rattle.lpt_ledger.specs.Marks.{all_closed}
-use Rattle.lpt_ledger.specs.States.{closed_state}
-use Rattle.lpt_ledger.specs.declared.state.State.{State}
-use Rattle.lpt_ledger.specs.LedgerInside.{marks, IsKept}
-use Rattle.lpt_ledger.proofs.ClosingLemmas.{marks-closed}
-use Rattle.lpt_ledger.proofs.KeptLemmas.{IsKept-closed}
+use Rattle.lpt_ledger.proofs.ClosingLemmas.{AreClosed, AreClosed-more, marks-closed}
+use Rattle.lpt_ledger.proofs.TellsLemmas.{Tells-same, same_free}
 use Rattle.lpt_ledger.proofs.ledger.Ledger.close_all.Goals as goal
 
 pub returns : goal.returns
 returns c =
-    let states = c.self.inside.states.items in
-    let closed : c.close_each.new.states ≡ mapped closed_state states =
-    c.close_each.ensures ∙ ap (mapped closed_state) c.deref_mut.ensures.value
-    in
-    ap marks (with_items_is c.self.inside.states c.close_each.new.states (omega arith) ∙ closed)
-    ∙ marks-closed states
+    let old = c.self.inside.pages.entries in
+    let new = c.loop-number.self-inside.pages.entries in
+    let last : c.loop-number.number ≡ 1024 = omega arith in
+    marks-closed old new (subst (λ (n : ℕ). AreClosed old new n) last c.loop-number.invariant.0)
     ∙ ap all_closed c.self.view_is
 
 -- and none is freed
 pub invariant_of-self : goal.invariant_of-self
-invariant_of-self c =
-    let states = c.self.inside.states.items in
-    let closed : c.close_each.new.states ≡ mapped closed_state states =
-    c.close_each.ensures ∙ ap (mapped closed_state) c.deref_mut.ensures.value
-    in
-    subst (λ (l : List State). IsKept l c.self.inside.taken.items c.self.inside.full.items)
-    (sym (with_items_is c.self.inside.states c.close_each.new.states (omega arith) ∙ closed))
-    (IsKept-closed states c.self.inside.taken.items c.self.inside.full.items c.self.invariant)
+invariant_of-self c = c.loop-number.invariant.1
+
+-- page after page
+pub loop-number-preserved : goal.loop-number-preserved
+loop-number-preserved c =
+    let old = c.self.inside.pages.entries in
+    let now = c.loop-number.self-inside.pages.entries in
+    let new = c.close_page.new.pages.entries in (
+      AreClosed-more old now new c.loop-number.number c.loop-number.invariant.0 c.close_page.ensures,
+      Tells-same now new c.loop-number.self-inside.full c.loop-number.invariant.1 (λ n b _ _.
+          same_free now new c.loop-number.number c.close_page.ensures n b),
+    )

@@ -1,20 +1,18 @@
--- The state that stands at the identifier's place.
-use Rattle.std.proofs.Common.{◌∙◌, ap, sym, ◌<◌, get_or, ℕ, arith}
-use Rattle.std.proofs.lemmas.List.{get_or_read_under}
-use Rattle.lpt_ledger.specs.declared.state.State.TheVariants.{Free}
-use Rattle.lpt_ledger.specs.Marks.{Marks}
-use Rattle.lpt_ledger.specs.States.{state_at}
-use Rattle.lpt_ledger.specs.LeastFree.{name_count}
-use Rattle.lpt_ledger.proofs.MarksLemmas.{state_at-marks}
+-- The state that an identifier's page says.
+use Rattle.std.proofs.Common.{◌∙◌, ap, sym, ◌%◌, Option, ℕ, arith}
+use Rattle.lpt_ledger.specs.LedgerInside.{page_mark}
+use Rattle.lpt_ledger.specs.Marks.{Mark, Marks}
+use Rattle.lpt_ledger.specs.States.{state_of, state_at}
+use Rattle.lpt_ledger.proofs.MarksLemmas.{get-marks, state_of-mark_of}
 use Rattle.lpt_ledger.proofs.ledger.Ledger.state.Goals as goal
 
 pub returns : goal.returns
 returns c =
-    let states = c.self.inside.states.items in
-    let at = c.from.result in
-    let within : at < name_count = omega arith in
-    let full = sym c.self.invariant.places in
-    get_or_read_under states at name_count c.index.result.now Free c.index.ensures within full
-    ∙ ap (λ (i : ℕ). get_or states i Free) c.from.ensures
-    ∙ sym (state_at-marks states c.args.id)
+    sym (state_of-mark_of c.state.result)
+    ∙ ap (λ (o : Option Mark). state_of o) (
+    c.state.ensures
+    ∙ ap (λ (b : ℕ). page_mark c.page_of.result b) c.from.ensures
+    ∙ c.page_of.ensures (c.args.id % 64)
+    ∙ sym (get-marks c.self.inside.pages.entries c.args.id (omega arith))
+    )
     ∙ ap (λ (m : Marks). state_at m c.args.id) c.self.view_is

@@ -35,12 +35,6 @@ returns-in_default-clause-refused c =
     (sym (due_is _ c.args.self.now c.self.inside.receiver c.due.result c.self.invariant.receiver refl c.self.view_is c.due.ensures.due
     ∙ c.in_default.is)) refl
 
-pub returns-in_default-clause-memory : goal.returns-in_default-clause-memory
-returns-in_default-clause-memory c =
-    λ e. cc (ap (λ (o : Option Name). refusal_expire_of o)
-    (due_is _ c.args.self.now c.self.inside.receiver c.due.result c.self.invariant.receiver refl c.self.view_is c.due.ensures.due
-    ∙ c.in_default.is))
-
 pub returns-in_default-expire-clause-refused : goal.returns-in_default-expire-clause-refused
 returns-in_default-expire-clause-refused c =
     subst (λ (o : Option Name). RefusedBy (refusal_expire_of o) Memory)

@@ -1,11 +1,13 @@
--- The message is kept, and its sender open.
-use Rattle.lpt_node.proofs.SenderLemmas.{sound-opened}
+-- The message is kept, and its sender open; without memory for that nothing has changed.
+use Rattle.lpt_node.proofs.SenderLemmas.{sound-begun}
 use Rattle.lpt_node.proofs.node.Node.open.Goals as goal
 
-pub invariant_of-self-2 : goal.invariant_of-self-2
-invariant_of-self-2 c =
-    sound-opened c.self.inside.config c.self.inside.senders c.open.new.self c.self.inside.receiver
-    c.self.inside.outgoing c.insert.new.self c.args.id c.args.message
+pub invariant_of-self : goal.invariant_of-self
+invariant_of-self c =
+    sound-begun c.begin.result c.self.inside.config c.self.inside.senders c.begin.new.senders c.self.inside.receiver
+    c.self.inside.outgoing c.begin.new.outgoing c.args.id c.args.message
     c.self.invariant
-    c.in-Ok-open.ensures.ok
-    c.in-Ok.ensures.ok
+    c.begin.ensures.opened
+    c.begin.ensures.kept
+    c.begin.ensures.unopened
+    c.begin.ensures.unkept

@@ -5,23 +5,35 @@ use Rattle.lpt_ledger.specs.LeastFree.{least_free_in}
 use Rattle.lpt_execution.specs.Reporting.{opened_of}
 use Rattle.lpt_node.specs.Nodes.{NodeView}
 use Rattle.lpt_node.specs.Sending.{opened}
-use Rattle.lpt_node.proofs.SenderLemmas.{sound-opened}
+use Rattle.lpt_node.proofs.SenderLemmas.{sound-begun}
 use Rattle.lpt_node.proofs.node.Node.open_first.Goals as goal
+
+pub invariant_of-self : goal.invariant_of-self
+invariant_of-self c =
+    sound-begun c.begin.result c.self.inside.config c.self.inside.senders c.begin.new.senders c.self.inside.receiver
+    c.self.inside.outgoing c.begin.new.outgoing c.in-Some-least_free.id c.in-Some.message
+    c.self.invariant
+    c.begin.ensures.opened
+    c.begin.ensures.kept
+    c.begin.ensures.unopened
+    c.begin.ensures.unkept
 
 pub invariant_of-self-2 : goal.invariant_of-self-2
 invariant_of-self-2 c =
-    sound-opened c.self.inside.config c.self.inside.senders c.open.new.self c.self.inside.receiver
-    c.self.inside.outgoing c.insert.new.self c.in-Some-least_free.id c.in-Some.message
+    sound-begun c.begin.result c.self.inside.config c.self.inside.senders c.begin.new.senders c.self.inside.receiver
+    c.self.inside.outgoing c.begin.new.outgoing c.in-Some-least_free.id c.in-Some.message
     c.self.invariant
-    c.in-Ok-open.ensures.ok
-    c.in-Ok.ensures.ok
+    c.begin.ensures.opened
+    c.begin.ensures.kept
+    c.begin.ensures.unopened
+    c.begin.ensures.unkept
 
 pub returns-clause-at : goal.returns-clause-at
 returns-clause-at c =
     (λ i. record {
       sending = record {
-        ledger = c.in-Ok-open.ensures.ok i;
-        messages = (c.in-Ok.ensures.ok i).messages;
+        ledger = c.in-Ok.ensures.opened i;
+        messages = (c.in-Ok.ensures.kept i).messages;
         count = c.self.inside.counts.count;
         types = c.self.inside.counts.types;
       };

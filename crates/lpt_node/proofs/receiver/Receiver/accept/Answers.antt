@@ -143,7 +143,6 @@ returns-in-Conflict-clause-memory c =
     c.self.invariant
     (search rules)
     c.abort.result c.in-Conflict.broken.reason
-    c.abort.ensures.memory
     c.in-Conflict.ensures.offered
 
 pub invariant_of-self-in-Gap : goal.invariant_of-self-in-Gap
@@ -178,5 +177,4 @@ returns-in-Gap-clause-memory c =
     c.self.invariant
     (search rules)
     c.break_off.result
-    c.break_off.ensures.memory
     c.in-Gap.ensures.offered

@@ -4,6 +4,6 @@ use Rattle.lpt_node.proofs.receiver.Receiver.new.Goals as goal
 
 pub invariant_of-result : goal.invariant_of-result
 invariant_of-result c =
-    sound-new c.args.limit c.args.timeout c.args.p c.args.mode c.in_ok-new.field-0 c.in_ok-new-2.field-0
+    sound-new c.args.limit c.args.timeout c.args.p c.args.mode c.new.result c.in_ok-new.field-0
+    c.new.ensures
     c.in_ok-new.ensures
-    c.in_ok-new-2.ensures

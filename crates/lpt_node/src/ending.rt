@@ -1,0 +1,195 @@
+//! How a reception ends. What takes memory comes first: the report or the job, and then the place of
+//! its name in the ledger. So a reception is put back as it was where memory is wanting.
+
+ghost use Rattle.std.specs.Prelude.{◌≡◌, ◌+◌, ◌<◌, ◌^◌, [], None, IsSomeAnd, IfOk, OnOk, OnErr};
+ghost use Rattle.std.specs.FinMap as map;
+ghost use Rattle.std.specs.Option.{option_map};
+ghost use Rattle.lpt_execution.specs.LptPart.declared.reason.Reason.TheVariants as why;
+ghost use Rattle.lpt_execution.specs.LptPus.Telemetry.{telemetry, as_written};
+ghost use Rattle.lpt_ledger.specs.Marks.{Shut};
+ghost use Rattle.lpt_ledger.specs.States.{state_at};
+ghost use Rattle.lpt_table.specs.LptReception.Received.{spelled, all_of};
+ghost use Rattle.lpt_table.specs.Offering.{put_back};
+ghost use Rattle.lpt_jobs.specs.Jobs.{after_push, numbered};
+ghost use Rattle.lpt_node.specs.declared.taken.Taken.TheVariants as taking;
+ghost use Rattle.lpt_node.specs.Receivers.{abort_report, IsShort};
+ghost use Rattle.lpt_node.specs.Receiving.{jobs_with};
+
+use crate::Side;
+use crate::making::abort_report;
+use crate::taken::Taken;
+use lpt_execution::{Name, Octets, Reason, TmHead};
+use lpt_jobs::JobQueue;
+use lpt_ledger::{Ledger, State};
+use lpt_table::{Broken, Table, Whole};
+use std::alloc::{AllocError, Global};
+
+// Ends a reception of which all parts are there, with its message, which becomes a job at the
+// spacecraft. It is put back where there is no memory for that.
+pub(crate) fn release(
+    side: Side,
+    jobs: &mut JobQueue,
+    ledger: &mut Ledger,
+    table: &mut Table,
+    id: Name,
+    whole: Whole,
+) -> Result<Taken, AllocError>
+    requires free { state_at ledger.old id ≡ State.Free }
+    requires out { IsSomeAnd table.old.out (λ o. o.0 ≡ id) }
+    requires id { whole.before.id ≡ id }
+    requires p { whole.before.p ≡ table.old.p }
+    requires numbers { numbered jobs.old + 1 < 2 ^ 64 }
+    ensures ok { IfOk result (λ t. t ≡ taking.Whole (spelled (all_of whole))) }
+    ensures jobs { OnOk result (jobs.new ≡ jobs_with side jobs.old (spelled (all_of whole))) }
+    ensures shut { OnOk result (ledger.new ≡ map.insert ledger.old id Shut) }
+    ensures settled { OnOk result (table.new ≡ record table.old { out = None }) }
+    ensures short { IfOk result IsShort }
+
+    ensures unshut { OnErr result (ledger.new ≡ ledger.old) }
+    ensures back { OnErr result (table.new ≡ put_back table.old id whole.before.parts) }
+    ensures no_job { OnErr result (jobs.new ≡ jobs.old) }
+{
+    if close_whole(side, jobs, ledger, id, &whole).is_err() {
+        table.put_back(id, whole.back());
+        return Err(AllocError);
+    }
+    match whole.release() {
+        Ok(message) => {
+            table.settle(id);
+            Ok(Taken::Whole(message))
+        }
+        Err(_) => unreachable!(),
+    }
+}
+
+// Closes the name of a reception of which all parts are there, whose message becomes a job at the
+// spacecraft. The only error is want of memory, and then nothing has changed.
+fn close_whole(
+    side: Side,
+    jobs: &mut JobQueue,
+    ledger: &mut Ledger,
+    id: Name,
+    whole: &Whole,
+) -> Result<(), AllocError>
+    requires free { state_at ledger.old id ≡ State.Free }
+    requires numbers { numbered jobs.old + 1 < 2 ^ 64 }
+    ensures jobs { OnOk result (jobs.new ≡ jobs_with side jobs.old (spelled (all_of whole.now))) }
+    ensures shut { OnOk result (ledger.new ≡ map.insert ledger.old id Shut) }
+
+    ensures no_job { OnErr result (jobs.new ≡ jobs.old) }
+    ensures unshut { OnErr result (ledger.new ≡ ledger.old) }
+{
+    match side {
+        Side::Ground => shut(ledger, id),
+        Side::Craft => {
+            add_whole(jobs, whole)?;
+            match shut(ledger, id) {
+                Ok(()) => Ok(()),
+                Err(AllocError) => {
+                    drop(jobs.pop_back());
+                    Err(AllocError)
+                }
+            }
+        }
+    }
+}
+
+// Makes a job of a whole message. The only error is want of memory.
+fn add_whole(jobs: &mut JobQueue, whole: &Whole) -> Result<(), AllocError>
+    requires { numbered jobs.old + 1 < 2 ^ 64 }
+    ensures ok { OnOk result (jobs.new ≡ after_push jobs.old (spelled (all_of whole.now))) }
+    ensures err { OnErr result (jobs.new ≡ jobs.old) }
+{
+    match jobs.push(whole.joined()?) {
+        Ok(()) => Ok(()),
+        Err(_) => Err(AllocError),
+    }
+}
+
+// Ends a reception that is broken off, with a report of it. It is put back where there is no memory
+// for that.
+pub(crate) fn abort(
+    alloc: Global,
+    ledger: &mut Ledger,
+    table: &mut Table,
+    head: Option<TmHead>,
+    id: Name,
+    broken: Broken,
+) -> Result<Taken, AllocError>
+    requires free { state_at ledger.old id ≡ State.Free }
+    requires out { IsSomeAnd table.old.out (λ o. o.0 ≡ id) }
+    requires id { broken.before.id ≡ id }
+    requires p { broken.before.p ≡ table.old.p }
+    ensures ok { IfOk result (λ t. t ≡ taking.Broken broken.reason
+        (abort_report (option_map (λ h. as_written (telemetry h [])) head) id broken.reason)) }
+    ensures shut { OnOk result (ledger.new ≡ map.insert ledger.old id Shut) }
+    ensures settled { OnOk result (table.new ≡ record table.old { out = None }) }
+
+    ensures unshut { OnErr result (ledger.new ≡ ledger.old) }
+    ensures back { OnErr result (table.new ≡ put_back table.old id broken.before.parts) }
+{
+    match close_reported(alloc, ledger, head, id, broken.reason()) {
+        Ok(report) => {
+            let reason = broken.abort();
+            table.settle(id);
+            Ok(Taken::Broken(reason, report))
+        }
+        Err(AllocError) => {
+            table.put_back(id, broken.back());
+            Err(AllocError)
+        }
+    }
+}
+
+// Closes the name of a reception that a gap has broken off before it was open, with a report of it.
+// The only error is want of memory, and then nothing has changed.
+pub(crate) fn break_off(
+    alloc: Global,
+    ledger: &mut Ledger,
+    head: Option<TmHead>,
+    id: Name,
+) -> Result<Taken, AllocError>
+    requires free { state_at ledger.old id ≡ State.Free }
+    ensures ok { IfOk result (λ t. t ≡ taking.Broken why.Discontinuity
+        (abort_report (option_map (λ h. as_written (telemetry h [])) head) id why.Discontinuity)) }
+    ensures shut { OnOk result (ledger.new ≡ map.insert ledger.old id Shut) }
+    ensures short { IfOk result IsShort }
+
+    ensures unshut { OnErr result (ledger.new ≡ ledger.old) }
+{
+    let report = close_reported(alloc, ledger, head, id, Reason::Discontinuity)?;
+    Ok(Taken::Broken(Reason::Discontinuity, report))
+}
+
+// Closes the name of a reception that ends without its message, with a report of it, where reports
+// have a head. The only error is want of memory, and then nothing has changed.
+pub(crate) fn close_reported(
+    alloc: Global,
+    ledger: &mut Ledger,
+    head: Option<TmHead>,
+    id: Name,
+    reason: Reason,
+) -> Result<Option<Octets>, AllocError>
+    requires free { state_at ledger.old id ≡ State.Free }
+    ensures report { IfOk result (λ o. o
+        ≡ abort_report (option_map (λ h. as_written (telemetry h [])) head) id reason) }
+    ensures shut { OnOk result (ledger.new ≡ map.insert ledger.old id Shut) }
+
+    ensures unshut { OnErr result (ledger.new ≡ ledger.old) }
+{
+    let report = abort_report(alloc, head, id, reason)?;
+    shut(ledger, id)?;
+    Ok(report)
+}
+
+// Closes a free name. The only error is want of memory.
+fn shut(ledger: &mut Ledger, id: Name) -> Result<(), AllocError>
+    requires { state_at ledger.old id ≡ State.Free }
+    ensures ok { OnOk result (ledger.new ≡ map.insert ledger.old id Shut) }
+    ensures err { OnErr result (ledger.new ≡ ledger.old) }
+{
+    match ledger.shut(id) {
+        Ok(()) => Ok(()),
+        Err(_) => Err(AllocError),
+    }
+}

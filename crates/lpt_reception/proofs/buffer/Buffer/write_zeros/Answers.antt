@@ -1,0 +1,8 @@
+-- The zeros stand at their place.
+-- The check alone proves it. It is written out so that a wrong body is refused at once.
+use Rattle.std.proofs.Common.{arith}
+use Rattle.std.proofs.lemmas.Grind.{common_steps}
+use Rattle.lpt_reception.proofs.buffer.Buffer.write_zeros.Goals as goal
+
+pub returns : goal.returns
+returns c = grind (arith, common_steps)

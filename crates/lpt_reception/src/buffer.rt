@@ -1,0 +1,117 @@
+//! The octets of a reception, in a buffer that never takes more memory than the longest message.
+
+ghost use Rattle.std.specs.Prelude.{◌≡◌, ◌+◌, ◌≤◌, [], length, take, vec_capacity, IfOk, OnOk, OnErr};
+ghost use Rattle.lpt_part.specs.LptPacket.Sizes.{longest_packet};
+ghost use Rattle.lpt_reception.specs.Buffers.{padded, written, zeroed};
+
+use lpt_part::LONGEST_PACKET;
+use std::alloc::{AllocError, Global};
+use std::marker::Model;
+
+/// Octets in a buffer that holds at most 65,542, in what is allocated too.
+#[derive(Drop)]
+pub(crate) struct Buffer {
+    octets: Vec<u8>,
+}
+
+impl Model for Buffer {
+    ghost use Rattle.std.specs.Prelude.{ℕ, List, ◌≤◌, vec_capacity};
+    ghost use Rattle.lpt_part.specs.LptPacket.Sizes.{longest_packet};
+
+    ghost Value = { List ℕ };
+
+    ghost view = { λ a. a.octets.items };
+
+    ghost invariant = { λ a. vec_capacity a.octets ≤ longest_packet };
+}
+
+impl Buffer {
+    /// No octets, which take no memory.
+    pub(crate) fn new(alloc: Global) -> Buffer
+        ensures { result ≡ [] }
+    {
+        Buffer {
+            octets: Vec::new(alloc),
+        }
+    }
+
+    /// The octets, borrowed.
+    pub(crate) fn as_slice(&self) -> &[u8]
+        ensures { result.now ≡ self.now }
+    {
+        self.octets.as_slice()
+    }
+
+    /// A copy of the octets. The only error is want of memory.
+    pub(crate) fn copy(&self) -> Result<Vec<u8>, AllocError>
+        ensures { IfOk result (λ v. v.items ≡ self.now) }
+    {
+        self.octets.to_vec(*self.octets.allocator())
+    }
+
+    /// The octets, which are not copied. They take no more memory than the longest message.
+    pub(crate) fn into_vec(self) -> Vec<u8>
+        ensures octets { result.items ≡ self }
+        ensures bounded { vec_capacity result ≤ longest_packet }
+    {
+        let Buffer { octets } = self;
+        octets
+    }
+
+    /// Writes octets from a place on, behind zeros where the buffer ends before it. Want of memory
+    /// leaves the buffer as it was.
+    pub(crate) fn write(&mut self, start: usize, octets: &[u8]) -> Result<(), AllocError>
+        requires { start + length octets.now ≤ longest_packet }
+        ensures ok { OnOk result (self.new ≡ written self.old start octets.now) }
+        ensures err { OnErr result (self.new ≡ self.old) }
+    {
+        let end = start + octets.len();
+        make_room(&mut self.octets, end)?;
+        pad(&mut self.octets, end);
+        self.octets[start..end].copy_from_slice(octets);
+        Ok(())
+    }
+
+    /// Writes so many zeros from a place on.
+    pub(crate) fn write_zeros(&mut self, start: usize, so_many: usize)
+        requires { start + so_many ≤ length self.old }
+        ensures { self.new ≡ zeroed self.old start so_many }
+    {
+        self.octets[start..start + so_many].fill(0);
+    }
+
+    /// Leaves so many octets at the front.
+    pub(crate) fn truncate(&mut self, so_many: usize)
+        ensures { self.new ≡ take so_many self.old }
+    {
+        self.octets.truncate(so_many);
+    }
+}
+
+// Makes room for so many octets. Where there is too little it asks for twice as much, so that a
+// buffer grows few times, but for no more than the longest message takes.
+fn make_room(buffer: &mut Vec<u8>, so_many: usize) -> Result<(), AllocError>
+    requires fits { so_many ≤ longest_packet }
+    requires bounded { vec_capacity buffer.old ≤ longest_packet }
+    ensures same { buffer.new.items ≡ buffer.old.items }
+    ensures room { OnOk result (so_many ≤ vec_capacity buffer.new) }
+    ensures bounded { vec_capacity buffer.new ≤ longest_packet }
+{
+    let room = buffer.capacity();
+    if so_many <= room {
+        return Ok(());
+    }
+    let more = (2 * room).max(so_many).min(LONGEST_PACKET);
+    buffer.reserve_exact(more - buffer.len())
+}
+
+// Puts zeros behind the octets where they are fewer than so many, for which there is room.
+fn pad(buffer: &mut Vec<u8>, so_many: usize)
+    requires { so_many ≤ vec_capacity buffer.old }
+    ensures octets { buffer.new.items ≡ padded buffer.old.items so_many }
+    ensures same_room { vec_capacity buffer.new ≡ vec_capacity buffer.old }
+{
+    while buffer.len() < so_many {
+        buffer.push_reserved(0);
+    }
+}
