@@ -1,0 +1,292 @@
+-- Each call leaves the readings of an end's jobs those for its memories.
+use Rattle.std.proofs.Common.{◌≡◌, ◌∙◌, refl, sym, subst, ap, ℕ, ◌-◌, Bool, true, false, if◌then◌else◌, List, [], ◌∷◌, Option, Some, None, ◌==◌}
+use Rattle.std.specs.Prelude.{All, Result, Ok, Err, OnOk, OnErr}
+use Rattle.std.proofs.lemmas.List.Elements.{All-nil, All-head, All-push, All-set, All-drop}
+use Rattle.lpt_node.specs.LptEvents.Arrivals.{Arrival}
+use Rattle.lpt_node.specs.LptEvents.declared.config.Config.{Config}
+use Rattle.lpt_node.specs.LptEvents.declared.side.Side.{Side}
+use Rattle.lpt_node.specs.LptEvents.Lanes.{same_direction}
+use Rattle.lpt_node.specs.LptJobs.declared.job.Job.{Job}
+use Rattle.lpt_node.specs.LptJobs.declared.job.Job.TheVariants.{Waiting, Claimed, Committed}
+use Rattle.lpt_node.specs.LptJobs.Jobs.{head_of}
+use Rattle.lpt_node.specs.LptMemory.Meanings.{Sizes}
+use Rattle.lpt_node.specs.LptMemory.Ranges.{MeaningFits}
+use Rattle.lpt_node.specs.LptMemory.Memories.{Contents, sizes_of}
+use Rattle.lpt_node.specs.LptPacket.declared.direction.Direction.{Direction}
+use Rattle.lpt_node.specs.declared.accepted.Accepted.{Accepted}
+use Rattle.lpt_node.specs.declared.expired.Expired.{Expired}
+use Rattle.lpt_node.specs.Accepting.{accepted}
+use Rattle.lpt_node.specs.Anew.{retired, restarted}
+use Rattle.lpt_node.proofs.JobLemmas.{jobs_accepted}
+use Rattle.lpt_node.proofs.LptMemory.MeaningLemmas.{meaning-fits}
+use Rattle.lpt_node.proofs.LptMemory.PutLemmas.{sizes_of-effect}
+use Rattle.lpt_node.specs.LptMemory.Memories.{effect}
+use Rattle.lpt_node.specs.LptMemory.Readings.{Source, meant, Job as Ticket}
+use Rattle.lpt_node.specs.Jobs.{FrontIsFor, IsReadFor, Execution, claimed, claimed_of, committed, executed, executed_of, with_opened}
+use Rattle.lpt_node.specs.LptJobs.Jobs.{Head, NoJob, NotReady, Ready, after_commit, claimed_in, unclaimed}
+use Rattle.lpt_node.specs.Nodes.{NodeData, NodeView, direction_from, message_at}
+use Rattle.lpt_node.specs.Receiving.{with_report}
+use Rattle.lpt_node.specs.Sending.{opened, sent, sent_of, closed}
+use Rattle.lpt_node.specs.Times.{ticked, expired, expired_of, due}
+use Rattle.lpt_c_end.specs.Ready.{IsReading, IsReady}
+
+-- ---- jobs
+
+waiting-reading : (apid : ℕ) (sizes : Sizes) (m : List ℕ) → IsReading apid sizes (Waiting m)
+waiting-reading apid sizes m r is = absurd cc
+
+claimed-reading : (apid : ℕ) (sizes : Sizes) → IsReading apid sizes Claimed
+claimed-reading apid sizes r is = absurd cc
+
+committed-reading : (apid : ℕ) (sizes : Sizes) (s : Source)
+    → s.apid ≡ apid
+    → s.sizes ≡ sizes
+    → IsReading apid sizes (Committed s)
+committed-reading apid sizes s its fits r is =
+    let same : s ≡ r = cc in
+    subst (λ (x : Source). (x.apid ≡ apid) × (x.sizes ≡ sizes)) same (its, fits)
+
+-- the first can be executed over such memories
+front_readings : (apid : ℕ) (ms : Contents) (js : List Job)
+    → All (IsReading apid (sizes_of ms)) js
+    → FrontIsFor (head_of js) apid ms
+front_readings apid ms [] all = tt
+front_readings apid ms (Waiting m ∷ js) all = tt
+front_readings apid ms (Claimed ∷ js) all = tt
+front_readings apid ms (Committed r ∷ js) all = All-head (IsReading apid (sizes_of ms)) (Committed r) js all r refl
+
+-- ---- what a node does
+
+-- readings that are for some memories still are
+abbrev Keeps : NodeData → NodeData → Type 0
+Keeps d new = (apid : ℕ) (sizes : Sizes)
+    → All (IsReading apid sizes) d.jobs.jobs
+    → All (IsReading apid sizes) new.jobs.jobs
+
+keeps_retired : (d a b : NodeData) (test : Bool)
+    → Keeps d a
+    → Keeps d b
+    → Keeps d (if test then a else b)
+keeps_retired d a b true ka kb = ka
+keeps_retired d a b false ka kb = kb
+
+keeps_report : (d : NodeData) (o : Option (List ℕ)) → Keeps d (with_report d o)
+keeps_report d None = λ apid sizes all. all
+keeps_report d (Some o) = λ apid sizes all. all
+
+keeps_accepted : (side : Side) (c : Config) (d : NodeData) (a : Arrival)
+    → Keeps d (accepted side c d a).0
+keeps_accepted side c d a apid sizes all =
+    let P = IsReading apid sizes in
+    jobs_accepted (All P) (λ js m these. All-push P js (Waiting m) these (waiting-reading apid sizes m)) side c d a all
+
+keeps_sent : (side : Side) (c : Config) (d : NodeData) (id k : ℕ) (o : Option (List ℕ))
+    → Keeps d (sent_of side c d id k o).0
+keeps_sent side c d id k None = λ apid sizes all. all
+keeps_sent side c d id k (Some m) = λ apid sizes all. all
+
+keeps_expired : (side : Side) (c : Config) (d : NodeData) (o : Option ℕ)
+    → Keeps d (expired_of side c d o).0
+keeps_expired side c d None = λ apid sizes all. all
+keeps_expired side c d (Some id) = keeps_report _ _
+
+-- ---- the same, of an end
+
+ready : (n new : NodeView) (ms : Option Contents)
+    → new.config ≡ n.config
+    → Keeps n.at new.at
+    → IsReady n ms
+    → IsReady new ms
+ready n new ms config keeps is m some =
+    keeps new.config.apid (sizes_of m)
+    (subst (λ (c : Config). All (IsReading c.apid (sizes_of m)) n.at.jobs.jobs) (sym config) (is m some))
+
+becomes : (n new : NodeView) (ms : Option Contents) (d : NodeData)
+    → new.config ≡ n.config
+    → new.at ≡ d
+    → Keeps n.at d
+    → IsReady n ms
+    → IsReady new ms
+becomes n new ms d config at keeps is =
+    ready n new ms config (subst (Keeps n.at) (sym at) keeps) is
+
+-- the same, of a call that may be refused
+by_result : {A B : Type 0} (r : Result A B) (n new : NodeView) (ms : Option Contents) (d : NodeData)
+    → new.config ≡ n.config
+    → OnOk r (new.at ≡ d)
+    → OnErr r (new.at ≡ n.at)
+    → Keeps n.at d
+    → IsReady n ms
+    → IsReady new ms
+by_result (Ok x) n new ms d config ok err keeps is = becomes n new ms d config ok keeps is
+by_result (Err x) n new ms d config ok err keeps is =
+    becomes n new ms n.at config err (λ apid sizes all. all) is
+
+pub ready_same : (n new : NodeView) (ms : Option Contents)
+    → new.config ≡ n.config
+    → new.at ≡ n.at
+    → IsReady n ms
+    → IsReady new ms
+ready_same n new ms config at is = becomes n new ms n.at config at (λ apid sizes all. all) is
+
+pub ready_ticked : {A B : Type 0} (r : Result A B) (n new : NodeView) (ms : Option Contents)
+    → new.config ≡ n.config
+    → OnOk r (new.at ≡ ticked n.at)
+    → OnErr r (new.at ≡ n.at)
+    → IsReady n ms
+    → IsReady new ms
+ready_ticked r n new ms config ok err is = by_result r n new ms _ config ok err (λ apid sizes all. all) is
+
+pub ready_opened : {A B : Type 0} (r : Result A B) (n new : NodeView) (ms : Option Contents) (id : ℕ) (m : List ℕ)
+    → new.config ≡ n.config
+    → OnOk r (new.at ≡ opened n.at id m)
+    → OnErr r (new.at ≡ n.at)
+    → IsReady n ms
+    → IsReady new ms
+ready_opened r n new ms id m config ok err is = by_result r n new ms _ config ok err (λ apid sizes all. all) is
+
+pub ready_closed : {A B : Type 0} (r : Result A B) (n new : NodeView) (ms : Option Contents) (id : ℕ)
+    → new.config ≡ n.config
+    → OnOk r (new.at ≡ closed n.at id)
+    → OnErr r (new.at ≡ n.at)
+    → IsReady n ms
+    → IsReady new ms
+ready_closed r n new ms id config ok err is = by_result r n new ms _ config ok err (λ apid sizes all. all) is
+
+pub ready_retired : (n new : NodeView) (ms : Option Contents) (side : Side) (way : Direction) (id : ℕ)
+    → new.config ≡ n.config
+    → new.at ≡ retired side n.at way id
+    → IsReady n ms
+    → IsReady new ms
+ready_retired n new ms side way id config at is =
+    becomes n new ms _ config at
+    (keeps_retired n.at _ _ (same_direction way (direction_from side)) (λ apid sizes all. all) (λ apid sizes all. all))
+    is
+
+pub ready_restarted : (n new : NodeView) (ms : Option Contents)
+    → new.config ≡ n.config
+    → new.at ≡ restarted n.at
+    → IsReady n ms
+    → IsReady new ms
+ready_restarted n new ms config at is = becomes n new ms _ config at (λ apid sizes all. All-nil (IsReading apid sizes)) is
+
+pub ready_accepted : (n new : NodeView) (ms : Option Contents) (side : Side) (c : Config) (r : Accepted) (a : Arrival)
+    → new.config ≡ n.config
+    → (new.at, r) ≡ accepted side c n.at a
+    → IsReady n ms
+    → IsReady new ms
+ready_accepted n new ms side c r a config is_so is =
+    becomes n new ms _ config (ap (λ (x : NodeData × Accepted). x.0) is_so) (keeps_accepted side c n.at a) is
+
+pub ready_sent : (n new : NodeView) (ms : Option Contents) (side : Side) (c : Config) (o : List ℕ) (id k : ℕ)
+    → new.config ≡ n.config
+    → (new.at, o) ≡ sent side c n.at id k
+    → IsReady n ms
+    → IsReady new ms
+ready_sent n new ms side c o id k config is_so is =
+    becomes n new ms _ config (ap (λ (x : NodeData × List ℕ). x.0) is_so)
+    (keeps_sent side c n.at id k (message_at n.at id)) is
+
+pub ready_expired : (n new : NodeView) (ms : Option Contents) (side : Side) (c : Config) (r : Expired)
+    → new.config ≡ n.config
+    → (new.at, r) ≡ expired side c n.at
+    → IsReady n ms
+    → IsReady new ms
+ready_expired n new ms side c r config is_so is =
+    becomes n new ms _ config (ap (λ (x : NodeData × Expired). x.0) is_so)
+    (keeps_expired side c n.at (due c n.at)) is
+
+-- ---- jobs that are read and executed
+
+-- what stands first can be executed over an end's memories
+pub front_ready : (n : NodeView) (ms : Option Contents) (m : Contents)
+    → ms ≡ Some m
+    → IsReady n ms
+    → IsReadFor n m
+front_ready n ms m some is = front_readings n.config.apid m n.at.jobs.jobs (is m some)
+
+keeps_claimed : (d : NodeData) (u : Option (ℕ × List ℕ)) → Keeps d (claimed_of d u).0
+keeps_claimed d None = λ apid sizes all. all
+keeps_claimed d (Some x) =
+    λ apid sizes all. All-set (IsReading apid sizes) d.jobs.jobs (claimed_in d.jobs.jobs) Claimed
+    (claimed-reading apid sizes) all
+
+abbrev first_of : NodeData × Bool → NodeData
+first_of x = x.0
+
+-- a reading that is for them is handed in
+committed_keeps : (apid : ℕ) (sizes : Sizes) (d : NodeData) (boot job : ℕ) (r : Source)
+    → r.apid ≡ apid
+    → r.sizes ≡ sizes
+    → All (IsReading apid sizes) d.jobs.jobs
+    → All (IsReading apid sizes) (committed d boot job r).0.jobs.jobs
+committed_keeps apid sizes d boot job r its fits all = go (boot == d.boot) where
+  go : (b : Bool)
+      → All (IsReading apid sizes) (first_of (if b then (record d { jobs = after_commit d.jobs job r }, true) else (d, false))).jobs.jobs
+  go true = All-set (IsReading apid sizes) d.jobs.jobs (job - d.jobs.first) (Committed r) (committed-reading apid sizes r its fits) all
+  go false = all
+
+-- a job was claimed and its reading handed in
+pub ready_read : (n mid new : NodeView) (ms : Option Contents) (m : Contents) (t : Ticket) (b : Bool) (boot job : ℕ) (r : Source)
+    → ms ≡ Some m
+    → mid.config ≡ n.config
+    → (mid.at, t) ≡ claimed n.at
+    → new.config ≡ mid.config
+    → (new.at, b) ≡ committed mid.at boot job r
+    → r.apid ≡ n.config.apid
+    → r.sizes ≡ sizes_of m
+    → IsReady n ms
+    → IsReady new ms
+ready_read n mid new ms m t b boot job r is c1 k1 c2 k2 its fits all m' some =
+    let same : m ≡ m' = cc in
+    let apid : n.config.apid ≡ new.config.apid = ap (λ (c : Config). c.apid) (sym c1 ∙ sym c2) in
+    let P = IsReading n.config.apid (sizes_of m') in
+    let claim : All P mid.at.jobs.jobs =
+    subst (λ (d : NodeData). All P d.jobs.jobs) (sym (ap (λ (y : NodeData × Ticket). y.0) k1))
+    (keeps_claimed n.at (unclaimed n.at.jobs) n.config.apid (sizes_of m') (all m' some))
+    in
+    let commit : All P new.at.jobs.jobs =
+    subst (λ (d : NodeData). All P d.jobs.jobs) (sym (ap (λ (y : NodeData × Bool). y.0) k2))
+    (committed_keeps n.config.apid (sizes_of m') mid.at boot job r its (fits ∙ ap sizes_of same) claim)
+    in
+    subst (λ (a : ℕ). All (IsReading a (sizes_of m')) new.at.jobs.jobs) apid commit
+
+opened_keeps : (d : NodeData) (o : Option (ℕ × List ℕ)) → Keeps d (with_opened d o)
+opened_keeps d None = λ apid sizes all. all
+opened_keeps d (Some x) = λ apid sizes all. all
+
+-- what stands first is executed
+executed_keeps : (c : Config) (d : NodeData) (ms : Contents) (h : Head) (apid : ℕ)
+    → FrontIsFor h apid ms
+    → All (IsReading apid (sizes_of ms)) d.jobs.jobs
+    → All (IsReading apid (sizes_of (executed_of c d ms h).1)) (executed_of c d ms h).0.0.jobs.jobs
+executed_keeps c d ms NoJob apid front all = all
+executed_keeps c d ms NotReady apid front all = all
+executed_keeps c d ms (Ready r) apid front all =
+    let same : sizes_of (effect (meant r) ms) ≡ sizes_of ms =
+    sizes_of-effect (meant r) ms
+    (subst (λ (s : Sizes). MeaningFits s (meant r)) front.1 (meaning-fits r.apid r.sizes r.message))
+    in
+    subst (λ (s : Sizes). All (IsReading apid s) (executed_of c d ms (Ready r)).0.0.jobs.jobs) (sym same)
+    (opened_keeps _ _ apid (sizes_of ms) (All-drop (IsReading apid (sizes_of ms)) 1 d.jobs.jobs all))
+
+pub ready_executed : (n new : NodeView) (ms after : Option Contents) (m left : Contents) (x : Execution)
+    → ms ≡ Some m
+    → after ≡ Some left
+    → new.config ≡ n.config
+    → ((new.at, x), left) ≡ executed n.config n.at m
+    → IsReady n ms
+    → IsReady new after
+ready_executed n new ms after m left x some last config done all z is =
+    let same : left ≡ z = cc in
+    let from = all m some in
+    let kept =
+    executed_keeps n.config n.at m (head_of n.at.jobs.jobs) n.config.apid
+    (front_readings n.config.apid m n.at.jobs.jobs from) from
+    in
+    let here : All (IsReading n.config.apid (sizes_of left)) new.at.jobs.jobs =
+    subst (λ (w : (NodeData × Execution) × Contents). All (IsReading n.config.apid (sizes_of w.1)) w.0.0.jobs.jobs)
+    (sym done) kept
+    in
+    subst (λ (c : Config). All (IsReading c.apid (sizes_of z)) new.at.jobs.jobs) (sym config)
+    (subst (λ (w : Contents). All (IsReading n.config.apid (sizes_of w)) new.at.jobs.jobs) same here)

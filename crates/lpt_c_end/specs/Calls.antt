@@ -1,0 +1,60 @@
+-- What calls on a handle leave and tell.
+use Rattle.std.specs.Prelude.{◌≡◌, ℕ, List, [], ◌∷◌, Option, Some, None, Ok, Err}
+use Rattle.lpt_node.specs.LptMemory.Memories.{Contents, content_of}
+use Rattle.lpt_c_end.specs.Changes.{delivery, execution_of}
+use Rattle.lpt_c_end.specs.Codes.{empty, nothing}
+use Rattle.lpt_c_end.specs.Copies.{Text}
+use Rattle.lpt_c_end.specs.Words.{words, applied_words}
+use Rattle.lpt_c_end.specs.declared.end.End.{End}
+use Rattle.lpt_c_end.specs.declared.words.LptOutcome.{LptOutcome}
+use Rattle.lpt_c_end.specs.declared.words.LptApplied.{LptApplied}
+
+-- a handle holds such an end
+abbrev pub IfHeld : (End → Type 0) → Option End → Type 0
+IfHeld F None = ⊥
+IfHeld F (Some e) = F e
+
+-- a handle holds an end before and after, of which this is so; or none before and after
+abbrev pub IfBoth : (End → End → Type 0) → Option End → Option End → Type 0
+IfBoth F None None = Unit {0}
+IfBoth F None (Some new) = ⊥
+IfBoth F (Some e) None = ⊥
+IfBoth F (Some e) (Some new) = F e new
+
+-- what is told of octets that were delivered
+abbrev pub IsTold : List ℕ → LptOutcome → End → Type 0
+IsTold b said e = said ≡ words (delivery e b).1.outcome
+
+-- octets, or that there are none
+abbrev pub text_or_nothing : Option (List ℕ) → Text
+text_or_nothing None = Err nothing
+text_or_nothing (Some b) = Ok b
+
+-- the first of packets
+abbrev pub first : List (List ℕ) → Option (List ℕ)
+first [] = None
+first (b ∷ bs) = Some b
+
+-- the message that was released last
+abbrev pub released_of : Option End → Text
+released_of None = Err empty
+released_of (Some e) = text_or_nothing e.released
+
+-- the packet that is to be sent first
+abbrev pub outgoing_of : Option End → Text
+outgoing_of None = Err empty
+outgoing_of (Some e) = text_or_nothing (first e.outbox.items)
+
+-- what is told of the execution of a job
+abbrev pub IsApplied : LptApplied → End → Type 0
+IsApplied said e = said ≡ applied_words (execution_of e).0.1.applied
+
+-- the octets of a memory
+abbrev pub content_by : ℕ → Option Contents → Option (List ℕ)
+content_by id None = None
+content_by id (Some ms) = content_of id ms
+
+-- the same, of an end
+abbrev pub memory_in : ℕ → Option End → Text
+memory_in id None = Err empty
+memory_in id (Some e) = text_or_nothing (content_by id e.memories)

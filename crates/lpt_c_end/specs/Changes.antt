@@ -1,0 +1,158 @@
+-- What a call that isn't refused makes of an end.
+use Rattle.std.specs.Prelude.{◌≡◌, ℕ, List, [], ◌∷◌, ◌++◌, drop, Option, Some, None, option_to_list}
+use Rattle.lpt_node.specs.LptEvents.Arrivals.{arrival}
+use Rattle.lpt_node.specs.LptEvents.declared.config.Config.{Config}
+use Rattle.lpt_node.specs.LptEvents.declared.side.Side.{Side}
+use Rattle.lpt_node.specs.LptEvents.declared.side.Side.TheVariants.{Ground, Craft}
+use Rattle.lpt_node.specs.LptMemory.Memories.{Contents, sizes_of}
+use Rattle.lpt_node.specs.declared.accepted.Accepted.{Accepted}
+use Rattle.lpt_node.specs.declared.expired.Expired.{Expired}
+use Rattle.lpt_node.specs.Accepting.{accepted}
+use Rattle.lpt_node.specs.Anew.{retired, restarted}
+use Rattle.lpt_node.specs.Jobs.{Execution, claimed, committed, executed, not_executed}
+use Rattle.lpt_node.specs.Nodes.{NodeData, new_node}
+use Rattle.lpt_node.specs.Sending.{opened, sent, closed}
+use Rattle.lpt_node.specs.Times.{ticked, expired}
+use Rattle.lpt_c_end.specs.Words.{direction_from}
+use Rattle.lpt_c_end.specs.declared.end.End.{End}
+
+-- ---- what may change
+
+-- what never changes of an end
+pub record IsFixed (e new : End) : Type 0 where
+  pub side : new.side ≡ e.side
+  pub config : new.config ≡ e.config
+  pub memories : new.memories ≡ e.memories
+
+-- the node became this, and all else is as it was
+pub record Becomes (at : NodeData) (e new : End) : Type 0 where
+  pub node : new.node.at ≡ at
+  pub released : new.released ≡ e.released
+  pub outbox : new.outbox.items ≡ e.outbox.items
+  pub fixed : IsFixed e new
+
+-- the node became this, and these packets more are to be sent
+pub record Makes (at : NodeData) (packets : List (List ℕ)) (e new : End) : Type 0 where
+  pub node : new.node.at ≡ at
+  pub outbox : new.outbox.items ≡ e.outbox.items ++ packets
+  pub released : new.released ≡ e.released
+  pub fixed : IsFixed e new
+
+-- the end is as it was
+abbrev pub IsSame : End → End → Type 0
+IsSame e = Becomes e.node.at e
+
+-- ---- a new end
+
+-- its memory; ground has none
+abbrev pub memory_of : Side → ℕ → List ℕ → Option Contents
+memory_of Ground id content = None
+memory_of Craft id content = Some ((id, content) ∷ [])
+
+-- nothing has happened at the end
+pub record IsNew (s : Side) (c : Config) (id : ℕ) (content : List ℕ) (e : End) : Type 0 where
+  pub side : e.side ≡ s
+  pub config : e.config ≡ c
+  pub node : e.node ≡ new_node s c
+  pub memories : e.memories ≡ memory_of s id content
+  pub released : e.released ≡ None
+  pub outbox : e.outbox.items ≡ []
+
+-- ---- receiving
+
+-- what the node does with octets that were delivered to it
+abbrev pub delivery : End → List ℕ → NodeData × Accepted
+delivery e b = accepted e.side e.config e.node.at (arrival e.side e.config.apid e.config.part_size b)
+
+-- the octets were taken: what was released of them is kept until the next are taken, and a report
+-- is to be sent
+pub record IsDelivered (b : List ℕ) (e new : End) : Type 0 where
+  pub node : new.node.at ≡ (delivery e b).0
+  pub released : new.released ≡ (delivery e b).1.released
+  pub outbox : new.outbox.items ≡ e.outbox.items ++ option_to_list (delivery e b).1.packet
+  pub fixed : IsFixed e new
+
+-- what the node does where a reception is given up
+abbrev pub expiry : End → NodeData × Expired
+expiry e = expired e.side e.config e.node.at
+
+-- the reception that is due was given up, and a report of it is to be sent
+abbrev pub IsExpired : End → End → Type 0
+IsExpired e = Makes (expiry e).0 (option_to_list (expiry e).1.packet) e
+
+-- ---- sending
+
+-- a message was taken to be sent
+abbrev pub IsOpened : ℕ → List ℕ → End → End → Type 0
+IsOpened id message e = Becomes (opened e.node.at id message) e
+
+-- what the node does where a part is sent
+abbrev pub part_of : (id k : ℕ) → End → NodeData × List ℕ
+part_of id k e = sent e.side e.config e.node.at id k
+
+-- the packet of a part is to be sent
+abbrev pub IsPartMade : (id k : ℕ) → End → End → Type 0
+IsPartMade id k e = Makes (part_of id k e).0 ((part_of id k e).1 ∷ []) e
+
+-- a message was finished
+abbrev pub IsFinished : ℕ → End → End → Type 0
+IsFinished id e = Becomes (closed e.node.at id) e
+
+-- the first packet that was to be sent was let go
+pub record IsLetGo (e new : End) : Type 0 where
+  pub node : new.node.at ≡ e.node.at
+  pub outbox : new.outbox.items ≡ drop 1 e.outbox.items
+  pub released : new.released ≡ e.released
+  pub fixed : IsFixed e new
+
+-- ---- the clock, names, and a new start
+
+-- the clock is one tick on
+abbrev pub IsTicked : End → End → Type 0
+IsTicked e = Becomes (ticked e.node.at) e
+
+-- a name was freed
+abbrev pub IsRetired : (direction id : ℕ) → End → End → Type 0
+IsRetired direction id e = Becomes (retired e.side e.node.at (direction_from direction) id) e
+
+-- the end was started anew
+abbrev pub IsRestarted : End → End → Type 0
+IsRestarted e = Becomes (restarted e.node.at) e
+
+-- ---- jobs
+
+-- the oldest job that waits is claimed, and what it means for these memories is handed in
+abbrev pub read_over : Config → Contents → NodeData → NodeData
+read_over c ms d =
+    (committed (claimed d).0 (claimed d).1.boot (claimed d).1.job (record {
+      apid = c.apid;
+      sizes = sizes_of ms;
+      message = (claimed d).1.message;
+    })).0
+
+-- the same, where there are memories
+abbrev pub read_by : Config → Option Contents → NodeData → NodeData
+read_by c None d = d
+read_by c (Some ms) d = read_over c ms d
+
+-- the oldest job that waited was read
+abbrev pub IsRead : End → End → Type 0
+IsRead e = Becomes (read_by e.config e.memories e.node.at) e
+
+-- the oldest job is executed, where there are memories: the node and its answer, and the memories
+abbrev pub execution_by : Config → Option Contents → NodeData → (NodeData × Execution) × Option Contents
+execution_by c None d = ((d, not_executed), None)
+execution_by c (Some ms) d = ((executed c d ms).0, Some (executed c d ms).1)
+
+-- the same, of an end
+abbrev pub execution_of : End → (NodeData × Execution) × Option Contents
+execution_of e = execution_by e.config e.memories e.node.at
+
+-- the oldest job was executed, and its reports are to be sent
+pub record IsExecuted (e new : End) : Type 0 where
+  pub node : new.node.at ≡ (execution_of e).0.0
+  pub memories : new.memories ≡ (execution_of e).1
+  pub outbox : new.outbox.items ≡ (execution_of e).0.1.packets
+  pub released : new.released ≡ e.released
+  pub side : new.side ≡ e.side
+  pub config : new.config ≡ e.config

@@ -1,0 +1,85 @@
+-- The numbers that calls answer.
+use Rattle.std.specs.Prelude.{◌≡◌, ◌⊎◌, ℕ, Option, Some, None}
+use Rattle.lpt_node.specs.LptEvents.ConfigFaultNames as configured
+use Rattle.lpt_node.specs.LptEvents.FaultNames as step
+use Rattle.lpt_node.specs.LptEvents.declared.config_fault.ConfigFault.{ConfigFault}
+use Rattle.lpt_node.specs.LptEvents.declared.fault.StepFault.TheVariants as step_fault
+use Rattle.lpt_node.specs.LptMemory.FaultNames as of_memory
+use Rattle.lpt_node.specs.LptMemory.declared.fault.MemoryFault.TheVariants as memory_fault
+use Rattle.lpt_node.specs.declared.fault.NodeFault.{NodeFault}
+use Rattle.lpt_node.specs.Faults.{node_fault}
+
+-- it is done
+abbrev pub done : ℕ
+done = 0
+
+-- ---- faults that have their numbers elsewhere
+
+-- memory ran out
+abbrev pub memory : ℕ
+memory = step.code_of step_fault.Memory
+
+-- the transaction is open
+abbrev pub still_open : ℕ
+still_open = step.code_of step_fault.StillOpen
+
+-- there is no job to be read or executed
+abbrev pub no_job : ℕ
+no_job = step.code_of step_fault.NoJob
+
+-- a memory of no octets, or of too many
+abbrev pub bad_memories : ℕ
+bad_memories = of_memory.code_of memory_fault.BadMemories
+
+-- the fault of a node, or none
+abbrev pub node_code : Option NodeFault → Option ℕ
+node_code None = None
+node_code (Some fault) = Some (step.code_of (node_fault fault))
+
+-- the fault of a configuration, or none
+abbrev pub config_code : Option ConfigFault → Option ℕ
+config_code None = None
+config_code (Some fault) = Some (configured.code_of fault)
+
+-- ---- numbers of these calls alone
+
+-- a number is out of its range
+abbrev pub range : ℕ
+range = 102
+
+-- the buffer is too short
+abbrev pub room : ℕ
+room = 103
+
+-- the handle holds no end
+abbrev pub empty : ℕ
+empty = 106
+
+-- the handle holds an end already
+abbrev pub full : ℕ
+full = 107
+
+-- no number is left for a job, or for a start
+abbrev pub no_number : ℕ
+no_number = 108
+
+-- there is nothing to copy, or to let go
+abbrev pub nothing : ℕ
+nothing = 109
+
+-- packets are to be sent first
+abbrev pub unsent : ℕ
+unsent = 110
+
+-- ---- answers
+
+-- the answer of a call that takes no memory, where this refuses it
+abbrev pub answer : Option ℕ → ℕ
+answer None = done
+answer (Some fault) = fault
+
+-- the answer of a call that takes memory, where this refuses it; where nothing does, want of memory
+-- alone can
+abbrev pub IsAnswer : Option ℕ → ℕ → Type 0
+IsAnswer None code = (code ≡ done) ⊎ (code ≡ memory)
+IsAnswer (Some fault) code = code ≡ fault

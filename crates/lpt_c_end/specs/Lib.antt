@@ -1,0 +1,9 @@
+pub mod Calls
+pub mod Changes
+pub mod Codes
+pub mod Copies
+pub mod HandleCodes
+pub mod Held
+pub mod Ready
+pub mod Refusals
+pub mod Words

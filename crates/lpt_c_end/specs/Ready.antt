@@ -1,0 +1,17 @@
+-- That what was read of an end's jobs was read for its memories.
+use Rattle.std.specs.Prelude.{◌≡◌, ℕ, All, Option, Some}
+use Rattle.lpt_node.specs.LptJobs.declared.job.Job.{Job}
+use Rattle.lpt_node.specs.LptJobs.declared.job.Job.TheVariants.{Committed}
+use Rattle.lpt_node.specs.LptMemory.Meanings.{Sizes}
+use Rattle.lpt_node.specs.LptMemory.Memories.{Contents, sizes_of}
+use Rattle.lpt_node.specs.LptMemory.Readings.{Source}
+use Rattle.lpt_node.specs.Nodes.{NodeView}
+
+-- a job's reading, where it has one, is for this APID and memories of these sizes
+abbrev pub IsReading : ℕ → Sizes → Job → Type 0
+IsReading apid sizes j = (r : Source) → j ≡ Committed r → (r.apid ≡ apid) × (r.sizes ≡ sizes)
+
+-- the readings of an end's jobs are for its APID and its memories, where it has some
+abbrev pub IsReady : NodeView → Option Contents → Type 0
+IsReady n memories =
+    (ms : Contents) → memories ≡ Some ms → All (IsReading n.config.apid (sizes_of ms)) n.at.jobs.jobs

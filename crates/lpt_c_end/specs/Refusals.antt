@@ -1,0 +1,107 @@
+-- Why a call on a handle is refused: the number of the first fault, want of memory aside.
+use Rattle.std.specs.Prelude.{ℕ, ◌==◌, nat_lt, ◌||◌, if◌then◌else◌, List, [], ◌∷◌, length, Option, Some, None}
+use Rattle.lpt_node.specs.LptEvents.Configs.{config_fault}
+use Rattle.lpt_node.specs.LptEvents.declared.config_fault.ConfigFault.{ConfigFault}
+use Rattle.lpt_node.specs.LptEvents.declared.side.Side.{Side}
+use Rattle.lpt_node.specs.LptEvents.declared.side.Side.TheVariants.{Ground, Craft}
+use Rattle.lpt_node.specs.LptJobs.Jobs.{numbered}
+use Rattle.lpt_node.specs.LptMemory.Memories.{Contents, are_memories}
+use Rattle.lpt_node.specs.Anew.{may_retire}
+use Rattle.lpt_node.specs.Sending.{refusal_open, refusal_send, refusal_finish}
+use Rattle.lpt_node.specs.Times.{refusal_tick, refusal_expire}
+use Rattle.lpt_node.specs.Jobs.{refusal_claim, refusal_apply}
+use Rattle.lpt_c_end.specs.Codes.{node_code, config_code, still_open, bad_memories, range, empty, full, no_job, no_number, nothing, unsent}
+use Rattle.lpt_c_end.specs.Words.{side_from, direction_from, config_from}
+use Rattle.lpt_c_end.specs.declared.end.End.{End}
+use Rattle.lpt_c_end.specs.declared.words.LptConfig.{LptConfig}
+
+-- the greatest number of a job, or of a start
+abbrev pub last_number : ℕ
+last_number = 18446744073709551615
+
+-- the refusal of a call on a handle: it holds no end, or its end refuses
+abbrev pub refusal_by : (End → Option ℕ) → Option End → Option ℕ
+refusal_by of None = Some empty
+refusal_by of (Some e) = of e
+
+-- ---- a new end
+
+-- why an end of this side has no such memory; ground has none
+abbrev pub memory_refusal : Side → ℕ → List ℕ → Option ℕ
+memory_refusal Ground id content = None
+memory_refusal Craft id content =
+    if are_memories ((id, content) ∷ []) then None else Some bad_memories
+
+-- the same, behind a fault of its configuration
+abbrev pub made_refusal : Option ConfigFault → Side → ℕ → List ℕ → Option ℕ
+made_refusal (Some fault) side id content = config_code (Some fault)
+made_refusal None side id content = memory_refusal side id content
+
+-- why no end is made into a handle that holds this
+abbrev pub new_refusal : Option End → ℕ → LptConfig → ℕ → List ℕ → Option ℕ
+new_refusal (Some e) side c id content = Some full
+new_refusal None side c id content =
+    if nat_lt 1 side || nat_lt 1 c.mode then Some range
+    else made_refusal (config_fault (config_from c)) (side_from side) id content
+
+-- ---- the calls on an end
+
+-- a packet is taken while there is a number for one job more
+abbrev pub packet_refusal : End → Option ℕ
+packet_refusal e = if numbered e.node.at.jobs == last_number then Some no_number else None
+
+-- the clock isn't set on
+abbrev pub tick_refusal : End → Option ℕ
+tick_refusal e = node_code (refusal_tick e.node.at)
+
+-- no reception is given up
+abbrev pub expire_refusal : End → Option ℕ
+expire_refusal e = node_code (refusal_expire e.config e.node.at)
+
+-- a message isn't taken to be sent
+abbrev pub open_refusal : ℕ → List ℕ → End → Option ℕ
+open_refusal id message e = node_code (refusal_open e.config e.node.at id (length message))
+
+-- the packet of a part isn't made
+abbrev pub part_refusal : (id k : ℕ) → End → Option ℕ
+part_refusal id k e = node_code (refusal_send e.config e.node.at id k)
+
+-- a message isn't finished
+abbrev pub finish_refusal : ℕ → End → Option ℕ
+finish_refusal id e = node_code (refusal_finish e.node.at id)
+
+-- a name isn't freed
+abbrev pub retire_refusal : (direction id : ℕ) → End → Option ℕ
+retire_refusal direction id e =
+    if nat_lt 1 direction then Some range
+    else if may_retire e.side e.node.at (direction_from direction) id then None
+    else Some still_open
+
+-- the end isn't started anew
+abbrev pub restart_refusal : End → Option ℕ
+restart_refusal e = if e.node.at.boot == last_number then Some no_number else None
+
+-- no packet is let go
+abbrev pub sent_refusal : End → Option ℕ
+sent_refusal e = if length e.outbox.items == 0 then Some nothing else None
+
+-- ---- the jobs, of which ground has none
+
+-- the refusal of what is done over memories
+abbrev pub memories_refusal : Option Contents → Option ℕ → Option ℕ
+memories_refusal None refusal = Some no_job
+memories_refusal (Some ms) refusal = refusal
+
+-- a refusal, or else that packets are to be sent first
+abbrev pub sending_refusal : Option ℕ → List (List ℕ) → Option ℕ
+sending_refusal (Some fault) packets = Some fault
+sending_refusal None packets = if length packets == 0 then None else Some unsent
+
+-- no job is read
+abbrev pub read_refusal : End → Option ℕ
+read_refusal e = memories_refusal e.memories (node_code (refusal_claim e.node.at))
+
+-- no job is executed
+abbrev pub execute_refusal : End → Option ℕ
+execute_refusal e =
+    memories_refusal e.memories (sending_refusal (node_code (refusal_apply e.node.at)) e.outbox.items)

@@ -1,0 +1,88 @@
+-- Sides, directions, configurations and outcomes as C writes and reads them.
+use Rattle.std.specs.Prelude.{ℕ, ◌==◌, if◌then◌else◌, Some, None}
+use Rattle.lpt_node.specs.LptEvents.declared.applied.Applied.{Applied}
+use Rattle.lpt_node.specs.LptEvents.declared.applied.Applied.TheVariants.{Done, Silent, Code}
+use Rattle.lpt_node.specs.LptEvents.declared.config.Config.{Config}
+use Rattle.lpt_node.specs.LptEvents.declared.outcome.Outcome.{Outcome}
+use Rattle.lpt_node.specs.LptEvents.declared.outcome.Outcome.TheVariants.{Kept, Again, Released, PlainReleased, ReportNoted, AbortNoted, Broken, Ignored}
+use Rattle.lpt_node.specs.LptEvents.declared.outcome.Why.{Why}
+use Rattle.lpt_node.specs.LptEvents.declared.outcome.Why.TheVariants.{Unreadable, Idle, ForeignApid, BadPart, Closed, NoRoom}
+use Rattle.lpt_node.specs.LptEvents.declared.side.Side.{Side}
+use Rattle.lpt_node.specs.LptEvents.declared.side.Side.TheVariants.{Ground, Craft}
+use Rattle.lpt_node.specs.LptPacket.declared.direction.Direction.{Direction}
+use Rattle.lpt_node.specs.LptPacket.declared.direction.Direction.TheVariants.{Up, Down}
+use Rattle.lpt_node.specs.LptPart.Aborts.{reason_code}
+use Rattle.lpt_node.specs.LptPart.declared.mode.Mode.{Mode}
+use Rattle.lpt_node.specs.LptPart.declared.mode.Mode.TheVariants.{Any, Strict}
+use Rattle.lpt_node.specs.LptPus.Codes.{number_of}
+use Rattle.lpt_c_end.specs.declared.words.LptApplied.{LptApplied}
+use Rattle.lpt_c_end.specs.declared.words.LptConfig.{LptConfig}
+use Rattle.lpt_c_end.specs.declared.words.LptOutcome.{LptOutcome}
+
+-- ---- numbers of 0 and 1
+
+-- a side
+abbrev pub side_from : ℕ → Side
+side_from n = if n == 0 then Ground else Craft
+
+-- a direction
+abbrev pub direction_from : ℕ → Direction
+direction_from n = if n == 0 then Up else Down
+
+-- a mode
+abbrev pub mode_from : ℕ → Mode
+mode_from n = if n == 0 then Any else Strict
+
+-- ---- a configuration
+
+-- what it says
+abbrev pub config_from : LptConfig → Config
+config_from c = record {
+  apid = c.apid;
+  source = c.source;
+  part_size = c.part_size;
+  timeout = c.timeout;
+  receptions = c.receptions;
+  outgoing = c.outgoing;
+  clock = c.clock;
+  mode = mode_from c.mode;
+}
+
+-- ---- outcomes
+
+-- why nothing was made of a packet
+abbrev pub why_word : Why → ℕ
+why_word Unreadable = 1
+why_word Idle = 2
+why_word ForeignApid = 3
+why_word BadPart = 4
+why_word Closed = 5
+why_word NoRoom = 6
+
+-- an outcome of this kind that says this
+abbrev pub word_of : ℕ → ℕ → ℕ → LptOutcome
+word_of kind first second = record { kind = kind; first = first; second = second }
+
+-- what became of a packet
+abbrev pub words : Outcome → LptOutcome
+words (Kept id number) = word_of 1 id number
+words (Again id number) = word_of 2 id number
+words (Released id len) = word_of 3 id len
+words (PlainReleased len) = word_of 4 len 0
+words (ReportNoted service subtype) = word_of 5 service subtype
+words (AbortNoted id reason) = word_of 6 id (reason_code reason)
+words (Broken id reason) = word_of 7 id (reason_code reason)
+words (Ignored why) = word_of 8 (why_word why) 0
+
+-- ---- executions
+
+-- what became of a request, of this kind, and what it says
+abbrev pub applied_word : ℕ → ℕ → LptApplied
+applied_word kind value = record { kind = kind; value = value }
+
+-- what became of a request
+abbrev pub applied_words : Applied → LptApplied
+applied_words (Done None) = applied_word 1 0
+applied_words (Done (Some id)) = applied_word 2 id
+applied_words Silent = applied_word 3 0
+applied_words (Code code) = applied_word 4 (number_of code)

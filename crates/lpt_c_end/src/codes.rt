@@ -1,0 +1,37 @@
+//! The numbers that calls answer, besides those of a node's faults and of a configuration's.
+
+// Done.
+pub(crate) const DONE: u32 = 0;
+
+// A memory of no octets, or of too many.
+pub(crate) const BAD_MEMORIES: u32 = 25;
+
+// There is no job to be read or executed.
+pub(crate) const NO_JOB: u32 = 51;
+
+// The transaction is open.
+pub(crate) const STILL_OPEN: u32 = 55;
+
+// Want of memory.
+pub(crate) const MEMORY: u32 = 58;
+
+// A number that is out of its range.
+pub(crate) const RANGE: u32 = 102;
+
+// A buffer that is too short.
+pub(crate) const ROOM: u32 = 103;
+
+// A handle that holds no end.
+pub(crate) const EMPTY: u32 = 106;
+
+// A handle that holds one already.
+pub(crate) const FULL: u32 = 107;
+
+// No number is left for a job, or for a start.
+pub(crate) const NO_NUMBER: u32 = 108;
+
+// There is nothing to copy, or to let go.
+pub(crate) const NOTHING: u32 = 109;
+
+// Packets are to be sent first.
+pub(crate) const UNSENT: u32 = 110;

@@ -1,0 +1,26 @@
+//! What a handle holds.
+
+ghost use Rattle.std.specs.Prelude.{◌≡◌};
+ghost use Rattle.lpt_node.specs.LptEvents.Configs.{IsConfig};
+ghost use Rattle.lpt_c_end.specs.Ready.{IsReady};
+
+use lpt_node::{Config, Memories, Node, Octets, Side};
+use std::collections::VecDeque;
+
+/// One end of the link: a node, the spacecraft's memory, the message that the last packet released,
+/// and the packets that are to be sent.
+#[derive(Drop)]
+pub struct End {
+    pub(crate) side: Side,
+    pub(crate) config: Config,
+    pub(crate) node: Node,
+    // Of ground there is none.
+    pub(crate) memories: Option<Memories>,
+    pub(crate) released: Option<Octets>,
+    // In the order in which they were made.
+    pub(crate) outbox: VecDeque<Octets>,
+    ghost in_range: { IsConfig config },
+    ghost same_side: { node.side ≡ side },
+    ghost same_config: { node.config ≡ config },
+    ghost ready: { IsReady node memories },
+}

@@ -1,0 +1,167 @@
+//! The requests that the spacecraft's end released: their reading, their execution, and the memory
+//! over which that goes.
+
+ghost use Rattle.std.specs.Prelude.{◌≡◌, option_map};
+ghost use Rattle.lpt_c_end.specs.Calls.{IfBoth, IfHeld, IsApplied, content_by, memory_in};
+ghost use Rattle.lpt_c_end.specs.Changes.{IsExecuted, IsRead, IsSame};
+ghost use Rattle.lpt_c_end.specs.Codes.{IsAnswer};
+ghost use Rattle.lpt_c_end.specs.Copies.{code_for, left_by, needed_by};
+ghost use Rattle.lpt_c_end.specs.Refusals.{execute_refusal, read_refusal, refusal_by};
+
+use crate::codes::{DONE, EMPTY, MEMORY, NO_JOB, NOTHING, UNSENT};
+use crate::copying::copy_out;
+use crate::end::End;
+use crate::handle::{LptEnd, put, take};
+use crate::words::{LptApplied, applied_words_of};
+use lpt_node::{Ask, Executed, Ticket, prepare};
+use std::alloc::Global;
+use std::collections::VecDeque;
+
+/// Reads the oldest request that was released and not read yet.
+///
+/// 0; 106 where the handle is empty; 51 where there is none, as always on ground; 58 for want of
+/// memory. Then nothing has changed.
+#[unsafe(no_mangle)]
+pub extern "C" fn lpt_end_read(alloc: Global, end: &mut LptEnd) -> u32
+    ensures code { IsAnswer (refusal_by read_refusal end.old.held.value) result }
+    ensures done { result ≡ 0 → IfBoth IsRead end.old.held.value end.new.held.value }
+    ensures refused { ¬ (result ≡ 0) → IfBoth IsSame end.old.held.value end.new.held.value }
+{
+    let Some(mut held) = take(alloc, end) else {
+        return EMPTY;
+    };
+    let code = held.read(alloc);
+    put(end, held);
+    code
+}
+
+/// Executes the oldest request, which has been read: does what it asks of the memory, and tells what
+/// became of it. Its reports are to be sent.
+///
+/// 0; 106 where the handle is empty; 51 where there is no request, as always on ground; 52 where the
+/// oldest wasn't read; 110 where packets are to be sent first; 58 for want of memory. Then nothing
+/// has changed.
+#[unsafe(no_mangle)]
+pub extern "C" fn lpt_end_execute(alloc: Global, end: &mut LptEnd, applied: &mut LptApplied) -> u32
+    ensures code { IsAnswer (refusal_by execute_refusal end.old.held.value) result }
+    ensures done { result ≡ 0 → IfBoth IsExecuted end.old.held.value end.new.held.value }
+    ensures told { result ≡ 0 → IfHeld (IsApplied applied.new) end.old.held.value }
+    ensures refused { ¬ (result ≡ 0) → IfBoth IsSame end.old.held.value end.new.held.value }
+    ensures untold { ¬ (result ≡ 0) → applied.new ≡ applied.old }
+{
+    let Some(mut held) = take(alloc, end) else {
+        return EMPTY;
+    };
+    let code = held.execute(applied);
+    put(end, held);
+    code
+}
+
+/// Copies a memory to the front of a buffer.
+///
+/// 0; 106 where the handle is empty; 109 where the end has no memory of this identifier; 103 where
+/// the buffer is too short. At 0 and at 103 `needed` tells how many octets the memory has.
+#[unsafe(no_mangle)]
+pub extern "C" fn lpt_end_memory(
+    alloc: Global,
+    end: &mut LptEnd,
+    id: u8,
+    out: &mut [u8],
+    needed: &mut usize,
+) -> u32
+    ensures code { result ≡ code_for (memory_in id end.old.held.value) out.old }
+    ensures buffer { out.new ≡ left_by (memory_in id end.old.held.value) out.old }
+    ensures needed { needed.new ≡ needed_by (memory_in id end.old.held.value) needed.old }
+    ensures same { end.new.held.value ≡ end.old.held.value }
+{
+    let Some(held) = take(alloc, end) else {
+        return EMPTY;
+    };
+    let code = match held.content(id) {
+        Some(content) => copy_out(content, out, needed),
+        None => NOTHING,
+    };
+    put(end, held);
+    code
+}
+
+impl End {
+    // The octets of a memory.
+    fn content(&self, id: u8) -> Option<&[u8]>
+        ensures { option_map (λ x. x.now) result ≡ content_by id self.now.memories }
+    {
+        match &self.memories {
+            Some(memories) => memories.content(id),
+            None => None,
+        }
+    }
+
+    // Reads the oldest request that was released and not read yet.
+    fn read(&mut self, alloc: Global) -> u32
+        ensures code { IsAnswer (read_refusal self.old) result }
+        ensures done { result ≡ 0 → IsRead self.old self.new }
+        ensures refused { ¬ (result ≡ 0) → IsSame self.old self.new }
+    {
+        let Some(memories) = &self.memories else {
+            return NO_JOB;
+        };
+        let Some((number, message)) = self.node.unclaimed() else {
+            return NO_JOB;
+        };
+        let Ok(message) = message.copy() else {
+            return MEMORY;
+        };
+        let Ok(shape) = memories.shape() else {
+            return MEMORY;
+        };
+        let ticket = Ticket::new(self.node.boot(), number, message);
+        match prepare(alloc, &shape, self.config.apid, ticket) {
+            Ok(prepared) => {
+                let Ok(ticket) = self.node.claim() else {
+                    unreachable!()
+                };
+                let (boot, job) = (ticket.boot(), ticket.job());
+                ticket.abandon();
+                self.node.commit(boot, job, prepared.reading());
+                DONE
+            }
+            Err(ticket) => {
+                ticket.abandon();
+                MEMORY
+            }
+        }
+    }
+
+    // Executes the oldest request, and tells what became of it.
+    #[tactic(auto, using(crate::proofs::ReadyLemmas::front_ready))]
+    fn execute(&mut self, applied: &mut LptApplied) -> u32
+        ensures code { IsAnswer (execute_refusal self.old) result }
+        ensures done { result ≡ 0 → IsExecuted self.old self.new }
+        ensures told { result ≡ 0 → IsApplied applied.new self.old }
+        ensures refused { ¬ (result ≡ 0) → IsSame self.old self.new }
+        ensures untold { ¬ (result ≡ 0) → applied.new ≡ applied.old }
+    {
+        let Some(memories) = &mut self.memories else {
+            return NO_JOB;
+        };
+        if let Some(fault) = self.node.refusal(&Ask::Apply) {
+            return u32::from(fault.code());
+        }
+        if !self.outbox.is_empty() {
+            return UNSENT;
+        }
+        match self.node.apply_front(memories) {
+            Ok(executed) => {
+                let Executed {
+                    applied: became,
+                    packets,
+                    opened: _,
+                } = executed;
+                self.outbox = VecDeque::from_vec(packets);
+                *applied = applied_words_of(became);
+                DONE
+            }
+            Err(_) => MEMORY,
+        }
+    }
+}

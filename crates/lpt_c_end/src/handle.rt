@@ -1,0 +1,92 @@
+//! The handle of an end.
+
+ghost use Rattle.std.specs.Prelude.{◌≡◌, true, Option, None, Some, is_some};
+ghost use Rattle.std.specs.Option.{option_map};
+ghost use Rattle.lpt_c_end.specs.declared.end.End.{End};
+ghost use Rattle.lpt_c_end.specs.HandleCodes.{coded_held};
+
+use crate::end::End;
+use crate::parts::Parts;
+use std::alloc::Global;
+use std::marker::Model;
+
+/// The address of an end, or none.
+#[repr(C)]
+#[derive(Drop)]
+pub struct LptHeld {
+    at: *mut u8,
+    alloc: Global,
+    pub(crate) ghost value: { Option End } by { coded_held },
+}
+
+impl Model for LptHeld {
+    ghost use Rattle.lpt_c_end.specs.Held.{held_by};
+
+    ghost also_owns = { λ h. held_by h.alloc h.at h.value };
+}
+
+/// What C keeps of an end: zeroed it is empty.
+#[repr(C)]
+#[derive(Drop)]
+pub struct LptEnd {
+    pub(crate) full: bool,
+    pub(crate) held: LptHeld,
+    ghost same: { is_some held.value ≡ full },
+}
+
+impl LptHeld {
+    pub(crate) fn none(at: *mut u8, alloc: Global) -> LptHeld
+        ensures { result.value ≡ None }
+    {
+        LptHeld { at, alloc }
+    }
+
+    pub(crate) fn of(parts: Parts<End, Global>) -> LptHeld
+        ensures { result.value ≡ Some parts.value }
+    {
+        let Parts { ptr, alloc } = parts;
+        LptHeld {
+            at: ptr as *mut u8,
+            alloc,
+        }
+    }
+
+    pub(crate) fn into_parts(self) -> Parts<End, Global>
+        requires { is_some self.value ≡ true }
+        ensures { self.value ≡ Some result.value }
+    {
+        let LptHeld { at, alloc } = self;
+        Parts {
+            ptr: at as *mut End,
+            alloc,
+        }
+    }
+}
+
+// Takes the end out of a handle, which is empty then.
+pub(crate) fn take(alloc: Global, end: &mut LptEnd) -> Option<Box<End, Global>>
+    ensures taken { option_map (λ b. b.value) result ≡ end.old.held.value }
+    ensures empty { end.new.held.value ≡ None }
+{
+    let nowhere: *mut u8 = std::ptr::null_mut();
+    let nothing = LptHeld::none(nowhere, alloc);
+    let empty = LptEnd {
+        full: false,
+        held: nothing,
+    };
+    let LptEnd { full, held } = std::mem::replace(end, empty);
+    if !full {
+        return None;
+    }
+    Some(held.into_parts().into_box())
+}
+
+// Puts an end into a handle.
+pub(crate) fn put(end: &mut LptEnd, value: Box<End, Global>)
+    ensures { end.new.held.value ≡ Some value.value }
+{
+    *end = LptEnd {
+        full: true,
+        held: LptHeld::of(Parts::of(value)),
+    };
+}

@@ -1,0 +1,162 @@
+//! What comes to an end: packets, and the age of its receptions.
+
+ghost use Rattle.std.specs.Prelude.{◌≡◌, ◌+◌, ◌<◌, ◌^◌, IfOk, OnOk, OnErr};
+ghost use Rattle.lpt_node.specs.LptJobs.Jobs.{numbered};
+ghost use Rattle.lpt_c_end.specs.Calls.{IfBoth, IfHeld, IsTold, released_of};
+ghost use Rattle.lpt_c_end.specs.Changes.{IsDelivered, IsExpired, IsSame, delivery, expiry};
+ghost use Rattle.lpt_c_end.specs.Codes.{IsAnswer};
+ghost use Rattle.lpt_c_end.specs.Copies.{code_for, left_by, needed_by};
+ghost use Rattle.lpt_c_end.specs.Refusals.{expire_refusal, packet_refusal, refusal_by};
+
+use crate::codes::{DONE, EMPTY, MEMORY, NO_NUMBER, NOTHING};
+use crate::copying::copy_out;
+use crate::end::End;
+use crate::handle::{LptEnd, put, take};
+use crate::outbox::put_last;
+use crate::words::{LptOutcome, words_of};
+use lpt_node::{Accepted, Ask, Expired, Octets, Outcome, Parsed};
+use std::alloc::{AllocError, Global};
+
+/// Takes the octets of a packet that was delivered to this end, and tells what became of them.
+///
+/// 0; 106 where the handle is empty; 108 where no number is left for a job; 58 for want of memory.
+/// Then nothing has changed.
+#[unsafe(no_mangle)]
+pub extern "C" fn lpt_end_packet(
+    alloc: Global,
+    end: &mut LptEnd,
+    octets: &[u8],
+    outcome: &mut LptOutcome,
+) -> u32
+    ensures code { IsAnswer (refusal_by packet_refusal end.old.held.value) result }
+    ensures done { result ≡ 0 → IfBoth (IsDelivered octets.now) end.old.held.value end.new.held.value }
+    ensures told { result ≡ 0 → IfHeld (IsTold octets.now outcome.new) end.old.held.value }
+    ensures refused { ¬ (result ≡ 0) → IfBoth IsSame end.old.held.value end.new.held.value }
+    ensures untold { ¬ (result ≡ 0) → outcome.new ≡ outcome.old }
+{
+    let Some(mut held) = take(alloc, end) else {
+        return EMPTY;
+    };
+    let code = held.take_packet(alloc, octets, outcome);
+    put(end, held);
+    code
+}
+
+/// Copies the message that the last packet released to the front of a buffer.
+///
+/// 0; 106 where the handle is empty; 109 where the last packet released none; 103 where the buffer
+/// is too short. At 0 and at 103 `needed` tells how many octets the message has.
+#[unsafe(no_mangle)]
+pub extern "C" fn lpt_end_released(
+    alloc: Global,
+    end: &mut LptEnd,
+    out: &mut [u8],
+    needed: &mut usize,
+) -> u32
+    ensures code { result ≡ code_for (released_of end.old.held.value) out.old }
+    ensures buffer { out.new ≡ left_by (released_of end.old.held.value) out.old }
+    ensures needed { needed.new ≡ needed_by (released_of end.old.held.value) needed.old }
+    ensures same { end.new.held.value ≡ end.old.held.value }
+{
+    let Some(held) = take(alloc, end) else {
+        return EMPTY;
+    };
+    let code = match &held.released {
+        Some(message) => copy_out(message.as_slice(), out, needed),
+        None => NOTHING,
+    };
+    put(end, held);
+    code
+}
+
+/// Gives the reception up that is due, and tells its name; at the spacecraft a report of it is to be
+/// sent.
+///
+/// 0; 106 where the handle is empty; 50 where none is due; 58 for want of memory. Then nothing has
+/// changed.
+#[unsafe(no_mangle)]
+pub extern "C" fn lpt_end_expire(alloc: Global, end: &mut LptEnd, id: &mut u16) -> u32
+    ensures code { IsAnswer (refusal_by expire_refusal end.old.held.value) result }
+    ensures done { result ≡ 0 → IfBoth IsExpired end.old.held.value end.new.held.value }
+    ensures told { result ≡ 0 → IfHeld (λ e. id.new ≡ (expiry e).1.id) end.old.held.value }
+    ensures refused { ¬ (result ≡ 0) → IfBoth IsSame end.old.held.value end.new.held.value }
+    ensures untold { ¬ (result ≡ 0) → id.new ≡ id.old }
+{
+    let Some(mut held) = take(alloc, end) else {
+        return EMPTY;
+    };
+    let code = held.expire(id);
+    put(end, held);
+    code
+}
+
+impl End {
+    // Takes the octets of a packet, and tells what became of them.
+    fn take_packet(&mut self, alloc: Global, octets: &[u8], outcome: &mut LptOutcome) -> u32
+        ensures code { IsAnswer (packet_refusal self.old) result }
+        ensures done { result ≡ 0 → IsDelivered octets.now self.old self.new }
+        ensures told { result ≡ 0 → IsTold octets.now outcome.new self.old }
+        ensures refused { ¬ (result ≡ 0) → IsSame self.old self.new }
+        ensures untold { ¬ (result ≡ 0) → outcome.new ≡ outcome.old }
+    {
+        if self.node.jobs() == u64::MAX {
+            return NO_NUMBER;
+        }
+        match self.deliver(alloc, octets) {
+            Ok(became) => {
+                *outcome = words_of(became);
+                DONE
+            }
+            Err(AllocError) => MEMORY,
+        }
+    }
+
+    // Takes the octets of a packet. The only error is want of memory; then nothing has changed.
+
+    fn deliver(&mut self, alloc: Global, octets: &[u8]) -> Result<Outcome, AllocError>
+        requires { numbered self.old.node.at.jobs + 1 < 2 ^ 64 }
+        ensures ok { OnOk result (IsDelivered octets.now self.old self.new) }
+        ensures outcome { IfOk result (λ o. o ≡ (delivery self.old octets.now).1.outcome) }
+        ensures err { OnErr result (IsSame self.old self.new) }
+    {
+        self.make_place()?;
+        let octets = Octets::from_vec(octets.to_vec(alloc)?);
+        let parsed = Parsed::read(octets, self.side, self.config.apid, self.config.part_size);
+        let Ok(accepted) = self.node.accept(parsed) else {
+            return Err(AllocError);
+        };
+        let Accepted {
+            outcome,
+            packet,
+            released,
+        } = accepted;
+        self.released = released;
+        put_last(&mut self.outbox, packet);
+        Ok(outcome)
+    }
+
+    // Gives the reception up that is due, and tells its name.
+    fn expire(&mut self, id: &mut u16) -> u32
+        ensures code { IsAnswer (expire_refusal self.old) result }
+        ensures done { result ≡ 0 → IsExpired self.old self.new }
+        ensures told { result ≡ 0 → id.new ≡ (expiry self.old).1.id }
+        ensures refused { ¬ (result ≡ 0) → IsSame self.old self.new }
+        ensures untold { ¬ (result ≡ 0) → id.new ≡ id.old }
+    {
+        if let Some(fault) = self.node.refusal(&Ask::Expire) {
+            return u32::from(fault.code());
+        }
+        if self.make_place().is_err() {
+            return MEMORY;
+        }
+        match self.node.expire() {
+            Ok(expired) => {
+                let Expired { id: name, packet } = expired;
+                put_last(&mut self.outbox, packet);
+                *id = name;
+                DONE
+            }
+            Err(_) => MEMORY,
+        }
+    }
+}

@@ -1,0 +1,274 @@
+/*
+ * One end of the link of large packet transfer (ECSS-E-ST-70-41C, service 13), ground or the
+ * spacecraft: which names it knows, what it sends in parts, what it joins, and when it gives a
+ * reception up.
+ *
+ * An end stands behind a handle, an LptEnd, which begins as LPT_END_EMPTY. It is read and written
+ * by these calls alone, is never copied, and is passed to one call at a time. Each call answers
+ * LPT_DONE, or the number of the first thing that is wrong, in the order of its comment; then the
+ * end is as it was, and nothing has been written through a pointer but what the comment says. Want
+ * of memory, LPT_MEMORY, comes last of all. docs/FORMATS.md has the faults, docs/C.md what the
+ * caller promises:
+ *
+ *   - what include/lpt.h says of lengths, pointers and overlaps;
+ *   - the program has the three functions that give memory, LptTried rattle_alloc(..) and so on,
+ *     and they do what their comments say.
+ */
+#ifndef LPT_END_H
+#define LPT_END_H
+
+#include "lpt.h"
+
+#include <stdbool.h>
+
+#ifdef __cplusplus
+extern "C" {
+#endif
+
+/* What these calls answer besides the numbers of lpt.h. */
+enum {
+    /* Not a memory of 1 to 1,048,576 octets. */
+    LPT_BAD_MEMORIES = 25,
+
+    /* The transaction's name isn't free; as many messages are open as the limit; no message of this
+       name is open. The others of this kind are LPT_SHORT_MESSAGE, LPT_LONG_MESSAGE and
+       LPT_NO_SUCH_PART. */
+    LPT_IN_USE = 41,
+    LPT_TOO_MANY = 44,
+    LPT_NOT_OPEN = 45,
+    /* No reception is due. */
+    LPT_NOTHING_DUE = 50,
+    /* No request is to be read, or executed; the oldest wasn't read. */
+    LPT_NO_JOB = 51,
+    LPT_NOT_READ = 52,
+    /* The transaction is open. */
+    LPT_STILL_OPEN = 55,
+    /* The clock is at its greatest value. */
+    LPT_CLOCK_END = 56,
+    /* Memory ran out. */
+    LPT_MEMORY = 58,
+
+    /* The first value of a configuration that is out of its range. */
+    LPT_BAD_APID = 71,
+    LPT_BAD_PART_SIZE = 72,
+    LPT_BAD_TIMEOUT = 73,
+    LPT_BAD_RECEPTIONS = 74,
+    LPT_BAD_OUTGOING = 75,
+
+    /* The handle holds no end; it holds one already. */
+    LPT_EMPTY = 106,
+    LPT_FULL = 107,
+    /* No number is left for a job, or for a start. */
+    LPT_NO_NUMBER = 108,
+    /* There is nothing to copy, or to let go. */
+    LPT_NOTHING = 109,
+    /* Packets are to be sent first. */
+    LPT_UNSENT = 110
+};
+
+/* The sides; the directions, up from ground to the spacecraft; and in which order parts are taken:
+   in any, or strictly in that of their numbers. */
+enum { LPT_GROUND = 0, LPT_SPACECRAFT = 1 };
+enum { LPT_UP = 0, LPT_DOWN = 1 };
+enum { LPT_ANY = 0, LPT_STRICT = 1 };
+
+/* ---- the handle ---- */
+
+/* The address of an end; not for the caller. */
+typedef struct LptHeld {
+    uint8_t *at;
+} LptHeld;
+
+/* A handle. */
+typedef struct LptEnd {
+    bool full;
+    LptHeld held;
+} LptEnd;
+
+/* A handle that holds no end, to begin with. */
+#define LPT_END_EMPTY {false, {NULL}}
+
+/* What is fixed of an end. The ends of a link have the same. */
+typedef struct LptConfig {
+    uint16_t apid;       /* of all packets, 0 to 2046 */
+    uint16_t source;     /* the source ID of telecommands and destination ID of telemetry */
+    uint32_t part_size;  /* in octets, 4 to 1024 */
+    uint32_t timeout;    /* of a reception, in ticks, 1 to 65,535 */
+    uint32_t receptions; /* how many may be open, 1 to 64 */
+    uint32_t outgoing;   /* how many messages may be open to be sent, 1 to 64 */
+    uint32_t clock;      /* its first value, in ticks */
+    uint32_t mode;       /* LPT_ANY or LPT_STRICT */
+} LptConfig;
+
+/*
+ * Makes an end into an empty handle. The spacecraft's has one memory, of this identifier and these
+ * octets, which are copied; ground's has none, and neither is looked at.
+ * LPT_DONE; LPT_FULL; LPT_RANGE for another side or mode; LPT_BAD_APID to LPT_BAD_OUTGOING;
+ * LPT_BAD_MEMORIES; LPT_MEMORY.
+ */
+uint32_t lpt_end_new(LptEnd *end, uint32_t side, const LptConfig *config, uint8_t id,
+                     const uint8_t *content, size_t content_len);
+
+/* Lets an end go, and gives all its memory back. The handle is empty then; of an empty handle
+   nothing changes. */
+void lpt_end_free(LptEnd *end);
+
+/* ---- receiving ---- */
+
+/* What became of a packet, and what `first` and `second` say. */
+enum {
+    LPT_KEPT = 1,           /* a part: its transaction, its number */
+    LPT_AGAIN = 2,          /* a part that had been kept before: the same */
+    LPT_RELEASED = 3,       /* the last part that was missing: the transaction, the length */
+    LPT_PLAIN_RELEASED = 4, /* a telecommand that is no part: its length */
+    LPT_REPORT_NOTED = 5,   /* telemetry that is no part: service type, message subtype */
+    LPT_ABORT_NOTED = 6,    /* the report of an abortion: the transaction, the reason */
+    LPT_BROKEN = 7,         /* a part that broke its reception off: the transaction, the reason */
+    LPT_IGNORED = 8         /* nothing was made of the packet: why, as follows */
+};
+
+/* Why nothing was made of a packet: it isn't read, or not as a telecommand at the spacecraft or
+   telemetry on ground; it is idle; it has another APID; it should be a part or a report of an
+   abortion, and its body isn't read; its transaction has ended; as many receptions are open as the
+   limit. */
+enum {
+    LPT_UNREADABLE = 1,
+    LPT_WAS_IDLE = 2,
+    LPT_FOREIGN_APID = 3,
+    LPT_BAD_PART = 4,
+    LPT_CLOSED = 5,
+    LPT_NO_ROOM = 6
+};
+
+/* What became of a packet. */
+typedef struct LptOutcome {
+    uint32_t kind;
+    uint32_t first;
+    uint32_t second;
+} LptOutcome;
+
+/*
+ * Takes a packet that came, and tells what became of it; what it released can be copied until the
+ * next is taken. A spacecraft that breaks a reception off has a report of it to be sent.
+ * LPT_DONE, and *outcome is written; LPT_EMPTY; LPT_NO_NUMBER; LPT_MEMORY.
+ */
+uint32_t lpt_end_packet(LptEnd *end, const uint8_t *octets, size_t octets_len, LptOutcome *outcome);
+
+/*
+ * Copies the message that the last packet released to the front of a buffer, and leaves the rest of
+ * it as it was. LPT_DONE; LPT_EMPTY; LPT_NOTHING; LPT_ROOM. At LPT_DONE and LPT_ROOM *needed is the
+ * message's length.
+ */
+uint32_t lpt_end_released(LptEnd *end, uint8_t *out, size_t out_len, size_t *needed);
+
+/*
+ * Gives a reception up that took no part for as long as the time-out: the one that has waited
+ * longest, of equal ones that of the least name. A spacecraft has a report of it to be sent.
+ * LPT_DONE, and *id is its name; LPT_EMPTY; LPT_NOTHING_DUE; LPT_MEMORY.
+ */
+uint32_t lpt_end_expire(LptEnd *end, uint16_t *id);
+
+/* ---- sending ---- */
+
+/*
+ * Takes a message to be sent in parts, under a free name. It is copied.
+ * LPT_DONE; LPT_EMPTY; LPT_IN_USE; LPT_SHORT_MESSAGE; LPT_LONG_MESSAGE; LPT_TOO_MANY; LPT_MEMORY.
+ */
+uint32_t lpt_end_open(LptEnd *end, uint16_t id, const uint8_t *message, size_t message_len);
+
+/* Makes the packet of part k of an open message, from 1: it is to be sent, behind those that are.
+   LPT_DONE; LPT_EMPTY; LPT_NOT_OPEN; LPT_NO_SUCH_PART; LPT_MEMORY. */
+uint32_t lpt_end_part(LptEnd *end, uint16_t id, uint16_t k);
+
+/* Closes an open message, and lets it go. LPT_DONE; LPT_EMPTY; LPT_NOT_OPEN. */
+uint32_t lpt_end_finish(LptEnd *end, uint16_t id);
+
+/*
+ * Copies the packet that is to be sent first to the front of a buffer, and leaves the rest of it as
+ * it was. LPT_DONE; LPT_EMPTY; LPT_NOTHING; LPT_ROOM. At LPT_DONE and LPT_ROOM *needed is the
+ * packet's length. The packet is to be sent still, until lpt_end_sent.
+ */
+uint32_t lpt_end_outgoing(LptEnd *end, uint8_t *out, size_t out_len, size_t *needed);
+
+/* Lets the packet go that is to be sent first. LPT_DONE; LPT_EMPTY; LPT_NOTHING. */
+uint32_t lpt_end_sent(LptEnd *end);
+
+/* ---- the requests that the spacecraft released ---- */
+
+/* What became of a request, and what `value` says. */
+enum {
+    LPT_CARRIED_OUT = 1, /* 0 */
+    LPT_OPENED = 2,      /* the name under which its report is open to be sent in parts */
+    LPT_SILENT = 3,      /* it is no telecommand of the APID, and nothing was done: 0 */
+    LPT_REFUSED = 4      /* the failure code, 1 to 8 */
+};
+
+typedef struct LptApplied {
+    uint32_t kind;
+    uint32_t value;
+} LptApplied;
+
+/* Reads the oldest request that was released and not read yet. LPT_DONE; LPT_EMPTY; LPT_NO_JOB,
+   as always on ground; LPT_MEMORY. */
+uint32_t lpt_end_read(LptEnd *end);
+
+/*
+ * Executes the oldest request, which has to be read: does what it asks of the memory, and tells
+ * what became of it. Its reports are to be sent; a report that is too long for a packet is opened
+ * as a message.
+ * LPT_DONE, and *applied is written; LPT_EMPTY; LPT_NO_JOB, as always on ground; LPT_NOT_READ;
+ * LPT_UNSENT; LPT_MEMORY.
+ */
+uint32_t lpt_end_execute(LptEnd *end, LptApplied *applied);
+
+/*
+ * Copies a memory to the front of a buffer, and leaves the rest of it as it was. LPT_DONE;
+ * LPT_EMPTY; LPT_NOTHING where the end has no such memory; LPT_ROOM. At LPT_DONE and LPT_ROOM
+ * *needed is the memory's length.
+ */
+uint32_t lpt_end_memory(LptEnd *end, uint8_t id, uint8_t *out, size_t out_len, size_t *needed);
+
+/* ---- the clock, names, and a new start ---- */
+
+/* Sets the clock one tick on. LPT_DONE; LPT_EMPTY; LPT_CLOCK_END. */
+uint32_t lpt_end_tick(LptEnd *end);
+
+/*
+ * Makes the name of a transaction free at this end, so that it can be used again. The other end has
+ * to do so too, and no packet of it may be on its way.
+ * LPT_DONE, also of a name that is free; LPT_EMPTY; LPT_RANGE for another direction; LPT_STILL_OPEN
+ * where a message of this name is open to be sent in this direction, or a reception of it is.
+ */
+uint32_t lpt_end_retire(LptEnd *end, uint32_t direction, uint16_t id);
+
+/*
+ * Starts the end anew. Its open messages are closed and let go, its open receptions and what it
+ * keeps of released requests are dropped, and it counts its packets from 0. It knows other names
+ * and the clock as before. What was released last, and what is to be sent, stays.
+ * LPT_DONE; LPT_EMPTY; LPT_NO_NUMBER.
+ */
+uint32_t lpt_end_restart(LptEnd *end);
+
+/* ---- memory, which the caller's program gives ---- */
+
+/* Octets that were asked for: whether there are, and where. `at` is never null. */
+typedef struct LptTried {
+    bool ok;
+    void *at;
+} LptTried;
+
+/* Gives n octets, at an address that 16 divides, and to nobody else. */
+LptTried rattle_alloc(size_t n, size_t align);
+
+/* Makes a block that was given n octets long, maybe elsewhere, with its first `kept` octets, or n
+   of them where n is less. Where it can't, the block stays as it is. */
+LptTried rattle_realloc(void *block, size_t kept, size_t n, size_t align);
+
+/* Takes a block back. */
+void rattle_dealloc(void *block);
+
+#ifdef __cplusplus
+}
+#endif
+
+#endif

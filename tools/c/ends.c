@@ -1,0 +1,398 @@
+/*
+ * Calls each function of lpt_end.h from C: the first path, a lost part and its report, parts that
+ * contradict, every outcome and every fault once, against octets that were written by hand.
+ *
+ * It prints how many cases passed and failed. tests/c compiles it as C11 and as C++, with
+ * sanitizers, and over the heap and over a pool.
+ */
+#include "lpt_end.h"
+
+#include <stdio.h>
+#include <stdlib.h>
+#include <string.h>
+
+static unsigned passed, failed;
+
+static void look(int is_right, int line, const char *what) {
+    if (is_right) {
+        passed++;
+        return;
+    }
+    failed++;
+    printf("ends.c:%d: %s\n", line, what);
+}
+
+#define EXPECT(what) look((what), __LINE__, #what)
+#define DONE(call) EXPECT((call) == LPT_DONE)
+
+/* The first and the last part of a message of 20 octets, 0 to 19, under the name 7, in parts of 8,
+   and the report that its reception was given up at tick 19: written by hand, their checksums
+   computed elsewhere. */
+static const uint8_t FIRST[] = {0x18, 0x64, 0xc0, 0x00, 0x00, 0x12, 0x20, 0x0d, 0x09,
+                                0x00, 0x01, 0x00, 0x07, 0x00, 0x01, 0x00, 0x01, 0x02,
+                                0x03, 0x04, 0x05, 0x06, 0x07, 0xf4, 0x0d};
+static const uint8_t LAST[] = {0x18, 0x64, 0xc0, 0x02, 0x00, 0x0e, 0x20, 0x0d, 0x0b, 0x00, 0x01,
+                               0x00, 0x07, 0x00, 0x03, 0x10, 0x11, 0x12, 0x13, 0x13, 0x9b};
+static const uint8_t ABORTED[] = {0x08, 0x64, 0xc0, 0x00, 0x00, 0x0f, 0x20, 0x0d, 0x10, 0x00, 0x00,
+                                  0x00, 0x01, 0x00, 0x00, 0x00, 0x13, 0x00, 0x07, 0x01, 0x4e, 0x97};
+static const uint8_t IDLE[] = {0x07, 0xff, 0xc0, 0x00, 0x00, 0x00, 0x00};
+
+enum { NAME = 7, P = 8, ROOM = 70000 };
+
+static const LptConfig CONFIG = {100, 1, P, 19, 2, 2, 0, LPT_ANY};
+static const uint8_t MEMORY[16] = {0};
+
+static uint8_t message[65542], packet[ROOM], got[ROOM];
+static size_t packet_len;
+
+/* What a call told. */
+static int told(LptOutcome said, uint32_t kind, uint32_t first, uint32_t second) {
+    return said.kind == kind && said.first == first && said.second == second;
+}
+
+static void make(LptEnd *end, uint32_t side, const LptConfig *config) {
+    DONE(lpt_end_new(end, side, config, 1, MEMORY, sizeof MEMORY));
+}
+
+/* Takes the packet that is to be sent first out of an end. */
+static int take_packet(LptEnd *end) {
+    packet_len = 0;
+    return lpt_end_outgoing(end, packet, sizeof packet, &packet_len) == LPT_DONE &&
+           lpt_end_sent(end) == LPT_DONE;
+}
+
+/* The packet of a part. */
+static int make_part(LptEnd *end, uint16_t id, uint16_t k) {
+    return lpt_end_part(end, id, k) == LPT_DONE && take_packet(end);
+}
+
+static int packet_is(const uint8_t *octets, size_t len) {
+    return packet_len == len && memcmp(packet, octets, len) == 0;
+}
+
+/* The packet of a part at one end, given to the other. */
+static LptOutcome carry(LptEnd *from, LptEnd *to, uint16_t id, uint16_t k) {
+    LptOutcome said = {0, 0, 0};
+    EXPECT(make_part(from, id, k));
+    DONE(lpt_end_packet(to, packet, packet_len, &said));
+    return said;
+}
+
+/* What is made of octets. */
+static LptOutcome taken(LptEnd *end, const uint8_t *octets, size_t len) {
+    LptOutcome said = {0, 0, 0};
+    DONE(lpt_end_packet(end, octets, len, &said));
+    return said;
+}
+
+/* A telecommand at the spacecraft. */
+static LptOutcome command(LptEnd *end, LptTcHead head, const uint8_t *body, size_t len) {
+    DONE(lpt_write_tc(&head, body, len, packet, sizeof packet, &packet_len));
+    return taken(end, packet, packet_len);
+}
+
+/* A message in three parts, and its name used again. */
+static void first_path(void) {
+    LptEnd ground = LPT_END_EMPTY, craft = LPT_END_EMPTY;
+    size_t len = 99;
+    make(&ground, LPT_GROUND, &CONFIG);
+    make(&craft, LPT_SPACECRAFT, &CONFIG);
+    DONE(lpt_end_open(&ground, NAME, message, 20));
+    DONE(lpt_end_part(&ground, NAME, 1));
+    EXPECT(lpt_end_outgoing(&ground, packet, 24, &len) == LPT_ROOM && len == sizeof FIRST);
+    EXPECT(take_packet(&ground) && packet_is(FIRST, sizeof FIRST));
+    EXPECT(told(taken(&craft, packet, packet_len), LPT_KEPT, NAME, 1));
+    EXPECT(told(taken(&craft, packet, packet_len), LPT_AGAIN, NAME, 1));
+    EXPECT(told(carry(&ground, &craft, NAME, 2), LPT_KEPT, NAME, 2));
+    EXPECT(lpt_end_released(&craft, got, sizeof got, &len) == LPT_NOTHING);
+    EXPECT(told(carry(&ground, &craft, NAME, 3), LPT_RELEASED, NAME, 20));
+    EXPECT(packet_is(LAST, sizeof LAST));
+    len = 99;
+    memset(got, 0xee, sizeof got);
+    EXPECT(lpt_end_released(&craft, got, 19, &len) == LPT_ROOM && len == 20 && got[0] == 0xee);
+    DONE(lpt_end_released(&craft, got, 21, &len));
+    EXPECT(len == 20 && memcmp(got, message, 20) == 0 && got[20] == 0xee);
+    EXPECT(told(taken(&craft, packet, packet_len), LPT_IGNORED, LPT_CLOSED, 0));
+    EXPECT(lpt_end_released(&craft, got, sizeof got, &len) == LPT_NOTHING);
+    EXPECT(lpt_end_outgoing(&craft, got, sizeof got, &len) == LPT_NOTHING && len == 20);
+
+    EXPECT(lpt_end_retire(&ground, LPT_UP, NAME) == LPT_STILL_OPEN);
+    DONE(lpt_end_finish(&ground, NAME));
+    EXPECT(lpt_end_open(&ground, NAME, message, 20) == LPT_IN_USE);
+    DONE(lpt_end_retire(&ground, LPT_UP, NAME));
+    DONE(lpt_end_retire(&craft, LPT_UP, NAME));
+    DONE(lpt_end_retire(&craft, LPT_DOWN, NAME));
+    DONE(lpt_end_open(&ground, NAME, message, 9));
+    EXPECT(told(carry(&ground, &craft, NAME, 2), LPT_KEPT, NAME, 2));
+    EXPECT(lpt_end_retire(&craft, LPT_UP, NAME) == LPT_STILL_OPEN);
+    EXPECT(told(carry(&ground, &craft, NAME, 1), LPT_RELEASED, NAME, 9));
+    lpt_end_free(&ground);
+    lpt_end_free(&craft);
+}
+
+/* A part that is lost: the reception is given up, and ground hears of it. */
+static void lost_part(void) {
+    LptEnd ground = LPT_END_EMPTY, craft = LPT_END_EMPTY;
+    uint16_t id = 9;
+    unsigned tick;
+    make(&ground, LPT_GROUND, &CONFIG);
+    make(&craft, LPT_SPACECRAFT, &CONFIG);
+    DONE(lpt_end_open(&ground, NAME, message, 20));
+    EXPECT(told(carry(&ground, &craft, NAME, 1), LPT_KEPT, NAME, 1));
+    EXPECT(told(carry(&ground, &craft, NAME, 3), LPT_KEPT, NAME, 3));
+    for (tick = 0; tick < 19; tick++) {
+        EXPECT(lpt_end_expire(&craft, &id) == LPT_NOTHING_DUE && id == 9);
+        DONE(lpt_end_tick(&craft));
+    }
+    EXPECT(lpt_end_expire(&craft, &id) == LPT_DONE && id == NAME);
+    EXPECT(take_packet(&craft) && packet_is(ABORTED, sizeof ABORTED));
+    EXPECT(told(taken(&ground, ABORTED, sizeof ABORTED), LPT_ABORT_NOTED, NAME, 1));
+    EXPECT(lpt_end_part(&ground, NAME, 2) == LPT_NOT_OPEN);
+    EXPECT(lpt_end_finish(&ground, NAME) == LPT_NOT_OPEN);
+    EXPECT(lpt_end_sent(&craft) == LPT_NOTHING);
+    lpt_end_free(&ground);
+    lpt_end_free(&craft);
+}
+
+/* Parts that break their reception off, and two reports that wait to be sent. */
+static void broken(void) {
+    LptConfig strict = CONFIG;
+    LptEnd ground = LPT_END_EMPTY, craft = LPT_END_EMPTY;
+    LptEnd twin = LPT_END_EMPTY, other = LPT_END_EMPTY;
+    static uint8_t another[20];
+    make(&ground, LPT_GROUND, &CONFIG);
+    make(&craft, LPT_SPACECRAFT, &CONFIG);
+    make(&twin, LPT_GROUND, &CONFIG);
+    DONE(lpt_end_open(&ground, NAME, message, 20));
+    DONE(lpt_end_open(&ground, 8, message, 20));
+    DONE(lpt_end_open(&twin, NAME, another, 20));
+    DONE(lpt_end_open(&twin, 8, another, 20));
+    EXPECT(told(carry(&ground, &craft, NAME, 1), LPT_KEPT, NAME, 1));
+    EXPECT(told(carry(&ground, &craft, 8, 3), LPT_KEPT, 8, 3));
+    EXPECT(told(carry(&twin, &craft, NAME, 1), LPT_BROKEN, NAME, 3));
+    EXPECT(told(carry(&twin, &craft, 8, 3), LPT_BROKEN, 8, 3));
+    EXPECT(take_packet(&craft));
+    EXPECT(told(taken(&ground, packet, packet_len), LPT_ABORT_NOTED, NAME, 3));
+    EXPECT(take_packet(&craft));
+    EXPECT(told(taken(&ground, packet, packet_len), LPT_ABORT_NOTED, 8, 3));
+    EXPECT(!take_packet(&craft));
+
+    strict.mode = LPT_STRICT;
+    make(&other, LPT_SPACECRAFT, &strict);
+    EXPECT(told(carry(&twin, &other, NAME, 1), LPT_KEPT, NAME, 1));
+    EXPECT(told(carry(&twin, &other, NAME, 3), LPT_BROKEN, NAME, 2));
+    lpt_end_free(&ground);
+    lpt_end_free(&craft);
+    lpt_end_free(&twin);
+    lpt_end_free(&other);
+}
+
+/* What is neither a part nor an abortion, and what nothing is made of. */
+static void other_packets(void) {
+    LptTcHead head = {100, 0, 0, 6, 5, 1};
+    LptTmHead report = {100, 0, 0, 1, 7, 0, 1, 0};
+    LptEnd ground = LPT_END_EMPTY, craft = LPT_END_EMPTY;
+    uint8_t body[12] = {0, 1, 0, 1, 1, 2, 3, 4, 5, 6, 7, 8};
+    size_t len = 0;
+    make(&ground, LPT_GROUND, &CONFIG);
+    make(&craft, LPT_SPACECRAFT, &CONFIG);
+    EXPECT(told(command(&craft, head, body, 3), LPT_PLAIN_RELEASED, 16, 0));
+    DONE(lpt_end_released(&craft, got, sizeof got, &len));
+    EXPECT(len == packet_len && memcmp(got, packet, len) == 0);
+    EXPECT(told(taken(&ground, packet, packet_len), LPT_IGNORED, LPT_UNREADABLE, 0));
+    DONE(lpt_write_tm(&report, body, 4, packet, sizeof packet, &packet_len));
+    EXPECT(told(taken(&ground, packet, packet_len), LPT_REPORT_NOTED, 1, 7));
+    EXPECT(told(taken(&craft, packet, 5), LPT_IGNORED, LPT_UNREADABLE, 0));
+    EXPECT(told(taken(&craft, packet, 0), LPT_IGNORED, LPT_UNREADABLE, 0));
+    EXPECT(told(taken(&craft, IDLE, sizeof IDLE), LPT_IGNORED, LPT_WAS_IDLE, 0));
+    head.apid = 101;
+    EXPECT(told(command(&craft, head, body, 3), LPT_IGNORED, LPT_FOREIGN_APID, 0));
+    head.apid = 100;
+    head.service = 13;
+    head.subtype = 9;
+    EXPECT(told(command(&craft, head, body, 11), LPT_IGNORED, LPT_BAD_PART, 0));
+    EXPECT(told(command(&craft, head, body, 12), LPT_KEPT, 1, 1));
+    body[1] = 2;
+    EXPECT(told(command(&craft, head, body, 12), LPT_KEPT, 2, 1));
+    body[1] = 3;
+    EXPECT(told(command(&craft, head, body, 12), LPT_IGNORED, LPT_NO_ROOM, 0));
+    lpt_end_free(&ground);
+    lpt_end_free(&craft);
+}
+
+/* A request that loads three octets into the memory, read and executed, with its three reports; and
+   one of a memory that isn't there. */
+static void executed(void) {
+    /* Memory 1, one area: at 2, three octets, and their checksum. */
+    uint8_t load[] = {1, 1, 0, 0, 0, 2, 0, 3, 7, 8, 9, 0, 0};
+    uint8_t dump[] = {9, 1, 0, 0, 0, 0, 0, 1};
+    LptTcHead head = {100, 0, 11, 6, 2, 1};
+    LptApplied applied = {9, 9};
+    LptEnd craft = LPT_END_EMPTY, ground = LPT_END_EMPTY;
+    uint16_t sum = lpt_crc16(load + 8, 3);
+    size_t len = 0;
+    unsigned subtype;
+    load[11] = (uint8_t)(sum >> 8);
+    load[12] = (uint8_t)sum;
+    make(&craft, LPT_SPACECRAFT, &CONFIG);
+    make(&ground, LPT_GROUND, &CONFIG);
+    EXPECT(lpt_end_read(&ground) == LPT_NO_JOB && lpt_end_read(&craft) == LPT_NO_JOB);
+    EXPECT(lpt_end_execute(&ground, &applied) == LPT_NO_JOB);
+    EXPECT(lpt_end_execute(&craft, &applied) == LPT_NO_JOB && applied.kind == 9);
+    EXPECT(told(command(&craft, head, load, sizeof load), LPT_PLAIN_RELEASED, 26, 0));
+    EXPECT(lpt_end_execute(&craft, &applied) == LPT_NOT_READ && applied.kind == 9);
+    DONE(lpt_end_read(&craft));
+    EXPECT(lpt_end_read(&craft) == LPT_NO_JOB);
+    DONE(lpt_end_execute(&craft, &applied));
+    EXPECT(applied.kind == LPT_CARRIED_OUT && applied.value == 0);
+    EXPECT(lpt_end_memory(&craft, 2, got, sizeof got, &len) == LPT_NOTHING);
+    EXPECT(lpt_end_memory(&ground, 1, got, sizeof got, &len) == LPT_NOTHING);
+    DONE(lpt_end_memory(&craft, 1, got, sizeof got, &len));
+    EXPECT(len == sizeof MEMORY && got[1] == 0 && got[2] == 7 && got[4] == 9 && got[5] == 0);
+    head.subtype = 5;
+    EXPECT(told(command(&craft, head, dump, sizeof dump), LPT_PLAIN_RELEASED, 21, 0));
+    DONE(lpt_end_read(&craft));
+    EXPECT(lpt_end_execute(&craft, &applied) == LPT_UNSENT);
+    for (subtype = 1; subtype < 8; subtype = subtype == 3 ? 7 : subtype + 2) {
+        EXPECT(take_packet(&craft) && packet[7] == 1 && packet[8] == subtype);
+    }
+    DONE(lpt_end_execute(&craft, &applied));
+    EXPECT(applied.kind == LPT_REFUSED && applied.value == 3);
+    EXPECT(take_packet(&craft) && packet[8] == 1 && take_packet(&craft) && packet[8] == 4);
+    EXPECT(!take_packet(&craft) && lpt_end_execute(&craft, &applied) == LPT_NO_JOB);
+    lpt_end_free(&craft);
+    lpt_end_free(&ground);
+}
+
+/* A message of this length downwards, in parts of p octets. */
+static void long_message(size_t len, uint32_t p) {
+    LptConfig config = CONFIG;
+    LptEnd ground = LPT_END_EMPTY, craft = LPT_END_EMPTY;
+    uint32_t k, parts = lpt_part_count((uint32_t)len, p), kept = 0;
+    LptOutcome said = {0, 0, 0};
+    size_t released = 0;
+    config.part_size = p;
+    make(&ground, LPT_GROUND, &config);
+    make(&craft, LPT_SPACECRAFT, &config);
+    DONE(lpt_end_open(&craft, 65535, message, len));
+    for (k = parts; k > 0; k--) {
+        kept += make_part(&craft, 65535, (uint16_t)k) &&
+                lpt_end_packet(&ground, packet, packet_len, &said) == LPT_DONE &&
+                said.kind == (uint32_t)(k == 1 ? LPT_RELEASED : LPT_KEPT);
+    }
+    EXPECT(kept == parts && told(said, LPT_RELEASED, 65535, (uint32_t)len));
+    DONE(lpt_end_released(&ground, got, sizeof got, &released));
+    EXPECT(released == len && memcmp(got, message, len) == 0);
+    lpt_end_free(&ground);
+    lpt_end_free(&craft);
+}
+
+/* A configuration that has this wrong. */
+static uint32_t new_with(LptEnd *end, uint32_t side, LptConfig config, size_t memory_len) {
+    static uint8_t memory[1048577];
+    return lpt_end_new(end, side, &config, 1, memory, memory_len);
+}
+
+static void refused_ends(void) {
+    LptEnd end = LPT_END_EMPTY;
+    LptConfig c = CONFIG;
+    EXPECT(new_with(&end, 2, c, 1) == LPT_RANGE);
+    c.mode = 2;
+    EXPECT(new_with(&end, LPT_GROUND, c, 1) == LPT_RANGE);
+    c = CONFIG;
+    c.apid = 2047;
+    c.part_size = 3;
+    EXPECT(new_with(&end, LPT_GROUND, c, 1) == LPT_BAD_APID);
+    c.apid = 2046;
+    EXPECT(new_with(&end, LPT_GROUND, c, 1) == LPT_BAD_PART_SIZE);
+    c.part_size = 1025;
+    EXPECT(new_with(&end, LPT_GROUND, c, 1) == LPT_BAD_PART_SIZE);
+    c.part_size = 1024;
+    c.timeout = 0;
+    EXPECT(new_with(&end, LPT_GROUND, c, 1) == LPT_BAD_TIMEOUT);
+    c.timeout = 65535;
+    c.receptions = 65;
+    EXPECT(new_with(&end, LPT_GROUND, c, 1) == LPT_BAD_RECEPTIONS);
+    c.receptions = 64;
+    c.outgoing = 0;
+    EXPECT(new_with(&end, LPT_GROUND, c, 1) == LPT_BAD_OUTGOING);
+    EXPECT(new_with(&end, LPT_SPACECRAFT, CONFIG, 0) == LPT_BAD_MEMORIES);
+    EXPECT(new_with(&end, LPT_SPACECRAFT, CONFIG, 1048577) == LPT_BAD_MEMORIES);
+    EXPECT(!end.full && end.held.at == NULL);
+    DONE(new_with(&end, LPT_GROUND, CONFIG, 0));
+    EXPECT(end.full && new_with(&end, LPT_GROUND, CONFIG, 0) == LPT_FULL);
+    lpt_end_free(&end);
+    EXPECT(!end.full);
+    lpt_end_free(&end);
+}
+
+static void refused_calls(void) {
+    LptConfig config = CONFIG;
+    LptEnd end = LPT_END_EMPTY;
+    LptOutcome said = {7, 7, 7};
+    size_t len = 99;
+    uint16_t id = 9;
+    EXPECT(lpt_end_packet(&end, FIRST, sizeof FIRST, &said) == LPT_EMPTY && told(said, 7, 7, 7));
+    EXPECT(lpt_end_released(&end, got, sizeof got, &len) == LPT_EMPTY && len == 99);
+    EXPECT(lpt_end_outgoing(&end, got, sizeof got, &len) == LPT_EMPTY && len == 99);
+    EXPECT(lpt_end_sent(&end) == LPT_EMPTY && lpt_end_tick(&end) == LPT_EMPTY);
+    EXPECT(lpt_end_expire(&end, &id) == LPT_EMPTY && id == 9);
+    EXPECT(lpt_end_open(&end, NAME, message, 20) == LPT_EMPTY);
+    EXPECT(lpt_end_part(&end, NAME, 1) == LPT_EMPTY && lpt_end_finish(&end, NAME) == LPT_EMPTY);
+    EXPECT(lpt_end_retire(&end, 2, NAME) == LPT_EMPTY && lpt_end_restart(&end) == LPT_EMPTY);
+    EXPECT(lpt_end_read(&end) == LPT_EMPTY);
+    EXPECT(lpt_end_memory(&end, 1, got, sizeof got, &len) == LPT_EMPTY && len == 99);
+
+    config.clock = 4294967294u;
+    make(&end, LPT_GROUND, &config);
+    DONE(lpt_end_tick(&end));
+    EXPECT(lpt_end_tick(&end) == LPT_CLOCK_END);
+    EXPECT(lpt_end_part(&end, NAME, 1) == LPT_NOT_OPEN && lpt_end_finish(&end, 7) == LPT_NOT_OPEN);
+    EXPECT(lpt_end_open(&end, NAME, message, P) == LPT_SHORT_MESSAGE);
+    EXPECT(lpt_end_open(&end, NAME, got, 65543) == LPT_LONG_MESSAGE);
+    DONE(lpt_end_open(&end, 1, message, 65542));
+    DONE(lpt_end_open(&end, 2, message, 9));
+    EXPECT(lpt_end_open(&end, 3, message, 9) == LPT_TOO_MANY);
+    EXPECT(lpt_end_open(&end, 2, message, 9) == LPT_IN_USE);
+    EXPECT(lpt_end_part(&end, 2, 0) == LPT_NO_SUCH_PART);
+    EXPECT(lpt_end_part(&end, 2, 3) == LPT_NO_SUCH_PART);
+    EXPECT(lpt_end_sent(&end) == LPT_NOTHING);
+    EXPECT(lpt_end_retire(&end, 2, 2) == LPT_RANGE);
+    DONE(lpt_end_retire(&end, LPT_DOWN, 2));
+    lpt_end_free(&end);
+}
+
+/* After a new start the counts begin at 0 again, and what was to be sent still is. */
+static void new_start(void) {
+    LptEnd ground = LPT_END_EMPTY;
+    make(&ground, LPT_GROUND, &CONFIG);
+    DONE(lpt_end_open(&ground, NAME, message, 20));
+    DONE(lpt_end_part(&ground, NAME, 2));
+    DONE(lpt_end_restart(&ground));
+    EXPECT(lpt_end_part(&ground, NAME, 1) == LPT_NOT_OPEN);
+    EXPECT(lpt_end_open(&ground, NAME, message, 20) == LPT_IN_USE);
+    EXPECT(take_packet(&ground) && packet[14] == 2);
+    DONE(lpt_end_retire(&ground, LPT_UP, NAME));
+    DONE(lpt_end_open(&ground, NAME, message, 20));
+    EXPECT(make_part(&ground, NAME, 1) && packet_is(FIRST, sizeof FIRST));
+    lpt_end_free(&ground);
+}
+
+int main(void) {
+    size_t k;
+    for (k = 0; k < sizeof message; k++) {
+        message[k] = (uint8_t)(k + (k >> 8));
+    }
+    first_path();
+    lost_part();
+    broken();
+    other_packets();
+    long_message(65542, 1024);
+    long_message(65542, 4);
+    refused_ends();
+    refused_calls();
+    new_start();
+    executed();
+    printf("%u passed, %u failed\n", passed, failed);
+    return failed != 0;
+}

@@ -1,0 +1,192 @@
+/*
+ * A link over the pool of examples/c/memory/pool.c. Each of its requests for memory is refused in
+ * turn: the call says so, the end is as it was, and the same call, made again, goes on. And what a
+ * pool of 256 KiB holds.
+ *
+ * It prints how many cases passed and failed. tests/c compiles it with the pool, once with 1 MiB,
+ * and once with 256 KiB and SMALL.
+ */
+#include "lpt_end.h"
+
+#include <stdio.h>
+#include <string.h>
+
+size_t lpt_pool_used(void);
+int refuses(void);
+
+static unsigned passed, failed;
+
+static void look(int is_right, int line, const char *what) {
+    if (is_right) {
+        passed++;
+        return;
+    }
+    failed++;
+    printf("pool.c:%d: %s\n", line, what);
+}
+
+#define EXPECT(what) look((what), __LINE__, #what)
+
+/* Which request from now on is refused, from 0; none where it is negative. And whether one was. */
+static long refused_at = -1;
+static int was_refused;
+
+int refuses(void) {
+    if (refused_at != 0) {
+        refused_at -= refused_at > 0;
+        return 0;
+    }
+    refused_at = -1;
+    was_refused = 1;
+    return 1;
+}
+
+static uint8_t memory[65536], message[16000], packet[2000], got[16000];
+
+/* The answer of a call that is made again where memory ran out, and how often that was. */
+static unsigned again;
+
+#define TRY(call)                                                                                  \
+    do {                                                                                           \
+        uint32_t said = (call);                                                                    \
+        if (said == LPT_MEMORY && was_refused) {                                                   \
+            again++;                                                                               \
+            was_refused = 0;                                                                       \
+            said = (call);                                                                         \
+        }                                                                                          \
+        EXPECT(said == LPT_DONE);                                                                  \
+    } while (0)
+
+#ifndef SMALL
+/* A message up with a lost part, an expiry and its report; a message down; a request that is
+   executed; all by calls that are made again. */
+static void link_pass(void) {
+    static const LptConfig config = {100, 1, 64, 2, 4, 4, 0, LPT_ANY};
+    static const LptTcHead head = {100, 0, 11, 6, 5, 1};
+    static const uint8_t dump[] = {1, 1, 0, 0, 0, 0, 0, 8};
+    LptApplied applied = {0, 0};
+    LptEnd ground = LPT_END_EMPTY, craft = LPT_END_EMPTY;
+    LptOutcome told = {0, 0, 0};
+    size_t len = 0;
+    uint16_t k, id = 0;
+    TRY(lpt_end_new(&ground, LPT_GROUND, &config, 0, memory, 0));
+    TRY(lpt_end_new(&craft, LPT_SPACECRAFT, &config, 1, memory, 100));
+    TRY(lpt_end_open(&ground, 5, message, 300));
+    TRY(lpt_end_open(&ground, 6, message, 300));
+    TRY(lpt_end_open(&craft, 7, message, 100));
+    for (k = 1; k <= 5; k++) {
+        TRY(lpt_end_part(&ground, 5, k));
+        EXPECT(lpt_end_outgoing(&ground, packet, sizeof packet, &len) == LPT_DONE);
+        EXPECT(lpt_end_sent(&ground) == LPT_DONE);
+        TRY(lpt_end_packet(&craft, packet, len, &told));
+        EXPECT(told.kind == (uint32_t)(k == 5 ? LPT_RELEASED : LPT_KEPT) && told.first == 5);
+    }
+    EXPECT(lpt_end_released(&craft, got, sizeof got, &len) == LPT_DONE && len == 300);
+    EXPECT(memcmp(got, message, 300) == 0);
+    TRY(lpt_end_part(&ground, 6, 2));
+    EXPECT(lpt_end_outgoing(&ground, packet, sizeof packet, &len) == LPT_DONE);
+    TRY(lpt_end_packet(&craft, packet, len, &told));
+    EXPECT(lpt_end_tick(&craft) == LPT_DONE && lpt_end_tick(&craft) == LPT_DONE);
+    TRY(lpt_end_expire(&craft, &id));
+    EXPECT(id == 6 && lpt_end_outgoing(&craft, packet, sizeof packet, &len) == LPT_DONE);
+    EXPECT(lpt_end_sent(&craft) == LPT_DONE);
+    TRY(lpt_end_packet(&ground, packet, len, &told));
+    EXPECT(told.kind == LPT_ABORT_NOTED && told.first == 6 && told.second == 1);
+    TRY(lpt_end_part(&craft, 7, 1));
+    TRY(lpt_end_part(&craft, 7, 2));
+    while (lpt_end_outgoing(&craft, packet, sizeof packet, &len) == LPT_DONE) {
+        TRY(lpt_end_packet(&ground, packet, len, &told));
+        EXPECT(lpt_end_sent(&craft) == LPT_DONE);
+    }
+    EXPECT(told.kind == LPT_RELEASED && told.first == 7 && told.second == 100);
+    TRY(lpt_end_read(&craft));
+    EXPECT(lpt_end_outgoing(&craft, packet, sizeof packet, &len) == LPT_NOTHING);
+    TRY(lpt_end_execute(&craft, &applied));
+    EXPECT(applied.kind == LPT_SILENT);
+    EXPECT(lpt_write_tc(&head, dump, sizeof dump, packet, sizeof packet, &len) == LPT_DONE);
+    TRY(lpt_end_packet(&craft, packet, len, &told));
+    TRY(lpt_end_read(&craft));
+    TRY(lpt_end_execute(&craft, &applied));
+    EXPECT(applied.kind == LPT_CARRIED_OUT);
+    TRY(lpt_end_restart(&craft));
+    lpt_end_free(&ground);
+    lpt_end_free(&craft);
+    EXPECT(lpt_pool_used() == 0);
+}
+
+int main(void) {
+    long at = 0;
+    size_t i;
+    for (i = 0; i < sizeof message; i++) {
+        message[i] = (uint8_t)(i * 31 + (i >> 8));
+    }
+    do {
+        refused_at = at++;
+        was_refused = 0;
+        again = 0;
+        link_pass();
+        EXPECT(again == (refused_at < 0));
+    } while (refused_at < 0 && at < 1000);
+    /* The last pass asked for less. */
+    EXPECT(at > 40 && at < 1000);
+    printf("%u passed, %u failed\n", passed, failed);
+    return failed != 0;
+}
+#else
+/* A spacecraft with a memory of 64 KiB, and one reception: a message in parts of 64 octets. */
+static void long_message(void) {
+    static const LptConfig config = {100, 1, 64, 10, 1, 1, 0, LPT_ANY};
+    LptTcHead head = {100, 0, 0, 13, 0, 1};
+    LptEnd craft = LPT_END_EMPTY;
+    LptOutcome told = {0, 0, 0};
+    uint8_t body[68];
+    size_t len = 0;
+    uint32_t kind;
+    uint16_t k;
+    TRY(lpt_end_new(&craft, LPT_SPACECRAFT, &config, 1, memory, sizeof memory));
+    for (k = 1; k <= 250; k++) {
+        EXPECT(lpt_slice_part(message, sizeof message, 64, 5, k, &kind, body, sizeof body, &len) ==
+               LPT_DONE);
+        head.count = k;
+        head.subtype = (uint8_t)(8 + kind);
+        EXPECT(lpt_write_tc(&head, body, len, packet, sizeof packet, &len) == LPT_DONE);
+        TRY(lpt_end_packet(&craft, packet, len, &told));
+    }
+    EXPECT(told.kind == LPT_RELEASED && told.second == sizeof message);
+    EXPECT(lpt_end_released(&craft, got, sizeof got, &len) == LPT_DONE);
+    EXPECT(len == sizeof message && memcmp(got, message, len) == 0);
+    lpt_end_free(&craft);
+    EXPECT(lpt_pool_used() == 0);
+}
+
+/* Memory runs out at last, the end says so and goes on: what it has can still be let go. */
+static void full_pool(void) {
+    static const LptConfig config = {100, 1, 1024, 10, 1, 64, 0, LPT_ANY};
+    LptEnd craft = LPT_END_EMPTY;
+    uint32_t said = LPT_DONE;
+    uint16_t id = 0;
+    size_t used;
+    TRY(lpt_end_new(&craft, LPT_SPACECRAFT, &config, 1, memory, sizeof memory));
+    while (said == LPT_DONE && id < 64) {
+        used = lpt_pool_used();
+        said = lpt_end_open(&craft, id++, message, sizeof message);
+    }
+    EXPECT(said == LPT_MEMORY && lpt_pool_used() == used);
+    EXPECT(lpt_end_finish(&craft, (uint16_t)(id - 1)) == LPT_NOT_OPEN);
+    EXPECT(lpt_end_finish(&craft, 0) == LPT_DONE && lpt_pool_used() < used);
+    EXPECT(lpt_end_open(&craft, (uint16_t)(id - 1), message, sizeof message) == LPT_DONE);
+    lpt_end_free(&craft);
+    EXPECT(lpt_pool_used() == 0);
+}
+
+int main(void) {
+    size_t i;
+    for (i = 0; i < sizeof message; i++) {
+        message[i] = (uint8_t)(i * 31 + (i >> 8));
+    }
+    long_message();
+    full_pool();
+    printf("%u passed, %u failed\n", passed, failed);
+    return failed != 0;
+}
+#endif
