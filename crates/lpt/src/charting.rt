@@ -52,21 +52,22 @@ fn chart_from<R: Read + Drop>(
         Ok((text, _)) => {
             let lines = whole_lines(text.as_slice());
             match drawn(rt, config, memories, choice, lines) {
-                Ok(_) => Err(ToolFault::Read),
-                Err(fault) => Err(fault),
+                Ok(Ok(_)) => Ok(Err(ToolFault::Read)),
+                ran => ran,
             }
         }
         Err(fault) => {
             drop(memories);
-            Err(fault)
+            Ok(Err(fault))
         }
     };
     let status = match ran {
-        Err(ToolFault::Line(number)) => {
+        Ok(Err(ToolFault::Line(number))) => {
             let place = format!(in rt.alloc(); "{name}:{number}: unreadable");
             Err(Failure::at(ToolFault::Line(number), place))
         }
-        ran => status_at_end(rt, source.inner(), name, ran),
+        Ok(ran) => status_at_end(rt, source.inner(), name, ran),
+        Err(failure) => Err(failure),
     };
     drop(source);
     status
@@ -84,19 +85,19 @@ fn whole_lines(text: &[u8]) -> &[u8] {
 }
 
 // Runs the lines of a script, and writes the picture of what happened: of all, or of what was before
-// an unreadable line.
+// an unreadable line. It gives how the run ended, or why there is no picture.
 fn drawn(
     rt: &HostRuntime,
     config: Config,
     memories: Memories,
     choice: Choice,
     script: &[u8],
-) -> Result<ScriptEnd, ToolFault> {
+) -> Result<Result<ScriptEnd, ToolFault>, Failure> {
     let alloc = rt.alloc();
     let mut world = match World::new(alloc, config, memories) {
         Ok(world) => world,
-        Err(ConfigFault::Memory) => return Err(ToolFault::Memory),
-        Err(_) => return Err(ToolFault::Config),
+        Err(ConfigFault::Memory) => return Err(Failure::from(ToolFault::Memory)),
+        Err(_) => return Err(Failure::from(ToolFault::Config)),
     };
     let mut lines = Told::new(script);
     let mut printed = Nowhere::new();
@@ -107,7 +108,7 @@ fn drawn(
     };
     drop(world);
     write_picture(rt, picture?.as_bytes())?;
-    ran
+    Ok(ran)
 }
 
 // The picture of what happened in a world, by the title of its script.
@@ -127,11 +128,9 @@ fn picture_of(
 }
 
 // Writes a picture.
-fn write_picture(rt: &HostRuntime, picture: &[u8]) -> Result<(), ToolFault> {
+fn write_picture(rt: &HostRuntime, picture: &[u8]) -> Result<(), Failure> {
     let mut out = output(rt)?;
     let written = write_out(&mut out, picture);
-    match flush(out) {
-        Ok(()) => written,
-        Err(fault) => Err(fault),
-    }
+    flush(rt, out)?;
+    Ok(written?)
 }

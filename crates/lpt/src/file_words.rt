@@ -30,8 +30,8 @@ pub struct SplitWords<'a> {
 pub struct JoinWords<'a> {
     /// The direction of the packets.
     pub direction: Direction,
-    /// The identifier of the message.
-    pub id: u16,
+    /// The identifier of the message; without one, it is the only one there.
+    pub id: Option<u16>,
     /// The path of the packets, or `-` for standard input.
     pub file: &'a str,
 }
@@ -67,9 +67,8 @@ fn split_id<'a>(alloc: Global) -> Arg<'a> {
 }
 
 fn join_id<'a>(alloc: Global) -> Arg<'a> {
-    option(alloc, "id", "ID", "The message's identifier, 0 to 65535")
-        .required(true)
-        .value_parser(value_parser!(u16))
+    let help = "The message's identifier, 0 to 65535; without one, it is the only one there";
+    option(alloc, "id", "ID", help).value_parser(value_parser!(u16))
 }
 
 fn parts<'a>(alloc: Global) -> Arg<'a> {
@@ -130,7 +129,7 @@ pub fn split_words<'a>(matches: &ArgMatches<'a>) -> Option<SplitWords<'a>> {
 pub fn join_words<'a>(matches: &ArgMatches<'a>) -> Option<JoinWords<'a>> {
     Some(JoinWords {
         direction: direction_in(matches)?,
-        id: matches.get_one("id")?,
+        id: matches.get_one("id"),
         file: matches.get_str("FILE")?,
     })
 }

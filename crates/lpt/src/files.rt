@@ -1,16 +1,12 @@
-//! Messages split into packets, and joined of them, from a file or standard input to standard
-//! output.
+//! Messages split into packets, from a file or standard input to standard output.
 
 ghost use Rattle.lpt_files.specs.LptEvents.Configs.{IsConfig};
 
 use crate::end::{Failure, Status, tell_place};
-use crate::file_words::{JoinWords, SplitWords};
+use crate::file_words::SplitWords;
 use crate::streams::{STANDARD_INPUT, finish, opened, output, read_failure};
 use crate::watched::Watched;
-use lpt_files::{
-    Came, Config, Direction, JoinEnd, SplitEnd, Told, ToolFault, Transaction, Wanted, join_message,
-    missing_list, split_message,
-};
+use lpt_files::{Config, SplitEnd, Told, ToolFault, Wanted, split_message};
 use std::alloc::{AllocError, Global};
 use std::io::Read;
 
@@ -24,18 +20,6 @@ pub fn split(rt: &HostRuntime, config: &Config, words: &SplitWords<'_>) -> Resul
         return split_from(rt, config, words, rt.reader(), STANDARD_INPUT);
     }
     split_from(rt, config, words, opened(rt, words.file)?, words.file)
-}
-
-/// Writes the message that packets carry.
-///
-/// Errors: `Read` where the packets can't be opened or read; `Write`, `Memory`.
-pub fn join(rt: &HostRuntime, config: &Config, words: &JoinWords<'_>) -> Result<Status, Failure>
-    requires { IsConfig config.now }
-{
-    if words.file == "-" {
-        return join_from(rt, config, words, rt.reader(), STANDARD_INPUT);
-    }
-    join_from(rt, config, words, opened(rt, words.file)?, words.file)
 }
 
 // Splits the message that a reader of this name gives.
@@ -57,7 +41,7 @@ fn split_from<R: Read + Drop>(
         _ => None,
     };
     drop(source);
-    finish(out)?;
+    finish(rt, out)?;
     match (split, failure) {
         (_, Some(failure)) => Err(failure),
         (Ok(end), None) => Ok(split_status(rt, config, words, end)),
@@ -112,84 +96,5 @@ fn split_place(
         SplitEnd::NoSuchPart(last) => {
             format!(in alloc; "--parts {parts}: no list of parts of 1 to {last}")
         }
-    }
-}
-
-// Joins the packets that a reader of this name gives.
-fn join_from<R: Read + Drop>(
-    rt: &HostRuntime,
-    config: &Config,
-    words: &JoinWords<'_>,
-    reader: R,
-    name: &str,
-) -> Result<Status, Failure>
-    requires { IsConfig config.now }
-{
-    let transaction = Transaction {
-        direction: words.direction,
-        id: words.id,
-        apid: config.apid,
-        part_size: config.part_size,
-    };
-    let mut source = Told::new(Watched::new(reader));
-    let mut out = output(rt)?;
-    let joined = join_message(rt.alloc(), &transaction, &mut source, &mut out);
-    let failure = match &joined {
-        Err(ToolFault::Read) => Some(read_failure(rt, source.inner(), name)),
-        _ => None,
-    };
-    drop(source);
-    finish(out)?;
-    match (joined, failure) {
-        (_, Some(failure)) => Err(failure),
-        (Ok((end, came)), None) => join_status(rt, words, end, &came),
-        (Err(fault), None) => Err(Failure::from(fault)),
-    }
-}
-
-// The status of a join that ended so, after it was told what is missing.
-fn join_status(
-    rt: &HostRuntime,
-    words: &JoinWords<'_>,
-    end: JoinEnd,
-    came: &Came,
-) -> Result<Status, Failure> {
-    match end {
-        JoinEnd::Written(_) => Ok(Status::Done),
-        JoinEnd::Missing => {
-            tell_missing(rt, words, came)?;
-            Ok(Status::Refused)
-        }
-        JoinEnd::BrokenOff => {
-            tell_transaction(rt, words, "broken off: a part contradicts those before it");
-            Ok(Status::Refused)
-        }
-    }
-}
-
-// Says on standard error which parts are missing.
-fn tell_missing(rt: &HostRuntime, words: &JoinWords<'_>, came: &Came) -> Result<(), Failure> {
-    let Ok(list) = missing_list(rt.alloc(), came) else {
-        return Err(Failure::from(ToolFault::Memory));
-    };
-    let text = format!(in rt.alloc(); "missing parts: {list}");
-    match text {
-        Ok(text) => {
-            tell_transaction(rt, words, text.as_str());
-            Ok(())
-        }
-        Err(_) => Err(Failure::from(ToolFault::Memory)),
-    }
-}
-
-// Says something of the transaction on standard error.
-fn tell_transaction(rt: &HostRuntime, words: &JoinWords<'_>, text: &str) {
-    let id = words.id;
-    let direction = match words.direction {
-        Direction::Up => "up",
-        Direction::Down => "down",
-    };
-    if let Ok(place) = format!(in rt.alloc(); "{direction} {id}: {text}") {
-        tell_place(rt, place.as_str());
     }
 }

@@ -32,6 +32,6 @@ fn lint_from<R: Read + Drop>(rt: &HostRuntime, reader: R, name: &str) -> Result<
     };
     let status = status_at_end(rt, source.inner(), name, ran);
     drop(source);
-    finish(out)?;
+    finish(rt, out)?;
     status
 }

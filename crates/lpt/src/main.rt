@@ -11,6 +11,7 @@ mod configuration;
 mod end;
 mod file_words;
 mod files;
+mod joins;
 mod linting;
 mod request_words;
 mod requests;
@@ -78,7 +79,7 @@ fn done<T: Threads + Wait + Sync>(
         Command::Chart(script, choice) => charting::chart(rt, config, memories, *choice, script),
         Command::Decode(hex) => work::decode(rt, config, hex),
         Command::Split(words) => files::split(rt, &config, words),
-        Command::Join(words) => files::join(rt, &config, words),
+        Command::Join(words) => joins::join(rt, &config, words),
         Command::Request(words) => requests::request(rt, &config, words),
     }
 }

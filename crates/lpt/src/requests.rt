@@ -49,7 +49,7 @@ fn refused(rt: &HostRuntime, why: &str) -> Status {
 fn put(rt: &HostRuntime, octets: &[u8]) -> Result<Status, Failure> {
     let mut out = output(rt)?;
     let written = write_out(&mut out, octets);
-    finish(out)?;
+    finish(rt, out)?;
     match written {
         Ok(()) => Ok(Status::Done),
         Err(fault) => Err(Failure::from(fault)),

@@ -49,29 +49,47 @@ pub fn output(rt: &HostRuntime) -> Result<Output<'_>, ToolFault> {
     }
 }
 
-/// Writes what the output has kept back. Where that fails, a write of it failed before all else.
+/// Writes what the output has kept back, and gives why that failed, or a write before it.
 ///
 /// Errors: `Write`.
-pub fn flush(mut out: Output<'_>) -> Result<(), ToolFault> {
+pub fn flush(rt: &HostRuntime, mut out: Output<'_>) -> Result<(), Failure> {
     let flushed = flush_out(&mut out);
+    let failure = write_failure(rt, out.inner().get_ref(), flushed);
     drop(out);
-    flushed
+    match failure {
+        None => Ok(()),
+        Some(failure) => Err(failure),
+    }
 }
 
-/// Writes what the output has kept back, and gives the failure of that, about which nothing is told
-/// where nobody reads the output any more.
-pub fn finish(mut out: Output<'_>) -> Result<(), Failure> {
-    let failure = match flush_out(&mut out) {
-        Ok(()) => None,
-        Err(fault) => Some(match out.inner().get_ref().error() {
-            Some(error) if error.kind() == ErrorKind::BrokenPipe => Failure::unread(),
-            _ => Failure::from(fault),
-        }),
+/// As `flush`; but where nobody reads the output any more, nothing is told of it.
+pub fn finish(rt: &HostRuntime, mut out: Output<'_>) -> Result<(), Failure> {
+    let flushed = flush_out(&mut out);
+    let writer = out.inner().get_ref();
+    let failure = match writer.error() {
+        Some(error) if error.kind() == ErrorKind::BrokenPipe => Some(Failure::unread()),
+        _ => write_failure(rt, writer, flushed),
     };
     drop(out);
     match failure {
         None => Ok(()),
         Some(failure) => Err(failure),
+    }
+}
+
+// Why standard output couldn't be written, if it couldn't.
+fn write_failure<W>(
+    rt: &HostRuntime,
+    writer: &Watched<W>,
+    flushed: Result<(), ToolFault>,
+) -> Option<Failure> {
+    if let Some(error) = writer.error() {
+        let place = format!(in rt.alloc(); "standard output: {error}");
+        return Some(Failure::at(ToolFault::Write, place));
+    }
+    match flushed {
+        Ok(()) => None,
+        Err(fault) => Some(Failure::from(fault)),
     }
 }
 

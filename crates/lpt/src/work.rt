@@ -63,7 +63,7 @@ pub fn decode(rt: &HostRuntime, config: Config, hex: &str) -> Result<Status, Fai
     };
     let mut out = output(rt)?;
     let decoded = lpt_tool::decode(rt.alloc(), octets.as_slice(), config.part_size, &mut out);
-    flush(out)?;
+    flush(rt, out)?;
     Ok(status_of(decoded?))
 }
 
@@ -94,13 +94,16 @@ fn run_from<T: Threads + Wait + Sync, R: Read + Drop>(
     name: &str,
 ) -> Result<Status, Failure> {
     let mut source = Told::new(Watched::new(reader));
-    let ran = lines_run(rt, threads, config, memories, turns, &mut source);
-    let status = status_at_end(rt, source.inner(), name, ran);
+    let status = match lines_run(rt, threads, config, memories, turns, &mut source) {
+        Ok(ran) => status_at_end(rt, source.inner(), name, ran),
+        Err(failure) => Err(failure),
+    };
     drop(source);
     status
 }
 
-// Runs the lines of a script, and writes what the output has kept back.
+// Runs the lines of a script, and writes what the output has kept back: how the run ended, or why the
+// output can't be written.
 fn lines_run<T: Threads + Wait + Sync, S: Source>(
     rt: &HostRuntime,
     threads: &T,
@@ -108,12 +111,12 @@ fn lines_run<T: Threads + Wait + Sync, S: Source>(
     memories: Memories,
     turns: Option<Turns>,
     source: &mut S,
-) -> Result<ScriptEnd, ToolFault> {
+) -> Result<Result<ScriptEnd, ToolFault>, Failure> {
     let mut out = match output(rt) {
         Ok(out) => out,
         Err(fault) => {
             drop(memories);
-            return Err(fault);
+            return Err(Failure::from(fault));
         }
     };
     let alloc = rt.alloc();
@@ -123,9 +126,9 @@ fn lines_run<T: Threads + Wait + Sync, S: Source>(
             run_threads_script(alloc, threads, config, memories, turns, source, &mut out)
         }
     };
-    match flush(out) {
-        Ok(()) => ran,
-        Err(fault) => Err(fault),
+    match flush(rt, out) {
+        Ok(()) => Ok(ran),
+        Err(failure) => Err(failure),
     }
 }
 
@@ -145,7 +148,21 @@ pub(crate) fn status_at_end<R>(
             };
             Err(Failure::at(ToolFault::Read, place))
         }
+        Err(ToolFault::Threads(code)) => {
+            let why = threads_words(code);
+            let place = format!(in rt.alloc(); "fault {code}: {why}");
+            Err(Failure::at(ToolFault::Threads(code), place))
+        }
         Err(fault) => Err(Failure::from(fault)),
+    }
+}
+
+// Why a run of threads ended by the fault of this number.
+fn threads_words(code: u16) -> &'static str {
+    match code {
+        61 => "something was left to do, or the logs and the journal don't agree",
+        62 => "out of memory",
+        _ => "a thread couldn't be started",
     }
 }
 

@@ -1,8 +1,8 @@
 -- The parts that a list names, item by item.
-use Rattle.std.proofs.Common.{◌≡◌, ◌∙◌, ap, sym, subst, refl, ℕ, zero, suc, ◌+◌, ◌-◌, ◌≤◌, List, [], ◌∷◌, ◌++◌, Option, Some, None, append_assoc, append-nil, arith}
+use Rattle.std.proofs.Common.{◌≡◌, ◌∙◌, ap, sym, refl, ℕ, zero, suc, ◌+◌, ◌-◌, ◌≤◌, List, [], ◌∷◌, ◌++◌, Option, Some, None, append_assoc, append-nil, arith}
 use Rattle.std.specs.List.{slice_split}
 use native.Mathlib.Numerals.{unary_clauses}
-use Rattle.lpt_join.specs.LptSplit.Splits.{IsNumber, AreNumbers}
+use Rattle.lpt_join.specs.LptSplit.Splits.{AreNumbers}
 use Rattle.lpt_files.specs.Lists.{followed, is_comma, numbers_in, numbers_of, numbers_of_items, range_of, run}
 
 -- ---- runs

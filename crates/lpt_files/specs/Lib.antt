@@ -1,5 +1,6 @@
 pub mod Joins
 pub mod Lists
 pub mod MissingLists
+pub mod Only
 pub mod Splits
 pub use Rattle.lpt_join.specs.LptEvents as LptEvents

@@ -65,7 +65,7 @@ pub fn join_message<S: Source, K: Sink>(
 }
 
 // Writes the message that parts are joined to, where they are.
-fn write_joined<K: Sink>(joining: &Joining, out: &mut K) -> Result<JoinEnd, ToolFault>
+pub(crate) fn write_joined<K: Sink>(joining: &Joining, out: &mut K) -> Result<JoinEnd, ToolFault>
     ensures ends { IfOk result (λ end. WritesJoined (state joining.now) end
         (K.contents out.old) (K.contents out.new)) }
     ensures leaves { IfErr result (λ e. (e ≡ ToolFault.Write) × (K.failed out.new ≡ true)

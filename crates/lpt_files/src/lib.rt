@@ -8,6 +8,7 @@
 mod join_end;
 mod joining;
 mod lists;
+mod only;
 mod split_end;
 mod splitting;
 mod telling;
@@ -17,9 +18,10 @@ pub use join_end::JoinEnd;
 pub use joining::join_message;
 pub use lists::read_parts;
 pub use lpt_join::{
-    Came, Config, Direction, End, Name, Octets, Sink, Source, Told, ToolFault, Transaction,
-    flush_out, read_text, write_out,
+    Came, Config, Direction, End, Gathering, Gatherings, Joining, Name, Octets, Sink, Source, Told,
+    ToolFault, Transaction, flush_out, read_text, write_out,
 };
+pub use only::join_only;
 pub use split_end::SplitEnd;
 pub use splitting::split_message;
 pub use telling::missing_list;

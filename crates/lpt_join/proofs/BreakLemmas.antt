@@ -6,7 +6,7 @@ use Rattle.lpt_reception.specs.LptPart.declared.mode.Mode.TheVariants.{Any}
 use Rattle.lpt_reception.specs.LptPart.declared.reason.Reason.{Reason}
 use Rattle.lpt_reception.specs.LptPart.declared.reason.Reason.TheVariants.{Conflict}
 use Rattle.lpt_reception.specs.Received.{Kept, Parts, with_part, contradicts, break_reason, is_whole}
-use Rattle.lpt_join.specs.Joins.{Joined, Missing, Broken, kept_by, added}
+use Rattle.lpt_join.specs.Joins.{Missing, Broken, kept_by, added}
 
 -- a part that breaks a reception off
 pub added-broken : (s : Parts) (n : ℕ) (x : Kept) (reason : Reason)

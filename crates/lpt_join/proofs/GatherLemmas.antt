@@ -18,7 +18,7 @@ joined-next : (t : Transaction) (j : Joined) (bs : List (List ℕ)) (b : List �
 joined-next t j [] b = refl
 joined-next t j (x ∷ bs) b = joined-next t (join_part j (offered t x)) bs b
 
-join_none : (j : Joined) → join_part j None ≡ j
+pub join_none : (j : Joined) → join_part j None ≡ j
 join_none (Missing s) = refl
 join_none (Complete m) = refl
 join_none Broken = refl
@@ -29,7 +29,7 @@ or_front true false c = refl
 or_front false true c = refl
 or_front false false c = refl
 
-any-next : (p : List ℕ → Bool) (bs : List (List ℕ)) (b : List ℕ)
+pub any-next : (p : List ℕ → Bool) (bs : List (List ℕ)) (b : List ℕ)
     → list_any p (bs ++ b ∷ []) ≡ (p b || list_any p bs)
 any-next p [] b = refl
 any-next p (x ∷ bs) b =
@@ -90,27 +90,27 @@ all_octets-next [] b = append-nil b
 all_octets-next (x ∷ bs) b =
     ap (λ y. x ++ y) (all_octets-next bs b) ∙ sym (append_assoc x (all_octets bs) b)
 
--- packets that were read, what is left of the stream, what they gave, and how many they are
-pub record IsRead (t : Transaction) (stream left : List ℕ) (g : Gathering) (count : ℕ) : Type 0 where
+-- packets that were read, what is left of the stream, what holds of them, and how many they are
+pub record IsRead (P : List (List ℕ) → Type 0) (stream left : List ℕ) (count : ℕ) : Type 0 where
   pub packets : List (List ℕ)
   pub each : AllFramed packets
   pub cut : stream ≡ all_octets packets ++ left
-  pub gives : Gives t packets g
+  pub gives : P packets
   pub count_is : length packets ≡ count
 
 -- of nothing
-pub read-none : (t : Transaction) (g : Gathering) (left : List ℕ)
-    → Gives t [] g
+pub read-none : (P : List (List ℕ) → Type 0) (left : List ℕ)
+    → P []
     → left ≡ []
-    → IsRead t [] left g 0
-read-none t g left h e = record { packets = []; each = tt; cut = sym e; gives = h; count_is = refl }
+    → IsRead P [] left 0
+read-none P left h e = record { packets = []; each = tt; cut = sym e; gives = h; count_is = refl }
 
 -- with more read behind
-pub read-more : (t : Transaction) (stream left more now : List ℕ) (g : Gathering) (count : ℕ)
-    → IsRead t stream left g count
+pub read-more : (P : List (List ℕ) → Type 0) (stream left more now : List ℕ) (count : ℕ)
+    → IsRead P stream left count
     → now ≡ left ++ more
-    → IsRead t (stream ++ more) now g count
-read-more t stream left more now g count h e = record {
+    → IsRead P (stream ++ more) now count
+read-more P stream left more now count h e = record {
   packets = h.packets;
   each = h.each;
   cut = ap (λ x. x ++ more) h.cut ∙ append_assoc (all_octets h.packets) left more
@@ -120,14 +120,14 @@ read-more t stream left more now g count h e = record {
 }
 
 -- with the packet in front taken
-pub read-next : (t : Transaction) (stream left rest b : List ℕ) (n : ℕ) (g k : Gathering) (count : ℕ)
-    → (h : IsRead t stream left g count)
+pub read-next : (P Q : List (List ℕ) → Type 0) (stream left rest b : List ℕ) (n count : ℕ)
+    → (h : IsRead P stream left count)
     → IsFramed (take n left)
     → rest ≡ drop n left
     → b ≡ take n left
-    → Gives t (h.packets ++ b ∷ []) k
-    → IsRead t stream rest k (count + 1)
-read-next t stream left rest b n g k count h framed over is step = record {
+    → Q (h.packets ++ b ∷ [])
+    → IsRead Q stream rest (count + 1)
+read-next P Q stream left rest b n count h framed over is step = record {
   packets = h.packets ++ b ∷ [];
   each = framed-next h.packets b h.each (subst IsFramed (sym is) framed);
   cut = h.cut ∙ ap (λ x. all_octets h.packets ++ x) (sym (take-append-drop n left))
@@ -139,9 +139,8 @@ read-next t stream left rest b n g k count h framed over is step = record {
 }
 
 -- and with less than a packet left
-pub read-end : (t : Transaction) (stream left : List ℕ) (g : Gathering) (count : ℕ)
-    → (h : IsRead t stream left g count)
+pub read-end : (P : List (List ℕ) → Type 0) (stream left : List ℕ) (count : ℕ)
+    → (h : IsRead P stream left count)
     → IsUnfinished left
     → Splits stream h.packets left
-read-end t stream left g count h few =
-    record { joined = h.cut; each = h.each; unfinished = few }
+read-end P stream left count h few = record { joined = h.cut; each = h.each; unfinished = few }

@@ -10,4 +10,5 @@ mod ReadLemmas
 mod RoundLemmas
 mod SentLemmas
 mod SetLemmas
+mod SeveralLemmas
 mod ThereLemmas

@@ -5,6 +5,7 @@ pub mod Laws
 pub mod Missing
 pub mod Offers
 pub mod Reads
+pub mod Several
 pub use Rattle.lpt_pus.specs.LptPacket as LptPacket
 pub use Rattle.lpt_reception.specs.LptPart as LptPart
 pub use Rattle.lpt_reception.specs as LptReception

@@ -9,15 +9,18 @@
 mod came;
 mod gaps;
 mod gathering;
+mod gatherings;
 mod joining;
 pub mod laws;
 mod reading;
+mod several;
 mod stream;
 mod transaction;
 
 pub use came::Came;
 pub use gaps::missing;
 pub use gathering::Gathering;
+pub use gatherings::{Gatherings, TRANSACTION_LIMIT};
 pub use joining::Joining;
 pub use lpt_pus::{Direction, LONGEST_PACKET, Name, Octets};
 pub use lpt_reception::Mode;
@@ -25,6 +28,7 @@ pub use lpt_split::{
     Config, End, Sink, Source, Told, ToolFault, count, flush_out, read_text, split, write_out,
 };
 pub use lpt_stream::{PacketBuffer, packet_length, whole_length};
-pub use reading::part_in;
+pub use reading::{id_in, part_in};
+pub use several::gather_stream;
 pub use stream::join_stream;
 pub use transaction::Transaction;

@@ -3,14 +3,14 @@
 ghost use Rattle.std.specs.Prelude.{◌≡◌, ℕ, List, IfSome};
 ghost use Rattle.std.specs.Option.{option_map};
 ghost use Rattle.lpt_pus.specs.LptPacket.Packets.{fields};
-ghost use Rattle.lpt_reception.specs.LptPart.Parts.{piece};
+ghost use Rattle.lpt_reception.specs.LptPart.Parts.{Piece, piece};
 ghost use Rattle.lpt_reception.specs.LptPart.Splitting.{IsPartSize};
 ghost use Rattle.lpt_split.specs.LptEvents.Arrivals.{packet_arrival};
 ghost use Rattle.lpt_split.specs.LptEvents.declared.side.Side.TheVariants.{Ground, Craft};
 ghost use Rattle.lpt_join.specs.Offers.{piece_of, piece_in, part_of_piece, offered};
 
 use crate::Transaction;
-use lpt_pus::{Direction, Packet, Seen, read_packet, read_tc, read_tm, seen_is_read};
+use lpt_pus::{Direction, Name, Packet, Seen, read_packet, read_tc, read_tm, seen_is_read};
 use lpt_reception::{Part, read_part};
 use lpt_split::part_kind;
 
@@ -30,6 +30,17 @@ pub fn part_in<'a>(octets: &'a [u8], transaction: &Transaction) -> Option<Part<'
         return None;
     }
     Some(part)
+}
+
+/// The identifier of the transaction, whichever it is, of which octets carry a part that is read as this
+/// one's parts are; none where they carry none.
+pub fn id_in(octets: &[u8], transaction: &Transaction) -> Option<Name>
+    ensures { result ≡ option_map (λ (q : Piece). q.id) (piece_in transaction.now octets.now) }
+{
+    match any_part_in(octets, transaction) {
+        Some(part) => Some(part.id),
+        None => None,
+    }
 }
 
 // The part of any transaction of this direction that octets carry, where they do.

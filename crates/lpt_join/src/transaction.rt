@@ -17,3 +17,20 @@ pub struct Transaction {
     pub part_size: u32,
     ghost size: { IsPartSize part_size },
 }
+
+impl Transaction {
+    ghost use Rattle.std.specs.Prelude.{◌≡◌};
+    ghost use Rattle.lpt_join.specs.Several.{of_id};
+
+    /// The transaction of another identifier, whose packets are read alike.
+    pub fn of_id(&self, id: Name) -> Transaction
+        ensures { result ≡ of_id self.now id }
+    {
+        Transaction {
+            direction: self.direction,
+            id,
+            apid: self.apid,
+            part_size: self.part_size,
+        }
+    }
+}

@@ -13,12 +13,15 @@ use std::fmt;
 /// What is wrong with a configuration file, where, and why.
 ///
 /// As a text it names the place and the reason, as in `apid: not from 0 to 2046`,
-/// `memory 2: size: not an integer` with the second memory, and `not TOML`.
+/// `memory 2: size: not an integer` with the second memory, and `not TOML: duplicate key`, in the
+/// words of the reader of TOML.
 #[derive(Debug, Drop)]
 pub struct Complaint {
     line: Option<usize>,
     place: String,
     reason: Reason,
+    // What the reader of TOML says, behind `: `; else nothing.
+    words: String,
 }
 
 impl Complaint {
@@ -37,7 +40,8 @@ impl fmt::Display for Complaint {
     fn fmt<W: fmt::Write>(&self, f: &mut fmt::Formatter<W>) -> fmt::Result {
         let place = self.place.as_str();
         let reason = self.reason;
-        write!(f, "{place}{reason}")
+        let words = self.words.as_str();
+        write!(f, "{place}{reason}{words}")
     }
 }
 
@@ -58,10 +62,13 @@ pub fn why_refused(alloc: Global, text: &str) -> Result<Option<Complaint>, Alloc
             let Some(span) = error.span() else {
                 return Err(AllocError);
             };
+            let message = error.message();
+            let words = format!(in alloc; ": {message}")?;
             Ok(Some(Complaint {
                 line: Some(line_at(text, span.start)),
                 place: String::new(alloc),
                 reason: Reason::NotToml,
+                words,
             }))
         }
     }
@@ -73,6 +80,7 @@ fn told(alloc: Global, text: &str, wrong: Wrong<'_>) -> Result<Complaint, AllocE
         line: line_of(text, wrong.memory, wrong.key),
         place: print_place(alloc, wrong.memory, wrong.key)?,
         reason: wrong.reason,
+        words: String::new(alloc),
     })
 }
 

@@ -1,5 +1,5 @@
 -- A number more, and all of them.
-use Rattle.std.proofs.Common.{◌≡◌, ◌∙◌, ap, arith, ℕ, ◌+◌, ◌-◌, ◌≤◌, ◌++◌}
+use Rattle.std.proofs.Common.{◌≡◌, ◌∙◌, ap, arith, ◌+◌, ◌-◌, ◌≤◌, ◌++◌}
 use Rattle.lpt_files.specs.Lists.{run}
 use Rattle.lpt_files.proofs.ListLemmas.{run-pushed}
 use Rattle.lpt_files.proofs.lists.push_run.Goals as goal

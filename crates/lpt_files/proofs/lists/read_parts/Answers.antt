@@ -1,5 +1,5 @@
 -- Item after item.
-use Rattle.std.proofs.Common.{◌≡◌, ◌∙◌, ap, sym, subst, arith, ℕ, ◌+◌, ◌-◌, List}
+use Rattle.std.proofs.Common.{◌∙◌, ap, sym, subst, ℕ, List}
 use Rattle.std.specs.List.{slice_split}
 use Rattle.lpt_join.specs.LptSplit.Splits.{AreNumbers}
 use Rattle.lpt_files.specs.Lists.{is_comma, numbers_in, numbers_of, numbers_of_items}

@@ -1,8 +1,9 @@
 -- Packet after packet, until less than one is left.
-use Rattle.std.proofs.Common.{◌∙◌, inl, inr, ◌++◌, [], ℕ, Option, Ok, ap, subst, take, refl}
+use Rattle.std.proofs.Common.{◌∙◌, inl, inr, ◌++◌, [], ℕ, List, Option, Ok, ap, subst, take, refl}
 use Rattle.std.proofs.KnownBytes.{Consumes-nil, Consumes-trans}
 use Rattle.lpt_stream.specs.Buffers.{held, FindsPacket}
 use Rattle.lpt_stream.proofs.BufferLemmas.{find-fault}
+use Rattle.lpt_join.specs.Gatherings.{Gives}
 use Rattle.lpt_join.proofs.EndLemmas.{message_given}
 use Rattle.lpt_join.proofs.GatherLemmas.{read-none, read-more, read-next, read-end}
 use Rattle.lpt_join.proofs.stream.join_stream.Goals as goal
@@ -12,7 +13,8 @@ loop-count-init g c = record {
   read = (
     [],
     Consumes-nil (g.S.Source.remaining c.args.source.now),
-    read-none c.args.transaction.now c.new-gathering.result (held c.new-buffer.result)
+    read-none (λ packets. Gives c.args.transaction.now packets c.new-gathering.result)
+        (held c.new-buffer.result)
         (c.new-gathering.ensures c.args.transaction.now) c.new-buffer.ensures,
   );
   told = refl;
@@ -28,15 +30,15 @@ returns-in-Ok-None-clause-joined g c =
     (g.S.Source.failed c.loop-count.source) (g.S.Source.failed c.find_packet.new.source))
     c.in-Ok-None.field-0-is c.in-Ok-None.ensures in
     let was = c.loop-count.invariant.read in
-    let read = read-more c.args.transaction.now was.0 (held c.loop-count.buffer) found.0
-    (held c.find_packet.new.self) c.loop-count.gathering c.loop-count.count was.2 found.1.behind in (
+    let P : List (List ℕ) → Type 0 = λ packets. Gives c.args.transaction.now packets c.loop-count.gathering in
+    let read = read-more P was.0 (held c.loop-count.buffer) found.0
+    (held c.find_packet.new.self) c.loop-count.count was.2 found.1.behind in (
       was.0 ++ found.0,
       read.packets,
       held c.find_packet.new.self,
       Consumes-trans a b d was.0 found.0 was.1 found.1.consumed,
       found.3,
-      read-end c.args.transaction.now (was.0 ++ found.0) (held c.find_packet.new.self)
-          c.loop-count.gathering c.loop-count.count read found.2,
+      read-end P (was.0 ++ found.0) (held c.find_packet.new.self) c.loop-count.count read found.2,
       read.gives,
     )
 
@@ -59,15 +61,17 @@ loop-count-preserved g c =
     (g.S.Source.failed c.loop-count.source) (g.S.Source.failed c.find_packet.new.source))
     c.in-Ok-Some.field-0-is c.in-Ok-Some.ensures in
     let was = c.loop-count.invariant.read in
-    let read = read-more t was.0 (held c.loop-count.buffer) found.0 now
-    c.loop-count.gathering c.loop-count.count was.2 found.1.behind in
+    let P : List (List ℕ) → Type 0 = λ packets. Gives t packets c.loop-count.gathering in
+    let Q : List (List ℕ) → Type 0 = λ packets. Gives t packets c.in-Ok.more in
+    let read = read-more P was.0 (held c.loop-count.buffer) found.0 now
+    c.loop-count.count was.2 found.1.behind in
     let step = c.in-Ok.ensures read.packets read.gives in
     record {
       read = (
         was.0 ++ found.0,
         Consumes-trans a b d was.0 found.0 was.1 found.1.consumed,
-        read-next t (was.0 ++ found.0) now (held c.skip.new.self) _ len
-            c.loop-count.gathering c.in-Ok.more c.loop-count.count read found.2 c.skip.ensures
+        read-next P Q (was.0 ++ found.0) now (held c.skip.new.self) _ len
+            c.loop-count.count read found.2 c.skip.ensures
             (ap (take len) c.held.ensures) step,
       );
       told = found.4 ∙ c.loop-count.invariant.told;

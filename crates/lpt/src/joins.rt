@@ -1,0 +1,169 @@
+//! Messages joined of packets, from a file or standard input to standard output.
+
+ghost use Rattle.lpt_files.specs.LptEvents.Configs.{IsConfig};
+
+use crate::end::{Failure, Status, tell_place};
+use crate::file_words::JoinWords;
+use crate::streams::{STANDARD_INPUT, finish, opened, output, read_failure};
+use crate::watched::Watched;
+use lpt_files::{
+    Came, Config, Direction, Gatherings, JoinEnd, Joining, Sink, Source, Told, ToolFault,
+    Transaction, join_message, join_only, missing_list,
+};
+use std::alloc::{AllocError, Global};
+use std::io::Read;
+
+/// What became of the packets of a file.
+#[derive(Drop)]
+enum Joined {
+    /// Of the transaction that was asked for.
+    One(JoinEnd, Came),
+    /// Of all, where none was.
+    Each(Option<JoinEnd>, Gatherings),
+}
+
+/// Writes the message that packets carry.
+///
+/// Errors: `Read` where the packets can't be opened or read; `Write`, `Memory`.
+pub fn join(rt: &HostRuntime, config: &Config, words: &JoinWords<'_>) -> Result<Status, Failure>
+    requires { IsConfig config.now }
+{
+    if words.file == "-" {
+        return join_from(rt, config, words, rt.reader(), STANDARD_INPUT);
+    }
+    join_from(rt, config, words, opened(rt, words.file)?, words.file)
+}
+
+// Joins the packets that a reader of this name gives.
+fn join_from<R: Read + Drop>(
+    rt: &HostRuntime,
+    config: &Config,
+    words: &JoinWords<'_>,
+    reader: R,
+    name: &str,
+) -> Result<Status, Failure>
+    requires { IsConfig config.now }
+{
+    let mut source = Told::new(Watched::new(reader));
+    let mut out = output(rt)?;
+    let joined = join_packets(rt.alloc(), config, words, &mut source, &mut out);
+    let failure = match &joined {
+        Err(ToolFault::Read) => Some(read_failure(rt, source.inner(), name)),
+        _ => None,
+    };
+    drop(source);
+    finish(rt, out)?;
+    match (joined, failure) {
+        (_, Some(failure)) => Err(failure),
+        (Ok(joined), None) => told(rt, words, &joined),
+        (Err(fault), None) => Err(Failure::from(fault)),
+    }
+}
+
+// Joins the packets of a source.
+fn join_packets<S: Source, K: Sink>(
+    alloc: Global,
+    config: &Config,
+    words: &JoinWords<'_>,
+    source: &mut S,
+    out: &mut K,
+) -> Result<Joined, ToolFault>
+    requires { IsConfig config.now }
+{
+    let transaction = Transaction {
+        direction: words.direction,
+        id: words.id.unwrap_or(0),
+        apid: config.apid,
+        part_size: config.part_size,
+    };
+    if words.id.is_some() {
+        let (end, came) = join_message(alloc, &transaction, source, out)?;
+        return Ok(Joined::One(end, came));
+    }
+    let (end, gatherings) = join_only(alloc, &transaction, source, out)?;
+    Ok(Joined::Each(end, gatherings))
+}
+
+// The status of a join that ended so, after it was told what isn't whole.
+fn told(rt: &HostRuntime, words: &JoinWords<'_>, joined: &Joined) -> Result<Status, Failure> {
+    let told = match joined {
+        Joined::One(JoinEnd::Written(_), _) => return Ok(Status::Done),
+        Joined::Each(Some(JoinEnd::Written(_)), _) => return Ok(Status::Done),
+        Joined::One(JoinEnd::Missing, came) => tell_missing(rt, words, words.id.unwrap_or(0), came),
+        Joined::One(JoinEnd::BrokenOff, _) => tell_broken(rt, words, words.id.unwrap_or(0)),
+        Joined::Each(_, gatherings) => tell_each(rt, words, gatherings),
+    };
+    match told {
+        Ok(()) => Ok(Status::Refused),
+        Err(_) => Err(Failure::from(ToolFault::Memory)),
+    }
+}
+
+// Says of each transaction what isn't whole. The only error is want of memory.
+fn tell_each(
+    rt: &HostRuntime,
+    words: &JoinWords<'_>,
+    gatherings: &Gatherings,
+) -> Result<(), AllocError> {
+    let direction = word_of(words.direction);
+    if gatherings.kept.is_empty() {
+        return tell(
+            rt,
+            format!(in rt.alloc(); "{direction}: no part of a message came"),
+        );
+    }
+    for (id, gathering) in gatherings.kept.iter() {
+        match &gathering.joining {
+            Joining::Complete(_) => {
+                let text = format!(in rt.alloc(); "{direction} {id}: whole, --id {id} writes it");
+                tell(rt, text)?;
+            }
+            Joining::BrokenOff => tell_broken(rt, words, *id)?,
+            Joining::Nothing | Joining::Missing(_) => {
+                tell_missing(rt, words, *id, &gathering.came)?;
+            }
+        }
+    }
+    if gatherings.has_more {
+        let text = "others: --id tells of them";
+        return tell(rt, format!(in rt.alloc(); "{direction}: {text}"));
+    }
+    Ok(())
+}
+
+// Says on standard error which parts are missing. The only error is want of memory.
+fn tell_missing(
+    rt: &HostRuntime,
+    words: &JoinWords<'_>,
+    id: u16,
+    came: &Came,
+) -> Result<(), AllocError> {
+    let list = missing_list(rt.alloc(), came)?;
+    let direction = word_of(words.direction);
+    tell(
+        rt,
+        format!(in rt.alloc(); "{direction} {id}: missing parts: {list}"),
+    )
+}
+
+// Says on standard error that a transaction was broken off. The only error is want of memory.
+fn tell_broken(rt: &HostRuntime, words: &JoinWords<'_>, id: u16) -> Result<(), AllocError> {
+    let direction = word_of(words.direction);
+    let text = "broken off: a part contradicts those before it";
+    tell(rt, format!(in rt.alloc(); "{direction} {id}: {text}"))
+}
+
+// Says this on standard error, where there was memory for it.
+fn tell(rt: &HostRuntime, text: Result<String, AllocError>) -> Result<(), AllocError> {
+    let text = text?;
+    tell_place(rt, text.as_str());
+    Ok(())
+}
+
+// The word of a direction.
+fn word_of(direction: Direction) -> &'static str {
+    match direction {
+        Direction::Up => "up",
+        Direction::Down => "down",
+    }
+}

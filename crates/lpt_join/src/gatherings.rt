@@ -1,0 +1,96 @@
+//! What is kept of each transaction among a stream's packets.
+
+ghost use Rattle.std.specs.Prelude.{◌≡◌, ◌≢◌, ℕ, List, [], ◌∷◌, ◌++◌, true, false, Some, None, IfOk, IfSome, OnOk, IfNone};
+ghost use Rattle.lpt_join.specs.declared.gathering.Gathering.{Gathering};
+ghost use Rattle.lpt_join.specs.declared.transaction.Transaction.{Transaction};
+
+use crate::{Gathering, Transaction, id_in};
+use lpt_pus::Name;
+use std::alloc::{AllocError, Global};
+use std::collections::BTreeMap;
+
+/// The most transactions of which something is kept.
+pub const TRANSACTION_LIMIT: usize = 64;
+
+/// What a stream's packets have given of each transaction so far, of those that are read alike. Of
+/// more than 64, nothing is kept of those that came last.
+#[derive(Drop)]
+pub struct Gatherings {
+    /// What is kept of each, by its identifier.
+    pub kept: BTreeMap<Name, Gathering>,
+    /// Whether a part came of one of which nothing is kept.
+    pub has_more: bool,
+}
+
+impl Gatherings {
+    ghost use Rattle.lpt_join.specs.Gatherings.{Gives};
+    ghost use Rattle.lpt_join.specs.Several.{GivesEach, kept_of, of_id, carried};
+
+    /// Nothing has come.
+    pub fn new(alloc: Global) -> Gatherings
+        ensures { (t : Transaction) → GivesEach t [] result }
+    {
+        Gatherings {
+            kept: BTreeMap::new(alloc),
+            has_more: false,
+        }
+    }
+
+    /// Takes a packet. Where it carries a part of one of these transactions, the part is kept. The
+    /// only error is want of memory.
+    pub fn take(
+        self,
+        alloc: Global,
+        transaction: &Transaction,
+        octets: &[u8],
+    ) -> Result<Gatherings, AllocError>
+        requires { (packets : List (List ℕ)) × GivesEach transaction.now packets self }
+        ensures { (packets : List (List ℕ)) → GivesEach transaction.now packets self
+            → IfOk result (GivesEach transaction.now (packets ++ octets.now ∷ [])) }
+    {
+        let Some(id) = id_in(octets, transaction) else {
+            return Ok(self);
+        };
+        let mut gatherings = self;
+        let Some(gathering) = gatherings.take_out(alloc, id) else {
+            gatherings.has_more = true;
+            return Ok(gatherings);
+        };
+        let gathering = gathering.take(alloc, &transaction.of_id(id), octets)?;
+        gatherings.put(id, gathering)?;
+        Ok(gatherings)
+    }
+
+    // What is kept of a transaction, taken out, or what nothing has given; none where nothing is kept
+    // of it, and nothing can be.
+    fn take_out(&mut self, alloc: Global, id: Name) -> Option<Gathering>
+        ensures given { (t : Transaction) (packets : List (List ℕ)) → GivesEach t packets self.old
+            → IfSome result (Gives (of_id t id) packets) }
+        ensures others { (n : ℕ) → n ≢ id → kept_of self.new n ≡ kept_of self.old n }
+        ensures none { IfNone result (kept_of self.new id ≡ None) }
+        ensures more { self.new.has_more ≡ self.old.has_more }
+    {
+        match self.kept.remove(&id) {
+            Some(gathering) => Some(gathering),
+            None if self.has_room() => Some(Gathering::new(alloc)),
+            None => None,
+        }
+    }
+
+    // Whether a transaction more can be kept, and none was left out.
+    fn has_room(&self) -> bool
+        ensures { result ≡ true → self.now.has_more ≡ false }
+    {
+        !self.has_more && self.kept.len() < TRANSACTION_LIMIT
+    }
+
+    // Keeps this of a transaction. The only error is want of memory.
+    fn put(&mut self, id: Name, gathering: Gathering) -> Result<(), AllocError>
+        ensures kept { OnOk result (kept_of self.new id ≡ Some gathering) }
+        ensures others { OnOk result ((n : ℕ) → n ≢ id → kept_of self.new n ≡ kept_of self.old n) }
+        ensures more { self.new.has_more ≡ self.old.has_more }
+    {
+        self.kept.insert(id, gathering)?;
+        Ok(())
+    }
+}
