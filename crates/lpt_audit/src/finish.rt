@@ -184,26 +184,29 @@ fn is_sent_whole(entries: &[Entry], direction: Direction, id: Name, parts: u64) 
     requires { length entries.now + 1 < 2 ^ 64 }
     ensures { IsTrue result ↔ IsSentWhole entries.now direction id parts }
 {
-    next_part(entries, direction, id) > parts && is_finished(entries, direction, id)
+    let (next, finished) = sent_to_the_end(entries, direction, id);
+    next > parts && finished
 }
 
-// The part after those that were sent one after the other from the first on.
-fn next_part(entries: &[Entry], direction: Direction, id: Name) -> u64
+// The part after those that were sent one after the other from the first on, and whether the
+// transaction was finished behind them. One walk finds both.
+fn sent_to_the_end(entries: &[Entry], direction: Direction, id: Name) -> (u64, bool)
     requires { length entries.now + 1 < 2 ^ 64 }
-    ensures { result ≡ sent_on entries.now direction id 1 }
+    ensures next { result.0 ≡ sent_on entries.now direction id 1 }
+    ensures finished { result.1 ≡ is_finished entries.now direction id }
 {
     let mut next = 1;
     let mut rest = entries;
     while let Some((entry, tail)) = rest.split_first() {
         if finishes(&entry.event, direction, id) {
-            return next;
+            return (next, true);
         }
         if sends(&entry.event, direction, id, next) {
             next += 1;
         }
         rest = tail;
     }
-    next
+    (next, false)
 }
 
 // Whether an event finishes a transaction.
@@ -224,20 +227,6 @@ fn sends(event: &Event, direction: Direction, id: Name, part: u64) -> bool
         Event::Send(d, i, k) => *d == direction && *i == id && u64::from(*k) == part,
         _ => false,
     }
-}
-
-// Whether a transaction was finished.
-fn is_finished(entries: &[Entry], direction: Direction, id: Name) -> bool
-    ensures { result ≡ is_finished entries.now direction id }
-{
-    let mut rest = entries;
-    while let Some((entry, tail)) = rest.split_first() {
-        if finishes(&entry.event, direction, id) {
-            return true;
-        }
-        rest = tail;
-    }
-    false
 }
 
 // Whether an abortion report of a transaction was noted.

@@ -4,6 +4,7 @@ pub mod EntryLemmas
 pub mod Found
 pub mod Lookups
 pub mod NameLemmas
+pub mod NamedLemmas
 pub mod OctetLists
 pub mod Readings
 pub mod Registers

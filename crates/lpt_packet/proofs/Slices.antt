@@ -135,28 +135,34 @@ added_first r a b rest h =
 abbrev made : ℕ → ℕ → ℕ
 made octet n = octets_in 0 (octet ∷ replicate n 0)
 
--- parts of eight octets, added up from the first one on
-from_first : (a b c d e f g h : ℕ)
+-- parts of eight octets, the last six added up before the first two
+first_last : (a b c d e f g h : ℕ)
     → bit_xor a (bit_xor b (bit_xor c (bit_xor d
     (bit_xor e (bit_xor f (bit_xor g (bit_xor h 0)))))))
-    ≡ bit_xor (bit_xor (bit_xor (bit_xor (bit_xor (bit_xor (bit_xor a b) c) d) e) f) g) h
-from_first a b c d e f g h = simp (xor_assoc, xor_zero_r) refl
+    ≡ bit_xor (bit_xor (bit_xor (bit_xor (bit_xor (bit_xor c d) e) f) g) h) (bit_xor a b)
+first_last a b c d e f g h =
+    let six : ℕ = bit_xor (bit_xor (bit_xor (bit_xor (bit_xor c d) e) f) g) h in
+    let all : bit_xor a (bit_xor b (bit_xor c (bit_xor d
+    (bit_xor e (bit_xor f (bit_xor g (bit_xor h 0))))))) ≡ bit_xor (bit_xor a b) six =
+    simp (xor_assoc, xor_zero_r) refl in
+    all ∙ xor_comm (bit_xor a b) six
 
 -- eight octets into a register
 pub eight_sum : (r : ℕ) (xs : List ℕ)
     → r < 65536
     → length xs ≡ 8
     → octets_in r xs
-    ≡ bit_xor (bit_xor (bit_xor (bit_xor (bit_xor (bit_xor (bit_xor
-    (made (bit_xor (r / 256) (get_or xs 0 0)) 7) (made (bit_xor (r % 256) (get_or xs 1 0)) 6))
-    (made (get_or xs 2 0) 5)) (made (get_or xs 3 0) 4)) (made (get_or xs 4 0) 3))
-    (made (get_or xs 5 0) 2)) (made (get_or xs 6 0) 1)) (made (get_or xs 7 0) 0)
+    ≡ bit_xor (bit_xor (bit_xor (bit_xor (bit_xor (bit_xor
+    (made (get_or xs 2 0) 5) (made (get_or xs 3 0) 4)) (made (get_or xs 4 0) 3))
+    (made (get_or xs 5 0) 2)) (made (get_or xs 6 0) 1)) (made (get_or xs 7 0) 0))
+    (bit_xor (made (bit_xor (r / 256) (get_or xs 0 0)) 7)
+    (made (bit_xor (r % 256) (get_or xs 1 0)) 6))
 eight_sum r (a ∷ b ∷ c ∷ d ∷ e ∷ f ∷ g ∷ h ∷ []) hr l =
     let upper : ℕ = bit_xor (r / 256) a in
     let lower : ℕ = bit_xor (r % 256) b in
     added_first r a b (c ∷ d ∷ e ∷ f ∷ g ∷ h ∷ []) hr
     ∙ parts_are (upper ∷ lower ∷ c ∷ d ∷ e ∷ f ∷ g ∷ h ∷ [])
-    ∙ from_first (made upper 7) (made lower 6) (made c 5) (made d 4) (made e 3) (made f 2)
+    ∙ first_last (made upper 7) (made lower 6) (made c 5) (made d 4) (made e 3) (made f 2)
     (made g 1) (made h 0)
 eight_sum r [] hr l = absurd (omega arith)
 eight_sum r (a ∷ []) hr l = absurd (omega arith)

@@ -15,20 +15,20 @@ fn octet_in(register: u16, octet: u8) -> u16
 }
 
 // Shifts eight octets in. The register falls out with the first two of them, which it is added to;
-// then what each makes of a register of zeros, with the others behind it, is added without carry.
+// then what each makes of a register of zeros, with the others behind it, is added without carry. The
+// six that don't wait for the register come first, so that a processor has their sum before it.
 fn eight_in(register: u16, octets: &[u8; 8]) -> u16
     ensures { result ≡ octets_in register octets.now }
 {
     let upper = (register >> 8) as u8;
     let lower = (register % 256) as u8;
-    of_octet(upper ^ octets[0], 7)
-        ^ of_octet(lower ^ octets[1], 6)
-        ^ of_octet(octets[2], 5)
+    (of_octet(octets[2], 5)
         ^ of_octet(octets[3], 4)
         ^ of_octet(octets[4], 3)
         ^ of_octet(octets[5], 2)
         ^ of_octet(octets[6], 1)
-        ^ of_octet(octets[7], 0)
+        ^ of_octet(octets[7], 0))
+        ^ (of_octet(upper ^ octets[0], 7) ^ of_octet(lower ^ octets[1], 6))
 }
 
 /// The checksum of these octets: a register of sixteen ones, into which each octet is shifted

@@ -65,7 +65,7 @@ impl Octets {
         ensures { IfOk result (λ o. o ≡ self.now) }
     {
         Ok(Octets {
-            items: self.items.clone()?,
+            items: Vec::from_slice(*self.items.allocator(), &self.items)?,
         })
     }
 

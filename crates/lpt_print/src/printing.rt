@@ -5,7 +5,7 @@ ghost use Rattle.std.specs.Option.{option_copied};
 ghost use Rattle.std.specs.String.{string_bytes};
 ghost use Rattle.lpt_print.specs.Printing.{accepted_text, opened_text, finished_text, lost_text, expired_text, claimed_text, committed_text, stale_text, applied_text, retired_text, restarted_text, clock_text, put_text, took_text, outcome_text, refused_text, unreadable_text, journal_text, plain_count_text, applied_count_text, packet_text, clear_text, memory_text, release_text, none_text};
 
-use crate::words::{direction_word, octets_word, side_word, why_word};
+use crate::words::{direction_word, octets_word, side_word, text_of, why_word};
 use lpt_events::{
     Answer, Applied, Direction, Event, Name, Outcome, Release, Reply, Side, StepFault,
 };
@@ -68,28 +68,31 @@ pub fn print_opened(
     ensures { IfOk result (λ t. string_bytes t ≡ opened_text direction id parts) }
 {
     let direction = direction_word(direction);
-    format!(in alloc; "opened {direction} {id} parts {parts}\n")
+    text_of(
+        alloc,
+        format_args!("opened {direction} {id} parts {parts}\n"),
+    )
 }
 
 /// `put 0`: the packet of this number was put on the link.
 pub fn print_put(alloc: Global, n: u64) -> Result<String, AllocError>
     ensures { IfOk result (λ t. string_bytes t ≡ put_text n) }
 {
-    format!(in alloc; "put {n}\n")
+    text_of(alloc, format_args!("put {n}\n"))
 }
 
 /// `took 2`: the packet of this number was taken into a hand.
 pub fn print_took(alloc: Global, n: u64) -> Result<String, AllocError>
     ensures { IfOk result (λ t. string_bytes t ≡ took_text n) }
 {
-    format!(in alloc; "took {n}\n")
+    text_of(alloc, format_args!("took {n}\n"))
 }
 
 /// `lost 0`: the packet of this number is lost.
 pub fn print_lost(alloc: Global, n: u64) -> Result<String, AllocError>
     ensures { IfOk result (λ t. string_bytes t ≡ lost_text n) }
 {
-    format!(in alloc; "lost {n}\n")
+    text_of(alloc, format_args!("lost {n}\n"))
 }
 
 /// `finished up 7`: the sender of this transaction was closed.
@@ -97,7 +100,7 @@ pub fn print_finished(alloc: Global, direction: Direction, id: Name) -> Result<S
     ensures { IfOk result (λ t. string_bytes t ≡ finished_text direction id) }
 {
     let direction = direction_word(direction);
-    format!(in alloc; "finished {direction} {id}\n")
+    text_of(alloc, format_args!("finished {direction} {id}\n"))
 }
 
 /// `expired up 7`: the reception of this transaction was ended.
@@ -105,21 +108,21 @@ pub fn print_expired(alloc: Global, direction: Direction, id: Name) -> Result<St
     ensures { IfOk result (λ t. string_bytes t ≡ expired_text direction id) }
 {
     let direction = direction_word(direction);
-    format!(in alloc; "expired {direction} {id}\n")
+    text_of(alloc, format_args!("expired {direction} {id}\n"))
 }
 
 /// `claimed 0 3`: a worker has the job of this boot and this number in it.
 pub fn print_claimed(alloc: Global, boot: u64, job: u64) -> Result<String, AllocError>
     ensures { IfOk result (λ t. string_bytes t ≡ claimed_text boot job) }
 {
-    format!(in alloc; "claimed {boot} {job}\n")
+    text_of(alloc, format_args!("claimed {boot} {job}\n"))
 }
 
 /// `committed 0 3`: the reading of the job of this boot and this number in it was handed in.
 pub fn print_committed(alloc: Global, boot: u64, job: u64) -> Result<String, AllocError>
     ensures { IfOk result (λ t. string_bytes t ≡ committed_text boot job) }
 {
-    format!(in alloc; "committed {boot} {job}\n")
+    text_of(alloc, format_args!("committed {boot} {job}\n"))
 }
 
 /// `stale 0 3`: the job of this boot and this number in it isn't there any more, so its reading was
@@ -127,7 +130,7 @@ pub fn print_committed(alloc: Global, boot: u64, job: u64) -> Result<String, All
 pub fn print_stale(alloc: Global, boot: u64, job: u64) -> Result<String, AllocError>
     ensures { IfOk result (λ t. string_bytes t ≡ stale_text boot job) }
 {
-    format!(in alloc; "stale {boot} {job}\n")
+    text_of(alloc, format_args!("stale {boot} {job}\n"))
 }
 
 /// `retired up 7`: this transaction is free at both ends.
@@ -135,7 +138,7 @@ pub fn print_retired(alloc: Global, direction: Direction, id: Name) -> Result<St
     ensures { IfOk result (λ t. string_bytes t ≡ retired_text direction id) }
 {
     let direction = direction_word(direction);
-    format!(in alloc; "retired {direction} {id}\n")
+    text_of(alloc, format_args!("retired {direction} {id}\n"))
 }
 
 /// `restarted craft 1`: the node on this side was started anew, and has this boot now.
@@ -143,7 +146,7 @@ pub fn print_restarted(alloc: Global, side: Side, boot: u64) -> Result<String, A
     ensures { IfOk result (λ t. string_bytes t ≡ restarted_text side boot) }
 {
     let side = side_word(side);
-    format!(in alloc; "restarted {side} {boot}\n")
+    text_of(alloc, format_args!("restarted {side} {boot}\n"))
 }
 
 /// `applied done`, `applied done down 0` with the identifier of the report of data that was opened,
@@ -153,11 +156,11 @@ pub fn print_applied(alloc: Global, applied: Applied) -> Result<String, AllocErr
 {
     match applied {
         Applied::Done(None) => String::from_str(alloc, "applied done\n"),
-        Applied::Done(Some(id)) => format!(in alloc; "applied done down {id}\n"),
+        Applied::Done(Some(id)) => text_of(alloc, format_args!("applied done down {id}\n")),
         Applied::Silent => String::from_str(alloc, "applied silent\n"),
         Applied::Code(code) => {
             let code = code.number();
-            format!(in alloc; "applied code {code}\n")
+            text_of(alloc, format_args!("applied code {code}\n"))
         }
     }
 }
@@ -166,7 +169,7 @@ pub fn print_applied(alloc: Global, applied: Applied) -> Result<String, AllocErr
 pub fn print_clock(alloc: Global, ticks: u32) -> Result<String, AllocError>
     ensures { IfOk result (λ t. string_bytes t ≡ clock_text ticks) }
 {
-    format!(in alloc; "clock {ticks}\n")
+    text_of(alloc, format_args!("clock {ticks}\n"))
 }
 
 /// What became of a packet that was delivered in this direction: `kept up 7 3` and `again up 7 1`
@@ -182,24 +185,27 @@ pub fn print_outcome(
 {
     let direction = direction_word(direction);
     match outcome {
-        Outcome::Kept(id, part) => format!(in alloc; "kept {direction} {id} {part}\n"),
-        Outcome::Again(id, part) => format!(in alloc; "again {direction} {id} {part}\n"),
-        Outcome::Released(id, octets) => format!(in alloc; "released {direction} {id} {octets}\n"),
-        Outcome::PlainReleased(octets) => format!(in alloc; "plain {octets}\n"),
+        Outcome::Kept(id, part) => text_of(alloc, format_args!("kept {direction} {id} {part}\n")),
+        Outcome::Again(id, part) => text_of(alloc, format_args!("again {direction} {id} {part}\n")),
+        Outcome::Released(id, octets) => text_of(
+            alloc,
+            format_args!("released {direction} {id} {octets}\n"),
+        ),
+        Outcome::PlainReleased(octets) => text_of(alloc, format_args!("plain {octets}\n")),
         Outcome::ReportNoted(service, subtype) => {
-            format!(in alloc; "report {service} {subtype}\n")
+            text_of(alloc, format_args!("report {service} {subtype}\n"))
         }
         Outcome::AbortNoted(id, reason) => {
             let reason = reason.code();
-            format!(in alloc; "abort {id} {reason}\n")
+            text_of(alloc, format_args!("abort {id} {reason}\n"))
         }
         Outcome::Broken(id, reason) => {
             let reason = reason.code();
-            format!(in alloc; "broken {direction} {id} {reason}\n")
+            text_of(alloc, format_args!("broken {direction} {id} {reason}\n"))
         }
         Outcome::Ignored(why) => {
             let why = why_word(why);
-            format!(in alloc; "ignored {why}\n")
+            text_of(alloc, format_args!("ignored {why}\n"))
         }
     }
 }
@@ -210,35 +216,35 @@ pub fn print_refused(alloc: Global, fault: StepFault) -> Result<String, AllocErr
 {
     let code = fault.code();
     let name = fault.name();
-    format!(in alloc; "refused {code} {name}\n")
+    text_of(alloc, format_args!("refused {code} {name}\n"))
 }
 
 /// `line 2: unreadable`: the script's line of this number, counted from 1, can't be read.
 pub fn print_unreadable(alloc: Global, line: u64) -> Result<String, AllocError>
     ensures { IfOk result (λ t. string_bytes t ≡ unreadable_text line) }
 {
-    format!(in alloc; "line {line}: unreadable\n")
+    text_of(alloc, format_args!("line {line}: unreadable\n"))
 }
 
 /// `journal 10`: the journal has so many entries.
 pub fn print_journal(alloc: Global, n: u64) -> Result<String, AllocError>
     ensures { IfOk result (λ t. string_bytes t ≡ journal_text n) }
 {
-    format!(in alloc; "journal {n}\n")
+    text_of(alloc, format_args!("journal {n}\n"))
 }
 
 /// `plain 0`: so many plain requests were released.
 pub fn print_plain_count(alloc: Global, n: u64) -> Result<String, AllocError>
     ensures { IfOk result (λ t. string_bytes t ≡ plain_count_text n) }
 {
-    format!(in alloc; "plain {n}\n")
+    text_of(alloc, format_args!("plain {n}\n"))
 }
 
 /// `applied 5`: so many requests were executed.
 pub fn print_applied_count(alloc: Global, n: u64) -> Result<String, AllocError>
     ensures { IfOk result (λ t. string_bytes t ≡ applied_count_text n) }
 {
-    format!(in alloc; "applied {n}\n")
+    text_of(alloc, format_args!("applied {n}\n"))
 }
 
 /// `packet 0 1864c000`, or `packet 9 none`: the octets of the packet of this number, where there is
@@ -249,9 +255,9 @@ pub fn print_packet(alloc: Global, n: u64, packet: Option<&[u8]>) -> Result<Stri
     match packet {
         Some(octets) => {
             let octets = octets_word(alloc, octets)?;
-            format!(in alloc; "packet {n} {octets}\n")
+            text_of(alloc, format_args!("packet {n} {octets}\n"))
         }
-        None => format!(in alloc; "packet {n} none\n"),
+        None => text_of(alloc, format_args!("packet {n} none\n")),
     }
 }
 
@@ -260,7 +266,7 @@ pub fn print_clear(alloc: Global, clear: bool) -> Result<String, AllocError>
     ensures { IfOk result (λ t. string_bytes t ≡ clear_text clear) }
 {
     let clear = if clear { "yes" } else { "no" };
-    format!(in alloc; "clear {clear}\n")
+    text_of(alloc, format_args!("clear {clear}\n"))
 }
 
 /// `memory 1 16 00ff`, or `memory 9 0 none`: octets of the memory of this identifier from this
@@ -276,9 +282,9 @@ pub fn print_memory(
     match octets {
         Some(octets) => {
             let octets = octets_word(alloc, octets)?;
-            format!(in alloc; "memory {id} {address} {octets}\n")
+            text_of(alloc, format_args!("memory {id} {address} {octets}\n"))
         }
-        None => format!(in alloc; "memory {id} {address} none\n"),
+        None => text_of(alloc, format_args!("memory {id} {address} none\n")),
     }
 }
 
@@ -290,9 +296,9 @@ pub fn print_release(alloc: Global, release: &Release) -> Result<String, AllocEr
     match release.of {
         Some((direction, id)) => {
             let direction = direction_word(direction);
-            format!(in alloc; "{direction} {id} {octets}\n")
+            text_of(alloc, format_args!("{direction} {id} {octets}\n"))
         }
-        None => format!(in alloc; "plain {octets}\n"),
+        None => text_of(alloc, format_args!("plain {octets}\n")),
     }
 }
 

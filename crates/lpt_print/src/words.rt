@@ -1,11 +1,25 @@
 //! Words of a line.
 
-ghost use Rattle.std.specs.Prelude.{◌≡◌, IfOk};
+ghost use Rattle.std.specs.Prelude.{◌≡◌, ◌*◌, ◌<◌, length, slice_index, IfOk, IfSome};
+ghost use Rattle.hex.specs.Hex.{encode_lower, lower_digits};
 ghost use Rattle.std.specs.String.{string_bytes};
 ghost use Rattle.lpt_print.specs.Printing.{direction_text, octets_text, side_text, why_name};
 
 use lpt_events::{Direction, Side, Why};
 use std::alloc::{AllocError, Global};
+use std::fmt::Display;
+
+/// For how many octets a new text has room: most lines are shorter.
+const ROOM: usize = 48;
+
+// What is written of a value, in a text that mostly takes memory once.
+pub(crate) fn text_of<D: Display + Drop>(alloc: Global, value: D) -> Result<String, AllocError>
+    ensures { IfOk result (λ t. IfSome (D.output value) (λ o. string_bytes t ≡ o)) }
+{
+    let mut text = String::with_capacity(alloc, ROOM)?;
+    text.write(value)?;
+    Ok(text)
+}
 
 // A direction's word.
 pub(crate) fn direction_word(direction: Direction) -> &'static str
@@ -46,8 +60,35 @@ pub(crate) fn octets_word(alloc: Global, octets: &[u8]) -> Result<String, AllocE
     ensures { IfOk result (λ t. string_bytes t ≡ octets_text octets.now) }
 {
     if octets.is_empty() {
-        String::from_str(alloc, "-")
+        return String::from_str(alloc, "-");
+    }
+    let Some(len) = octets.len().checked_mul(2) else {
+        return Err(AllocError);
+    };
+    let mut digits = vec![in alloc; 0; len]?;
+    write_digits(octets, &mut digits);
+    Ok(unsafe { String::from_utf8_unchecked(digits) })
+}
+
+// Writes two digits for each octet.
+fn write_digits(octets: &[u8], digits: &mut [u8])
+    requires { length digits.old ≡ 2 * length octets.now }
+    ensures { digits.new ≡ encode_lower octets.now }
+{
+    'octets: for i in 0..octets.len() {
+        digits[2 * i] = digit_of(octets[i] / 16);
+        digits[2 * i + 1] = digit_of(octets[i] % 16);
+    }
+}
+
+// The digit of a value, without looking it up, so that many are made at a time.
+fn digit_of(value: u8) -> u8
+    requires { value < 16 }
+    ensures { result ≡ slice_index lower_digits value }
+{
+    if value < 10 {
+        b'0' + value
     } else {
-        hex::encode(alloc, octets)
+        b'a' - 10 + value
     }
 }

@@ -8,4 +8,5 @@ mod OrderLemmas
 mod PlaceLemmas
 mod PuttingLemmas
 mod RankLemmas
+mod SpotLemmas
 mod TakingLemmas

@@ -3,7 +3,7 @@
 ghost use Rattle.std.specs.Prelude.{◌≡◌, T};
 ghost use Rattle.std.specs.FinMap as map;
 ghost use Rattle.lpt_reception.specs.LptPacket.Names.{name_cmp};
-ghost use Rattle.lpt_table.specs.Places.{spot, rank, when_cmp, by_name, by_moment, first_overdue};
+ghost use Rattle.lpt_table.specs.Places.{AreApart, spot, rank, when_cmp, by_name, by_moment, first_overdue};
 
 use lpt_reception::Name;
 use std::cmp::Ordering;
@@ -16,15 +16,15 @@ pub(crate) struct Place {
     pub(crate) key: usize,
 }
 
-// At which place a name stands.
+// At which place a name stands, which stands but once. One that took a part just now is at the end,
+// so the search begins there.
 pub(crate) fn spot_of(places: &[Place], id: Name) -> Option<usize>
+    requires { AreApart name_cmp (by_name places.now) }
     ensures { result ≡ spot name_cmp id (by_name places.now) }
 {
-    for (at, place) in places.iter().enumerate() {
-        match id.cmp(&place.id) {
-            Ordering::Equal => return Some(at),
-            Ordering::Less => {}
-            Ordering::Greater => {}
+    for at in (0..places.len()).rev() {
+        if places[at].id == id {
+            return Some(at);
         }
     }
     None

@@ -14,6 +14,7 @@ mod reading;
 mod stream;
 
 pub use fault::ToolFault;
+pub use line_end::first_place;
 pub use lines::LineBuffer;
 pub use passing::Passes;
 pub use reading::{End, read_text};

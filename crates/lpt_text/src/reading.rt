@@ -12,7 +12,7 @@ use std::alloc::Global;
 pub(crate) const LIMIT: usize = 16_777_216;
 
 /// How many octets are asked for at a time.
-pub(crate) const CHUNK: usize = 4096;
+pub(crate) const CHUNK: usize = 16_384;
 
 /// Where the reading of a text ended.
 #[derive(Clone, Copy, PartialEq, Eq)]

@@ -85,6 +85,21 @@ are_pairs-even word even =
     let test : (length word % 2 == 0) ≡ true = rw even refl in
     sym (ap (λ b. b && list_all is_ascii_hexdigit word) test) ∙ are_pairs word
 
+digits_read : (word : List ℕ) (r : Result (List ℕ) FromHexError)
+    → decode_of word ≡ r
+    → is_some (decoded r) ≡ true
+    → (length word % 2 ≡ 0) × AllPass is_hex_digit word
+digits_read word (Err fault) read h = absurd cc
+digits_read word (Ok octets) read h =
+    let ok = decode_of-ok word octets read in
+    (ok.0, ok.1)
+
+-- what decodes is an even number of digits
+pub digits-decoded : (word : List ℕ)
+    → is_some (decoded (decode_of word)) ≡ true
+    → (length word % 2 ≡ 0) × AllPass is_hex_digit word
+digits-decoded word h = digits_read word (decode_of word) refl h
+
 length_read : (word : List ℕ) (r : Result (List ℕ) FromHexError)
     → decode_of word ≡ r
     → is_some (decoded r) ≡ true

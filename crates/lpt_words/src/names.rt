@@ -39,26 +39,26 @@ pub(crate) enum Keyword {
     Restart,
 }
 
-/// The first words of lines, with what each names.
+/// The first words of lines, with what each names; those that a script has most of stand first.
 static KEYWORDS: [(&str, Keyword); 19] = [
-    ("open", Keyword::Open),
+    ("pass", Keyword::Pass),
     ("send", Keyword::Send),
-    ("finish", Keyword::Finish),
-    ("plain", Keyword::Plain),
-    ("load", Keyword::Load),
-    ("retire", Keyword::Retire),
-    ("lose", Keyword::Lose),
-    ("damage", Keyword::Damage),
     ("take", Keyword::Take),
     ("deliver", Keyword::Deliver),
-    ("pass", Keyword::Pass),
-    ("show", Keyword::Show),
     ("tick", Keyword::Tick),
     ("expire", Keyword::Expire),
+    ("finish", Keyword::Finish),
+    ("open", Keyword::Open),
+    ("show", Keyword::Show),
+    ("lose", Keyword::Lose),
+    ("retire", Keyword::Retire),
+    ("plain", Keyword::Plain),
+    ("work", Keyword::Work),
     ("claim", Keyword::Claim),
     ("commit", Keyword::Commit),
     ("apply", Keyword::Apply),
-    ("work", Keyword::Work),
+    ("load", Keyword::Load),
+    ("damage", Keyword::Damage),
     ("restart", Keyword::Restart),
 ];
 

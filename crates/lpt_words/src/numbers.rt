@@ -1,9 +1,9 @@
 //! Numbers and octets as a word spells them.
 
-ghost use Rattle.std.specs.Prelude.{◌≡◌, ◌+◌, ◌%◌, ◌≤◌, length, is_some, option_map, IsSome, IsTrue, IfOk, IfSome, OnErr};
-ghost use Rattle.std.specs.List.{list_all};
+ghost use Rattle.std.specs.Prelude.{◌≡◌, ◌+◌, ◌*◌, ◌%◌, ◌<◌, ◌≤◌, length, Some, Ok, is_some, option_map, IsSome, IsTrue, IfOk, IfSome, OnErr};
+ghost use Rattle.std.specs.List.{AllPass, list_all};
 ghost use Rattle.std.specs.Char.{is_ascii_digit, is_ascii_hexdigit};
-ghost use Rattle.hex.specs.Hex.{decode_of};
+ghost use Rattle.hex.specs.Hex.{decode_of, hex_digit_value, is_hex_digit};
 ghost use Rattle.lpt_words.specs.Numbers.{is_numeral, spelled, number_of, decoded, octets_of};
 
 use lpt_events::Octets;
@@ -41,10 +41,9 @@ pub fn read_hex(alloc: Global, word: &[u8]) -> Result<Option<Octets>, AllocError
     if word.is_empty() || !has_pairs(word) {
         return Ok(None);
     }
-    match hex::decode(alloc, word) {
-        Ok(octets) => Ok(Some(Octets::from_vec(octets))),
-        Err(_) => Err(AllocError),
-    }
+    let mut octets = vec![in alloc; 0; word.len() / 2]?;
+    write_octets(word, &mut octets);
+    Ok(Some(Octets::from_vec(octets)))
 }
 
 // How many octets `read_hex` reads of a word, without memory.
@@ -70,10 +69,35 @@ fn has_pairs(word: &[u8]) -> bool
     word.len() % 2 == 0 && are_digits(word)
 }
 
+// Whether all octets are hexadecimal digits. No octet ends the loop, so that many are judged at a time.
 fn are_digits(word: &[u8]) -> bool
     ensures { result ≡ list_all is_ascii_hexdigit word.now }
 {
-    word.iter().all(|octet| octet.is_ascii_hexdigit())
+    let mut all = true;
+    for octet in word {
+        all &= octet.is_ascii_hexdigit();
+    }
+    all
+}
+
+// Writes the octets that pairs of digits spell.
+fn write_octets(word: &[u8], octets: &mut [u8])
+    requires digits { AllPass is_hex_digit word.now }
+    requires len { length word.now ≡ 2 * length octets.old }
+    ensures { decode_of word.now ≡ Ok octets.new }
+{
+    'pairs: for i in 0..octets.len() {
+        octets[i] = value_of_digit(word[2 * i]) * 16 + value_of_digit(word[2 * i + 1]);
+    }
+}
+
+// The value of a hexadecimal digit, without a branch: its lower four bits, and 9 more for a letter.
+fn value_of_digit(digit: u8) -> u8
+    requires { IsTrue (is_hex_digit digit) }
+    ensures value { hex_digit_value digit ≡ Some result }
+    ensures bound { result < 16 }
+{
+    digit % 16 + digit / 64 * 9
 }
 
 // Whether the word has 1 to 10 octets, all of them decimal digits.

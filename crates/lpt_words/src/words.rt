@@ -1,8 +1,10 @@
 //! Texts cut into lines, and lines into words.
 
-ghost use Rattle.std.specs.Prelude.{◌≡◌, ◌≢◌, ◌==◌, ◌<◌, ◌≤◌, [], ◌∷◌, length, position, slice_index, Some, None, MatchOption, IfSome};
+ghost use Rattle.std.specs.Prelude.{◌≡◌, ◌≢◌, ◌<◌, ◌≤◌, [], ◌∷◌, length, slice_index, Some, None, MatchOption, IfSome};
 ghost use Rattle.std.specs.Str.Lines.{strip_carriage_return};
 ghost use Rattle.lpt_words.specs.Words.{ended_line, is_empty, lines, one_of, three_of, two_of, words};
+
+use lpt_text::first_place;
 
 /// The most octets of a line, with the carriage return that its line feed drops.
 pub const LONGEST_LINE: usize = 140_000;
@@ -94,14 +96,6 @@ fn cut_word(text: &[u8]) -> (&[u8], &[u8])
         Some(end) => (&text[..end], &text[end + 1..]),
         None => (text, &[]),
     }
-}
-
-// The place of the first octet of this value.
-fn first_place(text: &[u8], octet: u8) -> Option<usize>
-    ensures at { result ≡ position (λ b. b == octet) text.now }
-    ensures bound { IfSome result (λ n. n < length text.now) }
-{
-    text.iter().position(|b| *b == octet)
 }
 
 /// The line that a line feed ends: the octets before it, without one carriage return directly

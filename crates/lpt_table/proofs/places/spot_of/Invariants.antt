@@ -1,11 +1,8 @@
-use Rattle.std.proofs.Common.{◌≡◌, ◌+◌, ℕ, drop}
-use Rattle.std.specs.Option.{option_map}
-use Rattle.lpt_reception.specs.LptPacket.Names.{name_cmp}
-use Rattle.lpt_table.specs.Places.{spot, by_name}
+use Rattle.std.proofs.Common.{◌≡◌, ◌≢◌, ℕ, ◌<◌, ◌≤◌, length, get_or}
+use Rattle.lpt_table.proofs.SpotLemmas.{none}
 use Rattle.lpt_table.proofs.places.spot_of.Given as goal
 
--- the place among all is the place among those that are left, so much later
+-- none of the places that were looked at has the name
 abbrev pub invariant-loop-at : goal.invariant-loop-at
 invariant-loop-at l =
-    spot name_cmp l.id (by_name l.places)
-    ≡ option_map (λ (n : ℕ). l.at + n) (spot name_cmp l.id (by_name (drop l.at l.places)))
+    (k : ℕ) → l.at ≤ k → k < length l.places → (get_or l.places k none).id ≢ l.id
