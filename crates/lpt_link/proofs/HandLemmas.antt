@@ -52,6 +52,18 @@ taken_number d goes n p is held =
           ∙ ap Some (same_direction-true p.direction goes way.1);
     }
 
+found_held : (goes : Direction) (o : Option LinkPacket)
+    → option_map_or (λ p. p.held && same_direction p.direction goes) o false ≡ true
+    → option_map_or (λ p. p.held) o false ≡ true
+found_held goes None h = h
+found_held goes (Some p) h = (and_parts p.held (same_direction p.direction goes) h).0
+
+-- and is held
+pub taken_held : (d : LinkData) (goes : Direction) (n : ℕ)
+    → is_held_for d goes n ≡ true
+    → is_held d n ≡ true
+taken_held d goes n h = found_held goes (slice_get d.packets n) h
+
 -- a lane that may take has an empty hand
 pub empty_hand : (d : LinkData) (lane : Lane) (n : ℕ)
     → refusal_take d lane n ≡ None

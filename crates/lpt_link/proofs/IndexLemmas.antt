@@ -1,13 +1,17 @@
 -- The numbers that a link keeps are its index after each call, and tell what it holds.
-use Rattle.std.proofs.Common.{◌≡◌, ◌∙◌, refl, ap, sym, ℕ, ◌+◌, ◌<◌, ◌≤◌, Bool, true, false, cond, ◌&&◌, ◌||◌, nat_lt, Option, List, [], ◌∷◌, length, arith}
+use Rattle.std.proofs.Common.{◌≡◌, ◌∙◌, refl, ap, sym, ℕ, ◌+◌, ◌≤◌, Bool, true, false, cond, ◌&&◌, ◌||◌, nat_lt, Option, None, Some, IfSome, is_some, List, [], ◌∷◌, length, arith}
 use Rattle.std.specs.List.{list_any, count_by}
+use Rattle.std.specs.Option.{option_map_or}
+use Rattle.std.proofs.lemmas.Bool.{and_from}
 use Rattle.std.proofs.lemmas.Bool.Decides.{nat_tests}
 use Rattle.std.proofs.lemmas.List.Sums.{sum_by-cons, count_by-le-length}
-use Rattle.lpt_events.specs.LptPacket.Names.{Name}
+use Rattle.lpt_events.proofs.LaneLemmas.{same_direction-refl}
+use Rattle.lpt_events.proofs.LptPacket.NameLemmas.{same_name-refl}
+use Rattle.lpt_events.specs.LptPacket.Names.{Name, same_name}
 use Rattle.lpt_events.specs.LptPacket.declared.direction.Direction.{Direction}
-use Rattle.lpt_events.specs.Lanes.{lanes}
+use Rattle.lpt_events.specs.Lanes.{lanes, same_direction}
 use Rattle.lpt_link.specs.Links.{LinkData, is_of, hand_has, any_held, any_in_hand, holds}
-use Rattle.lpt_link.specs.Counts.{one_of, IsOneMore, count_of}
+use Rattle.lpt_link.specs.Counts.{Counts, counts_in, found_in, one_of, count_of, HasPlace, IsOneMore}
 use Rattle.lpt_link.specs.LinksInside.{held_of, hands_of, present_of, IsIndex}
 use Rattle.lpt_link.proofs.CountLemmas.{IsMoved}
 
@@ -52,35 +56,55 @@ present_few d direction id =
 -- ---- the index
 
 -- numbers that are an index are one again, where both are moved
-pub index_more : (goes : Direction) (tag : Option Name) (old new : List ℕ) (d after : LinkData)
+pub index_more : (goes : Direction) (tag : Option Name) (old new : Counts) (d after : LinkData)
     → IsIndex old d
     → IsOneMore goes tag old new
     → IsMoved goes tag d after
     → IsIndex new after
-index_more goes tag old new d after index more moved direction id fits =
-    more direction id fits
-    ∙ ap (λ (n : ℕ). n + one_of goes tag direction id) (index direction id fits)
+index_more goes tag old new d after index more moved direction id =
+    more direction id
+    ∙ ap (λ (n : ℕ). n + one_of goes tag direction id) (index direction id)
     ∙ sym (moved direction id)
 
 equal_rest : (a b c d e : ℕ) → a ≡ b + e → a ≡ c → c ≡ d + e → b ≡ d
 equal_rest a b c d e p q r = omega arith
 
-pub index_less : (goes : Direction) (tag : Option Name) (old new : List ℕ) (d after : LinkData)
+pub index_less : (goes : Direction) (tag : Option Name) (old new : Counts) (d after : LinkData)
     → IsIndex old d
     → IsOneMore goes tag new old
     → IsMoved goes tag after d
     → IsIndex new after
-index_less goes tag old new d after index more moved direction id fits =
+index_less goes tag old new d after index more moved direction id =
     equal_rest (count_of old direction id) (count_of new direction id) (present_of d direction id)
     (present_of after direction id) (one_of goes tag direction id)
-    (more direction id fits) (index direction id fits) (moved direction id)
+    (more direction id) (index direction id) (moved direction id)
 
 -- a number that there is, less what it is moved by
-pub index_room : (counts : List ℕ) (d after : LinkData)
+pub index_room : (counts : Counts) (d after : LinkData)
     (goes : Direction) (tag : Option Name) (id : Name)
     → IsIndex counts d
     → IsMoved goes tag after d
-    → id < 65536
     → one_of goes tag goes id ≤ count_of counts goes id
-index_room counts d after goes tag id index moved fits =
-    omega (arith, index goes id fits, moved goes id)
+index_room counts d after goes tag id index moved =
+    omega (arith, index goes id, moved goes id)
+
+one_itself : (goes : Direction) (id : Name) → one_of goes (Some id) goes id ≡ 1
+one_itself goes id =
+    ap (λ (b : Bool). cond b 1 0)
+    (and_from (same_direction goes goes) (same_name id id)
+    (same_direction-refl goes) (same_name-refl id))
+
+placed : (o : Option ℕ) → 1 ≤ option_map_or (λ n. n) o 0 → is_some o ≡ true
+placed None h = absurd (omega (arith, h))
+placed (Some n) h = refl
+
+-- a transaction of which there is one has a place
+pub index_place : (counts : Counts) (d after : LinkData) (goes : Direction) (tag : Option Name)
+    → IsIndex counts d
+    → IsMoved goes tag after d
+    → IfSome tag (HasPlace counts goes)
+index_place counts d after goes None index moved = tt
+index_place counts d after goes (Some id) index moved =
+    let room = index_room counts d after goes (Some id) id index moved in
+    let one = one_itself goes id in
+    placed (found_in (counts_in counts goes) id) (omega (arith, room, one))

@@ -3,3 +3,4 @@ pub mod HandLemmas
 pub mod IndexLemmas
 pub mod PacketLists
 pub mod PresentLemmas
+pub mod TagLemmas

@@ -1,23 +1,65 @@
--- A number for each transaction, in one list.
-use Rattle.std.specs.Prelude.{◌≡◌, ℕ, ◌+◌, ◌<◌, ◌&&◌, cond, List, Option, Some, get_or}
-use Rattle.std.specs.Option.{option_eq}
-use Rattle.lpt_events.specs.LptPacket.Names.{Name, same_name}
+-- A number for each transaction, in a map for each direction.
+use Rattle.std.specs.Prelude.{◌≡◌, ℕ, ◌+◌, ◌&&◌, cond, List, [], Option, Some, IsSome}
+use Rattle.std.specs.BTreeMap.{is_at}
+use Rattle.std.specs.Map.{lookup}
+use Rattle.std.specs.Option.{option_eq, option_map_or}
+use Rattle.lpt_events.specs.LptPacket.Names.{Name, name_cmp, same_name}
 use Rattle.lpt_events.specs.LptPacket.declared.direction.Direction.{Direction}
 use Rattle.lpt_events.specs.LptPacket.declared.direction.Direction.TheVariants.{Up, Down}
 use Rattle.lpt_events.specs.Lanes.{same_direction}
 
--- how many transactions there are
-abbrev pub places : ℕ
-places = 131072
+-- ---- one direction
 
--- where the number of a transaction stands
-abbrev pub place : Direction → Name → ℕ
-place Up id = id
-place Down id = 65536 + id
+-- the number under a name, where it has a place
+abbrev pub found_in : List (Name × ℕ) → Name → Option ℕ
+found_in es id = lookup (is_at (name_cmp id)) es
+
+-- the number under a name, and 0 where it has no place
+abbrev pub number_in : List (Name × ℕ) → Name → ℕ
+number_in es id = option_map_or (λ n. n) (found_in es id) 0
+
+-- the name has a place
+abbrev pub IsPlaced : List (Name × ℕ) → Name → Type 0
+IsPlaced es id = IsSome (found_in es id)
+
+-- the number of this name is one more, and the others are the same
+abbrev pub IsOneMoreAt : Name → List (Name × ℕ) → List (Name × ℕ) → Type 0
+IsOneMoreAt id old new =
+    (q : Name) → number_in new q ≡ number_in old q + cond (is_at (name_cmp id) q) 1 0
+
+-- ---- both
+
+-- the names that have a place in each direction, with their numbers
+pub record Counts : Type 0 where
+  pub up : List (Name × ℕ)
+  pub down : List (Name × ℕ)
+
+-- no name has a place
+abbrev pub no_counts : Counts
+no_counts = record { up = []; down = [] }
+
+-- those of a direction
+abbrev pub counts_in : Counts → Direction → List (Name × ℕ)
+counts_in c Up = c.up
+counts_in c Down = c.down
 
 -- the number of a transaction
-abbrev pub count_of : List ℕ → Direction → Name → ℕ
-count_of counts direction id = get_or counts (place direction id) 0
+abbrev pub count_of : Counts → Direction → Name → ℕ
+count_of c direction id = number_in (counts_in c direction) id
+
+-- the transaction has a place
+abbrev pub HasPlace : Counts → Direction → Name → Type 0
+HasPlace c direction id = IsPlaced (counts_in c direction) id
+
+-- each transaction that had a place has one
+abbrev pub KeepsPlaces : Counts → Counts → Type 0
+KeepsPlaces old new =
+    (direction : Direction) (id : Name) → HasPlace old direction id → HasPlace new direction id
+
+-- the numbers are the same
+abbrev pub SameCounts : Counts → Counts → Type 0
+SameCounts old new =
+    (direction : Direction) (id : Name) → count_of new direction id ≡ count_of old direction id
 
 -- 1 where a tag is the transaction's, and else 0
 abbrev pub one_of : Direction → Option Name → Direction → Name → ℕ
@@ -25,7 +67,7 @@ one_of goes tag direction id =
     cond (same_direction goes direction && option_eq same_name tag (Some id)) 1 0
 
 -- the number of the transaction with this tag is one more, and the others are the same
-abbrev pub IsOneMore : Direction → Option Name → List ℕ → List ℕ → Type 0
+abbrev pub IsOneMore : Direction → Option Name → Counts → Counts → Type 0
 IsOneMore goes tag old new =
-    (direction : Direction) (id : Name) → id < 65536
+    (direction : Direction) (id : Name)
     → count_of new direction id ≡ count_of old direction id + one_of goes tag direction id

@@ -9,6 +9,7 @@ use Rattle.lpt_link.specs.declared.fault.LinkFault.TheVariants.{NotHeld, HandFul
 use Rattle.lpt_link.specs.declared.hands.Hands.{Hands}
 use Rattle.lpt_events.specs.declared.lane.Lane.{Lane}
 use Rattle.lpt_link.specs.declared.packet.LinkPacket.{LinkPacket}
+use Rattle.lpt_link.specs.Counts.{Counts}
 use Rattle.lpt_link.specs.Hands.{no_hands, hand_in, with_hand}
 use Rattle.lpt_events.specs.Lanes.{lanes, lane_direction, same_direction}
 
@@ -19,10 +20,11 @@ pub record LinkData : Type 0 where
   pub packets : List LinkPacket
   pub hands : Hands
 
--- the data, and how many packets can be put without taking memory
+-- the data, how many packets can be put without taking memory, and the transactions of which one can
 pub record LinkView : Type 0 where
   pub at : LinkData
   pub spare : ℕ
+  pub places : Counts
 
 -- nothing was put, and nothing is in a hand
 abbrev pub empty_link : LinkData

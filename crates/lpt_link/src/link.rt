@@ -4,6 +4,7 @@ ghost use Rattle.std.specs.Prelude.{◌≡◌, ◌↔◌, ◌+◌, ◌<◌, ◌�
 ghost use Rattle.std.specs.Option.{option_copied};
 ghost use Rattle.std.specs.Result.{result_err};
 ghost use Rattle.lpt_events.specs.Lanes.{lane_direction};
+ghost use Rattle.lpt_link.specs.Counts.{HasPlace, KeepsPlaces};
 ghost use Rattle.lpt_link.specs.Links.{empty_link, octets_at, is_held, is_held_for, hand_of, holds, after_put, after_lose, after_take, after_drop, refusal_lose, refusal_take, refusal_drop, IsNumberOf};
 
 use crate::hands::Hands;
@@ -37,10 +38,11 @@ impl Model for Link {
     ghost view = { λ l. record {
       at = record { packets = l.packets.items; hands = l.hands };
       spare = vec_capacity l.packets - vec_len l.packets;
+      places = l.tags;
     } };
 
     ghost invariant = { λ l. IsSound (record { packets = l.packets.items; hands = l.hands })
-        × IsIndex l.tags.counts.items (record { packets = l.packets.items; hands = l.hands }) };
+        × IsIndex l.tags (record { packets = l.packets.items; hands = l.hands }) };
 }
 
 /// Why a packet wasn't put, and its octets.
@@ -61,7 +63,7 @@ impl Link {
         Ok(Link {
             packets: Vec::with_capacity(alloc, FIRST_ROOM)?,
             hands: Hands::empty(),
-            tags: Tags::new(alloc)?,
+            tags: Tags::new(alloc),
         })
     }
 
@@ -131,22 +133,30 @@ impl Link {
         self.tags.of(direction, id) > 0
     }
 
-    /// Makes room for `n` packets more, so that so many can be put without taking memory.
+    /// Makes room for `n` packets more, and the place of a transaction, so that so many packets with
+    /// no tag or this one can be put without taking memory.
     ///
     /// Errors: want of memory alone. Then nothing has changed.
-    pub fn reserve(&mut self, n: u64) -> Result<(), AllocError>
-        ensures ok { OnOk result (n ≤ self.new.spare) }
+    pub fn reserve(&mut self, n: u64, tag: Option<(Direction, Name)>) -> Result<(), AllocError>
+        ensures room { OnOk result (n ≤ self.new.spare) }
+        ensures place { OnOk result (IfSome tag (λ t. HasPlace self.new.places t.0 t.1)) }
         ensures same { self.new.at ≡ self.old.at }
         ensures spare { self.old.spare ≤ self.new.spare }
+        ensures places { KeepsPlaces self.old.places self.new.places }
     {
-        self.packets.reserve(n as usize)
+        self.packets.reserve(n as usize)?;
+        match tag {
+            Some((direction, id)) => self.place(direction, Some(id)),
+            None => Ok(()),
+        }
     }
 
     /// Puts a packet on the link, which holds it from now on. The result is its number: how many
     /// were put before. `tag` is the identifier of the transaction that it is a part of, or `None`.
     ///
     /// It takes the room of one packet.
-    /// Errors: `Memory`, with the octets. Then nothing has changed. With spare room it never comes.
+    /// Errors: `Memory`, with the octets. Then nothing has changed. With spare room, and with no tag
+    /// or one that has its place, it never comes.
     pub fn put(
         &mut self,
         direction: Direction,
@@ -155,26 +165,17 @@ impl Link {
     ) -> Result<u64, PutError>
         ensures number { IfOk result (λ n. n ≡ length self.old.at.packets) }
         ensures ok { OnOk result (self.new.at ≡ after_put self.old.at direction tag octets) }
-        ensures room { 0 < self.old.spare → IsOk result }
+        ensures room { 0 < self.old.spare → IfSome tag (HasPlace self.old.places direction) → IsOk result }
         ensures spare { self.old.spare ≤ self.new.spare + 1 }
+        ensures places { KeepsPlaces self.old.places self.new.places }
         ensures err { OnErr result (self.new.at ≡ self.old.at) }
         ensures memory { IfErr result (λ e. (e.fault ≡ LinkFault.Memory) × (e.octets ≡ octets)) }
     {
-        let number = self.packets.len() as u64;
-        let packet = LinkPacket {
-            direction,
-            tag,
-            octets,
-            held: true,
-        };
-        match self.packets.push(packet) {
-            Ok(()) => {
-                self.tags.add(direction, tag);
-                Ok(number)
-            }
-            Err(failed) => Err(PutError {
+        match self.place(direction, tag) {
+            Ok(()) => self.put_placed(direction, tag, octets),
+            Err(_) => Err(PutError {
                 fault: LinkFault::Memory,
-                octets: failed.value.octets,
+                octets,
             }),
         }
     }
@@ -232,6 +233,56 @@ impl Link {
         self.tags.remove(taken.direction, taken.tag);
         self.hands.put(lane, None);
         Ok(number)
+    }
+
+    // Makes the place of a transaction, if there is one. The only error is want of memory, which comes
+    // only where it has none.
+    fn place(&mut self, direction: Direction, tag: Option<Name>) -> Result<(), AllocError>
+        ensures place { OnOk result (IfSome tag (HasPlace self.new.places direction)) }
+        ensures there { IfSome tag (HasPlace self.old.places direction) → IsOk result }
+        ensures same { self.new.at ≡ self.old.at }
+        ensures spare { self.new.spare ≡ self.old.spare }
+        ensures places { KeepsPlaces self.old.places self.new.places }
+    {
+        match tag {
+            Some(id) => self.tags.make_place(direction, id),
+            None => Ok(()),
+        }
+    }
+
+    // Puts a packet of which the transaction, if there is one, has its place.
+    fn put_placed(
+        &mut self,
+        direction: Direction,
+        tag: Option<Name>,
+        octets: Octets,
+    ) -> Result<u64, PutError>
+        requires { IfSome tag (HasPlace self.old.places direction) }
+        ensures number { IfOk result (λ n. n ≡ length self.old.at.packets) }
+        ensures ok { OnOk result (self.new.at ≡ after_put self.old.at direction tag octets) }
+        ensures room { 0 < self.old.spare → IsOk result }
+        ensures spare { self.old.spare ≤ self.new.spare + 1 }
+        ensures places { KeepsPlaces self.old.places self.new.places }
+        ensures err { OnErr result (self.new.at ≡ self.old.at) }
+        ensures memory { IfErr result (λ e. (e.fault ≡ LinkFault.Memory) × (e.octets ≡ octets)) }
+    {
+        let number = self.packets.len() as u64;
+        let packet = LinkPacket {
+            direction,
+            tag,
+            octets,
+            held: true,
+        };
+        match self.packets.push(packet) {
+            Ok(()) => {
+                self.tags.add(direction, tag);
+                Ok(number)
+            }
+            Err(failed) => Err(PutError {
+                fault: LinkFault::Memory,
+                octets: failed.value.octets,
+            }),
+        }
     }
 
     // Whether the link holds the packet numbered `n`, and it goes in this direction.

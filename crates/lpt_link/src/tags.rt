@@ -1,76 +1,146 @@
 //! How many held packets, and hands, are of each transaction.
 
-ghost use Rattle.std.specs.Prelude.{◌≡◌, ℕ, ◌+◌, ◌<◌, ◌≤◌, ◌^◌, IfOk, get_or, vec_len};
-ghost use Rattle.lpt_link.specs.Counts.{places, place, count_of, one_of, IsOneMore};
+ghost use Rattle.std.specs.Prelude.{◌≡◌, ◌+◌, ◌<◌, ◌≤◌, ◌^◌, IfSome, IsOk, OnOk};
+ghost use Rattle.lpt_events.specs.LptPacket.Names.{Name};
+ghost use Rattle.lpt_link.specs.Counts.{no_counts, number_in, IsPlaced, IsOneMoreAt, count_of, one_of, HasPlace, KeepsPlaces, SameCounts, IsOneMore};
 
 use lpt_events::{Direction, Name};
 use std::alloc::{AllocError, Global};
+use std::collections::BTreeMap;
+use std::marker::Model;
 
-/// How many transactions there are: the identifiers of both directions.
-const PLACES: usize = 131072;
-
-/// A number for each transaction, by its direction and identifier.
+/// A number for each transaction, by its direction and name. One that isn't 0 has a place in
+/// memory, and 0 has one where it was made.
 #[derive(Drop)]
 pub(crate) struct Tags {
-    pub(crate) counts: Vec<u64>,
-    ghost whole: { vec_len counts ≡ places },
+    up: BTreeMap<Name, u64>,
+    down: BTreeMap<Name, u64>,
+}
+
+impl Model for Tags {
+    ghost use Rattle.lpt_link.specs.Counts.{Counts};
+
+    ghost Value = { Counts };
+
+    ghost view = { λ t. record { up = t.up.entries; down = t.down.entries } };
 }
 
 impl Tags {
-    // The numbers are all 0. The only error is want of memory.
-    pub(crate) fn new(alloc: Global) -> Result<Tags, AllocError>
-        ensures { IfOk result (λ t. (i : ℕ) → get_or t.counts.items i 0 ≡ 0) }
+    // The numbers are all 0, and have no place. It takes no memory.
+    pub(crate) fn new(alloc: Global) -> Tags
+        ensures { result ≡ no_counts }
     {
-        let counts = zeros(alloc, PLACES)?;
-        Ok(Tags { counts })
+        Tags {
+            up: BTreeMap::new(alloc),
+            down: BTreeMap::new(alloc),
+        }
     }
 
     // The transaction's number.
     pub(crate) fn of(&self, direction: Direction, id: Name) -> u64
-        ensures { result ≡ count_of self.now.counts.items direction id }
+        ensures { result ≡ count_of self.now direction id }
     {
-        self.counts[place_of(direction, id)]
+        match direction {
+            Direction::Up => number(&self.up, id),
+            Direction::Down => number(&self.down, id),
+        }
+    }
+
+    // Makes the place of a transaction's number. The only error is want of memory, which comes only
+    // where there is none. No number changes.
+    pub(crate) fn make_place(&mut self, direction: Direction, id: Name) -> Result<(), AllocError>
+        ensures place { OnOk result (HasPlace self.new direction id) }
+        ensures there { HasPlace self.old direction id → IsOk result }
+        ensures same { SameCounts self.old self.new }
+        ensures places { KeepsPlaces self.old self.new }
+    {
+        match direction {
+            Direction::Up => place(&mut self.up, id),
+            Direction::Down => place(&mut self.down, id),
+        }
     }
 
     // Adds one to the number of the transaction with this tag, if there is one.
     pub(crate) fn add(&mut self, direction: Direction, tag: Option<Name>)
-        requires { (id : ℕ) → id < 65536 →
-            count_of self.old.counts.items direction id + 1 < 2 ^ 64 }
-        ensures { IsOneMore direction tag self.old.counts.items self.new.counts.items }
+        requires place { IfSome tag (HasPlace self.old direction) }
+        requires room { (id : Name) → count_of self.old direction id + 1 < 2 ^ 64 }
+        ensures more { IsOneMore direction tag self.old self.new }
+        ensures places { KeepsPlaces self.old self.new }
     {
         if let Some(id) = tag {
-            self.counts[place_of(direction, id)] += 1;
+            match direction {
+                Direction::Up => add_one(&mut self.up, id),
+                Direction::Down => add_one(&mut self.down, id),
+            }
         }
     }
 
-    // Takes one away from it.
+    // Takes one away from it, and with the last one its place.
     pub(crate) fn remove(&mut self, direction: Direction, tag: Option<Name>)
-        requires { (id : ℕ) → id < 65536 →
-            one_of direction tag direction id ≤ count_of self.old.counts.items direction id }
-        ensures { IsOneMore direction tag self.new.counts.items self.old.counts.items }
+        requires { (id : Name) → one_of direction tag direction id ≤ count_of self.old direction id }
+        ensures { IsOneMore direction tag self.new self.old }
     {
         if let Some(id) = tag {
-            self.counts[place_of(direction, id)] -= 1;
+            match direction {
+                Direction::Up => take_one(&mut self.up, id),
+                Direction::Down => take_one(&mut self.down, id),
+            }
         }
     }
 }
 
-// So many zeros. The only error is want of memory.
-fn zeros(alloc: Global, len: usize) -> Result<Vec<u64>, AllocError>
-    ensures len { IfOk result (λ v. vec_len v ≡ len) }
-    ensures zero { IfOk result (λ v. (i : ℕ) → get_or v.items i 0 ≡ 0) }
+// The number under a name.
+fn number(counts: &BTreeMap<Name, u64>, id: Name) -> u64
+    ensures { result ≡ number_in counts.now.entries id }
 {
-    vec![in alloc; 0; len]
+    match counts.get(&id) {
+        None => 0,
+        Some(number) => *number,
+    }
 }
 
-// Where the transaction's number stands.
-fn place_of(direction: Direction, id: Name) -> usize
-    ensures value { result ≡ place direction id }
-    ensures within { result < places }
-    ensures fits { id < 65536 }
+// Makes the place of a name. The only error is want of memory, which comes only where there is none.
+fn place(counts: &mut BTreeMap<Name, u64>, id: Name) -> Result<(), AllocError>
+    ensures place { OnOk result (IsPlaced counts.new.entries id) }
+    ensures there { IsPlaced counts.old.entries id → IsOk result }
+    ensures same { (q : Name) → number_in counts.new.entries q ≡ number_in counts.old.entries q }
+    ensures places { (q : Name) → IsPlaced counts.old.entries q → IsPlaced counts.new.entries q }
 {
-    match direction {
-        Direction::Up => usize::from(id),
-        Direction::Down => 65536 + usize::from(id),
+    if counts.contains_key(&id) {
+        return Ok(());
+    }
+    match counts.insert(id, 0) {
+        Ok(_) => Ok(()),
+        Err(_) => Err(AllocError),
+    }
+}
+
+// Adds one to the number of a name that has a place.
+fn add_one(counts: &mut BTreeMap<Name, u64>, id: Name)
+    requires place { IsPlaced counts.old.entries id }
+    requires room { number_in counts.old.entries id + 1 < 2 ^ 64 }
+    ensures more { IsOneMoreAt id counts.old.entries counts.new.entries }
+    ensures places { (q : Name) → IsPlaced counts.old.entries q → IsPlaced counts.new.entries q }
+{
+    let number = number(counts, id);
+    match counts.insert(id, number + 1) {
+        Ok(_) => {}
+        Err(_) => unreachable!(),
+    }
+}
+
+// Takes one away from the number of a name, and its place where none is left.
+fn take_one(counts: &mut BTreeMap<Name, u64>, id: Name)
+    requires { 1 ≤ number_in counts.old.entries id }
+    ensures { IsOneMoreAt id counts.new.entries counts.old.entries }
+{
+    let number = number(counts, id);
+    if number == 1 {
+        let _ = counts.remove(&id);
+        return;
+    }
+    match counts.insert(id, number - 1) {
+        Ok(_) => {}
+        Err(_) => unreachable!(),
     }
 }

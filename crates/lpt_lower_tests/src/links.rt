@@ -26,7 +26,7 @@ enum Call {
     IsPacket(u64, Option<&'static [u8]>),
     /// How many packets there are.
     Packets,
-    Reserve(u64),
+    Reserve(u64, Option<(Direction, Name)>),
 }
 
 // Puts a packet of these octets. The answer is its number, or `Memory`.
@@ -62,7 +62,7 @@ fn answer(alloc: Global, link: &mut Link, call: Call) -> Result<u64, LinkFault> 
             Some(fault) => Err(fault),
             None => Ok(()),
         },
-        Call::Reserve(room) => match link.reserve(room) {
+        Call::Reserve(room, tag) => match link.reserve(room, tag) {
             Ok(()) => Ok(()),
             Err(_) => Err(LinkFault::Memory),
         },
@@ -140,11 +140,19 @@ static LOSSES: [Row; 27] = [
     (Call::Packets, Ok(3)),
 ];
 
-/// A packet of no transaction is put into reserved room.
-static ROOM: [Row; 3] = [
-    (Call::Reserve(40), Ok(0)),
+/// Packets of no transaction and of one are put into reserved room. A place that was made holds
+/// nothing, and is made again where its last packet was lost.
+static ROOM: [Row; 10] = [
+    (Call::Reserve(40, None), Ok(0)),
     (Call::Put(Direction::Down, None, &[]), Ok(0)),
     (Call::Holds(Direction::Down, 0), Ok(0)),
+    (Call::Reserve(2, Some((Direction::Up, 9))), Ok(0)),
+    (Call::Holds(Direction::Up, 9), Ok(0)),
+    (Call::Put(Direction::Up, Some(9), &[9]), Ok(1)),
+    (Call::Reserve(0, Some((Direction::Up, 9))), Ok(0)),
+    (Call::Holds(Direction::Up, 9), Ok(1)),
+    (Call::Lose(1), Ok(0)),
+    (Call::Put(Direction::Up, Some(9), &[9]), Ok(2)),
 ];
 
 #[test]

@@ -15,6 +15,12 @@ const MESSAGE: [u8; 20] = [
     0x10, 0x11, 0x12, 0x13,
 ];
 
+/// A message of 24 octets, three whole parts.
+const FULL: [u8; 24] = [
+    0x00, 0x01, 0x02, 0x03, 0x04, 0x05, 0x06, 0x07, 0x08, 0x09, 0x0a, 0x0b, 0x0c, 0x0d, 0x0e, 0x0f,
+    0x10, 0x11, 0x12, 0x13, 0x14, 0x15, 0x16, 0x17,
+];
+
 /// Other first octets.
 const OTHER: [u8; 8] = [0x10, 0x11, 0x12, 0x13, 0x14, 0x15, 0x16, 0x17];
 
@@ -45,14 +51,14 @@ fn offer(filling: Filling, part: &Part<'_>) -> (Said, Filling)
     }
 }
 
-// The kind of part `number` of a message of several parts.
-fn kind_of(number: u16, octets: &[u8], p: u32) -> Kind {
+// The kind of part `number` of a message of this many parts, which are several.
+fn kind_of(number: u16, parts: u32) -> Kind {
     if number == 1 {
         Kind::First
-    } else if octets.len() == p as usize {
-        Kind::Middle
-    } else {
+    } else if u32::from(number) == parts {
         Kind::Last
+    } else {
+        Kind::Middle
     }
 }
 
@@ -63,7 +69,8 @@ fn part_of(message: &[u8], number: u16, p: u32) -> Option<Part<'_>>
     ensures p { IfSome result (λ t. t.p ≡ p) }
 {
     let octets = slice(message, p, u32::from(number))?;
-    Part::new(7, number, kind_of(number, octets, p), octets, p)
+    let parts = count(u32::try_from(message.len()).ok()?, p);
+    Part::new(7, number, kind_of(number, parts), octets, p)
 }
 
 // Offers part `number` of the message.
@@ -378,8 +385,10 @@ fn messages_come_last_part_first(rt: HostRuntime) -> Result<(), Fail> {
     let message = longest(rt.alloc())?;
     assert!(rt; [count(65_542, 64), count(65_542, 8)] == [1_025, 8_193]);
     let short = check_last_part_first(&rt, rt.alloc(), &MESSAGE, 3, 8);
+    // The last part of this one is as long as the others.
+    let full = check_last_part_first(&rt, rt.alloc(), &FULL, 3, 8);
     let in_sixties = check_last_part_first(&rt, rt.alloc(), &message, 1_025, 64);
     let in_eights = check_last_part_first(&rt, rt.alloc(), &message, 8_193, 8);
-    assert!(rt; [short, in_sixties, in_eights] == [true, true, true]);
+    assert!(rt; [short, full, in_sixties, in_eights] == [true; 4]);
     Ok(())
 }

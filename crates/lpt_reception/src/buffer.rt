@@ -46,7 +46,7 @@ impl Buffer {
     pub(crate) fn copy(&self) -> Result<Vec<u8>, AllocError>
         ensures { IfOk result (λ v. v.items ≡ self.now) }
     {
-        self.octets.to_vec(*self.octets.allocator())
+        Vec::from_slice(*self.octets.allocator(), &self.octets)
     }
 
     /// The octets, which are not copied. They take no more memory than the longest message.

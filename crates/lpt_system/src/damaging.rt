@@ -41,7 +41,7 @@ impl System {
         ensures err { OnErr result (state_of self.new ≡ state_of self.old) }
         ensures config { self.new.config ≡ self.old.config }
     {
-        self.link.reserve(1)?;
+        self.link.reserve(1, None)?;
         let octets = octets.copy()?;
         let n = put_reserved(&mut self.link, direction, None, octets);
         Ok(put_one(n, Answer::Put(n)))

@@ -47,7 +47,7 @@ impl System {
         ensures err { OnErr result (state_of self.new ≡ state_of self.old) }
         ensures config { self.new.config ≡ self.old.config }
     {
-        if self.released.reserve(1).is_err() || self.link.reserve(1).is_err() {
+        if self.released.reserve(1).is_err() || self.link.reserve(1, None).is_err() {
             return Err(parsed);
         }
         let Accepted {

@@ -25,7 +25,7 @@ impl System {
         ensures err { OnErr result (state_of self.new ≡ state_of self.old) }
         ensures config { self.new.config ≡ self.old.config }
     {
-        self.link.reserve(1)?;
+        self.link.reserve(1, None)?;
         match self
             .on_ground
             .plain(flags, service, subtype, body.as_slice())

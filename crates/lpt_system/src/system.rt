@@ -1,9 +1,10 @@
 //! Both ends, the link between them, the tickets, the memories, and what was opened and released:
 //! all that an event changes.
 
-ghost use Rattle.std.specs.Prelude.{◌≡◌, ◌+◌, ◌<◌, ◌≤◌, ◌^◌, IfOk, OnErr, None, Some, length};
+ghost use Rattle.std.specs.Prelude.{◌≡◌, ◌+◌, ◌<◌, ◌≤◌, ◌^◌, IfOk, IfSome, OnErr, None, Some, length};
 ghost use Rattle.std.specs.Option.{option_map};
 ghost use Rattle.lpt_model.specs.LptJobs.Jobs.{numbered};
+ghost use Rattle.lpt_model.specs.LptLink.Counts.{HasPlace};
 ghost use Rattle.lpt_model.specs.LptLink.Links.{after_put};
 ghost use Rattle.lpt_model.specs.LptNode.Asking.{refusal_of as node_refusal};
 ghost use Rattle.lpt_model.specs.LptNode.Faults.{node_fault};
@@ -174,7 +175,7 @@ impl System {
         ensures err { OnErr result (state_of self.new ≡ state_of self.old) }
         ensures config { self.new.config ≡ self.old.config }
     {
-        self.link.reserve(1)?;
+        self.link.reserve(1, Some((direction, id)))?;
         let sent = match direction {
             Direction::Up => self.on_ground.send_part(id, k),
             Direction::Down => self.on_craft.send_part(id, k),
@@ -290,14 +291,15 @@ pub(crate) fn put_one(n: u64, answer: Answer) -> Reply
     }
 }
 
-// Puts a packet for which there is room.
+// Puts a packet for which there is room, and of which the transaction, if there is one, has its place.
 pub(crate) fn put_reserved(
     link: &mut Link,
     direction: Direction,
     tag: Option<Name>,
     octets: Octets,
 ) -> u64
-    requires { 0 < link.old.spare }
+    requires room { 0 < link.old.spare }
+    requires place { IfSome tag (HasPlace link.old.places direction) }
     ensures at { link.new.at ≡ after_put link.old.at direction tag octets }
     ensures spare { link.old.spare ≤ link.new.spare + 1 }
     ensures number { result ≡ length link.old.at.packets }

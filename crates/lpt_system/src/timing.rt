@@ -36,7 +36,7 @@ impl System {
         ensures err { OnErr result (state_of self.new ≡ state_of self.old) }
         ensures config { self.new.config ≡ self.old.config }
     {
-        self.link.reserve(1)?;
+        self.link.reserve(1, None)?;
         let expired = match side {
             Side::Ground => self.on_ground.expire(),
             Side::Craft => self.on_craft.expire(),

@@ -136,7 +136,7 @@ impl System {
         ensures config { self.new.config ≡ self.old.config }
     {
         self.opened.reserve(1)?;
-        self.link.reserve(REPORTS)?;
+        self.link.reserve(REPORTS, None)?;
         let Ok(executed) = self.on_craft.apply_front(&mut self.memories) else {
             return Err(AllocError);
         };

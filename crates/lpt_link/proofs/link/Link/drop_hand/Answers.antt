@@ -23,7 +23,7 @@ invariant_of-self c =
     slice_get_read d.packets (length d.packets) n p refl number.was_put c.index-taken.ensures in
     rw c.put.ensures (
       hand_sound d lane None c.self.invariant.0 tt,
-      index_less p.direction p.tag c.self.inside.tags.counts.items c.remove.new.self.counts.items d
+      index_less p.direction p.tag c.self.inside.tags c.remove.new.self d
           (after_drop d lane) c.self.invariant.1 c.remove.ensures
           (drop_counts d lane n p has is),
     )

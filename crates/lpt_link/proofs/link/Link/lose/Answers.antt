@@ -9,16 +9,16 @@ use Rattle.lpt_link.proofs.IndexLemmas.{index_less, index_room}
 use Rattle.lpt_link.proofs.link.Link.lose.Goals as goal
 
 pub remove-requires : goal.remove-requires
-remove-requires c = λ id fits.
+remove-requires c = λ id.
     let link = c.self.inside in
     let d : LinkData = record { packets = link.packets.items; hands = link.hands } in
     let p : LinkPacket = c.index-packet.result.now in
     let held = ap (λ (v : LinkView). is_held v.at c.args.n) c.self.view_is
     ∙ sym c.is_held.ensures
     ∙ c.if-not-is_held.false in
-    index_room link.tags.counts.items d (after_lose d c.args.n) p.direction p.tag id
+    index_room link.tags d (after_lose d c.args.n) p.direction p.tag id
     c.self.invariant.1
-    (lose_counts d c.args.n p c.index-packet.ensures held) fits
+    (lose_counts d c.args.n p c.index-packet.ensures held)
 
 pub invariant_of-self : goal.invariant_of-self
 invariant_of-self c =
@@ -30,7 +30,7 @@ invariant_of-self c =
     ∙ c.if-not-is_held.false in
     rw (set-with_lost d.packets c.args.n c.index_mut.result.now c.index_mut.ensures.value) (
       lose_sound d c.args.n c.self.invariant.0,
-      index_less p.direction p.tag c.self.inside.tags.counts.items c.remove.new.self.counts.items d
+      index_less p.direction p.tag c.self.inside.tags c.remove.new.self d
           (after_lose d c.args.n) c.self.invariant.1 c.remove.ensures
           (lose_counts d c.args.n p c.index-packet.ensures held),
     )

@@ -4,7 +4,8 @@ use Rattle.std.specs.FinMap as map
 use Rattle.lpt_node.specs.NodeInside.{OpenMessages}
 use Rattle.lpt_node.specs.Nodes.{Messages, MessageFits}
 use Rattle.lpt_node.specs.OutgoingInside.{messages_of}
-use Rattle.lpt_node.proofs.OutgoingLemmas.{get-messages_of, messages_of-insert, IsOutgoing-insert}
+use Rattle.lpt_execution.proofs.LptPacket.NamedLemmas.{get-by_name, by_name-insert}
+use Rattle.lpt_node.proofs.OutgoingLemmas.{IsOutgoing-insert}
 use Rattle.lpt_node.proofs.outgoing.Outgoing.insert.Goals as goal
 
 pub invariant_of-self : goal.invariant_of-self
@@ -17,13 +18,13 @@ invariant_of-self c =
     c.args.message c.in-Ok.field-0
     (subst (λ (p : ℕ). MessageFits p (length c.args.message))
     (ap (λ (o : OpenMessages). o.p) (sym c.self.view_is)) c.requires.fits)
-    (c.in-Ok.ensures.old ∙ sym (get-messages_of es c.args.id) ∙ absent)
+    (c.in-Ok.ensures.old ∙ sym (get-by_name es c.args.id) ∙ absent)
     absent c.in-Ok.ensures.len c.in-Ok.ensures.updates.0
 
 pub returns-in-Ok-clause-ok : goal.returns-in-Ok-clause-ok
 returns-in-Ok-clause-ok c =
     ap (λ (m : Messages). record { p = c.self.inside.p; messages = m })
-    (messages_of-insert c.self.inside.messages.entries c.insert.new.self.entries c.args.id
+    (by_name-insert c.self.inside.messages.entries c.insert.new.self.entries c.args.id
     c.args.message c.in-Ok.ensures.updates.0)
     ∙ ap (λ (o : OpenMessages).
     record o { messages = map.insert o.messages c.args.id c.args.message }) c.self.view_is

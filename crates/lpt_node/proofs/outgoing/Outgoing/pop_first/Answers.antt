@@ -3,7 +3,8 @@ use Rattle.std.proofs.Common.{ℕ, ◌+◌, Some, Option, List, is_some, ap, sym
 use Rattle.std.specs.FinMap as map
 use Rattle.lpt_node.specs.NodeInside.{OpenMessages}
 use Rattle.lpt_node.specs.Nodes.{Messages}
-use Rattle.lpt_node.proofs.OutgoingLemmas.{get-messages_of, messages_of-remove, IsOutgoing-remove}
+use Rattle.lpt_execution.proofs.LptPacket.NamedLemmas.{get-by_name, by_name-remove}
+use Rattle.lpt_node.proofs.OutgoingLemmas.{IsOutgoing-remove}
 use Rattle.lpt_node.proofs.outgoing.Outgoing.pop_first.Goals as goal
 
 pub invariant_of-self-2 : goal.invariant_of-self-2
@@ -15,7 +16,7 @@ invariant_of-self-2 c =
 pub returns-clause-rest : goal.returns-clause-rest
 returns-clause-rest c =
     ap (λ (m : Messages). record { p = c.self.inside.p; messages = m })
-    (messages_of-remove c.self.inside.messages.entries c.pop_first.new.self.entries c.in_ok-id.id
+    (by_name-remove c.self.inside.messages.entries c.pop_first.new.self.entries c.in_ok-id.id
     c.in_ok-id.ensures.updates.0)
     ∙ ap (λ (o : OpenMessages). record o { messages = map.remove o.messages c.in_ok-id.id })
     c.self.view_is
@@ -24,7 +25,7 @@ pub returns-clause-had : goal.returns-clause-had
 returns-clause-had c =
     ap (λ (o : OpenMessages). is_some (map.get o.messages c.in_ok-id.id)) (sym c.self.view_is)
     ∙ ap (λ (m : Option (List ℕ)). is_some m)
-    (get-messages_of c.self.inside.messages.entries c.in_ok-id.id ∙ c.in_ok-id.ensures.value)
+    (get-by_name c.self.inside.messages.entries c.in_ok-id.id ∙ c.in_ok-id.ensures.value)
 
 pub returns-clause-len : goal.returns-clause-len
 returns-clause-len c =

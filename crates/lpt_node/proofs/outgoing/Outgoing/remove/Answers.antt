@@ -3,7 +3,8 @@ use Rattle.std.proofs.Common.{ap, ◌∙◌}
 use Rattle.std.specs.FinMap as map
 use Rattle.lpt_node.specs.NodeInside.{OpenMessages}
 use Rattle.lpt_node.specs.Nodes.{Messages}
-use Rattle.lpt_node.proofs.OutgoingLemmas.{messages_of-remove, IsOutgoing-remove}
+use Rattle.lpt_execution.proofs.LptPacket.NamedLemmas.{by_name-remove}
+use Rattle.lpt_node.proofs.OutgoingLemmas.{IsOutgoing-remove}
 use Rattle.lpt_node.proofs.outgoing.Outgoing.remove.Goals as goal
 
 pub invariant_of-self : goal.invariant_of-self
@@ -15,7 +16,7 @@ invariant_of-self c =
 pub returns : goal.returns
 returns c =
     ap (λ (m : Messages). record { p = c.self.inside.p; messages = m })
-    (messages_of-remove c.self.inside.messages.entries c.remove.new.self.entries c.args.id
+    (by_name-remove c.self.inside.messages.entries c.remove.new.self.entries c.args.id
     c.remove.ensures.updates.0)
     ∙ ap (λ (o : OpenMessages). record o { messages = map.remove o.messages c.args.id })
     c.self.view_is

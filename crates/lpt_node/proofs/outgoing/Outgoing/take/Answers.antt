@@ -4,7 +4,8 @@ use Rattle.std.proofs.lemmas.Bool.{true≢false}
 use Rattle.std.specs.FinMap as map
 use Rattle.lpt_node.specs.NodeInside.{OpenMessages}
 use Rattle.lpt_node.specs.Nodes.{Messages}
-use Rattle.lpt_node.proofs.OutgoingLemmas.{get-messages_of, messages_of-remove, IsOutgoing-remove}
+use Rattle.lpt_execution.proofs.LptPacket.NamedLemmas.{get-by_name, by_name-remove}
+use Rattle.lpt_node.proofs.OutgoingLemmas.{IsOutgoing-remove}
 use Rattle.lpt_node.proofs.outgoing.Outgoing.take.Goals as goal
 
 pub invariant_of-self : goal.invariant_of-self
@@ -16,7 +17,7 @@ invariant_of-self c =
 pub returns-clause-rest : goal.returns-clause-rest
 returns-clause-rest c =
     ap (λ (m : Messages). record { p = c.self.inside.p; messages = m })
-    (messages_of-remove c.self.inside.messages.entries c.remove.new.self.entries c.args.id
+    (by_name-remove c.self.inside.messages.entries c.remove.new.self.entries c.args.id
     c.remove.ensures.updates.0)
     ∙ ap (λ (o : OpenMessages). record o { messages = map.remove o.messages c.args.id })
     c.self.view_is
@@ -24,13 +25,13 @@ returns-clause-rest c =
 pub returns-clause-message : goal.returns-clause-message
 returns-clause-message c =
     ap (λ (o : OpenMessages). map.get o.messages c.args.id) (sym c.self.view_is)
-    ∙ get-messages_of c.self.inside.messages.entries c.args.id
+    ∙ get-by_name c.self.inside.messages.entries c.args.id
     ∙ sym c.in-Some.ensures.value
 
 pub unreachable-requires : goal.unreachable-requires
 unreachable-requires c =
     let absent : map.get c.args.self.now.messages c.args.id ≡ None =
     ap (λ (o : OpenMessages). map.get o.messages c.args.id) (sym c.self.view_is)
-    ∙ get-messages_of c.self.inside.messages.entries c.args.id
+    ∙ get-by_name c.self.inside.messages.entries c.args.id
     ∙ sym c.in-None.ensures.value in
     true≢false (sym c.requires ∙ ap is_some absent)

@@ -14,5 +14,5 @@ put_reports-requires c =
       arith,
       told,
       few_packets c.args.self.now.on_craft.config c.args.self.now.on_craft.at c.args.self.now.memories,
-      c.in_ok-reserve-2.ensures.ok,
+      c.in_ok-reserve-2.ensures.room,
     )

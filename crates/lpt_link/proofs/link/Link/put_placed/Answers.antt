@@ -1,17 +1,23 @@
 -- A packet that is put is counted once more.
-use Rattle.std.proofs.Common.{◌∙◌, ap, arith, length}
+use Rattle.std.proofs.Common.{◌∙◌, ap, arith, length, sym, subst, IfSome}
+use Rattle.lpt_link.specs.Counts.{HasPlace}
 use Rattle.lpt_link.specs.Links.{LinkData, LinkView, after_put}
 use Rattle.lpt_link.proofs.CountLemmas.{put_counts}
 use Rattle.lpt_link.proofs.HandLemmas.{put_sound}
 use Rattle.lpt_link.proofs.IndexLemmas.{present_few, index_more}
-use Rattle.lpt_link.proofs.link.Link.put.Goals as goal
+use Rattle.lpt_link.proofs.link.Link.put_placed.Goals as goal
 
-pub add-requires : goal.add-requires
-add-requires c = λ id fits.
+pub add-requires-clause-place : goal.add-requires-clause-place
+add-requires-clause-place c =
+    subst (λ (v : LinkView). IfSome c.args.tag (HasPlace v.places c.args.direction))
+    (sym c.self.view_is) c.requires
+
+pub add-requires-clause-room : goal.add-requires-clause-room
+add-requires-clause-room c = λ id.
     let items = c.self.inside.packets in
     let d : LinkData = record { packets = items.items; hands = c.self.inside.hands } in
     let goes = c.args.direction in
-    omega (arith, items.ok, items.small, c.self.invariant.1 goes id fits, present_few d goes id)
+    omega (arith, items.ok, items.small, c.self.invariant.1 goes id, present_few d goes id)
 
 pub invariant_of-self : goal.invariant_of-self
 invariant_of-self c =
@@ -22,8 +28,8 @@ invariant_of-self c =
     let octets = c.args.octets in
     rw c.in-Ok.ensures.items (
       put_sound d goes tag octets c.self.invariant.0,
-      index_more goes tag c.self.inside.tags.counts.items c.add.new.self.counts.items d
-          (after_put d goes tag octets) c.self.invariant.1 c.add.ensures
+      index_more goes tag c.self.inside.tags c.add.new.self d
+          (after_put d goes tag octets) c.self.invariant.1 c.add.ensures.more
           (put_counts d goes tag octets c.self.invariant.0),
     )
 
