@@ -27,7 +27,7 @@ extern "C" {
 
 /* What these calls answer besides the numbers of lpt.h. */
 enum {
-    /* Not a memory of 1 to 1,048,576 octets. */
+    /* Not 1 to 16 memories of 1 to 1,048,576 octets each, as lpt_end_new says. */
     LPT_BAD_MEMORIES = 25,
 
     /* The transaction's name isn't free; as many messages are open as the limit; no message of this
@@ -47,6 +47,8 @@ enum {
     LPT_CLOCK_END = 56,
     /* Memory ran out. */
     LPT_MEMORY = 58,
+    /* The types of a request are those of a part. */
+    LPT_PART_REQUEST = 60,
 
     /* The first value of a configuration that is out of its range. */
     LPT_BAD_APID = 71,
@@ -100,14 +102,22 @@ typedef struct LptConfig {
     uint32_t mode;       /* LPT_ANY or LPT_STRICT */
 } LptConfig;
 
+/* A memory of a new end: the octets with which it begins are content[at] and those behind it. */
+typedef struct LptMemory {
+    uint8_t id; /* its identifier */
+    size_t at;
+    size_t len; /* 1 to 1,048,576 */
+} LptMemory;
+
 /*
- * Makes an end into an empty handle. The spacecraft's has one memory, of this identifier and these
- * octets, which are copied; ground's has none, and neither is looked at.
+ * Makes an end into an empty handle. The spacecraft's has these memories, which begin with octets of
+ * the content; those are copied. Ground's has none, and neither list nor content is looked at.
  * LPT_DONE; LPT_FULL; LPT_RANGE for another side or mode; LPT_BAD_APID to LPT_BAD_OUTGOING;
- * LPT_BAD_MEMORIES; LPT_MEMORY.
+ * LPT_BAD_MEMORIES where the spacecraft's aren't 1 to 16 with distinct identifiers, of 1 to
+ * 1,048,576 octets each, all of the content; LPT_MEMORY.
  */
-uint32_t lpt_end_new(LptEnd *end, uint32_t side, const LptConfig *config, uint8_t id,
-                     const uint8_t *content, size_t content_len);
+uint32_t lpt_end_new(LptEnd *end, uint32_t side, const LptConfig *config, const LptMemory *memories,
+                     size_t memories_len, const uint8_t *content, size_t content_len);
 
 /* Lets an end go, and gives all its memory back. The handle is empty then; of an empty handle
    nothing changes. */
@@ -180,6 +190,15 @@ uint32_t lpt_end_open(LptEnd *end, uint16_t id, const uint8_t *message, size_t m
    LPT_DONE; LPT_EMPTY; LPT_NOT_OPEN; LPT_NO_SUCH_PART; LPT_MEMORY. */
 uint32_t lpt_end_part(LptEnd *end, uint16_t id, uint16_t k);
 
+/*
+ * Makes the packet of a plain request, of these acknowledgement flags, service type, message subtype
+ * and body: it is to be sent, behind those that are. Ground alone makes them.
+ * LPT_DONE; LPT_EMPTY; LPT_RANGE for flags above 15, and at the spacecraft; LPT_PART_REQUEST;
+ * LPT_LONG_MESSAGE where the packet would have more octets than the part size and 23; LPT_MEMORY.
+ */
+uint32_t lpt_end_plain(LptEnd *end, uint8_t flags, uint8_t service, uint8_t subtype,
+                       const uint8_t *body, size_t body_len);
+
 /* Closes an open message, and lets it go. LPT_DONE; LPT_EMPTY; LPT_NOT_OPEN. */
 uint32_t lpt_end_finish(LptEnd *end, uint16_t id);
 
@@ -213,7 +232,7 @@ typedef struct LptApplied {
 uint32_t lpt_end_read(LptEnd *end);
 
 /*
- * Executes the oldest request, which has to be read: does what it asks of the memory, and tells
+ * Executes the oldest request, which has to be read: does what it asks of a memory, and tells
  * what became of it. Its reports are to be sent; a report that is too long for a packet is opened
  * as a message.
  * LPT_DONE, and *applied is written; LPT_EMPTY; LPT_NO_JOB, as always on ground; LPT_NOT_READ;

@@ -28,17 +28,19 @@ static uint32_t carry(LptEnd *from, LptEnd *to, uint16_t k, LptOutcome *outcome)
 
 int main(void) {
     static const LptConfig config = {100, 1, PART_SIZE, 10, 4, 4, 0, LPT_ANY};
-    static uint8_t message[MESSAGE], received[MESSAGE], memory[1024];
+    static const LptMemory memories[] = {{1, 0, 1024}};
+    static uint8_t message[MESSAGE], received[MESSAGE], content[1024];
     LptEnd ground = LPT_END_EMPTY, spacecraft = LPT_END_EMPTY;
     LptOutcome outcome = {0, 0, 0};
     size_t len, i;
     uint16_t k, parts = (uint16_t)lpt_part_count(MESSAGE, PART_SIZE);
-    uint32_t fault = lpt_end_new(&ground, LPT_GROUND, &config, 0, memory, 0);
+    uint32_t fault = lpt_end_new(&ground, LPT_GROUND, &config, memories, 0, content, 0);
     for (i = 0; i < MESSAGE; i++) {
         message[i] = (uint8_t)(i % 251);
     }
     if (fault == LPT_DONE) {
-        fault = lpt_end_new(&spacecraft, LPT_SPACECRAFT, &config, 1, memory, sizeof memory);
+        fault = lpt_end_new(&spacecraft, LPT_SPACECRAFT, &config, memories, 1, content,
+                            sizeof content);
     }
     if (fault == LPT_DONE) {
         fault = lpt_end_open(&ground, NAME, message, MESSAGE);

@@ -41,6 +41,7 @@ enum { NAME = 7, P = 8, ROOM = 70000 };
 
 static const LptConfig CONFIG = {100, 1, P, 19, 2, 2, 0, LPT_ANY};
 static const uint8_t MEMORY[16] = {0};
+static const LptMemory MEMORIES[] = {{1, 0, sizeof MEMORY}};
 
 static uint8_t message[65542], packet[ROOM], got[ROOM];
 static size_t packet_len;
@@ -51,7 +52,7 @@ static int told(LptOutcome said, uint32_t kind, uint32_t first, uint32_t second)
 }
 
 static void make(LptEnd *end, uint32_t side, const LptConfig *config) {
-    DONE(lpt_end_new(end, side, config, 1, MEMORY, sizeof MEMORY));
+    DONE(lpt_end_new(end, side, config, MEMORIES, 1, MEMORY, sizeof MEMORY));
 }
 
 /* Takes the packet that is to be sent first out of an end. */
@@ -264,6 +265,65 @@ static void executed(void) {
     lpt_end_free(&ground);
 }
 
+/* What ground has to send, given to the spacecraft, whose requests are executed; and what that has
+   to send, given to ground. */
+static LptApplied answered(LptEnd *ground, LptEnd *craft) {
+    LptApplied applied = {9, 9};
+    while (take_packet(ground)) {
+        taken(craft, packet, packet_len);
+    }
+    DONE(lpt_end_read(craft));
+    DONE(lpt_end_execute(craft, &applied));
+    while (take_packet(craft)) {
+        EXPECT(taken(ground, packet, packet_len).kind == LPT_REPORT_NOTED);
+    }
+    return applied;
+}
+
+/* Two memories, and plain requests of ground: a load, and a dump whose report is sent in parts. */
+static void requests(void) {
+    static const LptMemory two[] = {{9, 20, 200}, {1, 0, 10}};
+    /* Memory 9, one area: at 197, three octets, and their checksum; and a dump of all of it. */
+    uint8_t load[] = {9, 1, 0, 0, 0, 197, 0, 3, 7, 8, 9, 0, 0};
+    uint8_t dump[] = {9, 1, 0, 0, 0, 0, 0, 200};
+    LptEnd ground = LPT_END_EMPTY, craft = LPT_END_EMPTY;
+    LptOutcome said = {0, 0, 0};
+    LptApplied applied;
+    uint16_t sum = lpt_crc16(load + 8, 3), k;
+    size_t len = 0;
+    load[11] = (uint8_t)(sum >> 8);
+    load[12] = (uint8_t)sum;
+    make(&ground, LPT_GROUND, &CONFIG);
+    DONE(lpt_end_new(&craft, LPT_SPACECRAFT, &CONFIG, two, 2, message, 220));
+    EXPECT(lpt_end_plain(&ground, 16, 6, 2, load, sizeof load) == LPT_RANGE);
+    EXPECT(lpt_end_plain(&craft, 0, 6, 2, load, sizeof load) == LPT_RANGE);
+    EXPECT(lpt_end_plain(&ground, 9, 13, 9, load, sizeof load) == LPT_PART_REQUEST);
+    EXPECT(lpt_end_plain(&ground, 9, 6, 2, got, P + 11) == LPT_LONG_MESSAGE);
+    EXPECT(!take_packet(&ground));
+    DONE(lpt_end_plain(&ground, 9, 6, 2, load, sizeof load));
+    applied = answered(&ground, &craft);
+    EXPECT(applied.kind == LPT_CARRIED_OUT && applied.value == 0);
+    DONE(lpt_end_memory(&craft, 9, got, sizeof got, &len));
+    EXPECT(len == 200 && memcmp(got, message + 20, 197) == 0 && memcmp(got + 197, load + 8, 3) == 0);
+    DONE(lpt_end_memory(&craft, 1, got, sizeof got, &len));
+    EXPECT(len == 10 && memcmp(got, message, 10) == 0);
+
+    DONE(lpt_end_plain(&ground, 0, 6, 5, dump, sizeof dump));
+    applied = answered(&ground, &craft);
+    EXPECT(applied.kind == LPT_OPENED && applied.value == 0);
+    for (k = 1; lpt_end_part(&craft, 0, k) == LPT_DONE; k++) {
+        EXPECT(take_packet(&craft));
+        said = taken(&ground, packet, packet_len);
+    }
+    /* Around the octets: two headers, the report's own eight octets, and two checksums. */
+    EXPECT(told(said, LPT_RELEASED, 0, 6 + 11 + 8 + 200 + 2 + 2));
+    DONE(lpt_end_released(&ground, got, sizeof got, &len));
+    EXPECT(got[7] == 6 && got[8] == 6 && memcmp(got + 25, message + 20, 197) == 0);
+    EXPECT(memcmp(got + 25 + 197, load + 8, 3) == 0);
+    lpt_end_free(&ground);
+    lpt_end_free(&craft);
+}
+
 /* A message of this length downwards, in parts of p octets. */
 static void long_message(size_t len, uint32_t p) {
     LptConfig config = CONFIG;
@@ -290,7 +350,40 @@ static void long_message(size_t len, uint32_t p) {
 /* A configuration that has this wrong. */
 static uint32_t new_with(LptEnd *end, uint32_t side, LptConfig config, size_t memory_len) {
     static uint8_t memory[1048577];
-    return lpt_end_new(end, side, &config, 1, memory, memory_len);
+    LptMemory one = {1, 0, 0};
+    one.len = memory_len;
+    return lpt_end_new(end, side, &config, &one, 1, memory, memory_len);
+}
+
+/* A spacecraft with the first of these memories, of this content. */
+static uint32_t new_of(LptEnd *end, const LptMemory *memories, size_t count, size_t len) {
+    return lpt_end_new(end, LPT_SPACECRAFT, &CONFIG, memories, count, message, len);
+}
+
+static void refused_memories(void) {
+    LptMemory many[17], two[] = {{1, 0, 4}, {2, 4, 4}};
+    LptEnd end = LPT_END_EMPTY;
+    size_t k;
+    for (k = 0; k < 17; k++) {
+        many[k].id = (uint8_t)k;
+        many[k].at = k;
+        many[k].len = 1;
+    }
+    EXPECT(new_of(&end, many, 0, 20) == LPT_BAD_MEMORIES);
+    EXPECT(new_of(&end, many, 17, 20) == LPT_BAD_MEMORIES);
+    EXPECT(new_of(&end, two, 2, 7) == LPT_BAD_MEMORIES);
+    two[1].at = SIZE_MAX;
+    EXPECT(new_of(&end, two, 2, 8) == LPT_BAD_MEMORIES);
+    two[1].at = 8;
+    EXPECT(new_of(&end, two, 2, 8) == LPT_BAD_MEMORIES);
+    two[1].at = 4;
+    two[1].len = SIZE_MAX;
+    EXPECT(new_of(&end, two, 2, 8) == LPT_BAD_MEMORIES);
+    two[1].len = 4;
+    two[1].id = 1;
+    EXPECT(new_of(&end, two, 2, 8) == LPT_BAD_MEMORIES && !end.full);
+    DONE(new_of(&end, many, 16, 16));
+    lpt_end_free(&end);
 }
 
 static void refused_ends(void) {
@@ -341,6 +434,7 @@ static void refused_calls(void) {
     EXPECT(lpt_end_part(&end, NAME, 1) == LPT_EMPTY && lpt_end_finish(&end, NAME) == LPT_EMPTY);
     EXPECT(lpt_end_retire(&end, 2, NAME) == LPT_EMPTY && lpt_end_restart(&end) == LPT_EMPTY);
     EXPECT(lpt_end_read(&end) == LPT_EMPTY);
+    EXPECT(lpt_end_plain(&end, 16, 13, 9, got, 9) == LPT_EMPTY);
     EXPECT(lpt_end_memory(&end, 1, got, sizeof got, &len) == LPT_EMPTY && len == 99);
 
     config.clock = 4294967294u;
@@ -390,9 +484,11 @@ int main(void) {
     long_message(65542, 1024);
     long_message(65542, 4);
     refused_ends();
+    refused_memories();
     refused_calls();
     new_start();
     executed();
+    requests();
     printf("%u passed, %u failed\n", passed, failed);
     return failed != 0;
 }

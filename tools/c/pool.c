@@ -41,6 +41,9 @@ int refuses(void) {
     return 1;
 }
 
+#ifdef SMALL
+static const LptMemory whole = {1, 0, 65536};
+#endif
 static uint8_t memory[65536], message[16000], packet[2000], got[16000];
 
 /* The answer of a call that is made again where memory ran out, and how often that was. */
@@ -62,15 +65,15 @@ static unsigned again;
    executed; all by calls that are made again. */
 static void link_pass(void) {
     static const LptConfig config = {100, 1, 64, 2, 4, 4, 0, LPT_ANY};
-    static const LptTcHead head = {100, 0, 11, 6, 5, 1};
+    static const LptMemory memories[] = {{1, 0, 60}, {2, 60, 40}};
     static const uint8_t dump[] = {1, 1, 0, 0, 0, 0, 0, 8};
     LptApplied applied = {0, 0};
     LptEnd ground = LPT_END_EMPTY, craft = LPT_END_EMPTY;
     LptOutcome told = {0, 0, 0};
     size_t len = 0;
     uint16_t k, id = 0;
-    TRY(lpt_end_new(&ground, LPT_GROUND, &config, 0, memory, 0));
-    TRY(lpt_end_new(&craft, LPT_SPACECRAFT, &config, 1, memory, 100));
+    TRY(lpt_end_new(&ground, LPT_GROUND, &config, memories, 0, memory, 0));
+    TRY(lpt_end_new(&craft, LPT_SPACECRAFT, &config, memories, 2, memory, 100));
     TRY(lpt_end_open(&ground, 5, message, 300));
     TRY(lpt_end_open(&ground, 6, message, 300));
     TRY(lpt_end_open(&craft, 7, message, 100));
@@ -85,6 +88,7 @@ static void link_pass(void) {
     EXPECT(memcmp(got, message, 300) == 0);
     TRY(lpt_end_part(&ground, 6, 2));
     EXPECT(lpt_end_outgoing(&ground, packet, sizeof packet, &len) == LPT_DONE);
+    EXPECT(lpt_end_sent(&ground) == LPT_DONE);
     TRY(lpt_end_packet(&craft, packet, len, &told));
     EXPECT(lpt_end_tick(&craft) == LPT_DONE && lpt_end_tick(&craft) == LPT_DONE);
     TRY(lpt_end_expire(&craft, &id));
@@ -103,7 +107,8 @@ static void link_pass(void) {
     EXPECT(lpt_end_outgoing(&craft, packet, sizeof packet, &len) == LPT_NOTHING);
     TRY(lpt_end_execute(&craft, &applied));
     EXPECT(applied.kind == LPT_SILENT);
-    EXPECT(lpt_write_tc(&head, dump, sizeof dump, packet, sizeof packet, &len) == LPT_DONE);
+    TRY(lpt_end_plain(&ground, 11, 6, 5, dump, sizeof dump));
+    EXPECT(lpt_end_outgoing(&ground, packet, sizeof packet, &len) == LPT_DONE);
     TRY(lpt_end_packet(&craft, packet, len, &told));
     TRY(lpt_end_read(&craft));
     TRY(lpt_end_execute(&craft, &applied));
@@ -143,7 +148,7 @@ static void long_message(void) {
     size_t len = 0;
     uint32_t kind;
     uint16_t k;
-    TRY(lpt_end_new(&craft, LPT_SPACECRAFT, &config, 1, memory, sizeof memory));
+    TRY(lpt_end_new(&craft, LPT_SPACECRAFT, &config, &whole, 1, memory, sizeof memory));
     for (k = 1; k <= 250; k++) {
         EXPECT(lpt_slice_part(message, sizeof message, 64, 5, k, &kind, body, sizeof body, &len) ==
                LPT_DONE);
@@ -166,7 +171,7 @@ static void full_pool(void) {
     uint32_t said = LPT_DONE;
     uint16_t id = 0;
     size_t used;
-    TRY(lpt_end_new(&craft, LPT_SPACECRAFT, &config, 1, memory, sizeof memory));
+    TRY(lpt_end_new(&craft, LPT_SPACECRAFT, &config, &whole, 1, memory, sizeof memory));
     while (said == LPT_DONE && id < 64) {
         used = lpt_pool_used();
         said = lpt_end_open(&craft, id++, message, sizeof message);

@@ -11,7 +11,7 @@ use lpt_part::{Reason, abort_octets, read_abort};
 
 /// An abortion report that was read.
 #[repr(C)]
-#[derive(Clone, Copy, Debug)]
+#[derive(Clone, Copy)]
 pub struct LptAbort {
     /// The transaction identifier.
     pub id: u16,
@@ -22,8 +22,7 @@ pub struct LptAbort {
 /// Reads a message's body as an abortion report.
 ///
 /// 0, and `out` says what it is; 24 where it is none.
-#[unsafe(no_mangle)]
-pub extern "C" fn lpt_read_abort(body: &[u8], out: &mut LptAbort) -> u32
+pub fn lpt_read_abort(body: &[u8], out: &mut LptAbort) -> u32
     ensures code { result ≡ code_read (abort_read body.now) }
     ensures out { out.new ≡ left_in abort_told (abort_read body.now) out.old }
 {
@@ -43,8 +42,7 @@ pub extern "C" fn lpt_read_abort(body: &[u8], out: &mut LptAbort) -> u32
 ///
 /// 0; 102 where the reason isn't 1 to 3; 103 where the buffer is too short. At 0 and at 103
 /// `needed` tells how many octets the body has, 3.
-#[unsafe(no_mangle)]
-pub extern "C" fn lpt_write_abort(id: u16, reason: u16, out: &mut [u8], needed: &mut usize) -> u32
+pub fn lpt_write_abort(id: u16, reason: u16, out: &mut [u8], needed: &mut usize) -> u32
     ensures code { result ≡ code_for (abort_text id (reason_named reason)) out.old }
     ensures buffer { out.new ≡ left_by (abort_text id (reason_named reason)) out.old }
     ensures needed { needed.new ≡ needed_by (abort_text id (reason_named reason)) needed.old }

@@ -15,7 +15,7 @@ use lpt_pus::{LONGEST_TC_BODY, TC_HEADER, read_tc};
 
 /// What a telecommand's headers say.
 #[repr(C)]
-#[derive(Clone, Copy, Debug)]
+#[derive(Clone, Copy)]
 pub struct LptTcHead {
     /// The application process identifier, 0 to 2046.
     pub apid: u16,
@@ -33,7 +33,7 @@ pub struct LptTcHead {
 
 /// A telecommand that was read.
 #[repr(C)]
-#[derive(Clone, Copy, Debug)]
+#[derive(Clone, Copy)]
 pub struct LptTc {
     /// What its headers say.
     pub head: LptTcHead,
@@ -47,8 +47,7 @@ pub struct LptTc {
 ///
 /// 0, and `out` says what it is; 101 of an idle packet; 1 to 6, the first fault of what is no
 /// packet; 12, 13 or 11, the first fault of a packet that is no telecommand.
-#[unsafe(no_mangle)]
-pub extern "C" fn lpt_read_tc(octets: &[u8], out: &mut LptTc) -> u32
+pub fn lpt_read_tc(octets: &[u8], out: &mut LptTc) -> u32
     ensures code { result ≡ code_read (tc_read octets.now) }
     ensures out { out.new ≡ left_in tc_told (tc_read octets.now) out.old }
 {
@@ -82,13 +81,7 @@ pub extern "C" fn lpt_read_tc(octets: &[u8], out: &mut LptTc) -> u32
 /// 0; 102 where the APID is above 2046, the count above 16,383 or the flags above 15; 14 where the
 /// packet would have more than 65,542 octets; 103 where the buffer is too short. At 0 and at 103
 /// `needed` tells how many octets the packet has, 13 more than the body.
-#[unsafe(no_mangle)]
-pub extern "C" fn lpt_write_tc(
-    head: &LptTcHead,
-    body: &[u8],
-    out: &mut [u8],
-    needed: &mut usize,
-) -> u32
+pub fn lpt_write_tc(head: &LptTcHead, body: &[u8], out: &mut [u8], needed: &mut usize) -> u32
     ensures code { result ≡ code_for (tc_text head.now body.now) out.old }
     ensures buffer { out.new ≡ left_by (tc_text head.now body.now) out.old }
     ensures needed { needed.new ≡ needed_by (tc_text head.now body.now) needed.old }
@@ -126,8 +119,7 @@ fn fill_tc(head: &LptTcHead, body: &[u8], out: &mut [u8], needed: &mut usize) ->
 /// its packet as a number.
 ///
 /// 0; 102 where the APID is above 2046, the count above 16,383 or the flags above 15.
-#[unsafe(no_mangle)]
-pub extern "C" fn lpt_request_id(head: &LptTcHead, id: &mut u32) -> u32
+pub fn lpt_request_id(head: &LptTcHead, id: &mut u32) -> u32
     ensures code { result ≡ (if tc_fits head.now then done else range) }
     ensures id { (body : List ℕ) → result ≡ done → be id.new 4 ≡ take 4 (tc_packet head.now body) }
     ensures kept { result ≡ range → id.new ≡ id.old }

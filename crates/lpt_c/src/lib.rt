@@ -1,7 +1,7 @@
-//! The codecs for C, as a static library: space packets, their headers, and the bodies of parts,
-//! abortion reports and verification reports, read from and written to the caller's buffers. The
-//! types are those of `include/lpt.h`; a first call is `lpt_read_packet`, and docs/C.md has the
-//! rest.
+//! The codecs for C: space packets, their headers, and the bodies of parts, abortion reports and
+//! verification reports, read from and written to the caller's buffers. The types are those of
+//! `include/lpt.h`; a first call is `lpt_read_packet`, and docs/C.md has the rest.
+//! `tools/archive.py` makes a static library of these calls.
 //!
 //! No call takes memory, and each is total: whatever the octets and the numbers are, it answers 0,
 //! or the number of what is wrong, and then it has left all but a reported length as it was. A
@@ -21,3 +21,12 @@ mod parts;
 mod reports;
 mod streams;
 mod telemetry;
+
+pub use aborts::{LptAbort, lpt_read_abort, lpt_write_abort};
+pub use checksum::lpt_crc16;
+pub use commands::{LptTc, LptTcHead, lpt_read_tc, lpt_request_id, lpt_write_tc};
+pub use packets::{LptPacket, lpt_read_packet, lpt_write_packet};
+pub use parts::{LptPart, lpt_part_count, lpt_read_part, lpt_slice_part, lpt_write_part};
+pub use reports::{LptReport, lpt_read_report, lpt_write_report};
+pub use streams::lpt_packet_length;
+pub use telemetry::{LptTm, LptTmHead, lpt_read_tm, lpt_write_tm};

@@ -11,7 +11,7 @@ use lpt_packet::{LONGEST_FIELD, PRIMARY_HEADER, PacketKind, Seen, read_packet};
 
 /// A packet that was read.
 #[repr(C)]
-#[derive(Clone, Copy, Debug)]
+#[derive(Clone, Copy)]
 pub struct LptPacket {
     /// 0 telemetry, 1 a telecommand.
     pub kind: u32,
@@ -29,8 +29,7 @@ pub struct LptPacket {
 ///
 /// 0, and `out` says what it is; 101 of an idle packet; 1 to 6, the first fault of what is no
 /// packet.
-#[unsafe(no_mangle)]
-pub extern "C" fn lpt_read_packet(octets: &[u8], out: &mut LptPacket) -> u32
+pub fn lpt_read_packet(octets: &[u8], out: &mut LptPacket) -> u32
     ensures code { result ≡ code_read (packet_read octets.now) }
     ensures out { out.new ≡ left_in packet_told (packet_read octets.now) out.old }
 {
@@ -58,8 +57,7 @@ pub extern "C" fn lpt_read_packet(octets: &[u8], out: &mut LptPacket) -> u32
 /// 0; 102 where the kind is another, the APID above 2046 or the count above 16,383; 14 where the
 /// packet would have more than 65,542 octets; 103 where the buffer is too short. At 0 and at 103
 /// `needed` tells how many octets the packet has.
-#[unsafe(no_mangle)]
-pub extern "C" fn lpt_write_packet(
+pub fn lpt_write_packet(
     kind: u32,
     apid: u16,
     count: u16,

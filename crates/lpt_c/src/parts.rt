@@ -15,7 +15,7 @@ use lpt_part::{Kind, count, read_part, slice};
 
 /// A part that was read.
 #[repr(C)]
-#[derive(Clone, Copy, Debug)]
+#[derive(Clone, Copy)]
 pub struct LptPart {
     /// The transaction identifier.
     pub id: u16,
@@ -30,8 +30,7 @@ pub struct LptPart {
 }
 
 /// How many parts of `p` octets a message of `len` octets has; 0 where `p` isn't 4 to 1024.
-#[unsafe(no_mangle)]
-pub extern "C" fn lpt_part_count(len: u32, p: u32) -> u32
+pub fn lpt_part_count(len: u32, p: u32) -> u32
     ensures { result ≡ count_told len p }
 {
     if p < 4 || p > 1024 {
@@ -44,8 +43,7 @@ pub extern "C" fn lpt_part_count(len: u32, p: u32) -> u32
 ///
 /// 0, and `out` says what it is; 102 where the kind isn't 1 to 3 or `p` isn't 4 to 1024; 20 to 23,
 /// the first fault of a body that is no such part.
-#[unsafe(no_mangle)]
-pub extern "C" fn lpt_read_part(kind: u32, body: &[u8], p: u32, out: &mut LptPart) -> u32
+pub fn lpt_read_part(kind: u32, body: &[u8], p: u32, out: &mut LptPart) -> u32
     ensures code { result ≡ code_read (part_read (kind_named kind) body.now p) }
     ensures out { out.new ≡ left_in part_told (part_read (kind_named kind) body.now p) out.old }
 {
@@ -75,8 +73,7 @@ pub extern "C" fn lpt_read_part(kind: u32, body: &[u8], p: u32, out: &mut LptPar
 /// 0; 102 where the kind isn't 1 to 3 or `p` isn't 4 to 1024; 21, 22 or 23 where there is no part
 /// of this kind, number and length; 103 where the buffer is too short. At 0 and at 103 `needed`
 /// tells how many octets the body has, 4 more than the part.
-#[unsafe(no_mangle)]
-pub extern "C" fn lpt_write_part(
+pub fn lpt_write_part(
     kind: u32,
     id: u16,
     number: u16,
@@ -116,8 +113,7 @@ pub extern "C" fn lpt_write_part(
 /// 0; 102 where `p` isn't 4 to 1024; 42 where the message isn't longer than a part, 43 where it has
 /// more than 65,542 octets; 46 where it has no part `k`; 103 where the buffer is too short. At 0
 /// and at 103 the kind is told, and `needed` tells how many octets the body has.
-#[unsafe(no_mangle)]
-pub extern "C" fn lpt_slice_part(
+pub fn lpt_slice_part(
     message: &[u8],
     p: u32,
     id: u16,

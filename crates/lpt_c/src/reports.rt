@@ -11,7 +11,7 @@ use lpt_verify::read_report;
 
 /// A verification report that was read.
 #[repr(C)]
-#[derive(Clone, Copy, Debug)]
+#[derive(Clone, Copy)]
 pub struct LptReport {
     /// The ID of the request that it reports on.
     pub request: u32,
@@ -25,8 +25,7 @@ pub struct LptReport {
 /// 2 or 4 of failure.
 ///
 /// 0, and `out` says what it is; 105 where it is none. Any failure code is read.
-#[unsafe(no_mangle)]
-pub extern "C" fn lpt_read_report(subtype: u8, body: &[u8], out: &mut LptReport) -> u32
+pub fn lpt_read_report(subtype: u8, body: &[u8], out: &mut LptReport) -> u32
     ensures code { result ≡ code_read (report_read subtype body.now) }
     ensures out { out.new ≡ left_in report_told (report_read subtype body.now) out.old }
 {
@@ -49,8 +48,7 @@ pub extern "C" fn lpt_read_report(subtype: u8, body: &[u8], out: &mut LptReport)
 ///
 /// 0; 102 where the subtype is none of 1, 3 and 7 with code 0, nor 2 or 4 with a code of 1 to 8;
 /// 103 where the buffer is too short. At 0 and at 103 `needed` tells how many octets the body has.
-#[unsafe(no_mangle)]
-pub extern "C" fn lpt_write_report(
+pub fn lpt_write_report(
     subtype: u8,
     request: u32,
     code: u16,

@@ -14,8 +14,7 @@ const VERSION: u32 = 2;
 ///
 /// 0 of a packet and 101 of an idle one, and then `length` is told, 7 to 65,542; 104 where there
 /// are too few octets yet to know; 2 where no packet begins so.
-#[unsafe(no_mangle)]
-pub extern "C" fn lpt_packet_length(octets: &[u8], length: &mut usize) -> u32
+pub fn lpt_packet_length(octets: &[u8], length: &mut usize) -> u32
     ensures code { result ≡ stream_code octets.now }
     ensures told { length.new ≡ stream_length octets.now length.old }
 {

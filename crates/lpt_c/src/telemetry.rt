@@ -13,7 +13,7 @@ use lpt_pus::{LONGEST_TM_BODY, TM_HEADER, read_tm};
 
 /// What telemetry's headers say.
 #[repr(C)]
-#[derive(Clone, Copy, Debug)]
+#[derive(Clone, Copy)]
 pub struct LptTmHead {
     /// The application process identifier, 0 to 2046.
     pub apid: u16,
@@ -35,7 +35,7 @@ pub struct LptTmHead {
 
 /// Telemetry that was read.
 #[repr(C)]
-#[derive(Clone, Copy, Debug)]
+#[derive(Clone, Copy)]
 pub struct LptTm {
     /// What its headers say.
     pub head: LptTmHead,
@@ -49,8 +49,7 @@ pub struct LptTm {
 ///
 /// 0, and `out` says what it is; 101 of an idle packet; 1 to 6, the first fault of what is no
 /// packet; 12, 13 or 11, the first fault of a packet that is no telemetry.
-#[unsafe(no_mangle)]
-pub extern "C" fn lpt_read_tm(octets: &[u8], out: &mut LptTm) -> u32
+pub fn lpt_read_tm(octets: &[u8], out: &mut LptTm) -> u32
     ensures code { result ≡ code_read (tm_read octets.now) }
     ensures out { out.new ≡ left_in tm_told (tm_read octets.now) out.old }
 {
@@ -87,13 +86,7 @@ pub extern "C" fn lpt_read_tm(octets: &[u8], out: &mut LptTm) -> u32
 /// 0; 102 where the APID is above 2046, the count above 16,383 or the status above 15; 14 where the
 /// packet would have more than 65,542 octets; 103 where the buffer is too short. At 0 and at 103
 /// `needed` tells how many octets the packet has, 19 more than the body.
-#[unsafe(no_mangle)]
-pub extern "C" fn lpt_write_tm(
-    head: &LptTmHead,
-    body: &[u8],
-    out: &mut [u8],
-    needed: &mut usize,
-) -> u32
+pub fn lpt_write_tm(head: &LptTmHead, body: &[u8], out: &mut [u8], needed: &mut usize) -> u32
     ensures code { result ≡ code_for (tm_text head.now body.now) out.old }
     ensures buffer { out.new ≡ left_by (tm_text head.now body.now) out.old }
     ensures needed { needed.new ≡ needed_by (tm_text head.now body.now) needed.old }

@@ -26,6 +26,7 @@ use Rattle.lpt_node.specs.Jobs.{FrontIsFor, IsReadFor, Execution, claimed, claim
 use Rattle.lpt_node.specs.LptJobs.Jobs.{Head, NoJob, NotReady, Ready, after_commit, claimed_in, unclaimed}
 use Rattle.lpt_node.specs.Nodes.{NodeData, NodeView, direction_from, message_at}
 use Rattle.lpt_node.specs.Receiving.{with_report}
+use Rattle.lpt_node.specs.Requests.{plain_made}
 use Rattle.lpt_node.specs.Sending.{opened, sent, sent_of, closed}
 use Rattle.lpt_node.specs.Times.{ticked, expired, expired_of, due}
 use Rattle.lpt_c_end.specs.Ready.{IsReading, IsReady}
@@ -186,6 +187,14 @@ pub ready_sent : (n new : NodeView) (ms : Option Contents) (side : Side) (c : Co
 ready_sent n new ms side c o id k config is_so is =
     becomes n new ms _ config (ap (λ (x : NodeData × List ℕ). x.0) is_so)
     (keeps_sent side c n.at id k (message_at n.at id)) is
+
+pub ready_plain : (n new : NodeView) (ms : Option Contents) (c : Config) (o : List ℕ) (flags service subtype : ℕ) (body : List ℕ)
+    → new.config ≡ n.config
+    → (new.at, o) ≡ plain_made c n.at flags service subtype body
+    → IsReady n ms
+    → IsReady new ms
+ready_plain n new ms c o flags service subtype body config is_so is =
+    becomes n new ms _ config (ap (λ (x : NodeData × List ℕ). x.0) is_so) (λ apid sizes all. all) is
 
 pub ready_expired : (n new : NodeView) (ms : Option Contents) (side : Side) (c : Config) (r : Expired)
     → new.config ≡ n.config

@@ -3,7 +3,6 @@ use Rattle.std.specs.Prelude.{◌≡◌, ℕ, List, [], ◌∷◌, ◌++◌, dro
 use Rattle.lpt_node.specs.LptEvents.Arrivals.{arrival}
 use Rattle.lpt_node.specs.LptEvents.declared.config.Config.{Config}
 use Rattle.lpt_node.specs.LptEvents.declared.side.Side.{Side}
-use Rattle.lpt_node.specs.LptEvents.declared.side.Side.TheVariants.{Ground, Craft}
 use Rattle.lpt_node.specs.LptMemory.Memories.{Contents, sizes_of}
 use Rattle.lpt_node.specs.declared.accepted.Accepted.{Accepted}
 use Rattle.lpt_node.specs.declared.expired.Expired.{Expired}
@@ -11,10 +10,13 @@ use Rattle.lpt_node.specs.Accepting.{accepted}
 use Rattle.lpt_node.specs.Anew.{retired, restarted}
 use Rattle.lpt_node.specs.Jobs.{Execution, claimed, committed, executed, not_executed}
 use Rattle.lpt_node.specs.Nodes.{NodeData, new_node}
+use Rattle.lpt_node.specs.Requests.{plain_made}
 use Rattle.lpt_node.specs.Sending.{opened, sent, closed}
 use Rattle.lpt_node.specs.Times.{ticked, expired}
+use Rattle.lpt_c_end.specs.Contents.{memories_of}
 use Rattle.lpt_c_end.specs.Words.{direction_from}
 use Rattle.lpt_c_end.specs.declared.end.End.{End}
+use Rattle.lpt_c_end.specs.declared.memories.LptMemory.{LptMemory}
 
 -- ---- what may change
 
@@ -44,17 +46,12 @@ IsSame e = Becomes e.node.at e
 
 -- ---- a new end
 
--- its memory; ground has none
-abbrev pub memory_of : Side → ℕ → List ℕ → Option Contents
-memory_of Ground id content = None
-memory_of Craft id content = Some ((id, content) ∷ [])
-
 -- nothing has happened at the end
-pub record IsNew (s : Side) (c : Config) (id : ℕ) (content : List ℕ) (e : End) : Type 0 where
+pub record IsNew (s : Side) (c : Config) (ms : List LptMemory) (content : List ℕ) (e : End) : Type 0 where
   pub side : e.side ≡ s
   pub config : e.config ≡ c
   pub node : e.node ≡ new_node s c
-  pub memories : e.memories ≡ memory_of s id content
+  pub memories : e.memories ≡ memories_of s ms content
   pub released : e.released ≡ None
   pub outbox : e.outbox.items ≡ []
 
@@ -93,6 +90,15 @@ part_of id k e = sent e.side e.config e.node.at id k
 -- the packet of a part is to be sent
 abbrev pub IsPartMade : (id k : ℕ) → End → End → Type 0
 IsPartMade id k e = Makes (part_of id k e).0 ((part_of id k e).1 ∷ []) e
+
+-- what the node does where a plain request is made
+abbrev pub plain_of : (flags service subtype : ℕ) → List ℕ → End → NodeData × List ℕ
+plain_of flags service subtype body e = plain_made e.config e.node.at flags service subtype body
+
+-- the packet of a plain request is to be sent
+abbrev pub IsPlainMade : (flags service subtype : ℕ) → List ℕ → End → End → Type 0
+IsPlainMade flags service subtype body e =
+    Makes (plain_of flags service subtype body e).0 ((plain_of flags service subtype body e).1 ∷ []) e
 
 -- a message was finished
 abbrev pub IsFinished : ℕ → End → End → Type 0

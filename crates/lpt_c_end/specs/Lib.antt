@@ -1,6 +1,7 @@
 pub mod Calls
 pub mod Changes
 pub mod Codes
+pub mod Contents
 pub mod Copies
 pub mod HandleCodes
 pub mod Held

@@ -1,18 +1,21 @@
 -- Why a call on a handle is refused: the number of the first fault, want of memory aside.
-use Rattle.std.specs.Prelude.{ℕ, ◌==◌, nat_lt, ◌||◌, if◌then◌else◌, List, [], ◌∷◌, length, Option, Some, None}
+use Rattle.std.specs.Prelude.{ℕ, ◌==◌, nat_lt, ◌||◌, if◌then◌else◌, List, length, Option, Some, None}
 use Rattle.lpt_node.specs.LptEvents.Configs.{config_fault}
 use Rattle.lpt_node.specs.LptEvents.declared.config_fault.ConfigFault.{ConfigFault}
 use Rattle.lpt_node.specs.LptEvents.declared.side.Side.{Side}
 use Rattle.lpt_node.specs.LptEvents.declared.side.Side.TheVariants.{Ground, Craft}
 use Rattle.lpt_node.specs.LptJobs.Jobs.{numbered}
-use Rattle.lpt_node.specs.LptMemory.Memories.{Contents, are_memories}
+use Rattle.lpt_node.specs.LptMemory.Memories.{Contents}
 use Rattle.lpt_node.specs.Anew.{may_retire}
+use Rattle.lpt_node.specs.Requests.{refusal_plain}
 use Rattle.lpt_node.specs.Sending.{refusal_open, refusal_send, refusal_finish}
 use Rattle.lpt_node.specs.Times.{refusal_tick, refusal_expire}
 use Rattle.lpt_node.specs.Jobs.{refusal_claim, refusal_apply}
 use Rattle.lpt_c_end.specs.Codes.{node_code, config_code, still_open, bad_memories, range, empty, full, no_job, no_number, nothing, unsent}
+use Rattle.lpt_c_end.specs.Contents.{can_be}
 use Rattle.lpt_c_end.specs.Words.{side_from, direction_from, config_from}
 use Rattle.lpt_c_end.specs.declared.end.End.{End}
+use Rattle.lpt_c_end.specs.declared.memories.LptMemory.{LptMemory}
 use Rattle.lpt_c_end.specs.declared.words.LptConfig.{LptConfig}
 
 -- the greatest number of a job, or of a start
@@ -26,23 +29,22 @@ refusal_by of (Some e) = of e
 
 -- ---- a new end
 
--- why an end of this side has no such memory; ground has none
-abbrev pub memory_refusal : Side → ℕ → List ℕ → Option ℕ
-memory_refusal Ground id content = None
-memory_refusal Craft id content =
-    if are_memories ((id, content) ∷ []) then None else Some bad_memories
+-- why an end of this side has no such memories; ground has none
+abbrev pub memory_refusal : Side → List LptMemory → List ℕ → Option ℕ
+memory_refusal Ground ms content = None
+memory_refusal Craft ms content = if can_be (length content) ms then None else Some bad_memories
 
 -- the same, behind a fault of its configuration
-abbrev pub made_refusal : Option ConfigFault → Side → ℕ → List ℕ → Option ℕ
-made_refusal (Some fault) side id content = config_code (Some fault)
-made_refusal None side id content = memory_refusal side id content
+abbrev pub made_refusal : Option ConfigFault → Side → List LptMemory → List ℕ → Option ℕ
+made_refusal (Some fault) side ms content = config_code (Some fault)
+made_refusal None side ms content = memory_refusal side ms content
 
 -- why no end is made into a handle that holds this
-abbrev pub new_refusal : Option End → ℕ → LptConfig → ℕ → List ℕ → Option ℕ
-new_refusal (Some e) side c id content = Some full
-new_refusal None side c id content =
+abbrev pub new_refusal : Option End → ℕ → LptConfig → List LptMemory → List ℕ → Option ℕ
+new_refusal (Some e) side c ms content = Some full
+new_refusal None side c ms content =
     if nat_lt 1 side || nat_lt 1 c.mode then Some range
-    else made_refusal (config_fault (config_from c)) (side_from side) id content
+    else made_refusal (config_fault (config_from c)) (side_from side) ms content
 
 -- ---- the calls on an end
 
@@ -65,6 +67,17 @@ open_refusal id message e = node_code (refusal_open e.config e.node.at id (lengt
 -- the packet of a part isn't made
 abbrev pub part_refusal : (id k : ℕ) → End → Option ℕ
 part_refusal id k e = node_code (refusal_send e.config e.node.at id k)
+
+-- what ground alone does
+abbrev pub ground_refusal : Side → Option ℕ → Option ℕ
+ground_refusal Ground refusal = refusal
+ground_refusal Craft refusal = Some range
+
+-- the packet of a plain request isn't made
+abbrev pub plain_refusal : (flags service subtype : ℕ) → List ℕ → End → Option ℕ
+plain_refusal flags service subtype body e =
+    if nat_lt 15 flags then Some range
+    else ground_refusal e.side (node_code (refusal_plain e.config service subtype (length body)))
 
 -- a message isn't finished
 abbrev pub finish_refusal : ℕ → End → Option ℕ

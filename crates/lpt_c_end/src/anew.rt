@@ -18,8 +18,7 @@ use std::alloc::Global;
 ///
 /// 0; 106 where the handle is empty; 56 where the clock is at its greatest value: nothing has
 /// changed then.
-#[unsafe(no_mangle)]
-pub extern "C" fn lpt_end_tick(alloc: Global, end: &mut LptEnd) -> u32
+pub fn lpt_end_tick(alloc: Global, end: &mut LptEnd) -> u32
     ensures code { result ≡ answer (refusal_by tick_refusal end.old.held.value) }
     ensures done { result ≡ 0 → IfBoth IsTicked end.old.held.value end.new.held.value }
     ensures refused { ¬ (result ≡ 0) → IfBoth IsSame end.old.held.value end.new.held.value }
@@ -38,8 +37,7 @@ pub extern "C" fn lpt_end_tick(alloc: Global, end: &mut LptEnd) -> u32
 /// 0; 106 where the handle is empty; 102 where the direction is above 1; 55 where the end sends in
 /// this direction and a message of this name is open, or receives in it and a reception of this name
 /// is: nothing has changed then.
-#[unsafe(no_mangle)]
-pub extern "C" fn lpt_end_retire(alloc: Global, end: &mut LptEnd, direction: u32, id: u16) -> u32
+pub fn lpt_end_retire(alloc: Global, end: &mut LptEnd, direction: u32, id: u16) -> u32
     ensures code { result ≡ answer (refusal_by (retire_refusal direction id) end.old.held.value) }
     ensures done { result ≡ 0 → IfBoth (IsRetired direction id) end.old.held.value end.new.held.value }
     ensures refused { ¬ (result ≡ 0) → IfBoth IsSame end.old.held.value end.new.held.value }
@@ -58,8 +56,7 @@ pub extern "C" fn lpt_end_retire(alloc: Global, end: &mut LptEnd, direction: u32
 ///
 /// 0; 106 where the handle is empty; 108 where no number is left for a start: nothing has changed
 /// then.
-#[unsafe(no_mangle)]
-pub extern "C" fn lpt_end_restart(alloc: Global, end: &mut LptEnd) -> u32
+pub fn lpt_end_restart(alloc: Global, end: &mut LptEnd) -> u32
     ensures code { result ≡ answer (refusal_by restart_refusal end.old.held.value) }
     ensures done { result ≡ 0 → IfBoth IsRestarted end.old.held.value end.new.held.value }
     ensures refused { ¬ (result ≡ 0) → IfBoth IsSame end.old.held.value end.new.held.value }

@@ -7,7 +7,7 @@ ghost use Rattle.lpt_c_end.specs.Ready.{IsReady};
 use lpt_node::{Config, Memories, Node, Octets, Side};
 use std::collections::VecDeque;
 
-/// One end of the link: a node, the spacecraft's memory, the message that the last packet released,
+/// One end of the link: a node, the spacecraft's memories, the message that the last packet released,
 /// and the packets that are to be sent.
 #[derive(Drop)]
 pub struct End {

@@ -21,8 +21,7 @@ use std::collections::VecDeque;
 ///
 /// 0; 106 where the handle is empty; 51 where there is none, as always on ground; 58 for want of
 /// memory. Then nothing has changed.
-#[unsafe(no_mangle)]
-pub extern "C" fn lpt_end_read(alloc: Global, end: &mut LptEnd) -> u32
+pub fn lpt_end_read(alloc: Global, end: &mut LptEnd) -> u32
     ensures code { IsAnswer (refusal_by read_refusal end.old.held.value) result }
     ensures done { result ≡ 0 → IfBoth IsRead end.old.held.value end.new.held.value }
     ensures refused { ¬ (result ≡ 0) → IfBoth IsSame end.old.held.value end.new.held.value }
@@ -35,14 +34,13 @@ pub extern "C" fn lpt_end_read(alloc: Global, end: &mut LptEnd) -> u32
     code
 }
 
-/// Executes the oldest request, which has been read: does what it asks of the memory, and tells what
+/// Executes the oldest request, which has been read: does what it asks of a memory, and tells what
 /// became of it. Its reports are to be sent.
 ///
 /// 0; 106 where the handle is empty; 51 where there is no request, as always on ground; 52 where the
 /// oldest wasn't read; 110 where packets are to be sent first; 58 for want of memory. Then nothing
 /// has changed.
-#[unsafe(no_mangle)]
-pub extern "C" fn lpt_end_execute(alloc: Global, end: &mut LptEnd, applied: &mut LptApplied) -> u32
+pub fn lpt_end_execute(alloc: Global, end: &mut LptEnd, applied: &mut LptApplied) -> u32
     ensures code { IsAnswer (refusal_by execute_refusal end.old.held.value) result }
     ensures done { result ≡ 0 → IfBoth IsExecuted end.old.held.value end.new.held.value }
     ensures told { result ≡ 0 → IfHeld (IsApplied applied.new) end.old.held.value }
@@ -61,8 +59,7 @@ pub extern "C" fn lpt_end_execute(alloc: Global, end: &mut LptEnd, applied: &mut
 ///
 /// 0; 106 where the handle is empty; 109 where the end has no memory of this identifier; 103 where
 /// the buffer is too short. At 0 and at 103 `needed` tells how many octets the memory has.
-#[unsafe(no_mangle)]
-pub extern "C" fn lpt_end_memory(
+pub fn lpt_end_memory(
     alloc: Global,
     end: &mut LptEnd,
     id: u8,

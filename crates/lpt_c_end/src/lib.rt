@@ -1,6 +1,6 @@
-//! One end of the link for C, as a static library: a whole node, with its memory, behind a handle.
-//! The types are those of `include/lpt_end.h`; the first calls are `lpt_end_new` and
-//! `lpt_end_packet`, and docs/C.md has the rest.
+//! One end of the link for C: a whole node, with its memories, behind a handle. The types are those
+//! of `include/lpt_end.h`; the first calls are `lpt_end_new` and `lpt_end_packet`, and docs/C.md has
+//! the rest. `tools/archive.py` makes a static library of these calls.
 //!
 //! Each call is total. It answers 0, or the number of the first fault that applies, and then the
 //! end is as it was; where nothing else refuses it, a call that takes memory may answer that there
@@ -19,8 +19,20 @@ mod end;
 mod executing;
 mod handle;
 mod making;
+mod memories;
 mod outbox;
 mod parts;
 mod receiving;
+mod requesting;
 mod sending;
 mod words;
+
+pub use anew::{lpt_end_restart, lpt_end_retire, lpt_end_tick};
+pub use executing::{lpt_end_execute, lpt_end_memory, lpt_end_read};
+pub use handle::{LptEnd, LptHeld};
+pub use making::{lpt_end_free, lpt_end_new};
+pub use memories::LptMemory;
+pub use receiving::{lpt_end_expire, lpt_end_packet, lpt_end_released};
+pub use requesting::lpt_end_plain;
+pub use sending::{lpt_end_finish, lpt_end_open, lpt_end_outgoing, lpt_end_part, lpt_end_sent};
+pub use words::{LptApplied, LptConfig, LptOutcome};

@@ -21,8 +21,7 @@ use std::alloc::{AllocError, Global};
 ///
 /// 0; 106 where the handle is empty; 108 where no number is left for a job; 58 for want of memory.
 /// Then nothing has changed.
-#[unsafe(no_mangle)]
-pub extern "C" fn lpt_end_packet(
+pub fn lpt_end_packet(
     alloc: Global,
     end: &mut LptEnd,
     octets: &[u8],
@@ -46,13 +45,7 @@ pub extern "C" fn lpt_end_packet(
 ///
 /// 0; 106 where the handle is empty; 109 where the last packet released none; 103 where the buffer
 /// is too short. At 0 and at 103 `needed` tells how many octets the message has.
-#[unsafe(no_mangle)]
-pub extern "C" fn lpt_end_released(
-    alloc: Global,
-    end: &mut LptEnd,
-    out: &mut [u8],
-    needed: &mut usize,
-) -> u32
+pub fn lpt_end_released(alloc: Global, end: &mut LptEnd, out: &mut [u8], needed: &mut usize) -> u32
     ensures code { result ≡ code_for (released_of end.old.held.value) out.old }
     ensures buffer { out.new ≡ left_by (released_of end.old.held.value) out.old }
     ensures needed { needed.new ≡ needed_by (released_of end.old.held.value) needed.old }
@@ -74,8 +67,7 @@ pub extern "C" fn lpt_end_released(
 ///
 /// 0; 106 where the handle is empty; 50 where none is due; 58 for want of memory. Then nothing has
 /// changed.
-#[unsafe(no_mangle)]
-pub extern "C" fn lpt_end_expire(alloc: Global, end: &mut LptEnd, id: &mut u16) -> u32
+pub fn lpt_end_expire(alloc: Global, end: &mut LptEnd, id: &mut u16) -> u32
     ensures code { IsAnswer (refusal_by expire_refusal end.old.held.value) result }
     ensures done { result ≡ 0 → IfBoth IsExpired end.old.held.value end.new.held.value }
     ensures told { result ≡ 0 → IfHeld (λ e. id.new ≡ (expiry e).1.id) end.old.held.value }

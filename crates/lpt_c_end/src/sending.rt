@@ -19,8 +19,7 @@ use std::alloc::Global;
 ///
 /// 0; 106 where the handle is empty; 41 to 44, the first fault that applies; 58 for want of memory.
 /// Then nothing has changed.
-#[unsafe(no_mangle)]
-pub extern "C" fn lpt_end_open(alloc: Global, end: &mut LptEnd, id: u16, message: &[u8]) -> u32
+pub fn lpt_end_open(alloc: Global, end: &mut LptEnd, id: u16, message: &[u8]) -> u32
     ensures code { IsAnswer (refusal_by (open_refusal id message.now) end.old.held.value) result }
     ensures done { result ≡ 0 → IfBoth (IsOpened id message.now) end.old.held.value end.new.held.value }
     ensures refused { ¬ (result ≡ 0) → IfBoth IsSame end.old.held.value end.new.held.value }
@@ -37,8 +36,7 @@ pub extern "C" fn lpt_end_open(alloc: Global, end: &mut LptEnd, id: u16, message
 ///
 /// 0; 106 where the handle is empty; 45 where no message of this name is open; 46 where it has no
 /// such part; 58 for want of memory. Then nothing has changed.
-#[unsafe(no_mangle)]
-pub extern "C" fn lpt_end_part(alloc: Global, end: &mut LptEnd, id: u16, k: u16) -> u32
+pub fn lpt_end_part(alloc: Global, end: &mut LptEnd, id: u16, k: u16) -> u32
     ensures code { IsAnswer (refusal_by (part_refusal id k) end.old.held.value) result }
     ensures done { result ≡ 0 → IfBoth (IsPartMade id k) end.old.held.value end.new.held.value }
     ensures refused { ¬ (result ≡ 0) → IfBoth IsSame end.old.held.value end.new.held.value }
@@ -55,8 +53,7 @@ pub extern "C" fn lpt_end_part(alloc: Global, end: &mut LptEnd, id: u16, k: u16)
 ///
 /// 0; 106 where the handle is empty; 45 where no message of this name is open: nothing has changed
 /// then.
-#[unsafe(no_mangle)]
-pub extern "C" fn lpt_end_finish(alloc: Global, end: &mut LptEnd, id: u16) -> u32
+pub fn lpt_end_finish(alloc: Global, end: &mut LptEnd, id: u16) -> u32
     ensures code { result ≡ answer (refusal_by (finish_refusal id) end.old.held.value) }
     ensures done { result ≡ 0 → IfBoth (IsFinished id) end.old.held.value end.new.held.value }
     ensures refused { ¬ (result ≡ 0) → IfBoth IsSame end.old.held.value end.new.held.value }
@@ -73,13 +70,7 @@ pub extern "C" fn lpt_end_finish(alloc: Global, end: &mut LptEnd, id: u16) -> u3
 ///
 /// 0; 106 where the handle is empty; 109 where none is to be sent; 103 where the buffer is too
 /// short. At 0 and at 103 `needed` tells how many octets the packet has.
-#[unsafe(no_mangle)]
-pub extern "C" fn lpt_end_outgoing(
-    alloc: Global,
-    end: &mut LptEnd,
-    out: &mut [u8],
-    needed: &mut usize,
-) -> u32
+pub fn lpt_end_outgoing(alloc: Global, end: &mut LptEnd, out: &mut [u8], needed: &mut usize) -> u32
     ensures code { result ≡ code_for (outgoing_of end.old.held.value) out.old }
     ensures buffer { out.new ≡ left_by (outgoing_of end.old.held.value) out.old }
     ensures needed { needed.new ≡ needed_by (outgoing_of end.old.held.value) needed.old }
@@ -99,8 +90,7 @@ pub extern "C" fn lpt_end_outgoing(
 /// Lets the packet go that is to be sent first.
 ///
 /// 0; 106 where the handle is empty; 109 where none is to be sent: nothing has changed then.
-#[unsafe(no_mangle)]
-pub extern "C" fn lpt_end_sent(alloc: Global, end: &mut LptEnd) -> u32
+pub fn lpt_end_sent(alloc: Global, end: &mut LptEnd) -> u32
     ensures code { result ≡ answer (refusal_by sent_refusal end.old.held.value) }
     ensures done { result ≡ 0 → IfBoth IsLetGo end.old.held.value end.new.held.value }
     ensures refused { ¬ (result ≡ 0) → IfBoth IsSame end.old.held.value end.new.held.value }

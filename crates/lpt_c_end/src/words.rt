@@ -7,7 +7,7 @@ use lpt_node::{Applied, Config, Direction, Mode, Outcome, Side, Why};
 
 /// What is fixed of an end; the ranges are those of a world's configuration.
 #[repr(C)]
-#[derive(Clone, Copy, Debug)]
+#[derive(Clone, Copy)]
 pub struct LptConfig {
     /// The application process identifier of all packets, 0 to 2046.
     pub apid: u16,
@@ -29,7 +29,7 @@ pub struct LptConfig {
 
 /// What became of a packet: the kind, 1 to 8, and what it says, by the kind.
 #[repr(C)]
-#[derive(Clone, Copy, Debug)]
+#[derive(Clone, Copy)]
 pub struct LptOutcome {
     /// The kind.
     pub kind: u32,
@@ -42,7 +42,7 @@ pub struct LptOutcome {
 
 /// What became of a request that was executed: the kind, 1 to 4, and what it says.
 #[repr(C)]
-#[derive(Clone, Copy, Debug)]
+#[derive(Clone, Copy)]
 pub struct LptApplied {
     /// The kind.
     pub kind: u32,
