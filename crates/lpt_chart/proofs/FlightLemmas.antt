@@ -1,5 +1,5 @@
 -- What draws a flight, and what draws none.
-use Rattle.std.proofs.Common.{◌≡◌, ◌∙◌, ℕ, zero, suc, ◌-◌, ◌==◌, Bool, true, false, List, length, refl, Option, Some, None, if◌then◌else◌}
+use Rattle.std.proofs.Common.{◌≡◌, ◌∙◌, ℕ, zero, suc, ◌-◌, ◌==◌, Bool, true, false, List, [], ◌∷◌, length, refl, Option, Some, None, if◌then◌else◌}
 use Rattle.std.specs.Option.{option_map_or}
 use Rattle.lpt_events.specs.LptPacket.declared.direction.Direction.{Direction}
 use Rattle.lpt_events.specs.LptPacket.declared.direction.Direction.TheVariants.{Up, Down}
@@ -18,7 +18,8 @@ use Rattle.lpt_chart.specs.declared.marks.Saying.{Saying}
 use Rattle.lpt_chart.specs.declared.marks.Saying.TheVariants as say
 use Rattle.lpt_chart.specs.declared.marks.Stage.{Stage}
 use Rattle.lpt_chart.specs.declared.marks.Task.{Task}
-use Rattle.lpt_chart.specs.Events.{came_to, executed, expired, finished, message_opened, packet_lost, packet_put, packet_taken, restarted, worked}
+use Rattle.lpt_chart.specs.declared.refusal.Refusal.{Refusal}
+use Rattle.lpt_chart.specs.Events.{came_to, executed, expired, finished, message_opened, packet_lost, packet_put, packet_taken, refusal_at, refusal_rows, restarted, worked}
 use Rattle.lpt_chart.specs.Pictures.{Picture, cleared, landed, lost, one_more, passed, put, reported, retold, rowed, run_of, said, said_on, same_ground, taken, takes, ticked, tracked, with_job, without_job}
 
 -- ---- what draws no flight
@@ -78,6 +79,16 @@ reported-flights zero p = refl
 reported-flights (suc k) p =
     reported-flights k (put (said_on p (say.Put Down (length p.sent) Report)) Down Report None)
     ∙ report-flights p (say.Put Down (length p.sent) Report) Down Report
+
+-- a refused line
+pub refusal-flights : (p : Picture) (place : ℕ) → (refusal_at p place).flights ≡ p.flights
+unfolding rowed
+refusal-flights p place = refl
+
+-- so many of them
+pub refused-flights : (refused : List Refusal) (p : Picture) → (refusal_rows p refused).flights ≡ p.flights
+refused-flights [] p = refl
+refused-flights (r ∷ rs) p = refused-flights rs (refusal_at p r.place) ∙ refusal-flights p r.place
 
 -- what a delivery does to the tracks
 pub came_to-flights : (p : Picture) (held : Option Held) (d : Direction) (o : Outcome)

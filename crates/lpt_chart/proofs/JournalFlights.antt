@@ -1,11 +1,12 @@
 -- Each delivery of a journal is drawn once.
-use Rattle.std.proofs.Common.{◌≡◌, ◌∙◌, ℕ, ◌+◌, ◌++◌, List, [], ◌∷◌, map, filter, ap, sym, append_assoc, append-nil}
+use Rattle.std.proofs.Common.{◌≡◌, ◌∙◌, ℕ, ◌+◌, ◌++◌, List, [], ◌∷◌, map, filter, take, drop, ap, sym, append_assoc, append-nil}
 use Rattle.lpt_events.specs.declared.entry.Entry.{Entry}
+use Rattle.lpt_chart.specs.declared.refusal.Refusal.{Refusal}
 use Rattle.lpt_chart.specs.Deliveries.{DrawsDeliveries, DrawsReleases, deliveries_from, delivery_in, is_release, shown_by}
-use Rattle.lpt_chart.specs.Events.{after, after_all, drawn, own_puts}
+use Rattle.lpt_chart.specs.Events.{after, after_all, before, drawn, own_puts, refusal_at, refusal_rows}
 use Rattle.lpt_chart.specs.Pictures.{Picture, blank}
 use Rattle.lpt_chart.proofs.EventFlights.{drawn-flights}
-use Rattle.lpt_chart.proofs.FlightLemmas.{reported-flights}
+use Rattle.lpt_chart.proofs.FlightLemmas.{refused-flights, reported-flights}
 
 -- an entry
 pub after-flights : (p : Picture) (place : ℕ) (x : Entry)
@@ -15,19 +16,23 @@ after-flights p place x =
     ap (map shown_by) (reported-flights (own_puts x.event x.reply.puts) (drawn q x.event x.reply.answer))
     ∙ drawn-flights q x.event x.reply.answer
 
--- entries from a place on
-pub after_all-flights : (xs : List Entry) (p : Picture) (place : ℕ)
-    → map shown_by (after_all p place xs).flights ≡ map shown_by p.flights ++ deliveries_from place xs
-after_all-flights [] p place = sym (append-nil (map shown_by p.flights))
-after_all-flights (x ∷ xs) p place =
-    after_all-flights xs (after p place x) (place + 1)
-    ∙ ap (λ t. t ++ deliveries_from (place + 1) xs) (after-flights p place x)
+-- entries from a place on, and refused lines
+pub after_all-flights : (xs : List Entry) (p : Picture) (place : ℕ) (refused : List Refusal)
+    → map shown_by (after_all p place xs refused).flights ≡ map shown_by p.flights ++ deliveries_from place xs
+after_all-flights [] p place refused =
+    ap (map shown_by) (refused-flights refused p) ∙ sym (append-nil (map shown_by p.flights))
+after_all-flights (x ∷ xs) p place refused =
+    let front = take (before place refused) refused in
+    let q = refusal_rows p front in
+    after_all-flights xs (after q place x) (place + 1) (drop (before place refused) refused)
+    ∙ ap (λ t. t ++ deliveries_from (place + 1) xs)
+    (after-flights q place x ∙ ap (λ fs. map shown_by fs ++ delivery_in place x.event x.reply.answer) (refused-flights front p))
     ∙ append_assoc (map shown_by p.flights) (delivery_in place x.event x.reply.answer) (deliveries_from (place + 1) xs)
 
 -- each delivery of a journal is drawn once, in order
-pub picture-flights : (journal : List Entry) → DrawsDeliveries journal
-picture-flights journal = after_all-flights journal blank 0
+pub picture-flights : (journal : List Entry) (refused : List Refusal) → DrawsDeliveries journal refused
+picture-flights journal refused = after_all-flights journal blank 0 refused
 
 -- and each release
-pub picture-releases : (journal : List Entry) → DrawsReleases journal
-picture-releases journal = ap (filter is_release) (picture-flights journal)
+pub picture-releases : (journal : List Entry) (refused : List Refusal) → DrawsReleases journal refused
+picture-releases journal refused = ap (filter is_release) (picture-flights journal refused)

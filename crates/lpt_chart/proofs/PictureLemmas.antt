@@ -1,5 +1,5 @@
 -- What loops over entries, columns and own packets draw.
-use Rattle.std.proofs.Common.{◌≡◌, ◌∙◌, ℕ, ◌+◌, ◌<◌, ◌++◌, List, ◌∷◌, drop, length, refl, ap, sym, append_assoc, add-one, Option, None, get_or, option_to_list}
+use Rattle.std.proofs.Common.{◌≡◌, ◌∙◌, ℕ, ◌+◌, ◌<◌, ◌++◌, List, ◌∷◌, drop, take, length, refl, ap, sym, append_assoc, add-one, Option, None, get_or, option_to_list}
 use Rattle.std.proofs.Math.Seq.{drop-cons}
 use Rattle.lpt_events.specs.LptPacket.declared.direction.Direction.TheVariants.{Down}
 use Rattle.lpt_events.specs.declared.entry.Entry.{Entry}
@@ -8,7 +8,8 @@ use Rattle.lpt_chart.specs.declared.marks.Bar.{Bar}
 use Rattle.lpt_chart.specs.declared.marks.Content.TheVariants.{Report}
 use Rattle.lpt_chart.specs.declared.marks.Saying.TheVariants as say
 use Rattle.lpt_chart.specs.declared.marks.Track.{Track}
-use Rattle.lpt_chart.specs.Events.{after, after_all}
+use Rattle.lpt_chart.specs.declared.refusal.Refusal.{Refusal}
+use Rattle.lpt_chart.specs.Events.{after, after_all, before, refusal_rows}
 use Rattle.lpt_chart.specs.Pictures.{Picture, put, reported, said_on}
 use Rattle.lpt_chart.specs.Tracks.{all_bars, bar_up_to}
 
@@ -33,20 +34,13 @@ pub reported_next : (a b : ℕ) (p q r : Picture)
 reported_next a b p q r e row packet =
     ap (reported b) (packet ∙ ap (λ x. put x Down Report None) row) ∙ sym (reported_more a b p e)
 
--- an entry more
-pub after_next : (p q : Picture) (place : ℕ) (x : Entry) (xs more : List Entry)
-    → xs ≡ x ∷ more
-    → q ≡ after p place x
-    → after_all q (place + 1) more ≡ after_all p place xs
-after_next p q place x xs more e row =
-    ap (λ y. after_all y (place + 1) more) row ∙ sym (ap (after_all p place) e)
-
--- the entry of a place, and those after it
-pub entry_step : (p : Picture) (i : ℕ) (xs : List Entry) (d : Entry)
+-- the entry of a place behind its refused lines, and those after it
+pub entry_step : (p : Picture) (i : ℕ) (xs : List Entry) (d : Entry) (refused : List Refusal)
     → i < length xs
-    → after_all (after p i (get_or xs i d)) (i + 1) (drop (i + 1) xs) ≡ after_all p i (drop i xs)
-entry_step p i xs d within =
-    after_next p (after p i (get_or xs i d)) i (get_or xs i d) (drop i xs) (drop (i + 1) xs) (drop_step xs i d within) refl
+    → after_all (after (refusal_rows p (take (before i refused) refused)) i (get_or xs i d)) (i + 1) (drop (i + 1) xs)
+    (drop (before i refused) refused)
+    ≡ after_all p i (drop i xs) refused
+entry_step p i xs d refused within = sym (ap (λ ys. after_all p i ys refused) (drop_step xs i d within))
 
 -- a column, and those after it
 pub column_step : (front : List Bar) (side : Side) (here i : ℕ) (columns : List (Option Track)) (d : Option Track)

@@ -10,6 +10,7 @@ use Rattle.lpt_chart.specs.declared.marks.Bar.{Bar}
 use Rattle.lpt_chart.specs.declared.marks.Flight.{Flight}
 use Rattle.lpt_chart.specs.declared.marks.Loss.{Loss}
 use Rattle.lpt_chart.specs.declared.marks.Row.{Row}
+use Rattle.lpt_chart.specs.declared.refusal.Refusal.{Refusal}
 use Rattle.lpt_chart.specs.declared.style.Letters.TheVariants.{Title, Grey, Small, Node}
 use Rattle.lpt_chart.specs.declared.shape.Shape.TheVariants as shape
 use Rattle.lpt_chart.specs.declared.style.Style.TheVariants as style
@@ -154,17 +155,17 @@ losses_onto f out losses = fold (loss_onto f) out losses
 abbrev pub flights_onto : Frame → List ℕ → List Flight → List ℕ
 flights_onto f out flights = fold (flight_onto f) out flights
 
-abbrev pub rows_onto : Frame → List ℕ → List Row → List ℕ
-rows_onto f out rows = fold (row_onto f) out rows
+abbrev pub rows_onto : Frame → List Refusal → List ℕ → List Row → List ℕ
+rows_onto f refused out rows = fold (row_onto f refused) out rows
 
 -- the grounds of the rows, under all else
 unfoldable pub grounds_onto : Frame → List ℕ → Picture → List ℕ
 grounds_onto f out p = bases_onto f (out ++ window_text f) p.rows ++ closing_text
 
 -- all else that is drawn of rows: rows over deliveries over losses over tracks
-unfoldable pub window_onto : Frame → List ℕ → Picture → List ℕ
-window_onto f out p =
-    rows_onto f
+unfoldable pub window_onto : Frame → List Refusal → List ℕ → Picture → List ℕ
+window_onto f refused out p =
+    rows_onto f refused
     (flights_onto f
     (hands_onto f (losses_onto f (bars_onto f (out ++ window_text f) p.bars) p.losses) p)
     p.flights)
@@ -185,11 +186,11 @@ head_of f events c p title =
     events c p title
 
 -- a picture of so many events
-unfoldable pub picture_text : (events : ℕ) → Choice → (title : List ℕ) → Picture → List ℕ
-picture_text events c title p =
-    let f = frame_of c title p in
-    foot_onto f (window_onto f (ends_onto f (grounds_onto f (head_of f events c p title) p)) p) ++ closing_text
+unfoldable pub picture_text : (events : ℕ) → Choice → (title : List ℕ) → List Refusal → Picture → List ℕ
+picture_text events c title refused p =
+    let f = frame_of c title refused p in
+    foot_onto f (window_onto f refused (ends_onto f (grounds_onto f (head_of f events c p title) p)) p) ++ closing_text
 
--- the picture of a journal
-abbrev pub chart_text : Choice → (title : List ℕ) → List Entry → List ℕ
-chart_text c title journal = picture_text (length journal) c title (picture journal)
+-- the picture of a journal, with lines that were refused
+abbrev pub chart_text : Choice → (title : List ℕ) → List Entry → List Refusal → List ℕ
+chart_text c title journal refused = picture_text (length journal) c title refused (picture journal refused)

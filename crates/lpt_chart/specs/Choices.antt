@@ -7,7 +7,9 @@ use Rattle.lpt_chart.specs.declared.choice.Choice.{Choice}
 use Rattle.lpt_chart.specs.declared.frame.Frame.{Frame}
 use Rattle.lpt_chart.specs.declared.marks.Row.{Row}
 use Rattle.lpt_chart.specs.declared.marks.Saying.{Saying}
+use Rattle.lpt_chart.specs.declared.refusal.Refusal.{Refusal}
 use Rattle.lpt_chart.specs.Pictures.{Picture}
+use Rattle.lpt_chart.specs.Refusals.{widest_refusal}
 use Rattle.lpt_chart.specs.Sayings.{saying_side, saying_words}
 
 -- ---- which rows are drawn
@@ -102,5 +104,6 @@ frame_with c title p left right = record {
 }
 
 -- the frame of a picture
-abbrev pub frame_of : Choice → (title : List ℕ) → Picture → Frame
-frame_of c title p = frame_with c title p (widest_at Ground p.rows) (widest_at Craft p.rows)
+abbrev pub frame_of : Choice → (title : List ℕ) → List Refusal → Picture → Frame
+frame_of c title refused p =
+    frame_with c title p (widest_at Ground p.rows) (widest_refusal (widest_at Craft p.rows) refused)

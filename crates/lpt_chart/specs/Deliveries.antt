@@ -8,6 +8,7 @@ use Rattle.lpt_events.specs.declared.outcome.Outcome.{Outcome}
 use Rattle.lpt_events.specs.declared.outcome.Outcome.TheVariants.{Released, PlainReleased}
 use Rattle.lpt_events.specs.declared.reply.Answer.{Answer}
 use Rattle.lpt_chart.specs.declared.marks.Flight.{Flight}
+use Rattle.lpt_chart.specs.declared.refusal.Refusal.{Refusal}
 use Rattle.lpt_chart.specs.Answers.{outcome_in}
 use Rattle.lpt_chart.specs.Events.{picture}
 
@@ -40,9 +41,9 @@ deliveries journal = deliveries_from 0 journal
 abbrev pub shown_by : Flight → Delivery
 shown_by f = record { place = f.place; lane = f.lane; outcome = f.outcome }
 
--- the flights draw the deliveries of the journal, each once, in order
-abbrev pub DrawsDeliveries : List Entry → Type 0
-DrawsDeliveries journal = map shown_by (picture journal).flights ≡ deliveries journal
+-- the flights draw the deliveries of the journal, each once, in order, whatever lines were refused
+abbrev pub DrawsDeliveries : List Entry → List Refusal → Type 0
+DrawsDeliveries journal refused = map shown_by (picture journal refused).flights ≡ deliveries journal
 
 -- whether an outcome is a release
 abbrev pub releases : Outcome → Bool
@@ -55,6 +56,6 @@ abbrev pub is_release : Delivery → Bool
 is_release d = releases d.outcome
 
 -- and so each release, once, in order
-abbrev pub DrawsReleases : List Entry → Type 0
-DrawsReleases journal =
-    filter is_release (map shown_by (picture journal).flights) ≡ filter is_release (deliveries journal)
+abbrev pub DrawsReleases : List Entry → List Refusal → Type 0
+DrawsReleases journal refused =
+    filter is_release (map shown_by (picture journal refused).flights) ≡ filter is_release (deliveries journal)

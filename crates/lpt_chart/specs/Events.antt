@@ -1,5 +1,5 @@
 -- What each event draws, and the picture of a journal.
-use Rattle.std.specs.Prelude.{ℕ, ◌+◌, ◌-◌, ◌^◌, min, if◌then◌else◌, List, [], ◌∷◌, ◌++◌, length, slice_get, Option, Some, None, option_to_list}
+use Rattle.std.specs.Prelude.{ℕ, ◌+◌, ◌-◌, ◌^◌, min, nat_lt, if◌then◌else◌, List, [], ◌∷◌, ◌++◌, length, take, drop, fold, position, slice_get, Option, Some, None, option_to_list}
 use Rattle.std.specs.Option.{option_map_or}
 use Rattle.lpt_events.specs.LptPacket.declared.direction.Direction.{Direction}
 use Rattle.lpt_events.specs.LptPacket.declared.direction.Direction.TheVariants.{Up, Down}
@@ -28,8 +28,9 @@ use Rattle.lpt_chart.specs.declared.marks.Stage.{Stage}
 use Rattle.lpt_chart.specs.declared.marks.Stage.TheVariants.{Sending, Kept, Claimed, Committed}
 use Rattle.lpt_chart.specs.declared.marks.Task.{Task}
 use Rattle.lpt_chart.specs.declared.marks.Track.{Track}
+use Rattle.lpt_chart.specs.declared.refusal.Refusal.{Refusal}
 use Rattle.lpt_chart.specs.Answers.{applied_in, boot_in, claimed_in, clock_in, committed_in, expired_in, is_finished, is_lost, is_retired, is_taken, number_put, outcome_in, parts_opened, stale_in}
-use Rattle.lpt_chart.specs.Pictures.{Picture, at_side, blank, cleared, flown, hand_in, landed, lost, put, reported, said, taken, task_next, ticked, tracked, with_job, without_job}
+use Rattle.lpt_chart.specs.Pictures.{Picture, at_side, blank, cleared, flown, hand_in, landed, lost, one_more, put, reported, said, taken, task_next, ticked, tracked, with_job, without_job}
 use Rattle.lpt_chart.specs.Tasks.{asked_from, asked_in}
 use Rattle.lpt_chart.specs.Tracks.{all_bars, kept_of, parts_of, task_of}
 
@@ -220,10 +221,26 @@ abbrev pub after : Picture → ℕ → Entry → Picture
 after p place x =
     reported (own_puts x.event x.reply.puts) (drawn (record p { place = place }) x.event x.reply.answer)
 
--- the picture after the entries from this place on
-abbrev pub after_all : Picture → ℕ → List Entry → Picture
-after_all p place [] = p
-after_all p place (x ∷ xs) = after_all (after p place x) (place + 1) xs
+-- a row for the next refused line, whose place is this
+abbrev pub refusal_at : Picture → (place : ℕ) → Picture
+refusal_at p place =
+    record (said (record p { place = place }) (say.Refused p.refused)) { refused = one_more p.refused }
+
+-- rows for refused lines
+abbrev pub refusal_rows : Picture → List Refusal → Picture
+refusal_rows p refused = fold (λ q r. refusal_at q r.place) p refused
+
+-- how many refused lines come before the entry of a place
+abbrev pub before : ℕ → List Refusal → ℕ
+before place refused =
+    option_map_or (λ i. i) (position (λ r. nat_lt place r.place) refused) (length refused)
+
+-- the picture after the entries from this place on, and the lines that were refused between them
+abbrev pub after_all : Picture → ℕ → List Entry → List Refusal → Picture
+after_all p place [] refused = refusal_rows p refused
+after_all p place (x ∷ xs) refused =
+    after_all (after (refusal_rows p (take (before place refused) refused)) place x) (place + 1) xs
+    (drop (before place refused) refused)
 
 -- the picture of a journal, to its end: what is open goes on to the last row
 abbrev pub closed : Picture → Picture
@@ -233,6 +250,6 @@ closed p = record p {
   bars = (p.bars ++ all_bars Ground p.next 0 p.ground) ++ all_bars Craft p.next 0 p.craft;
 }
 
--- the picture of a journal
-abbrev pub picture : List Entry → Picture
-picture journal = closed (after_all blank 0 journal)
+-- the picture of a journal, with lines that were refused
+abbrev pub picture : List Entry → List Refusal → Picture
+picture journal refused = closed (after_all blank 0 journal refused)

@@ -11,7 +11,7 @@ use Rattle.lpt_chart.specs.declared.style.Style.TheVariants as style
 use Rattle.lpt_chart.specs.Bars.{stage_onto}
 use Rattle.lpt_chart.specs.Flights.{released_onto}
 use Rattle.lpt_chart.specs.Frames.{y_of}
-use Rattle.lpt_chart.specs.Rows.{bead_onto, ring_onto, square_onto}
+use Rattle.lpt_chart.specs.Rows.{bead_onto, crossed_onto, ring_onto, square_onto}
 use Rattle.lpt_chart.specs.Shapes.{drawn_onto, written_onto}
 
 -- a sample, from a left edge on
@@ -25,6 +25,7 @@ sample_onto out x at sample.Cross = drawn_onto out (shape.Cross (x + 18) (y_of a
 sample_onto out x at sample.Hourglass = drawn_onto out (shape.Hourglass (x + 18) (y_of at) style.Ink)
 sample_onto out x at sample.Released = released_onto out (x + 18) at 0 Up
 sample_onto out x at sample.Ring = ring_onto out (x + 18) at style.InkEdge
+sample_onto out x at sample.Crossed = crossed_onto out (x + 18) at
 sample_onto out x at sample.Stroke = drawn_onto out (shape.Line (x + 13) (y_of at) (x + 23) (y_of at) style.Life)
 sample_onto out x at sample.Double = drawn_onto out (shape.Box (x + 4) (y_of at - 2) 28 4 0 style.InkEdge)
 
@@ -75,6 +76,7 @@ right_onto out =
     ∷ (8, (sample.Open Committed, codes "reading of the job committed"))
     ∷ (10, (sample.Stroke, codes "a clock goes on"))
     ∷ (12, (sample.Double, codes "node starts anew"))
+    ∷ (14, (sample.Crossed, codes "line refused"))
     ∷ [])
 
 -- the legend

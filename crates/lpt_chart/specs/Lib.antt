@@ -8,6 +8,7 @@ pub mod Flights
 pub mod Frames
 pub mod Legends
 pub mod Pictures
+pub mod Refusals
 pub mod Rows
 pub mod Sayings
 pub mod Shapes

@@ -50,6 +50,8 @@ pub record Picture : Type 0 where
   pub boot : ℕ
   pub tasks : List (Option Task)
   pub applied : ℕ
+  -- how many refused lines were drawn
+  pub refused : ℕ
   -- what was drawn beside rows
   pub flights : List Flight
   pub losses : List Loss
@@ -74,6 +76,7 @@ blank = record {
   boot = 0;
   tasks = [];
   applied = 0;
+  refused = 0;
   flights = [];
   losses = [];
   bars = [];

@@ -1,5 +1,5 @@
 -- How a row is drawn: its place, its words, and its mark on a line of life.
-use Rattle.std.specs.Prelude.{ℕ, ◌+◌, ◌-◌, ◌*◌, not, if◌then◌else◌, List, decimal}
+use Rattle.std.specs.Prelude.{ℕ, ◌+◌, ◌-◌, ◌*◌, not, if◌then◌else◌, List, decimal, Option, Some, None}
 use Rattle.lpt_events.specs.LptPacket.declared.direction.Direction.{Direction}
 use Rattle.lpt_events.specs.declared.applied.Applied.{Applied}
 use Rattle.lpt_events.specs.declared.applied.Applied.TheVariants.{Done, Silent, Code}
@@ -11,13 +11,15 @@ use Rattle.lpt_chart.specs.declared.marks.Content.TheVariants.{Part, Request, Re
 use Rattle.lpt_chart.specs.declared.marks.Row.{Row}
 use Rattle.lpt_chart.specs.declared.marks.Saying.{Saying}
 use Rattle.lpt_chart.specs.declared.marks.Saying.TheVariants as say
+use Rattle.lpt_chart.specs.declared.refusal.Refusal.{Refusal}
 use Rattle.lpt_chart.specs.declared.style.Letters.{Letters}
-use Rattle.lpt_chart.specs.declared.style.Letters.TheVariants.{Place, Bead}
+use Rattle.lpt_chart.specs.declared.style.Letters.TheVariants.{Place, Bead, RightQuiet}
 use Rattle.lpt_chart.specs.declared.shape.Shape.TheVariants.{Line, Box, Cross, Hourglass}
 use Rattle.lpt_chart.specs.declared.style.Style.{Style}
 use Rattle.lpt_chart.specs.declared.style.Style.TheVariants as style
 use Rattle.lpt_chart.specs.Frames.{across_from, across_to, half, middle_x, shows, side_x, top_of, y_of}
 use Rattle.lpt_chart.specs.Events.{from_side, to_side}
+use Rattle.lpt_chart.specs.Refusals.{refusal_in, refusal_words}
 use Rattle.lpt_chart.specs.Sayings.{saying_side, saying_words}
 use Rattle.lpt_chart.specs.Shapes.{drawn_onto, written_onto}
 use Rattle.lpt_chart.specs.Tellings.{has_place, is_told, side_letters, weight_of}
@@ -77,7 +79,12 @@ retired_onto f out at =
     (side_x f Ground) at style.InkEdge)
     (side_x f Craft) at style.InkEdge
 
--- the mark of a row on a line of life; deliveries, losses and what is open have marks of their own
+-- a crossed ring
+unfoldable pub crossed_onto : List ℕ → (x at : ℕ) → List ℕ
+crossed_onto out x at = drawn_onto (ring_onto out x at style.InkEdge) (Cross x (y_of at) style.Life)
+
+-- the mark of a row on a line of life; deliveries, losses and what is open have marks of their own;
+-- that of a refused line stands in place of a row's place
 unfoldable pub mark_onto : Frame → List ℕ → (at : ℕ) → Saying → List ℕ
 mark_onto f out at (say.Opened d id len parts) = square_onto out (side_x f (from_side d)) at style.InkEdge
 mark_onto f out at (say.Put d number content) = put_onto out (start_x f d content) at number d content
@@ -94,6 +101,7 @@ mark_onto f out at (say.Stale w boot job) = drawn_onto out (Cross (side_x f Craf
 mark_onto f out at (say.Applied boot job task a) = applied_onto out (side_x f Craft) at a
 mark_onto f out at (say.Retired d id) = retired_onto f out at
 mark_onto f out at (say.Restarted side boot) = double_onto f out at side
+mark_onto f out at (say.Refused k) = crossed_onto out 44 at
 
 -- the line from a row's mark to its words
 unfoldable pub leader_onto : Frame → List ℕ → (at : ℕ) → Side → List ℕ
@@ -128,7 +136,16 @@ told_onto f out r =
 unfoldable pub placed_onto : List ℕ → Row → List ℕ
 placed_onto out r = if has_place r.saying then written_onto out 52 (y_of r.at + 4) Place (decimal r.place) else out
 
+-- the words of a refused line
+unfoldable pub refusal_onto : Frame → List ℕ → (at : ℕ) → Option Refusal → List ℕ
+refusal_onto f out at None = out
+refusal_onto f out at (Some r) = words_onto f out at Craft RightQuiet (refusal_words r)
+
+-- a row's words, those of a refused line too
+unfoldable pub says_onto : Frame → List Refusal → List ℕ → Row → List ℕ
+says_onto f refused out r = refusal_onto f (told_onto f out r) r.at (refusal_in refused r.saying)
+
 -- a row, where its height is drawn
-unfoldable pub row_onto : Frame → List ℕ → Row → List ℕ
-row_onto f out r =
-    if shows f r.at r.at then mark_onto f (told_onto f (placed_onto out r) r) r.at r.saying else out
+unfoldable pub row_onto : Frame → List Refusal → List ℕ → Row → List ℕ
+row_onto f refused out r =
+    if shows f r.at r.at then mark_onto f (says_onto f refused (placed_onto out r) r) r.at r.saying else out

@@ -208,7 +208,7 @@ unfoldable pub expired_words : Direction → Name → (kept parts : ℕ) → Lis
 expired_words d id kept parts =
     joined (codes "expired " ∷ direction_word d ∷ codes " " ∷ decimal id ∷ codes ": " ∷ decimal kept ∷ of_words parts ∷ [])
 
--- what a row says
+-- what a row says; a refused line has words of its own
 unfoldable pub saying_words : Saying → List ℕ
 saying_words (say.Opened d id len parts) = opened_words d id len parts
 saying_words (say.Put d number content) = content_words d content
@@ -225,6 +225,7 @@ saying_words (say.Stale w boot job) = stale_words w boot job
 saying_words (say.Applied boot job task a) = applied_words boot job task a
 saying_words (say.Retired d id) = named_words (codes "retired") d id
 saying_words (say.Restarted side boot) = restarted_words boot
+saying_words (say.Refused k) = []
 
 -- the node at whose side the words stand
 unfoldable pub saying_side : Saying → Side
@@ -243,3 +244,4 @@ saying_side (say.Stale w boot job) = Craft
 saying_side (say.Applied boot job task a) = Craft
 saying_side (say.Retired d id) = from_side d
 saying_side (say.Restarted side boot) = side
+saying_side (say.Refused k) = Craft

@@ -40,6 +40,7 @@ weight_of (say.Stale w boot job) = Plain
 weight_of (say.Applied boot job task a) = Strong
 weight_of (say.Retired d id) = Plain
 weight_of (say.Restarted side boot) = Strong
+weight_of (say.Refused k) = Quiet
 
 -- the letters of words at a node's side
 unfoldable pub side_letters : Side → Weight → Letters
@@ -50,12 +51,16 @@ side_letters Craft Quiet = RightQuiet
 side_letters Craft Plain = Right
 side_letters Craft Strong = RightStrong
 
--- whether a row has words and a line to them; a take that is delivered right after has none
+-- whether a row has words and a line to them; a take that is delivered right after has none, and a
+-- refused line is of no node
 abbrev pub is_told : Saying → Bool
 is_told (say.Passed l number) = false
+is_told (say.Refused k) = false
 is_told _ = true
 
--- whether a row shows its place; a packet that the spacecraft puts of its own goes on with its event
+-- whether a row shows its place; a packet that the spacecraft puts of its own goes on with its event,
+-- and a refused line is no event
 abbrev pub has_place : Saying → Bool
 has_place (say.Put d number Report) = false
+has_place (say.Refused k) = false
 has_place _ = true

@@ -4,6 +4,7 @@ ghost use Rattle.std.specs.Prelude.{◌≡◌, OnOk};
 ghost use Rattle.lpt_chart.specs.Events.{came_to, delivered, first_told, parts_held, parts_in_content, released_by, second_told, task_held, to_side};
 ghost use Rattle.lpt_chart.specs.Pictures.{tracked};
 
+use crate::hands::in_hand;
 use crate::marks::{Content, Held, Kind, Saying, Stage, Task};
 use crate::picture::{Picture, to_side};
 use lpt_events::{Direction, Lane, Name, Outcome, Side};
@@ -15,7 +16,7 @@ impl Picture {
         ensures { OnOk result (self.new ≡ delivered self.old lane outcome) }
     {
         let direction = lane.direction();
-        let held = self.hand(lane);
+        let held = in_hand(self.hands, lane);
         let first = self.first_told(direction, outcome);
         let second = self.second_told(held, direction, outcome);
         self.land(lane, Saying::Delivered(lane, outcome, first, second))?;
@@ -30,9 +31,9 @@ impl Picture {
     {
         match (direction, outcome) {
             (_, Outcome::Kept(id, _)) => u64::from(self.kept_then(direction, id)),
-            (Direction::Up, Outcome::Released(_, _)) => self.boot(),
+            (Direction::Up, Outcome::Released(_, _)) => self.boot,
             (Direction::Down, Outcome::Released(_, _)) => 0,
-            (_, Outcome::PlainReleased(_)) => self.boot(),
+            (_, Outcome::PlainReleased(_)) => self.boot,
             (_, Outcome::Again(_, _) | Outcome::ReportNoted(_, _)) => 0,
             (_, Outcome::AbortNoted(_, _) | Outcome::Broken(_, _) | Outcome::Ignored(_)) => 0,
         }
@@ -45,9 +46,9 @@ impl Picture {
     {
         match (direction, outcome) {
             (_, Outcome::Kept(_, _)) => u64::from(parts_held(held)),
-            (Direction::Up, Outcome::Released(_, _)) => self.released(),
+            (Direction::Up, Outcome::Released(_, _)) => self.tasks.len() as u64,
             (Direction::Down, Outcome::Released(_, _)) => 0,
-            (_, Outcome::PlainReleased(_)) => self.released(),
+            (_, Outcome::PlainReleased(_)) => self.tasks.len() as u64,
             (_, Outcome::Again(_, _) | Outcome::ReportNoted(_, _)) => 0,
             (_, Outcome::AbortNoted(_, _) | Outcome::Broken(_, _) | Outcome::Ignored(_)) => 0,
         }

@@ -6,6 +6,7 @@ ghost use Rattle.lpt_chart.specs.Choices.{frame_of, frame_with, height_of, hidde
 use crate::frame::Frame;
 use crate::marks::{Row, Saying};
 use crate::picture::Picture;
+use crate::refusal::{Refusal, widest_refusal};
 use crate::saying::saying_words;
 use crate::telling::saying_side;
 use crate::title::title_room;
@@ -14,7 +15,7 @@ use std::alloc::{AllocError, Global};
 
 /// Which rows are drawn: those from a place of the journal on, and up to one. Where neither is
 /// given, the first 400.
-#[derive(Clone, Copy, Debug, PartialEq, Eq)]
+#[derive(Clone, Copy)]
 pub struct Choice {
     /// The first place of which rows are drawn.
     pub from: Option<u64>,
@@ -88,9 +89,9 @@ pub(crate) fn hidden_below(choice: Choice, rows: &[Row]) -> usize
 fn height_of(picture: &Picture, row: usize) -> u32
     ensures { result ≡ height_of picture.now row }
 {
-    match picture.rows().get(row) {
+    match picture.rows.get(row) {
         Some(row) => row.at,
-        None => picture.end(),
+        None => picture.next,
     }
 }
 
@@ -146,8 +147,8 @@ fn frame_with(choice: Choice, title: &[u8], picture: &Picture, left: u32, right:
     ensures { result ≡ frame_with choice title.now picture.now left right }
 {
     let words = 60 + wide_of(left);
-    let ground = 46 + 12 * (picture.ground_columns().min(64) as u32);
-    let craft = 420 + 12 * (picture.craft_columns().min(64) as u32);
+    let ground = 46 + 12 * (picture.ground.len().min(64) as u32);
+    let craft = 420 + 12 * (picture.craft.len().min(64) as u32);
     let room = title_room(title);
     Frame {
         words,
@@ -157,8 +158,8 @@ fn frame_with(choice: Choice, title: &[u8], picture: &Picture, left: u32, right:
         head: 92 + room,
         window: 130 + room,
         margin: 8,
-        top: height_of(picture, hidden_above(choice, picture.rows())),
-        bottom: height_of(picture, row_end(choice, picture.rows())),
+        top: height_of(picture, hidden_above(choice, picture.rows.as_slice())),
+        bottom: height_of(picture, row_end(choice, picture.rows.as_slice())),
     }
 }
 
@@ -167,11 +168,13 @@ pub(crate) fn frame_of(
     alloc: Global,
     choice: Choice,
     title: &[u8],
+    refused: &[Refusal],
     picture: &Picture,
 ) -> Result<Frame, AllocError>
-    ensures { IfOk result (λ f. f ≡ frame_of choice title.now picture.now) }
+    ensures { IfOk result (λ f. f ≡ frame_of choice title.now refused.now picture.now) }
 {
-    let left = widest_at(alloc, Side::Ground, picture.rows())?;
-    let right = widest_at(alloc, Side::Craft, picture.rows())?;
+    let left = widest_at(alloc, Side::Ground, picture.rows.as_slice())?;
+    let right = widest_at(alloc, Side::Craft, picture.rows.as_slice())?;
+    let right = widest_refusal(alloc, right, refused)?;
     Ok(frame_with(choice, title, picture, left, right))
 }

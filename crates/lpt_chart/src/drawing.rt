@@ -1,33 +1,96 @@
 //! What each event draws.
 
-ghost use Rattle.std.specs.Prelude.{◌≡◌, IfOk, OnOk};
-ghost use Rattle.lpt_chart.specs.Events.{after, direction_of, drawn, executed, expired, finished, message_opened, own_puts, packet_lost, packet_put, packet_taken, part_put, picture, restarted, worked};
+ghost use Rattle.std.specs.Prelude.{◌≡◌, ◌≤◌, length, nat_lt, position, IfOk, IfSome, OnOk};
+ghost use Rattle.lpt_chart.specs.Events.{after, after_all, before, closed, direction_of, drawn, executed, expired, finished, message_opened, own_puts, packet_lost, packet_put, packet_taken, part_put, picture, refusal_at, refusal_rows, restarted, worked};
 
 use crate::marks::{Content, Kind, Saying, Sent, Stage, Task};
-use crate::picture::{Picture, from_side};
+use crate::picture::{Picture, from_side, to_side};
+use crate::refusal::Refusal;
 use crate::task::{asked_from, asked_in};
+use crate::tracks::{kept, parts, task};
 use lpt_events::{Answer, Applied, Direction, Entry, Event, Lane, Name, Puts, Side};
 use std::alloc::{AllocError, Global};
 
-/// What is drawn of a journal.
-#[tactic(auto, using(crate::proofs::PictureLemmas::entry_step))]
-pub(crate) fn draw_journal(alloc: Global, journal: &[Entry]) -> Result<Picture, AllocError>
-    ensures { IfOk result (λ p. p ≡ picture journal.now) }
+/// What is drawn of a journal, with the lines that were refused.
+pub(crate) fn draw_journal(
+    alloc: Global,
+    journal: &[Entry],
+    refused: &[Refusal],
+) -> Result<Picture, AllocError>
+    ensures { IfOk result (λ p. p ≡ picture journal.now refused.now) }
 {
     let mut drawn = Picture::new(alloc);
-    for (place, entry) in journal.iter().enumerate() {
-        drawn.add(place as u64, entry)?;
+    match drawn.draw_all(journal, refused) {
+        Ok(()) => Ok(drawn),
+        Err(error) => {
+            drop(drawn);
+            Err(error)
+        }
     }
-    drawn.close()?;
-    Ok(drawn)
+}
+
+// The refused lines behind the entry of this place, where there are some.
+fn found_after(place: u64, refused: &[Refusal]) -> Option<usize>
+    ensures at { result ≡ position (λ r. nat_lt place r.place) refused.now }
+    ensures bound { IfSome result (λ i. i ≤ length refused.now) }
+{
+    refused.iter().position(|refusal| place < refusal.place)
+}
+
+// How many refused lines come before the entry of a place.
+fn before(place: u64, refused: &[Refusal]) -> usize
+    ensures value { result ≡ before place refused.now }
+    ensures bound { result ≤ length refused.now }
+{
+    match found_after(place, refused) {
+        Some(at) => at,
+        None => refused.len(),
+    }
 }
 
 impl Picture {
+    // Draws all entries, and the lines that were refused between them.
+    #[tactic(auto, using(crate::proofs::PictureLemmas::entry_step))]
+    fn draw_all(&mut self, journal: &[Entry], refused: &[Refusal]) -> Result<(), AllocError>
+        ensures { OnOk result (self.new ≡ closed (after_all self.old 0 journal.now refused.now)) }
+    {
+        let mut rest = refused;
+        for (place, entry) in journal.iter().enumerate() {
+            let (front, back) = rest.split_at(before(place as u64, rest));
+            self.refuse(front)?;
+            self.add(place as u64, entry)?;
+            rest = back;
+        }
+        self.refuse(rest)?;
+        self.close()
+    }
+
+    // Draws refused lines.
+    fn refuse(&mut self, refused: &[Refusal]) -> Result<(), AllocError>
+        ensures { OnOk result (self.new ≡ refusal_rows self.old refused.now) }
+    {
+        for refusal in refused {
+            self.add_refusal(refusal.place)?;
+        }
+        Ok(())
+    }
+
+    // Draws the next refused line, whose place is this.
+    #[tactic(auto, unfolding(crate::specs::Pictures::rowed))]
+    fn add_refusal(&mut self, place: u64) -> Result<(), AllocError>
+        ensures { OnOk result (self.new ≡ refusal_at self.old place) }
+    {
+        self.place = place;
+        self.say(Saying::Refused(self.refused))?;
+        self.count_refusal();
+        Ok(())
+    }
+
     // Draws the entry of this place.
     fn add(&mut self, place: u64, entry: &Entry) -> Result<(), AllocError>
         ensures { OnOk result (self.new ≡ after self.old place entry.now) }
     {
-        self.turn_to(place);
+        self.place = place;
         self.draw(&entry.event, entry.reply.answer)?;
         self.report(own_puts(&entry.event, entry.reply.puts))
     }
@@ -119,8 +182,10 @@ impl Picture {
     ) -> Result<(), AllocError>
         ensures { OnOk result (self.new ≡ part_put self.old direction id part number) }
     {
-        let content = Content::Part(id, part, self.parts_of(direction, id));
-        self.put_packet(direction, number, content, self.task_of(direction, id))
+        let columns = self.columns(from_side(direction));
+        let parts = parts(columns, Kind::Sender, u64::from(id));
+        let task = task(columns, Kind::Sender, u64::from(id));
+        self.put_packet(direction, number, Content::Part(id, part, parts), task)
     }
 
     // A packet is put.
@@ -167,8 +232,9 @@ impl Picture {
     fn expire(&mut self, direction: Direction, id: Name) -> Result<(), AllocError>
         ensures { OnOk result (self.new ≡ expired self.old direction id) }
     {
-        let kept = self.kept_of(direction, id);
-        let parts = self.parts_awaited(direction, id);
+        let columns = self.columns(to_side(direction));
+        let kept = kept(columns, Kind::Reception, u64::from(id));
+        let parts = parts(columns, Kind::Reception, u64::from(id));
         self.say(Saying::Expired(direction, id, kept, parts))?;
         self.receive(direction, id, None)
     }
@@ -185,7 +251,7 @@ impl Picture {
     fn execute(&mut self, applied: Applied) -> Result<(), AllocError>
         ensures { OnOk result (self.new ≡ executed self.old applied) }
     {
-        let (boot, job) = (self.boot(), self.applied());
+        let (boot, job) = (self.boot, self.applied);
         self.say(Saying::Applied(boot, job, self.task_next(), applied))?;
         self.apply()?;
         match applied {

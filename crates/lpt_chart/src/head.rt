@@ -59,9 +59,9 @@ fn counts_words(
 fn print_counts(alloc: Global, events: u64, picture: &Picture) -> Result<String, AllocError>
     ensures { IfOk result (λ t. string_bytes t ≡ counts_text events picture.now) }
 {
-    let packets = picture.packets() as u64;
-    let flights = picture.flights().len() as u64;
-    let losses = picture.losses().len() as u64;
+    let packets = picture.sent.len() as u64;
+    let flights = picture.flights.len() as u64;
+    let losses = picture.losses.len() as u64;
     counts_words(alloc, events, packets, flights, losses)
 }
 
@@ -136,8 +136,8 @@ fn write_names(
         Letters::Grey,
         counts.as_bytes(),
     )?;
-    let above = hidden_above(choice, picture.rows()) as u64;
-    let below = hidden_below(choice, picture.rows()) as u64;
+    let above = hidden_above(choice, picture.rows.as_slice()) as u64;
+    let below = hidden_below(choice, picture.rows.as_slice()) as u64;
     write_hidden(alloc, out, head.saturating_sub(12), above, below)
 }
 

@@ -3,13 +3,15 @@
 ghost use Rattle.std.specs.Prelude.{◌≡◌, ℕ, List, true};
 ghost use Rattle.std.specs.List.{list_all};
 ghost use Rattle.lpt_events.specs.declared.entry.Entry.{Entry};
+ghost use Rattle.lpt_chart.specs.declared.refusal.Refusal.{Refusal};
 ghost use Rattle.lpt_chart.specs.Deliveries.{DrawsDeliveries, DrawsReleases};
 ghost use Rattle.lpt_chart.specs.Shapes.{escaped, is_plain};
 
-/// Each delivery of a journal is drawn exactly once, in order, and so is each release.
+/// Each delivery of a journal is drawn exactly once, in order, and so is each release, whatever lines
+/// were refused.
 pub fn each_delivery_is_drawn_once()
-    ensures deliveries { (journal : List Entry) → DrawsDeliveries journal }
-    ensures releases { (journal : List Entry) → DrawsReleases journal }
+    ensures deliveries { (journal : List Entry) (refused : List Refusal) → DrawsDeliveries journal refused }
+    ensures releases { (journal : List Entry) (refused : List Refusal) → DrawsReleases journal refused }
 {}
 
 /// What is written of a text neither opens nor closes an element, and is ASCII that is seen.

@@ -6,7 +6,7 @@ ghost use Rattle.lpt_chart.specs.Legends.{key_onto, left_onto, legend_onto, midd
 use crate::bar::draw_stage;
 use crate::flight::draw_released;
 use crate::frame::y_of;
-use crate::mark::{draw_bead, draw_ring, draw_square};
+use crate::mark::{draw_bead, draw_crossed, draw_ring, draw_square};
 use crate::marks::Stage;
 use crate::shape::{Shape, draw, write};
 use crate::style::{Letters, Style};
@@ -34,6 +34,8 @@ pub(crate) enum Sample {
     Released,
     /// The ring of a transaction that is free.
     Ring,
+    /// The crossed ring of a refused line.
+    Crossed,
     /// The stroke of a tick.
     Stroke,
     /// The double line of a new start.
@@ -113,7 +115,7 @@ static MIDDLE: [(u32, (Sample, &str)); 8] = [
 ];
 
 /// What is open, and the clocks and starts of nodes.
-static RIGHT: [(u32, (Sample, &str)); 7] = [
+static RIGHT: [(u32, (Sample, &str)); 8] = [
     (0, (Sample::Open(Stage::Sending(0, None)), "open sender")),
     (
         2,
@@ -133,6 +135,7 @@ static RIGHT: [(u32, (Sample, &str)); 7] = [
     ),
     (10, (Sample::Stroke, "a clock goes on")),
     (12, (Sample::Double, "node starts anew")),
+    (14, (Sample::Crossed, "line refused")),
 ];
 
 // A sample.
@@ -180,6 +183,7 @@ fn draw_sample(
         Sample::Hourglass => draw(alloc, out, Shape::Hourglass(x + 18, y, Style::Ink)),
         Sample::Released => draw_released(alloc, out, x + 18, at, 0, up),
         Sample::Ring => draw_ring(alloc, out, x + 18, at, Style::InkEdge),
+        Sample::Crossed => draw_crossed(alloc, out, x + 18, at),
         Sample::Stroke => draw(alloc, out, Shape::Line(x + 13, y, x + 23, y, Style::Life)),
         Sample::Double => draw(
             alloc,

@@ -19,6 +19,7 @@ mod packet_words;
 mod picture;
 mod pieces;
 mod readers;
+mod refusal;
 mod row;
 mod saying;
 mod shape;
@@ -36,6 +37,7 @@ pub use marks::{
     Bar, Content, Flight, Hands, Held, Kind, Loss, Row, Saying, Sent, Stage, Task, Track,
 };
 pub use picture::Picture;
+pub use refusal::Refusal;
 pub use shape::Shape;
 pub use style::{Letters, Style, Weight};
 pub use svg::chart;

@@ -1,7 +1,7 @@
 //! The marks on the lines of life.
 
 ghost use Rattle.std.specs.Prelude.{◌≡◌, OnOk, string_bytes};
-ghost use Rattle.lpt_chart.specs.Rows.{applied_onto, bead_onto, double_onto, mark_onto, put_onto, retired_onto, ring_onto, square_onto, start_x, stroke_onto};
+ghost use Rattle.lpt_chart.specs.Rows.{applied_onto, bead_onto, crossed_onto, double_onto, mark_onto, put_onto, retired_onto, ring_onto, square_onto, start_x, stroke_onto};
 
 use crate::frame::{Frame, across_from, across_to, half, middle_x, side_x, y_of};
 use crate::marks::{Content, Saying};
@@ -193,7 +193,22 @@ fn draw_retired(alloc: Global, out: &mut String, frame: Frame, at: u32) -> Resul
     draw_ring(alloc, out, craft, at, Style::InkEdge)
 }
 
-// The mark of a row on a line of life. Deliveries, losses and what is open have marks of their own.
+// A crossed ring.
+#[tactic(auto, unfolding(crate::specs::Rows::crossed_onto))]
+pub(crate) fn draw_crossed(
+    alloc: Global,
+    out: &mut String,
+    x: u64,
+    at: u32,
+) -> Result<(), AllocError>
+    ensures { OnOk result (string_bytes out.new ≡ crossed_onto (string_bytes out.old) x at) }
+{
+    draw_ring(alloc, out, x, at, Style::InkEdge)?;
+    draw(alloc, out, Shape::Cross(x, y_of(at), Style::Life))
+}
+
+// The mark of a row on a line of life. Deliveries, losses and what is open have marks of their own;
+// that of a refused line stands in place of a row's place.
 #[tactic(auto, unfolding(crate::specs::Rows::mark_onto))]
 pub(crate) fn draw_mark(
     alloc: Global,
@@ -231,6 +246,7 @@ pub(crate) fn draw_mark(
         }
         Saying::Retired(_, _) => draw_retired(alloc, out, frame, at),
         Saying::Restarted(side, _) => draw_double(alloc, out, frame, at, side),
+        Saying::Refused(_) => draw_crossed(alloc, out, 44, at),
         Saying::Lost(_, _) | Saying::Taken(_, _) | Saying::Passed(_, _) => Ok(()),
         Saying::Delivered(_, _, _, _) => Ok(()),
         Saying::Claimed(_, _, _) | Saying::Committed(_, _, _) => Ok(()),

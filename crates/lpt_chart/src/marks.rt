@@ -172,6 +172,8 @@ pub enum Saying {
     Retired(Direction, Name),
     /// A node was started anew, and has this boot.
     Restarted(Side, u64),
+    /// A line was refused: the one with this index among those that were.
+    Refused(u64),
 }
 
 /// A row.

@@ -30,6 +30,7 @@ pub struct Picture {
     pub(crate) boot: u64,
     pub(crate) tasks: Vec<Option<Task>>,
     pub(crate) applied: u64,
+    pub(crate) refused: u64,
     pub(crate) flights: Vec<Flight>,
     pub(crate) losses: Vec<Loss>,
     pub(crate) bars: Vec<Bar>,
@@ -53,6 +54,7 @@ impl Model for Picture {
       boot = p.boot;
       tasks = p.tasks.items;
       applied = p.applied;
+      refused = p.refused;
       flights = p.flights.items;
       losses = p.losses.items;
       bars = p.bars.items;
@@ -77,17 +79,11 @@ impl Picture {
             boot: 0,
             tasks: Vec::new(alloc),
             applied: 0,
+            refused: 0,
             flights: Vec::new(alloc),
             losses: Vec::new(alloc),
             bars: Vec::new(alloc),
         }
-    }
-
-    // The entry of this place is drawn from now on.
-    pub(crate) fn turn_to(&mut self, place: u64)
-        ensures { self.new ≡ record self.old { place = place } }
-    {
-        self.place = place;
     }
 
     // A row more at this height, with this ground.
@@ -172,7 +168,6 @@ impl Picture {
     }
 
     // A track comes to a stage, or to its end.
-    #[tactic(auto, unfolding(crate::specs::Pictures::tracked))]
     pub(crate) fn track(
         &mut self,
         side: Side,
@@ -182,11 +177,38 @@ impl Picture {
     ) -> Result<(), AllocError>
         ensures { OnOk result (self.new ≡ tracked self.old side kind number stage) }
     {
-        let (bars, here) = (&mut self.bars, self.here);
         match side {
-            Side::Ground => move_track(bars, &mut self.ground, side, here, kind, number, stage),
-            Side::Craft => move_track(bars, &mut self.craft, side, here, kind, number, stage),
+            Side::Ground => self.track_ground(kind, number, stage),
+            Side::Craft => self.track_craft(kind, number, stage),
         }
+    }
+
+    // The same at ground.
+    #[tactic(auto, unfolding(crate::specs::Pictures::tracked))]
+    fn track_ground(
+        &mut self,
+        kind: Kind,
+        number: u64,
+        stage: Option<Stage>,
+    ) -> Result<(), AllocError>
+        ensures { OnOk result (self.new ≡ tracked self.old Side.Ground kind number stage) }
+    {
+        let (bars, columns) = (&mut self.bars, &mut self.ground);
+        move_track(bars, columns, Side::Ground, self.here, kind, number, stage)
+    }
+
+    // The same at the spacecraft.
+    #[tactic(auto, unfolding(crate::specs::Pictures::tracked))]
+    fn track_craft(
+        &mut self,
+        kind: Kind,
+        number: u64,
+        stage: Option<Stage>,
+    ) -> Result<(), AllocError>
+        ensures { OnOk result (self.new ≡ tracked self.old Side.Craft kind number stage) }
+    {
+        let (bars, columns) = (&mut self.bars, &mut self.craft);
+        move_track(bars, columns, Side::Craft, self.here, kind, number, stage)
     }
 
     // All tracks of a node end.
@@ -251,6 +273,13 @@ impl Picture {
             at: self.here,
         })?;
         Ok(())
+    }
+
+    // One refused line more.
+    pub(crate) fn count_refusal(&mut self)
+        ensures { self.new ≡ record self.old { refused = one_more self.old.refused } }
+    {
+        self.refused = self.refused.saturating_add(1);
     }
 
     // So many packets of the spacecraft's own, each with a row.

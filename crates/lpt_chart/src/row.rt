@@ -1,11 +1,13 @@
 //! How a row is drawn: its ground, its place, its words, and its mark.
 
-ghost use Rattle.std.specs.Prelude.{◌≡◌, OnOk, string_bytes};
-ghost use Rattle.lpt_chart.specs.Rows.{base_onto, dark_onto, leader_onto, placed_onto, row_onto, told_onto, words_onto};
+ghost use Rattle.std.specs.Prelude.{◌≡◌, OnOk, option_map, string_bytes};
+ghost use Rattle.lpt_chart.specs.Refusals.{refusal_in};
+ghost use Rattle.lpt_chart.specs.Rows.{base_onto, dark_onto, leader_onto, placed_onto, refusal_onto, row_onto, says_onto, told_onto, words_onto};
 
 use crate::frame::{Frame, shows, side_x, top_of, y_of};
 use crate::mark::draw_mark;
-use crate::marks::Row;
+use crate::marks::{Row, Saying};
+use crate::refusal::{Refusal, refusal_words};
 use crate::saying::saying_words;
 use crate::shape::{Shape, draw, write};
 use crate::style::{Letters, Style};
@@ -125,20 +127,73 @@ fn write_place(alloc: Global, out: &mut String, row: Row) -> Result<(), AllocErr
     )
 }
 
+// The refused line that a row shows, where it shows one.
+fn refusal_in(refused: &[Refusal], saying: Saying) -> Option<&Refusal>
+    ensures { option_map (λ r. r.now) result ≡ refusal_in refused.now saying }
+{
+    match saying {
+        Saying::Refused(index) => refused.get(index as usize),
+        _ => None,
+    }
+}
+
+// The words of a refused line.
+#[tactic(auto, unfolding(crate::specs::Rows::refusal_onto))]
+fn write_refusal(
+    alloc: Global,
+    out: &mut String,
+    frame: Frame,
+    at: u32,
+    refusal: Option<&Refusal>,
+) -> Result<(), AllocError>
+    ensures { OnOk result (string_bytes out.new
+        ≡ refusal_onto frame (string_bytes out.old) at (option_map (λ r. r.now) refusal.entry)) }
+{
+    let Some(refusal) = refusal else {
+        return Ok(());
+    };
+    let words = refusal_words(alloc, refusal)?;
+    write_words(
+        alloc,
+        out,
+        frame,
+        at,
+        Side::Craft,
+        Letters::RightQuiet,
+        words.as_slice(),
+    )
+}
+
+// A row's words, those of a refused line too.
+#[tactic(auto, unfolding(crate::specs::Rows::says_onto))]
+fn write_sayings(
+    alloc: Global,
+    out: &mut String,
+    frame: Frame,
+    refused: &[Refusal],
+    row: Row,
+) -> Result<(), AllocError>
+    ensures { OnOk result (string_bytes out.new ≡ says_onto frame refused.now (string_bytes out.old) row) }
+{
+    write_told(alloc, out, frame, row)?;
+    write_refusal(alloc, out, frame, row.at, refusal_in(refused, row.saying))
+}
+
 /// A row, where its height is drawn.
 #[tactic(auto, unfolding(crate::specs::Rows::row_onto))]
 pub(crate) fn draw_row(
     alloc: Global,
     out: &mut String,
     frame: Frame,
+    refused: &[Refusal],
     row: Row,
 ) -> Result<(), AllocError>
-    ensures { OnOk result (string_bytes out.new ≡ row_onto frame (string_bytes out.old) row) }
+    ensures { OnOk result (string_bytes out.new ≡ row_onto frame refused.now (string_bytes out.old) row) }
 {
     if !shows(frame, row.at, row.at) {
         return Ok(());
     }
     write_place(alloc, out, row)?;
-    write_told(alloc, out, frame, row)?;
+    write_sayings(alloc, out, frame, refused, row)?;
     draw_mark(alloc, out, frame, row.at, row.saying)
 }

@@ -124,7 +124,7 @@ fn restarted_words(alloc: Global, boot: u64) -> Result<String, AllocError>
     format!(in alloc; "starts anew: boot {boot}")
 }
 
-// What a row says.
+// What a row says. A refused line has words of its own.
 #[tactic(auto, unfolding(crate::specs::Sayings::saying_words))]
 pub(crate) fn saying_words(alloc: Global, saying: Saying) -> Result<String, AllocError>
     ensures { IfOk result (λ t. string_bytes t ≡ saying_words saying) }
@@ -153,5 +153,6 @@ pub(crate) fn saying_words(alloc: Global, saying: Saying) -> Result<String, Allo
         }
         Saying::Retired(direction, id) => named_words(alloc, "retired", direction, id),
         Saying::Restarted(_, boot) => restarted_words(alloc, boot),
+        Saying::Refused(_) => Ok(String::new(alloc)),
     }
 }

@@ -12,25 +12,30 @@ use crate::head::print_head;
 use crate::legend::draw_legend;
 use crate::marks::{Bar, Flight, Loss, Row};
 use crate::picture::Picture;
+use crate::refusal::Refusal;
 use crate::row::{draw_base, draw_row};
 use crate::shape::{Shape, draw, print_size, write};
 use crate::style::{Letters, Style};
 use lpt_events::{Entry, Lane, Side};
 use std::alloc::{AllocError, Global};
 
-/// The picture of a journal, as one SVG: rows, packets on their ways, what is open at the nodes.
+/// The picture of a journal, as one SVG: rows, packets on their ways, what is open at the nodes. The
+/// lines that were refused have rows of their own; they are given in the order of their places.
 ///
-/// It is a function of the choice, the title and the journal. The only error is want of memory.
+/// It is a function of the choice, the title, the journal and these lines. The only error is want of
+/// memory.
 pub fn chart(
     alloc: Global,
     choice: Choice,
     title: &[u8],
     journal: &[Entry],
+    refused: &[Refusal],
 ) -> Result<String, AllocError>
-    ensures { IfOk result (λ t. string_bytes t ≡ chart_text choice title.now journal.now) }
+    ensures { IfOk result (λ t. string_bytes t ≡ chart_text choice title.now journal.now refused.now) }
 {
-    let picture = draw_journal(alloc, journal)?;
-    print_picture(alloc, journal.len() as u64, choice, title, &picture)
+    let picture = draw_journal(alloc, journal, refused)?;
+    let events = journal.len() as u64;
+    print_picture(alloc, events, choice, title, refused, &picture)
 }
 
 // A part of the picture that shows heights from one on, and nothing beyond them.
@@ -129,7 +134,7 @@ fn draw_hands(
 ) -> Result<(), AllocError>
     ensures { OnOk result (string_bytes out.new ≡ hands_onto frame (string_bytes out.old) picture.now) }
 {
-    let (hands, end) = (picture.hands(), picture.end());
+    let (hands, end) = (picture.hands, picture.next);
     draw_held(alloc, out, frame, Lane::S1, end, hands.s1)?;
     draw_held(alloc, out, frame, Lane::S2, end, hands.s2)?;
     draw_held(alloc, out, frame, Lane::G1, end, hands.g1)?;
@@ -177,11 +182,17 @@ fn draw_flights(
 }
 
 // The rows.
-fn draw_rows(alloc: Global, out: &mut String, frame: Frame, rows: &[Row]) -> Result<(), AllocError>
-    ensures { OnOk result (string_bytes out.new ≡ rows_onto frame (string_bytes out.old) rows.now) }
+fn draw_rows(
+    alloc: Global,
+    out: &mut String,
+    frame: Frame,
+    refused: &[Refusal],
+    rows: &[Row],
+) -> Result<(), AllocError>
+    ensures { OnOk result (string_bytes out.new ≡ rows_onto frame refused.now (string_bytes out.old) rows.now) }
 {
     for row in rows {
-        draw_row(alloc, out, frame, *row)?;
+        draw_row(alloc, out, frame, refused, *row)?;
     }
     Ok(())
 }
@@ -207,7 +218,7 @@ fn draw_grounds(
     ensures { OnOk result (string_bytes out.new ≡ grounds_onto frame (string_bytes out.old) picture.now) }
 {
     out.push_str(print_window(alloc, frame)?.as_str())?;
-    draw_bases(alloc, out, frame, picture.rows())?;
+    draw_bases(alloc, out, frame, picture.rows.as_slice())?;
     out.push_str("</svg>\n")
 }
 
@@ -217,16 +228,17 @@ fn draw_window(
     alloc: Global,
     out: &mut String,
     frame: Frame,
+    refused: &[Refusal],
     picture: &Picture,
 ) -> Result<(), AllocError>
-    ensures { OnOk result (string_bytes out.new ≡ window_onto frame (string_bytes out.old) picture.now) }
+    ensures { OnOk result (string_bytes out.new ≡ window_onto frame refused.now (string_bytes out.old) picture.now) }
 {
     out.push_str(print_window(alloc, frame)?.as_str())?;
-    draw_bars(alloc, out, frame, picture.bars())?;
-    draw_losses(alloc, out, frame, picture.losses())?;
+    draw_bars(alloc, out, frame, picture.bars.as_slice())?;
+    draw_losses(alloc, out, frame, picture.losses.as_slice())?;
     draw_hands(alloc, out, frame, picture)?;
-    draw_flights(alloc, out, frame, picture.flights())?;
-    draw_rows(alloc, out, frame, picture.rows())?;
+    draw_flights(alloc, out, frame, picture.flights.as_slice())?;
+    draw_rows(alloc, out, frame, refused, picture.rows.as_slice())?;
     out.push_str("</svg>\n")
 }
 
@@ -248,15 +260,16 @@ fn print_picture(
     events: u64,
     choice: Choice,
     title: &[u8],
+    refused: &[Refusal],
     picture: &Picture,
 ) -> Result<String, AllocError>
-    ensures { IfOk result (λ t. string_bytes t ≡ picture_text events choice title.now picture.now) }
+    ensures { IfOk result (λ t. string_bytes t ≡ picture_text events choice title.now refused.now picture.now) }
 {
-    let frame = frame_of(alloc, choice, title, picture)?;
+    let frame = frame_of(alloc, choice, title, refused, picture)?;
     let mut out = print_head(alloc, frame, events, choice, picture, title)?;
     draw_grounds(alloc, &mut out, frame, picture)?;
     draw_ends(alloc, &mut out, frame)?;
-    draw_window(alloc, &mut out, frame, picture)?;
+    draw_window(alloc, &mut out, frame, refused, picture)?;
     draw_foot(alloc, &mut out, frame)?;
     out.push_str("</svg>\n")?;
     Ok(out)

@@ -28,7 +28,8 @@ pub(crate) fn saying_side(saying: Saying) -> Side
         Saying::Claimed(_, _, _)
         | Saying::Committed(_, _, _)
         | Saying::Stale(_, _, _)
-        | Saying::Applied(_, _, _, _) => Side::Craft,
+        | Saying::Applied(_, _, _, _)
+        | Saying::Refused(_) => Side::Craft,
     }
 }
 
@@ -60,7 +61,8 @@ pub(crate) fn weight(saying: Saying) -> Weight
         Saying::Put(_, _, _)
         | Saying::Taken(_, _)
         | Saying::Passed(_, _)
-        | Saying::Ticked(_, _, _) => Weight::Quiet,
+        | Saying::Ticked(_, _, _)
+        | Saying::Refused(_) => Weight::Quiet,
         Saying::Opened(_, _, _, _)
         | Saying::Finished(_, _)
         | Saying::Lost(_, _)
@@ -86,23 +88,24 @@ pub(crate) fn side_letters(side: Side, weight: Weight) -> Letters
     }
 }
 
-// Whether a row has words. A take that is delivered right after has none.
+// Whether a row has words and a line to them. A take that is delivered right after has none, and a
+// refused line is of no node.
 pub(crate) fn is_told(saying: Saying) -> bool
     ensures { result ≡ is_told saying }
 {
     match saying {
-        Saying::Passed(_, _) => false,
+        Saying::Passed(_, _) | Saying::Refused(_) => false,
         _ => true,
     }
 }
 
 // Whether a row shows its place. A packet that the spacecraft puts of its own goes on with its
-// event.
+// event, and a refused line is no event.
 pub(crate) fn has_place(saying: Saying) -> bool
     ensures { result ≡ has_place saying }
 {
     match saying {
-        Saying::Put(_, _, Content::Report) => false,
+        Saying::Put(_, _, Content::Report) | Saying::Refused(_) => false,
         _ => true,
     }
 }
