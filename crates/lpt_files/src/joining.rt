@@ -3,7 +3,7 @@
 ghost use Rattle.std.specs.Prelude.{◌≡◌, ◌≢◌, ◌⊎◌, ℕ, List, true, Some, IfErr, IfOk, IsErrOf, OnOk, Err};
 ghost use Rattle.std.specs.Io.KnownBytes.{Appends};
 ghost use Rattle.lpt_join.specs.LptEvents.declared.config.Config.{Config};
-ghost use Rattle.lpt_join.specs.LptStream.Streams.{Splits};
+ghost use Rattle.lpt_join.specs.LptStream.Pieces.{Finds};
 ghost use Rattle.lpt_join.specs.LptText.Streams.{AppendsPart};
 ghost use Rattle.lpt_join.specs.Laws.{AllMadeOrOther, EachIsAmong, IsSending};
 ghost use Rattle.lpt_join.specs.Reads.{IsEndless};
@@ -35,9 +35,9 @@ pub fn join_message<S: Source, K: Sink>(
     // Over a stream of packets that are made of a message, and others that carry no part of its
     // transaction, in any order and with repeats, once each part is among them, exactly that
     // message is written.
-    ensures message { IfOk result (λ _. (c : Config) (m stream rest : List ℕ)
+    ensures message { IfOk result (λ _. (c : Config) (m stream : List ℕ)
         (packets : List (List ℕ)) → S.remaining source.old ≡ Some stream
-        → Splits stream packets rest → IsSending transaction.now c m
+        → Finds stream packets → IsSending transaction.now c m
         → AllMadeOrOther transaction.now c m packets → EachIsAmong transaction.now c m packets
         → Appends (K.contents out.old) (K.contents out.new) m) }
 

@@ -1,7 +1,7 @@
 //! Streams cut into packets.
 
-use crate::packets::{FIRST, IDLE, THIRD};
-use lpt_join::{PacketBuffer, Told, ToolFault, packet_length, whole_length};
+use crate::packets::{DAMAGED, FIRST, IDLE, SECOND};
+use lpt_join::{Found, PacketBuffer, PieceKind, Told, ToolFault, packet_length, whole_length};
 use std::alloc::Global;
 use std::test::Fail;
 
@@ -21,40 +21,68 @@ fn reads_the_length_of_a_front(rt: HostRuntime) {
     }
 }
 
+// What pieces are and how long.
+const PACKET: (PieceKind, usize) = (PieceKind::Whole, 25);
+
+const FAULTY: (PieceKind, usize) = (PieceKind::Damaged, 25);
+
+const OCTET: (PieceKind, usize) = (PieceKind::Stray, 1);
+
+const EMPTY: (PieceKind, usize) = (PieceKind::Whole, 7);
+
 #[test]
-fn finds_packet_after_packet(rt: HostRuntime) -> Result<(), Fail> {
-    let mut stream = Vec::new(rt.alloc());
-    for packet in [&FIRST[..], &IDLE[..], &THIRD[..], &FIRST[..9]] {
-        stream.extend_from_slice(packet)?;
+fn finds_piece_after_piece(rt: HostRuntime) -> Result<(), Fail> {
+    // Octets one behind the other, and the pieces that they are.
+    let cases: [(&[&[u8]], &[(PieceKind, usize)]); 7] = [
+        (&[&FIRST, &IDLE, &SECOND], &[PACKET, EMPTY, PACKET]),
+        (&[&FIRST, &DAMAGED, &SECOND], &[PACKET, FAULTY, PACKET]),
+        (&[&FIRST, &DAMAGED], &[PACKET, FAULTY]),
+        // An idle packet behind a damaged one doesn't show that the length was right.
+        (
+            &[&DAMAGED[..3], &IDLE, &FIRST],
+            &[
+                OCTET, OCTET, OCTET, OCTET, OCTET, OCTET, OCTET, OCTET, OCTET, OCTET, PACKET,
+            ],
+        ),
+        (&[&FIRST, &SECOND[..2]], &[PACKET, OCTET, OCTET]),
+        (&[&[0xff], &FIRST], &[OCTET, PACKET]),
+        (&[], &[]),
+    ];
+    for (octets, wanted) in cases {
+        let mut stream = Vec::new(rt.alloc());
+        for some in octets {
+            stream.extend_from_slice(some)?;
+        }
+        let pieces = pieces_of(rt.alloc(), stream.as_slice())?;
+        assert!(rt; pieces.as_slice() == wanted);
     }
-    let lengths = lengths_of(rt.alloc(), stream.as_slice())?;
-    assert!(rt; lengths.as_slice() == [25, 7, 21].as_slice());
     Ok(())
 }
 
-// The lengths of the first packets of a stream, at most four.
-fn lengths_of(alloc: Global, stream: &[u8]) -> Result<Vec<usize>, Fail> {
-    let mut lengths = Vec::new(alloc);
+// The first pieces of a stream, at most sixteen.
+fn pieces_of(alloc: Global, stream: &[u8]) -> Result<Vec<(PieceKind, usize)>, Fail> {
+    let mut pieces = Vec::new(alloc);
     let mut source = Told::new(stream);
     let mut buffer = PacketBuffer::new(alloc);
-    for _ in 0..4 {
-        match next_length(&mut buffer, &mut source)? {
-            Some(length) => lengths.push(length)?,
+    for _ in 0..16 {
+        match next_piece(&mut buffer, &mut source)? {
+            Some(found) => pieces.push((found.kind, found.len))?,
             None => break,
         }
     }
-    Ok(lengths)
+    Ok(pieces)
 }
 
-// The length of the next packet, which is then passed over.
-fn next_length(
+// The next piece, which is then passed over.
+fn next_piece(
     buffer: &mut PacketBuffer,
     source: &mut Told<&[u8]>,
-) -> Result<Option<usize>, ToolFault> {
-    let Some(length) = buffer.find_packet(source)? else {
+) -> Result<Option<Found>, ToolFault> {
+    let Some(found) = buffer.find_piece(source)? else {
         return Ok(None);
     };
-    let length = length.min(buffer.held().len());
-    buffer.skip(length);
-    Ok(Some(length))
+    if found.len <= buffer.held().len() {
+        buffer.skip(found);
+    }
+    Ok(Some(found))
 }

@@ -2,8 +2,8 @@
 use Rattle.std.proofs.Common.{◌≡◌, ◌∙◌, ap, sym, subst, ℕ, List, ◌++◌, Option, Some, None, append-nil}
 use Rattle.std.specs.Io.KnownBytes.{Consumes, IsAtEnd}
 use Rattle.lpt_split.specs.LptEvents.declared.config.Config.{Config}
-use Rattle.lpt_stream.specs.Streams.{Splits}
-use Rattle.lpt_stream.proofs.StreamLemmas.{one_way}
+use Rattle.lpt_stream.specs.Pieces.{Cuts, Finds, packets_of}
+use Rattle.lpt_stream.proofs.CutLemmas.{one_cut}
 use Rattle.lpt_join.specs.declared.gathering.Gathering.{Gathering}
 use Rattle.lpt_join.specs.declared.transaction.Transaction.{Transaction}
 use Rattle.lpt_join.specs.Gatherings.{state, Gives}
@@ -26,18 +26,18 @@ all_read (Some xs) None stream read is p e = absurd p
 all_read (Some xs) (Some ys) stream read is p e =
     sym (p ∙ ap (λ l. read ++ l) e ∙ append-nil read) ∙ same_some xs stream is
 
--- the message, where its packets are among those that the stream is cut into
+-- the message, where its packets are among those that are found in the stream
 pub message_given : (t : Transaction) (g : Gathering) (old new : Option (List ℕ))
     → ReadsAll old new (λ packets. Gives t packets g)
-    → (c : Config) (m stream rest : List ℕ) (packets : List (List ℕ))
+    → (c : Config) (m stream : List ℕ) (packets : List (List ℕ))
     → old ≡ Some stream
-    → Splits stream packets rest
+    → Finds stream packets
     → IsSending t c m
     → AllMadeOrOther t c m packets
     → EachIsAmong t c m packets
     → state g.joining ≡ Complete m
-message_given t g old new h c m stream rest packets is cut sending all each =
-    let same = all_read old new stream h.0 is h.3 h.4 in
-    let way = one_way stream h.2 rest h.1 packets
-    (subst (λ s. Splits s h.1 h.2) same h.5) cut in
-    h.6.state_is ∙ ap (joined t) way.0 ∙ sent_joined t c m sending packets all each
+message_given t g old new h c m stream packets is found sending all each =
+    let same = all_read old new stream h.0 is h.2 h.3 in
+    let cut = subst (λ s. Cuts s h.4.0) same h.4.1 in
+    let way : h.1 ≡ packets = sym h.4.2 ∙ ap packets_of (one_cut stream h.4.0 found.0 cut found.1) ∙ found.2 in
+    h.5.state_is ∙ ap (joined t) way ∙ sent_joined t c m sending packets all each

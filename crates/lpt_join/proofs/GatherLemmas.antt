@@ -1,8 +1,7 @@
 -- What a stream's packets give, a packet further.
-use Rattle.std.proofs.Common.{◌≡◌, ◌∙◌, ap, sym, subst, refl, ℕ, ◌+◌, ◌==◌, Bool, true, false, ◌||◌, List, [], ◌∷◌, ◌++◌, length, take, drop, Some, None, append-nil, append_assoc, take-append-drop, length-append}
+use Rattle.std.proofs.Common.{◌≡◌, ◌∙◌, ap, sym, subst, refl, ℕ, ◌+◌, ◌==◌, Bool, true, false, ◌||◌, List, [], ◌∷◌, ◌++◌, Some, None}
 use Rattle.std.specs.List.{list_any}
 use Rattle.lpt_reception.specs.Received.{Kept, is_last}
-use Rattle.lpt_stream.specs.Streams.{IsFramed, IsUnfinished, AllFramed, all_octets, Splits}
 use Rattle.lpt_join.specs.declared.gathering.Gathering.{Gathering}
 use Rattle.lpt_join.specs.declared.transaction.Transaction.{Transaction}
 use Rattle.lpt_join.specs.CameInside.{has, is_ended}
@@ -74,73 +73,3 @@ gives-part t bs b g h n x was some of joins comes ends = record {
   ended_is = ends ∙ ap (λ e. is_last x || e) was.ended_is ∙ ap (λ o. is_end o || ended t bs) some
       ∙ sym (ended-next t bs b);
 }
-
--- ---- a stream further
-
-framed-next : (bs : List (List ℕ)) (b : List ℕ)
-    → AllFramed bs
-    → IsFramed b
-    → AllFramed (bs ++ b ∷ [])
-framed-next [] b h f = (f, tt)
-framed-next (x ∷ bs) b h f = (h.0, framed-next bs b h.1 f)
-
-all_octets-next : (bs : List (List ℕ)) (b : List ℕ)
-    → all_octets (bs ++ b ∷ []) ≡ all_octets bs ++ b
-all_octets-next [] b = append-nil b
-all_octets-next (x ∷ bs) b =
-    ap (λ y. x ++ y) (all_octets-next bs b) ∙ sym (append_assoc x (all_octets bs) b)
-
--- packets that were read, what is left of the stream, what holds of them, and how many they are
-pub record IsRead (P : List (List ℕ) → Type 0) (stream left : List ℕ) (count : ℕ) : Type 0 where
-  pub packets : List (List ℕ)
-  pub each : AllFramed packets
-  pub cut : stream ≡ all_octets packets ++ left
-  pub gives : P packets
-  pub count_is : length packets ≡ count
-
--- of nothing
-pub read-none : (P : List (List ℕ) → Type 0) (left : List ℕ)
-    → P []
-    → left ≡ []
-    → IsRead P [] left 0
-read-none P left h e = record { packets = []; each = tt; cut = sym e; gives = h; count_is = refl }
-
--- with more read behind
-pub read-more : (P : List (List ℕ) → Type 0) (stream left more now : List ℕ) (count : ℕ)
-    → IsRead P stream left count
-    → now ≡ left ++ more
-    → IsRead P (stream ++ more) now count
-read-more P stream left more now count h e = record {
-  packets = h.packets;
-  each = h.each;
-  cut = ap (λ x. x ++ more) h.cut ∙ append_assoc (all_octets h.packets) left more
-      ∙ ap (λ x. all_octets h.packets ++ x) (sym e);
-  gives = h.gives;
-  count_is = h.count_is;
-}
-
--- with the packet in front taken
-pub read-next : (P Q : List (List ℕ) → Type 0) (stream left rest b : List ℕ) (n count : ℕ)
-    → (h : IsRead P stream left count)
-    → IsFramed (take n left)
-    → rest ≡ drop n left
-    → b ≡ take n left
-    → Q (h.packets ++ b ∷ [])
-    → IsRead Q stream rest (count + 1)
-read-next P Q stream left rest b n count h framed over is step = record {
-  packets = h.packets ++ b ∷ [];
-  each = framed-next h.packets b h.each (subst IsFramed (sym is) framed);
-  cut = h.cut ∙ ap (λ x. all_octets h.packets ++ x) (sym (take-append-drop n left))
-      ∙ sym (append_assoc (all_octets h.packets) (take n left) (drop n left))
-      ∙ (λ i. (all_octets h.packets ++ sym is i) ++ sym over i)
-      ∙ sym (ap (λ x. x ++ rest) (all_octets-next h.packets b));
-  gives = step;
-  count_is = length-append h.packets (b ∷ []) ∙ ap (λ c. c + 1) h.count_is;
-}
-
--- and with less than a packet left
-pub read-end : (P : List (List ℕ) → Type 0) (stream left : List ℕ) (count : ℕ)
-    → (h : IsRead P stream left count)
-    → IsUnfinished left
-    → Splits stream h.packets left
-read-end P stream left count h few = record { joined = h.cut; each = h.each; unfinished = few }

@@ -1,17 +1,17 @@
 -- What was read of a stream of packets.
-use Rattle.std.specs.Prelude.{◌≡◌, ℕ, ◌-◌, ◌^◌, ◌++◌, List, length, Option}
+use Rattle.std.specs.Prelude.{◌≡◌, ℕ, ◌-◌, ◌^◌, Bool, true, List, length, Option}
 use Rattle.std.specs.Io.KnownBytes.{Consumes, IsAtEnd}
-use Rattle.lpt_stream.specs.Streams.{AllFramed, Splits, all_octets}
+use Rattle.lpt_stream.specs.Pieces.{Piece, Finds, Leads}
 
--- a stream was read to its end, and this holds of the packets that it is cut into
+-- a stream was read to its end, and this holds of the packets that are found in it
 abbrev pub ReadsAll : Option (List ℕ) → Option (List ℕ) → (List (List ℕ) → Type 0) → Type 0
 ReadsAll old new P =
-    (stream : List ℕ) × (packets : List (List ℕ)) × (rest : List ℕ)
-    × Consumes old new stream × IsAtEnd new × Splits stream packets rest × P packets
+    (stream : List ℕ) × (packets : List (List ℕ))
+    × Consumes old new stream × IsAtEnd new × Finds stream packets × P packets
 
--- 2^64 - 1 packets were read of a stream
+-- 2^64 - 1 pieces were read of a stream
 abbrev pub IsEndless : Option (List ℕ) → Option (List ℕ) → Type 0
 IsEndless old new =
-    (stream : List ℕ) × (packets : List (List ℕ)) × (rest : List ℕ)
-    × Consumes old new stream × AllFramed packets × (stream ≡ all_octets packets ++ rest)
-    × (length packets ≡ 2 ^ 64 - 1)
+    (stream : List ℕ) × (pieces : List Piece) × (in_step : Bool) × (rest : List ℕ)
+    × Consumes old new stream × Leads true stream pieces in_step rest
+    × (length pieces ≡ 2 ^ 64 - 1)

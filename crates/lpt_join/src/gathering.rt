@@ -4,6 +4,7 @@ ghost use Rattle.std.specs.Prelude.{ℕ, List, [], ◌∷◌, ◌++◌, IfOk};
 ghost use Rattle.lpt_join.specs.declared.transaction.Transaction.{Transaction};
 
 use crate::{Came, Joining, Transaction, part_in};
+use lpt_stream::PieceKind;
 use std::alloc::{AllocError, Global};
 
 /// What a stream's packets have given of one transaction so far: what its parts are joined to, and
@@ -19,6 +20,7 @@ pub struct Gathering {
 }
 
 impl Gathering {
+    ghost use Rattle.lpt_stream.specs.Pieces.{packet_before};
     ghost use Rattle.lpt_join.specs.Gatherings.{Gives};
 
     /// Nothing has come.
@@ -50,5 +52,24 @@ impl Gathering {
         came.add(part.number, part.kind)?;
         let joining = joining.add(alloc, transaction, &part)?;
         Ok(Gathering { joining, came })
+    }
+    /// Takes a piece of a stream: a packet, or what is none and gives nothing. The only error is want
+    /// of memory.
+    pub fn take_piece(
+        self,
+        alloc: Global,
+        transaction: &Transaction,
+        kind: PieceKind,
+        octets: &[u8],
+    ) -> Result<Gathering, AllocError>
+        requires { (packets : List (List ℕ)) × Gives transaction.now packets self }
+        ensures { (packets : List (List ℕ)) → Gives transaction.now packets self
+            → IfOk result (Gives transaction.now (packets ++ packet_before kind octets.now [])) }
+    {
+        match kind {
+            PieceKind::Whole => self.take(alloc, transaction, octets),
+            PieceKind::Damaged => Ok(self),
+            PieceKind::Stray => Ok(self),
+        }
     }
 }

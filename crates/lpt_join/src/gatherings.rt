@@ -6,6 +6,7 @@ ghost use Rattle.lpt_join.specs.declared.transaction.Transaction.{Transaction};
 
 use crate::{Gathering, Transaction, id_in};
 use lpt_pus::Name;
+use lpt_stream::PieceKind;
 use std::alloc::{AllocError, Global};
 use std::collections::BTreeMap;
 
@@ -23,6 +24,7 @@ pub struct Gatherings {
 }
 
 impl Gatherings {
+    ghost use Rattle.lpt_stream.specs.Pieces.{packet_before};
     ghost use Rattle.lpt_join.specs.Gatherings.{Gives};
     ghost use Rattle.lpt_join.specs.Several.{GivesEach, kept_of, of_id, carried};
 
@@ -59,6 +61,26 @@ impl Gatherings {
         let gathering = gathering.take(alloc, &transaction.of_id(id), octets)?;
         gatherings.put(id, gathering)?;
         Ok(gatherings)
+    }
+
+    /// Takes a piece of a stream: a packet, or what is none and gives nothing. The only error is want
+    /// of memory.
+    pub fn take_piece(
+        self,
+        alloc: Global,
+        transaction: &Transaction,
+        kind: PieceKind,
+        octets: &[u8],
+    ) -> Result<Gatherings, AllocError>
+        requires { (packets : List (List ℕ)) × GivesEach transaction.now packets self }
+        ensures { (packets : List (List ℕ)) → GivesEach transaction.now packets self
+            → IfOk result (GivesEach transaction.now (packets ++ packet_before kind octets.now [])) }
+    {
+        match kind {
+            PieceKind::Whole => self.take(alloc, transaction, octets),
+            PieceKind::Damaged => Ok(self),
+            PieceKind::Stray => Ok(self),
+        }
     }
 
     // What is kept of a transaction, taken out, or what nothing has given; none where nothing is kept

@@ -1,6 +1,6 @@
 //! The law of joining, proved of all streams: functions whose bodies only call laws from below.
 
-ghost use Rattle.std.specs.Prelude.{◌≡◌, ◌≢◌, ◌<◌, ◌≤◌, ℕ, List, [], length, None, Some, is_some};
+ghost use Rattle.std.specs.Prelude.{◌≡◌, ◌≢◌, ◌<◌, ◌≤◌, ℕ, List, length, None, Some, is_some};
 ghost use Rattle.std.specs.FinMap as map;
 ghost use Rattle.lpt_pus.specs.LptPacket.Bursts.{DifferInBurst};
 ghost use Rattle.lpt_pus.specs.LptPacket.Packets.{Fields, IdlePacket, APacket, IsPacket, seen};
@@ -10,7 +10,8 @@ ghost use Rattle.lpt_split.specs.LptEvents.declared.config.Config.{Config};
 ghost use Rattle.lpt_split.specs.LptEvents.MadePackets.{part_made, nth_part};
 ghost use Rattle.lpt_reception.specs.PartsOf.{IsMessage, kept_of, IsPartsOf};
 ghost use Rattle.lpt_reception.specs.Received.{Parts};
-ghost use Rattle.lpt_stream.specs.Streams.{Splits, all_octets};
+ghost use Rattle.lpt_stream.specs.Pieces.{Finds};
+ghost use Rattle.lpt_stream.specs.Streams.{all_octets};
 ghost use Rattle.lpt_split.specs.Splits.{AreNumbers, split_of};
 ghost use Rattle.lpt_join.specs.declared.transaction.Transaction.{Transaction};
 ghost use Rattle.lpt_join.specs.Joins.{Missing, Complete, joined};
@@ -21,7 +22,7 @@ use lpt_reception::laws::whole_is_split;
 
 /// What the packets of a split message are joined to: whichever parts were sent, in any order and
 /// as often, once each part is among them it is the message. One behind the other they are a stream
-/// that is cut into just these packets.
+/// in which just these packets are found.
 pub fn split_joins()
     ensures message { (t : Transaction) (c : Config) (m : List ℕ) (first : ℕ) (numbers : List ℕ)
         → IsSending t c m → first ≤ 16383
@@ -31,8 +32,8 @@ pub fn split_joins()
     ensures stream { (t : Transaction) (c : Config) (m : List ℕ) (first : ℕ) (numbers : List ℕ)
         → IsSending t c m → first ≤ 16383
         → AreNumbers (part_count (length m) t.part_size) numbers
-        → Splits (all_octets (split_of c t.direction t.id m first numbers))
-        (split_of c t.direction t.id m first numbers) [] }
+        → Finds (all_octets (split_of c t.direction t.id m first numbers))
+        (split_of c t.direction t.id m first numbers) }
 {}
 
 /// Over packets each of which is made of a part of the message, or carries no part of its

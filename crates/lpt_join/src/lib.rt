@@ -27,7 +27,7 @@ pub use lpt_reception::Mode;
 pub use lpt_split::{
     Config, End, Sink, Source, Told, ToolFault, count, flush_out, read_text, split, write_out,
 };
-pub use lpt_stream::{PacketBuffer, packet_length, whole_length};
+pub use lpt_stream::{Found, PacketBuffer, PieceKind, packet_length, whole_length};
 pub use reading::{id_in, part_in};
 pub use several::gather_stream;
 pub use stream::join_stream;

@@ -29,16 +29,17 @@ pub fn gather_stream<S: Source>(
     let mut buffer = PacketBuffer::new(alloc);
     let mut gatherings = Gatherings::new(alloc);
     for count in 0..u64::MAX {
-        let len = match buffer.find_packet(source) {
-            Ok(Some(len)) => len,
+        let found = match buffer.find_piece(source) {
+            Ok(Some(found)) => found,
             Ok(None) => return Ok(gatherings),
             Err(fault) => return Err(fault),
         };
-        match gatherings.take(alloc, transaction, &buffer.held()[..len]) {
+        let octets = &buffer.held()[..found.len];
+        match gatherings.take_piece(alloc, transaction, found.kind, octets) {
             Ok(more) => gatherings = more,
             Err(_) => return Err(ToolFault::Memory),
         }
-        buffer.skip(len);
+        buffer.skip(found);
     }
     Err(ToolFault::Read)
 }

@@ -1,11 +1,26 @@
 -- Octets of a stream that are read behind those that are held.
-use Rattle.std.proofs.Common.{◌≡◌, ◌⊎◌, ◌∙◌, ap, sym, subst, inl, inr, ℕ, Bool, true, refl, List, [], ◌++◌, Option, Err, append_assoc, append-nil}
-use Rattle.std.proofs.KnownBytes.{Consumes-trans}
+use Rattle.std.proofs.Common.{◌≡◌, ◌⊎◌, ◌∙◌, ap, sym, subst, inl, inr, ℕ, ◌+◌, ◌-◌, ◌<◌, ◌≤◌, ◌==◌, min, Bool, true, false, if◌then◌else◌, refl, List, [], ◌++◌, length, take, Option, Err, arith, append_assoc, append-nil, length-append}
+use Rattle.std.specs.Io.KnownBytes.{IsAtEnd}
+use Rattle.std.proofs.KnownBytes.{Consumes-nil, Consumes-trans}
+use Rattle.std.proofs.lemmas.List.{length-take, take_min}
+use Rattle.lpt_packet.specs.Numbers.{word_at}
 use Rattle.lpt_text.specs.declared.fault.ToolFault.{ToolFault}
 use Rattle.lpt_text.specs.declared.fault.ToolFault.TheVariants as tool
 use Rattle.lpt_stream.specs.declared.buffer.PacketBuffer.{PacketBuffer}
-use Rattle.lpt_stream.specs.Buffers.{held, Adds, Fills, FindsPacket}
-use Rattle.lpt_stream.specs.Streams.{IsUnfinished}
+use Rattle.lpt_stream.specs.declared.found.Found.{Found}
+use Rattle.lpt_stream.specs.declared.piece_kind.PieceKind.{PieceKind}
+use Rattle.lpt_stream.specs.declared.piece_kind.PieceKind.TheVariants.{Whole}
+use Rattle.lpt_stream.specs.Buffers.{held, is_in_step, is_ended, IsInFront, Adds, Goes, Fills, FindsPiece}
+use Rattle.lpt_stream.specs.Pieces.{lookahead, begins, kind_in, size_in}
+use Rattle.lpt_stream.proofs.PieceLemmas.{packet_stays, front_stays, near_stays}
+
+-- nothing was read
+pub goes-nothing : (b : PacketBuffer) (a : Option (List ℕ)) → Goes b b a a []
+goes-nothing b a = record {
+  added = record { consumed = Consumes-nil a; behind = sym (append-nil (held b)); step = refl };
+  stays = λ e. (e, refl);
+  at_end = λ h e. h e;
+}
 
 -- what is read after what was read
 pub adds-more : (old mid new : PacketBuffer) (a b c : Option (List ℕ)) (read more : List ℕ)
@@ -15,36 +30,160 @@ pub adds-more : (old mid new : PacketBuffer) (a b c : Option (List ℕ)) (read m
 adds-more old mid new a b c read more p q = record {
   consumed = Consumes-trans a b c read more p.consumed q.consumed;
   behind = q.behind ∙ ap (λ x. x ++ more) p.behind ∙ append_assoc (held old) read more;
+  step = q.step ∙ p.step;
 }
+
+both : (e : Bool) → e ≡ true → e ≡ false → ⊥
+both e h k = cc
+
+-- what a read gives: octets, or the end
+abbrev Gives : PacketBuffer → Option (List ℕ) → List ℕ → Type 0
+Gives new after more =
+    ((is_ended new ≡ false) × (0 < length more)) ⊎ ((is_ended new ≡ true) × IsAtEnd after)
+
+end_given : (new : PacketBuffer) (after : Option (List ℕ)) (more : List ℕ)
+    → Gives new after more
+    → is_ended new ≡ true
+    → IsAtEnd after
+end_given new after more (inl h) e = absurd (both (is_ended new) e h.0)
+end_given new after more (inr h) e = h.1
+
+-- a read further
+pub goes-more : (old mid new : PacketBuffer) (a b c : Option (List ℕ)) (read more : List ℕ)
+    → is_ended mid ≡ false
+    → Goes old mid a b read
+    → Adds mid new b c more
+    → Gives new c more
+    → Goes old new a c (read ++ more)
+goes-more old mid new a b c read more more_comes p q gives = record {
+  added = adds-more old mid new a b c read more p.added q;
+  stays = λ e. absurd (both (is_ended mid) (p.stays e).0 more_comes);
+  at_end = λ h e. end_given new c more gives e;
+}
+
+-- the end is nearer, or so much as is looked at
+pub nearer : (mid new : PacketBuffer) (b c : Option (List ℕ)) (more : List ℕ)
+    → is_ended mid ≡ false
+    → length (held mid) < 131084
+    → Adds mid new b c more
+    → Gives new c more
+    → (if is_ended new then 0 else 131085 - length (held new))
+    < (if is_ended mid then 0 else 131085 - length (held mid))
+nearer mid new b c more more_comes few q (inl h) =
+    let size : length (held new) ≡ length (held mid) + length more =
+    ap length q.behind ∙ length-append (held mid) more in
+    let some = h.1 in
+    subst (λ e. (if e then 0 else 131085 - length (held new)) < (if is_ended mid then 0 else 131085 - length (held mid))) (sym h.0)
+    (subst (λ e. 131085 - length (held new) < (if e then 0 else 131085 - length (held mid))) (sym more_comes)
+    (omega (arith, few, size, some)))
+nearer mid new b c more more_comes few q (inr h) =
+    subst (λ e. (if e then 0 else 131085 - length (held new)) < (if is_ended mid then 0 else 131085 - length (held mid))) (sym h.0)
+    (subst (λ e. 0 < (if e then 0 else 131085 - length (held mid))) (sym more_comes) (omega (arith, few)))
 
 -- a read that failed, or for which memory was wanting, ends the search
 pub fill-fault : (fault : ToolFault) (old mid new : PacketBuffer) (a b c : Option (List ℕ))
     (read : List ℕ) (had told failed : Bool)
     → Adds old mid a b read
-    → IsUnfinished (held mid)
     → told ≡ had
     → Fills (Err fault) mid new b c told failed
-    → FindsPacket (Err fault) old new a c had failed
-fill-fault tool.Read old mid new a b c read had told failed p few same q = (
-  read ++ [],
-  adds-more old mid new a b c read [] p q.0,
-  subst IsUnfinished (sym (q.0.behind ∙ append-nil (held mid))) few,
-  q.1,
-)
-fill-fault tool.Memory old mid new a b c read had told failed p few same q =
+    → FindsPiece (Err fault) old new a c had failed
+fill-fault tool.Read old mid new a b c read had told failed p same q =
+    (read ++ [], (adds-more old mid new a b c read [] p q.0).consumed, q.1)
+fill-fault tool.Memory old mid new a b c read had told failed p same q =
     (read ++ q.0, Consumes-trans a b c read q.0 p.consumed q.1, q.2 ∙ same)
-fill-fault tool.Write old mid new a b c read had told failed p few same q = q
-fill-fault tool.Config old mid new a b c read had told failed p few same q = q
-fill-fault (tool.Line n) old mid new a b c read had told failed p few same q = q
-fill-fault (tool.Threads n) old mid new a b c read had told failed p few same q = q
+fill-fault tool.Write old mid new a b c read had told failed p same q = q
+fill-fault tool.Config old mid new a b c read had told failed p same q = q
+fill-fault (tool.Line n) old mid new a b c read had told failed p same q = q
+fill-fault (tool.Threads n) old mid new a b c read had told failed p same q = q
 
 -- a search ends by a read that failed, or for want of memory
 pub find-fault : (fault : ToolFault) (old new : PacketBuffer) (a b : Option (List ℕ)) (had failed : Bool)
-    → FindsPacket (Err fault) old new a b had failed
+    → FindsPiece (Err fault) old new a b had failed
     → ((fault ≡ tool.Read) × (failed ≡ true)) ⊎ ((fault ≡ tool.Memory) × (failed ≡ had))
-find-fault tool.Read old new a b had failed h = inl (refl, h.3)
+find-fault tool.Read old new a b had failed h = inl (refl, h.2)
 find-fault tool.Memory old new a b had failed h = inr (refl, h.2)
 find-fault tool.Write old new a b had failed h = absurd h
 find-fault tool.Config old new a b had failed h = absurd h
 find-fault (tool.Line n) old new a b had failed h = absurd h
 find-fault (tool.Threads n) old new a b had failed h = absurd h
+
+-- ---- what is in front
+
+-- what is looked at is no longer than is held, nor than two packets
+near_size : (b near : List ℕ) (n : ℕ)
+    → near ≡ take lookahead b
+    → n ≤ length near
+    → (n ≤ length b) × (n ≤ lookahead)
+near_size b near n is h =
+    let size : length near ≡ min lookahead (length b) = ap length is ∙ length-take lookahead b in
+    (omega (arith, size, h), omega (arith, size, h))
+
+-- a packet
+pub packet_settled : (p : PacketBuffer) (near : List ℕ) (n : ℕ)
+    → near ≡ take lookahead (held p)
+    → 0 < length (held p)
+    → 0 < n
+    → begins (is_in_step p) near ≡ true
+    → n ≡ 7 + word_at near 4
+    → n ≤ length near
+    → IsInFront p (record { kind = Whole; len = n })
+packet_settled p near n is some least taken size within =
+    let fits = near_size (held p) near n is within in
+    record {
+      some = some;
+      least = least;
+      most = fits.1;
+      within = fits.0;
+      is = λ more e.
+          packet_stays (is_in_step p) (held p) more n (ap (begins (is_in_step p)) (sym is) ∙ taken)
+          (size ∙ ap (λ x. 7 + word_at x 4) is) (subst (λ x. n ≤ length x) is within) fits.0;
+    }
+
+all_near : (b more : List ℕ) (ended : Bool)
+    → ((ended ≡ false) × (lookahead ≤ length b)) ⊎ (ended ≡ true)
+    → (ended ≡ true → more ≡ [])
+    → (more ≡ []) ⊎ (lookahead ≤ length b)
+all_near b more ended (inl h) e = inr h.1
+all_near b more ended (inr h) e = inl (e h)
+
+-- what is none
+pub other_settled : (p : PacketBuffer) (near : List ℕ) (k : PieceKind) (n : ℕ)
+    → near ≡ take lookahead (held p)
+    → 0 < length (held p)
+    → 0 < n
+    → ((is_ended p ≡ false) × (lookahead ≤ length (held p))) ⊎ (is_ended p ≡ true)
+    → k ≡ kind_in (is_in_step p) near
+    → n ≡ size_in k near
+    → n ≤ length near
+    → IsInFront p (record { kind = k; len = n })
+other_settled p near k n is some least all kind size within =
+    let fits = near_size (held p) near n is within in
+    record {
+      some = some;
+      least = least;
+      most = fits.1;
+      within = fits.0;
+      is = λ more e.
+          front_stays (is_in_step p) (held p) more k n
+          (near_stays (held p) more (all_near (held p) more (is_ended p) all e))
+          (kind ∙ ap (kind_in (is_in_step p)) is) (size ∙ ap (size_in k) is) fits.0;
+    }
+
+-- some octets are held
+pub some_held : (b o : List ℕ) → o ≡ b → false ≡ (length o == 0) → 0 < length b
+some_held b o is h = subst (λ x. 0 < length x) is (grind (arith, h))
+
+-- those that are looked at
+pub near_held : (b o : List ℕ) (n : ℕ)
+    → o ≡ b
+    → n ≡ min lookahead (length o)
+    → take n o ≡ take lookahead b
+near_held b o n is size = ap (λ k. take k o) size ∙ take_min lookahead o ∙ ap (take lookahead) is
+
+-- all that is looked at has come
+pub looked_at : (b o : List ℕ) (ended : Bool)
+    → o ≡ b
+    → ((ended ≡ false) × (131084 ≤ length o)) ⊎ (ended ≡ true)
+    → ((ended ≡ false) × (lookahead ≤ length b)) ⊎ (ended ≡ true)
+looked_at b o ended is (inl h) = inl (h.0, subst (λ x. lookahead ≤ length x) is h.1)
+looked_at b o ended is (inr h) = inr h

@@ -1,2 +1,6 @@
 pub mod BufferLemmas
+pub mod CutLemmas
+pub mod FoundLemmas
+pub mod PieceLemmas
 pub mod StreamLemmas
+pub use Rattle.lpt_text.proofs as LptText

@@ -1,48 +1,79 @@
--- The packets of a stream, found as it comes.
-use Rattle.std.specs.Prelude.{◌≡◌, ◌<◌, ◌≤◌, ◌++◌, ℕ, Bool, true, false, List, [], length, take, drop, Option, Some, None, Result, Ok, Err}
+-- The pieces of a stream, found as it comes.
+use Rattle.std.specs.Prelude.{◌≡◌, ◌<◌, ◌≤◌, ◌⊎◌, ◌++◌, ℕ, Bool, true, false, List, [], length, take, drop, Option, Some, None, Result, Ok, Err}
 use Rattle.std.specs.Io.KnownBytes.{Consumes, IsAtEnd}
 use Rattle.lpt_text.specs.declared.fault.ToolFault.{ToolFault}
 use Rattle.lpt_text.specs.declared.fault.ToolFault.TheVariants as tool
 use Rattle.lpt_stream.specs.declared.buffer.PacketBuffer.{PacketBuffer}
-use Rattle.lpt_stream.specs.Streams.{IsUnfinished, IsFramed}
+use Rattle.lpt_stream.specs.declared.found.Found.{Found}
+use Rattle.lpt_stream.specs.Pieces.{Piece, lookahead, piece_at}
+
+-- ---- what is held
 
 -- the octets that were read and not passed over yet
 abbrev pub held : PacketBuffer → List ℕ
 held b = drop b.start b.octets.items
 
+-- whether they come right behind a packet
+abbrev pub is_in_step : PacketBuffer → Bool
+is_in_step b = b.in_step
+
+-- whether the stream's end was read
+abbrev pub is_ended : PacketBuffer → Bool
+is_ended b = b.ended
+
+-- the piece that was found
+abbrev pub found_piece : PacketBuffer → Found → Piece
+found_piece b f = record { kind = f.kind; octets = take f.len (held b) }
+
+-- the piece stands in front of what is held, whatever comes behind
+pub record IsInFront (b : PacketBuffer) (f : Found) : Type 0 where
+  pub some : 0 < length (held b)
+  pub least : 0 < f.len
+  pub most : f.len ≤ lookahead
+  pub within : f.len ≤ length (held b)
+  pub is : (more : List ℕ) → (is_ended b ≡ true → more ≡ [])
+      → piece_at (is_in_step b) (held b ++ more) ≡ found_piece b f
+
+-- ---- reads
+
 -- octets were read, and are held behind the rest
 pub record Adds (old new : PacketBuffer) (before after : Option (List ℕ)) (read : List ℕ) : Type 0 where
   pub consumed : Consumes before after read
   pub behind : held new ≡ held old ++ read
+  pub step : is_in_step new ≡ is_in_step old
 
--- what a read gives: octets; or none, at the end of the stream; or that it failed; for want of
--- memory octets were read and lost
+-- what a read gives: octets, or the end of the stream; or that it failed; for want of memory octets
+-- were read and lost
 abbrev pub Fills :
-    Result Bool ToolFault → (old new : PacketBuffer) → (before after : Option (List ℕ))
+    Result Unit ToolFault → (old new : PacketBuffer) → (before after : Option (List ℕ))
     → (had failed : Bool) → Type 0
-Fills (Ok true) old new before after had failed =
-    (read : List ℕ) × Adds old new before after read × (0 < length read) × (failed ≡ had)
-Fills (Ok false) old new before after had failed =
-    Adds old new before after [] × IsAtEnd after × (failed ≡ had)
+Fills (Ok _) old new before after had failed =
+    (read : List ℕ) × Adds old new before after read × (failed ≡ had)
+    × (((is_ended new ≡ false) × (0 < length read)) ⊎ ((is_ended new ≡ true) × IsAtEnd after))
 Fills (Err tool.Read) old new before after had failed =
     Adds old new before after [] × (failed ≡ true)
 Fills (Err tool.Memory) old new before after had failed =
     (lost : List ℕ) × Consumes before after lost × (failed ≡ had)
 Fills (Err _) old new before after had failed = ⊥
 
--- what a search for a packet gives: the length of the one that is held in front; or that less than
--- one is held, at the end of the stream; or that a read failed before one was held
-abbrev pub FindsPacket :
-    Result (Option ℕ) ToolFault → (old new : PacketBuffer) → (before after : Option (List ℕ))
+-- octets were read, and behind the stream's end none
+pub record Goes (old new : PacketBuffer) (before after : Option (List ℕ)) (read : List ℕ) : Type 0 where
+  pub added : Adds old new before after read
+  pub stays : is_ended old ≡ true → (is_ended new ≡ true) × (read ≡ [])
+  pub at_end : (is_ended old ≡ true → IsAtEnd before) → is_ended new ≡ true → IsAtEnd after
+
+-- what a search for a piece gives: the one in front; or that none is left at the end of the stream;
+-- or that a read failed
+abbrev pub FindsPiece :
+    Result (Option Found) ToolFault → (old new : PacketBuffer) → (before after : Option (List ℕ))
     → (had failed : Bool) → Type 0
-FindsPacket (Ok (Some n)) old new before after had failed =
-    (read : List ℕ) × Adds old new before after read
-    × IsFramed (take n (held new)) × (n ≤ length (held new)) × (failed ≡ had)
-FindsPacket (Ok None) old new before after had failed =
-    (read : List ℕ) × Adds old new before after read × IsUnfinished (held new) × IsAtEnd after
+FindsPiece (Ok (Some f)) old new before after had failed =
+    (read : List ℕ) × Goes old new before after read × IsInFront new f × (failed ≡ had)
+FindsPiece (Ok None) old new before after had failed =
+    (read : List ℕ) × Goes old new before after read × (held new ≡ []) × (is_ended new ≡ true)
     × (failed ≡ had)
-FindsPacket (Err tool.Read) old new before after had failed =
-    (read : List ℕ) × Adds old new before after read × IsUnfinished (held new) × (failed ≡ true)
-FindsPacket (Err tool.Memory) old new before after had failed =
+FindsPiece (Err tool.Read) old new before after had failed =
+    (read : List ℕ) × Consumes before after read × (failed ≡ true)
+FindsPiece (Err tool.Memory) old new before after had failed =
     (lost : List ℕ) × Consumes before after lost × (failed ≡ had)
-FindsPacket (Err _) old new before after had failed = ⊥
+FindsPiece (Err _) old new before after had failed = ⊥

@@ -1,9 +1,9 @@
--- How a stream of octets is cut into packets, by the lengths that their headers say.
+-- The packet at the front of a stream, by the length that its header says.
 use Rattle.std.specs.Prelude.{◌≡◌, ℕ, ◌+◌, ◌<◌, ◌≤◌, ◌⊎◌, nat_lt, if◌then◌else◌, List, [], ◌∷◌, ◌++◌, length, take, drop, Option, Some, None}
 use Rattle.std.specs.List.{flat_map}
 use Rattle.lpt_packet.specs.Numbers.{word_at}
 use Rattle.lpt_packet.specs.Packets.{Fields, IsPacket, IsIdle}
-use Rattle.lpt_packet.specs.Sizes.{primary_header}
+use Rattle.lpt_packet.specs.Sizes.{primary_header, longest_packet}
 
 -- ---- the front
 
@@ -34,26 +34,15 @@ pub record IsFramed (b : List ℕ) : Type 0 where
   pub headed : primary_header ≤ length b
   pub whole : length b ≡ 7 + word_at b 4
 
--- each is as many octets as its header says
-abbrev pub AllFramed : List (List ℕ) → Type 0
-AllFramed [] = Unit {0}
-AllFramed (b ∷ bs) = IsFramed b × AllFramed bs
-
 -- the octets of pieces, one behind the other
 abbrev pub all_octets : List (List ℕ) → List ℕ
 all_octets pieces = flat_map (λ b. b) pieces
 
--- the stream is these pieces, and then less than a packet
-pub record Splits (stream : List ℕ) (pieces : List (List ℕ)) (rest : List ℕ) : Type 0 where
-  pub joined : stream ≡ all_octets pieces ++ rest
-  pub each : AllFramed pieces
-  pub unfinished : IsUnfinished rest
-
 -- ---- packets
 
--- the octets are a packet, or an idle one
+-- the octets are a packet, or an idle one that is no longer than a packet may be
 abbrev pub IsPacketOrIdle : List ℕ → Type 0
-IsPacketOrIdle b = ((f : Fields) × IsPacket b f) ⊎ IsIdle b
+IsPacketOrIdle b = ((f : Fields) × IsPacket b f) ⊎ (IsIdle b × (length b ≤ longest_packet))
 
 -- each is a packet, or an idle one
 abbrev pub IsStream : List (List ℕ) → Type 0

@@ -1,36 +1,49 @@
-//! The packets of a stream, found as it comes.
+//! The pieces of a stream, packets and what is none, found as it comes.
 
 ghost use Rattle.std.specs.Prelude.{◌≤◌, length};
 
-use crate::cutting::whole_length;
+use crate::PieceKind;
+use crate::found::{Found, other_in_front, packet_in_front};
 use lpt_text::{Source, ToolFault};
 use std::alloc::Global;
 
 /// How many octets are asked for at a time.
 const CHUNK: usize = 65_536;
 
+/// So many octets show what begins in front of them: those of the two longest packets.
+const LOOKAHEAD: usize = 131_084;
+
 /// The octets of a stream that were read and not passed over yet.
 ///
-/// What it takes of memory depends on the longest packet alone, however long the stream is.
+/// What it takes of memory doesn't grow with the stream.
 #[derive(Drop)]
 pub struct PacketBuffer {
     octets: Vec<u8>,
     // How many of them were passed over.
     start: usize,
+    // Whether they come right behind a packet.
+    in_step: bool,
+    // Whether the stream's end was read.
+    ended: bool,
     ghost within: { start ≤ length octets.items },
 }
 
 impl PacketBuffer {
-    ghost use Rattle.std.specs.Prelude.{◌≡◌, ◌++◌, [], drop, IfErr, OnOk};
-    ghost use Rattle.lpt_stream.specs.Buffers.{held, Fills, FindsPacket};
+    ghost use Rattle.std.specs.Prelude.{◌≡◌, ◌<◌, ◌++◌, [], drop, true, false, None, IfErr, IfSome, OnOk};
+    ghost use Rattle.lpt_stream.specs.Buffers.{held, is_ended, is_in_step, Fills, FindsPiece, IsInFront};
+    ghost use Rattle.lpt_stream.specs.Pieces.{keeps_step};
 
     /// A stream of which nothing was read.
     pub fn new(alloc: Global) -> Self
-        ensures { held result ≡ [] }
+        ensures held { held result ≡ [] }
+        ensures step { is_in_step result ≡ true }
+        ensures end { is_ended result ≡ false }
     {
         PacketBuffer {
             octets: Vec::new(alloc),
             start: 0,
+            in_step: true,
+            ended: false,
         }
     }
 
@@ -41,42 +54,71 @@ impl PacketBuffer {
         &self.octets[self.start..]
     }
 
-    /// Passes over so many of the octets that are held.
-    pub fn skip(&mut self, count: usize)
-        requires { count ≤ length (held self.old) }
-        ensures { held self.new ≡ drop count (held self.old) }
+    /// Passes over the piece that was found in front.
+    pub fn skip(&mut self, found: Found)
+        requires { found.len ≤ length (held self.old) }
+        ensures held { held self.new ≡ drop found.len (held self.old) }
+        ensures step { is_in_step self.new ≡ keeps_step found.kind }
+        ensures end { is_ended self.new ≡ is_ended self.old }
     {
-        self.start += count;
+        self.start += found.len;
+        self.in_step = found.kind != PieceKind::Stray;
     }
 
-    /// Reads until a whole packet is held, and gives how many octets it has. Where one is held
-    /// already, nothing is read.
+    /// Reads until the octets that are held show which piece is in front of them, and gives it. Where
+    /// they do already, nothing is read.
     ///
-    /// There is none where the stream ends with less than a packet.
+    /// There is none where the stream is at its end and nothing is held.
     ///
     /// Errors: `Read` where a read failed; `Memory`, with which some octets of the stream are lost.
-    pub fn find_packet<S: Source>(&mut self, source: &mut S) -> Result<Option<usize>, ToolFault>
-        ensures { FindsPacket result self.old self.new (S.remaining source.old)
+    pub fn find_piece<S: Source>(&mut self, source: &mut S) -> Result<Option<Found>, ToolFault>
+        ensures { FindsPiece result self.old self.new (S.remaining source.old)
             (S.remaining source.new) (S.failed source.old) (S.failed source.new) }
     {
         loop {
-            match whole_length(self.held()) {
-                Some(len) => return Ok(Some(len)),
+            match self.settled() {
+                Some(found) => return Ok(Some(found)),
                 None => {}
             }
+            if self.ended {
+                return Ok(None);
+            }
             match self.fill(source) {
-                Ok(more) => {
-                    if !more {
-                        return Ok(None);
-                    }
-                }
+                Ok(()) => {}
                 Err(fault) => return Err(fault),
             }
         }
     }
 
-    // Reads some octets behind those that are held, and answers whether there were any.
-    fn fill<S: Source>(&mut self, source: &mut S) -> Result<bool, ToolFault>
+    // The piece in front, where the octets that are held show it, whatever comes behind them.
+    fn settled(&self) -> Option<Found>
+        ensures some { IfSome result (IsInFront self.now) }
+        ensures few { result ≡ None → length (held self.now) < 131084 }
+        ensures none { result ≡ None → is_ended self.now ≡ true → held self.now ≡ [] }
+    {
+        let octets = self.held();
+        if octets.is_empty() {
+            return None;
+        }
+        let near = &octets[..LOOKAHEAD.min(octets.len())];
+        match packet_in_front(near, self.in_step) {
+            Some(len) => {
+                return Some(Found {
+                    kind: PieceKind::Whole,
+                    len,
+                });
+            }
+            None => {}
+        }
+        if !self.ended && octets.len() < LOOKAHEAD {
+            return None;
+        }
+        Some(other_in_front(near, self.in_step))
+    }
+
+    // Reads some octets behind those that are held, or the stream's end.
+    fn fill<S: Source>(&mut self, source: &mut S) -> Result<(), ToolFault>
+        requires { is_ended self.old ≡ false }
         ensures { Fills result self.old self.new (S.remaining source.old) (S.remaining source.new)
             (S.failed source.old) (S.failed source.new) }
     {
@@ -85,10 +127,11 @@ impl PacketBuffer {
             return Err(ToolFault::Read);
         };
         if count == 0 {
-            return Ok(false);
+            self.ended = true;
+            return Ok(());
         }
         match self.push(&chunk[..count]) {
-            Ok(()) => Ok(true),
+            Ok(()) => Ok(()),
             Err(fault) => Err(fault),
         }
     }
@@ -96,6 +139,8 @@ impl PacketBuffer {
     // Holds octets behind the rest.
     fn push(&mut self, octets: &[u8]) -> Result<(), ToolFault>
         ensures held { OnOk result (held self.new ≡ held self.old ++ octets.now) }
+        ensures step { is_in_step self.new ≡ is_in_step self.old }
+        ensures end { is_ended self.new ≡ is_ended self.old }
         ensures fault { IfErr result (λ e. e ≡ ToolFault.Memory) }
     {
         self.compact();
@@ -107,7 +152,9 @@ impl PacketBuffer {
 
     // Gives up the octets that were passed over.
     fn compact(&mut self)
-        ensures { held self.new ≡ held self.old }
+        ensures held { held self.new ≡ held self.old }
+        ensures step { is_in_step self.new ≡ is_in_step self.old }
+        ensures end { is_ended self.new ≡ is_ended self.old }
     {
         let left = self.octets.len() - self.start;
         self.octets.rotate_left(self.start);

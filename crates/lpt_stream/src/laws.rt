@@ -1,8 +1,9 @@
 //! What the definitions say of streams, proved of all of them: functions with empty bodies.
 
-ghost use Rattle.std.specs.Prelude.{◌≡◌, ◌++◌, ℕ, List, [], Some};
+ghost use Rattle.std.specs.Prelude.{◌≡◌, ◌++◌, ℕ, List, Some};
 ghost use Rattle.lpt_packet.specs.Packets.{Fields, IsPacket, IsIdle};
-ghost use Rattle.lpt_stream.specs.Streams.{IsStream, Splits, all_octets, front_of};
+ghost use Rattle.lpt_stream.specs.Pieces.{Piece, Cuts, Finds};
+ghost use Rattle.lpt_stream.specs.Streams.{IsStream, all_octets, front_of};
 
 /// A packet and an idle packet are cut out whole, whatever comes behind.
 pub fn packets_are_cut()
@@ -11,14 +12,13 @@ pub fn packets_are_cut()
     ensures idle { (b rest : List ℕ) → IsIdle b → front_of (b ++ rest) ≡ Some (b, rest) }
 {}
 
-/// A stream is cut in one way.
-pub fn one_split()
-    ensures { (stream rest other : List ℕ) (pieces others : List (List ℕ))
-        → Splits stream pieces rest → Splits stream others other
-        → (pieces ≡ others) × (rest ≡ other) }
+/// A stream is cut into pieces in one way.
+pub fn one_cut()
+    ensures { (stream : List ℕ) (pieces others : List Piece)
+        → Cuts stream pieces → Cuts stream others → pieces ≡ others }
 {}
 
-/// Packets and idle packets, one behind the other, are cut into just these.
-pub fn packets_are_split()
-    ensures { (pieces : List (List ℕ)) → IsStream pieces → Splits (all_octets pieces) pieces [] }
+/// In packets and idle packets, one behind the other, just these are found.
+pub fn packets_are_found()
+    ensures { (packets : List (List ℕ)) → IsStream packets → Finds (all_octets packets) packets }
 {}

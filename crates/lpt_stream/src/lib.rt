@@ -1,14 +1,20 @@
-//! A stream of octets as space packets (CCSDS 133.0-B), one behind the other. It is cut by the
-//! lengths that the primary headers say, as it comes: no more of it is held than one packet and
-//! what one read gives. Whether a piece is a packet, `lpt_packet` says.
+//! A stream of octets as space packets (CCSDS 133.0-B), one behind the other, and what is none. It
+//! is cut into pieces as it comes: no more of it is held than the octets of two packets and what
+//! one read gives. Whether a piece is a packet, `lpt_packet` says. Behind octets that are none, the
+//! next place is searched at which a packet with a right checksum begins.
 //!
-//! The main type is `PacketBuffer`. The first call is its `find_packet`, with a source;
+//! The main type is `PacketBuffer`. The first call is its `find_piece`, with a source;
 //! `packet_length` says how long the packet is that begins with these octets.
 #![tactic(auto)]
 
 mod buffer;
 mod cutting;
+mod found;
 pub mod laws;
+mod piece_kind;
 
 pub use buffer::PacketBuffer;
 pub use cutting::{packet_length, whole_length};
+pub use found::Found;
+pub use lpt_text::{Sink, Source, ToolFault, write_out};
+pub use piece_kind::PieceKind;

@@ -1,0 +1,73 @@
+-- The packets of a stream are found in it.
+use Rattle.std.proofs.Common.{◌≡◌, ◌∙◌, ap, sym, subst, refl, inl, inr, ℕ, ◌+◌, ◌≤◌, ◌<◌, Bool, true, List, [], ◌∷◌, ◌++◌, length, take, drop, Result, Ok, arith, take_all, length-append}
+use Rattle.std.proofs.Math.Seq.{take-append_seam, drop-append_seam}
+use Rattle.lpt_packet.specs.declared.fault.PacketFault.{PacketFault}
+use Rattle.lpt_packet.specs.Numbers.{word_at}
+use Rattle.lpt_packet.specs.Packets.{Fields, Sight, IdlePacket, APacket, IsPacket, IsSight, verdict}
+use Rattle.lpt_packet.proofs.Codec.{length-spelling}
+use Rattle.lpt_packet.proofs.Found.{again}
+use Rattle.lpt_stream.specs.declared.piece_kind.PieceKind.TheVariants.{Whole}
+use Rattle.lpt_stream.specs.Pieces.{Piece, lookahead, frame, is_taken, begins, piece_at, Leads, Finds, packets_of}
+use Rattle.lpt_stream.specs.Streams.{IsFramed, IsPacketOrIdle, IsStream, all_octets}
+use Rattle.lpt_stream.proofs.PieceLemmas.{packet_stays, whole}
+use Rattle.lpt_stream.proofs.StreamLemmas.{framed_packet, framed_idle}
+
+-- what a packet or an idle packet in step is
+record IsTaken (b : List ℕ) : Type 0 where
+  framed : IsFramed b
+  short : length b ≤ 65542
+  taken : is_taken true (verdict b) ≡ true
+
+taken : (b : List ℕ) → IsPacketOrIdle b → IsTaken b
+taken b (inl w) =
+    let size : length b ≡ length w.0.octets + 8 = ap length w.1.spelled ∙ length-spelling w.0 in
+    let fits = w.1.ranges.field_fits in
+    record {
+      framed = framed_packet b w.0 w.1;
+      short = omega (arith, fits);
+      taken = ap (is_taken true) (again b (APacket w.0) w.1);
+    }
+taken b (inr h) = record {
+  framed = framed_idle b h.0;
+  short = h.1;
+  taken = ap (is_taken true) (again b IdlePacket h.0);
+}
+
+-- in front of a stream it is a piece
+front_piece : (b rest : List ℕ) → IsTaken b → piece_at true (b ++ rest) ≡ whole b
+front_piece b rest h =
+    let near : take lookahead b ≡ b = take_all lookahead b (let s = h.short in omega (arith, s)) in
+    let size : length b ≡ 7 + word_at b 4 = h.framed.whole in
+    let all : frame b ≡ b = take_all (7 + word_at b 4) b (omega (arith, size)) in
+    packet_stays true b rest (length b)
+    (ap (begins true) near ∙ ap (λ x. is_taken true (verdict x)) all ∙ h.taken)
+    (size ∙ ap (λ x. 7 + word_at x 4) (sym near))
+    (omega (arith, ap length near)) (omega arith)
+    ∙ ap whole (take_all (length b) b (omega arith))
+
+abbrev wholes : List (List ℕ) → List Piece
+wholes [] = []
+wholes (b ∷ bs) = whole b ∷ wholes bs
+
+some : (b rest : List ℕ) → IsTaken b → 0 < length (b ++ rest)
+some b rest h =
+    let head = h.framed.headed in
+    let all = length-append b rest in
+    omega (arith, head, all)
+
+lead : (bs : List (List ℕ)) → IsStream bs → Leads true (all_octets bs) (wholes bs) true []
+lead [] h = (refl, refl)
+lead (b ∷ bs) h =
+    let t = taken b h.0 in (
+      some b (all_octets bs) t,
+      sym (front_piece b (all_octets bs) t),
+      subst (λ x. Leads true x (wholes bs) true []) (sym (drop-append_seam b (all_octets bs))) (lead bs h.1),
+    )
+
+same : (bs : List (List ℕ)) → packets_of (wholes bs) ≡ bs
+same [] = refl
+same (b ∷ bs) = ap (λ x. b ∷ x) (same bs)
+
+-- in packets one behind the other just these are found
+pub stream_found : (bs : List (List ℕ)) → IsStream bs → Finds (all_octets bs) bs
+stream_found bs h = (wholes bs, (true, lead bs h), same bs)

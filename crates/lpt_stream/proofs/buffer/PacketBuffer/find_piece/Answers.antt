@@ -1,0 +1,55 @@
+-- Read after read, until what is held shows a piece.
+use Rattle.std.proofs.Common.{◌∙◌, [], ◌++◌, refl}
+use Rattle.lpt_stream.proofs.BufferLemmas.{goes-nothing, goes-more, nearer, fill-fault}
+use Rattle.lpt_stream.proofs.buffer.PacketBuffer.find_piece.Goals as goal
+
+pub loop-found-init : goal.loop-found-init
+loop-found-init g c = record {
+  goes = ([], goes-nothing c.args.self.now (g.S.Source.remaining c.args.source.now));
+  told = refl;
+}
+
+pub returns-in-Some : goal.returns-in-Some
+returns-in-Some g c = (
+  c.loop-found.invariant.goes.0,
+  c.loop-found.invariant.goes.1,
+  c.in-Some.ensures.some,
+  c.loop-found.invariant.told,
+)
+
+pub returns-then-self : goal.returns-then-self
+returns-then-self g c = (
+  c.loop-found.invariant.goes.0,
+  c.loop-found.invariant.goes.1,
+  c.in-None.ensures.none refl c.if-self.true,
+  c.if-self.true,
+  c.loop-found.invariant.told,
+)
+
+pub loop-found-smaller : goal.loop-found-smaller
+loop-found-smaller g c =
+    nearer c.loop-found.self c.fill.new.self (g.S.Source.remaining c.loop-found.source)
+    (g.S.Source.remaining c.fill.new.source) c.in-Ok.ensures.0 c.if-self.false
+    (c.in-None.ensures.few refl) c.in-Ok.ensures.1 c.in-Ok.ensures.3
+
+pub loop-found-preserved : goal.loop-found-preserved
+loop-found-preserved g c = record {
+  goes = (
+    c.loop-found.invariant.goes.0 ++ c.in-Ok.ensures.0,
+    goes-more c.args.self.now c.loop-found.self c.fill.new.self
+        (g.S.Source.remaining c.args.source.now) (g.S.Source.remaining c.loop-found.source)
+        (g.S.Source.remaining c.fill.new.source) c.loop-found.invariant.goes.0 c.in-Ok.ensures.0
+        c.if-self.false c.loop-found.invariant.goes.1 c.in-Ok.ensures.1 c.in-Ok.ensures.3,
+  );
+  told = c.in-Ok.ensures.2 ∙ c.loop-found.invariant.told;
+}
+
+-- a read failed, or memory was wanting, before a piece was shown
+pub returns-in-Err : goal.returns-in-Err
+returns-in-Err g c =
+    fill-fault c.in-Err.fault c.args.self.now c.loop-found.self c.fill.new.self
+    (g.S.Source.remaining c.args.source.now) (g.S.Source.remaining c.loop-found.source)
+    (g.S.Source.remaining c.fill.new.source) c.loop-found.invariant.goes.0
+    (g.S.Source.failed c.args.source.now) (g.S.Source.failed c.loop-found.source)
+    (g.S.Source.failed c.fill.new.source) c.loop-found.invariant.goes.1.added
+    c.loop-found.invariant.told c.in-Err.ensures

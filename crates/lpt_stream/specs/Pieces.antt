@@ -1,0 +1,94 @@
+-- How a stream is cut into pieces, where not all of its octets are packets.
+use Rattle.std.specs.Prelude.{◌≡◌, ℕ, ◌+◌, ◌<◌, ◌==◌, ◌&&◌, ◌||◌, nat_le, Bool, true, false, if◌then◌else◌, List, [], ◌∷◌, ◌++◌, length, take, drop, Result, Ok, Err}
+use Rattle.lpt_packet.specs.declared.fault.PacketFault.{PacketFault}
+use Rattle.lpt_packet.specs.Numbers.{word_at}
+use Rattle.lpt_packet.specs.Packets.{Sight, IdlePacket, APacket, verdict}
+use Rattle.lpt_stream.specs.declared.piece_kind.PieceKind.{PieceKind}
+use Rattle.lpt_stream.specs.declared.piece_kind.PieceKind.TheVariants.{Whole, Damaged, Stray}
+
+-- ---- the front
+
+-- so many octets, those of two packets, show what begins in front of them
+abbrev pub lookahead : ℕ
+lookahead = 131084
+
+-- the octets of the packet at the front, as its header says, or all where fewer have come
+abbrev pub frame : List ℕ → List ℕ
+frame b = take (7 + word_at b 4) b
+
+-- the octets behind it
+abbrev pub behind : List ℕ → List ℕ
+behind b = drop (7 + word_at b 4) b
+
+-- whether octets that are read like this are taken as a packet; an idle one has no checksum that is
+-- looked at, so it is taken in step alone
+abbrev pub is_taken : (in_step : Bool) → Result Sight PacketFault → Bool
+is_taken s (Ok (APacket f)) = true
+is_taken s (Ok IdlePacket) = s
+is_taken s (Err e) = false
+
+-- whether a packet begins at the front
+abbrev pub begins : (in_step : Bool) → List ℕ → Bool
+begins s b = is_taken s (verdict (frame b))
+
+-- whether what begins at the front is as long as its header says, with a packet behind it, or nothing
+abbrev pub is_passed : List ℕ → Bool
+is_passed b =
+    nat_le (7 + word_at b 4) (length b) && ((length (behind b) == 0) || begins false (behind b))
+
+-- what stands at the front: a packet; or in step as many octets as a header says; or one octet
+abbrev pub kind_in : (in_step : Bool) → List ℕ → PieceKind
+kind_in s b = if begins s b then Whole else if s && is_passed b then Damaged else Stray
+
+-- how many octets that is
+abbrev pub size_in : PieceKind → List ℕ → ℕ
+size_in Whole b = 7 + word_at b 4
+size_in Damaged b = 7 + word_at b 4
+size_in Stray b = 1
+
+-- ---- the stream
+
+-- octets of a stream, and what they are
+pub record Piece : Type 0 where
+  pub kind : PieceKind
+  pub octets : List ℕ
+
+-- the front of this kind, as the octets near it show
+abbrev pub piece_of : PieceKind → (near b : List ℕ) → Piece
+piece_of k near b = record { kind = k; octets = take (size_in k near) b }
+
+-- the piece at the front
+unfoldable pub piece_at : (in_step : Bool) → List ℕ → Piece
+piece_at s b = piece_of (kind_in s (take lookahead b)) (take lookahead b) b
+
+-- whether what comes behind is in step
+abbrev pub keeps_step : PieceKind → Bool
+keeps_step Whole = true
+keeps_step Damaged = true
+keeps_step Stray = false
+
+-- the octets are these pieces, one behind the other, up to others
+abbrev pub Leads : (in_step : Bool) → List ℕ → List Piece → (at_last : Bool) → List ℕ → Type 0
+Leads s b [] t c = (s ≡ t) × (b ≡ c)
+Leads s b (p ∷ ps) t c =
+    (0 < length b) × (p ≡ piece_at s b)
+    × Leads (keeps_step p.kind) (drop (length p.octets) b) ps t c
+
+-- the stream is these pieces; it begins in step
+abbrev pub Cuts : List ℕ → List Piece → Type 0
+Cuts stream ps = (t : Bool) × Leads true stream ps t []
+
+-- the octets of a piece that is a packet, in front of others
+abbrev pub packet_before : PieceKind → List ℕ → List (List ℕ) → List (List ℕ)
+packet_before Whole b bs = b ∷ bs
+packet_before Damaged b bs = bs
+packet_before Stray b bs = bs
+
+-- the packets, and idle packets, among pieces
+abbrev pub packets_of : List Piece → List (List ℕ)
+packets_of [] = []
+packets_of (p ∷ ps) = packet_before p.kind p.octets (packets_of ps)
+
+-- these are the packets, and idle packets, that are found in the stream
+abbrev pub Finds : List ℕ → List (List ℕ) → Type 0
+Finds stream packets = (ps : List Piece) × Cuts stream ps × (packets_of ps ≡ packets)

@@ -1,0 +1,62 @@
+//! The piece at the front of a stream (CCSDS 133.0-B), where not all octets are packets.
+
+ghost use Rattle.std.specs.Prelude.{◌≡◌, ◌+◌, ◌<◌, ◌≤◌, ◌==◌, ◌||◌, true, false, length, None, IfSome};
+ghost use Rattle.lpt_packet.specs.Numbers.{word_at};
+ghost use Rattle.lpt_stream.specs.Pieces.{begins, kind_in, size_in};
+
+use crate::PieceKind;
+use crate::cutting::whole_length;
+use lpt_packet::{Seen, read_packet};
+
+/// The piece at the front of octets.
+#[derive(Clone, Copy, Debug)]
+pub struct Found {
+    /// What it is.
+    pub kind: PieceKind,
+    /// How many octets it has.
+    pub len: usize,
+}
+
+// How many octets the packet at the front has, where one has come whole; an idle one counts in step
+// alone.
+pub(crate) fn packet_in_front(bytes: &[u8], in_step: bool) -> Option<usize>
+    ensures some { IfSome result (λ n. (begins in_step bytes.now ≡ true) × (n ≡ 7 + word_at bytes.now 4)
+        × (n ≤ length bytes.now)) }
+    ensures least { IfSome result (λ n. 0 < n) }
+    ensures none { result ≡ None → begins in_step bytes.now ≡ false }
+{
+    let len = whole_length(bytes)?;
+    match read_packet(&bytes[..len]) {
+        Ok(Seen::Packet(_)) => Some(len),
+        Ok(Seen::Idle) => { if in_step { Some(len) } else { None } }
+        Err(_) => None,
+    }
+}
+
+// What stands at the front of octets with which no packet begins.
+pub(crate) fn other_in_front(bytes: &[u8], in_step: bool) -> Found
+    requires some { 0 < length bytes.now }
+    requires none { begins in_step bytes.now ≡ false }
+    ensures kind { result.kind ≡ kind_in in_step bytes.now }
+    ensures len { result.len ≡ size_in result.kind bytes.now }
+    ensures least { 0 < result.len }
+    ensures within { result.len ≤ length bytes.now }
+{
+    match whole_length(bytes) {
+        Some(len) if in_step && ends_or_goes_on(&bytes[len..]) => Found {
+            kind: PieceKind::Damaged,
+            len,
+        },
+        _ => Found {
+            kind: PieceKind::Stray,
+            len: 1,
+        },
+    }
+}
+
+// Whether there are no octets, or a packet begins with them.
+fn ends_or_goes_on(bytes: &[u8]) -> bool
+    ensures { result ≡ ((length bytes.now == 0) || begins false bytes.now) }
+{
+    bytes.is_empty() || packet_in_front(bytes, false).is_some()
+}
