@@ -6,6 +6,7 @@ use crate::title::title_of;
 use crate::watched::Watched;
 use crate::work::status_at_end;
 use lpt_chart::Choice;
+use lpt_command_line::ChartWords;
 use lpt_tool::{
     Config, ConfigFault, End, Memories, ScriptEnd, Shows, Told, ToolFault, World, read_text,
     run_lines, write_out,
@@ -22,9 +23,13 @@ pub fn chart(
     rt: &HostRuntime,
     config: Config,
     memories: Memories,
-    choice: Choice,
-    script: &str,
+    words: &ChartWords<'_>,
 ) -> Result<Status, Failure> {
+    let choice = Choice {
+        from: words.from,
+        to: words.to,
+    };
+    let script = words.script;
     if script == "-" {
         return chart_from(rt, config, memories, choice, rt.reader(), STANDARD_INPUT);
     }
@@ -121,7 +126,7 @@ fn picture_of(
     let Ok(title) = title_of(alloc, script) else {
         return Err(ToolFault::Memory);
     };
-    match lpt_chart::chart(alloc, choice, title.as_slice(), world.journal()) {
+    match lpt_chart::chart(alloc, choice, title.as_slice(), world.journal(), &[]) {
         Ok(picture) => Ok(picture),
         Err(_) => Err(ToolFault::Memory),
     }

@@ -1,13 +1,12 @@
 //! How the program ends: its status, and what it tells about a fault.
 
-use crate::command_line::Unasked;
-use crate::word_fault::WordFault;
 use clap::error::ErrorKind;
+use lpt_command_line::{Unasked, WordFault};
 use lpt_tool::ToolFault;
 use std::alloc::{AllocError, Global};
 
 /// What the program's status tells.
-#[derive(Clone, Copy, Debug, PartialEq, Eq)]
+#[derive(Clone, Copy)]
 pub enum Status {
     /// All was done.
     Done = 0,
@@ -20,7 +19,7 @@ pub enum Status {
 }
 
 /// Why the program ends before its work is done.
-#[derive(Debug, Drop)]
+#[derive(Drop)]
 pub struct Failure {
     fault: ToolFault,
     // Whether nothing is told of it.

@@ -3,9 +3,9 @@
 ghost use Rattle.lpt_files.specs.LptEvents.Configs.{IsConfig};
 
 use crate::end::{Failure, Status, tell_place};
-use crate::file_words::SplitWords;
 use crate::streams::{STANDARD_INPUT, finish, opened, output, read_failure};
 use crate::watched::Watched;
+use lpt_command_line::SplitWords;
 use lpt_files::{Config, SplitEnd, Told, ToolFault, Wanted, split_message};
 use std::alloc::{AllocError, Global};
 use std::io::Read;

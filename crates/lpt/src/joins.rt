@@ -3,9 +3,9 @@
 ghost use Rattle.lpt_files.specs.LptEvents.Configs.{IsConfig};
 
 use crate::end::{Failure, Status, tell_place};
-use crate::file_words::JoinWords;
 use crate::streams::{STANDARD_INPUT, finish, opened, output, read_failure};
 use crate::watched::Watched;
+use lpt_command_line::JoinWords;
 use lpt_files::{
     Came, Config, Direction, Gatherings, JoinEnd, Joining, Sink, Source, Told, ToolFault,
     Transaction, join_message, join_only, missing_list,

@@ -6,23 +6,19 @@
 #![tactic(auto)]
 
 mod charting;
-mod command_line;
 mod configuration;
 mod end;
-mod file_words;
 mod files;
 mod joins;
 mod linting;
-mod request_words;
 mod requests;
 mod streams;
 mod title;
 mod watched;
-mod word_fault;
 mod work;
 
-use command_line::{Asked, Command, read_words};
 use end::{Failure, Status};
+use lpt_command_line::{Asked, Command, read_words};
 use lpt_tool::ToolFault;
 use std::process::ExitCode;
 use std::sync::Wait;
@@ -76,7 +72,7 @@ fn done<T: Threads + Wait + Sync>(
         Command::Run(script) => work::run(rt, threads, config, memories, None, script),
         Command::Threads(script) => work::run(rt, threads, config, memories, Some(turns), script),
         Command::Lint(script) => linting::lint(rt, script),
-        Command::Chart(script, choice) => charting::chart(rt, config, memories, *choice, script),
+        Command::Chart(words) => charting::chart(rt, config, memories, words),
         Command::Decode(hex) => work::decode(rt, config, hex),
         Command::Split(words) => files::split(rt, &config, words),
         Command::Join(words) => joins::join(rt, &config, words),

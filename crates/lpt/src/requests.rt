@@ -3,11 +3,12 @@
 ghost use Rattle.lpt_files.specs.LptEvents.Configs.{IsConfig};
 
 use crate::end::{Failure, Status, tell_place};
-use crate::request_words::{RequestWords, What};
 use crate::streams::{STANDARD_INPUT, finish, opened, output, read_failure};
 use crate::watched::Watched;
+use lpt_command_line::{RequestWords, What};
 use lpt_files::{Config, End, Octets, Told, ToolFault, read_text, write_out};
-use lpt_requests::{Area, MemoryFault, Request, write_request};
+use lpt_requests::{Area, MemoryFault, Range, Request, write_request};
+use std::alloc::Global;
 use std::io::Read;
 
 /// Writes a request to a memory as a telecommand.
@@ -71,15 +72,21 @@ fn asked(rt: &HostRuntime, words: &RequestWords<'_>) -> Result<Request, Failure>
             }
             Ok(Request::Load(memory, areas))
         }
-        What::Dump(places) => match places.clone() {
-            Ok(places) => Ok(Request::Dump(memory, places)),
-            Err(_) => Err(Failure::from(ToolFault::Memory)),
-        },
-        What::Check(places) => match places.clone() {
-            Ok(places) => Ok(Request::Check(memory, places)),
-            Err(_) => Err(Failure::from(ToolFault::Memory)),
-        },
+        What::Dump(places) => Ok(Request::Dump(memory, ranges_of(rt.alloc(), places)?)),
+        What::Check(places) => Ok(Request::Check(memory, ranges_of(rt.alloc(), places)?)),
     }
+}
+
+// The places of a dump or a check.
+fn ranges_of(alloc: Global, places: &[(u32, u16)]) -> Result<Vec<Range>, ToolFault> {
+    let mut ranges = Vec::new(alloc);
+    for (address, len) in places {
+        let (address, len) = (*address, *len);
+        if ranges.push(Range { address, len }).is_err() {
+            return Err(ToolFault::Memory);
+        }
+    }
+    Ok(ranges)
 }
 
 // The octets of a file, or of standard input.

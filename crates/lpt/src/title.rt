@@ -3,7 +3,7 @@
 use std::alloc::{AllocError, Global};
 
 /// Where in a line an octet stands.
-#[derive(Clone, Copy, Debug, PartialEq, Eq)]
+#[derive(Clone, Copy, PartialEq, Eq)]
 enum Place {
     /// Before anything but spaces.
     Start,

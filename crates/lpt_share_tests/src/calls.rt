@@ -1,10 +1,10 @@
 //! Calls and turns of one thread, and logs beside the journal.
 
-use crate::scenes::{Asked, CONFIG, Free, MESSAGE, world_after};
+use crate::scenes::{Asked, CONFIG, Free, MESSAGE, octets, world_after};
 use lpt_share::Direction::{Down, Up};
 use lpt_share::{
-    Answer, CallFault, Done, Event, Lane, SeatLog, ShareFault, Shared, Side, StepFault, Worker,
-    World, agrees,
+    Answer, CallFault, Config, Done, Event, Lane, SeatLog, ShareFault, Shared, Side, StepFault,
+    Worker, World, agrees,
 };
 use std::alloc::Global;
 use std::process::Abort;
@@ -89,6 +89,130 @@ fn is_refused(answer: &Result<Done, CallFault>) -> bool {
 fn is_torn(answer: &Result<Done, CallFault>) -> bool {
     match answer {
         Err(CallFault::Torn(length, _)) => *length == 4,
+        _ => false,
+    }
+}
+
+// A message is opened once, and refused the second time; the log has the one call. A seat that has
+// seen more than the journal has finds it torn.
+#[test]
+fn a_second_opening_is_refused(rt: HostRuntime) -> Result<(), Fail> {
+    let alloc = rt.alloc();
+    let shared = Shared::new(world_after(alloc, CONFIG, &[]).ok_or("no world")?);
+    let mut log = SeatLog::new(alloc, 9, 0);
+    let mut torn = SeatLog::new(alloc, 9, 1);
+    let before = length_of_torn(&open_seven(&rt, alloc, &shared, &mut torn));
+    let done = open_seven(&rt, alloc, &shared, &mut log);
+    let again = open_seven(&rt, alloc, &shared, &mut log);
+    assert!(rt; (before, place_of(&done)) == (Some(0), Some(0)));
+    assert!(rt; fault_of(&again) == Some((StepFault::InUse, 1)));
+    assert!(rt; (log.seen, log.calls.len()) == (1, 1));
+    let world = shared.into_world();
+    let came = is_logged_from_nought(&rt, alloc, &world, log);
+    drop(world);
+    came
+}
+
+// Opens nine octets upwards under identifier 7.
+fn open_seven<R: Wait>(
+    rt: &R,
+    alloc: Global,
+    shared: &Shared,
+    log: &mut SeatLog,
+) -> Result<Done, CallFault> {
+    match octets(alloc, &MESSAGE[..9]) {
+        Ok(message) => shared.call(rt, log, Event::Open(Up, 7, message)),
+        Err(_) => Err(CallFault::Memory(Event::Apply)),
+    }
+}
+
+// The place at which a call was done.
+fn place_of(answer: &Result<Done, CallFault>) -> Option<u64> {
+    match answer {
+        Ok(done) => Some(done.place),
+        Err(_) => None,
+    }
+}
+
+// Why a call was refused, and behind how many entries.
+fn fault_of(answer: &Result<Done, CallFault>) -> Option<(StepFault, u64)> {
+    match answer {
+        Err(CallFault::Refused(refused)) => Some((refused.fault, refused.at)),
+        _ => None,
+    }
+}
+
+// How many entries a journal had that were too few, where the opening came back.
+fn length_of_torn(answer: &Result<Done, CallFault>) -> Option<u64> {
+    match answer {
+        Err(CallFault::Torn(length, Event::Open(Up, 7, _))) => Some(*length),
+        _ => None,
+    }
+}
+
+// The log agrees with the journal from its beginning on, and not from behind its one entry, nor from
+// behind that.
+fn is_logged_from_nought(
+    rt: &impl Abort,
+    alloc: Global,
+    world: &World,
+    log: SeatLog,
+) -> Result<(), Fail> {
+    let mut logs = Vec::new(alloc);
+    logs.push(log)?;
+    let agreed = [0, 1, 2].map(|from| agrees(world, from, logs.as_slice()));
+    assert!(rt; agreed == [true, false, false]);
+    Ok(())
+}
+
+// A part is sent and taken, nothing more comes for nine ticks, and then its reception ends: a turn
+// of the timer is a tick and an expiry, and the next one a tick.
+#[test]
+fn a_timer_ends_what_a_lane_began(rt: HostRuntime) -> Result<(), Fail> {
+    let alloc = rt.alloc();
+    let config = Config {
+        timeout: 10,
+        ..CONFIG
+    };
+    let shared = Shared::new(world_after(alloc, config, &[]).ok_or("no world")?);
+    let (mut sender, mut timer) = (SeatLog::new(alloc, 9, 0), SeatLog::new(alloc, 5, 0));
+    let opened = place_of(&open_seven(&rt, alloc, &shared, &mut sender));
+    let sent = shared.sender_turn(&rt, &mut sender, Up, 7, Some(1), &Free);
+    let lane = lane_begins(&rt, alloc, &shared);
+    assert!(rt; (opened, sent, lane) == (Some(0), Ok(1), Ok(2)));
+    assert!(rt; ticks(&rt, &shared, &mut timer, 9) == 9);
+    let turns = [0, 1].map(|_| shared.timer_turn(&rt, &mut timer, Side::Craft, &Free));
+    assert!(rt; turns == [Ok(2), Ok(1)] && timer.calls.len() == 12);
+    assert!(rt; is_expired(&timer));
+    drop(shared);
+    Ok(())
+}
+
+// A lane takes packet 0 and delivers it.
+fn lane_begins<R: Wait>(rt: &R, alloc: Global, shared: &Shared) -> Result<u64, ShareFault> {
+    let mut log = SeatLog::new(alloc, 1, 0);
+    shared.lane_turn(rt, &mut log, Lane::S1, 0, &Free)
+}
+
+// So many ticks of the spacecraft's clock, and how many were done.
+fn ticks<R: Wait>(rt: &R, shared: &Shared, log: &mut SeatLog, count: u8) -> u8 {
+    let mut done = 0u8;
+    for _ in 0..count {
+        if shared.call(rt, log, Event::Tick(Side::Craft)).is_ok() {
+            done = done.saturating_add(1);
+        }
+    }
+    done
+}
+
+// Whether the call before the last was an expiry of the message, behind a tick.
+fn is_expired(log: &SeatLog) -> bool {
+    match log.calls.as_slice() {
+        [.., tick, expiry, _] => {
+            tick.event == Event::Tick(Side::Craft)
+                && expiry.event == Event::Expire(Side::Craft)
+                && expiry.reply.answer == Answer::Expired(Up, 7)
+        }
         _ => false,
     }
 }

@@ -156,6 +156,6 @@ fn plain(alloc: Global, flags: u8, subtype: u8, body: &[u8]) -> Result<Event, Al
 }
 
 // A copy of these octets.
-fn octets(alloc: Global, octets: &[u8]) -> Result<Octets, AllocError> {
+pub(crate) fn octets(alloc: Global, octets: &[u8]) -> Result<Octets, AllocError> {
     Ok(Octets::from_vec(octets.to_vec(alloc)?))
 }

@@ -1,9 +1,9 @@
 //! What is wrong with words that are more than one to a thing.
 
-use std::alloc::{AllocError, AllocFailed, Global};
+use std::alloc::{AllocError, Global};
 
 /// What is wrong with words that were read.
-#[derive(Clone, Copy, Debug)]
+#[derive(Clone, Copy)]
 pub enum WordFault<'a> {
     /// One is missing.
     Missing,
@@ -19,12 +19,6 @@ pub enum WordFault<'a> {
 
 impl From<AllocError> for WordFault<'_> {
     fn from(_: AllocError) -> Self {
-        WordFault::Memory
-    }
-}
-
-impl<T: Drop> From<AllocFailed<T>> for WordFault<'_> {
-    fn from(_: AllocFailed<T>) -> Self {
         WordFault::Memory
     }
 }

@@ -1,0 +1,111 @@
+//! The program as clap reads it, from the rows of its commands.
+
+use crate::commands::{COMMANDS, FAMILIES};
+use crate::row::{Family, Named, Row, Word};
+use clap::builder::ValueParser;
+use clap::{Arg, Command};
+use std::alloc::{AllocError, Global};
+
+/// What stands below the help of the program.
+const MORE: &str = "\
+Examples:
+  lpt run examples/first_path.script    run the script of that file
+  lpt run - --config settings.toml      run the one on standard input, line by line
+  lpt threads examples/threads.script   run it, and then ten threads
+  lpt lint examples/first_path.script   print where it can't be read, and why
+  lpt chart examples/first_path.script  draw what happened, as an SVG
+  lpt decode 07ffc000000000             say what these octets are as a packet
+  lpt request load 1 0 image            write the telecommand that loads this file
+  lpt split up 7 load                   write the packets of this message
+  lpt join up --id 7 packets            write the message that they carry
+
+Statuses:
+  0  all was done
+  1  an event or a line was refused, a message isn't whole or can't be sent, or octets are no packet
+  2  the words, a line of the script, HEX or the configuration can't be read
+  3  a file can't be read, the output can't be written, memory is wanting, or threads failed
+
+docs/SCRIPT.md tells the script language and the configuration, docs/lpt.1 is this as a page.";
+
+/// The program and its commands. The only error is want of memory.
+pub(crate) fn program<'a>(alloc: Global) -> Result<Command<'a>, AllocError> {
+    let commands = all_commands(alloc)?;
+    Command::new(alloc, "lpt")
+        .version("0.1.0")
+        .about("Large packet transfer: two nodes and the link between them")
+        .after_help(MORE)
+        .propagate_version(true)
+        .arg_required_else_help(true)
+        .subcommand_required(true)
+        .subcommands(commands)
+}
+
+// The commands of the program.
+fn all_commands<'a>(alloc: Global) -> Result<Vec<Command<'a>>, AllocError> {
+    let mut commands = commands_of(alloc, &COMMANDS)?;
+    for family in &FAMILIES {
+        commands.push(family_of(alloc, family)?)?;
+    }
+    Ok(commands)
+}
+
+// A command with those below it.
+fn family_of<'a>(alloc: Global, family: &'a Family) -> Result<Command<'a>, AllocError> {
+    let below = commands_of(alloc, family.below)?;
+    Command::new(alloc, family.name)
+        .about(family.about)
+        .arg_required_else_help(true)
+        .subcommand_required(true)
+        .subcommands(below)
+}
+
+// The commands of these rows.
+fn commands_of<'a>(alloc: Global, rows: &'a [Row]) -> Result<Vec<Command<'a>>, AllocError> {
+    let mut commands = Vec::new(alloc);
+    for row in rows {
+        commands.push(command_of(alloc, row)?)?;
+    }
+    Ok(commands)
+}
+
+// A command with its words.
+fn command_of<'a>(alloc: Global, row: &'a Row) -> Result<Command<'a>, AllocError> {
+    let words = words_of(alloc, row)?;
+    Command::new(alloc, row.name).about(row.about).args(words)
+}
+
+// The words of a command.
+fn words_of<'a>(alloc: Global, row: &'a Row) -> Result<Vec<Arg<'a>>, AllocError> {
+    let mut words = Vec::new(alloc);
+    for word in row.words {
+        words.push(word_of(alloc, word))?;
+    }
+    for named in row.named {
+        words.push(named_of(alloc, named))?;
+    }
+    Ok(words)
+}
+
+// A word that is given by its place.
+fn word_of<'a>(alloc: Global, word: &'a Word) -> Arg<'a> {
+    let need = word.need;
+    any_word(alloc, word.name, word.value, word.help)
+        .required(need.is_needed())
+        .num_args(need.count())
+        .value_names(need.names())
+        .default_values(need.other())
+}
+
+// A word that is given behind its name.
+fn named_of<'a>(alloc: Global, named: &'a Named) -> Arg<'a> {
+    any_word(alloc, named.name, named.value, named.help)
+        .long(named.name)
+        .action(named.action)
+        .value_names(named.behind)
+        .default_values(named.other)
+}
+
+// A word of this name.
+fn any_word<'a>(alloc: Global, name: &'a str, value: ValueParser<'a>, help: &'a str) -> Arg<'a> {
+    Arg::new(alloc, name).value_parser(value).help(help)
+}

@@ -1,0 +1,242 @@
+//! The commands, and the words of each.
+
+use crate::row::{Family, Named, Need, Row, Word};
+use clap::ArgAction;
+use clap::builder::ValueParser;
+
+const TEXT: ValueParser<'static> = ValueParser::String;
+
+const U8: ValueParser<'static> = ValueParser::Signed(0, 255);
+
+const U16: ValueParser<'static> = ValueParser::Signed(0, 65_535);
+
+const U32: ValueParser<'static> = ValueParser::Signed(0, 4_294_967_295);
+
+const U64: ValueParser<'static> = ValueParser::Unsigned(0, u64::MAX);
+
+const SCRIPT: Word = Word {
+    name: "SCRIPT",
+    value: TEXT,
+    need: Need::One,
+    help: "The script's path, or - for standard input",
+};
+
+const DIRECTION: Word = Word {
+    name: "DIRECTION",
+    value: ValueParser::Names(&["up", "down"]),
+    need: Need::One,
+    help: "Up to the spacecraft, or down from it",
+};
+
+const MEMORY: Word = Word {
+    name: "MEMORY",
+    value: U8,
+    need: Need::One,
+    help: "The memory's identifier, 0 to 255",
+};
+
+const PLACES: Word = Word {
+    name: "PLACE",
+    value: U32,
+    need: Need::Several(&["ADDRESS", "LENGTH"]),
+    help: "Addresses, each with a number of octets, 1 to 65535",
+};
+
+const CONFIG: Named = Named {
+    name: "config",
+    value: TEXT,
+    behind: &["FILE"],
+    action: ArgAction::Set,
+    other: &[],
+    help: "The configuration, a TOML file",
+};
+
+const COUNT: Named = Named {
+    name: "count",
+    value: ValueParser::Signed(0, 16_383),
+    behind: &["N"],
+    action: ArgAction::Set,
+    other: &["0"],
+    help: "The sequence count of the first packet, 0 to 16383",
+};
+
+const ACK: Named = Named {
+    name: "ack",
+    value: ValueParser::Signed(0, 15),
+    behind: &["N"],
+    action: ArgAction::Set,
+    other: &["0"],
+    help: "The acknowledgement flags, 0 to 15",
+};
+
+/// The commands without others below them.
+pub(crate) static COMMANDS: [Row; 7] = [
+    Row {
+        name: "run",
+        about: "Run a script on a new world",
+        words: &[SCRIPT],
+        named: &[CONFIG],
+    },
+    Row {
+        name: "threads",
+        about: "Run a script on a new world, and then ten threads",
+        words: &[SCRIPT],
+        named: &[CONFIG],
+    },
+    Row {
+        name: "lint",
+        about: "Print every line of a script that can't be read, and why",
+        words: &[SCRIPT],
+        named: &[],
+    },
+    Row {
+        name: "chart",
+        about: "Draw a script's run as an SVG",
+        words: &[SCRIPT],
+        named: &[
+            CONFIG,
+            Named {
+                name: "from",
+                value: U64,
+                behind: &["N"],
+                action: ArgAction::Set,
+                other: &[],
+                help: "The first place of the journal that is drawn",
+            },
+            Named {
+                name: "to",
+                value: U64,
+                behind: &["N"],
+                action: ArgAction::Set,
+                other: &[],
+                help: "The last place of the journal that is drawn",
+            },
+        ],
+    },
+    Row {
+        name: "decode",
+        about: "Say what octets are as a packet",
+        words: &[Word {
+            name: "HEX",
+            value: TEXT,
+            need: Need::One,
+            help: "Octets as hexadecimal digits, or - for none",
+        }],
+        named: &[CONFIG],
+    },
+    Row {
+        name: "split",
+        about: "Write the packets of a message's parts",
+        words: &[
+            DIRECTION,
+            Word {
+                name: "ID",
+                value: U16,
+                need: Need::One,
+                help: "The message's identifier, 0 to 65535",
+            },
+            Word {
+                name: "FILE",
+                value: TEXT,
+                need: Need::Else(&["-"]),
+                help: "The message's path, or - for standard input",
+            },
+        ],
+        named: &[
+            Named {
+                name: "parts",
+                value: TEXT,
+                behind: &["LIST"],
+                action: ArgAction::Set,
+                other: &["1-"],
+                help: "The parts to write, as 3,7-9,12-",
+            },
+            COUNT,
+            Named {
+                name: "whole",
+                value: ValueParser::Bool,
+                behind: &[],
+                action: ArgAction::SetTrue,
+                other: &[],
+                help: "Pass on a message that has no more octets than a part",
+            },
+            CONFIG,
+        ],
+    },
+    Row {
+        name: "join",
+        about: "Write the message that packets carry",
+        words: &[
+            DIRECTION,
+            Word {
+                name: "FILE",
+                value: TEXT,
+                need: Need::Else(&["-"]),
+                help: "The packets' path, or - for standard input",
+            },
+        ],
+        named: &[
+            Named {
+                name: "id",
+                value: U16,
+                behind: &["ID"],
+                action: ArgAction::Set,
+                other: &[],
+                help: "The message's identifier, 0 to 65535; without one, it is the only one there",
+            },
+            CONFIG,
+        ],
+    },
+];
+
+/// The commands with others below them.
+pub(crate) static FAMILIES: [Family; 1] = [Family {
+    name: "request",
+    about: "Write a request to a memory as a telecommand",
+    below: &[
+        Row {
+            name: "load",
+            about: "Load octets into a memory",
+            words: &[
+                MEMORY,
+                Word {
+                    name: "ADDRESS",
+                    value: U32,
+                    need: Need::One,
+                    help: "The address of the first octet",
+                },
+                Word {
+                    name: "FILE",
+                    value: TEXT,
+                    need: Need::Else(&["-"]),
+                    help: "The octets' path, or - for standard input",
+                },
+            ],
+            named: &[
+                Named {
+                    name: "area",
+                    value: TEXT,
+                    behind: &["ADDRESS", "FILE"],
+                    action: ArgAction::Append,
+                    other: &[],
+                    help: "Octets for another address",
+                },
+                ACK,
+                COUNT,
+                CONFIG,
+            ],
+        },
+        Row {
+            name: "dump",
+            about: "Ask for octets of a memory",
+            words: &[MEMORY, PLACES],
+            named: &[ACK, COUNT, CONFIG],
+        },
+        Row {
+            name: "check",
+            about: "Ask for checksums of a memory",
+            words: &[MEMORY, PLACES],
+            named: &[ACK, COUNT, CONFIG],
+        },
+    ],
+}];

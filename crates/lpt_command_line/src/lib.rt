@@ -1,0 +1,23 @@
+//! The command line of `lpt`: what its words ask for.
+//!
+//! The commands are rows of tables (`src/commands.rt`), by which clap reads the words and tells the
+//! help. The first call is `read_words`; it gives an `Asked`, or why nothing is to be done.
+//!
+//! A new command is a row in `src/commands.rt`; a case of `Command` in `src/asked.rt`, with a line in
+//! `command_of`, which makes that case of the words that were read; and a line in `done` of
+//! `lpt/src/main.rt`, which does the work.
+#![tactic(auto)]
+
+mod asked;
+mod building;
+mod commands;
+mod file_words;
+mod request_words;
+mod row;
+mod word_fault;
+
+pub use asked::{Asked, ChartWords, Command, Unasked, read_words};
+pub use file_words::{JoinWords, SplitWords};
+pub use lpt_pus::{AckFlags, Direction};
+pub use request_words::{RequestWords, What};
+pub use word_fault::WordFault;

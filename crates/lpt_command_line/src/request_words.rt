@@ -1,0 +1,127 @@
+//! The words of the commands that write requests to a memory.
+
+ghost use Rattle.std.specs.Prelude.{◌≤◌};
+
+use crate::file_words::count_in;
+use crate::word_fault::WordFault;
+use clap::ArgMatches;
+use lpt_pus::AckFlags;
+use std::alloc::Global;
+
+/// What `request` asks for.
+#[derive(Drop)]
+pub struct RequestWords<'a> {
+    /// The memory's identifier.
+    pub memory: u8,
+    /// What is asked of it.
+    pub what: What<'a>,
+    /// The sequence count, 0 to 16,383.
+    pub count: u16,
+    /// The acknowledgement flags.
+    pub flags: AckFlags,
+    ghost counts: { count ≤ 16383 },
+}
+
+/// What is asked of a memory.
+#[derive(Drop)]
+pub enum What<'a> {
+    /// That it takes the octets of these files, each at its address.
+    Load(Vec<(u32, &'a str)>),
+    /// The octets of these places: their addresses and lengths.
+    Dump(Vec<(u32, u16)>),
+    /// Their checksums.
+    Check(Vec<(u32, u16)>),
+}
+
+/// What the words of the command of this name below `request` ask for.
+///
+/// Errors: what is wrong with them, and want of memory.
+pub fn request_words<'a>(
+    alloc: Global,
+    name: &str,
+    matches: &ArgMatches<'a>,
+) -> Result<RequestWords<'a>, WordFault<'a>> {
+    let what = match name {
+        "load" => What::Load(areas_in(alloc, matches)?),
+        "dump" => What::Dump(places_in(alloc, matches)?),
+        _ => What::Check(places_in(alloc, matches)?),
+    };
+    request_with(matches, what).ok_or(WordFault::Missing)
+}
+
+// The request of these words that asks for this.
+fn request_with<'a>(matches: &ArgMatches<'a>, what: What<'a>) -> Option<RequestWords<'a>> {
+    Some(RequestWords {
+        memory: matches.get_one("MEMORY")?,
+        what,
+        count: count_in(matches)?,
+        flags: AckFlags::new(matches.get_one("ack")?)?,
+    })
+}
+
+// The addresses and the files of a load.
+fn areas_in<'a>(
+    alloc: Global,
+    matches: &ArgMatches<'a>,
+) -> Result<Vec<(u32, &'a str)>, WordFault<'a>> {
+    let mut areas = Vec::new(alloc);
+    let (Some(address), Some(file)) = (matches.get_one("ADDRESS"), matches.get_str("FILE")) else {
+        return Err(WordFault::Missing);
+    };
+    if areas.push((address, file)).is_err() {
+        return Err(WordFault::Memory);
+    }
+    if let Some(more) = matches.get_strs("area") {
+        for pair in more.chunks(2) {
+            let [address, file] = pair else {
+                return Err(WordFault::Missing);
+            };
+            if areas.push((address_in(address)?, *file)).is_err() {
+                return Err(WordFault::Memory);
+            }
+        }
+    }
+    Ok(areas)
+}
+
+// The places of a dump or a check.
+fn places_in<'a>(
+    alloc: Global,
+    matches: &ArgMatches<'a>,
+) -> Result<Vec<(u32, u16)>, WordFault<'a>> {
+    let mut places = Vec::new(alloc);
+    let Some(words) = matches.get_strs("PLACE") else {
+        return Err(WordFault::Missing);
+    };
+    for pair in words.chunks(2) {
+        if places.push(place_in(pair)?).is_err() {
+            return Err(WordFault::Memory);
+        }
+    }
+    Ok(places)
+}
+
+// The place that two words name.
+fn place_in<'a>(pair: &[&'a str]) -> Result<(u32, u16), WordFault<'a>> {
+    match pair {
+        [address, len] => Ok((address_in(address)?, length_in(len)?)),
+        [address] => Err(WordFault::NoLength(address)),
+        _ => Err(WordFault::Missing),
+    }
+}
+
+// The address that a word names.
+fn address_in<'a>(word: &'a str) -> Result<u32, WordFault<'a>> {
+    match word.parse() {
+        Ok(address) => Ok(address),
+        Err(_) => Err(WordFault::Address(word)),
+    }
+}
+
+// The number of octets that a word names.
+fn length_in<'a>(word: &'a str) -> Result<u16, WordFault<'a>> {
+    match word.parse() {
+        Ok(0) | Err(_) => Err(WordFault::Length(word)),
+        Ok(len) => Ok(len),
+    }
+}
