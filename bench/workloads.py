@@ -117,11 +117,17 @@ def retirements(count=100000):
     return lines
 
 
-def renewed(receptions, rounds):
-    """Receptions whose first part comes again in turn; each time the oldest is asked for."""
+def first_parts(receptions):
+    """So many messages, the first part of each delivered, so that its reception is open."""
     lines = []
     for n in range(receptions):
         lines += [f"open up {n} {octets(n, 9)}", f"send up {n} 1", f"pass s1 {n}"]
+    return lines
+
+
+def renewed(receptions, rounds):
+    """Receptions whose first part comes again in turn; each time the oldest is asked for."""
+    lines = first_parts(receptions)
     for n in range(rounds):
         lines += ["tick craft", f"pass s1 {n % receptions}", "expire craft"]
     return lines
@@ -135,6 +141,16 @@ def one_reception(rounds=450000):
 def sixty_four_receptions(rounds=450000):
     """64 open receptions, renewed in turn as often, with as many ticks and expiries"""
     return renewed(64, rounds)
+
+
+def one_of_many(rounds=900000):
+    """64 open receptions, of which one is renewed 900,000 times within one tick"""
+    return first_parts(64) + ["pass s1 63"] * rounds
+
+
+def many_in_turn(rounds=900000):
+    """64 open receptions, renewed in turn 900,000 times within one tick"""
+    return first_parts(64) + [f"pass s1 {n % 64}" for n in range(rounds)]
 
 
 def reports(count):
@@ -234,6 +250,8 @@ WORKLOADS = [
     Workload(eight_messages, None, {"length": 600}),
     Workload(one_reception, MANY_RECEPTIONS, {"rounds": 500}),
     Workload(sixty_four_receptions, MANY_RECEPTIONS, {"rounds": 500}),
+    Workload(one_of_many, MANY_RECEPTIONS, {"rounds": 500}),
+    Workload(many_in_turn, MANY_RECEPTIONS, {"rounds": 500}),
     Workload(ten_thousand_reports, None, {"count": 100}),
     Workload(twenty_thousand_reports, None, {"count": 200}),
     Workload(sixty_thousand_reports, None, {"count": 300}),
