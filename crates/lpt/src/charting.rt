@@ -1,9 +1,9 @@
 //! The picture of a script's run.
 
 use crate::end::{Failure, Status};
-use crate::streams::{Nowhere, STANDARD_INPUT, flush, opened, output};
+use crate::input::{name_of, opened};
+use crate::streams::{Nowhere, flush, output};
 use crate::title::title_of;
-use crate::watched::Watched;
 use crate::work::status_at_end;
 use lpt_chart::Choice;
 use lpt_command_line::ChartWords;
@@ -12,7 +12,6 @@ use lpt_tool::{
     run_lines, write_out,
 };
 use std::alloc::Global;
-use std::io::Read;
 
 /// Runs a script on a new world of these memories, the one at this path or standard input for `-`,
 /// and writes the picture of what happened.
@@ -29,29 +28,13 @@ pub fn chart(
         from: words.from,
         to: words.to,
     };
-    let script = words.script;
-    if script == "-" {
-        return chart_from(rt, config, memories, choice, rt.reader(), STANDARD_INPUT);
-    }
-    match opened(rt, script) {
-        Ok(file) => chart_from(rt, config, memories, choice, file, script),
+    let mut source = match opened(rt, words.script) {
+        Ok(source) => source,
         Err(failure) => {
             drop(memories);
-            Err(failure)
+            return Err(failure);
         }
-    }
-}
-
-// Draws the script that a reader of this name gives.
-fn chart_from<R: Read + Drop>(
-    rt: &HostRuntime,
-    config: Config,
-    memories: Memories,
-    choice: Choice,
-    reader: R,
-    name: &str,
-) -> Result<Status, Failure> {
-    let mut source = Told::new(Watched::new(reader));
+    };
     let ran = match read_text(rt.alloc(), &mut source) {
         Ok((text, End::Whole)) => drawn(rt, config, memories, choice, text.as_slice()),
         Ok((text, _)) => {
@@ -68,10 +51,11 @@ fn chart_from<R: Read + Drop>(
     };
     let status = match ran {
         Ok(Err(ToolFault::Line(number))) => {
+            let name = name_of(words.script);
             let place = format!(in rt.alloc(); "{name}:{number}: unreadable");
             Err(Failure::at(ToolFault::Line(number), place))
         }
-        Ok(ran) => status_at_end(rt, source.inner(), name, ran),
+        Ok(ran) => status_at_end(rt, &source, words.script, ran),
         Err(failure) => Err(failure),
     };
     drop(source);

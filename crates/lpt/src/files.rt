@@ -3,12 +3,11 @@
 ghost use Rattle.lpt_files.specs.LptEvents.Configs.{IsConfig};
 
 use crate::end::{Failure, Status, tell_place};
-use crate::streams::{STANDARD_INPUT, finish, opened, output, read_failure};
-use crate::watched::Watched;
+use crate::input::{opened, read_failure};
+use crate::streams::{finish, output};
 use lpt_command_line::SplitWords;
-use lpt_files::{Config, SplitEnd, Told, ToolFault, Wanted, split_message};
+use lpt_files::{Config, SplitEnd, ToolFault, Wanted, split_message};
 use std::alloc::{AllocError, Global};
-use std::io::Read;
 
 /// Writes the packets of a message's parts.
 ///
@@ -16,28 +15,12 @@ use std::io::Read;
 pub fn split(rt: &HostRuntime, config: &Config, words: &SplitWords<'_>) -> Result<Status, Failure>
     requires { IsConfig config.now }
 {
-    if words.file == "-" {
-        return split_from(rt, config, words, rt.reader(), STANDARD_INPUT);
-    }
-    split_from(rt, config, words, opened(rt, words.file)?, words.file)
-}
-
-// Splits the message that a reader of this name gives.
-fn split_from<R: Read + Drop>(
-    rt: &HostRuntime,
-    config: &Config,
-    words: &SplitWords<'_>,
-    reader: R,
-    name: &str,
-) -> Result<Status, Failure>
-    requires { IsConfig config.now }
-{
     let wanted = wanted(words);
-    let mut source = Told::new(Watched::new(reader));
+    let mut source = opened(rt, words.file)?;
     let mut out = output(rt)?;
     let split = split_message(rt.alloc(), config, &wanted, &mut source, &mut out);
     let failure = match split {
-        Err(ToolFault::Read) => Some(read_failure(rt, source.inner(), name)),
+        Err(ToolFault::Read) => Some(read_failure(rt, &source, words.file)),
         _ => None,
     };
     drop(source);

@@ -3,15 +3,14 @@
 ghost use Rattle.lpt_files.specs.LptEvents.Configs.{IsConfig};
 
 use crate::end::{Failure, Status, tell_place};
-use crate::streams::{STANDARD_INPUT, finish, opened, output, read_failure};
-use crate::watched::Watched;
+use crate::input::{Incoming, opened, read_failure};
+use crate::streams::{Output, finish, output};
 use lpt_command_line::JoinWords;
 use lpt_files::{
-    Came, Config, Direction, Gatherings, JoinEnd, Joining, Sink, Source, Told, ToolFault,
-    Transaction, join_message, join_only, missing_list,
+    Came, Config, Direction, Gatherings, JoinEnd, Joining, ToolFault, Transaction, join_message,
+    join_only, missing_list,
 };
 use std::alloc::{AllocError, Global};
-use std::io::Read;
 
 /// What became of the packets of a file.
 #[derive(Drop)]
@@ -28,27 +27,11 @@ enum Joined {
 pub fn join(rt: &HostRuntime, config: &Config, words: &JoinWords<'_>) -> Result<Status, Failure>
     requires { IsConfig config.now }
 {
-    if words.file == "-" {
-        return join_from(rt, config, words, rt.reader(), STANDARD_INPUT);
-    }
-    join_from(rt, config, words, opened(rt, words.file)?, words.file)
-}
-
-// Joins the packets that a reader of this name gives.
-fn join_from<R: Read + Drop>(
-    rt: &HostRuntime,
-    config: &Config,
-    words: &JoinWords<'_>,
-    reader: R,
-    name: &str,
-) -> Result<Status, Failure>
-    requires { IsConfig config.now }
-{
-    let mut source = Told::new(Watched::new(reader));
+    let mut source = opened(rt, words.file)?;
     let mut out = output(rt)?;
     let joined = join_packets(rt.alloc(), config, words, &mut source, &mut out);
     let failure = match &joined {
-        Err(ToolFault::Read) => Some(read_failure(rt, source.inner(), name)),
+        Err(ToolFault::Read) => Some(read_failure(rt, &source, words.file)),
         _ => None,
     };
     drop(source);
@@ -61,12 +44,12 @@ fn join_from<R: Read + Drop>(
 }
 
 // Joins the packets of a source.
-fn join_packets<S: Source, K: Sink>(
+fn join_packets(
     alloc: Global,
     config: &Config,
     words: &JoinWords<'_>,
-    source: &mut S,
-    out: &mut K,
+    source: &mut Incoming,
+    out: &mut Output<'_>,
 ) -> Result<Joined, ToolFault>
     requires { IsConfig config.now }
 {

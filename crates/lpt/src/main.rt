@@ -9,6 +9,7 @@ mod charting;
 mod configuration;
 mod end;
 mod files;
+mod input;
 mod joins;
 mod linting;
 mod requests;

@@ -3,13 +3,12 @@
 ghost use Rattle.lpt_files.specs.LptEvents.Configs.{IsConfig};
 
 use crate::end::{Failure, Status, tell_place};
-use crate::streams::{STANDARD_INPUT, finish, opened, output, read_failure};
-use crate::watched::Watched;
+use crate::input::{opened, read_failure};
+use crate::streams::{finish, output};
 use lpt_command_line::{RequestWords, What};
-use lpt_files::{Config, End, Octets, Told, ToolFault, read_text, write_out};
+use lpt_files::{Config, End, Octets, ToolFault, read_text, write_out};
 use lpt_requests::{Area, MemoryFault, Range, Request, write_request};
 use std::alloc::Global;
-use std::io::Read;
 
 /// Writes a request to a memory as a telecommand.
 ///
@@ -91,18 +90,10 @@ fn ranges_of(alloc: Global, places: &[(u32, u16)]) -> Result<Vec<Range>, ToolFau
 
 // The octets of a file, or of standard input.
 fn octets_of(rt: &HostRuntime, file: &str) -> Result<Octets, Failure> {
-    if file == "-" {
-        return octets_from(rt, rt.reader(), STANDARD_INPUT);
-    }
-    octets_from(rt, opened(rt, file)?, file)
-}
-
-// The octets that a reader of this name gives.
-fn octets_from<R: Read + Drop>(rt: &HostRuntime, reader: R, name: &str) -> Result<Octets, Failure> {
-    let mut source = Told::new(Watched::new(reader));
+    let mut source = opened(rt, file)?;
     let (octets, end) = read_text(rt.alloc(), &mut source)?;
     let failure = match end {
-        End::Failed => Some(read_failure(rt, source.inner(), name)),
+        End::Failed => Some(read_failure(rt, &source, file)),
         _ => None,
     };
     drop(source);

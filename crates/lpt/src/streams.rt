@@ -1,43 +1,15 @@
-//! Files that are read, and standard output.
+//! Standard output, and a sink of which nothing is kept.
 
 ghost use Rattle.std.specs.Prelude.{None};
 
 use crate::end::Failure;
 use crate::watched::Watched;
 use lpt_files::{Sink, Told, ToolFault, flush_out};
-use std::fs::File;
 use std::io;
 use std::io::{BufWriter, ErrorKind, Printer};
 
-/// The name by which standard input is told.
-pub const STANDARD_INPUT: &str = "standard input";
-
 /// Standard output, written when there is enough of it.
 pub type Output<'a> = Told<BufWriter<Watched<Printer<'a, HostRuntime>>>>;
-
-/// The file at this path, to be read.
-///
-/// Errors: `Read` where it can't be opened.
-pub fn opened(rt: &HostRuntime, path: &str) -> Result<File, Failure> {
-    match File::open(rt, path) {
-        Ok(file) => Ok(file),
-        Err(error) => {
-            let place = format!(in rt.alloc(); "{path}: {error}");
-            Err(Failure::at(ToolFault::Read, place))
-        }
-    }
-}
-
-/// Why a reader of this name failed.
-pub fn read_failure<R>(rt: &HostRuntime, reader: &Watched<R>, name: &str) -> Failure {
-    match reader.error() {
-        Some(error) => {
-            let place = format!(in rt.alloc(); "{name}: {error}");
-            Failure::at(ToolFault::Read, place)
-        }
-        None => Failure::from(ToolFault::Read),
-    }
-}
 
 /// Standard output.
 ///

@@ -3,13 +3,11 @@
 ghost use Rattle.lpt_tool.specs.LptPart.Splitting.{IsPartSize};
 
 use crate::end::{Failure, Status, tell_place};
-use crate::streams::{STANDARD_INPUT, flush, opened, output};
-use crate::watched::Watched;
+use crate::input::{Incoming, name_of, opened};
+use crate::streams::{flush, output};
 use lpt_tool::{
-    Config, Memories, ScriptEnd, Source, Told, ToolFault, Turns, read_hex, run_script,
-    run_threads_script,
+    Config, Memories, ScriptEnd, ToolFault, Turns, read_hex, run_script, run_threads_script,
 };
-use std::io::Read;
 use std::sync::Wait;
 use std::thread::Threads;
 
@@ -26,24 +24,19 @@ pub fn run<T: Threads + Wait + Sync>(
     turns: Option<Turns>,
     script: &str,
 ) -> Result<Status, Failure> {
-    if script == "-" {
-        return run_from(
-            rt,
-            threads,
-            config,
-            memories,
-            turns,
-            rt.reader(),
-            STANDARD_INPUT,
-        );
-    }
-    match opened(rt, script) {
-        Ok(file) => run_from(rt, threads, config, memories, turns, file, script),
+    let mut source = match opened(rt, script) {
+        Ok(source) => source,
         Err(failure) => {
             drop(memories);
-            Err(failure)
+            return Err(failure);
         }
-    }
+    };
+    let status = match lines_run(rt, threads, config, memories, turns, &mut source) {
+        Ok(ran) => status_at_end(rt, &source, script, ran),
+        Err(failure) => Err(failure),
+    };
+    drop(source);
+    status
 }
 
 /// Prints what octets are as a packet.
@@ -83,34 +76,15 @@ fn refuse_hex(rt: &HostRuntime, hex: &str) {
     }
 }
 
-// Runs the script that a reader of this name gives.
-fn run_from<T: Threads + Wait + Sync, R: Read + Drop>(
-    rt: &HostRuntime,
-    threads: &T,
-    config: Config,
-    memories: Memories,
-    turns: Option<Turns>,
-    reader: R,
-    name: &str,
-) -> Result<Status, Failure> {
-    let mut source = Told::new(Watched::new(reader));
-    let status = match lines_run(rt, threads, config, memories, turns, &mut source) {
-        Ok(ran) => status_at_end(rt, source.inner(), name, ran),
-        Err(failure) => Err(failure),
-    };
-    drop(source);
-    status
-}
-
 // Runs the lines of a script, and writes what the output has kept back: how the run ended, or why the
 // output can't be written.
-fn lines_run<T: Threads + Wait + Sync, S: Source>(
+fn lines_run<T: Threads + Wait + Sync>(
     rt: &HostRuntime,
     threads: &T,
     config: Config,
     memories: Memories,
     turns: Option<Turns>,
-    source: &mut S,
+    source: &mut Incoming,
 ) -> Result<Result<ScriptEnd, ToolFault>, Failure> {
     let mut out = match output(rt) {
         Ok(out) => out,
@@ -132,17 +106,18 @@ fn lines_run<T: Threads + Wait + Sync, S: Source>(
     }
 }
 
-// How a script's run ends that was read from this reader, of this name.
-pub(crate) fn status_at_end<R>(
+// How the run of a script at this path ends.
+pub(crate) fn status_at_end(
     rt: &HostRuntime,
-    reader: &Watched<R>,
-    name: &str,
+    source: &Incoming,
+    path: &str,
     ran: Result<ScriptEnd, ToolFault>,
 ) -> Result<Status, Failure> {
     match ran {
         Ok(end) => Ok(status_of(end.refused > 0)),
         Err(ToolFault::Read) => {
-            let place = match reader.error() {
+            let name = name_of(path);
+            let place = match source.inner().error() {
                 Some(error) => format!(in rt.alloc(); "{name}: {error}"),
                 None => format!(in rt.alloc(); "{name}: more than 16777216 octets"),
             };
