@@ -1,5 +1,5 @@
 -- How the endings of events, lines and scripts follow from one another.
-use Rattle.std.proofs.Common.{◌≡◌, ℕ, ◌+◌, List, [], ◌∷◌, ◌++◌, length, take, drop, Option, None, Some, Result, Ok, Err, Bool, true, false, refl, sym, ap, ◌∙◌, subst, append-nil, IfOk, slice_index_or, suc, ◌<◌, arith}
+use Rattle.std.proofs.Common.{◌≡◌, ℕ, ◌+◌, List, [], ◌∷◌, ◌++◌, length, take, drop, Option, None, Some, is_some, Result, Ok, Err, true, false, refl, sym, ap, ◌∙◌, subst, append-nil, IfOk, slice_index_or, suc, ◌<◌, arith}
 use Rattle.lpt_text.proofs.StreamLemmas.{part_after, part_of_front, part_unchanged}
 use Rattle.std.specs.List.{flat_map}
 use Rattle.std.proofs.lemmas.Grind.{flat_map-append}
@@ -58,16 +58,16 @@ unreadable_ends n w (tool.Threads k) a b p = p
 -- ---- events
 
 -- an accepted event
-pub accepted_ends : (w v : Shown) (e : Event) (r : Result Bool ToolFault) (a b : Option (List ℕ))
+pub accepted_ends : (w v : Shown) (e : Event) (r : Result (Option StepFault) ToolFault) (a b : Option (List ℕ))
     → refusal_at w 0 e ≡ None
     → v ≡ with_entry w 0 e (answered w e)
     → TextEnds (accepted_text e (answered w e)) r a b
-    → IfOk r (λ refused. refused ≡ false)
+    → IfOk r (λ refused. refused ≡ None)
     → LineEnds (stepped w e) r v a b
 accepted_ends w v e r a b none next p not_refused =
     subst (λ x. LineEnds (stepped_as w e x) r v a b) (sym none) (told r p not_refused)
   where
-    told : (r : Result Bool ToolFault) → TextEnds (accepted_text e (answered w e)) r a b → IfOk r (λ refused. refused ≡ false)
+    told : (r : Result (Option StepFault) ToolFault) → TextEnds (accepted_text e (answered w e)) r a b → IfOk r (λ refused. refused ≡ None)
         → LineEnds (stepped_as w e None) r v a b
     told (Ok f) p q = (refl, q, next, p)
     told (Err tool.Write) p q = p
@@ -78,18 +78,18 @@ accepted_ends w v e r a b none next p not_refused =
     told (Err (tool.Threads k)) p q = p
 
 -- the answer of a refused event: want of memory prints nothing
-pub refused_ends : (w v : Shown) (e : Event) (fault : StepFault) (r : Result Bool ToolFault) (a b : Option (List ℕ))
+pub refused_ends : (w v : Shown) (e : Event) (fault : StepFault) (r : Result (Option StepFault) ToolFault) (a b : Option (List ℕ))
     → RefusedBy (refusal_at w 0 e) fault
     → v ≡ w
     → TextEnds (refused_text fault) r a b
-    → IfOk r (λ refused. refused ≡ true)
+    → IfOk r (λ refused. refused ≡ Some fault)
     → (fault ≡ Memory → (r ≡ Err tool.Memory) × (a ≡ b))
     → LineEnds (stepped w e) r v a b
 refused_ends w v e fault r a b by same p was_refused memory = by_reason (refusal_at w 0 e) by
   where
-    told : (first : StepFault) → fault ≡ first → (r : Result Bool ToolFault) → TextEnds (refused_text fault) r a b
-        → IfOk r (λ refused. refused ≡ true) → LineEnds (stepped_as w e (Some first)) r v a b
-    told first is (Ok f) p q = (refl, q, same, subst (λ x. Appends a b (refused_text x)) is p)
+    told : (first : StepFault) → fault ≡ first → (r : Result (Option StepFault) ToolFault) → TextEnds (refused_text fault) r a b
+        → IfOk r (λ refused. refused ≡ Some fault) → LineEnds (stepped_as w e (Some first)) r v a b
+    told first is (Ok f) p q = (refl, q ∙ ap Some is, same, subst (λ x. Appends a b (refused_text x)) is p)
     told first is (Err tool.Write) p q = subst (λ x. AppendsPart a b (refused_text x)) is p
     told first is (Err tool.Memory) p q = subst (λ x. AppendsPart a b (refused_text x)) is p
     told first is (Err tool.Read) p q = p
@@ -107,15 +107,15 @@ refused_ends w v e fault r a b by same p was_refused memory = by_reason (refusal
 -- ---- one event after another
 
 -- the second event, where the first was accepted
-pub then_ends : (first : Ran) (second : Shown → Ran) (r : Result Bool ToolFault) (w v : Shown) (a b c : Option (List ℕ))
-    → LineEnds first (Ok false) w a b
+pub then_ends : (first : Ran) (second : Shown → Ran) (r : Result (Option StepFault) ToolFault) (w v : Shown) (a b c : Option (List ℕ))
+    → LineEnds first (Ok None) w a b
     → LineEnds (second w) r v b c
     → LineEnds (and_then first second) r v a c
 then_ends first second r w v a b c p q =
     subst (λ x. LineEnds (unless_refused x first second) r v a c) p.1
     (joined_ends r (subst (λ x. LineEnds (second x) r v b c) p.2 q))
   where
-    joined_ends : (r : Result Bool ToolFault) → LineEnds (second first.world) r v b c
+    joined_ends : (r : Result (Option StepFault) ToolFault) → LineEnds (second first.world) r v b c
         → LineEnds (joined first (second first.world)) r v a c
     joined_ends (Ok f) q = (q.0, q.1, q.2, Appends-trans a b c first.text _ p.3 q.3)
     joined_ends (Err (tool.Line k)) q = (q.0, Appends-trans a b c first.text _ p.3 q.1)
@@ -126,27 +126,27 @@ then_ends first second r w v a b c p q =
     joined_ends (Err (tool.Threads k)) q = q
 
 -- the first event alone, where it was refused or its text could not be written
-pub first_ends : (first : Ran) (v : Shown) (second : Shown → Ran) (r : Result Bool ToolFault) (a b : Option (List ℕ))
+pub first_ends : (first : Ran) (v : Shown) (second : Shown → Ran) (r : Result (Option StepFault) ToolFault) (a b : Option (List ℕ))
     → first.bad ≡ None
     → LineEnds first r v a b
-    → IfOk r (λ refused. refused ≡ true)
+    → IfOk r (λ refused. is_some refused ≡ true)
     → LineEnds (and_then first second) r v a b
 first_ends first v second r a b good p q = by_refused first.refused refl r p q
   where
-    by_refused : (t : Bool)
+    by_refused : (t : Option StepFault)
         → first.refused ≡ t
-        → (r : Result Bool ToolFault)
+        → (r : Result (Option StepFault) ToolFault)
         → LineEnds first r v a b
-        → IfOk r (λ refused. refused ≡ true)
+        → IfOk r (λ refused. is_some refused ≡ true)
         → LineEnds (unless_refused t first second) r v a b
-    by_refused true is r p q = p
-    by_refused false is (Ok f) p q = let never : true ≡ false = sym q ∙ p.1 ∙ is in absurd cc
-    by_refused false is (Err (tool.Line k)) p q = let never : None ≡ Some k = sym good ∙ p.0 in absurd cc
-    by_refused false is (Err tool.Write) p q = part_of_front a b _ _ p
-    by_refused false is (Err tool.Memory) p q = part_of_front a b _ _ p
-    by_refused false is (Err tool.Read) p q = p
-    by_refused false is (Err tool.Config) p q = p
-    by_refused false is (Err (tool.Threads k)) p q = p
+    by_refused (Some fault) is r p q = p
+    by_refused None is (Ok f) p q = let never : true ≡ false = sym q ∙ ap is_some (p.1 ∙ is) in absurd cc
+    by_refused None is (Err (tool.Line k)) p q = let never : None ≡ Some k = sym good ∙ p.0 in absurd cc
+    by_refused None is (Err tool.Write) p q = part_of_front a b _ _ p
+    by_refused None is (Err tool.Memory) p q = part_of_front a b _ _ p
+    by_refused None is (Err tool.Read) p q = p
+    by_refused None is (Err tool.Config) p q = p
+    by_refused None is (Err (tool.Threads k)) p q = p
 
 -- an event is no unreadable line
 pub good_event : (w : Shown) (e : Event) → (stepped w e).bad ≡ None
@@ -158,9 +158,9 @@ good_event w e = go (refusal_at w 0 e) where
 -- nor are two
 pub good_events : (w : Shown) (e f : Event) → (and_then (stepped w e) (λ v. stepped v f)).bad ≡ None
 good_events w e f = go (stepped w e).refused where
-  go : (t : Bool) → (unless_refused t (stepped w e) (λ v. stepped v f)).bad ≡ None
-  go true = good_event w e
-  go false = good_event (stepped w e).world f
+  go : (t : Option StepFault) → (unless_refused t (stepped w e) (λ v. stepped v f)).bad ≡ None
+  go (Some fault) = good_event w e
+  go None = good_event (stepped w e).world f
 
 -- ---- a list of texts, one after another
 

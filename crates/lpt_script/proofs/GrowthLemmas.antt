@@ -1,5 +1,5 @@
 -- What was written stays, whatever is written behind it.
-use Rattle.std.proofs.Common.{ℕ, List, [], ◌++◌, take, Option, Result, Ok, Err, OnOk, IfErr, Bool}
+use Rattle.std.proofs.Common.{ℕ, List, [], ◌++◌, take, Option, Result, Ok, Err, OnOk, IfErr}
 use Rattle.std.proofs.KnownBytes.{Appends-nil, Appends-trans}
 use Rattle.std.specs.Io.KnownBytes.{Appends}
 use Rattle.lpt_text.specs.Streams.{AppendsPart}
@@ -7,6 +7,7 @@ use Rattle.lpt_text.specs.declared.fault.ToolFault.{ToolFault}
 use Rattle.lpt_text.specs.declared.fault.ToolFault.TheVariants as tool
 use Rattle.lpt_script.specs.Ends.{Grows, LineEnds}
 use Rattle.lpt_script.specs.Scripts.{Ran}
+use Rattle.lpt_world.specs.LptEvents.declared.fault.StepFault.{StepFault}
 use Rattle.lpt_world.specs.Worlds.{Shown}
 
 pub grows_not : (a : Option (List ℕ)) → Grows a a
@@ -24,7 +25,7 @@ grows_written text (Ok u) a b p q = (text, p)
 grows_written text (Err fault) a b p q = (take q.0 text, q.1)
 
 -- by a line
-pub grows_line : (ran : Ran) (r : Result Bool ToolFault) (w : Shown) (a b : Option (List ℕ))
+pub grows_line : (ran : Ran) (r : Result (Option StepFault) ToolFault) (w : Shown) (a b : Option (List ℕ))
     → LineEnds ran r w a b
     → Grows a b
 grows_line ran (Ok refused) w a b p = (ran.text, p.3)

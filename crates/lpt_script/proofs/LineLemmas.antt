@@ -1,5 +1,5 @@
 -- How a script's ending follows from those of its lines.
-use Rattle.std.proofs.Common.{◌≡◌, ℕ, ◌+◌, ◌<◌, List, [], ◌∷◌, ◌++◌, length, Option, None, Some, Result, Ok, Err, Bool, refl, sym, ap, ◌∙◌, subst, append_assoc, append-nil, arith}
+use Rattle.std.proofs.Common.{◌≡◌, ℕ, ◌+◌, ◌<◌, List, [], ◌∷◌, ◌++◌, length, Option, None, Some, is_some, Result, Ok, Err, Bool, refl, sym, ap, ◌∙◌, subst, append_assoc, append-nil, arith}
 use Rattle.std.specs.Int.{from_bool}
 use Rattle.std.proofs.KnownBytes.{Appends-trans}
 use Rattle.std.specs.Io.KnownBytes.{Appends}
@@ -18,6 +18,7 @@ use Rattle.lpt_words.proofs.Pieces.{lines-nowhere}
 use Rattle.lpt_words.specs.Words.{lines}
 use Rattle.lpt_words.specs.declared.grammar.Reading.TheVariants.{Unreadable}
 use Rattle.lpt_words.specs.Grammar.{reading_of}
+use Rattle.lpt_world.specs.LptEvents.declared.fault.StepFault.{StepFault}
 use Rattle.lpt_world.specs.Worlds.{Shown}
 
 -- a text before a text is their joined text
@@ -35,19 +36,19 @@ pub line_first : (later : Bool) (all : Script) (line : List ℕ) (more : List (L
     → (goes : Goes later all (line ∷ more) w n refused a b)
     → (line_ran (says later line) n w).bad ≡ None
     → all ≡ behind (goes.done ++ (line_ran (says later line) n w).text)
-    (lines_ran later more (line_ran (says later line) n w).world (n + 1) (refused + from_bool (line_ran (says later line) n w).refused))
+    (lines_ran later more (line_ran (says later line) n w).world (n + 1) (refused + from_bool (is_some (line_ran (says later line) n w).refused)))
 line_first later all line more w n refused a b goes good =
     let ran = line_ran (says later line) n w in
     goes.follows
     ∙ ap (λ x. behind goes.done (then_rest ran n refused (lines_ran later more) x)) good
-    ∙ behind_behind goes.done ran.text (lines_ran later more ran.world (n + 1) (refused + from_bool ran.refused))
+    ∙ behind_behind goes.done ran.text (lines_ran later more ran.world (n + 1) (refused + from_bool (is_some ran.refused)))
 
 -- a line that ended well leaves the rest to do
-pub line_done : (later : Bool) (all : Script) (rest more : List (List ℕ)) (line : List ℕ) (w v : Shown) (n refused : ℕ) (f : Bool) (a b c : Option (List ℕ))
+pub line_done : (later : Bool) (all : Script) (rest more : List (List ℕ)) (line : List ℕ) (w v : Shown) (n refused : ℕ) (f : Option StepFault) (a b c : Option (List ℕ))
     → Goes later all rest w n refused a b
     → rest ≡ line ∷ more
     → LineEnds (line_ran (says later line) n w) (Ok f) v b c
-    → Goes later all more v (n + 1) (refused + from_bool f) a c
+    → Goes later all more v (n + 1) (refused + from_bool (is_some f)) a c
 line_done later all rest more line w v n refused f a b c goes at ends =
     let ran = line_ran (says later line) n w in
     let here = subst (λ x. Goes later all x w n refused a b) at goes in
@@ -55,8 +56,8 @@ line_done later all rest more line w v n refused f a b c goes at ends =
       done = here.done ++ ran.text;
       written = Appends-trans a b c here.done ran.text here.written ends.3;
       follows = line_first later all line more w n refused a b here ends.0
-          ∙ ap (λ x. behind (here.done ++ ran.text) (lines_ran later more x (n + 1) (refused + from_bool ran.refused))) (sym ends.2)
-          ∙ ap (λ x. behind (here.done ++ ran.text) (lines_ran later more v (n + 1) (refused + from_bool x))) (sym ends.1);
+          ∙ ap (λ x. behind (here.done ++ ran.text) (lines_ran later more x (n + 1) (refused + from_bool (is_some ran.refused)))) (sym ends.2)
+          ∙ ap (λ x. behind (here.done ++ ran.text) (lines_ran later more v (n + 1) (refused + from_bool (is_some x)))) (sym ends.1);
     }
 
 -- all that a line's text is a front part of
@@ -74,7 +75,7 @@ line_front later all line more w n refused a b c goes p = by_bad ran.bad refl
 
     by_bad : (x : Option ℕ) → ran.bad ≡ x → AppendsPart a c all.text
     by_bad None is =
-        let rest = lines_ran later more ran.world (n + 1) (refused + from_bool ran.refused) in
+        let rest = lines_ran later more ran.world (n + 1) (refused + from_bool (is_some ran.refused)) in
         subst (λ s. AppendsPart a c s.text) (sym (line_first later all line more w n refused a b goes is))
         (part_of_front a c (goes.done ++ ran.text) rest.text front)
     by_bad (Some k) is =
@@ -150,18 +151,18 @@ last_goes : (later : Bool) (line : List ℕ) (w : Shown) (n refused : ℕ) (b : 
 last_goes later line w n refused b = record { done = []; written = Appends-nil b; follows = refl }
 
 -- it ended well
-pub last_done : (later : Bool) (line : List ℕ) (w v : Shown) (n refused : ℕ) (f : Bool) (b c : Option (List ℕ))
+pub last_done : (later : Bool) (line : List ℕ) (w v : Shown) (n refused : ℕ) (f : Option StepFault) (b c : Option (List ℕ))
     → line_end line ≡ None
     → 0 < length line
     → LineEnds (line_ran (says later line) n w) (Ok f) v b c
-    → LinesEnd (lines_ran later (lines line) w n refused) (Ok (record { refused = refused + from_bool f })) b c
+    → LinesEnd (lines_ran later (lines line) w n refused) (Ok (record { refused = refused + from_bool (is_some f) })) b c
 last_done later line w v n refused f b c none some ends =
     let all = lines_ran later (lines line) w n refused in
-    goes_end later all v (n + 1) (refused + from_bool f) b c
+    goes_end later all v (n + 1) (refused + from_bool (is_some f)) b c
     (line_done later all (lines line) [] line w v n refused f b b c (last_goes later line w n refused b) (lines-nowhere line none some) ends)
 
 -- what it leaves then
-pub last_left : (later : Bool) (line : List ℕ) (w v : Shown) (n : ℕ) (f : Bool) (b c : Option (List ℕ)) (before after : List Show)
+pub last_left : (later : Bool) (line : List ℕ) (w v : Shown) (n : ℕ) (f : Option StepFault) (b c : Option (List ℕ)) (before after : List Show)
     → line_end line ≡ None
     → 0 < length line
     → LineEnds (line_ran (says later line) n w) (Ok f) v b c

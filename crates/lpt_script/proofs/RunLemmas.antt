@@ -1,5 +1,5 @@
 -- How the run of a script goes on and ends, from what was read and from the endings of its lines.
-use Rattle.std.proofs.Common.{◌≡◌, ℕ, ◌+◌, ◌≤◌, ◌==◌, List, [], ◌∷◌, ◌++◌, length, take, drop, Option, Some, Ok, Bool, true, false, refl, sym, ap, ◌∙◌, subst, inl, inr, append_assoc, append-nil, length-append, take-append-drop, arith}
+use Rattle.std.proofs.Common.{◌≡◌, ℕ, ◌+◌, ◌≤◌, ◌==◌, List, [], ◌∷◌, ◌++◌, length, take, drop, Option, Some, is_some, Ok, Bool, true, false, refl, sym, ap, ◌∙◌, subst, inl, inr, append_assoc, append-nil, length-append, take-append-drop, arith}
 use Rattle.std.specs.Int.{from_bool}
 use Rattle.std.proofs.KnownBytes.{Appends-kept, Appends-trans, Consumes-nil, Consumes-trans}
 use Rattle.std.proofs.lemmas.Grind.{common_steps}
@@ -17,6 +17,7 @@ use Rattle.lpt_words.specs.Grammar.{reading_of}
 use Rattle.lpt_words.specs.declared.showing.Show.{Show}
 use Rattle.lpt_words.proofs.Pieces.{lines-place}
 use Rattle.lpt_words.specs.Words.{ended_line, lines}
+use Rattle.lpt_world.specs.LptEvents.declared.fault.StepFault.{StepFault}
 use Rattle.lpt_world.specs.Worlds.{Shown}
 
 -- ---- the first of some lines
@@ -128,13 +129,13 @@ at_most_one true = omega arith
 at_most_one false = omega arith
 
 -- a line ended well
-pub runs_line : (later : Bool) (had kept next : List Show) (first w v : Shown) (n refused place : ℕ) (f : Bool) (text rest : List ℕ) (room : ℕ) (old now a b c : Option (List ℕ))
+pub runs_line : (later : Bool) (had kept next : List Show) (first w v : Shown) (n refused place : ℕ) (f : Option StepFault) (text rest : List ℕ) (room : ℕ) (old now a b c : Option (List ℕ))
     → Runs later had kept first w n refused text room old now a b
     → line_end text ≡ Some place
     → rest ≡ drop (place + 1) text
     → LineEnds (line_ran (says later (ended_line (take place text))) n w) (Ok f) v b c
     → next ≡ kept ++ shows_left later (reading_of (ended_line (take place text)))
-    → Runs later had next first v (n + 1) (refused + from_bool f) rest room old now a c
+    → Runs later had next first v (n + 1) (refused + from_bool (is_some f)) rest room old now a c
 runs_line later had kept next first w v n refused place f text rest room old now a b c runs at is ends keeps =
     let line = ended_line (take place text) in
     let ran = line_ran (says later line) n w in
@@ -160,8 +161,8 @@ runs_line later had kept next first w v n refused place f text rest room old now
             follows = goes_line later had kept first w n refused place text room old now a b runs at more;
           } in
           line_first later (script_ran later first ((runs.given ++ take (place + 1) text) ++ more)) line (lines more) w n refused a b goes ends.0
-          ∙ ap (λ x. behind (runs.done ++ ran.text) (lines_ran later (lines more) x (n + 1) (refused + from_bool ran.refused))) (sym ends.2)
-          ∙ ap (λ x. behind (runs.done ++ ran.text) (lines_ran later (lines more) v (n + 1) (refused + from_bool x))) (sym ends.1);
+          ∙ ap (λ x. behind (runs.done ++ ran.text) (lines_ran later (lines more) x (n + 1) (refused + from_bool (is_some ran.refused)))) (sym ends.2)
+          ∙ ap (λ x. behind (runs.done ++ ran.text) (lines_ran later (lines more) v (n + 1) (refused + from_bool (is_some x)))) (sym ends.1);
       left = λ more.
           ap (λ x. lines_left later (lines x) first 1 had) (append_assoc runs.given (take (place + 1) text) more)
           ∙ runs.left (take (place + 1) text ++ more)
@@ -169,5 +170,5 @@ runs_line later had kept next first w v n refused place f text rest room old now
           ∙ ap (λ x. lines_left later (lines more) x (n + 1) (kept ++ shows_left later (reading_of line))) (sym ends.2)
           ∙ ap (lines_left later (lines more) v (n + 1)) (sym keeps);
       numbered = omega (arith, runs.numbered, long, longer);
-      some = omega (arith, runs.some, at_most_one f);
+      some = omega (arith, runs.some, at_most_one (is_some f));
     }

@@ -1,5 +1,5 @@
 -- How lines and scripts end: what the answer says of what was read and written.
-use Rattle.std.specs.Prelude.{◌≡◌, ◌⊎◌, ◌≤◌, ◌++◌, ℕ, Bool, true, false, List, Option, Some, None, Result, Ok, Err}
+use Rattle.std.specs.Prelude.{◌≡◌, ◌⊎◌, ℕ, Bool, true, false, List, Option, Some, None, Result, Ok, Err}
 use Rattle.std.specs.Io.KnownBytes.{Appends}
 use Rattle.lpt_world.specs.LptEvents.declared.side.Side.{Side}
 use Rattle.lpt_print.specs.Decoding.{decoding}
@@ -24,7 +24,7 @@ TextEnds text (Err tool.Memory) old new = AppendsPart old new text
 TextEnds text (Err _) old new = ⊥
 
 -- how a line ends
-abbrev pub LineEnds : Ran → Result Bool ToolFault → Shown → Option (List ℕ) → Option (List ℕ) → Type 0
+abbrev pub LineEnds : Ran → Result (Option StepFault) ToolFault → Shown → Option (List ℕ) → Option (List ℕ) → Type 0
 LineEnds ran (Ok refused) w old new =
     (ran.bad ≡ None) × (refused ≡ ran.refused) × (w ≡ ran.world) × Appends old new ran.text
 LineEnds ran (Err (tool.Line k)) w old new = (ran.bad ≡ Some k) × Appends old new ran.text
@@ -91,8 +91,8 @@ abbrev pub Grows : Option (List ℕ) → Option (List ℕ) → Type 0
 Grows old new = (more : List ℕ) × Appends old new more
 
 -- the same where nothing was refused
-abbrev pub unrefused : Result Unit ToolFault → Result Bool ToolFault
-unrefused (Ok done) = Ok false
+abbrev pub unrefused : Result Unit ToolFault → Result (Option StepFault) ToolFault
+unrefused (Ok done) = Ok None
 unrefused (Err fault) = Err fault
 
 -- how a decoding ends: the whole text was written, and the answer says whether it is a fault; or a write failed,

@@ -28,12 +28,12 @@ use Rattle.lpt_script.specs.declared.shows.Shows.{Shows}
 use Rattle.lpt_script.specs.declared.shows.Shows.TheVariants as shows
 use Rattle.lpt_world.specs.Worlds.{Shown, history, memories_now, refusal_at, with_entry}
 
--- what a line leaves: the world after it, what it printed, whether an event was refused, and its own
--- number where it is unreadable
+-- what a line leaves: the world after it, what it printed, why an event was refused, if one was, and its
+-- own number where it is unreadable
 pub record Ran : Type 0 where
   pub world : Shown
   pub text : List ℕ
-  pub refused : Bool
+  pub refused : Option StepFault
   pub bad : Option ℕ
 
 -- whether what lines show is left for later
@@ -48,7 +48,7 @@ kept_of (shows.Later kept) = kept.items
 
 -- a line that prints this, and leaves this world
 abbrev pub printed : Shown → List ℕ → Ran
-printed w text = record { world = w; text = text; refused = false; bad = None }
+printed w text = record { world = w; text = text; refused = None; bad = None }
 
 -- what an event that isn't refused answers
 abbrev pub answered : Shown → Event → Reply
@@ -57,7 +57,7 @@ answered w e = reply w.config w.first (history w) e
 -- one event, by the reason for which it is refused: a refused one changes nothing
 abbrev pub stepped_as : Shown → Event → Option StepFault → Ran
 stepped_as w e None = printed (with_entry w 0 e (answered w e)) (accepted_text e (answered w e))
-stepped_as w e (Some fault) = record { world = w; text = refused_text fault; refused = true; bad = None }
+stepped_as w e (Some fault) = record { world = w; text = refused_text fault; refused = Some fault; bad = None }
 
 -- one event, which the session asks for, seat 0
 abbrev pub stepped : Shown → Event → Ran
@@ -68,9 +68,9 @@ abbrev pub joined : Ran → Ran → Ran
 joined first second = record second { text = first.text ++ second.text }
 
 -- the second, where the first was not refused
-abbrev pub unless_refused : Bool → Ran → (Shown → Ran) → Ran
-unless_refused true first second = first
-unless_refused false first second = joined first (second first.world)
+abbrev pub unless_refused : Option StepFault → Ran → (Shown → Ran) → Ran
+unless_refused (Some fault) first second = first
+unless_refused None first second = joined first (second first.world)
 
 -- two events, of which the second happens where the first was not refused
 abbrev pub and_then : Ran → (Shown → Ran) → Ran
@@ -154,7 +154,7 @@ says later line = says_now later (reading_of line)
 abbrev pub line_ran : Reading → ℕ → Shown → Ran
 line_ran Skipped n w = printed w []
 line_ran (Asks c) n w = command_ran c w
-line_ran Unreadable n w = record { world = w; text = unreadable_text n; refused = false; bad = Some n }
+line_ran Unreadable n w = record { world = w; text = unreadable_text n; refused = None; bad = Some n }
 
 -- what a script leaves: its text, how many lines were refused, and the number of the unreadable line
 -- that ended it
@@ -175,7 +175,7 @@ behind text s = record s { text = text ++ s.text }
 abbrev pub then_rest : Ran → ℕ → ℕ → (Shown → ℕ → ℕ → Script) → Option ℕ → Script
 then_rest ran n refused rest (Some k) = record { text = ran.text; refused = refused; bad = Some k }
 then_rest ran n refused rest None =
-    behind ran.text (rest ran.world (n + 1) (refused + from_bool ran.refused))
+    behind ran.text (rest ran.world (n + 1) (refused + from_bool (is_some ran.refused)))
 
 -- what lines do, from this world on, the first of which has this number, with so many refused before;
 -- lines that show may be left for later

@@ -1,6 +1,6 @@
 //! What a command does to a world and what it prints.
 
-ghost use Rattle.std.specs.Prelude.{◌≡◌, ◌≢◌, ◌<◌, ◌-◌, length, slice_get, IsErrOf, None, IfErr, IfOk, IfSome, OnOk, Err, true, false};
+ghost use Rattle.std.specs.Prelude.{◌≡◌, ◌≢◌, ◌<◌, ◌-◌, length, slice_get, IsErrOf, None, IfErr, IfOk, IfSome, OnOk, Err, true};
 ghost use Rattle.lpt_print.specs.Printing.{accepted_text};
 ghost use Rattle.lpt_script.specs.Ends.{IsTickRefused, LineEnds, TextEnds, unrefused};
 ghost use Rattle.lpt_world.specs.Worlds.{RefusedBy, refusal_at, with_entry};
@@ -18,13 +18,13 @@ use std::alloc::Global;
 /// The seat of the session, for which scripts ask.
 const SESSION: u8 = 0;
 
-/// Does a command, prints its text, and answers whether an event was refused.
+/// Does a command, prints its text, and answers why an event was refused, if one was.
 pub fn run_command<K: Sink>(
     alloc: Global,
     world: &mut World,
     command: Command,
     out: &mut K,
-) -> Result<bool, ToolFault>
+) -> Result<Option<StepFault>, ToolFault>
     ensures ends { LineEnds (command_ran command world.old) result world.new (K.contents out.old) (K.contents out.new) }
     ensures cause { IsErrOf result ToolFault.Write → K.failed out.new ≡ true }
     ensures told { result ≢ Err ToolFault.Write → K.failed out.new ≡ K.failed out.old }
@@ -43,22 +43,22 @@ pub fn run_command<K: Sink>(
 }
 
 // What printed nothing of an event has not been refused.
-fn quietly(written: Result<(), ToolFault>) -> Result<bool, ToolFault>
+fn quietly(written: Result<(), ToolFault>) -> Result<Option<StepFault>, ToolFault>
     ensures { result ≡ unrefused written }
 {
     match written {
-        Ok(()) => Ok(false),
+        Ok(()) => Ok(None),
         Err(fault) => Err(fault),
     }
 }
 
-/// Asks the world for an event, prints what it answers, and answers whether it was refused.
+/// Asks the world for an event, prints what it answers, and answers why it was refused, if it was.
 pub(crate) fn run_event<K: Sink>(
     alloc: Global,
     world: &mut World,
     event: Event,
     out: &mut K,
-) -> Result<bool, ToolFault>
+) -> Result<Option<StepFault>, ToolFault>
     ensures ends { LineEnds (stepped world.old event) result world.new (K.contents out.old) (K.contents out.new) }
     ensures cause { IsErrOf result ToolFault.Write → K.failed out.new ≡ true }
     ensures told { result ≢ Err ToolFault.Write → K.failed out.new ≡ K.failed out.old }
@@ -70,28 +70,36 @@ pub(crate) fn run_event<K: Sink>(
 }
 
 // Prints what the last event of the journal answered.
-fn put_last<K: Sink>(alloc: Global, world: &World, out: &mut K) -> Result<bool, ToolFault>
+fn put_last<K: Sink>(
+    alloc: Global,
+    world: &World,
+    out: &mut K,
+) -> Result<Option<StepFault>, ToolFault>
     ensures ends { IfSome (slice_get world.now.journal (length world.now.journal - 1))
         (λ x. TextEnds (accepted_text x.event x.reply) result (K.contents out.old) (K.contents out.new)) }
-    ensures accepted { IfOk result (λ r. r ≡ false) }
+    ensures accepted { IfOk result (λ r. r ≡ None) }
     ensures cause { IsErrOf result ToolFault.Write → K.failed out.new ≡ true }
     ensures told { result ≢ Err ToolFault.Write → K.failed out.new ≡ K.failed out.old }
 {
     match world.journal().last() {
         Some(entry) => put_entry(alloc, entry, out),
-        None => Ok(false),
+        None => Ok(None),
     }
 }
 
 // Prints what an accepted event answered.
-fn put_entry<K: Sink>(alloc: Global, entry: &Entry, out: &mut K) -> Result<bool, ToolFault>
+fn put_entry<K: Sink>(
+    alloc: Global,
+    entry: &Entry,
+    out: &mut K,
+) -> Result<Option<StepFault>, ToolFault>
     ensures ends { TextEnds (accepted_text entry.now.event entry.now.reply) result (K.contents out.old) (K.contents out.new) }
-    ensures accepted { IfOk result (λ r. r ≡ false) }
+    ensures accepted { IfOk result (λ r. r ≡ None) }
     ensures cause { IsErrOf result ToolFault.Write → K.failed out.new ≡ true }
     ensures told { result ≢ Err ToolFault.Write → K.failed out.new ≡ K.failed out.old }
 {
     match put(out, print_accepted(alloc, &entry.event, &entry.reply)) {
-        Ok(()) => Ok(false),
+        Ok(()) => Ok(None),
         Err(fault) => Err(fault),
     }
 }
@@ -103,30 +111,35 @@ fn run_both<K: Sink>(
     first: Event,
     second: Event,
     out: &mut K,
-) -> Result<bool, ToolFault>
+) -> Result<Option<StepFault>, ToolFault>
     ensures ends { LineEnds (and_then (stepped world.old first) (λ w. stepped w second))
         result world.new (K.contents out.old) (K.contents out.new) }
     ensures cause { IsErrOf result ToolFault.Write → K.failed out.new ≡ true }
     ensures told { result ≢ Err ToolFault.Write → K.failed out.new ≡ K.failed out.old }
 {
     match run_event(alloc, world, first, out) {
-        Ok(false) => run_event(alloc, world, second, out),
-        Ok(true) => Ok(true),
+        Ok(None) => run_event(alloc, world, second, out),
+        Ok(Some(fault)) => Ok(Some(fault)),
         Err(fault) => Err(fault),
     }
 }
 
 // Claims and commits a job with the first worker, and executes the oldest, up to the first of these
 // that is refused.
-fn run_work<K: Sink>(alloc: Global, world: &mut World, out: &mut K) -> Result<bool, ToolFault>
+fn run_work<K: Sink>(
+    alloc: Global,
+    world: &mut World,
+    out: &mut K,
+) -> Result<Option<StepFault>, ToolFault>
     ensures ends { LineEnds (worked world.old) result world.new (K.contents out.old) (K.contents out.new) }
     ensures cause { IsErrOf result ToolFault.Write → K.failed out.new ≡ true }
     ensures told { result ≢ Err ToolFault.Write → K.failed out.new ≡ K.failed out.old }
 {
     let (claim, commit) = (Event::Claim(Worker::W1), Event::Commit(Worker::W1));
     match run_both(alloc, world, claim, commit, out) {
-        Ok(false) => run_event(alloc, world, Event::Apply, out),
-        ended => ended,
+        Ok(None) => run_event(alloc, world, Event::Apply, out),
+        Ok(Some(reason)) => Ok(Some(reason)),
+        Err(fault) => Err(fault),
     }
 }
 
@@ -137,13 +150,13 @@ fn run_ticks<K: Sink>(
     side: Side,
     count: u32,
     out: &mut K,
-) -> Result<bool, ToolFault>
+) -> Result<Option<StepFault>, ToolFault>
     ensures ends { LineEnds (ticked count side world.old) result world.new (K.contents out.old) (K.contents out.new) }
     ensures cause { IsErrOf result ToolFault.Write → K.failed out.new ≡ true }
     ensures told { result ≢ Err ToolFault.Write → K.failed out.new ≡ K.failed out.old }
 {
     if count == 0 {
-        return Ok(false);
+        return Ok(None);
     }
     match tick_before_last(world, side, count) {
         Ok(()) => run_event(alloc, world, Event::Tick(side), out),

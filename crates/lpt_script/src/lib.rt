@@ -29,6 +29,7 @@ pub use lpt_text::{
 pub use lpt_words::{
     Command, Load, Reading, Show, read_hex, read_line, read_number, split_line, split_word,
 };
+pub use lpt_world::{Config, ConfigFault, Entry, Memories, Octets, StepFault, World};
 pub use printed::put;
 pub use script::{run_lines, run_script};
 pub use showing::run_show;

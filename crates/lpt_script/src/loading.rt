@@ -8,17 +8,17 @@ ghost use Rattle.lpt_words.specs.Loads.{load_packet};
 use crate::command::run_event;
 use lpt_text::{Sink, ToolFault};
 use lpt_words::Load;
-use lpt_world::{Direction, Event, World};
+use lpt_world::{Direction, Event, StepFault, World};
 use std::alloc::Global;
 
 /// Opens the packet of a load upwards, with the configured APID and source, prints what came of it,
-/// and answers whether it was refused.
+/// and answers why it was refused, if it was.
 pub(crate) fn run_load<K: Sink>(
     alloc: Global,
     world: &mut World,
     load: &Load,
     out: &mut K,
-) -> Result<bool, ToolFault>
+) -> Result<Option<StepFault>, ToolFault>
     ensures ends { LineEnds (stepped world.old (Event.Open Direction.Up load.now.id
         (load_packet world.old.config.apid world.old.config.source load.now)))
         result world.new (K.contents out.old) (K.contents out.new) }

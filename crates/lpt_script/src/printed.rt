@@ -1,6 +1,6 @@
 //! Texts on their way to the writer.
 
-ghost use Rattle.std.specs.Prelude.{◌≡◌, ◌≢◌, ◌⊎◌, ℕ, List, IfErr, IfOk, IsErrOf, Err, string_bytes, true};
+ghost use Rattle.std.specs.Prelude.{◌≡◌, ◌≢◌, ◌⊎◌, ℕ, List, IfErr, IfOk, IsErrOf, Err, Some, string_bytes, true};
 ghost use Rattle.lpt_print.specs.Printing.{refused_text};
 ghost use Rattle.lpt_script.specs.Ends.{Grows, TextEnds};
 
@@ -23,14 +23,14 @@ pub fn put<K: Sink>(out: &mut K, text: Result<String, AllocError>) -> Result<(),
     }
 }
 
-/// Writes why an event was refused, and answers that it was. Nothing is written for want of memory,
+/// Writes why an event was refused, and answers it. Nothing is written for want of memory,
 /// which ends the run.
 pub(crate) fn put_refused<K: Sink>(
     alloc: Global,
     fault: StepFault,
     out: &mut K,
-) -> Result<bool, ToolFault>
-    ensures refused { IfOk result (λ r. r ≡ true) }
+) -> Result<Option<StepFault>, ToolFault>
+    ensures refused { IfOk result (λ r. r ≡ Some fault) }
     ensures ends { TextEnds (refused_text fault) result (K.contents out.old) (K.contents out.new) }
     ensures memory { fault ≡ StepFault.Memory → (result ≡ Err ToolFault.Memory) × (K.contents out.old ≡ K.contents out.new) }
     ensures cause { IsErrOf result ToolFault.Write → K.failed out.new ≡ true }
@@ -40,7 +40,7 @@ pub(crate) fn put_refused<K: Sink>(
         return Err(ToolFault::Memory);
     }
     match put(out, print_refused(alloc, fault)) {
-        Ok(()) => Ok(true),
+        Ok(()) => Ok(Some(fault)),
         Err(fault) => Err(fault),
     }
 }

@@ -1,6 +1,7 @@
 //! Scripts: lines of text that ask a world for events, or show what is in it.
 
-ghost use Rattle.std.specs.Prelude.{◌≡◌, ◌≢◌, ◌↔◌, ◌+◌, ◌++◌, ◌<◌, ◌^◌, IfOk, IsErrOf, IsOk, IsSome, Err, None, true};
+ghost use Rattle.std.specs.Prelude.{◌≡◌, ◌≢◌, ◌↔◌, ◌+◌, ◌++◌, ◌<◌, ◌≤◌, ◌^◌, is_some, IfOk, IsErrOf, IsOk, IsSome, Err, None, true};
+ghost use Rattle.std.specs.Int.{from_bool};
 ghost use Rattle.lpt_text.specs.Lines.{line_end};
 ghost use Rattle.lpt_script.specs.Ends.{LineEnds, LinesEnd, LinesLeave, RunEnds, ScriptEnds};
 ghost use Rattle.lpt_script.specs.Scripts.{is_later, kept_of, left_of, line_ran, lines_left, lines_ran, says, shows_left, unreadable};
@@ -16,7 +17,7 @@ use crate::shows::Shows;
 use lpt_print::print_unreadable;
 use lpt_text::{LineBuffer, Sink, Source, ToolFault, flush_out};
 use lpt_words::{Reading, ended, read_line};
-use lpt_world::{Config, ConfigFault, Memories, World};
+use lpt_world::{Config, ConfigFault, Memories, StepFault, World};
 use std::alloc::Global;
 
 /// Runs a script from a reader on a new world of this configuration and these memories, and writes
@@ -119,7 +120,7 @@ pub fn run_lines<S: Source, K: Sink>(
             number,
             out,
         ) {
-            Ok(was_refused) => refused += u64::from(was_refused),
+            Ok(was_refused) => refused += counted(was_refused),
             Err(fault) => return Err(fault),
         }
         lines.skip(len + 1);
@@ -150,13 +151,21 @@ fn run_last<K: Sink>(
     }
     match run_line(alloc, world, shows, last, number, out) {
         Ok(was_refused) => Ok(ScriptEnd {
-            refused: refused + u64::from(was_refused),
+            refused: refused + counted(was_refused),
         }),
         Err(fault) => Err(fault),
     }
 }
 
-// Runs a line, and answers whether an event of it was refused.
+// One for an event that was refused, and none where none was.
+fn counted(refused: Option<StepFault>) -> u64
+    ensures value { result ≡ from_bool (is_some refused) }
+    ensures small { result ≤ 1 }
+{
+    u64::from(refused.is_some())
+}
+
+// Runs a line, and answers why an event of it was refused, if one was.
 fn run_line<K: Sink>(
     alloc: Global,
     world: &mut World,
@@ -164,7 +173,7 @@ fn run_line<K: Sink>(
     line: &[u8],
     number: u64,
     out: &mut K,
-) -> Result<bool, ToolFault>
+) -> Result<Option<StepFault>, ToolFault>
     ensures same { is_later shows.new ≡ is_later shows.old }
     ensures left { IfOk result (λ _. kept_of shows.new ≡ kept_of shows.old ++ shows_left (is_later shows.old) (reading_of line.now)) }
     ensures ends { LineEnds (line_ran (says (is_later shows.old) line.now) number world.old) result world.new (K.contents out.old) (K.contents out.new) }
@@ -173,10 +182,10 @@ fn run_line<K: Sink>(
 {
     match read_line(alloc, line) {
         Err(_) => Err(ToolFault::Memory),
-        Ok(Reading::Skipped) => Ok(false),
+        Ok(Reading::Skipped) => Ok(None),
         Ok(Reading::Asks(command)) => match shows.keep(command) {
             Ok(Some(command)) => run_command(alloc, world, command, out),
-            Ok(None) => Ok(false),
+            Ok(None) => Ok(None),
             Err(_) => Err(ToolFault::Memory),
         },
         Ok(Reading::Unreadable) => Err(end_unreadable(alloc, number, out)),

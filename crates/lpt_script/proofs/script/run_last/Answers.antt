@@ -10,7 +10,7 @@ pub returns-in-Ok-clause-ends : goal.returns-in-Ok-clause-ends
 returns-in-Ok-clause-ends g c =
     subst (λ n. LinesEnd (lines_ran (is_later c.args.shows.now) (lines c.args.last.now) c.args.world.now c.args.number c.args.refused)
     (Ok (record { refused = c.args.refused + n })) (g.K.Sink.contents c.args.out.now) (g.K.Sink.contents c.run_line.new.out))
-    (sym c.from.ensures)
+    (sym c.counted.ensures.value)
     (last_done (is_later c.args.shows.now) c.args.last.now c.args.world.now c.run_line.new.world c.args.number c.args.refused c.in-Ok.was_refused
     (g.K.Sink.contents c.args.out.now) (g.K.Sink.contents c.run_line.new.out)
     c.requires.one (search rules) c.in-Ok.ensures.ends)

@@ -1,4 +1,4 @@
-use Rattle.std.proofs.Common.{◌≡◌, ◌∙◌, ◌+◌, ◌++◌, IfOk, Ok, Err, take, refl, sym, ap, subst, arith}
+use Rattle.std.proofs.Common.{◌≡◌, ◌∙◌, ◌+◌, ◌++◌, is_some, IfOk, Ok, Err, take, refl, sym, ap, subst, arith}
 use Rattle.std.specs.Int.{from_bool}
 use Rattle.std.proofs.KnownBytes.{Appends-nil}
 use Rattle.std.proofs.lemmas.Grind.{common_steps}
@@ -127,8 +127,8 @@ loop-len-preserved g c =
     c.in-Ok.ensures.left)) in
     record {
       runs = subst (λ n. Runs (is_later c.args.shows.now) (kept_of c.args.shows.now) (kept_of c.run_line.new.shows) c.args.world.now c.run_line.new.world (c.loop-len.number + 1) (c.loop-len.refused + n) (held c.skip.new.self)
-          (room_of c.skip.new.self) a d (g.K.Sink.contents c.args.out.now) (g.K.Sink.contents c.run_line.new.out)) (sym c.from-refused.ensures)
-          (subst (λ n. Runs (is_later c.args.shows.now) (kept_of c.args.shows.now) (kept_of c.run_line.new.shows) c.args.world.now c.run_line.new.world (c.loop-len.number + 1) (c.loop-len.refused + from_bool c.in-Ok.was_refused) (held c.skip.new.self)
+          (room_of c.skip.new.self) a d (g.K.Sink.contents c.args.out.now) (g.K.Sink.contents c.run_line.new.out)) (sym c.counted-refused.ensures.value)
+          (subst (λ n. Runs (is_later c.args.shows.now) (kept_of c.args.shows.now) (kept_of c.run_line.new.shows) c.args.world.now c.run_line.new.world (c.loop-len.number + 1) (c.loop-len.refused + from_bool (is_some c.in-Ok.was_refused)) (held c.skip.new.self)
           n a d (g.K.Sink.contents c.args.out.now) (g.K.Sink.contents c.run_line.new.out)) (sym c.skip.ensures.room) next);
       same = grind (arith, common_steps);
       told = finds.4 ∙ c.loop-len.invariant.told;
