@@ -17,7 +17,7 @@ _lpt() {
     local options='--config --help --version'
     case $command:$request in
     lint:*) options='--help --version' ;;
-    chart:*) options+=' --from --to' ;;
+    chart:*) options+=' --from --to --refused' ;;
     split:*) options+=' --parts --count --whole' ;;
     join:*) options+=' --id' ;;
     request:load) options+=' --area --ack --count' ;;

@@ -48,6 +48,7 @@ for command in run threads chart decode split join 'request load' 'request dump'
 end
 complete -c lpt -n '__lpt_at chart' -l from -x -d 'The first place of the journal that is drawn'
 complete -c lpt -n '__lpt_at chart' -l to -x -d 'The last place of the journal that is drawn'
+complete -c lpt -n '__lpt_at chart' -l refused -d 'Draw the lines that were refused, too'
 complete -c lpt -n '__lpt_at split' -l parts -x -d 'The parts to write, as 3,7-9,12-'
 complete -c lpt -n '__lpt_at split' -l whole -d 'Pass on a message that has no more octets than a part'
 complete -c lpt -n '__lpt_at join' -l id -x -d "The message's identifier, 0 to 65535; without one, it is the only one there"

@@ -14,7 +14,6 @@ mod joins;
 mod linting;
 mod requests;
 mod streams;
-mod title;
 mod watched;
 mod work;
 

@@ -1,10 +1,8 @@
-//! Standard output, and a sink of which nothing is kept.
-
-ghost use Rattle.std.specs.Prelude.{None};
+//! Standard output.
 
 use crate::end::Failure;
 use crate::watched::Watched;
-use lpt_files::{Sink, Told, ToolFault, flush_out};
+use lpt_files::{Told, ToolFault, flush_out};
 use std::io;
 use std::io::{BufWriter, ErrorKind, Printer};
 
@@ -62,38 +60,5 @@ fn write_failure<W>(
     match flushed {
         Ok(()) => None,
         Err(fault) => Some(Failure::from(fault)),
-    }
-}
-
-/// A sink of which nothing is kept.
-#[derive(Drop)]
-pub struct Nowhere {
-    failed: bool,
-}
-
-impl Nowhere {
-    /// A sink that nothing was written to.
-    pub fn new() -> Self {
-        Nowhere { failed: false }
-    }
-}
-
-impl Sink for Nowhere {
-    ghost contents = { λ _. None };
-
-    ghost passed = { λ _. None };
-
-    ghost failed = { λ sink. sink.failed };
-
-    // That nothing was written counts as a failure.
-    fn write(&mut self, buf: &[u8]) -> Option<usize> {
-        if buf.is_empty() {
-            self.failed = true;
-        }
-        Some(buf.len())
-    }
-
-    fn flush(&mut self) -> bool {
-        true
     }
 }

@@ -46,6 +46,8 @@ pub struct ChartWords<'a> {
     pub from: Option<u64>,
     /// The last place of the journal that is drawn, where one is given.
     pub to: Option<u64>,
+    /// Whether the lines that were refused are drawn.
+    pub refused: bool,
 }
 
 /// Why the words ask for nothing that is to be done.
@@ -115,5 +117,6 @@ fn chart_words<'a>(words: &ArgMatches<'a>) -> Option<ChartWords<'a>> {
         script: words.get_str("SCRIPT")?,
         from: words.get_one("from"),
         to: words.get_one("to"),
+        refused: words.get_flag("refused"),
     })
 }

@@ -111,6 +111,14 @@ pub(crate) static COMMANDS: [Row; 7] = [
                 other: &[],
                 help: "The last place of the journal that is drawn",
             },
+            Named {
+                name: "refused",
+                value: ValueParser::Bool,
+                behind: &[],
+                action: ArgAction::SetTrue,
+                other: &[],
+                help: "Draw the lines that were refused, too",
+            },
         ],
     },
     Row {
