@@ -7,6 +7,7 @@
 
 mod charting;
 mod configuration;
+mod decoding;
 mod end;
 mod files;
 mod input;
@@ -73,7 +74,7 @@ fn done<T: Threads + Wait + Sync>(
         Command::Threads(script) => work::run(rt, threads, config, memories, Some(turns), script),
         Command::Lint(script) => linting::lint(rt, script),
         Command::Chart(words) => charting::chart(rt, config, memories, words),
-        Command::Decode(hex) => work::decode(rt, config, hex),
+        Command::Decode(hex) => decoding::decode(rt, config, hex),
         Command::Split(words) => files::split(rt, &config, words),
         Command::Join(words) => joins::join(rt, &config, words),
         Command::Request(words) => requests::request(rt, &config, words),

@@ -1,12 +1,10 @@
-//! What the program does: it runs scripts and decodes octets.
-
-ghost use Rattle.lpt_tool.specs.LptPart.Splitting.{IsPartSize};
+//! Scripts run, with threads behind them and without.
 
 use crate::end::{Failure, Status, tell_place};
 use crate::input::{Incoming, name_of, opened};
 use crate::streams::{flush, output};
 use lpt_tool::{
-    Config, Memories, ScriptEnd, ToolFault, Turns, read_hex, run_script, run_threads_script,
+    Config, Memories, ScriptEnd, ThreadsEnd, ToolFault, Turns, run_script, run_threads_script,
 };
 use std::sync::Wait;
 use std::thread::Threads;
@@ -39,43 +37,6 @@ pub fn run<T: Threads + Wait + Sync>(
     status
 }
 
-/// Prints what octets are as a packet.
-///
-/// Errors: `Write` where a write failed, `Memory`. Words that aren't octets are no error here: they
-/// are told on standard error, and the status says so.
-pub fn decode(rt: &HostRuntime, config: Config, hex: &str) -> Result<Status, Failure>
-    requires { IsPartSize config.part_size }
-{
-    let octets = match read_hex(rt.alloc(), hex.as_bytes()) {
-        Ok(Some(octets)) => octets,
-        Ok(None) => {
-            refuse_hex(rt, hex);
-            return Ok(Status::Unreadable);
-        }
-        Err(_) => return Err(Failure::from(ToolFault::Memory)),
-    };
-    let mut out = output(rt)?;
-    let decoded = lpt_tool::decode(rt.alloc(), octets.as_slice(), config.part_size, &mut out);
-    flush(rt, out)?;
-    Ok(status_of(decoded?))
-}
-
-// Says on standard error that a word isn't octets, and where.
-fn refuse_hex(rt: &HostRuntime, hex: &str) {
-    let _ = rt.eprintln("hex refused");
-    let digits = hex.len();
-    let place = match hex.bytes().position(|octet| !octet.is_ascii_hexdigit()) {
-        Some(before) => {
-            let place = before.saturating_add(1);
-            format!(in rt.alloc(); "HEX: octet {place} of the word isn't a hexadecimal digit")
-        }
-        None => format!(in rt.alloc(); "HEX: {digits} digits, and an octet has two"),
-    };
-    if let Ok(place) = place {
-        tell_place(rt, place.as_str());
-    }
-}
-
 // Runs the lines of a script, and writes what the output has kept back: how the run ended, or why the
 // output can't be written.
 fn lines_run<T: Threads + Wait + Sync>(
@@ -97,12 +58,60 @@ fn lines_run<T: Threads + Wait + Sync>(
     let ran = match turns {
         None => run_script(alloc, config, memories, source, &mut out),
         Some(turns) => {
-            run_threads_script(alloc, threads, config, memories, turns, source, &mut out)
+            let ran = run_threads_script(alloc, threads, config, memories, turns, source, &mut out);
+            told_full(rt, turns, ran)
         }
     };
     match flush(rt, out) {
         Ok(()) => Ok(ran),
         Err(failure) => Err(failure),
+    }
+}
+
+// How the lines of a script with threads ended, after standard error was told which seats reached their
+// limit.
+fn told_full(
+    rt: &HostRuntime,
+    turns: Turns,
+    ran: Result<ThreadsEnd, ToolFault>,
+) -> Result<ScriptEnd, ToolFault> {
+    match ran {
+        Ok(end) => {
+            for seat in &end.full {
+                tell_full(rt, turns, *seat);
+            }
+            Ok(ScriptEnd {
+                refused: end.refused,
+            })
+        }
+        Err(fault) => Err(fault),
+    }
+}
+
+// Says on standard error that a seat reached its limit.
+fn tell_full(rt: &HostRuntime, turns: Turns, seat: u8) {
+    let who = seat_words(seat);
+    let limit = turns.per_seat;
+    if let Ok(text) = format!(in rt.alloc();
+        "{who} stopped at per_seat = {limit}: more may be left to do"
+    ) {
+        tell_place(rt, text.as_str());
+    }
+}
+
+// Who has a seat of a run of threads.
+fn seat_words(seat: u8) -> &'static str {
+    match seat {
+        1 => "s1",
+        2 => "s2",
+        3 => "g1",
+        4 => "g2",
+        5 => "the timer of craft",
+        6 => "the timer of ground",
+        7 => "w1",
+        8 => "w2",
+        9 => "the sender up",
+        _ => "the sender down",
     }
 }
 
@@ -141,8 +150,8 @@ fn threads_words(code: u16) -> &'static str {
     }
 }
 
-// The status of work that was done, by whether something of it was refused.
-fn status_of(refused: bool) -> Status {
+/// The status of work that was done, by whether something of it was refused.
+pub fn status_of(refused: bool) -> Status {
     if refused {
         Status::Refused
     } else {

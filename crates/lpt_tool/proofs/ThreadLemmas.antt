@@ -1,5 +1,5 @@
 -- How a script with threads ends.
-use Rattle.std.proofs.Common.{◌≤◌, ℕ, List, [], ◌++◌, take, Option, Result, Ok, Err, OnOk, IfErr, Bool, true, arith, ◌≡◌, sym, subst, inl, inr}
+use Rattle.std.proofs.Common.{◌≤◌, ℕ, List, [], ◌++◌, take, Option, Result, Ok, Err, OnOk, IfErr, Bool, true, arith, ◌≡◌, ◌∙◌, refl, sym, subst, inl, inr}
 use Rattle.std.proofs.KnownBytes.{Appends-kept, Appends-nil, Appends-trans}
 use Rattle.std.specs.Io.KnownBytes.{Appends, Keeps}
 use Rattle.lpt_share.specs.FaultNames.{code_of}
@@ -15,7 +15,9 @@ use Rattle.lpt_share.specs.LptEvents.declared.turns.Turns.{Turns}
 use Rattle.lpt_share.specs.LptJournal.Releases.{releases}
 use Rattle.lpt_share.specs.WholeRuns.{IsRun}
 use Rattle.lpt_tool.specs.Ends.{shown_text, GoesOn, IsShownBehind, LinesAndMore, ThreadsEnds}
+use Rattle.lpt_tool.specs.Full.{full_seats}
 use Rattle.lpt_tool.specs.Summary.{IsSummary}
+use Rattle.lpt_tool.specs.declared.threads_end.ThreadsEnd.{ThreadsEnd}
 use Rattle.lpt_script.specs.declared.end.ScriptEnd.{ScriptEnd}
 use Rattle.lpt_share.specs.LptWorld.Worlds.{Shown, history}
 
@@ -33,13 +35,13 @@ pub grown_kept : (a b c : Option (List ℕ)) → Grows a b → Keeps b c → Gro
 grown_kept a b c p q = (p.0, Appends-kept a b c p.0 p.1 q)
 
 -- what was printed could not be passed on
-pub flush_failed : (turns : Turns) (left : Left) (fault : ToolFault) (a b c : Option (List ℕ)) (more : Bool)
+pub flush_failed : (turns : Turns) (left : Left) (refused : ℕ) (fault : ToolFault) (a b c : Option (List ℕ)) (more : Bool)
     → Grows a b
     → Keeps b c
     → (fault ≡ tool.Write) × (more ≡ true)
-    → GoesOn turns left (Err fault) a c more
-flush_failed turns left fault a b c more p q cause =
-    subst (λ f. GoesOn turns left (Err f) a c more) (sym cause.0) (grown_kept a b c p q, cause.1)
+    → GoesOn turns left refused (Err fault) a c more
+flush_failed turns left refused fault a b c more p q cause =
+    subst (λ f. GoesOn turns left refused (Err f) a c more) (sym cause.0) (grown_kept a b c p q, cause.1)
 
 -- ---- the ends
 
@@ -55,9 +57,9 @@ lines_fault turns w tool.Memory old new a b failed wrote p = inl p
 lines_fault turns w (tool.Threads k) old new a b failed wrote p = absurd p
 
 -- a fault of the threads, or of what is printed after them
-pub after_fault : (turns : Turns) (left : Left) (w : Shown) (end : ScriptEnd) (fault : ToolFault) (old new a b c : Option (List ℕ)) (failed wrote more : Bool)
+after_fault : (turns : Turns) (left : Left) (w : Shown) (end : ScriptEnd) (fault : ToolFault) (old new a b c : Option (List ℕ)) (failed wrote more : Bool)
     → RunEnds true w (Ok end) old new a b failed wrote
-    → GoesOn turns left (Err fault) b c more
+    → GoesOn turns left end.refused (Err fault) b c more
     → ThreadsEnds turns w (Err fault) old new a c failed more
 after_fault turns left w end (tool.Threads k) old new a b c failed wrote more p q =
     ((p.0, p.1, p.2, p.3, (p.4.0, subst (λ x. Appends a x (script_ran true w p.0).text) q.0 p.4.2)), q.1, q.2)
@@ -76,25 +78,37 @@ code_within Memory = (omega arith, omega arith)
 code_within NoThread = (omega arith, omega arith)
 
 -- all was done: the lines left this, and behind their text stands what is shown of the run
-pub threads_done : (turns : Turns) (left : Left) (w : Shown) (end : ScriptEnd) (old new a b c : Option (List ℕ)) (failed wrote : Bool)
+threads_done : (turns : Turns) (left : Left) (w : Shown) (end : ScriptEnd) (done : ThreadsEnd) (old new a b c : Option (List ℕ)) (failed wrote : Bool)
     → LinesLeave true [] w end left old new a b
-    → GoesOn turns left (Ok tt) b c wrote
-    → ThreadsEnds turns w (Ok end) old new a c failed wrote
-threads_done turns left w end old new a b c failed wrote p q =
+    → GoesOn turns left end.refused (Ok done) b c wrote
+    → ThreadsEnds turns w (Ok done) old new a c failed wrote
+threads_done turns left w end done old new a b c failed wrote p (same, q) =
     let text = (script_ran true w p.0).text in
-    let after = q.2 ++ shown_text left.kept q.0 in
-    let shown : IsShownBehind text turns left a c =
-    (q.0, q.1, q.2, q.3, Appends-trans a b c text after p.4.0.2 q.4) in
-    (p.0, p.1, p.2, p.3, (p.4.0.0, p.4.0.1, subst (λ l. IsShownBehind text turns l a c) (sym p.4.1) shown))
+    let after = q.3 ++ shown_text left.kept q.0 in
+    let shown : IsShownBehind text turns left done.full.items a c =
+    (q.0, q.1, q.2, q.3, q.4, Appends-trans a b c text after p.4.0.2 q.5) in
+    (p.0, p.1, p.2, p.3, (p.4.0.0, same ∙ p.4.0.1, subst (λ l. IsShownBehind text turns l done.full.items a c) (sym p.4.1) shown))
+
+-- what followed the lines
+pub lines_then : (turns : Turns) (left : Left) (w : Shown) (end : ScriptEnd) (r : Result ThreadsEnd ToolFault) (old new a b c : Option (List ℕ)) (failed wrote more : Bool)
+    → LinesLeave true [] w end left old new a b
+    → RunEnds true w (Ok end) old new a b failed wrote
+    → GoesOn turns left end.refused r b c more
+    → ThreadsEnds turns w r old new a c failed more
+lines_then turns left w end (Ok done) old new a b c failed wrote more leave ends q =
+    threads_done turns left w end done old new a b c failed more leave q
+lines_then turns left w end (Err fault) old new a b c failed wrote more leave ends q =
+    after_fault turns left w end fault old new a b c failed wrote more ends q
 
 -- what is shown of the run was written and passed on
-pub shown_passed : (turns : Turns) (left : Left) (w : Shown) (a b c : Option (List ℕ)) (wrote : Bool)
+pub shown_passed : (turns : Turns) (left : Left) (done : ThreadsEnd) (w : Shown) (a b c : Option (List ℕ)) (wrote : Bool)
+    → done.full.items ≡ full_seats turns.per_seat w.journal
     → IsRun turns left.world w
     → ((summary : List ℕ) × IsSummary (releases w.config (history w)) w.journal summary × Appends a b (summary ++ shown_text left.kept w))
     → Keeps b c
-    → GoesOn turns left (Ok tt) a c wrote
-shown_passed turns left w a b c wrote ran p q =
-    (w, ran, p.0, p.1, Appends-kept a b c (p.0 ++ shown_text left.kept w) p.2 q)
+    → GoesOn turns left done.refused (Ok done) a c wrote
+shown_passed turns left done w a b c wrote full ran p q =
+    (refl, (w, ran, full, p.0, p.1, Appends-kept a b c (p.0 ++ shown_text left.kept w) p.2 q))
 
 -- what a run left, and what kept lines show of it
 pub left_shown : (kept : List Show) (w : Shown) (r : Result Unit ToolFault) (a b c : Option (List ℕ))

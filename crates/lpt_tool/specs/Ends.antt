@@ -5,7 +5,6 @@ use Rattle.std.specs.List.{flat_map}
 use Rattle.lpt_script.specs.LptText.Reading.{IsWhole}
 use Rattle.lpt_script.specs.LptText.declared.fault.ToolFault.{ToolFault}
 use Rattle.lpt_script.specs.LptText.declared.fault.ToolFault.TheVariants as tool
-use Rattle.lpt_script.specs.declared.end.ScriptEnd.{ScriptEnd}
 use Rattle.lpt_script.specs.LptWords.declared.showing.Show.{Show}
 use Rattle.lpt_script.specs.Ends.{Grows, RunEnds}
 use Rattle.lpt_script.specs.Scripts.{Left, Script, script_left, script_ran, show_text}
@@ -13,7 +12,9 @@ use Rattle.lpt_share.specs.LptEvents.declared.turns.Turns.{Turns}
 use Rattle.lpt_share.specs.LptJournal.Releases.{releases}
 use Rattle.lpt_share.specs.LptWorld.Worlds.{Shown, history}
 use Rattle.lpt_share.specs.WholeRuns.{IsRun}
+use Rattle.lpt_tool.specs.Full.{full_seats}
 use Rattle.lpt_tool.specs.Summary.{IsSummary}
+use Rattle.lpt_tool.specs.declared.threads_end.ThreadsEnd.{ThreadsEnd}
 
 -- the whole text of lines was written, and more may stand behind it
 abbrev pub LinesAndMore : Script → Option (List ℕ) → Option (List ℕ) → Type 0
@@ -23,29 +24,31 @@ LinesAndMore script old new = (script.bad ≡ None) × (more : List ℕ) × Appe
 abbrev pub shown_text : List Show → Shown → List ℕ
 shown_text shows w = flat_map (λ s. show_text s w) shows
 
--- a run of threads from what lines left: behind this text the summary of what it left was written, and then
--- what the kept lines show of it
-abbrev pub IsShownBehind : List ℕ → Turns → Left → (before after : Option (List ℕ)) → Type 0
-IsShownBehind text turns left before after =
+-- a run of threads from what lines left, in which these seats reached their limit: behind this text the
+-- summary of what it left was written, and then what the kept lines show of it
+abbrev pub IsShownBehind : List ℕ → Turns → Left → (full : List ℕ) → (before after : Option (List ℕ)) → Type 0
+IsShownBehind text turns left full before after =
     (w : Shown)
     × IsRun turns left.world w
+    × (full ≡ full_seats turns.per_seat w.journal)
     × (summary : List ℕ)
     × IsSummary (releases w.config (history w)) w.journal summary
     × Appends before after (text ++ (summary ++ shown_text left.kept w))
 
 -- How a script with threads ends. Ok: all was read, each line could be, and what those print that don't
--- show was written, with what the threads left behind it, and what the other lines show of that. Line, Read, Config: as without threads. Write,
+-- show was written, with what the threads left behind it, and what the other lines show of that, and the seats
+-- that reached their limit are told. Line, Read, Config: as without threads. Write,
 -- Memory: as without threads, or behind the whole text of those lines. Threads: all was read, and the
 -- text of those lines written, no more.
 abbrev pub ThreadsEnds :
-    Turns → Shown → Result ScriptEnd ToolFault
+    Turns → Shown → Result ThreadsEnd ToolFault
     → (read_before read_after written_before written_after : Option (List ℕ))
     → (read_failed write_failed : Bool) → Type 0
 ThreadsEnds turns w (Ok end) old new before after read_failed write_failed =
     IsWhole old new
     (λ text. ((script_ran true w text).bad ≡ None)
     × (end.refused ≡ (script_ran true w text).refused)
-    × IsShownBehind (script_ran true w text).text turns (script_left true w text) before after)
+    × IsShownBehind (script_ran true w text).text turns (script_left true w text) end.full.items before after)
 ThreadsEnds turns w (Err (tool.Line n)) old new before after read_failed write_failed =
     RunEnds true w (Err (tool.Line n)) old new before after read_failed write_failed
 ThreadsEnds turns w (Err tool.Read) old new before after read_failed write_failed =
@@ -74,12 +77,14 @@ IsOfThreads (tool.Line n) = ⊥
 IsOfThreads tool.Memory = ⊥
 IsOfThreads tool.Config = ⊥
 
--- how the threads and what is printed after them end: where the threads fail, nothing was written
-abbrev pub GoesOn : Turns → Left → Result Unit ToolFault → (before after : Option (List ℕ)) → (write_failed : Bool) → Type 0
-GoesOn turns left (Ok u) before after write_failed = IsShownBehind [] turns left before after
-GoesOn turns left (Err tool.Write) before after write_failed = Grows before after × (write_failed ≡ true)
-GoesOn turns left (Err tool.Memory) before after write_failed = Grows before after
-GoesOn turns left (Err (tool.Threads n)) before after write_failed = (before ≡ after) × (61 ≤ n) × (n ≤ 63)
-GoesOn turns left (Err (tool.Line n)) before after write_failed = ⊥
-GoesOn turns left (Err tool.Read) before after write_failed = ⊥
-GoesOn turns left (Err tool.Config) before after write_failed = ⊥
+-- how the threads and what is printed after them end, behind lines of which so many were refused: where the
+-- threads fail, nothing was written
+abbrev pub GoesOn : Turns → Left → (refused : ℕ) → Result ThreadsEnd ToolFault → (before after : Option (List ℕ)) → (write_failed : Bool) → Type 0
+GoesOn turns left refused (Ok end) before after write_failed =
+    (end.refused ≡ refused) × IsShownBehind [] turns left end.full.items before after
+GoesOn turns left refused (Err tool.Write) before after write_failed = Grows before after × (write_failed ≡ true)
+GoesOn turns left refused (Err tool.Memory) before after write_failed = Grows before after
+GoesOn turns left refused (Err (tool.Threads n)) before after write_failed = (before ≡ after) × (61 ≤ n) × (n ≤ 63)
+GoesOn turns left refused (Err (tool.Line n)) before after write_failed = ⊥
+GoesOn turns left refused (Err tool.Read) before after write_failed = ⊥
+GoesOn turns left refused (Err tool.Config) before after write_failed = ⊥

@@ -7,16 +7,19 @@
 //! `ToolFault`.
 #![tactic(auto)]
 
+mod full;
 mod summary;
 mod threads;
+mod threads_end;
 
 pub use lpt_script::{
-    Command, End, LineBuffer, Load, Passes, Reading, ScriptEnd, Show, Shows, Source, Told,
-    ToolFault, decode, flush_out, print_clock, print_decoded, print_expired, print_finished,
-    print_journal, print_memory, print_none, print_opened, print_outcome, print_packet, print_put,
-    print_refused, print_release, print_restarted, print_retired, print_stale, print_took,
-    print_unreadable, read_hex, read_line, read_number, read_text, run_lines, run_script,
-    split_line, split_word, write_out,
+    Command, End, Kind, LineBuffer, Load, Passes, Reading, ScriptEnd, Seen, Show, Shows, Source,
+    Told, ToolFault, decode, flush_out, part_kind, print_clock, print_decoded, print_expired,
+    print_finished, print_journal, print_memory, print_none, print_opened, print_outcome,
+    print_packet, print_put, print_refused, print_release, print_restarted, print_retired,
+    print_stale, print_took, print_unreadable, read_hex, read_line, read_number, read_packet,
+    read_part, read_tc, read_text, read_tm, run_lines, run_script, split_line, split_word,
+    write_out,
 };
 pub use lpt_share::{
     AckFlags, Area, Config, ConfigFault, Direction, Event, Lane, Memories, Mode, Name, Octets,
@@ -24,3 +27,4 @@ pub use lpt_share::{
     write_packet, write_tm,
 };
 pub use threads::run_threads_script;
+pub use threads_end::ThreadsEnd;

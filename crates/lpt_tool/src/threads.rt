@@ -12,8 +12,10 @@ ghost use Rattle.lpt_share.specs.WholeRuns.{IsRun};
 ghost use Rattle.lpt_tool.specs.Ends.{shown_text, GoesOn, IsOfThreads, ThreadsEnds};
 ghost use Rattle.lpt_tool.specs.Summary.{IsSummary};
 
+use crate::full::full_seats;
 use crate::summary::put_summary;
-use lpt_script::{ScriptEnd, Show, Shows, Sink, Source, ToolFault, flush_out, run_lines, run_show};
+use crate::threads_end::ThreadsEnd;
+use lpt_script::{Show, Shows, Sink, Source, ToolFault, flush_out, run_lines, run_show};
 use lpt_share::{
     Config, ConfigFault, Gate, Memories, Point, ShareFault, Turns, World, run_threads,
 };
@@ -35,7 +37,8 @@ impl Gate for Open {
 /// are read with them, so an unreadable one ends the run in its place, and no thread runs. Behind that
 /// text stand the large releases, by direction and identifier, how many plain requests were released
 /// and how many requests executed; then what the kept lines show, in order. Where the run ends well,
-/// `out` has passed on all that was written.
+/// `out` has passed on all that was written, and it is answered which seats have as many calls in the
+/// journal as `turns` gives each, or more: of those much may be left to do.
 ///
 /// Errors: those of `run_script`, and `Threads` with the number of the fault by which the threads
 /// ended, 61 to 63.
@@ -47,7 +50,7 @@ pub fn run_threads_script<R: Threads + Wait + Sync, S: Source, K: Sink>(
     turns: Turns,
     reader: &mut S,
     out: &mut K,
-) -> Result<ScriptEnd, ToolFault>
+) -> Result<ThreadsEnd, ToolFault>
     ensures ends { ThreadsEnds turns (new_world config memories) result (S.remaining reader.old) (S.remaining reader.new)
         (K.contents out.old) (K.contents out.new) (S.failed reader.new) (K.failed out.new) }
     ensures config { IsErrOf result ToolFault.Config ↔ IsSome (config_fault config) }
@@ -62,10 +65,10 @@ pub fn run_threads_script<R: Threads + Wait + Sync, S: Source, K: Sink>(
     };
     let mut shows = Shows::later(alloc);
     match run_lines(alloc, &mut world, &mut shows, reader, out) {
-        Ok(end) => match go_on(alloc, rt, world, turns, shows.into_kept(alloc), out) {
-            Ok(()) => Ok(end),
-            Err(fault) => Err(fault),
-        },
+        Ok(end) => {
+            let kept = shows.into_kept(alloc);
+            go_on(alloc, rt, world, turns, kept, end.refused, out)
+        }
         Err(fault) => {
             drop(world);
             drop(shows);
@@ -74,27 +77,32 @@ pub fn run_threads_script<R: Threads + Wait + Sync, S: Source, K: Sink>(
     }
 }
 
-// Runs the threads, prints what they left, and has it passed on.
-#[tactic(auto, using(crate::proofs::ThreadLemmas::shown_passed, crate::proofs::ThreadLemmas::flush_failed))]
+// Runs the threads, prints what they left, and has it passed on; so many of the lines were refused.
+#[tactic(auto, using(crate::proofs::ThreadLemmas::shown_passed))]
 fn go_on<R: Threads + Wait + Sync, K: Sink>(
     alloc: Global,
     rt: &R,
     world: World,
     turns: Turns,
     kept: Vec<Show>,
+    refused: u64,
     out: &mut K,
-) -> Result<(), ToolFault>
-    ensures ends { GoesOn turns (left_of world kept.items) result (K.contents out.old) (K.contents out.new) (K.failed out.new) }
+) -> Result<ThreadsEnd, ToolFault>
+    ensures ends { GoesOn turns (left_of world kept.items) refused result (K.contents out.old) (K.contents out.new) (K.failed out.new) }
     ensures passed { IsOk result → K.passed out.new ≡ K.contents out.new }
     ensures told { result ≢ Err ToolFault.Write → K.failed out.new ≡ K.failed out.old }
 {
     match run_ten(alloc, rt, world, turns) {
         Ok(world) => {
+            let full = full_seats(alloc, turns.per_seat, world.journal());
             let shown = show_left(alloc, &world, kept.as_slice(), out);
             drop(world);
             match shown {
                 Ok(()) => match flush_out(out) {
-                    Ok(()) => Ok(()),
+                    Ok(()) => match full {
+                        Ok(full) => Ok(ThreadsEnd { refused, full }),
+                        Err(_) => Err(ToolFault::Memory),
+                    },
                     Err(fault) => Err(fault),
                 },
                 Err(fault) => Err(fault),
