@@ -3,7 +3,7 @@ use Rattle.std.proofs.Common.{◌≡◌, ◌∙◌, ℕ, ◌+◌, ◌++◌, List
 use Rattle.lpt_events.specs.declared.entry.Entry.{Entry}
 use Rattle.lpt_chart.specs.declared.refusal.Refusal.{Refusal}
 use Rattle.lpt_chart.specs.Deliveries.{DrawsDeliveries, DrawsReleases, deliveries_from, delivery_in, is_release, shown_by}
-use Rattle.lpt_chart.specs.Events.{after, after_all, before, drawn, own_puts, refusal_at, refusal_rows}
+use Rattle.lpt_chart.specs.Events.{after, after_all, before, drawn, own_puts, refusal_rows}
 use Rattle.lpt_chart.specs.Pictures.{Picture, blank}
 use Rattle.lpt_chart.proofs.EventFlights.{drawn-flights}
 use Rattle.lpt_chart.proofs.FlightLemmas.{refused-flights, reported-flights}

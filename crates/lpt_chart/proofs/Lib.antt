@@ -1,5 +1,8 @@
+pub mod DrawnTags
 pub mod EscapeLemmas
 pub mod EventFlights
 pub mod FlightLemmas
 pub mod JournalFlights
 pub mod PictureLemmas
+pub mod ShapeTags
+pub mod TagLemmas

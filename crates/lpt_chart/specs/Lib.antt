@@ -12,6 +12,7 @@ pub mod Refusals
 pub mod Rows
 pub mod Sayings
 pub mod Shapes
+pub mod Tags
 pub mod Tasks
 pub mod Tellings
 pub mod Tracks

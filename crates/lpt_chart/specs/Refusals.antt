@@ -1,5 +1,5 @@
 -- Lines of a script that were refused: what is told of them.
-use Rattle.std.specs.Prelude.{ℕ, min, max, List, [], ◌∷◌, ◌++◌, length, slice_get, codes, decimal, fold, Option, Some, None}
+use Rattle.std.specs.Prelude.{ℕ, min, max, List, [], ◌∷◌, ◌++◌, length, slice_get, codes, decimal, fold, Option, None}
 use Rattle.lpt_events.specs.FaultNames.{code_of, name_of}
 use Rattle.lpt_chart.specs.declared.marks.Saying.{Saying}
 use Rattle.lpt_chart.specs.declared.marks.Saying.TheVariants as say

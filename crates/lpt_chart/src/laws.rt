@@ -3,9 +3,12 @@
 ghost use Rattle.std.specs.Prelude.{◌≡◌, ℕ, List, true};
 ghost use Rattle.std.specs.List.{list_all};
 ghost use Rattle.lpt_events.specs.declared.entry.Entry.{Entry};
+ghost use Rattle.lpt_chart.specs.declared.choice.Choice.{Choice};
 ghost use Rattle.lpt_chart.specs.declared.refusal.Refusal.{Refusal};
+ghost use Rattle.lpt_chart.specs.Charts.{chart_text};
 ghost use Rattle.lpt_chart.specs.Deliveries.{DrawsDeliveries, DrawsReleases};
 ghost use Rattle.lpt_chart.specs.Shapes.{escaped, is_plain};
+ghost use Rattle.lpt_chart.specs.Tags.{is_tagged};
 
 /// Each delivery of a journal is drawn exactly once, in order, and so is each release, whatever lines
 /// were refused.
@@ -17,4 +20,11 @@ pub fn each_delivery_is_drawn_once()
 /// What is written of a text neither opens nor closes an element, and is ASCII that is seen.
 pub fn escaped_texts_are_plain()
     ensures { (t : List ℕ) → list_all is_plain (escaped t) ≡ true }
+{}
+
+/// Each '<' of a picture opens or closes an element of a short list: `svg`, `title`, `g`, `text`, `path`
+/// and `rect`.
+pub fn each_element_is_known()
+    ensures { (c : Choice) (title : List ℕ) (journal : List Entry) (refused : List Refusal)
+        → is_tagged (chart_text c title journal refused) ≡ true }
 {}
