@@ -1,11 +1,12 @@
 """A model of the program: the rules of docs/SCRIPT.md and docs/FORMATS.md, stated a second time.
 
 It shares nothing with the program. `run` says what a script prints and the status it ends with,
-`decode` the same of octets, and `settings_of` what a configuration means. It knows no want of
-memory, no script of more than 16,777,216 octets, and no file that can't be read.
+`decode` the same of octets, `complaint` what standard error is told of them, and `settings_of` what a
+configuration means. It knows no want of memory, no script of more than 16,777,216 octets, and no file
+that can't be read.
 """
 
-from .decoding import decode
+from .decoding import complaint, decode
 from .memories import load_body
 from .packets import checksum, hexadecimal, write_command
 from .parts import part_count

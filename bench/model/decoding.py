@@ -2,6 +2,9 @@
 
 from .packets import Fault, hexadecimal, number_of, read_headers, read_packet
 from .parts import ABORT_SUBTYPE, read_part
+from .settings import RANGES
+
+SMALLEST_PART, LARGEST_PART = RANGES["part_size"]
 
 
 def carried(headers, part_size):
@@ -40,3 +43,20 @@ def decode(octets, part_size):
     first = f"{'tc' if packet.is_command else 'tm'} apid {packet.apid} count {packet.count} {kind}"
     lines = [first, f"body {hexadecimal(headers.body)}", *carried(headers, part_size)]
     return "".join(line + "\n" for line in lines), 0
+
+
+def complaint(octets, part_size):
+    """What is said of a part that isn't read for this part size, but would be for one of its own; or ''."""
+    try:
+        packet = read_packet(octets)
+        headers = packet and read_headers(packet)
+    except Fault:
+        return ""
+    if headers is None or read_part(headers, part_size) is not None:
+        return ""
+    length = max(len(headers.body) - 4, 0)
+    fitting = max(length, SMALLEST_PART)
+    if fitting > LARGEST_PART or read_part(headers, fitting) is None:
+        return ""
+    unfit = f"its {length} octets don't fit part_size = {part_size}, but part_size = {fitting}"
+    return f"lpt: the part isn't read: {unfit}"
