@@ -7,6 +7,7 @@ ghost use Rattle.lpt_reception.specs.Buffers.{padded, written, zeroed};
 use lpt_part::LONGEST_PACKET;
 use std::alloc::{AllocError, Global};
 use std::marker::Model;
+use std::mem;
 
 /// Octets in a buffer that holds at most 65,542, in what is allocated too.
 #[derive(Drop)]
@@ -67,7 +68,8 @@ impl Buffer {
     {
         let end = start + octets.len();
         make_room(&mut self.octets, end)?;
-        pad(&mut self.octets, end);
+        let empty = Vec::new(*self.octets.allocator());
+        self.octets = pad(mem::replace(&mut self.octets, empty), end);
         self.octets[start..end].copy_from_slice(octets);
         Ok(())
     }
@@ -105,13 +107,15 @@ fn make_room(buffer: &mut Vec<u8>, so_many: usize) -> Result<(), AllocError>
     buffer.reserve_exact(more - buffer.len())
 }
 
-// Puts zeros behind the octets where they are fewer than so many, for which there is room.
-fn pad(buffer: &mut Vec<u8>, so_many: usize)
-    requires { so_many ≤ vec_capacity buffer.old }
-    ensures octets { buffer.new.items ≡ padded buffer.old.items so_many }
-    ensures same_room { vec_capacity buffer.new ≡ vec_capacity buffer.old }
+// Puts zeros behind the octets where they are fewer than so many, for which there is room. It owns
+// the buffer, so that a compiler sees that no octet changes its length, and fills it at once.
+fn pad(mut buffer: Vec<u8>, so_many: usize) -> Vec<u8>
+    requires { so_many ≤ vec_capacity buffer }
+    ensures octets { result.items ≡ padded buffer.items so_many }
+    ensures same_room { vec_capacity result ≡ vec_capacity buffer }
 {
     while buffer.len() < so_many {
         buffer.push_reserved(0);
     }
+    buffer
 }
