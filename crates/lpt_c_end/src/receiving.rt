@@ -112,7 +112,7 @@ impl End {
         ensures err { OnErr result (IsSame self.old self.new) }
     {
         self.make_place()?;
-        let octets = Octets::from_vec(octets.to_vec(alloc)?);
+        let octets = Octets::from_vec(Vec::from_slice(alloc, octets)?);
         let parsed = Parsed::read(octets, self.side, self.config.apid, self.config.part_size);
         let Ok(accepted) = self.node.accept(parsed) else {
             return Err(AllocError);

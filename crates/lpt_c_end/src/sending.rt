@@ -113,7 +113,7 @@ impl End {
         if let Some(fault) = self.node.refusal(&Ask::Open(id, message.len())) {
             return u32::from(fault.code());
         }
-        let Ok(copy) = message.to_vec(alloc) else {
+        let Ok(copy) = Vec::from_slice(alloc, message) else {
             return MEMORY;
         };
         match self.node.open(id, Octets::from_vec(copy)) {

@@ -5,7 +5,7 @@ ghost use Rattle.std.specs.Option.{option_copied};
 ghost use Rattle.std.specs.String.{string_bytes};
 ghost use Rattle.lpt_print.specs.Printing.{accepted_text, opened_text, finished_text, lost_text, expired_text, claimed_text, committed_text, stale_text, applied_text, retired_text, restarted_text, clock_text, put_text, took_text, outcome_text, refused_text, unreadable_text, journal_text, plain_count_text, applied_count_text, packet_text, clear_text, memory_text, release_text, none_text};
 
-use crate::words::{direction_word, octets_word, side_word, text_of, why_word};
+use crate::words::{direction_word, octets_word, side_word, text_around, text_of, why_word};
 use lpt_events::{
     Answer, Applied, Direction, Event, Name, Outcome, Release, Reply, Side, StepFault,
 };
@@ -255,7 +255,7 @@ pub fn print_packet(alloc: Global, n: u64, packet: Option<&[u8]>) -> Result<Stri
     match packet {
         Some(octets) => {
             let octets = octets_word(alloc, octets)?;
-            text_of(alloc, format_args!("packet {n} {octets}\n"))
+            text_around(alloc, octets.len(), format_args!("packet {n} {octets}\n"))
         }
         None => text_of(alloc, format_args!("packet {n} none\n")),
     }
@@ -282,7 +282,11 @@ pub fn print_memory(
     match octets {
         Some(octets) => {
             let octets = octets_word(alloc, octets)?;
-            text_of(alloc, format_args!("memory {id} {address} {octets}\n"))
+            text_around(
+                alloc,
+                octets.len(),
+                format_args!("memory {id} {address} {octets}\n"),
+            )
         }
         None => text_of(alloc, format_args!("memory {id} {address} none\n")),
     }
@@ -296,9 +300,13 @@ pub fn print_release(alloc: Global, release: &Release) -> Result<String, AllocEr
     match release.of {
         Some((direction, id)) => {
             let direction = direction_word(direction);
-            text_of(alloc, format_args!("{direction} {id} {octets}\n"))
+            text_around(
+                alloc,
+                octets.len(),
+                format_args!("{direction} {id} {octets}\n"),
+            )
         }
-        None => text_of(alloc, format_args!("plain {octets}\n")),
+        None => text_around(alloc, octets.len(), format_args!("plain {octets}\n")),
     }
 }
 

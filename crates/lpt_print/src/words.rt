@@ -9,14 +9,26 @@ use lpt_events::{Direction, Side, Why};
 use std::alloc::{AllocError, Global};
 use std::fmt::Display;
 
-/// For how many octets a new text has room: most lines are shorter.
+/// For how many octets a new text has room, beside those of long digits: most lines are shorter.
 const ROOM: usize = 48;
 
 // What is written of a value, in a text that mostly takes memory once.
 pub(crate) fn text_of<D: Display + Drop>(alloc: Global, value: D) -> Result<String, AllocError>
     ensures { IfOk result (λ t. IfSome (D.output value) (λ o. string_bytes t ≡ o)) }
 {
-    let mut text = String::with_capacity(alloc, ROOM)?;
+    text_around(alloc, 0, value)
+}
+
+// What is written of a value that has so many octets of digits in it, in a text that mostly takes memory
+// once.
+pub(crate) fn text_around<D: Display + Drop>(
+    alloc: Global,
+    digits: usize,
+    value: D,
+) -> Result<String, AllocError>
+    ensures { IfOk result (λ t. IfSome (D.output value) (λ o. string_bytes t ≡ o)) }
+{
+    let mut text = String::with_capacity(alloc, digits.saturating_add(ROOM))?;
     text.write(value)?;
     Ok(text)
 }

@@ -110,7 +110,7 @@ impl System {
         requires { refusal_of self.now.config (state_of self.now) (Event.Deliver lane) ≡ None }
         ensures { IfOk result (λ x. IsReadOf self.now.config (octets_held self.now.link.at lane) lane x) }
     {
-        let octets = Octets::from_vec(self.held(lane).to_vec(self.alloc)?);
+        let octets = Octets::from_vec(Vec::from_slice(self.alloc, self.held(lane))?);
         Ok(Parsed::read(
             octets,
             lane.receiver(),

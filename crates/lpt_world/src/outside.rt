@@ -288,6 +288,6 @@ impl World {
         let Some(octets) = self.packet(n) else {
             unreachable!()
         };
-        Ok(Octets::from_vec(octets.to_vec(self.system.alloc)?))
+        Ok(Octets::from_vec(Vec::from_slice(self.system.alloc, octets)?))
     }
 }

@@ -1,5 +1,5 @@
 -- Digits are a text.
-use Rattle.std.proofs.Common.{◌≡◌, ◌<◌, true, nat_lt, refl, arith, length, drop, List, [], ◌∷◌, ℕ}
+use Rattle.std.proofs.Common.{◌≡◌, true, nat_lt, refl, arith, length, drop, List, [], ◌∷◌, ℕ}
 use Rattle.std.specs.List.{list_all}
 use Rattle.std.proofs.lemmas.Bool.{and_parts}
 use Rattle.std.proofs.lemmas.Bool.Decides.{nat_tests}

@@ -1,5 +1,5 @@
 -- An octet more is two digits more.
-use Rattle.std.proofs.Common.{refl, arith}
+use Rattle.std.proofs.Common.{arith}
 use Rattle.hex.specs.Hex.{lower_digits}
 use Rattle.hex.proofs.Pairs.{encode_step, encode_done}
 use Rattle.lpt_print.proofs.words.write_digits.Goals as goal
