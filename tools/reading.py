@@ -3,10 +3,10 @@
 reading.py [FILE..]    FILE is a path such as lpt_journal/specs/Headline, that and no other if none is given
 
 What a statement means is in its own file, in the files of specs/ that it imports, and in those that these
-import, and so on. A line for each crate: how many lines its files have, and each file with its own; last
-how many files and lines there are. Lines are all of a file's, and behind a / those that are neither
-imports nor empty. Types of the code that a definition names (Event, Config) stand in src/, and aren't
-counted.
+import, and so on. A line for each crate: how many lines its files have, and each file with its own; then
+how many files and lines there are, and last how many the repository has in all. Lines are all of a file's,
+and behind a / those that are neither imports nor empty. Types of the code that a definition names (Event,
+Config) stand in src/, and aren't counted.
 """
 
 import functools
@@ -71,6 +71,9 @@ def main(*files):
         own = [it for it in found if it.startswith(f"{crate}/")]
         print(f"{crate} {count(own)}:", *(f"{it.split('/')[-1]} {count([it])}" for it in own))
     print(f"{len(found)} files, {count(found)} lines")
+    for name in ["specs", "proofs"]:
+        files = [it.relative_to(TOP / "crates").with_suffix("") for it in TOP.glob(f"crates/*/{name}/**/*.antt")]
+        print(f"all {name}: {len(files)} files, {count(files)} lines")
 
 
 if __name__ == "__main__":
