@@ -2,7 +2,7 @@
 use Rattle.std.proofs.Common.{◌≡◌, ◌≢◌, ◌⊎◌, ◌∙◌, ap, sym, subst, refl, inl, inr, ℕ, ◌+◌, ◌≤◌, Bool, true, false, List, [], ◌∷◌, ◌++◌, length, take, drop, Option, Result, Err, append-nil, append_assoc, arith, take_all}
 use Rattle.std.specs.Io.KnownBytes.{Appends, Consumes, IsAtEnd}
 use Rattle.std.proofs.KnownBytes.{Appends-nil, Appends-trans, Consumes-nil, Consumes-trans}
-use Rattle.std.proofs.lemmas.List.{length-take-le}
+use Rattle.std.proofs.lemmas.List.{length-take, length-take-le, length-drop}
 use Rattle.lpt_stream.specs.declared.buffer.PacketBuffer.{PacketBuffer}
 use Rattle.lpt_stream.specs.declared.found.Found.{Found}
 use Rattle.lpt_stream.specs.declared.piece_kind.PieceKind.TheVariants.{Whole as APacket}
@@ -10,13 +10,13 @@ use Rattle.lpt_stream.specs.Buffers.{held, is_in_step, is_ended, found_piece, Fi
 use Rattle.lpt_stream.specs.LptText.declared.fault.ToolFault.{ToolFault}
 use Rattle.lpt_stream.specs.LptText.declared.fault.ToolFault.TheVariants as tool
 use Rattle.lpt_stream.specs.LptText.Streams.{AppendsPart}
-use Rattle.lpt_stream.specs.Pieces.{Piece, keeps_step}
+use Rattle.lpt_stream.specs.Pieces.{Piece, Leads, keeps_step, kind_in, lookahead, piece_at, size_in}
 use Rattle.lpt_stream.proofs.CutLemmas.{IsRead, read-none, read-more, read-next, read-end, read-leads, read-front}
 use Rattle.lpt_stream.proofs.LptText.StreamLemmas.{part_after}
 use Rattle.lpt_list.specs.declared.list_end.ListEnd.{ListEnd}
 use Rattle.lpt_list.specs.declared.list_end.ListEnd.TheVariants.{Whole as AtEnd, Stopped}
 use Rattle.lpt_list.specs.declared.form.Form.{Form}
-use Rattle.lpt_list.specs.Lists.{line_for, listing, place_behind, ListLeaves, ListsTo}
+use Rattle.lpt_list.specs.Lists.{line_for, listing, place_behind, ArePackets, IsTooLong, ListLeaves, ListsTo}
 
 -- whether the place behind pieces is in step
 pub step_behind : Bool → List Piece → Bool
@@ -44,18 +44,43 @@ step-next : (s : Bool) (xs : List Piece) (x : Piece) → step_behind s (xs ++ x 
 step-next s [] x = refl
 step-next s (y ∷ ys) x = step-next (keeps_step y.kind) ys x
 
+packets-next : (xs : List Piece) (x : Piece) → ArePackets xs → x.kind ≡ APacket → ArePackets (xs ++ x ∷ [])
+packets-next [] x h is = (is, tt)
+packets-next (y ∷ ys) x h is = (h.0, packets-next ys x h.1 is)
+
+within : (s : Bool) (b : List ℕ) (p : Piece) → p ≡ piece_at s b → length p.octets ≤ length b
+unfolding piece_at
+within s b p is =
+    let near = take lookahead b in
+    subst (λ q. length q.octets ≤ length b) (sym is)
+    (omega (arith, length-take (size_in (kind_in s near) near) b))
+
+-- the place behind pieces is within the stream
+place_within : (s : Bool) (b : List ℕ) (ps : List Piece) (t : Bool) (c : List ℕ) (n : ℕ)
+    → Leads s b ps t c
+    → place_behind n ps ≤ n + length b
+place_within s b [] t c n h = omega arith
+place_within s b (p ∷ ps) t c n h =
+    let size = within s b p h.1 in
+    let left = length-drop (length p.octets) b in
+    let rest = place_within (keeps_step p.kind) (drop (length p.octets) b) ps t c (n + length p.octets) h.2 in
+    omega (arith, size, left, rest)
+
 -- the list of the pieces so far was written; behind them the stream is at this place
-pub record IsListed (form : Form) (p : ℕ) (old now : Option (List ℕ)) (place : ℕ) (s : Bool)
-    (pieces : List Piece) : Type 0 where
+pub record IsListed (form : Form) (p : ℕ) (strict : Bool) (old now : Option (List ℕ)) (place : ℕ)
+    (s : Bool) (pieces : List Piece) : Type 0 where
   pub written : Appends old now (listing form p 0 true pieces)
   pub place_is : place ≡ place_behind 0 pieces
   pub step_is : s ≡ step_behind true pieces
+  pub only : strict ≡ true → ArePackets pieces
 
-pub listed-none : (form : Form) (p : ℕ) (a : Option (List ℕ)) → IsListed form p a a 0 true []
-listed-none form p a = record { written = Appends-nil a; place_is = refl; step_is = refl }
+pub listed-none : (form : Form) (p : ℕ) (strict : Bool) (a : Option (List ℕ))
+    → IsListed form p strict a a 0 true []
+listed-none form p strict a =
+    record { written = Appends-nil a; place_is = refl; step_is = refl; only = λ is. tt }
 
-module _ (form : Form) (p : ℕ) (old mid new : Option (List ℕ)) (place : ℕ) (s : Bool) (pieces : List Piece)
-    (x : Piece) (h : IsListed form p old mid place s pieces) where
+module _ (form : Form) (p : ℕ) (strict : Bool) (old mid new : Option (List ℕ)) (place : ℕ) (s : Bool)
+    (pieces : List Piece) (x : Piece) (h : IsListed form p strict old mid place s pieces) where
   -- what is listed of the next piece
   pub next_line : listing form p 0 true (pieces ++ x ∷ [])
       ≡ listing form p 0 true pieces ++ line_for form p place s x.kind x.octets
@@ -67,12 +92,14 @@ module _ (form : Form) (p : ℕ) (old mid new : Option (List ℕ)) (place : ℕ)
       → Appends mid new (line_for form p place s x.kind x.octets)
       → after ≡ place + length x.octets
       → t ≡ keeps_step x.kind
-      → IsListed form p old new after t (pieces ++ x ∷ [])
-  listed-next after t more place_after step = record {
+      → (strict ≡ true → x.kind ≡ APacket)
+      → IsListed form p strict old new after t (pieces ++ x ∷ [])
+  listed-next after t more place_after step still = record {
     written = subst (Appends old new) (sym next_line)
         (Appends-trans old mid new (listing form p 0 true pieces) _ h.written more);
     place_is = place_after ∙ ap (λ q. q + length x.octets) h.place_is ∙ sym (place-next 0 pieces x);
     step_is = step ∙ sym (step-next true pieces x);
+    only = λ is. packets-next pieces x (h.only is) (still is);
   }
 
 -- the octets of a piece that was found are as many
@@ -82,47 +109,47 @@ found_size b f h = length-take-le f.len (held b) h.within
 -- ---- a stream further
 
 -- what was read and listed so far
-pub record IsAt (form : Form) (p : ℕ) (before now old new : Option (List ℕ)) (b : PacketBuffer)
-    (place : ℕ) (s : Bool) : Type 0 where
+pub record IsAt (form : Form) (p : ℕ) (strict : Bool) (before now old new : Option (List ℕ))
+    (b : PacketBuffer) (place : ℕ) (s : Bool) : Type 0 where
   pub stream : List ℕ
   pub consumed : Consumes before now stream
   pub count : ℕ
-  pub read : IsRead (IsListed form p old new place s) b stream count
+  pub read : IsRead (IsListed form p strict old new place s) b stream count
   pub ended : is_ended b ≡ true → IsAtEnd now
 
 never : (e : Bool) → e ≡ false → e ≡ true → ⊥
 never e h k = cc
 
-module _ (form : Form) (p : ℕ) (before old : Option (List ℕ)) where
+module _ (form : Form) (p : ℕ) (strict : Bool) (before old : Option (List ℕ)) where
   -- nothing
   pub at-none : (b : PacketBuffer)
       → held b ≡ []
       → is_in_step b ≡ true
       → is_ended b ≡ false
-      → IsAt form p before before old old b 0 true
+      → IsAt form p strict before before old old b 0 true
   at-none b none step more_comes = record {
     stream = [];
     consumed = Consumes-nil before;
     count = 0;
-    read = read-none (IsListed form p old old 0 true) b (listed-none form p old) none step;
+    read = read-none (IsListed form p strict old old 0 true) b (listed-none form p strict old) none step;
     ended = λ e. absurd (never (is_ended b) more_comes e);
   }
 
   -- with more read behind
   pub at-more : (now after new : Option (List ℕ)) (b c : PacketBuffer) (place : ℕ) (s : Bool) (read : List ℕ)
-      → IsAt form p before now old new b place s
+      → IsAt form p strict before now old new b place s
       → Goes b c now after read
-      → IsAt form p before after old new c place s
+      → IsAt form p strict before after old new c place s
   at-more now after new b c place s read h goes = record {
     stream = h.stream ++ read;
     consumed = Consumes-trans before now after h.stream read h.consumed goes.added.consumed;
     count = h.count;
-    read = read-more (IsListed form p old new place s) b c now after h.stream read h.count h.read goes;
+    read = read-more (IsListed form p strict old new place s) b c now after h.stream read h.count h.read goes;
     ended = goes.at_end h.ended;
   }
 
   module _ (now new new2 : Option (List ℕ)) (b : PacketBuffer) (place : ℕ) (s : Bool) (f : Found)
-      (h : IsAt form p before now old new b place s) (front : IsInFront b f) where
+      (h : IsAt form p strict before now old new b place s) (front : IsInFront b f) where
     -- with the piece in front listed
     pub at-next : (c : PacketBuffer) (place2 : ℕ) (s2 : Bool)
         → held c ≡ drop f.len (held b)
@@ -131,36 +158,39 @@ module _ (form : Form) (p : ℕ) (before old : Option (List ℕ)) where
         → Appends new new2 (line_for form p place s f.kind (take f.len (held b)))
         → place2 ≡ place + f.len
         → s2 ≡ keeps_step f.kind
-        → IsAt form p before now old new2 c place2 s2
-    at-next c place2 s2 over step end written behind in_step = record {
+        → (strict ≡ true → f.kind ≡ APacket)
+        → IsAt form p strict before now old new2 c place2 s2
+    at-next c place2 s2 over step end written behind in_step still = record {
       stream = h.stream;
       consumed = h.consumed;
       count = h.count + 1;
-      read = read-next (IsListed form p old new place s) (IsListed form p old new2 place2 s2) b c f
+      read = read-next (IsListed form p strict old new place s) (IsListed form p strict old new2 place2 s2) b c f
           h.stream h.count h.read front over step end
-          (listed-next form p old new new2 place s h.read.pieces (found_piece b f) h.read.gives
-          place2 s2 written (behind ∙ ap (λ n. place + n) (sym (found_size b f front))) in_step);
+          (listed-next form p strict old new new2 place s h.read.pieces (found_piece b f) h.read.gives
+          place2 s2 written (behind ∙ ap (λ n. place + n) (sym (found_size b f front))) in_step still);
       ended = λ e. h.ended (sym end ∙ e);
     }
 
     -- where that is the last line
     pub at-stop : Appends new new2 (line_for form p place s f.kind (take f.len (held b)))
-        → f.kind ≢ APacket
-        → ListsTo form p (Stopped place) before now old new2
-    at-stop written other = (
-      h.stream,
-      h.read.pieces,
-      found_piece b f,
-      keeps_step f.kind,
-      drop (length (take f.len (held b))) (held b),
-      h.consumed,
-      read-front (IsListed form p old new place s) b f h.stream h.count h.read front,
-      other,
-      h.read.gives.place_is,
-      subst (Appends old new2)
-          (sym (next_line form p old new new2 place s h.read.pieces (found_piece b f) h.read.gives))
-          (Appends-trans old new new2 (listing form p 0 true h.read.pieces) _ h.read.gives.written written),
-    )
+        → (strict ≡ true) × (f.kind ≢ APacket)
+        → ListsTo form p strict (Stopped place) before now old new2
+    at-stop written other = record {
+      asked = other.0;
+      stream = h.stream;
+      pieces = h.read.pieces;
+      last = found_piece b f;
+      step = keeps_step f.kind;
+      rest = drop (length (take f.len (held b))) (held b);
+      consumed = h.consumed;
+      cut = read-front (IsListed form p strict old new place s) b f h.stream h.count h.read front;
+      only = h.read.gives.only other.0;
+      none = other.1;
+      at = h.read.gives.place_is;
+      written = subst (Appends old new2)
+          (sym (next_line form p strict old new new2 place s h.read.pieces (found_piece b f) h.read.gives))
+          (Appends-trans old new new2 (listing form p 0 true h.read.pieces) _ h.read.gives.written written);
+    }
 
     -- where it isn't written whole
     pub at-part : AppendsPart new new2 (line_for form p place s f.kind (take f.len (held b)))
@@ -172,30 +202,41 @@ module _ (form : Form) (p : ℕ) (before old : Option (List ℕ)) where
       keeps_step f.kind,
       drop (length (take f.len (held b))) (held b),
       subst (Consumes before now) (sym (append-nil h.stream)) h.consumed,
-      read-front (IsListed form p old new place s) b f h.stream h.count h.read front,
+      read-front (IsListed form p strict old new place s) b f h.stream h.count h.read front,
       subst (AppendsPart old new2)
-          (sym (next_line form p old new new2 place s h.read.pieces (found_piece b f) h.read.gives))
+          (sym (next_line form p strict old new new2 place s h.read.pieces (found_piece b f) h.read.gives))
           (part_after old new new2 (listing form p 0 true h.read.pieces) _ h.read.gives.written part),
     )
 
   -- at the end
   pub at-end : (now new : Option (List ℕ)) (b : PacketBuffer) (place : ℕ) (s : Bool)
-      → IsAt form p before now old new b place s
+      → IsAt form p strict before now old new b place s
       → held b ≡ []
       → is_ended b ≡ true
-      → ListsTo form p AtEnd before now old new
-  at-end now new b place s h none end = (
-    h.stream,
-    h.read.pieces,
-    h.consumed,
-    h.ended end,
-    read-end (IsListed form p old new place s) b h.stream h.count h.read none,
-    h.read.gives.written,
-  )
+      → ListsTo form p strict AtEnd before now old new
+  at-end now new b place s h none end = record {
+    stream = h.stream;
+    pieces = h.read.pieces;
+    consumed = h.consumed;
+    at_end = h.ended end;
+    cut = read-end (IsListed form p strict old new place s) b h.stream h.count h.read none;
+    only = h.read.gives.only;
+    written = h.read.gives.written;
+  }
+
+  -- where so much came
+  pub at-most : (now new : Option (List ℕ)) (b : PacketBuffer) (place : ℕ) (s : Bool)
+      → IsAt form p strict before now old new b place s
+      → 18446744073709420531 ≤ place
+      → IsTooLong before now
+  at-most now new b place s h most =
+      let leads = read-leads (IsListed form p strict old new place s) b h.stream h.count h.read in
+      let far = place_within true h.stream h.read.pieces (is_in_step b) (held b) 0 leads in
+      (h.stream, h.consumed, omega (arith, most, h.read.gives.place_is, far))
 
   -- where what came then is lost
   pub at-lost : (now after new : Option (List ℕ)) (b : PacketBuffer) (place : ℕ) (s : Bool) (lost : List ℕ)
-      → IsAt form p before now old new b place s
+      → IsAt form p strict before now old new b place s
       → Consumes now after lost
       → ListLeaves form p before after old new
   at-lost now after new b place s lost h consumed = (
@@ -205,7 +246,7 @@ module _ (form : Form) (p : ℕ) (before old : Option (List ℕ)) where
     is_in_step b,
     held b,
     Consumes-trans before now after h.stream lost h.consumed consumed,
-    read-leads (IsListed form p old new place s) b h.stream h.count h.read,
+    read-leads (IsListed form p strict old new place s) b h.stream h.count h.read,
     (
       length (listing form p 0 true h.read.pieces),
       subst (Appends old new) (sym (take_all _ (listing form p 0 true h.read.pieces) (omega arith)))

@@ -75,7 +75,7 @@ tm_items t =
     Alone (codes "packet_type") (codes "tm")
     ∷ Number (codes "apid") (codes "application_process_id") t.apid
     ∷ Number (codes "count") (codes "packet_sequence_count") t.count
-    ∷ Number (codes "status") (codes "time_reference_status") t.status
+    ∷ Number (codes "status") (codes "spacecraft_time_reference_status") t.status
     ∷ Number (codes "service") (codes "service_type") t.service
     ∷ Number (codes "subtype") (codes "message_subtype") t.subtype
     ∷ Number (codes "counter") (codes "message_type_counter") t.counter

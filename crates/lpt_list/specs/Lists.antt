@@ -1,5 +1,5 @@
 -- The list of a stream.
-use Rattle.std.specs.Prelude.{◌≡◌, ◌≢◌, ℕ, ◌+◌, Bool, true, false, if◌then◌else◌, List, [], ◌∷◌, ◌++◌, length, codes, Option}
+use Rattle.std.specs.Prelude.{◌≡◌, ◌≢◌, ℕ, ◌+◌, ◌≤◌, Bool, true, false, if◌then◌else◌, List, [], ◌∷◌, ◌++◌, length, codes, Option}
 use Rattle.std.specs.Fmt.{decimal}
 use Rattle.std.specs.Io.KnownBytes.{Appends, Consumes, IsAtEnd}
 use Rattle.lpt_stream.specs.declared.piece_kind.PieceKind.{PieceKind}
@@ -59,17 +59,48 @@ place_behind place (x ∷ xs) = place_behind (place + length x.octets) xs
 
 -- ---- a stream
 
--- the stream was read to its end, and its list written; or it was read up to a piece that is no
--- packet, and the list up to that written
-abbrev pub ListsTo : Form → (p : ℕ) → ListEnd → (before after old new : Option (List ℕ)) → Type 0
-ListsTo form p Whole before after old new =
-    (stream : List ℕ) × (pieces : List Piece) × Consumes before after stream × IsAtEnd after
-    × Cuts stream pieces × Appends old new (listing form p 0 true pieces)
-ListsTo form p (Stopped place) before after old new =
-    (stream : List ℕ) × (pieces : List Piece) × (x : Piece) × (t : Bool) × (rest : List ℕ)
-    × Consumes before after stream × Leads true stream (pieces ++ x ∷ []) t rest
-    × (x.kind ≢ APacket) × (place ≡ place_behind 0 pieces)
-    × Appends old new (listing form p 0 true (pieces ++ x ∷ []))
+-- each of the pieces is a packet, or an idle one
+abbrev pub ArePackets : List Piece → Type 0
+ArePackets [] = Unit {0}
+ArePackets (x ∷ xs) = (x.kind ≡ APacket) × ArePackets xs
+
+-- the stream was read to its end, and its list written; where it is a strict one, all of it is packets
+pub record ListsAll (form : Form) (p : ℕ) (strict : Bool) (before after old new : Option (List ℕ))
+    : Type 0 where
+  pub stream : List ℕ
+  pub pieces : List Piece
+  pub consumed : Consumes before after stream
+  pub at_end : IsAtEnd after
+  pub cut : Cuts stream pieces
+  pub only : strict ≡ true → ArePackets pieces
+  pub written : Appends old new (listing form p 0 true pieces)
+
+-- the stream was read up to its first piece that is no packet, and the list up to that written
+pub record ListsFront (form : Form) (p : ℕ) (strict : Bool) (place : ℕ)
+    (before after old new : Option (List ℕ)) : Type 0 where
+  pub asked : strict ≡ true
+  pub stream : List ℕ
+  pub pieces : List Piece
+  pub last : Piece
+  pub step : Bool
+  pub rest : List ℕ
+  pub consumed : Consumes before after stream
+  pub cut : Leads true stream (pieces ++ last ∷ []) step rest
+  pub only : ArePackets pieces
+  pub none : last.kind ≢ APacket
+  pub at : place ≡ place_behind 0 pieces
+  pub written : Appends old new (listing form p 0 true (pieces ++ last ∷ []))
+
+-- what a list that ended so has read and written
+abbrev pub ListsTo :
+    Form → (p : ℕ) → (strict : Bool) → ListEnd → (before after old new : Option (List ℕ)) → Type 0
+ListsTo form p s Whole before after old new = ListsAll form p s before after old new
+ListsTo form p s (Stopped place) before after old new = ListsFront form p s place before after old new
+
+-- more octets came than are listed
+abbrev pub IsTooLong : (before after : Option (List ℕ)) → Type 0
+IsTooLong before after =
+    (stream : List ℕ) × Consumes before after stream × (18446744073709420531 ≤ length stream)
 
 -- the stream was read up to a fault, and a front part of the list of what was read before is written
 abbrev pub ListLeaves : Form → (p : ℕ) → (before after old new : Option (List ℕ)) → Type 0

@@ -140,7 +140,7 @@ fn tm_head(alloc: Global, form: Form, head: &TmHead) -> Result<String, AllocErro
         Form::Json => {
             let mut text = format!(in alloc;
                 ",\"packet_type\":\"tm\",\"application_process_id\":{apid},\
-                \"packet_sequence_count\":{count},\"time_reference_status\":{status}"
+                \"packet_sequence_count\":{count},\"spacecraft_time_reference_status\":{status}"
             )?;
             let more = format!(in alloc;
                 ",\"service_type\":{service},\"message_subtype\":{subtype},\

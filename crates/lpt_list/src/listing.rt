@@ -1,11 +1,11 @@
 //! The list of a stream, written as the stream comes.
 
-ghost use Rattle.std.specs.Prelude.{◌≡◌, ◌≢◌, ◌⊎◌, Err, IfErr, IfOk, IsErrOf, OnOk, true};
+ghost use Rattle.std.specs.Prelude.{◌≡◌, ◌≢◌, ◌⊎◌, Err, IfErr, IfOk, OnOk, false, true};
 ghost use Rattle.std.specs.Io.KnownBytes.{Appends};
 ghost use Rattle.lpt_events.specs.LptPart.Splitting.{IsPartSize};
 ghost use Rattle.lpt_stream.specs.LptText.Streams.{AppendsPart};
 ghost use Rattle.lpt_stream.specs.Pieces.{keeps_step};
-ghost use Rattle.lpt_list.specs.Lists.{line_for, ListLeaves, ListsTo};
+ghost use Rattle.lpt_list.specs.Lists.{line_for, IsTooLong, ListLeaves, ListsTo};
 
 use crate::{Form, ListEnd, print_none, print_piece};
 use lpt_stream::{PacketBuffer, PieceKind, Sink, Source, ToolFault, write_out};
@@ -29,18 +29,18 @@ pub fn list_stream<S: Source, K: Sink>(
     out: &mut K,
 ) -> Result<ListEnd, ToolFault>
     requires { IsPartSize p }
-    ensures ends { IfOk result (λ end. ListsTo form p end
+    ensures ends { IfOk result (λ end. ListsTo form p strict end
         (S.remaining source.old) (S.remaining source.new)
         (K.contents out.old) (K.contents out.new)) }
 
     // Each fault is that of a read, of a write or of memory.
-    ensures fault { IfErr result (λ e.
-        (e ≡ ToolFault.Read) ⊎ ((e ≡ ToolFault.Write) ⊎ (e ≡ ToolFault.Memory))) }
+    ensures fault { IfErr result (λ e. ((e ≡ ToolFault.Read) × ((S.failed source.new ≡ true)
+        ⊎ IsTooLong (S.remaining source.old) (S.remaining source.new)))
+        ⊎ (((e ≡ ToolFault.Write) × (K.failed out.new ≡ true)) ⊎ (e ≡ ToolFault.Memory))) }
     ensures leaves { IfErr result (λ _. ListLeaves form p
         (S.remaining source.old) (S.remaining source.new)
         (K.contents out.old) (K.contents out.new)) }
     ensures heard { result ≢ Err ToolFault.Read → S.failed source.new ≡ S.failed source.old }
-    ensures cause { IsErrOf result ToolFault.Write → K.failed out.new ≡ true }
     ensures told { result ≢ Err ToolFault.Write → K.failed out.new ≡ K.failed out.old }
 {
     let mut buffer = PacketBuffer::new(alloc);
@@ -57,7 +57,7 @@ pub fn list_stream<S: Source, K: Sink>(
             Ok(()) => {}
             Err(fault) => return Err(fault),
         }
-        if strict && found.kind != PieceKind::Whole {
+        if is_last(strict, found.kind) {
             return Ok(ListEnd::Stopped(place));
         }
         place += found.len as u64;
@@ -65,6 +65,14 @@ pub fn list_stream<S: Source, K: Sink>(
         buffer.skip(found);
     }
     Err(ToolFault::Read)
+}
+
+// Whether a list ends with such a piece.
+fn is_last(strict: bool, kind: PieceKind) -> bool
+    ensures ends { result ≡ true → (strict ≡ true) × (kind ≢ PieceKind.Whole) }
+    ensures on { result ≡ false → strict ≡ true → kind ≡ PieceKind.Whole }
+{
+    strict && kind != PieceKind::Whole
 }
 
 // Whether what comes behind such a piece is in step.

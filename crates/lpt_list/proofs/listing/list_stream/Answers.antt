@@ -1,5 +1,5 @@
 -- Piece after piece, until none is left.
-use Rattle.std.proofs.Common.{◌≡◌, ◌∙◌, ◌++◌, [], ℕ, List, Option, Ok, take, subst, refl}
+use Rattle.std.proofs.Common.{◌≡◌, ◌∙◌, ◌++◌, [], inl, inr, ℕ, List, Option, Ok, take, subst, refl}
 use Rattle.std.proofs.KnownBytes.{Consumes-nil}
 use Rattle.lpt_stream.specs.LptText.Streams.{AppendsPart}
 use Rattle.std.specs.Io.KnownBytes.{Appends}
@@ -7,12 +7,12 @@ use Rattle.lpt_stream.specs.declared.found.Found.{Found}
 use Rattle.lpt_stream.specs.Buffers.{held, FindsPiece}
 use Rattle.lpt_stream.proofs.BufferLemmas.{find-fault}
 use Rattle.lpt_list.specs.Lists.{line_for}
-use Rattle.lpt_list.proofs.ListLemmas.{at-none, at-more, at-next, at-stop, at-part, at-end, at-lost, found_lost, heard_by, told_by}
+use Rattle.lpt_list.proofs.ListLemmas.{at-none, at-more, at-next, at-stop, at-part, at-end, at-lost, at-most, found_lost, heard_by, told_by}
 use Rattle.lpt_list.proofs.listing.list_stream.Goals as goal
 
 pub loop-place-init : goal.loop-place-init
 loop-place-init g c = record {
-  at = at-none c.args.form c.args.p (g.S.Source.remaining c.args.source.now) (g.K.Sink.contents c.args.out.now)
+  at = at-none c.args.form c.args.p c.args.strict (g.S.Source.remaining c.args.source.now) (g.K.Sink.contents c.args.out.now)
       c.new.result c.new.ensures.held c.new.ensures.step c.new.ensures.end;
   heard = refl;
   told = refl;
@@ -27,9 +27,9 @@ returns-in-Ok-None-clause-ends g c =
     let found = subst (λ (f : Option Found). FindsPiece (Ok f) c.loop-place.buffer c.find_piece.new.self b d
     (g.S.Source.failed c.loop-place.source) (g.S.Source.failed c.find_piece.new.source))
     c.in-Ok-None.field-0-is c.in-Ok-None.ensures in
-    at-end c.args.form c.args.p (g.S.Source.remaining c.args.source.now) (g.K.Sink.contents c.args.out.now)
+    at-end c.args.form c.args.p c.args.strict (g.S.Source.remaining c.args.source.now) (g.K.Sink.contents c.args.out.now)
     d k c.find_piece.new.self c.loop-place.place c.loop-place.in_step
-    (at-more c.args.form c.args.p (g.S.Source.remaining c.args.source.now) (g.K.Sink.contents c.args.out.now)
+    (at-more c.args.form c.args.p c.args.strict (g.S.Source.remaining c.args.source.now) (g.K.Sink.contents c.args.out.now)
     b d k c.loop-place.buffer c.find_piece.new.self c.loop-place.place c.loop-place.in_step found.0
     c.loop-place.invariant.at found.1) found.2 found.3
 
@@ -48,7 +48,7 @@ returns-in-Ok-None-clause-told g c = λ other. c.loop-place.invariant.told
 pub returns-in-Err-clause-leaves : goal.returns-in-Err-clause-leaves
 returns-in-Err-clause-leaves g c =
     let lost = found_lost c.in-Err.fault _ _ _ _ _ _ c.in-Err.ensures in
-    at-lost c.args.form c.args.p (g.S.Source.remaining c.args.source.now) (g.K.Sink.contents c.args.out.now)
+    at-lost c.args.form c.args.p c.args.strict (g.S.Source.remaining c.args.source.now) (g.K.Sink.contents c.args.out.now)
     (g.S.Source.remaining c.loop-place.source) (g.S.Source.remaining c.find_piece.new.source)
     (g.K.Sink.contents c.loop-place.out) c.loop-place.buffer c.loop-place.place c.loop-place.in_step
     lost.0 c.loop-place.invariant.at lost.1
@@ -74,8 +74,8 @@ returns-in-Err-list_piece-clause-leaves g c =
     let found = subst (λ (f : Option Found). FindsPiece (Ok f) c.loop-place.buffer c.find_piece.new.self b d
     (g.S.Source.failed c.loop-place.source) (g.S.Source.failed c.find_piece.new.source))
     c.in-Ok-Some.field-0-is c.in-Ok-Some.ensures in
-    at-part c.args.form c.args.p a j d k m c.find_piece.new.self c.loop-place.place c.loop-place.in_step f
-    (at-more c.args.form c.args.p a j b d k c.loop-place.buffer c.find_piece.new.self c.loop-place.place
+    at-part c.args.form c.args.p c.args.strict a j d k m c.find_piece.new.self c.loop-place.place c.loop-place.in_step f
+    (at-more c.args.form c.args.p c.args.strict a j b d k c.loop-place.buffer c.find_piece.new.self c.loop-place.place
     c.loop-place.in_step found.0 c.loop-place.invariant.at found.1) found.2
     (subst (λ o. AppendsPart k m (line_for c.args.form c.args.p c.loop-place.place c.loop-place.in_step f.kind (take f.len o)))
     c.held.ensures c.in-Err-list_piece.ensures.part)
@@ -94,8 +94,8 @@ returns-in-Err-list_piece-clause-told g c = λ other.
     c.in-Err-list_piece.ensures.fault other ∙ c.loop-place.invariant.told
 
 -- the last line is that of what is no packet
-pub returns-then-ne-clause-ends : goal.returns-then-ne-clause-ends
-returns-then-ne-clause-ends g c =
+pub returns-then-is_last-clause-ends : goal.returns-then-is_last-clause-ends
+returns-then-is_last-clause-ends g c =
     let a = g.S.Source.remaining c.args.source.now in
     let b = g.S.Source.remaining c.loop-place.source in
     let d = g.S.Source.remaining c.find_piece.new.source in
@@ -106,22 +106,22 @@ returns-then-ne-clause-ends g c =
     let found = subst (λ (f : Option Found). FindsPiece (Ok f) c.loop-place.buffer c.find_piece.new.self b d
     (g.S.Source.failed c.loop-place.source) (g.S.Source.failed c.find_piece.new.source))
     c.in-Ok-Some.field-0-is c.in-Ok-Some.ensures in
-    at-stop c.args.form c.args.p a j d k m c.find_piece.new.self c.loop-place.place c.loop-place.in_step f
-    (at-more c.args.form c.args.p a j b d k c.loop-place.buffer c.find_piece.new.self c.loop-place.place
+    at-stop c.args.form c.args.p c.args.strict a j d k m c.find_piece.new.self c.loop-place.place c.loop-place.in_step f
+    (at-more c.args.form c.args.p c.args.strict a j b d k c.loop-place.buffer c.find_piece.new.self c.loop-place.place
     c.loop-place.in_step found.0 c.loop-place.invariant.at found.1) found.2
     (subst (λ o. Appends k m (line_for c.args.form c.args.p c.loop-place.place c.loop-place.in_step f.kind (take f.len o)))
-    c.held.ensures c.in-Ok.ensures.ok) ?
+    c.held.ensures c.in-Ok.ensures.ok) (c.is_last.ensures.ends c.if-is_last.true)
 
-pub returns-then-ne-clause-heard : goal.returns-then-ne-clause-heard
-returns-then-ne-clause-heard g c =
+pub returns-then-is_last-clause-heard : goal.returns-then-is_last-clause-heard
+returns-then-is_last-clause-heard g c =
     let found = subst (λ (f : Option Found). FindsPiece (Ok f) c.loop-place.buffer c.find_piece.new.self
     (g.S.Source.remaining c.loop-place.source) (g.S.Source.remaining c.find_piece.new.source)
     (g.S.Source.failed c.loop-place.source) (g.S.Source.failed c.find_piece.new.source))
     c.in-Ok-Some.field-0-is c.in-Ok-Some.ensures in
     λ other. found.3 ∙ c.loop-place.invariant.heard
 
-pub returns-then-ne-clause-told : goal.returns-then-ne-clause-told
-returns-then-ne-clause-told g c = λ other. c.in-Ok.ensures.told ∙ c.loop-place.invariant.told
+pub returns-then-is_last-clause-told : goal.returns-then-is_last-clause-told
+returns-then-is_last-clause-told g c = λ other. c.in-Ok.ensures.told ∙ c.loop-place.invariant.told
 
 -- a line was written
 pub loop-place-preserved : goal.loop-place-preserved
@@ -137,12 +137,13 @@ loop-place-preserved g c =
     (g.S.Source.failed c.loop-place.source) (g.S.Source.failed c.find_piece.new.source))
     c.in-Ok-Some.field-0-is c.in-Ok-Some.ensures in
     record {
-      at = at-next c.args.form c.args.p a j d k m c.find_piece.new.self c.loop-place.place c.loop-place.in_step f
-          (at-more c.args.form c.args.p a j b d k c.loop-place.buffer c.find_piece.new.self c.loop-place.place
+      at = at-next c.args.form c.args.p c.args.strict a j d k m c.find_piece.new.self c.loop-place.place c.loop-place.in_step f
+          (at-more c.args.form c.args.p c.args.strict a j b d k c.loop-place.buffer c.find_piece.new.self c.loop-place.place
           c.loop-place.in_step found.0 c.loop-place.invariant.at found.1) found.2
           c.skip.new.self _ c.goes_on.result c.skip.ensures.held c.skip.ensures.step c.skip.ensures.end
           (subst (λ o. Appends k m (line_for c.args.form c.args.p c.loop-place.place c.loop-place.in_step f.kind (take f.len o)))
-          c.held.ensures c.in-Ok.ensures.ok) refl c.goes_on.ensures;
+          c.held.ensures c.in-Ok.ensures.ok) refl c.goes_on.ensures
+          (c.is_last.ensures.on c.if-is_last.false);
       heard = found.3 ∙ c.loop-place.invariant.heard;
       told = c.in-Ok.ensures.told ∙ c.loop-place.invariant.told;
     }
@@ -150,10 +151,23 @@ loop-place-preserved g c =
 -- more octets than can be counted
 pub returns-clause-leaves : goal.returns-clause-leaves
 returns-clause-leaves g c =
-    at-lost c.args.form c.args.p (g.S.Source.remaining c.args.source.now) (g.K.Sink.contents c.args.out.now)
+    at-lost c.args.form c.args.p c.args.strict (g.S.Source.remaining c.args.source.now) (g.K.Sink.contents c.args.out.now)
     (g.S.Source.remaining c.loop-place.source) (g.S.Source.remaining c.loop-place.source)
     (g.K.Sink.contents c.loop-place.out) c.loop-place.buffer c.loop-place.place c.loop-place.in_step
     [] c.loop-place.invariant.at (Consumes-nil (g.S.Source.remaining c.loop-place.source))
 
 pub returns-clause-told : goal.returns-clause-told
 returns-clause-told g c = λ other. c.loop-place.invariant.told
+
+pub returns-clause-fault : goal.returns-clause-fault
+returns-clause-fault g c = inl (refl, inr (at-most c.args.form c.args.p c.args.strict
+    (g.S.Source.remaining c.args.source.now) (g.K.Sink.contents c.args.out.now)
+    (g.S.Source.remaining c.loop-place.source) (g.K.Sink.contents c.loop-place.out) c.loop-place.buffer
+    c.loop-place.place c.loop-place.in_step c.loop-place.invariant.at c.loop-place-test.false))
+
+pub returns-in-Err-clause-fault : goal.returns-in-Err-clause-fault
+returns-in-Err-clause-fault g c =
+    elim (find-fault c.in-Err.fault _ _ _ _ _ _ c.in-Err.ensures) [
+      | inl h ↦ inl (h.0, inl h.1)
+      | inr h ↦ inr (inr h.0)
+    ]
