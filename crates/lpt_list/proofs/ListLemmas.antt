@@ -19,7 +19,7 @@ use Rattle.lpt_list.specs.declared.form.Form.{Form}
 use Rattle.lpt_list.specs.Lists.{line_for, listing, place_behind, ArePackets, IsTooLong, ListLeaves, ListsTo}
 
 -- whether the place behind pieces is in step
-pub step_behind : Bool → List Piece → Bool
+abbrev pub step_behind : Bool → List Piece → Bool
 step_behind s [] = s
 step_behind s (x ∷ xs) = step_behind (keeps_step x.kind) xs
 

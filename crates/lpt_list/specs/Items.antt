@@ -1,6 +1,5 @@
 -- What a line of a list says of octets.
 use Rattle.std.specs.Prelude.{ℕ, ◌==◌, ◌&&◌, if◌then◌else◌, List, [], ◌∷◌, ◌++◌, length, codes, Option, Some, None, Result, Ok, Err}
-use Rattle.std.specs.List.{flat_map}
 use Rattle.std.specs.Option.{option_map_or}
 use Rattle.std.specs.Fmt.{decimal}
 use Rattle.hex.specs.Hex.{encode_lower}
@@ -54,33 +53,52 @@ item_text Json (Alone name value) = named name ++ quoted value
 
 -- items one behind the other
 abbrev pub items_text : Form → List Item → List ℕ
-items_text form items = flat_map (item_text form) items
+items_text form [] = []
+items_text form (i ∷ []) = item_text form i
+items_text form (i ∷ j ∷ rest) = item_text form i ++ items_text form (j ∷ rest)
 
 -- ---- what packets say
 
--- the headers of a telecommand
-abbrev pub tc_items : Command → List Item
-tc_items c =
+-- the first items of a telecommand's headers, and the others
+abbrev pub tc_front : Command → List Item
+tc_front c =
     Alone (codes "packet_type") (codes "tc")
     ∷ Number (codes "apid") (codes "application_process_id") c.apid
     ∷ Number (codes "count") (codes "packet_sequence_count") c.count
-    ∷ Number (codes "flags") (codes "acknowledgement_flags") c.flags
-    ∷ Number (codes "service") (codes "service_type") c.service
+    ∷ Number (codes "flags") (codes "acknowledgement_flags") c.flags ∷ []
+
+abbrev pub tc_rest : Command → List Item
+tc_rest c =
+    Number (codes "service") (codes "service_type") c.service
     ∷ Number (codes "subtype") (codes "message_subtype") c.subtype
     ∷ Number (codes "source") (codes "source_id") c.source ∷ []
 
--- the headers of a telemetry packet
-abbrev pub tm_items : Telemetry → List Item
-tm_items t =
+-- the headers of a telecommand
+abbrev pub tc_items : Command → List Item
+tc_items c = tc_front c ++ tc_rest c
+
+-- the first items of a telemetry packet's headers, and the others
+abbrev pub tm_front : Telemetry → List Item
+tm_front t =
     Alone (codes "packet_type") (codes "tm")
     ∷ Number (codes "apid") (codes "application_process_id") t.apid
     ∷ Number (codes "count") (codes "packet_sequence_count") t.count
-    ∷ Number (codes "status") (codes "spacecraft_time_reference_status") t.status
-    ∷ Number (codes "service") (codes "service_type") t.service
+    ∷ Number (codes "status") (codes "spacecraft_time_reference_status") t.status ∷ []
+
+abbrev pub tm_middle : Telemetry → List Item
+tm_middle t =
+    Number (codes "service") (codes "service_type") t.service
     ∷ Number (codes "subtype") (codes "message_subtype") t.subtype
-    ∷ Number (codes "counter") (codes "message_type_counter") t.counter
-    ∷ Number (codes "destination") (codes "destination_id") t.destination
+    ∷ Number (codes "counter") (codes "message_type_counter") t.counter ∷ []
+
+abbrev pub tm_rest : Telemetry → List Item
+tm_rest t =
+    Number (codes "destination") (codes "destination_id") t.destination
     ∷ Number (codes "time") (codes "time") t.time ∷ []
+
+-- the headers of a telemetry packet
+abbrev pub tm_items : Telemetry → List Item
+tm_items t = (tm_front t ++ tm_middle t) ++ tm_rest t
 
 -- which of its message's parts a part is
 abbrev pub kind_text : Kind → List ℕ
@@ -102,6 +120,10 @@ abort_items a =
     Number (codes "abort id") (codes "large_message_transaction_identifier") a.0
     ∷ Number (codes "reason") (codes "failure_reason") (reason_code a.1) ∷ []
 
+-- a request, by the digits of its identifier
+abbrev pub request_items : List ℕ → List Item
+request_items digits = Word (codes "report request") (codes "request_id") digits ∷ []
+
 -- a failure code, where there is one
 abbrev pub code_items : Option ℕ → List Item
 code_items None = []
@@ -110,8 +132,7 @@ code_items (Some code) = Number (codes "code") (codes "failure_code") code ∷ [
 -- a verification report
 abbrev pub report_items : Report → List Item
 report_items r =
-    Word (codes "report request") (codes "request_id") (encode_lower (be r.request.value 4))
-    ∷ code_items r.code
+    request_items (encode_lower (be r.request.value 4)) ++ code_items r.code
 
 -- the first test that octets fail
 abbrev pub fault_items : ℕ → List ℕ → List Item

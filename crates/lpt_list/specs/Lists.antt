@@ -1,5 +1,5 @@
 -- The list of a stream.
-use Rattle.std.specs.Prelude.{◌≡◌, ◌≢◌, ℕ, ◌+◌, ◌≤◌, Bool, true, false, if◌then◌else◌, List, [], ◌∷◌, ◌++◌, length, codes, Option}
+use Rattle.std.specs.Prelude.{◌≡◌, ◌≢◌, ℕ, ◌+◌, ◌≤◌, Bool, true, if◌then◌else◌, List, [], ◌∷◌, ◌++◌, length, codes, Option}
 use Rattle.std.specs.Fmt.{decimal}
 use Rattle.std.specs.Io.KnownBytes.{Appends, Consumes, IsAtEnd}
 use Rattle.lpt_stream.specs.declared.piece_kind.PieceKind.{PieceKind}
@@ -26,12 +26,16 @@ closing Json = 125 ∷ 10 ∷ []
 
 -- a line of these items
 abbrev pub line_of : Form → (place : ℕ) → List Item → List ℕ
-line_of form place items = opening form place ++ items_text form items ++ closing form
+line_of form place items = opening form place ++ (items_text form items ++ closing form)
+
+-- how many octets there are
+abbrev pub length_items : ℕ → List Item
+length_items n = Number (codes "length") (codes "length") n ∷ []
 
 -- the line of a packet, or of octets as long as their header says
 abbrev pub piece_line : Form → (p place : ℕ) → List ℕ → List ℕ
 piece_line form p place b =
-    line_of form place (Number (codes "length") (codes "length") (length b) ∷ said p b)
+    line_of form place (length_items (length b) ++ said p b)
 
 -- the line that no packet is at a place
 abbrev pub none_line : Form → (place : ℕ) → List ℕ

@@ -1,7 +1,7 @@
 //! The two forms of a list.
 
 /// In which form a list is written.
-#[derive(Clone, Copy, Debug, PartialEq, Eq)]
+#[derive(Clone, Copy)]
 pub enum Form {
     /// Words, as `lpt decode` has them.
     Text,

@@ -12,7 +12,6 @@ mod list_end;
 mod listing;
 
 pub use form::Form;
-pub use lines::{print_none, print_piece};
 pub use list_end::ListEnd;
 pub use listing::list_stream;
 pub use lpt_stream::{Sink, Source, ToolFault};

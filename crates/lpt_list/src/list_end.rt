@@ -1,7 +1,7 @@
 //! How a list ends.
 
 /// How the list of a stream ends.
-#[derive(Clone, Copy, Debug, PartialEq, Eq)]
+#[derive(Clone, Copy)]
 pub enum ListEnd {
     /// At the stream's end.
     Whole,

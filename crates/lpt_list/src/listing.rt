@@ -2,14 +2,16 @@
 
 ghost use Rattle.std.specs.Prelude.{◌≡◌, ◌≢◌, ◌⊎◌, Err, IfErr, IfOk, OnOk, false, true};
 ghost use Rattle.std.specs.Io.KnownBytes.{Appends};
+ghost use Rattle.std.specs.String.{string_bytes};
 ghost use Rattle.lpt_events.specs.LptPart.Splitting.{IsPartSize};
 ghost use Rattle.lpt_stream.specs.LptText.Streams.{AppendsPart};
 ghost use Rattle.lpt_stream.specs.Pieces.{keeps_step};
 ghost use Rattle.lpt_list.specs.Lists.{line_for, IsTooLong, ListLeaves, ListsTo};
 
-use crate::{Form, ListEnd, print_none, print_piece};
+use crate::lines::{print_none, print_piece};
+use crate::{Form, ListEnd};
 use lpt_stream::{PacketBuffer, PieceKind, Sink, Source, ToolFault, write_out};
-use std::alloc::Global;
+use std::alloc::{AllocError, Global};
 
 /// So far a stream is listed: its first 2^64 - 131,085 octets.
 const LAST_PLACE: u64 = u64::MAX - 131_084;
@@ -105,17 +107,33 @@ fn list_piece<K: Sink>(
         (line_for form p place in_step kind octets.now)) }
     ensures told { OnOk result (K.failed out.new ≡ K.failed out.old) }
 {
-    let line = match kind {
-        PieceKind::Stray => {
-            if !in_step {
-                return Ok(());
-            }
-            print_none(alloc, form, place)
-        }
-        PieceKind::Whole | PieceKind::Damaged => print_piece(alloc, form, p, place, octets),
-    };
-    match line {
+    match print_line(alloc, form, p, place, in_step, kind, octets) {
         Ok(line) => write_out(out, line.as_bytes()),
         Err(_) => Err(ToolFault::Memory),
+    }
+}
+
+// What is listed of a piece. The only error is want of memory.
+fn print_line(
+    alloc: Global,
+    form: Form,
+    p: u32,
+    place: u64,
+    in_step: bool,
+    kind: PieceKind,
+    octets: &[u8],
+) -> Result<String, AllocError>
+    requires { IsPartSize p }
+    ensures { IfOk result (λ t. string_bytes t ≡ line_for form p place in_step kind octets.now) }
+{
+    match kind {
+        PieceKind::Whole | PieceKind::Damaged => print_piece(alloc, form, p, place, octets),
+        PieceKind::Stray => {
+            if in_step {
+                print_none(alloc, form, place)
+            } else {
+                Ok(String::new(alloc))
+            }
+        }
     }
 }

@@ -1,10 +1,10 @@
 -- Piece after piece, until none is left.
-use Rattle.std.proofs.Common.{◌≡◌, ◌∙◌, ◌++◌, [], inl, inr, ℕ, List, Option, Ok, take, subst, refl}
+use Rattle.std.proofs.Common.{◌∙◌, [], inl, inr, Option, Ok, take, subst, refl}
 use Rattle.std.proofs.KnownBytes.{Consumes-nil}
 use Rattle.lpt_stream.specs.LptText.Streams.{AppendsPart}
 use Rattle.std.specs.Io.KnownBytes.{Appends}
 use Rattle.lpt_stream.specs.declared.found.Found.{Found}
-use Rattle.lpt_stream.specs.Buffers.{held, FindsPiece}
+use Rattle.lpt_stream.specs.Buffers.{FindsPiece}
 use Rattle.lpt_stream.proofs.BufferLemmas.{find-fault}
 use Rattle.lpt_list.specs.Lists.{line_for}
 use Rattle.lpt_list.proofs.ListLemmas.{at-none, at-more, at-next, at-stop, at-part, at-end, at-lost, at-most, found_lost, heard_by, told_by}
@@ -13,7 +13,7 @@ use Rattle.lpt_list.proofs.listing.list_stream.Goals as goal
 pub loop-place-init : goal.loop-place-init
 loop-place-init g c = record {
   at = at-none c.args.form c.args.p c.args.strict (g.S.Source.remaining c.args.source.now) (g.K.Sink.contents c.args.out.now)
-      c.new.result c.new.ensures.held c.new.ensures.step c.new.ensures.end;
+      c.new-buffer.result c.new-buffer.ensures.held c.new-buffer.ensures.step c.new-buffer.ensures.end;
   heard = refl;
   told = refl;
 }
@@ -140,9 +140,9 @@ loop-place-preserved g c =
       at = at-next c.args.form c.args.p c.args.strict a j d k m c.find_piece.new.self c.loop-place.place c.loop-place.in_step f
           (at-more c.args.form c.args.p c.args.strict a j b d k c.loop-place.buffer c.find_piece.new.self c.loop-place.place
           c.loop-place.in_step found.0 c.loop-place.invariant.at found.1) found.2
-          c.skip.new.self _ c.goes_on.result c.skip.ensures.held c.skip.ensures.step c.skip.ensures.end
+          c.skip.new.self _ c.goes_on-in_step.result c.skip.ensures.held c.skip.ensures.step c.skip.ensures.end
           (subst (λ o. Appends k m (line_for c.args.form c.args.p c.loop-place.place c.loop-place.in_step f.kind (take f.len o)))
-          c.held.ensures c.in-Ok.ensures.ok) refl c.goes_on.ensures
+          c.held.ensures c.in-Ok.ensures.ok) refl c.goes_on-in_step.ensures
           (c.is_last.ensures.on c.if-is_last.false);
       heard = found.3 ∙ c.loop-place.invariant.heard;
       told = c.in-Ok.ensures.told ∙ c.loop-place.invariant.told;
@@ -160,10 +160,13 @@ pub returns-clause-told : goal.returns-clause-told
 returns-clause-told g c = λ other. c.loop-place.invariant.told
 
 pub returns-clause-fault : goal.returns-clause-fault
-returns-clause-fault g c = inl (refl, inr (at-most c.args.form c.args.p c.args.strict
-    (g.S.Source.remaining c.args.source.now) (g.K.Sink.contents c.args.out.now)
-    (g.S.Source.remaining c.loop-place.source) (g.K.Sink.contents c.loop-place.out) c.loop-place.buffer
-    c.loop-place.place c.loop-place.in_step c.loop-place.invariant.at c.loop-place-test.false))
+returns-clause-fault g c = inl (
+  refl,
+  inr (at-most c.args.form c.args.p c.args.strict
+      (g.S.Source.remaining c.args.source.now) (g.K.Sink.contents c.args.out.now)
+      (g.S.Source.remaining c.loop-place.source) (g.K.Sink.contents c.loop-place.out) c.loop-place.buffer
+      c.loop-place.place c.loop-place.in_step c.loop-place.invariant.at c.loop-place-test.false),
+)
 
 pub returns-in-Err-clause-fault : goal.returns-in-Err-clause-fault
 returns-in-Err-clause-fault g c =
