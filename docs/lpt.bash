@@ -5,7 +5,7 @@ _lpt() {
     local command='' request='' offered='' i
     for ((i = 1; i < COMP_CWORD; i++)); do
         case $command:${COMP_WORDS[i]} in
-        :run | :threads | :lint | :chart | :decode | :split | :join | :request | :help)
+        :run | :threads | :lint | :chart | :decode | :list | :split | :join | :request | :help)
             command=${COMP_WORDS[i]}
             ;;
         request:load | request:dump | request:check | request:help)
@@ -18,6 +18,7 @@ _lpt() {
     case $command:$request in
     lint:*) options='--help --version' ;;
     chart:*) options+=' --from --to --refused' ;;
+    list:*) options+=' --json --strict' ;;
     split:*) options+=' --parts --count --whole' ;;
     join:*) options+=' --id' ;;
     request:load) options+=' --area --ack --count' ;;
@@ -32,8 +33,8 @@ _lpt() {
     *:*:--from:* | *:*:--to:* | *:*:--parts:* | *:*:--id:* | *:*:--ack:* | *:*:--count:* | *:*:--area:*)
         return
         ;;
-    :*) offered='run threads lint chart decode split join request help --help --version' ;;
-    help::help:*) offered='run threads lint chart decode split join request help' ;;
+    :*) offered='run threads lint chart decode list split join request help --help --version' ;;
+    help::help:*) offered='run threads lint chart decode list split join request help' ;;
     help::request:* | request:help:help:*) offered='load dump check' ;;
     help:* | request:help:*) return ;;
     request::*) offered='load dump check help --help --version' ;;

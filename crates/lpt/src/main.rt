@@ -1,5 +1,5 @@
 //! `lpt`: runs scripts of large packet transfer, draws what they did, splits messages into packets
-//! and joins them, writes requests to a memory, and says what octets are as a packet.
+//! and joins them, writes requests to a memory, and says what octets and streams are as packets.
 //!
 //! It reads its words, its files and its input, and prints; what is done with them stands in the
 //! crates below.
@@ -13,6 +13,7 @@ mod files;
 mod input;
 mod joins;
 mod linting;
+mod lists;
 mod requests;
 mod streams;
 mod watched;
@@ -75,6 +76,7 @@ fn done<T: Threads + Wait + Sync>(
         Command::Lint(script) => linting::lint(rt, script),
         Command::Chart(words) => charting::chart(rt, config, memories, words),
         Command::Decode(hex) => decoding::decode(rt, config, hex),
+        Command::List(words) => lists::list(rt, &config, words),
         Command::Split(words) => files::split(rt, &config, words),
         Command::Join(words) => joins::join(rt, &config, words),
         Command::Request(words) => requests::request(rt, &config, words),

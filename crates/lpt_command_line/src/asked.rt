@@ -1,7 +1,7 @@
 //! What the words of the command line ask for.
 
 use crate::building::program;
-use crate::file_words::{JoinWords, SplitWords, join_words, split_words};
+use crate::file_words::{JoinWords, ListWords, SplitWords, join_words, list_words, split_words};
 use crate::request_words::{RequestWords, request_words};
 use crate::word_fault::WordFault;
 use clap::{ArgMatches, Error};
@@ -29,6 +29,8 @@ pub enum Command<'a> {
     Chart(ChartWords<'a>),
     /// `decode HEX`: octets as hexadecimal digits.
     Decode(&'a str),
+    /// `list [FILE]`.
+    List(ListWords<'a>),
     /// `split up|down ID [FILE]`.
     Split(SplitWords<'a>),
     /// `join up|down [FILE]`.
@@ -105,6 +107,7 @@ fn command_of<'a>(name: &str, words: &ArgMatches<'a>) -> Option<Command<'a>> {
         "threads" => words.get_str("SCRIPT").map(Command::Threads),
         "lint" => words.get_str("SCRIPT").map(Command::Lint),
         "chart" => chart_words(words).map(Command::Chart),
+        "list" => list_words(words).map(Command::List),
         "split" => split_words(words).map(Command::Split),
         "join" => join_words(words).map(Command::Join),
         _ => words.get_str("HEX").map(Command::Decode),

@@ -70,7 +70,7 @@ const ACK: Named = Named {
 };
 
 /// The commands without others below them.
-pub(crate) static COMMANDS: [Row; 7] = [
+pub(crate) static COMMANDS: [Row; 8] = [
     Row {
         name: "run",
         about: "Run a script on a new world",
@@ -131,6 +131,35 @@ pub(crate) static COMMANDS: [Row; 7] = [
             help: "Octets as hexadecimal digits, or - for none",
         }],
         named: &[CONFIG],
+    },
+    Row {
+        name: "list",
+        about: "Say what each packet of a stream is",
+        words: &[Word {
+            name: "FILE",
+            value: TEXT,
+            need: Need::Else(&["-"]),
+            help: "The packets' path, or - for standard input",
+        }],
+        named: &[
+            Named {
+                name: "json",
+                value: ValueParser::Bool,
+                behind: &[],
+                action: ArgAction::SetTrue,
+                other: &[],
+                help: "Print each line as an object of JSON",
+            },
+            Named {
+                name: "strict",
+                value: ValueParser::Bool,
+                behind: &[],
+                action: ArgAction::SetTrue,
+                other: &[],
+                help: "End at the first place where no packet is",
+            },
+            CONFIG,
+        ],
     },
     Row {
         name: "split",

@@ -1,4 +1,4 @@
-//! The words of the commands that split messages in files and join them.
+//! The words of the commands that list packets in files, split messages into them and join them.
 
 ghost use Rattle.std.specs.Prelude.{◌≤◌, IfSome};
 
@@ -34,6 +34,17 @@ pub struct JoinWords<'a> {
     pub file: &'a str,
 }
 
+/// What `list` asks for.
+#[derive(Clone, Copy)]
+pub struct ListWords<'a> {
+    /// The path of the packets, or `-` for standard input.
+    pub file: &'a str,
+    /// Whether each line is an object of JSON.
+    pub json: bool,
+    /// Whether the list ends at the first place where no packet is.
+    pub strict: bool,
+}
+
 /// What the words of `split` ask for.
 pub fn split_words<'a>(matches: &ArgMatches<'a>) -> Option<SplitWords<'a>> {
     Some(SplitWords {
@@ -52,6 +63,15 @@ pub fn join_words<'a>(matches: &ArgMatches<'a>) -> Option<JoinWords<'a>> {
         direction: direction_in(matches)?,
         id: matches.get_one("id"),
         file: matches.get_str("FILE")?,
+    })
+}
+
+/// What the words of `list` ask for.
+pub fn list_words<'a>(matches: &ArgMatches<'a>) -> Option<ListWords<'a>> {
+    Some(ListWords {
+        file: matches.get_str("FILE")?,
+        json: matches.get_flag("json"),
+        strict: matches.get_flag("strict"),
     })
 }
 

@@ -17,7 +17,7 @@ mod row;
 mod word_fault;
 
 pub use asked::{Asked, ChartWords, Command, Unasked, read_words};
-pub use file_words::{JoinWords, SplitWords};
+pub use file_words::{JoinWords, ListWords, SplitWords};
 pub use lpt_pus::{AckFlags, Direction};
 pub use request_words::{RequestWords, What};
 pub use word_fault::WordFault;

@@ -1,0 +1,25 @@
+-- The text of items.
+use Rattle.std.proofs.Common.{◌≡◌, ◌∙◌, ap, sym, refl, ℕ, List, [], ◌∷◌, ◌++◌, append-nil, append_assoc}
+use Rattle.lpt_list.specs.declared.form.Form.{Form}
+use Rattle.lpt_list.specs.Items.{Item, item_text, items_text}
+use Rattle.lpt_list.specs.Lists.{closing, line_of, opening}
+
+-- items behind others are written behind them
+pub items_append : (form : Form) (xs ys : List Item)
+    → items_text form (xs ++ ys) ≡ items_text form xs ++ items_text form ys
+items_append form [] ys = refl
+items_append form (x ∷ []) [] = sym (append-nil (item_text form x))
+items_append form (x ∷ []) (y ∷ ys) = refl
+items_append form (x ∷ z ∷ xs) ys =
+    ap (λ l. item_text form x ++ l) (items_append form (z ∷ xs) ys)
+    ∙ sym (append_assoc (item_text form x) (items_text form (z ∷ xs)) (items_text form ys))
+
+-- a line is its opening, its items in two lists, and its end
+pub line_parts : (form : Form) (place : ℕ) (xs ys : List Item)
+    → ((opening form place ++ items_text form xs) ++ items_text form ys) ++ closing form
+    ≡ line_of form place (xs ++ ys)
+line_parts form place xs ys =
+    ap (λ l. l ++ closing form)
+    (append_assoc (opening form place) (items_text form xs) (items_text form ys)
+    ∙ ap (λ l. opening form place ++ l) (sym (items_append form xs ys)))
+    ∙ append_assoc (opening form place) (items_text form (xs ++ ys)) (closing form)

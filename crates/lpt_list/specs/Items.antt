@@ -1,0 +1,196 @@
+-- What a line of a list says of octets.
+use Rattle.std.specs.Prelude.{ℕ, ◌==◌, ◌&&◌, if◌then◌else◌, List, [], ◌∷◌, ◌++◌, length, codes, Option, Some, None, Result, Ok, Err}
+use Rattle.std.specs.Option.{option_map_or}
+use Rattle.std.specs.Fmt.{decimal}
+use Rattle.hex.specs.Hex.{encode_lower}
+use Rattle.lpt_events.specs.LptPacket.declared.direction.Direction.TheVariants.{Up, Down}
+use Rattle.lpt_events.specs.LptPacket.declared.fault.PacketFault.{PacketFault}
+use Rattle.lpt_events.specs.LptPacket.declared.packet.PacketKind.{PacketKind}
+use Rattle.lpt_events.specs.LptPacket.declared.packet.PacketKind.TheVariants.{Tm, Tc}
+use Rattle.lpt_events.specs.LptPacket.FaultNames as of_packet
+use Rattle.lpt_events.specs.LptPacket.Names.{Name}
+use Rattle.lpt_events.specs.LptPacket.Numbers.{be}
+use Rattle.lpt_events.specs.LptPacket.Packets.{Fields, Sight, IdlePacket, APacket, verdict}
+use Rattle.lpt_events.specs.LptPus.declared.fault.PusFault.{PusFault}
+use Rattle.lpt_events.specs.LptPus.FaultNames as of_header
+use Rattle.lpt_events.specs.LptPus.Commands.{Command, tc_verdict}
+use Rattle.lpt_events.specs.LptPus.Telemetry.{Telemetry, tm_verdict}
+use Rattle.lpt_verify.specs.declared.report.Report.{Report}
+use Rattle.lpt_verify.specs.Reading.{report_in}
+use Rattle.lpt_events.specs.LptPart.declared.kind.Kind.{Kind}
+use Rattle.lpt_events.specs.LptPart.declared.kind.Kind.TheVariants.{First, Middle, Last}
+use Rattle.lpt_events.specs.LptPart.declared.reason.Reason.{Reason}
+use Rattle.lpt_events.specs.LptPart.Aborts.{abort_in, reason_code}
+use Rattle.lpt_events.specs.LptPart.Parts.{Piece, part_in}
+use Rattle.lpt_events.specs.Arrivals.{carried_kind}
+use Rattle.lpt_list.specs.declared.form.Form.{Form}
+use Rattle.lpt_list.specs.declared.form.Form.TheVariants.{Text, Json}
+
+-- ---- an item
+
+-- A number or a word, with the word that is in front of it and its name in JSON; or a word alone.
+pub data Item : Type 0 where
+  Number : (word name : List ℕ) (n : ℕ) → Item
+  Word : (word name value : List ℕ) → Item
+  Alone : (name value : List ℕ) → Item
+
+-- a name in JSON, behind a comma
+abbrev pub named : List ℕ → List ℕ
+named name = 44 ∷ 34 ∷ (name ++ (34 ∷ 58 ∷ []))
+
+-- a word in quotation marks
+abbrev pub quoted : List ℕ → List ℕ
+quoted value = 34 ∷ (value ++ (34 ∷ []))
+
+-- an item behind others
+abbrev pub item_text : Form → Item → List ℕ
+item_text Text (Number word name n) = 32 ∷ (word ++ (32 ∷ decimal n))
+item_text Text (Word word name value) = 32 ∷ (word ++ (32 ∷ value))
+item_text Text (Alone name value) = 32 ∷ value
+item_text Json (Number word name n) = named name ++ decimal n
+item_text Json (Word word name value) = named name ++ quoted value
+item_text Json (Alone name value) = named name ++ quoted value
+
+-- items one behind the other
+abbrev pub items_text : Form → List Item → List ℕ
+items_text form [] = []
+items_text form (i ∷ []) = item_text form i
+items_text form (i ∷ j ∷ rest) = item_text form i ++ items_text form (j ∷ rest)
+
+-- ---- what packets say
+
+-- the first items of a telecommand's headers, and the others
+abbrev pub tc_front : Command → List Item
+tc_front c =
+    Alone (codes "packet_type") (codes "tc")
+    ∷ Number (codes "apid") (codes "application_process_id") c.apid
+    ∷ Number (codes "count") (codes "packet_sequence_count") c.count
+    ∷ Number (codes "flags") (codes "acknowledgement_flags") c.flags ∷ []
+
+abbrev pub tc_rest : Command → List Item
+tc_rest c =
+    Number (codes "service") (codes "service_type") c.service
+    ∷ Number (codes "subtype") (codes "message_subtype") c.subtype
+    ∷ Number (codes "source") (codes "source_id") c.source ∷ []
+
+-- the headers of a telecommand
+abbrev pub tc_items : Command → List Item
+tc_items c = tc_front c ++ tc_rest c
+
+-- the first items of a telemetry packet's headers, and the others
+abbrev pub tm_front : Telemetry → List Item
+tm_front t =
+    Alone (codes "packet_type") (codes "tm")
+    ∷ Number (codes "apid") (codes "application_process_id") t.apid
+    ∷ Number (codes "count") (codes "packet_sequence_count") t.count
+    ∷ Number (codes "status") (codes "spacecraft_time_reference_status") t.status ∷ []
+
+abbrev pub tm_middle : Telemetry → List Item
+tm_middle t =
+    Number (codes "service") (codes "service_type") t.service
+    ∷ Number (codes "subtype") (codes "message_subtype") t.subtype
+    ∷ Number (codes "counter") (codes "message_type_counter") t.counter ∷ []
+
+abbrev pub tm_rest : Telemetry → List Item
+tm_rest t =
+    Number (codes "destination") (codes "destination_id") t.destination
+    ∷ Number (codes "time") (codes "time") t.time ∷ []
+
+-- the headers of a telemetry packet
+abbrev pub tm_items : Telemetry → List Item
+tm_items t = (tm_front t ++ tm_middle t) ++ tm_rest t
+
+-- which of its message's parts a part is
+abbrev pub kind_text : Kind → List ℕ
+kind_text First = codes "first"
+kind_text Middle = codes "middle"
+kind_text Last = codes "last"
+
+-- a part of a large message
+abbrev pub part_items : Piece → List Item
+part_items q =
+    Word (codes "part") (codes "part") (kind_text q.kind)
+    ∷ Number (codes "id") (codes "large_message_transaction_identifier") q.id
+    ∷ Number (codes "number") (codes "part_sequence_number") q.number
+    ∷ Number (codes "octets") (codes "part_octets") (length q.octets) ∷ []
+
+-- the report that the reception of a large message was broken off
+abbrev pub abort_items : Name × Reason → List Item
+abort_items a =
+    Number (codes "abort id") (codes "large_message_transaction_identifier") a.0
+    ∷ Number (codes "reason") (codes "failure_reason") (reason_code a.1) ∷ []
+
+-- a request, by the digits of its identifier
+abbrev pub request_items : List ℕ → List Item
+request_items digits = Word (codes "report request") (codes "request_id") digits ∷ []
+
+-- a failure code, where there is one
+abbrev pub code_items : Option ℕ → List Item
+code_items None = []
+code_items (Some code) = Number (codes "code") (codes "failure_code") code ∷ []
+
+-- a verification report
+abbrev pub report_items : Report → List Item
+report_items r =
+    request_items (encode_lower (be r.request.value 4)) ++ code_items r.code
+
+-- the first test that octets fail
+abbrev pub fault_items : ℕ → List ℕ → List Item
+fault_items code name = Number (codes "fault") (codes "fault_code") code ∷ Alone (codes "fault") name ∷ []
+
+-- ---- what they carry
+
+-- a body that should be a part of this kind; nothing where it isn't read
+abbrev pub part_said : ℕ → List ℕ → Kind → List Item
+part_said p body kind = option_map_or part_items (part_in p kind body) []
+
+-- a body that should be an abortion report's
+abbrev pub abort_said : List ℕ → List Item
+abort_said body = option_map_or abort_items (abort_in body) []
+
+-- a body that should be a verification report's
+abbrev pub report_said : ℕ → List ℕ → List Item
+report_said subtype body = option_map_or report_items (report_in subtype body) []
+
+-- what a telecommand carries, where that is a part
+abbrev pub tc_carried : ℕ → Command → List Item
+tc_carried p c = option_map_or (part_said p c.body) (carried_kind Up c.service c.subtype) []
+
+-- what telemetry carries that is no part, where that is a report
+abbrev pub tm_reported : Telemetry → List Item
+tm_reported t =
+    if t.service == 1 then report_said t.subtype t.body
+    else if (t.service == 13) && (t.subtype == 16) then abort_said t.body
+    else []
+
+-- what telemetry carries, where that is a part or a report
+abbrev pub tm_carried : ℕ → Telemetry → List Item
+tm_carried p t =
+    option_map_or (part_said p t.body) (carried_kind Down t.service t.subtype) (tm_reported t)
+
+-- ---- octets
+
+-- a packet that is read as a telecommand, or the first test of the header that it fails
+abbrev pub tc_said : ℕ → Result Command PusFault → List Item
+tc_said p (Ok c) = tc_items c ++ tc_carried p c
+tc_said p (Err e) = fault_items (of_header.code_of e) (of_header.name_of e)
+
+-- a packet that is read as telemetry, or the first test of the header that it fails
+abbrev pub tm_said : ℕ → Result Telemetry PusFault → List Item
+tm_said p (Ok t) = tm_items t ++ tm_carried p t
+tm_said p (Err e) = fault_items (of_header.code_of e) (of_header.name_of e)
+
+-- a packet of this type
+abbrev pub packet_said : ℕ → PacketKind → Fields → List Item
+packet_said p Tc f = tc_said p (tc_verdict f)
+packet_said p Tm f = tm_said p (tm_verdict f)
+
+-- octets of this verdict
+abbrev pub verdict_said : ℕ → Result Sight PacketFault → List Item
+verdict_said p (Ok IdlePacket) = Alone (codes "packet_type") (codes "idle") ∷ []
+verdict_said p (Ok (APacket f)) = packet_said p f.kind f
+verdict_said p (Err e) = fault_items (of_packet.code_of e) (of_packet.name_of e)
+
+-- octets, for parts of p octets
+abbrev pub said : (p : ℕ) → List ℕ → List Item
+said p b = verdict_said p (verdict b)

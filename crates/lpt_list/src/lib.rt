@@ -1,0 +1,17 @@
+//! A list of the packets of a stream: a line for each, with its place, its length, and what its
+//! headers and its part or report say, as words or as an object of JSON. Where octets are no packet,
+//! a line says from which place on.
+//!
+//! The first call is `list_stream`.
+#![tactic(auto)]
+
+mod form;
+mod heads;
+mod lines;
+mod list_end;
+mod listing;
+
+pub use form::Form;
+pub use list_end::ListEnd;
+pub use listing::list_stream;
+pub use lpt_stream::{Sink, Source, ToolFault};

@@ -1,0 +1,76 @@
+//! The lines of a list.
+
+ghost use Rattle.std.specs.Prelude.{◌≡◌, ◌++◌, IfOk};
+ghost use Rattle.std.specs.String.{string_bytes};
+ghost use Rattle.lpt_events.specs.LptPart.Splitting.{IsPartSize};
+ghost use Rattle.lpt_list.specs.declared.form.Form.TheVariants.{Json, Text};
+ghost use Rattle.lpt_list.specs.Items.{items_text};
+ghost use Rattle.lpt_list.specs.Lists.{closing, length_items, none_line, opening, piece_line};
+
+use crate::Form;
+use crate::heads::said;
+use std::alloc::{AllocError, Global};
+
+// The line of octets at a place of a stream, for parts of `p` octets (4 to 1024): their length, and
+// what they say, or the first test that they fail. The only error is want of memory.
+#[tactic(auto, using(crate::proofs::ItemLemmas::line_parts))]
+pub(crate) fn print_piece(
+    alloc: Global,
+    form: Form,
+    p: u32,
+    place: u64,
+    octets: &[u8],
+) -> Result<String, AllocError>
+    requires { IsPartSize p }
+    ensures { IfOk result (λ t. string_bytes t ≡ piece_line form p place octets.now) }
+{
+    let mut text = line_front(alloc, form, place, octets.len() as u64)?;
+    text.push_str(said(alloc, form, octets, p)?.as_str())?;
+    text.push_str(line_end(form))?;
+    Ok(text)
+}
+
+// The front of a line: its place, and how many octets there are.
+fn line_front(alloc: Global, form: Form, place: u64, len: u64) -> Result<String, AllocError>
+    ensures { IfOk result (λ t. string_bytes t
+        ≡ opening form place ++ items_text form (length_items len)) }
+{
+    match form {
+        Form::Text => format!(in alloc; "{place} length {len}"),
+        Form::Json => format!(in alloc; "{{\"place\":{place},\"length\":{len}"),
+    }
+}
+
+// The line that no packet is at a place. The only error is want of memory.
+pub(crate) fn print_none(alloc: Global, form: Form, place: u64) -> Result<String, AllocError>
+    ensures { IfOk result (λ t. string_bytes t ≡ none_line form place) }
+{
+    match form {
+        Form::Text => words_of_none(alloc, place),
+        Form::Json => object_of_none(alloc, place),
+    }
+}
+
+// The same in words.
+fn words_of_none(alloc: Global, place: u64) -> Result<String, AllocError>
+    ensures { IfOk result (λ t. string_bytes t ≡ none_line Text place) }
+{
+    format!(in alloc; "{place} none\n")
+}
+
+// The same in JSON.
+fn object_of_none(alloc: Global, place: u64) -> Result<String, AllocError>
+    ensures { IfOk result (λ t. string_bytes t ≡ none_line Json place) }
+{
+    format!(in alloc; "{{\"place\":{place},\"packet_type\":\"none\"}}\n")
+}
+
+// How a line ends.
+fn line_end(form: Form) -> &'static str
+    ensures { result.now ≡ closing form }
+{
+    match form {
+        Form::Text => "\n",
+        Form::Json => "}\n",
+    }
+}
