@@ -70,7 +70,7 @@ const ACK: Named = Named {
 };
 
 /// The commands without others below them.
-pub(crate) static COMMANDS: [Row; 7] = [
+pub(crate) static COMMANDS: [Row; 8] = [
     Row {
         name: "run",
         about: "Run a script on a new world",
@@ -81,6 +81,12 @@ pub(crate) static COMMANDS: [Row; 7] = [
         name: "threads",
         about: "Run a script on a new world, and then ten threads",
         words: &[SCRIPT],
+        named: &[CONFIG],
+    },
+    Row {
+        name: "shell",
+        about: "Answer lines one by one, and go on where one can't be read",
+        words: &[],
         named: &[CONFIG],
     },
     Row {
