@@ -5,7 +5,7 @@ _lpt() {
     local command='' request='' offered='' i
     for ((i = 1; i < COMP_CWORD; i++)); do
         case $command:${COMP_WORDS[i]} in
-        :run | :threads | :lint | :chart | :decode | :list | :split | :join | :request | :help)
+        :run | :threads | :shell | :lint | :chart | :decode | :list | :split | :join | :request | :help)
             command=${COMP_WORDS[i]}
             ;;
         request:load | request:dump | request:check | request:help)
@@ -33,14 +33,14 @@ _lpt() {
     *:*:--from:* | *:*:--to:* | *:*:--parts:* | *:*:--id:* | *:*:--ack:* | *:*:--count:* | *:*:--area:*)
         return
         ;;
-    :*) offered='run threads lint chart decode list split join request help --help --version' ;;
-    help::help:*) offered='run threads lint chart decode list split join request help' ;;
+    :*) offered='run threads shell lint chart decode list split join request help --help --version' ;;
+    help::help:*) offered='run threads shell lint chart decode list split join request help' ;;
     help::request:* | request:help:help:*) offered='load dump check' ;;
     help:* | request:help:*) return ;;
     request::*) offered='load dump check help --help --version' ;;
     *:*:*:-*) offered=$options ;;
     split::split:* | join::join:*) offered='up down' ;;
-    decode:*) return ;;
+    decode:* | shell:*) return ;;
     *)
         mapfile -t COMPREPLY < <(compgen -f -- "$word")
         return

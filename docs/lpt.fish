@@ -19,6 +19,7 @@ complete -c lpt -f
 # Commands.
 complete -c lpt -n '__lpt_is' -a run -d 'Run a script on a new world'
 complete -c lpt -n '__lpt_is' -a threads -d 'Run a script on a new world, and then ten threads'
+complete -c lpt -n '__lpt_is' -a shell -d "Answer lines one by one, and go on where one can't be read"
 complete -c lpt -n '__lpt_is' -a lint -d "Print every line of a script that can't be read, and why"
 complete -c lpt -n '__lpt_is' -a chart -d "Draw a script's run as an SVG"
 complete -c lpt -n '__lpt_is' -a decode -d 'Say what octets are as a packet'
@@ -27,7 +28,7 @@ complete -c lpt -n '__lpt_is' -a split -d "Write the packets of a message's part
 complete -c lpt -n '__lpt_is' -a join -d 'Write the message that packets carry'
 complete -c lpt -n '__lpt_is' -a request -d 'Write a request to a memory as a telecommand'
 complete -c lpt -n '__lpt_is' -a help -d 'Print the help of a command'
-complete -c lpt -n '__lpt_is help' -a 'run threads lint chart decode list split join request help'
+complete -c lpt -n '__lpt_is help' -a 'run threads shell lint chart decode list split join request help'
 complete -c lpt -n '__lpt_is help request; or __lpt_is request help' -a 'load dump check'
 complete -c lpt -n '__lpt_is request' -a load -d 'Load octets into a memory'
 complete -c lpt -n '__lpt_is request' -a dump -d 'Ask for octets of a memory'
@@ -44,7 +45,7 @@ complete -c lpt -n '__lpt_at request load' -F
 # Options.
 complete -c lpt -n 'not __lpt_at help; and not __lpt_at request help' -s h -l help -d 'Print help'
 complete -c lpt -n 'not __lpt_at help; and not __lpt_at request help' -s V -l version -d 'Print version'
-for command in run threads chart decode list split join 'request load' 'request dump' 'request check'
+for command in run threads shell chart decode list split join 'request load' 'request dump' 'request check'
     complete -c lpt -n "__lpt_at $command" -l config -r -F -d 'The configuration, a TOML file'
 end
 complete -c lpt -n '__lpt_at chart' -l from -x -d 'The first place of the journal that is drawn'

@@ -7,7 +7,7 @@ use std::fs::File;
 use std::io::{self, Read, StdinLock};
 
 /// The word for standard input.
-const STANDARD: &str = "-";
+pub const STANDARD: &str = "-";
 
 /// A file, or standard input.
 #[derive(Drop)]

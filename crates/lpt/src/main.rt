@@ -1,5 +1,6 @@
-//! `lpt`: runs scripts of large packet transfer, draws what they did, splits messages into packets
-//! and joins them, writes requests to a memory, and says what octets and streams are as packets.
+//! `lpt`: runs scripts of large packet transfer, answers their lines one by one, draws what they did,
+//! splits messages into packets and joins them, writes requests to a memory, and says what octets and
+//! streams are as packets.
 //!
 //! It reads its words, its files and its input, and prints; what is done with them stands in the
 //! crates below.
@@ -15,17 +16,20 @@ mod joins;
 mod linting;
 mod lists;
 mod requests;
+mod shelling;
 mod streams;
 mod watched;
 mod work;
 
 use end::{Failure, Status};
+use input::STANDARD;
 use lpt_command_line::{Asked, Command, read_words};
 use lpt_tool::ToolFault;
 use std::process::ExitCode;
 use std::sync::Wait;
 use std::thread::Threads;
 use std::{env, io};
+use work::Way;
 
 fn main(rt: HostRuntime) -> ExitCode {
     let status = match given_words(&rt) {
@@ -71,8 +75,11 @@ fn done<T: Threads + Wait + Sync>(
 ) -> Result<Status, Failure> {
     let (config, memories, turns) = configuration::read(rt, asked.config)?;
     match &asked.command {
-        Command::Run(script) => work::run(rt, threads, config, memories, None, script),
-        Command::Threads(script) => work::run(rt, threads, config, memories, Some(turns), script),
+        Command::Run(script) => work::run(rt, threads, config, memories, Way::Run, script),
+        Command::Threads(script) => {
+            work::run(rt, threads, config, memories, Way::Threads(turns), script)
+        }
+        Command::Shell => work::run(rt, threads, config, memories, Way::Shell, STANDARD),
         Command::Lint(script) => linting::lint(rt, script),
         Command::Chart(words) => charting::chart(rt, config, memories, words),
         Command::Decode(hex) => decoding::decode(rt, config, hex),

@@ -2,6 +2,7 @@
 
 use crate::end::{Failure, Status, tell_place};
 use crate::input::{Incoming, name_of, opened};
+use crate::shelling::answer_lines;
 use crate::streams::{flush, output};
 use lpt_tool::{
     Config, Memories, ScriptEnd, ThreadsEnd, ToolFault, Turns, run_script, run_threads_script,
@@ -9,8 +10,18 @@ use lpt_tool::{
 use std::sync::Wait;
 use std::thread::Threads;
 
+/// What is done with the lines of a script.
+#[derive(Clone, Copy)]
+pub enum Way {
+    /// They are run, up to an unreadable one.
+    Run,
+    /// They are run, and ten threads with these turns after their events.
+    Threads(Turns),
+    /// They are answered one by one.
+    Shell,
+}
+
 /// Runs a script on a new world of these memories: the one at this path, or standard input for `-`.
-/// With turns, ten threads run after the script's events.
 ///
 /// Errors: `Line` at an unreadable line; `Read` where the script can't be opened or read, `Write`
 /// where a write failed, `Memory`, `Threads` where the threads failed.
@@ -19,7 +30,7 @@ pub fn run<T: Threads + Wait + Sync>(
     threads: &T,
     config: Config,
     memories: Memories,
-    turns: Option<Turns>,
+    way: Way,
     script: &str,
 ) -> Result<Status, Failure> {
     let mut source = match opened(rt, script) {
@@ -29,7 +40,7 @@ pub fn run<T: Threads + Wait + Sync>(
             return Err(failure);
         }
     };
-    let status = match lines_run(rt, threads, config, memories, turns, &mut source) {
+    let status = match lines_run(rt, threads, config, memories, way, &mut source) {
         Ok(ran) => status_at_end(rt, &source, script, ran),
         Err(failure) => Err(failure),
     };
@@ -44,7 +55,7 @@ fn lines_run<T: Threads + Wait + Sync>(
     threads: &T,
     config: Config,
     memories: Memories,
-    turns: Option<Turns>,
+    way: Way,
     source: &mut Incoming,
 ) -> Result<Result<ScriptEnd, ToolFault>, Failure> {
     let mut out = match output(rt) {
@@ -55,9 +66,10 @@ fn lines_run<T: Threads + Wait + Sync>(
         }
     };
     let alloc = rt.alloc();
-    let ran = match turns {
-        None => run_script(alloc, config, memories, source, &mut out),
-        Some(turns) => {
+    let ran = match way {
+        Way::Run => run_script(alloc, config, memories, source, &mut out),
+        Way::Shell => answer_lines(rt, config, memories, source, &mut out),
+        Way::Threads(turns) => {
             let ran = run_threads_script(alloc, threads, config, memories, turns, source, &mut out);
             told_full(rt, turns, ran)
         }

@@ -23,6 +23,8 @@ pub enum Command<'a> {
     Run(&'a str),
     /// `threads SCRIPT`: the script's path, or `-` for standard input.
     Threads(&'a str),
+    /// `shell`.
+    Shell,
     /// `lint SCRIPT`: the script's path, or `-` for standard input.
     Lint(&'a str),
     /// `chart SCRIPT`.
@@ -105,6 +107,7 @@ fn command_of<'a>(name: &str, words: &ArgMatches<'a>) -> Option<Command<'a>> {
     match name {
         "run" => words.get_str("SCRIPT").map(Command::Run),
         "threads" => words.get_str("SCRIPT").map(Command::Threads),
+        "shell" => Some(Command::Shell),
         "lint" => words.get_str("SCRIPT").map(Command::Lint),
         "chart" => chart_words(words).map(Command::Chart),
         "list" => list_words(words).map(Command::List),

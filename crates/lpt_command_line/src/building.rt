@@ -12,6 +12,7 @@ Examples:
   lpt run examples/first_path.script    run the script of that file
   lpt run - --config settings.toml      run the one on standard input, line by line
   lpt threads examples/threads.script   run it, and then ten threads
+  lpt shell                             answer the lines that are typed
   lpt lint examples/first_path.script   print where it can't be read, and why
   lpt chart examples/first_path.script  draw what happened, as an SVG
   lpt decode 07ffc000000000             say what these octets are as a packet

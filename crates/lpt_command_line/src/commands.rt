@@ -84,6 +84,12 @@ pub(crate) static COMMANDS: [Row; 8] = [
         named: &[CONFIG],
     },
     Row {
+        name: "shell",
+        about: "Answer lines one by one, and go on where one can't be read",
+        words: &[],
+        named: &[CONFIG],
+    },
+    Row {
         name: "lint",
         about: "Print every line of a script that can't be read, and why",
         words: &[SCRIPT],

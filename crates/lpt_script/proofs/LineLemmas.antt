@@ -184,7 +184,7 @@ last_fault later line w v n refused fault b c none some ends =
     (last_goes later line w n refused b) (lines-nowhere line none some) ends
 
 -- it is too long
-unread : (line : List ℕ) → 140000 < length line → reading_of line ≡ Unreadable
+pub unread : (line : List ℕ) → 140000 < length line → reading_of line ≡ Unreadable
 unfolding reading_of
 unread line long = grind (arith, nat_tests)
 

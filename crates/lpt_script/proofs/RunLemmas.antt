@@ -23,7 +23,7 @@ use Rattle.lpt_world.specs.Worlds.{Shown}
 -- ---- the first of some lines
 
 -- where the first line ends there, it is cut from the others
-lines-first : (text more : List ℕ) (n : ℕ)
+pub lines-first : (text more : List ℕ) (n : ℕ)
     → line_end text ≡ Some n
     → lines (take (n + 1) text ++ more) ≡ ended_line (take n text) ∷ lines more
 lines-first text more n at =

@@ -28,9 +28,12 @@ pub use lpt_text::{
     End, LineBuffer, Passes, Sink, Source, Told, ToolFault, flush_out, read_text, write_out,
 };
 pub use lpt_words::{
-    Command, Load, Reading, Show, read_hex, read_line, read_number, split_line, split_word,
+    Command, Load, Reading, Show, ended, read_hex, read_line, read_number, split_line, split_word,
 };
-pub use lpt_world::{Config, ConfigFault, Entry, Memories, Octets, StepFault, World};
+pub use lpt_world::{
+    Answer, Config, ConfigFault, Direction, Entry, Event, Lane, Memories, Name, Octets, Opening,
+    Outcome, Side, State, StepFault, Worker, World,
+};
 pub use printed::put;
 pub use script::{run_lines, run_script};
 pub use showing::run_show;

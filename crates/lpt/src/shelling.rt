@@ -1,0 +1,32 @@
+//! A shell, with a prompt where a terminal is.
+
+use crate::input::Incoming;
+use crate::streams::Output;
+use lpt_shell::run_shell;
+use lpt_tool::{Config, Memories, ScriptEnd, ToolFault};
+use std::io::IsTerminal;
+
+/// What a shell writes before each line, where standard input is a terminal.
+const PROMPT: &str = "lpt> ";
+
+/// Answers the lines of standard input on a new world of these memories. How that ended, as a run does:
+/// a line that is unreadable counts as one that is refused.
+///
+/// Errors: `Read` where it can't be read, `Write` where a write failed, `Memory`.
+pub fn answer_lines(
+    rt: &HostRuntime,
+    config: Config,
+    memories: Memories,
+    source: &mut Incoming,
+    out: &mut Output<'_>,
+) -> Result<ScriptEnd, ToolFault> {
+    let prompt = if rt.reader().is_terminal() {
+        PROMPT
+    } else {
+        ""
+    };
+    match run_shell(rt.alloc(), config, memories, prompt.as_bytes(), source, out) {
+        Ok(refused) => Ok(ScriptEnd { refused }),
+        Err(fault) => Err(fault),
+    }
+}

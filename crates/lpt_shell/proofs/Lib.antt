@@ -1,0 +1,7 @@
+pub mod AnswerLemmas
+pub mod HeardLemmas
+pub mod KeptLemmas
+pub mod LongLemmas
+pub mod RowLemmas
+pub mod ServeLemmas
+pub mod SessionLemmas

@@ -1,0 +1,175 @@
+//! What is told of a world row by row.
+
+ghost use Rattle.std.specs.Prelude.{◌≡◌, ◌-◌, ◌++◌, length, OnOk, string_bytes};
+ghost use Rattle.lpt_script.specs.LptPrint.Printing.{direction_text};
+ghost use Rattle.lpt_script.specs.LptWorld.LptJournal.Link.{sent};
+ghost use Rattle.lpt_script.specs.LptWorld.Worlds.{history};
+ghost use Rattle.lpt_shell.specs.Rows.{held_row, is_opened, message_row, messages_text, missing_row, packet_row, rows_text, sender_row};
+
+use crate::kept::{add_gaps, kept_numbers};
+use crate::openings::{count, is_opening_of};
+use lpt_script::{Direction, Name, Opening, State, World, print_packet};
+use std::alloc::{AllocError, Global};
+
+/// The end at which messages are told.
+#[derive(Clone, Copy)]
+pub(crate) enum Half {
+    /// The node that sends a message.
+    Sender,
+    /// The node that receives it.
+    Receiver,
+}
+
+// Adds the packets that the link holds to a text.
+pub(crate) fn add_held(text: &mut String, world: &World) -> Result<(), AllocError>
+    ensures { OnOk result (string_bytes text.new ≡ string_bytes text.old ++ rows_text (held_row world.now) 0 (length (sent (history world.now)))) }
+{
+    for number in 0..world.packets() {
+        add_held_row(text, world, number)?;
+    }
+    Ok(())
+}
+
+// Adds the packet of this number, where the link holds it.
+fn add_held_row(text: &mut String, world: &World, number: u64) -> Result<(), AllocError>
+    ensures { OnOk result (string_bytes text.new ≡ string_bytes text.old ++ held_row world.now number) }
+{
+    if !world.is_held(number) {
+        return Ok(());
+    }
+    match world.packet(number) {
+        Some(octets) => {
+            let len = octets.len();
+            write!(text, "held {number} {len}\n")
+        }
+        None => Ok(()),
+    }
+}
+
+// Adds the packets of the numbers from one up to, not including, another to a text, with their octets.
+pub(crate) fn add_packets(
+    alloc: Global,
+    text: &mut String,
+    world: &World,
+    from: u64,
+    to: u64,
+) -> Result<(), AllocError>
+    ensures { OnOk result (string_bytes text.new ≡ string_bytes text.old ++ rows_text (packet_row world.now) from (to - from)) }
+{
+    for number in from..to {
+        add_packet(alloc, text, world, number)?;
+    }
+    Ok(())
+}
+
+// Adds the packet of this number, with its octets.
+fn add_packet(
+    alloc: Global,
+    text: &mut String,
+    world: &World,
+    number: u64,
+) -> Result<(), AllocError>
+    ensures { OnOk result (string_bytes text.new ≡ string_bytes text.old ++ packet_row world.now number) }
+{
+    let packet = print_packet(alloc, number, world.packet(number))?;
+    text.push_str(packet.as_str())
+}
+
+// Adds the messages of a world to a text, in the order in which they were opened.
+pub(crate) fn add_messages(
+    alloc: Global,
+    text: &mut String,
+    world: &World,
+    half: Half,
+) -> Result<(), AllocError>
+    ensures { OnOk result (string_bytes text.new ≡ string_bytes text.old ++ messages_text world.now half) }
+{
+    let mut rest = world.opened();
+    while let Some((opening, later)) = rest.split_first() {
+        if !is_opened(later, opening.direction, opening.id) {
+            add_message(alloc, text, world, half, opening)?;
+        }
+        rest = later;
+    }
+    Ok(())
+}
+
+// Whether one of these openings is of the transaction.
+fn is_opened(openings: &[Opening], direction: Direction, id: Name) -> bool
+    ensures { result ≡ is_opened openings.now direction id }
+{
+    let mut rest = openings;
+    while let Some((opening, later)) = rest.split_first() {
+        if is_opening_of(opening, direction, id) {
+            return true;
+        }
+        rest = later;
+    }
+    false
+}
+
+// Adds a message at its sender or at its receiver.
+fn add_message(
+    alloc: Global,
+    text: &mut String,
+    world: &World,
+    half: Half,
+    opening: &Opening,
+) -> Result<(), AllocError>
+    ensures { OnOk result (string_bytes text.new ≡ string_bytes text.old ++ message_row world.now half opening.now) }
+{
+    let parts = count(opening.message.as_slice().len(), world.config().part_size);
+    match half {
+        Half::Sender => add_sender(text, world, opening.direction, opening.id, parts),
+        Half::Receiver => {
+            let kept = kept_numbers(alloc, world, opening.direction, opening.id)?;
+            add_missing(text, opening.direction, opening.id, &kept, parts)
+        }
+    }
+}
+
+// Adds a message of so many parts, where it is open at the node that sends it.
+fn add_sender(
+    text: &mut String,
+    world: &World,
+    direction: Direction,
+    id: Name,
+    parts: usize,
+) -> Result<(), AllocError>
+    ensures { OnOk result (string_bytes text.new ≡ string_bytes text.old ++ sender_row world.now direction id parts) }
+{
+    if world.sender(direction, id) != State::Open {
+        return Ok(());
+    }
+    let direction = direction_word(direction);
+    write!(text, "open {direction} {id} parts {parts}\n")
+}
+
+// Adds a message of so many parts, of which these are kept, and which of them are missing.
+fn add_missing(
+    text: &mut String,
+    direction: Direction,
+    id: Name,
+    kept: &[u64],
+    parts: usize,
+) -> Result<(), AllocError>
+    ensures { OnOk result (string_bytes text.new ≡ string_bytes text.old ++ missing_row direction id kept.now parts) }
+{
+    if kept.is_empty() {
+        return Ok(());
+    }
+    let direction = direction_word(direction);
+    write!(text, "reception {direction} {id} parts {parts} missing")?;
+    add_gaps(text, kept, parts as u64)?;
+    text.push_str("\n")
+}
+
+// A direction's word.
+fn direction_word(direction: Direction) -> &'static str
+    ensures { result.now ≡ direction_text direction }
+{
+    match direction {
+        Direction::Up => "up",
+        Direction::Down => "down",
+    }
+}
