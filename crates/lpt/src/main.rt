@@ -9,6 +9,7 @@ mod charting;
 mod configuration;
 mod decoding;
 mod end;
+mod extracts;
 mod files;
 mod input;
 mod joins;
@@ -77,6 +78,7 @@ fn done<T: Threads + Wait + Sync>(
         Command::Decode(hex) => decoding::decode(rt, config, hex),
         Command::Split(words) => files::split(rt, &config, words),
         Command::Join(words) => joins::join(rt, &config, words),
+        Command::Extract(words) => extracts::extract(rt, &config, words),
         Command::Request(words) => requests::request(rt, &config, words),
     }
 }

@@ -1,6 +1,7 @@
 //! What the words of the command line ask for.
 
 use crate::building::program;
+use crate::extract_words::{ExtractWords, extract_words};
 use crate::file_words::{JoinWords, SplitWords, join_words, split_words};
 use crate::request_words::{RequestWords, request_words};
 use crate::word_fault::WordFault;
@@ -33,6 +34,8 @@ pub enum Command<'a> {
     Split(SplitWords<'a>),
     /// `join up|down [FILE]`.
     Join(JoinWords<'a>),
+    /// `extract [FILE]`.
+    Extract(ExtractWords<'a>),
     /// `request load|dump|check MEMORY ..`.
     Request(RequestWords<'a>),
 }
@@ -107,6 +110,7 @@ fn command_of<'a>(name: &str, words: &ArgMatches<'a>) -> Option<Command<'a>> {
         "chart" => chart_words(words).map(Command::Chart),
         "split" => split_words(words).map(Command::Split),
         "join" => join_words(words).map(Command::Join),
+        "extract" => extract_words(words).map(Command::Extract),
         _ => words.get_str("HEX").map(Command::Decode),
     }
 }
