@@ -5,7 +5,7 @@ _lpt() {
     local command='' request='' offered='' i
     for ((i = 1; i < COMP_CWORD; i++)); do
         case $command:${COMP_WORDS[i]} in
-        :run | :threads | :shell | :lint | :chart | :decode | :list | :split | :join | :request | :help)
+        :run | :threads | :shell | :lint | :chart | :decode | :list | :split | :join | :extract | :request | :help)
             command=${COMP_WORDS[i]}
             ;;
         request:load | request:dump | request:check | request:help)
@@ -21,6 +21,7 @@ _lpt() {
     list:*) options+=' --json --strict' ;;
     split:*) options+=' --parts --count --whole' ;;
     join:*) options+=' --id' ;;
+    extract:*) options+=' --at --from --fill' ;;
     request:load) options+=' --area --ack --count' ;;
     request:dump | request:check) options+=' --ack --count' ;;
     esac
@@ -30,11 +31,11 @@ _lpt() {
         mapfile -t COMPREPLY < <(compgen -f -- "$word")
         return
         ;;
-    *:*:--from:* | *:*:--to:* | *:*:--parts:* | *:*:--id:* | *:*:--ack:* | *:*:--count:* | *:*:--area:*)
+    *:*:--from:* | *:*:--to:* | *:*:--at:* | *:*:--fill:* | *:*:--parts:* | *:*:--id:* | *:*:--ack:* | *:*:--count:* | *:*:--area:*)
         return
         ;;
-    :*) offered='run threads shell lint chart decode list split join request help --help --version' ;;
-    help::help:*) offered='run threads shell lint chart decode list split join request help' ;;
+    :*) offered='run threads shell lint chart decode list split join extract request help --help --version' ;;
+    help::help:*) offered='run threads shell lint chart decode list split join extract request help' ;;
     help::request:* | request:help:help:*) offered='load dump check' ;;
     help:* | request:help:*) return ;;
     request::*) offered='load dump check help --help --version' ;;

@@ -26,9 +26,10 @@ complete -c lpt -n '__lpt_is' -a decode -d 'Say what octets are as a packet'
 complete -c lpt -n '__lpt_is' -a list -d 'Say what each packet of a stream is'
 complete -c lpt -n '__lpt_is' -a split -d "Write the packets of a message's parts"
 complete -c lpt -n '__lpt_is' -a join -d 'Write the message that packets carry'
+complete -c lpt -n '__lpt_is' -a extract -d 'Write the octets that dump reports hold'
 complete -c lpt -n '__lpt_is' -a request -d 'Write a request to a memory as a telecommand'
 complete -c lpt -n '__lpt_is' -a help -d 'Print the help of a command'
-complete -c lpt -n '__lpt_is help' -a 'run threads shell lint chart decode list split join request help'
+complete -c lpt -n '__lpt_is help' -a 'run threads shell lint chart decode list split join extract request help'
 complete -c lpt -n '__lpt_is help request; or __lpt_is request help' -a 'load dump check'
 complete -c lpt -n '__lpt_is request' -a load -d 'Load octets into a memory'
 complete -c lpt -n '__lpt_is request' -a dump -d 'Ask for octets of a memory'
@@ -40,12 +41,13 @@ complete -c lpt -n '__lpt_is split; or __lpt_is join' -a 'up down'
 complete -c lpt -n '__lpt_at run; or __lpt_at threads; or __lpt_at lint; or __lpt_at chart; or __lpt_at list' -F
 complete -c lpt -n '__lpt_at split up; or __lpt_at split down' -F
 complete -c lpt -n '__lpt_at join up; or __lpt_at join down' -F
+complete -c lpt -n '__lpt_at extract' -F
 complete -c lpt -n '__lpt_at request load' -F
 
 # Options.
 complete -c lpt -n 'not __lpt_at help; and not __lpt_at request help' -s h -l help -d 'Print help'
 complete -c lpt -n 'not __lpt_at help; and not __lpt_at request help' -s V -l version -d 'Print version'
-for command in run threads shell chart decode list split join 'request load' 'request dump' 'request check'
+for command in run threads shell chart decode list split join extract 'request load' 'request dump' 'request check'
     complete -c lpt -n "__lpt_at $command" -l config -r -F -d 'The configuration, a TOML file'
 end
 complete -c lpt -n '__lpt_at chart' -l from -x -d 'The first place of the journal that is drawn'
@@ -55,7 +57,11 @@ complete -c lpt -n '__lpt_at list' -l json -d 'Print each line as an object of J
 complete -c lpt -n '__lpt_at list' -l strict -d 'End at the first place where no packet is'
 complete -c lpt -n '__lpt_at split' -l parts -x -d 'The parts to write, as 3,7-9,12-'
 complete -c lpt -n '__lpt_at split' -l whole -d 'Pass on a message that has no more octets than a part'
+complete -c lpt -n '__lpt_at split' -l pcap -d 'Write the packets as a capture, a pcap file'
 complete -c lpt -n '__lpt_at join' -l id -x -d "The message's identifier, 0 to 65535; without one, it is the only one there"
+complete -c lpt -n '__lpt_at extract' -l at -x -d 'Write an image of this memory, its areas at their places'
+complete -c lpt -n '__lpt_at extract' -l from -x -d 'The address at which the image begins, 0 without it'
+complete -c lpt -n '__lpt_at extract' -l fill -x -d 'The octet where no area gives one, 0 to 255, 0 without it'
 complete -c lpt -n '__lpt_at request load' -l area -x -d 'Octets for another address'
 for command in 'request load' 'request dump' 'request check'
     complete -c lpt -n "__lpt_at $command" -l ack -x -d 'The acknowledgement flags, 0 to 15'

@@ -6,7 +6,7 @@ use crate::end::{Failure, Status, tell_place};
 use crate::input::{opened, read_failure};
 use crate::streams::{finish, output};
 use lpt_command_line::SplitWords;
-use lpt_files::{Config, SplitEnd, ToolFault, Wanted, split_message};
+use lpt_files::{Config, Form, SplitEnd, ToolFault, Wanted, split_message};
 use std::alloc::{AllocError, Global};
 
 /// Writes the packets of a message's parts.
@@ -40,6 +40,11 @@ fn wanted<'a>(words: &SplitWords<'a>) -> Wanted<'a> {
         parts: words.parts.as_bytes(),
         first: words.first,
         whole: words.whole,
+        form: if words.pcap {
+            Form::Capture
+        } else {
+            Form::Plain
+        },
     }
 }
 

@@ -10,6 +10,7 @@ mod charting;
 mod configuration;
 mod decoding;
 mod end;
+mod extracts;
 mod files;
 mod input;
 mod joins;
@@ -86,6 +87,7 @@ fn done<T: Threads + Wait + Sync>(
         Command::List(words) => lists::list(rt, &config, words),
         Command::Split(words) => files::split(rt, &config, words),
         Command::Join(words) => joins::join(rt, &config, words),
+        Command::Extract(words) => extracts::extract(rt, &config, words),
         Command::Request(words) => requests::request(rt, &config, words),
     }
 }

@@ -1,6 +1,7 @@
 //! What the words of the command line ask for.
 
 use crate::building::program;
+use crate::extract_words::{ExtractWords, extract_words};
 use crate::file_words::{JoinWords, ListWords, SplitWords, join_words, list_words, split_words};
 use crate::request_words::{RequestWords, request_words};
 use crate::word_fault::WordFault;
@@ -37,6 +38,8 @@ pub enum Command<'a> {
     Split(SplitWords<'a>),
     /// `join up|down [FILE]`.
     Join(JoinWords<'a>),
+    /// `extract [FILE]`.
+    Extract(ExtractWords<'a>),
     /// `request load|dump|check MEMORY ..`.
     Request(RequestWords<'a>),
 }
@@ -113,6 +116,7 @@ fn command_of<'a>(name: &str, words: &ArgMatches<'a>) -> Option<Command<'a>> {
         "list" => list_words(words).map(Command::List),
         "split" => split_words(words).map(Command::Split),
         "join" => join_words(words).map(Command::Join),
+        "extract" => extract_words(words).map(Command::Extract),
         _ => words.get_str("HEX").map(Command::Decode),
     }
 }

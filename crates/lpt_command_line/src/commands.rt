@@ -70,7 +70,7 @@ const ACK: Named = Named {
 };
 
 /// The commands without others below them.
-pub(crate) static COMMANDS: [Row; 8] = [
+pub(crate) static COMMANDS: [Row; 10] = [
     Row {
         name: "run",
         about: "Run a script on a new world",
@@ -203,6 +203,14 @@ pub(crate) static COMMANDS: [Row; 8] = [
                 other: &[],
                 help: "Pass on a message that has no more octets than a part",
             },
+            Named {
+                name: "pcap",
+                value: ValueParser::Bool,
+                behind: &[],
+                action: ArgAction::SetTrue,
+                other: &[],
+                help: "Write the packets as a capture, a pcap file",
+            },
             CONFIG,
         ],
     },
@@ -226,6 +234,43 @@ pub(crate) static COMMANDS: [Row; 8] = [
                 action: ArgAction::Set,
                 other: &[],
                 help: "The message's identifier, 0 to 65535; without one, it is the only one there",
+            },
+            CONFIG,
+        ],
+    },
+    Row {
+        name: "extract",
+        about: "Write the octets that dump reports hold",
+        words: &[Word {
+            name: "FILE",
+            value: TEXT,
+            need: Need::Else(&["-"]),
+            help: "The packets' path, or - for standard input",
+        }],
+        named: &[
+            Named {
+                name: "at",
+                value: U8,
+                behind: &["MEMORY"],
+                action: ArgAction::Set,
+                other: &[],
+                help: "Write an image of this memory, its areas at their places",
+            },
+            Named {
+                name: "from",
+                value: U32,
+                behind: &["ADDRESS"],
+                action: ArgAction::Set,
+                other: &[],
+                help: "The address at which the image begins, 0 without it",
+            },
+            Named {
+                name: "fill",
+                value: U8,
+                behind: &["OCTET"],
+                action: ArgAction::Set,
+                other: &[],
+                help: "The octet where no area gives one, 0 to 255, 0 without it",
             },
             CONFIG,
         ],

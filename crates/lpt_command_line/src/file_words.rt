@@ -20,6 +20,8 @@ pub struct SplitWords<'a> {
     pub first: u16,
     /// Whether a message that isn't split goes as it is.
     pub whole: bool,
+    /// Whether the packets are written as a capture.
+    pub pcap: bool,
     ghost counts: { first ≤ 16383 },
 }
 
@@ -54,6 +56,7 @@ pub fn split_words<'a>(matches: &ArgMatches<'a>) -> Option<SplitWords<'a>> {
         parts: matches.get_str("parts")?,
         first: count_in(matches)?,
         whole: matches.get_flag("whole"),
+        pcap: matches.get_flag("pcap"),
     })
 }
 

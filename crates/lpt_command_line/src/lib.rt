@@ -11,12 +11,14 @@
 mod asked;
 mod building;
 mod commands;
+mod extract_words;
 mod file_words;
 mod request_words;
 mod row;
 mod word_fault;
 
 pub use asked::{Asked, ChartWords, Command, Unasked, read_words};
+pub use extract_words::ExtractWords;
 pub use file_words::{JoinWords, ListWords, SplitWords};
 pub use lpt_pus::{AckFlags, Direction};
 pub use request_words::{RequestWords, What};

@@ -1,9 +1,9 @@
 -- How a message is split from one stream to another.
-use Rattle.std.specs.Prelude.{◌≡◌, ◌⊎◌, ℕ, ◌≤◌, ◌<◌, true, false, List, length, Option, Some, None}
+use Rattle.std.specs.Prelude.{◌≡◌, ◌⊎◌, ℕ, ◌≤◌, ◌<◌, true, false, List, [], ◌∷◌, length, Option, Some, None}
 use Rattle.std.specs.Io.KnownBytes.{Appends, Consumes, IsAtEnd}
 use Rattle.lpt_join.specs.LptPart.Splitting.{part_count}
 use Rattle.lpt_join.specs.LptEvents.declared.config.Config.{Config}
-use Rattle.lpt_join.specs.LptSplit.Splits.{octets_of, split_of}
+use Rattle.lpt_join.specs.LptSplit.Splits.{split_of, written_in}
 use Rattle.lpt_join.specs.LptText.Streams.{AppendsPart}
 use Rattle.lpt_join.specs.LptText.declared.fault.ToolFault.{ToolFault}
 use Rattle.lpt_join.specs.LptText.declared.fault.ToolFault.TheVariants as tool
@@ -12,20 +12,22 @@ use Rattle.lpt_files.specs.declared.split_end.SplitEnd.TheVariants.{Written, Sho
 use Rattle.lpt_files.specs.declared.wanted.Wanted.{Wanted}
 use Rattle.lpt_files.specs.Lists.{numbers_of}
 
--- the octets of the packets that are wanted: of just the parts that the list names, in its order
+-- the octets of the packets that are wanted: of just the parts that the list names, in its order, and
+-- in the form that is wanted
 pub record ArePackets (c : Config) (w : Wanted) (m octets : List ℕ) : Type 0 where
   pub long : c.part_size < length m
   pub short : length m ≤ 65542
   pub numbers : List ℕ
   pub named : numbers_of (part_count (length m) c.part_size) w.parts.now ≡ Some numbers
-  pub are : octets ≡ octets_of (split_of c w.direction w.id m w.first numbers)
+  pub are : octets ≡ written_in w.form c.clock (split_of c w.direction w.id m w.first numbers)
 
--- the octets that are wanted of a message: those packets; or the message itself, where it isn't
--- split and may go as it is
+-- the octets that are wanted of a message: those packets; or the message itself as one, where it
+-- isn't split and may go as it is
 abbrev pub AreWanted : Config → Wanted → (m octets : List ℕ) → Type 0
 AreWanted c w m octets =
     ArePackets c w m octets
-    ⊎ ((length m ≤ c.part_size) × (0 < length m) × (w.whole ≡ true) × (octets ≡ m))
+    ⊎ ((length m ≤ c.part_size) × (0 < length m) × (w.whole ≡ true)
+    × (octets ≡ written_in w.form c.clock (m ∷ [])))
 
 -- what is wanted was written; or nothing was, for a message that is too short or too long, or a list
 -- that isn't read as one of its parts

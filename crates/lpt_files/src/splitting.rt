@@ -6,12 +6,12 @@ ghost use Rattle.lpt_files.specs.Splits.{IsSplitFault, LeavesParts, SplitLeaves,
 
 use crate::{SplitEnd, Wanted, read_parts};
 use lpt_join::{
-    Config, End, LONGEST_PACKET, Sink, Source, ToolFault, count, read_text, split, write_out,
+    Config, End, LONGEST_PACKET, Sink, Source, ToolFault, count, read_text, split, write_alone,
 };
 use std::alloc::Global;
 
-/// Reads a message to its end, and writes the packets of the parts that are wanted of it, one behind
-/// the other.
+/// Reads a message to its end, and writes the packets of the parts that are wanted of it, in the form
+/// that is wanted.
 ///
 /// What isn't split is told by the answer, and nothing is written then.
 ///
@@ -72,9 +72,9 @@ fn write_parts<K: Sink>(
         if !wanted.whole || message.is_empty() {
             return Ok(SplitEnd::Short(message.len()));
         }
-        return match write_out(out, message) {
+        return match write_alone(config, wanted.form, message, out) {
             Ok(()) => Ok(SplitEnd::Written),
-            Err(_) => Err(ToolFault::Write),
+            Err(fault) => Err(fault),
         };
     }
     if message.len() > LONGEST_PACKET {
@@ -96,6 +96,7 @@ fn write_parts<K: Sink>(
         message,
         numbers,
         wanted.first,
+        wanted.form,
         out,
     ) {
         Ok(()) => Ok(SplitEnd::Written),

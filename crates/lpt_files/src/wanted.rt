@@ -2,7 +2,7 @@
 
 ghost use Rattle.std.specs.Prelude.{◌≤◌};
 
-use lpt_join::{Direction, Name};
+use lpt_join::{Direction, Form, Name};
 
 /// Which packets of a message are wanted.
 #[derive(Clone, Copy, Debug)]
@@ -17,5 +17,7 @@ pub struct Wanted<'a> {
     pub first: u16,
     /// Whether a message that has no more octets than a part goes as it is.
     pub whole: bool,
+    /// The form in which the packets are written.
+    pub form: Form,
     ghost counts: { first ≤ 16383 },
 }

@@ -2,7 +2,7 @@
 
 use crate::packets::{FIRST, MESSAGE, SECOND, THIRD, USUAL};
 use lpt_files::{
-    Direction, JoinEnd, SplitEnd, Told, Transaction, Wanted, join_message, missing_list,
+    Direction, Form, JoinEnd, SplitEnd, Told, Transaction, Wanted, join_message, missing_list,
     read_parts, split_message,
 };
 use lpt_requests::{AckFlags, Area, MemoryFault, Octets, Range, Request, write_request};
@@ -51,6 +51,7 @@ fn split(
         parts: parts.as_bytes(),
         first: 0,
         whole,
+        form: Form::Plain,
     };
     let mut source = Told::new(&MESSAGE[..octets.min(MESSAGE.len())]);
     let mut out = Told::new(Vec::new(alloc));

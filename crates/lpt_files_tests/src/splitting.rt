@@ -1,7 +1,7 @@
 //! A message split into packets.
 
 use crate::packets::{FIRST, MESSAGE, SECOND, THIRD, USUAL};
-use lpt_join::{Direction, Told, ToolFault, split};
+use lpt_join::{Direction, Form, Told, ToolFault, split};
 use std::alloc::Global;
 
 // The packets of the message's parts 1, 2 and 3, of sequence counts from 0 on.
@@ -15,6 +15,7 @@ fn packets(alloc: Global) -> Result<Vec<u8>, ToolFault> {
         &MESSAGE,
         &[1, 2, 3],
         0,
+        Form::Plain,
         &mut out,
     )?;
     Ok(out.into_inner())

@@ -4,7 +4,6 @@ pub mod Joins
 pub mod Laws
 pub mod Missing
 pub mod Offers
-pub mod Reads
 pub mod Several
 pub use Rattle.lpt_pus.specs.LptPacket as LptPacket
 pub use Rattle.lpt_reception.specs.LptPart as LptPart
@@ -13,3 +12,4 @@ pub use Rattle.lpt_split.specs.LptEvents as LptEvents
 pub use Rattle.lpt_split.specs.LptText as LptText
 pub use Rattle.lpt_split.specs as LptSplit
 pub use Rattle.lpt_stream.specs as LptStream
+pub use Rattle.lpt_stream.specs.Reads as Reads

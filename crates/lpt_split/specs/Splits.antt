@@ -5,6 +5,9 @@ use Rattle.lpt_pus.specs.LptPacket.declared.direction.Direction.{Direction}
 use Rattle.lpt_pus.specs.LptPacket.Names.{Name}
 use Rattle.lpt_events.specs.declared.config.Config.{Config}
 use Rattle.lpt_events.specs.MadePackets.{nth_part, part_made}
+use Rattle.lpt_stream.specs.Captures.{capture_of}
+use Rattle.lpt_split.specs.declared.form.Form.{Form}
+use Rattle.lpt_split.specs.declared.form.Form.TheVariants.{Plain, Capture}
 
 -- the sequence count after this one
 abbrev pub next_count : ℕ → ℕ
@@ -30,3 +33,8 @@ split_of c d id m count (n ∷ ns) =
 -- the octets of packets, one behind the other
 abbrev pub octets_of : List (List ℕ) → List ℕ
 octets_of packets = flat_map (λ b. b) packets
+
+-- packets in this form, those of a capture all of this time
+abbrev pub written_in : Form → (time : ℕ) → List (List ℕ) → List ℕ
+written_in Plain time packets = octets_of packets
+written_in Capture time packets = capture_of time packets

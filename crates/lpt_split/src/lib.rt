@@ -2,14 +2,16 @@
 //! them: part by part, in the order in which they are asked for, and as often. A packet is the one
 //! that the sending node puts on the link for that part, of a sequence count of the caller's.
 //!
-//! The main type is `Config`, with the APID and the part size. The first call is `split`, which
-//! writes to a sink; `part_packet` makes one packet.
+//! The main types are `Config`, with the APID and the part size, and `Form`: packets alone, or a
+//! capture. The first call is `split`, which writes to a sink; `part_packet` makes one packet.
 #![tactic(auto)]
 
+mod form;
 mod packet;
 mod splitting;
 
+pub use form::Form;
 pub use lpt_events::{Config, count, part_kind};
 pub use lpt_text::{End, Sink, Source, Told, ToolFault, flush_out, read_text, write_out};
 pub use packet::{part_at, part_packet};
-pub use splitting::split;
+pub use splitting::{split, write_alone};

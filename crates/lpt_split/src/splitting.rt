@@ -1,23 +1,29 @@
 //! The packets of a message's parts, written one behind the other.
 
-ghost use Rattle.std.specs.Prelude.{◌≡◌, ◌<◌, ◌≤◌, ◌⊎◌, length, true, IfErr, OnOk};
+ghost use Rattle.std.specs.Prelude.{◌≡◌, ◌<◌, ◌≤◌, ◌⊎◌, ◌∷◌, [], length, true, IfErr, OnOk};
 ghost use Rattle.std.specs.Io.KnownBytes.{Appends};
 ghost use Rattle.lpt_part.specs.Splitting.{part_count};
 ghost use Rattle.lpt_events.specs.Configs.{IsConfig};
+ghost use Rattle.lpt_stream.specs.Captures.{record_of};
 ghost use Rattle.lpt_text.specs.Streams.{AppendsPart};
-ghost use Rattle.lpt_split.specs.Splits.{next_count, octets_of, split_of, AreNumbers};
+ghost use Rattle.lpt_split.specs.FormsInside.{front_in, packet_in, packets_in};
+ghost use Rattle.lpt_split.specs.Splits.{next_count, split_of, written_in, AreNumbers};
 
+use crate::Form;
 use crate::packet::{part_at, part_packet};
 use lpt_events::Config;
 use lpt_pus::{Direction, Name};
+use lpt_stream::{capture_header, record_header};
 use lpt_text::{Sink, ToolFault, write_out};
 use std::alloc::Global;
 
-/// Writes the packets of these parts of a message, in this order, one behind the other, of sequence
-/// counts from `first` (0 to 16,383) on, from 16,383 to 0 again.
+/// Writes the packets of these parts of a message, in this order and form, of sequence counts from
+/// `first` (0 to 16,383) on, from 16,383 to 0 again. In a capture each has the configuration's clock
+/// as its time in seconds.
 ///
-/// Errors: `Write` where a write failed; `Memory`. The front part of the packets that was taken
+/// Errors: `Write` where a write failed; `Memory`. The front part of the octets that was taken
 /// before stays written.
+#[tactic(auto, using(crate::proofs::WriteLemmas::written_ok, crate::proofs::WriteLemmas::written_part, crate::proofs::WriteLemmas::front_part))]
 pub fn split<K: Sink>(
     alloc: Global,
     config: &Config,
@@ -26,6 +32,7 @@ pub fn split<K: Sink>(
     message: &[u8],
     numbers: &[u16],
     first: u16,
+    form: Form,
     out: &mut K,
 ) -> Result<(), ToolFault>
     requires config { IsConfig config.now }
@@ -33,15 +40,83 @@ pub fn split<K: Sink>(
     requires short { length message.now ≤ 65542 }
     requires numbers { AreNumbers (part_count (length message.now) config.now.part_size) numbers.now }
     requires first { first ≤ 16383 }
-    ensures ok { OnOk result (Appends (K.contents out.old) (K.contents out.new)
-        (octets_of (split_of config.now direction id message.now first numbers.now))) }
+    ensures ok { OnOk result (Appends (K.contents out.old) (K.contents out.new) (written_in form
+        config.now.clock (split_of config.now direction id message.now first numbers.now))) }
     ensures told { OnOk result (K.failed out.new ≡ K.failed out.old) }
 
     // It fails only by a write that failed, or for want of memory.
     ensures fault { IfErr result (λ e. ((e ≡ ToolFault.Write) × (K.failed out.new ≡ true))
         ⊎ ((e ≡ ToolFault.Memory) × (K.failed out.new ≡ K.failed out.old))) }
     ensures part { IfErr result (λ _. AppendsPart (K.contents out.old) (K.contents out.new)
-        (octets_of (split_of config.now direction id message.now first numbers.now))) }
+        (written_in form config.now.clock
+        (split_of config.now direction id message.now first numbers.now))) }
+{
+    match write_front(form, out) {
+        Ok(()) => {}
+        Err(fault) => return Err(fault),
+    }
+    match write_parts(
+        alloc, config, direction, id, message, numbers, first, form, out,
+    ) {
+        Ok(()) => Ok(()),
+        Err(fault) => Err(fault),
+    }
+}
+
+/// Writes a packet alone in this form, with the configuration's clock as its time in a capture.
+///
+/// Errors: `Write` where a write failed, behind a front part of the octets; `Memory` where a packet
+/// for a capture has more octets than 32 bits count.
+#[tactic(auto, using(crate::proofs::WriteLemmas::alone_ok, crate::proofs::WriteLemmas::alone_part, crate::proofs::WriteLemmas::front_part))]
+pub fn write_alone<K: Sink>(
+    config: &Config,
+    form: Form,
+    packet: &[u8],
+    out: &mut K,
+) -> Result<(), ToolFault>
+    ensures ok { OnOk result (Appends (K.contents out.old) (K.contents out.new)
+        (written_in form config.now.clock (packet.now ∷ []))) }
+    ensures told { OnOk result (K.failed out.new ≡ K.failed out.old) }
+    ensures fault { IfErr result (λ e. ((e ≡ ToolFault.Write) × (K.failed out.new ≡ true))
+        ⊎ ((e ≡ ToolFault.Memory) × (K.failed out.new ≡ K.failed out.old))) }
+    ensures part { IfErr result (λ _. AppendsPart (K.contents out.old) (K.contents out.new)
+        (written_in form config.now.clock (packet.now ∷ []))) }
+{
+    match write_front(form, out) {
+        Ok(()) => {}
+        Err(fault) => return Err(fault),
+    }
+    match write_packet(form, config.clock, packet, out) {
+        Ok(()) => Ok(()),
+        Err(fault) => Err(fault),
+    }
+}
+
+// Writes the packets of these parts, without what stands in front of them.
+fn write_parts<K: Sink>(
+    alloc: Global,
+    config: &Config,
+    direction: Direction,
+    id: Name,
+    message: &[u8],
+    numbers: &[u16],
+    first: u16,
+    form: Form,
+    out: &mut K,
+) -> Result<(), ToolFault>
+    requires config { IsConfig config.now }
+    requires long { config.now.part_size < length message.now }
+    requires short { length message.now ≤ 65542 }
+    requires numbers { AreNumbers (part_count (length message.now) config.now.part_size) numbers.now }
+    requires first { first ≤ 16383 }
+    ensures ok { OnOk result (Appends (K.contents out.old) (K.contents out.new) (packets_in form
+        config.now.clock (split_of config.now direction id message.now first numbers.now))) }
+    ensures told { OnOk result (K.failed out.new ≡ K.failed out.old) }
+    ensures fault { IfErr result (λ e. ((e ≡ ToolFault.Write) × (K.failed out.new ≡ true))
+        ⊎ ((e ≡ ToolFault.Memory) × (K.failed out.new ≡ K.failed out.old))) }
+    ensures part { IfErr result (λ _. AppendsPart (K.contents out.old) (K.contents out.new)
+        (packets_in form config.now.clock
+        (split_of config.now direction id message.now first numbers.now))) }
 {
     let mut count = first;
     for number in numbers {
@@ -49,13 +124,69 @@ pub fn split<K: Sink>(
         let Ok(packet) = part_packet(alloc, config, direction, count, &part) else {
             return Err(ToolFault::Memory);
         };
-        match write_out(out, packet.as_slice()) {
+        match write_packet(form, config.clock, packet.as_slice(), out) {
             Ok(()) => {}
             Err(fault) => return Err(fault),
         }
         count = next_count(count);
     }
     Ok(())
+}
+
+// Writes what stands in front of the packets.
+fn write_front<K: Sink>(form: Form, out: &mut K) -> Result<(), ToolFault>
+    ensures ok { OnOk result (Appends (K.contents out.old) (K.contents out.new) (front_in form)) }
+    ensures told { OnOk result (K.failed out.new ≡ K.failed out.old) }
+    ensures fault { IfErr result (λ e. (e ≡ ToolFault.Write) × (K.failed out.new ≡ true)) }
+    ensures part { IfErr result (λ _.
+        AppendsPart (K.contents out.old) (K.contents out.new) (front_in form)) }
+{
+    match form {
+        Form::Plain => Ok(()),
+        Form::Capture => write_out(out, &capture_header()),
+    }
+}
+
+// Writes a packet in this form, of this time.
+fn write_packet<K: Sink>(form: Form, time: u32, packet: &[u8], out: &mut K) -> Result<(), ToolFault>
+    ensures ok { OnOk result
+        (Appends (K.contents out.old) (K.contents out.new) (packet_in form time packet.now)) }
+    ensures told { OnOk result (K.failed out.new ≡ K.failed out.old) }
+    ensures fault { IfErr result (λ e. ((e ≡ ToolFault.Write) × (K.failed out.new ≡ true))
+        ⊎ ((e ≡ ToolFault.Memory) × (K.failed out.new ≡ K.failed out.old))) }
+    ensures part { IfErr result (λ _.
+        AppendsPart (K.contents out.old) (K.contents out.new) (packet_in form time packet.now)) }
+{
+    match form {
+        Form::Plain => match write_out(out, packet) {
+            Ok(()) => Ok(()),
+            Err(fault) => Err(fault),
+        },
+        Form::Capture => write_record(time, packet, out),
+    }
+}
+
+// Writes the record of a packet.
+fn write_record<K: Sink>(time: u32, packet: &[u8], out: &mut K) -> Result<(), ToolFault>
+    ensures ok { OnOk result
+        (Appends (K.contents out.old) (K.contents out.new) (record_of time packet.now)) }
+    ensures told { OnOk result (K.failed out.new ≡ K.failed out.old) }
+    ensures fault { IfErr result (λ e. ((e ≡ ToolFault.Write) × (K.failed out.new ≡ true))
+        ⊎ ((e ≡ ToolFault.Memory) × (K.failed out.new ≡ K.failed out.old))) }
+    ensures part { IfErr result (λ _.
+        AppendsPart (K.contents out.old) (K.contents out.new) (record_of time packet.now)) }
+{
+    let Ok(size) = u32::try_from(packet.len()) else {
+        return Err(ToolFault::Memory);
+    };
+    match write_out(out, &record_header(time, size)) {
+        Ok(()) => {}
+        Err(fault) => return Err(fault),
+    }
+    match write_out(out, packet) {
+        Ok(()) => Ok(()),
+        Err(fault) => Err(fault),
+    }
 }
 
 // The sequence count after this one.

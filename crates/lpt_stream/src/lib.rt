@@ -8,12 +8,14 @@
 #![tactic(auto)]
 
 mod buffer;
+mod capture;
 mod cutting;
 mod found;
 pub mod laws;
 mod piece_kind;
 
 pub use buffer::PacketBuffer;
+pub use capture::{capture_header, record_header};
 pub use cutting::{packet_length, whole_length};
 pub use found::Found;
 pub use lpt_text::{Sink, Source, ToolFault, write_out};

@@ -1,52 +1,13 @@
-use Rattle.std.proofs.Common.{◌∙◌, ap, refl, subst, length}
-use Rattle.std.specs.Io.KnownBytes.{Appends}
-use Rattle.lpt_part.specs.Splitting.{part_count}
-use Rattle.lpt_events.specs.MadePackets.{part_made}
-use Rattle.lpt_text.specs.Streams.{AppendsPart}
-use Rattle.lpt_split.specs.Splits.{next_count}
-use Rattle.lpt_split.proofs.WriteLemmas.{wrote-more, wrote-part, wrote-part-more, packet_at, octets-next, numbers-next}
+-- The front, and a front part of the packets, were written.
+use Rattle.lpt_split.specs.Splits.{split_of}
+use Rattle.lpt_split.proofs.WriteLemmas.{written_part}
 use Rattle.lpt_split.proofs.splitting.split.Goals as goal
 
--- memory is wanting for a packet
-pub returns-in_default-clause-part : goal.returns-in_default-clause-part
-returns-in_default-clause-part g c = wrote-part _ _ _ _ c.loop-number.invariant.written
-
--- a packet wasn't written whole
-pub returns-in-Err-clause-part : goal.returns-in-Err-clause-part
-returns-in-Err-clause-part g c =
-    let config = c.args.config.now in
-    let d = c.args.direction in
-    let m = c.args.message.now in
-    let ns = c.args.numbers.now in
-    let i = c.loop-number.number-index in
-    let count = c.loop-number.count in
-    let next = octets-next config d c.args.id m ns i count (next_count count) c.loop-number-test.true refl in
-    let is = c.as_slice.ensures.same ∙ c.in-Ok.ensures
-    ∙ ap (part_made config d count 0 config.clock) c.part_at-part.ensures.part in
-    let part = c.in-Err.ensures.part in
-    wrote-part-more _ _ _ (packet_at config d c.args.id m ns i count) _ _ _
-    c.loop-number.invariant.written next
-    (subst (AppendsPart (g.K.Sink.contents c.loop-number.out) (g.K.Sink.contents c.write_out.new.out)) is part)
-
--- a packet was written
-pub loop-number-preserved : goal.loop-number-preserved
-loop-number-preserved g c =
-    let config = c.args.config.now in
-    let d = c.args.direction in
-    let m = c.args.message.now in
-    let ns = c.args.numbers.now in
-    let i = c.loop-number.number-index in
-    let count = c.loop-number.count in
-    let parts = part_count (length m) config.part_size in
-    let next = octets-next config d c.args.id m ns i count c.next_count-count.result c.loop-number-test.true c.next_count-count.ensures.next in
-    let is = c.as_slice.ensures.same ∙ c.in-Ok.ensures
-    ∙ ap (part_made config d count 0 config.clock) c.part_at-part.ensures.part in
-    let all = c.in-Ok-write_out.ensures.ok in
-    record {
-      count = c.next_count-count.ensures.fits;
-      left = numbers-next parts ns i c.loop-number-test.true c.loop-number.invariant.left;
-      written = wrote-more _ _ _ (packet_at config d c.args.id m ns i count) _ _ _
-          c.loop-number.invariant.written next
-          (subst (Appends (g.K.Sink.contents c.loop-number.out) (g.K.Sink.contents c.write_out.new.out)) is all);
-      told = c.in-Ok-write_out.ensures.told ∙ c.loop-number.invariant.told;
-    }
+pub returns-in-Err-write_parts-clause-part : goal.returns-in-Err-write_parts-clause-part
+returns-in-Err-write_parts-clause-part g c =
+    written_part c.args.form c.args.config.now.clock
+    (split_of c.args.config.now c.args.direction c.args.id c.args.message.now c.args.first
+    c.args.numbers.now)
+    (g.K.Sink.contents c.args.out.now) (g.K.Sink.contents c.write_front.new.out)
+    (g.K.Sink.contents c.write_parts.new.out)
+    c.in-Ok.ensures.ok c.in-Err-write_parts.ensures.part

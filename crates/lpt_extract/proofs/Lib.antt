@@ -1,0 +1,4 @@
+mod GiveLemmas
+mod ImageLemmas
+mod ReadLemmas
+mod SeenLemmas

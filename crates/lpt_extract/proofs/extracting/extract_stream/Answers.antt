@@ -1,0 +1,249 @@
+-- Piece after piece, until none is left.
+use Rattle.std.proofs.Common.{◌≡◌, ◌∙◌, inl, inr, ◌++◌, ◌∷◌, [], ℕ, List, take, Option, Ok, Err, Result, Bool, true, false, ap, sym, subst, refl, arith, append-nil}
+use Rattle.std.proofs.KnownBytes.{Consumes-nil, Consumes-trans}
+use Rattle.std.specs.Io.KnownBytes.{Appends, Consumes}
+use Rattle.lpt_stream.specs.declared.found.Found.{Found}
+use Rattle.lpt_stream.specs.Buffers.{held, is_in_step, found_piece, FindsPiece}
+use Rattle.lpt_stream.specs.Pieces.{Piece, keeps_step, packet_before, packets_of}
+use Rattle.lpt_stream.proofs.BufferLemmas.{find-fault}
+use Rattle.lpt_stream.proofs.CutLemmas.{read-none, read-more, read-next, read-end, read-front, read-leads}
+use Rattle.lpt_stream.proofs.LptText.StreamLemmas.{part_whole}
+use Rattle.lpt_stream.specs.LptText.declared.fault.ToolFault.{ToolFault}
+use Rattle.lpt_stream.specs.LptText.declared.fault.ToolFault.TheVariants as tool
+use Rattle.lpt_stream.specs.LptText.Streams.{AppendsPart}
+use Rattle.lpt_memory.specs.declared.request.Area.{Area}
+use Rattle.lpt_extract.specs.Extracts.{areas_in, notices_in, written_first, ExtractLeaves, ExtractsTo}
+use Rattle.lpt_extract.specs.ExtractsInside.{written_last, EndsBy, Held}
+use Rattle.lpt_extract.specs.Notices.{Hears}
+use Rattle.lpt_extract.proofs.GiveLemmas.{ends-by, leaves-last}
+use Rattle.lpt_extract.proofs.ReadLemmas.{Taken, taken-none, taken-next, part-next, if-ok, if-err, find-lost, left-read, left-write, left-last}
+use Rattle.lpt_extract.proofs.extracting.extract_stream.Goals as goal
+
+never : (e : Bool) → e ≡ false → e ≡ true → ⊥
+never e h k = cc
+
+no-fault : (x : Unit {0}) (e : ToolFault) → ◌≡◌ {A = Result (Unit {0}) ToolFault} (Ok x) (Err e) → ⊥
+no-fault x e h = cc
+
+nothing-behind : (a b : Option (List ℕ)) (read : List ℕ) → Consumes a b read → Consumes a b (read ++ [])
+nothing-behind a b read h = subst (Consumes a b) (sym (append-nil read)) h
+
+pub loop-count-init : goal.loop-count-init
+loop-count-init g c =
+    let w = c.args.wanted.now in
+    let out = g.K.Sink.contents c.args.out.now in
+    let heard = g.L.Listener.heard c.args.listener.now in
+    record {
+      read = (
+        [],
+        Consumes-nil (g.S.Source.remaining c.args.source.now),
+        read-none (Taken w c.new-image.result out out heard heard) c.new-buffer.result
+            (taken-none w c.new-image.result out heard c.new-image.ensures.end c.new-image.ensures.octets)
+            c.new-buffer.ensures.held c.new-buffer.ensures.step,
+      );
+      ended = λ e. absurd (never (c.new-buffer.result.ended) c.new-buffer.ensures.end e);
+      heard = refl;
+      told = refl;
+    }
+
+-- the stream is at its end, and nothing is left
+pub returns-in-Ok-None-clause-ends : goal.returns-in-Ok-None-clause-ends
+returns-in-Ok-None-clause-ends g c =
+    let w = c.args.wanted.now in
+    let a = g.S.Source.remaining c.args.source.now in
+    let b = g.S.Source.remaining c.loop-count.source in
+    let d = g.S.Source.remaining c.find_piece.new.source in
+    let old = g.K.Sink.contents c.args.out.now in
+    let mid = g.K.Sink.contents c.loop-count.out in
+    let new = g.K.Sink.contents c.write_image.new.out in
+    let heard = g.L.Listener.heard c.args.listener.now in
+    let hears = g.L.Listener.heard c.loop-count.listener in
+    let found = subst (λ (f : Option Found). FindsPiece (Ok f) c.loop-count.buffer c.find_piece.new.self b d
+    (g.S.Source.failed c.loop-count.source) (g.S.Source.failed c.find_piece.new.source))
+    c.in-Ok-None.field-0-is c.in-Ok-None.ensures in
+    let was = c.loop-count.invariant.read in
+    let P : List Piece → Type 0 = Taken w c.loop-count.image old mid heard hears in
+    let read = read-more P c.loop-count.buffer c.find_piece.new.self b d was.0 found.0
+    c.loop-count.count was.2 found.1 in
+    let areas = areas_in w (packets_of read.pieces) in
+    if-ok (λ end. EndsBy w.at areas end mid new) (λ end. ExtractsTo w end a d old new heard hears)
+    c.write_image.result
+    (λ end by. (
+      was.0 ++ found.0,
+      packets_of read.pieces,
+      Consumes-trans a b d was.0 found.0 was.1 found.1.added.consumed,
+      found.1.at_end c.loop-count.invariant.ended found.3,
+      (read.pieces, read-end P c.find_piece.new.self (was.0 ++ found.0) c.loop-count.count read found.2, refl),
+      (ends-by w.at areas end old mid new read.gives.wrote by, read.gives.told),
+    ))
+    (c.write_image.ensures.ends areas read.gives.held)
+
+pub returns-in-Ok-None-clause-leaves : goal.returns-in-Ok-None-clause-leaves
+returns-in-Ok-None-clause-leaves g c =
+    let w = c.args.wanted.now in
+    let a = g.S.Source.remaining c.args.source.now in
+    let b = g.S.Source.remaining c.loop-count.source in
+    let d = g.S.Source.remaining c.find_piece.new.source in
+    let old = g.K.Sink.contents c.args.out.now in
+    let mid = g.K.Sink.contents c.loop-count.out in
+    let new = g.K.Sink.contents c.write_image.new.out in
+    let heard = g.L.Listener.heard c.args.listener.now in
+    let hears = g.L.Listener.heard c.loop-count.listener in
+    let found = subst (λ (f : Option Found). FindsPiece (Ok f) c.loop-count.buffer c.find_piece.new.self b d
+    (g.S.Source.failed c.loop-count.source) (g.S.Source.failed c.find_piece.new.source))
+    c.in-Ok-None.field-0-is c.in-Ok-None.ensures in
+    let was = c.loop-count.invariant.read in
+    let P : List Piece → Type 0 = Taken w c.loop-count.image old mid heard hears in
+    let read = read-more P c.loop-count.buffer c.find_piece.new.self b d was.0 found.0
+    c.loop-count.count was.2 found.1 in
+    let areas = areas_in w (packets_of read.pieces) in
+    if-err (λ e. (e ≡ tool.Write) × (g.K.Sink.failed c.write_image.new.out ≡ true))
+    (λ e. AppendsPart mid new (written_last w.at areas))
+    (λ e. ExtractLeaves w e a d old new)
+    c.write_image.result
+    (λ e cause part. left-last w a d (was.0 ++ found.0) [] read.pieces
+    (is_in_step c.find_piece.new.self) (held c.find_piece.new.self)
+    (nothing-behind a d (was.0 ++ found.0)
+    (Consumes-trans a b d was.0 found.0 was.1 found.1.added.consumed))
+    (read-leads P c.find_piece.new.self (was.0 ++ found.0) c.loop-count.count read)
+    old new e cause.0 (leaves-last w.at areas old mid new read.gives.wrote part))
+    c.write_image.ensures.fault
+    (c.write_image.ensures.part areas read.gives.held)
+
+-- a piece was taken
+pub loop-count-preserved : goal.loop-count-preserved
+loop-count-preserved g c =
+    let w = c.args.wanted.now in
+    let a = g.S.Source.remaining c.args.source.now in
+    let b = g.S.Source.remaining c.loop-count.source in
+    let d = g.S.Source.remaining c.find_piece.new.source in
+    let old = g.K.Sink.contents c.args.out.now in
+    let mid = g.K.Sink.contents c.loop-count.out in
+    let new = g.K.Sink.contents c.take_piece.new.out in
+    let heard = g.L.Listener.heard c.args.listener.now in
+    let hear = g.L.Listener.heard c.loop-count.listener in
+    let hears = g.L.Listener.heard c.take_piece.new.listener in
+    let f = c.in-Ok-Some.found in
+    let now = c.find_piece.new.self in
+    let found = subst (λ (f : Option Found). FindsPiece (Ok f) c.loop-count.buffer now b d
+    (g.S.Source.failed c.loop-count.source) (g.S.Source.failed c.find_piece.new.source))
+    c.in-Ok-Some.field-0-is c.in-Ok-Some.ensures in
+    let was = c.loop-count.invariant.read in
+    let P : List Piece → Type 0 = Taken w c.loop-count.image old mid heard hear in
+    let Q : List Piece → Type 0 = Taken w c.take_piece.new.image old new heard hears in
+    let read = read-more P c.loop-count.buffer now b d was.0 found.0 c.loop-count.count was.2 found.1 in
+    let p = found_piece now f in
+    let same : take f.len (c.held.result.now) ≡ p.octets = ap (take f.len) c.held.ensures in
+    let step : Q (read.pieces ++ p ∷ []) =
+    taken-next w c.loop-count.image c.take_piece.new.image old mid new heard hear hears read.pieces p
+    read.gives
+    (subst (λ o. (areas : List Area) → Held w.at areas c.loop-count.image
+    → Held w.at (areas ++ areas_in w (packet_before f.kind o [])) c.take_piece.new.image) same
+    c.in-Ok.ensures.held)
+    (subst (λ o. Appends mid new (written_first w.at (areas_in w (packet_before f.kind o [])))) same
+    c.in-Ok.ensures.wrote)
+    (subst (λ o. Hears hear hears (notices_in w (packet_before f.kind o []))) same
+    c.in-Ok.ensures.heard) in
+    record {
+      read = (
+        was.0 ++ found.0,
+        Consumes-trans a b d was.0 found.0 was.1 found.1.added.consumed,
+        read-next P Q now c.skip.new.self f (was.0 ++ found.0) c.loop-count.count read found.2
+            c.skip.ensures.held c.skip.ensures.step c.skip.ensures.end step,
+      );
+      ended = λ e. found.1.at_end c.loop-count.invariant.ended (sym c.skip.ensures.end ∙ e);
+      heard = found.3 ∙ c.loop-count.invariant.heard;
+      told = c.in-Ok.ensures.told (no-fault _ _) ∙ c.loop-count.invariant.told;
+    }
+
+-- a read failed, or memory was wanting
+pub returns-in-Err-clause-leaves : goal.returns-in-Err-clause-leaves
+returns-in-Err-clause-leaves g c =
+    let w = c.args.wanted.now in
+    let a = g.S.Source.remaining c.args.source.now in
+    let b = g.S.Source.remaining c.loop-count.source in
+    let d = g.S.Source.remaining c.find_piece.new.source in
+    let old = g.K.Sink.contents c.args.out.now in
+    let mid = g.K.Sink.contents c.loop-count.out in
+    let heard = g.L.Listener.heard c.args.listener.now in
+    let hear = g.L.Listener.heard c.loop-count.listener in
+    let was = c.loop-count.invariant.read in
+    let P : List Piece → Type 0 = Taken w c.loop-count.image old mid heard hear in
+    let lost = find-lost c.in-Err.fault c.loop-count.buffer c.find_piece.new.self b d
+    (g.S.Source.failed c.loop-count.source) (g.S.Source.failed c.find_piece.new.source) c.in-Err.ensures in
+    left-read w a d was.0 lost.0 was.2.pieces
+    (is_in_step c.loop-count.buffer) (held c.loop-count.buffer)
+    (Consumes-trans a b d was.0 lost.0 was.1 lost.1)
+    (read-leads P c.loop-count.buffer was.0 c.loop-count.count was.2)
+    old mid c.in-Err.fault _ _
+    (find-fault c.in-Err.fault c.loop-count.buffer c.find_piece.new.self b d
+    (g.S.Source.failed c.loop-count.source) (g.S.Source.failed c.find_piece.new.source) c.in-Err.ensures)
+    (part_whole old mid _ was.2.gives.wrote)
+
+-- so many pieces came
+pub returns-clause-leaves : goal.returns-clause-leaves
+returns-clause-leaves g c =
+    let w = c.args.wanted.now in
+    let a = g.S.Source.remaining c.args.source.now in
+    let b = g.S.Source.remaining c.loop-count.source in
+    let old = g.K.Sink.contents c.args.out.now in
+    let mid = g.K.Sink.contents c.loop-count.out in
+    let heard = g.L.Listener.heard c.args.listener.now in
+    let hear = g.L.Listener.heard c.loop-count.listener in
+    let was = c.loop-count.invariant.read in
+    let P : List Piece → Type 0 = Taken w c.loop-count.image old mid heard hear in
+    left-read w a b was.0 [] was.2.pieces
+    (is_in_step c.loop-count.buffer) (held c.loop-count.buffer)
+    (nothing-behind a b was.0 was.1)
+    (read-leads P c.loop-count.buffer was.0 c.loop-count.count was.2)
+    old mid tool.Read Unit Unit (inl (refl, tt))
+    (part_whole old mid _ was.2.gives.wrote)
+
+pub returns-clause-read : goal.returns-clause-read
+returns-clause-read g c =
+    let was = c.loop-count.invariant.read in
+    let most : c.loop-count.count ≡ 18446744073709551615 =
+    grind (arith, c.loop-count.auto.count-end, c.loop-count-test.false) in
+    λ e. inr (
+      was.0,
+      was.2.pieces,
+      is_in_step c.loop-count.buffer,
+      held c.loop-count.buffer,
+      was.1,
+      read-leads (Taken c.args.wanted.now c.loop-count.image (g.K.Sink.contents c.args.out.now)
+          (g.K.Sink.contents c.loop-count.out) (g.L.Listener.heard c.args.listener.now)
+          (g.L.Listener.heard c.loop-count.listener)) c.loop-count.buffer was.0 c.loop-count.count was.2,
+      was.2.count_is ∙ most,
+    )
+
+-- a write failed, or memory was wanting for an area
+pub returns-in-Err-take_piece-clause-leaves : goal.returns-in-Err-take_piece-clause-leaves
+returns-in-Err-take_piece-clause-leaves g c =
+    let w = c.args.wanted.now in
+    let a = g.S.Source.remaining c.args.source.now in
+    let b = g.S.Source.remaining c.loop-count.source in
+    let d = g.S.Source.remaining c.find_piece.new.source in
+    let old = g.K.Sink.contents c.args.out.now in
+    let mid = g.K.Sink.contents c.loop-count.out in
+    let new = g.K.Sink.contents c.take_piece.new.out in
+    let heard = g.L.Listener.heard c.args.listener.now in
+    let hear = g.L.Listener.heard c.loop-count.listener in
+    let f = c.in-Ok-Some.found in
+    let now = c.find_piece.new.self in
+    let found = subst (λ (f : Option Found). FindsPiece (Ok f) c.loop-count.buffer now b d
+    (g.S.Source.failed c.loop-count.source) (g.S.Source.failed c.find_piece.new.source))
+    c.in-Ok-Some.field-0-is c.in-Ok-Some.ensures in
+    let was = c.loop-count.invariant.read in
+    let P : List Piece → Type 0 = Taken w c.loop-count.image old mid heard hear in
+    let read = read-more P c.loop-count.buffer now b d was.0 found.0 c.loop-count.count was.2 found.1 in
+    let p = found_piece now f in
+    let same : take f.len (c.held.result.now) ≡ p.octets = ap (take f.len) c.held.ensures in
+    left-write w a d (was.0 ++ found.0) [] (read.pieces ++ p ∷ [])
+    (keeps_step f.kind) _
+    (nothing-behind a d (was.0 ++ found.0)
+    (Consumes-trans a b d was.0 found.0 was.1 found.1.added.consumed))
+    (read-front P now f (was.0 ++ found.0) c.loop-count.count read found.2)
+    old new c.in-Err-take_piece.fault c.in-Err-take_piece.ensures.fault
+    (part-next w c.loop-count.image old mid new heard hear read.pieces p read.gives
+    (subst (λ o. AppendsPart mid new (written_first w.at (areas_in w (packet_before f.kind o [])))) same
+    c.in-Err-take_piece.ensures.part))

@@ -1,0 +1,44 @@
+-- The image of the areas, and of one more.
+use Rattle.std.proofs.Common.{◌≡◌, ◌∙◌, ap, sym, ◌-◌, ◌++◌, ◌∷◌, [], length, max, drop, replicate, arith}
+use Rattle.lpt_memory.specs.declared.request.Area.{Area}
+use Rattle.lpt_memory.specs.Memories.{put_at}
+use Rattle.lpt_extract.specs.Areas.{end_of, extent}
+use Rattle.lpt_extract.specs.ImagesInside.{end_of_image, octets_of_image}
+use Rattle.lpt_extract.proofs.ImageLemmas.{extent-more, image-more}
+use Rattle.lpt_extract.proofs.image.Image.put.Goals as goal
+
+-- it is too large
+pub returns-in_default : goal.returns-in_default
+returns-in_default c = λ areas h.
+    let a : Area = record { address = c.args.address; octets = c.args.octets.now } in
+    let end : end_of_image c.reach.new.self ≡ extent (areas ++ a ∷ []) =
+    c.reach.ensures.end ∙ ap (λ e. max e (end_of a)) h.end_is ∙ sym (extent-more areas a) in
+    record {
+      end_is = end;
+      octets_are = λ fits. absurd (omega (arith, end, fits, c.in_default.ensures));
+    }
+
+-- the area was put over it
+pub returns : goal.returns
+returns c = λ areas h.
+    let a : Area = record { address = c.args.address; octets = c.args.octets.now } in
+    let from = c.args.place.now.from in
+    let fill = c.args.place.now.fill in
+    let old = octets_of_image c.args.self.now in
+    let reached : end_of_image c.reach.new.self ≡ max (extent areas) (end_of a) =
+    c.reach.ensures.end ∙ ap (λ e. max e (end_of a)) h.end_is in
+    let more = extent-more areas a in
+    let size : c.in-Some.size ≡ max (extent areas) (end_of a) - from =
+    c.in-Some.ensures.0 ∙ ap (λ e. e - from) reached in
+    record {
+      end_is = c.lay.ensures.end ∙ c.in_ok-grow.ensures.end ∙ reached ∙ sym more;
+      octets_are = λ fits.
+          let was = h.octets_are (omega (arith, fits, more)) in
+          c.lay.ensures.octets
+          ∙ ap (λ o. put_at o (a.address - from) (drop (from - a.address) a.octets)) (
+          c.in_ok-grow.ensures.octets
+          ∙ ap (λ o. o ++ replicate (c.in-Some.size - length o) fill) c.reach.ensures.octets
+          ∙ ap (λ n. old ++ replicate (n - length old) fill) size
+          )
+          ∙ image-more from fill areas a old was;
+    }

@@ -1,0 +1,7 @@
+pub mod Areas
+pub mod Extracts
+pub mod ExtractsInside
+pub mod ImagesInside
+pub mod Notices
+pub mod Reports
+pub mod ReportsInside

@@ -1,0 +1,25 @@
+-- What is told of dump reports.
+use Rattle.std.specs.Prelude.{◌≡◌, ◌==◌, Bool, if◌then◌else◌, ℕ, List, ◌++◌, length, Option, Some, None, ⊤}
+use Rattle.lpt_memory.specs.LptPacket.Checksums.{checksum}
+use Rattle.lpt_memory.specs.Requests.{LoadArea}
+use Rattle.lpt_extract.specs.declared.notice.Notice.{Notice}
+use Rattle.lpt_extract.specs.declared.notice.Notice.TheVariants.{Taken, WrongChecksum}
+use Rattle.lpt_extract.specs.declared.notice.Span.{Span}
+
+-- what is known to have been told grows by these
+abbrev pub Hears : (old new : Option (List Notice)) → List Notice → Type 0
+Hears None new ns = ⊤
+Hears (Some xs) None ns = ⊥
+Hears (Some xs) (Some ys) ns = ys ≡ xs ++ ns
+
+-- where the octets of an area stand
+abbrev pub span : ℕ → LoadArea → Span
+span m a = record { memory = m; address = a.address; len = length a.octets }
+
+-- whether the checksum of an area is right
+abbrev pub is_whole : LoadArea → Bool
+is_whole a = checksum a.octets == a.checksum
+
+-- what is told of an area
+abbrev pub notice : ℕ → LoadArea → Notice
+notice m a = if is_whole a then Taken (span m a) else WrongChecksum (span m a)

@@ -1,0 +1,56 @@
+//! The octets of dump reports, extracted from a stream as it comes.
+
+ghost use Rattle.std.specs.Prelude.{◌≡◌, ◌≢◌, ◌⊎◌, true, Err, IfErr, IfOk, IsErrOf};
+ghost use Rattle.lpt_stream.specs.Reads.{IsEndless};
+ghost use Rattle.lpt_extract.specs.Extracts.{ExtractLeaves, ExtractsTo};
+
+use crate::image::Image;
+use crate::taking::{take_piece, write_image};
+use crate::{ExtractEnd, Listener, Wanted};
+use lpt_stream::{PacketBuffer, Sink, Source, ToolFault};
+use std::alloc::Global;
+
+/// Reads a stream of packets to its end, and writes what is wanted of the dump reports among them:
+/// the octets of each area, as it comes; or at the end an image, in which of two areas that overlap
+/// the later one wins. The listener is told of each area and each report that isn't read.
+///
+/// Errors: `Read` where a read failed, or where 2^64 - 1 pieces came; `Write` where a write failed;
+/// `Memory`. A front part of the octets stays written; of an image, only where a write failed.
+pub fn extract_stream<S: Source, K: Sink, L: Listener>(
+    alloc: Global,
+    wanted: &Wanted,
+    source: &mut S,
+    out: &mut K,
+    listener: &mut L,
+) -> Result<ExtractEnd, ToolFault>
+    ensures ends { IfOk result (λ end. ExtractsTo wanted.now end
+        (S.remaining source.old) (S.remaining source.new) (K.contents out.old) (K.contents out.new)
+        (L.heard listener.old) (L.heard listener.new)) }
+
+    // Each fault is that of a read, of a write or of memory.
+    ensures leaves { IfErr result (λ e. ExtractLeaves wanted.now e
+        (S.remaining source.old) (S.remaining source.new)
+        (K.contents out.old) (K.contents out.new)) }
+    ensures read { IsErrOf result ToolFault.Read → (S.failed source.new ≡ true)
+        ⊎ IsEndless (S.remaining source.old) (S.remaining source.new) }
+    ensures heard { result ≢ Err ToolFault.Read → S.failed source.new ≡ S.failed source.old }
+    ensures cause { IsErrOf result ToolFault.Write → K.failed out.new ≡ true }
+    ensures told { result ≢ Err ToolFault.Write → K.failed out.new ≡ K.failed out.old }
+{
+    let mut buffer = PacketBuffer::new(alloc);
+    let mut image = Image::new(alloc);
+    for count in 0..u64::MAX {
+        let found = match buffer.find_piece(source) {
+            Ok(Some(found)) => found,
+            Ok(None) => return write_image(wanted, &image, out),
+            Err(fault) => return Err(fault),
+        };
+        let octets = &buffer.held()[..found.len];
+        match take_piece(alloc, wanted, found.kind, octets, &mut image, out, listener) {
+            Ok(()) => {}
+            Err(fault) => return Err(fault),
+        }
+        buffer.skip(found);
+    }
+    Err(ToolFault::Read)
+}

@@ -1,0 +1,115 @@
+//! The octets of areas at their places.
+
+ghost use Rattle.std.specs.Prelude.{◌≤◌, length};
+
+use crate::Place;
+use std::alloc::{AllocError, Global};
+
+/// The most octets of an image.
+const IMAGE_LIMIT: u64 = 268_435_456;
+
+/// An image of a memory, as far as areas give it.
+#[derive(Drop)]
+pub(crate) struct Image {
+    octets: Vec<u8>,
+    // Where the area ends that ends last.
+    end: u64,
+}
+
+impl Image {
+    ghost use Rattle.std.specs.Prelude.{◌≡◌, ◌+◌, ◌-◌, ◌++◌, ◌∷◌, List, [], drop, replicate, max, OnOk};
+    ghost use Rattle.lpt_memory.specs.declared.request.Area.{Area};
+    ghost use Rattle.lpt_memory.specs.Memories.{put_at};
+    ghost use Rattle.lpt_extract.specs.ImagesInside.{end_of_image, octets_of_image, Imaged, IsSize};
+
+    // Of no areas.
+    pub(crate) fn new(alloc: Global) -> Image
+        ensures octets { octets_of_image result ≡ [] }
+        ensures end { end_of_image result ≡ 0 }
+    {
+        Image {
+            octets: Vec::new(alloc),
+            end: 0,
+        }
+    }
+
+    // Where the area ends that ends last.
+    pub(crate) fn end(&self) -> u64
+        ensures { result ≡ end_of_image self.now }
+    {
+        self.end
+    }
+
+    // The octets.
+    pub(crate) fn octets(&self) -> &[u8]
+        ensures { result.now ≡ octets_of_image self.now }
+    {
+        self.octets.as_slice()
+    }
+
+    // Notes an area of so many octets.
+    pub(crate) fn reach(&mut self, address: u32, len: usize)
+        requires { len ≤ 65535 }
+        ensures end { end_of_image self.new ≡ max (end_of_image self.old) (address + len) }
+        ensures octets { octets_of_image self.new ≡ octets_of_image self.old }
+    {
+        self.end = self.end.max(u64::from(address) + len as u64);
+    }
+
+    // How many octets it has from an address on, where they aren't too many.
+    pub(crate) fn size(&self, from: u32) -> Option<usize>
+        ensures { IsSize (end_of_image self.now - from) result }
+    {
+        let size = self.end.saturating_sub(u64::from(from));
+        if size > IMAGE_LIMIT {
+            return None;
+        }
+        Some(size as usize)
+    }
+
+    // Puts an area over the octets. The only error is want of memory.
+    pub(crate) fn put(
+        &mut self,
+        place: &Place,
+        address: u32,
+        octets: &[u8],
+    ) -> Result<(), AllocError>
+        requires { length octets.now ≤ 65535 }
+        ensures { (areas : List Area) → Imaged place.now areas self.old
+            → OnOk result (Imaged place.now
+            (areas ++ record { address = address; octets = octets.now } ∷ []) self.new) }
+    {
+        self.reach(address, octets.len());
+        let Some(size) = self.size(place.from) else {
+            return Ok(());
+        };
+        self.grow(size, place.fill)?;
+        self.lay(place.from, address, octets);
+        Ok(())
+    }
+
+    // Makes it so long, where it is shorter. The only error is want of memory.
+    fn grow(&mut self, size: usize, fill: u8) -> Result<(), AllocError>
+        ensures octets { OnOk result (octets_of_image self.new ≡ octets_of_image self.old
+            ++ replicate (size - length (octets_of_image self.old)) fill) }
+        ensures end { end_of_image self.new ≡ end_of_image self.old }
+    {
+        if self.octets.len() < size {
+            self.octets.resize(size, fill)?;
+        }
+        Ok(())
+    }
+
+    // Lays octets over others, as far as they stand at or behind an address.
+    fn lay(&mut self, from: u32, address: u32, octets: &[u8])
+        requires { address + length octets.now - from ≤ length (octets_of_image self.old) }
+        ensures octets { octets_of_image self.new ≡ put_at (octets_of_image self.old)
+            (address - from) (drop (from - address) octets.now) }
+        ensures end { end_of_image self.new ≡ end_of_image self.old }
+    {
+        let skipped = from.saturating_sub(address) as usize;
+        let at = address.saturating_sub(from) as usize;
+        let rest = &octets[skipped.min(octets.len())..];
+        self.octets[at..at + rest.len()].copy_from_slice(rest);
+    }
+}

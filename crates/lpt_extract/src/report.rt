@@ -1,0 +1,143 @@
+//! Dump reports, read.
+
+ghost use Rattle.std.specs.Prelude.{◌≡◌, map, option_map, IfOk};
+ghost use Rattle.std.specs.Option.{option_and_then};
+ghost use Rattle.lpt_memory.specs.Fields.{all_areas};
+ghost use Rattle.lpt_memory.specs.LptPacket.Packets.{fields};
+ghost use Rattle.lpt_memory.specs.LptPus.Messages.{for_apid};
+ghost use Rattle.lpt_memory.specs.LptPus.Telemetry.{telemetry_in, tm_verdict};
+ghost use Rattle.lpt_memory.specs.Requests.{front_head, front_load_area};
+ghost use Rattle.lpt_extract.specs.Reports.{body_report, dump_body, report_in};
+ghost use Rattle.lpt_extract.specs.ReportsInside.{load_area, said};
+
+use crate::fields::{long, octet, part, word};
+use crate::seen_area::SeenArea;
+use lpt_memory::{Packet, Seen, read_packet, read_tm, seen_is_read};
+use std::alloc::{AllocError, Global};
+
+/// The service type of memory management.
+const MEMORY: u8 = 6;
+
+/// The message subtype of a report that answers a dump.
+const DUMP_REPORT: u8 = 6;
+
+/// What octets say of a memory.
+#[derive(Drop)]
+pub(crate) enum Report<'a> {
+    /// They are no dump report.
+    Other,
+    /// They are one whose body, of so many octets, isn't read.
+    Unread(usize),
+    /// They are one of this memory.
+    Areas(u8, Vec<SeenArea<'a>>),
+}
+
+// The dump report of this APID that octets are. The only error is want of memory.
+#[tactic(auto, unfolding(crate::specs::Reports::report_in))]
+pub(crate) fn read_report<'a>(
+    alloc: Global,
+    apid: u16,
+    octets: &'a [u8],
+) -> Result<Report<'a>, AllocError>
+    ensures { IfOk result (λ r. said r ≡ report_in apid octets.now) }
+{
+    match dump_body_in(apid, octets) {
+        None => Ok(Report::Other),
+        Some(body) => read_body(alloc, body),
+    }
+}
+
+// The body of the dump report that octets are.
+fn dump_body_in<'a>(apid: u16, octets: &'a [u8]) -> Option<&'a [u8]>
+    ensures { option_map (λ b. b.now) result
+        ≡ option_and_then dump_body (telemetry_in apid octets.now) }
+{
+    seen_is_read();
+    match read_packet(octets) {
+        Ok(Seen::Packet(packet)) => dump_body_of(apid, &packet),
+        Ok(Seen::Idle) => None,
+        Err(_) => None,
+    }
+}
+
+// The body of the dump report that a packet is.
+fn dump_body_of<'a>(apid: u16, packet: &Packet<'a>) -> Option<&'a [u8]>
+    ensures { option_map (λ b. b.now) result ≡ option_and_then dump_body
+        (for_apid (λ t. t.apid) apid (tm_verdict (fields packet.now))) }
+{
+    let Ok((head, body)) = read_tm(packet) else {
+        return None;
+    };
+    if head.apid != apid || head.service != MEMORY || head.subtype != DUMP_REPORT {
+        return None;
+    }
+    Some(body)
+}
+
+// What the body of a dump report says. The only error is want of memory.
+#[tactic(auto, unfolding(crate::specs::Reports::body_report, lpt_memory::specs::Requests::request_in))]
+fn read_body<'a>(alloc: Global, body: &'a [u8]) -> Result<Report<'a>, AllocError>
+    ensures { IfOk result (λ r. said r ≡ body_report body.now) }
+{
+    let Some((memory, count, rest)) = head(body) else {
+        return Ok(Report::Unread(body.len()));
+    };
+    match read_areas(alloc, count, rest)? {
+        Some(areas) => Ok(Report::Areas(memory, areas)),
+        None => Ok(Report::Unread(body.len())),
+    }
+}
+
+// The memory, the number of areas, and what is behind them.
+#[tactic(auto, unfolding(lpt_memory::specs::Requests::front_head))]
+fn head(body: &[u8]) -> Option<(u8, u8, &[u8])>
+    ensures { option_map (λ x. (x.0, x.1, x.2.now)) result ≡ front_head body.now }
+{
+    let (memory, rest) = octet(body)?;
+    let (count, rest) = octet(rest)?;
+    if count == 0 {
+        return None;
+    }
+    Some((memory, count, rest))
+}
+
+// So many areas, with nothing behind them. The only error is want of memory.
+fn read_areas<'a>(
+    alloc: Global,
+    count: u8,
+    octets: &'a [u8],
+) -> Result<Option<Vec<SeenArea<'a>>>, AllocError>
+    ensures { IfOk result (λ r. option_map (λ v. map load_area v.items) r
+        ≡ all_areas front_load_area count octets.now) }
+{
+    let mut areas = Vec::with_capacity(alloc, usize::from(count))?;
+    let mut rest = octets;
+    for _ in 0..count {
+        let Some((area, behind)) = read_area(rest) else {
+            return Ok(None);
+        };
+        areas.push(area)?;
+        rest = behind;
+    }
+    if !rest.is_empty() {
+        return Ok(None);
+    }
+    Ok(Some(areas))
+}
+
+// The area that stands first, and what is behind it.
+#[tactic(auto, unfolding(lpt_memory::specs::Requests::front_load_area))]
+fn read_area<'a>(octets: &'a [u8]) -> Option<(SeenArea<'a>, &'a [u8])>
+    ensures { option_map (λ x. (load_area x.0, x.1.now)) result ≡ front_load_area octets.now }
+{
+    let (address, rest) = long(octets)?;
+    let (len, rest) = word(rest)?;
+    let (text, rest) = part(rest, len)?;
+    let (checksum, rest) = word(rest)?;
+    let area = SeenArea {
+        address,
+        octets: text,
+        checksum,
+    };
+    Some((area, rest))
+}

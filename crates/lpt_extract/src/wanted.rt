@@ -1,0 +1,47 @@
+//! What is wanted of dump reports.
+
+/// Which octets are wanted, and as what.
+#[derive(Clone, Copy, Debug)]
+pub struct Wanted {
+    /// The application process identifier of the reports.
+    pub apid: u16,
+    /// The image that is wanted; without one, the octets of all areas, in the order in which they
+    /// stand.
+    pub at: Option<Place>,
+}
+
+/// An image of one memory.
+#[derive(Clone, Copy, Debug)]
+pub struct Place {
+    /// The memory's identifier.
+    pub memory: u8,
+    /// The address of the image's first octet.
+    pub from: u32,
+    /// The octet that stands where no area gives one.
+    pub fill: u8,
+}
+
+impl Wanted {
+    ghost use Rattle.std.specs.Prelude.{◌≡◌};
+    ghost use Rattle.lpt_extract.specs.Extracts.{is_of, start};
+
+    // Whether the areas of this memory are wanted.
+    pub(crate) fn is_of(&self, memory: u8) -> bool
+        ensures { result ≡ is_of self.now.at memory }
+    {
+        match self.at {
+            None => true,
+            Some(place) => place.memory == memory,
+        }
+    }
+
+    // The address of the first octet that is wanted.
+    pub(crate) fn start(&self) -> u64
+        ensures { result ≡ start self.now.at }
+    {
+        match self.at {
+            None => 0,
+            Some(place) => u64::from(place.from),
+        }
+    }
+}
