@@ -2,4 +2,5 @@ pub mod Keys
 pub mod MemoryTables
 pub mod Modes
 pub mod Numbers
+pub mod Places
 pub mod Settings

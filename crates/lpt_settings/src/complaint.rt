@@ -1,6 +1,6 @@
 //! What is told of a configuration that is refused.
 
-ghost use Rattle.std.specs.Prelude.{◌≡◌, not, is_some, option_and_then, IfOk};
+ghost use Rattle.std.specs.Prelude.{◌≡◌, None, Some, not, is_some, option_and_then, IfOk, IfSome};
 ghost use Rattle.toml.specs.Parse.{parse_document};
 ghost use Rattle.lpt_settings.specs.Settings.{settings_of};
 
@@ -26,12 +26,16 @@ pub struct Complaint {
 
 impl Complaint {
     /// The line, counted from 1. `None` where no line begins with the key, as where escapes spell it.
-    pub fn line(&self) -> Option<usize> {
+    pub fn line(&self) -> Option<usize>
+        ensures { result ≡ self.now.line }
+    {
         self.line
     }
 
     /// Why the configuration is refused.
-    pub fn reason(&self) -> Reason {
+    pub fn reason(&self) -> Reason
+        ensures { result ≡ self.now.reason }
+    {
         self.reason
     }
 }
@@ -52,6 +56,10 @@ pub fn why_refused(alloc: Global, text: &str) -> Result<Option<Complaint>, Alloc
     // There is one exactly where the text isn't a TOML document, or its table means no settings.
     ensures found { IfOk result (λ c. not (is_some c)
         ≡ is_some (option_and_then settings_of (parse_document text.now))) }
+
+    // That the text is no TOML document is told where it is none.
+    ensures reason { parse_document text.now ≡ None
+        → IfOk result (λ c. IfSome c (λ it. it.reason ≡ Reason.NotToml)) }
 {
     match toml::table_from_str(alloc, text) {
         Ok(table) => match judge(&table) {
@@ -62,20 +70,29 @@ pub fn why_refused(alloc: Global, text: &str) -> Result<Option<Complaint>, Alloc
             let Some(span) = error.span() else {
                 return Err(AllocError);
             };
-            let message = error.message();
-            let words = format!(in alloc; ": {message}")?;
-            Ok(Some(Complaint {
-                line: Some(line_at(text, span.start)),
-                place: String::new(alloc),
-                reason: Reason::NotToml,
-                words,
-            }))
+            let line = line_at(text, span.start);
+            Ok(Some(not_toml(alloc, line, error.message())?))
         }
     }
 }
 
-// The same with its place in the text.
-fn told(alloc: Global, text: &str, wrong: Wrong<'_>) -> Result<Complaint, AllocError> {
+// What the reader of TOML says of a text, of this line.
+fn not_toml(alloc: Global, line: usize, message: &str) -> Result<Complaint, AllocError>
+    ensures line { IfOk result (λ c. c.line ≡ Some line) }
+    ensures reason { IfOk result (λ c. c.reason ≡ Reason.NotToml) }
+{
+    Ok(Complaint {
+        line: Some(line),
+        place: String::new(alloc),
+        reason: Reason::NotToml,
+        words: format!(in alloc; ": {message}")?,
+    })
+}
+
+// What is wrong with a table, with its place in the text.
+fn told(alloc: Global, text: &str, wrong: Wrong<'_>) -> Result<Complaint, AllocError>
+    ensures { IfOk result (λ c. c.reason ≡ wrong.entry.reason) }
+{
     Ok(Complaint {
         line: line_of(text, wrong.memory, wrong.key),
         place: print_place(alloc, wrong.memory, wrong.key)?,

@@ -1,10 +1,10 @@
 //! The keys of a table.
 
-ghost use Rattle.std.specs.Prelude.{◌≡◌, map, string_bytes};
+ghost use Rattle.std.specs.Prelude.{◌≡◌, map, not, option_map, string_bytes};
 ghost use Rattle.std.specs.BTreeMap.{keys};
-ghost use Rattle.std.specs.List.{list_all};
+ghost use Rattle.std.specs.List.{find, list_all};
 ghost use Rattle.toml.specs.View.{table_view};
-ghost use Rattle.lpt_settings.specs.Keys.{is_one_of, has_only};
+ghost use Rattle.lpt_settings.specs.Keys.{is_one_of, has_only, unknown_key};
 
 use toml::Table;
 
@@ -42,13 +42,21 @@ fn are_keys_among(table: &Table, words: &[&str]) -> bool
 }
 
 // The first key of the table that is none of the words; the empty text where each is one.
-pub(crate) fn unknown_key<'t>(table: &'t Table, words: &[&str]) -> &'t str {
-    for key in table.keys() {
-        if !is_one_of(key.as_str(), words) {
-            return key.as_str();
-        }
+pub(crate) fn unknown_key<'t>(table: &'t Table, words: &[&str]) -> &'t str
+    ensures { result.now ≡ unknown_key (map (λ w. w.now) words.now) (table_view table.now) }
+{
+    match first_unknown(table, words) {
+        Some(key) => key.as_str(),
+        None => "",
     }
-    ""
+}
+
+// The first key of the map that is none of the words.
+fn first_unknown<'t>(table: &'t Table, words: &[&str]) -> Option<&'t String>
+    ensures { option_map (λ key. key.now) result ≡ find
+        (λ key. not (is_one_of (map (λ w. w.now) words.now) (string_bytes key))) (keys table.now) }
+{
+    table.keys().find(|key| !is_one_of(key.as_str(), words))
 }
 
 // Whether the key is one of the words.

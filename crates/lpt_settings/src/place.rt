@@ -1,14 +1,26 @@
 //! Where something stands in the text of a configuration file, as its lines begin.
 
-ghost use Rattle.std.specs.Prelude.{◌≤◌, length};
+ghost use Rattle.std.specs.Prelude.{◌≡◌, ◌≤◌, length};
+ghost use Rattle.lpt_settings.specs.Places.{line_at, line_ends};
 
 // The line of the octet of this place, counted from 1.
-pub(crate) fn line_at(text: &str, place: usize) -> usize {
-    let before = text.as_bytes().iter().take(place);
-    before
-        .filter(|octet| **octet == b'\n')
-        .count()
-        .saturating_add(1)
+#[tactic(auto, using(std::proofs::lemmas::List::take_all))]
+pub(crate) fn line_at(text: &str, place: usize) -> usize
+    ensures { result ≡ line_at text.now place }
+{
+    let octets = text.as_bytes();
+    match octets.get(..place) {
+        Some(before) => line_ends(before) + 1,
+        None => line_ends(octets) + 1,
+    }
+}
+
+// How many lines end in the octets.
+fn line_ends(octets: &[u8]) -> usize
+    ensures value { result ≡ line_ends octets.now }
+    ensures few { result ≤ length octets.now }
+{
+    octets.iter().filter(|octet| **octet == b'\n').count()
 }
 
 // The line of a key, counted from 1: at the top, or in the memory of this place.

@@ -3,6 +3,7 @@ pub mod Doing
 pub mod Entering
 pub mod FaultNames
 pub mod Origins
+pub mod Seats
 pub mod Turns
 pub mod WholeRuns
 pub use Rattle.lpt_audit.specs.LptPacket as LptPacket

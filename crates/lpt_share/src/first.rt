@@ -1,5 +1,11 @@
 //! The seats of a run at its beginning: who tells whom, and the first notices.
 
+ghost use Rattle.std.specs.Prelude.{◌≡◌, ◌≤◌, true, None, is_some, vec_len, IfOk};
+ghost use Rattle.lpt_audit.specs.LptJournal.Senders.{opened, sender};
+ghost use Rattle.lpt_audit.specs.LptWorld.LptNode.Nodes.{is_open};
+ghost use Rattle.lpt_audit.specs.LptWorld.Worlds.{history, state_shown};
+ghost use Rattle.lpt_share.specs.Seats.{is_task, names_in, AreOpenNames, AreOutlets, AreSeats, IsSeat};
+
 use crate::notices::{Outlets, send};
 use crate::task::{Seat, Task};
 use crossbeam_channel::{Receiver, Sender, unbounded};
@@ -27,7 +33,10 @@ struct Channels {
 /// All seats, from 1 to 10. They have notices of what stands in the world: each held packet, each
 /// job that waits, and each open transaction by rising identifier. No end of a channel is left that
 /// no seat has. Errors: want of memory.
-pub fn all_seats<R: Wait>(alloc: Global, rt: &R, world: &World) -> Result<Vec<Seat>, AllocError> {
+pub fn all_seats<R: Wait>(alloc: Global, rt: &R, world: &World) -> Result<Vec<Seat>, AllocError>
+    ensures count { IfOk result (λ v. vec_len v ≡ 10) }
+    ensures seats { IfOk result (λ v. AreSeats 1 v.items) }
+{
     let channels = new_channels(alloc)?;
     let seats = told_seats(alloc, rt, world, &channels);
     drop(channels);
@@ -40,7 +49,10 @@ fn told_seats<R: Wait>(
     rt: &R,
     world: &World,
     channels: &Channels,
-) -> Result<Vec<Seat>, AllocError> {
+) -> Result<Vec<Seat>, AllocError>
+    ensures count { IfOk result (λ v. vec_len v ≡ 10) }
+    ensures seats { IfOk result (λ v. AreSeats 1 v.items) }
+{
     tell_packets(rt, world, channels)?;
     tell_jobs(rt, world, &channels.jobs.to)?;
     tell_opened(alloc, rt, world, Direction::Up, &channels.opened_up.to)?;
@@ -109,19 +121,45 @@ fn tell_opened<R: Wait>(
 
 // The names of the open transactions of a direction, rising. One that was opened more than once may
 // stand there as often.
-fn open_names(alloc: Global, world: &World, direction: Direction) -> Result<Vec<Name>, AllocError> {
-    let mut names = Vec::new(alloc);
-    for opening in world.opened() {
-        if opening.direction == direction && world.sender(direction, opening.id) == State::Open {
-            names.push(opening.id)?;
-        }
-    }
+fn open_names(alloc: Global, world: &World, direction: Direction) -> Result<Vec<Name>, AllocError>
+    ensures { IfOk result (λ v. AreOpenNames direction world.now v.items) }
+{
+    let mut names = names_in(alloc, world, direction)?;
     names.sort()?;
     Ok(names)
 }
 
+// The same in order of opening.
+fn names_in(alloc: Global, world: &World, direction: Direction) -> Result<Vec<Name>, AllocError>
+    ensures { IfOk result (λ v. v.items ≡ names_in direction world.now (opened (history world.now))) }
+{
+    let mut names = Vec::new(alloc);
+    let mut rest = world.opened();
+    while let Some((opening, later)) = rest.split_first() {
+        if opening.direction == direction && is_open(world, direction, opening.id) {
+            names.push(opening.id)?;
+        }
+        rest = later;
+    }
+    Ok(names)
+}
+
+// Whether a transaction is open.
+fn is_open(world: &World, direction: Direction, id: Name) -> bool
+    ensures { result ≡ is_open (state_shown (sender (history world.now) direction id)) }
+{
+    match world.sender(direction, id) {
+        State::Open => true,
+        State::Free | State::Closed => false,
+    }
+}
+
 // The ten seats, each with its ends of the channels.
-fn seats(alloc: Global, channels: &Channels) -> Result<Vec<Seat>, AllocError> {
+#[tactic(auto, using(crate::proofs::SeatLemmas::one_more))]
+fn seats(alloc: Global, channels: &Channels) -> Result<Vec<Seat>, AllocError>
+    ensures count { IfOk result (λ v. vec_len v ≡ 10) }
+    ensures seats { IfOk result (λ v. AreSeats 1 v.items) }
+{
     let mut all = Vec::new(alloc);
     for seat in 1..=10 {
         all.push(seat_of(seat, channels)?)?;
@@ -130,7 +168,11 @@ fn seats(alloc: Global, channels: &Channels) -> Result<Vec<Seat>, AllocError> {
 }
 
 // The seat of this number.
-fn seat_of(seat: u8, channels: &Channels) -> Result<Seat, AllocError> {
+fn seat_of(seat: u8, channels: &Channels) -> Result<Seat, AllocError>
+    requires least { 1 ≤ seat }
+    requires greatest { seat ≤ 10 }
+    ensures { IfOk result (λ it. IsSeat seat it) }
+{
     let task = task_of(seat, channels)?;
     Ok(Seat {
         seat,
@@ -140,7 +182,11 @@ fn seat_of(seat: u8, channels: &Channels) -> Result<Seat, AllocError> {
 }
 
 // What the seat of this number does.
-fn task_of(seat: u8, channels: &Channels) -> Result<Task, AllocError> {
+fn task_of(seat: u8, channels: &Channels) -> Result<Task, AllocError>
+    requires least { 1 ≤ seat }
+    requires greatest { seat ≤ 10 }
+    ensures { IfOk result (λ task. is_task seat task ≡ true) }
+{
     Ok(match seat {
         1 => Task::Lane(Lane::S1, channels.up.from.clone()?),
         2 => Task::Lane(Lane::S2, channels.up.from.clone()?),
@@ -156,7 +202,11 @@ fn task_of(seat: u8, channels: &Channels) -> Result<Task, AllocError> {
 }
 
 // Whom the seat of this number tells. Seats 3, 4 and 6 tell nobody.
-fn outlets_of(seat: u8, channels: &Channels) -> Result<Outlets, AllocError> {
+fn outlets_of(seat: u8, channels: &Channels) -> Result<Outlets, AllocError>
+    requires least { 1 ≤ seat }
+    requires greatest { seat ≤ 10 }
+    ensures { IfOk result (λ out. AreOutlets seat out) }
+{
     match seat {
         1 | 2 => Ok(Outlets {
             packets: Some(channels.down.to.clone()?),
@@ -177,7 +227,12 @@ fn outlets_of(seat: u8, channels: &Channels) -> Result<Outlets, AllocError> {
 }
 
 // What a seat tells that only puts packets.
-fn puts_on(packets: &Sender<u64>) -> Result<Outlets, AllocError> {
+fn puts_on(packets: &Sender<u64>) -> Result<Outlets, AllocError>
+    ensures packets { IfOk result (λ out. is_some out.packets ≡ true) }
+    ensures jobs { IfOk result (λ out. out.jobs ≡ None) }
+    ensures opened { IfOk result (λ out. out.opened ≡ None) }
+    ensures told { IfOk result (λ out. out.told ≡ 0) }
+{
     Ok(Outlets {
         packets: Some(packets.clone()?),
         jobs: None,

@@ -1,6 +1,9 @@
 //! Notices: how a seat tells others that there is work. A notice is a hint; what it leads to may be
 //! refused.
 
+ghost use Rattle.std.specs.Prelude.{◌≡◌, None, vec_len, OnOk};
+ghost use Rattle.lpt_share.specs.Seats.{releases};
+
 use crossbeam_channel::{SendError, Sender};
 use lpt_audit::{Answer, Applied, Call, Name, Outcome, Reply, SeatLog};
 use std::alloc::AllocError;
@@ -21,7 +24,12 @@ pub struct Outlets {
 
 impl Outlets {
     /// Tells nobody.
-    pub fn none() -> Outlets {
+    pub fn none() -> Outlets
+        ensures packets { result.packets ≡ None }
+        ensures jobs { result.jobs ≡ None }
+        ensures opened { result.opened ≡ None }
+        ensures told { result.told ≡ 0 }
+    {
         Outlets {
             packets: None,
             jobs: None,
@@ -31,7 +39,12 @@ impl Outlets {
     }
 
     /// Tells of the calls of a log that weren't told yet. The only error is want of memory.
-    pub fn tell_of<R: Wait>(&mut self, rt: &R, log: &SeatLog) -> Result<(), AllocError> {
+    pub fn tell_of<R: Wait>(&mut self, rt: &R, log: &SeatLog) -> Result<(), AllocError>
+        ensures told { OnOk result (self.new.told ≡ vec_len log.now.calls) }
+        ensures packets { self.new.packets ≡ self.old.packets }
+        ensures jobs { self.new.jobs ≡ self.old.jobs }
+        ensures opened { self.new.opened ≡ self.old.opened }
+    {
         for call in log.calls.get(self.told..).unwrap_or(&[]) {
             self.tell(rt, call)?;
         }
@@ -69,7 +82,9 @@ fn tell_packets<R: Wait>(rt: &R, packets: &Sender<u64>, reply: &Reply) -> Result
 }
 
 // Whether an answer says that a message was released.
-fn releases(answer: Answer) -> bool {
+fn releases(answer: Answer) -> bool
+    ensures { result ≡ releases answer }
+{
     match answer {
         Answer::Delivered(Outcome::Released(_, _)) => true,
         Answer::Delivered(Outcome::PlainReleased(_)) => true,

@@ -1,6 +1,6 @@
 //! The run of ten seats round one world, each in a thread of its own.
 
-ghost use Rattle.std.specs.Prelude.{◌≡◌, ◌↔◌, Some, true, length, IfOk, IfErr, IsTrue};
+ghost use Rattle.std.specs.Prelude.{◌≡◌, ◌↔◌, Some, true, length, IfOk, IfErr, IfSome, IsTrue};
 ghost use Rattle.lpt_audit.specs.Agreeing.{Agree};
 ghost use Rattle.lpt_audit.specs.Finished.{IsFinishedIfShort, owed_of};
 ghost use Rattle.lpt_audit.specs.Kinds.{are_of_seats};
@@ -183,7 +183,9 @@ fn joined<R: Threads>(
     handles: Vec<JoinHandle<Ended>>,
     mut logs: Vec<SeatLog>,
     mut fault: Option<ShareFault>,
-) -> Ran {
+) -> Ran
+    ensures first { IfSome fault (λ f. result.fault ≡ Some f) }
+{
     for handle in handles {
         let ended = handle.join(rt);
         let _ = logs.push(ended.log);

@@ -1,5 +1,7 @@
 //! What each of the ten seats does in a run.
 
+ghost use Rattle.std.specs.Prelude.{◌≡◌, ◌≤◌, nat_le, vec_len, None};
+
 use crate::held::Origin;
 use crate::notices::Outlets;
 use crate::task::{Seat, Task};
@@ -158,7 +160,9 @@ impl<'a, J: Origin, R: Wait, G: Gate> Pass<'a, J, R, G> {
     }
 
     // The next notice; none where those that give it have ended, or the log has enough calls.
-    fn notice<T: Drop>(&self, log: &SeatLog, notices: &Receiver<T>) -> Option<T> {
+    fn notice<T: Drop>(&self, log: &SeatLog, notices: &Receiver<T>) -> Option<T>
+        ensures full { self.now.turns.per_seat ≤ vec_len log.now.calls → result ≡ None }
+    {
         if self.is_full(log) {
             return None;
         }
@@ -166,7 +170,9 @@ impl<'a, J: Origin, R: Wait, G: Gate> Pass<'a, J, R, G> {
     }
 
     // Whether the log has enough calls.
-    fn is_full(&self, log: &SeatLog) -> bool {
+    fn is_full(&self, log: &SeatLog) -> bool
+        ensures { result ≡ nat_le self.now.turns.per_seat (vec_len log.now.calls) }
+    {
         log.calls.len() as u64 >= u64::from(self.turns.per_seat)
     }
 }

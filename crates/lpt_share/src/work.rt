@@ -134,7 +134,18 @@ impl<J: Origin> Shared<J> {
 }
 
 // Prepares a job. Where there is no memory for that, the job stays the worker's.
-fn prepare_job(alloc: Global, job: (Ticket, Shape, u16)) -> Result<Prepared, ShareFault> {
+fn prepare_job(alloc: Global, job: (Ticket, Shape, u16)) -> Result<Prepared, ShareFault>
+    ensures value { IfOk result (λ p. p ≡ record {
+      boot = job.0.boot;
+      job = job.0.job;
+      read = record {
+        apid = job.2;
+        sizes = job.1;
+        message = job.0.message;
+      };
+    }) }
+    ensures memory { IfErr result (λ fault. fault ≡ ShareFault.Memory) }
+{
     let (ticket, shape, apid) = job;
     match prepare(alloc, &shape, apid, ticket) {
         Ok(prepared) => Ok(prepared),

@@ -8,10 +8,10 @@ use Rattle.lpt_settings.proofs.JudgeLemmas.{settings_of-refused}
 use Rattle.lpt_settings.proofs.complaint.why_refused.Goals as goal
 
 -- something is wrong with the table
-pub returns-in-Ok : goal.returns-in-Ok
-returns-in-Ok c =
+pub returns-in-Ok-clause-found : goal.returns-in-Ok-clause-found
+returns-in-Ok-clause-found c =
     let settings = settings_of (table_view c.in-Ok.table) in
     let none : settings ≡ None = settings_of-refused settings c.in-Err-judge.ensures.value in
     let refused : is_some (option_and_then settings_of (parse_document c.args.text.now)) ≡ false =
     rw (c.in-Ok.ensures.ok) (ap is_some none) in
-    record { found = sym refused }
+    sym refused
