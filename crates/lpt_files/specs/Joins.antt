@@ -6,7 +6,7 @@ use Rattle.lpt_join.specs.declared.transaction.Transaction.{Transaction}
 use Rattle.lpt_join.specs.CameInside.{has, is_ended}
 use Rattle.lpt_join.specs.Joins.{Joined, Complete, Missing as MissingParts, Broken, joined}
 use Rattle.lpt_join.specs.Laws.{came, ended}
-use Rattle.lpt_join.specs.Reads.{ReadsAll}
+use Rattle.lpt_join.specs.LptStream.Reads.{ReadsAll}
 use Rattle.lpt_join.specs.LptReception.Received.{Parts}
 use Rattle.lpt_join.specs.LptText.Streams.{AppendsPart}
 use Rattle.lpt_join.specs.LptText.declared.fault.ToolFault.{ToolFault}

@@ -4,7 +4,7 @@ use Rattle.lpt_join.specs.declared.gathering.Gathering.{Gathering}
 use Rattle.lpt_join.specs.declared.gatherings.Gatherings.{Gatherings}
 use Rattle.lpt_join.specs.declared.transaction.Transaction.{Transaction}
 use Rattle.lpt_join.specs.Gatherings.{state}
-use Rattle.lpt_join.specs.Reads.{ReadsAll}
+use Rattle.lpt_join.specs.LptStream.Reads.{ReadsAll}
 use Rattle.lpt_join.specs.Several.{GivesEach}
 use Rattle.lpt_join.specs.LptText.declared.fault.ToolFault.{ToolFault}
 use Rattle.lpt_join.specs.LptText.declared.fault.ToolFault.TheVariants as tool

@@ -6,7 +6,7 @@ ghost use Rattle.lpt_join.specs.LptEvents.declared.config.Config.{Config};
 ghost use Rattle.lpt_join.specs.LptStream.Pieces.{Finds};
 ghost use Rattle.lpt_join.specs.LptText.Streams.{AppendsPart};
 ghost use Rattle.lpt_join.specs.Laws.{AllMadeOrOther, EachIsAmong, IsSending};
-ghost use Rattle.lpt_join.specs.Reads.{IsEndless};
+ghost use Rattle.lpt_join.specs.LptStream.Reads.{IsEndless};
 ghost use Rattle.lpt_join.specs.Gatherings.{state};
 ghost use Rattle.lpt_files.specs.Joins.{JoinLeaves, JoinsTo, LeavesJoined, WritesJoined};
 

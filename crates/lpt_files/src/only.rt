@@ -3,7 +3,7 @@
 ghost use Rattle.std.specs.Prelude.{◌≡◌, ◌≢◌, ◌⊎◌, ◌∷◌, ℕ, [], true, false, None, IfErr, IfOk, IfSome, IsErrOf, OnOk, Err};
 ghost use Rattle.lpt_join.specs.declared.gathering.Gathering.{Gathering};
 ghost use Rattle.lpt_join.specs.LptText.Streams.{AppendsPart};
-ghost use Rattle.lpt_join.specs.Reads.{IsEndless};
+ghost use Rattle.lpt_join.specs.LptStream.Reads.{IsEndless};
 ghost use Rattle.lpt_files.specs.Only.{IsOnly, JoinsOnly, LeavesOnly, OnlyLeaves, WritesOnly};
 
 use crate::JoinEnd;

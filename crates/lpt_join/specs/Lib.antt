@@ -12,4 +12,3 @@ pub use Rattle.lpt_split.specs.LptEvents as LptEvents
 pub use Rattle.lpt_split.specs.LptText as LptText
 pub use Rattle.lpt_split.specs as LptSplit
 pub use Rattle.lpt_stream.specs as LptStream
-pub use Rattle.lpt_stream.specs.Reads as Reads

@@ -25,8 +25,8 @@ pub use joining::Joining;
 pub use lpt_pus::{Direction, LONGEST_PACKET, Name, Octets};
 pub use lpt_reception::Mode;
 pub use lpt_split::{
-    Config, End, Form, Sink, Source, Told, ToolFault, count, flush_out, read_text, split, write_alone,
-    write_out,
+    Config, End, Form, Sink, Source, Told, ToolFault, count, flush_out, read_text, split,
+    write_alone, write_out,
 };
 pub use lpt_stream::{Found, PacketBuffer, PieceKind, packet_length, whole_length};
 pub use reading::{id_in, part_in};

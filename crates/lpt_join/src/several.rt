@@ -1,7 +1,7 @@
 //! The transactions of a stream, as its packets come.
 
 ghost use Rattle.std.specs.Prelude.{◌≡◌, ◌⊎◌, true, IfOk, IfErr, OnOk};
-ghost use Rattle.lpt_join.specs.Reads.{IsEndless, ReadsAll};
+ghost use Rattle.lpt_stream.specs.Reads.{IsEndless, ReadsAll};
 ghost use Rattle.lpt_join.specs.Several.{GivesEach};
 
 use crate::{Gatherings, Transaction};

@@ -7,7 +7,7 @@ ghost use Rattle.lpt_stream.specs.Pieces.{Finds};
 ghost use Rattle.lpt_join.specs.Gatherings.{state, Gives};
 ghost use Rattle.lpt_join.specs.Joins.{Complete};
 ghost use Rattle.lpt_join.specs.Laws.{AllMadeOrOther, EachIsAmong, IsSending};
-ghost use Rattle.lpt_join.specs.Reads.{IsEndless, ReadsAll};
+ghost use Rattle.lpt_stream.specs.Reads.{IsEndless, ReadsAll};
 
 use crate::{Gathering, Transaction};
 use lpt_split::{Source, ToolFault};
