@@ -13,41 +13,44 @@ use Rattle.lpt_part.specs.Splitting.{part_count, part_of, kind_at}
 use Rattle.lpt_events.specs.declared.config.Config.{Config}
 use Rattle.lpt_events.specs.Arrivals.{part_subtype}
 
--- what ground's telecommand of this count says
-abbrev pub command_made : Config → (count flags service subtype : ℕ) → List ℕ → Command
-command_made c count flags service subtype body = record {
+-- what ground's telecommand of this source and count says
+abbrev pub command_made : Config → (peer count flags service subtype : ℕ) → List ℕ → Command
+command_made c peer count flags service subtype body = record {
   apid = c.apid;
   count = count;
   flags = flags;
   service = service;
   subtype = subtype;
-  source = c.source;
+  source = peer;
   body = body;
 }
 
--- what the spacecraft's telemetry of this count, message type counter and time says
-abbrev pub telemetry_made : Config → (count counter time service subtype : ℕ) → List ℕ → Telemetry
-telemetry_made c count counter time service subtype body = record {
+-- what the spacecraft's telemetry to this destination says, of this count, message type counter and time
+abbrev pub telemetry_made : Config
+    → (peer count counter time service subtype : ℕ)
+    → List ℕ
+    → Telemetry
+telemetry_made c peer count counter time service subtype body = record {
   apid = c.apid;
   count = count;
   status = 0;
   service = service;
   subtype = subtype;
   counter = counter;
-  destination = c.source;
+  destination = peer;
   time = time;
   body = body;
 }
 
 -- the octets of ground's telecommand
-abbrev pub tc_made : Config → (count flags service subtype : ℕ) → List ℕ → List ℕ
-tc_made c count flags service subtype body =
-    spelling (packet_of (command_made c count flags service subtype body))
+abbrev pub tc_made : Config → (peer count flags service subtype : ℕ) → List ℕ → List ℕ
+tc_made c peer count flags service subtype body =
+    spelling (packet_of (command_made c peer count flags service subtype body))
 
 -- the octets of the spacecraft's telemetry
-abbrev pub tm_made : Config → (count counter time service subtype : ℕ) → List ℕ → List ℕ
-tm_made c count counter time service subtype body =
-    spelling (tm_packet_of (telemetry_made c count counter time service subtype body))
+abbrev pub tm_made : Config → (peer count counter time service subtype : ℕ) → List ℕ → List ℕ
+tm_made c peer count counter time service subtype body =
+    spelling (tm_packet_of (telemetry_made c peer count counter time service subtype body))
 
 -- part k of a message, under its name
 abbrev pub nth_part : ℕ → Name → List ℕ → ℕ → Piece
@@ -59,13 +62,15 @@ nth_part p id m k =
       octets = part_of m p k;
     }
 
--- the octets of a part's packet; a telecommand has neither counter nor time
+-- the octets of a part's packet, of or to the configured source; a telecommand has neither counter nor
+-- time
 abbrev pub part_made : Config → Direction → (count counter time : ℕ) → Piece → List ℕ
-part_made c Up count counter time q = tc_made c count 0 13 (part_subtype Up q.kind) (body_of q)
+part_made c Up count counter time q =
+    tc_made c c.source count 0 13 (part_subtype Up q.kind) (body_of q)
 part_made c Down count counter time q =
-    tm_made c count counter time 13 (part_subtype Down q.kind) (body_of q)
+    tm_made c c.source count counter time 13 (part_subtype Down q.kind) (body_of q)
 
--- the octets of an abortion report's packet
+-- the octets of an abortion report's packet, to the configured source
 abbrev pub abort_made : Config → (count counter time : ℕ) → Name → Reason → List ℕ
 abort_made c count counter time id reason =
-    tm_made c count counter time 13 16 (abort_body id reason)
+    tm_made c c.source count counter time 13 16 (abort_body id reason)

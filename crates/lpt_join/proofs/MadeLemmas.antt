@@ -71,7 +71,7 @@ part_command_fits : (c : Config) (count counter time : ℕ) (q : Piece)
     → IsConfig c
     → AreCounts count counter time
     → PartFits q.kind q.number (length q.octets) c.part_size
-    → CommandFits (command_made c count 0 13 (part_subtype Up q.kind) (body_of q))
+    → CommandFits (command_made c c.source count 0 13 (part_subtype Up q.kind) (body_of q))
 part_command_fits c count counter time q good counts fits = record {
   head_fits =
       record {
@@ -89,7 +89,7 @@ part_telemetry_fits : (c : Config) (count counter time : ℕ) (q : Piece)
     → IsConfig c
     → AreCounts count counter time
     → PartFits q.kind q.number (length q.octets) c.part_size
-    → TelemetryFits (telemetry_made c count counter time 13 (part_subtype Down q.kind) (body_of q))
+    → TelemetryFits (telemetry_made c c.source count counter time 13 (part_subtype Down q.kind) (body_of q))
 part_telemetry_fits c count counter time q good counts fits = record {
   head_fits =
       record {
@@ -112,7 +112,7 @@ pub made_packet : (c : Config) (d : Direction) (count counter time : ℕ) (q : P
     → PartFits q.kind q.number (length q.octets) c.part_size
     → (f : Fields) × IsPacket (part_made c d count counter time q) f
 made_packet c Up count counter time q good counts fits =
-    let t = command_made c count 0 13 (part_subtype Up q.kind) (body_of q) in (
+    let t = command_made c c.source count 0 13 (part_subtype Up q.kind) (body_of q) in (
       packet_of t,
       record {
         ranges = command_range t (part_command_fits c count counter time q good counts fits);
@@ -120,7 +120,7 @@ made_packet c Up count counter time q good counts fits =
       },
     )
 made_packet c Down count counter time q good counts fits =
-    let t = telemetry_made c count counter time 13 (part_subtype Down q.kind) (body_of q) in (
+    let t = telemetry_made c c.source count counter time 13 (part_subtype Down q.kind) (body_of q) in (
       tm_packet_of t,
       record {
         ranges = telemetry_range t (part_telemetry_fits c count counter time q good counts fits);
@@ -177,13 +177,13 @@ part_arrives : (c : Config) (d : Direction) (count counter time : ℕ) (q : Piec
     → PartFits q.kind q.number (length q.octets) c.part_size
     → arrival (receiver_side d) c.apid c.part_size (part_made c d count counter time q) ≡ APart q
 part_arrives c Up count counter time q good counts i fits =
-    let t = command_made c count 0 13 (part_subtype Up q.kind) (body_of q) in
+    let t = command_made c c.source count 0 13 (part_subtype Up q.kind) (body_of q) in
     command_arrives c.apid c.part_size t (part_command_fits c count counter time q good counts fits) refl
     ∙ ap (λ o. option_map_or (part_arrival c.part_size (body_of q)) o
     (ARequest (spelling (packet_of t)))) (carried_kind-part_subtype Up q.kind)
     ∙ body_arrives c.part_size q i fits
 part_arrives c Down count counter time q good counts i fits =
-    let t = telemetry_made c count counter time 13 (part_subtype Down q.kind) (body_of q) in
+    let t = telemetry_made c c.source count counter time 13 (part_subtype Down q.kind) (body_of q) in
     telemetry_arrives c.apid c.part_size t (part_telemetry_fits c count counter time q good counts fits) refl
     ∙ ap (λ o. option_map_or (part_arrival c.part_size (body_of q)) o (report_arrival t))
     (carried_kind-part_subtype Down q.kind)

@@ -1,10 +1,10 @@
 -- Which name of a list is the first by its tick, and which receptions are overdue.
-use Rattle.std.proofs.Common.{◌≡◌, ◌∙◌, ap, sym, refl, ℕ, ◌<◌, ◌≤◌, ◌==◌, nat_lt, nat_le, Bool, true, false, ◌&&◌, ◌||◌, ◌⊎◌, inl, inr, if◌then◌else◌, List, [], ◌∷◌, Option, Some, None, arith}
+use Rattle.std.proofs.Common.{◌≡◌, ◌∙◌, ap, sym, refl, ℕ, ◌≤◌, ◌==◌, nat_lt, nat_le, Bool, true, false, ◌&&◌, ◌||◌, ◌⊎◌, inl, inr, if◌then◌else◌, List, [], ◌∷◌, Option, Some, None, arith}
 use Rattle.std.proofs.lemmas.Bool.Decides.{nat_tests}
 use Rattle.std.specs.List.{list_any, filter}
 use Rattle.lpt_reception.specs.LptPacket.declared.direction.Direction.{Direction}
-use Rattle.lpt_reception.specs.LptPacket.Names.{Name, same_name}
-use Rattle.lpt_reception.proofs.LptPacket.NameLemmas.{same_name-refl, same_name-true}
+use Rattle.lpt_reception.specs.LptPacket.Names.{Name, same_name, name_before}
+use Rattle.lpt_reception.proofs.LptPacket.NameLemmas.{same_name-refl, same_name-true, name_before-refl, name_before-chain}
 use Rattle.lpt_execution.specs.LptEvents.declared.config.Config.{Config}
 use Rattle.lpt_journal.specs.Due.{is_overdue, comes_first, first_of_two, earliest}
 use Rattle.lpt_journal.specs.Journal.{History}
@@ -16,21 +16,23 @@ use Rattle.lpt_journal.proofs.TestLemmas.{or_true_r}
 
 -- ---- the first of some names
 
--- what tells which of two comes first, by their ticks and then by their names
-abbrev first_by : (x y a b : ℕ) → Bool
-first_by x y a b = nat_lt x y || ((x == y) && nat_lt a b)
+-- what tells which of two comes first, by their ticks and then by whether its name is before
+abbrev first_by : (x y : ℕ) (before : Bool) → Bool
+first_by x y before = nat_lt x y || ((x == y) && before)
 
-wins_tick : (x y a b : ℕ) → first_by x y a b ≡ true → x ≤ y
-wins_tick x y a b h = grind (arith, nat_tests)
+wins_tick : (x y : ℕ) (before : Bool) → first_by x y before ≡ true → x ≤ y
+wins_tick x y before h = grind (arith, nat_tests)
 
-wins_name : (x y a b : ℕ) → first_by x y a b ≡ true → y ≤ x → a < b
-wins_name x y a b h e = grind (arith, nat_tests)
+wins_name : (x y : ℕ) (before : Bool) → first_by x y before ≡ true → y ≤ x → before ≡ true
+wins_name x y true h e = refl
+wins_name x y false h e = grind (arith, nat_tests)
 
-loses_tick : (x y a b : ℕ) → first_by x y a b ≡ false → y ≤ x
-loses_tick x y a b h = grind (arith, nat_tests)
+loses_tick : (x y : ℕ) (before : Bool) → first_by x y before ≡ false → y ≤ x
+loses_tick x y before h = grind (arith, nat_tests)
 
-loses_name : (x y a b : ℕ) → first_by x y a b ≡ false → x ≡ y → b ≤ a
-loses_name x y a b h e = grind (arith, nat_tests)
+loses_name : (x y : ℕ) (before : Bool) → first_by x y before ≡ false → x ≡ y → before ≡ false
+loses_name x y true h e = grind (arith, nat_tests)
+loses_name x y false h e = refl
 
 -- a name of the list before which none comes
 pub record IsEarliest (tick : Name → ℕ) (ids : List Name) (id : Name) : Type 0 where
@@ -39,7 +41,7 @@ pub record IsEarliest (tick : Name → ℕ) (ids : List Name) (id : Name) : Type
   pub least : (other : Name)
       → list_any (same_name other) ids ≡ true
       → tick other ≡ tick id
-      → id ≤ other
+      → name_before other id ≡ false
 
 abbrev pub Earliest : (Name → ℕ) → List Name → Option Name → Type 0
 Earliest tick ids None = (id : Name) → list_any (same_name id) ids ≡ false
@@ -73,12 +75,14 @@ module _ (tick : Name → ℕ) (id : Name) (ids : List Name) where
     first other (inl s) = let e : tick other ≡ tick id = ap tick s in omega arith
     first other (inr k) = let n : list_any (same_name other) ids ≡ false = none other in absurd cc
 
-    least : (other : Name) → (other ≡ id) ⊎ (list_any (same_name other) ids ≡ true) → id ≤ other
-    least other (inl s) = omega arith
+    least : (other : Name)
+        → (other ≡ id) ⊎ (list_any (same_name other) ids ≡ true)
+        → name_before other id ≡ false
+    least other (inl s) = ap (λ q. name_before q id) s ∙ name_before-refl id
     least other (inr k) = let n : list_any (same_name other) ids ≡ false = none other in absurd cc
 
   wins : (b : Name)
-      → first_by (tick id) (tick b) id b ≡ true
+      → first_by (tick id) (tick b) (name_before id b) ≡ true
       → IsEarliest tick ids b
       → IsEarliest tick (id ∷ ids) id
   wins b t rest = record {
@@ -90,22 +94,22 @@ module _ (tick : Name → ℕ) (id : Name) (ids : List Name) where
         → (other ≡ id) ⊎ (list_any (same_name other) ids ≡ true)
         → tick id ≤ tick other
     first other (inl s) = let e : tick other ≡ tick id = ap tick s in omega arith
-    first other (inr k) = omega (arith, rest.first other k, wins_tick (tick id) (tick b) id b t)
+    first other (inr k) = omega (arith, rest.first other k, wins_tick (tick id) (tick b) (name_before id b) t)
 
     least : (other : Name)
         → tick other ≡ tick id
         → (other ≡ id) ⊎ (list_any (same_name other) ids ≡ true)
-        → id ≤ other
-    least other same (inl s) = omega arith
+        → name_before other id ≡ false
+    least other same (inl s) = ap (λ q. name_before q id) s ∙ name_before-refl id
     least other same (inr k) =
-        let low : tick id ≤ tick b = wins_tick (tick id) (tick b) id b t in
+        let low : tick id ≤ tick b = wins_tick (tick id) (tick b) (name_before id b) t in
         let high : tick b ≤ tick other = rest.first other k in
-        let before : id < b = wins_name (tick id) (tick b) id b t (omega arith) in
-        let after : b ≤ other = rest.least other k (omega arith) in
-        omega arith
+        name_before-chain id b other
+        (wins_name (tick id) (tick b) (name_before id b) t (omega arith))
+        (rest.least other k (omega arith))
 
   loses : (b : Name)
-      → first_by (tick id) (tick b) id b ≡ false
+      → first_by (tick id) (tick b) (name_before id b) ≡ false
       → IsEarliest tick ids b
       → IsEarliest tick (id ∷ ids) b
   loses b t rest = record {
@@ -118,17 +122,16 @@ module _ (tick : Name → ℕ) (id : Name) (ids : List Name) where
         → tick b ≤ tick other
     first other (inl s) =
         let e : tick other ≡ tick id = ap tick s in
-        omega (arith, loses_tick (tick id) (tick b) id b t)
+        omega (arith, loses_tick (tick id) (tick b) (name_before id b) t)
     first other (inr k) = rest.first other k
 
     least : (other : Name)
         → tick other ≡ tick b
         → (other ≡ id) ⊎ (list_any (same_name other) ids ≡ true)
-        → b ≤ other
+        → name_before other b ≡ false
     least other same (inl s) =
-        let e : tick other ≡ tick id = ap tick s in
-        let after : b ≤ id = loses_name (tick id) (tick b) id b t (sym e ∙ same) in
-        omega arith
+        ap (λ q. name_before q b) s
+        ∙ loses_name (tick id) (tick b) (name_before id b) t (sym (ap tick s) ∙ same)
     least other same (inr k) = rest.least other k same
 
   one_more : (o : Option Name)

@@ -122,7 +122,7 @@ packet_arrives : (c : Config) (h : History) (d : Direction) (id : Name) (m : Lis
 packet_arrives c h Up id m k good sound splits i one last =
     let counts : AreCounts (count h Up) 0 0 =
     record { count_fits = omega arith; counter_fits = omega arith; time_fits = omega arith } in
-    part_arrives c Up (count h Up) 0 0 (nth_part c.part_size id m k) good counts i
+    part_arrives c Up (count h Up) 0 0 (nth_part c.part_size id m k) good counts i.id_fits
     (part_of-fits m c.part_size k good.part_size_fits splits.long splits.short one last)
 packet_arrives c h Down id m k good sound splits i one last =
     let q = nth_part c.part_size id m k in
@@ -133,7 +133,7 @@ packet_arrives c h Down id m k good sound splits i one last =
       counter_fits = omega arith;
       time_fits = sound.clocks Craft;
     } in
-    part_arrives c Down (count h Down) counter (clock c h Craft) q good counts i
+    part_arrives c Down (count h Down) counter (clock c h Craft) q good counts i.id_fits
     (part_of-fits m c.part_size k good.part_size_fits splits.long splits.short one last)
 
 pub only_element : {A : Type 0} (x : A) (n : ℕ) (y : A) → slice_get (x ∷ []) n ≡ Some y → x ≡ y

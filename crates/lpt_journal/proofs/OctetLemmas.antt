@@ -66,14 +66,14 @@ field_octets c f s t o =
     (octets_more c.source c.body o)))
 
 -- a telecommand with a body of octets is octets
-pub made_octets : (c : Config) (count flags service subtype : ℕ) (body : List ℕ)
+pub made_octets : (c : Config) (peer count flags service subtype : ℕ) (body : List ℕ)
     → flags < 16
     → service < 256
     → subtype < 256
     → IsOctets body
-    → IsOctets (tc_made c count flags service subtype body)
-made_octets c count flags service subtype body f s t o =
-    let it = command_made c count flags service subtype body in
+    → IsOctets (tc_made c peer count flags service subtype body)
+made_octets c peer count flags service subtype body f s t o =
+    let it = command_made c peer count flags service subtype body in
     spelling_octets (packet_of it) (field_octets it f s t o)
 
 body_of_octets : (q : Piece) → IsOctets q.octets → IsOctets (body_of q)
@@ -91,7 +91,7 @@ pub part_octets : (c : Config) (count k : ℕ) (id : Name) (m : List ℕ)
     → IsOctets (part_made c Up count 0 0 (nth_part c.part_size id m k))
 part_octets c count k id m o =
     let q = nth_part c.part_size id m k in
-    made_octets c count 0 13 (part_subtype Up q.kind) (body_of q) (omega arith) (omega arith)
+    made_octets c c.source count 0 13 (part_subtype Up q.kind) (body_of q) (omega arith) (omega arith)
     (up_subtype_small q.kind)
     (body_of_octets q
     (IsOctets-take c.part_size (drop ((k - 1) * c.part_size) m)

@@ -32,7 +32,7 @@ plain_owes c first h flags service subtype body good sound fits accepted =
     accepted in
     let packet = plain_packet c h flags service subtype body in
     let arrives =
-    plain_arrives c (count h Up) flags service subtype body good (omega arith) fits.0 fits.1
+    plain_arrives c c.source (count h Up) flags service subtype body good good.source_fits (omega arith) fits.0 fits.1
     fits.2 t.0 t.1 in
     calm_owes c first h (Plain flags service subtype body) refl sound
     (λ k p f. subst (λ x. IsPut c (entry c first h (Plain flags service subtype body) ∷ h)

@@ -116,7 +116,7 @@ pub part_arrives : (c : Config) (d : Direction) (count counter time : ℕ) (q : 
     → PartFits q.kind q.number (length q.octets) c.part_size
     → arrival_in c d (part_made c d count counter time q) ≡ APart q
 part_arrives c Up count counter time q good counts i fits =
-    let t = command_made c count 0 13 (part_subtype Up q.kind) (body_of q) in
+    let t = command_made c c.source count 0 13 (part_subtype Up q.kind) (body_of q) in
     let short : length (body_of q) ≤ 65529 =
     omega (arith, length-body_of q, fits.length_fits.greatest, good.part_size_fits.1) in
     let in_range : CommandFits t = record {
@@ -136,7 +136,7 @@ part_arrives c Up count counter time q good counts i fits =
     (ARequest (spelling (packet_of t)))) (carried_kind-part_subtype Up q.kind)
     ∙ body_arrives c.part_size q i fits
 part_arrives c Down count counter time q good counts i fits =
-    let t = telemetry_made c count counter time 13 (part_subtype Down q.kind) (body_of q) in
+    let t = telemetry_made c c.source count counter time 13 (part_subtype Down q.kind) (body_of q) in
     let short : length (body_of q) ≤ 65523 =
     omega (arith, length-body_of q, fits.length_fits.greatest, good.part_size_fits.1) in
     let in_range : TelemetryFits t = record {
@@ -161,31 +161,32 @@ part_arrives c Down count counter time q good counts i fits =
 -- ---- plain requests
 
 -- a plain request arrives as a request
-pub plain_arrives : (c : Config) (count flags service subtype : ℕ) (body : List ℕ)
+pub plain_arrives : (c : Config) (peer count flags service subtype : ℕ) (body : List ℕ)
     → IsConfig c
+    → peer < 65536
     → count ≤ 16383
     → flags < 16
     → service < 256
     → subtype < 256
     → is_part_request service subtype ≡ false
     → is_too_long c (length body) ≡ false
-    → arrival_in c Up (tc_made c count flags service subtype body)
-    ≡ ARequest (tc_made c count flags service subtype body)
-plain_arrives c count flags service subtype body good counts f s t no_part fits =
+    → arrival_in c Up (tc_made c peer count flags service subtype body)
+    ≡ ARequest (tc_made c peer count flags service subtype body)
+plain_arrives c peer count flags service subtype body good from counts f s t no_part fits =
     let short : length body + 13 ≤ c.part_size + 23 =
     not_lt (c.part_size + 23) (length body + 13) fits in
-    let in_range : CommandFits (command_made c count flags service subtype body) = record {
+    let in_range : CommandFits (command_made c peer count flags service subtype body) = record {
       head_fits =
           record { apid_fits = good.apid_fits; count_fits = counts; flags_fit = omega arith };
       service_fits = s;
       subtype_fits = t;
-      source_fits = good.source_fits;
+      source_fits = from;
       body_fits = omega (arith, short, good.part_size_fits.1);
     } in
-    command_arrives c.apid c.part_size (command_made c count flags service subtype body) in_range
+    command_arrives c.apid c.part_size (command_made c peer count flags service subtype body) in_range
     refl
     ∙ ap (λ (o : Option Kind). option_map_or (part_arrival c.part_size body) o
-    (ARequest (tc_made c count flags service subtype body)))
+    (ARequest (tc_made c peer count flags service subtype body)))
     (none_is (carried_kind Up service subtype) no_part)
 
 -- ---- abortion reports
@@ -209,7 +210,7 @@ pub abort_arrives : (c : Config) (count counter time : ℕ) (id : Name) (reason 
     → (n : Name)
     × (arrival_in c Down (abort_made c count counter time id reason) ≡ AnAbort n reason)
 abort_arrives c count counter time id reason good counts =
-    let t = telemetry_made c count counter time 13 16 (abort_body id reason) in
+    let t = telemetry_made c c.source count counter time 13 16 (abort_body id reason) in
     let short : length (abort_body id reason) ≤ 65523 =
     omega (arith, length-abort_body id reason) in
     let in_range : TelemetryFits t = record {

@@ -49,17 +49,18 @@ carries_none service subtype e =
     else None) e
 
 -- telemetry of another service than that of parts and abortion reports arrives as a report
-pub report_arrives : (c : Config) (count counter time service subtype : ℕ) (body : List ℕ)
+pub report_arrives : (c : Config) (peer count counter time service subtype : ℕ) (body : List ℕ)
     → IsConfig c
+    → peer < 65536
     → AreCounts count counter time
     → service < 256
     → subtype < 256
     → (service == 13) ≡ false
     → length body ≤ 65523
-    → arrival_in c Down (tm_made c count counter time service subtype body)
+    → arrival_in c Down (tm_made c peer count counter time service subtype body)
     ≡ AReport service subtype
-report_arrives c count counter time service subtype body good counts s t other short =
-    let it = telemetry_made c count counter time service subtype body in
+report_arrives c peer count counter time service subtype body good fits counts s t other short =
+    let it = telemetry_made c peer count counter time service subtype body in
     let in_range : TelemetryFits it = record {
       head_fits =
           record {
@@ -70,7 +71,7 @@ report_arrives c count counter time service subtype body good counts s t other s
       service_fits = s;
       subtype_fits = t;
       counter_fits = counts.counter_fits;
-      destination_fits = good.source_fits;
+      destination_fits = fits;
       time_fits = counts.time_fits;
       body_fits = short;
     } in
@@ -115,11 +116,11 @@ all_made c packets time (r ∷ rs) good t all =
       record {
         fits = all.0.fits;
         arrives =
-            report_arrives c count counter time (service_of r.kind) (subtype_of r.kind) r.body good
-            counts (service_small r.kind) (subtype_small r.kind) all.0.no_part all.0.fits;
+            report_arrives c c.source count counter time (service_of r.kind) (subtype_of r.kind)
+            r.body good good.source_fits counts (service_small r.kind) (subtype_small r.kind) all.0.no_part all.0.fits;
         long =
             length-spelling_tm
-            (telemetry_made c count counter time (service_of r.kind) (subtype_of r.kind) r.body);
+            (telemetry_made c c.source count counter time (service_of r.kind) (subtype_of r.kind) r.body);
       },
       all_made c (with_all packets (report_after c packets time r ∷ [])) time rs good t all.1,
     )

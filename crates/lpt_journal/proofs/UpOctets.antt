@@ -128,7 +128,7 @@ put_octets c first h (Send d id k) can had n p f up =
 put_octets c first h (Plain flags service subtype body) can had n p f up =
     let fits = can.in_range in
     subst (λ (x : SentPacket). IsOctets x.octets) (only_element _ n p f)
-    (made_octets c (count h Up) flags service subtype body fits.0 fits.1 fits.2 fits.3)
+    (made_octets c c.source (count h Up) flags service subtype body fits.0 fits.1 fits.2 fits.3)
 put_octets c first h (Damage d b) can had n p f up =
     subst (λ (x : SentPacket). IsOctets x.octets) (only_element _ n p f) can.in_range
 put_octets c first h (Deliver l) can had n p f up = absurd (go (outcome c h l) f) where

@@ -46,7 +46,7 @@ front_reports c first h =
 -- the packet of a report that the spacecraft makes after these, at this time
 abbrev pub report_after : Config → (packets : List (List ℕ)) → (time : ℕ) → Report → List ℕ
 report_after c packets time r =
-    tm_made c (count_after packets)
+    tm_made c c.source (count_after packets)
     (counter_after packets (service_of r.kind) (subtype_of r.kind)) time
     (service_of r.kind) (subtype_of r.kind) r.body
 

@@ -80,7 +80,8 @@ send_puts c h d id k ClosedSender = []
 
 -- the octets of a plain request's packet that ground makes now
 abbrev pub plain_packet : Config → History → (flags service subtype : ℕ) → List ℕ → List ℕ
-plain_packet c h flags service subtype body = tc_made c (count h Up) flags service subtype body
+plain_packet c h flags service subtype body =
+    tc_made c c.source (count h Up) flags service subtype body
 
 -- the packet of a plain request
 abbrev pub plain_puts : Config → History → (flags service subtype : ℕ) → List ℕ → List SentPacket

@@ -1,8 +1,8 @@
 -- What a ledger is seen as: a mark for each identifier that isn't free.
 use Rattle.std.specs.Prelude.{◌≡◌, Bool, true, false, Option, Some, None, map as mapped, refl}
 use Rattle.std.specs.FinMap as map
-use Rattle.lpt_packet.specs.Names.{name_cmp}
-use Rattle.std.specs.Coded.{Coded, code_by, coded_ℕ, coded_bool}
+use Rattle.lpt_packet.specs.Names.{name_cmp, coded_name}
+use Rattle.std.specs.Coded.{Coded, code_by, coded_bool}
 
 -- an identifier that isn't free is open or closed
 pub data Mark : Type 0 where
@@ -31,7 +31,7 @@ Marks = map.FinMap name_cmp Mark
 
 -- the code of a ledger's marks
 abbrev pub coded_marks : Coded Marks
-coded_marks = map.code coded_ℕ coded_mark
+coded_marks = map.code coded_name coded_mark
 
 -- shut where there is a mark
 abbrev pub shut_mark : Option Mark → Option Mark

@@ -85,7 +85,8 @@ ending_at c d ms r =
 -- the octets of a report, by the counts of its sender and the clock
 abbrev pub report_packet : Config → Sending → (clock : ℕ) → Report → List ℕ
 report_packet c s clock r =
-    tm_made c s.count (counter_of s.types r.kind) clock (service_of r.kind) (subtype_of r.kind) r.body
+    tm_made c c.source s.count (counter_of s.types r.kind) clock (service_of r.kind)
+    (subtype_of r.kind) r.body
 
 -- reports with their packets, each by the counts after those before it
 abbrev pub report_packets : Config → Sending → (clock : ℕ) → List Report → List (Report × List ℕ)

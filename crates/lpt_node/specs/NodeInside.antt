@@ -2,7 +2,7 @@
 use Rattle.std.specs.Prelude.{◌≡◌, ℕ, is_some, refl}
 use Rattle.std.specs.Coded.{Coded, code_by, coded×, coded_ℕ, coded_list}
 use Rattle.std.specs.FinMap as map
-use Rattle.lpt_execution.specs.LptPacket.Names.{Name}
+use Rattle.lpt_execution.specs.LptPacket.Names.{Name, coded_name}
 use Rattle.lpt_ledger.specs.Marks.{Marks}
 use Rattle.lpt_ledger.specs.States.{state_at}
 use Rattle.lpt_execution.specs.LptEvents.declared.config.Config.{Config}
@@ -17,7 +17,7 @@ pub record OpenMessages : Type 0 where
 
 -- the code of the open messages
 abbrev pub coded_messages : Coded Messages
-coded_messages = map.code coded_ℕ (coded_list coded_ℕ)
+coded_messages = map.code coded_name (coded_list coded_ℕ)
 
 -- the code of the part size and the open messages
 abbrev pub coded_open_messages : Coded OpenMessages

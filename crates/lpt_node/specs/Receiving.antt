@@ -94,7 +94,7 @@ after_received side d q x = after_taken side (with_receiver d x.0) q.id q.number
 abbrev pub abort_head_at : Side → Config → (count : ℕ) → (types : List ℕ) → (clock : ℕ) → Option Telemetry
 abort_head_at Ground c count types clock = None
 abort_head_at Craft c count types clock =
-    Some (telemetry_made c count (counter_of types Abort) clock 13 16 [])
+    Some (telemetry_made c c.source count (counter_of types Abort) clock 13 16 [])
 
 -- the same, of an end
 abbrev pub abort_head : Side → Config → NodeData → Option Telemetry

@@ -19,5 +19,5 @@ refusal_plain c service subtype len =
 abbrev pub plain_made : Config → NodeData → (flags service subtype : ℕ) → List ℕ → NodeData × List ℕ
 plain_made c d flags service subtype body = (
   record d { sending = counted d.sending },
-  tc_made c d.sending.count flags service subtype body,
+  tc_made c c.source d.sending.count flags service subtype body,
 )

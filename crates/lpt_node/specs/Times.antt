@@ -1,6 +1,6 @@
 -- The clock of an end, and what is given up for its age.
 use Rattle.std.specs.Prelude.{ℕ, ◌+◌, ◌==◌, if◌then◌else◌, List, Option, Some, None}
-use Rattle.lpt_execution.specs.LptPacket.Names.{Name}
+use Rattle.lpt_execution.specs.LptPacket.Names.{Name, no_name}
 use Rattle.lpt_execution.specs.LptPart.declared.reason.Reason.TheVariants as reason
 use Rattle.lpt_table.specs.Deadlines.{due_of}
 use Rattle.lpt_execution.specs.LptEvents.declared.side.Side.{Side}
@@ -42,7 +42,7 @@ expired_with c d id packet = (
 
 -- the reception that is due is given up; where none is nothing is, and the call is refused
 abbrev pub expired_of : Side → Config → NodeData → Option Name → NodeData × Expired
-expired_of side c d None = (d, record { id = 0; packet = None })
+expired_of side c d None = (d, record { id = no_name; packet = None })
 expired_of side c d (Some id) = expired_with c d id (abort_report (abort_head side c d) id reason.Expired)
 
 -- a reception is given up for its age: the end after it, and the answer

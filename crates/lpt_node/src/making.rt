@@ -28,7 +28,7 @@ impl Node {
     // The head of the next telemetry of a kind, by these counts.
     fn head(&self, counts: &Counts, kind: TelemetryKind) -> TmHead
         ensures { telemetry result []
-            ≡ telemetry_made self.now.config counts.now.count
+            ≡ telemetry_made self.now.config self.now.config.source counts.now.count
             (counter_of counts.now.types kind) self.now.at.clock
             (service_of kind) (subtype_of kind) [] }
     {

@@ -1,22 +1,16 @@
 -- Lists of entries whose keys are numbers and rise, as a finite map has them: what is found in them, and
 -- what a test of each tells.
-use Rattle.std.proofs.Common.{Less, Equal, Greater, ◌≡◌, ◌≢◌, ◌∙◌, ap, sym, refl, inl, inr, ◌⊎◌, ℕ, ◌<◌, Bool, true, false, cond, ◌&&◌, ◌||◌, T, List, [], ◌∷◌, Some, arith}
+use Rattle.std.proofs.Common.{Less, Equal, Greater, ◌≡◌, ◌≢◌, ◌∙◌, ap, sym, refl, inl, inr, ◌⊎◌, ℕ, ◌<◌, Bool, true, false, ◌&&◌, ◌||◌, T, List, [], ◌∷◌, Some, arith}
 use Rattle.std.specs.List.{list_any}
 use Rattle.std.specs.Ordering.{nat_cmp, is_lt}
-use Rattle.std.specs.Cmp.{unsigned_tied, ranked, nat_cmp_is}
+use Rattle.std.specs.Cmp.{nat_cmp_total, ranked, nat_cmp_is}
+use Rattle.std.specs.FinMap.{nat_cmp-IsAntisymmetric}
 use Rattle.std.specs.FinMap.Entries.{find, put, by_order, below_all, is_sorted}
 use Rattle.std.proofs.lemmas.Bool.{or_parts}
-use Rattle.std.proofs.lemmas.Bool.Decides.{eqb_tells}
+use Rattle.lpt_packet.proofs.KeyLemmas as keys
+use Rattle.lpt_packet.proofs.KeyLemmas.{first, second}
 
 -- ---- the order
-
-first : (a b : Bool) → T (a && b) → T a
-first true b h = tt
-first false b h = h
-
-second : (a b : Bool) → T (a && b) → T b
-second true b h = h
-second false b h = absurd h
 
 both : (a b : Bool) → T a → T b → T (a && b)
 both true b g h = h
@@ -69,48 +63,34 @@ module _ {X : Type 0} where
   pub found_first : (q : ℕ) (e : ℕ × X) (es : List (ℕ × X))
       → q ≡ e.0
       → find nat_cmp q (e ∷ es) ≡ Some e.1
-  found_first q e es h = elim (eqb_tells q e.0) [
-    | inl w ↦ ap (λ b. cond b (Some e.1) (find nat_cmp q es)) (unsigned_tied q e.0 ∙ w.0)
-    | inr w ↦ absurd (w.1 h)
-  ]
+  found_first = keys.found_first nat_cmp_total nat_cmp-IsAntisymmetric
 
   -- another number is found behind it
   pub found_behind : (q : ℕ) (e : ℕ × X) (es : List (ℕ × X))
       → q ≢ e.0
       → find nat_cmp q (e ∷ es) ≡ find nat_cmp q es
-  found_behind q e es h = elim (eqb_tells q e.0) [
-    | inl w ↦ absurd (h w.1)
-    | inr w ↦ ap (λ b. cond b (Some e.1) (find nat_cmp q es)) (unsigned_tied q e.0 ∙ w.0)
-  ]
+  found_behind = keys.found_behind nat_cmp_total nat_cmp-IsAntisymmetric
 
   -- what is found is the first entry or stands behind it
   pub found_cases : (q : ℕ) (y : X) (e : ℕ × X) (es : List (ℕ × X))
       → find nat_cmp q (e ∷ es) ≡ Some y
       → ((q ≡ e.0) × (y ≡ e.1)) ⊎ ((q ≢ e.0) × (find nat_cmp q es ≡ Some y))
-  found_cases q y e es h = elim (eqb_tells q e.0) [
-    | inl w ↦ let here = found_first q e es w.1 in inl (w.1, cc)
-    | inr w ↦ inr (w.1, sym (found_behind q e es w.1) ∙ h)
-  ]
+  found_cases = keys.found_cases nat_cmp_total nat_cmp-IsAntisymmetric
 
   -- what is found behind a number is above it
   pub found_above : (k q : ℕ) (y : X) (es : List (ℕ × X))
       → T (below_all nat_cmp k es)
       → find nat_cmp q es ≡ Some y
       → k < q
-  found_above k q y [] low h = absurd cc
-  found_above k q y (e ∷ es) low h = elim (found_cases q y e es h) [
-    | inl w ↦ let up : k < e.0 = low_first k e es low in omega arith
-    | inr w ↦ found_above k q y es (low_rest k e es low) w.1
-  ]
+  found_above k q y es low h =
+      ranked k q Less (sym (keys.found_above nat_cmp_total nat_cmp-IsAntisymmetric k q y es low h))
 
   -- what is found behind the first entry is found with it in front
   pub found_still : (q : ℕ) (y : X) (e : ℕ × X) (es : List (ℕ × X))
       → T (is_sorted nat_cmp (e ∷ es))
       → find nat_cmp q es ≡ Some y
       → find nat_cmp q (e ∷ es) ≡ Some y
-  found_still q y e es up h =
-      let above : e.0 < q = found_above e.0 q y es (up_low e es up) h in
-      found_behind q e es (λ same. absurd (omega arith)) ∙ h
+  found_still = keys.found_still nat_cmp_total nat_cmp-IsAntisymmetric
 
   -- numbers that are found above k are all above k
   pub all_above : (k : ℕ) (es : List (ℕ × X))

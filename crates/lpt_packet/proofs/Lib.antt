@@ -2,6 +2,7 @@ pub mod Bursts
 pub mod Codec
 pub mod EntryLemmas
 pub mod Found
+pub mod KeyLemmas
 pub mod Lookups
 pub mod NameLemmas
 pub mod NamedLemmas

@@ -1,4 +1,5 @@
 -- How a transaction is named within a direction.
+use Rattle.std.specs.Coded.{Coded, coded_ℕ}
 use Rattle.std.specs.Prelude.{ℕ, ◌<◌, ◌==◌, nat_lt, Bool}
 use Rattle.std.specs.declared.cmp.Ordering.{Ordering}
 use Rattle.std.specs.Ordering.{nat_cmp}
@@ -20,8 +21,12 @@ abbrev pub name_cmp : Name → Name → Ordering
 name_cmp = nat_cmp
 
 -- a number is a name
-abbrev pub IsName : Name → Type 0
-IsName id = id < 65536
+pub record IsName (id : Name) : Type 0 where
+  pub id_fits : id < 65536
+
+-- the code of a name
+abbrev pub coded_name : Coded Name
+coded_name = coded_ℕ
 
 -- the name that is told where there is none
 abbrev pub no_name : Name

@@ -4,7 +4,6 @@ use Rattle.std.specs.List.{list_any}
 use Rattle.std.specs.FinMap as maps
 use Rattle.lpt_model.specs.LptPacket.declared.direction.Direction.{Direction}
 use Rattle.lpt_model.specs.LptPacket.Names.{Name, same_name}
-use Rattle.lpt_model.proofs.LptPacket.Readings.{lt_false}
 use Rattle.lpt_model.specs.LptTable.Deadlines.{IsDue, due_of}
 use Rattle.lpt_model.specs.LptTable.Tables.{TableEntry}
 use Rattle.lpt_model.proofs.LptTable.DueLemmas.{due_of_is, due_unique}
@@ -85,7 +84,7 @@ module _ (c : Config) (h : History) (d : Direction) (v : Receiving) (now : ℕ)
           least = λ other its g same.
               let w : its.last ≡ last_tick c h d other = (shown_entry other its g).1 in
               let late : its.last + c.timeout ≤ now = omega arith in
-              lt_false other id (it.least other (overdue_shown other its g late) (sym w ∙ same));
+              it.least other (overdue_shown other its g late) (sym w ∙ same);
         },
       )
 

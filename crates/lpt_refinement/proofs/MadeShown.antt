@@ -54,11 +54,12 @@ IsReportOf kind b =
     (s t : ℕ) → is_report s t b ≡ ((service_of kind == s) && ((subtype_of kind == t) && true))
 
 -- the service and message subtype stand behind a telemetry packet's first seven octets
-pub is_report-made : (c : Config) (count counter time service subtype : ℕ) (body : List ℕ) (s t : ℕ)
-    → is_report s t (tm_made c count counter time service subtype body)
+pub is_report-made : (c : Config) (peer count counter time service subtype : ℕ) (body : List ℕ)
+    (s t : ℕ)
+    → is_report s t (tm_made c peer count counter time service subtype body)
     ≡ ((service == s) && ((subtype == t) && true))
 unfolding spelling tm_field
-is_report-made c count counter time service subtype body s t = refl
+is_report-made c peer count counter time service subtype body s t = refl
 
 -- kinds of telemetry have one place where they have one service and message subtype
 same_kind_by : (kind k : TelemetryKind)

@@ -2,6 +2,7 @@
 use Rattle.std.proofs.Common.{◌≡◌, ◌∙◌, ap, sym, refl, ℕ, ◌==◌, nat_le, Bool, true, false, not, ◌&&◌, ◌||◌, if◌then◌else◌, Some, None, is_some}
 use Rattle.std.specs.List.{filter}
 use Rattle.std.specs.FinMap as maps
+use Rattle.std.specs.Cmp.{nat_cmp_total, unsigned_tied}
 use Rattle.lpt_model.specs.LptPacket.declared.direction.Direction.{Direction}
 use Rattle.lpt_model.specs.LptPacket.Names.{Name, same_name}
 use Rattle.lpt_model.proofs.LptPacket.NameLemmas.{same_name-true}
@@ -76,9 +77,9 @@ some_parts s n e =
 more_parts : (s : Parts) (q : Piece) → has_parts (with_piece s q) ≡ true
 more_parts s q =
     some_parts (with_piece s q) q.number
-    (ap is_some (get_insert s q.number _ q.number)
+    (ap is_some (maps.get-insert nat_cmp_total s q.number (kept q) q.number)
     ∙ ap (λ t. is_some (if t then Some (kept q) else maps.get s q.number))
-    (eq_true q.number q.number refl))
+    (unsigned_tied q.number q.number ∙ eq_true q.number q.number refl))
 
 -- a name's reception has these parts, and took one at this tick
 taken_shown : {x : Receiving} {y : ReceivingView} (n : Name) (s : Parts) (now now' : ℕ)

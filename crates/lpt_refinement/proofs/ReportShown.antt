@@ -60,5 +60,5 @@ report_shown {s = s} {v = v} c id reason k =
     let packet : made_at c s.on_craft id reason ≡ told_at c v.craft id reason =
     λ i. abort_made c (own.count i) (own.types.counter Abort i) (k.craft.clock i) id reason in
     with_link
-    (with_sending Craft k (report_made Abort _ (λ a t. is_report-made c _ _ _ 13 16 _ a t) own))
+    (with_sending Craft k (report_made Abort _ (λ a t. is_report-made c _ _ _ _ 13 16 _ a t) own))
     (link_more Down None _ _ packet k.link)

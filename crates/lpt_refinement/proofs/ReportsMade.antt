@@ -29,7 +29,7 @@ one_made : {x : Sending} {y : SendingView} (c : Config) (time : ℕ) (r : Report
     → ShowsSending Craft (counted_kind x r.kind)
     (record y { made = y.made ++ report_after c y.made time r ∷ [] })
 one_made {y = y} c time r k =
-    report_made r.kind (report_after c y.made time r) (λ s t. is_report-made c _ _ _ _ _ _ s t) k
+    report_made r.kind (report_after c y.made time r) (λ s t. is_report-made c _ _ _ _ _ _ _ s t) k
 
 -- the node makes the packets that the journal tells
 pub packets_agree : (c : Config) (rs : List Report) {x : Sending} {y : SendingView}
@@ -40,7 +40,7 @@ pub packets_agree : (c : Config) (rs : List Report) {x : Sending} {y : SendingVi
 packets_agree c [] time time' e k = refl
 packets_agree c (r ∷ rs) {x = x} {y = y} time time' e k =
     let packet : report_packet c x time r ≡ report_after c y.made time' r =
-    λ i. tm_made c (k.count i) (k.types.counter r.kind i) (e i) (service_of r.kind)
+    λ i. tm_made c c.source (k.count i) (k.types.counter r.kind i) (e i) (service_of r.kind)
     (subtype_of r.kind) r.body in
     let rest = packets_agree c rs time time' e (one_made c time' r k) in
     λ i. (r, packet i) ∷ rest i

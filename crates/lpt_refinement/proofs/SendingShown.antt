@@ -42,7 +42,7 @@ kind_counter h Last = refl
 is_report-part : (c : Config) (n counter time : ℕ) (q : Piece)
     → IsReportOf (part_telemetry q.kind) (part_made c Down n counter time q)
 is_report-part c n counter time q s t =
-    is_report-made c n counter time 13 (part_subtype Down q.kind) (body_of q) s t ∙ go q.kind where
+    is_report-made c c.source n counter time 13 (part_subtype Down q.kind) (body_of q) s t ∙ go q.kind where
       go : (kind : Kind)
           → ((13 == s) && ((part_subtype Down kind == t) && true))
           ≡ ((service_of (part_telemetry kind) == s)
@@ -120,8 +120,8 @@ pub plain_shown : (c : Config) (first : Contents) (s : State) (h : History)
     → Shows (after_plain c s flags service subtype body).0
     (plain_view c first h flags service subtype body)
 plain_shown c first s h flags service subtype body k =
-    let packet : tc_made c s.on_ground.sending.count flags service subtype body
+    let packet : tc_made c c.source s.on_ground.sending.count flags service subtype body
     ≡ plain_packet c h flags service subtype body
-    = ap (λ n. tc_made c n flags service subtype body) k.ground.sending.count in
+    = ap (λ n. tc_made c c.source n flags service subtype body) k.ground.sending.count in
     with_link (with_sending Ground k (command_made _ k.ground.sending))
     (link_more Up None _ _ packet k.link)

@@ -3,10 +3,11 @@ use Rattle.std.specs.Prelude.{◌≡◌, ℕ, ◌+◌, ◌≤◌, ◌<◌, true,
 use Rattle.std.specs.Option.{option_map}
 use Rattle.std.specs.FinMap as map
 use Rattle.std.specs.FinMap.{get-entries, entries_sorted}
-use Rattle.std.specs.FinMap.Entries.{find, is_sorted}
+use Rattle.std.specs.FinMap.Entries.{below_all, find, is_sorted}
 use Rattle.std.proofs.Common.{sym, ◌∙◌, ap, arith, inl, inr, ltb-true, ltb-false, leb-true, leb-false}
 use Rattle.lpt_reception.specs.LptPacket.Names.{Name, name_before, name_cmp}
-use Rattle.lpt_reception.proofs.LptPacket.EntryLemmas.{found_first, found_cases, found_above, found_still, up_low, up_rest}
+use Rattle.lpt_reception.proofs.LptPacket.KeyLemmas.{first, second, found_first, found_cases, found_above, found_still}
+use Rattle.lpt_reception.proofs.LptPacket.NameLemmas.{name_cmp_total, name_cmp-IsAntisymmetric, name_before-refl, name_before-less, neither_before}
 use Rattle.lpt_table.specs.Deadlines.{IsDue, sooner, soonest, due_of}
 use Rattle.lpt_table.specs.Tables.{TableEntry, TableState}
 
@@ -21,7 +22,7 @@ record IsSoonest (timeout now : ℕ) (es : List (Name × TableEntry)) (b : Name 
   oldest : (q : Name) (f : TableEntry)
       → find name_cmp q es ≡ Some f → f.last + timeout ≤ now → b.1 ≤ f.last
   least : (q : Name) (f : TableEntry)
-      → find name_cmp q es ≡ Some f → f.last ≡ b.1 → ¬ (q < b.0)
+      → find name_cmp q es ≡ Some f → f.last ≡ b.1 → name_before q b.0 ≡ false
 
 abbrev Soonest : ℕ → ℕ → List (Name × TableEntry) → Option (Name × ℕ) → Type 0
 Soonest timeout now es None =
@@ -41,17 +42,17 @@ module _ (timeout now : ℕ) (e : Name × TableEntry) (es : List (Name × TableE
       → IsSoonest timeout now (e ∷ es) b
   stays b later h = record {
     entry = h.entry;
-    here = found_still b.0 h.entry e es up h.here;
+    here = found_still name_cmp_total name_cmp-IsAntisymmetric b.0 h.entry e es up h.here;
     last = h.last;
     overdue = h.overdue;
-    oldest = λ q f g late. elim (found_cases q f e es g) [
+    oldest = λ q f g late. elim (found_cases name_cmp_total name_cmp-IsAntisymmetric q f e es g) [
       | inl w ↦
           let same = same_last f e.1 w.1 in
           let sooner = later (omega (arith, same, late)) in
           omega (arith, same, sooner)
       | inr w ↦ h.oldest q f w.1 late
     ];
-    least = λ q f g as_late. elim (found_cases q f e es g) [
+    least = λ q f g as_late. elim (found_cases name_cmp_total name_cmp-IsAntisymmetric q f e es g) [
       | inl w ↦
           let same = same_last f e.1 w.1 in
           let sooner = later (omega (arith, same, as_late, h.overdue)) in
@@ -67,16 +68,16 @@ module _ (timeout now : ℕ) (e : Name × TableEntry) (es : List (Name × TableE
       → IsSoonest timeout now (e ∷ es) (e.0, e.1.last)
   wins late h = record {
     entry = e.1;
-    here = found_first e.0 e es refl;
+    here = found_first name_cmp_total name_cmp-IsAntisymmetric e.0 e es refl;
     last = refl;
     overdue = late;
-    oldest = λ q f g too. elim (found_cases q f e es g) [
+    oldest = λ q f g too. elim (found_cases name_cmp_total name_cmp-IsAntisymmetric q f e es g) [
       | inl w ↦ omega (arith, same_last f e.1 w.1)
       | inr w ↦ h q f w.1 too
     ];
-    least = λ q f g as_late. elim (found_cases q f e es g) [
-      | inl w ↦ λ before. absurd (omega (arith, w.0))
-      | inr w ↦ λ before. absurd (omega (arith, found_above e.0 q f es (up_low e es up) w.1))
+    least = λ q f g as_late. elim (found_cases name_cmp_total name_cmp-IsAntisymmetric q f e es g) [
+      | inl w ↦ ap (λ n. name_before n e.0) w.0 ∙ name_before-refl e.0
+      | inr w ↦ name_before-less e.0 q (found_above name_cmp_total name_cmp-IsAntisymmetric e.0 q f es (first (below_all name_cmp e.0 es) (is_sorted name_cmp es) up) w.1)
     ];
   }
 
@@ -97,7 +98,7 @@ module _ (timeout now : ℕ) (e : Name × TableEntry) (es : List (Name × TableE
       → ¬ (e.1.last + timeout ≤ now)
       → Soonest timeout now es r
       → Soonest timeout now (e ∷ es) r
-  timely_first None timely h = λ q f g late. elim (found_cases q f e es g) [
+  timely_first None timely h = λ q f g late. elim (found_cases name_cmp_total name_cmp-IsAntisymmetric q f e es g) [
     | inl w ↦ timely (omega (arith, same_last f e.1 w.1, late))
     | inr w ↦ h q f w.1 late
   ]
@@ -109,7 +110,7 @@ soonest_is : (timeout now : ℕ) (es : List (Name × TableEntry))
     → Soonest timeout now es (soonest timeout now es)
 soonest_is timeout now [] up = λ q f g. absurd cc
 soonest_is timeout now (e ∷ es) up =
-    let rest = soonest_is timeout now es (up_rest e es up) in
+    let rest = soonest_is timeout now es (second (below_all name_cmp e.0 es) (is_sorted name_cmp es) up) in
     elim (nat_le (e.1.last + timeout) now) as (λ t. nat_le (e.1.last + timeout) now ≡ t
     → Soonest timeout now (e ∷ es)
     (sooner (if t then Some (e.0, e.1.last) else None) (soonest timeout now es))) [
@@ -123,14 +124,6 @@ soonest_is timeout now (e ∷ es) up =
 
 -- ---- what is due
 
--- a name that is not lesser is not before
-pub not_before : (a b : Name) → ¬ (a < b) → name_before a b ≡ false
-not_before a b h =
-    elim (nat_lt a b) as (λ t. nat_lt a b ≡ t → t ≡ false) [
-      | true ↦ λ p. absurd (h (ltb-true a b p))
-      | false ↦ λ p. refl
-    ] refl
-
 soonest_due : (t : TableState) (now : ℕ) (r : Option (Name × ℕ))
     → Soonest t.timeout now (map.entries t.entries) r
     → IsDue t now (option_map (λ b. b.0) r)
@@ -143,8 +136,7 @@ soonest_due t now (Some b) h = (
     oldest = λ other its g late.
         omega (arith, h.oldest other its (sym (get-entries t.entries other) ∙ g) late, h.last);
     least = λ other its g same.
-        not_before other b.0
-        (h.least other its (sym (get-entries t.entries other) ∙ g) (same ∙ h.last));
+        h.least other its (sym (get-entries t.entries other) ∙ g) (same ∙ h.last);
   },
 )
 
@@ -153,9 +145,6 @@ pub due_of_is : (t : TableState) (now : ℕ) → IsDue t now (due_of t now)
 due_of_is t now =
     soonest_due t now (soonest t.timeout now (map.entries t.entries))
     (soonest_is t.timeout now (map.entries t.entries) (entries_sorted t.entries))
-
-neither_before : (a b : Name) → name_before a b ≡ false → name_before b a ≡ false → a ≡ b
-neither_before a b p q = omega (arith, ltb-false a b p, ltb-false b a q)
 
 -- no two answers are due
 pub due_unique : (t : TableState) (now : ℕ) (a b : Option Name)

@@ -1,15 +1,14 @@
 -- The first place is that of the reception which is due, where one is overdue.
-use Rattle.std.specs.Prelude.{◌≡◌, ◌⊎◌, ℕ, ◌+◌, ◌≤◌, ◌<◌, true, false, cond, nat_le, if◌then◌else◌, T, List, [], ◌∷◌, Some, None, refl}
+use Rattle.std.specs.Prelude.{◌≡◌, ◌⊎◌, ℕ, ◌+◌, ◌≤◌, true, false, cond, nat_le, if◌then◌else◌, T, List, [], ◌∷◌, Some, None, refl}
 use Rattle.std.specs.Option.{option_map}
 use Rattle.std.specs.FinMap as map
 use Rattle.std.specs.FinMap.{get-from_entries}
 use Rattle.std.specs.FinMap.Entries.{below_all, find, is_sorted}
 use Rattle.std.specs.declared.cmp.Ordering.TheVariants.{Less}
 use Rattle.std.specs.Ordering.{is_lt, eq_by_cmp}
-use Rattle.std.specs.Cmp.{ranked}
 use Rattle.std.proofs.Common.{sym, ◌∙◌, ap, arith, inl, inr, leb-true, leb-false}
 use Rattle.slab.specs.Slab.{Slab}
-use Rattle.lpt_reception.proofs.LptPacket.NameLemmas.{name_cmp_total}
+use Rattle.lpt_reception.proofs.LptPacket.NameLemmas.{name_cmp_total, name_before-refl, name_before-less}
 use Rattle.lpt_reception.specs.LptPacket.Names.{Name, name_before, name_cmp}
 use Rattle.lpt_reception.specs.LptPart.declared.mode.Mode.TheVariants.{Any}
 use Rattle.lpt_reception.specs.Received.{Received}
@@ -18,7 +17,7 @@ use Rattle.lpt_table.specs.Deadlines.{IsDue, due_of, soonest}
 use Rattle.lpt_table.specs.EntriesOf.{entry_at, entries_of, map_of}
 use Rattle.lpt_table.specs.Places.{by_moment, when_cmp, first_overdue}
 use Rattle.lpt_table.specs.Tables.{TableEntry, TableState}
-use Rattle.lpt_table.proofs.DueLemmas.{due_of_is, due_unique, not_before}
+use Rattle.lpt_table.proofs.DueLemmas.{due_of_is, due_unique}
 use Rattle.lpt_table.proofs.ListingLemmas.{equal_tied, tied_equal, inside}
 use Rattle.lpt_table.proofs.OrderLemmas.{less, front, back, earlier_tick, earlier_name}
 
@@ -72,18 +71,15 @@ module _ (s : Slab Received) (x : Place) (xs : List Place)
     | inr w ↦ earlier_tick x.last f.last (name_cmp x.id q) w
   ]
 
-  above : (a b : Name) → name_cmp a b ≡ Less → ¬ (b < a)
-  above a b h low = let up : a < b = ranked a b Less (sym h) in absurd (omega (arith, up, low))
-
   -- and at the same tick no lesser name
   no_lesser : (q : Name) (f : TableEntry)
       → find name_cmp q (entries_of s (x ∷ xs)) ≡ Some f
       → f.last ≡ x.last
       → name_before q x.id ≡ false
   no_lesser q f g same = elim (cases q f g) [
-    | inl w ↦ not_before q x.id (λ low. absurd (omega (arith, w.0, low)))
-    | inr w ↦ not_before q x.id
-        (above x.id q (earlier_name x.last f.last (name_cmp x.id q) w same))
+    | inl w ↦ ap (λ n. name_before n x.id) w.0 ∙ name_before-refl x.id
+    | inr w ↦
+        name_before-less x.id q (earlier_name x.last f.last (name_cmp x.id q) w same)
   ]
 
 -- the receptions at these places, under this time-out

@@ -1,5 +1,5 @@
 -- Putting a reception in, as on the finite map.
-use Rattle.std.specs.Prelude.{◌≡◌, ℕ, ◌+◌, ◌≤◌, ◌<◌, Bool, true, false, cond, T, List, length, Option, Some, None, refl}
+use Rattle.std.specs.Prelude.{◌≡◌, ◌≢◌, ℕ, ◌+◌, ◌≤◌, ◌<◌, Bool, true, false, cond, T, List, length, Option, Some, None, refl}
 use Rattle.std.specs.List.{insert}
 use Rattle.std.specs.Option.{option_map}
 use Rattle.std.specs.FinMap as maps
@@ -30,7 +30,7 @@ by_moment_insert : (xs : List Place) (i : ℕ) (x : Place)
 by_moment_insert xs i x = simp (map-append, take-map, drop-map)
 
 -- a last tick and a name belong into the list or at its end
-pub belongs-within : (last id : ℕ) (xs : List Place)
+pub belongs-within : (last : ℕ) (id : Name) (xs : List Place)
     → rank when_cmp (last, id) (by_moment xs) ≤ length xs
 belongs-within last id xs =
     omega (
@@ -56,8 +56,13 @@ module _ (limit p capacity : ℕ) (s : Slab Received) (xs : List Place)
 
     module _ (t : Slab Received) (key : ℕ) (u : Updates s t key (Some e.filling))
         (vacant : get s key ≡ None) where
+      -- its place
+      abbrev pub here : Place
+      here = record { last = e.last; id = e.id; key = key }
+
+      -- the places with it
       abbrev pub placed : List Place
-      placed = insert xs belongs (record { last = e.last; id = e.id; key = key })
+      placed = insert xs belongs here
 
       length-placed : length placed ≡ length xs + 1
       length-placed =
@@ -83,15 +88,18 @@ module _ (limit p capacity : ℕ) (s : Slab Received) (xs : List Place)
           (find-by_moment e.last e.id xs none) ∙ sym (by_moment_insert xs belongs _))
           (is_sorted-put when_cmp when_cmp_total (e.last, e.id) key (by_moment xs) l.ordered)
 
+      -- no other has the key
+      fresh : (q : Name) (y : Place) → find name_cmp q (by_name xs) ≡ Some y → y.key ≢ key
+      fresh q y g same =
+          let mine = l.held q y g in
+          let never : None ≡ Some mine.filling = sym vacant ∙ ap (get s) (sym same) ∙ mine.kept in
+          absurd cc
+
       -- the others stay where they are
       stays : (q : Name) (y : Place)
           → find name_cmp q (by_name xs) ≡ Some y
           → get t y.key ≡ get s y.key
-      stays q y g =
-          let mine = l.held q y g in
-          u.others y.key (λ same.
-          let never : None ≡ Some mine.filling = sym vacant ∙ ap (get s) (sym same) ∙ mine.kept in
-          absurd cc)
+      stays q y g = u.others y.key (fresh q y g)
 
       -- the map is the one with the entry
       pub placed-map : map_of t placed ≡ maps.insert (map_of s xs) e.id (entry_in e)
@@ -136,6 +144,9 @@ module _ (limit p capacity : ℕ) (s : Slab Received) (xs : List Place)
         apart = placed-apart;
         held = λ q y g.
             held_by q y (eq_by_cmp name_cmp q e.id) refl (sym (find-placed q) ∙ g);
+        alone = λ q r y z g h.
+            alone_by q r y z (eq_by_cmp name_cmp q e.id) (eq_by_cmp name_cmp r e.id) refl refl
+            (sym (find-placed q) ∙ g) (sym (find-placed r) ∙ h);
         as_many = omega (
           arith,
           length-placed,
@@ -150,6 +161,21 @@ module _ (limit p capacity : ℕ) (s : Slab Received) (xs : List Place)
         places = omega (arith, l.places, grown);
         slots = omega (arith, same, l.slots);
       } where
+        alone_by : (q r : Name) (y z : Place) (a b : Bool)
+            → eq_by_cmp name_cmp q e.id ≡ a
+            → eq_by_cmp name_cmp r e.id ≡ b
+            → cond a (Some here) (find name_cmp q (by_name xs)) ≡ Some y
+            → cond b (Some here) (find name_cmp r (by_name xs)) ≡ Some z
+            → y.key ≡ z.key
+            → q ≡ r
+        alone_by q r y z true true i j g h same =
+            equal_tied q e.id i ∙ sym (equal_tied r e.id j)
+        alone_by q r y z true false i j g h same =
+            absurd (fresh r z h (sym same ∙ ap (λ (x : Place). x.key) (sym (inside here y g))))
+        alone_by q r y z false true i j g h same =
+            absurd (fresh q y g (same ∙ ap (λ (x : Place). x.key) (sym (inside here z h))))
+        alone_by q r y z false false i j g h same = l.alone q r y z g h same
+
         held_by : (q : Name) (y : Place) (b : Bool)
             → eq_by_cmp name_cmp q e.id ≡ b
             → cond b (Some (record { last = e.last; id = e.id; key = key }))

@@ -128,14 +128,9 @@ module _ (limit p capacity : ℕ) (s : Slab Received) (xs : List Place)
             let n = not_none (eq_by_cmp name_cmp q id) (find name_cmp q (by_name xs)) y
             (sym (find-removed q) ∙ g)
             in
-            let mine = l.held q y n.1 in
-            let gone = found-held in
             let apart : y.key ≢ x.key = λ e.
-            let same = inside mine.filling gone.filling
-            (sym mine.kept ∙ ap (get s) e ∙ gone.kept)
-            in
-            let id_same : q ≡ id = sym mine.named ∙ ap (λ (f : Received). f.id) same ∙ gone.named in
-            let never : true ≡ false = sym (tied_equal q id id_same) ∙ n.0 in cc
+            let never : true ≡ false =
+            sym (tied_equal q id (l.alone q id y x n.1 found e)) ∙ n.0 in cc
             in
             (n.1, u.others y.key apart)
 
@@ -182,6 +177,7 @@ module _ (limit p capacity : ℕ) (s : Slab Received) (xs : List Place)
                 named = mine.named;
                 of_size = mine.of_size;
               };
+          alone = λ q r y z g h. l.alone q r y z (others q y g).0 (others r z h).0;
           as_many = omega (arith, length-remove xs at found-within, less, l.as_many);
           within = omega (arith, length-remove xs at found-within, l.within);
           places = l.places;

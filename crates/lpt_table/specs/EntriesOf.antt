@@ -48,13 +48,18 @@ pub record IsHeld (s : Slab Received) (p : ℕ) (id : Name) (x : Place) : Type 0
   pub named : filling.id ≡ id
   pub of_size : filling.p ≡ p
 
--- the places are in order, no name stands twice, each has its reception and no other is kept, and
--- there is room for as many as the limit
+-- the places are in order, no name stands twice, each has its reception, which stands at no other
+-- place, no other is kept, and there is room for as many as the limit
 pub record IsListed (limit p capacity : ℕ) (s : Slab Received) (xs : List Place) : Type 0 where
   pub ordered : T (maps.is_sorted when_cmp (by_moment xs))
   pub apart : AreApart name_cmp (by_name xs)
   pub held : (id : Name) (x : Place)
       → maps.find name_cmp id (by_name xs) ≡ Some x → IsHeld s p id x
+  pub alone : (q r : Name) (x y : Place)
+      → maps.find name_cmp q (by_name xs) ≡ Some x
+      → maps.find name_cmp r (by_name xs) ≡ Some y
+      → x.key ≡ y.key
+      → q ≡ r
   pub as_many : slab_len s ≡ length xs
   pub within : length xs ≤ limit
   pub places : limit ≤ capacity

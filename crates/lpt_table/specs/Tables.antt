@@ -2,7 +2,7 @@
 use Rattle.std.specs.Prelude.{ℕ, ◌≤◌, Option, None, refl}
 use Rattle.std.specs.Coded.{Coded, code_by, coded×, coded_ℕ, coded_option}
 use Rattle.std.specs.FinMap as map
-use Rattle.lpt_reception.specs.LptPacket.Names.{Name, name_cmp}
+use Rattle.lpt_reception.specs.LptPacket.Names.{Name, name_cmp, coded_name}
 use Rattle.lpt_reception.specs.LptPart.Splitting.{IsPartSize}
 use Rattle.lpt_reception.specs.LptPart.declared.mode.Mode.{Mode}
 use Rattle.lpt_reception.specs.Codes.{coded_kept, coded_mode}
@@ -48,14 +48,14 @@ coded_table_entry =
 
 -- the entries are coded as their list
 abbrev pub coded_entries : Coded Entries
-coded_entries = map.code coded_ℕ coded_table_entry
+coded_entries = map.code coded_name coded_table_entry
 
 -- a table is coded as the tuple of its fields
 abbrev pub coded_table_state : Coded TableState
 coded_table_state =
     code_by (ℕ × (ℕ × (ℕ × (Mode × (Entries × Option (Name × ℕ))))))
     (coded× coded_ℕ (coded× coded_ℕ (coded× coded_ℕ (coded× coded_mode
-    (coded× coded_entries (coded_option (coded× coded_ℕ coded_ℕ)))))))
+    (coded× coded_entries (coded_option (coded× coded_name coded_ℕ)))))))
     (λ t. (t.limit, (t.timeout, (t.p, (t.mode, (t.entries, t.out))))))
     (λ x. record {
       limit = x.0;

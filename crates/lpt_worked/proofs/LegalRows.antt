@@ -3,6 +3,7 @@ use Rattle.std.proofs.Common.{◌≡◌, ◌∙◌, ap, ℕ, zero, suc, ◌<◌,
 use Rattle.std.proofs.lemmas.Bool.Decides.{nat_tests}
 use Rattle.std.specs.List.{list_all}
 use Rattle.std.specs.Option.{is_some}
+use Rattle.lpt_journal.specs.LptPacket.Names.{Name, IsName}
 use Rattle.lpt_journal.specs.LptPacket.Numbers.{IsOctets}
 use Rattle.lpt_journal.specs.LptEvents.declared.config.Config.{Config}
 use Rattle.lpt_journal.specs.LptEvents.declared.event.Event.{Event}
@@ -37,13 +38,16 @@ in_range (Retire d id) = nat_lt id 65536
 in_range (Damage d b) = list_all (λ x. nat_lt x 256) b
 in_range _ = true
 
+is_name : (id : Name) → nat_lt id 65536 ≡ true → IsName id
+is_name id h = record { id_fits = small id 65536 h }
+
 is_event : (e : Event) → in_range e ≡ true → IsEvent e
 is_event (Open d id m) h = (
-  small id 65536 (and_l (nat_lt id 65536) (list_all (λ x. nat_lt x 256) m) h),
+  is_name id (and_l (nat_lt id 65536) (list_all (λ x. nat_lt x 256) m) h),
   are_octets m (and_r (nat_lt id 65536) (list_all (λ x. nat_lt x 256) m) h),
 )
 is_event (Send d id k) h = (
-  small id 65536 (and_l (nat_lt id 65536) (nat_lt k 65536) h),
+  is_name id (and_l (nat_lt id 65536) (nat_lt k 65536) h),
   small k 65536 (and_r (nat_lt id 65536) (nat_lt k 65536) h),
 )
 is_event (Plain flags service subtype body) h =
@@ -56,8 +60,8 @@ is_event (Plain flags service subtype body) h =
       small subtype 256 (and_l (nat_lt subtype 256) octets last),
       are_octets body (and_r (nat_lt subtype 256) octets last),
     )
-is_event (Finish d id) h = small id 65536 h
-is_event (Retire d id) h = small id 65536 h
+is_event (Finish d id) h = is_name id h
+is_event (Retire d id) h = is_name id h
 is_event (Damage d b) h = are_octets b h
 is_event e h = tt
 

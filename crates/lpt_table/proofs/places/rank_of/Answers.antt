@@ -1,4 +1,5 @@
 use Rattle.std.proofs.Common.{◌≡◌, ◌∙◌, ◌+◌, ◌-◌, arith, sym, slice_index_or, Less}
+use Rattle.lpt_reception.specs.LptPacket.Names.{no_name}
 use Rattle.lpt_table.specs.declared.places.Place.{Place}
 use Rattle.lpt_table.specs.Places.{by_moment, rank, when_cmp}
 use Rattle.lpt_table.proofs.RankLemmas.{beside, rank-at-most, rank-beyond}
@@ -8,7 +9,7 @@ use Rattle.lpt_table.proofs.places.rank_of.Goals.{After-then}
 
 -- what a place is that isn't there
 abbrev none : Place
-none = record { last = 0; id = 0; key = 0 }
+none = record { last = 0; id = no_name; key = 0 }
 
 -- the place was compared
 compared : (c : After-then)
