@@ -12,7 +12,7 @@ use lpt_tool::ScriptEnd;
 pub fn lint(rt: &HostRuntime, script: &str) -> Result<Status, Failure> {
     let mut source = opened(rt, script)?;
     let mut out = output(rt)?;
-    let linted = lpt_lint::lint(
+    let linted = lpt_drawing::lint(
         rt.alloc(),
         name_of(script).as_bytes(),
         &mut source,

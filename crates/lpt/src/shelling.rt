@@ -2,7 +2,7 @@
 
 use crate::input::Incoming;
 use crate::streams::Output;
-use lpt_shell::run_shell;
+use lpt_drawing::run_shell;
 use lpt_tool::{Config, Memories, ScriptEnd, ToolFault};
 use std::io::IsTerminal;
 

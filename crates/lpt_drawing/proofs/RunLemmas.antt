@@ -2,10 +2,10 @@
 use Rattle.std.proofs.Common.{◌≡◌, ◌∙◌, ℕ, ◌+◌, ◌++◌, List, [], ◌∷◌, length, true, false, sym, ap, None, Some}
 use Rattle.lpt_chart.specs.declared.refusal.Refusal.{Refusal}
 use Rattle.lpt_drawing.specs.Drawings.{LineLeaves, left_by, lines_run, refusals_at, run_on}
-use Rattle.lpt_script.specs.LptWords.Grammar.{reading_of}
-use Rattle.lpt_script.specs.LptWords.Words.{lines}
-use Rattle.lpt_script.specs.LptWorld.Worlds.{Shown}
-use Rattle.lpt_script.specs.Scripts.{line_ran}
+use Rattle.lpt_shell.specs.LptScript.LptWords.Grammar.{reading_of}
+use Rattle.lpt_shell.specs.LptScript.LptWords.Words.{lines}
+use Rattle.lpt_shell.specs.LptScript.LptWorld.Worlds.{Shown}
+use Rattle.lpt_shell.specs.LptScript.Scripts.{line_ran}
 
 -- a line that could be read, and then the rest
 pub run-step : (text rest line : List ℕ) (w v : Shown) (n : ℕ) (before after : List Refusal)

@@ -3,14 +3,14 @@ use Rattle.std.proofs.Common.{◌≡◌, ◌∙◌, ℕ, ◌+◌, ◌++◌, List
 use Rattle.std.specs.Int.{from_bool}
 use Rattle.lpt_chart.specs.declared.refusal.Refusal.{Refusal}
 use Rattle.lpt_drawing.specs.Drawings.{IsScriptRun, lines_run, refusals_at, run_on}
-use Rattle.lpt_script.specs.LptWords.declared.grammar.Reading.{Reading}
-use Rattle.lpt_script.specs.LptWords.declared.grammar.Reading.TheVariants.{Skipped, Asks, Unreadable}
-use Rattle.lpt_script.specs.LptWords.declared.showing.Show.{Show}
-use Rattle.lpt_script.specs.LptWords.Grammar.{reading_of}
-use Rattle.lpt_script.specs.LptWords.Words.{lines}
-use Rattle.lpt_script.specs.LptWorld.LptEvents.declared.fault.StepFault.{StepFault}
-use Rattle.lpt_script.specs.LptWorld.Worlds.{Shown}
-use Rattle.lpt_script.specs.Scripts.{Ran, line_ran, lines_left, lines_ran, says_now, shows_left, then_rest}
+use Rattle.lpt_shell.specs.LptScript.LptWords.declared.grammar.Reading.{Reading}
+use Rattle.lpt_shell.specs.LptScript.LptWords.declared.grammar.Reading.TheVariants.{Skipped, Asks, Unreadable}
+use Rattle.lpt_shell.specs.LptScript.LptWords.declared.showing.Show.{Show}
+use Rattle.lpt_shell.specs.LptScript.LptWords.Grammar.{reading_of}
+use Rattle.lpt_shell.specs.LptScript.LptWords.Words.{lines}
+use Rattle.lpt_shell.specs.LptScript.LptWorld.LptEvents.declared.fault.StepFault.{StepFault}
+use Rattle.lpt_shell.specs.LptScript.LptWorld.Worlds.{Shown}
+use Rattle.lpt_shell.specs.LptScript.Scripts.{Ran, line_ran, lines_left, lines_ran, says_now, shows_left, then_rest}
 
 -- where nothing is left for later, a line says what it says
 says_all : (r : Reading) → says_now false r ≡ r

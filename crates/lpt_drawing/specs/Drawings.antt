@@ -3,17 +3,17 @@ use Rattle.std.specs.Prelude.{◌≡◌, ℕ, ◌+◌, Bool, true, false, List, 
 use Rattle.lpt_chart.specs.declared.choice.Choice.{Choice}
 use Rattle.lpt_chart.specs.declared.refusal.Refusal.{Refusal}
 use Rattle.lpt_chart.specs.Charts.{chart_text}
-use Rattle.lpt_script.specs.LptText.Reading.{ReadTo}
-use Rattle.lpt_script.specs.LptText.declared.fault.ToolFault.{ToolFault}
-use Rattle.lpt_script.specs.LptText.declared.fault.ToolFault.TheVariants as tool
-use Rattle.lpt_script.specs.LptText.declared.reading.End.{End}
-use Rattle.lpt_script.specs.LptText.declared.reading.End.TheVariants.{Whole, Failed, TooLong}
-use Rattle.lpt_script.specs.LptWords.Grammar.{reading_of}
-use Rattle.lpt_script.specs.LptWords.Words.{lines}
-use Rattle.lpt_script.specs.LptWorld.LptEvents.declared.fault.StepFault.{StepFault}
-use Rattle.lpt_script.specs.LptWorld.Worlds.{Shown}
-use Rattle.lpt_script.specs.Scripts.{Ran, line_ran, script_left, script_ran}
-use Rattle.lpt_script.specs.declared.end.ScriptEnd.{ScriptEnd}
+use Rattle.lpt_shell.specs.LptScript.LptText.Reading.{ReadTo}
+use Rattle.lpt_shell.specs.LptScript.LptText.declared.fault.ToolFault.{ToolFault}
+use Rattle.lpt_shell.specs.LptScript.LptText.declared.fault.ToolFault.TheVariants as tool
+use Rattle.lpt_shell.specs.LptScript.LptText.declared.reading.End.{End}
+use Rattle.lpt_shell.specs.LptScript.LptText.declared.reading.End.TheVariants.{Whole, Failed, TooLong}
+use Rattle.lpt_shell.specs.LptScript.LptWords.Grammar.{reading_of}
+use Rattle.lpt_shell.specs.LptScript.LptWords.Words.{lines}
+use Rattle.lpt_shell.specs.LptScript.LptWorld.LptEvents.declared.fault.StepFault.{StepFault}
+use Rattle.lpt_shell.specs.LptScript.LptWorld.Worlds.{Shown}
+use Rattle.lpt_shell.specs.LptScript.Scripts.{Ran, line_ran, script_left, script_ran}
+use Rattle.lpt_shell.specs.LptScript.declared.end.ScriptEnd.{ScriptEnd}
 use Rattle.lpt_drawing.specs.declared.drawing.Drawing.{Drawing}
 use Rattle.lpt_drawing.specs.Fronts.{front_of}
 use Rattle.lpt_drawing.specs.Titles.{title_of}

@@ -1,8 +1,8 @@
 -- Which part of a text is run that was not read to its end.
 use Rattle.std.specs.Prelude.{ℕ, ◌+◌, ◌==◌, ◌||◌, nat_lt, if◌then◌else◌, List, [], ◌∷◌, length, take}
-use Rattle.lpt_script.specs.LptText.declared.reading.End.{End}
-use Rattle.lpt_script.specs.LptText.declared.reading.End.TheVariants.{Whole, Failed, TooLong}
-use Rattle.lpt_script.specs.LptWords.Words.{is_filled}
+use Rattle.lpt_shell.specs.LptScript.LptText.declared.reading.End.{End}
+use Rattle.lpt_shell.specs.LptScript.LptText.declared.reading.End.TheVariants.{Whole, Failed, TooLong}
+use Rattle.lpt_shell.specs.LptScript.LptWords.Words.{is_filled}
 
 -- the lines of a text that end in it
 abbrev pub whole_lines : List ℕ → List ℕ

@@ -4,14 +4,14 @@ ghost use Rattle.std.specs.Prelude.{◌≡◌, ◌≢◌, ◌↔◌, [], Err, If
 ghost use Rattle.lpt_chart.specs.Charts.{chart_text};
 ghost use Rattle.lpt_drawing.specs.Drawings.{Draws, IsDrawing, IsDrawn, drawn_refusals, run_end};
 ghost use Rattle.lpt_drawing.specs.Titles.{title_of};
-ghost use Rattle.lpt_script.specs.LptWorld.LptEvents.Configs.{config_fault};
-ghost use Rattle.lpt_script.specs.LptWorld.Worlds.{new_world};
+ghost use Rattle.lpt_shell.specs.LptScript.LptWorld.LptEvents.Configs.{config_fault};
+ghost use Rattle.lpt_shell.specs.LptScript.LptWorld.Worlds.{new_world};
 
 use crate::front::front_of;
 use crate::running::run_text;
 use crate::title::title_of;
 use lpt_chart::{Choice, Refusal, chart};
-use lpt_script::{
+use lpt_shell::{
     Config, ConfigFault, End, Entry, Memories, ScriptEnd, Source, ToolFault, World, read_text,
 };
 use std::alloc::{AllocError, Global};

@@ -3,7 +3,7 @@
 ghost use Rattle.std.specs.Prelude.{◌≡◌, take};
 ghost use Rattle.lpt_drawing.specs.Fronts.{cut_text, front_of, whole_lines};
 
-use lpt_script::End;
+use lpt_shell::End;
 
 /// The most octets that a script may have.
 const LIMIT: usize = 16_777_216;

@@ -2,7 +2,7 @@
 
 ghost use Rattle.std.specs.Prelude.{ℕ, List};
 ghost use Rattle.lpt_drawing.specs.Drawings.{IsScriptRun};
-ghost use Rattle.lpt_script.specs.LptWorld.Worlds.{Shown};
+ghost use Rattle.lpt_shell.specs.LptScript.LptWorld.Worlds.{Shown};
 
 /// What is drawn of a script is what its run leaves that prints: it ends at the same unreadable line, or
 /// at none, refuses as many lines, and leaves the same world.

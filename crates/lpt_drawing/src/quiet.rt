@@ -2,7 +2,7 @@
 
 ghost use Rattle.std.specs.Prelude.{None};
 
-use lpt_script::Sink;
+use lpt_shell::Sink;
 
 /// A sink of which nothing is kept.
 #[derive(Drop)]

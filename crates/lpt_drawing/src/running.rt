@@ -2,14 +2,14 @@
 
 ghost use Rattle.std.specs.Prelude.{◌≡◌, ◌++◌, take, IfOk, OnOk, None};
 ghost use Rattle.lpt_drawing.specs.Drawings.{LineLeaves, left_by, lines_run, refusals_at};
-ghost use Rattle.lpt_script.specs.LptWords.Grammar.{reading_of};
-ghost use Rattle.lpt_script.specs.LptWords.Words.{lines};
-ghost use Rattle.lpt_script.specs.Scripts.{command_ran, line_ran};
+ghost use Rattle.lpt_shell.specs.LptScript.LptWords.Grammar.{reading_of};
+ghost use Rattle.lpt_shell.specs.LptScript.LptWords.Words.{lines};
+ghost use Rattle.lpt_shell.specs.LptScript.Scripts.{command_ran, line_ran};
 
 use crate::front::up_to;
 use crate::quiet::Nowhere;
 use lpt_chart::Refusal;
-use lpt_script::{Command, Octets, Reading, StepFault, World, read_line, run_command, split_line};
+use lpt_shell::{Command, Octets, Reading, StepFault, World, read_line, run_command, split_line};
 use std::alloc::{AllocError, Global};
 
 /// The most octets of a refused line that are told.

@@ -7,3 +7,4 @@ pub mod Laws
 pub mod Notes
 pub mod Rows
 pub mod Views
+pub use Rattle.lpt_script.specs as LptScript

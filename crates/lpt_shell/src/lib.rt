@@ -15,4 +15,9 @@ mod rows;
 mod shell;
 mod views;
 
+pub use lpt_lint::lint;
+pub use lpt_script::{
+    Command, Config, ConfigFault, End, Entry, Memories, Octets, Reading, ScriptEnd, Sink, Source,
+    StepFault, ToolFault, World, read_line, read_text, run_command, split_line,
+};
 pub use shell::run_shell;

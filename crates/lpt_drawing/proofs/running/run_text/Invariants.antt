@@ -1,6 +1,6 @@
 use Rattle.std.proofs.Common.{◌≡◌, ◌≤◌, ◌+◌, length}
 use Rattle.lpt_drawing.specs.Drawings.{lines_run}
-use Rattle.lpt_script.specs.LptWords.Words.{lines}
+use Rattle.lpt_shell.specs.LptScript.LptWords.Words.{lines}
 use Rattle.lpt_drawing.proofs.running.run_text.Given as goal
 
 -- the lines that are left do what all do
