@@ -19,7 +19,7 @@ _lpt() {
     lint:*) options='--help --version' ;;
     chart:*) options+=' --from --to --refused' ;;
     list:*) options+=' --json --strict' ;;
-    split:*) options+=' --parts --count --whole' ;;
+    split:*) options+=' --parts --count --whole --pcap' ;;
     join:*) options+=' --id' ;;
     extract:*) options+=' --at --from --fill' ;;
     request:load) options+=' --area --ack --count' ;;
