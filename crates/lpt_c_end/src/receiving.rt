@@ -14,7 +14,7 @@ use crate::end::End;
 use crate::handle::{LptEnd, put, take};
 use crate::outbox::put_last;
 use crate::words::{LptOutcome, words_of};
-use lpt_node::{Accepted, Ask, Expired, Octets, Outcome, Parsed};
+use lpt_node::{Accepted, Ask, Expired, Outcome};
 use std::alloc::{AllocError, Global};
 
 /// Takes the octets of a packet that was delivered to this end, and tells what became of them.
@@ -36,7 +36,7 @@ pub fn lpt_end_packet(
     let Some(mut held) = take(alloc, end) else {
         return EMPTY;
     };
-    let code = held.take_packet(alloc, octets, outcome);
+    let code = held.take_packet(octets, outcome);
     put(end, held);
     code
 }
@@ -84,7 +84,7 @@ pub fn lpt_end_expire(alloc: Global, end: &mut LptEnd, id: &mut u16) -> u32
 
 impl End {
     // Takes the octets of a packet, and tells what became of them.
-    fn take_packet(&mut self, alloc: Global, octets: &[u8], outcome: &mut LptOutcome) -> u32
+    fn take_packet(&mut self, octets: &[u8], outcome: &mut LptOutcome) -> u32
         ensures code { IsAnswer (packet_refusal self.old) result }
         ensures done { result ≡ 0 → IsDelivered octets.now self.old self.new }
         ensures told { result ≡ 0 → IsTold octets.now outcome.new self.old }
@@ -94,7 +94,7 @@ impl End {
         if self.node.jobs() == u64::MAX {
             return NO_NUMBER;
         }
-        match self.deliver(alloc, octets) {
+        match self.deliver(octets) {
             Ok(became) => {
                 *outcome = words_of(became);
                 DONE
@@ -104,17 +104,14 @@ impl End {
     }
 
     // Takes the octets of a packet. The only error is want of memory; then nothing has changed.
-
-    fn deliver(&mut self, alloc: Global, octets: &[u8]) -> Result<Outcome, AllocError>
+    fn deliver(&mut self, octets: &[u8]) -> Result<Outcome, AllocError>
         requires { numbered self.old.node.at.jobs + 1 < 2 ^ 64 }
         ensures ok { OnOk result (IsDelivered octets.now self.old self.new) }
         ensures outcome { IfOk result (λ o. o ≡ (delivery self.old octets.now).1.outcome) }
         ensures err { OnErr result (IsSame self.old self.new) }
     {
         self.make_place()?;
-        let octets = Octets::from_vec(Vec::from_slice(alloc, octets)?);
-        let parsed = Parsed::read(octets, self.side, self.config.apid, self.config.part_size);
-        let Ok(accepted) = self.node.accept(parsed) else {
+        let Ok(accepted) = self.node.accept_octets(octets) else {
             return Err(AllocError);
         };
         let Accepted {

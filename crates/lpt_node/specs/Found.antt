@@ -1,5 +1,5 @@
 -- What a parsed packet keeps of what it is: where the body of a part or of an abortion report stands.
-use Rattle.std.specs.Prelude.{◌≡◌, ℕ, ◌+◌, ◌≤◌, List, length, drop}
+use Rattle.std.specs.Prelude.{◌≡◌, ℕ, ◌+◌, ◌≤◌, true, false, List, length, drop}
 use Rattle.lpt_execution.specs.LptPacket.Packets.{Fields, fields_at}
 use Rattle.lpt_execution.specs.LptPart.Splitting.{IsPartSize}
 use Rattle.lpt_execution.specs.LptPart.Parts.{piece}
@@ -56,3 +56,25 @@ Shows p b (sight.Report service subtype) a = a ≡ AReport service subtype
 Shows p b sight.BadPart a = a ≡ NoPart
 Shows p b (sight.Part part) a = (a ≡ APart (piece part)) × (part.p ≡ p)
 Shows p b (sight.Abort id reason) a = a ≡ AnAbort id reason
+
+-- what is shown is no plain request, and a part is of this size
+abbrev pub IsShown : ℕ → Sight → Type 0
+IsShown p sight.Unreadable = Unit {0}
+IsShown p sight.Idle = Unit {0}
+IsShown p sight.Foreign = Unit {0}
+IsShown p sight.Request = false ≡ true
+IsShown p (sight.Report service subtype) = Unit {0}
+IsShown p sight.BadPart = Unit {0}
+IsShown p (sight.Part part) = part.p ≡ p
+IsShown p (sight.Abort id reason) = Unit {0}
+
+-- the arrival that is shown, a plain request aside
+abbrev pub arrival_shown : Sight → Arrival
+arrival_shown sight.Unreadable = NotRead
+arrival_shown sight.Idle = AnIdle
+arrival_shown sight.Foreign = Foreign
+arrival_shown sight.Request = NotRead
+arrival_shown (sight.Report service subtype) = AReport service subtype
+arrival_shown sight.BadPart = NoPart
+arrival_shown (sight.Part part) = APart (piece part)
+arrival_shown (sight.Abort id reason) = AnAbort id reason

@@ -2,6 +2,7 @@
 use Rattle.std.specs.Prelude.{ℕ, List}
 use Rattle.lpt_execution.specs.LptEvents.declared.side.Side.{Side}
 use Rattle.lpt_execution.specs.LptEvents.Arrivals.{Arrival, arrival}
+use Rattle.lpt_node.specs.Nodes.{NodeView}
 
 -- the octets, and the side, the APID and the part size that they were read for
 pub record Origin : Type 0 where
@@ -13,3 +14,7 @@ pub record Origin : Type 0 where
 -- what the octets are
 abbrev pub arrival_from : Origin → Arrival
 arrival_from o = arrival o.side o.apid o.p o.octets
+
+-- what octets are that are delivered to an end
+abbrev pub arrival_at : NodeView → List ℕ → Arrival
+arrival_at n b = arrival n.side n.config.apid n.config.part_size b

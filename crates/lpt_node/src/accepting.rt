@@ -5,10 +5,12 @@ ghost use Rattle.std.specs.Option.{option_map};
 ghost use Rattle.lpt_jobs.specs.Jobs.{numbered};
 ghost use Rattle.lpt_execution.specs.LptPart.Parts.{piece};
 ghost use Rattle.lpt_node.specs.Accepting.{accepted, grows, IsFor};
-ghost use Rattle.lpt_node.specs.Origins.{arrival_from};
+ghost use Rattle.lpt_node.specs.Found.{arrival_shown, IsShown};
+ghost use Rattle.lpt_node.specs.Origins.{arrival_at, arrival_from};
 ghost use Rattle.lpt_node.specs.Receiving.{ignored, noted, parted, plain_released, with_job, with_report};
 
 use crate::found::Sight;
+use crate::parsed::sight_in;
 use crate::taken::Taken;
 use crate::{Accepted, Node, Outcome, Parsed, Side, TelemetryKind, Why};
 use lpt_execution::{Octets, Part};
@@ -37,22 +39,70 @@ impl Node {
         ensures err { OnErr result (self.new.at ≡ self.old.at) }
     {
         match parsed.sight() {
-            Sight::Unreadable => Ok(ignored(Why::Unreadable)),
-            Sight::Idle => Ok(ignored(Why::Idle)),
-            Sight::Foreign => Ok(ignored(Why::ForeignApid)),
             Sight::Request => match self.add_plain(parsed.octets()) {
                 Ok(()) => Ok(plain_released(parsed.into_octets())),
                 Err(AllocError) => Err(parsed),
             },
-            Sight::Report(service, subtype) => Ok(noted(Outcome::ReportNoted(service, subtype))),
-            Sight::BadPart => Ok(ignored(Why::BadPart)),
-            Sight::Part(part) => match self.accept_part(&part) {
+            sight => match self.accept_shown(&sight) {
                 Ok(accepted) => Ok(accepted),
                 Err(AllocError) => Err(parsed),
             },
+        }
+    }
+
+    /// Takes the octets of a packet that was delivered to this end, and answers what became of it.
+    ///
+    /// As [`Node::accept`], but the octets are borrowed: they are copied only where they are
+    /// released as a plain request. The only error is an allocation that fails; then nothing has
+    /// changed.
+    pub fn accept_octets(&mut self, octets: &[u8]) -> Result<Accepted, AllocError>
+        requires { numbered self.old.at.jobs + 1 < 2 ^ 64 }
+        ensures ok { IfOk result (λ r. (self.new.at, r)
+            ≡ accepted self.old.side self.old.config self.old.at (arrival_at self.old octets.now)) }
+
+        ensures side { self.new.side ≡ self.old.side }
+        ensures config { self.new.config ≡ self.old.config }
+
+        // Memory is wanting only where a part is kept, a message released or a reception broken off.
+        ensures memory { OnErr result
+            (grows (accepted self.old.side self.old.config self.old.at (arrival_at self.old octets.now)).1 ≡ true) }
+        ensures err { OnErr result (self.new.at ≡ self.old.at) }
+    {
+        match sight_in(octets, self.side, self.config.apid, self.config.part_size) {
+            Sight::Request => {
+                let request = Octets::from_vec(Vec::from_slice(self.alloc, octets)?);
+                self.add_plain(&request)?;
+                Ok(plain_released(request))
+            }
+            sight => self.accept_shown(&sight),
+        }
+    }
+
+    // Takes what a packet shows that isn't a plain request.
+    fn accept_shown(&mut self, sight: &Sight<'_>) -> Result<Accepted, AllocError>
+        requires shown { IsShown self.old.config.part_size sight.now }
+        requires numbers { numbered self.old.at.jobs + 1 < 2 ^ 64 }
+        ensures ok { IfOk result (λ r. (self.new.at, r)
+            ≡ accepted self.old.side self.old.config self.old.at (arrival_shown sight.now)) }
+
+        ensures side { self.new.side ≡ self.old.side }
+        ensures config { self.new.config ≡ self.old.config }
+
+        ensures memory { OnErr result
+            (grows (accepted self.old.side self.old.config self.old.at (arrival_shown sight.now)).1 ≡ true) }
+        ensures err { OnErr result (self.new.at ≡ self.old.at) }
+    {
+        match sight {
+            Sight::Unreadable => Ok(ignored(Why::Unreadable)),
+            Sight::Idle => Ok(ignored(Why::Idle)),
+            Sight::Foreign => Ok(ignored(Why::ForeignApid)),
+            Sight::Request => unreachable!(),
+            Sight::Report(service, subtype) => Ok(noted(Outcome::ReportNoted(*service, *subtype))),
+            Sight::BadPart => Ok(ignored(Why::BadPart)),
+            Sight::Part(part) => self.accept_part(part),
             Sight::Abort(id, reason) => {
-                self.close(id);
-                Ok(noted(Outcome::AbortNoted(id, reason)))
+                self.close(*id);
+                Ok(noted(Outcome::AbortNoted(*id, *reason)))
             }
         }
     }

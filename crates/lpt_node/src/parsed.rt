@@ -6,7 +6,8 @@ ghost use Rattle.lpt_execution.specs.LptPacket.Packets.{APacket, fields, seen};
 ghost use Rattle.lpt_execution.specs.LptPart.Splitting.{IsPartSize};
 ghost use Rattle.lpt_execution.specs.LptEvents.declared.side.Side.TheVariants.{Ground, Craft};
 ghost use Rattle.lpt_node.specs.Origins.{arrival_from};
-ghost use Rattle.lpt_node.specs.Found.{body_from, IsFound, IsFoundIn, Shows};
+ghost use Rattle.lpt_execution.specs.LptEvents.Arrivals.{arrival};
+ghost use Rattle.lpt_node.specs.Found.{arrival_found, body_from, IsFound, IsFoundIn, IsWithin, Shows};
 
 use crate::Side;
 use crate::found::{Found, Sight};
@@ -90,23 +91,38 @@ impl Parsed {
     pub(crate) fn sight(&self) -> Sight<'_>
         ensures { Shows self.now.p self.now.octets result (arrival_from self.now) }
     {
-        match self.found {
-            Found::Unreadable => Sight::Unreadable,
-            Found::Idle => Sight::Idle,
-            Found::Foreign => Sight::Foreign,
-            Found::Request => Sight::Request,
-            Found::Report(service, subtype) => Sight::Report(service, subtype),
-            Found::Part(kind, from) => {
-                match read_part(kind, body_from(self.octets.as_slice(), from), self.p) {
-                    Ok(part) => Sight::Part(part),
-                    Err(_) => Sight::BadPart,
-                }
-            }
-            Found::Abort(from) => match read_abort(body_from(self.octets.as_slice(), from)) {
-                Ok((id, reason)) => Sight::Abort(id, reason),
-                Err(_) => Sight::BadPart,
-            },
-        }
+        shown(self.found, self.octets.as_slice(), self.p)
+    }
+}
+
+// What octets show that were delivered to this side, for packets of this APID and parts of `p` octets.
+pub(crate) fn sight_in(octets: &[u8], side: Side, apid: u16, p: u32) -> Sight<'_>
+    requires { IsPartSize p }
+    ensures { Shows p octets.now result (arrival side apid p octets.now) }
+{
+    shown(found_in(octets, side, apid), octets, p)
+}
+
+// What octets show in which this was found.
+fn shown(found: Found, octets: &[u8], p: u32) -> Sight<'_>
+    requires within { IsWithin octets.now found }
+    requires part_size { IsPartSize p }
+    ensures { Shows p octets.now result (arrival_found p octets.now found) }
+{
+    match found {
+        Found::Unreadable => Sight::Unreadable,
+        Found::Idle => Sight::Idle,
+        Found::Foreign => Sight::Foreign,
+        Found::Request => Sight::Request,
+        Found::Report(service, subtype) => Sight::Report(service, subtype),
+        Found::Part(kind, from) => match read_part(kind, body_from(octets, from), p) {
+            Ok(part) => Sight::Part(part),
+            Err(_) => Sight::BadPart,
+        },
+        Found::Abort(from) => match read_abort(body_from(octets, from)) {
+            Ok((id, reason)) => Sight::Abort(id, reason),
+            Err(_) => Sight::BadPart,
+        },
     }
 }
 

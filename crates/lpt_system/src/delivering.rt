@@ -1,18 +1,20 @@
 //! Deliveries: what is in a lane's hand is given to the node that receives it.
 
-ghost use Rattle.std.specs.Prelude.{◌≡◌, ◌+◌, ◌<◌, ◌↔◌, ◌^◌, IfOk, IfErr, IsTrue, OnErr, vec_len, None, Some};
+ghost use Rattle.std.specs.Prelude.{◌≡◌, ◌+◌, ◌<◌, ◌↔◌, ◌^◌, IfOk, IfErr, IsTrue, OnErr, length, vec_len, None, Some};
 ghost use Rattle.std.specs.Vec.{vec_capacity};
 ghost use Rattle.lpt_model.specs.LptEvents.Lanes.{lane_direction};
 ghost use Rattle.lpt_model.specs.LptEvents.Sides.{receiver_side};
 ghost use Rattle.lpt_model.specs.LptJobs.Jobs.{numbered};
 ghost use Rattle.lpt_model.specs.LptNode.Accepting.{accepted};
 ghost use Rattle.lpt_model.specs.LptNode.Origins.{arrival_from};
-ghost use Rattle.lpt_model.specs.State.{end_of, refusal_of, after, released_of, add_release, IsAccepted};
+ghost use Rattle.lpt_model.specs.LptLink.Links.{after_drop, packet_in_hand, refusal_drop};
+ghost use Rattle.lpt_model.specs.State.{end_of, refusal_of, after, arrival_held, as_list, put_report, put_some, released_of, add_release, IsAccepted};
+ghost use Rattle.lpt_model.specs.LptEvents.declared.reply.Answer.{Answer};
 ghost use Rattle.lpt_system.specs.Outside.{octets_held, IsReadOf};
 
 use crate::system::System;
 use lpt_model::{
-    Accepted, Answer, Direction, Event, Lane, Name, Octets, Outcome, Parsed, Release, Reply,
+    Accepted, Answer, Direction, Event, Lane, Link, Name, Octets, Outcome, Parsed, Release, Reply,
 };
 use std::alloc::AllocError;
 
@@ -28,11 +30,10 @@ impl System {
         ensures err { OnErr result (state_of self.new ≡ state_of self.old) }
         ensures config { self.new.config ≡ self.old.config }
     {
-        let parsed = self.parsed(lane)?;
-        match self.deliver_read(place, lane, parsed) {
-            Ok(reply) => Ok(reply),
-            Err(_) => Err(AllocError),
-        }
+        self.released.reserve(1)?;
+        self.link.reserve(1, None)?;
+        let accepted = self.receive_held(lane)?;
+        Ok(self.delivered(place, lane, accepted))
     }
 
     /// Delivers what is in a lane's hand, which was read before. The only error is want of memory;
@@ -50,14 +51,50 @@ impl System {
         if self.released.reserve(1).is_err() || self.link.reserve(1, None).is_err() {
             return Err(parsed);
         }
+        let accepted = self.receive(lane, parsed)?;
+        Ok(self.delivered(place, lane, accepted))
+    }
+
+    // Notes what a receiver made of the packet in a lane's hand, which is empty then.
+    fn delivered(&mut self, place: u64, lane: Lane, accepted: Accepted) -> Reply
+        requires room { vec_len self.old.released < vec_capacity self.old.released }
+        requires spare { 0 < self.old.link.spare }
+        requires full { refusal_drop self.old.link.at lane ≡ None }
+        ensures state { state_of self.new ≡ record (state_of self.old) {
+          link = put_report (after_drop self.old.link.at lane) accepted.packet;
+          released = add_release self.old.released.items place (lane_direction lane) accepted.outcome accepted.released;
+        } }
+        ensures reply { result ≡ put_some (length self.old.link.at.packets) (Answer.Delivered accepted.outcome) (as_list accepted.packet) }
+        ensures config { self.new.config ≡ self.old.config }
+    {
         let Accepted {
             outcome,
             packet,
             released,
-        } = self.receive(lane, parsed)?;
+        } = accepted;
         let _ = self.link.drop_hand(lane);
         self.note_release(place, lane.direction(), outcome, released);
-        Ok(self.report(Answer::Delivered(outcome), packet))
+        self.report(Answer::Delivered(outcome), packet)
+    }
+
+    // Gives the receiver of a lane what is in its hand.
+    fn receive_held(&mut self, lane: Lane) -> Result<Accepted, AllocError>
+        requires full { refusal_of self.old.config (state_of self.old) (Event.Deliver lane) ≡ None }
+        requires numbers { numbered self.old.on_craft.at.jobs + 1 < 2 ^ 64 }
+        ensures ok { IfOk result (λ r. IsAccepted (state_of self.old) lane (state_of self.new) r
+            (accepted (receiver_side (lane_direction lane)) self.old.config
+            (end_of (state_of self.old) (receiver_side (lane_direction lane)))
+            (arrival_held self.old.config (lane_direction lane) (packet_in_hand self.old.link.at lane)))) }
+        ensures err { OnErr result (state_of self.new ≡ state_of self.old) }
+        ensures config { self.new.config ≡ self.old.config }
+        ensures link { self.new.link ≡ self.old.link }
+        ensures released { self.new.released ≡ self.old.released }
+    {
+        let octets = held_in(&self.link, lane);
+        match lane.direction() {
+            Direction::Up => self.on_craft.accept_octets(octets),
+            Direction::Down => self.on_ground.accept_octets(octets),
+        }
     }
 
     // Gives the receiver of a lane what was in its hand.
@@ -105,26 +142,12 @@ impl System {
         }
     }
 
-    // Reads a copy of what is in a lane's hand, for its receiver.
-    fn parsed(&self, lane: Lane) -> Result<Parsed, AllocError>
-        requires { refusal_of self.now.config (state_of self.now) (Event.Deliver lane) ≡ None }
-        ensures { IfOk result (λ x. IsReadOf self.now.config (octets_held self.now.link.at lane) lane x) }
-    {
-        let octets = Octets::from_vec(Vec::from_slice(self.alloc, self.held(lane))?);
-        Ok(Parsed::read(
-            octets,
-            lane.receiver(),
-            self.config.apid,
-            self.config.part_size,
-        ))
-    }
-
     /// Whether this was read of what is in a lane's hand, for its receiver.
     pub fn is_read_of(&self, lane: Lane, parsed: &Parsed) -> bool
         requires { refusal_of self.now.config (state_of self.now) (Event.Deliver lane) ≡ None }
         ensures { IsTrue result ↔ IsReadOf self.now.config (octets_held self.now.link.at lane) lane parsed.now }
     {
-        let octets = self.held(lane);
+        let octets = held_in(&self.link, lane);
         parsed.is_of(
             octets,
             lane.receiver(),
@@ -132,20 +155,20 @@ impl System {
             self.config.part_size,
         )
     }
+}
 
-    // The octets of the packet in a lane's hand.
-    fn held(&self, lane: Lane) -> &[u8]
-        requires { refusal_of self.now.config (state_of self.now) (Event.Deliver lane) ≡ None }
-        ensures { octets_held self.now.link.at lane ≡ Some result.now }
-    {
-        let Some(n) = self.link.hand(lane) else {
-            unreachable!()
-        };
-        let Some(octets) = self.link.packet(n) else {
-            unreachable!()
-        };
-        octets
-    }
+// The octets of the packet in a lane's hand.
+fn held_in(link: &Link, lane: Lane) -> &[u8]
+    requires { refusal_drop link.now.at lane ≡ None }
+    ensures { octets_held link.now.at lane ≡ Some result.now }
+{
+    let Some(n) = link.hand(lane) else {
+        unreachable!()
+    };
+    let Some(octets) = link.packet(n) else {
+        unreachable!()
+    };
+    octets
 }
 
 // The transaction of a released message, by the outcome of its delivery.
