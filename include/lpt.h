@@ -78,7 +78,7 @@ enum { LPT_LONGEST = 65542 };
 uint16_t lpt_crc16(const uint8_t *octets, size_t octets_len);
 
 /*
- * Tells how many octets the packet has that begins a stream, by the first six of them. LPT_DONE of
+ * Says how many octets the packet has that begins a stream, by the first six of them. LPT_DONE of
  * a packet, LPT_IDLE of an idle one, which may be skipped: *length is written then, 7 to 65,542.
  * LPT_MORE where there are too few octets yet to know, LPT_VERSION where no packet begins so.
  */
@@ -137,7 +137,7 @@ uint32_t lpt_read_tc(const uint8_t *octets, size_t octets_len, LptTc *out);
 uint32_t lpt_write_tc(const LptTcHead *head, const uint8_t *body, size_t body_len, uint8_t *out,
                       size_t out_len, size_t *needed);
 
-/* Tells the request ID of a telecommand of this head: the first four octets of its packet.
+/* Gives the request ID of a telecommand of this head: the first four octets of its packet.
    LPT_DONE, and *id is written; LPT_RANGE as lpt_write_tc. */
 uint32_t lpt_request_id(const LptTcHead *head, uint32_t *id);
 

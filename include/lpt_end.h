@@ -6,8 +6,8 @@
  * An end stands behind a handle, an LptEnd, which begins as LPT_END_EMPTY. It is read and written
  * by these calls alone, is never copied, and is passed to one call at a time. Each call answers
  * LPT_DONE, or the number of the first thing that is wrong, in the order of its comment; then the
- * end is as it was, and nothing has been written through a pointer but what the comment says. Want
- * of memory, LPT_MEMORY, comes last of all. docs/FORMATS.md has the faults, docs/C.md what the
+ * end is as it was, and nothing has been written through a pointer but what the comment says.
+ * LPT_MEMORY, out of memory, comes last of all. docs/FORMATS.md has the faults, docs/C.md what the
  * caller promises:
  *
  *   - what include/lpt.h says of lengths, pointers and overlaps;
@@ -60,7 +60,7 @@ enum {
     /* The handle holds no end; it holds one already. */
     LPT_EMPTY = 106,
     LPT_FULL = 107,
-    /* No number is left for a job, or for a start. */
+    /* No number is left for a job, or for a restart. */
     LPT_NO_NUMBER = 108,
     /* There is nothing to copy, or to let go. */
     LPT_NOTHING = 109,
@@ -111,7 +111,8 @@ typedef struct LptMemory {
 
 /*
  * Makes an end into an empty handle. The spacecraft's has these memories, which begin with octets of
- * the content; those are copied. Ground's has none, and neither list nor content is looked at.
+ * the content; those are copied. Ground's has none, and neither list nor content is looked at, but
+ * their pointers aren't null.
  * LPT_DONE; LPT_FULL; LPT_RANGE for another side or mode; LPT_BAD_APID to LPT_BAD_OUTGOING;
  * LPT_BAD_MEMORIES where the spacecraft's aren't 1 to 16 with distinct identifiers, of 1 to
  * 1,048,576 octets each, all of the content; LPT_MEMORY.
@@ -133,7 +134,7 @@ enum {
     LPT_PLAIN_RELEASED = 4, /* a telecommand that is no part: its length */
     LPT_REPORT_NOTED = 5,   /* telemetry that is no part: service type, message subtype */
     LPT_ABORT_NOTED = 6,    /* the report of an abortion: the transaction, the reason */
-    LPT_BROKEN = 7,         /* a part that broke its reception off: the transaction, the reason */
+    LPT_BROKEN = 7,         /* a part that aborted its reception: the transaction, the reason */
     LPT_IGNORED = 8         /* nothing was made of the packet: why, as follows */
 };
 
@@ -158,8 +159,8 @@ typedef struct LptOutcome {
 } LptOutcome;
 
 /*
- * Takes a packet that came, and tells what became of it; what it released can be copied until the
- * next is taken. A spacecraft that breaks a reception off has a report of it to be sent.
+ * Takes a packet that came, and says what became of it; what it released can be copied until the
+ * next is taken. A spacecraft that aborts a reception has a report of it to be sent.
  * LPT_DONE, and *outcome is written; LPT_EMPTY; LPT_NO_NUMBER; LPT_MEMORY.
  */
 uint32_t lpt_end_packet(LptEnd *end, const uint8_t *octets, size_t octets_len, LptOutcome *outcome);
@@ -232,7 +233,7 @@ typedef struct LptApplied {
 uint32_t lpt_end_read(LptEnd *end);
 
 /*
- * Executes the oldest request, which has to be read: does what it asks of a memory, and tells
+ * Executes the oldest request, which has to be read: does what it asks of a memory, and says
  * what became of it. Its reports are to be sent; a report that is too long for a packet is opened
  * as a message.
  * LPT_DONE, and *applied is written; LPT_EMPTY; LPT_NO_JOB, as always on ground; LPT_NOT_READ;
@@ -247,7 +248,7 @@ uint32_t lpt_end_execute(LptEnd *end, LptApplied *applied);
  */
 uint32_t lpt_end_memory(LptEnd *end, uint8_t id, uint8_t *out, size_t out_len, size_t *needed);
 
-/* ---- the clock, names, and a new start ---- */
+/* ---- the clock, names, and a restart ---- */
 
 /* Sets the clock one tick on. LPT_DONE; LPT_EMPTY; LPT_CLOCK_END. */
 uint32_t lpt_end_tick(LptEnd *end);
@@ -261,7 +262,7 @@ uint32_t lpt_end_tick(LptEnd *end);
 uint32_t lpt_end_retire(LptEnd *end, uint32_t direction, uint16_t id);
 
 /*
- * Starts the end anew. Its open messages are closed and let go, its open receptions and what it
+ * Restarts the end. Its open messages are closed and let go, its open receptions and what it
  * keeps of released requests are dropped, and it counts its packets from 0. It knows other names
  * and the clock as before. What was released last, and what is to be sent, stays.
  * LPT_DONE; LPT_EMPTY; LPT_NO_NUMBER.

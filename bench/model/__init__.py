@@ -1,8 +1,8 @@
 """A model of the program: the rules of docs/SCRIPT.md and docs/FORMATS.md, stated a second time.
 
 It shares nothing with the program. `run` says what a script prints and the status it ends with,
-`decode` the same of octets, `complaint` what standard error is told of them, and `settings_of` what a
-configuration means. It knows no want of memory, no script of more than 16,777,216 octets, and no file
+`decode` the same of octets, `complaint` what standard error says of them, and `settings_of` what a
+configuration means. In it memory never runs out. It knows no script of more than 16,777,216 octets, and no file
 that can't be read.
 """
 

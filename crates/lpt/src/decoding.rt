@@ -22,8 +22,8 @@ const GREATEST_PART_SIZE: u32 = 1024;
 /// Prints what octets are as a packet.
 ///
 /// Errors: `Write` where a write failed, `Memory`. Words that aren't octets are no error here: they
-/// are told on standard error, and the status says so. So is it told where a part isn't read for the
-/// configured part size.
+/// are reported on standard error, and the status says so. Where a part isn't read for the
+/// configured part size, a note on standard error says which one fits, if one does.
 pub fn decode(rt: &HostRuntime, config: Config, hex: &str) -> Result<Status, Failure>
     requires { IsPartSize config.part_size }
 {

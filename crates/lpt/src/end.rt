@@ -1,11 +1,11 @@
-//! How the program ends: its status, and what it tells about a fault.
+//! How the program ends: its status, and what it reports about a fault.
 
 use clap::error::ErrorKind;
 use lpt_command_line::{Unasked, WordFault};
 use lpt_tool::ToolFault;
 use std::alloc::{AllocError, Global};
 
-/// What the program's status tells.
+/// What the program's status says.
 #[derive(Clone, Copy)]
 pub enum Status {
     /// All was done.
@@ -14,7 +14,7 @@ pub enum Status {
     Refused = 1,
     /// The words, a line of the script, HEX or the configuration can't be read.
     Unreadable = 2,
-    /// A file can't be read, the output can't be written, or memory is wanting.
+    /// A file can't be read, the output can't be written, or memory runs out.
     Failed = 3,
 }
 
@@ -22,7 +22,7 @@ pub enum Status {
 #[derive(Drop)]
 pub struct Failure {
     fault: ToolFault,
-    // Whether nothing is told of it.
+    // Whether nothing is reported of it.
     quiet: bool,
     // Where it is, and what is wrong there, where that is known.
     place: Option<String>,
@@ -30,7 +30,7 @@ pub struct Failure {
 
 impl Failure {
     /// A fault with where it is and what is wrong there. Where there is no memory for that, it is
-    /// told without.
+    /// reported without.
     pub fn at(fault: ToolFault, place: Result<String, AllocError>) -> Self {
         Failure {
             fault,
@@ -39,7 +39,7 @@ impl Failure {
         }
     }
 
-    /// That nobody reads the output any more, of which nothing is told.
+    /// That nobody reads the output any more, of which nothing is reported.
     pub fn unread() -> Self {
         Failure {
             fault: ToolFault::Write,
@@ -59,10 +59,10 @@ impl From<ToolFault> for Failure {
     }
 }
 
-/// The status by which the program ends, after standard error was told what it must be told: a line
-/// that names the fault, and one that says where it is and what is wrong there, where that is known.
+/// The status by which the program ends. Before that, two lines go to standard error: one names the
+/// fault, and where that is known, one says where it is and what is wrong there.
 ///
-/// An unreadable line has been told on standard output, in its place.
+/// An unreadable line has been reported on standard output, in its place.
 pub fn told(rt: &impl Eprint, ended: Result<Status, Failure>) -> Status {
     let failure = match ended {
         Ok(status) => return status,

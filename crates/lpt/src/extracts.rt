@@ -94,7 +94,7 @@ fn extract_status(rt: &HostRuntime, wanted: &Wanted, end: ExtractEnd) -> Result<
     }
 }
 
-// Why nothing was written. The only error is want of memory.
+// Why nothing was written. The only error is out of memory.
 fn nothing_text(alloc: Global, wanted: &Wanted) -> Result<String, AllocError> {
     match wanted.at {
         None => format!(in alloc; "no area of a dump report came"),
@@ -106,7 +106,7 @@ fn nothing_text(alloc: Global, wanted: &Wanted) -> Result<String, AllocError> {
     }
 }
 
-// What is told of an area or a report. The only error is want of memory.
+// What is reported of an area or a report. The only error is out of memory.
 fn notice_text(alloc: Global, notice: Notice) -> Result<String, AllocError> {
     match notice {
         Notice::Taken(

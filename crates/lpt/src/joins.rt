@@ -82,7 +82,7 @@ fn told(rt: &HostRuntime, words: &JoinWords<'_>, joined: &Joined) -> Result<Stat
     }
 }
 
-// Says of each transaction what isn't whole. The only error is want of memory.
+// Says of each transaction what isn't whole. The only error is out of memory.
 fn tell_each(
     rt: &HostRuntime,
     words: &JoinWords<'_>,
@@ -114,7 +114,7 @@ fn tell_each(
     Ok(())
 }
 
-// Says on standard error which parts are missing. The only error is want of memory.
+// Says on standard error which parts are missing. The only error is out of memory.
 fn tell_missing(
     rt: &HostRuntime,
     words: &JoinWords<'_>,
@@ -129,7 +129,7 @@ fn tell_missing(
     )
 }
 
-// Says on standard error that a transaction was broken off. The only error is want of memory.
+// Says on standard error that a transaction was aborted. The only error is out of memory.
 fn tell_broken(rt: &HostRuntime, words: &JoinWords<'_>, id: u16) -> Result<(), AllocError> {
     let direction = word_of(words.direction);
     let text = "broken off: a part contradicts those before it";

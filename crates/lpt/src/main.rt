@@ -42,7 +42,7 @@ fn main(rt: HostRuntime) -> ExitCode {
 
 // The words of the command line, the program's name first.
 //
-// Errors: the status by which the program ends, where a word isn't text or memory is wanting.
+// Errors: the status by which the program ends, where a word isn't text or memory runs out.
 fn given_words(rt: &HostRuntime) -> Result<Vec<String>, Status> {
     let words = match env::args(rt) {
         Ok(words) => words,

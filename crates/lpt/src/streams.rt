@@ -32,7 +32,7 @@ pub fn flush(rt: &HostRuntime, mut out: Output<'_>) -> Result<(), Failure> {
     }
 }
 
-/// As `flush`; but where nobody reads the output any more, nothing is told of it.
+/// As `flush`; but where nobody reads the output any more, nothing is reported of it.
 pub fn finish(rt: &HostRuntime, mut out: Output<'_>) -> Result<(), Failure> {
     let flushed = flush_out(&mut out);
     let writer = out.inner().get_ref();

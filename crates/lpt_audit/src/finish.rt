@@ -60,8 +60,8 @@ fn is_tick(event: &Event, side: Side) -> bool
     }
 }
 
-/// Whether these entries take each packet that was put and never lost. The only error is want of
-/// memory for a mark for each packet.
+/// Whether these entries take each packet that was put and never lost. The only error is out of
+/// memory, for a mark for each packet.
 pub fn are_taken(alloc: Global, world: &World, entries: &[Entry]) -> Result<bool, AllocError>
     ensures { IfOk result (λ all. IsTrue all ↔ AreTaken world.now entries.now) }
 {

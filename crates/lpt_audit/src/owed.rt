@@ -20,7 +20,7 @@ pub struct Owed {
     length: usize,
 }
 
-/// The open transactions of a world. The only error is want of memory.
+/// The open transactions of a world. The only error is out of memory.
 pub fn open_transactions(alloc: Global, world: &World) -> Result<Vec<Owed>, AllocError>
     ensures { IfOk result (λ v. v.items ≡ owed_of world.now) }
 {

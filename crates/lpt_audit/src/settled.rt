@@ -14,7 +14,7 @@ use std::alloc::{AllocError, Global};
 const LAST_SEAT: u8 = 10;
 
 /// Whether nothing was left to do at the end of a run that began at this place with what was owed, where
-/// each log is short. The only error is want of memory.
+/// each log is short. The only error is out of memory.
 pub fn is_settled(
     alloc: Global,
     world: &World,

@@ -30,7 +30,7 @@ abort_numbered (Err e) = Err (code_of e)
 abbrev pub abort_read : List ℕ → Result Abort ℕ
 abort_read body = abort_numbered (abort_verdict body)
 
--- an abortion report as it is told
+-- an abortion report as it is reported
 abbrev pub abort_told : Abort → LptAbort
 abort_told a = record { id = a.0; reason = reason_code a.1 }
 

@@ -42,7 +42,7 @@ tc_text h body =
 abbrev pub tc_read : List ℕ → Result Command ℕ
 tc_read b = message_read tc_verdict (packet_read b)
 
--- a telecommand's head as it is told
+-- a telecommand's head as it is reported
 abbrev pub tc_head_told : Command → LptTcHead
 tc_head_told c = record {
   apid = c.apid;
@@ -53,7 +53,7 @@ tc_head_told c = record {
   source = c.source;
 }
 
--- a telecommand as it is told: its body stands behind both headers
+-- a telecommand as it is reported: its body stands behind both headers
 abbrev pub tc_told : Command → LptTc
 tc_told c = record {
   head = tc_head_told c;

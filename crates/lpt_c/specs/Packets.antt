@@ -25,7 +25,7 @@ packet_text (Some kind) apid count field =
     else Err too_long)
     else Err range
 
--- a packet as it is told: its data field stands behind the primary header
+-- a packet as it is reported: its data field stands behind the primary header
 abbrev pub packet_told : Fields → LptPacket
 packet_told f = record {
   kind = packet_type f.kind;

@@ -51,7 +51,7 @@ part_read None body p = Err range
 part_read (Some kind) body p =
     if is_part_size p then part_numbered (part_verdict kind body p) else Err range
 
--- a part as it is told: its octets stand behind the identifier and the number
+-- a part as it is reported: its octets stand behind the identifier and the number
 abbrev pub part_told : Piece → LptPart
 part_told q = record {
   id = q.id;
@@ -92,7 +92,7 @@ slice_text m p id k =
     else Err short_message)
     else Err range
 
--- the kind that is told, where there is such a part
+-- the kind that is reported, where there is such a part
 abbrev pub kind_told : Text → Kind → ℕ → ℕ
 kind_told (Ok text) kind old = kind_number kind
 kind_told (Err fault) kind old = old

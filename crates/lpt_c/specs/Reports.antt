@@ -25,7 +25,7 @@ abbrev pub code_told : Option ℕ → ℕ
 code_told None = 0
 code_told (Some code) = code
 
--- a report as it is told
+-- a report as it is reported
 abbrev pub report_told : Report → LptReport
 report_told r = record {
   request = r.request.value;

@@ -44,7 +44,7 @@ tm_text h body =
 abbrev pub tm_read : List ℕ → Result Telemetry ℕ
 tm_read b = message_read tm_verdict (packet_read b)
 
--- telemetry's head as it is told
+-- telemetry's head as it is reported
 abbrev pub tm_head_told : Telemetry → LptTmHead
 tm_head_told t = record {
   apid = t.apid;
@@ -57,7 +57,7 @@ tm_head_told t = record {
   time = t.time;
 }
 
--- telemetry as it is told: its body stands behind both headers
+-- telemetry as it is reported: its body stands behind both headers
 abbrev pub tm_told : Telemetry → LptTm
 tm_told t = record {
   head = tm_head_told t;

@@ -15,7 +15,7 @@ use lpt_part::{Reason, abort_octets, read_abort};
 pub struct LptAbort {
     /// The transaction identifier.
     pub id: u16,
-    /// Why its reception was broken off: 1 expired, 2 discontinuity, 3 conflict.
+    /// Why its reception was aborted: 1 expired, 2 discontinuity, 3 conflict.
     pub reason: u16,
 }
 
@@ -41,7 +41,7 @@ pub fn lpt_read_abort(body: &[u8], out: &mut LptAbort) -> u32
 /// Writes the body of an abortion report to the front of a buffer.
 ///
 /// 0; 102 where the reason isn't 1 to 3; 103 where the buffer is too short. At 0 and at 103
-/// `needed` tells how many octets the body has, 3.
+/// `needed` says how many octets the body has, 3.
 pub fn lpt_write_abort(id: u16, reason: u16, out: &mut [u8], needed: &mut usize) -> u32
     ensures code { result ≡ code_for (abort_text id (reason_named reason)) out.old }
     ensures buffer { out.new ≡ left_by (abort_text id (reason_named reason)) out.old }

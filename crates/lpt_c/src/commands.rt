@@ -80,7 +80,7 @@ pub fn lpt_read_tc(octets: &[u8], out: &mut LptTc) -> u32
 ///
 /// 0; 102 where the APID is above 2046, the count above 16,383 or the flags above 15; 14 where the
 /// packet would have more than 65,542 octets; 103 where the buffer is too short. At 0 and at 103
-/// `needed` tells how many octets the packet has, 13 more than the body.
+/// `needed` says how many octets the packet has, 13 more than the body.
 pub fn lpt_write_tc(head: &LptTcHead, body: &[u8], out: &mut [u8], needed: &mut usize) -> u32
     ensures code { result ≡ code_for (tc_text head.now body.now) out.old }
     ensures buffer { out.new ≡ left_by (tc_text head.now body.now) out.old }
@@ -115,7 +115,7 @@ fn fill_tc(head: &LptTcHead, body: &[u8], out: &mut [u8], needed: &mut usize) ->
     fill_packet(PacketKind::Tc, apid, count, &header, body, out, needed)
 }
 
-/// Tells the request ID of a telecommand of this head, whatever its body: the first four octets of
+/// Gives the request ID of a telecommand of this head, whatever its body: the first four octets of
 /// its packet as a number.
 ///
 /// 0; 102 where the APID is above 2046, the count above 16,383 or the flags above 15.

@@ -56,7 +56,7 @@ pub fn lpt_read_packet(octets: &[u8], out: &mut LptPacket) -> u32
 ///
 /// 0; 102 where the kind is another, the APID above 2046 or the count above 16,383; 14 where the
 /// packet would have more than 65,542 octets; 103 where the buffer is too short. At 0 and at 103
-/// `needed` tells how many octets the packet has.
+/// `needed` says how many octets the packet has.
 pub fn lpt_write_packet(
     kind: u32,
     apid: u16,

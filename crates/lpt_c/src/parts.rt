@@ -72,7 +72,7 @@ pub fn lpt_read_part(kind: u32, body: &[u8], p: u32, out: &mut LptPart) -> u32
 ///
 /// 0; 102 where the kind isn't 1 to 3 or `p` isn't 4 to 1024; 21, 22 or 23 where there is no part
 /// of this kind, number and length; 103 where the buffer is too short. At 0 and at 103 `needed`
-/// tells how many octets the body has, 4 more than the part.
+/// says how many octets the body has, 4 more than the part.
 pub fn lpt_write_part(
     kind: u32,
     id: u16,
@@ -108,11 +108,11 @@ pub fn lpt_write_part(
 }
 
 /// Writes the body of the message that carries part `k` of a message, in parts of `p` octets, to
-/// the front of a buffer, and tells the part's kind, 1 to 3.
+/// the front of a buffer, and gives the part's kind, 1 to 3.
 ///
 /// 0; 102 where `p` isn't 4 to 1024; 42 where the message isn't longer than a part, 43 where it has
 /// more than 65,542 octets; 46 where it has no part `k`; 103 where the buffer is too short. At 0
-/// and at 103 the kind is told, and `needed` tells how many octets the body has.
+/// and at 103 the kind is written, and `needed` says how many octets the body has.
 pub fn lpt_slice_part(
     message: &[u8],
     p: u32,

@@ -47,7 +47,7 @@ pub fn lpt_read_report(subtype: u8, body: &[u8], out: &mut LptReport) -> u32
 /// Writes the body of the verification report of this message subtype to the front of a buffer.
 ///
 /// 0; 102 where the subtype is none of 1, 3 and 7 with code 0, nor 2 or 4 with a code of 1 to 8;
-/// 103 where the buffer is too short. At 0 and at 103 `needed` tells how many octets the body has.
+/// 103 where the buffer is too short. At 0 and at 103 `needed` says how many octets the body has.
 pub fn lpt_write_report(
     subtype: u8,
     request: u32,

@@ -10,9 +10,9 @@ use lpt_packet::PRIMARY_HEADER;
 // The fault of octets that begin with another version than 000.
 const VERSION: u32 = 2;
 
-/// Tells how many octets the packet has that begins a stream.
+/// Says how many octets the packet has that begins a stream.
 ///
-/// 0 of a packet and 101 of an idle one, and then `length` is told, 7 to 65,542; 104 where there
+/// 0 of a packet and 101 of an idle one, and then `length` is written, 7 to 65,542; 104 where there
 /// are too few octets yet to know; 2 where no packet begins so.
 pub fn lpt_packet_length(octets: &[u8], length: &mut usize) -> u32
     ensures code { result ≡ stream_code octets.now }

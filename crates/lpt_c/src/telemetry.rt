@@ -85,7 +85,7 @@ pub fn lpt_read_tm(octets: &[u8], out: &mut LptTm) -> u32
 ///
 /// 0; 102 where the APID is above 2046, the count above 16,383 or the status above 15; 14 where the
 /// packet would have more than 65,542 octets; 103 where the buffer is too short. At 0 and at 103
-/// `needed` tells how many octets the packet has, 19 more than the body.
+/// `needed` says how many octets the packet has, 19 more than the body.
 pub fn lpt_write_tm(head: &LptTmHead, body: &[u8], out: &mut [u8], needed: &mut usize) -> u32
     ensures code { result ≡ code_for (tm_text head.now body.now) out.old }
     ensures buffer { out.new ≡ left_by (tm_text head.now body.now) out.old }

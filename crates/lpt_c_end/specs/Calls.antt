@@ -1,4 +1,4 @@
--- What calls on a handle leave and tell.
+-- What calls on a handle leave and report.
 use Rattle.std.specs.Prelude.{◌≡◌, ℕ, List, [], ◌∷◌, Option, Some, None, Ok, Err}
 use Rattle.lpt_node.specs.LptMemory.Memories.{Contents, content_of}
 use Rattle.lpt_c_end.specs.Changes.{delivery, execution_of}
@@ -21,7 +21,7 @@ IfBoth F None (Some new) = ⊥
 IfBoth F (Some e) None = ⊥
 IfBoth F (Some e) (Some new) = F e new
 
--- what is told of octets that were delivered
+-- what is reported of octets that were delivered
 abbrev pub IsTold : List ℕ → LptOutcome → End → Type 0
 IsTold b said e = said ≡ words (delivery e b).1.outcome
 
@@ -45,7 +45,7 @@ abbrev pub outgoing_of : Option End → Text
 outgoing_of None = Err empty
 outgoing_of (Some e) = text_or_nothing (first e.outbox.items)
 
--- what is told of the execution of a job
+-- what is reported of the execution of a job
 abbrev pub IsApplied : LptApplied → End → Type 0
 IsApplied said e = said ≡ applied_words (execution_of e).0.1.applied
 

@@ -111,7 +111,7 @@ pub record IsLetGo (e new : End) : Type 0 where
   pub released : new.released ≡ e.released
   pub fixed : IsFixed e new
 
--- ---- the clock, names, and a new start
+-- ---- the clock, names, and a restart
 
 -- the clock is one tick on
 abbrev pub IsTicked : End → End → Type 0
@@ -121,7 +121,7 @@ IsTicked e = Becomes (ticked e.node.at) e
 abbrev pub IsRetired : (direction id : ℕ) → End → End → Type 0
 IsRetired direction id e = Becomes (retired e.side e.node.at (direction_from direction) id) e
 
--- the end was started anew
+-- the end was restarted
 abbrev pub IsRestarted : End → End → Type 0
 IsRestarted e = Becomes (restarted e.node.at) e
 

@@ -78,7 +78,7 @@ abbrev pub answer : Option ℕ → ℕ
 answer None = done
 answer (Some fault) = fault
 
--- the answer of a call that takes memory, where this refuses it; where nothing does, want of memory
+-- the answer of a call that takes memory, where this refuses it; where nothing does, out of memory
 -- alone can
 abbrev pub IsAnswer : Option ℕ → ℕ → Type 0
 IsAnswer None code = (code ≡ done) ⊎ (code ≡ memory)

@@ -1,4 +1,4 @@
--- Why a call on a handle is refused: the number of the first fault, want of memory aside.
+-- Why a call on a handle is refused: the number of the first fault, out of memory aside.
 use Rattle.std.specs.Prelude.{ℕ, ◌==◌, nat_lt, ◌||◌, if◌then◌else◌, List, length, Option, Some, None}
 use Rattle.lpt_node.specs.LptEvents.Configs.{config_fault}
 use Rattle.lpt_node.specs.LptEvents.declared.config_fault.ConfigFault.{ConfigFault}
@@ -90,7 +90,7 @@ retire_refusal direction id e =
     else if may_retire e.side e.node.at (direction_from direction) id then None
     else Some still_open
 
--- the end isn't started anew
+-- the end isn't restarted
 abbrev pub restart_refusal : End → Option ℕ
 restart_refusal e = if e.node.at.boot == last_number then Some no_number else None
 

@@ -1,4 +1,4 @@
-//! The clock, names that are freed, and a new start.
+//! The clock, names that are freed, and a restart.
 
 ghost use Rattle.std.specs.Prelude.{◌≡◌};
 ghost use Rattle.lpt_node.specs.Anew.{may_retire};
@@ -50,7 +50,7 @@ pub fn lpt_end_retire(alloc: Global, end: &mut LptEnd, direction: u32, id: u16) 
     code
 }
 
-/// Starts the end anew: its open messages are closed and let go, its open receptions and its jobs
+/// Restarts the end: its open messages are closed and let go, its open receptions and its jobs
 /// dropped, and it counts from 0 again. It knows the names and the clock as before. What was released
 /// last, and the packets that are to be sent, stay.
 ///
@@ -114,7 +114,7 @@ impl End {
         }
     }
 
-    // Starts the end anew.
+    // Restarts the end.
     #[tactic(auto, using(crate::proofs::ReadyLemmas::ready_restarted))]
     fn restart(&mut self) -> u32
         ensures code { result ≡ answer (restart_refusal self.old) }

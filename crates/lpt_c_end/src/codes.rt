@@ -12,7 +12,7 @@ pub(crate) const NO_JOB: u32 = 51;
 // The transaction is open.
 pub(crate) const STILL_OPEN: u32 = 55;
 
-// Want of memory.
+// Out of memory.
 pub(crate) const MEMORY: u32 = 58;
 
 // A number that is out of its range.

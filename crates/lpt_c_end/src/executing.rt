@@ -19,7 +19,7 @@ use std::collections::VecDeque;
 
 /// Reads the oldest request that was released and not read yet.
 ///
-/// 0; 106 where the handle is empty; 51 where there is none, as always on ground; 58 for want of
+/// 0; 106 where the handle is empty; 51 where there is none, as always on ground; 58 when out of
 /// memory. Then nothing has changed.
 pub fn lpt_end_read(alloc: Global, end: &mut LptEnd) -> u32
     ensures code { IsAnswer (refusal_by read_refusal end.old.held.value) result }
@@ -34,11 +34,11 @@ pub fn lpt_end_read(alloc: Global, end: &mut LptEnd) -> u32
     code
 }
 
-/// Executes the oldest request, which has been read: does what it asks of a memory, and tells what
+/// Executes the oldest request, which has been read: does what it asks of a memory, and says what
 /// became of it. Its reports are to be sent.
 ///
 /// 0; 106 where the handle is empty; 51 where there is no request, as always on ground; 52 where the
-/// oldest wasn't read; 110 where packets are to be sent first; 58 for want of memory. Then nothing
+/// oldest wasn't read; 110 where packets are to be sent first; 58 when out of memory. Then nothing
 /// has changed.
 pub fn lpt_end_execute(alloc: Global, end: &mut LptEnd, applied: &mut LptApplied) -> u32
     ensures code { IsAnswer (refusal_by execute_refusal end.old.held.value) result }
@@ -58,7 +58,7 @@ pub fn lpt_end_execute(alloc: Global, end: &mut LptEnd, applied: &mut LptApplied
 /// Copies a memory to the front of a buffer.
 ///
 /// 0; 106 where the handle is empty; 109 where the end has no memory of this identifier; 103 where
-/// the buffer is too short. At 0 and at 103 `needed` tells how many octets the memory has.
+/// the buffer is too short. At 0 and at 103 `needed` says how many octets the memory has.
 pub fn lpt_end_memory(
     alloc: Global,
     end: &mut LptEnd,
@@ -129,7 +129,7 @@ impl End {
         }
     }
 
-    // Executes the oldest request, and tells what became of it.
+    // Executes the oldest request, and says what became of it.
     #[tactic(auto, using(crate::proofs::ReadyLemmas::front_ready))]
     fn execute(&mut self, applied: &mut LptApplied) -> u32
         ensures code { IsAnswer (execute_refusal self.old) result }

@@ -23,7 +23,7 @@ use std::collections::VecDeque;
 /// 0; 107 where the handle holds an end already; 102 where the side or the mode is above 1; 71 to
 /// 75, the first value of the configuration that is out of its range; 25 where the memories of a
 /// spacecraft aren't 1 to 16 with distinct identifiers, of 1 to 1,048,576 octets each, all of the
-/// content; 58 for want of memory.
+/// content; 58 when out of memory.
 pub fn lpt_end_new(
     alloc: Global,
     end: &mut LptEnd,
@@ -65,7 +65,7 @@ pub fn lpt_end_free(alloc: Global, end: &mut LptEnd)
 
 impl End {
     /// An end at which nothing has happened, or the number of the fault: that of its memories,
-    /// or want of memory.
+    /// or out of memory.
     pub(crate) fn new(
         alloc: Global,
         side: Side,

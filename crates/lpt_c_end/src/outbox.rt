@@ -13,7 +13,7 @@ use std::alloc::AllocError;
 use std::collections::VecDeque;
 
 impl End {
-    /// Makes the place of one packet more. The only error is want of memory.
+    /// Makes the place of one packet more. The only error is out of memory.
     pub(crate) fn make_place(&mut self) -> Result<(), AllocError>
         ensures same { IsSame self.old self.new }
         ensures room { OnOk result (deque_len self.new.outbox < deque_capacity self.new.outbox) }

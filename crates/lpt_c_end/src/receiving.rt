@@ -17,9 +17,9 @@ use crate::words::{LptOutcome, words_of};
 use lpt_node::{Accepted, Ask, Expired, Outcome};
 use std::alloc::{AllocError, Global};
 
-/// Takes the octets of a packet that was delivered to this end, and tells what became of them.
+/// Takes the octets of a packet that was delivered to this end, and says what became of them.
 ///
-/// 0; 106 where the handle is empty; 108 where no number is left for a job; 58 for want of memory.
+/// 0; 106 where the handle is empty; 108 where no number is left for a job; 58 when out of memory.
 /// Then nothing has changed.
 pub fn lpt_end_packet(
     alloc: Global,
@@ -44,7 +44,7 @@ pub fn lpt_end_packet(
 /// Copies the message that the last packet released to the front of a buffer.
 ///
 /// 0; 106 where the handle is empty; 109 where the last packet released none; 103 where the buffer
-/// is too short. At 0 and at 103 `needed` tells how many octets the message has.
+/// is too short. At 0 and at 103 `needed` says how many octets the message has.
 pub fn lpt_end_released(alloc: Global, end: &mut LptEnd, out: &mut [u8], needed: &mut usize) -> u32
     ensures code { result ≡ code_for (released_of end.old.held.value) out.old }
     ensures buffer { out.new ≡ left_by (released_of end.old.held.value) out.old }
@@ -62,10 +62,10 @@ pub fn lpt_end_released(alloc: Global, end: &mut LptEnd, out: &mut [u8], needed:
     code
 }
 
-/// Gives the reception up that is due, and tells its name; at the spacecraft a report of it is to be
-/// sent.
+/// Gives the reception up that is due, and writes its name; at the spacecraft a report of it is to
+/// be sent.
 ///
-/// 0; 106 where the handle is empty; 50 where none is due; 58 for want of memory. Then nothing has
+/// 0; 106 where the handle is empty; 50 where none is due; 58 when out of memory. Then nothing has
 /// changed.
 pub fn lpt_end_expire(alloc: Global, end: &mut LptEnd, id: &mut u16) -> u32
     ensures code { IsAnswer (refusal_by expire_refusal end.old.held.value) result }
@@ -83,7 +83,7 @@ pub fn lpt_end_expire(alloc: Global, end: &mut LptEnd, id: &mut u16) -> u32
 }
 
 impl End {
-    // Takes the octets of a packet, and tells what became of them.
+    // Takes the octets of a packet, and says what became of them.
     fn take_packet(&mut self, octets: &[u8], outcome: &mut LptOutcome) -> u32
         ensures code { IsAnswer (packet_refusal self.old) result }
         ensures done { result ≡ 0 → IsDelivered octets.now self.old self.new }
@@ -103,7 +103,7 @@ impl End {
         }
     }
 
-    // Takes the octets of a packet. The only error is want of memory; then nothing has changed.
+    // Takes the octets of a packet. The only error is out of memory; then nothing has changed.
     fn deliver(&mut self, octets: &[u8]) -> Result<Outcome, AllocError>
         requires { numbered self.old.node.at.jobs + 1 < 2 ^ 64 }
         ensures ok { OnOk result (IsDelivered octets.now self.old self.new) }
@@ -124,7 +124,7 @@ impl End {
         Ok(outcome)
     }
 
-    // Gives the reception up that is due, and tells its name.
+    // Gives the reception up that is due, and writes its name.
     fn expire(&mut self, id: &mut u16) -> u32
         ensures code { IsAnswer (expire_refusal self.old) result }
         ensures done { result ≡ 0 → IsExpired self.old self.new }

@@ -18,7 +18,7 @@ use std::alloc::Global;
 ///
 /// 0; 106 where the handle is empty; 102 where the flags are above 15, and at the spacecraft; 60
 /// where the types are those of a part; 43 where the packet would have more octets than the part
-/// size and 23; 58 for want of memory. Then nothing has changed.
+/// size and 23; 58 when out of memory. Then nothing has changed.
 pub fn lpt_end_plain(
     alloc: Global,
     end: &mut LptEnd,

@@ -17,7 +17,7 @@ use std::alloc::Global;
 
 /// Takes a message to be sent under a free name. It is copied.
 ///
-/// 0; 106 where the handle is empty; 41 to 44, the first fault that applies; 58 for want of memory.
+/// 0; 106 where the handle is empty; 41 to 44, the first fault that applies; 58 when out of memory.
 /// Then nothing has changed.
 pub fn lpt_end_open(alloc: Global, end: &mut LptEnd, id: u16, message: &[u8]) -> u32
     ensures code { IsAnswer (refusal_by (open_refusal id message.now) end.old.held.value) result }
@@ -35,7 +35,7 @@ pub fn lpt_end_open(alloc: Global, end: &mut LptEnd, id: u16, message: &[u8]) ->
 /// Makes the packet of part `k` of an open message, from 1: it is to be sent.
 ///
 /// 0; 106 where the handle is empty; 45 where no message of this name is open; 46 where it has no
-/// such part; 58 for want of memory. Then nothing has changed.
+/// such part; 58 when out of memory. Then nothing has changed.
 pub fn lpt_end_part(alloc: Global, end: &mut LptEnd, id: u16, k: u16) -> u32
     ensures code { IsAnswer (refusal_by (part_refusal id k) end.old.held.value) result }
     ensures done { result ≡ 0 → IfBoth (IsPartMade id k) end.old.held.value end.new.held.value }
@@ -69,7 +69,7 @@ pub fn lpt_end_finish(alloc: Global, end: &mut LptEnd, id: u16) -> u32
 /// Copies the packet that is to be sent first to the front of a buffer. It stays to be sent.
 ///
 /// 0; 106 where the handle is empty; 109 where none is to be sent; 103 where the buffer is too
-/// short. At 0 and at 103 `needed` tells how many octets the packet has.
+/// short. At 0 and at 103 `needed` says how many octets the packet has.
 pub fn lpt_end_outgoing(alloc: Global, end: &mut LptEnd, out: &mut [u8], needed: &mut usize) -> u32
     ensures code { result ≡ code_for (outgoing_of end.old.held.value) out.old }
     ensures buffer { out.new ≡ left_by (outgoing_of end.old.held.value) out.old }

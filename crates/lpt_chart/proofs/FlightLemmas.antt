@@ -61,7 +61,7 @@ executed-flights p (Done (Some id)) = refl
 executed-flights p Silent = refl
 executed-flights p (Code c) = refl
 
--- a new start
+-- a restart
 pub restarted-flights : (p : Picture) (side : Side) (boot : ℕ) → (restarted p side boot).flights ≡ p.flights
 unfolding cleared rowed
 restarted-flights p Ground boot = refl

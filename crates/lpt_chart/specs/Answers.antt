@@ -72,7 +72,7 @@ abbrev pub is_retired : Answer → Bool
 is_retired answer.Retired = true
 is_retired _ = false
 
--- the boot of a node that was started anew
+-- the boot of a node that was restarted
 abbrev pub boot_in : Answer → Option ℕ
 boot_in (answer.Restarted boot) = Some boot
 boot_in _ = None

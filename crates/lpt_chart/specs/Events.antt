@@ -159,7 +159,7 @@ expired p d id =
     tracked (said p (say.Expired d id (kept_of columns Reception id) (parts_of columns Reception id)))
     (to_side d) Reception id None
 
--- a node is started anew
+-- a node is restarted
 abbrev pub restarted : Picture → Side → (boot : ℕ) → Picture
 restarted p Ground boot = cleared (said p (say.Restarted Ground boot)) Ground
 restarted p Craft boot =

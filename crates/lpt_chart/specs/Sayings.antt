@@ -199,7 +199,7 @@ lost_words number = joined (codes "packet " ∷ decimal number ∷ codes " is lo
 unfoldable pub taken_words : Lane → (number : ℕ) → List ℕ
 taken_words l number = joined (lane_word l ∷ codes " takes " ∷ decimal number ∷ [])
 
--- a node that starts anew
+-- a node that restarts
 unfoldable pub restarted_words : (boot : ℕ) → List ℕ
 restarted_words boot = joined (codes "starts anew: boot " ∷ decimal boot ∷ [])
 

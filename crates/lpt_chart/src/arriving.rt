@@ -24,7 +24,7 @@ impl Picture {
         self.come_to(held, direction, outcome)
     }
 
-    // The first number that is told of an outcome.
+    // The first number that is shown of an outcome.
     #[tactic(auto, unfolding(crate::specs::Events::first_told))]
     fn first_told(&self, direction: Direction, outcome: Outcome) -> u64
         ensures { result ≡ first_told self.now direction outcome }

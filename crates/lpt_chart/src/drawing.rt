@@ -263,7 +263,7 @@ impl Picture {
         }
     }
 
-    // A node is started anew.
+    // A node is restarted.
     fn restart(&mut self, side: Side, boot: u64) -> Result<(), AllocError>
         ensures { OnOk result (self.new ≡ restarted self.old side boot) }
     {

@@ -76,7 +76,7 @@ fn passing(saying: Saying) -> Saying
     }
 }
 
-// How many ticks of this node the last row tells.
+// How many ticks of this node the last row shows.
 pub(crate) fn run_in(last: Option<Row>, side: Side) -> u64
     ensures { result ≡ run_of side last }
 {

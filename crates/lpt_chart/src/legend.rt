@@ -38,7 +38,7 @@ pub(crate) enum Sample {
     Crossed,
     /// The stroke of a tick.
     Stroke,
-    /// The double line of a new start.
+    /// The double line of a restart.
     Double,
 }
 

@@ -1,4 +1,8 @@
-//! A run as a picture: what is drawn of a journal, and that as one SVG.
+//! A run as a picture: what is drawn of a journal, and that as one SVG. Events are rows, from above
+//! to below; packets are lines from node to node; what is open at a node is a bar beside it.
+//!
+//! The main types are `Picture`, what was drawn so far, `Choice`, which rows are shown, and
+//! `Refusal`, a line that was refused. The first call is `chart`, with a title and a journal.
 #![tactic(auto)]
 
 mod arriving;

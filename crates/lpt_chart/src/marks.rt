@@ -17,7 +17,7 @@ pub enum Content {
     Noise(u64),
 }
 
-/// What a request asks of a memory, as far as it is told.
+/// What a request asks of a memory, as far as it is shown.
 #[derive(Clone, Copy)]
 pub struct Task {
     /// Its service type.
@@ -170,7 +170,7 @@ pub enum Saying {
     Applied(u64, u64, Option<Task>, Applied),
     /// A transaction is free at both ends.
     Retired(Direction, Name),
-    /// A node was started anew, and has this boot.
+    /// A node was restarted, and has this boot.
     Restarted(Side, u64),
     /// A line was refused: the one with this index among those that were.
     Refused(u64),

@@ -188,7 +188,7 @@ fn ignored_words(alloc: Global, why: Why) -> Result<String, AllocError>
     format!(in alloc; "ignored: {why}")
 }
 
-// What a delivery came to, with the two numbers that are told of it.
+// What a delivery came to, with the two numbers that are shown of it.
 #[tactic(auto, unfolding(crate::specs::Sayings::delivered_words))]
 pub(crate) fn delivered_words(
     alloc: Global,

@@ -1,4 +1,4 @@
-//! Lines of a script that were refused, as they are told.
+//! Lines of a script that were refused, as they are shown.
 
 ghost use Rattle.std.specs.Prelude.{◌≡◌, ◌≤◌, max, IfOk, fold, string_bytes};
 ghost use Rattle.lpt_chart.specs.Refusals.{refusal_head, refusal_letters, refusal_words, widest_refusal};
@@ -28,7 +28,7 @@ fn refusal_head(alloc: Global, refusal: &Refusal) -> Result<String, AllocError>
     format!(in alloc; "refused {code} {name}, line {line}: ")
 }
 
-/// What is told of a refused line: the fault, the line's number, and the line.
+/// What is shown of a refused line: the fault, the line's number, and the line.
 #[tactic(auto, unfolding(crate::specs::Refusals::refusal_words))]
 pub(crate) fn refusal_words(alloc: Global, refusal: &Refusal) -> Result<Vec<u8>, AllocError>
     ensures { IfOk result (λ t. t.items ≡ refusal_words refusal.now) }

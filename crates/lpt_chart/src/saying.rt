@@ -116,7 +116,7 @@ fn taken_words(alloc: Global, lane: Lane, number: u64) -> Result<String, AllocEr
     format!(in alloc; "{lane} takes {number}")
 }
 
-// A node that starts anew.
+// A node that restarts.
 #[tactic(auto, unfolding(crate::specs::Sayings::restarted_words))]
 fn restarted_words(alloc: Global, boot: u64) -> Result<String, AllocError>
     ensures { IfOk result (λ t. string_bytes t ≡ restarted_words boot) }

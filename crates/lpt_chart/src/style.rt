@@ -56,7 +56,7 @@ pub enum Style {
     JobFilled,
 }
 
-/// How words are told.
+/// How words are drawn.
 #[derive(Clone, Copy)]
 pub enum Weight {
     /// Grey.

@@ -22,7 +22,7 @@ use std::alloc::{AllocError, Global};
 /// The picture of a journal, as one SVG: rows, packets on their ways, what is open at the nodes. The
 /// lines that were refused have rows of their own; they are given in the order of their places.
 ///
-/// It is a function of the choice, the title, the journal and these lines. The only error is want of
+/// It is a function of the choice, the title, the journal and these lines. The only error is out of
 /// memory.
 pub fn chart(
     alloc: Global,

@@ -1,4 +1,4 @@
-//! How the words of a row are told: where, and in which letters.
+//! How the words of a row are drawn: where, and in which letters.
 
 ghost use Rattle.std.specs.Prelude.{◌≡◌};
 ghost use Rattle.lpt_chart.specs.Sayings.{saying_side};
@@ -33,7 +33,7 @@ pub(crate) fn saying_side(saying: Saying) -> Side
     }
 }
 
-// How an outcome is told: what is released or broken off is bold, what changed nothing grey.
+// How an outcome is drawn: what is released or broken off is bold, what changed nothing grey.
 fn outcome_weight(outcome: Outcome) -> Weight
     ensures { result ≡ outcome_weight outcome }
 {
@@ -48,7 +48,7 @@ fn outcome_weight(outcome: Outcome) -> Weight
     }
 }
 
-// How a row's words are told.
+// How a row's words are drawn.
 #[tactic(auto, unfolding(crate::specs::Tellings::weight_of))]
 pub(crate) fn weight(saying: Saying) -> Weight
     ensures { result ≡ weight_of saying }

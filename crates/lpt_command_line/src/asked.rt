@@ -74,7 +74,7 @@ impl From<AllocError> for Unasked<'_> {
 
 /// Reads the words of the command line, the program's name first.
 ///
-/// Errors: why they ask for nothing that is to be done, and want of memory.
+/// Errors: why they ask for nothing that is to be done, and out of memory.
 pub fn read_words<'a>(alloc: Global, words: &'a [String]) -> Result<Asked<'a>, Unasked<'a>> {
     match program(alloc)?.try_get_matches_from(words) {
         Ok(matches) => asked_by(alloc, matches),

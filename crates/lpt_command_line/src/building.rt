@@ -26,11 +26,11 @@ Statuses:
   0  all was done
   1  an event or a line was refused, a message isn't whole or can't be sent, or octets are no packet
   2  the words, a line of the script, HEX or the configuration can't be read
-  3  a file can't be read, the output can't be written, memory is wanting, or threads failed
+  3  a file can't be read, the output can't be written, memory ran out, or threads failed
 
-docs/SCRIPT.md tells the script language and the configuration, docs/lpt.1 is this as a page.";
+docs/SCRIPT.md has the script language and the configuration, docs/lpt.1 is this as a page.";
 
-/// The program and its commands. The only error is want of memory.
+/// The program and its commands. The only error is out of memory.
 pub(crate) fn program<'a>(alloc: Global) -> Result<Command<'a>, AllocError> {
     let commands = all_commands(alloc)?;
     Command::new(alloc, "lpt")

@@ -1,7 +1,8 @@
 //! The command line of `lpt`: what its words ask for.
 //!
-//! The commands are rows of tables (`src/commands.rt`), by which clap reads the words and tells the
-//! help. The first call is `read_words`; it gives an `Asked`, or why nothing is to be done.
+//! The commands are rows of tables (`src/commands.rt`), by which clap reads the words and prints
+//! the help. The main type is `Asked`, and the first call `read_words`, which gives one, or why
+//! nothing is to be done.
 //!
 //! A new command is a row in `src/commands.rt`; a case of `Command` in `src/asked.rt`, with a line in
 //! `command_of`, which makes that case of the words that were read; and a line in `done` of

@@ -35,7 +35,7 @@ pub enum What<'a> {
 
 /// What the words of the command of this name below `request` ask for.
 ///
-/// Errors: what is wrong with them, and want of memory.
+/// Errors: what is wrong with them, and out of memory.
 pub fn request_words<'a>(
     alloc: Global,
     name: &str,

@@ -13,7 +13,7 @@ pub enum WordFault<'a> {
     Length(&'a str),
     /// Behind this address no number of octets stands.
     NoLength(&'a str),
-    /// Memory is wanting.
+    /// Memory runs out.
     Memory,
 }
 
@@ -24,7 +24,7 @@ impl From<AllocError> for WordFault<'_> {
 }
 
 impl WordFault<'_> {
-    /// What is told of it. The only error is want of memory.
+    /// What is reported of it. The only error is out of memory.
     pub fn text(&self, alloc: Global) -> Result<String, AllocError> {
         match self {
             WordFault::Missing => format!(in alloc; "a word is missing"),

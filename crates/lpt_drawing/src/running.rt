@@ -12,13 +12,13 @@ use lpt_chart::Refusal;
 use lpt_shell::{Command, Octets, Reading, StepFault, World, read_line, run_command, split_line};
 use std::alloc::{AllocError, Global};
 
-/// The most octets of a refused line that are told.
+/// The most octets of a refused line that are shown.
 const TOLD: usize = 200;
 
 /// Runs the lines of a text on a world, up to an unreadable one, and gives its number; those that are
 /// refused are added to the others.
 ///
-/// The only error is want of memory.
+/// The only error is out of memory.
 pub fn run_text(
     alloc: Global,
     world: &mut World,
@@ -104,7 +104,7 @@ fn note(
     Ok(())
 }
 
-// The front of a line, as far as it is told.
+// The front of a line, as far as it is shown.
 fn front(alloc: Global, line: &[u8]) -> Result<Vec<u8>, AllocError>
     ensures { IfOk result (λ t. t.items ≡ take 200 line.now) }
 {

@@ -203,7 +203,7 @@ fn read_heading(heading: &mut Heading, text: &[u8]) -> Result<(), AllocError>
 
 /// The first sentence of a script's first comment: its lines, without marks and joined by a space, up to
 /// the first full stop before a space or a line end. Without a comment it is `A run`. The only error is
-/// want of memory.
+/// out of memory.
 pub fn title_of(alloc: Global, text: &[u8]) -> Result<Vec<u8>, AllocError>
     ensures { IfOk result (λ t. t.items ≡ title_of text.now) }
 {

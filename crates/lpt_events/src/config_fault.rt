@@ -5,7 +5,7 @@ ghost use Rattle.lpt_events.specs.ConfigFaultNames.{code_of, name_of};
 
 use thiserror::Error;
 
-/// The first value that is out of its range, in this order; want of memory is last.
+/// The first value that is out of its range, in this order; out of memory is last.
 #[derive(Clone, Copy, Debug, PartialEq, Eq, Error)]
 pub enum ConfigFault {
     /// The APID isn't 0 to 2046.
@@ -23,7 +23,7 @@ pub enum ConfigFault {
     /// The limit of outgoing transactions isn't 1 to 64.
     #[error("the limit of outgoing transactions isn't 1 to 64")]
     Outgoing,
-    /// Want of memory.
+    /// Out of memory.
     #[error("want of memory")]
     Memory,
 }

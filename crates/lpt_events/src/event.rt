@@ -7,7 +7,7 @@ use crate::{Lane, Side, Worker};
 use lpt_pus::{AckFlags, Direction, Name, Octets};
 use std::alloc::AllocError;
 
-/// One event: one holding of the world, done whole or refused.
+/// One event: what a call asks of the world. It is done whole, or refused.
 #[derive(Debug, Drop, PartialEq, Eq)]
 pub enum Event {
     /// Hands a message of this name to the sender of its direction.
@@ -45,7 +45,7 @@ pub enum Event {
     /// Frees the transaction of this direction and name at both ends, so that the name can be opened
     /// again.
     Retire(Direction, Name),
-    /// Starts the node on this side anew: its open receptions are dropped and its open senders
+    /// Restarts the node on this side: its open receptions are dropped and its open senders
     /// closed, its counts begin at 0 again, and the spacecraft forgets its released requests. The
     /// memories, what both ends know of names, the clock, the link, the hands and what the workers
     /// have stay.
@@ -53,7 +53,7 @@ pub enum Event {
 }
 
 impl Event {
-    /// A copy of the event, its octets on the allocator of this one's. The only error is want of
+    /// A copy of the event, its octets on the allocator of this one's. The only error is out of
     /// memory.
     pub fn copy(&self) -> Result<Event, AllocError>
         ensures { IfOk result (λ e. e ≡ self.now) }

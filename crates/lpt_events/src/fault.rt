@@ -60,7 +60,7 @@ pub enum StepFault {
     /// There is no such seat.
     #[error("there is no such seat")]
     NoSuchSeat,
-    /// Want of memory.
+    /// Out of memory.
     #[error("want of memory")]
     Memory,
     /// What was read isn't what the lane has in its hand, or of the request that the worker has; or

@@ -42,7 +42,7 @@ impl SeatLog {
         }
     }
 
-    /// Makes the place of one call more. The only error is want of memory.
+    /// Makes the place of one call more. The only error is out of memory.
     pub fn make_place(&mut self) -> Result<(), AllocError>
         ensures seat { self.new.seat ≡ self.old.seat }
         ensures seen { self.new.seen ≡ self.old.seen }

@@ -16,9 +16,9 @@ pub enum Outcome {
     PlainReleased(u32),
     /// Telemetry of this service type and message subtype that is no part.
     ReportNoted(u8, u8),
-    /// The report that the reception of this name was broken off, for this reason.
+    /// The report that the reception of this name was aborted, for this reason.
     AbortNoted(Name, Reason),
-    /// The reception of this name is broken off, for this reason.
+    /// The reception of this name is aborted, for this reason.
     Broken(Name, Reason),
     /// Nothing was made of the packet.
     Ignored(Why),

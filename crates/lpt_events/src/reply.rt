@@ -36,7 +36,7 @@ pub enum Answer {
     /// The reading of the request of this boot and this number in it was handed in.
     Committed(u64, u64),
     /// The request of this boot and this number in it isn't there any more, as the spacecraft was
-    /// started anew since the worker got it. The reading was dropped.
+    /// restarted since the worker got it. The reading was dropped.
     Stale(u64, u64),
     /// What became of the request that was executed.
     Applied(Applied),

@@ -26,7 +26,7 @@ pub enum TelemetryKind {
     MiddlePart,
     /// The last part of a downlinked message, TM\[13,3\].
     LastPart,
-    /// The report that the reception of an uplinked message was broken off, TM\[13,16\].
+    /// The report that the reception of an uplinked message was aborted, TM\[13,16\].
     Abort,
 }
 

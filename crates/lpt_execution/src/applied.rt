@@ -22,7 +22,7 @@ impl Ending {
 }
 
 /// An execution's answer with the name of the message that it opened, or none: a request that was
-/// carried out tells it, and no other does.
+/// carried out says so, and no other does.
 pub fn applied_with(applied: Applied, opened: &Option<(Name, Octets)>) -> Applied
     ensures value { result ≡ with_name applied opened.now }
 

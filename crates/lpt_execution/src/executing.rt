@@ -54,7 +54,7 @@ fn reply_refusal(p: u32, free: bool, room: bool, reading: &Reading) -> Option<Fa
 /// How the execution of a request ends, with its reply, where it has one. A load isn't done yet,
 /// and no memory changes. `free` and `room` say whether a reply could be opened as a message.
 ///
-/// The only error is want of memory, for a reply that is sent.
+/// The only error is out of memory, for a reply that is sent.
 pub fn ending_of(
     p: u32,
     free: bool,
@@ -67,7 +67,7 @@ pub fn ending_of(
         e ≡ ending p free room (answer (meant reading.now) memories.now)) }
     ensures fits { IfOk result EndingFits }
 
-    // Memory is wanting only where a reply is made.
+    // Memory runs out only where a reply is made.
     ensures memory { OnErr result
         (has_data (ending p free room (answer (meant reading.now) memories.now)) ≡ true) }
 {

@@ -14,7 +14,7 @@ use std::alloc::{AllocError, Global};
 
 /// The reports of a request whose execution ends so, in the order in which they are sent.
 ///
-/// The only error is want of memory, for a report.
+/// The only error is out of memory, for a report.
 pub fn reports(alloc: Global, reading: &Reading, ending: Ending) -> Result<Vec<Report>, AllocError>
     ensures reports { IfOk result (λ v.
         v.items ≡ message_reports reading.now.apid reading.now.message ending) }
@@ -22,7 +22,7 @@ pub fn reports(alloc: Global, reading: &Reading, ending: Ending) -> Result<Vec<R
     // The body of each fits a packet, where that of the data report does.
     ensures fits { EndingFits ending → IfOk result (λ v. All ReportFits v.items) }
 
-    // Memory is wanting only where there is a report.
+    // Memory runs out only where there is a report.
     ensures memory { OnErr result
         (message_reports reading.now.apid reading.now.message ending ≢ []) }
 {
@@ -64,7 +64,7 @@ fn reports_around(
     Ok(reports)
 }
 
-// Adds verification reports. The only error is want of memory.
+// Adds verification reports. The only error is out of memory.
 fn push_verifications(
     reports: &mut Vec<Report>,
     verifications: Vec<EncodedReport>,

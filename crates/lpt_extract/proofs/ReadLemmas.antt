@@ -122,7 +122,7 @@ module _ (w : Wanted) (before after : Option (List ℕ)) (stream others : List �
     front = front;
   }
 
-  -- a read failed, or memory was wanting
+  -- a read failed, or memory ran out
   pub left-read : (e : ToolFault) (A B : Type 0)
       → ((e ≡ tool.Read) × A) ⊎ ((e ≡ tool.Memory) × B)
       → AppendsPart old new (written_first w.at (areas_in w (packets_of pieces)))
@@ -134,7 +134,7 @@ module _ (w : Wanted) (before after : Option (List ℕ)) (stream others : List �
       left e (subst (λ f. LeavesFront f w.at (areas_in w (packets_of pieces)) old new) (sym h.0)
       (leaves-first w.at (areas_in w (packets_of pieces)) old new part).0)
 
-  -- a write failed, or memory was wanting
+  -- a write failed, or memory ran out
   pub left-write : (e : ToolFault)
       → (e ≡ tool.Write) ⊎ (e ≡ tool.Memory)
       → AppendsPart old new (written_first w.at (areas_in w (packets_of pieces)))

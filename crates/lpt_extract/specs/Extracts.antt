@@ -95,7 +95,7 @@ ExtractsTo w end before after old new heard hears =
 
 -- ---- faults
 
--- what was written where memory was wanting or a read failed is a front part of what is written as
+-- what was written where memory ran out or a read failed is a front part of what is written as
 -- areas come; where a write failed, of what is to be written
 abbrev pub LeavesFront : ToolFault → Option Place → List Area → (old new : Option (List ℕ)) → Type 0
 LeavesFront tool.Write at areas old new = AppendsPart old new (written at areas)

@@ -67,7 +67,7 @@ impl Image {
         Some(size as usize)
     }
 
-    // Puts an area over the octets. The only error is want of memory.
+    // Puts an area over the octets. The only error is out of memory.
     pub(crate) fn put(
         &mut self,
         place: &Place,
@@ -88,7 +88,7 @@ impl Image {
         Ok(())
     }
 
-    // Makes it so long, where it is shorter. The only error is want of memory.
+    // Makes it so long, where it is shorter. The only error is out of memory.
     fn grow(&mut self, size: usize, fill: u8) -> Result<(), AllocError>
         ensures octets { OnOk result (octets_of_image self.new ≡ octets_of_image self.old
             ++ replicate (size - length (octets_of_image self.old)) fill) }

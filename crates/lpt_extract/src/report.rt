@@ -32,7 +32,7 @@ pub(crate) enum Report<'a> {
     Areas(u8, Vec<SeenArea<'a>>),
 }
 
-// The dump report of this APID that octets are. The only error is want of memory.
+// The dump report of this APID that octets are. The only error is out of memory.
 #[tactic(auto, unfolding(crate::specs::Reports::report_in))]
 pub(crate) fn read_report<'a>(
     alloc: Global,
@@ -74,7 +74,7 @@ fn dump_body_of<'a>(apid: u16, packet: &Packet<'a>) -> Option<&'a [u8]>
     Some(body)
 }
 
-// What the body of a dump report says. The only error is want of memory.
+// What the body of a dump report says. The only error is out of memory.
 #[tactic(auto, unfolding(crate::specs::Reports::body_report, lpt_memory::specs::Requests::request_in))]
 fn read_body<'a>(alloc: Global, body: &'a [u8]) -> Result<Report<'a>, AllocError>
     ensures { IfOk result (λ r. said r ≡ body_report body.now) }
@@ -101,7 +101,7 @@ fn head(body: &[u8]) -> Option<(u8, u8, &[u8])>
     Some((memory, count, rest))
 }
 
-// So many areas, with nothing behind them. The only error is want of memory.
+// So many areas, with nothing behind them. The only error is out of memory.
 fn read_areas<'a>(
     alloc: Global,
     count: u8,

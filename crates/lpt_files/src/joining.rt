@@ -17,7 +17,7 @@ use lpt_join::{
 use std::alloc::Global;
 
 /// Reads a stream of packets to its end, and writes the message that the parts of this transaction
-/// among them are joined to. Where they are joined to none, nothing is written. The answer tells which
+/// among them are joined to. Where they are joined to none, nothing is written. The answer says which
 /// parts came.
 ///
 /// Errors: `Read` where a read failed; `Write` where a write failed, after a front part of the

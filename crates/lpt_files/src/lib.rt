@@ -1,8 +1,12 @@
 //! Packets in files: a message split into its packets, and joined of them, from one stream to
 //! another, and the requests to a memory that are such messages.
 //!
-//! A part list names parts of a message, as `3,7-9,12-`. A join tells the parts that are missing as
+//! A part list names parts of a message, as `3,7-9,12-`. A join gives the parts that are missing as
 //! such a list, so that it can be given to the split that sends them again.
+//!
+//! The main types are `Wanted`, what a split is to write, and the ends `SplitEnd` and `JoinEnd`.
+//! The first calls are `split_message` and `join_message`, each with a source and a sink, and
+//! `read_parts` for a part list.
 #![tactic(auto)]
 
 mod join_end;

@@ -16,7 +16,7 @@ use std::alloc::{AllocError, Global};
 /// often as it names them.
 ///
 /// There are none where an item is none of the three, names part 0 or one above `last`, or ends
-/// before it begins. The only error is want of memory.
+/// before it begins. The only error is out of memory.
 pub fn read_parts(alloc: Global, list: &[u8], last: u32) -> Result<Option<Vec<u16>>, AllocError>
     requires { last ≤ 65535 }
     ensures parts { IfOk result (λ r. option_map (λ ns. ns.items) r ≡ numbers_of last list.now) }
@@ -108,7 +108,7 @@ fn first_place(text: &[u8], octet: u8) -> Option<usize>
     text.iter().position(|b| *b == octet)
 }
 
-// Adds the numbers from the first to the last. The only error is want of memory.
+// Adds the numbers from the first to the last. The only error is out of memory.
 fn push_run(parts: &mut Vec<u16>, from: u32, to: u32) -> Result<(), AllocError>
     requires order { from ≤ to }
     requires small { to ≤ 65535 }

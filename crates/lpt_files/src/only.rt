@@ -12,7 +12,7 @@ use lpt_join::{Gathering, Gatherings, Sink, Source, ToolFault, Transaction, gath
 use std::alloc::Global;
 
 /// Reads a stream of packets to its end, and writes the message of the only transaction of which they
-/// carry parts, of those that are read as this one is, whatever its identifier. The answer tells what
+/// carry parts, of those that are read as this one is, whatever its identifier. The answer says what
 /// is kept of each transaction, and where there is only one, how its join ends; where there is none or
 /// there are more, nothing is written.
 ///

@@ -13,7 +13,7 @@ use std::alloc::Global;
 /// Reads a message to its end, and writes the packets of the parts that are wanted of it, in the form
 /// that is wanted.
 ///
-/// What isn't split is told by the answer, and nothing is written then.
+/// The answer says what isn't split, and nothing is written then.
 ///
 /// Errors: `Read` where a read failed; `Write` where a write failed; `Memory`. A front part of the
 /// packets stays written.

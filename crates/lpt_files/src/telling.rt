@@ -12,7 +12,7 @@ use std::alloc::{AllocError, Global};
 /// The parts that are missing, as a part list: `3,7-9`, and where the last part hasn't come, all
 /// behind the highest that came too, as `3,7-9,12-`. It is empty where none is missing.
 ///
-/// The only error is want of memory.
+/// The only error is out of memory.
 pub fn missing_list(alloc: Global, came: &Came) -> Result<String, AllocError>
     ensures { IfOk result (λ text. (last : ℕ) × (gaps : List (ℕ × ℕ))
         × ((n : ℕ) → has came.now n ≡ true → n ≤ last) × AreGaps (has came.now) 1 last gaps

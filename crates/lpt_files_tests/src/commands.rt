@@ -77,7 +77,7 @@ fn splits_from_stream_to_stream(rt: HostRuntime) -> Result<(), Fail> {
     Ok(())
 }
 
-// How the join of packets ends, what it writes, and which parts it tells as missing.
+// How the join of packets ends, what it writes, and which parts it reports as missing.
 fn join(alloc: Global, packets: &[&[u8]]) -> Result<(JoinEnd, Vec<u8>, String), Fail> {
     let mut stream = Vec::new(alloc);
     for packet in packets {

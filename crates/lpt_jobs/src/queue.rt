@@ -111,7 +111,7 @@ impl JobQueue {
 
     /// Adds the job of a released message, with the next number.
     ///
-    /// Errors: want of memory alone, which gives the message back. Then nothing has changed.
+    /// Errors: out of memory alone, which gives the message back. Then nothing has changed.
     pub fn push(&mut self, message: Octets) -> Result<(), Octets>
         requires { numbered self.old + 1 < 2 ^ 64 }
         ensures ok { OnOk result (self.new ≡ after_push self.old message) }

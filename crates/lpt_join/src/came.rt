@@ -48,7 +48,7 @@ impl Came {
         self.ended
     }
 
-    /// A number, at most 65,535, that no number of a part that came is above.
+    /// A number, at most 65,535, that is no less than that of any part that came.
     pub fn highest(&self) -> u32
         ensures most { (n : ℕ) → has self.now n ≡ true → n ≤ result }
         ensures small { result ≤ 65535 }
@@ -56,7 +56,7 @@ impl Came {
         self.marks.len().saturating_sub(1) as u32
     }
 
-    /// Notes that a part came. The only error is want of memory.
+    /// Notes that a part came. The only error is out of memory.
     pub fn add(&mut self, number: u16, kind: Kind) -> Result<(), AllocError>
         ensures came { OnOk result ((n : ℕ) → has self.new n ≡ ((number == n) || has self.old n)) }
         ensures ended { OnOk result (is_ended self.new ≡ (same_kind kind Last || is_ended self.old)) }

@@ -8,7 +8,7 @@ use crate::Came;
 use std::alloc::{AllocError, Global};
 
 /// The numbers from 1 to `last` (at most 65,535) of which no part came: the first and the last of
-/// each run of them, in order. The only error is want of memory.
+/// each run of them, in order. The only error is out of memory.
 pub fn missing(alloc: Global, came: &Came, last: u32) -> Result<Vec<(u32, u32)>, AllocError>
     requires { last ≤ 65535 }
     ensures { IfOk result (λ gaps. AreGaps (has came.now) 1 last gaps.items) }

@@ -34,7 +34,7 @@ impl Gathering {
     }
 
     /// Takes a packet. Where it carries a part of the transaction, the part is kept. The only error
-    /// is want of memory.
+    /// is out of memory.
     pub fn take(
         self,
         alloc: Global,
@@ -53,7 +53,7 @@ impl Gathering {
         let joining = joining.add(alloc, transaction, &part)?;
         Ok(Gathering { joining, came })
     }
-    /// Takes a piece of a stream: a packet, or what is none and gives nothing. The only error is want
+    /// Takes a piece of a stream: a packet, or what is none and gives nothing. The only error is out
     /// of memory.
     pub fn take_piece(
         self,

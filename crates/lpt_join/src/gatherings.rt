@@ -39,7 +39,7 @@ impl Gatherings {
     }
 
     /// Takes a packet. Where it carries a part of one of these transactions, the part is kept. The
-    /// only error is want of memory.
+    /// only error is out of memory.
     pub fn take(
         self,
         alloc: Global,
@@ -63,7 +63,7 @@ impl Gatherings {
         Ok(gatherings)
     }
 
-    /// Takes a piece of a stream: a packet, or what is none and gives nothing. The only error is want
+    /// Takes a piece of a stream: a packet, or what is none and gives nothing. The only error is out
     /// of memory.
     pub fn take_piece(
         self,
@@ -106,7 +106,7 @@ impl Gatherings {
         !self.has_more && self.kept.len() < TRANSACTION_LIMIT
     }
 
-    // Keeps this of a transaction. The only error is want of memory.
+    // Keeps this of a transaction. The only error is out of memory.
     fn put(&mut self, id: Name, gathering: Gathering) -> Result<(), AllocError>
         ensures kept { OnOk result (kept_of self.new id ≡ Some gathering) }
         ensures others { OnOk result ((n : ℕ) → n ≢ id → kept_of self.new n ≡ kept_of self.old n) }

@@ -29,7 +29,7 @@ pub enum Joining {
 }
 
 impl Joining {
-    // Adds a part of the transaction. The only error is want of memory.
+    // Adds a part of the transaction. The only error is out of memory.
     pub(crate) fn add(
         self,
         alloc: Global,

@@ -15,7 +15,7 @@ use Rattle.lpt_journal.proofs.NewJobs.{came_up, new_job, job_cases}
 use Rattle.lpt_journal.proofs.Releasing.{before_old, before_new}
 use Rattle.lpt_journal.proofs.TestLemmas.{IsOldOrNew, no_place}
 
--- a node was started anew at most as often as something happened
+-- a node was restarted at most as often as something happened
 pub boot_few : (h : History) (side : Side) → boot h side ≤ length h
 boot_few [] side = omega arith
 boot_few (x ∷ h) side = go (restarts x.event side) (boot_few h side) where

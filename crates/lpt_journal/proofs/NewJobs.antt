@@ -67,7 +67,7 @@ pub new_job : (c : Config) (x : Recorded) (h : History) (k : ℕ) (r : Release)
     → (k ≡ 0) × (r.place ≡ length h)
 new_job c x h k r e = one_job (length h) (released_by c x h) (after_one x.event (length h) _ _ _) k r e
 
--- a job was one before, or is released now, where the spacecraft isn't started anew
+-- a job was one before, or is released now, where the spacecraft isn't restarted
 pub job_cases : (c : Config) (x : Recorded) (h : History) (k : ℕ) (r : Release)
     → slice_get (jobs c (x ∷ h)) k ≡ Some r
     → (restarts x.event Craft ≡ false)

@@ -1,4 +1,4 @@
--- What the new start of a node owes, and that it pays it.
+-- What the restart of a node owes, and that it pays it.
 use Rattle.std.proofs.Common.{inl}
 use Rattle.lpt_execution.specs.LptMemory.Memories.{Contents}
 use Rattle.lpt_execution.specs.LptEvents.Sides.{same_side, receiver_side}
@@ -10,7 +10,7 @@ use Rattle.lpt_journal.specs.Replies.{entry}
 use Rattle.lpt_journal.proofs.Steps.{IsSound, Owes, kept_or_none}
 use Rattle.lpt_journal.proofs.TestLemmas.{no_place}
 
--- the new start of a node pays what it owes: the node has dropped its receptions
+-- the restart of a node pays what it owes: the node has dropped its receptions
 pub restart_owes : (c : Config) (first : Contents) (h : History) (side : Side)
     → IsSound c h
     → Owes c h (entry c first h (Restart side))

@@ -32,8 +32,8 @@ pub record IsOut (c : Config) (h : History) (t : Job) : Type 0 where
   pub uncommitted : is_committed h t.job ≡ false
   pub message : slice_get (messages c h) t.job ≡ Some t.message
 
--- A worker's job is of the boot of its claim: the present one where the spacecraft wasn't started
--- anew since.
+-- A worker's job is of the boot of its claim: the present one where the spacecraft wasn't
+-- restarted since.
 pub record IsTicket (c : Config) (h : History) (w : Worker) (t : Job) : Type 0 where
   pub boot_fits : t.boot ≤ boot h Craft
   pub restarted : restarted_since h w ≡ not (t.boot == boot h Craft)

@@ -1,4 +1,4 @@
--- What holds of jobs holds again after a commit, an execution, a new start and every other event.
+-- What holds of jobs holds again after a commit, an execution, a restart and every other event.
 use Rattle.std.proofs.Common.{◌≡◌, ◌∙◌, ap, sym, refl, ℕ, ◌+◌, ◌<◌, ◌≤◌, ◌==◌, Bool, true, false, not, ◌&&◌, ◌||◌, if◌then◌else◌, inl, inr, List, [], ◌∷◌, Option, Some, None, arith}
 use Rattle.std.proofs.lemmas.Bool.Decides.{eqb_tells}
 use Rattle.std.specs.Option.{is_some}
@@ -157,7 +157,7 @@ apply_step c first h can sound =
       | inr t ↦ omega (arith, out.waits)
     ]
 
--- ---- a new start of the spacecraft
+-- ---- a restart of the spacecraft
 
 restart_step : (c : Config) (first : Contents) (h : History)
     → JobsAreSound c h

@@ -26,7 +26,7 @@ use Rattle.lpt_journal.specs.Senders.{restarts}
 
 -- ---- boots and jobs
 
--- how many times a node was started anew
+-- how many times a node was restarted
 abbrev pub boot : History → Side → ℕ
 boot [] side = 0
 boot (x ∷ h) side = if restarts x.event side then boot h side + 1 else boot h side
@@ -36,7 +36,7 @@ abbrev pub went_up : Option (Direction × Name) → Bool
 went_up None = true
 went_up (Some t) = same_direction t.0 Up
 
--- the jobs: what the spacecraft has released since it was last started anew, numbered from 0 in this
+-- the jobs: what the spacecraft has released since it was last restarted, numbered from 0 in this
 -- order
 abbrev pub jobs : Config → History → List Release
 jobs c [] = []
@@ -49,7 +49,7 @@ abbrev pub claimed_after : Event → ℕ → ℕ
 claimed_after (Claim w) before = before + 1
 claimed_after _ before = before
 
--- how many jobs were claimed since the spacecraft was last started anew; they are the oldest
+-- how many jobs were claimed since the spacecraft was last restarted; they are the oldest
 abbrev pub claimed : History → ℕ
 claimed [] = 0
 claimed (x ∷ h) = if restarts x.event Craft then 0 else claimed_after x.event (claimed h)
@@ -59,7 +59,7 @@ abbrev pub applied_after : Event → ℕ → ℕ
 applied_after Apply before = before + 1
 applied_after _ before = before
 
--- how many jobs were executed since the spacecraft was last started anew; they are the oldest
+-- how many jobs were executed since the spacecraft was last restarted; they are the oldest
 abbrev pub applied : History → ℕ
 applied [] = 0
 applied (x ∷ h) = if restarts x.event Craft then 0 else applied_after x.event (applied h)
@@ -79,7 +79,7 @@ ticket_after (Commit v) given w before = if same_worker v w then None else befor
 ticket_after _ given w before = before
 
 -- the job that a worker claimed last, where it committed none after that; it keeps it whatever node
--- is started anew
+-- is restarted
 abbrev pub ticket : Config → History → Worker → Option Job
 ticket c [] w = None
 ticket c (x ∷ h) w = ticket_after x.event (job_given c h) w (ticket c h w)
@@ -89,8 +89,8 @@ abbrev pub commits : Answer → ℕ → Bool
 commits (Committed boot n) job = n == job
 commits _ job = false
 
--- whether the reading of the job of this number was handed in since the spacecraft was last started
--- anew
+-- whether the reading of the job of this number was handed in since the spacecraft was last
+-- restarted
 abbrev pub is_committed : History → ℕ → Bool
 is_committed [] job = false
 is_committed (x ∷ h) job =

@@ -49,7 +49,7 @@ notes_abort (Delivered (AbortNoted i reason)) id = same_name i id
 notes_abort _ id = false
 
 -- whether an event closes the transaction's sender; an abortion report speaks of what goes up, and a
--- node that is started anew closes all of its own
+-- node that is restarted closes all of its own
 abbrev pub closes : Event → Answer → Direction → Name → Bool
 closes (Deliver l) answer d id = same_direction Up d && notes_abort answer id
 closes (Finish e i) answer d id = same_direction e d && same_name i id
@@ -110,7 +110,7 @@ least_free h d = first_of_numbers name_count 0 (λ id. is_free (sender h d id))
 
 -- ---- packets made
 
--- whether an event starts a node anew
+-- whether an event restarts a node
 abbrev pub restarts : Event → Side → Bool
 restarts (Restart node) side = same_side node side
 restarts _ side = false
@@ -147,7 +147,7 @@ abbrev pub made_by : Recorded → Direction → List (List ℕ)
 made_by x d =
     if makes x.event then with_all (octets_put x.puts d) (messages_opened x.opens d) else []
 
--- all packets that the node has made since it was last started anew
+-- all packets that the node has made since it was last restarted
 abbrev pub made : History → Direction → List (List ℕ)
 made [] d = []
 made (x ∷ h) d = if restarts x.event (sender_side d) then [] else with_all (made h d) (made_by x d)

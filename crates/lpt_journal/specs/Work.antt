@@ -1,4 +1,4 @@
--- What holds of claims, commits and executions in every legal journal, whatever node is started anew.
+-- What holds of claims, commits and executions in every legal journal, whatever node is restarted.
 use Rattle.std.specs.Prelude.{◌≡◌, ℕ, suc, Bool, true, false, ◌||◌, if◌then◌else◌, List, [], ◌∷◌, drop, slice_get, Some, None}
 use Rattle.lpt_reception.specs.LptPacket.declared.direction.Direction.{Direction}
 use Rattle.lpt_reception.specs.LptPacket.Names.{Name}
@@ -34,13 +34,13 @@ abbrev pub is_claim_of : Event → Worker → Bool
 is_claim_of (Claim v) w = same_worker v w
 is_claim_of _ w = false
 
--- whether the spacecraft was started anew since the worker claimed last
+-- whether the spacecraft was restarted since the worker claimed last
 abbrev pub restarted_since : History → Worker → Bool
 restarted_since [] w = false
 restarted_since (x ∷ h) w =
     if is_claim_of x.event w then false else restarts x.event Craft || restarted_since h w
 
--- the answer to a commit of this job: stale where the spacecraft was started anew since its claim
+-- the answer to a commit of this job: stale where the spacecraft was restarted since its claim
 abbrev pub commit_answer : (restarted : Bool) → Job → Answer
 commit_answer true t = Stale t.boot t.job
 commit_answer false t = Committed t.boot t.job
@@ -73,7 +73,7 @@ pub record IsSameBut (c : Config) (first : Contents) (w : Worker) (new old : His
   pub released : releases c new ≡ releases c old
 
 -- A commit hands in the job that the worker claimed last. It answers that the job is stale exactly
--- where the spacecraft was started anew since that claim, and changes nothing else then.
+-- where the spacecraft was restarted since that claim, and changes nothing else then.
 pub record IsCommit (c : Config) (first : Contents) (x : Recorded) (h : History) (w : Worker) : Type 0 where
   pub job : Job
   pub was_claimed : ticket c h w ≡ Some job
@@ -95,7 +95,7 @@ pub record WasOfThisBoot (h : History) (r : Release) : Type 0 where
   pub released : boot (before r.place h) Craft ≡ boot h Craft
   pub committed : is_committed h (applied h) ≡ true
 
--- what was executed was released and committed since the spacecraft was last started anew
+-- what was executed was released and committed since the spacecraft was last restarted
 abbrev pub ExecutionsAreOfTheirBoot : Config → History → Type 0
 ExecutionsAreOfTheirBoot c h =
     (k : ℕ) (x : Recorded) (r : Release)

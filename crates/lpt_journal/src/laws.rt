@@ -23,7 +23,7 @@ pub fn abortion_is_final()
 {}
 
 /// Over every legal journal, a commit answers that its job is stale exactly where the spacecraft was
-/// started anew since the claim, and then changes nothing but that the worker has no job any more;
+/// restarted since the claim, and then changes nothing but that the worker has no job any more;
 /// and each request that was executed was released and committed in the same boot.
 pub fn work_is_of_its_boot()
     ensures { WorkIsOfItsBoot }

@@ -29,7 +29,7 @@ refusal_retire Free = Some NotOpen
 refusal_retire Open = Some StillOpen
 refusal_retire Closed = None
 
--- a call that takes memory is refused for the state, or where that lets it through for want of memory
+-- a call that takes memory is refused for the state, or for out of memory where that allows it
 abbrev pub RefusedBy : Option LedgerFault → LedgerFault → Type 0
 RefusedBy (Some first) e = e ≡ first
 RefusedBy None e = e ≡ Memory

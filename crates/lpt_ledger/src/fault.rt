@@ -23,7 +23,7 @@ pub enum LedgerFault {
 }
 
 impl LedgerFault {
-    /// The fault's number: 31 to 33, and 38 for want of memory.
+    /// The fault's number: 31 to 33, and 38 when out of memory.
     pub fn code(self) -> u16
         ensures { result ≡ code_of self }
     {

@@ -88,7 +88,7 @@ impl Ledger {
         ensures enabled { OnOk result (refusal_open (state_at self.old id) ≡ None) }
         ensures ok { OnOk result (self.new ≡ map.insert self.old id Opened) }
 
-        // The fault is the one of the identifier's state, else want of memory, and nothing has changed.
+        // The fault is the one of the identifier's state, else out of memory, and nothing has changed.
         ensures refused { IfErr result (RefusedBy (refusal_open (state_at self.old id))) }
         ensures err { OnErr result (self.new ≡ self.old) }
     {
@@ -120,7 +120,7 @@ impl Ledger {
         ensures enabled { OnOk result (refusal_shut (state_at self.old id) ≡ None) }
         ensures ok { OnOk result (self.new ≡ map.insert self.old id Shut) }
 
-        // The fault is the one of the identifier's state, else want of memory, and nothing has changed.
+        // The fault is the one of the identifier's state, else out of memory, and nothing has changed.
         ensures refused { IfErr result (RefusedBy (refusal_shut (state_at self.old id))) }
         ensures err { OnErr result (self.new ≡ self.old) }
     {
@@ -185,7 +185,7 @@ impl Ledger {
         }
     }
 
-    // Sets the state of an identifier. The only error is want of memory, which comes for a free one
+    // Sets the state of an identifier. The only error is out of memory, which comes for a free one
     // alone.
     fn set(&mut self, id: Name, state: State) -> Result<(), AllocError>
         ensures ok { OnOk result (self.new ≡ with_state self.old id state) }
@@ -210,7 +210,7 @@ fn page_of(pages: &BTreeMap<u16, Page>, number: u16) -> Page
     }
 }
 
-// Puts a page in its place, or takes its place out where all of it are free. The only error is want
+// Puts a page in its place, or takes its place out where all of it are free. The only error is out
 // of memory, which comes only where there was no page.
 fn put_page(pages: &mut BTreeMap<u16, Page>, number: u16, page: Page) -> Result<(), AllocError>
     ensures ok { OnOk result ((q b : ℕ) → mark_on (page_in pages.new.entries q) b

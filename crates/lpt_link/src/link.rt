@@ -56,7 +56,7 @@ pub struct PutError {
 }
 
 impl Link {
-    /// An empty link, and four empty hands. The only error is want of memory.
+    /// An empty link, and four empty hands. The only error is out of memory.
     pub fn new(alloc: Global) -> Result<Link, AllocError>
         ensures { IfOk result (λ l. l.at ≡ empty_link) }
     {
@@ -136,7 +136,7 @@ impl Link {
     /// Makes room for `n` packets more, and the place of a transaction, so that so many packets with
     /// no tag or this one can be put without taking memory.
     ///
-    /// Errors: want of memory alone. Then nothing has changed.
+    /// Errors: out of memory alone. Then nothing has changed.
     pub fn reserve(&mut self, n: u64, tag: Option<(Direction, Name)>) -> Result<(), AllocError>
         ensures room { OnOk result (n ≤ self.new.spare) }
         ensures place { OnOk result (IfSome tag (λ t. HasPlace self.new.places t.0 t.1)) }
@@ -235,7 +235,7 @@ impl Link {
         Ok(number)
     }
 
-    // Makes the place of a transaction, if there is one. The only error is want of memory, which comes
+    // Makes the place of a transaction, if there is one. The only error is out of memory, which comes
     // only where it has none.
     fn place(&mut self, direction: Direction, tag: Option<Name>) -> Result<(), AllocError>
         ensures place { OnOk result (IfSome tag (HasPlace self.new.places direction)) }

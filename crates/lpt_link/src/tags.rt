@@ -46,7 +46,7 @@ impl Tags {
         }
     }
 
-    // Makes the place of a transaction's number. The only error is want of memory, which comes only
+    // Makes the place of a transaction's number. The only error is out of memory, which comes only
     // where there is none. No number changes.
     pub(crate) fn make_place(&mut self, direction: Direction, id: Name) -> Result<(), AllocError>
         ensures place { OnOk result (HasPlace self.new direction id) }
@@ -99,7 +99,7 @@ fn number(counts: &BTreeMap<Name, u64>, id: Name) -> u64
     }
 }
 
-// Makes the place of a name. The only error is want of memory, which comes only where there is none.
+// Makes the place of a name. The only error is out of memory, which comes only where there is none.
 fn place(counts: &mut BTreeMap<Name, u64>, id: Name) -> Result<(), AllocError>
     ensures place { OnOk result (IsPlaced counts.new.entries id) }
     ensures there { IsPlaced counts.old.entries id → IsOk result }

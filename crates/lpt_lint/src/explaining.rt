@@ -84,7 +84,7 @@ fn begins(behind_space: bool, is_space: bool) -> bool
     behind_space && !is_space
 }
 
-// The word that begins in this column; none is told of a line that is too long.
+// The word that begins in this column; none is reported of a line that is too long.
 pub(crate) fn word_at(column: usize, line: &[u8]) -> &[u8]
     ensures { result.now ≡ word_at column line.now }
 {

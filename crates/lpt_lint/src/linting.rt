@@ -35,7 +35,7 @@ pub fn lint<S: Source, K: Sink>(
     ensures ends { LintEnds path.now result (S.remaining reader.old) (S.remaining reader.new)
         (K.contents out.old) (K.contents out.new) (S.failed reader.new) (K.failed out.new) }
 
-    // A fault of a write is told, and so is one of a read, unless the lint ended by another.
+    // A fault of a write is reported, and so is one of a read, unless the lint ended by another.
     ensures told { result ≢ Err ToolFault.Write → K.failed out.new ≡ K.failed out.old }
     ensures read { IsOk result → S.failed reader.new ≡ S.failed reader.old }
     ensures passed { IsOk result → K.passed out.new ≡ K.contents out.new }
@@ -65,7 +65,7 @@ fn lint_lines<S: Source, K: Sink>(
     let mut lines = LineBuffer::new(alloc);
     let mut number = 1;
     let mut unreadable = 0;
-    // Whether what is held goes on a line that was told already, since it is too long.
+    // Whether what is held goes on a line that was reported already, since it is too long.
     let mut is_told = false;
     loop {
         let len = match lines.find_line(reader, out) {

@@ -1,4 +1,4 @@
-//! Findings told as they come.
+//! Findings reported as they come.
 
 ghost use Rattle.std.specs.Prelude.{◌≡◌, ◌≢◌, IsErrOf, Err, true, List, ℕ};
 ghost use Rattle.lpt_lint.specs.EndsInside.{LineTold};
@@ -8,8 +8,8 @@ use crate::texts::finding_text;
 use lpt_text::{Sink, ToolFault, write_out};
 use std::alloc::Global;
 
-// Tells what is found in a line, unless the line was told already, and answers whether something
-// was told.
+// Reports what is found in a line, unless it did so already, and answers whether something
+// was reported.
 pub(crate) fn tell_line<K: Sink>(
     alloc: Global,
     path: &[u8],

@@ -14,10 +14,10 @@ use std::alloc::{AllocError, Global};
 /// How many octets of a word are printed.
 const SHOWN: usize = 40;
 
-/// The line that tells a finding in the line of this number of a script at this path:
+/// The line that reports a finding in the line of this number of a script at this path:
 /// `lpt: PATH:LINE:COLUMN: REASON: WORD`, with the first 40 octets of the word at fault.
 ///
-/// The only error is want of memory.
+/// The only error is out of memory.
 pub fn finding_text(
     alloc: Global,
     path: &[u8],
@@ -46,7 +46,7 @@ pub fn finding_text(
 
 /// Why a line is unreadable, in words.
 ///
-/// The only error is want of memory.
+/// The only error is out of memory.
 pub fn reason_text(alloc: Global, reason: Reason) -> Result<String, AllocError>
     ensures { IfOk result (λ t. string_bytes t ≡ reason_text reason) }
 {

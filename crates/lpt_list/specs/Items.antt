@@ -114,7 +114,7 @@ part_items q =
     ∷ Number (codes "number") (codes "part_sequence_number") q.number
     ∷ Number (codes "octets") (codes "part_octets") (length q.octets) ∷ []
 
--- the report that the reception of a large message was broken off
+-- the report that the reception of a large message was aborted
 abbrev pub abort_items : Name × Reason → List Item
 abort_items a =
     Number (codes "abort id") (codes "large_message_transaction_identifier") a.0

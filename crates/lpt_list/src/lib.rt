@@ -2,7 +2,8 @@
 //! headers and its part or report say, as words or as an object of JSON. Where octets are no packet,
 //! a line says from which place on.
 //!
-//! The first call is `list_stream`.
+//! The main types are `Form`, words or JSON, and `ListEnd`. The first call is `list_stream`, with a
+//! source and a sink.
 #![tactic(auto)]
 
 mod form;

@@ -12,7 +12,7 @@ use crate::heads::said;
 use std::alloc::{AllocError, Global};
 
 // The line of octets at a place of a stream, for parts of `p` octets (4 to 1024): their length, and
-// what they say, or the first test that they fail. The only error is want of memory.
+// what they say, or the first test that they fail. The only error is out of memory.
 #[tactic(auto, using(crate::proofs::ItemLemmas::line_parts))]
 pub(crate) fn print_piece(
     alloc: Global,
@@ -41,7 +41,7 @@ fn line_front(alloc: Global, form: Form, place: u64, len: u64) -> Result<String,
     }
 }
 
-// The line that no packet is at a place. The only error is want of memory.
+// The line that no packet is at a place. The only error is out of memory.
 pub(crate) fn print_none(alloc: Global, form: Form, place: u64) -> Result<String, AllocError>
     ensures { IfOk result (λ t. string_bytes t ≡ none_line form place) }
 {

@@ -113,7 +113,7 @@ fn list_piece<K: Sink>(
     }
 }
 
-// What is listed of a piece. The only error is want of memory.
+// What is listed of a piece. The only error is out of memory.
 fn print_line(
     alloc: Global,
     form: Form,

@@ -10,7 +10,7 @@ use std::alloc::Global;
 use std::test::Fail;
 
 // Whether octets are read as a telecommand of this head, and written again as they were. It is none
-// where they are not read, or for want of memory.
+// where they are not read, or when out of memory.
 fn is_telecommand(alloc: Global, octets: &[u8], expected: Option<TcHead>) -> Option<bool> {
     let packet = packet_in(octets)?;
     let (head, body) = read_tc(&packet).ok()?;
@@ -93,7 +93,7 @@ fn reads_and_writes_telemetry(rt: HostRuntime) {
     assert!(rt; is_telemetry(rt.alloc(), &DUMP_TWO_OCTETS, head) == Some(true));
 }
 
-// Whether telemetry of this head and body has these octets. It is none for want of memory.
+// Whether telemetry of this head and body has these octets. It is none when out of memory.
 fn is_written(alloc: Global, head: Option<TmHead>, body: &[u8], octets: &[u8]) -> Option<bool> {
     let written = write_tm(alloc, &head?, body).ok()?;
     Some(written.as_slice() == octets)

@@ -41,7 +41,7 @@ fn changed(alloc: Global, at: usize, octet: u8) -> Result<Octets, Fail> {
 }
 
 // Whether octets are read as a packet, and written again as they were. It is none where they are not
-// read, or for want of memory.
+// read, or when out of memory.
 fn is_rewritten(alloc: Global, octets: &[u8]) -> Option<bool> {
     let packet = packet_in(octets)?;
     let written = write_packet(alloc, &packet).ok()?;

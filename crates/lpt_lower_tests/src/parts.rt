@@ -65,7 +65,7 @@ fn is_read(part: &Part<'_>, number: u16, kind: Kind, body: &[u8]) -> bool {
     }
 }
 
-// Whether a body is read as this part, and written again as it was. It is none for want of memory.
+// Whether a body is read as this part, and written again as it was. It is none when out of memory.
 fn is_same(alloc: Global, kind: Kind, body: &[u8], number: u16) -> Option<bool> {
     let Ok(part) = read_part(kind, body, 8) else {
         return Some(false);
@@ -181,14 +181,14 @@ fn refuses_other_abortion_reports(rt: HostRuntime) {
     }
 }
 
-// The packet of a first part, or none for want of memory.
+// The packet of a first part, or none when out of memory.
 fn part_packet(alloc: Global) -> Option<Octets> {
     let part = Part::new(7, 1, Kind::First, &OCTETS, 8)?;
     let head = TcHead::new(100, 0, 0, 13, 9, 1)?;
     tc_pieces(alloc, &head, &part.header(), part.octets).ok()
 }
 
-// The packet of an abortion report, or none for want of memory.
+// The packet of an abortion report, or none when out of memory.
 fn report_packet(alloc: Global) -> Option<Octets> {
     let head = TmHead::new(100, 0, 0, 13, 16, 0, 1, 19)?;
     let body = abort_octets(7, Reason::Expired);

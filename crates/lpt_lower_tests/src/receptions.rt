@@ -361,7 +361,7 @@ fn fill_up(rt: &impl Abort, filling: Filling, message: &[u8], last: u16, p: u32)
 }
 
 // The message comes in so many parts of `p` octets, the last one first. It is false where it has no
-// such parts, or for want of memory.
+// such parts, or when out of memory.
 fn check_last_part_first(rt: &impl Abort, alloc: Global, message: &[u8], last: u16, p: u32) -> bool
     requires size { IsPartSize p }
     requires three { 3 ≤ last }

@@ -1,4 +1,4 @@
--- The one spelling of each body, and of a load's packet.
+-- The one encoding of each body, and of a load's packet.
 use Rattle.std.specs.Prelude.{ℕ, ◌+◌, ◌<◌, ◌^◌, List, [], ◌∷◌, ◌++◌, length, map, sum_by, Bool, false, ◌||◌, ◌==◌, nat_lt, if◌then◌else◌, Option, Some, None}
 use Rattle.std.specs.List.{flat_map, AllByRecursion}
 use Rattle.lpt_pus.specs.LptPacket.Numbers.{be}
@@ -22,20 +22,20 @@ range_text r = be r.address 4 ++ be r.len 2
 abbrev pub body_text : {A : Type 0} → (A → List ℕ) → ℕ → List A → List ℕ
 body_text one memory areas = memory ∷ length areas ∷ flat_map one areas
 
--- an area of a load that has a spelling
+-- an area of a load that has an encoding
 pub record LoadAreaFits (a : LoadArea) : Type 0 where
   pub address : a.address < 2 ^ 32
   pub some : 0 < length a.octets
   pub len : length a.octets < 2 ^ 16
   pub checksum : a.checksum < 2 ^ 16
 
--- a range that has a spelling
+-- a range that has an encoding
 pub record RangeFits (r : AreaRange) : Type 0 where
   pub address : r.address < 2 ^ 32
   pub some : 0 < r.len
   pub len : r.len < 2 ^ 16
 
--- 1 to 255 areas that have spellings
+-- 1 to 255 areas that have encodings
 abbrev pub AreAreas : {A : Type 0} → (A → Type 0) → List A → Type 0
 AreAreas Fits areas = (0 < length areas) × (length areas < 256) × AllByRecursion Fits areas
 

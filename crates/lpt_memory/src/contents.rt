@@ -63,7 +63,7 @@ pub(crate) fn content_in(memories: &[(u8, Octets)], id: u8) -> Option<&[u8]>
     None
 }
 
-// A copy. The only error is want of memory.
+// A copy. The only error is out of memory.
 pub(crate) fn copy(
     alloc: Global,
     memories: &[(u8, Octets)],
@@ -77,7 +77,7 @@ pub(crate) fn copy(
     Ok(copies)
 }
 
-// The identifiers and sizes. The only error is want of memory.
+// The identifiers and sizes. The only error is out of memory.
 pub(crate) fn sizes_of(
     alloc: Global,
     memories: &[(u8, Octets)],
@@ -141,7 +141,7 @@ fn octets_of(memories: &[(u8, Octets)], id: u8) -> &[u8]
     content_in(memories, id).unwrap_or(&[])
 }
 
-// The body that answers a dump. The only error is want of memory.
+// The body that answers a dump. The only error is out of memory.
 pub(crate) fn dump(
     alloc: Global,
     memories: &[(u8, Octets)],
@@ -155,7 +155,7 @@ pub(crate) fn dump(
     reply::dump(alloc, id, ranges, octets_of(memories, id))
 }
 
-// The body that answers a check. The only error is want of memory.
+// The body that answers a check. The only error is out of memory.
 pub(crate) fn check(
     alloc: Global,
     memories: &[(u8, Octets)],

@@ -121,7 +121,7 @@ impl Ticket {
 /// Reads the message of a job, for memories of this shape at a node with this APID. The message
 /// isn't copied: the reading owns it, and has the areas of a load by their places.
 ///
-/// Errors: want of memory, which gives the ticket back.
+/// Errors: out of memory, which gives the ticket back.
 #[tactic(auto, unfolding(crate::specs::Meanings::meaning))]
 pub fn prepare(alloc: Global, shape: &Shape, apid: u16, ticket: Ticket) -> Result<Prepared, Ticket>
     ensures { MatchResult result

@@ -29,7 +29,7 @@ pub fn message_meanings()
         → body_meaning sizes 6 subtype body ≡ Fault UnknownRequest }
 {}
 
-/// The body of a load is read exactly where it is spelled so.
+/// The body of a load is read exactly where it is encoded so.
 pub fn load_bodies()
     ensures spelled { (memory : ℕ) (areas : List LoadArea) → AreAreas LoadAreaFits areas
         → request_in front_load_area (body_text load_area_text memory areas)
@@ -39,7 +39,7 @@ pub fn load_bodies()
         → (body ≡ body_text load_area_text r.memory r.areas) × AreAreas LoadAreaFits r.areas }
 {}
 
-/// The body of a dump or a check is read exactly where it is spelled so.
+/// The body of a dump or a check is read exactly where it is encoded so.
 pub fn range_bodies()
     ensures spelled { (memory : ℕ) (ranges : List AreaRange) → AreAreas RangeFits ranges
         → request_in front_range (body_text range_text memory ranges)
@@ -49,7 +49,7 @@ pub fn range_bodies()
         → (body ≡ body_text range_text r.memory r.areas) × AreAreas RangeFits r.areas }
 {}
 
-/// What a load means, by the spelling of its body: malformed where it has none; an unknown memory;
+/// What a load means, by the encoding of its body: malformed where it has none; an unknown memory;
 /// else the first fault of its areas, or the load.
 pub fn load_meanings()
     ensures malformed { (sizes : Sizes) (body : List ℕ) → IsOctets body
@@ -67,7 +67,7 @@ pub fn load_meanings()
         ≡ unless (load_fault size areas) (Load memory (map area areas)) }
 {}
 
-/// What a dump or a check means, by the spelling of its body: malformed where it has none; an
+/// What a dump or a check means, by the encoding of its body: malformed where it has none; an
 /// unknown memory; else a range that isn't within it; then a dump whose answer is too long; else
 /// the dump or the check.
 pub fn range_meanings()

@@ -72,7 +72,7 @@ fn range_fault_in(size: u32, ranges: &[AreaRange]) -> Option<FailureCode>
     None
 }
 
-// What the body of a load means. The only error is want of memory.
+// What the body of a load means. The only error is out of memory.
 fn load(alloc: Global, sizes: &[(u8, u32)], body: &[u8]) -> Result<Plan, AllocError>
     ensures seen { IfOk result (λ x.
         seen body.now x ≡ if_formed sizes.now load_meaning (request_in front_load_area body.now)) }
@@ -91,7 +91,7 @@ fn load(alloc: Global, sizes: &[(u8, u32)], body: &[u8]) -> Result<Plan, AllocEr
     Ok(Plan::Load(memory, areas))
 }
 
-// What the body of a dump means. The only error is want of memory.
+// What the body of a dump means. The only error is out of memory.
 fn dump(alloc: Global, sizes: &[(u8, u32)], body: &[u8]) -> Result<Plan, AllocError>
     ensures seen { IfOk result (λ x.
         seen body.now x ≡ if_formed sizes.now dump_meaning (request_in front_range body.now)) }
@@ -113,7 +113,7 @@ fn dump(alloc: Global, sizes: &[(u8, u32)], body: &[u8]) -> Result<Plan, AllocEr
     Ok(Plan::Dump(memory, ranges))
 }
 
-// What the body of a check means. The only error is want of memory.
+// What the body of a check means. The only error is out of memory.
 fn check(alloc: Global, sizes: &[(u8, u32)], body: &[u8]) -> Result<Plan, AllocError>
     ensures seen { IfOk result (λ x.
         seen body.now x ≡ if_formed sizes.now check_meaning (request_in front_range body.now)) }
@@ -132,7 +132,7 @@ fn check(alloc: Global, sizes: &[(u8, u32)], body: &[u8]) -> Result<Plan, AllocE
     Ok(Plan::Check(memory, ranges))
 }
 
-// What the body of a telecommand of this service and subtype means. The only error is want of
+// What the body of a telecommand of this service and subtype means. The only error is out of
 // memory.
 #[tactic(auto, unfolding(crate::specs::Meanings::body_meaning))]
 fn body_plan(
@@ -186,7 +186,7 @@ pub(crate) fn head_in(apid: u16, octets: &[u8]) -> Option<TcHead>
 }
 
 // What the telecommand that a message is means, or nothing where it is none. The only error is
-// want of memory.
+// out of memory.
 pub(crate) fn plan(
     alloc: Global,
     sizes: &[(u8, u32)],

@@ -49,7 +49,7 @@ impl Memories {
         Ok(Memories { items: memories })
     }
 
-    /// A copy. The only error is want of memory.
+    /// A copy. The only error is out of memory.
     pub fn copy(&self) -> Result<Memories, AllocError>
         ensures { IfOk result (λ m. m ≡ self.now) }
     {
@@ -58,7 +58,7 @@ impl Memories {
         })
     }
 
-    /// The identifiers and sizes. The only error is want of memory.
+    /// The identifiers and sizes. The only error is out of memory.
     pub fn shape(&self) -> Result<Shape, AllocError>
         ensures { IfOk result (λ s. s ≡ sizes_of self.now) }
     {
@@ -84,9 +84,9 @@ impl Memories {
         contents::have_sizes(&self.items, shape.sizes())
     }
 
-    /// What a message is answered. It changes nothing: a load isn't done by it.
+    /// The answer to a message. Nothing changes: a load isn't done by this.
     ///
-    /// The only error is want of memory, for the answer to a dump or a check.
+    /// The only error is out of memory, for the answer to a dump or a check.
     pub fn answer(&self, reading: &Reading) -> Result<Effect, AllocError>
         requires { reading.now.sizes ≡ sizes_of self.now }
         ensures answer { IfOk result (λ e. e ≡ answer (meant reading.now) self.now) }
@@ -130,7 +130,7 @@ impl Memories {
 
     /// Does what a message means, and says what it came to.
     ///
-    /// The only error is want of memory, for the answer to a dump or a check. It leaves the
+    /// The only error is out of memory, for the answer to a dump or a check. It leaves the
     /// memories as they were.
     pub fn apply(&mut self, reading: &Reading) -> Result<Effect, AllocError>
         requires { reading.now.sizes ≡ sizes_of self.old }

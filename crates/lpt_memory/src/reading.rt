@@ -69,7 +69,7 @@ fn range(bytes: &[u8]) -> Option<(AreaRange, &[u8])>
 }
 
 // So many areas of a load, from a place of the body on, with nothing behind them. The only error
-// is want of memory.
+// is out of memory.
 fn stored_areas(
     alloc: Global,
     count: u8,
@@ -96,7 +96,7 @@ fn stored_areas(
     Ok(Some(areas))
 }
 
-// So many ranges, with nothing behind them. The only error is want of memory.
+// So many ranges, with nothing behind them. The only error is out of memory.
 fn ranges(alloc: Global, count: u8, bytes: &[u8]) -> Result<Option<Vec<AreaRange>>, AllocError>
     ensures value { IfOk result (λ r. option_map (λ v. v.items) r
         ≡ all_areas front_range count bytes.now) }
@@ -117,7 +117,7 @@ fn ranges(alloc: Global, count: u8, bytes: &[u8]) -> Result<Option<Vec<AreaRange
     Ok(Some(ranges))
 }
 
-// The request that a load's body is, its octets by their places. The only error is want of memory.
+// The request that a load's body is, its octets by their places. The only error is out of memory.
 #[tactic(auto, unfolding(crate::specs::Requests::request_in))]
 pub(crate) fn load_request(
     alloc: Global,
@@ -137,7 +137,7 @@ pub(crate) fn load_request(
     Ok(Some((memory, areas)))
 }
 
-// The request that the body of a dump or a check is. The only error is want of memory.
+// The request that the body of a dump or a check is. The only error is out of memory.
 #[tactic(auto, unfolding(crate::specs::Requests::request_in))]
 pub(crate) fn range_request(
     alloc: Global,

@@ -60,7 +60,7 @@ fn octets_in<'a>(content: &'a [u8], range: &AreaRange) -> &'a [u8]
     &content[start..start + usize::from(range.len)]
 }
 
-// Adds an area of the answer to a dump. The only error is want of memory.
+// Adds an area of the answer to a dump. The only error is out of memory.
 fn push_dump_area(body: &mut Vec<u8>, content: &[u8], range: &AreaRange) -> Result<(), AllocError>
     requires { range.now.address + range.now.len ≤ length content.now }
     ensures { OnOk result (body.new.items ≡ body.old.items ++ dump_area content.now range.now) }
@@ -73,7 +73,7 @@ fn push_dump_area(body: &mut Vec<u8>, content: &[u8], range: &AreaRange) -> Resu
     Ok(())
 }
 
-// Adds an area of the answer to a check. The only error is want of memory.
+// Adds an area of the answer to a check. The only error is out of memory.
 fn push_check_area(body: &mut Vec<u8>, content: &[u8], range: &AreaRange) -> Result<(), AllocError>
     requires { range.now.address + range.now.len ≤ length content.now }
     ensures { OnOk result (body.new.items ≡ body.old.items ++ check_area content.now range.now) }
@@ -85,7 +85,7 @@ fn push_check_area(body: &mut Vec<u8>, content: &[u8], range: &AreaRange) -> Res
     Ok(())
 }
 
-// The body that answers a dump. The only error is want of memory.
+// The body that answers a dump. The only error is out of memory.
 pub(crate) fn dump(
     alloc: Global,
     id: u8,
@@ -106,7 +106,7 @@ pub(crate) fn dump(
     Ok(Octets::from_vec(body))
 }
 
-// The body that answers a check. The only error is want of memory.
+// The body that answers a check. The only error is out of memory.
 pub(crate) fn check(
     alloc: Global,
     id: u8,

@@ -34,7 +34,7 @@ impl Shape {
         &self.sizes
     }
 
-    // A copy. The only error is want of memory.
+    // A copy. The only error is out of memory.
     pub(crate) fn copy(&self) -> Result<Shape, AllocError>
         ensures { IfOk result (λ s. s ≡ self.now) }
     {

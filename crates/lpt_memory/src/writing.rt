@@ -51,7 +51,7 @@ fn any_empty(areas: &[Area]) -> bool
     false
 }
 
-// Adds an area of a load. The only error is want of memory.
+// Adds an area of a load. The only error is out of memory.
 fn push_area(body: &mut Vec<u8>, area: &Area) -> Result<(), AllocError>
     requires { length area.now.octets < 65536 }
     ensures pushed { OnOk result
@@ -79,7 +79,7 @@ fn body_len(areas: &[Area]) -> usize
     len
 }
 
-// The body of a load. The only error is want of memory.
+// The body of a load. The only error is out of memory.
 fn load_body(alloc: Global, memory: u8, areas: &[Area]) -> Result<Vec<u8>, AllocError>
     requires { write_fault areas.now ≡ None }
     ensures body { IfOk result (λ v. v.items ≡ load_text memory areas.now) }
@@ -94,7 +94,7 @@ fn load_body(alloc: Global, memory: u8, areas: &[Area]) -> Result<Vec<u8>, Alloc
     Ok(body)
 }
 
-// The packet of a load that has no fault. The only error is want of memory.
+// The packet of a load that has no fault. The only error is out of memory.
 fn load_packet(
     alloc: Global,
     head: &TcHead,
@@ -134,7 +134,7 @@ pub fn load_fault(areas: &[Area]) -> Option<MemoryFault>
 /// The packet of a load: a telecommand of this head, with the areas in their order and a checksum
 /// for each. An area's own checksum is over its octets alone.
 ///
-/// Errors: the fault that `load_fault` tells of the areas, `TooLong` or `BadArea`; where there is
+/// Errors: the fault that `load_fault` gives for the areas, `TooLong` or `BadArea`; where there is
 /// none, `Memory` where memory runs out.
 pub fn write_load(
     alloc: Global,

@@ -327,7 +327,7 @@ executed_on place s x = (
   put_some (length s.link.packets) (Applied x.0.1.applied) x.0.1.packets,
 )
 
--- ---- retirement and a new start
+-- ---- retirement and a restart
 
 -- both ends have freed a transaction
 abbrev pub after_retire : State → Direction → Name → State × Reply
@@ -339,7 +339,7 @@ after_retire s d id = (
   quiet Retired,
 )
 
--- a node was started anew
+-- a node was restarted
 abbrev pub after_restart : State → Side → State × Reply
 after_restart s side =
     (with_end s side (restarted (end_of s side)), quiet (Restarted (restarted (end_of s side)).boot))

@@ -1,4 +1,4 @@
--- What retirement and a new start make of the ledgers.
+-- What retirement and a restart make of the ledgers.
 use Rattle.std.proofs.Common.{◌≡◌, ◌∙◌, ap, sym, refl, Bool, true, false, cond, Option, Some, None, is_some}
 use Rattle.std.specs.FinMap as map
 use Rattle.lpt_execution.proofs.LptPacket.NameLemmas.{name_cmp_total, name_cmp-IsAntisymmetric, same_name-true}
@@ -32,7 +32,7 @@ retired-free m id free =
     without m id q (same_name q id) refl (no_mark (map.get m id) free)
     ∙ sym (get_remove m id q))
 
--- ---- a new start
+-- ---- a restart
 
 -- what a ledger has under each name once all are closed
 abbrev pub ClosesEach : Type 0

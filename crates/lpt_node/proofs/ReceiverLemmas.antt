@@ -163,7 +163,7 @@ module _ (head : Option Telemetry) (m : Marks) (old mid : TableState) (q : Piece
           ∙ received-offered (offering.Conflict b.reason) e
       by_answer (Err x) a s is = tt
 
--- ---- want of memory
+-- ---- out of memory
 
 -- what holds of all results holds of errors
 on_err : {X E : Type 0} (r : Result X E) (P : Type 0) → P → OnErr r P

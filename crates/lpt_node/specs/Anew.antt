@@ -1,4 +1,4 @@
--- What an end does when a transaction is retired, and when it is started anew.
+-- What an end does when a transaction is retired, and when it is restarted.
 use Rattle.std.specs.Prelude.{◌+◌, Bool, not, if◌then◌else◌, is_some}
 use Rattle.std.specs.FinMap as map
 use Rattle.lpt_execution.specs.LptPacket.declared.direction.Direction.{Direction}
@@ -28,9 +28,9 @@ retired side d way id =
     record d { sending = record d.sending { ledger = map.remove d.sending.ledger id } }
     else record d { receiving = record d.receiving { ledger = map.remove d.receiving.ledger id } }
 
--- ---- a new start
+-- ---- a restart
 
--- an end was started anew: it has closed its open senders and dropped its open receptions and its
+-- an end was restarted: it has closed its open senders and dropped its open receptions and its
 -- jobs, and counts from 0 again; it knows the names and the clock as before
 abbrev pub restarted : NodeData → NodeData
 restarted d = record {

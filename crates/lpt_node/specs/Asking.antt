@@ -10,7 +10,7 @@ use Rattle.lpt_node.specs.Requests.{refusal_plain}
 use Rattle.lpt_node.specs.Sending.{refusal_open, refusal_send, refusal_finish}
 use Rattle.lpt_node.specs.Times.{refusal_tick, refusal_expire}
 
--- the first reason why the call would be refused, want of memory aside
+-- the first reason why the call would be refused, out of memory aside
 abbrev pub refusal_of : Config → NodeData → Ask → Option NodeFault
 refusal_of c d (Open id len) = refusal_open c d id len
 refusal_of c d (Send id k) = refusal_send c d id k

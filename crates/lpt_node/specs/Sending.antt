@@ -125,7 +125,7 @@ closed_in s id = closed_by (state_at s.ledger id) s id
 abbrev pub closed : NodeData → Name → NodeData
 closed d id = record d { sending = closed_in d.sending id }
 
--- the fault of a call is why it was refused, or want of memory where nothing refuses it
+-- the fault of a call is why it was refused, or out of memory where nothing refuses it
 abbrev pub RefusedBy : Option NodeFault → NodeFault → Type 0
 RefusedBy (Some g) f = f ≡ g
 RefusedBy None f = f ≡ Memory

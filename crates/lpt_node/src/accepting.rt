@@ -23,7 +23,7 @@ impl Node {
     /// octets of a plain request are released as they are. At the spacecraft a message that is
     /// released becomes a job.
     ///
-    /// The only error is want of memory. The packet is handed back then, and nothing has changed.
+    /// The only error is out of memory. The packet is handed back then, and nothing has changed.
     pub fn accept(&mut self, parsed: Parsed) -> Result<Accepted, Parsed>
         requires { IsFor self.old parsed }
         ensures ok { IfOk result (λ r. (self.new.at, r)
@@ -32,7 +32,7 @@ impl Node {
         ensures side { self.new.side ≡ self.old.side }
         ensures config { self.new.config ≡ self.old.config }
 
-        // Memory is wanting only where a part is kept, a message released or a reception broken off.
+        // Memory runs out only where a part is kept, a message released or a reception broken off.
         ensures memory { OnErr result
             (grows (accepted self.old.side self.old.config self.old.at (arrival_from parsed)).1 ≡ true) }
         ensures back { IfErr result (λ p. p ≡ parsed) }
@@ -63,7 +63,7 @@ impl Node {
         ensures side { self.new.side ≡ self.old.side }
         ensures config { self.new.config ≡ self.old.config }
 
-        // Memory is wanting only where a part is kept, a message released or a reception broken off.
+        // Memory runs out only where a part is kept, a message released or a reception broken off.
         ensures memory { OnErr result
             (grows (accepted self.old.side self.old.config self.old.at (arrival_at self.old octets.now)).1 ≡ true) }
         ensures err { OnErr result (self.new.at ≡ self.old.at) }

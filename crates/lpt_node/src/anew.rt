@@ -1,4 +1,4 @@
-//! Retirement of a transaction's name, and a new start of the node.
+//! Retirement of a transaction's name, and a restart of the node.
 
 ghost use Rattle.std.specs.Prelude.{◌≡◌, ◌≢◌, ◌+◌, ◌<◌, ◌^◌, IsTrue};
 ghost use Rattle.std.specs.FinMap as map;
@@ -33,7 +33,7 @@ impl Node {
         }
     }
 
-    /// Starts the node anew. Its open outgoing transactions are closed and their messages let go,
+    /// Restarts the node. Its open outgoing transactions are closed and their messages let go,
     /// and its open receptions and its jobs are dropped. Sequence counts, message type counters and
     /// numbers of jobs begin at 0 again, and it has one boot more. What it knows of other names
     /// stays, and so does the clock. It takes no memory.

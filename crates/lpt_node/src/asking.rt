@@ -14,8 +14,8 @@ use lpt_jobs::Front;
 use lpt_ledger::State;
 
 impl Node {
-    /// The first reason why this call would be refused now, or `None` where only want of memory
-    /// can stop it.
+    /// The first reason why this call would be refused now, or `None` where only an allocation
+    /// failure can stop it.
     pub fn refusal(&self, ask: &Ask) -> Option<NodeFault>
         ensures { result ≡ refusal_of self.now.config self.now.at ask.now }
     {

@@ -1,5 +1,5 @@
 //! How a reception ends. What takes memory comes first: the report or the job, and then the place of
-//! its name in the ledger. So a reception is put back as it was where memory is wanting.
+//! its name in the ledger. So a reception is put back as it was where memory runs out.
 
 ghost use Rattle.std.specs.Prelude.{◌≡◌, ◌+◌, ◌<◌, ◌^◌, [], None, IsSomeAnd, IfOk, OnOk, OnErr};
 ghost use Rattle.std.specs.FinMap as map;
@@ -63,7 +63,7 @@ pub(crate) fn release(
 }
 
 // Closes the name of a reception of which all parts are there, whose message becomes a job at the
-// spacecraft. The only error is want of memory, and then nothing has changed.
+// spacecraft. The only error is out of memory, and then nothing has changed.
 fn close_whole(
     side: Side,
     jobs: &mut JobQueue,
@@ -94,7 +94,7 @@ fn close_whole(
     }
 }
 
-// Makes a job of a whole message. The only error is want of memory.
+// Makes a job of a whole message. The only error is out of memory.
 fn add_whole(jobs: &mut JobQueue, whole: &Whole) -> Result<(), AllocError>
     requires { numbered jobs.old + 1 < 2 ^ 64 }
     ensures ok { OnOk result (jobs.new ≡ after_push jobs.old (spelled (all_of whole.now))) }
@@ -142,7 +142,7 @@ pub(crate) fn abort(
 }
 
 // Closes the name of a reception that a gap has broken off before it was open, with a report of it.
-// The only error is want of memory, and then nothing has changed.
+// The only error is out of memory, and then nothing has changed.
 pub(crate) fn break_off(
     alloc: Global,
     ledger: &mut Ledger,
@@ -162,7 +162,7 @@ pub(crate) fn break_off(
 }
 
 // Closes the name of a reception that ends without its message, with a report of it, where reports
-// have a head. The only error is want of memory, and then nothing has changed.
+// have a head. The only error is out of memory, and then nothing has changed.
 pub(crate) fn close_reported(
     alloc: Global,
     ledger: &mut Ledger,
@@ -182,7 +182,7 @@ pub(crate) fn close_reported(
     Ok(report)
 }
 
-// Closes a free name. The only error is want of memory.
+// Closes a free name. The only error is out of memory.
 fn shut(ledger: &mut Ledger, id: Name) -> Result<(), AllocError>
     requires { state_at ledger.old id ≡ State.Free }
     ensures ok { OnOk result (ledger.new ≡ map.insert ledger.old id Shut) }

@@ -51,7 +51,7 @@ impl Node {
         ensures fits { IfOk result (λ x.
             All (λ m. MessageFits self.now.config.part_size (length m)) x.1.large.items) }
 
-        // Memory is wanting only where there is a report.
+        // Memory runs out only where there is a report.
         ensures memory { OnErr result
             (reports_at self.now.config self.now.at memories.now reading.now ≢ []) }
     {

@@ -31,7 +31,7 @@ pub enum NodeFault {
     NotReady,
     /// The clock is at its greatest value.
     ClockEnd,
-    /// Want of memory.
+    /// Out of memory.
     Memory,
     /// The service type and the message subtype are those of a part.
     PartRequest,
@@ -45,7 +45,7 @@ impl fmt::Display for NodeFault {
 }
 
 impl NodeFault {
-    /// The fault as a world tells it.
+    /// The fault as a world reports it.
     pub fn in_step(self) -> StepFault
         ensures { result ≡ node_fault self }
     {

@@ -55,7 +55,7 @@ impl Node {
         }
     }
 
-    // Makes the packet of a report, and counts it. The only error is want of memory.
+    // Makes the packet of a report, and counts it. The only error is out of memory.
     pub(crate) fn report_packet(
         &self,
         counts: &mut Counts,
@@ -75,7 +75,7 @@ impl Node {
         Ok(packet)
     }
 
-    // Makes the packet that carries a part, and counts it. The only error is want of memory.
+    // Makes the packet that carries a part, and counts it. The only error is out of memory.
     pub(crate) fn part_packet(
         &self,
         counts: &mut Counts,

@@ -20,7 +20,7 @@ use std::marker::Model;
 ///
 /// The sender's and the receiver's ledger know each transaction name as free, open or closed. The
 /// messages of open outgoing transactions are kept until these are closed. A receiver's name is
-/// closed when its reception is released, broken off or given up, and stays free where a new start
+/// closed when its reception is released, broken off or given up, and stays free where a restart
 /// drops it. A closed name is free again once it is retired.
 #[derive(Drop)]
 pub struct Node {
@@ -69,7 +69,7 @@ impl Model for Node {
 }
 
 impl Node {
-    /// An end at which nothing has happened. The only error is want of memory.
+    /// An end at which nothing has happened. The only error is out of memory.
     pub fn new(alloc: Global, side: Side, config: &Config) -> Result<Node, AllocError>
         requires { IsConfig config.now }
         ensures { IfOk result (λ n. n ≡ new_node side config.now) }

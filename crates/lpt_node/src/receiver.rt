@@ -57,7 +57,7 @@ impl Model for Receiver {
 }
 
 impl Receiver {
-    /// A receiver with places for `limit` receptions, of which none is open. The only error is want
+    /// A receiver with places for `limit` receptions, of which none is open. The only error is out
     /// of memory.
     pub(crate) fn new(
         alloc: Global,
@@ -105,7 +105,7 @@ impl Receiver {
     /// spacecraft it becomes a job. One that is broken off is ended with a report of it, where
     /// reports have a head.
     ///
-    /// The only error is want of memory, and then nothing has changed.
+    /// The only error is out of memory, and then nothing has changed.
     pub(crate) fn accept(
         &mut self,
         side: Side,
@@ -123,7 +123,7 @@ impl Receiver {
 
         ensures same { IsSameReceiver self.old self.new }
 
-        // Memory is wanting only where some is taken.
+        // Memory runs out only where some is taken.
         ensures memory { OnErr result
             (grows (received (option_map (λ h. as_written (telemetry h [])) head) self.old (piece part.now) now).1 ≡ true) }
         ensures err { OnErr result (self.new ≡ self.old) }
@@ -164,7 +164,7 @@ impl Receiver {
 
     /// Ends an open reception for its age, with a report of it, where reports have a head.
     ///
-    /// The only error is want of memory, and then nothing has changed.
+    /// The only error is out of memory, and then nothing has changed.
     pub(crate) fn expire(
         &mut self,
         head: Option<TmHead>,

@@ -104,7 +104,7 @@ impl Node {
     }
 }
 
-// Opens a free name with its message. Where memory is wanting the message is handed back, and nothing
+// Opens a free name with its message. Where memory runs out the message is handed back, and nothing
 // has changed.
 pub(crate) fn begin(
     senders: &mut Ledger,

@@ -13,7 +13,7 @@ use lpt_execution::{Memories, Octets, Reading, Ticket, applied_with};
 use lpt_jobs::Front;
 
 impl Node {
-    /// The number of this boot: how many times the node was started anew.
+    /// The number of this boot: how many times the node was restarted.
     pub fn boot(&self) -> u64
         ensures { result ≡ self.now.at.boot }
     {
@@ -106,7 +106,7 @@ impl Node {
         ensures err { OnErr result (self.new.at ≡ self.old.at) }
         ensures kept { OnErr result (memories.new ≡ memories.old) }
 
-        // Memory is wanting only where there is a report.
+        // Memory runs out only where there is a report.
         ensures memory { OnErr result (refusal_apply self.old.at ≡ None
             → front_reports self.old.config self.old.at memories.old (head_of self.old.at.jobs.jobs)
             ≢ []) }

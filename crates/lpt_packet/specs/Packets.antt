@@ -52,7 +52,7 @@ header f = header_of f.kind f.apid f.count (length f.octets)
 abbrev pub sealed : List ℕ → List ℕ
 sealed front = front ++ be (checksum front) 2
 
--- the one spelling of a packet
+-- the one encoding of a packet
 unfoldable pub spelling : Fields → List ℕ
 spelling f = sealed (header f ++ f.octets)
 
@@ -100,7 +100,7 @@ fields_at b = record {
 abbrev pub is_idle : List ℕ → Bool
 is_idle b = nat_le 7 (length b) && (word_at b 0 / 8192 == 0) && (word_at b 0 % 2048 == 2047) && (length b == 7 + word_at b 4)
 
--- whether the fields at their places are in their ranges and spell the octets
+-- whether the fields at their places are in their ranges and encode as the octets
 abbrev pub is_packet : List ℕ → Bool
 is_packet b = nat_le (length b) longest_packet && nat_le (word_at b 0 % 2048) 2046 && same_octets b (spelling (fields_at b))
 

@@ -60,7 +60,7 @@ impl Octets {
         items
     }
 
-    /// A copy of the octets, on the allocator of this value. The only error is want of memory.
+    /// A copy of the octets, on the allocator of this value. The only error is out of memory.
     pub fn copy(&self) -> Result<Octets, AllocError>
         ensures { IfOk result (λ o. o ≡ self.now) }
     {

@@ -8,7 +8,7 @@ use crate::sizes::{ERROR_CONTROL, PRIMARY_HEADER};
 use crate::{Octets, Packet, PacketKind, crc16};
 use std::alloc::{AllocError, Global};
 
-/// The octets of a packet, its checksum last. The only error is want of memory.
+/// The octets of a packet, its checksum last. The only error is out of memory.
 pub fn write_packet(alloc: Global, packet: &Packet<'_>) -> Result<Octets, AllocError>
     ensures { IfOk result (λ o. o ≡ spelling (fields packet.now)) }
 {
@@ -22,7 +22,7 @@ pub fn write_packet(alloc: Global, packet: &Packet<'_>) -> Result<Octets, AllocE
 }
 
 /// The octets of a packet whose data field is given in three pieces, one behind the other. Each is
-/// copied once, into a vector that has the packet's size from the first. The only error is want of
+/// copied once, into a vector that has the packet's size from the first. The only error is out of
 /// memory.
 pub fn write_pieces(
     alloc: Global,

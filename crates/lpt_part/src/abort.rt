@@ -42,7 +42,7 @@ fn fault_or_abort(body: &[u8]) -> Result<(TransactionId, Reason), PartFault>
     Ok((id, reason))
 }
 
-/// The body of an abortion report. The only error is want of memory.
+/// The body of an abortion report. The only error is out of memory.
 pub fn write_abort(alloc: Global, id: TransactionId, reason: Reason) -> Result<Octets, AllocError>
     ensures { IfOk result (λ o. o ≡ abort_body id reason) }
 {

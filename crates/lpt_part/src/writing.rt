@@ -10,7 +10,7 @@ use std::alloc::{AllocError, Global};
 /// The octets of a part's header: the transaction identifier and the part sequence number.
 const PART_HEADER: usize = 4;
 
-/// The body of a message that carries this part. The only error is want of memory.
+/// The body of a message that carries this part. The only error is out of memory.
 pub fn write_part(alloc: Global, part: &Part<'_>) -> Result<Octets, AllocError>
     ensures { IfOk result (λ o. o ≡ body_of (piece part.now)) }
 {

@@ -66,7 +66,7 @@ part_text q =
     line_of (codes "part" ∷ kind_text q.kind ∷ codes "id" ∷ decimal q.id
     ∷ codes "number" ∷ decimal q.number ∷ codes "octets" ∷ decimal (length q.octets) ∷ [])
 
--- the report that the reception of a large message was broken off
+-- the report that the reception of a large message was aborted
 abbrev pub abort_text : Name × Reason → List ℕ
 abort_text a =
     line_of (codes "abort" ∷ codes "id" ∷ decimal a.0

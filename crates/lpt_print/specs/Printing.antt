@@ -103,7 +103,7 @@ stale_text boot job = job_line (codes "stale") boot job
 abbrev pub retired_text : Direction → Name → List ℕ
 retired_text d id = named_line (codes "retired") d id
 
--- a node was started anew, and has this boot now
+-- a node was restarted, and has this boot now
 abbrev pub restarted_text : Side → (boot : ℕ) → List ℕ
 restarted_text side boot = line_of (codes "restarted" ∷ side_text side ∷ decimal boot ∷ [])
 

@@ -141,7 +141,7 @@ pub fn print_retired(alloc: Global, direction: Direction, id: Name) -> Result<St
     text_of(alloc, format_args!("retired {direction} {id}\n"))
 }
 
-/// `restarted craft 1`: the node on this side was started anew, and has this boot now.
+/// `restarted craft 1`: the node on this side was restarted, and has this boot now.
 pub fn print_restarted(alloc: Global, side: Side, boot: u64) -> Result<String, AllocError>
     ensures { IfOk result (λ t. string_bytes t ≡ restarted_text side boot) }
 {

@@ -1,4 +1,4 @@
--- Telecommands: how a packet spells one, and how one is read.
+-- Telecommands: how a packet encodes one, and how one is read.
 use Rattle.std.specs.Prelude.{◌≡◌, ℕ, ◌+◌, ◌/◌, ◌%◌, ◌<◌, ◌≤◌, ◌==◌, nat_le, Bool, true, false, List, ◌∷◌, ◌++◌, length, drop, slice_index, Option, Some, Result, Ok}
 use Rattle.lpt_packet.specs.declared.packet.PacketKind.{PacketKind}
 use Rattle.lpt_packet.specs.declared.packet.PacketKind.TheVariants.{Tm, Tc}

@@ -1,4 +1,4 @@
--- Telemetry: how a packet spells it, and how it is read.
+-- Telemetry: how a packet encodes it, and how it is read.
 use Rattle.std.specs.Prelude.{◌≡◌, ℕ, ◌+◌, ◌/◌, ◌%◌, ◌^◌, ◌<◌, ◌≤◌, ◌==◌, nat_le, Bool, true, false, List, ◌∷◌, ◌++◌, length, drop, slice_index, Option, Some, Result, Ok}
 use Rattle.lpt_packet.specs.declared.packet.PacketKind.{PacketKind}
 use Rattle.lpt_packet.specs.declared.packet.PacketKind.TheVariants.{Tm, Tc}

@@ -8,7 +8,7 @@ ghost use Rattle.lpt_packet.specs.Ranges.{InRange};
 ghost use Rattle.lpt_pus.specs.Commands.{Command, CommandFits, packet_of, IsCommand, tc_verdict, command_in, IsCommandIn};
 ghost use Rattle.lpt_pus.specs.Telemetry.{Telemetry, TelemetryFits, as_written, tm_packet_of, IsTelemetry, tm_verdict, telemetry_in, IsTelemetryIn};
 
-/// A message in its ranges is read again from the packet that spells it.
+/// A message in its ranges is read again from the packet that encodes it.
 pub fn read_again()
     ensures command { (c : Command) → CommandFits c → tc_verdict (packet_of c) ≡ Ok c }
     ensures telemetry { (t : Telemetry) → TelemetryFits t → tm_verdict (tm_packet_of t) ≡ Ok t }

@@ -26,7 +26,7 @@ pub fn write_tc(alloc: Global, head: &TcHead, body: &[u8]) -> Result<Octets, Pus
 }
 
 /// The octets of a telecommand's whole packet, for a body that is known to fit: at most 65,529
-/// octets. The only error is want of memory.
+/// octets. The only error is out of memory.
 pub fn tc_octets(alloc: Global, head: &TcHead, body: &[u8]) -> Result<Octets, AllocError>
     requires { length body.now ≤ longest_tc_body }
     ensures { IfOk result (λ o. o ≡ spelling (packet_of (command head.now body.now))) }
@@ -35,7 +35,7 @@ pub fn tc_octets(alloc: Global, head: &TcHead, body: &[u8]) -> Result<Octets, Al
 }
 
 /// The octets of a telecommand's whole packet, for a body in two pieces, each of which is copied
-/// once: together at most 65,529 octets. The only error is want of memory.
+/// once: together at most 65,529 octets. The only error is out of memory.
 pub fn tc_pieces(
     alloc: Global,
     head: &TcHead,
@@ -73,7 +73,7 @@ pub fn write_tm(alloc: Global, head: &TmHead, body: &[u8]) -> Result<Octets, Pus
 }
 
 /// The octets of a telemetry message's whole packet, for a body that is known to fit: at most
-/// 65,523 octets. The status is written as 0. The only error is want of memory.
+/// 65,523 octets. The status is written as 0. The only error is out of memory.
 pub fn tm_octets(alloc: Global, head: &TmHead, body: &[u8]) -> Result<Octets, AllocError>
     requires { length body.now ≤ longest_tm_body }
     ensures { IfOk result (λ o. o ≡ spelling (tm_packet_of (as_written (telemetry head.now body.now)))) }
@@ -83,7 +83,7 @@ pub fn tm_octets(alloc: Global, head: &TmHead, body: &[u8]) -> Result<Octets, Al
 
 /// The octets of a telemetry message's whole packet, for a body in two pieces, each of which is
 /// copied once: together at most 65,523 octets. The status is written as 0. The only error is
-/// want of memory.
+/// out of memory.
 pub fn tm_pieces(
     alloc: Global,
     head: &TmHead,

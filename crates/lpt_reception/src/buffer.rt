@@ -43,7 +43,7 @@ impl Buffer {
         self.octets.as_slice()
     }
 
-    /// A copy of the octets. The only error is want of memory.
+    /// A copy of the octets. The only error is out of memory.
     pub(crate) fn copy(&self) -> Result<Vec<u8>, AllocError>
         ensures { IfOk result (λ v. v.items ≡ self.now) }
     {
@@ -59,8 +59,8 @@ impl Buffer {
         octets
     }
 
-    /// Writes octets from a place on, behind zeros where the buffer ends before it. Want of memory
-    /// leaves the buffer as it was.
+    /// Writes octets from a place on, behind zeros where the buffer ends before it. An allocation
+    /// failure leaves the buffer as it was.
     pub(crate) fn write(&mut self, start: usize, octets: &[u8]) -> Result<(), AllocError>
         requires { start + length octets.now ≤ longest_packet }
         ensures ok { OnOk result (self.new ≡ written self.old start octets.now) }

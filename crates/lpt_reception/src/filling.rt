@@ -38,7 +38,7 @@ impl Model for Filling {
 impl Filling {
     ghost use Rattle.lpt_reception.specs.Steps.{kept, IsNew, Answers};
 
-    /// A reception with its first part, for parts of `p` octets. The only error is want of memory.
+    /// A reception with its first part, for parts of `p` octets. The only error is out of memory.
     #[tactic(auto, using(crate::proofs::StartLemmas::not_whole_alone))]
     pub fn start(alloc: Global, part: &Part<'_>, p: u32) -> Result<Filling, AllocError>
         requires { part.now.p ≡ p }
@@ -68,7 +68,8 @@ impl Filling {
         self.id
     }
 
-    /// Adds a part of this transaction, in any order. Want of memory leaves the reception as it was.
+    /// Adds a part of this transaction, in any order. An allocation failure leaves
+    /// the reception as it was.
     pub fn accept(self, part: &Part<'_>) -> Step
         requires id { part.now.id ≡ self.id }
         requires p { part.now.p ≡ self.p }
@@ -121,7 +122,7 @@ impl Filling {
         Step::Filling(self)
     }
 
-    /// A copy of the message, where all parts are there. The only error is want of memory.
+    /// A copy of the message, where all parts are there. The only error is out of memory.
     pub(crate) fn joined(&self) -> Result<Octets, AllocError>
         requires { is_whole self.now.parts ≡ true }
         ensures message { IfOk result (λ m. m ≡ spelled self.now.parts) }

@@ -132,7 +132,7 @@ impl Store {
         (self.ended && top < number) || (is_last(part) && number < top)
     }
 
-    /// Adds a new part. Want of memory leaves the parts as they were.
+    /// Adds a new part. An allocation failure leaves the parts as they were.
     pub(crate) fn add(&mut self, part: &Part<'_>) -> Result<(), AllocError>
         requires sound { IsSound part.now.p self.old }
         requires new { IsNew (stored part.now.p self.old) part.now.number (kept part.now) }

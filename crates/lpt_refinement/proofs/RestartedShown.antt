@@ -1,4 +1,4 @@
--- A node is started anew: the longer journal.
+-- A node is restarted: the longer journal.
 use Rattle.std.proofs.Common.{◌≡◌, ◌∙◌, ap, refl, ℕ, ◌+◌, Bool, true, false, [], ◌∷◌, Option, Some, None}
 use Rattle.std.specs.FinMap as maps
 use Rattle.lpt_model.specs.LptPacket.declared.direction.Direction.{Direction}
@@ -68,7 +68,7 @@ dropped_shown : {x : Receiving} (c : Config) (h : History) (d : Direction)
     → ShowsReceiving (record x { entries = maps.empty }) (dropped_view c h d)
 dropped_shown c h d k = record { ledger = k.ledger; entries = λ id. no_entries id (last_tick c h d id) }
 
--- an end that is started anew, which sends in the first direction and receives in the other
+-- an end that is restarted, which sends in the first direction and receives in the other
 anew_shown : {side : Side} {x : NodeData} (c : Config) (h : History) (out back : Direction)
     (clock boot : ℕ)
     → ShowsEnd side x (record {

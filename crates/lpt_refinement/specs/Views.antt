@@ -35,7 +35,7 @@ pub record ReceivingView : Type 0 where
   pub closed : Name → Bool
   pub last : Name → ℕ
 
--- one end; its clock is in ticks, and its boot says how many times it was started anew
+-- one end; its clock is in ticks, and its boot says how many times it was restarted
 pub record EndView : Type 0 where
   pub sending : SendingView
   pub receiving : ReceivingView

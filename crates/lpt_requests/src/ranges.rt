@@ -41,7 +41,7 @@ fn any_empty(ranges: &[Range]) -> bool
     false
 }
 
-// The packet of a dump or a check of places that have no fault. The only error is want of memory.
+// The packet of a dump or a check of places that have no fault. The only error is out of memory.
 pub(crate) fn ranges_packet(
     alloc: Global,
     head: &TcHead,
@@ -63,7 +63,7 @@ pub(crate) fn ranges_packet(
     tc_octets(alloc, head, &body)
 }
 
-// The body of a dump or a check. The only error is want of memory.
+// The body of a dump or a check. The only error is out of memory.
 fn ranges_body(alloc: Global, memory: u8, ranges: &[Range]) -> Result<Vec<u8>, AllocError>
     requires { length ranges.now ≤ 255 }
     ensures body { IfOk result (λ v.
@@ -79,7 +79,7 @@ fn ranges_body(alloc: Global, memory: u8, ranges: &[Range]) -> Result<Vec<u8>, A
     Ok(body)
 }
 
-// Adds a place. The only error is want of memory.
+// Adds a place. The only error is out of memory.
 fn push_range(body: &mut Vec<u8>, range: Range) -> Result<(), AllocError>
     ensures pushed { OnOk result
         (body.new.items ≡ body.old.items ++ range_text (as_range range)) }

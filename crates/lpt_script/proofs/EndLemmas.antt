@@ -77,7 +77,7 @@ accepted_ends w v e r a b none next p not_refused =
     told (Err (tool.Line k)) p q = absurd p
     told (Err (tool.Threads k)) p q = p
 
--- the answer of a refused event: want of memory prints nothing
+-- the answer of a refused event: out of memory prints nothing
 pub refused_ends : (w v : Shown) (e : Event) (fault : StepFault) (r : Result (Option StepFault) ToolFault) (a b : Option (List ℕ))
     → RefusedBy (refusal_at w 0 e) fault
     → v ≡ w

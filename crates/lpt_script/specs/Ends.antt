@@ -96,7 +96,7 @@ unrefused (Ok done) = Ok None
 unrefused (Err fault) = Err fault
 
 -- how a decoding ends: the whole text was written, and the answer says whether it is a fault; or a write failed,
--- and the writer gained a front part of it; or memory was wanting, and the writer is as it was
+-- and the writer gained a front part of it; or memory ran out, and the writer is as it was
 abbrev pub DecodeEnds : ℕ → List ℕ → Result Bool ToolFault → Option (List ℕ) → Option (List ℕ) → Type 0
 DecodeEnds p octets (Ok faulty) old new =
     (faulty ≡ (decoding p octets).faulty) × Appends old new (decoding p octets).text
@@ -104,8 +104,8 @@ DecodeEnds p octets (Err tool.Write) old new = AppendsPart old new (decoding p o
 DecodeEnds p octets (Err tool.Memory) old new = new ≡ old
 DecodeEnds p octets (Err _) old new = ⊥
 
--- A tick before the last was refused, and this world is left: for want of memory, or for the reason that
--- the line tells.
+-- A tick before the last was refused, and this world is left: for out of memory, or for the reason that
+-- the line says.
 abbrev pub IsTickRefused : ℕ → Side → Shown → Shown → StepFault → Type 0
 IsTickRefused count side old new fault =
     (fault ≡ Memory)

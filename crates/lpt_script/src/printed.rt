@@ -23,7 +23,7 @@ pub fn put<K: Sink>(out: &mut K, text: Result<String, AllocError>) -> Result<(),
     }
 }
 
-/// Writes why an event was refused, and answers it. Nothing is written for want of memory,
+/// Writes why an event was refused, and answers it. Nothing is written when out of memory,
 /// which ends the run.
 pub(crate) fn put_refused<K: Sink>(
     alloc: Global,

@@ -43,7 +43,7 @@ pub fn run_script<S: Source, K: Sink>(
         (K.contents out.old) (K.contents out.new) (S.failed reader.new) (K.failed out.new) }
     ensures config { IsErrOf result ToolFault.Config ↔ IsSome (config_fault config) }
 
-    // A fault of a write is told, and so is one of a read, unless the run ended by another.
+    // A fault of a write is reported, and so is one of a read, unless the run ended by another.
     ensures told { result ≢ Err ToolFault.Write → K.failed out.new ≡ K.failed out.old }
     ensures read { IsOk result → S.failed reader.new ≡ S.failed reader.old }
     ensures passed { IsOk result → K.passed out.new ≡ K.contents out.new }

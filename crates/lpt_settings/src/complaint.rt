@@ -1,4 +1,4 @@
-//! What is told of a configuration that is refused.
+//! What is reported of a configuration that is refused.
 
 ghost use Rattle.std.specs.Prelude.{◌≡◌, None, Some, not, is_some, option_and_then, IfOk, IfSome};
 ghost use Rattle.toml.specs.Parse.{parse_document};
@@ -51,13 +51,13 @@ impl fmt::Display for Complaint {
 
 /// The first thing for which `read_config` refuses a text; `None` where it means settings.
 ///
-/// The only error is want of memory.
+/// The only error is out of memory.
 pub fn why_refused(alloc: Global, text: &str) -> Result<Option<Complaint>, AllocError>
     // There is one exactly where the text isn't a TOML document, or its table means no settings.
     ensures found { IfOk result (λ c. not (is_some c)
         ≡ is_some (option_and_then settings_of (parse_document text.now))) }
 
-    // That the text is no TOML document is told where it is none.
+    // That the text is no TOML document is reported where it is none.
     ensures reason { parse_document text.now ≡ None
         → IfOk result (λ c. IfSome c (λ it. it.reason ≡ Reason.NotToml)) }
 {

@@ -88,7 +88,7 @@ fn is_of_id(value: &Value, id: u8) -> bool
 
 /// The memories at the key `memory`, or the default where the key is absent.
 ///
-/// `None` where the value at the key is refused. The only error is want of memory, where it isn't.
+/// `None` where the value at the key is refused. The only error is out of memory, where it isn't.
 pub(crate) fn memories(alloc: Global, table: &Table) -> Result<Option<Memories>, AllocError>
     ensures { IfOk result (λ m. m ≡ memories_of (table_view table.now)) }
 {
@@ -98,7 +98,7 @@ pub(crate) fn memories(alloc: Global, table: &Table) -> Result<Option<Memories>,
     }
 }
 
-// One memory 1 of 256 octets of 0. The only error is want of memory.
+// One memory 1 of 256 octets of 0. The only error is out of memory.
 fn default_memories(alloc: Global) -> Result<Option<Memories>, AllocError>
     ensures { IfOk result (λ m. m ≡ Some default_memories) }
 {
@@ -108,7 +108,7 @@ fn default_memories(alloc: Global) -> Result<Option<Memories>, AllocError>
     Ok(if_memories(memories))
 }
 
-// The memories of an array of tables; `None` for another value. The only error is want of memory.
+// The memories of an array of tables; `None` for another value. The only error is out of memory.
 fn listed(alloc: Global, value: &Value) -> Result<Option<Memories>, AllocError>
     ensures { IfOk result (λ m. m ≡ listed (view value.now)) }
 {
@@ -136,7 +136,7 @@ fn if_memories(memories: Vec<(u8, Octets)>) -> Option<Memories>
     Memories::new(memories).ok()
 }
 
-// The memory of a table; `None` for another value. The only error is want of memory.
+// The memory of a table; `None` for another value. The only error is out of memory.
 fn memory(alloc: Global, value: &Value) -> Result<Option<(u8, Octets)>, AllocError>
     ensures { IfOk result (λ m. m ≡ memory_of (view value.now)) }
 {
@@ -147,7 +147,7 @@ fn memory(alloc: Global, value: &Value) -> Result<Option<(u8, Octets)>, AllocErr
     Ok(Some((memory.id, octets)))
 }
 
-// So many octets of one value. The only error is want of memory.
+// So many octets of one value. The only error is out of memory.
 fn filled_octets(alloc: Global, size: usize, fill: u8) -> Result<Octets, AllocError>
     ensures { IfOk result (λ o. o ≡ replicate size fill) }
 {

@@ -24,8 +24,8 @@ use toml::Table;
 ///
 /// Errors: `Config` where the text isn't TOML, a key isn't known or is missing, a value has another
 /// type or is out of its range, the memories are too many or none or have an identifier twice, and
-/// where the reader of TOML wants memory; `Memory` where there is none for the memories that a text
-/// describes which isn't refused for anything else.
+/// where the reader of TOML runs out of memory; `Memory` where there is none for the memories of a
+/// text that isn't refused for anything else.
 pub fn read_config(alloc: Global, text: &str) -> Result<(Config, Memories, Turns), ToolFault>
     // The text is a TOML document, and the settings are what its table means.
     ensures ok { IfOk result (λ s.
@@ -53,7 +53,7 @@ pub fn read_config(alloc: Global, text: &str) -> Result<(Config, Memories, Turns
     }
 }
 
-// The settings that a table means; `None` where it is refused. The only error is want of memory,
+// The settings that a table means; `None` where it is refused. The only error is out of memory,
 // where it isn't.
 fn read_table(
     alloc: Global,

@@ -21,7 +21,7 @@ MayAnswer place seat e r =
     × (r ≡ reply w.config w.first (history w) e)
 
 -- after some legal journal of that length this is the first reason to refuse the seat's event, or
--- there is none and memory was wanting
+-- there is none and memory ran out
 abbrev pub MayRefuse : (at : ℕ) → (seat : ℕ) → Event → StepFault → Type 0
 MayRefuse at seat e fault =
     (w : Shown) × IsLegal w × (length w.journal ≡ at) × RefusedBy (refusal_at w seat e) fault

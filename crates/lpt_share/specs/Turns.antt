@@ -70,8 +70,8 @@ IsAsked e old new (Ok (Some answer)) =
 IsAsked e old new (Ok None) = IsLeft old new
 IsAsked e old new (Err fault) = IsLeft old new
 
--- how a turn ends at a call that was refused for this reason: with no answer, and only want of memory is
--- a fault
+-- how a turn ends at a call that was refused for this reason: with no answer, and only out of
+-- memory is a fault
 abbrev pub ended_by : {A : Type 0} → StepFault → Result (Option A) ShareFault
 ended_by steps.Memory = Err shares.Memory
 ended_by _ = Ok None

@@ -28,7 +28,7 @@ pub enum CallFault {
     Refused(Refused),
     /// The journal has this length, and is shorter than the seat had seen it.
     Torn(u64, Event),
-    /// Want of memory for the seat's log or for a copy of the event. It is looked at first.
+    /// Out of memory for the seat's log or for a copy of the event. It is looked at first.
     Memory(Event),
 }
 
@@ -126,7 +126,7 @@ fn answer<J: Origin>(
     }
 }
 
-// The world, of which its journal tells what holds.
+// The world, of which its journal says what holds.
 fn shown(world: World) -> World
     ensures same { result ≡ world }
     ensures legal { IsLegal result }

@@ -13,7 +13,7 @@ pub enum ShareFault {
     /// was left undone.
     #[error("the journal and the logs don't agree")]
     Torn,
-    /// Want of memory.
+    /// Out of memory.
     #[error("want of memory")]
     Memory,
     /// No thread could be started.

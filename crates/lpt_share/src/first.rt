@@ -1,4 +1,4 @@
-//! The seats of a run at its beginning: who tells whom, and the first notices.
+//! The seats of a run at its beginning: who notifies whom, and the first notices.
 
 ghost use Rattle.std.specs.Prelude.{◌≡◌, ◌≤◌, true, None, is_some, vec_len, IfOk};
 ghost use Rattle.lpt_audit.specs.LptJournal.Senders.{opened, sender};
@@ -32,7 +32,7 @@ struct Channels {
 
 /// All seats, from 1 to 10. They have notices of what stands in the world: each held packet, each
 /// job that waits, and each open transaction by rising identifier. No end of a channel is left that
-/// no seat has. Errors: want of memory.
+/// no seat has. Errors: out of memory.
 pub fn all_seats<R: Wait>(alloc: Global, rt: &R, world: &World) -> Result<Vec<Seat>, AllocError>
     ensures count { IfOk result (λ v. vec_len v ≡ 10) }
     ensures seats { IfOk result (λ v. AreSeats 1 v.items) }
@@ -201,7 +201,7 @@ fn task_of(seat: u8, channels: &Channels) -> Result<Task, AllocError>
     })
 }
 
-// Whom the seat of this number tells. Seats 3, 4 and 6 tell nobody.
+// Whom the seat of this number notifies. Seats 3, 4 and 6 notify nobody.
 fn outlets_of(seat: u8, channels: &Channels) -> Result<Outlets, AllocError>
     requires least { 1 ≤ seat }
     requires greatest { seat ≤ 10 }
@@ -226,7 +226,7 @@ fn outlets_of(seat: u8, channels: &Channels) -> Result<Outlets, AllocError>
     }
 }
 
-// What a seat tells that only puts packets.
+// The notices of a seat that only puts packets.
 fn puts_on(packets: &Sender<u64>) -> Result<Outlets, AllocError>
     ensures packets { IfOk result (λ out. is_some out.packets ≡ true) }
     ensures jobs { IfOk result (λ out. out.jobs ≡ None) }

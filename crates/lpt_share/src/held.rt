@@ -90,7 +90,7 @@ impl<J: Origin> Held<J> {
         self.world.config()
     }
 
-    /// The shape of the memories, for which requests are prepared. The only error is want of memory.
+    /// The shape of the memories, for which requests are prepared. The only error is out of memory.
     pub fn shape(&self) -> Result<Shape, AllocError>
         ensures { IfOk result (λ s. s ≡ sizes_of self.now.first) }
     {

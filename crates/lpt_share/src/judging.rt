@@ -46,7 +46,7 @@ pub(crate) fn judged(
     }
 }
 
-// Why a run isn't whole, or that memory is wanting to see it.
+// Why a run isn't whole, or that memory ran out before that was seen.
 fn found(
     alloc: Global,
     world: &World,
@@ -66,7 +66,7 @@ fn found(
 }
 
 // Whether the logs of a run are those of its seats and agree with the journal, and nothing was left to
-// do. The only error is want of memory.
+// do. The only error is out of memory.
 fn is_whole(
     alloc: Global,
     world: &World,
@@ -91,7 +91,7 @@ fn are_of_run(world: &World, from: u64, logs: &[SeatLog]) -> bool
 }
 
 // Whether nothing was left to do at the end of a run that began at this place with what was owed; or
-// a log is full, and nothing is asked. The only error is want of memory.
+// a log is full, and nothing is asked. The only error is out of memory.
 fn is_all_done(
     alloc: Global,
     world: &World,

@@ -1,5 +1,5 @@
-//! Notices: how a seat tells others that there is work. A notice is a hint; what it leads to may be
-//! refused.
+//! Notices: how a seat lets others know that there is work. A notice is a hint; what it leads to
+//! may be refused.
 
 ghost use Rattle.std.specs.Prelude.{◌≡◌, None, vec_len, OnOk};
 ghost use Rattle.lpt_share.specs.Seats.{releases};
@@ -9,7 +9,7 @@ use lpt_audit::{Answer, Applied, Call, Name, Outcome, Reply, SeatLog};
 use std::alloc::AllocError;
 use std::sync::Wait;
 
-/// Whom a seat tells of what its calls gave.
+/// Whom a seat notifies of what its calls gave.
 #[derive(Drop)]
 pub struct Outlets {
     /// The lanes that take the packets that the seat puts on the link, by their numbers.
@@ -18,12 +18,12 @@ pub struct Outlets {
     pub jobs: Option<Sender<u64>>,
     /// The spacecraft's sender, of each transaction that the seat opens.
     pub opened: Option<Sender<Name>>,
-    /// Of how many of the seat's calls they were told.
+    /// Of how many of the seat's calls they were notified.
     pub told: usize,
 }
 
 impl Outlets {
-    /// Tells nobody.
+    /// Notifies nobody.
     pub fn none() -> Outlets
         ensures packets { result.packets ≡ None }
         ensures jobs { result.jobs ≡ None }
@@ -38,7 +38,7 @@ impl Outlets {
         }
     }
 
-    /// Tells of the calls of a log that weren't told yet. The only error is want of memory.
+    /// Notifies of the calls of a log that weren't notified yet. The only error is out of memory.
     pub fn tell_of<R: Wait>(&mut self, rt: &R, log: &SeatLog) -> Result<(), AllocError>
         ensures told { OnOk result (self.new.told ≡ vec_len log.now.calls) }
         ensures packets { self.new.packets ≡ self.old.packets }
@@ -52,7 +52,7 @@ impl Outlets {
         Ok(())
     }
 
-    // Tells of a call.
+    // Notifies of a call.
     fn tell<R: Wait>(&self, rt: &R, call: &Call) -> Result<(), AllocError> {
         if let Some(packets) = &self.packets {
             tell_packets(rt, packets, &call.reply)?;
@@ -71,7 +71,7 @@ impl Outlets {
     }
 }
 
-// Tells of each packet that was put.
+// Notifies of each packet that was put.
 fn tell_packets<R: Wait>(rt: &R, packets: &Sender<u64>, reply: &Reply) -> Result<(), AllocError> {
     if let Some(puts) = reply.puts {
         for k in 0..puts.count {
@@ -92,7 +92,7 @@ fn releases(answer: Answer) -> bool
     }
 }
 
-/// Gives a notice. Nobody may be left to take it; the only error is want of memory.
+/// Gives a notice. Nobody may be left to take it; the only error is out of memory.
 pub fn send<T: Drop, R: Wait>(rt: &R, to: &Sender<T>, notice: T) -> Result<(), AllocError> {
     match to.send(rt, notice) {
         Ok(()) => Ok(()),

@@ -133,7 +133,7 @@ fn run_from<J: Origin + Send + Sync, R: Threads + Wait + Sync, G: Gate + Sync>(
     }
 }
 
-// The seats of a run of this world, and what it owes. The only error is want of memory.
+// The seats of a run of this world, and what it owes. The only error is out of memory.
 fn started<R: Wait>(
     alloc: Global,
     rt: &R,

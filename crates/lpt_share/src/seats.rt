@@ -32,7 +32,7 @@ pub(crate) struct Pass<'a, J: Origin, R, G> {
 
 impl<'a, J: Origin, R: Wait, G: Gate> Pass<'a, J, R, G> {
     /// Does a seat's turns until those that give it notices have ended and none is left, or its log
-    /// has enough calls. Whom it tells sees that it has ended.
+    /// has enough calls. Whom it notifies sees that it has ended.
     pub(crate) fn run(&self, seat: Seat) -> Ended {
         let Seat {
             seat,

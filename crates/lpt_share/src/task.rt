@@ -17,13 +17,13 @@ pub enum Task {
     Sender(Direction, Receiver<Name>),
 }
 
-/// A seat of a run: its number, what it does, and whom it tells of it.
+/// A seat of a run: its number, what it does, and whom it notifies of it.
 #[derive(Drop)]
 pub struct Seat {
     /// The seat, 1 to 10.
     pub seat: u8,
     /// What it does.
     pub task: Task,
-    /// Whom it tells.
+    /// Whom it notifies.
     pub outlets: Outlets,
 }

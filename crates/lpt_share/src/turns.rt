@@ -34,7 +34,7 @@ pub enum Point {
     Expired,
 }
 
-/// What is told of each accepted call of a turn, while the lock is free.
+/// Is notified of each accepted call of a turn, while the lock is free.
 pub trait Gate {
     /// The seat has done this. It may wait, as a test does that wants two seats to meet.
     fn pass(&self, seat: u8, point: Point);
@@ -199,8 +199,8 @@ fn failed<T>(fault: &CallFault) -> Result<Option<T>, ShareFault>
     }
 }
 
-// How a turn ends at a call that was refused for this reason: with no answer, and only want of memory
-// is a fault.
+// How a turn ends at a call that was refused for this reason: with no answer, and only out of
+// memory is a fault.
 pub(crate) fn ended<T>(fault: StepFault) -> Result<Option<T>, ShareFault>
     ensures none { IfOk result (λ answer. answer ≡ None) }
     ensures exact { result ≡ ended_by fault }

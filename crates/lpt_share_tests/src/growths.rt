@@ -29,7 +29,7 @@ fn walk<R: Threads + Wait + Sync>(rt: &impl Abort, threads: &R, alloc: Global) -
     }
 }
 
-// Memory was wanting, or a thread couldn't be started; the world can be stepped on.
+// Memory ran out, or a thread couldn't be started; the world can be stepped on.
 fn goes_on(rt: &impl Abort, end: ShareEnd) {
     let ShareEnd {
         fault,

@@ -106,7 +106,7 @@ fn ticks(logs: &[SeatLog], seat: u8) -> usize {
 }
 
 // A part and a damaged packet are on the link, a part is lost, a lane and a worker hold something,
-// and then the spacecraft starts anew.
+// and then the spacecraft restarts.
 fn losses() -> [Asked<'static>; 13] {
     [
         Asked::Open(Up, 5, &MESSAGE),

@@ -20,7 +20,7 @@ use std::alloc::{AllocError, Global};
 /// The most octets of a line, with the carriage return that its line feed drops.
 pub(crate) const LONGEST_LINE: usize = 140_000;
 
-// Answers a line, with the prompt for the next one behind it, and tells whether it was unreadable or
+// Answers a line, with the prompt for the next one behind it, and says whether it was unreadable or
 // an event of it refused. A line that is too long is answered by that alone.
 #[tactic(auto, using(crate::proofs::AnswerLemmas::prompted_ends, crate::proofs::AnswerLemmas::prompted_part, crate::proofs::AnswerLemmas::prompted_fault))]
 pub(crate) fn serve_line<K: Sink>(
@@ -45,7 +45,7 @@ pub(crate) fn serve_line<K: Sink>(
     }
 }
 
-// Answers a line, or tells that it is too long.
+// Answers a line, or says that it is too long.
 fn answer_piece<K: Sink>(
     alloc: Global,
     world: &mut World,
@@ -83,7 +83,7 @@ fn answer<K: Sink>(
     }
 }
 
-// Does a command as a script does, and tells why an event of it was refused.
+// Does a command as a script does, and says why an event of it was refused.
 #[tactic(auto, using(crate::proofs::AnswerLemmas::quiet_ends, crate::proofs::AnswerLemmas::noted_ends, crate::proofs::AnswerLemmas::fault_ends, crate::proofs::LongLemmas::command_good))]
 fn run_noted<K: Sink>(
     alloc: Global,
@@ -126,7 +126,7 @@ fn answer_own<K: Sink>(
     }
 }
 
-// Tells that a line is too long.
+// Says that a line is too long.
 #[tactic(auto, using(crate::proofs::AnswerLemmas::told_ends))]
 fn tell_long<K: Sink>(alloc: Global, world: &World, out: &mut K) -> Result<bool, ToolFault>
     ensures ends { ServedEnds (long_answered world.now) result world.now (K.contents out.old) (K.contents out.new) }
@@ -163,7 +163,7 @@ fn finding_text(alloc: Global, line: &[u8]) -> Result<String, AllocError>
     }
 }
 
-// The line that tells a finding.
+// The line that reports a finding.
 fn finding_line(alloc: Global, finding: Finding) -> Result<String, AllocError>
     ensures { IfOk result (λ t. string_bytes t ≡ finding_line finding) }
 {

@@ -1,4 +1,4 @@
-//! What a shell tells of its lines.
+//! What a shell says of its lines.
 
 ghost use Rattle.std.specs.Prelude.{◌≡◌, ◌++◌, if◌then◌else◌, [], flat_map, map, take, IfOk, string_bytes};
 ghost use Rattle.lpt_script.specs.LptWords.Numbers.{is_word};
@@ -79,14 +79,14 @@ static TOPICS: [(&str, &str); 21] = [
     ),
 ];
 
-// What is told of all lines.
+// What is said of all lines.
 pub(crate) fn all_topics(alloc: Global) -> Result<String, AllocError>
     ensures { IfOk result (λ t. string_bytes t ≡ help_text) }
 {
     topic_lines(alloc, &TOPICS)
 }
 
-// What is told of a word.
+// What is said of a word.
 pub(crate) fn topic(alloc: Global, word: &[u8]) -> Result<String, AllocError>
     ensures { IfOk result (λ t. string_bytes t ≡ topic_text word.now) }
 {

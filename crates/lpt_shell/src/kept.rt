@@ -36,7 +36,7 @@ fn kept_by(
     Ok(kept)
 }
 
-// Notes what an entry tells of the parts that are kept.
+// Notes what an entry says of the parts that are kept.
 fn note(
     kept: &mut Vec<u64>,
     direction: Direction,
@@ -68,7 +68,7 @@ fn note(
     Ok(())
 }
 
-// Notes what the answer to an event at the receiver tells.
+// Notes what the answer to an event at the receiver says.
 fn note_answer(kept: &mut Vec<u64>, id: Name, answer: Answer) -> Result<(), AllocError>
     ensures { OnOk result (kept.new.items ≡ kept_now answer id kept.old.items) }
 {

@@ -1,6 +1,6 @@
 //! A shell: the lines of a script one by one, with a reason where one can't be read, a sentence where
-//! an event is refused, and lines of its own that show what a world holds and tell what there is to
-//! say. A line that a script reads does and prints here what it does there.
+//! an event is refused, and lines of its own that show what a world holds and list what can be
+//! typed. A line that a script reads does and prints here what it does there.
 //!
 //! The one call is `run_shell` with a configuration, memories, a prompt, a source and a sink.
 #![tactic(auto)]

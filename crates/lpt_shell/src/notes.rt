@@ -1,4 +1,4 @@
-//! What is told of an event that was refused.
+//! What is said of an event that was refused.
 
 ghost use Rattle.std.specs.Prelude.{◌≡◌, ◌≢◌, ℕ, IfOk, string_bytes};
 ghost use Rattle.lpt_shell.specs.Notes.{fault_line, parts_named, sentence};
@@ -17,7 +17,7 @@ pub(crate) fn parts_named(world: &World, command: &Command) -> usize
     }
 }
 
-// The line that tells a fault.
+// The line that reports a fault.
 pub(crate) fn fault_line(
     alloc: Global,
     parts: usize,

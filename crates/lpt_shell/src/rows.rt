@@ -1,4 +1,4 @@
-//! What is told of a world row by row.
+//! What is said of a world row by row.
 
 ghost use Rattle.std.specs.Prelude.{◌≡◌, ◌-◌, ◌++◌, length, OnOk, string_bytes};
 ghost use Rattle.lpt_script.specs.LptPrint.Printing.{direction_text};
@@ -11,7 +11,7 @@ use crate::openings::{count, is_opening_of};
 use lpt_script::{Direction, Name, Opening, State, World, print_packet};
 use std::alloc::{AllocError, Global};
 
-/// The end at which messages are told.
+/// The end at which messages are listed.
 #[derive(Clone, Copy)]
 pub(crate) enum Half {
     /// The node that sends a message.

@@ -22,7 +22,7 @@ use std::alloc::Global;
 ///
 /// A line that a script reads does and prints what it does there, and where an event of it was refused,
 /// a further line says why. `help`, `help WORD`, `show link`, `show receptions`, `show senders`,
-/// `show jobs` and `show packets FROM TO` are a shell's own. Of any other line it is told where and why
+/// `show jobs` and `show packets FROM TO` are a shell's own. Of any other line it is said where and why
 /// it is unreadable, and the next one is answered. The prompt is written before each line is waited
 /// for; where it isn't empty, a line end is written behind the last. Before more is read, `out` has
 /// passed on what was written.
@@ -42,7 +42,7 @@ pub fn run_shell<S: Source, K: Sink>(
         (K.contents out.old) (K.contents out.new) (S.failed reader.new) (K.failed out.new) }
     ensures config { IsErrOf result ToolFault.Config ↔ IsSome (config_fault config) }
 
-    // A fault of a write is told, and so is one of a read, unless the shell ended by another.
+    // A fault of a write is reported, and so is one of a read, unless the shell ended by another.
     ensures told { result ≢ Err ToolFault.Write → K.failed out.new ≡ K.failed out.old }
     ensures read { IsOk result → S.failed reader.new ≡ S.failed reader.old }
     ensures passed { IsOk result → K.passed out.new ≡ K.contents out.new }

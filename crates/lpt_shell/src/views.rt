@@ -157,7 +157,8 @@ fn add_view(alloc: Global, text: &mut String, world: &World, view: View) -> Resu
     }
 }
 
-// The number up to which packets are told that are asked for up to this one, where so many were put.
+// Up to which number packets are listed, where they are asked for up to this one and so many were
+// put.
 fn up_to(last: u64, put: u64) -> u64
     ensures { result ≡ up_to last put }
 {

@@ -47,7 +47,7 @@ pub fn part_at(message: &[u8], p: u32, id: Name, k: u16) -> Part<'_>
 
 /// The packet that carries a part, of this sequence count (0 to 16,383), up as a telecommand and
 /// down as telemetry. Telemetry has message type counter 0 and the configuration's clock as its
-/// time. The only error is want of memory.
+/// time. The only error is out of memory.
 pub fn part_packet(
     alloc: Global,
     config: &Config,

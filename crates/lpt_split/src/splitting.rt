@@ -17,9 +17,9 @@ use lpt_stream::{capture_header, record_header};
 use lpt_text::{Sink, ToolFault, write_out};
 use std::alloc::Global;
 
-/// Writes the packets of these parts of a message, in this order and form, of sequence counts from
-/// `first` (0 to 16,383) on, from 16,383 to 0 again. In a capture each has the configuration's clock
-/// as its time in seconds.
+/// Writes the packets of these parts of a message, in this order and form. Their sequence counts go
+/// from `first` (0 to 16,383) on, and after 16,383 from 0 on. In a capture each has the
+/// configuration's clock as its time in seconds.
 ///
 /// Errors: `Write` where a write failed; `Memory`. The front part of the octets that was taken
 /// before stays written.
@@ -44,7 +44,7 @@ pub fn split<K: Sink>(
         config.now.clock (split_of config.now direction id message.now first numbers.now))) }
     ensures told { OnOk result (K.failed out.new ≡ K.failed out.old) }
 
-    // It fails only by a write that failed, or for want of memory.
+    // It fails only by a write that failed, or when out of memory.
     ensures fault { IfErr result (λ e. ((e ≡ ToolFault.Write) × (K.failed out.new ≡ true))
         ⊎ ((e ≡ ToolFault.Memory) × (K.failed out.new ≡ K.failed out.old))) }
     ensures part { IfErr result (λ _. AppendsPart (K.contents out.old) (K.contents out.new)

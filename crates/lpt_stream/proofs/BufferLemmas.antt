@@ -80,7 +80,7 @@ nearer mid new b c more more_comes few q (inr h) =
     subst (λ e. (if e then 0 else 131085 - length (held new)) < (if is_ended mid then 0 else 131085 - length (held mid))) (sym h.0)
     (subst (λ e. 0 < (if e then 0 else 131085 - length (held mid))) (sym more_comes) (omega (arith, few)))
 
--- a read that failed, or for which memory was wanting, ends the search
+-- a read that failed, or for which memory ran out, ends the search
 pub fill-fault : (fault : ToolFault) (old mid new : PacketBuffer) (a b c : Option (List ℕ))
     (read : List ℕ) (had told failed : Bool)
     → Adds old mid a b read
@@ -96,7 +96,7 @@ fill-fault tool.Config old mid new a b c read had told failed p same q = q
 fill-fault (tool.Line n) old mid new a b c read had told failed p same q = q
 fill-fault (tool.Threads n) old mid new a b c read had told failed p same q = q
 
--- a search ends by a read that failed, or for want of memory
+-- a search ends by a read that failed, or when out of memory
 pub find-fault : (fault : ToolFault) (old new : PacketBuffer) (a b : Option (List ℕ)) (had failed : Bool)
     → FindsPiece (Err fault) old new a b had failed
     → ((fault ≡ tool.Read) × (failed ≡ true)) ⊎ ((fault ≡ tool.Memory) × (failed ≡ had))

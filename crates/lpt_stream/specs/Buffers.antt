@@ -42,8 +42,8 @@ pub record Adds (old new : PacketBuffer) (before after : Option (List ℕ)) (rea
   pub behind : held new ≡ held old ++ read
   pub step : is_in_step new ≡ is_in_step old
 
--- what a read gives: octets, or the end of the stream; or that it failed; for want of memory octets
--- were read and lost
+-- what a read gives: octets, or the end of the stream; or that it failed; where memory runs out,
+-- octets were read and lost
 abbrev pub Fills :
     Result Unit ToolFault → (old new : PacketBuffer) → (before after : Option (List ℕ))
     → (had failed : Bool) → Type 0

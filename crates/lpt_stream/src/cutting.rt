@@ -30,7 +30,7 @@ pub fn whole_length(bytes: &[u8]) -> Option<usize>
     ensures framed { IfSome result (λ n. IsFramed (take n bytes.now)) }
     ensures within { IfSome result (λ n. n ≤ length bytes.now) }
 
-    // Fewer octets than the longest packet's are wanting.
+    // Fewer octets than the longest packet's are missing.
     ensures none { (result ≡ None) ↔ IsUnfinished bytes.now }
     ensures short { result ≡ None → length bytes.now < longest_packet }
 {

@@ -1,4 +1,4 @@
-//! Transactions that are retired, and nodes that are started anew.
+//! Transactions that are retired, and nodes that are restarted.
 
 ghost use Rattle.std.specs.Prelude.{◌≡◌, ◌+◌, ◌<◌, ◌^◌, None, is_some};
 ghost use Rattle.std.specs.FinMap as map;
@@ -68,7 +68,7 @@ impl System {
         quiet(Answer::Retired)
     }
 
-    /// Starts a node anew. It takes no memory.
+    /// Restarts a node. It takes no memory.
     pub(crate) fn restart(&mut self, side: Side) -> Reply
         requires { (end_of (state_of self.old) side).boot + 1 < 2 ^ 64 }
         ensures ok { (state_of self.new, result)

@@ -28,7 +28,7 @@ impl System {
         None
     }
 
-    /// Puts on the link what its noise left. The only error is want of memory, and then nothing has
+    /// Puts on the link what its noise left. The only error is out of memory, and then nothing has
     /// changed.
     pub(crate) fn damage(
         &mut self,

@@ -36,7 +36,7 @@ impl System {
         Ok(self.delivered(place, lane, accepted))
     }
 
-    /// Delivers what is in a lane's hand, which was read before. The only error is want of memory;
+    /// Delivers what is in a lane's hand, which was read before. The only error is out of memory;
     /// then what was read is handed back, and nothing has changed.
     pub fn deliver_read(&mut self, place: u64, lane: Lane, parsed: Parsed) -> Result<Reply, Parsed>
         requires full { refusal_of self.old.config (state_of self.old) (Event.Deliver lane) ≡ None }

@@ -1,4 +1,4 @@
-//! The faults of the link, as the world tells them.
+//! The faults of the link, as the world reports them.
 
 ghost use Rattle.std.specs.Prelude.{◌≡◌};
 ghost use Rattle.lpt_model.specs.State.{link_fault};

@@ -10,7 +10,7 @@ use std::alloc::AllocError;
 impl System {
     ghost use Rattle.lpt_system.specs.SystemInside.{state_of};
 
-    /// Puts a plain request on the link. The only error is want of memory, and then nothing has
+    /// Puts a plain request on the link. The only error is out of memory, and then nothing has
     /// changed.
     pub(crate) fn plain(
         &mut self,

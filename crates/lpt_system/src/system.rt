@@ -59,7 +59,7 @@ impl System {
         })
     }
 
-    /// Why an event would be refused now, want of memory aside.
+    /// Why an event would be refused now, out of memory aside.
     pub fn refusal(&self, event: &Event) -> Option<StepFault>
         ensures { result ≡ refusal_of self.now.config (state_of self.now) event.now }
     {
@@ -99,7 +99,7 @@ impl System {
         }
     }
 
-    /// Does an event that isn't refused, whole. The only error is want of memory, and then nothing has
+    /// Does an event that isn't refused, whole. The only error is out of memory, and then nothing has
     /// changed.
     pub fn apply(&mut self, place: u64, event: &Event) -> Result<Reply, AllocError>
         requires free { refusal_of self.old.config (state_of self.old) event.now ≡ None }

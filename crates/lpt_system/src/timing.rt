@@ -28,7 +28,7 @@ impl System {
     }
 
     /// Ends the reception that is due at a node, and puts its report on the link. The only error is
-    /// want of memory, and then nothing has changed.
+    /// out of memory, and then nothing has changed.
     pub(crate) fn expire(&mut self, side: Side) -> Result<Reply, AllocError>
         requires { refusal_of self.old.config (state_of self.old) (Event.Expire side) ≡ None }
         ensures ok { IfOk result (λ r. (state_of self.new, r)

@@ -65,7 +65,7 @@ impl System {
         quiet(Answer::Claimed(boot, job))
     }
 
-    /// Reads a worker's job and hands the reading in. The only error is want of memory, and then
+    /// Reads a worker's job and hands the reading in. The only error is out of memory, and then
     /// nothing has changed.
     pub(crate) fn commit(&mut self, worker: Worker) -> Result<Reply, AllocError>
         requires free { refusal_of self.old.config (state_of self.old) (Event.Commit worker) ≡ None }
@@ -126,7 +126,7 @@ impl System {
     }
 
     /// Executes the oldest job, puts its reports on the link, and notes what was opened. The only
-    /// error is want of memory, and then nothing has changed.
+    /// error is out of memory, and then nothing has changed.
     pub(crate) fn execute(&mut self, place: u64) -> Result<Reply, AllocError>
         requires free { refusal_of self.old.config (state_of self.old) Event.Apply ≡ None }
         requires ready { IsReady self.old.config (state_of self.old) Event.Apply }

@@ -171,7 +171,7 @@ module _ (old new : TableState) (id n now : ℕ) (x : KeptPart) where
   offers_its NoRoom h = tt
   offers_its Memory h = tt
 
-  -- the answer and the table are what is computed, want of memory aside
+  -- the answer and the table are what is computed, out of memory aside
   pub offers_offered : (offer : Offer)
       → Offers old id n x now offer new
       → IfSome (kind_of offer) (λ k. offered old id n x now ≡ (k, new))

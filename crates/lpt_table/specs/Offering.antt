@@ -49,7 +49,7 @@ last_out (Some o) = o.1
 abbrev pub put_back : TableState → Name → Parts → TableState
 put_back t id parts = record (with_entry t id parts (last_out t.out)) { out = None }
 
--- what an offer comes to, want of memory aside
+-- what an offer comes to, out of memory aside
 pub data OfferKind : Type 0 where
   Kept : OfferKind
   Again : OfferKind

@@ -54,7 +54,7 @@ impl Model for EntryList {
 impl EntryList {
     ghost use Rattle.lpt_table.specs.EntriesOf.{entry_in, IsIts, IsEntry};
 
-    /// A list with room for `limit` receptions, of which none is open. The only error is want of
+    /// A list with room for `limit` receptions, of which none is open. The only error is out of
     /// memory.
     pub(crate) fn new(alloc: Global, limit: u32, p: u32) -> Result<EntryList, AllocError>
         ensures { IfOk result (λ l. l ≡ record { limit = limit; p = p; entries = map.empty }) }

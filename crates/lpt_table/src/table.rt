@@ -62,7 +62,7 @@ impl Table {
 
     /// A table with places for `limit` receptions, 1 to 64, in which none is open. A reception is
     /// overdue when it took no part for `timeout` ticks, 1 to 65,535. Parts are of `p` octets, 4 to
-    /// 1024, and are taken in this mode. The only error is want of memory.
+    /// 1024, and are taken in this mode. The only error is out of memory.
     pub fn new(
         alloc: Global,
         limit: u32,
@@ -98,7 +98,7 @@ impl Table {
         // A reception that comes out may be put back.
         ensures its { Its part.now.id self.old.p result }
 
-        // The same as a function, want of memory aside.
+        // The same as a function, out of memory aside.
         ensures offered { IfSome (kind_of result) (λ k.
             offered self.old part.now.id part.now.number (kept part.now) now ≡ (k, self.new)) }
     {
@@ -266,7 +266,7 @@ impl Table {
         self.receptions.due(self.timeout, now)
     }
 
-    /// Removes the reception of this name, and tells whether there was one.
+    /// Removes the reception of this name, and says whether there was one.
     pub fn expire(&mut self, id: Name) -> bool
         requires settled { self.old.out ≡ None }
         ensures removed { self.new ≡ record self.old { entries = map.remove self.old.entries id } }

@@ -17,7 +17,7 @@ pub enum ToolFault {
     /// The line of that number, from 1, is unreadable.
     #[error("line {0} is unreadable")]
     Line(u64),
-    /// Want of memory.
+    /// Out of memory.
     #[error("want of memory")]
     Memory,
     /// The configuration is refused.

@@ -2,7 +2,7 @@
 //! line by line, texts written whole, and the faults by which the tool ends. A text is read to its
 //! end, to a failed read or past 16,777,216 octets. What its lines say is not looked at.
 //!
-//! The main types are `Source`, `Sink`, `Told`, which makes either of one of std's, `LineBuffer`
+//! The main types are `Source`, `Sink`, `Told`, which is either over one of std's, `LineBuffer`
 //! and `ToolFault`. The first calls are `Told::new`, `LineBuffer::find_line` and `write_out`.
 #![tactic(auto)]
 

@@ -1,4 +1,4 @@
-//! Writers of std that tell what they have passed on.
+//! Writers of std that report what they have passed on.
 
 ghost use Rattle.std.specs.Prelude.{◌≡◌, ℕ, List, Option, None, OnOk};
 ghost use Rattle.std.specs.Io.Buffered.{writer_inner};
@@ -8,7 +8,7 @@ use std::alloc::Allocator;
 use std::io;
 use std::io::{BufWriter, Write};
 
-/// A writer of std that tells what it has passed on of what was written.
+/// A writer of std that reports what it has passed on of what was written.
 pub trait Passes: Write {
     // The octets that it has passed on, where they are known: the others are kept back.
     ghost passed: { Self → Option (List ℕ) } = { λ _. None };

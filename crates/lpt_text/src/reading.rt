@@ -33,7 +33,7 @@ pub fn read_text<S: Source>(alloc: Global, reader: &mut S) -> Result<(Vec<u8>, E
     ensures ok { IfOk result (λ p. ReadTo p.1 p.0.items (S.remaining reader.old)
         (S.remaining reader.new) (S.failed reader.old) (S.failed reader.new)) }
 
-    // For want of memory some octets are consumed and lost, but no read has failed.
+    // Where memory runs out, some octets are consumed and lost, but no read has failed.
     ensures err { IfErr result (λ e. (e ≡ ToolFault.Memory)
         × (S.failed reader.new ≡ S.failed reader.old)
         × ((read : List ℕ) × Consumes (S.remaining reader.old) (S.remaining reader.new) read)) }

@@ -1,4 +1,4 @@
-//! Readers and writers that tell their octets and their faults.
+//! Readers and writers that report their octets and their faults.
 
 ghost use Rattle.std.specs.Prelude.{◌≡◌, ◌≤◌, ◌<◌, ℕ, List, Bool, true, false, length, take, Option, MatchOption, IfSome, IfErr, IsTrue, OnOk};
 ghost use Rattle.std.specs.Io.KnownBytes.{Keeps, Appends, Consumes, IsAtEnd};

@@ -44,7 +44,7 @@ impl Passes for Fixed {
     }
 }
 
-// Runs the script, and gives whether a growth failed. The run ends well, or for want of memory, and
+// Runs the script, and gives whether a growth failed. The run ends well, or out of memory, and
 // then what was written is a front part of the text.
 fn walk(rt: &impl Abort, alloc: Global) -> bool {
     let Ok(contents) = contents(alloc) else {

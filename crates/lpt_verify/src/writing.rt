@@ -36,7 +36,7 @@ const COMPLETED: u8 = 7;
 /// after it. A request that isn't known or has a malformed body has failed its acceptance; any
 /// other failure is one of the start of its execution.
 ///
-/// The only error is want of memory, for a report.
+/// The only error is out of memory, for a report.
 pub fn reports(
     alloc: Global,
     request: RequestId,
@@ -48,7 +48,7 @@ pub fn reports(
     ensures after { IfOk result (λ r. r.after.items
         ≡ reports_after request.value flags (option_map number_of code)) }
 
-    // Memory is wanting only where there is a report.
+    // Memory runs out only where there is a report.
     ensures memory { OnErr result
         (all_reports request.value flags (option_map number_of code) ≢ []) }
 {

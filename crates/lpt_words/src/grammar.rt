@@ -55,7 +55,7 @@ pub enum Reading {
 /// N is one of at most ten digits, and HEX is as `read_hex` reads it. A load has at least one pair
 /// of ADDR and HEX, and is unreadable where it can't be written (`Load::new`).
 /// Nothing may follow the last word.
-/// Errors: want of memory, only at a line that asks for an `open`, a `damage`, a `plain` or a `load`.
+/// Errors: out of memory, only at a line that asks for an `open`, a `damage`, a `plain` or a `load`.
 #[tactic(auto, unfolding(crate::specs::Grammar::reading_of))]
 pub fn read_line(alloc: Global, line: &[u8]) -> Result<Reading, AllocError>
     ensures says { IfOk result (λ r. r ≡ reading_of line.now) }

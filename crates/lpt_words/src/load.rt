@@ -92,7 +92,7 @@ impl Load {
 
     /// The packet of the load, with this APID and source: a telecommand of service 6, subtype 2.
     ///
-    /// The only error is want of memory.
+    /// The only error is out of memory.
     pub fn packet(&self, alloc: Global, apid: u16, source: u16) -> Result<Octets, AllocError>
         requires { apid ≤ 2046 }
         ensures { IfOk result (λ o. o ≡ load_packet apid source self.now) }
@@ -132,7 +132,7 @@ impl Eq for Load {
     ghost laws = { same_load_equiv };
 }
 
-// The words after `load`. The only error is want of memory, where they are a load.
+// The words after `load`. The only error is out of memory, where they are a load.
 #[tactic(auto, using(crate::proofs::Hexes::none_of))]
 pub(crate) fn read_load(alloc: Global, rest: &[u8]) -> Result<Option<Load>, AllocError>
     ensures says { IfOk result (λ r. r ≡ load_of (words rest.now)) }
@@ -227,7 +227,7 @@ fn load_with(id: &[u8], count: &[u8], flags: &[u8], memory: &[u8], areas: Vec<Ar
     Load::new(id, count, flags, memory, areas)
 }
 
-// The areas that pairs of words are. The only error is want of memory.
+// The areas that pairs of words are. The only error is out of memory.
 fn read_areas(alloc: Global, line: &[u8]) -> Result<Option<Vec<Area>>, AllocError>
     ensures { IfOk result (λ r. option_map (λ v. v.items) r ≡ areas_of (words line.now)) }
 {
@@ -246,7 +246,7 @@ fn read_areas(alloc: Global, line: &[u8]) -> Result<Option<Vec<Area>>, AllocErro
     Ok(Some(areas))
 }
 
-// The area of an address and of octets. The only error is want of memory.
+// The area of an address and of octets. The only error is out of memory.
 fn read_area(alloc: Global, address: &[u8], octets: &[u8]) -> Result<Option<Area>, AllocError>
     ensures { IfOk result (λ r. r ≡ area_of address.now octets.now) }
 {

@@ -27,7 +27,7 @@ pub fn read_number(word: &[u8], greatest: u64) -> Option<u64>
 /// Reads octets, each as two hexadecimal digits of either case; `-` stands for no octets.
 ///
 /// There are none where the word is empty, has an odd number of digits or another octet.
-/// Errors: want of memory, only where the word spells at least one octet.
+/// Errors: out of memory, only where the word spells at least one octet.
 #[tactic(auto, using(crate::proofs::Hexes::none_of), unfolding(crate::specs::Numbers::octets_of))]
 pub fn read_hex(alloc: Global, word: &[u8]) -> Result<Option<Octets>, AllocError>
     ensures octets { IfOk result (λ r. r ≡ octets_of word.now) }

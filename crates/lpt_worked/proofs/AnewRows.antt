@@ -1,4 +1,4 @@
--- A worked pass in which both nodes are started anew and a name is used again, computed by the
+-- A worked pass in which both nodes are restarted and a name is used again, computed by the
 -- definitions.
 use Rattle.std.proofs.Common.{◌≡◌, ◌∙◌, ap, sym, refl, List, [], ◌∷◌, map, reverse, Some, None}
 use Rattle.std.specs.List.{slice_get}
@@ -44,7 +44,7 @@ asked =
     ∷ Lose 6 ∷ Retire Up 8 ∷ Retire Up 8
     ∷ Lose 4 ∷ Lose 5 ∷ Retire Up 7 ∷ Open Up 7 m20 ∷ Send Up 7 1 ∷ []
 
--- A request that was claimed before the new start is stale, and there is none to claim. A name is
+-- A request that was claimed before the restart is stale, and there is none to claim. A name is
 -- retired once its sender is closed and no part of it is on its way.
 pub asked-given : (played usual asked).given ≡
     puts_packet 0 ∷ gives (Took 0) ∷ gives (Delivered (PlainReleased 27))
@@ -79,7 +79,7 @@ unfolding seen spelling checksum octets_in shift_all tc_field tc_verdict body_of
     arrival
 renewed-pass = usual_pass renewed refl
 
--- the commit of what was claimed before the new start is stale
+-- the commit of what was claimed before the restart is stale
 pub renewed-stale : slice_get (answers usual renewed) 5 ≡ Some (Stale 0 0)
 unfolding seen spelling checksum octets_in shift_all tc_field tc_verdict body_of part_verdict
     arrival

@@ -204,10 +204,10 @@ large_report =
     ∷ Take G1 1 ∷ Deliver G1 ∷ Take G1 2 ∷ Deliver G1
     ∷ Take G1 3 ∷ Deliver G1 ∷ Take G1 4 ∷ Deliver G1 ∷ []
 
--- ---- both nodes are started anew, and a name is used again
+-- ---- both nodes are restarted, and a name is used again
 
--- The spacecraft is started anew while a worker reads a request. A message is released, and its name
--- then used for a shorter one. Ground is started anew while transactions are open.
+-- The spacecraft is restarted while a worker reads a request. A message is released, and its name
+-- then used for a shorter one. Ground is restarted while transactions are open.
 abbrev pub renewed : List Event
 renewed =
     Plain 0 6 2 load ∷ Take S1 0 ∷ Deliver S1

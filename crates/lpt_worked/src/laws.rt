@@ -105,7 +105,7 @@ pub fn large_report_is_legal()
         ∷ record { place = 17; of = Some (Down, 0); message = report_packet } ∷ [] }
 {}
 
-/// Both nodes are started anew, a request of the earlier boot is handed in and is stale, and a name
+/// Both nodes are restarted, a request of the earlier boot is handed in and is stale, and a name
 /// is used for three messages, one after the other; two of them are released. No memory is changed.
 pub fn renewed_is_legal()
     ensures pass { IsPass usual renewed }

@@ -146,7 +146,7 @@ numbered_few c first s j told shows =
       length-history_of c first j,
     )
 
--- a node was started anew no more often than events have happened
+-- a node was restarted no more often than events have happened
 pub boots_few : (c : Config) (first : Contents) (s : State) (j : List Entry) (side : Side)
     → Shows s (views c first (history_of c first j))
     → (end_of s side).boot ≤ length j

@@ -16,7 +16,7 @@ impl World {
     /// Takes the held packet of this number into the lane's empty hand, as the event `Take` does,
     /// with a copy of its octets.
     ///
-    /// Errors: those of the event. The copy is made before any change; want of memory is last, and
+    /// Errors: those of the event. The copy is made before any change; out of memory is last, and
     /// nothing has changed.
     pub fn take_out(&mut self, seat: u8, lane: Lane, n: u64) -> Result<(Reply, Octets), Refused>
         ensures enabled { IfOk result (λ r. refusal_at self.old seat (Event.Take lane n) ≡ None) }
@@ -67,7 +67,7 @@ impl World {
     /// Delivers the packet in the lane's hand, as the event `Deliver` does, where it was read before.
     ///
     /// Errors, each with what was read: those of the event; then `NotYours`, it isn't what the lane
-    /// has in its hand, or was read for another receiver, APID or part size; want of memory is last.
+    /// has in its hand, or was read for another receiver, APID or part size; out of memory is last.
     /// Nothing has changed.
     pub fn deliver_parsed(
         &mut self,
@@ -131,7 +131,7 @@ impl World {
     /// Gives the worker the oldest job that waits, as the event `Claim` does, and its ticket: boot,
     /// number and message.
     ///
-    /// Errors: those of the event. The message is copied before any change; want of memory is last,
+    /// Errors: those of the event. The message is copied before any change; out of memory is last,
     /// and nothing has changed.
     pub fn claim_out(&mut self, seat: u8, worker: Worker) -> Result<(Reply, Ticket), Refused>
         ensures enabled { IfOk result (λ r. refusal_at self.old seat (Event.Claim worker) ≡ None) }
@@ -187,7 +187,7 @@ impl World {
     ///
     /// Errors, each with what was prepared: those of the event; then `NotYours`, it isn't of the
     /// boot, the number and the message that the worker has, or was read for another APID or
-    /// memories of another shape; want of memory is last. Nothing has changed.
+    /// memories of another shape; out of memory is last. Nothing has changed.
     pub fn commit_with(
         &mut self,
         seat: u8,

@@ -77,7 +77,7 @@ impl World {
 
     /// The identifiers and sizes of the memories, for which requests are prepared.
     ///
-    /// The only error is want of memory.
+    /// The only error is out of memory.
     pub fn shape(&self) -> Result<Shape, AllocError>
         ensures { IfOk result (λ s. s ≡ sizes_of self.now.first) }
     {
@@ -135,16 +135,16 @@ impl World {
         Some((held.boot, held.job))
     }
 
-    /// How many jobs of the spacecraft's boot that goes on wait for a worker: each was released,
-    /// and none has claimed it.
+    /// How many jobs of the spacecraft's present boot wait for a worker: each was released, and none
+    /// has claimed it.
     pub fn jobs_left(&self) -> u64
         ensures { result ≡ length (jobs self.now.config (history self.now)) - claimed (history self.now) }
     {
         self.system.on_craft.waiting()
     }
 
-    /// How many jobs of the spacecraft's boot that goes on aren't executed yet, claimed and committed
-    /// ones among them.
+    /// How many jobs of the spacecraft's present boot aren't executed yet, claimed and committed ones
+    /// among them.
     pub fn jobs_queued(&self) -> u64
         ensures { result ≡ length (jobs self.now.config (history self.now)) - applied (history self.now) }
     {

@@ -37,7 +37,7 @@ impl Model for World {
 impl World {
     /// A world in which nothing has happened.
     ///
-    /// Errors: the first value of the configuration that is out of its range; want of memory is last.
+    /// Errors: the first value of the configuration that is out of its range; out of memory is last.
     /// The memories are dropped then.
     pub fn new(alloc: Global, config: Config, memories: Memories) -> Result<World, ConfigFault>
         ensures ok { IfOk result (λ w. w ≡ new_world config memories) }
@@ -68,10 +68,10 @@ impl World {
 
     /// Does one event, whole, or refuses it.
     ///
-    /// Errors: `NoSuchSeat` for a seat above 10; else the event's first reason; want of memory is
+    /// Errors: `NoSuchSeat` for a seat above 10; else the event's first reason; out of memory is
     /// last. The event comes back, and nothing has changed.
     pub fn step(&mut self, seat: u8, event: Event) -> Result<Reply, Refused>
-        // Accepted exactly where it can happen, want of memory aside; the reply is the journal's.
+        // Accepted exactly where it can happen, out of memory aside; the reply is the journal's.
         ensures enabled { IfOk result (λ r. refusal_at self.old seat event ≡ None) }
         ensures reply { IfOk result (λ r. r ≡ reply self.old.config self.old.first (history self.old) event) }
         ensures entered { IfOk result (λ r. self.new ≡ with_entry self.old seat event r) }
@@ -99,7 +99,7 @@ impl World {
         done
     }
 
-    // Does an event that can happen, and enters it. The only error is want of memory: the event
+    // Does an event that can happen, and enters it. The only error is out of memory: the event
     // comes back, and nothing has changed.
     pub(crate) fn enter(&mut self, seat: u8, event: Event) -> Result<Reply, Event>
         requires { refusal_at self.old seat event ≡ None }
@@ -173,7 +173,7 @@ impl World {
         }
     }
 
-    // Why a seat's event would be refused now, want of memory aside.
+    // Why a seat's event would be refused now, out of memory aside.
     pub(crate) fn refusal(&self, seat: u8, event: &Event) -> Option<StepFault>
         ensures { result ≡ refusal_at self.now seat event.now }
     {

@@ -1,4 +1,4 @@
-//! Lone nodes: names that are retired, new starts, and a request from its release to its execution.
+//! Lone nodes: names that are retired, restarts, and a request from its release to its execution.
 
 use crate::packets::*;
 use crate::playing::{Packet, Play, Row, play_all};
@@ -51,7 +51,7 @@ static PLAYS: [Play; 3] = [
             Row::Hears(FIRST, Kept(7, 1), &[]),
         ],
     },
-    // A load is done, and the next one is stale once the node has started anew.
+    // A load is done, and the next one is stale once the node has restarted.
     Play {
         name: "the spacecraft executes a request",
         sides: &[Craft],

@@ -11,7 +11,7 @@ use std::alloc::{AllocError, Global};
 /// What memory 1 has from address 15 on once it was loaded.
 const LOADED: [u8; 6] = [0, 0xab, 0xcd, 0xef, 0x01, 0];
 
-/// Whether the oldest job is executed, which loads memory 1. The only error is want of memory.
+/// Whether the oldest job is executed, which loads memory 1. The only error is out of memory.
 pub(crate) fn executes(alloc: Global, station: &mut Station) -> Result<bool, AllocError> {
     let mut memories = memories_of(alloc, &ONE)?;
     let right = execute(alloc, station, &mut memories);
@@ -69,7 +69,7 @@ fn read(alloc: Global, shape: &Shape, apid: u16, ticket: Ticket) -> Result<Prepa
 }
 
 /// Whether the reading of the oldest job, of this boot and number, isn't taken once the node has
-/// started anew. The only error is want of memory.
+/// restarted. The only error is out of memory.
 pub(crate) fn is_too_late(
     alloc: Global,
     station: &mut Station,

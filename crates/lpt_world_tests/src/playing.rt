@@ -39,13 +39,13 @@ pub(crate) enum Row {
     Ticks(u32),
     /// A reception expires, of which this is the report.
     Expires(Result<(Name, &'static [u8]), NodeFault>),
-    /// The node starts anew, has this boot then, and no jobs.
+    /// The node restarts, has this boot then, and no jobs.
     Restarts(u64),
     /// A name of the way up is retired.
     Retires(Name),
     /// The oldest job is claimed, read, committed and executed: a load of memory 1.
     Executes,
-    /// The oldest job, of this boot and number, is claimed and read, and the node starts anew: the
+    /// The oldest job, of this boot and number, is claimed and read, and the node restarts: the
     /// reading isn't taken.
     ComesTooLate(u64, u64),
     /// Why a call would be refused.
@@ -67,7 +67,7 @@ pub(crate) fn play_all(rt: &impl Abort, alloc: Global, plays: &[Play]) {
     }
 }
 
-// Plays to a new node of this side. The only error, here and below, is want of memory.
+// Plays to a new node of this side. The only error, here and below, is out of memory.
 fn plays_to(rt: &impl Abort, alloc: Global, play: &Play, side: Side) -> Result<(), AllocError> {
     let mut station = Station::new(rt, alloc, side, play.config)?;
     let came = goes(rt, alloc, &mut station, play);
@@ -228,7 +228,7 @@ fn expires(station: &mut Station, want: Result<(Name, &[u8]), NodeFault>) -> boo
     }
 }
 
-// Starts a node anew that has few boots behind it.
+// Restarts a node that has few boots behind it.
 fn restarts(station: &mut Station, boot: u64) -> bool {
     if station.node.boot() < 10 {
         station.node.restart();

@@ -1,4 +1,4 @@
-//! Growths that fail: a transaction is retired and its name used again, and the spacecraft starts anew
+//! Growths that fail: a transaction is retired and its name used again, and the spacecraft restarts
 //! while a worker has a request, where one growth fails.
 //!
 //! `tests/growths` has each growth fail in turn, in the tests as they are built.
@@ -50,7 +50,7 @@ const RETIRING: [Row; 29] = [
     Row::Shows(Shown::Packet(4, Some(&LAST_OCTET_LATER))),
 ];
 
-/// A load is claimed before the spacecraft starts anew: its reading comes too late, there is no request
+/// A load is claimed before the spacecraft restarts: its reading comes too late, there is no request
 /// to be claimed, and nothing was loaded.
 const STARTING_ANEW: [Row; 9] = [
     Row::Requests(0, 2, &LOAD, 0),

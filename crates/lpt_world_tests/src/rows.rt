@@ -49,7 +49,7 @@ pub(crate) enum Content {
     Packet(u64),
 }
 
-/// What is asked for. The clock, the receptions and what starts anew are the spacecraft's, the worker is
+/// What is asked for. The clock, the receptions and what restarts are the spacecraft's, the worker is
 /// worker 1. What is done outside the world is done for lane s1.
 #[derive(Clone, Copy)]
 pub(crate) enum Asked {

@@ -24,9 +24,9 @@ pub(crate) fn walk(rt: &impl Abort, alloc: Global, paths: &[Path]) -> bool {
     failed
 }
 
-// Goes a path in a new world, and gives whether a growth failed. Where want of memory refuses the
-// world, it is made at the second try. The only error, here and below: a growth of the test's own
-// fails.
+// Goes a path in a new world, and gives whether a growth failed. Where a failed growth refuses
+// the world, it is made at the second try. The only error, here and below: a growth of the test's
+// own fails.
 fn goes(rt: &impl Abort, alloc: Global, path: &Path) -> Result<bool, AllocError> {
     for again in [false, true] {
         let memories = memories_of(alloc, path.memories)?;

@@ -156,7 +156,7 @@ loop-count-preserved g c =
       told = c.in-Ok.ensures.told (no-fault _ _) ∙ c.loop-count.invariant.told;
     }
 
--- a read failed, or memory was wanting
+-- a read failed, or memory ran out
 pub returns-in-Err-clause-leaves : goal.returns-in-Err-clause-leaves
 returns-in-Err-clause-leaves g c =
     let w = c.args.wanted.now in
@@ -216,7 +216,7 @@ returns-clause-read g c =
       was.2.count_is ∙ most,
     )
 
--- a write failed, or memory was wanting for an area
+-- a write failed, or memory ran out for an area
 pub returns-in-Err-take_piece-clause-leaves : goal.returns-in-Err-take_piece-clause-leaves
 returns-in-Err-take_piece-clause-leaves g c =
     let w = c.args.wanted.now in

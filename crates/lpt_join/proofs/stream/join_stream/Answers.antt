@@ -84,7 +84,7 @@ loop-count-preserved g c =
       told = found.3 ∙ c.loop-count.invariant.told;
     }
 
--- a read failed, or memory was wanting
+-- a read failed, or memory ran out
 pub returns-in-Err-clause-fault : goal.returns-in-Err-clause-fault
 returns-in-Err-clause-fault g c =
     elim (find-fault c.in-Err.fault _ _ _ _ _ _ c.in-Err.ensures) [

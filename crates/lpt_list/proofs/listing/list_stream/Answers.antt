@@ -44,7 +44,7 @@ returns-in-Ok-None-clause-heard g c =
 pub returns-in-Ok-None-clause-told : goal.returns-in-Ok-None-clause-told
 returns-in-Ok-None-clause-told g c = λ other. c.loop-place.invariant.told
 
--- a read failed, or memory was wanting
+-- a read failed, or memory ran out
 pub returns-in-Err-clause-leaves : goal.returns-in-Err-clause-leaves
 returns-in-Err-clause-leaves g c =
     let lost = found_lost c.in-Err.fault _ _ _ _ _ _ c.in-Err.ensures in

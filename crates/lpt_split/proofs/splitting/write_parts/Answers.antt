@@ -8,7 +8,7 @@ use Rattle.lpt_split.specs.Splits.{next_count}
 use Rattle.lpt_split.proofs.WriteLemmas.{wrote-more, wrote-part, wrote-part-more, packet_at, octets-next, numbers-next}
 use Rattle.lpt_split.proofs.splitting.write_parts.Goals as goal
 
--- memory is wanting for a packet
+-- memory runs out for a packet
 pub returns-in_default-clause-part : goal.returns-in_default-clause-part
 returns-in_default-clause-part g c = wrote-part _ _ _ _ c.loop-number.invariant.written
 

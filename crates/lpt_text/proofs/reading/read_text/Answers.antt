@@ -2,7 +2,7 @@ use Rattle.lpt_text.proofs.reading.read_text.Goals as goal
 use Rattle.std.proofs.Common.{refl, ◌∙◌, rules}
 use Rattle.std.proofs.KnownBytes.{Consumes-trans}
 
--- want of memory after a read
+-- out of memory after a read
 pub returns-then-is_err-clause-err : goal.returns-then-is_err-clause-err
 returns-then-is_err-clause-err g c = (
   refl,

@@ -1,4 +1,4 @@
--- Memory is wanting for a report of data, which is one of the reports.
+-- Memory runs out for a report of data, which is one of the reports.
 use Rattle.std.proofs.Common.{rules}
 use Rattle.lpt_execution.proofs.EndingLemmas.{data-made}
 use Rattle.lpt_node.proofs.node.Node.execution.Goals as goal

@@ -1,4 +1,4 @@
--- Each part of the node is as after a new start.
+-- Each part of the node is as after a restart.
 use Rattle.std.proofs.Common.{ap}
 use Rattle.lpt_node.specs.Anew.{restarted}
 use Rattle.lpt_node.specs.NodeInside.{OpenMessages}

@@ -44,7 +44,7 @@ loop-found-preserved g c = record {
   told = c.in-Ok.ensures.2 ∙ c.loop-found.invariant.told;
 }
 
--- a read failed, or memory was wanting, before a piece was shown
+-- a read failed, or memory ran out, before a piece was shown
 pub returns-in-Err : goal.returns-in-Err
 returns-in-Err g c =
     fill-fault c.in-Err.fault c.args.self.now c.loop-found.self c.fill.new.self

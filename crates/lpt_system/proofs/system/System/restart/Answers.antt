@@ -1,4 +1,4 @@
--- One end is started anew, and nothing else has changed.
+-- One end is restarted, and nothing else has changed.
 -- The search alone proves it. It is written out so that a wrong body is refused at once.
 use Rattle.std.proofs.Common.{rules}
 use Rattle.lpt_system.proofs.system.System.restart.Goals as goal

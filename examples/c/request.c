@@ -1,0 +1,165 @@
+/*
+ * Ground loads 1,000 octets into a memory of the spacecraft, in parts, and then asks for them by a
+ * dump. The spacecraft executes both requests and reports so; the dump goes down in parts.
+ *
+ *   cc -Iinclude examples/c/request.c examples/c/memory/pool.c build/liblpt_end.a build/liblpt.a \
+ *       -o request && ./request
+ */
+#include "lpt_end.h"
+
+#include <stdio.h>
+#include <string.h>
+
+enum { APID = 100, SOURCE = 1, PART_SIZE = 256, LONGEST = PART_SIZE + 23, NAME = 7 };
+enum { MEMORY = 1, SIZE = 4096, ADDRESS = 16, OCTETS = 1000 };
+
+static LptEnd ground = LPT_END_EMPTY, spacecraft = LPT_END_EMPTY;
+static uint8_t image[OCTETS];
+
+/* Writes a number, the high octet first: how many octets. */
+static size_t put(uint8_t *to, uint32_t value, size_t octets) {
+    size_t i;
+    for (i = 0; i < octets; i++) {
+        to[i] = (uint8_t)(value >> (8 * (octets - 1 - i)));
+    }
+    return octets;
+}
+
+/* The front of a request's body: one area of the memory. */
+static size_t put_area(uint8_t *body) {
+    size_t at = put(body, MEMORY, 1);
+    at += put(body + at, 1, 1);
+    at += put(body + at, ADDRESS, 4);
+    return at + put(body + at, OCTETS, 2);
+}
+
+/* What telemetry says that ground has noted: a verification report. */
+static void print_report(const uint8_t *packet, size_t len) {
+    LptTm tm;
+    LptReport report;
+    if (lpt_read_tm(packet, len, &tm) == LPT_DONE &&
+        lpt_read_report(tm.head.subtype, packet + tm.at, tm.len, &report) == LPT_DONE) {
+        printf("request %08x: report %u, code %u\n", (unsigned)report.request,
+               (unsigned)tm.head.subtype, (unsigned)report.code);
+    }
+}
+
+/* What the message says that ground has joined: a dump report. */
+static void print_dump(void) {
+    static uint8_t message[LPT_LONGEST];
+    LptTm tm;
+    size_t len;
+    if (lpt_end_released(&ground, message, sizeof message, &len) == LPT_DONE &&
+        lpt_read_tm(message, len, &tm) == LPT_DONE && tm.len == 8 + OCTETS + 2) {
+        printf("dump: %d octets, %s\n", OCTETS,
+               memcmp(message + tm.at + 8, image, OCTETS) == 0 ? "the same" : "others");
+    }
+}
+
+/* Sends down what waits at the spacecraft. */
+static void send_down(void) {
+    uint8_t packet[LONGEST];
+    size_t len;
+    LptOutcome outcome;
+    while (lpt_end_outgoing(&spacecraft, packet, sizeof packet, &len) == LPT_DONE) {
+        if (lpt_end_packet(&ground, packet, len, &outcome) != LPT_DONE) {
+            return; /* memory ran out: the packet still waits */
+        }
+        if (outcome.kind == LPT_REPORT_NOTED) {
+            print_report(packet, len);
+        } else if (outcome.kind == LPT_RELEASED) {
+            print_dump();
+        }
+        lpt_end_sent(&spacecraft);
+    }
+}
+
+/* Executes what was released. A reply that is too long for a packet goes in parts. */
+static void serve(void) {
+    LptApplied applied;
+    uint16_t k;
+    while (lpt_end_read(&spacecraft) == LPT_DONE) {
+    }
+    send_down(); /* nothing is executed while a packet waits */
+    while (lpt_end_execute(&spacecraft, &applied) == LPT_DONE) {
+        send_down();
+        if (applied.kind == LPT_OPENED) {
+            uint16_t id = (uint16_t)applied.value;
+            for (k = 1; lpt_end_part(&spacecraft, id, k) == LPT_DONE; k++) {
+                send_down();
+            }
+            lpt_end_finish(&spacecraft, id);
+        }
+    }
+}
+
+/* Sends up what waits on ground, and has each request executed that the spacecraft releases. */
+static void send_up(void) {
+    uint8_t packet[LONGEST];
+    size_t len;
+    LptOutcome outcome;
+    while (lpt_end_outgoing(&ground, packet, sizeof packet, &len) == LPT_DONE) {
+        if (lpt_end_packet(&spacecraft, packet, len, &outcome) != LPT_DONE) {
+            return;
+        }
+        lpt_end_sent(&ground);
+        if (outcome.kind == LPT_RELEASED || outcome.kind == LPT_PLAIN_RELEASED) {
+            serve();
+        }
+    }
+}
+
+/* Loads the image: a telecommand that is a message of its own, sent in parts. Flags 1 and 8 ask for
+   the reports of acceptance and of completion. No other request has the count 16,383. */
+static uint32_t load(void) {
+    static const LptTcHead head = {APID, 16383, 1 + 8, 6, 2, SOURCE};
+    static uint8_t body[8 + OCTETS + 2], request[sizeof body + 13];
+    size_t at = put_area(body), len;
+    uint16_t k;
+    uint32_t fault;
+    memcpy(body + at, image, OCTETS);
+    at += OCTETS;
+    at += put(body + at, lpt_crc16(image, OCTETS), 2);
+    fault = lpt_write_tc(&head, body, at, request, sizeof request, &len);
+    if (fault == LPT_DONE) {
+        fault = lpt_end_open(&ground, NAME, request, len);
+    }
+    if (fault == LPT_DONE) {
+        for (k = 1; (fault = lpt_end_part(&ground, NAME, k)) == LPT_DONE; k++) {
+            send_up();
+        }
+    }
+    return fault == LPT_NO_SUCH_PART ? lpt_end_finish(&ground, NAME) : fault;
+}
+
+/* Asks for the same octets, by a plain request. */
+static uint32_t dump(void) {
+    uint8_t body[8];
+    uint32_t fault = lpt_end_plain(&ground, 1 + 8, 6, 5, body, put_area(body));
+    send_up();
+    return fault;
+}
+
+int main(void) {
+    static const LptConfig config = {APID, SOURCE, PART_SIZE, 10, 4, 4, 0, LPT_ANY};
+    static const LptMemory memories[] = {{MEMORY, 0, SIZE}};
+    static const uint8_t content[SIZE] = {0};
+    uint32_t fault = lpt_end_new(&ground, LPT_GROUND, &config, memories, 0, content, 0);
+    size_t i;
+    for (i = 0; i < OCTETS; i++) {
+        image[i] = (uint8_t)(i * 7 + 3);
+    }
+    if (fault == LPT_DONE) {
+        fault = lpt_end_new(&spacecraft, LPT_SPACECRAFT, &config, memories, 1, content, SIZE);
+    }
+    if (fault == LPT_DONE) {
+        fault = load();
+    }
+    if (fault == LPT_DONE) {
+        fault = dump();
+    }
+    printf("fault %u\n", (unsigned)fault);
+    lpt_end_free(&ground);
+    lpt_end_free(&spacecraft);
+    return fault != LPT_DONE;
+}
