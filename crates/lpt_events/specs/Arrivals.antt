@@ -12,10 +12,11 @@ use Rattle.lpt_part.specs.declared.kind.Kind.{Kind}
 use Rattle.lpt_part.specs.declared.kind.Kind.TheVariants.{First, Middle, Last}
 use Rattle.lpt_part.specs.declared.reason.Reason.{Reason}
 use Rattle.lpt_part.specs.Aborts.{abort_in}
-use Rattle.lpt_part.specs.Parts.{Piece, part_in}
+use Rattle.lpt_part.specs.Parts.{part_in}
 use Rattle.lpt_events.specs.declared.side.Side.{Side}
 use Rattle.lpt_events.specs.declared.side.Side.TheVariants.{Ground, Craft}
 use Rattle.lpt_events.specs.declared.config.Config.{Config}
+use Rattle.lpt_events.specs.NamedParts.{NamedPart, named}
 use Rattle.lpt_events.specs.Sides.{receiver_side}
 
 -- Not read as a packet, or not as a telecommand at the spacecraft or telemetry on ground; idle; of
@@ -28,7 +29,7 @@ pub data Arrival : Type 0 where
   ARequest : (octets : List ℕ) → Arrival
   AReport : (service subtype : ℕ) → Arrival
   NoPart : Arrival
-  APart : Piece → Arrival
+  APart : NamedPart → Arrival
   AnAbort : (id : Name) (reason : Reason) → Arrival
 
 -- the message subtype, in service 13, of a part of this kind
@@ -51,7 +52,7 @@ carried_kind d service subtype =
 
 -- what comes with a body that should be a part of this kind
 abbrev pub part_arrival : ℕ → List ℕ → Kind → Arrival
-part_arrival p body kind = option_map_or APart (part_in p kind body) NoPart
+part_arrival p body kind = option_map_or (λ q. APart (named q)) (part_in p kind body) NoPart
 
 -- what comes with a body that should be an abortion report's
 abbrev pub abort_arrival : List ℕ → Arrival
@@ -91,7 +92,7 @@ arrival side apid p b = sight_arrival side apid p b (seen b)
 
 -- the transaction that it is a part of, where it is a part
 abbrev pub part_name : Arrival → Option Name
-part_name (APart q) = Some q.id
+part_name (APart q) = Some q.name
 part_name _ = None
 
 -- what octets that go in this direction are

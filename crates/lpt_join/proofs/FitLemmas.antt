@@ -23,6 +23,7 @@ use Rattle.lpt_split.specs.LptEvents.Arrivals.{NotRead, Foreign, ARequest, ARepo
 use Rattle.lpt_split.specs.LptEvents.Sides.{receiver_side}
 use Rattle.lpt_reception.specs.Received.{Kept}
 use Rattle.lpt_join.specs.declared.transaction.Transaction.{Transaction}
+use Rattle.lpt_split.specs.LptEvents.NamedParts.{named}
 use Rattle.lpt_join.specs.Offers.{piece_of, piece_in, part_of_id, part_of_piece, offered}
 
 -- where it is a part, it fits
@@ -67,7 +68,7 @@ verdict_fits p kind b =
 
 -- ---- the packet
 
-part_by : (p : ℕ) (o : Option Piece) → Fits p o → Fits p (piece_of (option_map_or APart o NoPart))
+part_by : (p : ℕ) (o : Option Piece) → Fits p o → Fits p (piece_of (option_map_or (λ q. APart (named q)) o NoPart))
 part_by p None h = tt
 part_by p (Some q) h = h
 

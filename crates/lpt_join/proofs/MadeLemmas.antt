@@ -29,6 +29,7 @@ use Rattle.lpt_split.specs.LptEvents.Sides.{receiver_side}
 use Rattle.lpt_reception.specs.PartsOf.{kept_of}
 use Rattle.lpt_join.specs.declared.transaction.Transaction.{Transaction}
 use Rattle.lpt_join.specs.Laws.{AreCounts, IsSending}
+use Rattle.lpt_split.specs.LptEvents.NamedParts.{named}
 use Rattle.lpt_join.specs.Offers.{piece_of, part_of_id, offered}
 
 -- ---- subtypes
@@ -143,9 +144,9 @@ packet_arrives side p f r =
 body_arrives : (p : ℕ) (q : Piece)
     → q.id < 65536
     → PartFits q.kind q.number (length q.octets) p
-    → part_arrival p (body_of q) q.kind ≡ APart q
+    → part_arrival p (body_of q) q.kind ≡ APart (named q)
 body_arrives p q i fits =
-    ap (λ r. option_map_or APart (result_ok r) NoPart) (part_verdict-body_of p q i fits)
+    ap (λ r. option_map_or (λ x. APart (named x)) (result_ok r) NoPart) (part_verdict-body_of p q i fits)
 
 command_arrives : (apid p : ℕ) (c : Command)
     → CommandFits c
@@ -175,7 +176,7 @@ part_arrives : (c : Config) (d : Direction) (count counter time : ℕ) (q : Piec
     → AreCounts count counter time
     → q.id < 65536
     → PartFits q.kind q.number (length q.octets) c.part_size
-    → arrival (receiver_side d) c.apid c.part_size (part_made c d count counter time q) ≡ APart q
+    → arrival (receiver_side d) c.apid c.part_size (part_made c d count counter time q) ≡ APart (named q)
 part_arrives c Up count counter time q good counts i fits =
     let t = command_made c c.source count 0 13 (part_subtype Up q.kind) (body_of q) in
     command_arrives c.apid c.part_size t (part_command_fits c count counter time q good counts fits) refl
@@ -214,7 +215,7 @@ module _ (t : Transaction) (c : Config) (m : List ℕ) (sending : IsSending t c 
   made_carries n count counter time counts some within =
       let q = nth_part t.part_size t.id m n in
       let b = part_made c t.direction count counter time q in
-      let arrives : arrival (receiver_side t.direction) t.apid t.part_size b ≡ APart q =
+      let arrives : arrival (receiver_side t.direction) t.apid t.part_size b ≡ APart (named q) =
       (λ i. arrival (receiver_side t.direction) (sending.of.apid i) (sending.of.size i) b)
       ∙ part_arrives c t.direction count counter time q sending.good counts sending.id_fits
       (nth_fits n some within) in

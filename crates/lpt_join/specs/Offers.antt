@@ -3,13 +3,14 @@ use Rattle.std.specs.Prelude.{ℕ, ◌==◌, if◌then◌else◌, List, Option, 
 use Rattle.lpt_pus.specs.LptPacket.Names.{Name}
 use Rattle.lpt_reception.specs.LptPart.Parts.{Piece}
 use Rattle.lpt_split.specs.LptEvents.Arrivals.{Arrival, APart, arrival}
+use Rattle.lpt_split.specs.LptEvents.NamedParts.{bare}
 use Rattle.lpt_split.specs.LptEvents.Sides.{receiver_side}
 use Rattle.lpt_reception.specs.Received.{Kept}
 use Rattle.lpt_join.specs.declared.transaction.Transaction.{Transaction}
 
 -- the part that has arrived, where one has
 abbrev pub piece_of : Arrival → Option Piece
-piece_of (APart q) = Some q
+piece_of (APart q) = Some (bare q)
 piece_of _ = None
 
 -- the part of any transaction of its direction that octets carry, where they do: what they are to

@@ -140,7 +140,7 @@ owes_abortion c first h (Deliver l) sound none can j e f = go (outcome c h l) re
       subst (λ o. TellsOf c h d (in_hand c h l) o) is (judged_tells c h d (in_hand c h l)) in
       let n = taken c h l t.0 t.1 in
       let part = hand_current c h l n.0 t.0 sound n.1 t.1 in
-      let name : id ≡ t.0.id = t.2.same_id in
+      let name : id ≡ t.0.name = t.2.same_id in
       let now : is_closed (entry c first h (Deliver l) ∷ h) d id ≡ true =
       ap (λ (o : Outcome). (same_direction d d && ends (Delivered o) id) || is_closed h d id) is
       ∙ (λ i. (same_direction-refl d i && same_name-refl id i) || is_closed h d id) in

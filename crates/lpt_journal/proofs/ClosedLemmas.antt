@@ -7,10 +7,10 @@ use Rattle.std.specs.Ordering.{nat_cmp}
 use Rattle.lpt_reception.specs.LptPacket.declared.direction.Direction.{Direction}
 use Rattle.lpt_reception.specs.LptPacket.Names.{Name, same_name}
 use Rattle.lpt_reception.proofs.LptPacket.NameLemmas.{same_name-true}
-use Rattle.lpt_reception.specs.LptPart.Parts.{Piece}
 use Rattle.lpt_reception.specs.Received.{Kept as KeptPart, Parts, no_parts, contradicts, is_gap, is_whole, spelled}
 use Rattle.lpt_reception.proofs.LptPacket.EntryLemmas.{found_first}
 use Rattle.lpt_execution.proofs.LptEvents.LaneLemmas.{same_direction-true}
+use Rattle.lpt_execution.specs.LptEvents.NamedParts.{NamedPart}
 use Rattle.lpt_execution.specs.LptEvents.Lanes.{lane_direction, same_direction}
 use Rattle.lpt_execution.specs.LptEvents.declared.config.Config.{Config}
 use Rattle.lpt_execution.specs.LptEvents.declared.outcome.Outcome.{Outcome}
@@ -37,9 +37,9 @@ use Rattle.lpt_journal.proofs.TestLemmas.{and_r}
 -- ---- nothing is kept of a closed transaction
 
 -- a part that is kept is of a transaction that isn't closed
-kept_open : (closed full clash again gap whole : Bool) (q : Piece) (len i k : ℕ)
+kept_open : (closed full clash again gap whole : Bool) (q : NamedPart) (len i k : ℕ)
     → chosen closed full clash again gap whole q len ≡ Kept i k
-    → (closed ≡ false) × (q.id ≡ i)
+    → (closed ≡ false) × (q.name ≡ i)
 kept_open true full clash again gap whole q len i k e = absurd cc
 kept_open false true clash again gap whole q len i k e = absurd cc
 kept_open false false true again gap whole q len i k e = absurd cc
@@ -52,9 +52,9 @@ judged_open : (c : Config) (h : History) (d : Direction) (a : Arrival) (i k : �
     → judged c h d a ≡ Kept i k
     → is_closed h d i ≡ false
 judged_open c h d (APart q) i k e =
-    let s = heard c h d q.id in
+    let s = heard c h d q.name in
     let it =
-    kept_open (is_closed h d q.id)
+    kept_open (is_closed h d q.name)
     (not (has_parts s) && nat_le c.receptions (reception_count c h d))
     (contradicts s q.number (kept q)) (is_some (map.get s q.number)) (is_gap c.mode s q.number)
     (is_whole (with_piece s q)) q

@@ -4,10 +4,10 @@ use Rattle.std.specs.List.{slice_get}
 use Rattle.lpt_reception.specs.LptPacket.declared.direction.Direction.{Direction}
 use Rattle.lpt_reception.specs.LptPacket.Names.{Name, same_name}
 use Rattle.lpt_reception.proofs.LptPacket.NameLemmas.{same_name-refl}
-use Rattle.lpt_reception.specs.LptPart.Parts.{Piece}
 use Rattle.lpt_reception.specs.Received.{Parts, with_part, is_whole, spelled}
 use Rattle.lpt_reception.specs.PartsOf.{IsPartsOf, kept_of}
 use Rattle.lpt_reception.proofs.MessageLemmas.{parts_spell, IsPartsOf-with_part}
+use Rattle.lpt_execution.specs.LptEvents.NamedParts.{NamedPart}
 use Rattle.lpt_execution.specs.LptEvents.declared.lane.Lane.{Lane}
 use Rattle.lpt_execution.specs.LptEvents.Lanes.{lane_direction, same_direction}
 use Rattle.lpt_execution.specs.LptEvents.declared.config.Config.{Config}
@@ -38,20 +38,20 @@ use Rattle.lpt_journal.proofs.Releasing.{OwesReleases}
 -- ---- the message
 
 -- the kept parts of a transaction and the one in hand spell its message, where they are all
-spells : (c : Config) (h : History) (l : Lane) (n : ℕ) (q : Piece)
+spells : (c : Config) (h : History) (l : Lane) (n : ℕ) (q : NamedPart)
     → IsConfig c
     → IsSound c h
     → hand h l ≡ Some n
     → in_hand c h l ≡ APart q
-    → is_whole (with_piece (heard c h (lane_direction l) q.id) q) ≡ true
-    → (o : Opening) × (current h (lane_direction l) q.id ≡ Some o) ×
-    (spelled (with_piece (heard c h (lane_direction l) q.id) q) ≡ o.message)
+    → is_whole (with_piece (heard c h (lane_direction l) q.name) q) ≡ true
+    → (o : Opening) × (current h (lane_direction l) q.name ≡ Some o) ×
+    (spelled (with_piece (heard c h (lane_direction l) q.name) q) ≡ o.message)
 spells c h l n q good sound e is all =
     let p = hand_current c h l n q sound e is in
-    let s = heard c h (lane_direction l) q.id in
+    let s = heard c h (lane_direction l) q.name in
     let parts =
     IsPartsOf-with_part p.opening.message c.part_size s q.number
-    (heard_parts c h (lane_direction l) q.id p.opening sound p.is_current) p.from_one
+    (heard_parts c h (lane_direction l) q.name p.opening sound p.is_current) p.from_one
     p.to_last in
     let same : kept_of p.opening.message c.part_size q.number ≡ kept q = ap kept (sym p.is_part) in
     let now : IsPartsOf p.opening.message c.part_size (with_piece s q) =
@@ -129,12 +129,12 @@ large_is c h l n good sound e (Released id len) (APart q) zero r t is tells f of
     let d = lane_direction l in
     let of_it = tells.2 in
     let same : tells.0 ≡ q = let b : APart q ≡ APart tells.0 = tells.1 in cc in
-    let name : q.id ≡ id = ap (λ (w : Piece). w.id) (sym same) ∙ sym of_it.same_id in
-    let all : is_whole (with_piece (heard c h d q.id) q) ≡ true =
-    subst (λ (w : Piece). is_whole (with_piece (heard c h d w.id) w)
+    let name : q.name ≡ id = ap (λ (w : NamedPart). w.name) (sym same) ∙ sym of_it.same_id in
+    let all : is_whole (with_piece (heard c h d q.name) q) ≡ true =
+    subst (λ (w : NamedPart). is_whole (with_piece (heard c h d w.name) w)
     ≡ true) same of_it.is_all in
-    let fresh : is_closed h d q.id ≡ false =
-    subst (λ (w : Piece). is_closed h d w.id ≡ false) same of_it.was_open in
+    let fresh : is_closed h d q.name ≡ false =
+    subst (λ (w : NamedPart). is_closed h d w.name ≡ false) same of_it.was_open in
     let it = spells c h l n q good sound e is all in
     let made : record {
       place = length h;

@@ -8,11 +8,11 @@ use Rattle.lpt_reception.specs.LptPart.declared.mode.Mode.{Mode}
 use Rattle.lpt_reception.specs.LptPart.declared.mode.Mode.TheVariants.{Any, Strict}
 use Rattle.lpt_reception.specs.LptPart.declared.reason.Reason.{Reason}
 use Rattle.lpt_reception.specs.LptPart.declared.reason.Reason.TheVariants.{Conflict, Discontinuity}
-use Rattle.lpt_reception.specs.LptPart.Parts.{Piece}
 use Rattle.lpt_reception.specs.LptPart.Splitting.{part_count}
 use Rattle.lpt_reception.specs.Received.{Parts, no_parts, contradicts, is_gap}
 use Rattle.lpt_reception.specs.PartsOf.{IsPartOf, IsPartsOf, kept_of}
 use Rattle.lpt_reception.proofs.MessageLemmas.{parts_agree}
+use Rattle.lpt_execution.specs.LptEvents.NamedParts.{NamedPart}
 use Rattle.lpt_execution.specs.LptEvents.declared.lane.Lane.{Lane}
 use Rattle.lpt_execution.specs.LptEvents.Lanes.{lane_direction, same_direction, same_lane}
 use Rattle.lpt_execution.specs.LptEvents.declared.config.Config.{Config}
@@ -61,17 +61,17 @@ heard_parts c h d id o sound e n x had = go (sound.heard d id n x had) where
       }
 
 -- a part in a lane's hand contradicts nothing that was heard
-pub agrees : (c : Config) (h : History) (l : Lane) (n : ℕ) (q : Piece)
+pub agrees : (c : Config) (h : History) (l : Lane) (n : ℕ) (q : NamedPart)
     → IsSound c h
     → hand h l ≡ Some n
     → in_hand c h l ≡ APart q
-    → contradicts (heard c h (lane_direction l) q.id) q.number (kept q) ≡ false
+    → contradicts (heard c h (lane_direction l) q.name) q.number (kept q) ≡ false
 agrees c h l n q sound e is =
     let p = hand_current c h l n q sound e is in
-    let s = heard c h (lane_direction l) q.id in
+    let s = heard c h (lane_direction l) q.name in
     ap (contradicts s q.number) (ap kept p.is_part)
     ∙ parts_agree p.opening.message c.part_size s q.number
-    (heard_parts c h (lane_direction l) q.id p.opening sound p.is_current) p.from_one p.to_last
+    (heard_parts c h (lane_direction l) q.name p.opening sound p.is_current) p.from_one p.to_last
 
 -- ---- what a delivery can be
 
@@ -134,8 +134,8 @@ delivery_sound c h l n sound e =
     record {
       only_gaps = λ id reason is.
           let t = subst (λ o. TellsOf c h d a o) is tells in
-          gap_alone c.mode (heard c h d t.0.id) t.0.number
-          (contradicts (heard c h d t.0.id) t.0.number (kept t.0)) reason
+          gap_alone c.mode (heard c h d t.0.name) t.0.number
+          (contradicts (heard c h d t.0.name) t.0.number (kept t.0)) reason
           (agrees c h l n t.0 sound e t.1) t.2.why;
       not_bad_part = λ is. subst (λ b. IsNoStranger b) (subst (λ o. TellsOf c h d a o) is tells) known;
       not_idle = λ is. subst (λ b. IsNoStranger b) (subst (λ o. TellsOf c h d a o) is tells) known;
@@ -180,11 +180,11 @@ hears c h l n d id o e tells = go (same_direction (lane_direction l) d) refl o t
   with_name true = inr (inl refl)
   with_name false = inl refl
 
-  with_part : (b : Bool) (i : Name) (q : Piece)
+  with_part : (b : Bool) (i : Name) (q : NamedPart)
       → same_name i id ≡ b
       → lane_direction l ≡ d
       → in_hand c h l ≡ APart q
-      → i ≡ q.id
+      → i ≡ q.name
       → IsHeardNow c h d id
       (if b then with_arrival (in_hand c h l) (heard c h d id) else heard c h d id)
   with_part true i q t there is same = inr (inr (record {

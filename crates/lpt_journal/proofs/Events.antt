@@ -5,10 +5,10 @@ use Rattle.std.specs.Option.{is_some}
 use Rattle.lpt_reception.specs.LptPacket.declared.direction.Direction.{Direction}
 use Rattle.lpt_reception.specs.LptPacket.declared.direction.Direction.TheVariants.{Up, Down}
 use Rattle.lpt_reception.specs.LptPacket.Names.{Name, IsName}
-use Rattle.lpt_reception.specs.LptPart.Parts.{Piece}
 use Rattle.lpt_reception.specs.LptPart.Splitting.{part_count}
 use Rattle.lpt_reception.proofs.LptPart.SplitLemmas.{part_of-fits}
 use Rattle.lpt_reception.specs.PartsOf.{IsMessage}
+use Rattle.lpt_execution.specs.LptEvents.NamedParts.{NamedPart, named}
 use Rattle.lpt_execution.specs.LptEvents.declared.lane.Lane.{Lane}
 use Rattle.lpt_execution.specs.LptEvents.Lanes.{lane_direction, same_lane}
 use Rattle.lpt_execution.specs.LptEvents.declared.config.Config.{Config}
@@ -118,7 +118,7 @@ packet_arrives : (c : Config) (h : History) (d : Direction) (id : Name) (m : Lis
     → arrival_of c (record {
       direction = d;
       octets = part_packet c h d (nth_part c.part_size id m k);
-    }) ≡ APart (nth_part c.part_size id m k)
+    }) ≡ APart (named (nth_part c.part_size id m k))
 packet_arrives c h Up id m k good sound splits i one last =
     let counts : AreCounts (count h Up) 0 0 =
     record { count_fits = omega arith; counter_fits = omega arith; time_fits = omega arith } in
@@ -140,7 +140,7 @@ pub only_element : {A : Type 0} (x : A) (n : ℕ) (y : A) → slice_get (x ∷ [
 only_element x zero y e = cc
 only_element x (suc n) y e = absurd (no_place n y e)
 
-same_part : {q r : Piece} → APart q ≡ APart r → q ≡ r
+same_part : {q r : NamedPart} → APart q ≡ APart r → q ≡ r
 same_part e = cc
 
 -- sending a part pays what it owes
@@ -174,13 +174,14 @@ send_owes c first h d id k good sound i accepted =
         let last : k ≤ part_count (length m) c.part_size =
         not_lt (part_count (length m) c.part_size) k
         (or_false_r (k == 0) (nat_lt (part_count (length m) c.part_size) k) u) in
-        let now : IsPartOfCurrent c (entry c first h (Send d id k) ∷ h) d (nth_part c.part_size id m k) =
+        let now : IsPartOfCurrent c (entry c first h (Send d id k) ∷ h) d
+        (named (nth_part c.part_size id m k)) =
         record {
           opening = o.0;
           is_current = o.1;
           from_one = one;
           to_last = subst (λ b. k ≤ part_count (length b) c.part_size) (sym o.2) last;
-          is_part = ap (λ b. nth_part c.part_size id b k) (sym o.2);
+          is_part = ap (λ b. named (nth_part c.part_size id b k)) (sym o.2);
         } in
         let arrives = packet_arrives c h d id m k good sound splits i one last in
         subst (λ x. IsPut c (entry c first h (Send d id k) ∷ h) (Send d id k) x)

@@ -6,8 +6,8 @@ use Rattle.std.specs.FinMap as map
 use Rattle.std.specs.Ordering.{nat_cmp}
 use Rattle.lpt_reception.specs.LptPacket.declared.direction.Direction.{Direction}
 use Rattle.lpt_reception.specs.LptPacket.Names.{Name}
-use Rattle.lpt_reception.specs.LptPart.Parts.{Piece}
 use Rattle.lpt_reception.specs.Received.{no_parts}
+use Rattle.lpt_execution.specs.LptEvents.NamedParts.{NamedPart}
 use Rattle.lpt_execution.specs.LptEvents.declared.lane.Lane.{Lane}
 use Rattle.lpt_execution.specs.LptEvents.Lanes.{lane_direction}
 use Rattle.lpt_execution.specs.LptEvents.declared.config.Config.{Config}
@@ -155,7 +155,7 @@ every c first (e ∷ es) good legal =
 -- ---- the main theorem
 
 -- a lane with a part in its hand has taken it
-pub taken : (c : Config) (h : History) (l : Lane) (q : Piece)
+pub taken : (c : Config) (h : History) (l : Lane) (q : NamedPart)
     → in_hand c h l ≡ APart q
     → (n : ℕ) × (hand h l ≡ Some n)
 taken c h l q e = go (hand h l) refl e where

@@ -15,6 +15,7 @@ use Rattle.lpt_reception.specs.LptPart.declared.kind.Kind.TheVariants.{First}
 use Rattle.lpt_reception.specs.LptPart.declared.reason.Reason.{Reason}
 use Rattle.lpt_reception.specs.LptPart.Aborts.{abort_in}
 use Rattle.lpt_reception.specs.LptPart.Parts.{Piece, part_in, body_of}
+use Rattle.lpt_execution.specs.LptEvents.NamedParts.{named}
 use Rattle.lpt_execution.specs.LptEvents.declared.config.Config.{Config}
 use Rattle.lpt_execution.specs.LptEvents.declared.side.Side.{Side}
 use Rattle.lpt_execution.specs.LptEvents.declared.side.Side.TheVariants.{Ground, Craft}
@@ -103,7 +104,7 @@ part_is_none : (p : ℕ) (body : List ℕ) (kind : Kind) (r : List ℕ)
     → part_arrival p body kind ≡ ARequest r
     → ⊥
 part_is_none p body kind r = go (part_in p kind body) where
-  go : (o : Option Piece) → option_map_or APart o NoPart ≡ ARequest r → ⊥
+  go : (o : Option Piece) → option_map_or (λ q. APart (named q)) o NoPart ≡ ARequest r → ⊥
   go None e = cc
   go (Some q) e = cc
 

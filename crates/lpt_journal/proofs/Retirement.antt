@@ -10,9 +10,9 @@ use Rattle.lpt_reception.specs.LptPacket.declared.direction.Direction.{Direction
 use Rattle.lpt_reception.specs.LptPacket.Names.{Name, same_name}
 use Rattle.lpt_reception.proofs.LptPacket.NameLemmas.{same_name-refl, same_name-true}
 use Rattle.lpt_reception.proofs.LptPacket.Readings.{true_eq}
-use Rattle.lpt_reception.specs.LptPart.Parts.{Piece}
 use Rattle.lpt_reception.specs.Received.{Parts}
 use Rattle.lpt_execution.specs.LptMemory.Memories.{Contents}
+use Rattle.lpt_execution.specs.LptEvents.NamedParts.{NamedPart}
 use Rattle.lpt_execution.specs.LptEvents.Arrivals.{APart, part_name}
 use Rattle.lpt_execution.specs.LptEvents.Lanes.{lanes, same_direction}
 use Rattle.lpt_execution.specs.LptEvents.declared.config.Config.{Config}
@@ -69,11 +69,11 @@ unkept s none n =
 -- ---- parts of other transactions
 
 -- a packet that isn't a part of this transaction is, where it is a part, one of another
-of_another : (c : Config) (d : Direction) (id : Name) (p : SentPacket) (q : Piece)
+of_another : (c : Config) (d : Direction) (id : Name) (p : SentPacket) (q : NamedPart)
     → is_part_of c d id p ≡ false
     → p.direction ≡ d
     → arrival_of c p ≡ APart q
-    → ¬ (q.id ≡ id)
+    → ¬ (q.name ≡ id)
 of_another c d id p q none way is same =
     let there : same_direction p.direction d ≡ true =
     ap (λ e. same_direction e d) way ∙ same_direction-refl d in

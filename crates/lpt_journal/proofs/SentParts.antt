@@ -22,6 +22,7 @@ use Rattle.lpt_reception.specs.LptPart.Aborts.{abort_body, abort_verdict}
 use Rattle.lpt_reception.specs.LptPart.PartRanges.{PartFits}
 use Rattle.lpt_reception.specs.LptPart.Parts.{Piece, body_of}
 use Rattle.lpt_reception.proofs.LptPart.BodyLemmas.{length-body_of, part_verdict-body_of}
+use Rattle.lpt_execution.specs.LptEvents.NamedParts.{named}
 use Rattle.lpt_execution.specs.LptEvents.declared.config.Config.{Config}
 use Rattle.lpt_execution.specs.LptEvents.declared.side.Side.{Side}
 use Rattle.lpt_execution.specs.LptEvents.declared.side.Side.TheVariants.{Ground, Craft}
@@ -65,9 +66,9 @@ packet_arrives side p f r =
 body_arrives : (p : ℕ) (q : Piece)
     → q.id < 65536
     → PartFits q.kind q.number (length q.octets) p
-    → part_arrival p (body_of q) q.kind ≡ APart q
+    → part_arrival p (body_of q) q.kind ≡ APart (named q)
 body_arrives p q i fits =
-    ap (λ r. option_map_or APart (result_ok r) NoPart) (part_verdict-body_of p q i fits)
+    ap (λ r. option_map_or (λ x. APart (named x)) (result_ok r) NoPart) (part_verdict-body_of p q i fits)
 
 command_arrives : (apid p : ℕ) (c : Command)
     → CommandFits c
@@ -114,7 +115,7 @@ pub part_arrives : (c : Config) (d : Direction) (count counter time : ℕ) (q : 
     → AreCounts count counter time
     → q.id < 65536
     → PartFits q.kind q.number (length q.octets) c.part_size
-    → arrival_in c d (part_made c d count counter time q) ≡ APart q
+    → arrival_in c d (part_made c d count counter time q) ≡ APart (named q)
 part_arrives c Up count counter time q good counts i fits =
     let t = command_made c c.source count 0 13 (part_subtype Up q.kind) (body_of q) in
     let short : length (body_of q) ≤ 65529 =

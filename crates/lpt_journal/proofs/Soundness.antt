@@ -9,8 +9,8 @@ use Rattle.std.proofs.lemmas.Option.{slice_get_within}
 use Rattle.lpt_reception.specs.LptPacket.declared.direction.Direction.{Direction}
 use Rattle.lpt_reception.specs.LptPacket.Names.{Name}
 use Rattle.lpt_reception.proofs.LptPacket.Readings.{true_eq}
-use Rattle.lpt_reception.specs.LptPart.Parts.{Piece}
 use Rattle.lpt_reception.specs.Received.{Kept as KeptPart, Parts, no_parts}
+use Rattle.lpt_execution.specs.LptEvents.NamedParts.{NamedPart}
 use Rattle.lpt_execution.specs.LptEvents.declared.lane.Lane.{Lane}
 use Rattle.lpt_execution.specs.LptEvents.Lanes.{lane_direction, same_direction}
 use Rattle.lpt_execution.specs.LptEvents.declared.config.Config.{Config}
@@ -80,7 +80,7 @@ held_before h x n p held there =
     λ i. lt_true n (length (sent h)) within i && not (kept_then i)
 
 held_step : (c : Config) (h : History) (x : Recorded) → Owes c h x → IsSound c h
-    → (n : ℕ) (p : SentPacket) (q : Piece)
+    → (n : ℕ) (p : SentPacket) (q : NamedPart)
     → is_held (x ∷ h) n ≡ true
     → slice_get (sent (x ∷ h)) n ≡ Some p
     → arrival_of c p ≡ APart q
@@ -95,7 +95,7 @@ held_step c h x owes sound n p q held e is = go (with_all_cases (sent h) x.puts 
   go (inl old) =
       let before : is_held h n ≡ true = held_before h x n p held old in
       part_stays c h x p.direction q owes (sound.held n p q before old is)
-      (λ r. (owes.retires p.direction q.id r).held n p q before old refl is refl)
+      (λ r. (owes.retires p.direction q.name r).held n p q before old refl is refl)
   go (inr fresh) = of_put (damages x.event) (owes.puts fresh.0 p fresh.2).sound
 
 -- ---- hands
@@ -123,7 +123,7 @@ hands_step c h x owes sound l n e = go (owes.takes l n e) where
         was_sent = get-with_all (sent h) x.puts n had.packet had.was_sent;
         goes_there = had.goes_there;
         part = λ q is. part_stays c h x had.packet.direction q owes (had.part q is)
-            (λ r. (owes.retires had.packet.direction q.id r).hands l n had.packet q old had.was_sent
+            (λ r. (owes.retires had.packet.direction q.name r).hands l n had.packet q old had.was_sent
             refl is refl);
       }
   go (inr taken) =
@@ -134,7 +134,7 @@ hands_step c h x owes sound l n e = go (owes.takes l n e) where
         goes_there = w.2;
         part =
             λ q is. part_stays c h x w.0.direction q owes (sound.held n w.0 q taken.was_held w.1 is)
-            (λ r. (owes.retires w.0.direction q.id r).held n w.0 q taken.was_held w.1 refl is refl);
+            (λ r. (owes.retires w.0.direction q.name r).held n w.0 q taken.was_held w.1 refl is refl);
       }
 
 -- what arrives from a lane's hand is what its packet is to the node that receives it
@@ -148,7 +148,7 @@ in_hand_is c h l n e had =
     ∙ ap (λ d. arrival_in c d had.packet.octets) (sym had.goes_there)
 
 -- a part in a lane's hand is one of the message last opened under its name
-pub hand_current : (c : Config) (h : History) (l : Lane) (n : ℕ) (q : Piece)
+pub hand_current : (c : Config) (h : History) (l : Lane) (n : ℕ) (q : NamedPart)
     → IsSound c h
     → hand h l ≡ Some n
     → in_hand c h l ≡ APart q
@@ -161,15 +161,15 @@ hand_current c h l n q sound e is =
 -- ---- what was heard
 
 -- what a set with one part more has at a number
-pub get-with_piece : (s : Parts) (q : Piece) (n : ℕ)
+pub get-with_piece : (s : Parts) (q : NamedPart) (n : ℕ)
     → maps.get (with_piece s q) n ≡ (if n == q.number then Some (kept q) else maps.get s n)
 get-with_piece s q n =
     maps.get-insert nat_cmp_total s q.number (kept q) n
     ∙ ap (λ b. if b then Some (kept q) else maps.get s n) (unsigned_tied n q.number)
 
 -- what a set with one part more has at a number is that part, or stood there
-pub with_piece_cases : (s : Parts) (q : Piece) (id : Name) (n : ℕ) (y : KeptPart)
-    → q.id ≡ id
+pub with_piece_cases : (s : Parts) (q : NamedPart) (id : Name) (n : ℕ) (y : KeptPart)
+    → q.name ≡ id
     → maps.get (with_piece s q) n ≡ Some y
     → (q ≡ kept_piece id n y) ⊎ (maps.get s n ≡ Some y)
 with_piece_cases s q id n y i e = go (n == q.number) refl (sym (get-with_piece s q n) ∙ e) where
@@ -199,7 +199,7 @@ heard_step c h x owes sound d id n y e = go (owes.hears d id) where
       subst (λ e. IsPartOfCurrent c h e k.part) k.goes_there
       (hand_current c h k.lane k.number k.part sound k.was_taken k.arrives) in
       part_stays c h x d k.part owes now
-      (λ r. (owes.retires d k.part.id r).hands k.lane k.number had.packet k.part k.was_taken
+      (λ r. (owes.retires d k.part.name r).hands k.lane k.number had.packet k.part k.was_taken
       had.was_sent
       (had.goes_there ∙ k.goes_there)
       (sym (in_hand_is c h k.lane k.number k.was_taken had) ∙ k.arrives) refl)

@@ -6,9 +6,9 @@ use Rattle.std.specs.FinMap as maps
 use Rattle.lpt_reception.specs.LptPacket.declared.direction.Direction.{Direction}
 use Rattle.lpt_reception.specs.LptPacket.Names.{Name, same_name}
 use Rattle.lpt_reception.proofs.LptPacket.NameLemmas.{same_name-true}
-use Rattle.lpt_reception.specs.LptPart.Parts.{Piece}
 use Rattle.lpt_reception.specs.Received.{Kept as KeptPart, Parts, no_parts}
 use Rattle.lpt_reception.specs.PartsOf.{IsMessage}
+use Rattle.lpt_execution.specs.LptEvents.NamedParts.{NamedPart}
 use Rattle.lpt_execution.specs.LptEvents.declared.lane.Lane.{Lane}
 use Rattle.lpt_execution.specs.LptEvents.Lanes.{lane_direction, same_direction}
 use Rattle.lpt_execution.specs.LptEvents.declared.config.Config.{Config}
@@ -51,7 +51,7 @@ IsAsPut false a = IsRead a
 -- the packet is read, and where it is a part it is one of the message last opened under its name
 pub record IsSoundPacket (c : Config) (h : History) (p : SentPacket) : Type 0 where
   pub is_read : IsRead (arrival_of c p)
-  pub part : (q : Piece) → arrival_of c p ≡ APart q → IsPartOfCurrent c h p.direction q
+  pub part : (q : NamedPart) → arrival_of c p ≡ APart q → IsPartOfCurrent c h p.direction q
 
 -- a packet that is put is sound where a node made it, and isn't read where the link's noise left it
 abbrev pub IsSoundPut : (damaged : Bool) → Config → History → SentPacket → Type 0
@@ -68,7 +68,7 @@ pub record IsInHand (c : Config) (h : History) (l : Lane) (n : ℕ) : Type 0 whe
   pub packet : SentPacket
   pub was_sent : slice_get (sent h) n ≡ Some packet
   pub goes_there : packet.direction ≡ lane_direction l
-  pub part : (q : Piece) → arrival_of c packet ≡ APart q → IsPartOfCurrent c h packet.direction q
+  pub part : (q : NamedPart) → arrival_of c packet ≡ APart q → IsPartOfCurrent c h packet.direction q
 
 -- what holds of the history of every legal journal
 pub record IsSound (c : Config) (h : History) : Type 0 where
@@ -79,7 +79,7 @@ pub record IsSound (c : Config) (h : History) : Type 0 where
       → slice_get (sent h) n ≡ Some p
       → IsAsPut (is_damaged h n) (arrival_of c p)
   pub names : tags h ≡ map (λ p. part_name (arrival_of c p)) (sent h)
-  pub held : (n : ℕ) (p : SentPacket) (q : Piece)
+  pub held : (n : ℕ) (p : SentPacket) (q : NamedPart)
       → is_held h n ≡ true
       → slice_get (sent h) n ≡ Some p
       → arrival_of c p ≡ APart q
@@ -100,18 +100,18 @@ pub record IsNew (c : Config) (h : History) (d : Direction) (id : Name) (o : Ope
 
 -- no part of the transaction is held, in a hand or heard
 pub record IsUnheard (c : Config) (h : History) (d : Direction) (id : Name) : Type 0 where
-  pub held : (n : ℕ) (p : SentPacket) (q : Piece)
+  pub held : (n : ℕ) (p : SentPacket) (q : NamedPart)
       → is_held h n ≡ true
       → slice_get (sent h) n ≡ Some p
       → p.direction ≡ d
       → arrival_of c p ≡ APart q
-      → ¬ (q.id ≡ id)
-  pub hands : (l : Lane) (n : ℕ) (p : SentPacket) (q : Piece)
+      → ¬ (q.name ≡ id)
+  pub hands : (l : Lane) (n : ℕ) (p : SentPacket) (q : NamedPart)
       → hand h l ≡ Some n
       → slice_get (sent h) n ≡ Some p
       → p.direction ≡ d
       → arrival_of c p ≡ APart q
-      → ¬ (q.id ≡ id)
+      → ¬ (q.name ≡ id)
   pub heard : (n : ℕ) → maps.get (heard c h d id) n ≡ None
 
 -- what a lane takes is held and goes its way
@@ -123,11 +123,11 @@ pub record IsTaken (h : History) (l : Lane) (n : ℕ) : Type 0 where
 pub record IsKept (c : Config) (h : History) (d : Direction) (id : Name) (s : Parts) : Type 0 where
   pub lane : Lane
   pub number : ℕ
-  pub part : Piece
+  pub part : NamedPart
   pub goes_there : lane_direction lane ≡ d
   pub was_taken : hand h lane ≡ Some number
   pub arrives : in_hand c h lane ≡ APart part
-  pub same_id : part.id ≡ id
+  pub same_id : part.name ≡ id
   pub is_added : s ≡ with_piece (heard c h d id) part
 
 -- what is kept of a transaction is as it was, or nothing, or has one part more
@@ -188,14 +188,14 @@ current_stays c h x d id o owes e stays =
       go false None r i = (λ j. if r j then None else option_or (i j) (current h d id)) ∙ e
 
 -- a part of the message last opened under a name that isn't retired stays one
-pub part_stays : (c : Config) (h : History) (x : Recorded) (d : Direction) (q : Piece)
+pub part_stays : (c : Config) (h : History) (x : Recorded) (d : Direction) (q : NamedPart)
     → Owes c h x
     → IsPartOfCurrent c h d q
-    → ¬ (retires x.event d q.id ≡ true)
+    → ¬ (retires x.event d q.name ≡ true)
     → IsPartOfCurrent c (x ∷ h) d q
 part_stays c h x d q owes p stays = record {
   opening = p.opening;
-  is_current = current_stays c h x d q.id p.opening owes p.is_current stays;
+  is_current = current_stays c h x d q.name p.opening owes p.is_current stays;
   from_one = p.from_one;
   to_last = p.to_last;
   is_part = p.is_part;

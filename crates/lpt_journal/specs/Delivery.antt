@@ -4,8 +4,8 @@ use Rattle.std.specs.FinMap as map
 use Rattle.lpt_reception.specs.LptPacket.declared.direction.Direction.{Direction}
 use Rattle.lpt_reception.specs.LptPart.declared.mode.Mode.{Mode}
 use Rattle.lpt_reception.specs.LptPart.declared.reason.Reason.TheVariants.{Conflict, Discontinuity}
-use Rattle.lpt_reception.specs.LptPart.Parts.{Piece}
 use Rattle.lpt_reception.specs.Received.{Parts, contradicts, is_gap, is_whole, spelled}
+use Rattle.lpt_execution.specs.LptEvents.NamedParts.{NamedPart}
 use Rattle.lpt_execution.specs.LptEvents.declared.lane.Lane.{Lane}
 use Rattle.lpt_execution.specs.LptEvents.Lanes.{lane_direction}
 use Rattle.lpt_execution.specs.LptEvents.declared.config.Config.{Config}
@@ -23,16 +23,16 @@ use Rattle.lpt_journal.specs.Receivers.{kept, with_piece, heard, has_parts, rece
 abbrev pub judged_part : Mode
     → (limit : ℕ) (closed : Bool) (open_now : ℕ)
     → Parts
-    → Piece
+    → NamedPart
     → Outcome
 judged_part mode limit closed open_now s q =
     if closed then Ignored Closed
     else if not (has_parts s) && nat_le limit open_now then Ignored NoRoom
-    else if contradicts s q.number (kept q) then Broken q.id Conflict
-    else if is_some (map.get s q.number) then Again q.id q.number
-    else if is_gap mode s q.number then Broken q.id Discontinuity
-    else if is_whole (with_piece s q) then Released q.id (length (spelled (with_piece s q)))
-    else Kept q.id q.number
+    else if contradicts s q.number (kept q) then Broken q.name Conflict
+    else if is_some (map.get s q.number) then Again q.name q.number
+    else if is_gap mode s q.number then Broken q.name Discontinuity
+    else if is_whole (with_piece s q) then Released q.name (length (spelled (with_piece s q)))
+    else Kept q.name q.number
 
 -- what becomes of what arrives in this direction
 abbrev pub judged : Config → History → Direction → Arrival → Outcome
@@ -44,7 +44,7 @@ judged c h d (AReport service subtype) = ReportNoted service subtype
 judged c h d NoPart = Ignored BadPart
 judged c h d (AnAbort id reason) = AbortNoted id reason
 judged c h d (APart q) =
-    judged_part c.mode c.receptions (is_closed h d q.id) (reception_count c h d) (heard c h d q.id) q
+    judged_part c.mode c.receptions (is_closed h d q.name) (reception_count c h d) (heard c h d q.name) q
 
 -- what becomes of the packet in a lane's hand
 abbrev pub outcome : Config → History → Lane → Outcome

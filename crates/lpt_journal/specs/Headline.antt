@@ -10,10 +10,10 @@ use Rattle.lpt_reception.specs.LptPart.declared.mode.Mode.{Mode}
 use Rattle.lpt_reception.specs.LptPart.declared.mode.Mode.TheVariants.{Strict}
 use Rattle.lpt_reception.specs.LptPart.declared.reason.Reason.{Reason}
 use Rattle.lpt_reception.specs.LptPart.declared.reason.Reason.TheVariants.{Discontinuity}
-use Rattle.lpt_reception.specs.LptPart.Parts.{Piece}
 use Rattle.lpt_reception.specs.LptPart.Splitting.{part_count}
 use Rattle.lpt_execution.specs.LptMemory.Memories.{Contents}
 use Rattle.lpt_reception.specs.Received.{Kept as KeptPart}
+use Rattle.lpt_execution.specs.LptEvents.NamedParts.{NamedPart, named}
 use Rattle.lpt_execution.specs.LptEvents.declared.lane.Lane.{Lane}
 use Rattle.lpt_execution.specs.LptEvents.Lanes.{lane_direction}
 use Rattle.lpt_execution.specs.LptEvents.declared.config.Config.{Config}
@@ -42,25 +42,25 @@ use Rattle.lpt_journal.specs.Legal.{Legal}
 -- ---- parts
 
 -- the part is the one of its number of the message last opened under its name in this direction
-pub record IsPartOfCurrent (c : Config) (h : History) (d : Direction) (q : Piece) : Type 0 where
+pub record IsPartOfCurrent (c : Config) (h : History) (d : Direction) (q : NamedPart) : Type 0 where
   pub opening : Opening
-  pub is_current : current h d q.id ≡ Some opening
+  pub is_current : current h d q.name ≡ Some opening
   pub from_one : 1 ≤ q.number
   pub to_last : q.number ≤ part_count (length opening.message) c.part_size
-  pub is_part : q ≡ nth_part c.part_size q.id opening.message q.number
+  pub is_part : q ≡ named (nth_part c.part_size q.name opening.message q.number)
 
 -- a kept part with its name and number
-abbrev pub kept_piece : Name → ℕ → KeptPart → Piece
-kept_piece id n x = record { id = id; number = n; kind = x.kind; octets = x.octets }
+abbrev pub kept_piece : Name → ℕ → KeptPart → NamedPart
+kept_piece id n x = record { name = id; number = n; kind = x.kind; octets = x.octets }
 
 -- every part that is held, in a hand or heard is one of the message last opened under its name
 pub record PartsAreCurrent (c : Config) (h : History) : Type 0 where
-  pub held : (n : ℕ) (p : SentPacket) (q : Piece)
+  pub held : (n : ℕ) (p : SentPacket) (q : NamedPart)
       → is_held h n ≡ true
       → slice_get (sent h) n ≡ Some p
       → arrival_of c p ≡ APart q
       → IsPartOfCurrent c h p.direction q
-  pub hands : (l : Lane) (q : Piece)
+  pub hands : (l : Lane) (q : NamedPart)
       → in_hand c h l ≡ APart q
       → IsPartOfCurrent c h (lane_direction l) q
   pub heard : (d : Direction) (id : Name) (n : ℕ) (x : KeptPart)

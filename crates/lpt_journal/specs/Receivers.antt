@@ -4,8 +4,8 @@ use Rattle.std.specs.List.{filter}
 use Rattle.std.specs.FinMap as map
 use Rattle.lpt_reception.specs.LptPacket.declared.direction.Direction.{Direction}
 use Rattle.lpt_reception.specs.LptPacket.Names.{Name, same_name}
-use Rattle.lpt_reception.specs.LptPart.Parts.{Piece}
 use Rattle.lpt_reception.specs.Received.{Kept as KeptPart, Parts, no_parts, with_part}
+use Rattle.lpt_execution.specs.LptEvents.NamedParts.{NamedPart}
 use Rattle.lpt_execution.specs.LptEvents.declared.lane.Lane.{Lane}
 use Rattle.lpt_execution.specs.LptEvents.Lanes.{lane_direction, same_direction}
 use Rattle.lpt_execution.specs.LptEvents.declared.config.Config.{Config}
@@ -24,11 +24,11 @@ use Rattle.lpt_journal.specs.Senders.{once}
 -- ---- what was kept
 
 -- a part as a reception keeps it
-abbrev pub kept : Piece → KeptPart
+abbrev pub kept : NamedPart → KeptPart
 kept q = record { kind = q.kind; octets = q.octets }
 
 -- the kept parts with one more
-abbrev pub with_piece : Parts → Piece → Parts
+abbrev pub with_piece : Parts → NamedPart → Parts
 with_piece s q = with_part s q.number (kept q)
 
 -- the kept parts with what arrived

@@ -47,4 +47,4 @@ module _ (P : List Job → Type 0) (waits : (js : List Job) (m : List ℕ) → P
   jobs_accepted side c d (AnAbort id reason) all = all
   jobs_accepted side c d (APart q) all =
       let x = received (abort_head side c d) (receiver_of c d.receiving) q d.clock in
-      jobs_taken side (with_receiver d x.0) q.id q.number x.1 all
+      jobs_taken side (with_receiver d x.0) q.name q.number x.1 all

@@ -4,7 +4,7 @@ use Rattle.std.specs.FinMap as map
 use Rattle.std.specs.Result.{IfOk, OnOk, OnErr}
 use Rattle.lpt_execution.specs.LptPacket.Names.{Name}
 use Rattle.lpt_execution.specs.LptPart.declared.reason.Reason.{Reason}
-use Rattle.lpt_execution.specs.LptPart.Parts.{Piece}
+use Rattle.lpt_execution.specs.LptEvents.NamedParts.{NamedPart}
 use Rattle.lpt_execution.specs.LptPus.Telemetry.{Telemetry}
 use Rattle.lpt_ledger.specs.declared.state.State.{State}
 use Rattle.lpt_ledger.specs.declared.state.State.TheVariants.{Free, Open, Closed}
@@ -35,13 +35,13 @@ not_free Open other = refl
 not_free Closed other = refl
 
 -- a part whose name isn't free is left alone
-pub received-closed : (head : Option Telemetry) (r : ReceiverState) (q : Piece) (now : ℕ)
-    → (state_at r.ledger q.id ≡ Free → ⊥)
+pub received-closed : (head : Option Telemetry) (r : ReceiverState) (q : NamedPart) (now : ℕ)
+    → (state_at r.ledger q.name ≡ Free → ⊥)
     → (r, taking.Closed) ≡ received head r q now
 unfolding received
 received-closed head r q now other =
     ap (λ (free : Bool). cond free
-    (received_from head r q.id (parts_with (record {
+    (received_from head r q.name (parts_with (record {
       limit = r.limit;
       timeout = r.timeout;
       p = r.p;
@@ -55,24 +55,24 @@ received-closed head r q now other =
       mode = r.mode;
       entries = r.entries;
       out = None;
-    }) q.id q.number (kept_of q) now)) (r, taking.Closed))
-    (sym (not_free (state_at r.ledger q.id) other))
+    }) q.name q.number (kept_of q) now)) (r, taking.Closed))
+    (sym (not_free (state_at r.ledger q.name) other))
 
-module _ (head : Option Telemetry) (m : Marks) (old mid : TableState) (q : Piece) (now : ℕ)
+module _ (head : Option Telemetry) (m : Marks) (old mid : TableState) (q : NamedPart) (now : ℕ)
     (seen : ReceiverState) (is : view m old ≡ seen) (sound : IsReceiver m old)
-    (free : state_at m q.id ≡ Free) where
+    (free : state_at m q.name ≡ Free) where
   -- what is made of the part is what is made of the offer
   received-offered : (kind : OfferKind)
-      → offered old q.id q.number (kept_of q) now ≡ (kind, mid)
-      → after_offer head (view m old) q.id (parts_with old q) kind mid.entries
+      → offered old q.name q.number (kept_of q) now ≡ (kind, mid)
+      → after_offer head (view m old) q.name (parts_with old q) kind mid.entries
       ≡ received head seen q now
   unfolding received
   received-offered kind e =
       let table : record old { out = None } ≡ old = λ i. record old { out = sym sound.settled i } in
       sym ((λ i. if_free (free i) (view m old)
-      (received_from head (view m old) q.id (parts_with (table i) q)
-      (offered (table i) q.id q.number (kept_of q) now)))
-      ∙ ap (λ (o : OfferKind × TableState). received_from head (view m old) q.id (parts_with old q) o) e)
+      (received_from head (view m old) q.name (parts_with (table i) q)
+      (offered (table i) q.name q.number (kept_of q) now)))
+      ∙ ap (λ (o : OfferKind × TableState). received_from head (view m old) q.name (parts_with old q) o) e)
       ∙ ap (λ (r : ReceiverState). received head r q now) is
 
   -- the receptions alone have changed
@@ -85,7 +85,7 @@ module _ (head : Option Telemetry) (m : Marks) (old mid : TableState) (q : Piece
 
   -- the part was kept
   pub received-kept : (es : Entries)
-      → offered old q.id q.number (kept_of q) now ≡ (offering.Kept, mid)
+      → offered old q.name q.number (kept_of q) now ≡ (offering.Kept, mid)
       → mid ≡ record old { entries = es }
       → (view m mid, taking.Kept) ≡ received head seen q now
   received-kept es e new =
@@ -93,14 +93,14 @@ module _ (head : Option Telemetry) (m : Marks) (old mid : TableState) (q : Piece
 
   -- the part had been kept
   pub received-again : (es : Entries)
-      → offered old q.id q.number (kept_of q) now ≡ (offering.Again, mid)
+      → offered old q.name q.number (kept_of q) now ≡ (offering.Again, mid)
       → mid ≡ record old { entries = es }
       → (view m mid, taking.Again) ≡ received head seen q now
   received-again es e new =
       (λ i. (within es new i, taking.Again)) ∙ received-offered offering.Again e
 
   -- there was no room
-  pub received-no_room : offered old q.id q.number (kept_of q) now ≡ (offering.NoRoom, mid)
+  pub received-no_room : offered old q.name q.number (kept_of q) now ≡ (offering.NoRoom, mid)
       → mid ≡ old
       → (view m mid, taking.NoRoom) ≡ received head seen q now
   received-no_room e new =
@@ -108,10 +108,10 @@ module _ (head : Option Telemetry) (m : Marks) (old mid : TableState) (q : Piece
 
   -- there was a gap before a reception was open
   pub received-gap : {E : Type 0} (r : Result Taken E) (after : Marks)
-      → OnOk r (after ≡ map.insert m q.id Shut)
-      → IfOk r (λ t. t ≡ taking.Broken reason.Discontinuity (abort_report head q.id reason.Discontinuity))
-      → offered old q.id q.number (kept_of q) now ≡ (offering.Gap, mid)
-      → is_open old q.id ≡ false
+      → OnOk r (after ≡ map.insert m q.name Shut)
+      → IfOk r (λ t. t ≡ taking.Broken reason.Discontinuity (abort_report head q.name reason.Discontinuity))
+      → offered old q.name q.number (kept_of q) now ≡ (offering.Gap, mid)
+      → is_open old q.name ≡ false
       → mid ≡ old
       → IfOk r (λ t. ◌≡◌ {A = ReceiverState × Taken} (view after mid, t) (received head seen q now))
   received-gap (Ok t) after a is e none new =
@@ -119,7 +119,7 @@ module _ (head : Option Telemetry) (m : Marks) (old mid : TableState) (q : Piece
         record (view m (new i)) {
           ledger = a i;
           entries = (ap (λ (t : TableState). t.entries) new
-              ∙ sym (remove-none old.entries q.id none)) i;
+              ∙ sym (remove-none old.entries q.name none)) i;
         },
         is i,
       ))
@@ -127,36 +127,36 @@ module _ (head : Option Telemetry) (m : Marks) (old mid : TableState) (q : Piece
   received-gap (Err x) after a is e none new = tt
 
   module _ {E : Type 0} (r : Result Taken E) (after : Marks) (new : TableState)
-      (shut : OnOk r (after ≡ map.insert m q.id Shut))
-      (settled : OnOk r (new ≡ record mid { out = None })) (out : TakesOut old mid q.id) where
+      (shut : OnOk r (after ≡ map.insert m q.name Shut))
+      (settled : OnOk r (new ≡ record mid { out = None })) (out : TakesOut old mid q.name) where
     -- a whole message came out
     pub received-whole : (w : Ended)
         → IfOk r (λ t. t ≡ taking.Whole (spelled (all_of w)))
-        → offered old q.id q.number (kept_of q) now ≡ (offering.Whole, mid)
-        → w ≡ record { before = received_at old q.id; number = q.number; kept = kept_of q }
+        → offered old q.name q.number (kept_of q) now ≡ (offering.Whole, mid)
+        → w ≡ record { before = received_at old q.name; number = q.number; kept = kept_of q }
         → IfOk r (λ t. ◌≡◌ {A = ReceiverState × Taken} (view after new, t) (received head seen q now))
     received-whole w answer e all = by_answer r shut settled answer where
       by_answer : (r : Result Taken E)
-          → OnOk r (after ≡ map.insert m q.id Shut)
+          → OnOk r (after ≡ map.insert m q.name Shut)
           → OnOk r (new ≡ record mid { out = None })
           → IfOk r (λ t. t ≡ taking.Whole (spelled (all_of w)))
           → IfOk r (λ t. ◌≡◌ {A = ReceiverState × Taken} (view after new, t) (received head seen q now))
       by_answer (Ok t) a b is =
           (λ i. (view (a i) ((b ∙ ap (λ (t : TableState). record t { out = None }) out.now) i), is i))
-          ∙ ap (λ (w : Ended). (ended (view m old) q.id, taking.Whole (spelled (all_of w)))) all
+          ∙ ap (λ (w : Ended). (ended (view m old) q.name, taking.Whole (spelled (all_of w)))) all
           ∙ received-offered offering.Whole e
       by_answer (Err x) a b is = tt
 
     -- a reception that was broken off came out
     pub received-broken : (b : BrokenOff)
-        → IfOk r (λ t. t ≡ taking.Broken b.reason (abort_report head q.id b.reason))
-        → offered old q.id q.number (kept_of q) now ≡ (offering.Conflict b.reason, mid)
+        → IfOk r (λ t. t ≡ taking.Broken b.reason (abort_report head q.name b.reason))
+        → offered old q.name q.number (kept_of q) now ≡ (offering.Conflict b.reason, mid)
         → IfOk r (λ t. ◌≡◌ {A = ReceiverState × Taken} (view after new, t) (received head seen q now))
     received-broken b answer e = by_answer r shut settled answer where
       by_answer : (r : Result Taken E)
-          → OnOk r (after ≡ map.insert m q.id Shut)
+          → OnOk r (after ≡ map.insert m q.name Shut)
           → OnOk r (new ≡ record mid { out = None })
-          → IfOk r (λ t. t ≡ taking.Broken b.reason (abort_report head q.id b.reason))
+          → IfOk r (λ t. t ≡ taking.Broken b.reason (abort_report head q.name b.reason))
           → IfOk r (λ t. ◌≡◌ {A = ReceiverState × Taken} (view after new, t) (received head seen q now))
       by_answer (Ok t) a s is =
           (λ i. (view (a i) ((s ∙ ap (λ (t : TableState). record t { out = None }) out.now) i), is i))
@@ -170,12 +170,12 @@ on_err : {X E : Type 0} (r : Result X E) (P : Type 0) → P → OnErr r P
 on_err (Ok x) P p = tt
 on_err (Err x) P p = p
 
-module _ (head : Option Telemetry) (m : Marks) (old mid : TableState) (q : Piece) (now : ℕ)
+module _ (head : Option Telemetry) (m : Marks) (old mid : TableState) (q : NamedPart) (now : ℕ)
     (seen : ReceiverState) (is : view m old ≡ seen) (sound : IsReceiver m old)
-    (free : state_at m q.id ≡ Free) where
+    (free : state_at m q.name ≡ Free) where
   as_offered : (kind : OfferKind)
-      → offered old q.id q.number (kept_of q) now ≡ (kind, mid)
-      → grows (after_offer head (view m old) q.id (parts_with old q) kind mid.entries).1
+      → offered old q.name q.number (kept_of q) now ≡ (kind, mid)
+      → grows (after_offer head (view m old) q.name (parts_with old q) kind mid.entries).1
       ≡ grows (received head seen q now).1
   as_offered kind e =
       ap (λ (x : ReceiverState × Taken). grows x.1)
@@ -183,19 +183,19 @@ module _ (head : Option Telemetry) (m : Marks) (old mid : TableState) (q : Piece
 
   -- a message is let out
   pub grows-whole : {X E : Type 0} (r : Result X E)
-      → offered old q.id q.number (kept_of q) now ≡ (offering.Whole, mid)
+      → offered old q.name q.number (kept_of q) now ≡ (offering.Whole, mid)
       → OnErr r (grows (received head seen q now).1 ≡ true)
   grows-whole r e = on_err r _ (sym (as_offered offering.Whole e))
 
   -- a reception is broken off
   pub grows-broken : {X E : Type 0} (r : Result X E) (reason : Reason)
-      → offered old q.id q.number (kept_of q) now ≡ (offering.Conflict reason, mid)
+      → offered old q.name q.number (kept_of q) now ≡ (offering.Conflict reason, mid)
       → OnErr r (grows (received head seen q now).1 ≡ true)
   grows-broken r reason e = on_err r _ (sym (as_offered (offering.Conflict reason) e))
 
   -- a gap was found
   pub grows-gap : {X E : Type 0} (r : Result X E)
-      → offered old q.id q.number (kept_of q) now ≡ (offering.Gap, mid)
+      → offered old q.name q.number (kept_of q) now ≡ (offering.Gap, mid)
       → OnErr r (grows (received head seen q now).1 ≡ true)
   grows-gap r e = on_err r _ (sym (as_offered offering.Gap e))
 
@@ -203,25 +203,25 @@ module _ (head : Option Telemetry) (m : Marks) (old mid : TableState) (q : Piece
   abbrev made : (full contra again gap whole : Bool) → OfferKind × TableState
   made full contra again gap whole =
       if full then (offering.NoRoom, old)
-      else if contra then (offering.Conflict reason.Conflict, taken_out old q.id)
-      else if again then (offering.Again, with_entry old q.id (parts_at old q.id) now)
-      else if gap then at_gap old q.id
-      else if whole then (offering.Whole, taken_out old q.id)
-      else (offering.Kept, with_entry old q.id (parts_with old q) now)
+      else if contra then (offering.Conflict reason.Conflict, taken_out old q.name)
+      else if again then (offering.Again, with_entry old q.name (parts_at old q.name) now)
+      else if gap then at_gap old q.name
+      else if whole then (offering.Whole, taken_out old q.name)
+      else (offering.Kept, with_entry old q.name (parts_with old q) now)
 
   abbrev grows_as : OfferKind × TableState → Bool
-  grows_as o = grows (received_from head (view m old) q.id (parts_with old q) o).1
+  grows_as o = grows (received_from head (view m old) q.name (parts_with old q) o).1
 
   kept_or_whole : (whole : Bool) → grows_as (made false false false false whole) ≡ true
   kept_or_whole true = refl
   kept_or_whole false = refl
 
   -- a part is kept, or ends its message
-  pub grows-kept : Offers old q.id q.number (kept_of q) now Memory mid
+  pub grows-kept : Offers old q.name q.number (kept_of q) now Memory mid
       → grows (received head seen q now).1 ≡ true
   unfolding offered
   grows-kept h =
-      let o = offered old q.id q.number (kept_of q) now in
+      let o = offered old q.name q.number (kept_of q) now in
       sym (ap (λ (x : ReceiverState × Taken). grows x.1)
       (received-offered head m old o.1 q now seen is sound free o.0 refl))
       ∙ (λ i. grows_as (made (h.0 i) (h.1.0.new.agrees i) (is_some (h.1.0.new.absent i)) (h.1.0.in_order i) (is_whole (parts_with old q))))

@@ -3,6 +3,7 @@ use Rattle.std.specs.Prelude.{◌≡◌, ℕ, ◌+◌, ◌≤◌, true, false, L
 use Rattle.lpt_execution.specs.LptPacket.Packets.{Fields, fields_at}
 use Rattle.lpt_execution.specs.LptPart.Splitting.{IsPartSize}
 use Rattle.lpt_execution.specs.LptPart.Parts.{piece}
+use Rattle.lpt_execution.specs.LptEvents.NamedParts.{named}
 use Rattle.lpt_execution.specs.LptEvents.declared.side.Side.{Side}
 use Rattle.lpt_node.specs.declared.found.Found.{Found}
 use Rattle.lpt_node.specs.declared.found.Found.TheVariants as found
@@ -54,7 +55,7 @@ Shows p b sight.Foreign a = a ≡ Foreign
 Shows p b sight.Request a = (a ≡ ARequest b) × (length b ≤ longest_packet)
 Shows p b (sight.Report service subtype) a = a ≡ AReport service subtype
 Shows p b sight.BadPart a = a ≡ NoPart
-Shows p b (sight.Part part) a = (a ≡ APart (piece part)) × (part.p ≡ p)
+Shows p b (sight.Part part) a = (a ≡ APart (named (piece part))) × (part.p ≡ p)
 Shows p b (sight.Abort id reason) a = a ≡ AnAbort id reason
 
 -- what is shown is no plain request, and a part is of this size
@@ -76,5 +77,5 @@ arrival_shown sight.Foreign = Foreign
 arrival_shown sight.Request = NotRead
 arrival_shown (sight.Report service subtype) = AReport service subtype
 arrival_shown sight.BadPart = NoPart
-arrival_shown (sight.Part part) = APart (piece part)
+arrival_shown (sight.Part part) = APart (named (piece part))
 arrival_shown (sight.Abort id reason) = AnAbort id reason

@@ -6,7 +6,7 @@ use Rattle.lpt_execution.specs.LptPacket.Names.{Name}
 use Rattle.lpt_execution.specs.LptPacket.Packets.{spelling}
 use Rattle.lpt_execution.specs.LptPus.Telemetry.{Telemetry, tm_packet_of}
 use Rattle.lpt_execution.specs.LptPart.declared.reason.Reason.{Reason}
-use Rattle.lpt_execution.specs.LptPart.Parts.{Piece}
+use Rattle.lpt_execution.specs.LptEvents.NamedParts.{NamedPart}
 use Rattle.lpt_execution.specs.LptPart.Aborts.{abort_body}
 use Rattle.lpt_ledger.specs.declared.state.State.{State}
 use Rattle.lpt_ledger.specs.declared.state.State.TheVariants.{Free, Open, Closed}
@@ -76,12 +76,12 @@ abort_report (Some head) id reason = Some (abort_packet head id reason)
 -- ---- parts
 
 -- what is kept of a part besides its number
-abbrev pub kept_of : Piece → Kept
+abbrev pub kept_of : NamedPart → Kept
 kept_of q = record { kind = q.kind; octets = q.octets }
 
 -- the parts that are kept under a part's name, with it
-abbrev pub parts_with : TableState → Piece → Parts
-parts_with t q = with_part (parts_at t q.id) q.number (kept_of q)
+abbrev pub parts_with : TableState → NamedPart → Parts
+parts_with t q = with_part (parts_at t q.name) q.number (kept_of q)
 
 -- a reception has ended: its name is closed, and nothing is kept under it
 abbrev pub ended : ReceiverState → Name → ReceiverState
@@ -120,11 +120,11 @@ abbrev pub if_free : State → ReceiverState → ReceiverState × Taken → Rece
 if_free s r x = if is_free s then x else (r, taking.Closed)
 
 -- what a receiver makes of a part at this tick
-unfoldable pub received : Option Telemetry → ReceiverState → Piece → ℕ → ReceiverState × Taken
+unfoldable pub received : Option Telemetry → ReceiverState → NamedPart → ℕ → ReceiverState × Taken
 received head r q now =
-    if_free (state_at r.ledger q.id) r
-    (received_from head r q.id (parts_with (table_in r) q)
-    (offered (table_in r) q.id q.number (kept_of q) now))
+    if_free (state_at r.ledger q.name) r
+    (received_from head r q.name (parts_with (table_in r) q)
+    (offered (table_in r) q.name q.number (kept_of q) now))
 
 -- what is fixed of a receiver stays
 pub record IsSameReceiver (old new : ReceiverState) : Type 0 where

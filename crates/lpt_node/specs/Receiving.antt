@@ -2,7 +2,7 @@
 use Rattle.std.specs.Prelude.{ℕ, List, [], length, Option, Some, None}
 use Rattle.lpt_execution.specs.LptPacket.Names.{Name}
 use Rattle.lpt_execution.specs.LptPus.Telemetry.{Telemetry}
-use Rattle.lpt_execution.specs.LptPart.Parts.{Piece}
+use Rattle.lpt_execution.specs.LptEvents.NamedParts.{NamedPart}
 use Rattle.lpt_execution.specs.LptEvents.declared.side.Side.{Side}
 use Rattle.lpt_execution.specs.LptEvents.declared.side.Side.TheVariants.{Ground, Craft}
 use Rattle.lpt_execution.specs.LptEvents.declared.config.Config.{Config}
@@ -86,8 +86,8 @@ after_taken side d id number (taking.Broken reason packet) =
     (with_report d packet, record { outcome = outcome.Broken id reason; packet = packet; released = None })
 
 -- the same, with the receiver after it
-abbrev pub after_received : Side → NodeData → Piece → ReceiverState × Taken → NodeData × Accepted
-after_received side d q x = after_taken side (with_receiver d x.0) q.id q.number x.1
+abbrev pub after_received : Side → NodeData → NamedPart → ReceiverState × Taken → NodeData × Accepted
+after_received side d q x = after_taken side (with_receiver d x.0) q.name q.number x.1
 
 -- the head of the next report of an abortion, by the counts and the clock: the spacecraft makes it, and
 -- ground makes none
@@ -101,5 +101,5 @@ abbrev pub abort_head : Side → Config → NodeData → Option Telemetry
 abort_head side c d = abort_head_at side c d.sending.count d.sending.types d.clock
 
 -- a part is delivered: the end after it, and the answer
-abbrev pub parted : Side → Config → NodeData → Piece → NodeData × Accepted
+abbrev pub parted : Side → Config → NodeData → NamedPart → NodeData × Accepted
 parted side c d q = after_received side d q (received (abort_head side c d) (receiver_of c d.receiving) q d.clock)

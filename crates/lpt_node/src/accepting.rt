@@ -4,6 +4,7 @@ ghost use Rattle.std.specs.Prelude.{◌≡◌, ◌+◌, ◌<◌, ◌^◌, length
 ghost use Rattle.std.specs.Option.{option_map};
 ghost use Rattle.lpt_jobs.specs.Jobs.{numbered};
 ghost use Rattle.lpt_execution.specs.LptPart.Parts.{piece};
+ghost use Rattle.lpt_execution.specs.LptEvents.NamedParts.{named};
 ghost use Rattle.lpt_node.specs.Accepting.{accepted, grows, IsFor};
 ghost use Rattle.lpt_node.specs.Found.{arrival_shown, IsShown};
 ghost use Rattle.lpt_node.specs.Origins.{arrival_at, arrival_from};
@@ -130,13 +131,13 @@ impl Node {
     fn accept_part(&mut self, part: &Part<'_>) -> Result<Accepted, AllocError>
         requires p { part.now.p ≡ self.old.config.part_size }
         requires numbers { numbered self.old.at.jobs + 1 < 2 ^ 64 }
-        ensures ok { IfOk result (λ r. (self.new.at, r) ≡ parted self.old.side self.old.config self.old.at (piece part.now)) }
+        ensures ok { IfOk result (λ r. (self.new.at, r) ≡ parted self.old.side self.old.config self.old.at (named (piece part.now))) }
 
         ensures side { self.new.side ≡ self.old.side }
         ensures config { self.new.config ≡ self.old.config }
 
         ensures memory { OnErr result
-            (grows (parted self.old.side self.old.config self.old.at (piece part.now)).1 ≡ true) }
+            (grows (parted self.old.side self.old.config self.old.at (named (piece part.now))).1 ≡ true) }
         ensures err { OnErr result (self.new.at ≡ self.old.at) }
     {
         let head = self.abort_head(&self.counts);

@@ -5,6 +5,7 @@ ghost use Rattle.std.specs.FinMap as map;
 ghost use Rattle.std.specs.Option.{option_map};
 ghost use Rattle.lpt_execution.specs.LptPart.declared.reason.Reason.TheVariants as why;
 ghost use Rattle.lpt_execution.specs.LptPart.Parts.{piece};
+ghost use Rattle.lpt_execution.specs.LptEvents.NamedParts.{named};
 ghost use Rattle.lpt_execution.specs.LptPus.Telemetry.{telemetry, as_written};
 ghost use Rattle.lpt_ledger.specs.States.{state_at};
 ghost use Rattle.lpt_table.specs.Deadlines.{due_of};
@@ -117,7 +118,7 @@ impl Receiver {
         requires p { part.now.p ≡ self.old.p }
         requires numbers { numbered jobs.old + 1 < 2 ^ 64 }
         ensures ok { IfOk result (λ t. (self.new, t)
-            ≡ received (option_map (λ h. as_written (telemetry h [])) head) self.old (piece part.now) now) }
+            ≡ received (option_map (λ h. as_written (telemetry h [])) head) self.old (named (piece part.now)) now) }
         ensures jobs { IfOk result (λ t. jobs.new ≡ jobs_after side jobs.old t) }
         ensures short { IfOk result IsShort }
 
@@ -125,7 +126,7 @@ impl Receiver {
 
         // Memory runs out only where some is taken.
         ensures memory { OnErr result
-            (grows (received (option_map (λ h. as_written (telemetry h [])) head) self.old (piece part.now) now).1 ≡ true) }
+            (grows (received (option_map (λ h. as_written (telemetry h [])) head) self.old (named (piece part.now)) now).1 ≡ true) }
         ensures err { OnErr result (self.new ≡ self.old) }
         ensures no_job { OnErr result (jobs.new ≡ jobs.old) }
     {

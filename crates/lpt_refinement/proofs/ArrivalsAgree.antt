@@ -6,7 +6,7 @@ use Rattle.std.proofs.lemmas.Option.{slice_get-map}
 use Rattle.std.specs.FinMap as maps
 use Rattle.lpt_model.specs.LptPacket.declared.direction.Direction.{Direction}
 use Rattle.lpt_model.specs.LptPacket.Names.{Name}
-use Rattle.lpt_model.specs.LptPart.Parts.{Piece}
+use Rattle.lpt_model.specs.LptEvents.NamedParts.{NamedPart}
 use Rattle.lpt_model.specs.LptPus.Telemetry.{Telemetry}
 use Rattle.lpt_model.specs.LptLedger.States.{state_of}
 use Rattle.lpt_model.specs.LptEvents.declared.lane.Lane.{Lane}
@@ -57,25 +57,25 @@ abbrev pub delivery : Side
     → Option Telemetry
     → NodeData
     → ReceiverState
-    → Piece
+    → NamedPart
     → (before with_it : Parts)
     → NodeData × Accepted
 delivery side closed full contra again gap there whole head d r q before with_it =
     after_received side d q
     (if_free (state_of (closed_mark closed)) r
-    (received_from head r q.id with_it
-    (made_of full contra again gap there whole (table_in r) q.id before with_it d.clock)))
+    (received_from head r q.name with_it
+    (made_of full contra again gap there whole (table_in r) q.name before with_it d.clock)))
 
 -- the end's step goes by the tests
-part_delivered : (side : Side) (c : Config) (d : NodeData) (q : Piece) (closed full : Bool)
+part_delivered : (side : Side) (c : Config) (d : NodeData) (q : NamedPart) (closed full : Bool)
     (before : Parts)
-    → maps.get d.receiving.ledger q.id ≡ closed_mark closed
-    → is_full (table_in (receiver_of c d.receiving)) q.id ≡ full
-    → parts_at (table_in (receiver_of c d.receiving)) q.id ≡ before
+    → maps.get d.receiving.ledger q.name ≡ closed_mark closed
+    → is_full (table_in (receiver_of c d.receiving)) q.name ≡ full
+    → parts_at (table_in (receiver_of c d.receiving)) q.name ≡ before
     → parted side c d q
     ≡ delivery side closed full (contradicts before q.number (kept q))
     (is_some (maps.get before q.number)) (is_gap c.mode before q.number)
-    (is_open (table_in (receiver_of c d.receiving)) q.id) (is_whole (with_piece before q))
+    (is_open (table_in (receiver_of c d.receiving)) q.name) (is_whole (with_piece before q))
     (abort_head side c d) d
     (receiver_of c d.receiving) q before (with_piece before q)
 unfolding received offered
@@ -83,26 +83,26 @@ part_delivered side c d q closed full before e1 e2 e3 =
     let r = receiver_of c d.receiving in
     λ i. after_received side d q
     (if_free (state_of (e1 i)) r
-    (received_from (abort_head side c d) r q.id (with_piece (e3 i) q)
+    (received_from (abort_head side c d) r q.name (with_piece (e3 i) q)
     (made_of (e2 i) (contradicts (e3 i) q.number (kept q)) (is_some (maps.get (e3 i) q.number))
-    (is_gap c.mode (e3 i) q.number) (is_open (table_in r) q.id) (is_whole (with_piece (e3 i) q)) (table_in r) q.id (e3 i) (with_piece (e3 i) q) d.clock)))
+    (is_gap c.mode (e3 i) q.number) (is_open (table_in r) q.name) (is_whole (with_piece (e3 i) q)) (table_in r) q.name (e3 i) (with_piece (e3 i) q) d.clock)))
 
 -- the same, by what the journal says of the part's transaction
-abbrev pub delivery_told : Config → History → Direction → NodeData → Piece → NodeData × Accepted
+abbrev pub delivery_told : Config → History → Direction → NodeData → NamedPart → NodeData × Accepted
 delivery_told c h w d q =
-    let s = heard c h w q.id in
-    delivery (receiver_side w) (is_closed h w q.id)
+    let s = heard c h w q.name in
+    delivery (receiver_side w) (is_closed h w q.name)
     (not (has_parts s) && nat_le c.receptions (reception_count c h w))
     (contradicts s q.number (kept q)) (is_some (maps.get s q.number))
-    (is_gap c.mode s q.number) (is_open (table_in (receiver_of c d.receiving)) q.id)
+    (is_gap c.mode s q.number) (is_open (table_in (receiver_of c d.receiving)) q.name)
     (is_whole (with_piece s q)) (abort_head (receiver_side w) c d) d (receiver_of c d.receiving) q s (with_piece s q)
 
-pub part_agrees : (c : Config) (h : History) (w : Direction) (d : NodeData) (q : Piece)
+pub part_agrees : (c : Config) (h : History) (w : Direction) (d : NodeData) (q : NamedPart)
     → ShowsReceiving d.receiving (receiving_view c h w)
     → parted (receiver_side w) c d q ≡ delivery_told c h w d q
 part_agrees c h w d q own =
-    part_delivered (receiver_side w) c d q _ _ _ (own.ledger q.id) (full_shown c h w q.id own)
-    (parts_shown c q.id own)
+    part_delivered (receiver_side w) c d q _ _ _ (own.ledger q.name) (full_shown c h w q.name own)
+    (parts_shown c q.name own)
 
 -- ---- what is in a hand
 

@@ -13,6 +13,7 @@ use Rattle.lpt_model.specs.LptPart.declared.kind.Kind.{Kind}
 use Rattle.lpt_model.specs.LptPart.declared.reason.Reason.{Reason}
 use Rattle.lpt_model.specs.LptPart.Aborts.{abort_in}
 use Rattle.lpt_model.specs.LptPart.Parts.{Piece, part_in}
+use Rattle.lpt_model.specs.LptEvents.NamedParts.{named}
 use Rattle.lpt_model.specs.LptEvents.declared.lane.Lane.{Lane}
 use Rattle.lpt_model.specs.LptEvents.Lanes.{lane_direction}
 use Rattle.lpt_model.specs.LptEvents.Sides.{receiver_side}
@@ -28,7 +29,7 @@ MayCome Up (AnAbort id reason) = ⊥
 MayCome Down (ARequest b) = ⊥
 MayCome d a = Unit {0}
 
-part_comes : (d : Direction) (o : Option Piece) → MayCome d (option_map_or APart o NoPart)
+part_comes : (d : Direction) (o : Option Piece) → MayCome d (option_map_or (λ q. APart (named q)) o NoPart)
 part_comes Up None = tt
 part_comes Up (Some q) = tt
 part_comes Down None = tt

@@ -3,7 +3,7 @@ use Rattle.std.proofs.Common.{◌≡◌, ap, sym, subst, refl, nat_le, Bool, tru
 use Rattle.std.specs.FinMap as maps
 use Rattle.lpt_model.specs.LptPacket.declared.direction.Direction.{Direction}
 use Rattle.lpt_model.specs.LptPacket.declared.direction.Direction.TheVariants.{Up, Down}
-use Rattle.lpt_model.specs.LptPart.Parts.{Piece}
+use Rattle.lpt_model.specs.LptEvents.NamedParts.{NamedPart}
 use Rattle.lpt_model.specs.LptPart.declared.reason.Reason.TheVariants.{Conflict, Discontinuity}
 use Rattle.lpt_model.specs.LptNode.Receivers.{table_in}
 use Rattle.lpt_model.specs.LptTable.Offering.{is_open}
@@ -49,12 +49,12 @@ abbrev PartShown : Config
     → State
     → Hands
     → Direction
-    → Piece
+    → NamedPart
     → (closed full contra again gap there whole : Bool)
     → Type 0
 PartShown c first h s hands w q closed full contra again gap there whole =
     let d = end_of s (receiver_side w) in
-    let parts = heard c h w q.id in
+    let parts = heard c h w q.name in
     let with_it = with_piece parts q in
     Shows
     (received_as (length h) w s
@@ -69,8 +69,8 @@ module _ (c : Config) (first : Contents) (h : History) (s : State) (hands : Hand
     (own : ShowsReceiving (end_of s (receiver_side w)).receiving (receiving_view c h w))
     (time : (end_of s (receiver_side w)).clock ≡ clock c h (receiver_side w)) where
   -- whatever the tests answer
-  part : (q : Piece) (closed full contra again gap there whole : Bool)
-      → (again ≡ true → has_parts (heard c h w q.id) ≡ true)
+  part : (q : NamedPart) (closed full contra again gap there whole : Bool)
+      → (again ≡ true → has_parts (heard c h w q.name) ≡ true)
       → PartShown c first h s hands w q closed full contra again gap there whole
   part q true full contra again gap there whole some = receives w k own k.released
   part q false true contra again gap there whole some = receives w k own k.released
@@ -78,32 +78,32 @@ module _ (c : Config) (first : Contents) (h : History) (s : State) (hands : Hand
     broken : (w : Direction)
         → ShowsReceiving (end_of s (receiver_side w)).receiving (receiving_view c h w)
         → PartShown c first h s hands w q false false true again gap there whole
-    broken Up f = report_shown c q.id Conflict (receives Up k (ended_shown q.id f) k.released)
-    broken Down f = receives Down k (ended_shown q.id f) k.released
+    broken Up f = report_shown c q.name Conflict (receives Up k (ended_shown q.name f) k.released)
+    broken Down f = receives Down k (ended_shown q.name f) k.released
   part q false false false false true there whole some = broken w own there where
     broken : (w : Direction)
         → ShowsReceiving (end_of s (receiver_side w)).receiving (receiving_view c h w)
         → (there : Bool)
         → PartShown c first h s hands w q false false false false true there whole
-    broken Up f true = report_shown c q.id Discontinuity (receives Up k (ended_shown q.id f) k.released)
-    broken Up f false = report_shown c q.id Discontinuity (receives Up k (ended_shown q.id f) k.released)
-    broken Down f true = receives Down k (ended_shown q.id f) k.released
-    broken Down f false = receives Down k (ended_shown q.id f) k.released
+    broken Up f true = report_shown c q.name Discontinuity (receives Up k (ended_shown q.name f) k.released)
+    broken Up f false = report_shown c q.name Discontinuity (receives Up k (ended_shown q.name f) k.released)
+    broken Down f true = receives Down k (ended_shown q.name f) k.released
+    broken Down f false = receives Down k (ended_shown q.name f) k.released
   part q false false false true gap there whole some =
-      receives w k (again_shown q.id _ _ time (some refl) own) k.released
+      receives w k (again_shown q.name _ _ time (some refl) own) k.released
   part q false false false false false there true some = releasing w own where
     releasing : (w : Direction)
         → ShowsReceiving (end_of s (receiver_side w)).receiving (receiving_view c h w)
         → PartShown c first h s hands w q false false false false false there true
     releasing Up f =
-        let out = release (length h) (Some (Up, q.id))
-        (spelled (with_piece (heard c h Up q.id) q)) in
+        let out = release (length h) (Some (Up, q.name))
+        (spelled (with_piece (heard c h Up q.name) q)) in
         with_release (jobs c h) out refl fits.executed fits.claimed
-        (receives Up k (ended_shown q.id f) (ap (λ rs. rs ++ out ∷ []) k.released))
+        (receives Up k (ended_shown q.name f) (ap (λ rs. rs ++ out ∷ []) k.released))
     releasing Down f =
-        let out = release (length h) (Some (Down, q.id))
-        (spelled (with_piece (heard c h Down q.id) q)) in
-        receives Down k (ended_shown q.id f) (ap (λ rs. rs ++ out ∷ []) k.released)
+        let out = release (length h) (Some (Down, q.name))
+        (spelled (with_piece (heard c h Down q.name) q)) in
+        receives Down k (ended_shown q.name f) (ap (λ rs. rs ++ out ∷ []) k.released)
   part q false false false false false there false some =
       receives w k (kept_shown q _ _ time own) k.released
 
@@ -141,15 +141,15 @@ module _ (c : Config) (first : Contents) (h : History) (s : State) (hands : Hand
     closes Up may = absurd may
     closes Down may = with_sending Ground k (closed_shown h Up id k.ground.sending)
   any (APart q) none =
-      let parts = heard c h w q.id in
+      let parts = heard c h w q.name in
       subst (λ (x : NodeData × Accepted). Shows (received_as (length h) w s x)
       (outcome_view c first h w hands (APart q) (judged c h w (APart q))))
       (sym (part_agrees c h w (end_of s (receiver_side w)) q own))
-      (part q (is_closed h w q.id)
+      (part q (is_closed h w q.name)
       (not (has_parts parts) && nat_le c.receptions (reception_count c h w))
       (contradicts parts q.number (kept q)) (is_some (maps.get parts q.number))
       (is_gap c.mode parts q.number)
-      (is_open (table_in (receiver_of c (end_of s (receiver_side w)).receiving)) q.id)
+      (is_open (table_in (receiver_of c (end_of s (receiver_side w)).receiving)) q.name)
       (is_whole (with_piece parts q)) (some_parts parts q.number))
 
 -- ---- lanes

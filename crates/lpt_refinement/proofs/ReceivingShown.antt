@@ -7,7 +7,7 @@ use Rattle.lpt_model.specs.LptPacket.declared.direction.Direction.{Direction}
 use Rattle.lpt_model.specs.LptPacket.Names.{Name, same_name}
 use Rattle.lpt_model.proofs.LptPacket.NameLemmas.{same_name-true}
 use Rattle.lpt_model.proofs.LptPacket.Readings.{true_eq, eq_true, eq_false}
-use Rattle.lpt_model.specs.LptPart.Parts.{Piece}
+use Rattle.lpt_model.specs.LptEvents.NamedParts.{NamedPart}
 use Rattle.lpt_model.specs.LptLedger.Marks.{Shut}
 use Rattle.lpt_model.specs.LptEvents.declared.config.Config.{Config}
 use Rattle.lpt_model.specs.LptNode.Nodes.{Receiving}
@@ -74,7 +74,7 @@ some_parts s n e =
     ap not k
 
 -- with one more part a reception is open
-more_parts : (s : Parts) (q : Piece) → has_parts (with_piece s q) ≡ true
+more_parts : (s : Parts) (q : NamedPart) → has_parts (with_piece s q) ≡ true
 more_parts s q =
     some_parts (with_piece s q) q.number
     (ap is_some (maps.get-insert nat_cmp_total s q.number (kept q) q.number)
@@ -113,22 +113,22 @@ taken_shown {x = x} {y = y} n s now now' parts clocks some here there k = record
   go id false d = sym (ap (λ p. entry_of p (y.last id)) (there id d))
 
 -- a part was added under a name
-pub kept_shown : {x : Receiving} {y : ReceivingView} (q : Piece) (now now' : ℕ)
+pub kept_shown : {x : Receiving} {y : ReceivingView} (q : NamedPart) (now now' : ℕ)
     → now ≡ now'
     → ShowsReceiving x y
     → ShowsReceiving
     (record x {
       entries =
-          maps.insert x.entries q.id (record { parts = with_piece (y.parts q.id) q; last = now });
+          maps.insert x.entries q.name (record { parts = with_piece (y.parts q.name) q; last = now });
     })
     (record y {
-      parts = λ id. if same_name q.id id then with_piece (y.parts id) q else y.parts id;
-      last = λ id. if same_name q.id id then now' else y.last id;
+      parts = λ id. if same_name q.name id then with_piece (y.parts id) q else y.parts id;
+      last = λ id. if same_name q.name id then now' else y.last id;
     })
 kept_shown {y = y} q now now' clocks k =
-    taken_shown q.id (with_piece (y.parts q.id) q) now now' _ clocks (more_parts (y.parts q.id) q)
+    taken_shown q.name (with_piece (y.parts q.name) q) now now' _ clocks (more_parts (y.parts q.name) q)
     (λ id e. ap (λ t. if t then with_piece (y.parts id) q else y.parts id) e
-    ∙ ap (λ n. with_piece (y.parts n) q) (sym (same_name-true q.id id e)))
+    ∙ ap (λ n. with_piece (y.parts n) q) (sym (same_name-true q.name id e)))
     (λ id e. ap (λ t. if t then with_piece (y.parts id) q else y.parts id) e) k
 
 -- a part was repeated under a name

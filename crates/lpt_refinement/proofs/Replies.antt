@@ -3,7 +3,7 @@ use Rattle.std.proofs.Common.{◌≡◌, ◌∙◌, ap, refl, ℕ, ◌+◌, Bool
 use Rattle.std.specs.FinMap as maps
 use Rattle.lpt_model.specs.LptPacket.declared.direction.Direction.{Direction}
 use Rattle.lpt_model.specs.LptPacket.Names.{Name}
-use Rattle.lpt_model.specs.LptPart.Parts.{Piece}
+use Rattle.lpt_model.specs.LptEvents.NamedParts.{NamedPart}
 use Rattle.lpt_model.specs.LptPart.declared.reason.Reason.{Reason}
 use Rattle.lpt_model.specs.LptPart.declared.reason.Reason.TheVariants as reason
 use Rattle.lpt_model.specs.LptNode.declared.accepted.Accepted.{Accepted}
@@ -85,19 +85,19 @@ abbrev reply_told : Config → History → Side → ℕ → Outcome → Reply
 reply_told c h side n o = reply_with n (Delivered o) (outcome_puts c h side o)
 
 told_part : (c : Config) (h : History) (side : Side) (n : ℕ) (d : NodeData) (t : ReceiverState)
-    (q : Piece) (before with_it : Parts) (closed full contra again gap there whole : Bool)
+    (q : NamedPart) (before with_it : Parts) (closed full contra again gap there whole : Bool)
     → reply_to n
     (delivery side closed full contra again gap there whole (abort_head side c d) d t q before with_it)
     ≡ reply_told c h side n (chosen closed full contra again gap whole q (length (spelled with_it)))
 told_part c h side n d t q before with_it true full contra again gap there whole = refl
 told_part c h side n d t q before with_it false true contra again gap there whole = refl
 told_part c h side n d t q before with_it false false true again gap there whole =
-    told_report c h side d n (Delivered (Broken q.id reason.Conflict)) q.id reason.Conflict
+    told_report c h side d n (Delivered (Broken q.name reason.Conflict)) q.name reason.Conflict
 told_part c h side n d t q before with_it false false false true gap there whole = refl
 told_part c h side n d t q before with_it false false false false true true whole =
-    told_report c h side d n (Delivered (Broken q.id reason.Discontinuity)) q.id reason.Discontinuity
+    told_report c h side d n (Delivered (Broken q.name reason.Discontinuity)) q.name reason.Discontinuity
 told_part c h side n d t q before with_it false false false false true false whole =
-    told_report c h side d n (Delivered (Broken q.id reason.Discontinuity)) q.id reason.Discontinuity
+    told_report c h side d n (Delivered (Broken q.name reason.Discontinuity)) q.name reason.Discontinuity
 told_part c h side n d t q before with_it false false false false false there true = refl
 told_part c h side n d t q before with_it false false false false false there false = refl
 
@@ -114,12 +114,12 @@ reply_delivered c h w d n own (AReport service subtype) = refl
 reply_delivered c h w d n own (ARequest b) = refl
 reply_delivered c h w d n own (AnAbort id r) = refl
 reply_delivered c h w d n own (APart q) =
-    let s = heard c h w q.id in
+    let s = heard c h w q.name in
     ap (reply_to n) (part_agrees c h w d q own)
     ∙ told_part c h (receiver_side w) n d (receiver_of c d.receiving) q s (with_piece s q)
-    (is_closed h w q.id) (not (has_parts s) && nat_le c.receptions (reception_count c h w))
+    (is_closed h w q.name) (not (has_parts s) && nat_le c.receptions (reception_count c h w))
     (contradicts s q.number (kept q)) (is_some (maps.get s q.number))
-    (is_gap c.mode s q.number) (is_there (table_in (receiver_of c d.receiving)) q.id)
+    (is_gap c.mode s q.number) (is_there (table_in (receiver_of c d.receiving)) q.name)
     (is_whole (with_piece s q))
 
 -- ---- expiry

@@ -4,6 +4,7 @@ use Rattle.std.proofs.lemmas.Bool.Decides.{nat_tests}
 use Rattle.std.specs.FinMap as maps
 use Rattle.std.specs.Ordering.{nat_cmp}
 use Rattle.std.specs.Cmp.{nat_cmp_total, unsigned_tied}
+use Rattle.lpt_script.specs.LptWorld.LptEvents.NamedParts.{NamedPart}
 use Rattle.lpt_script.specs.LptWorld.LptEvents.Arrivals.{Arrival, NotRead, AnIdle, Foreign, ARequest, AReport, NoPart, APart, AnAbort}
 use Rattle.lpt_script.specs.LptWorld.LptEvents.Lanes.{lane_direction, same_direction}
 use Rattle.lpt_script.specs.LptWorld.LptEvents.Sides.{direction_to, receiver_side, same_side}
@@ -24,7 +25,6 @@ use Rattle.lpt_script.specs.LptWorld.LptJournal.LptReception.Received.{Parts, co
 use Rattle.lpt_script.specs.LptWorld.LptMemory.Memories.{Contents}
 use Rattle.lpt_script.specs.LptWorld.LptPacket.declared.direction.Direction.{Direction}
 use Rattle.lpt_script.specs.LptWorld.LptPacket.Names.{Name, no_name, same_name}
-use Rattle.lpt_script.specs.LptWorld.LptPart.Parts.{Piece}
 use Rattle.lpt_script.specs.LptWorld.LptPart.declared.reason.Reason.TheVariants.{Conflict, Discontinuity}
 use Rattle.lpt_shell.specs.Kept.{has_number, kept_now, kept_numbers}
 use Rattle.lpt_shell.specs.Laws.{KeptAreHeard}
@@ -50,14 +50,14 @@ Agree s ns = (k : ℕ) → is_some (maps.get s k) ≡ has_number ns k
 none_agree : Agree no_parts []
 none_agree k = ap is_some (maps.get-empty nat_cmp k)
 
-get_piece : (s : Parts) (q : Piece) (k : ℕ)
+get_piece : (s : Parts) (q : NamedPart) (k : ℕ)
     → maps.get (with_piece s q) k ≡ (if k == q.number then Some (kept q) else maps.get s k)
 get_piece s q k =
     maps.get-insert nat_cmp_total s q.number (kept q) k
     ∙ ap (λ b. if b then Some (kept q) else maps.get s k) (unsigned_tied k q.number)
 
 -- with a part more
-more_agree : (s : Parts) (ns : List ℕ) (q : Piece)
+more_agree : (s : Parts) (ns : List ℕ) (q : NamedPart)
     → Agree s ns
     → Agree (with_piece s q) (ns ++ q.number ∷ [])
 more_agree s ns q agree k =
@@ -74,18 +74,18 @@ more_agree s ns q agree k =
 
 -- a part that is kept has arrived, and the reply has its number
 abbrev Tells : Arrival → Outcome → Type 0
-Tells a (Kept i n) = (q : Piece) × (a ≡ APart q) × (q.number ≡ n)
+Tells a (Kept i n) = (q : NamedPart) × (a ≡ APart q) × (q.number ≡ n)
 Tells a _ = Unit {0}
 
-part_tells : (closed full clash again gap whole : Bool) (q : Piece) (len : ℕ)
+part_tells : (closed full clash again gap whole : Bool) (q : NamedPart) (len : ℕ)
     → Tells (APart q)
     (if closed then Ignored Closed
     else if full then Ignored NoRoom
-    else if clash then Broken q.id Conflict
-    else if again then Again q.id q.number
-    else if gap then Broken q.id Discontinuity
-    else if whole then Released q.id len
-    else Kept q.id q.number)
+    else if clash then Broken q.name Conflict
+    else if again then Again q.name q.number
+    else if gap then Broken q.name Discontinuity
+    else if whole then Released q.name len
+    else Kept q.name q.number)
 part_tells true full clash again gap whole q len = tt
 part_tells false true clash again gap whole q len = tt
 part_tells false false true again gap whole q len = tt
@@ -96,8 +96,8 @@ part_tells false false false false false false q len = (q, refl, refl)
 
 judged_tells : (c : Config) (h : History) (d : Direction) (a : Arrival) → Tells a (judged c h d a)
 judged_tells c h d (APart q) =
-    let s = heard c h d q.id in
-    part_tells (is_closed h d q.id) (not (has_parts s) && nat_le c.receptions (reception_count c h d))
+    let s = heard c h d q.name in
+    part_tells (is_closed h d q.name) (not (has_parts s) && nat_le c.receptions (reception_count c h d))
     (contradicts s q.number (kept q)) (is_some (maps.get s q.number)) (is_gap c.mode s q.number)
     (is_whole (with_piece s q)) q (length (spelled (with_piece s q)))
 judged_tells c h d NotRead = tt

@@ -9,7 +9,7 @@ use Rattle.lpt_journal.specs.LptPacket.declared.direction.Direction.{Direction}
 use Rattle.lpt_journal.specs.LptPacket.Names.{Name}
 use Rattle.lpt_journal.specs.LptPart.declared.mode.Mode.{Mode}
 use Rattle.lpt_journal.specs.LptPart.declared.reason.Reason.TheVariants.{Conflict, Discontinuity}
-use Rattle.lpt_journal.specs.LptPart.Parts.{Piece}
+use Rattle.lpt_journal.specs.LptEvents.NamedParts.{NamedPart}
 use Rattle.lpt_journal.specs.LptReception.Received.{Parts, greatest_of, is_strict, is_whole}
 use Rattle.lpt_journal.specs.LptEvents.declared.lane.Lane.{Lane}
 use Rattle.lpt_journal.specs.LptEvents.Lanes.{lane_direction}
@@ -50,18 +50,18 @@ has_parts_is s = λ i. not (map.len-entries s i == 0)
 abbrev gap_listed : Mode → Listed → ℕ → Bool
 gap_listed mode s n = is_strict mode && not (n == greatest_of s + 1)
 
-abbrev judged_list : Mode → (limit : ℕ) (closed : Bool) (open_now : ℕ) → Listed → Piece → Outcome
+abbrev judged_list : Mode → (limit : ℕ) (closed : Bool) (open_now : ℕ) → Listed → NamedPart → Outcome
 judged_list mode limit closed open_now s q =
     if closed then Ignored Closed
     else if not (has_listed s) && nat_le limit open_now then Ignored NoRoom
-    else if contradicts_listed s q then Broken q.id Conflict
-    else if is_some (find nat_cmp q.number s) then Again q.id q.number
-    else if gap_listed mode s q.number then Broken q.id Discontinuity
+    else if contradicts_listed s q then Broken q.name Conflict
+    else if is_some (find nat_cmp q.number s) then Again q.name q.number
+    else if gap_listed mode s q.number then Broken q.name Discontinuity
     else if whole_listed (with_listed s q)
-    then Released q.id (length (spelled_listed (with_listed s q)))
-    else Kept q.id q.number
+    then Released q.name (length (spelled_listed (with_listed s q)))
+    else Kept q.name q.number
 
-judged_part_is : (mode : Mode) (limit : ℕ) (closed : Bool) (open_now : ℕ) (s : Parts) (q : Piece)
+judged_part_is : (mode : Mode) (limit : ℕ) (closed : Bool) (open_now : ℕ) (s : Parts) (q : NamedPart)
     → judged_part mode limit closed open_now s q
     ≡ judged_list mode limit closed open_now (map.entries s) q
 judged_part_is mode limit closed open_now s q =
@@ -70,19 +70,19 @@ judged_part_is mode limit closed open_now s q =
     λ i.
     if closed then Ignored Closed
     else if not (has_parts_is s i) && nat_le limit open_now then Ignored NoRoom
-    else if contradicts_is s q i then Broken q.id Conflict
-    else if is_some (map.get-entries s q.number i) then Again q.id q.number
-    else if gap_listed mode (map.entries s) q.number then Broken q.id Discontinuity
-    else if whole i then Released q.id (length (spelled_listed (entries-with_piece s q i)))
-    else Kept q.id q.number
+    else if contradicts_is s q i then Broken q.name Conflict
+    else if is_some (map.get-entries s q.number i) then Again q.name q.number
+    else if gap_listed mode (map.entries s) q.number then Broken q.name Discontinuity
+    else if whole i then Released q.name (length (spelled_listed (entries-with_piece s q i)))
+    else Kept q.name q.number
 
 abbrev names_listed : Config → History → Direction → List Name
 names_listed c h d = once (filter (λ id. has_listed (listed c h d id)) (heard_names h d))
 
 abbrev judged_listed : Config → History → Direction → Arrival → Outcome
 judged_listed c h d (APart q) =
-    judged_list c.mode c.receptions (is_closed h d q.id) (length (names_listed c h d))
-    (listed c h d q.id) q
+    judged_list c.mode c.receptions (is_closed h d q.name) (length (names_listed c h d))
+    (listed c h d q.name) q
 judged_listed c h d a = judged c h d a
 
 -- what becomes of the packet in a lane's hand, by the lists
@@ -96,10 +96,10 @@ has_is c h d id = has_parts_is (heard c h d id) ∙ ap has_listed (entries-heard
 judged_is : (c : Config) (h : History) (d : Direction) (a : Arrival)
     → judged c h d a ≡ judged_listed c h d a
 judged_is c h d (APart q) =
-    judged_part_is c.mode c.receptions (is_closed h d q.id) (length (open_names c h d))
-    (heard c h d q.id) q
-    ∙ (λ i. judged_list c.mode c.receptions (is_closed h d q.id)
-    (length (once (filter (λ id. has_is c h d id i) (heard_names h d)))) (entries-heard c h d q.id i) q)
+    judged_part_is c.mode c.receptions (is_closed h d q.name) (length (open_names c h d))
+    (heard c h d q.name) q
+    ∙ (λ i. judged_list c.mode c.receptions (is_closed h d q.name)
+    (length (once (filter (λ id. has_is c h d id i) (heard_names h d)))) (entries-heard c h d q.name i) q)
 judged_is c h d a = refl
 
 -- ---- expiry

@@ -8,7 +8,7 @@ use Rattle.std.specs.Ordering.{nat_cmp}
 use Rattle.std.specs.Cmp.{nat_cmp_total}
 use Rattle.lpt_journal.specs.LptPacket.declared.direction.Direction.{Direction}
 use Rattle.lpt_journal.specs.LptPacket.Names.{Name, same_name}
-use Rattle.lpt_journal.specs.LptPart.Parts.{Piece}
+use Rattle.lpt_journal.specs.LptEvents.NamedParts.{NamedPart}
 use Rattle.lpt_journal.specs.LptReception.Received.{Kept as KeptPart, Parts, no_parts, differs, is_last, contradicts, has_all_to, is_whole}
 use Rattle.lpt_journal.specs.LptEvents.declared.lane.Lane.{Lane}
 use Rattle.lpt_journal.specs.LptEvents.Lanes.{lane_direction, same_direction}
@@ -32,7 +32,7 @@ abbrev pub Listed : Type 0
 Listed = List (ℕ × KeptPart)
 
 -- the list with a part added
-abbrev pub with_listed : Listed → Piece → Listed
+abbrev pub with_listed : Listed → NamedPart → Listed
 with_listed s q = put nat_cmp q.number (kept q) s
 
 -- whether a last part's number is below another's
@@ -40,7 +40,7 @@ abbrev pub overruns : Listed → Bool
 overruns s = list_any (λ e. is_last e.1 && list_any (λ f. nat_lt e.0 f.0) s) s
 
 -- whether a part contradicts a list of parts
-abbrev pub contradicts_listed : Listed → Piece → Bool
+abbrev pub contradicts_listed : Listed → NamedPart → Bool
 contradicts_listed s q = differs (find nat_cmp q.number s) (kept q) || overruns (with_listed s q)
 
 -- whether the parts 1 to n are there
@@ -57,12 +57,12 @@ abbrev pub spelled_listed : Listed → List ℕ
 spelled_listed s = flat_map (λ e. e.1.octets) s
 
 -- a set with a part added is the list with it added
-pub entries-with_piece : (s : Parts) (q : Piece)
+pub entries-with_piece : (s : Parts) (q : NamedPart)
     → map.entries (with_piece s q) ≡ with_listed (map.entries s) q
 entries-with_piece s q = map.entries-insert nat_cmp_total s q.number (kept q)
 
 -- the tests of a set are those of its list
-pub contradicts_is : (s : Parts) (q : Piece)
+pub contradicts_is : (s : Parts) (q : NamedPart)
     → contradicts s q.number (kept q) ≡ contradicts_listed (map.entries s) q
 contradicts_is s q =
     λ i. differs (map.get-entries s q.number i) (kept q) || overruns (entries-with_piece s q i)

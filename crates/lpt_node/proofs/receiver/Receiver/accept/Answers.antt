@@ -2,6 +2,7 @@
 use Rattle.std.proofs.Common.{[], ap, rules}
 use Rattle.std.specs.Option.{option_map}
 use Rattle.lpt_execution.specs.LptPart.Parts.{piece}
+use Rattle.lpt_execution.specs.LptEvents.NamedParts.{named}
 use Rattle.lpt_execution.specs.LptPus.Telemetry.{telemetry, as_written}
 use Rattle.lpt_table.specs.LptReception.Received.{Ended, BrokenOff}
 use Rattle.lpt_node.proofs.ReceiverLemmas.{received-closed, received-kept, received-again, received-no_room, received-whole, received-broken, received-gap, grows-gap, grows-kept, grows-whole, grows-broken}
@@ -10,7 +11,7 @@ use Rattle.lpt_node.proofs.receiver.Receiver.accept.Goals as goal
 
 pub returns-then-ne-clause-ok : goal.returns-then-ne-clause-ok
 returns-then-ne-clause-ok c =
-    received-closed (option_map (λ h. as_written (telemetry h [])) c.args.head) c.args.self.now (piece c.args.part.now) c.args.now
+    received-closed (option_map (λ h. as_written (telemetry h [])) c.args.head) c.args.self.now (named (piece c.args.part.now)) c.args.now
     (search rules)
 
 pub invariant_of-self : goal.invariant_of-self
@@ -56,7 +57,7 @@ invariant_of-self-in-Conflict c =
 pub returns-in-Kept-clause-ok : goal.returns-in-Kept-clause-ok
 returns-in-Kept-clause-ok c =
     received-kept (option_map (λ h. as_written (telemetry h [])) c.args.head) c.self.inside.ledger c.self.inside.table c.offer.new.self
-    (piece c.args.part.now) c.args.now c.args.self.now
+    (named (piece c.args.part.now)) c.args.now c.args.self.now
     c.self.view_is
     c.self.invariant
     (search rules)
@@ -67,7 +68,7 @@ returns-in-Kept-clause-ok c =
 pub returns-in-Again-clause-ok : goal.returns-in-Again-clause-ok
 returns-in-Again-clause-ok c =
     received-again (option_map (λ h. as_written (telemetry h [])) c.args.head) c.self.inside.ledger c.self.inside.table c.offer.new.self
-    (piece c.args.part.now) c.args.now c.args.self.now
+    (named (piece c.args.part.now)) c.args.now c.args.self.now
     c.self.view_is
     c.self.invariant
     (search rules)
@@ -78,7 +79,7 @@ returns-in-Again-clause-ok c =
 pub returns-in-NoRoom-clause-ok : goal.returns-in-NoRoom-clause-ok
 returns-in-NoRoom-clause-ok c =
     received-no_room (option_map (λ h. as_written (telemetry h [])) c.args.head) c.self.inside.ledger c.self.inside.table c.offer.new.self
-    (piece c.args.part.now) c.args.now c.args.self.now
+    (named (piece c.args.part.now)) c.args.now c.args.self.now
     c.self.view_is
     c.self.invariant
     (search rules)
@@ -88,7 +89,7 @@ returns-in-NoRoom-clause-ok c =
 pub returns-in-Whole-clause-ok : goal.returns-in-Whole-clause-ok
 returns-in-Whole-clause-ok c =
     received-whole (option_map (λ h. as_written (telemetry h [])) c.args.head) c.self.inside.ledger c.self.inside.table c.offer.new.self
-    (piece c.args.part.now) c.args.now c.args.self.now
+    (named (piece c.args.part.now)) c.args.now c.args.self.now
     c.self.view_is
     c.self.invariant
     (search rules)
@@ -104,7 +105,7 @@ returns-in-Whole-clause-ok c =
 pub returns-in-Conflict-clause-ok : goal.returns-in-Conflict-clause-ok
 returns-in-Conflict-clause-ok c =
     received-broken (option_map (λ h. as_written (telemetry h [])) c.args.head) c.self.inside.ledger c.self.inside.table c.offer.new.self
-    (piece c.args.part.now) c.args.now c.args.self.now
+    (named (piece c.args.part.now)) c.args.now c.args.self.now
     c.self.view_is
     c.self.invariant
     (search rules)
@@ -119,7 +120,7 @@ returns-in-Conflict-clause-ok c =
 pub returns-in-Memory-clause-memory : goal.returns-in-Memory-clause-memory
 returns-in-Memory-clause-memory c =
     grows-kept (option_map (λ h. as_written (telemetry h [])) c.args.head) c.self.inside.ledger c.self.inside.table c.offer.new.self
-    (piece c.args.part.now) c.args.now c.args.self.now
+    (named (piece c.args.part.now)) c.args.now c.args.self.now
     c.self.view_is
     c.self.invariant
     (search rules)
@@ -128,7 +129,7 @@ returns-in-Memory-clause-memory c =
 pub returns-in-Whole-clause-memory : goal.returns-in-Whole-clause-memory
 returns-in-Whole-clause-memory c =
     grows-whole (option_map (λ h. as_written (telemetry h [])) c.args.head) c.self.inside.ledger c.self.inside.table c.offer.new.self
-    (piece c.args.part.now) c.args.now c.args.self.now
+    (named (piece c.args.part.now)) c.args.now c.args.self.now
     c.self.view_is
     c.self.invariant
     (search rules)
@@ -138,7 +139,7 @@ returns-in-Whole-clause-memory c =
 pub returns-in-Conflict-clause-memory : goal.returns-in-Conflict-clause-memory
 returns-in-Conflict-clause-memory c =
     grows-broken (option_map (λ h. as_written (telemetry h [])) c.args.head) c.self.inside.ledger c.self.inside.table c.offer.new.self
-    (piece c.args.part.now) c.args.now c.args.self.now
+    (named (piece c.args.part.now)) c.args.now c.args.self.now
     c.self.view_is
     c.self.invariant
     (search rules)
@@ -158,7 +159,7 @@ invariant_of-self-in-Gap c =
 pub returns-in-Gap-clause-ok : goal.returns-in-Gap-clause-ok
 returns-in-Gap-clause-ok c =
     received-gap (option_map (λ h. as_written (telemetry h [])) c.args.head) c.self.inside.ledger c.self.inside.table c.offer.new.self
-    (piece c.args.part.now) c.args.now c.args.self.now
+    (named (piece c.args.part.now)) c.args.now c.args.self.now
     c.self.view_is
     c.self.invariant
     (search rules)
@@ -172,7 +173,7 @@ returns-in-Gap-clause-ok c =
 pub returns-in-Gap-clause-memory : goal.returns-in-Gap-clause-memory
 returns-in-Gap-clause-memory c =
     grows-gap (option_map (λ h. as_written (telemetry h [])) c.args.head) c.self.inside.ledger c.self.inside.table c.offer.new.self
-    (piece c.args.part.now) c.args.now c.args.self.now
+    (named (piece c.args.part.now)) c.args.now c.args.self.now
     c.self.view_is
     c.self.invariant
     (search rules)

@@ -1,0 +1,20 @@
+-- A part with the name of its transaction: a body has an identifier alone.
+use Rattle.std.specs.Prelude.{ℕ, List}
+use Rattle.lpt_pus.specs.LptPacket.Names.{Name}
+use Rattle.lpt_part.specs.declared.kind.Kind.{Kind}
+use Rattle.lpt_part.specs.Parts.{Piece}
+
+-- a part of the transaction of this name
+pub record NamedPart : Type 0 where
+  pub name : Name
+  pub number : ℕ
+  pub kind : Kind
+  pub octets : List ℕ
+
+-- a part under the name that its identifier means
+abbrev pub named : Piece → NamedPart
+named q = record { name = q.id; number = q.number; kind = q.kind; octets = q.octets }
+
+-- what a body says of a part
+abbrev pub bare : NamedPart → Piece
+bare q = record { id = q.name; number = q.number; kind = q.kind; octets = q.octets }
