@@ -1,8 +1,9 @@
 //! The octets of dump reports, from a file or standard input to standard output.
 
 use crate::end::{Failure, Status, tell_place};
-use crate::input::{opened, read_failure};
+use crate::input::{opened, packets_failure};
 use crate::streams::{finish, output};
+use lpt_capture::Captured;
 use lpt_command_line::ExtractWords;
 use lpt_extract::{ExtractEnd, Listener, Notice, Place, Span, Wanted, extract_stream};
 use lpt_files::{Config, ToolFault};
@@ -28,8 +29,8 @@ impl Listener for Telling<'_> {
 
 /// Writes the octets that dump reports hold.
 ///
-/// Errors: `Read` where the packets can't be opened or read; `Write`; `Memory`, also for an image that
-/// would be too large.
+/// Errors: `Read` where the packets can't be opened or read, or their capture is wrong; `Write`;
+/// `Memory`, also for an image that would be too large.
 pub fn extract(
     rt: &HostRuntime,
     config: &Config,
@@ -43,12 +44,12 @@ pub fn extract(
         apid: config.apid,
         at,
     };
-    let mut source = opened(rt, words.file)?;
+    let mut source = Captured::new(opened(rt, words.file)?);
     let mut out = output(rt)?;
     let mut telling = Telling { rt };
     let extracted = extract_stream(rt.alloc(), &wanted, &mut source, &mut out, &mut telling);
     let failure = match extracted {
-        Err(ToolFault::Read) => Some(read_failure(rt, &source, words.file)),
+        Err(ToolFault::Read) => Some(packets_failure(rt, &source, words.file)),
         _ => None,
     };
     drop(source);

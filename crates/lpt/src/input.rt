@@ -2,6 +2,7 @@
 
 use crate::end::Failure;
 use crate::watched::Watched;
+use lpt_capture::Captured;
 use lpt_files::{Told, ToolFault};
 use std::fs::File;
 use std::io::{self, Read, StdinLock};
@@ -29,6 +30,9 @@ impl Read for Input {
 
 /// Octets as they come from a file or standard input, which keeps why it failed.
 pub type Incoming = Told<Watched<Input>>;
+
+/// Octets of packets as they come: the records of a capture, or what is none as it is.
+pub type Packets = Captured<Incoming>;
 
 /// The file at this path, or standard input for `-`, to be read.
 ///
@@ -64,5 +68,17 @@ pub fn read_failure(rt: &HostRuntime, source: &Incoming, path: &str) -> Failure 
             Failure::at(ToolFault::Read, place)
         }
         None => Failure::from(ToolFault::Read),
+    }
+}
+
+/// Why the packets that are read at this path failed: what is wrong with the capture, or the read.
+pub fn packets_failure(rt: &HostRuntime, packets: &Packets, path: &str) -> Failure {
+    match packets.fault() {
+        Some(fault) => {
+            let name = name_of(path);
+            let place = format!(in rt.alloc(); "{name}: {fault}");
+            Failure::at(ToolFault::Read, place)
+        }
+        None => read_failure(rt, packets.source(), path),
     }
 }

@@ -3,8 +3,9 @@
 ghost use Rattle.lpt_files.specs.LptEvents.Configs.{IsConfig};
 
 use crate::end::{Failure, Status, tell_place};
-use crate::input::{Incoming, opened, read_failure};
+use crate::input::{Packets, opened, packets_failure};
 use crate::streams::{Output, finish, output};
+use lpt_capture::Captured;
 use lpt_command_line::JoinWords;
 use lpt_files::{
     Came, Config, Direction, Gatherings, JoinEnd, Joining, ToolFault, Transaction, join_message,
@@ -23,15 +24,16 @@ enum Joined {
 
 /// Writes the message that packets carry.
 ///
-/// Errors: `Read` where the packets can't be opened or read; `Write`, `Memory`.
+/// Errors: `Read` where the packets can't be opened or read, or their capture is wrong; `Write`,
+/// `Memory`.
 pub fn join(rt: &HostRuntime, config: &Config, words: &JoinWords<'_>) -> Result<Status, Failure>
     requires { IsConfig config.now }
 {
-    let mut source = opened(rt, words.file)?;
+    let mut source = Captured::new(opened(rt, words.file)?);
     let mut out = output(rt)?;
     let joined = join_packets(rt.alloc(), config, words, &mut source, &mut out);
     let failure = match &joined {
-        Err(ToolFault::Read) => Some(read_failure(rt, &source, words.file)),
+        Err(ToolFault::Read) => Some(packets_failure(rt, &source, words.file)),
         _ => None,
     };
     drop(source);
@@ -48,7 +50,7 @@ fn join_packets(
     alloc: Global,
     config: &Config,
     words: &JoinWords<'_>,
-    source: &mut Incoming,
+    source: &mut Packets,
     out: &mut Output<'_>,
 ) -> Result<Joined, ToolFault>
     requires { IsConfig config.now }

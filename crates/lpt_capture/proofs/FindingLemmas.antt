@@ -1,0 +1,110 @@
+-- What is given of what is to be found, where the octets of a source may be unknown.
+use Rattle.std.proofs.Common.{◌≡◌, ◌∙◌, ap, sym, subst, refl, ℕ, ◌≤◌, ◌<◌, ◌-◌, List, [], ◌++◌, length, Option, Some, None}
+use Rattle.std.specs.Option.{option_map}
+use Rattle.std.specs.Io.KnownBytes.{Consumes, IsAtEnd, Keeps, prepend_known}
+use Rattle.lpt_capture.specs.declared.place.Place.{Place}
+use Rattle.lpt_capture.specs.declared.place.Place.TheVariants.{Front, Plain}
+use Rattle.lpt_capture.specs.Captured.{Finding, sound, before, found_in, in_record, order_of}
+use Rattle.lpt_capture.specs.States.{Gives, IsDone, found_at, front_size, octets_of}
+use Rattle.lpt_capture.proofs.CaptureLemmas.{plain_front, record_given}
+
+-- before nothing
+before-nil : (f : Finding) → before [] f ≡ f
+before-nil f = refl
+
+pub gives-nil : (o : Option Finding) → Gives o o []
+gives-nil None = tt
+gives-nil (Some f) = refl
+
+pub gives-trans : (a b c : Option Finding) → Gives a b [] → Gives b c [] → Gives a c []
+gives-trans None b c p q = tt
+gives-trans (Some f) None c p q = absurd p
+gives-trans (Some f) (Some g) None p q = absurd q
+gives-trans (Some f) (Some g) (Some h) p q = p ∙ q
+
+-- what is given after nothing was
+pub gives-after : (a b c : Option Finding) (xs : List ℕ) → Gives a b [] → Gives b c xs → Gives a c xs
+gives-after None b c xs p q = tt
+gives-after (Some f) None c xs p q = absurd p
+gives-after (Some f) (Some g) None xs p q = absurd q
+gives-after (Some f) (Some g) (Some h) xs p q = p ∙ q
+
+-- octets that are read ahead change nothing
+pub gives-kept : (f : List ℕ → Finding) (a b : Option (List ℕ))
+    → Keeps a b
+    → Gives (option_map f a) (option_map f b) []
+gives-kept f None b h = tt
+gives-kept f (Some x) None h = absurd h
+gives-kept f (Some x) (Some y) h = ap f (sym h)
+
+-- a header that was passed over changes nothing
+pub gives-behind : (f g : List ℕ → Finding) (h k : List ℕ) (rest : Option (List ℕ))
+    → ((b : List ℕ) → (IsAtEnd rest → b ≡ []) → f (h ++ b) ≡ g (k ++ b))
+    → Gives (option_map f (prepend_known h rest)) (option_map g (prepend_known k rest)) []
+gives-behind f g h k None same = tt
+gives-behind f g h k (Some x) same = same x (λ e. e)
+
+-- octets that are consumed are given
+pub gives-consumed : (f g : List ℕ → Finding) (a b : Option (List ℕ)) (xs : List ℕ)
+    → Consumes a b xs
+    → ((r : List ℕ) → f (xs ++ r) ≡ before xs (g r))
+    → Gives (option_map f a) (option_map g b) xs
+gives-consumed f g None b xs h made = tt
+gives-consumed f g (Some x) None xs h made = absurd h
+gives-consumed f g (Some x) (Some y) xs h made = ap f h ∙ made y
+
+-- at the end
+pub done-end : (g : List ℕ → Finding) (b : Option (List ℕ))
+    → IsAtEnd b
+    → g [] ≡ sound []
+    → IsDone (option_map g b)
+done-end g None h none = tt
+done-end g (Some y) h none = ap g h ∙ none
+
+-- a front that is no capture's, of which enough is held
+pub plain-found : (p : Place) (a : Option (List ℕ)) (h : List ℕ) (rest : Option (List ℕ))
+    → p ≡ Front
+    → Keeps a (prepend_known h rest)
+    → order_of h ≡ None
+    → (length h < front_size (order_of h) → IsAtEnd rest)
+    → Gives (option_map (found_at p) a) (option_map (found_at Plain) (prepend_known h rest)) []
+plain-found p a h rest place same plain end =
+    let kept = gives-kept found_in a (prepend_known h rest) same in
+    let front : Gives (option_map (found_at p) a) (option_map found_in (prepend_known h rest)) [] =
+    subst (λ q. Gives (option_map (found_at q) a) (option_map found_in (prepend_known h rest)) []) (sym place) kept in
+    gives-trans _ _ _ front
+    (gives-behind found_in (found_at Plain) h h rest
+    (λ b ended. plain_front h b plain (λ short. ended (end (subst (λ o. length h < front_size o) (sym plain) short)))))
+
+-- octets of a record are given
+pub record-found : (f g : List ℕ → Finding) (at left : ℕ) (others : List ℕ → Finding) (a b : Option (List ℕ)) (xs zs : List ℕ)
+    → Consumes a b xs
+    → length xs ≤ left
+    → zs ≡ xs
+    → ((r : List ℕ) → f r ≡ in_record at left r others)
+    → ((r : List ℕ) → g r ≡ in_record at (left - length xs) r others)
+    → Gives (option_map f a) (option_map g b) zs
+record-found f g at left others a b xs zs came within same front rest =
+    subst (λ ys. Gives (option_map f a) (option_map g b) ys) (sym same)
+    (gives-consumed f g a b xs came
+    (λ r. front (xs ++ r) ∙ record_given at left xs r others within ∙ ap (before xs) (sym (rest r))))
+
+-- ---- as a source
+
+pub consumes-given : (a b : Option Finding) (xs : List ℕ)
+    → Gives a b xs
+    → Consumes (option_map octets_of a) (option_map octets_of b) xs
+consumes-given None b xs h = tt
+consumes-given (Some f) None xs h = absurd h
+consumes-given (Some f) (Some g) xs h = ap octets_of h
+
+pub keeps-given : (a b : Option Finding)
+    → Gives a b []
+    → Keeps (option_map octets_of a) (option_map octets_of b)
+keeps-given None b h = tt
+keeps-given (Some f) None h = absurd h
+keeps-given (Some f) (Some g) h = sym (ap octets_of h)
+
+pub end-done : (b : Option Finding) → IsDone b → IsAtEnd (option_map octets_of b)
+end-done None h = tt
+end-done (Some f) h = ap octets_of h

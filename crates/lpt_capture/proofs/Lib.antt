@@ -1,0 +1,4 @@
+pub mod AheadLemmas
+pub mod CaptureLemmas
+pub mod FindingLemmas
+pub mod LawLemmas

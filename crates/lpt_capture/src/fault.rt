@@ -1,0 +1,17 @@
+//! What is wrong with a capture.
+
+use thiserror::Error;
+
+/// The first fault of a capture, with its place in the file.
+#[derive(Clone, Copy, Debug, Error)]
+pub enum CaptureFault {
+    /// The front of the file, or the record, that begins at this octet isn't whole.
+    #[error("octet {0}: the capture ends within what begins here")]
+    Short(u64),
+    /// Its link type isn't 147.
+    #[error("octet 20: the capture's link type is {0}, and not 147")]
+    LinkType(u32),
+    /// The record that begins at this octet has so many octets.
+    #[error("octet {0}: a record of {1} octets, and not of 1 to 65542")]
+    Size(u64, u32),
+}
