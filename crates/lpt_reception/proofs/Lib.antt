@@ -1,7 +1,7 @@
 mod AddLemmas
 mod BufferLemmas
 mod CutLemmas
-mod EndingLemmas
+pub mod EndingLemmas
 pub mod GreatestLemmas
 mod LessLemmas
 mod MarkLemmas

@@ -7,7 +7,7 @@ ghost use Rattle.lpt_reception.specs.PartsOf.{IsMessageOf};
 ghost use Rattle.lpt_reception.specs.Received.{no_parts, with_part, is_whole, spelled};
 
 use crate::store::{Place, Store};
-use crate::{Broken, Step, Whole};
+use crate::{Broken, Step, Took, Whole};
 use lpt_part::{Mode, Octets, Part, Reason, TransactionId};
 use std::alloc::{AllocError, Global};
 use std::marker::Model;
@@ -36,7 +36,8 @@ impl Model for Filling {
 }
 
 impl Filling {
-    ghost use Rattle.lpt_reception.specs.Steps.{kept, IsNew, Answers};
+    ghost use Rattle.lpt_reception.specs.Steps.{kept, IsNew, Answers, Takes};
+    ghost use Rattle.lpt_reception.specs.Endings.{ended_by};
 
     /// A reception with its first part, for parts of `p` octets. The only error is out of memory.
     #[tactic(auto, using(crate::proofs::StartLemmas::not_whole_alone))]
@@ -94,32 +95,54 @@ impl Filling {
         requires p { part.now.p ≡ self.p }
         ensures { Answers mode self part.now.number (kept part.now) result }
     {
+        match self.take(mode, part) {
+            Took::Kept => Step::Filling(self),
+            Took::Again => Step::Again(self),
+            Took::Whole => Step::Whole(self.ended_by(part.number)),
+            Took::Conflict(reason) => Step::Conflict(self.broken_for(reason)),
+            Took::NoMemory => Step::NoMemory(self),
+        }
+    }
+
+    /// Adds a part of this transaction in this mode, and leaves the reception where it is. Where the
+    /// answer is `Whole` or `Conflict`, `ended_by` and `broken_for` give the reception that ended.
+    pub fn take(&mut self, mode: Mode, part: &Part<'_>) -> Took
+        requires id { part.now.id ≡ self.old.id }
+        requires p { part.now.p ≡ self.old.p }
+        ensures { Takes mode self.old part.now.number (kept part.now) result self.new }
+    {
         match self.store.place_of(mode, part) {
-            Place::Clash => {
-                return Step::Conflict(Broken {
-                    before: self,
-                    reason: Reason::Conflict,
-                });
-            }
-            Place::Known => return Step::Again(self),
-            Place::Gap => {
-                return Step::Conflict(Broken {
-                    before: self,
-                    reason: Reason::Discontinuity,
-                });
-            }
+            Place::Clash => return Took::Conflict(Reason::Conflict),
+            Place::Known => return Took::Again,
+            Place::Gap => return Took::Conflict(Reason::Discontinuity),
             Place::New => {}
         }
         let Ok(()) = self.store.add(part) else {
-            return Step::NoMemory(self);
+            return Took::NoMemory;
         };
         if self.store.is_whole(self.p) {
-            return Step::Whole(Whole {
-                all: self,
-                number: part.number,
-            });
+            return Took::Whole;
         }
-        Step::Filling(self)
+        Took::Kept
+    }
+
+    /// The reception as a whole that its part of this number ended.
+    pub fn ended_by(self, number: u16) -> Whole
+        requires whole { is_whole self.parts ≡ true }
+        requires there { IsSome (map.get self.parts number) }
+        ensures { result ≡ ended_by self number }
+    {
+        Whole { all: self, number }
+    }
+
+    /// The reception as one that a part broke off for this reason.
+    pub fn broken_for(self, reason: Reason) -> Broken
+        ensures { result ≡ record { before = self; reason = reason } }
+    {
+        Broken {
+            before: self,
+            reason,
+        }
     }
 
     /// A copy of the message, where all parts are there. The only error is out of memory.

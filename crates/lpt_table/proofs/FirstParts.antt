@@ -1,5 +1,5 @@
 -- A part that comes alone.
-use Rattle.std.proofs.Common.{◌≡◌, ◌∙◌, ap, ℕ, ◌+◌, not, ◌==◌}
+use Rattle.std.proofs.Common.{◌≡◌, ap, ℕ, ◌+◌, not, ◌==◌}
 use Rattle.lpt_reception.specs.Received.{no_parts, greatest}
 use Rattle.lpt_reception.proofs.GreatestLemmas.{greatest_none}
 

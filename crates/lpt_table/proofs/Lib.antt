@@ -8,5 +8,6 @@ mod OrderLemmas
 mod PlaceLemmas
 mod PuttingLemmas
 mod RankLemmas
+mod RenewingLemmas
 mod SpotLemmas
 mod TakingLemmas

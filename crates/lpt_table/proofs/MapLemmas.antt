@@ -51,6 +51,21 @@ module _ {K X : Type 0} {R : K → K → Ordering} (o : IsTotalOrder R) (same : 
       ∙ again (eq_by_cmp R q k) (Some v) None (map.get m q)
       ∙ sym (get-insert o m k v q))
 
+  -- an entry that is removed once it was inserted
+  pub remove-insert : (m : FinMap R X) (k : K) (v : X)
+      → map.remove (map.insert m k v) k ≡ map.remove m k
+  remove-insert m k v =
+      same_map o same _ _ (λ q.
+      get-remove o (map.insert m k v) k q
+      ∙ ap (cond (eq_by_cmp R q k) None) (get-insert o m k v q)
+      ∙ again (eq_by_cmp R q k) None (Some v) (map.get m q)
+      ∙ sym (get-remove o m k q))
+
+  -- an inserted key has its entry
+  pub get-inserted : (m : FinMap R X) (k : K) (v : X) → map.get (map.insert m k v) k ≡ Some v
+  get-inserted m k v =
+      get-insert o m k v k ∙ ap (λ r. cond (is_eq r) (Some v) (map.get m k)) (tied_itself o k)
+
   kept : (m : FinMap R X) (k q : K) (v : X) (b : Bool)
       → eq_by_cmp R q k ≡ b
       → map.get m k ≡ Some v

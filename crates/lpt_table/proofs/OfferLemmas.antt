@@ -1,25 +1,30 @@
--- What the answer of a reception makes of the table that it was taken out of.
-use Rattle.std.specs.Prelude.{◌≡◌, ◌⊎◌, ℕ, Bool, true, false, if◌then◌else◌, Option, not, ◌&&◌, nat_le, Some, None, is_some, IfSome, refl}
+-- What the answer of a reception makes of its table.
+use Rattle.std.specs.Prelude.{◌≡◌, ◌⊎◌, ℕ, Bool, true, false, if◌then◌else◌, Option, not, ◌&&◌, nat_le, Some, None, is_some, IsSome, IfSome, cond, refl}
 use Rattle.std.specs.FinMap as map
+use Rattle.std.specs.FinMap.{get-insert}
+use Rattle.std.specs.Ordering.{is_eq}
+use Rattle.std.specs.Cmp.{nat_cmp_total, tied_itself}
 use Rattle.lpt_reception.proofs.LptPacket.NameLemmas.{name_cmp-IsAntisymmetric, name_cmp_total}
 use Rattle.std.proofs.Common.{sym, ◌∙◌, ap, subst, inl, inr}
 use Rattle.lpt_reception.specs.LptPacket.Names.{Name}
 use Rattle.lpt_reception.specs.LptPart.declared.mode.Mode.{Mode}
 use Rattle.lpt_reception.specs.LptPart.declared.reason.Reason.{Reason}
 use Rattle.lpt_reception.specs.LptPart.declared.reason.Reason.TheVariants as reason
-use Rattle.lpt_reception.specs.declared.step.Step.{Step}
+use Rattle.lpt_reception.specs.declared.step.Took.{Took}
+use Rattle.lpt_reception.specs.declared.step.Took.TheVariants as took
 use Rattle.lpt_reception.specs.declared.step.Step.TheVariants as step
-use Rattle.lpt_reception.specs.Steps.{Answers}
-use Rattle.lpt_reception.specs.Received.{Kept as KeptPart, Parts, Received, Ended, BrokenOff, with_part}
-use Rattle.lpt_table.specs.declared.entries.Entry.{Entry}
+use Rattle.lpt_reception.specs.Endings.{ended_by}
+use Rattle.lpt_reception.specs.Steps.{Answers, Takes}
+use Rattle.lpt_reception.proofs.EndingLemmas.{ended_with}
+use Rattle.lpt_reception.specs.Received.{Kept as KeptPart, Parts, Received, Ended, BrokenOff, with_part, is_whole}
 use Rattle.lpt_table.specs.declared.offer.Offer.{Offer}
 use Rattle.lpt_table.specs.declared.offer.Offer.TheVariants.{Kept, Again, Whole, Conflict, Gap, NoRoom, Memory}
-use Rattle.lpt_table.specs.EntriesOf.{entry_in}
-use Rattle.lpt_table.specs.EntryLists.{IsWithout}
+use Rattle.lpt_table.specs.EntryLists.{Listing, TakesIn, last_after}
 use Rattle.lpt_table.specs.Offering.{is_full, parts_of, parts_at, received_at, with_entry, TakesOut, put_back, offered}
 use Rattle.lpt_table.specs.Offers.{Offers, Its, kind_of}
 use Rattle.lpt_table.specs.Tables.{TableEntry, TableState, Entries}
-use Rattle.lpt_table.proofs.MapLemmas.{insert-remove, insert-same, get-removed}
+use Rattle.lpt_table.proofs.MapLemmas.{insert-remove, insert-same, remove-insert, get-inserted, get-removed}
+use Rattle.lpt_table.proofs.ListingLemmas.{inside}
 
 -- ---- the map after several changes
 
@@ -60,84 +65,181 @@ put_back-takes_out old new id settled h =
     (put_again old id (entry (parts_at old id) h.entry.last) ∙ same_again old id h.entry h.was)
     ∙ ap (λ o. record old { out = o }) (sym settled)
 
--- ---- a reception that was taken out
+-- ---- a reception that stays in its list
 
-module _ (t r new : TableState) (id n now : ℕ) (x : KeptPart) (e : Entry)
-    (w : IsWithout t r id (entry_in e))
-    (named : e.filling.id ≡ id) (of_size : e.filling.p ≡ r.p) where
-  size : r.p ≡ t.p
-  size = ap (λ (t : TableState). t.p) w.now
+-- a list as a table has it
+abbrev pub table : ℕ → Mode → Option (Name × ℕ) → Listing → TableState
+table timeout mode out l = record {
+  limit = l.limit;
+  timeout = timeout;
+  p = l.p;
+  mode = mode;
+  entries = l.entries;
+  out = out;
+}
 
-  same : e.filling ≡ received_at t id
-  same = λ i. record { id = named i; p = (of_size ∙ size) i; parts = ap parts_of (sym w.was) i }
+-- a part changes neither name nor part size
+pub takes_keeps : (mode : Mode) (s new : Received) (n : ℕ) (x : KeptPart) (t : Took)
+    → Takes mode s n x t new
+    → (new.id ≡ s.id) × (new.p ≡ s.p)
+takes_keeps mode s new n x took.Kept h =
+    (ap (λ (r : Received). r.id) h.2, ap (λ (r : Received). r.p) h.2)
+takes_keeps mode s new n x took.Again h =
+    (ap (λ (r : Received). r.id) h.2, ap (λ (r : Received). r.p) h.2)
+takes_keeps mode s new n x took.Whole h =
+    (ap (λ (r : Received). r.id) h.1, ap (λ (r : Received). r.p) h.1)
+takes_keeps mode s new n x (took.Conflict r) h =
+    (ap (λ (r : Received). r.id) h.1, ap (λ (r : Received). r.p) h.1)
+takes_keeps mode s new n x took.NoMemory h =
+    (ap (λ (r : Received). r.id) h.1, ap (λ (r : Received). r.p) h.1)
 
-  not_full : is_full t id ≡ false
-  not_full = ap (λ o. not (is_some o) && nat_le t.limit (map.len t.entries)) w.was
+module _ (timeout : ℕ) (mode : Mode) (gone : Option (Name × ℕ)) (o w : Listing)
+    (id n now : ℕ) (x : KeptPart) where
+  abbrev old : TableState
+  old = table timeout mode gone o
 
-  as_there : (step : Step) → Answers r.mode e.filling n x step → Answers t.mode (received_at t id) n x step
-  as_there step a =
-      subst (λ (s : Received). Answers t.mode s n x step) same
-      (subst (λ (m : Mode). Answers m e.filling n x step) (ap (λ (t : TableState). t.mode) w.now) a)
+  abbrev new : TableState
+  new = table timeout mode gone w
 
-  renewed : (parts : Parts) (last : ℕ) → with_entry r id parts last ≡ with_entry t id parts last
-  renewed parts last =
-      ap (λ (r : TableState). with_entry r id parts last) w.now
-      ∙ put_again t id (entry parts last)
+  abbrev received : Parts → Received
+  received parts = record { id = id; p = o.p; parts = parts }
 
-  takes_out : new ≡ record r { out = Some (id, e.last) } → TakesOut t new id
-  takes_out is = record {
-    entry = entry_in e;
-    was = w.was;
-    now = is ∙ ap (λ (r : TableState). record r { out = Some (id, e.last) }) w.now;
-  }
+  same : (e : TableEntry) → map.get o.entries id ≡ Some e → received e.parts ≡ received_at old id
+  same e was = λ i. record { id = id; p = o.p; parts = ap parts_of (sym was) i }
 
-  pub offers_kept : (f : Received)
-      → Answers r.mode e.filling n x (step.Filling f)
-      → new ≡ with_entry r id f.parts now
-      → Offers t id n x now Kept new
-  offers_kept f a is =
-      let b = as_there (step.Filling f) a in (
-        not_full,
+  not_full : (e : TableEntry) → map.get o.entries id ≡ Some e → is_full old id ≡ false
+  not_full e was = ap (λ r. not (is_some r) && nat_le o.limit (map.len o.entries)) was
+
+  -- the list with this under the name
+  abbrev with : Parts → ℕ → Listing
+  with parts last = record o { entries = map.insert o.entries id (entry parts last) }
+
+  became : (parts : Parts) (last : ℕ)
+      → w ≡ with parts last
+      → new ≡ with_entry old id parts last
+  became parts last is = ap (table timeout mode gone) is
+
+  pub offers_kept : TakesIn mode o w id n now x took.Kept → Offers old id n x now Kept new
+  offers_kept h =
+      let b = subst (λ (s : Received). Answers mode s n x (step.Filling (received h.parts)))
+      (same h.entry h.was) h.takes
+      in (
+        not_full h.entry h.was,
         (b.0, b.1, refl),
-        is ∙ ap (λ (f : Received). with_entry r id f.parts now) b.2
-            ∙ renewed (with_part (parts_at t id) n x) now,
+        became h.parts now h.becomes ∙ ap (λ (f : Received). with_entry old id f.parts now) b.2,
       )
 
-  pub offers_again : (f : Received)
-      → Answers r.mode e.filling n x (step.Again f)
-      → new ≡ with_entry r id f.parts now
-      → Offers t id n x now Again new
-  offers_again f a is =
-      let b = as_there (step.Again f) a in (
-        not_full,
+  pub offers_again : TakesIn mode o w id n now x took.Again → Offers old id n x now Again new
+  offers_again h =
+      let b = subst (λ (s : Received). Answers mode s n x (step.Again (received h.parts)))
+      (same h.entry h.was) h.takes
+      in (
+        not_full h.entry h.was,
         (b.0, b.1, refl),
-        is ∙ ap (λ (f : Received). with_entry r id f.parts now) b.2 ∙ renewed (parts_at t id) now,
+        became h.parts now h.becomes ∙ ap (λ (f : Received). with_entry old id f.parts now) b.2,
       )
 
-  pub offers_whole : (v : Ended)
-      → Answers r.mode e.filling n x (step.Whole v)
-      → new ≡ record r { out = Some (id, e.last) }
-      → Offers t id n x now (Whole v) new
-  offers_whole v a is =
-      (not_full, as_there (step.Whole v) a, takes_out is)
-
-  pub offers_conflict : (b : BrokenOff)
-      → Answers r.mode e.filling n x (step.Conflict b)
-      → new ≡ record r { out = Some (id, e.last) }
-      → Offers t id n x now (Conflict b) new
-  offers_conflict b a is =
-      (not_full, as_there (step.Conflict b) a, takes_out is)
-
-  pub offers_memory : (f : Received)
-      → Answers r.mode e.filling n x (step.NoMemory f)
-      → new ≡ with_entry r id f.parts e.last
-      → Offers t id n x now Memory new
-  offers_memory f a is =
-      let b = as_there (step.NoMemory f) a in (
-        not_full,
+  pub offers_memory : TakesIn mode o w id n now x took.NoMemory → Offers old id n x now Memory new
+  offers_memory h =
+      let b = subst (λ (s : Received). Answers mode s n x (step.NoMemory (received h.parts)))
+      (same h.entry h.was) h.takes
+      in (
+        not_full h.entry h.was,
         (b.0, refl),
-        is ∙ ap (λ (f : Received). with_entry r id f.parts e.last) b.1
-            ∙ renewed (parts_at t id) e.last ∙ same_again t id (entry_in e) w.was,
+        became h.parts h.entry.last h.becomes
+            ∙ ap (λ (f : Received). with_entry old id f.parts h.entry.last) b.1
+            ∙ same_again old id h.entry h.was,
+      )
+
+  -- it is still open
+  pub still_open : (t : Took) → TakesIn mode o w id n now x t → IsSome (map.get w.entries id)
+  still_open t h =
+      ap (λ (l : Listing). is_some (map.get l.entries id)) h.becomes
+      ∙ ap is_some
+      (get-inserted name_cmp_total name_cmp-IsAntisymmetric o.entries id
+      (entry h.parts (last_after t h.entry.last now)))
+
+  -- ---- and is then taken out
+
+  module _ (e : TableEntry) (parts : Parts)
+      (was : map.get o.entries id ≡ Some e) (is : w ≡ with parts e.last) where
+    found : map.get w.entries id ≡ Some (entry parts e.last)
+    found =
+        ap (λ (l : Listing). map.get l.entries id) is
+        ∙ get-inserted name_cmp_total name_cmp-IsAntisymmetric o.entries id (entry parts e.last)
+
+    left : map.remove w.entries id ≡ map.remove o.entries id
+    left =
+        ap (λ (l : Listing). map.remove l.entries id) is
+        ∙ remove-insert name_cmp_total name_cmp-IsAntisymmetric o.entries id (entry parts e.last)
+
+    takes_out : (g : TableState) → TakesOut new g id → TakesOut old g id
+    takes_out g out =
+        let its : out.entry ≡ entry parts e.last = inside out.entry (entry parts e.last)
+        (sym out.was ∙ found)
+        in
+        record {
+          entry = e;
+          was = was;
+          now = out.now ∙ λ i. record {
+            limit = ap (λ (l : Listing). l.limit) is i;
+            timeout = timeout;
+            p = ap (λ (l : Listing). l.p) is i;
+            mode = mode;
+            entries = left i;
+            out = Some (id, ap (λ (y : TableEntry). y.last) its i);
+          };
+        }
+
+    came_out : received_at new id ≡ received parts
+    came_out = λ i. record {
+      id = id;
+      p = ap (λ (l : Listing). l.p) is i;
+      parts = ap parts_of found i;
+    }
+
+  -- a whole comes out with the part
+  module _ (h : TakesIn mode o w id n now x took.Whole) (f : Received)
+      (f_is : f ≡ received_at new id) where
+    came : f ≡ record (received h.entry.parts) { parts = with_part h.entry.parts n x }
+    came = f_is ∙ came_out h.entry h.parts h.was h.becomes ∙ h.takes.1
+
+    pub has_all : is_whole f.parts ≡ true
+    has_all = ap (λ (s : Received). is_whole s.parts) came ∙ h.takes.0.1
+
+    pub has_last : IsSome (map.get f.parts n)
+    has_last =
+        ap (λ (s : Received). is_some (map.get s.parts n)) came
+        ∙ ap is_some (get-insert nat_cmp_total h.entry.parts n x n
+        ∙ ap (λ r. cond (is_eq r) (Some x) (map.get h.entry.parts n)) (tied_itself nat_cmp_total n))
+
+    pub offers_whole : (g : TableState) (v : Ended)
+        → TakesOut new g id
+        → v ≡ ended_by f n
+        → Offers old id n x now (Whole v) g
+    offers_whole g v out v_is =
+        let ends = v_is ∙ ended_with (received h.entry.parts) f n x came h.takes.0.0.new.absent in (
+          not_full h.entry h.was,
+          subst (λ (s : Received). Answers mode s n x (step.Whole v)) (same h.entry h.was)
+              (h.takes.0.0, h.takes.0.1, ends),
+          takes_out h.entry h.parts h.was h.becomes g out,
+        )
+
+  pub offers_conflict : (r : Reason)
+      → TakesIn mode o w id n now x (took.Conflict r)
+      → (g : TableState) (f : Received) (v : BrokenOff)
+      → TakesOut new g id
+      → f ≡ received_at new id
+      → v ≡ record { before = f; reason = r }
+      → Offers old id n x now (Conflict v) g
+  offers_conflict r h g f v out f_is v_is =
+      let came = f_is ∙ came_out h.entry h.parts h.was h.becomes in (
+        not_full h.entry h.was,
+        subst (λ (s : Received). Answers mode s n x (step.Conflict v)) (same h.entry h.was) (
+          h.takes.0 ∙ ap (λ (b : BrokenOff). Some b.reason) (sym v_is),
+          ap (λ (b : BrokenOff). b.before) v_is ∙ came ∙ h.takes.1,
+        ),
+        takes_out h.entry h.parts h.was h.becomes g out,
       )
 
 some_or : Option Reason → Reason → Reason

@@ -33,7 +33,7 @@ not_none false r x h = (refl, h)
 by_name_remove : (xs : List Place) (i : ℕ) → by_name (remove xs i) ≡ remove (by_name xs) i
 by_name_remove xs i = simp (map-append, take-map, drop-map)
 
-by_moment_remove : (xs : List Place) (i : ℕ) → by_moment (remove xs i) ≡ remove (by_moment xs) i
+pub by_moment_remove : (xs : List Place) (i : ℕ) → by_moment (remove xs i) ≡ remove (by_moment xs) i
 by_moment_remove xs i = simp (map-append, take-map, drop-map)
 
 module _ (limit p capacity : ℕ) (s : Slab Received) (xs : List Place)

@@ -3,7 +3,12 @@ use Rattle.std.specs.Prelude.{◌≡◌, ℕ, Option, Some, None, refl}
 use Rattle.std.specs.Coded.{Coded, code_by, coded×, coded_ℕ}
 use Rattle.std.specs.FinMap as maps
 use Rattle.lpt_reception.specs.LptPacket.Names.{Name}
-use Rattle.lpt_table.specs.Tables.{TableEntry, TableState, Entries, coded_entries}
+use Rattle.lpt_reception.specs.LptPart.declared.mode.Mode.{Mode}
+use Rattle.lpt_reception.specs.Received.{Kept, Parts}
+use Rattle.lpt_reception.specs.Steps.{Takes}
+use Rattle.lpt_reception.specs.declared.step.Took.{Took}
+use Rattle.lpt_reception.specs.declared.step.Took.TheVariants as took
+use Rattle.lpt_table.specs.Tables.{TableEntry, Entries, coded_entries}
 
 -- how many places the list has, the part size, the receptions
 pub record Listing : Type 0 where
@@ -28,7 +33,24 @@ abbrev pub IsAway : Option (Name × ℕ) → Entries → Type 0
 IsAway None m = Unit {0}
 IsAway (Some o) m = maps.get m o.0 ≡ None
 
--- the table is another one without this reception
-pub record IsWithout (full rest : TableState) (id : Name) (e : TableEntry) : Type 0 where
-  pub was : maps.get full.entries id ≡ Some e
-  pub now : rest ≡ record full { entries = maps.remove full.entries id }
+-- the last tick of a reception that has made this of a part: now where it has the part, and others are
+-- missing
+abbrev pub last_after : Took → ℕ → ℕ → ℕ
+last_after took.Kept last now = now
+last_after took.Again last now = now
+last_after took.Whole last now = last
+last_after (took.Conflict r) last now = last
+last_after took.NoMemory last now = last
+
+-- the reception of a name takes part n in this mode, and stays in the list
+pub record TakesIn (mode : Mode) (old new : Listing) (id : Name) (n now : ℕ) (x : Kept) (t : Took)
+    : Type 0 where
+  pub entry : TableEntry
+  pub parts : Parts
+  pub was : maps.get old.entries id ≡ Some entry
+  pub takes : Takes mode (record { id = id; p = old.p; parts = entry.parts }) n x t
+      (record { id = id; p = old.p; parts = parts })
+  pub becomes : new ≡ record old {
+    entries = maps.insert old.entries id
+        (record { parts = parts; last = last_after t entry.last now });
+  }

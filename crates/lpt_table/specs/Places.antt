@@ -1,6 +1,7 @@
 -- The places of open receptions: a list in the order of last ticks, and of names where those are
 -- equal.
 use Rattle.std.specs.Prelude.{◌≡◌, ℕ, suc, ◌+◌, nat_le, if◌then◌else◌, List, [], ◌∷◌, map, Option, Some, None}
+use Rattle.std.specs.List.{insert, remove}
 use Rattle.std.specs.Option.{option_map}
 use Rattle.std.specs.Ordering.{nat_cmp, on, then_cmp}
 use Rattle.std.specs.declared.cmp.Ordering.{Ordering}
@@ -30,6 +31,11 @@ spot R k (e ∷ es) =
 abbrev pub rank : {K X : Type 0} → (K → K → Ordering) → K → List (K × X) → ℕ
 rank R k [] = 0
 rank R k (e ∷ es) = by_order (R k e.0) 0 (suc (rank R k es)) (suc (rank R k es))
+
+-- the places, with this one in place of the one at a place, where it belongs among the others
+abbrev pub renewed : List Place → ℕ → Place → List Place
+renewed xs at x =
+    insert (remove xs at) (rank when_cmp (x.last, x.id) (by_moment (remove xs at))) x
 
 -- no key stands twice
 abbrev pub AreApart : {K X : Type 0} → (K → K → Ordering) → List (K × X) → Type 0

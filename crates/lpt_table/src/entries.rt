@@ -1,12 +1,14 @@
 //! The open receptions, kept under keys, and their places in the order in which they would be due.
 
-ghost use Rattle.std.specs.Prelude.{◌≡◌, ◌≤◌, ◌<◌, ◌+◌, IfOk, IfNone, MatchOption, Some, None, is_some, nat_le, if◌then◌else◌};
+ghost use Rattle.std.specs.Prelude.{◌≡◌, ◌≤◌, ◌<◌, ◌+◌, IfOk, IfNone, IfSome, MatchOption, Some, None, is_some, nat_le, if◌then◌else◌};
 ghost use Rattle.std.specs.FinMap as map;
 ghost use Rattle.std.specs.Option.{option_map};
+ghost use Rattle.lpt_reception.specs.Steps.{kept};
 ghost use Rattle.lpt_table.specs.Deadlines.{soonest};
+ghost use Rattle.lpt_table.specs.EntryLists.{TakesIn, last_after};
 
-use crate::places::{Place, first_due, rank_of, spot_of};
-use lpt_reception::{Filling, Name};
+use crate::places::{Place, first_due, rank_of, renew, spot_of};
+use lpt_reception::{Filling, Mode, Name, Part, Took};
 use slab::Slab;
 use std::alloc::{AllocError, Global};
 use std::marker::Model;
@@ -89,6 +91,25 @@ impl EntryList {
         spot_of(&self.places, id).is_some()
     }
 
+    /// Lets the reception of the part's name, where one is open, take the part in this mode. It
+    /// stays in the list; where it has the part and others are missing, its last tick is `now`.
+    pub(crate) fn offer(&mut self, mode: Mode, part: &Part<'_>, now: u32) -> Option<Took>
+        requires { part.now.p ≡ self.old.p }
+        ensures none { IfNone result (map.get self.old.entries part.now.id ≡ None) }
+        ensures unchanged { IfNone result (self.new ≡ self.old) }
+        ensures took { IfSome result (TakesIn mode self.old self.new part.now.id part.now.number now
+            (kept part.now)) }
+        ensures len { map.len self.new.entries ≡ map.len self.old.entries }
+    {
+        let at = spot_of(&self.places, part.id)?;
+        let Place { last, id: _, key } = self.places[at];
+        let took = self.fillings[key].take(mode, part);
+        let last = last_after(&took, last, now);
+        let id = part.id;
+        renew(&mut self.places, at, Place { last, id, key });
+        Some(took)
+    }
+
     /// Takes the reception of this name out of the list.
     pub(crate) fn take(&mut self, id: Name) -> Option<Entry>
         ensures rest { self.new ≡ record self.old { entries = map.remove self.old.entries id } }
@@ -147,5 +168,15 @@ impl EntryList {
             (soonest timeout now (map.entries self.now.entries)) }
     {
         first_due(&self.places, timeout, now)
+    }
+}
+
+// The last tick of a reception that has made this of a part.
+fn last_after(took: &Took, last: u32, now: u32) -> u32
+    ensures { result ≡ last_after took.now last now }
+{
+    match took {
+        Took::Kept | Took::Again => now,
+        Took::Whole | Took::Conflict(_) | Took::NoMemory => last,
     }
 }

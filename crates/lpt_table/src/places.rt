@@ -1,9 +1,9 @@
 //! Where the open receptions are kept, in the order in which they would be due.
 
-ghost use Rattle.std.specs.Prelude.{◌≡◌, T};
+ghost use Rattle.std.specs.Prelude.{◌≡◌, ◌<◌, ◌≤◌, T, length, vec_capacity};
 ghost use Rattle.std.specs.FinMap as map;
 ghost use Rattle.lpt_reception.specs.LptPacket.Names.{name_cmp};
-ghost use Rattle.lpt_table.specs.Places.{AreApart, spot, rank, when_cmp, by_name, by_moment, first_overdue};
+ghost use Rattle.lpt_table.specs.Places.{AreApart, spot, rank, when_cmp, by_name, by_moment, first_overdue, renewed};
 
 use lpt_reception::Name;
 use std::cmp::Ordering;
@@ -45,6 +45,26 @@ pub(crate) fn rank_of(places: &[Place], last: u32, id: Name) -> usize
         }
     }
     0
+}
+
+// Puts this place in place of the one at `at`, where it belongs. One that took a part just now mostly
+// is at the end and stays there. It takes no memory.
+pub(crate) fn renew(places: &mut Vec<Place>, at: usize, place: Place)
+    requires within { at < length places.old.items }
+    requires ordered { T (map.is_sorted when_cmp (by_moment places.old.items)) }
+    ensures places { places.new.items ≡ renewed places.old.items at place }
+    ensures room { vec_capacity places.old ≤ vec_capacity places.new }
+{
+    if at + 1 == places.len() && rank_of(&places[..at], place.last, place.id) == at {
+        places[at] = place;
+        return;
+    }
+    places.remove(at);
+    let to = rank_of(places, place.last, place.id);
+    match places.insert(to, place) {
+        Ok(()) => {}
+        Err(_) => unreachable!(),
+    }
 }
 
 // The name at the first place, where the reception there is overdue.

@@ -1,17 +1,16 @@
 //! The table of open receptions.
 
-ghost use Rattle.std.specs.Prelude.{◌≡◌, ◌<◌, IfOk, IfSome, IsSomeAnd, None, Some};
+ghost use Rattle.std.specs.Prelude.{◌≡◌, ◌<◌, IfOk, IfSome, IsSome, IsSomeAnd, None, Some};
 ghost use Rattle.std.specs.FinMap as map;
-ghost use Rattle.lpt_reception.specs.Steps.{Answers, kept};
+ghost use Rattle.lpt_reception.specs.Steps.{kept};
 ghost use Rattle.lpt_reception.specs.Received.{is_gap, no_parts};
 ghost use Rattle.lpt_table.specs.Deadlines.{IsDue, due_of};
-ghost use Rattle.lpt_table.specs.EntryLists.{IsWithout};
-ghost use Rattle.lpt_table.specs.Offering.{is_open, offered, put_back, with_entry};
-ghost use Rattle.lpt_table.specs.Tables.{IsTableSize, TableState, no_receptions};
+ghost use Rattle.lpt_table.specs.Offering.{TakesOut, is_open, offered, put_back, received_at, with_entry};
+ghost use Rattle.lpt_table.specs.Tables.{IsTableSize, no_receptions};
 
 use crate::Offer;
 use crate::entries::{Entry, EntryList};
-use lpt_reception::{Filling, Mode, Name, Part, Step};
+use lpt_reception::{Filling, Mode, Name, Part, Took};
 use std::alloc::{AllocError, Global};
 use std::marker::Model;
 
@@ -58,7 +57,6 @@ impl Model for Table {
 impl Table {
     ghost use Rattle.lpt_reception.specs.Steps.{IsNew};
     ghost use Rattle.lpt_table.specs.Offers.{Offers, Its, kind_of};
-    ghost use Rattle.lpt_table.specs.EntriesOf.{entry_in, IsIts};
 
     /// A table with places for `limit` receptions, 1 to 64, in which none is open. A reception is
     /// overdue when it took no part for `timeout` ticks, 1 to 65,535. Parts are of `p` octets, 4 to
@@ -102,50 +100,46 @@ impl Table {
         ensures offered { IfSome (kind_of result) (λ k.
             offered self.old part.now.id part.now.number (kept part.now) now ≡ (k, self.new)) }
     {
-        match self.receptions.take(part.id) {
-            Some(entry) => self.offer_to(entry, part, now),
+        self.answer(part, now)
+    }
+
+    // The same, with one clause of which the others follow.
+    fn answer(&mut self, part: &Part<'_>, now: u32) -> Offer
+        requires p { part.now.p ≡ self.old.p }
+        requires settled { self.old.out ≡ None }
+        ensures { Offers self.old part.now.id part.now.number (kept part.now) now result self.new }
+    {
+        match self.receptions.offer(self.mode, part, now) {
             None => self.offer_first(part, now),
+            Some(Took::Kept) => Offer::Kept,
+            Some(Took::Again) => Offer::Again,
+            Some(Took::Whole) => Offer::Whole(self.take_out(part.id).ended_by(part.number)),
+            Some(Took::Conflict(reason)) => {
+                Offer::Conflict(self.take_out(part.id).broken_for(reason))
+            }
+            Some(Took::NoMemory) => Offer::Memory,
         }
     }
 
-    // Offers a part to the reception of its transaction, which was taken out of the list.
-    fn offer_to(&mut self, entry: Entry, part: &Part<'_>, now: u32) -> Offer
-        requires part { part.now.p ≡ self.old.p }
+    // Takes the reception of this name out, and remembers its last tick and keeps its place.
+    fn take_out(&mut self, id: Name) -> Filling
         requires settled { self.old.out ≡ None }
-        requires named { entry.id ≡ part.now.id }
-        requires its { IsIts self.old.p entry }
-        requires absent { map.get self.old.entries part.now.id ≡ None }
-        requires room { map.len self.old.entries < self.old.limit }
-        ensures { (t : TableState) → IsWithout t self.old part.now.id (entry_in entry)
-            → Offers t part.now.id part.now.number (kept part.now) now result self.new }
+        requires open { IsSome (map.get self.old.entries id) }
+        ensures out { TakesOut self.old self.new id }
+        ensures it { result ≡ received_at self.old id }
     {
-        let Entry {
-            id: _,
-            filling,
-            last,
-        } = entry;
-        match self.step(filling, part) {
-            Step::Filling(filling) => {
-                self.keep(part.id, filling, now);
-                Offer::Kept
-            }
-            Step::Again(filling) => {
-                self.keep(part.id, filling, now);
-                Offer::Again
-            }
-            Step::Whole(whole) => {
-                self.remember(part.id, last);
-                Offer::Whole(whole)
-            }
-            Step::Conflict(broken) => {
-                self.remember(part.id, last);
-                Offer::Conflict(broken)
-            }
-            Step::NoMemory(filling) => {
-                self.keep(part.id, filling, last);
-                Offer::Memory
-            }
-        }
+        let Some(
+            Entry {
+                id: _,
+                filling,
+                last,
+            },
+        ) = self.receptions.take(id)
+        else {
+            unreachable!()
+        };
+        self.out = Some((id, last));
+        filling
     }
 
     // Opens a reception with this part.
@@ -167,18 +161,6 @@ impl Table {
                 Offer::Kept
             }
             Err(AllocError) => Offer::Memory,
-        }
-    }
-
-    // Adds a part to its reception in the table's mode.
-    fn step(&self, filling: Filling, part: &Part<'_>) -> Step
-        requires id { part.now.id ≡ filling.id }
-        requires p { part.now.p ≡ filling.p }
-        ensures { Answers self.now.mode filling part.now.number (kept part.now) result }
-    {
-        match self.mode {
-            Mode::Any => filling.accept(part),
-            Mode::Strict => filling.accept_strict(part),
         }
     }
 
@@ -204,15 +186,6 @@ impl Table {
         ensures { self.new ≡ with_entry self.old id filling.parts last }
     {
         self.receptions.put(Entry { id, filling, last });
-    }
-
-    // Remembers the last tick of a reception that was taken out, and keeps its place.
-    fn remember(&mut self, id: Name, last: u32)
-        requires absent { map.get self.old.entries id ≡ None }
-        requires room { map.len self.old.entries < self.old.limit }
-        ensures { self.new ≡ record self.old { out = Some (id, last) } }
-    {
-        self.out = Some((id, last));
     }
 
     /// Gives up the last tick and the place of the reception that is out, which is that of `id`. It

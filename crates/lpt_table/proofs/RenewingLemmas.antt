@@ -1,0 +1,150 @@
+-- A reception that changes where it is, as on the finite map: as if it were taken out and put in.
+use Rattle.std.specs.Prelude.{◌≡◌, ℕ, suc, ◌+◌, ◌≤◌, ◌<◌, T, List, [], ◌∷◌, cond, length, take, Some, None, is_some, refl, slice_index_or, slice_set}
+use Prim.Native.Nat.{zero}
+use Rattle.std.specs.List.{insert, remove}
+use Rattle.std.specs.FinMap as maps
+use Rattle.std.specs.FinMap.Entries.{is_sorted}
+use Rattle.std.proofs.Common.{sym, ◌∙◌, ap, subst, arith}
+use Rattle.std.proofs.lemmas.List.Edits.{length-remove}
+use Rattle.std.proofs.lemmas.List.Sums.{sum_by-set}
+use Rattle.slab.specs.Slab.{Slab, ContainsKey, get, slab_len, Updates, with_value}
+use Rattle.slab.proofs.SlabLemmas.{ContainsKey-within, Updates-set, Updates-with_value}
+use Rattle.lpt_reception.proofs.LptPacket.NameLemmas.{name_cmp-IsAntisymmetric, name_cmp_total}
+use Rattle.lpt_reception.specs.LptPacket.Names.{Name, name_cmp}
+use Rattle.lpt_reception.specs.Received.{Received}
+use Rattle.lpt_table.specs.declared.entries.Entry.{Entry}
+use Rattle.lpt_table.specs.declared.places.Place.{Place}
+use Rattle.lpt_table.specs.EntriesOf.{entry_in, map_of, IsListed}
+use Rattle.lpt_table.specs.Tables.{Entries}
+use Rattle.lpt_table.specs.Places.{by_name, by_moment, when_cmp, rank, spot, renewed}
+use Rattle.lpt_table.proofs.MapLemmas.{insert-remove, get-removed}
+use Rattle.lpt_table.proofs.OrderLemmas.{is_sorted-remove}
+use Rattle.lpt_table.proofs.PuttingLemmas.{placed-map, placed-len, placed-listed}
+use Rattle.lpt_table.proofs.TakingLemmas.{by_moment_remove, found-within, found-kept, removed-map, removed-len, removed-listed}
+
+-- ---- places
+
+-- what is written at a place is put where another was taken out
+pub set-insert : (xs : List Place) (at : ℕ) (x : Place)
+    → at < length xs
+    → slice_set xs at x ≡ insert (remove xs at) at x
+set-insert [] at x l = absurd (omega arith)
+set-insert (y ∷ ys) zero x l = refl
+set-insert (y ∷ ys) (suc at) x l = ap (λ zs. y ∷ zs) (set-insert ys at x (omega arith))
+
+-- without the last one the front is left
+pub remove-last : (xs : List Place) (at : ℕ) → at + 1 ≡ length xs → remove xs at ≡ take at xs
+remove-last [] at l = absurd (omega arith)
+remove-last (y ∷ []) zero l = refl
+remove-last (y ∷ z ∷ zs) zero l = absurd (omega arith)
+remove-last (y ∷ ys) (suc at) l = ap (λ zs. y ∷ zs) (remove-last ys at (omega arith))
+
+-- places stay in order without one
+pub sorted-without : (xs : List Place) (at : ℕ)
+    → T (is_sorted when_cmp (by_moment xs))
+    → T (is_sorted when_cmp (by_moment (remove xs at)))
+sorted-without xs at h =
+    subst (λ es. T (is_sorted when_cmp es)) (sym (by_moment_remove xs at))
+    (is_sorted-remove when_cmp (by_moment xs) at h)
+
+-- one that belongs at the end is written there
+pub renewed-last : (xs : List Place) (at : ℕ) (x : Place)
+    → at + 1 ≡ length xs
+    → rank when_cmp (x.last, x.id) (by_moment (take at xs)) ≡ at
+    → slice_set xs at x ≡ renewed xs at x
+renewed-last xs at x last same =
+    set-insert xs at x (omega (arith, last))
+    ∙ ap (λ i. insert (remove xs at) i x)
+    (sym same ∙ ap (λ ys. rank when_cmp (x.last, x.id) (by_moment ys)) (sym (remove-last xs at last)))
+
+-- ---- a reception that changes
+
+module _ (limit p capacity : ℕ) (s : Slab Received) (xs : List Place)
+    (l : IsListed limit p capacity s xs) (id : Name) (at : ℕ)
+    (is : Some at ≡ spot name_cmp id (by_name xs)) (x : Place)
+    (q : x ≡ slice_index_or xs at x) (f : Received) (last : ℕ) where
+  -- the slab without it
+  abbrev gap : Slab Received
+  gap = record s { slots = slice_set s.slots x.key None }
+
+  -- and with what it is now
+  abbrev pub after : Slab Received
+  after = with_value s x.key f
+
+  abbrev e : Entry
+  e = record { id = id; filling = f; last = last }
+
+  -- its place
+  abbrev pub place : Place
+  place = record { last = last; id = id; key = x.key }
+
+  kept : ContainsKey s x.key
+  kept = found-kept limit p capacity s xs l id at is x q
+
+  out : Updates s gap x.key None
+  out = Updates-set s gap x.key None (ContainsKey-within s x.key kept) refl
+
+  back : Updates gap after x.key (Some f)
+  back =
+      let into = Updates-with_value s x.key f kept in
+      record {
+        changed = into.changed;
+        others = λ k d. into.others k d ∙ sym (out.others k d);
+      }
+
+  there : ◌≡◌ {A = ℕ} (cond (is_some (get s x.key)) 1 0) 1
+  there = ap (λ b. cond b 1 0) kept
+
+  less : slab_len gap + 1 ≡ slab_len s
+  less =
+      let sums = sum_by-set (λ o. cond (is_some o) 1 0) s.slots x.key None None
+      (ContainsKey-within s x.key kept)
+      in
+      omega (arith, sums, there)
+
+  as_many : slab_len after ≡ slab_len s
+  as_many =
+      let sums = sum_by-set (λ o. cond (is_some o) 1 0) s.slots x.key (Some f) None
+      (ContainsKey-within s x.key kept)
+      in
+      omega (arith, sums, there)
+
+  without : maps.remove (map_of s xs) id ≡ map_of gap (remove xs at)
+  without = sym (removed-map limit p capacity s xs l id at is x q gap out)
+
+  rest : IsListed limit p capacity gap (remove xs at)
+  rest = removed-listed limit p capacity s xs l id at is x q gap out less refl
+
+  absent : maps.get (map_of gap (remove xs at)) id ≡ None
+  absent =
+      ap (λ (m : Entries). maps.get m id) (sym without)
+      ∙ get-removed name_cmp_total name_cmp-IsAntisymmetric (map_of s xs) id
+
+  -- the map has the entry under its name
+  pub renewed-map : map_of after (renewed xs at place) ≡ maps.insert (map_of s xs) id (entry_in e)
+  renewed-map =
+      placed-map limit p capacity gap (remove xs at) rest e absent after x.key back out.changed
+      ∙ ap (λ (m : Entries). maps.insert m id (entry_in e)) (sym without)
+      ∙ insert-remove name_cmp_total name_cmp-IsAntisymmetric (map_of s xs) id (entry_in e)
+
+  -- it has as many entries
+  pub renewed-len : maps.len (map_of after (renewed xs at place)) ≡ maps.len (map_of s xs)
+  renewed-len =
+      omega (
+        arith,
+        placed-len limit p capacity gap (remove xs at) rest e absent after x.key back out.changed,
+        removed-len limit p capacity s xs l id at is x q gap out,
+      )
+
+  -- the list is sound with it
+  pub renewed-listed : (more : ℕ)
+      → f.id ≡ id
+      → f.p ≡ p
+      → capacity ≤ more
+      → IsListed limit p more after (renewed xs at place)
+  renewed-listed more named of_size grown =
+      let within = found-within limit p capacity s xs l id at is in
+      placed-listed limit p capacity gap (remove xs at) rest e absent after x.key back out.changed
+      more (record { of_size = of_size; named = named })
+      (omega (arith, length-remove xs at within, l.within)) grown
+      (omega (arith, as_many, less)) refl
