@@ -74,11 +74,16 @@ def functions_of(path, text):
 
 
 def without_bodies(path, text):
-    """A text of a file without comments and the bodies of its functions."""
+    """A text of a file without the bodies of its functions."""
     lines = text.split("\n")
     for it in reversed(list(functions_of(path, text))):
         del lines[it.opening + 1 : it.end]
-    return "\n".join(it for it in lines if not re.match(r" *//", it))
+    return "\n".join(lines)
+
+
+def without_comments(text):
+    """A text of sources or of definitions without the lines that are comments."""
+    return "\n".join(it for it in text.split("\n") if not re.match(r" *(//|--)", it))
 
 
 def hush(lines, function):
@@ -142,8 +147,9 @@ class Edit:
         """The mark of what it changes, of its functions and of what is written of their proofs, and of all
         that the crate defines and promises."""
         names = sorted(self.functions)
-        said = [str(self.changes), *map(self.crate.function, names), *map(self.crate.proof, names)]
-        return hashlib.sha256("\n".join([*said, self.crate.promised]).encode()).hexdigest()[:8]
+        said = [*map(self.crate.function, names), *map(self.crate.proof, names), self.crate.promised]
+        texts = [str(self.changes), *map(without_comments, said)]
+        return hashlib.sha256("\n".join(texts).encode()).hexdigest()[:8]
 
     def note(self):
         """Writes down in its file which goal was open."""
