@@ -176,6 +176,17 @@ def sixty_thousand_reports(count=60000):
     return reports(count)
 
 
+def reports_of_sources(sources=1000, count=60):
+    """60,000 dumps, 60 of each of 1,000 sources, each answered by a report that is opened and finished"""
+    lines = []
+    for n in range(count):
+        for source in range(sources):
+            packet = n * sources + source
+            lines += [f"plain {source}/0 6 5 0101000000100003", f"pass s1 {packet}", "work"]
+            lines.append(f"finish down {source}/{n}")
+    return lines
+
+
 def checksums(count=40):
     """Noise of 1,047 octets, delivered 4,000 times, and 40 checks of a hundred times 65,535 octets"""
     noise = bytes.fromhex("1864c0000410") + random.Random(1).randbytes(1041)
@@ -255,6 +266,7 @@ WORKLOADS = [
     Workload(ten_thousand_reports, None, {"count": 100}),
     Workload(twenty_thousand_reports, None, {"count": 200}),
     Workload(sixty_thousand_reports, None, {"count": 300}),
+    Workload(reports_of_sources, None, {"sources": 30, "count": 10}),
     Workload(many_ticks, None, {"count": 1}),
     Workload(short_lines, None, {"most": 20000}),
     Workload(long_lines, None, {"count": 2}),

@@ -93,7 +93,6 @@ typedef struct LptEnd {
 /* What is fixed of an end. The ends of a link have the same. */
 typedef struct LptConfig {
     uint16_t apid;       /* of all packets, 0 to 2046 */
-    uint16_t source;     /* the source ID of telecommands and destination ID of telemetry */
     uint32_t part_size;  /* in octets, 4 to 1024 */
     uint32_t timeout;    /* of a reception, in ticks, 1 to 65,535 */
     uint32_t receptions; /* how many may be open, 1 to 64 */
@@ -101,6 +100,13 @@ typedef struct LptConfig {
     uint32_t clock;      /* its first value, in ticks */
     uint32_t mode;       /* LPT_ANY or LPT_STRICT */
 } LptConfig;
+
+/* What names a transaction within its direction. Parts of one identifier and of two sources are of
+   two transactions. */
+typedef struct LptName {
+    uint16_t source; /* the source ID of telecommands up, the destination ID of telemetry down */
+    uint16_t id;     /* the identifier in the parts */
+} LptName;
 
 /* A memory of a new end: the octets with which it begins are content[at] and those behind it. */
 typedef struct LptMemory {
@@ -126,15 +132,15 @@ void lpt_end_free(LptEnd *end);
 
 /* ---- receiving ---- */
 
-/* What became of a packet, and what `first` and `second` say. */
+/* What became of a packet; whether `name` is its transaction; what `first` says, and `second`. */
 enum {
-    LPT_KEPT = 1,           /* a part: its transaction, its number */
-    LPT_AGAIN = 2,          /* a part that had been kept before: the same */
-    LPT_RELEASED = 3,       /* the last part that was missing: the transaction, the length */
+    LPT_KEPT = 1,           /* a part, named: its number */
+    LPT_AGAIN = 2,          /* a part that had been kept before, named: its number */
+    LPT_RELEASED = 3,       /* the last part that was missing, named: the message's length */
     LPT_PLAIN_RELEASED = 4, /* a telecommand that is no part: its length */
     LPT_REPORT_NOTED = 5,   /* telemetry that is no part: service type, message subtype */
-    LPT_ABORT_NOTED = 6,    /* the report of an abortion: the transaction, the reason */
-    LPT_BROKEN = 7,         /* a part that aborted its reception: the transaction, the reason */
+    LPT_ABORT_NOTED = 6,    /* the report of an abortion, named: the reason */
+    LPT_BROKEN = 7,         /* a part that aborted its reception, named: the reason */
     LPT_IGNORED = 8         /* nothing was made of the packet: why, as follows */
 };
 
@@ -151,9 +157,10 @@ enum {
     LPT_NO_ROOM = 6
 };
 
-/* What became of a packet. */
+/* What became of a packet. What its kind doesn't say is 0. */
 typedef struct LptOutcome {
     uint32_t kind;
+    LptName name;
     uint32_t first;
     uint32_t second;
 } LptOutcome;
@@ -174,10 +181,11 @@ uint32_t lpt_end_released(LptEnd *end, uint8_t *out, size_t out_len, size_t *nee
 
 /*
  * Gives a reception up that took no part for as long as the time-out: the one that has waited
- * longest, of equal ones that of the least name. A spacecraft has a report of it to be sent.
- * LPT_DONE, and *id is its name; LPT_EMPTY; LPT_NOTHING_DUE; LPT_MEMORY.
+ * longest, of equal ones that of the least source, and of one source that of the least identifier.
+ * A spacecraft has a report of it to be sent.
+ * LPT_DONE, and *name is its name; LPT_EMPTY; LPT_NOTHING_DUE; LPT_MEMORY.
  */
-uint32_t lpt_end_expire(LptEnd *end, uint16_t *id);
+uint32_t lpt_end_expire(LptEnd *end, LptName *name);
 
 /* ---- sending ---- */
 
@@ -185,23 +193,24 @@ uint32_t lpt_end_expire(LptEnd *end, uint16_t *id);
  * Takes a message to be sent in parts, under a free name. It is copied.
  * LPT_DONE; LPT_EMPTY; LPT_IN_USE; LPT_SHORT_MESSAGE; LPT_LONG_MESSAGE; LPT_TOO_MANY; LPT_MEMORY.
  */
-uint32_t lpt_end_open(LptEnd *end, uint16_t id, const uint8_t *message, size_t message_len);
+uint32_t lpt_end_open(LptEnd *end, const LptName *name, const uint8_t *message, size_t message_len);
 
 /* Makes the packet of part k of an open message, from 1: it is to be sent, behind those that are.
    LPT_DONE; LPT_EMPTY; LPT_NOT_OPEN; LPT_NO_SUCH_PART; LPT_MEMORY. */
-uint32_t lpt_end_part(LptEnd *end, uint16_t id, uint16_t k);
+uint32_t lpt_end_part(LptEnd *end, const LptName *name, uint16_t k);
 
 /*
- * Makes the packet of a plain request, of these acknowledgement flags, service type, message subtype
- * and body: it is to be sent, behind those that are. Ground alone makes them.
+ * Makes the packet of a plain request, of this source, these acknowledgement flags, service type,
+ * message subtype and body: it is to be sent, behind those that are. Ground alone makes them. Its
+ * reports go to that source.
  * LPT_DONE; LPT_EMPTY; LPT_RANGE for flags above 15, and at the spacecraft; LPT_PART_REQUEST;
  * LPT_LONG_MESSAGE where the packet would have more octets than the part size and 23; LPT_MEMORY.
  */
-uint32_t lpt_end_plain(LptEnd *end, uint8_t flags, uint8_t service, uint8_t subtype,
-                       const uint8_t *body, size_t body_len);
+uint32_t lpt_end_plain(LptEnd *end, uint16_t source, uint8_t flags, uint8_t service,
+                       uint8_t subtype, const uint8_t *body, size_t body_len);
 
 /* Closes an open message, and lets it go. LPT_DONE; LPT_EMPTY; LPT_NOT_OPEN. */
-uint32_t lpt_end_finish(LptEnd *end, uint16_t id);
+uint32_t lpt_end_finish(LptEnd *end, const LptName *name);
 
 /*
  * Copies the packet that is to be sent first to the front of a buffer, and leaves the rest of it as
@@ -215,16 +224,18 @@ uint32_t lpt_end_sent(LptEnd *end);
 
 /* ---- the requests that the spacecraft released ---- */
 
-/* What became of a request, and what `value` says. */
+/* What became of a request. */
 enum {
-    LPT_CARRIED_OUT = 1, /* 0 */
-    LPT_OPENED = 2,      /* the name under which its report is open to be sent in parts */
-    LPT_SILENT = 3,      /* it is no telecommand of the APID, and nothing was done: 0 */
-    LPT_REFUSED = 4      /* the failure code, 1 to 8 */
+    LPT_CARRIED_OUT = 1,
+    LPT_OPENED = 2,      /* under `name` its report is open to be sent in parts */
+    LPT_SILENT = 3,      /* it is no telecommand of the APID, and nothing was done */
+    LPT_REFUSED = 4      /* `value` is the failure code, 1 to 8 */
 };
 
+/* What its kind doesn't say is 0. */
 typedef struct LptApplied {
     uint32_t kind;
+    LptName name;
     uint32_t value;
 } LptApplied;
 
@@ -259,7 +270,7 @@ uint32_t lpt_end_tick(LptEnd *end);
  * LPT_DONE, also of a name that is free; LPT_EMPTY; LPT_RANGE for another direction; LPT_STILL_OPEN
  * where a message of this name is open to be sent in this direction, or a reception of it is.
  */
-uint32_t lpt_end_retire(LptEnd *end, uint32_t direction, uint16_t id);
+uint32_t lpt_end_retire(LptEnd *end, uint32_t direction, const LptName *name);
 
 /*
  * Restarts the end. Its open messages are closed and let go, its open receptions and what it

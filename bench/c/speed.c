@@ -106,20 +106,21 @@ static void split(uint32_t p) {
 
 /* Ground joins the message again and again, whose name is freed each time. */
 static void join_proved(void) {
-    LptConfig config = {100, 1, 0, 10, 4, 4, 0, LPT_ANY};
+    LptConfig config = {100, 0, 10, 4, 4, 0, LPT_ANY};
+    static const LptName name = {1, 5};
     LptEnd end = LPT_END_EMPTY;
     int i;
     config.part_size = part_size;
     wants(lpt_end_new(&end, LPT_GROUND, &config, no_memory, 0, message, 0) == LPT_DONE);
     for (i = 0; i < JOINS; i++) {
-        LptOutcome said = {0, 0, 0};
+        LptOutcome said = {0, {0, 0}, 0, 0};
         size_t at = 0, k;
         for (k = 0; k < parts; k++) {
             wants(lpt_end_packet(&end, packets + at, lens[k], &said) == LPT_DONE);
             at += lens[k];
         }
-        wants(said.kind == LPT_RELEASED && said.second == LONG);
-        wants(lpt_end_retire(&end, LPT_DOWN, 5) == LPT_DONE);
+        wants(said.kind == LPT_RELEASED && said.first == LONG);
+        wants(lpt_end_retire(&end, LPT_DOWN, &name) == LPT_DONE);
     }
     lpt_end_free(&end);
 }

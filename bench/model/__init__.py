@@ -8,7 +8,7 @@ that can't be read.
 
 from .decoding import complaint, decode
 from .memories import load_body
-from .packets import checksum, hexadecimal, write_command
+from .packets import Name, checksum, hexadecimal, write_command
 from .parts import part_count
 from .scripts import Session, run
 from .settings import LAST_TICK, RANGES, Settings, settings_of

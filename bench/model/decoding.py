@@ -13,7 +13,7 @@ def carried(headers, part_size):
     part = read_part(headers, part_size)
     if part is not None:
         place = ("first", "middle", "last")[part.place]
-        return [f"part {place} id {part.identifier} number {part.number} octets {len(part.octets)}"]
+        return [f"part {place} id {part.name.identifier} number {part.number} octets {len(part.octets)}"]
     if headers.packet.is_command:
         return []
     if kind == (13, ABORT_SUBTYPE) and len(body) == 3 and body[2] in (1, 2, 3):

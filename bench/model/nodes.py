@@ -1,6 +1,6 @@
 """The two nodes: what each counts, sends and receives."""
 
-from .packets import LONGEST_PACKET, Fault, Packet, write_command, write_packet
+from .packets import LONGEST_PACKET, Fault, Name, Packet, write_command, write_packet
 from .parts import PART_SUBTYPES, part_count
 
 # Why a reception is broken off by a part that isn't the next one.
@@ -38,10 +38,10 @@ class Node:
         self.receptions = {}
         self.ended = set()
 
-    def make(self, service, subtype, body, flags=0):
-        """The next packet of this node."""
+    def make(self, peer, service, subtype, body, flags=0):
+        """The next packet of this node: ground's is of a source, the spacecraft's goes to one."""
         count, self.count = self.count, (self.count + 1) % 16384
-        apid, peer = self.settings.apid, self.settings.source
+        apid = self.settings.apid
         if not self.is_craft:
             return write_command(apid, count, flags, service, subtype, peer, body)
         counter = self.counters.get((service, subtype), 0)
@@ -50,9 +50,9 @@ class Node:
         header += peer.to_bytes(2, "big") + self.clock.to_bytes(4, "big")
         return write_packet(Packet(False, apid, count, header + body))
 
-    def open(self, identifier, message):
+    def open(self, name, message):
         """Takes a message, to send it; tells of how many parts it is."""
-        if identifier in self.outgoing or identifier in self.closed:
+        if name in self.outgoing or name in self.closed:
             raise Fault(41, "InUse")
         if len(message) <= self.settings.part_size:
             raise Fault(42, "Short")
@@ -60,28 +60,28 @@ class Node:
             raise Fault(43, "Long")
         if len(self.outgoing) >= self.settings.outgoing:
             raise Fault(44, "TooMany")
-        self.outgoing[identifier] = message
+        self.outgoing[name] = message
         return part_count(message, self.settings.part_size)
 
-    def send(self, identifier, number):
+    def send(self, name, number):
         """A part of an open message, in a packet."""
-        if identifier not in self.outgoing:
+        if name not in self.outgoing:
             raise Fault(45, "NotOpen")
-        message, size = self.outgoing[identifier], self.settings.part_size
+        message, size = self.outgoing[name], self.settings.part_size
         count = part_count(message, size)
         if not 1 <= number <= count:
             raise Fault(46, "NoSuchPart")
         place = 0 if number == 1 else 2 if number == count else 1
         octets = message[(number - 1) * size : number * size]
-        body = identifier.to_bytes(2, "big") + number.to_bytes(2, "big") + octets
-        return self.make(13, PART_SUBTYPES[self.sends][place], body)
+        body = name.identifier.to_bytes(2, "big") + number.to_bytes(2, "big") + octets
+        return self.make(name.source, 13, PART_SUBTYPES[self.sends][place], body)
 
-    def finish(self, identifier):
+    def finish(self, name):
         """Closes the sender of an open message."""
-        if identifier not in self.outgoing:
+        if name not in self.outgoing:
             raise Fault(45, "NotOpen")
-        del self.outgoing[identifier]
-        self.closed.add(identifier)
+        del self.outgoing[name]
+        self.closed.add(name)
 
     def restart(self):
         """Starts anew: what is open ends, and all counts are 0; the names and the clock stay."""
@@ -92,14 +92,14 @@ class Node:
         self.outgoing = {}
         self.receptions = {}
 
-    def least_free(self):
-        """The least identifier that is free, or `None`."""
-        names = range(65536)
+    def least_free(self, source):
+        """The name of the least identifier of a source that is free, or `None`."""
+        names = (Name(source, identifier) for identifier in range(65536))
         return next((n for n in names if n not in self.outgoing and n not in self.closed), None)
 
     def accept(self, part):
         """Keeps a part: what became of it, and the message, where it is whole now."""
-        name = part.identifier
+        name, text = part.name, part.name.text(self.settings.source)
         if name in self.ended:
             return "ignored Closed", None
         if name not in self.receptions and len(self.receptions) >= self.settings.receptions:
@@ -107,23 +107,23 @@ class Node:
         reception = self.receptions.setdefault(name, Reception())
         reception.tick = self.clock
         if part.number in reception.parts:
-            return f"again {self.receives} {name} {part.number}", None
+            return f"again {self.receives} {text} {part.number}", None
         if self.settings.mode == "strict" and part.number != max(reception.parts, default=0) + 1:
             self._end(name)
-            return f"broken {self.receives} {name} {DISCONTINUITY}", None
+            return f"broken {self.receives} {text} {DISCONTINUITY}", None
         reception.parts[part.number] = part.octets
         if part.place == 2:
             reception.count = part.number
         message = reception.message()
         if message is None:
-            return f"kept {self.receives} {name} {part.number}", None
+            return f"kept {self.receives} {text} {part.number}", None
         self._end(name)
-        return f"released {self.receives} {name} {len(message)}", message
+        return f"released {self.receives} {text} {len(message)}", message
 
-    def _end(self, identifier):
+    def _end(self, name):
         """Ends a reception."""
-        del self.receptions[identifier]
-        self.ended.add(identifier)
+        del self.receptions[name]
+        self.ended.add(name)
 
     def expire(self):
         """Ends the overdue reception whose last part came first."""

@@ -6,6 +6,17 @@ from typing import NamedTuple
 LONGEST_PACKET = 65542
 
 
+class Name(NamedTuple):
+    """The name of a transaction in its direction: a source and an identifier of it, in this order."""
+
+    source: int
+    identifier: int
+
+    def text(self, own):
+        """The name as it is printed: without its source, where that is the configured one."""
+        return f"{self.identifier}" if self.source == own else f"{self.source}/{self.identifier}"
+
+
 class Fault(Exception):
     """An event that is refused, or octets that are no packet: a number and a name."""
 

@@ -2,7 +2,7 @@
 
 import re
 
-from .packets import LONGEST_PACKET, Fault, hexadecimal
+from .packets import LONGEST_PACKET, Fault, Name, hexadecimal
 from .world import World
 
 LONGEST_LINE = 140000
@@ -43,17 +43,34 @@ def octets_of(word):
     return bytes.fromhex(word)
 
 
+class Sourced:
+    """Reads what may have a source and a slash before it, and the source that it's of."""
+
+    def __init__(self, read, make):
+        self.read = read
+        self.make = make
+
+    def __call__(self, word, own):
+        """Where the word has no source, its own one is this."""
+        source, slash, behind = word.partition("/")
+        if slash:
+            return self.make(IDENTIFIER(source), self.read(behind))
+        return self.make(own, self.read(word))
+
+
 DIRECTION, NODE = one_of("up", "down"), one_of("ground", "craft")
 LANE, WORKER = one_of("s1", "s2", "g1", "g2"), one_of("w1", "w2")
 IDENTIFIER, PACKET, COUNT = number(0, 65535), number(0, 9999999999), number(1, 100000)
 FLAGS, OCTET, SEQUENCE, ADDRESS = (number(0, n) for n in (15, 255, 16383, 0xFFFFFFFF))
+NAME = Sourced(IDENTIFIER, Name)
+SOURCED_FLAGS = Sourced(FLAGS, lambda source, flags: (source, flags))
 
 # What each line has behind its first word, or behind its first two of `show`.
 GRAMMAR = {
-    "open": [DIRECTION, IDENTIFIER, octets_of],
-    "send": [DIRECTION, IDENTIFIER, IDENTIFIER],
-    "plain": [FLAGS, OCTET, OCTET, octets_of],
-    "finish": [DIRECTION, IDENTIFIER],
+    "open": [DIRECTION, NAME, octets_of],
+    "send": [DIRECTION, NAME, IDENTIFIER],
+    "plain": [SOURCED_FLAGS, OCTET, OCTET, octets_of],
+    "finish": [DIRECTION, NAME],
     "lose": [PACKET],
     "damage": [DIRECTION, octets_of],
     "take": [LANE, PACKET],
@@ -65,23 +82,28 @@ GRAMMAR = {
     "apply": [],
     "work": [],
     "expire": [NODE],
-    "retire": [DIRECTION, IDENTIFIER],
+    "retire": [DIRECTION, NAME],
     "restart": [NODE],
     "show released": [],
     "show packet": [PACKET],
     "show memory": [OCTET, ADDRESS, ADDRESS],
-    "show clear": [DIRECTION, IDENTIFIER],
+    "show clear": [DIRECTION, NAME],
     "show journal": [],
 }
 
 
-def read_load(words):
+def read_word(read, word, own):
+    """What a word says, of this source where it names none."""
+    return read(word, own) if isinstance(read, Sourced) else read(word)
+
+
+def read_load(words, own):
     """What a `load` line asks for."""
-    readers = [IDENTIFIER, SEQUENCE, FLAGS, OCTET]
+    readers = [NAME, SEQUENCE, FLAGS, OCTET]
     front, rest = words[:4], words[4:]
     if len(front) < 4 or len(rest) % 2 or not 1 <= len(rest) // 2 <= 255:
         raise Unreadable
-    numbers = [read(word) for read, word in zip(readers, front)]
+    numbers = [read_word(read, word, own) for read, word in zip(readers, front)]
     areas = [(ADDRESS(a), octets_of(b)) for a, b in zip(rest[::2], rest[1::2])]
     length = 15 + sum(8 + len(octets) for _, octets in areas)
     if length > LONGEST_PACKET or not all(octets for _, octets in areas):
@@ -89,17 +111,23 @@ def read_load(words):
     return numbers + [areas]
 
 
-def read_line(words):
-    """The name of a line, and what it asks for."""
+def read_line(words, own):
+    """The name of a line, and what it asks for; names that it gives no source are of this one."""
     if words[0] == "load":
-        return "load", read_load(words[1:])
+        return "load", read_load(words[1:], own)
     length = 2 if words[0] == "show" else 1
     name, rest = " ".join(words[:length]), words[length:]
     if name == "tick" and len(rest) == 1:
         rest = rest + ["1"]
     if name not in GRAMMAR or len(rest) != len(GRAMMAR[name]):
         raise Unreadable
-    return name, [read(word) for read, word in zip(GRAMMAR[name], rest)]
+    return name, [read_word(read, word, own) for read, word in zip(GRAMMAR[name], rest)]
+
+
+def released_line(world, direction, name, message):
+    """What is printed of a message that was released."""
+    words = "plain" if name is None else f"{direction} {world.text(name)}"
+    return f"{words} {hexadecimal(message)}"
 
 
 class Session:
@@ -115,7 +143,7 @@ class Session:
         words = [word for word in line.decode("latin-1").split(" ") if word]
         if not words or words[0].startswith("#"):
             return []
-        name, asked = read_line(words)
+        name, asked = read_line(words, self.world.settings.source)
         if name.startswith("show"):
             if self.kept is None:
                 return self.show(name, asked)
@@ -146,7 +174,7 @@ class Session:
         """What a `show` line prints."""
         world = self.world
         if name == "show released":
-            return world.released or ["none"]
+            return [released_line(world, *released) for released in world.released] or ["none"]
         if name == "show journal":
             return [f"journal {world.events}"]
         if name == "show clear":

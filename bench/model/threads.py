@@ -61,11 +61,10 @@ def run_all(world):
 
 def summary(world):
     """The large messages that were released, and the counts."""
-    released = [line.split() for line in world.released]
-    large = [words for words in released if words[0] in LANES]
-    large.sort(key=lambda words: (words[0] != "up", int(words[1])))
-    printed = [f"released {way} {name} {len(digits) // 2}" for way, name, digits in large]
-    return printed + [f"plain {len(released) - len(large)}", f"applied {world.executed}"]
+    large = [released for released in world.released if released[1] is not None]
+    large.sort(key=lambda released: (released[0] != "up", released[1]))
+    printed = [f"released {way} {world.text(name)} {len(octets)}" for way, name, octets in large]
+    return printed + [f"plain {len(world.released) - len(large)}", f"applied {world.executed}"]
 
 
 def run_threads(script, settings):

@@ -4,7 +4,7 @@ from .jobs import Jobs
 from .link import Link
 from .memories import Failure, Memories, load_body
 from .nodes import DISCONTINUITY, Node
-from .packets import Fault, hexadecimal, number_of, read_headers, read_packet, write_command
+from .packets import Fault, Name, hexadecimal, number_of, read_headers, read_packet, write_command
 from .parts import ABORT_SUBTYPE, PART_SUBTYPES, read_part
 from .settings import LAST_TICK
 
@@ -45,39 +45,43 @@ class World:
         """The node to which a direction goes."""
         return self.nodes["craft" if direction == "up" else "ground"]
 
+    def text(self, name):
+        """A name as it is printed."""
+        return name.text(self.settings.source)
+
     def longest(self):
         """The most octets of a packet on the link."""
         return self.settings.part_size + ROOM_BESIDE_PART
 
-    def open(self, direction, identifier, message):
+    def open(self, direction, name, message):
         """Hands a message to its sender."""
-        count = self.sender(direction).open(identifier, message)
-        return f"opened {direction} {identifier} parts {count}"
+        count = self.sender(direction).open(name, message)
+        return f"opened {direction} {self.text(name)} parts {count}"
 
-    def load(self, identifier, count, flags, memory, areas):
+    def load(self, name, count, flags, memory, areas):
         """Hands the packet of a load to its sender."""
-        apid, source = self.settings.apid, self.settings.source
-        body = load_body(memory, areas)
-        return self.open("up", identifier, write_command(apid, count, flags, 6, 2, source, body))
+        apid, source, body = self.settings.apid, name.source, load_body(memory, areas)
+        return self.open("up", name, write_command(apid, count, flags, 6, 2, source, body))
 
-    def send(self, direction, identifier, number):
+    def send(self, direction, name, number):
         """Puts a part on the link."""
-        packet = self.sender(direction).send(identifier, number)
+        packet = self.sender(direction).send(name, number)
         return f"put {self.link.put(direction, packet)}"
 
-    def plain(self, flags, service, subtype, body):
+    def plain(self, sourced_flags, service, subtype, body):
         """Puts a request on the link that is no part."""
+        source, flags = sourced_flags
         if service == 13 and subtype in PART_SUBTYPES["up"]:
             raise Fault(60, "PartRequest")
         if 13 + len(body) > self.longest():
             raise Fault(43, "Long")
-        packet = self.nodes["ground"].make(service, subtype, body, flags)
+        packet = self.nodes["ground"].make(source, service, subtype, body, flags)
         return f"put {self.link.put('up', packet)}"
 
-    def finish(self, direction, identifier):
+    def finish(self, direction, name):
         """Closes a sender."""
-        self.sender(direction).finish(identifier)
-        return f"finished {direction} {identifier}"
+        self.sender(direction).finish(name)
+        return f"finished {direction} {self.text(name)}"
 
     def lose(self, number):
         """Loses a packet."""
@@ -113,23 +117,23 @@ class World:
         if part is not None:
             outcome, message = node.accept(part)
             if message is not None:
-                self._release(node, f"{node.receives} {part.identifier}", message)
+                self._release(node, part.name, message)
             if node.is_craft and outcome.startswith("broken"):
-                self._report(node, part.identifier, DISCONTINUITY)
+                self._report(node, part.name, DISCONTINUITY)
             return outcome
         if node.is_craft:
-            self._release(node, "plain", octets)
+            self._release(node, None, octets)
             return f"plain {len(octets)}"
         return self._note(headers)
 
-    def _report(self, node, identifier, reason):
-        """Puts a report on the link that a reception was broken off."""
-        body = identifier.to_bytes(2, "big") + bytes([reason])
-        self.link.put("down", node.make(13, ABORT_SUBTYPE, body))
+    def _report(self, node, name, reason):
+        """Puts a report on the link that a reception was broken off; it goes to the name's source."""
+        body = name.identifier.to_bytes(2, "big") + bytes([reason])
+        self.link.put("down", node.make(name.source, 13, ABORT_SUBTYPE, body))
 
-    def _release(self, node, words, message):
-        """Releases a message; on the spacecraft it becomes a job."""
-        self.released.append(f"{words} {hexadecimal(message)}")
+    def _release(self, node, name, message):
+        """Releases a message, a plain request where it has no name; the spacecraft makes a job of it."""
+        self.released.append((node.receives, name, message))
         if node.is_craft:
             self.jobs.add(message)
 
@@ -137,10 +141,10 @@ class World:
         """Ground notes a report; one of an abortion closes the sender."""
         if (headers.service, headers.subtype) != (13, ABORT_SUBTYPE):
             return f"report {headers.service} {headers.subtype}"
-        identifier, ground = number_of(headers.body[:2]), self.nodes["ground"]
-        if identifier in ground.outgoing:
-            ground.finish(identifier)
-        return f"abort {identifier} {headers.body[2]}"
+        name, ground = Name(headers.peer, number_of(headers.body[:2])), self.nodes["ground"]
+        if name in ground.outgoing:
+            ground.finish(name)
+        return f"abort {self.text(name)} {headers.body[2]}"
 
     def tick(self, name, count):
         """Moves a clock on, as far as it goes; each tick is an event of its own."""
@@ -157,23 +161,23 @@ class World:
     def expire(self, name):
         """Ends an overdue reception; the spacecraft reports that."""
         node = self.nodes[name]
-        identifier = node.expire()
+        name = node.expire()
         if node.is_craft:
-            self._report(node, identifier, EXPIRED)
-        return f"expired {node.receives} {identifier}"
+            self._report(node, name, EXPIRED)
+        return f"expired {node.receives} {self.text(name)}"
 
-    def retire(self, direction, identifier):
-        """Frees a message's identifier at both ends."""
+    def retire(self, direction, name):
+        """Frees a message's name at both ends."""
         sender, receiver = self.sender(direction), self.receiver(direction)
-        if identifier in sender.outgoing:
+        if name in sender.outgoing:
             raise Fault(55, "StillOpen")
-        if identifier not in sender.closed:
+        if name not in sender.closed:
             raise Fault(45, "NotOpen")
-        if not self.is_clear(direction, identifier):
+        if not self.is_clear(direction, name):
             raise Fault(53, "NotClear")
-        sender.closed.remove(identifier)
-        receiver.ended.discard(identifier)
-        return f"retired {direction} {identifier}"
+        sender.closed.remove(name)
+        receiver.ended.discard(name)
+        return f"retired {direction} {self.text(name)}"
 
     def restart(self, name):
         """Starts a node anew; the spacecraft forgets its jobs."""
@@ -191,59 +195,59 @@ class World:
         if request is None or request.packet[:2] != (True, self.settings.apid):
             return "applied silent"
         try:
-            identifier, reply = self._execute(request)
+            name, reply = self._execute(request)
         except Failure as failure:
             self._report_failure(request, message[:4], failure.code)
             return f"applied code {failure.code}"
-        self._report_success(request, message[:4], identifier, reply)
-        return "applied done" + ("" if identifier is None else f" down {identifier}")
+        self._report_success(request, message[:4], name, reply)
+        return "applied done" + ("" if name is None else f" down {self.text(name)}")
 
     def _execute(self, request):
-        """Executes a request: its reply, and the identifier under which that is opened."""
+        """Executes a request: its reply, and the name of the request's source to open that under."""
         reply, craft = self.memories.execute(request), self.nodes["craft"]
         if reply is None or 19 + len(reply[1]) <= self.longest():
             return None, reply
-        identifier = craft.least_free()
-        if identifier is None:
+        name = craft.least_free(request.peer)
+        if name is None:
             raise Failure(7)
         if len(craft.outgoing) >= self.settings.outgoing:
             raise Failure(8)
-        return identifier, reply
+        return name, reply
 
-    def _verify(self, subtype, body):
-        """Puts a report of verification on the link."""
-        self.link.put("down", self.nodes["craft"].make(1, subtype, body))
+    def _verify(self, request, subtype, body):
+        """Puts a report of verification on the link, to the request's source."""
+        self.link.put("down", self.nodes["craft"].make(request.peer, 1, subtype, body))
 
     def _report_failure(self, request, request_id, code):
         """Reports that a request was refused."""
         if code > 2 and request.nibble & 1:
-            self._verify(1, request_id)
-        self._verify(2 if code <= 2 else 4, request_id + code.to_bytes(2, "big"))
+            self._verify(request, 1, request_id)
+        self._verify(request, 2 if code <= 2 else 4, request_id + code.to_bytes(2, "big"))
 
-    def _report_success(self, request, request_id, identifier, reply):
+    def _report_success(self, request, request_id, name, reply):
         """Reports that a request was carried out."""
         if request.nibble & 1:
-            self._verify(1, request_id)
+            self._verify(request, 1, request_id)
         if request.nibble & 2:
-            self._verify(3, request_id)
+            self._verify(request, 3, request_id)
         if reply is not None:
-            packet = self.nodes["craft"].make(6, *reply)
-            if identifier is None:
+            packet = self.nodes["craft"].make(request.peer, 6, *reply)
+            if name is None:
                 self.link.put("down", packet)
             else:
-                self.nodes["craft"].outgoing[identifier] = packet
+                self.nodes["craft"].outgoing[name] = packet
         if request.nibble & 8:
-            self._verify(7, request_id)
+            self._verify(request, 7, request_id)
 
-    def is_part_of(self, packet, direction, identifier):
+    def is_part_of(self, packet, direction, name):
         """Whether a packet on the link is a part of a message."""
         headers = parsed(packet[1]) if packet[0] == direction else None
         part = headers and read_part(headers, self.settings.part_size)
-        return part is not None and part.identifier == identifier
+        return part is not None and part.name == name
 
-    def is_clear(self, direction, identifier):
+    def is_clear(self, direction, name):
         """Whether nothing is left of a message."""
-        if any(self.is_part_of(packet, direction, identifier) for packet in self.link.present()):
+        if any(self.is_part_of(packet, direction, name) for packet in self.link.present()):
             return False
         receptions = self.receiver(direction).receptions
-        return identifier not in receptions and identifier not in self.sender(direction).outgoing
+        return name not in receptions and name not in self.sender(direction).outgoing

@@ -9,14 +9,17 @@
 
 #include <stdio.h>
 
-enum { MESSAGE = 2000, PART_SIZE = 256, NAME = 7 };
+enum { MESSAGE = 2000, PART_SIZE = 256 };
+
+/* The message is the transaction 7 of source 1. */
+static const LptName name = {1, 7};
 
 /* Makes the packet of a part at one end, and gives it to the other: what became of it, or the
    number of what is wrong. */
 static uint32_t carry(LptEnd *from, LptEnd *to, uint16_t k, LptOutcome *outcome) {
     uint8_t packet[PART_SIZE + 32];
     size_t len;
-    uint32_t fault = lpt_end_part(from, NAME, k);
+    uint32_t fault = lpt_end_part(from, &name, k);
     while (fault == LPT_DONE && lpt_end_outgoing(from, packet, sizeof packet, &len) == LPT_DONE) {
         fault = lpt_end_packet(to, packet, len, outcome);
         if (fault == LPT_DONE) {
@@ -27,11 +30,11 @@ static uint32_t carry(LptEnd *from, LptEnd *to, uint16_t k, LptOutcome *outcome)
 }
 
 int main(void) {
-    static const LptConfig config = {100, 1, PART_SIZE, 10, 4, 4, 0, LPT_ANY};
+    static const LptConfig config = {100, PART_SIZE, 10, 4, 4, 0, LPT_ANY};
     static const LptMemory memories[] = {{1, 0, 1024}};
     static uint8_t message[MESSAGE], received[MESSAGE], content[1024];
     LptEnd ground = LPT_END_EMPTY, spacecraft = LPT_END_EMPTY;
-    LptOutcome outcome = {0, 0, 0};
+    LptOutcome outcome = {0, {0, 0}, 0, 0};
     size_t len, i;
     uint16_t k, parts = (uint16_t)lpt_part_count(MESSAGE, PART_SIZE);
     uint32_t fault = lpt_end_new(&ground, LPT_GROUND, &config, memories, 0, content, 0);
@@ -43,7 +46,7 @@ int main(void) {
                             sizeof content);
     }
     if (fault == LPT_DONE) {
-        fault = lpt_end_open(&ground, NAME, message, MESSAGE);
+        fault = lpt_end_open(&ground, &name, message, MESSAGE);
     }
     for (k = 1; k <= parts && fault == LPT_DONE; k++) {
         if (k != 3) {
@@ -61,7 +64,7 @@ int main(void) {
         printf("released: %u octets, %s\n", (unsigned)len, i == MESSAGE ? "the same" : "others");
     }
     if (fault == LPT_DONE) {
-        fault = lpt_end_finish(&ground, NAME);
+        fault = lpt_end_finish(&ground, &name);
     }
     printf("fault %u\n", (unsigned)fault);
     lpt_end_free(&ground);

@@ -10,9 +10,10 @@
 #include <stdio.h>
 #include <string.h>
 
-enum { APID = 100, SOURCE = 1, PART_SIZE = 256, LONGEST = PART_SIZE + 23, NAME = 7 };
+enum { APID = 100, SOURCE = 1, PART_SIZE = 256, LONGEST = PART_SIZE + 23 };
 enum { MEMORY = 1, SIZE = 4096, ADDRESS = 16, OCTETS = 1000 };
 
+static const LptName load_name = {SOURCE, 7};
 static LptEnd ground = LPT_END_EMPTY, spacecraft = LPT_END_EMPTY;
 static uint8_t image[OCTETS];
 
@@ -84,11 +85,10 @@ static void serve(void) {
     while (lpt_end_execute(&spacecraft, &applied) == LPT_DONE) {
         send_down();
         if (applied.kind == LPT_OPENED) {
-            uint16_t id = (uint16_t)applied.value;
-            for (k = 1; lpt_end_part(&spacecraft, id, k) == LPT_DONE; k++) {
+            for (k = 1; lpt_end_part(&spacecraft, &applied.name, k) == LPT_DONE; k++) {
                 send_down();
             }
-            lpt_end_finish(&spacecraft, id);
+            lpt_end_finish(&spacecraft, &applied.name);
         }
     }
 }
@@ -122,26 +122,26 @@ static uint32_t load(void) {
     at += put(body + at, lpt_crc16(image, OCTETS), 2);
     fault = lpt_write_tc(&head, body, at, request, sizeof request, &len);
     if (fault == LPT_DONE) {
-        fault = lpt_end_open(&ground, NAME, request, len);
+        fault = lpt_end_open(&ground, &load_name, request, len);
     }
     if (fault == LPT_DONE) {
-        for (k = 1; (fault = lpt_end_part(&ground, NAME, k)) == LPT_DONE; k++) {
+        for (k = 1; (fault = lpt_end_part(&ground, &load_name, k)) == LPT_DONE; k++) {
             send_up();
         }
     }
-    return fault == LPT_NO_SUCH_PART ? lpt_end_finish(&ground, NAME) : fault;
+    return fault == LPT_NO_SUCH_PART ? lpt_end_finish(&ground, &load_name) : fault;
 }
 
 /* Asks for the same octets, by a plain request. */
 static uint32_t dump(void) {
     uint8_t body[8];
-    uint32_t fault = lpt_end_plain(&ground, 1 + 8, 6, 5, body, put_area(body));
+    uint32_t fault = lpt_end_plain(&ground, SOURCE, 1 + 8, 6, 5, body, put_area(body));
     send_up();
     return fault;
 }
 
 int main(void) {
-    static const LptConfig config = {APID, SOURCE, PART_SIZE, 10, 4, 4, 0, LPT_ANY};
+    static const LptConfig config = {APID, PART_SIZE, 10, 4, 4, 0, LPT_ANY};
     static const LptMemory memories[] = {{MEMORY, 0, SIZE}};
     static const uint8_t content[SIZE] = {0};
     uint32_t fault = lpt_end_new(&ground, LPT_GROUND, &config, memories, 0, content, 0);

@@ -278,7 +278,7 @@ class Turns:
         if part is None:
             calls.wants(f"no part: {body.hex()}", got[0] in (20, 21, 22, 23) and got[1], True)
         else:
-            wanted = part.identifier, part.number, part.place + 1, 4, len(part.octets)
+            wanted = part.name.identifier, part.number, part.place + 1, 4, len(part.octets)
             calls.wants(f"a part: {body.hex()}", got, (0, wanted))
 
     def bodies(self):

@@ -35,20 +35,43 @@ static const uint8_t LAST[] = {0x18, 0x64, 0xc0, 0x02, 0x00, 0x0e, 0x20, 0x0d, 0
                                0x00, 0x07, 0x00, 0x03, 0x10, 0x11, 0x12, 0x13, 0x13, 0x9b};
 static const uint8_t ABORTED[] = {0x08, 0x64, 0xc0, 0x00, 0x00, 0x0f, 0x20, 0x0d, 0x10, 0x00, 0x00,
                                   0x00, 0x01, 0x00, 0x00, 0x00, 0x13, 0x00, 0x07, 0x01, 0x4e, 0x97};
+/* The same of the name 7 of source 2: its first part, and the second report of a spacecraft. */
+static const uint8_t FIRST_OF_OTHER[] = {0x18, 0x64, 0xc0, 0x01, 0x00, 0x12, 0x20, 0x0d, 0x09,
+                                         0x00, 0x02, 0x00, 0x07, 0x00, 0x01, 0x00, 0x01, 0x02,
+                                         0x03, 0x04, 0x05, 0x06, 0x07, 0x0e, 0x1b};
+static const uint8_t OTHER_ABORTED[] = {0x08, 0x64, 0xc0, 0x01, 0x00, 0x0f, 0x20, 0x0d,
+                                        0x10, 0x00, 0x01, 0x00, 0x02, 0x00, 0x00, 0x00,
+                                        0x13, 0x00, 0x07, 0x01, 0xf9, 0x45};
 static const uint8_t IDLE[] = {0x07, 0xff, 0xc0, 0x00, 0x00, 0x00, 0x00};
 
-enum { NAME = 7, P = 8, ROOM = 70000 };
+enum { P = 8, ROOM = 70000 };
 
-static const LptConfig CONFIG = {100, 1, P, 19, 2, 2, 0, LPT_ANY};
+/* Two transactions of one identifier and two sources; and what is told where there is none. */
+static const LptName NAME = {1, 7}, OTHER = {2, 7}, NONE = {0, 0};
+
+static const LptConfig CONFIG = {100, P, 19, 2, 2, 0, LPT_ANY};
 static const uint8_t MEMORY[16] = {0};
 static const LptMemory MEMORIES[] = {{1, 0, sizeof MEMORY}};
 
 static uint8_t message[65542], packet[ROOM], got[ROOM];
 static size_t packet_len;
 
+/* Another name of source 1, until the next. */
+static const LptName *named(uint16_t id) {
+    static LptName name = {1, 0};
+    name.id = id;
+    return &name;
+}
+
+static int same(LptName a, const LptName *b) {
+    return a.source == b->source && a.id == b->id;
+}
+
 /* What a call told. */
-static int told(LptOutcome said, uint32_t kind, uint32_t first, uint32_t second) {
-    return said.kind == kind && said.first == first && said.second == second;
+static int told(LptOutcome said, uint32_t kind, const LptName *name, uint32_t first,
+                uint32_t second) {
+    return said.kind == kind && same(said.name, name) && said.first == first &&
+           said.second == second;
 }
 
 static void make(LptEnd *end, uint32_t side, const LptConfig *config) {
@@ -63,8 +86,8 @@ static int take_packet(LptEnd *end) {
 }
 
 /* The packet of a part. */
-static int make_part(LptEnd *end, uint16_t id, uint16_t k) {
-    return lpt_end_part(end, id, k) == LPT_DONE && take_packet(end);
+static int make_part(LptEnd *end, const LptName *name, uint16_t k) {
+    return lpt_end_part(end, name, k) == LPT_DONE && take_packet(end);
 }
 
 static int packet_is(const uint8_t *octets, size_t len) {
@@ -72,16 +95,16 @@ static int packet_is(const uint8_t *octets, size_t len) {
 }
 
 /* The packet of a part at one end, given to the other. */
-static LptOutcome carry(LptEnd *from, LptEnd *to, uint16_t id, uint16_t k) {
-    LptOutcome said = {0, 0, 0};
-    EXPECT(make_part(from, id, k));
+static LptOutcome carry(LptEnd *from, LptEnd *to, const LptName *name, uint16_t k) {
+    LptOutcome said = {0, NONE, 0, 0};
+    EXPECT(make_part(from, name, k));
     DONE(lpt_end_packet(to, packet, packet_len, &said));
     return said;
 }
 
 /* What is made of octets. */
 static LptOutcome taken(LptEnd *end, const uint8_t *octets, size_t len) {
-    LptOutcome said = {0, 0, 0};
+    LptOutcome said = {0, NONE, 0, 0};
     DONE(lpt_end_packet(end, octets, len, &said));
     return said;
 }
@@ -98,35 +121,35 @@ static void first_path(void) {
     size_t len = 99;
     make(&ground, LPT_GROUND, &CONFIG);
     make(&craft, LPT_SPACECRAFT, &CONFIG);
-    DONE(lpt_end_open(&ground, NAME, message, 20));
-    DONE(lpt_end_part(&ground, NAME, 1));
+    DONE(lpt_end_open(&ground, &NAME, message, 20));
+    DONE(lpt_end_part(&ground, &NAME, 1));
     EXPECT(lpt_end_outgoing(&ground, packet, 24, &len) == LPT_ROOM && len == sizeof FIRST);
     EXPECT(take_packet(&ground) && packet_is(FIRST, sizeof FIRST));
-    EXPECT(told(taken(&craft, packet, packet_len), LPT_KEPT, NAME, 1));
-    EXPECT(told(taken(&craft, packet, packet_len), LPT_AGAIN, NAME, 1));
-    EXPECT(told(carry(&ground, &craft, NAME, 2), LPT_KEPT, NAME, 2));
+    EXPECT(told(taken(&craft, packet, packet_len), LPT_KEPT, &NAME, 1, 0));
+    EXPECT(told(taken(&craft, packet, packet_len), LPT_AGAIN, &NAME, 1, 0));
+    EXPECT(told(carry(&ground, &craft, &NAME, 2), LPT_KEPT, &NAME, 2, 0));
     EXPECT(lpt_end_released(&craft, got, sizeof got, &len) == LPT_NOTHING);
-    EXPECT(told(carry(&ground, &craft, NAME, 3), LPT_RELEASED, NAME, 20));
+    EXPECT(told(carry(&ground, &craft, &NAME, 3), LPT_RELEASED, &NAME, 20, 0));
     EXPECT(packet_is(LAST, sizeof LAST));
     len = 99;
     memset(got, 0xee, sizeof got);
     EXPECT(lpt_end_released(&craft, got, 19, &len) == LPT_ROOM && len == 20 && got[0] == 0xee);
     DONE(lpt_end_released(&craft, got, 21, &len));
     EXPECT(len == 20 && memcmp(got, message, 20) == 0 && got[20] == 0xee);
-    EXPECT(told(taken(&craft, packet, packet_len), LPT_IGNORED, LPT_CLOSED, 0));
+    EXPECT(told(taken(&craft, packet, packet_len), LPT_IGNORED, &NONE, LPT_CLOSED, 0));
     EXPECT(lpt_end_released(&craft, got, sizeof got, &len) == LPT_NOTHING);
     EXPECT(lpt_end_outgoing(&craft, got, sizeof got, &len) == LPT_NOTHING && len == 20);
 
-    EXPECT(lpt_end_retire(&ground, LPT_UP, NAME) == LPT_STILL_OPEN);
-    DONE(lpt_end_finish(&ground, NAME));
-    EXPECT(lpt_end_open(&ground, NAME, message, 20) == LPT_IN_USE);
-    DONE(lpt_end_retire(&ground, LPT_UP, NAME));
-    DONE(lpt_end_retire(&craft, LPT_UP, NAME));
-    DONE(lpt_end_retire(&craft, LPT_DOWN, NAME));
-    DONE(lpt_end_open(&ground, NAME, message, 9));
-    EXPECT(told(carry(&ground, &craft, NAME, 2), LPT_KEPT, NAME, 2));
-    EXPECT(lpt_end_retire(&craft, LPT_UP, NAME) == LPT_STILL_OPEN);
-    EXPECT(told(carry(&ground, &craft, NAME, 1), LPT_RELEASED, NAME, 9));
+    EXPECT(lpt_end_retire(&ground, LPT_UP, &NAME) == LPT_STILL_OPEN);
+    DONE(lpt_end_finish(&ground, &NAME));
+    EXPECT(lpt_end_open(&ground, &NAME, message, 20) == LPT_IN_USE);
+    DONE(lpt_end_retire(&ground, LPT_UP, &NAME));
+    DONE(lpt_end_retire(&craft, LPT_UP, &NAME));
+    DONE(lpt_end_retire(&craft, LPT_DOWN, &NAME));
+    DONE(lpt_end_open(&ground, &NAME, message, 9));
+    EXPECT(told(carry(&ground, &craft, &NAME, 2), LPT_KEPT, &NAME, 2, 0));
+    EXPECT(lpt_end_retire(&craft, LPT_UP, &NAME) == LPT_STILL_OPEN);
+    EXPECT(told(carry(&ground, &craft, &NAME, 1), LPT_RELEASED, &NAME, 9, 0));
     lpt_end_free(&ground);
     lpt_end_free(&craft);
 }
@@ -134,23 +157,65 @@ static void first_path(void) {
 /* A part that is lost: the reception is given up, and ground hears of it. */
 static void lost_part(void) {
     LptEnd ground = LPT_END_EMPTY, craft = LPT_END_EMPTY;
-    uint16_t id = 9;
+    LptName name = NONE;
     unsigned tick;
     make(&ground, LPT_GROUND, &CONFIG);
     make(&craft, LPT_SPACECRAFT, &CONFIG);
-    DONE(lpt_end_open(&ground, NAME, message, 20));
-    EXPECT(told(carry(&ground, &craft, NAME, 1), LPT_KEPT, NAME, 1));
-    EXPECT(told(carry(&ground, &craft, NAME, 3), LPT_KEPT, NAME, 3));
+    DONE(lpt_end_open(&ground, &NAME, message, 20));
+    EXPECT(told(carry(&ground, &craft, &NAME, 1), LPT_KEPT, &NAME, 1, 0));
+    EXPECT(told(carry(&ground, &craft, &NAME, 3), LPT_KEPT, &NAME, 3, 0));
     for (tick = 0; tick < 19; tick++) {
-        EXPECT(lpt_end_expire(&craft, &id) == LPT_NOTHING_DUE && id == 9);
+        EXPECT(lpt_end_expire(&craft, &name) == LPT_NOTHING_DUE && same(name, &NONE));
         DONE(lpt_end_tick(&craft));
     }
-    EXPECT(lpt_end_expire(&craft, &id) == LPT_DONE && id == NAME);
+    EXPECT(lpt_end_expire(&craft, &name) == LPT_DONE && same(name, &NAME));
     EXPECT(take_packet(&craft) && packet_is(ABORTED, sizeof ABORTED));
-    EXPECT(told(taken(&ground, ABORTED, sizeof ABORTED), LPT_ABORT_NOTED, NAME, 1));
-    EXPECT(lpt_end_part(&ground, NAME, 2) == LPT_NOT_OPEN);
-    EXPECT(lpt_end_finish(&ground, NAME) == LPT_NOT_OPEN);
+    EXPECT(told(taken(&ground, ABORTED, sizeof ABORTED), LPT_ABORT_NOTED, &NAME, 1, 0));
+    EXPECT(lpt_end_part(&ground, &NAME, 2) == LPT_NOT_OPEN);
+    EXPECT(lpt_end_finish(&ground, &NAME) == LPT_NOT_OPEN);
     EXPECT(lpt_end_sent(&craft) == LPT_NOTHING);
+    lpt_end_free(&ground);
+    lpt_end_free(&craft);
+}
+
+/* One identifier of two sources: two messages, of which each is sent, released, freed, opened again
+   and given up by itself. */
+static void two_sources(void) {
+    LptEnd ground = LPT_END_EMPTY, craft = LPT_END_EMPTY;
+    LptName name = NONE;
+    size_t len = 0;
+    unsigned tick;
+    make(&ground, LPT_GROUND, &CONFIG);
+    make(&craft, LPT_SPACECRAFT, &CONFIG);
+    DONE(lpt_end_open(&ground, &NAME, message, 20));
+    DONE(lpt_end_open(&ground, &OTHER, message, 9));
+    EXPECT(lpt_end_open(&ground, &OTHER, message, 9) == LPT_IN_USE);
+    EXPECT(told(carry(&ground, &craft, &NAME, 1), LPT_KEPT, &NAME, 1, 0));
+    EXPECT(told(carry(&ground, &craft, &OTHER, 1), LPT_KEPT, &OTHER, 1, 0));
+    EXPECT(packet_is(FIRST_OF_OTHER, sizeof FIRST_OF_OTHER));
+    EXPECT(told(carry(&ground, &craft, &OTHER, 2), LPT_RELEASED, &OTHER, 9, 0));
+    DONE(lpt_end_released(&craft, got, sizeof got, &len));
+    EXPECT(len == 9 && memcmp(got, message, 9) == 0);
+    EXPECT(told(carry(&ground, &craft, &OTHER, 2), LPT_IGNORED, &NONE, LPT_CLOSED, 0));
+
+    DONE(lpt_end_finish(&ground, &OTHER));
+    DONE(lpt_end_retire(&ground, LPT_UP, &OTHER));
+    DONE(lpt_end_retire(&craft, LPT_UP, &OTHER));
+    EXPECT(lpt_end_retire(&ground, LPT_UP, &NAME) == LPT_STILL_OPEN);
+    EXPECT(lpt_end_retire(&craft, LPT_UP, &NAME) == LPT_STILL_OPEN);
+    DONE(lpt_end_open(&ground, &OTHER, message, 20));
+    EXPECT(told(carry(&ground, &craft, &OTHER, 3), LPT_KEPT, &OTHER, 3, 0));
+
+    for (tick = 0; tick < 19; tick++) {
+        DONE(lpt_end_tick(&craft));
+    }
+    EXPECT(lpt_end_expire(&craft, &name) == LPT_DONE && same(name, &NAME));
+    EXPECT(lpt_end_expire(&craft, &name) == LPT_DONE && same(name, &OTHER));
+    EXPECT(take_packet(&craft) && packet_is(ABORTED, sizeof ABORTED));
+    EXPECT(take_packet(&craft) && packet_is(OTHER_ABORTED, sizeof OTHER_ABORTED));
+    EXPECT(told(taken(&ground, packet, packet_len), LPT_ABORT_NOTED, &OTHER, 1, 0));
+    EXPECT(lpt_end_part(&ground, &OTHER, 1) == LPT_NOT_OPEN);
+    DONE(lpt_end_part(&ground, &NAME, 2));
     lpt_end_free(&ground);
     lpt_end_free(&craft);
 }
@@ -164,24 +229,24 @@ static void broken(void) {
     make(&ground, LPT_GROUND, &CONFIG);
     make(&craft, LPT_SPACECRAFT, &CONFIG);
     make(&twin, LPT_GROUND, &CONFIG);
-    DONE(lpt_end_open(&ground, NAME, message, 20));
-    DONE(lpt_end_open(&ground, 8, message, 20));
-    DONE(lpt_end_open(&twin, NAME, another, 20));
-    DONE(lpt_end_open(&twin, 8, another, 20));
-    EXPECT(told(carry(&ground, &craft, NAME, 1), LPT_KEPT, NAME, 1));
-    EXPECT(told(carry(&ground, &craft, 8, 3), LPT_KEPT, 8, 3));
-    EXPECT(told(carry(&twin, &craft, NAME, 1), LPT_BROKEN, NAME, 3));
-    EXPECT(told(carry(&twin, &craft, 8, 3), LPT_BROKEN, 8, 3));
+    DONE(lpt_end_open(&ground, &NAME, message, 20));
+    DONE(lpt_end_open(&ground, named(8), message, 20));
+    DONE(lpt_end_open(&twin, &NAME, another, 20));
+    DONE(lpt_end_open(&twin, named(8), another, 20));
+    EXPECT(told(carry(&ground, &craft, &NAME, 1), LPT_KEPT, &NAME, 1, 0));
+    EXPECT(told(carry(&ground, &craft, named(8), 3), LPT_KEPT, named(8), 3, 0));
+    EXPECT(told(carry(&twin, &craft, &NAME, 1), LPT_BROKEN, &NAME, 3, 0));
+    EXPECT(told(carry(&twin, &craft, named(8), 3), LPT_BROKEN, named(8), 3, 0));
     EXPECT(take_packet(&craft));
-    EXPECT(told(taken(&ground, packet, packet_len), LPT_ABORT_NOTED, NAME, 3));
+    EXPECT(told(taken(&ground, packet, packet_len), LPT_ABORT_NOTED, &NAME, 3, 0));
     EXPECT(take_packet(&craft));
-    EXPECT(told(taken(&ground, packet, packet_len), LPT_ABORT_NOTED, 8, 3));
+    EXPECT(told(taken(&ground, packet, packet_len), LPT_ABORT_NOTED, named(8), 3, 0));
     EXPECT(!take_packet(&craft));
 
     strict.mode = LPT_STRICT;
     make(&other, LPT_SPACECRAFT, &strict);
-    EXPECT(told(carry(&twin, &other, NAME, 1), LPT_KEPT, NAME, 1));
-    EXPECT(told(carry(&twin, &other, NAME, 3), LPT_BROKEN, NAME, 2));
+    EXPECT(told(carry(&twin, &other, &NAME, 1), LPT_KEPT, &NAME, 1, 0));
+    EXPECT(told(carry(&twin, &other, &NAME, 3), LPT_BROKEN, &NAME, 2, 0));
     lpt_end_free(&ground);
     lpt_end_free(&craft);
     lpt_end_free(&twin);
@@ -197,26 +262,26 @@ static void other_packets(void) {
     size_t len = 0;
     make(&ground, LPT_GROUND, &CONFIG);
     make(&craft, LPT_SPACECRAFT, &CONFIG);
-    EXPECT(told(command(&craft, head, body, 3), LPT_PLAIN_RELEASED, 16, 0));
+    EXPECT(told(command(&craft, head, body, 3), LPT_PLAIN_RELEASED, &NONE, 16, 0));
     DONE(lpt_end_released(&craft, got, sizeof got, &len));
     EXPECT(len == packet_len && memcmp(got, packet, len) == 0);
-    EXPECT(told(taken(&ground, packet, packet_len), LPT_IGNORED, LPT_UNREADABLE, 0));
+    EXPECT(told(taken(&ground, packet, packet_len), LPT_IGNORED, &NONE, LPT_UNREADABLE, 0));
     DONE(lpt_write_tm(&report, body, 4, packet, sizeof packet, &packet_len));
-    EXPECT(told(taken(&ground, packet, packet_len), LPT_REPORT_NOTED, 1, 7));
-    EXPECT(told(taken(&craft, packet, 5), LPT_IGNORED, LPT_UNREADABLE, 0));
-    EXPECT(told(taken(&craft, packet, 0), LPT_IGNORED, LPT_UNREADABLE, 0));
-    EXPECT(told(taken(&craft, IDLE, sizeof IDLE), LPT_IGNORED, LPT_WAS_IDLE, 0));
+    EXPECT(told(taken(&ground, packet, packet_len), LPT_REPORT_NOTED, &NONE, 1, 7));
+    EXPECT(told(taken(&craft, packet, 5), LPT_IGNORED, &NONE, LPT_UNREADABLE, 0));
+    EXPECT(told(taken(&craft, packet, 0), LPT_IGNORED, &NONE, LPT_UNREADABLE, 0));
+    EXPECT(told(taken(&craft, IDLE, sizeof IDLE), LPT_IGNORED, &NONE, LPT_WAS_IDLE, 0));
     head.apid = 101;
-    EXPECT(told(command(&craft, head, body, 3), LPT_IGNORED, LPT_FOREIGN_APID, 0));
+    EXPECT(told(command(&craft, head, body, 3), LPT_IGNORED, &NONE, LPT_FOREIGN_APID, 0));
     head.apid = 100;
     head.service = 13;
     head.subtype = 9;
-    EXPECT(told(command(&craft, head, body, 11), LPT_IGNORED, LPT_BAD_PART, 0));
-    EXPECT(told(command(&craft, head, body, 12), LPT_KEPT, 1, 1));
+    EXPECT(told(command(&craft, head, body, 11), LPT_IGNORED, &NONE, LPT_BAD_PART, 0));
+    EXPECT(told(command(&craft, head, body, 12), LPT_KEPT, named(1), 1, 0));
     body[1] = 2;
-    EXPECT(told(command(&craft, head, body, 12), LPT_KEPT, 2, 1));
+    EXPECT(told(command(&craft, head, body, 12), LPT_KEPT, named(2), 1, 0));
     body[1] = 3;
-    EXPECT(told(command(&craft, head, body, 12), LPT_IGNORED, LPT_NO_ROOM, 0));
+    EXPECT(told(command(&craft, head, body, 12), LPT_IGNORED, &NONE, LPT_NO_ROOM, 0));
     lpt_end_free(&ground);
     lpt_end_free(&craft);
 }
@@ -228,7 +293,7 @@ static void executed(void) {
     uint8_t load[] = {1, 1, 0, 0, 0, 2, 0, 3, 7, 8, 9, 0, 0};
     uint8_t dump[] = {9, 1, 0, 0, 0, 0, 0, 1};
     LptTcHead head = {100, 0, 11, 6, 2, 1};
-    LptApplied applied = {9, 9};
+    LptApplied applied = {9, NAME, 9};
     LptEnd craft = LPT_END_EMPTY, ground = LPT_END_EMPTY;
     uint16_t sum = lpt_crc16(load + 8, 3);
     size_t len = 0;
@@ -240,7 +305,7 @@ static void executed(void) {
     EXPECT(lpt_end_read(&ground) == LPT_NO_JOB && lpt_end_read(&craft) == LPT_NO_JOB);
     EXPECT(lpt_end_execute(&ground, &applied) == LPT_NO_JOB);
     EXPECT(lpt_end_execute(&craft, &applied) == LPT_NO_JOB && applied.kind == 9);
-    EXPECT(told(command(&craft, head, load, sizeof load), LPT_PLAIN_RELEASED, 26, 0));
+    EXPECT(told(command(&craft, head, load, sizeof load), LPT_PLAIN_RELEASED, &NONE, 26, 0));
     EXPECT(lpt_end_execute(&craft, &applied) == LPT_NOT_READ && applied.kind == 9);
     DONE(lpt_end_read(&craft));
     EXPECT(lpt_end_read(&craft) == LPT_NO_JOB);
@@ -251,7 +316,7 @@ static void executed(void) {
     DONE(lpt_end_memory(&craft, 1, got, sizeof got, &len));
     EXPECT(len == sizeof MEMORY && got[1] == 0 && got[2] == 7 && got[4] == 9 && got[5] == 0);
     head.subtype = 5;
-    EXPECT(told(command(&craft, head, dump, sizeof dump), LPT_PLAIN_RELEASED, 21, 0));
+    EXPECT(told(command(&craft, head, dump, sizeof dump), LPT_PLAIN_RELEASED, &NONE, 21, 0));
     DONE(lpt_end_read(&craft));
     EXPECT(lpt_end_execute(&craft, &applied) == LPT_UNSENT);
     for (subtype = 1; subtype < 8; subtype = subtype == 3 ? 7 : subtype + 2) {
@@ -268,7 +333,7 @@ static void executed(void) {
 /* What ground has to send, given to the spacecraft, whose requests are executed; and what that has
    to send, given to ground. */
 static LptApplied answered(LptEnd *ground, LptEnd *craft) {
-    LptApplied applied = {9, 9};
+    LptApplied applied = {9, NAME, 9};
     while (take_packet(ground)) {
         taken(craft, packet, packet_len);
     }
@@ -287,7 +352,7 @@ static void requests(void) {
     uint8_t load[] = {9, 1, 0, 0, 0, 197, 0, 3, 7, 8, 9, 0, 0};
     uint8_t dump[] = {9, 1, 0, 0, 0, 0, 0, 200};
     LptEnd ground = LPT_END_EMPTY, craft = LPT_END_EMPTY;
-    LptOutcome said = {0, 0, 0};
+    LptOutcome said = {0, NONE, 0, 0};
     LptApplied applied;
     uint16_t sum = lpt_crc16(load + 8, 3), k;
     size_t len = 0;
@@ -295,12 +360,12 @@ static void requests(void) {
     load[12] = (uint8_t)sum;
     make(&ground, LPT_GROUND, &CONFIG);
     DONE(lpt_end_new(&craft, LPT_SPACECRAFT, &CONFIG, two, 2, message, 220));
-    EXPECT(lpt_end_plain(&ground, 16, 6, 2, load, sizeof load) == LPT_RANGE);
-    EXPECT(lpt_end_plain(&craft, 0, 6, 2, load, sizeof load) == LPT_RANGE);
-    EXPECT(lpt_end_plain(&ground, 9, 13, 9, load, sizeof load) == LPT_PART_REQUEST);
-    EXPECT(lpt_end_plain(&ground, 9, 6, 2, got, P + 11) == LPT_LONG_MESSAGE);
+    EXPECT(lpt_end_plain(&ground, 1, 16, 6, 2, load, sizeof load) == LPT_RANGE);
+    EXPECT(lpt_end_plain(&craft, 1, 0, 6, 2, load, sizeof load) == LPT_RANGE);
+    EXPECT(lpt_end_plain(&ground, 1, 9, 13, 9, load, sizeof load) == LPT_PART_REQUEST);
+    EXPECT(lpt_end_plain(&ground, 1, 9, 6, 2, got, P + 11) == LPT_LONG_MESSAGE);
     EXPECT(!take_packet(&ground));
-    DONE(lpt_end_plain(&ground, 9, 6, 2, load, sizeof load));
+    DONE(lpt_end_plain(&ground, 1, 9, 6, 2, load, sizeof load));
     applied = answered(&ground, &craft);
     EXPECT(applied.kind == LPT_CARRIED_OUT && applied.value == 0);
     DONE(lpt_end_memory(&craft, 9, got, sizeof got, &len));
@@ -308,15 +373,15 @@ static void requests(void) {
     DONE(lpt_end_memory(&craft, 1, got, sizeof got, &len));
     EXPECT(len == 10 && memcmp(got, message, 10) == 0);
 
-    DONE(lpt_end_plain(&ground, 0, 6, 5, dump, sizeof dump));
+    DONE(lpt_end_plain(&ground, 1, 0, 6, 5, dump, sizeof dump));
     applied = answered(&ground, &craft);
-    EXPECT(applied.kind == LPT_OPENED && applied.value == 0);
-    for (k = 1; lpt_end_part(&craft, 0, k) == LPT_DONE; k++) {
+    EXPECT(applied.kind == LPT_OPENED && same(applied.name, named(0)) && applied.value == 0);
+    for (k = 1; lpt_end_part(&craft, &applied.name, k) == LPT_DONE; k++) {
         EXPECT(take_packet(&craft));
         said = taken(&ground, packet, packet_len);
     }
     /* Around the octets: two headers, the report's own eight octets, and two checksums. */
-    EXPECT(told(said, LPT_RELEASED, 0, 6 + 11 + 8 + 200 + 2 + 2));
+    EXPECT(told(said, LPT_RELEASED, named(0), 6 + 11 + 8 + 200 + 2 + 2, 0));
     DONE(lpt_end_released(&ground, got, sizeof got, &len));
     EXPECT(got[7] == 6 && got[8] == 6 && memcmp(got + 25, message + 20, 197) == 0);
     EXPECT(memcmp(got + 25 + 197, load + 8, 3) == 0);
@@ -329,18 +394,18 @@ static void long_message(size_t len, uint32_t p) {
     LptConfig config = CONFIG;
     LptEnd ground = LPT_END_EMPTY, craft = LPT_END_EMPTY;
     uint32_t k, parts = lpt_part_count((uint32_t)len, p), kept = 0;
-    LptOutcome said = {0, 0, 0};
+    LptOutcome said = {0, NONE, 0, 0};
     size_t released = 0;
     config.part_size = p;
     make(&ground, LPT_GROUND, &config);
     make(&craft, LPT_SPACECRAFT, &config);
-    DONE(lpt_end_open(&craft, 65535, message, len));
+    DONE(lpt_end_open(&craft, named(65535), message, len));
     for (k = parts; k > 0; k--) {
-        kept += make_part(&craft, 65535, (uint16_t)k) &&
+        kept += make_part(&craft, named(65535), (uint16_t)k) &&
                 lpt_end_packet(&ground, packet, packet_len, &said) == LPT_DONE &&
                 said.kind == (uint32_t)(k == 1 ? LPT_RELEASED : LPT_KEPT);
     }
-    EXPECT(kept == parts && told(said, LPT_RELEASED, 65535, (uint32_t)len));
+    EXPECT(kept == parts && told(said, LPT_RELEASED, named(65535), (uint32_t)len, 0));
     DONE(lpt_end_released(&ground, got, sizeof got, &released));
     EXPECT(released == len && memcmp(got, message, len) == 0);
     lpt_end_free(&ground);
@@ -422,37 +487,39 @@ static void refused_ends(void) {
 static void refused_calls(void) {
     LptConfig config = CONFIG;
     LptEnd end = LPT_END_EMPTY;
-    LptOutcome said = {7, 7, 7};
+    LptOutcome said = {7, NAME, 7, 7};
     size_t len = 99;
-    uint16_t id = 9;
-    EXPECT(lpt_end_packet(&end, FIRST, sizeof FIRST, &said) == LPT_EMPTY && told(said, 7, 7, 7));
+    LptName name = NAME;
+    EXPECT(lpt_end_packet(&end, FIRST, sizeof FIRST, &said) == LPT_EMPTY);
+    EXPECT(told(said, 7, &NAME, 7, 7));
     EXPECT(lpt_end_released(&end, got, sizeof got, &len) == LPT_EMPTY && len == 99);
     EXPECT(lpt_end_outgoing(&end, got, sizeof got, &len) == LPT_EMPTY && len == 99);
     EXPECT(lpt_end_sent(&end) == LPT_EMPTY && lpt_end_tick(&end) == LPT_EMPTY);
-    EXPECT(lpt_end_expire(&end, &id) == LPT_EMPTY && id == 9);
-    EXPECT(lpt_end_open(&end, NAME, message, 20) == LPT_EMPTY);
-    EXPECT(lpt_end_part(&end, NAME, 1) == LPT_EMPTY && lpt_end_finish(&end, NAME) == LPT_EMPTY);
-    EXPECT(lpt_end_retire(&end, 2, NAME) == LPT_EMPTY && lpt_end_restart(&end) == LPT_EMPTY);
+    EXPECT(lpt_end_expire(&end, &name) == LPT_EMPTY && same(name, &NAME));
+    EXPECT(lpt_end_open(&end, &NAME, message, 20) == LPT_EMPTY);
+    EXPECT(lpt_end_part(&end, &NAME, 1) == LPT_EMPTY && lpt_end_finish(&end, &NAME) == LPT_EMPTY);
+    EXPECT(lpt_end_retire(&end, 2, &NAME) == LPT_EMPTY && lpt_end_restart(&end) == LPT_EMPTY);
     EXPECT(lpt_end_read(&end) == LPT_EMPTY);
-    EXPECT(lpt_end_plain(&end, 16, 13, 9, got, 9) == LPT_EMPTY);
+    EXPECT(lpt_end_plain(&end, 1, 16, 13, 9, got, 9) == LPT_EMPTY);
     EXPECT(lpt_end_memory(&end, 1, got, sizeof got, &len) == LPT_EMPTY && len == 99);
 
     config.clock = 4294967294u;
     make(&end, LPT_GROUND, &config);
     DONE(lpt_end_tick(&end));
     EXPECT(lpt_end_tick(&end) == LPT_CLOCK_END);
-    EXPECT(lpt_end_part(&end, NAME, 1) == LPT_NOT_OPEN && lpt_end_finish(&end, 7) == LPT_NOT_OPEN);
-    EXPECT(lpt_end_open(&end, NAME, message, P) == LPT_SHORT_MESSAGE);
-    EXPECT(lpt_end_open(&end, NAME, got, 65543) == LPT_LONG_MESSAGE);
-    DONE(lpt_end_open(&end, 1, message, 65542));
-    DONE(lpt_end_open(&end, 2, message, 9));
-    EXPECT(lpt_end_open(&end, 3, message, 9) == LPT_TOO_MANY);
-    EXPECT(lpt_end_open(&end, 2, message, 9) == LPT_IN_USE);
-    EXPECT(lpt_end_part(&end, 2, 0) == LPT_NO_SUCH_PART);
-    EXPECT(lpt_end_part(&end, 2, 3) == LPT_NO_SUCH_PART);
+    EXPECT(lpt_end_part(&end, &NAME, 1) == LPT_NOT_OPEN);
+    EXPECT(lpt_end_finish(&end, &NAME) == LPT_NOT_OPEN);
+    EXPECT(lpt_end_open(&end, &NAME, message, P) == LPT_SHORT_MESSAGE);
+    EXPECT(lpt_end_open(&end, &NAME, got, 65543) == LPT_LONG_MESSAGE);
+    DONE(lpt_end_open(&end, named(1), message, 65542));
+    DONE(lpt_end_open(&end, named(2), message, 9));
+    EXPECT(lpt_end_open(&end, named(3), message, 9) == LPT_TOO_MANY);
+    EXPECT(lpt_end_open(&end, named(2), message, 9) == LPT_IN_USE);
+    EXPECT(lpt_end_part(&end, named(2), 0) == LPT_NO_SUCH_PART);
+    EXPECT(lpt_end_part(&end, named(2), 3) == LPT_NO_SUCH_PART);
     EXPECT(lpt_end_sent(&end) == LPT_NOTHING);
-    EXPECT(lpt_end_retire(&end, 2, 2) == LPT_RANGE);
-    DONE(lpt_end_retire(&end, LPT_DOWN, 2));
+    EXPECT(lpt_end_retire(&end, 2, named(2)) == LPT_RANGE);
+    DONE(lpt_end_retire(&end, LPT_DOWN, named(2)));
     lpt_end_free(&end);
 }
 
@@ -460,15 +527,15 @@ static void refused_calls(void) {
 static void new_start(void) {
     LptEnd ground = LPT_END_EMPTY;
     make(&ground, LPT_GROUND, &CONFIG);
-    DONE(lpt_end_open(&ground, NAME, message, 20));
-    DONE(lpt_end_part(&ground, NAME, 2));
+    DONE(lpt_end_open(&ground, &NAME, message, 20));
+    DONE(lpt_end_part(&ground, &NAME, 2));
     DONE(lpt_end_restart(&ground));
-    EXPECT(lpt_end_part(&ground, NAME, 1) == LPT_NOT_OPEN);
-    EXPECT(lpt_end_open(&ground, NAME, message, 20) == LPT_IN_USE);
+    EXPECT(lpt_end_part(&ground, &NAME, 1) == LPT_NOT_OPEN);
+    EXPECT(lpt_end_open(&ground, &NAME, message, 20) == LPT_IN_USE);
     EXPECT(take_packet(&ground) && packet[14] == 2);
-    DONE(lpt_end_retire(&ground, LPT_UP, NAME));
-    DONE(lpt_end_open(&ground, NAME, message, 20));
-    EXPECT(make_part(&ground, NAME, 1) && packet_is(FIRST, sizeof FIRST));
+    DONE(lpt_end_retire(&ground, LPT_UP, &NAME));
+    DONE(lpt_end_open(&ground, &NAME, message, 20));
+    EXPECT(make_part(&ground, &NAME, 1) && packet_is(FIRST, sizeof FIRST));
     lpt_end_free(&ground);
 }
 
@@ -479,6 +546,7 @@ int main(void) {
     }
     first_path();
     lost_part();
+    two_sources();
     broken();
     other_packets();
     long_message(65542, 1024);

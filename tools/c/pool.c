@@ -64,50 +64,54 @@ static unsigned again;
 /* A message up with a lost part, an expiry and its report; a message down; a request that is
    executed; all by calls that are made again. */
 static void link_pass(void) {
-    static const LptConfig config = {100, 1, 64, 2, 4, 4, 0, LPT_ANY};
+    static const LptConfig config = {100, 64, 2, 4, 4, 0, LPT_ANY};
     static const LptMemory memories[] = {{1, 0, 60}, {2, 60, 40}};
     static const uint8_t dump[] = {1, 1, 0, 0, 0, 0, 0, 8};
-    LptApplied applied = {0, 0};
+    static const LptName joined = {1, 5}, lost = {2, 5}, down = {1, 7};
+    LptApplied applied = {0, {0, 0}, 0};
     LptEnd ground = LPT_END_EMPTY, craft = LPT_END_EMPTY;
-    LptOutcome told = {0, 0, 0};
+    LptOutcome told = {0, {0, 0}, 0, 0};
     size_t len = 0;
-    uint16_t k, id = 0;
+    LptName name = {0, 0};
+    uint16_t k;
     TRY(lpt_end_new(&ground, LPT_GROUND, &config, memories, 0, memory, 0));
     TRY(lpt_end_new(&craft, LPT_SPACECRAFT, &config, memories, 2, memory, 100));
-    TRY(lpt_end_open(&ground, 5, message, 300));
-    TRY(lpt_end_open(&ground, 6, message, 300));
-    TRY(lpt_end_open(&craft, 7, message, 100));
+    TRY(lpt_end_open(&ground, &joined, message, 300));
+    TRY(lpt_end_open(&ground, &lost, message, 300));
+    TRY(lpt_end_open(&craft, &down, message, 100));
     for (k = 1; k <= 5; k++) {
-        TRY(lpt_end_part(&ground, 5, k));
+        TRY(lpt_end_part(&ground, &joined, k));
         EXPECT(lpt_end_outgoing(&ground, packet, sizeof packet, &len) == LPT_DONE);
         EXPECT(lpt_end_sent(&ground) == LPT_DONE);
         TRY(lpt_end_packet(&craft, packet, len, &told));
-        EXPECT(told.kind == (uint32_t)(k == 5 ? LPT_RELEASED : LPT_KEPT) && told.first == 5);
+        EXPECT(told.kind == (uint32_t)(k == 5 ? LPT_RELEASED : LPT_KEPT));
+        EXPECT(told.name.source == 1 && told.name.id == 5);
     }
     EXPECT(lpt_end_released(&craft, got, sizeof got, &len) == LPT_DONE && len == 300);
     EXPECT(memcmp(got, message, 300) == 0);
-    TRY(lpt_end_part(&ground, 6, 2));
+    TRY(lpt_end_part(&ground, &lost, 2));
     EXPECT(lpt_end_outgoing(&ground, packet, sizeof packet, &len) == LPT_DONE);
     EXPECT(lpt_end_sent(&ground) == LPT_DONE);
     TRY(lpt_end_packet(&craft, packet, len, &told));
     EXPECT(lpt_end_tick(&craft) == LPT_DONE && lpt_end_tick(&craft) == LPT_DONE);
-    TRY(lpt_end_expire(&craft, &id));
-    EXPECT(id == 6 && lpt_end_outgoing(&craft, packet, sizeof packet, &len) == LPT_DONE);
+    TRY(lpt_end_expire(&craft, &name));
+    EXPECT(name.source == 2 && name.id == 5);
+    EXPECT(lpt_end_outgoing(&craft, packet, sizeof packet, &len) == LPT_DONE);
     EXPECT(lpt_end_sent(&craft) == LPT_DONE);
     TRY(lpt_end_packet(&ground, packet, len, &told));
-    EXPECT(told.kind == LPT_ABORT_NOTED && told.first == 6 && told.second == 1);
-    TRY(lpt_end_part(&craft, 7, 1));
-    TRY(lpt_end_part(&craft, 7, 2));
+    EXPECT(told.kind == LPT_ABORT_NOTED && told.name.source == 2 && told.first == 1);
+    TRY(lpt_end_part(&craft, &down, 1));
+    TRY(lpt_end_part(&craft, &down, 2));
     while (lpt_end_outgoing(&craft, packet, sizeof packet, &len) == LPT_DONE) {
         TRY(lpt_end_packet(&ground, packet, len, &told));
         EXPECT(lpt_end_sent(&craft) == LPT_DONE);
     }
-    EXPECT(told.kind == LPT_RELEASED && told.first == 7 && told.second == 100);
+    EXPECT(told.kind == LPT_RELEASED && told.name.id == 7 && told.first == 100);
     TRY(lpt_end_read(&craft));
     EXPECT(lpt_end_outgoing(&craft, packet, sizeof packet, &len) == LPT_NOTHING);
     TRY(lpt_end_execute(&craft, &applied));
     EXPECT(applied.kind == LPT_SILENT);
-    TRY(lpt_end_plain(&ground, 11, 6, 5, dump, sizeof dump));
+    TRY(lpt_end_plain(&ground, 1, 11, 6, 5, dump, sizeof dump));
     EXPECT(lpt_end_outgoing(&ground, packet, sizeof packet, &len) == LPT_DONE);
     TRY(lpt_end_packet(&craft, packet, len, &told));
     TRY(lpt_end_read(&craft));
@@ -140,10 +144,10 @@ int main(void) {
 #else
 /* A spacecraft with a memory of 64 KiB, and one reception: a message in parts of 64 octets. */
 static void long_message(void) {
-    static const LptConfig config = {100, 1, 64, 10, 1, 1, 0, LPT_ANY};
+    static const LptConfig config = {100, 64, 10, 1, 1, 0, LPT_ANY};
     LptTcHead head = {100, 0, 0, 13, 0, 1};
     LptEnd craft = LPT_END_EMPTY;
-    LptOutcome told = {0, 0, 0};
+    LptOutcome told = {0, {0, 0}, 0, 0};
     uint8_t body[68];
     size_t len = 0;
     uint32_t kind;
@@ -157,7 +161,7 @@ static void long_message(void) {
         EXPECT(lpt_write_tc(&head, body, len, packet, sizeof packet, &len) == LPT_DONE);
         TRY(lpt_end_packet(&craft, packet, len, &told));
     }
-    EXPECT(told.kind == LPT_RELEASED && told.second == sizeof message);
+    EXPECT(told.kind == LPT_RELEASED && told.first == sizeof message);
     EXPECT(lpt_end_released(&craft, got, sizeof got, &len) == LPT_DONE);
     EXPECT(len == sizeof message && memcmp(got, message, len) == 0);
     lpt_end_free(&craft);
@@ -166,20 +170,21 @@ static void long_message(void) {
 
 /* Memory runs out at last, the end says so and goes on: what it has can still be let go. */
 static void full_pool(void) {
-    static const LptConfig config = {100, 1, 1024, 10, 1, 64, 0, LPT_ANY};
+    static const LptConfig config = {100, 1024, 10, 1, 64, 0, LPT_ANY};
     LptEnd craft = LPT_END_EMPTY;
     uint32_t said = LPT_DONE;
-    uint16_t id = 0;
-    size_t used;
+    LptName name = {1, 0}, first = {1, 1};
+    size_t used = 0;
     TRY(lpt_end_new(&craft, LPT_SPACECRAFT, &config, &whole, 1, memory, sizeof memory));
-    while (said == LPT_DONE && id < 64) {
+    while (said == LPT_DONE && name.id < 64) {
+        name.id++;
         used = lpt_pool_used();
-        said = lpt_end_open(&craft, id++, message, sizeof message);
+        said = lpt_end_open(&craft, &name, message, sizeof message);
     }
     EXPECT(said == LPT_MEMORY && lpt_pool_used() == used);
-    EXPECT(lpt_end_finish(&craft, (uint16_t)(id - 1)) == LPT_NOT_OPEN);
-    EXPECT(lpt_end_finish(&craft, 0) == LPT_DONE && lpt_pool_used() < used);
-    EXPECT(lpt_end_open(&craft, (uint16_t)(id - 1), message, sizeof message) == LPT_DONE);
+    EXPECT(lpt_end_finish(&craft, &name) == LPT_NOT_OPEN);
+    EXPECT(lpt_end_finish(&craft, &first) == LPT_DONE && lpt_pool_used() < used);
+    EXPECT(lpt_end_open(&craft, &name, message, sizeof message) == LPT_DONE);
     lpt_end_free(&craft);
     EXPECT(lpt_pool_used() == 0);
 }

@@ -1,6 +1,7 @@
 //! The lines of a script, as commands.
 
 use crate::link::{Direction, Lane};
+use crate::names::Name;
 use crate::node::Site;
 use crate::packet::LONGEST_PACKET;
 
@@ -21,11 +22,11 @@ const fn digit_table() -> [u8; 256] {
 }
 
 pub enum Command {
-    Open { way: Direction, id: u16, octets: Vec<u8> },
-    Send { way: Direction, id: u16, part: u16 },
-    Plain { head: (u8, u8, u8), body: Vec<u8> },
-    Load { id: u16, count: u16, flags: u8, memory: u8, areas: Vec<(u32, Vec<u8>)> },
-    Finish { way: Direction, id: u16 },
+    Open { way: Direction, name: Name, octets: Vec<u8> },
+    Send { way: Direction, name: Name, part: u16 },
+    Plain { source: u16, head: (u8, u8, u8), body: Vec<u8> },
+    Load { name: Name, count: u16, flags: u8, memory: u8, areas: Vec<(u32, Vec<u8>)> },
+    Finish { way: Direction, name: Name },
     Lose(usize),
     Damage { way: Direction, octets: Vec<u8> },
     Take(Lane, usize),
@@ -37,21 +38,21 @@ pub enum Command {
     Apply,
     Work,
     Expire(Site),
-    Retire { way: Direction, id: u16 },
+    Retire { way: Direction, name: Name },
     Restart(Site),
     ShowReleased,
     ShowPacket(usize),
     ShowMemory { id: u8, start: usize, length: usize },
-    ShowClear { way: Direction, id: u16 },
+    ShowClear { way: Direction, name: Name },
     ShowJournal,
 }
 
-/// The words of a line that aren't read yet.
-struct Words<'a, I: Iterator<Item = &'a [u8]>>(I);
+/// The words of a line that aren't read yet, and the source that is meant where a word has none.
+struct Words<'a, I: Iterator<Item = &'a [u8]>>(I, u16);
 
-/// What a line asks for, which may be nothing.
-pub fn read(line: &[u8]) -> Option<Option<Command>> {
-    let mut words = Words(line.split(|&c| c == b' ').filter(|word| !word.is_empty()));
+/// What a line asks for, which may be nothing. A name that has no source is of this one.
+pub fn read(line: &[u8], own: u16) -> Option<Option<Command>> {
+    let mut words = Words(line.split(|&c| c == b' ').filter(|word| !word.is_empty()), own);
     match words.0.next() {
         None | Some([b'#', ..]) => Some(None),
         Some(first) => {
@@ -65,15 +66,17 @@ impl<'a, I: Iterator<Item = &'a [u8]>> Words<'a, I> {
     fn command(&mut self, first: &[u8]) -> Option<Command> {
         Some(match first {
             b"open" => {
-                Command::Open { way: self.way()?, id: self.short()?, octets: self.octets()? }
+                Command::Open { way: self.way()?, name: self.name()?, octets: self.octets()? }
             }
-            b"send" => Command::Send { way: self.way()?, id: self.short()?, part: self.short()? },
+            b"send" => Command::Send { way: self.way()?, name: self.name()?, part: self.short()? },
             b"plain" => {
-                let head = (self.flags()?, self.octet()?, self.octet()?);
-                Command::Plain { head, body: self.octets()? }
+                let (source, flags) = self.sourced()?;
+                let flags = u8::try_from(flags).ok().filter(|&flags| flags <= 15)?;
+                let head = (flags, self.octet()?, self.octet()?);
+                Command::Plain { source, head, body: self.octets()? }
             }
             b"load" => self.load()?,
-            b"finish" => Command::Finish { way: self.way()?, id: self.short()? },
+            b"finish" => Command::Finish { way: self.way()?, name: self.name()? },
             b"lose" => Command::Lose(self.packet()?),
             b"damage" => Command::Damage { way: self.way()?, octets: self.octets()? },
             b"take" => Command::Take(self.lane()?, self.packet()?),
@@ -85,7 +88,7 @@ impl<'a, I: Iterator<Item = &'a [u8]>> Words<'a, I> {
             b"apply" => Command::Apply,
             b"work" => Command::Work,
             b"expire" => Command::Expire(self.site()?),
-            b"retire" => Command::Retire { way: self.way()?, id: self.short()? },
+            b"retire" => Command::Retire { way: self.way()?, name: self.name()? },
             b"restart" => Command::Restart(self.site()?),
             b"show" => self.show()?,
             _ => return None,
@@ -101,14 +104,14 @@ impl<'a, I: Iterator<Item = &'a [u8]>> Words<'a, I> {
                 start: self.long()? as usize,
                 length: self.long()? as usize,
             },
-            b"clear" => Command::ShowClear { way: self.way()?, id: self.short()? },
+            b"clear" => Command::ShowClear { way: self.way()?, name: self.name()? },
             b"journal" => Command::ShowJournal,
             _ => return None,
         })
     }
 
     fn load(&mut self) -> Option<Command> {
-        let (id, count) = (self.short()?, self.number(0x3fff)? as u16);
+        let (name, count) = (self.name()?, self.number(0x3fff)? as u16);
         let (flags, memory) = (self.flags()?, self.octet()?);
         let (mut areas, mut length) = (Vec::new(), 15);
         while let Some(word) = self.0.next() {
@@ -118,7 +121,22 @@ impl<'a, I: Iterator<Item = &'a [u8]>> Words<'a, I> {
             areas.push((u32::try_from(start).ok()?, octets));
         }
         let fits = (1..=255).contains(&areas.len()) && length <= LONGEST_PACKET;
-        fits.then_some(Command::Load { id, count, flags, memory, areas })
+        fits.then_some(Command::Load { name, count, flags, memory, areas })
+    }
+
+    fn name(&mut self) -> Option<Name> {
+        let (source, id) = self.sourced()?;
+        Some(Name { source, id })
+    }
+
+    /// A number that may have a source and a slash before it.
+    fn sourced(&mut self) -> Option<(u16, u16)> {
+        let word = self.0.next()?;
+        let (source, word) = match word.iter().position(|&c| c == b'/') {
+            None => (self.1, word),
+            Some(at) => (short(&word[..at])?, &word[at + 1..]),
+        };
+        Some((source, short(word)?))
     }
 
     fn number(&mut self, most: u64) -> Option<u64> {
@@ -134,7 +152,7 @@ impl<'a, I: Iterator<Item = &'a [u8]>> Words<'a, I> {
     }
 
     fn short(&mut self) -> Option<u16> {
-        self.number(0xffff).map(|value| value as u16)
+        short(self.0.next()?)
     }
 
     fn long(&mut self) -> Option<u32> {
@@ -187,6 +205,11 @@ impl<'a, I: Iterator<Item = &'a [u8]>> Words<'a, I> {
             _ => None,
         }
     }
+}
+
+/// A number of 16 bits.
+fn short(word: &[u8]) -> Option<u16> {
+    u16::try_from(number(word)?).ok()
 }
 
 /// A number of 1 to 10 decimal digits.

@@ -1,5 +1,6 @@
 //! The link: packets on their way, and the lanes that carry them.
 
+use crate::names::Name;
 use crate::world::Fault;
 use std::collections::HashMap;
 
@@ -30,7 +31,7 @@ struct Packet {
     octets: Vec<u8>,
     direction: Direction,
     /// The message of which it carries a part.
-    part_of: Option<u16>,
+    part_of: Option<Name>,
     is_held: bool,
 }
 
@@ -39,15 +40,15 @@ pub struct Link {
     /// All packets that were ever put, by their numbers.
     packets: Vec<Packet>,
     /// How many held packets carry a part of each message, by direction.
-    parts: [HashMap<u16, usize>; 2],
+    parts: [HashMap<Name, usize>; 2],
     hands: [Option<usize>; 4],
 }
 
 impl Link {
     /// Puts a packet: its number.
-    pub fn put(&mut self, octets: Vec<u8>, direction: Direction, part_of: Option<u16>) -> usize {
-        if let Some(id) = part_of {
-            *self.parts[direction as usize].entry(id).or_default() += 1;
+    pub fn put(&mut self, octets: Vec<u8>, direction: Direction, part_of: Option<Name>) -> usize {
+        if let Some(name) = part_of {
+            *self.parts[direction as usize].entry(name).or_default() += 1;
         }
         self.packets.push(Packet { octets, direction, part_of, is_held: true });
         self.packets.len() - 1
@@ -62,11 +63,11 @@ impl Link {
         let packet = self.packets.get_mut(number).filter(|packet| packet.is_held);
         let packet = packet.ok_or(Fault::NotHeld)?;
         packet.is_held = false;
-        if let Some(id) = packet.part_of {
+        if let Some(name) = packet.part_of {
             let parts = &mut self.parts[packet.direction as usize];
-            match parts.get_mut(&id) {
+            match parts.get_mut(&name) {
                 Some(count) if *count > 1 => *count -= 1,
-                _ => drop(parts.remove(&id)),
+                _ => drop(parts.remove(&name)),
             }
         }
         Ok(())
@@ -93,11 +94,12 @@ impl Link {
     }
 
     /// Whether a part of a message is held, or in a hand.
-    pub fn has_part_of(&self, direction: Direction, id: u16) -> bool {
+    pub fn has_part_of(&self, direction: Direction, name: Name) -> bool {
         let is_part = |&number: &usize| {
             let packet = &self.packets[number];
-            packet.direction == direction && packet.part_of == Some(id)
+            packet.direction == direction && packet.part_of == Some(name)
         };
-        self.parts[direction as usize].contains_key(&id) || self.hands.iter().flatten().any(is_part)
+        self.parts[direction as usize].contains_key(&name)
+            || self.hands.iter().flatten().any(is_part)
     }
 }

@@ -2,6 +2,7 @@
 
 use crate::config::Config;
 use crate::link::Direction;
+use crate::names::Name;
 use crate::packet::{self, Content, Headers, Message};
 use crate::transfer::{Joined, Part, Place, Receiver, Sender};
 use crate::world::Fault;
@@ -32,8 +33,8 @@ pub enum Arrival {
     Ignored(Reason),
     Plain,
     Report { service: u8, subtype: u8 },
-    Abort { id: u16, reason: u8 },
-    Part { id: u16, number: u16, joined: Joined },
+    Abort { name: Name, reason: u8 },
+    Part { name: Name, number: u16, joined: Joined },
 }
 
 /// The counts of the packets that a node makes.
@@ -50,18 +51,31 @@ impl Counts {
         Headers { apid: config.apid, count, service, subtype }
     }
 
-    fn command(&mut self, config: &Config, head: (u8, u8, u8), body: &[&[u8]]) -> Vec<u8> {
+    fn command(
+        &mut self,
+        config: &Config,
+        source: u16,
+        head: (u8, u8, u8),
+        body: &[&[u8]],
+    ) -> Vec<u8> {
         let (flags, service, subtype) = head;
         let headers = self.next(config, service, subtype);
-        packet::telecommand(&headers, flags, config.source, body)
+        packet::telecommand(&headers, flags, source, body)
     }
 
-    fn report(&mut self, config: &Config, kind: (u8, u8), time: u32, body: &[&[u8]]) -> Vec<u8> {
+    fn report(
+        &mut self,
+        config: &Config,
+        destination: u16,
+        kind: (u8, u8),
+        time: u32,
+        body: &[&[u8]],
+    ) -> Vec<u8> {
         let headers = self.next(config, kind.0, kind.1);
         let next = self.reports.entry(kind).or_default();
         let counter = *next;
         *next = next.wrapping_add(1);
-        packet::telemetry(&headers, counter, config.source, time, body)
+        packet::telemetry(&headers, counter, destination, time, body)
     }
 }
 
@@ -79,14 +93,26 @@ impl Node {
         Node { clock, ..Node::default() }
     }
 
-    /// Makes a telecommand of these flags, service and message subtype.
-    pub fn command(&mut self, config: &Config, head: (u8, u8, u8), body: &[&[u8]]) -> Vec<u8> {
-        self.counts.command(config, head, body)
+    /// Makes a telecommand of this source, and of these flags, service and message subtype.
+    pub fn command(
+        &mut self,
+        config: &Config,
+        source: u16,
+        head: (u8, u8, u8),
+        body: &[&[u8]],
+    ) -> Vec<u8> {
+        self.counts.command(config, source, head, body)
     }
 
-    /// Makes telemetry.
-    pub fn report(&mut self, config: &Config, kind: (u8, u8), body: &[&[u8]]) -> Vec<u8> {
-        self.counts.report(config, kind, self.clock, body)
+    /// Makes telemetry to this destination.
+    pub fn report(
+        &mut self,
+        config: &Config,
+        destination: u16,
+        kind: (u8, u8),
+        body: &[&[u8]],
+    ) -> Vec<u8> {
+        self.counts.report(config, destination, kind, self.clock, body)
     }
 
     /// Makes the packet of a part of an open message.
@@ -94,17 +120,18 @@ impl Node {
         &mut self,
         config: &Config,
         way: Direction,
-        id: u16,
+        name: Name,
         number: u16,
     ) -> Result<Vec<u8>, Fault> {
-        let message = self.sender.open.get(&id).ok_or(Fault::NotOpen)?;
-        let part = Part::of(message, id, number, config.part_size).ok_or(Fault::NoSuchPart)?;
-        let (id, number) = (id.to_be_bytes(), number.to_be_bytes());
+        let message = self.sender.open.get(&name).ok_or(Fault::NotOpen)?;
+        let part = Part::of(message, name, number, config.part_size).ok_or(Fault::NoSuchPart)?;
+        let (id, number) = (name.id.to_be_bytes(), number.to_be_bytes());
         let body: [&[u8]; 3] = [&id, &number, part.octets];
         let subtype = first_subtype(way) + part.place as u8;
+        let (peer, kind, time) = (name.source, (TRANSFER, subtype), self.clock);
         Ok(match way {
-            Direction::Up => self.counts.command(config, (0, TRANSFER, subtype), &body),
-            Direction::Down => self.counts.report(config, (TRANSFER, subtype), self.clock, &body),
+            Direction::Up => self.counts.command(config, peer, (0, TRANSFER, subtype), &body),
+            Direction::Down => self.counts.report(config, peer, kind, time, &body),
         })
     }
 
@@ -124,11 +151,11 @@ impl Node {
         let Some(place) = place_of(&message, way) else {
             return other(&message, way);
         };
-        let Some(part) = Part::read(place, message.body, config.part_size) else {
+        let Some(part) = Part::read(message.peer, place, message.body, config.part_size) else {
             return Arrival::Ignored(Reason::BadPart);
         };
         let joined = self.receiver.join(&part, config, self.clock);
-        Arrival::Part { id: part.id, number: part.number, joined }
+        Arrival::Part { name: part.name, number: part.number, joined }
     }
 
     /// Starts anew: which boot it has now.
@@ -158,7 +185,7 @@ fn place_of(message: &Message, way: Direction) -> Option<Place> {
 
 /// What a message is that carries no part.
 fn other(message: &Message, way: Direction) -> Arrival {
-    let Message { service, subtype, .. } = *message;
+    let Message { peer, service, subtype, .. } = *message;
     if way == Direction::Up {
         return Arrival::Plain;
     }
@@ -167,7 +194,8 @@ fn other(message: &Message, way: Direction) -> Arrival {
     }
     match *message.body {
         [high, low, reason @ 1..=3] => {
-            Arrival::Abort { id: u16::from_be_bytes([high, low]), reason }
+            let name = Name { source: peer, id: u16::from_be_bytes([high, low]) };
+            Arrival::Abort { name, reason }
         }
         _ => Arrival::Ignored(Reason::BadPart),
     }

@@ -54,8 +54,10 @@ pub struct Packet<'a> {
     pub data: &'a [u8],
 }
 
-/// A telecommand's or telemetry's type and body; of a telecommand also its flags.
+/// A telecommand's or telemetry's type and body, and the source or the destination that it has; of a
+/// telecommand also its flags.
 pub struct Message<'a> {
+    pub peer: u16,
     pub flags: u8,
     pub service: u8,
     pub subtype: u8,
@@ -93,8 +95,10 @@ impl<'a> Packet<'a> {
         }
         let (header, body) = self.data.split_at(header);
         let [version_and_flags, service, subtype, ..] = *header else { return None };
+        let peer = number_at(header, if as_telecommand { 3 } else { 5 });
         let flags = version_and_flags & 0x0f;
-        (version_and_flags >> 4 == PUS_VERSION).then_some(Message { flags, service, subtype, body })
+        let message = Message { peer, flags, service, subtype, body };
+        (version_and_flags >> 4 == PUS_VERSION).then_some(message)
     }
 }
 

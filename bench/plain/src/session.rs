@@ -43,7 +43,7 @@ impl<W: Write> Session<W> {
 
     /// Runs a line: whether it can be read.
     pub fn run(&mut self, line: &[u8]) -> io::Result<bool> {
-        let Some(command) = command::read(line) else { return Ok(false) };
+        let Some(command) = command::read(line, self.world.config.source) else { return Ok(false) };
         match command.map_or(Ok(()), |command| self.execute(command)) {
             Ok(()) => {}
             Err(Stop::Refused(fault)) => {
@@ -57,34 +57,39 @@ impl<W: Write> Session<W> {
 
     fn execute(&mut self, command: Command) -> Result<(), Stop> {
         let Session { world, out, .. } = self;
+        let own = world.config.source;
         match command {
-            Command::Open { way, id, octets } => {
-                let parts = world.open(way, id, octets)?;
-                writeln!(out, "opened {way} {id} parts {parts}")?;
+            Command::Open { way, name, octets } => {
+                let parts = world.open(way, name, octets)?;
+                writeln!(out, "opened {way} {} parts {parts}", name.shown(own))?;
             }
-            Command::Load { id, count, flags, memory, areas } => {
-                let parts = world.load(id, count, flags, &memory::load_body(memory, &areas))?;
-                writeln!(out, "opened up {id} parts {parts}")?;
+            Command::Load { name, count, flags, memory, areas } => {
+                let parts = world.load(name, count, flags, &memory::load_body(memory, &areas))?;
+                writeln!(out, "opened up {} parts {parts}", name.shown(own))?;
             }
-            Command::Send { way, id, part } => writeln!(out, "put {}", world.send(way, id, part)?)?,
-            Command::Plain { head, body } => writeln!(out, "put {}", world.plain(head, &body)?)?,
+            Command::Send { way, name, part } => {
+                writeln!(out, "put {}", world.send(way, name, part)?)?
+            }
+            Command::Plain { source, head, body } => {
+                writeln!(out, "put {}", world.plain(source, head, &body)?)?
+            }
             Command::Damage { way, octets } => writeln!(out, "put {}", world.damage(way, octets)?)?,
-            Command::Finish { way, id } => {
-                world.finish(way, id)?;
-                writeln!(out, "finished {way} {id}")?;
+            Command::Finish { way, name } => {
+                world.finish(way, name)?;
+                writeln!(out, "finished {way} {}", name.shown(own))?;
             }
             Command::Lose(number) => {
                 world.lose(number)?;
                 writeln!(out, "lost {number}")?;
             }
-            Command::Retire { way, id } => {
-                world.retire(way, id)?;
-                writeln!(out, "retired {way} {id}")?;
+            Command::Retire { way, name } => {
+                world.retire(way, name)?;
+                writeln!(out, "retired {way} {}", name.shown(own))?;
             }
             Command::Tick(site, count) => writeln!(out, "clock {}", world.tick(site, count)?)?,
             Command::Expire(site) => {
-                let id = world.expire(site)?;
-                writeln!(out, "expired {} {id}", incoming(site))?;
+                let name = world.expire(site)?;
+                writeln!(out, "expired {} {}", incoming(site), name.shown(own))?;
             }
             Command::Restart(site) => writeln!(out, "restarted {site} {}", world.restart(site))?,
             Command::Take(lane, number) => self.take(lane, number)?,
@@ -114,20 +119,23 @@ impl<W: Write> Session<W> {
     fn deliver(&mut self, lane: Lane) -> Result<(), Stop> {
         let Session { world, out, .. } = self;
         let (arrival, length) = world.deliver(lane)?;
-        let way = lane.direction();
+        let (way, own) = (lane.direction(), world.config.source);
         match arrival {
             Arrival::Ignored(reason) => writeln!(out, "ignored {reason:?}")?,
             Arrival::Plain => writeln!(out, "plain {length}")?,
             Arrival::Report { service, subtype } => writeln!(out, "report {service} {subtype}")?,
-            Arrival::Abort { id, reason } => writeln!(out, "abort {id} {reason}")?,
-            Arrival::Part { id, number, joined } => match joined {
-                Joined::Closed => writeln!(out, "ignored Closed")?,
-                Joined::NoRoom => writeln!(out, "ignored NoRoom")?,
-                Joined::Broken(reason) => writeln!(out, "broken {way} {id} {reason}")?,
-                Joined::Again => writeln!(out, "again {way} {id} {number}")?,
-                Joined::Kept => writeln!(out, "kept {way} {id} {number}")?,
-                Joined::Released(_) => writeln!(out, "released {way} {id} {length}")?,
-            },
+            Arrival::Abort { name, reason } => writeln!(out, "abort {} {reason}", name.shown(own))?,
+            Arrival::Part { name, number, joined } => {
+                let name = name.shown(own);
+                match joined {
+                    Joined::Closed => writeln!(out, "ignored Closed")?,
+                    Joined::NoRoom => writeln!(out, "ignored NoRoom")?,
+                    Joined::Broken(reason) => writeln!(out, "broken {way} {name} {reason}")?,
+                    Joined::Again => writeln!(out, "again {way} {name} {number}")?,
+                    Joined::Kept => writeln!(out, "kept {way} {name} {number}")?,
+                    Joined::Released(_) => writeln!(out, "released {way} {name} {length}")?,
+                }
+            }
         }
         Ok(())
     }
@@ -146,7 +154,10 @@ impl<W: Write> Session<W> {
     fn apply(&mut self) -> Result<(), Stop> {
         match self.world.apply()? {
             Applied::Done(None) => writeln!(self.out, "applied done")?,
-            Applied::Done(Some(id)) => writeln!(self.out, "applied done down {id}")?,
+            Applied::Done(Some(name)) => {
+                let name = name.shown(self.world.config.source);
+                writeln!(self.out, "applied done down {name}")?
+            }
             Applied::Failed(failure) => writeln!(self.out, "applied code {}", failure as u16)?,
             Applied::Silent => writeln!(self.out, "applied silent")?,
         }
@@ -165,8 +176,8 @@ impl<W: Write> Session<W> {
                 write!(out, "memory {id} {start} ")?;
                 write_octets(out, world.memories.octets(id, start, length))
             }
-            Command::ShowClear { way, id } => {
-                writeln!(out, "clear {}", if world.is_clear(way, id) { "yes" } else { "no" })
+            Command::ShowClear { way, name } => {
+                writeln!(out, "clear {}", if world.is_clear(way, name) { "yes" } else { "no" })
             }
             _ => writeln!(out, "journal {}", world.events),
         }
@@ -179,8 +190,8 @@ impl<W: Write> Session<W> {
         }
         for message in &world.released {
             match message {
-                Released::Large { way, id, octets } => {
-                    write!(out, "{way} {id} ")?;
+                Released::Large { way, name, octets } => {
+                    write!(out, "{way} {} ", name.shown(world.config.source))?;
                     write_octets(out, Some(octets))?;
                 }
                 Released::Plain { packet } => {

@@ -1,7 +1,7 @@
 //! Large packet transfer: parts, what a node sends, and what it receives.
 
 use crate::config::Config;
-use crate::names::Names;
+use crate::names::{Name, Names};
 use crate::packet::{number_at, LONGEST_PACKET};
 use std::collections::HashMap;
 
@@ -20,29 +20,29 @@ pub enum Place {
 
 /// A part of a message.
 pub struct Part<'a> {
-    pub id: u16,
+    pub name: Name,
     pub number: u16,
     pub place: Place,
     pub octets: &'a [u8],
 }
 
 impl<'a> Part<'a> {
-    /// Reads the body of a message that carries a part.
-    pub fn read(place: Place, body: &'a [u8], part_size: usize) -> Option<Part<'a>> {
+    /// Reads the body of a message of this source, or to it, that carries a part.
+    pub fn read(source: u16, place: Place, body: &'a [u8], part_size: usize) -> Option<Part<'a>> {
         let (head, octets) = body.split_at_checked(4)?;
-        let (id, number) = (number_at(head, 0), number_at(head, 2));
+        let (name, number) = (Name { source, id: number_at(head, 0) }, number_at(head, 2));
         let is_full = octets.len() == part_size;
         let fits = match place {
             Place::First => number == 1 && is_full,
             Place::Middle => number > 1 && is_full,
             Place::Last => number > 1 && (1..=part_size).contains(&octets.len()),
         };
-        let part = Part { id, number, place, octets };
+        let part = Part { name, number, place, octets };
         (fits && part.end(part_size) <= LONGEST_PACKET).then_some(part)
     }
 
     /// The part of a message of this number, where it has one.
-    pub fn of(octets: &'a [u8], id: u16, number: u16, part_size: usize) -> Option<Part<'a>> {
+    pub fn of(octets: &'a [u8], name: Name, number: u16, part_size: usize) -> Option<Part<'a>> {
         let start = usize::from(number).checked_sub(1)? * part_size;
         let rest = octets.get(start..).filter(|rest| !rest.is_empty())?;
         let place = match number {
@@ -51,7 +51,7 @@ impl<'a> Part<'a> {
             _ => Place::Middle,
         };
         let octets = &rest[..rest.len().min(part_size)];
-        Some(Part { id, number, place, octets })
+        Some(Part { name, number, place, octets })
     }
 
     fn index(&self) -> usize {
@@ -71,15 +71,15 @@ impl<'a> Part<'a> {
 #[derive(Default)]
 pub struct Sender {
     /// The octets of those that are open.
-    pub open: HashMap<u16, Vec<u8>>,
+    pub open: HashMap<Name, Vec<u8>>,
     /// The names of those that are open or were, and aren't retired.
     pub used: Names,
 }
 
 impl Sender {
-    pub fn add(&mut self, id: u16, octets: Vec<u8>) {
-        self.used.add(id);
-        self.open.insert(id, octets);
+    pub fn add(&mut self, name: Name, octets: Vec<u8>) {
+        self.used.add(name);
+        self.open.insert(name, octets);
     }
 }
 
@@ -146,7 +146,7 @@ pub enum Joined {
 /// The messages that a node receives.
 #[derive(Default)]
 pub struct Receiver {
-    receptions: HashMap<u16, Reception>,
+    receptions: HashMap<Name, Reception>,
     /// The names of those whose reception has ended, and that aren't retired.
     pub closed: Names,
 }
@@ -154,16 +154,16 @@ pub struct Receiver {
 impl Receiver {
     /// Joins a part, which came at this time, to those of its message that came before.
     pub fn join(&mut self, part: &Part, config: &Config, now: u32) -> Joined {
-        if self.closed.has(part.id) {
+        if self.closed.has(part.name) {
             return Joined::Closed;
         }
-        let is_known = self.receptions.contains_key(&part.id);
+        let is_known = self.receptions.contains_key(&part.name);
         if !is_known && self.receptions.len() >= config.receptions {
             return Joined::NoRoom;
         }
-        let reception = self.receptions.entry(part.id).or_default();
+        let reception = self.receptions.entry(part.name).or_default();
         if reception.contradicts(part, config.part_size) {
-            self.end(part.id);
+            self.end(part.name);
             return Joined::Broken(CONFLICT);
         }
         reception.since = now;
@@ -171,33 +171,33 @@ impl Receiver {
             return Joined::Again;
         }
         if config.is_strict && part.index() != reception.kept.len() {
-            self.end(part.id);
+            self.end(part.name);
             return Joined::Broken(DISCONTINUITY);
         }
         reception.keep(part, config.part_size);
         if reception.parts != Some(reception.count) {
             return Joined::Kept;
         }
-        Joined::Released(self.end(part.id).unwrap_or_default())
+        Joined::Released(self.end(part.name).unwrap_or_default())
     }
 
     /// Ends a reception for good: the octets of its parts.
-    fn end(&mut self, id: u16) -> Option<Vec<u8>> {
-        self.closed.add(id);
-        Some(self.receptions.remove(&id)?.octets)
+    fn end(&mut self, name: Name) -> Option<Vec<u8>> {
+        self.closed.add(name);
+        Some(self.receptions.remove(&name)?.octets)
     }
 
     /// Ends the overdue reception whose latest part came first, and says which that was.
-    pub fn expire(&mut self, config: &Config, now: u32) -> Option<u16> {
+    pub fn expire(&mut self, config: &Config, now: u32) -> Option<Name> {
         let overdue = |reception: &Reception| now - reception.since >= config.timeout;
         let all = self.receptions.iter().filter(|(_, reception)| overdue(reception));
-        let (_, id) = all.map(|(&id, reception)| (reception.since, id)).min()?;
-        self.end(id);
-        Some(id)
+        let (_, name) = all.map(|(&name, reception)| (reception.since, name)).min()?;
+        self.end(name);
+        Some(name)
     }
 
-    pub fn is_open(&self, id: u16) -> bool {
-        self.receptions.contains_key(&id)
+    pub fn is_open(&self, name: Name) -> bool {
+        self.receptions.contains_key(&name)
     }
 
     /// Forgets the parts of all receptions.

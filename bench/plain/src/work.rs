@@ -2,6 +2,7 @@
 
 use crate::link::Direction;
 use crate::memory::{self, Failure, Report};
+use crate::names::Name;
 use crate::packet::{self, Content, Message, TELEMETRY_FRAME};
 use crate::world::{Fault, Released, World, LINK_FRAME};
 use std::collections::VecDeque;
@@ -43,7 +44,7 @@ impl Jobs {
 /// What became of a request that was executed.
 pub enum Applied {
     /// It was carried out; its report was opened as this message.
-    Done(Option<u16>),
+    Done(Option<Name>),
     Failed(Failure),
     Silent,
 }
@@ -89,9 +90,9 @@ impl World {
             None => Applied::Silent,
             Some(request) => {
                 let id = [octets[0], octets[1], octets[2], octets[3]];
-                let flags = request.flags;
+                let (peer, flags) = (request.peer, request.flags);
                 let result = self.memories.execute(&request);
-                self.answer(id, flags, result)
+                self.answer(peer, id, flags, result)
             }
         };
         self.jobs.queue.pop_front();
@@ -100,51 +101,55 @@ impl World {
         self.done(applied)
     }
 
-    /// Makes the reports on a request with this ID and these flags.
+    /// Makes the reports on a request of this source, with this ID and these flags.
     fn answer(
         &mut self,
+        peer: u16,
         id: [u8; 4],
         flags: u8,
         result: Result<Option<Report>, Failure>,
     ) -> Applied {
-        let result = result.and_then(|report| Ok((self.name_for(report.as_ref())?, report)));
+        let result = result.and_then(|report| Ok((self.name_for(peer, report.as_ref())?, report)));
         let is_accepted = !matches!(result, Err(Failure::UnknownType | Failure::Malformed));
         if is_accepted && flags & 1 != 0 {
-            self.report((VERIFICATION, ACCEPTANCE), &[&id]);
+            self.report(peer, (VERIFICATION, ACCEPTANCE), &[&id]);
         }
         let (name, report) = match result {
             Ok(done) => done,
             Err(failure) => {
                 let failed = 1 + if is_accepted { START } else { ACCEPTANCE };
-                self.report((VERIFICATION, failed), &[&id, &(failure as u16).to_be_bytes()]);
+                let code = (failure as u16).to_be_bytes();
+                self.report(peer, (VERIFICATION, failed), &[&id, &code]);
                 return Applied::Failed(failure);
             }
         };
         if flags & 2 != 0 {
-            self.report((VERIFICATION, START), &[&id]);
+            self.report(peer, (VERIFICATION, START), &[&id]);
         }
         if let Some(Report { subtype, body }) = report {
-            let octets = self.craft.report(&self.config, (memory::SERVICE, subtype), &[&body]);
+            let kind = (memory::SERVICE, subtype);
+            let octets = self.craft.report(&self.config, peer, kind, &[&body]);
             match name {
                 Some(name) => self.craft.sender.add(name, octets),
                 None => drop(self.link.put(octets, Direction::Down, None)),
             }
         }
         if flags & 8 != 0 {
-            self.report((VERIFICATION, COMPLETION), &[&id]);
+            self.report(peer, (VERIFICATION, COMPLETION), &[&id]);
         }
         Applied::Done(name)
     }
 
-    /// Under which name a report is opened, where it is too long for a packet on the link.
-    fn name_for(&mut self, report: Option<&Report>) -> Result<Option<u16>, Failure> {
+    /// Under which name of a source a report to it is opened, where it is too long for a packet on
+    /// the link.
+    fn name_for(&mut self, peer: u16, report: Option<&Report>) -> Result<Option<Name>, Failure> {
         let longest = self.config.part_size + LINK_FRAME;
         match report {
             Some(report) if report.body.len() + TELEMETRY_FRAME > longest => {}
             _ => return Ok(None),
         }
         let sender = &mut self.craft.sender;
-        let name = sender.used.least_free().ok_or(Failure::NoFreeName)?;
+        let name = sender.used.least_free(peer).ok_or(Failure::NoFreeName)?;
         if sender.open.len() >= self.config.outgoing {
             return Err(Failure::TooManyOpen);
         }

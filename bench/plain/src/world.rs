@@ -3,6 +3,7 @@
 use crate::config::Config;
 use crate::link::{Direction, Lane, Link};
 use crate::memory::{self, Memories};
+use crate::names::Name;
 use crate::node::{Arrival, Node, Site, ABORTED, TRANSFER, UPLINK_PARTS};
 use crate::packet::{self, Content, Headers, LONGEST_PACKET, TELECOMMAND_FRAME};
 use crate::transfer::{Joined, EXPIRED};
@@ -35,7 +36,7 @@ pub enum Fault {
 
 /// A message that was released: one of parts, or a plain request, by its packet's number.
 pub enum Released {
-    Large { way: Direction, id: u16, octets: Vec<u8> },
+    Large { way: Direction, name: Name, octets: Vec<u8> },
     Plain { packet: usize },
 }
 
@@ -92,10 +93,10 @@ impl World {
     // ---- Messages
 
     /// Hands a message to its sender: how many parts it has.
-    pub fn open(&mut self, way: Direction, id: u16, octets: Vec<u8>) -> Result<usize, Fault> {
+    pub fn open(&mut self, way: Direction, name: Name, octets: Vec<u8>) -> Result<usize, Fault> {
         let (part_size, most) = (self.config.part_size, self.config.outgoing);
         let sender = &mut self.ends(way).0.sender;
-        if sender.used.has(id) {
+        if sender.used.has(name) {
             return Err(Fault::InUse);
         }
         if octets.len() <= part_size {
@@ -108,64 +109,64 @@ impl World {
             return Err(Fault::TooMany);
         }
         let parts = octets.len().div_ceil(part_size);
-        sender.add(id, octets);
+        sender.add(name, octets);
         self.done(parts)
     }
 
     /// Hands the packet of a load to its sender.
-    pub fn load(&mut self, id: u16, count: u16, flags: u8, body: &[u8]) -> Result<usize, Fault> {
-        let Config { apid, source, .. } = self.config;
+    pub fn load(&mut self, name: Name, count: u16, flags: u8, body: &[u8]) -> Result<usize, Fault> {
+        let apid = self.config.apid;
         let headers = Headers { apid, count, service: memory::SERVICE, subtype: memory::LOAD };
-        let octets = packet::telecommand(&headers, flags, source, &[body]);
-        self.open(Direction::Up, id, octets)
+        let octets = packet::telecommand(&headers, flags, name.source, &[body]);
+        self.open(Direction::Up, name, octets)
     }
 
     /// Puts a part of an open message on the link: the packet's number.
-    pub fn send(&mut self, way: Direction, id: u16, number: u16) -> Result<usize, Fault> {
+    pub fn send(&mut self, way: Direction, name: Name, number: u16) -> Result<usize, Fault> {
         let node = match way {
             Direction::Up => &mut self.ground,
             Direction::Down => &mut self.craft,
         };
-        let octets = node.part(&self.config, way, id, number)?;
-        let packet = self.link.put(octets, way, Some(id));
+        let octets = node.part(&self.config, way, name, number)?;
+        let packet = self.link.put(octets, way, Some(name));
         self.done(packet)
     }
 
     /// Closes the sender of an open message.
-    pub fn finish(&mut self, way: Direction, id: u16) -> Result<(), Fault> {
-        self.ends(way).0.sender.open.remove(&id).ok_or(Fault::NotOpen)?;
+    pub fn finish(&mut self, way: Direction, name: Name) -> Result<(), Fault> {
+        self.ends(way).0.sender.open.remove(&name).ok_or(Fault::NotOpen)?;
         self.done(())
     }
 
-    /// Frees the identifier of a closed message at both ends.
-    pub fn retire(&mut self, way: Direction, id: u16) -> Result<(), Fault> {
+    /// Frees the name of a closed message at both ends.
+    pub fn retire(&mut self, way: Direction, name: Name) -> Result<(), Fault> {
         let sender = &self.ends(way).0.sender;
-        if !sender.used.has(id) {
+        if !sender.used.has(name) {
             return Err(Fault::NotOpen);
         }
-        if sender.open.contains_key(&id) {
+        if sender.open.contains_key(&name) {
             return Err(Fault::StillOpen);
         }
-        if !self.is_clear(way, id) {
+        if !self.is_clear(way, name) {
             return Err(Fault::NotClear);
         }
         let (from, to) = self.ends(way);
-        from.sender.used.remove(id);
-        to.receiver.closed.remove(id);
+        from.sender.used.remove(name);
+        to.receiver.closed.remove(name);
         self.done(())
     }
 
     /// Whether nothing is left of a message.
-    pub fn is_clear(&mut self, way: Direction, id: u16) -> bool {
-        let is_on_its_way = self.link.has_part_of(way, id);
+    pub fn is_clear(&mut self, way: Direction, name: Name) -> bool {
+        let is_on_its_way = self.link.has_part_of(way, name);
         let (from, to) = self.ends(way);
-        !is_on_its_way && !from.sender.open.contains_key(&id) && !to.receiver.is_open(id)
+        !is_on_its_way && !from.sender.open.contains_key(&name) && !to.receiver.is_open(name)
     }
 
     // ---- The link
 
-    /// Puts a request of ground that carries no part on the link: the packet's number.
-    pub fn plain(&mut self, head: (u8, u8, u8), body: &[u8]) -> Result<usize, Fault> {
+    /// Puts a request of this source that carries no part on the link: the packet's number.
+    pub fn plain(&mut self, source: u16, head: (u8, u8, u8), body: &[u8]) -> Result<usize, Fault> {
         let (_, service, subtype) = head;
         if service == TRANSFER && UPLINK_PARTS.contains(&subtype) {
             return Err(Fault::PartRequest);
@@ -173,7 +174,7 @@ impl World {
         if body.len() + TELECOMMAND_FRAME > self.config.part_size + LINK_FRAME {
             return Err(Fault::Long);
         }
-        let octets = self.ground.command(&self.config, head, &[body]);
+        let octets = self.ground.command(&self.config, source, head, &[body]);
         let packet = self.link.put(octets, Direction::Up, None);
         self.done(packet)
     }
@@ -214,14 +215,14 @@ impl World {
         let mut arrival = node.receive(&self.config, way, octets);
         match &mut arrival {
             Arrival::Plain => self.release(Released::Plain { packet: number }),
-            Arrival::Abort { id, .. } => drop(self.ground.sender.open.remove(id)),
-            Arrival::Part { id, joined: Joined::Released(octets), .. } => {
+            Arrival::Abort { name, .. } => drop(self.ground.sender.open.remove(name)),
+            Arrival::Part { name, joined: Joined::Released(octets), .. } => {
                 let octets = std::mem::take(octets);
                 length = octets.len();
-                self.release(Released::Large { way, id: *id, octets });
+                self.release(Released::Large { way, name: *name, octets });
             }
-            Arrival::Part { id, joined: Joined::Broken(reason), .. } if way == Direction::Up => {
-                self.report_abortion(*id, *reason);
+            Arrival::Part { name, joined: Joined::Broken(reason), .. } if way == Direction::Up => {
+                self.report_abortion(*name, *reason);
             }
             _ => {}
         }
@@ -236,14 +237,14 @@ impl World {
         self.released.push(released);
     }
 
-    /// Puts a report of the spacecraft on the link.
-    pub fn report(&mut self, kind: (u8, u8), body: &[&[u8]]) {
-        let octets = self.craft.report(&self.config, kind, body);
+    /// Puts a report of the spacecraft to this source on the link.
+    pub fn report(&mut self, peer: u16, kind: (u8, u8), body: &[&[u8]]) {
+        let octets = self.craft.report(&self.config, peer, kind, body);
         self.link.put(octets, Direction::Down, None);
     }
 
-    fn report_abortion(&mut self, id: u16, reason: u8) {
-        self.report((TRANSFER, ABORTED), &[&id.to_be_bytes(), &[reason]]);
+    fn report_abortion(&mut self, name: Name, reason: u8) {
+        self.report(name.source, (TRANSFER, ABORTED), &[&name.id.to_be_bytes(), &[reason]]);
     }
 
     // ---- Nodes
@@ -263,16 +264,16 @@ impl World {
     }
 
     /// Ends a node's overdue reception whose last part came first: of which message.
-    pub fn expire(&mut self, site: Site) -> Result<u16, Fault> {
+    pub fn expire(&mut self, site: Site) -> Result<Name, Fault> {
         let node = match site {
             Site::Ground => &mut self.ground,
             Site::Craft => &mut self.craft,
         };
-        let id = node.receiver.expire(&self.config, node.clock).ok_or(Fault::NothingDue)?;
+        let name = node.receiver.expire(&self.config, node.clock).ok_or(Fault::NothingDue)?;
         if site == Site::Craft {
-            self.report_abortion(id, EXPIRED);
+            self.report_abortion(name, EXPIRED);
         }
-        self.done(id)
+        self.done(name)
     }
 
     /// Restarts a node: which boot it has now.

@@ -8,16 +8,17 @@ use crate::streams::{Output, finish, output};
 use lpt_capture::Captured;
 use lpt_command_line::JoinWords;
 use lpt_files::{
-    Came, Config, Direction, Gatherings, JoinEnd, Joining, ToolFault, Transaction, join_message,
-    join_only, missing_list,
+    Came, Config, Direction, Gatherings, JoinEnd, Joining, Name, ToolFault, Transaction,
+    join_message, join_only, missing_list,
 };
+use lpt_tool::name_word;
 use std::alloc::{AllocError, Global};
 
 /// What became of the packets of a file.
 #[derive(Drop)]
 enum Joined {
     /// Of the transaction that was asked for.
-    One(JoinEnd, Came),
+    One(Name, JoinEnd, Came),
     /// Of all, where none was.
     Each(Option<JoinEnd>, Gatherings),
 }
@@ -40,7 +41,7 @@ pub fn join(rt: &HostRuntime, config: &Config, words: &JoinWords<'_>) -> Result<
     finish(rt, out)?;
     match (joined, failure) {
         (_, Some(failure)) => Err(failure),
-        (Ok(joined), None) => told(rt, words, &joined),
+        (Ok(joined), None) => told(rt, config, words, &joined),
         (Err(fault), None) => Err(Failure::from(fault)),
     }
 }
@@ -55,28 +56,35 @@ fn join_packets(
 ) -> Result<Joined, ToolFault>
     requires { IsConfig config.now }
 {
+    let given = words.name.map(|name| name.under(config.source));
+    let name = given.unwrap_or(Name { source: 0, id: 0 });
     let transaction = Transaction {
         direction: words.direction,
-        id: words.id.unwrap_or(0),
+        name,
         apid: config.apid,
         part_size: config.part_size,
     };
-    if words.id.is_some() {
+    if given.is_some() {
         let (end, came) = join_message(alloc, &transaction, source, out)?;
-        return Ok(Joined::One(end, came));
+        return Ok(Joined::One(name, end, came));
     }
     let (end, gatherings) = join_only(alloc, &transaction, source, out)?;
     Ok(Joined::Each(end, gatherings))
 }
 
 // The status of a join that ended so, after it was told what isn't whole.
-fn told(rt: &HostRuntime, words: &JoinWords<'_>, joined: &Joined) -> Result<Status, Failure> {
+fn told(
+    rt: &HostRuntime,
+    config: &Config,
+    words: &JoinWords<'_>,
+    joined: &Joined,
+) -> Result<Status, Failure> {
     let told = match joined {
-        Joined::One(JoinEnd::Written(_), _) => return Ok(Status::Done),
+        Joined::One(_, JoinEnd::Written(_), _) => return Ok(Status::Done),
         Joined::Each(Some(JoinEnd::Written(_)), _) => return Ok(Status::Done),
-        Joined::One(JoinEnd::Missing, came) => tell_missing(rt, words, words.id.unwrap_or(0), came),
-        Joined::One(JoinEnd::BrokenOff, _) => tell_broken(rt, words, words.id.unwrap_or(0)),
-        Joined::Each(_, gatherings) => tell_each(rt, words, gatherings),
+        Joined::One(name, JoinEnd::Missing, came) => tell_missing(rt, config, words, *name, came),
+        Joined::One(name, JoinEnd::BrokenOff, _) => tell_broken(rt, config, words, *name),
+        Joined::Each(_, gatherings) => tell_each(rt, config, words, gatherings),
     };
     match told {
         Ok(()) => Ok(Status::Refused),
@@ -87,6 +95,7 @@ fn told(rt: &HostRuntime, words: &JoinWords<'_>, joined: &Joined) -> Result<Stat
 // Says of each transaction what isn't whole. The only error is out of memory.
 fn tell_each(
     rt: &HostRuntime,
+    config: &Config,
     words: &JoinWords<'_>,
     gatherings: &Gatherings,
 ) -> Result<(), AllocError> {
@@ -97,15 +106,16 @@ fn tell_each(
             format!(in rt.alloc(); "{direction}: no part of a message came"),
         );
     }
-    for (id, gathering) in gatherings.kept.iter() {
+    for (name, gathering) in gatherings.kept.iter() {
         match &gathering.joining {
             Joining::Complete(_) => {
+                let id = name_word(config.source, *name);
                 let text = format!(in rt.alloc(); "{direction} {id}: whole, --id {id} writes it");
                 tell(rt, text)?;
             }
-            Joining::BrokenOff => tell_broken(rt, words, *id)?,
+            Joining::BrokenOff => tell_broken(rt, config, words, *name)?,
             Joining::Nothing | Joining::Missing(_) => {
-                tell_missing(rt, words, *id, &gathering.came)?;
+                tell_missing(rt, config, words, *name, &gathering.came)?;
             }
         }
     }
@@ -119,12 +129,14 @@ fn tell_each(
 // Says on standard error which parts are missing. The only error is out of memory.
 fn tell_missing(
     rt: &HostRuntime,
+    config: &Config,
     words: &JoinWords<'_>,
-    id: u16,
+    name: Name,
     came: &Came,
 ) -> Result<(), AllocError> {
     let list = missing_list(rt.alloc(), came)?;
     let direction = word_of(words.direction);
+    let id = name_word(config.source, name);
     tell(
         rt,
         format!(in rt.alloc(); "{direction} {id}: missing parts: {list}"),
@@ -132,8 +144,14 @@ fn tell_missing(
 }
 
 // Says on standard error that a transaction was aborted. The only error is out of memory.
-fn tell_broken(rt: &HostRuntime, words: &JoinWords<'_>, id: u16) -> Result<(), AllocError> {
+fn tell_broken(
+    rt: &HostRuntime,
+    config: &Config,
+    words: &JoinWords<'_>,
+    name: Name,
+) -> Result<(), AllocError> {
     let direction = word_of(words.direction);
+    let id = name_word(config.source, name);
     let text = "broken off: a part contradicts those before it";
     tell(rt, format!(in rt.alloc(); "{direction} {id}: {text}"))
 }

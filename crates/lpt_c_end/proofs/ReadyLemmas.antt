@@ -1,4 +1,5 @@
 -- Each call leaves the readings of an end's jobs those for its memories.
+use Rattle.lpt_node.specs.LptPacket.Names.{Name}
 use Rattle.std.proofs.Common.{◌≡◌, ◌∙◌, refl, sym, subst, ap, ℕ, ◌-◌, Bool, true, false, if◌then◌else◌, List, [], ◌∷◌, Option, Some, None, ◌==◌}
 use Rattle.std.specs.Prelude.{All, Result, Ok, Err, OnOk, OnErr}
 use Rattle.std.proofs.lemmas.List.Elements.{All-nil, All-head, All-push, All-set, All-drop}
@@ -81,12 +82,12 @@ keeps_accepted side c d a apid sizes all =
     let P = IsReading apid sizes in
     jobs_accepted (All P) (λ js m these. All-push P js (Waiting m) these (waiting-reading apid sizes m)) side c d a all
 
-keeps_sent : (side : Side) (c : Config) (d : NodeData) (id k : ℕ) (o : Option (List ℕ))
+keeps_sent : (side : Side) (c : Config) (d : NodeData) (id : Name) (k : ℕ) (o : Option (List ℕ))
     → Keeps d (sent_of side c d id k o).0
 keeps_sent side c d id k None = λ apid sizes all. all
 keeps_sent side c d id k (Some m) = λ apid sizes all. all
 
-keeps_expired : (side : Side) (c : Config) (d : NodeData) (o : Option ℕ)
+keeps_expired : (side : Side) (c : Config) (d : NodeData) (o : Option Name)
     → Keeps d (expired_of side c d o).0
 keeps_expired side c d None = λ apid sizes all. all
 keeps_expired side c d (Some id) = keeps_report _ _
@@ -138,7 +139,7 @@ pub ready_ticked : {A B : Type 0} (r : Result A B) (n new : NodeView) (ms : Opti
     → IsReady new ms
 ready_ticked r n new ms config ok err is = by_result r n new ms _ config ok err (λ apid sizes all. all) is
 
-pub ready_opened : {A B : Type 0} (r : Result A B) (n new : NodeView) (ms : Option Contents) (id : ℕ) (m : List ℕ)
+pub ready_opened : {A B : Type 0} (r : Result A B) (n new : NodeView) (ms : Option Contents) (id : Name) (m : List ℕ)
     → new.config ≡ n.config
     → OnOk r (new.at ≡ opened n.at id m)
     → OnErr r (new.at ≡ n.at)
@@ -146,7 +147,7 @@ pub ready_opened : {A B : Type 0} (r : Result A B) (n new : NodeView) (ms : Opti
     → IsReady new ms
 ready_opened r n new ms id m config ok err is = by_result r n new ms _ config ok err (λ apid sizes all. all) is
 
-pub ready_closed : {A B : Type 0} (r : Result A B) (n new : NodeView) (ms : Option Contents) (id : ℕ)
+pub ready_closed : {A B : Type 0} (r : Result A B) (n new : NodeView) (ms : Option Contents) (id : Name)
     → new.config ≡ n.config
     → OnOk r (new.at ≡ closed n.at id)
     → OnErr r (new.at ≡ n.at)
@@ -154,7 +155,7 @@ pub ready_closed : {A B : Type 0} (r : Result A B) (n new : NodeView) (ms : Opti
     → IsReady new ms
 ready_closed r n new ms id config ok err is = by_result r n new ms _ config ok err (λ apid sizes all. all) is
 
-pub ready_retired : (n new : NodeView) (ms : Option Contents) (side : Side) (way : Direction) (id : ℕ)
+pub ready_retired : (n new : NodeView) (ms : Option Contents) (side : Side) (way : Direction) (id : Name)
     → new.config ≡ n.config
     → new.at ≡ retired side n.at way id
     → IsReady n ms
@@ -179,7 +180,7 @@ pub ready_accepted : (n new : NodeView) (ms : Option Contents) (side : Side) (c 
 ready_accepted n new ms side c r a config is_so is =
     becomes n new ms _ config (ap (λ (x : NodeData × Accepted). x.0) is_so) (keeps_accepted side c n.at a) is
 
-pub ready_sent : (n new : NodeView) (ms : Option Contents) (side : Side) (c : Config) (o : List ℕ) (id k : ℕ)
+pub ready_sent : (n new : NodeView) (ms : Option Contents) (side : Side) (c : Config) (o : List ℕ) (id : Name) (k : ℕ)
     → new.config ≡ n.config
     → (new.at, o) ≡ sent side c n.at id k
     → IsReady n ms
@@ -188,12 +189,13 @@ ready_sent n new ms side c o id k config is_so is =
     becomes n new ms _ config (ap (λ (x : NodeData × List ℕ). x.0) is_so)
     (keeps_sent side c n.at id k (message_at n.at id)) is
 
-pub ready_plain : (n new : NodeView) (ms : Option Contents) (c : Config) (o : List ℕ) (flags service subtype : ℕ) (body : List ℕ)
+pub ready_plain : (n new : NodeView) (ms : Option Contents) (c : Config) (o : List ℕ)
+    (source flags service subtype : ℕ) (body : List ℕ)
     → new.config ≡ n.config
-    → (new.at, o) ≡ plain_made c n.at flags service subtype body
+    → (new.at, o) ≡ plain_made c n.at source flags service subtype body
     → IsReady n ms
     → IsReady new ms
-ready_plain n new ms c o flags service subtype body config is_so is =
+ready_plain n new ms c o source flags service subtype body config is_so is =
     becomes n new ms _ config (ap (λ (x : NodeData × List ℕ). x.0) is_so) (λ apid sizes all. all) is
 
 pub ready_expired : (n new : NodeView) (ms : Option Contents) (side : Side) (c : Config) (r : Expired)
@@ -260,7 +262,7 @@ ready_read n mid new ms m t b boot job r is c1 k1 c2 k2 its fits all m' some =
     in
     subst (λ (a : ℕ). All (IsReading a (sizes_of m')) new.at.jobs.jobs) apid commit
 
-opened_keeps : (d : NodeData) (o : Option (ℕ × List ℕ)) → Keeps d (with_opened d o)
+opened_keeps : (d : NodeData) (o : Option (Name × List ℕ)) → Keeps d (with_opened d o)
 opened_keeps d None = λ apid sizes all. all
 opened_keeps d (Some x) = λ apid sizes all. all
 

@@ -4,6 +4,7 @@ use Rattle.lpt_node.specs.LptEvents.Arrivals.{arrival}
 use Rattle.lpt_node.specs.LptEvents.declared.config.Config.{Config}
 use Rattle.lpt_node.specs.LptEvents.declared.side.Side.{Side}
 use Rattle.lpt_node.specs.LptMemory.Memories.{Contents, sizes_of}
+use Rattle.lpt_node.specs.LptPacket.Names.{Name}
 use Rattle.lpt_node.specs.declared.accepted.Accepted.{Accepted}
 use Rattle.lpt_node.specs.declared.expired.Expired.{Expired}
 use Rattle.lpt_node.specs.Accepting.{accepted}
@@ -80,29 +81,30 @@ IsExpired e = Makes (expiry e).0 (option_to_list (expiry e).1.packet) e
 -- ---- sending
 
 -- a message was taken to be sent
-abbrev pub IsOpened : ℕ → List ℕ → End → End → Type 0
-IsOpened id message e = Becomes (opened e.node.at id message) e
+abbrev pub IsOpened : Name → List ℕ → End → End → Type 0
+IsOpened name message e = Becomes (opened e.node.at name message) e
 
 -- what the node does where a part is sent
-abbrev pub part_of : (id k : ℕ) → End → NodeData × List ℕ
-part_of id k e = sent e.side e.config e.node.at id k
+abbrev pub part_of : Name → (k : ℕ) → End → NodeData × List ℕ
+part_of name k e = sent e.side e.config e.node.at name k
 
 -- the packet of a part is to be sent
-abbrev pub IsPartMade : (id k : ℕ) → End → End → Type 0
-IsPartMade id k e = Makes (part_of id k e).0 ((part_of id k e).1 ∷ []) e
+abbrev pub IsPartMade : Name → (k : ℕ) → End → End → Type 0
+IsPartMade name k e = Makes (part_of name k e).0 ((part_of name k e).1 ∷ []) e
 
 -- what the node does where a plain request is made
-abbrev pub plain_of : (flags service subtype : ℕ) → List ℕ → End → NodeData × List ℕ
-plain_of flags service subtype body e = plain_made e.config e.node.at flags service subtype body
+abbrev pub plain_of : (source flags service subtype : ℕ) → List ℕ → End → NodeData × List ℕ
+plain_of source flags service subtype body e =
+    plain_made e.config e.node.at source flags service subtype body
 
 -- the packet of a plain request is to be sent
-abbrev pub IsPlainMade : (flags service subtype : ℕ) → List ℕ → End → End → Type 0
-IsPlainMade flags service subtype body e =
-    Makes (plain_of flags service subtype body e).0 ((plain_of flags service subtype body e).1 ∷ []) e
+abbrev pub IsPlainMade : (source flags service subtype : ℕ) → List ℕ → End → End → Type 0
+IsPlainMade source flags service subtype body e =
+    let made = plain_of source flags service subtype body e in Makes made.0 (made.1 ∷ []) e
 
 -- a message was finished
-abbrev pub IsFinished : ℕ → End → End → Type 0
-IsFinished id e = Becomes (closed e.node.at id) e
+abbrev pub IsFinished : Name → End → End → Type 0
+IsFinished name e = Becomes (closed e.node.at name) e
 
 -- the first packet that was to be sent was let go
 pub record IsLetGo (e new : End) : Type 0 where
@@ -118,8 +120,8 @@ abbrev pub IsTicked : End → End → Type 0
 IsTicked e = Becomes (ticked e.node.at) e
 
 -- a name was freed
-abbrev pub IsRetired : (direction id : ℕ) → End → End → Type 0
-IsRetired direction id e = Becomes (retired e.side e.node.at (direction_from direction) id) e
+abbrev pub IsRetired : (direction : ℕ) → Name → End → End → Type 0
+IsRetired direction name e = Becomes (retired e.side e.node.at (direction_from direction) name) e
 
 -- the end was restarted
 abbrev pub IsRestarted : End → End → Type 0

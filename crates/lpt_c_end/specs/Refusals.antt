@@ -6,6 +6,7 @@ use Rattle.lpt_node.specs.LptEvents.declared.side.Side.{Side}
 use Rattle.lpt_node.specs.LptEvents.declared.side.Side.TheVariants.{Ground, Craft}
 use Rattle.lpt_node.specs.LptJobs.Jobs.{numbered}
 use Rattle.lpt_node.specs.LptMemory.Memories.{Contents}
+use Rattle.lpt_node.specs.LptPacket.Names.{Name}
 use Rattle.lpt_node.specs.Anew.{may_retire}
 use Rattle.lpt_node.specs.Requests.{refusal_plain}
 use Rattle.lpt_node.specs.Sending.{refusal_open, refusal_send, refusal_finish}
@@ -61,12 +62,12 @@ abbrev pub expire_refusal : End → Option ℕ
 expire_refusal e = node_code (refusal_expire e.config e.node.at)
 
 -- a message isn't taken to be sent
-abbrev pub open_refusal : ℕ → List ℕ → End → Option ℕ
-open_refusal id message e = node_code (refusal_open e.config e.node.at id (length message))
+abbrev pub open_refusal : Name → List ℕ → End → Option ℕ
+open_refusal name message e = node_code (refusal_open e.config e.node.at name (length message))
 
 -- the packet of a part isn't made
-abbrev pub part_refusal : (id k : ℕ) → End → Option ℕ
-part_refusal id k e = node_code (refusal_send e.config e.node.at id k)
+abbrev pub part_refusal : Name → (k : ℕ) → End → Option ℕ
+part_refusal name k e = node_code (refusal_send e.config e.node.at name k)
 
 -- what ground alone does
 abbrev pub ground_refusal : Side → Option ℕ → Option ℕ
@@ -80,14 +81,14 @@ plain_refusal flags service subtype body e =
     else ground_refusal e.side (node_code (refusal_plain e.config service subtype (length body)))
 
 -- a message isn't finished
-abbrev pub finish_refusal : ℕ → End → Option ℕ
-finish_refusal id e = node_code (refusal_finish e.node.at id)
+abbrev pub finish_refusal : Name → End → Option ℕ
+finish_refusal name e = node_code (refusal_finish e.node.at name)
 
 -- a name isn't freed
-abbrev pub retire_refusal : (direction id : ℕ) → End → Option ℕ
-retire_refusal direction id e =
+abbrev pub retire_refusal : (direction : ℕ) → Name → End → Option ℕ
+retire_refusal direction name e =
     if nat_lt 1 direction then Some range
-    else if may_retire e.side e.node.at (direction_from direction) id then None
+    else if may_retire e.side e.node.at (direction_from direction) name then None
     else Some still_open
 
 -- the end isn't restarted

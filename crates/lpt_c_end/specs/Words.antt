@@ -1,4 +1,4 @@
--- Sides, directions, configurations and outcomes as C writes and reads them.
+-- Sides, directions, names, configurations and outcomes as C writes and reads them.
 use Rattle.std.specs.Prelude.{ℕ, ◌==◌, if◌then◌else◌, Some, None}
 use Rattle.lpt_node.specs.LptEvents.declared.applied.Applied.{Applied}
 use Rattle.lpt_node.specs.LptEvents.declared.applied.Applied.TheVariants.{Done, Silent, Code}
@@ -11,12 +11,14 @@ use Rattle.lpt_node.specs.LptEvents.declared.side.Side.{Side}
 use Rattle.lpt_node.specs.LptEvents.declared.side.Side.TheVariants.{Ground, Craft}
 use Rattle.lpt_node.specs.LptPacket.declared.direction.Direction.{Direction}
 use Rattle.lpt_node.specs.LptPacket.declared.direction.Direction.TheVariants.{Up, Down}
+use Rattle.lpt_node.specs.LptPacket.Names.{Name, named_by, no_name}
 use Rattle.lpt_node.specs.LptPart.Aborts.{reason_code}
 use Rattle.lpt_node.specs.LptPart.declared.mode.Mode.{Mode}
 use Rattle.lpt_node.specs.LptPart.declared.mode.Mode.TheVariants.{Any, Strict}
 use Rattle.lpt_node.specs.LptPus.Codes.{number_of}
 use Rattle.lpt_c_end.specs.declared.words.LptApplied.{LptApplied}
 use Rattle.lpt_c_end.specs.declared.words.LptConfig.{LptConfig}
+use Rattle.lpt_c_end.specs.declared.words.LptName.{LptName}
 use Rattle.lpt_c_end.specs.declared.words.LptOutcome.{LptOutcome}
 
 -- ---- numbers of 0 and 1
@@ -33,13 +35,23 @@ direction_from n = if n == 0 then Up else Down
 abbrev pub mode_from : ℕ → Mode
 mode_from n = if n == 0 then Any else Strict
 
+-- ---- names
+
+-- the name that C gives
+abbrev pub name_from : LptName → Name
+name_from n = named_by n.source n.id
+
+-- the name as C is told it
+abbrev pub name_word : Name → LptName
+name_word n = record { source = n.source; id = n.id }
+
 -- ---- a configuration
 
--- what it says
+-- what it says; an end has no source of its own, since each call names one
 abbrev pub config_from : LptConfig → Config
 config_from c = record {
   apid = c.apid;
-  source = c.source;
+  source = 0;
   part_size = c.part_size;
   timeout = c.timeout;
   receptions = c.receptions;
@@ -59,30 +71,35 @@ why_word BadPart = 4
 why_word Closed = 5
 why_word NoRoom = 6
 
--- an outcome of this kind that says this
-abbrev pub word_of : ℕ → ℕ → ℕ → LptOutcome
-word_of kind first second = record { kind = kind; first = first; second = second }
+-- an outcome of this kind and transaction that says this
+abbrev pub word_of : ℕ → Name → ℕ → ℕ → LptOutcome
+word_of kind name first second = record {
+  kind = kind;
+  name = name_word name;
+  first = first;
+  second = second;
+}
 
 -- what became of a packet
 abbrev pub words : Outcome → LptOutcome
-words (Kept id number) = word_of 1 id number
-words (Again id number) = word_of 2 id number
-words (Released id len) = word_of 3 id len
-words (PlainReleased len) = word_of 4 len 0
-words (ReportNoted service subtype) = word_of 5 service subtype
-words (AbortNoted id reason) = word_of 6 id (reason_code reason)
-words (Broken id reason) = word_of 7 id (reason_code reason)
-words (Ignored why) = word_of 8 (why_word why) 0
+words (Kept name number) = word_of 1 name number 0
+words (Again name number) = word_of 2 name number 0
+words (Released name len) = word_of 3 name len 0
+words (PlainReleased len) = word_of 4 no_name len 0
+words (ReportNoted service subtype) = word_of 5 no_name service subtype
+words (AbortNoted name reason) = word_of 6 name (reason_code reason) 0
+words (Broken name reason) = word_of 7 name (reason_code reason) 0
+words (Ignored why) = word_of 8 no_name (why_word why) 0
 
 -- ---- executions
 
--- what became of a request, of this kind, and what it says
-abbrev pub applied_word : ℕ → ℕ → LptApplied
-applied_word kind value = record { kind = kind; value = value }
+-- what became of a request, of this kind and with this transaction, and what it says
+abbrev pub applied_word : ℕ → Name → ℕ → LptApplied
+applied_word kind name value = record { kind = kind; name = name_word name; value = value }
 
 -- what became of a request
 abbrev pub applied_words : Applied → LptApplied
-applied_words (Done None) = applied_word 1 0
-applied_words (Done (Some id)) = applied_word 2 id
-applied_words Silent = applied_word 3 0
-applied_words (Code code) = applied_word 4 (number_of code)
+applied_words (Done None) = applied_word 1 no_name 0
+applied_words (Done (Some name)) = applied_word 2 name 0
+applied_words Silent = applied_word 3 no_name 0
+applied_words (Code code) = applied_word 4 no_name (number_of code)

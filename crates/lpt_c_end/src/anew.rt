@@ -6,11 +6,12 @@ ghost use Rattle.lpt_c_end.specs.Calls.{IfBoth};
 ghost use Rattle.lpt_c_end.specs.Changes.{IsRestarted, IsRetired, IsSame, IsTicked};
 ghost use Rattle.lpt_c_end.specs.Codes.{answer};
 ghost use Rattle.lpt_c_end.specs.Refusals.{refusal_by, restart_refusal, retire_refusal, tick_refusal};
+ghost use Rattle.lpt_c_end.specs.Words.{name_from};
 
 use crate::codes::{DONE, EMPTY, NO_NUMBER, RANGE, STILL_OPEN};
 use crate::end::End;
 use crate::handle::{LptEnd, put, take};
-use crate::words::direction_of;
+use crate::words::{LptName, direction_of, name_of};
 use lpt_node::{Direction, Name, Side, State};
 use std::alloc::Global;
 
@@ -37,15 +38,16 @@ pub fn lpt_end_tick(alloc: Global, end: &mut LptEnd) -> u32
 /// 0; 106 where the handle is empty; 102 where the direction is above 1; 55 where the end sends in
 /// this direction and a message of this name is open, or receives in it and a reception of this name
 /// is: nothing has changed then.
-pub fn lpt_end_retire(alloc: Global, end: &mut LptEnd, direction: u32, id: u16) -> u32
-    ensures code { result ≡ answer (refusal_by (retire_refusal direction id) end.old.held.value) }
-    ensures done { result ≡ 0 → IfBoth (IsRetired direction id) end.old.held.value end.new.held.value }
+pub fn lpt_end_retire(alloc: Global, end: &mut LptEnd, direction: u32, name: &LptName) -> u32
+    ensures code { result ≡ answer (refusal_by (retire_refusal direction (name_from name.now)) end.old.held.value) }
+    ensures done { result ≡ 0
+        → IfBoth (IsRetired direction (name_from name.now)) end.old.held.value end.new.held.value }
     ensures refused { ¬ (result ≡ 0) → IfBoth IsSame end.old.held.value end.new.held.value }
 {
     let Some(mut held) = take(alloc, end) else {
         return EMPTY;
     };
-    let code = held.retire(direction, id);
+    let code = held.retire(direction, name_of(name));
     put(end, held);
     code
 }
@@ -83,34 +85,34 @@ impl End {
     }
 
     // Makes a name free at this end.
-    fn retire(&mut self, direction: u32, id: Name) -> u32
-        ensures code { result ≡ answer (retire_refusal direction id self.old) }
-        ensures done { result ≡ 0 → IsRetired direction id self.old self.new }
+    fn retire(&mut self, direction: u32, name: Name) -> u32
+        ensures code { result ≡ answer (retire_refusal direction name self.old) }
+        ensures done { result ≡ 0 → IsRetired direction name self.old self.new }
         ensures refused { ¬ (result ≡ 0) → IsSame self.old self.new }
     {
         if direction > 1 {
             return RANGE;
         }
         let direction = direction_of(direction);
-        if !self.may_retire(direction, id) {
+        if !self.may_retire(direction, name) {
             return STILL_OPEN;
         }
-        self.node.retire(direction, id);
+        self.node.retire(direction, name);
         DONE
     }
 
     // Whether a name may be freed at this end.
-    fn may_retire(&self, direction: Direction, id: Name) -> bool
-        ensures { result ≡ may_retire self.now.side self.now.node.at direction id }
+    fn may_retire(&self, direction: Direction, name: Name) -> bool
+        ensures { result ≡ may_retire self.now.side self.now.node.at direction name }
     {
         let is_sender = match self.side {
             Side::Ground => direction == Direction::Up,
             Side::Craft => direction == Direction::Down,
         };
         if is_sender {
-            self.node.sender(id) != State::Open
+            self.node.sender(name) != State::Open
         } else {
-            !self.node.is_open_reception(id)
+            !self.node.is_open_reception(name)
         }
     }
 

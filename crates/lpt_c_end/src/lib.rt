@@ -35,4 +35,4 @@ pub use memories::LptMemory;
 pub use receiving::{lpt_end_expire, lpt_end_packet, lpt_end_released};
 pub use requesting::lpt_end_plain;
 pub use sending::{lpt_end_finish, lpt_end_open, lpt_end_outgoing, lpt_end_part, lpt_end_sent};
-pub use words::{LptApplied, LptConfig, LptOutcome};
+pub use words::{LptApplied, LptConfig, LptName, LptOutcome};

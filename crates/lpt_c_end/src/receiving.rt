@@ -7,13 +7,14 @@ ghost use Rattle.lpt_c_end.specs.Changes.{IsDelivered, IsExpired, IsSame, delive
 ghost use Rattle.lpt_c_end.specs.Codes.{IsAnswer};
 ghost use Rattle.lpt_c_end.specs.Copies.{code_for, left_by, needed_by};
 ghost use Rattle.lpt_c_end.specs.Refusals.{expire_refusal, packet_refusal, refusal_by};
+ghost use Rattle.lpt_c_end.specs.Words.{name_word};
 
 use crate::codes::{DONE, EMPTY, MEMORY, NO_NUMBER, NOTHING};
 use crate::copying::copy_out;
 use crate::end::End;
 use crate::handle::{LptEnd, put, take};
 use crate::outbox::put_last;
-use crate::words::{LptOutcome, words_of};
+use crate::words::{LptName, LptOutcome, name_word_of, words_of};
 use lpt_node::{Accepted, Ask, Expired, Outcome};
 use std::alloc::{AllocError, Global};
 
@@ -67,17 +68,17 @@ pub fn lpt_end_released(alloc: Global, end: &mut LptEnd, out: &mut [u8], needed:
 ///
 /// 0; 106 where the handle is empty; 50 where none is due; 58 when out of memory. Then nothing has
 /// changed.
-pub fn lpt_end_expire(alloc: Global, end: &mut LptEnd, id: &mut u16) -> u32
+pub fn lpt_end_expire(alloc: Global, end: &mut LptEnd, name: &mut LptName) -> u32
     ensures code { IsAnswer (refusal_by expire_refusal end.old.held.value) result }
     ensures done { result ≡ 0 → IfBoth IsExpired end.old.held.value end.new.held.value }
-    ensures told { result ≡ 0 → IfHeld (λ e. id.new ≡ (expiry e).1.id) end.old.held.value }
+    ensures told { result ≡ 0 → IfHeld (λ e. name.new ≡ name_word (expiry e).1.id) end.old.held.value }
     ensures refused { ¬ (result ≡ 0) → IfBoth IsSame end.old.held.value end.new.held.value }
-    ensures untold { ¬ (result ≡ 0) → id.new ≡ id.old }
+    ensures untold { ¬ (result ≡ 0) → name.new ≡ name.old }
 {
     let Some(mut held) = take(alloc, end) else {
         return EMPTY;
     };
-    let code = held.expire(id);
+    let code = held.expire(name);
     put(end, held);
     code
 }
@@ -125,12 +126,12 @@ impl End {
     }
 
     // Gives the reception up that is due, and writes its name.
-    fn expire(&mut self, id: &mut u16) -> u32
+    fn expire(&mut self, name: &mut LptName) -> u32
         ensures code { IsAnswer (expire_refusal self.old) result }
         ensures done { result ≡ 0 → IsExpired self.old self.new }
-        ensures told { result ≡ 0 → id.new ≡ (expiry self.old).1.id }
+        ensures told { result ≡ 0 → name.new ≡ name_word (expiry self.old).1.id }
         ensures refused { ¬ (result ≡ 0) → IsSame self.old self.new }
-        ensures untold { ¬ (result ≡ 0) → id.new ≡ id.old }
+        ensures untold { ¬ (result ≡ 0) → name.new ≡ name.old }
     {
         if let Some(fault) = self.node.refusal(&Ask::Expire) {
             return u32::from(fault.code());
@@ -140,9 +141,9 @@ impl End {
         }
         match self.node.expire() {
             Ok(expired) => {
-                let Expired { id: name, packet } = expired;
+                let Expired { id, packet } = expired;
                 put_last(&mut self.outbox, packet);
-                *id = name;
+                *name = name_word_of(id);
                 DONE
             }
             Err(_) => MEMORY,

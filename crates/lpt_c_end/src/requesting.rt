@@ -13,8 +13,8 @@ use crate::outbox::put_last;
 use lpt_node::{AckFlags, Ask, Side};
 use std::alloc::Global;
 
-/// Makes the packet of a plain request, of these acknowledgement flags, service type, message
-/// subtype and body: it is to be sent. Ground alone makes them.
+/// Makes the packet of a plain request, of this source, these acknowledgement flags, service type,
+/// message subtype and body: it is to be sent. Ground alone makes them.
 ///
 /// 0; 106 where the handle is empty; 102 where the flags are above 15, and at the spacecraft; 60
 /// where the types are those of a part; 43 where the packet would have more octets than the part
@@ -22,6 +22,7 @@ use std::alloc::Global;
 pub fn lpt_end_plain(
     alloc: Global,
     end: &mut LptEnd,
+    source: u16,
     flags: u8,
     service: u8,
     subtype: u8,
@@ -29,22 +30,22 @@ pub fn lpt_end_plain(
 ) -> u32
     ensures code { IsAnswer (refusal_by (plain_refusal flags service subtype body.now) end.old.held.value) result }
     ensures done { result ≡ 0
-        → IfBoth (IsPlainMade flags service subtype body.now) end.old.held.value end.new.held.value }
+        → IfBoth (IsPlainMade source flags service subtype body.now) end.old.held.value end.new.held.value }
     ensures refused { ¬ (result ≡ 0) → IfBoth IsSame end.old.held.value end.new.held.value }
 {
     let Some(mut held) = take(alloc, end) else {
         return EMPTY;
     };
-    let code = held.plain(flags, service, subtype, body);
+    let code = held.plain(source, flags, service, subtype, body);
     put(end, held);
     code
 }
 
 impl End {
     // Makes the packet of a plain request.
-    fn plain(&mut self, flags: u8, service: u8, subtype: u8, body: &[u8]) -> u32
+    fn plain(&mut self, source: u16, flags: u8, service: u8, subtype: u8, body: &[u8]) -> u32
         ensures code { IsAnswer (plain_refusal flags service subtype body.now self.old) result }
-        ensures done { result ≡ 0 → IsPlainMade flags service subtype body.now self.old self.new }
+        ensures done { result ≡ 0 → IsPlainMade source flags service subtype body.now self.old self.new }
         ensures refused { ¬ (result ≡ 0) → IsSame self.old self.new }
     {
         let Some(flags) = AckFlags::new(flags) else {
@@ -59,7 +60,7 @@ impl End {
         if self.make_place().is_err() {
             return MEMORY;
         }
-        match self.node.plain(flags, service, subtype, body) {
+        match self.node.plain(source, flags, service, subtype, body) {
             Ok(packet) => {
                 put_last(&mut self.outbox, Some(packet));
                 DONE

@@ -6,12 +6,14 @@ ghost use Rattle.lpt_c_end.specs.Changes.{IsFinished, IsLetGo, IsOpened, IsPartM
 ghost use Rattle.lpt_c_end.specs.Codes.{IsAnswer, answer};
 ghost use Rattle.lpt_c_end.specs.Copies.{code_for, left_by, needed_by};
 ghost use Rattle.lpt_c_end.specs.Refusals.{finish_refusal, open_refusal, part_refusal, refusal_by, sent_refusal};
+ghost use Rattle.lpt_c_end.specs.Words.{name_from};
 
 use crate::codes::{DONE, EMPTY, MEMORY, NOTHING};
 use crate::copying::copy_out;
 use crate::end::End;
 use crate::handle::{LptEnd, put, take};
 use crate::outbox::put_last;
+use crate::words::{LptName, name_of};
 use lpt_node::{Ask, Name, Octets};
 use std::alloc::Global;
 
@@ -19,15 +21,16 @@ use std::alloc::Global;
 ///
 /// 0; 106 where the handle is empty; 41 to 44, the first fault that applies; 58 when out of memory.
 /// Then nothing has changed.
-pub fn lpt_end_open(alloc: Global, end: &mut LptEnd, id: u16, message: &[u8]) -> u32
-    ensures code { IsAnswer (refusal_by (open_refusal id message.now) end.old.held.value) result }
-    ensures done { result ≡ 0 → IfBoth (IsOpened id message.now) end.old.held.value end.new.held.value }
+pub fn lpt_end_open(alloc: Global, end: &mut LptEnd, name: &LptName, message: &[u8]) -> u32
+    ensures code { IsAnswer (refusal_by (open_refusal (name_from name.now) message.now) end.old.held.value) result }
+    ensures done { result ≡ 0
+        → IfBoth (IsOpened (name_from name.now) message.now) end.old.held.value end.new.held.value }
     ensures refused { ¬ (result ≡ 0) → IfBoth IsSame end.old.held.value end.new.held.value }
 {
     let Some(mut held) = take(alloc, end) else {
         return EMPTY;
     };
-    let code = held.open(alloc, id, message);
+    let code = held.open(alloc, name_of(name), message);
     put(end, held);
     code
 }
@@ -36,15 +39,16 @@ pub fn lpt_end_open(alloc: Global, end: &mut LptEnd, id: u16, message: &[u8]) ->
 ///
 /// 0; 106 where the handle is empty; 45 where no message of this name is open; 46 where it has no
 /// such part; 58 when out of memory. Then nothing has changed.
-pub fn lpt_end_part(alloc: Global, end: &mut LptEnd, id: u16, k: u16) -> u32
-    ensures code { IsAnswer (refusal_by (part_refusal id k) end.old.held.value) result }
-    ensures done { result ≡ 0 → IfBoth (IsPartMade id k) end.old.held.value end.new.held.value }
+pub fn lpt_end_part(alloc: Global, end: &mut LptEnd, name: &LptName, k: u16) -> u32
+    ensures code { IsAnswer (refusal_by (part_refusal (name_from name.now) k) end.old.held.value) result }
+    ensures done { result ≡ 0
+        → IfBoth (IsPartMade (name_from name.now) k) end.old.held.value end.new.held.value }
     ensures refused { ¬ (result ≡ 0) → IfBoth IsSame end.old.held.value end.new.held.value }
 {
     let Some(mut held) = take(alloc, end) else {
         return EMPTY;
     };
-    let code = held.part(id, k);
+    let code = held.part(name_of(name), k);
     put(end, held);
     code
 }
@@ -53,15 +57,16 @@ pub fn lpt_end_part(alloc: Global, end: &mut LptEnd, id: u16, k: u16) -> u32
 ///
 /// 0; 106 where the handle is empty; 45 where no message of this name is open: nothing has changed
 /// then.
-pub fn lpt_end_finish(alloc: Global, end: &mut LptEnd, id: u16) -> u32
-    ensures code { result ≡ answer (refusal_by (finish_refusal id) end.old.held.value) }
-    ensures done { result ≡ 0 → IfBoth (IsFinished id) end.old.held.value end.new.held.value }
+pub fn lpt_end_finish(alloc: Global, end: &mut LptEnd, name: &LptName) -> u32
+    ensures code { result ≡ answer (refusal_by (finish_refusal (name_from name.now)) end.old.held.value) }
+    ensures done { result ≡ 0
+        → IfBoth (IsFinished (name_from name.now)) end.old.held.value end.new.held.value }
     ensures refused { ¬ (result ≡ 0) → IfBoth IsSame end.old.held.value end.new.held.value }
 {
     let Some(mut held) = take(alloc, end) else {
         return EMPTY;
     };
-    let code = held.finish(id);
+    let code = held.finish(name_of(name));
     put(end, held);
     code
 }
@@ -105,36 +110,36 @@ pub fn lpt_end_sent(alloc: Global, end: &mut LptEnd) -> u32
 
 impl End {
     // Takes a message to be sent.
-    fn open(&mut self, alloc: Global, id: Name, message: &[u8]) -> u32
-        ensures code { IsAnswer (open_refusal id message.now self.old) result }
-        ensures done { result ≡ 0 → IsOpened id message.now self.old self.new }
+    fn open(&mut self, alloc: Global, name: Name, message: &[u8]) -> u32
+        ensures code { IsAnswer (open_refusal name message.now self.old) result }
+        ensures done { result ≡ 0 → IsOpened name message.now self.old self.new }
         ensures refused { ¬ (result ≡ 0) → IsSame self.old self.new }
     {
-        if let Some(fault) = self.node.refusal(&Ask::Open(id, message.len())) {
+        if let Some(fault) = self.node.refusal(&Ask::Open(name, message.len())) {
             return u32::from(fault.code());
         }
         let Ok(copy) = Vec::from_slice(alloc, message) else {
             return MEMORY;
         };
-        match self.node.open(id, Octets::from_vec(copy)) {
+        match self.node.open(name, Octets::from_vec(copy)) {
             Ok(()) => DONE,
             Err(_) => MEMORY,
         }
     }
 
     // Makes the packet of a part.
-    fn part(&mut self, id: Name, k: u16) -> u32
-        ensures code { IsAnswer (part_refusal id k self.old) result }
-        ensures done { result ≡ 0 → IsPartMade id k self.old self.new }
+    fn part(&mut self, name: Name, k: u16) -> u32
+        ensures code { IsAnswer (part_refusal name k self.old) result }
+        ensures done { result ≡ 0 → IsPartMade name k self.old self.new }
         ensures refused { ¬ (result ≡ 0) → IsSame self.old self.new }
     {
-        if let Some(fault) = self.node.refusal(&Ask::Send(id, k)) {
+        if let Some(fault) = self.node.refusal(&Ask::Send(name, k)) {
             return u32::from(fault.code());
         }
         if self.make_place().is_err() {
             return MEMORY;
         }
-        match self.node.send_part(id, k) {
+        match self.node.send_part(name, k) {
             Ok(packet) => {
                 put_last(&mut self.outbox, Some(packet));
                 DONE
@@ -144,12 +149,12 @@ impl End {
     }
 
     // Closes an open message.
-    fn finish(&mut self, id: Name) -> u32
-        ensures code { result ≡ answer (finish_refusal id self.old) }
-        ensures done { result ≡ 0 → IsFinished id self.old self.new }
+    fn finish(&mut self, name: Name) -> u32
+        ensures code { result ≡ answer (finish_refusal name self.old) }
+        ensures done { result ≡ 0 → IsFinished name self.old self.new }
         ensures refused { ¬ (result ≡ 0) → IsSame self.old self.new }
     {
-        match self.node.finish(id) {
+        match self.node.finish(name) {
             Ok(()) => DONE,
             Err(fault) => u32::from(fault.code()),
         }

@@ -1,9 +1,22 @@
-//! Sides, directions, configurations and outcomes as C writes and reads them.
+//! Sides, directions, names, configurations and outcomes as C writes and reads them.
 
 ghost use Rattle.std.specs.Prelude.{◌≡◌};
-ghost use Rattle.lpt_c_end.specs.Words.{applied_words, config_from, direction_from, mode_from, side_from, why_word, words};
+ghost use Rattle.lpt_c_end.specs.Words.{applied_words, config_from, direction_from, mode_from, name_from, name_word, side_from, why_word, words};
 
-use lpt_node::{Applied, Config, Direction, Mode, Outcome, Side, Why};
+use lpt_node::{Applied, Config, Direction, Mode, Name, Outcome, Side, Why};
+
+/// What names a transaction within a direction.
+#[repr(C)]
+#[derive(Clone, Copy)]
+pub struct LptName {
+    /// The source ID of telecommands up, the destination ID of telemetry down.
+    pub source: u16,
+    /// The identifier of the transaction.
+    pub id: u16,
+}
+
+// The name that is told where there is none.
+const NO_NAME: Name = Name { source: 0, id: 0 };
 
 /// What is fixed of an end; the ranges are those of a world's configuration.
 #[repr(C)]
@@ -11,8 +24,6 @@ use lpt_node::{Applied, Config, Direction, Mode, Outcome, Side, Why};
 pub struct LptConfig {
     /// The application process identifier of all packets, 0 to 2046.
     pub apid: u16,
-    /// The source ID of telecommands and destination ID of telemetry.
-    pub source: u16,
     /// The part size in octets, 4 to 1024.
     pub part_size: u32,
     /// The time-out of a reception in ticks, 1 to 65,535.
@@ -27,26 +38,31 @@ pub struct LptConfig {
     pub mode: u32,
 }
 
-/// What became of a packet: the kind, 1 to 8, and what it says, by the kind.
+/// What became of a packet: the kind, 1 to 8, and what it says, by the kind; 0 where it says nothing.
 #[repr(C)]
 #[derive(Clone, Copy)]
 pub struct LptOutcome {
     /// The kind.
     pub kind: u32,
-    /// The identifier of the transaction, the length of a plain request, the service type of
-    /// telemetry, or why nothing was made of the packet.
+    /// The transaction.
+    pub name: LptName,
+    /// The number of the part, the length of what was released, the reason of an abortion, the
+    /// service type of telemetry, or why nothing was made of the packet.
     pub first: u32,
-    /// The number of the part, the length of the message, the message subtype, or the reason.
+    /// The message subtype of telemetry.
     pub second: u32,
 }
 
-/// What became of a request that was executed: the kind, 1 to 4, and what it says.
+/// What became of a request that was executed: the kind, 1 to 4, and what it says; 0 where it says
+/// nothing.
 #[repr(C)]
 #[derive(Clone, Copy)]
 pub struct LptApplied {
     /// The kind.
     pub kind: u32,
-    /// The name of the report that was opened, or the failure code.
+    /// The transaction under which its report was opened.
+    pub name: LptName,
+    /// The failure code.
     pub value: u32,
 }
 
@@ -75,13 +91,31 @@ fn mode_of(mode: u32) -> Mode
     if mode == 0 { Mode::Any } else { Mode::Strict }
 }
 
+// The name that C gives.
+pub(crate) fn name_of(name: &LptName) -> Name
+    ensures { result ≡ name_from name.now }
+{
+    Name {
+        source: name.source,
+        id: name.id,
+    }
+}
+
+// The name as C is told it.
+pub(crate) fn name_word_of(name: Name) -> LptName
+    ensures { result ≡ name_word name }
+{
+    let Name { source, id } = name;
+    LptName { source, id }
+}
+
 // The configuration.
 pub(crate) fn config_of(config: &LptConfig) -> Config
     ensures { result ≡ config_from config.now }
 {
     Config {
         apid: config.apid,
-        source: config.source,
+        source: 0,
         part_size: config.part_size,
         timeout: config.timeout,
         receptions: config.receptions,
@@ -95,18 +129,24 @@ pub(crate) fn config_of(config: &LptConfig) -> Config
 pub(crate) fn words_of(outcome: Outcome) -> LptOutcome
     ensures { result ≡ words outcome }
 {
-    let (kind, first, second) = match outcome {
-        Outcome::Kept(id, number) => (1, u32::from(id), u32::from(number)),
-        Outcome::Again(id, number) => (2, u32::from(id), u32::from(number)),
-        Outcome::Released(id, len) => (3, u32::from(id), len),
-        Outcome::PlainReleased(len) => (4, len, 0),
-        Outcome::ReportNoted(service, subtype) => (5, u32::from(service), u32::from(subtype)),
-        Outcome::AbortNoted(id, reason) => (6, u32::from(id), u32::from(reason.code())),
-        Outcome::Broken(id, reason) => (7, u32::from(id), u32::from(reason.code())),
-        Outcome::Ignored(why) => (8, why_of(why), 0),
+    let (kind, name, first, second) = match outcome {
+        Outcome::Kept(name, number) => (1, name, u32::from(number), 0),
+        Outcome::Again(name, number) => (2, name, u32::from(number), 0),
+        Outcome::Released(name, len) => (3, name, len, 0),
+        Outcome::PlainReleased(len) => (4, NO_NAME, len, 0),
+        Outcome::ReportNoted(service, subtype) => (
+            5,
+            NO_NAME,
+            u32::from(service),
+            u32::from(subtype),
+        ),
+        Outcome::AbortNoted(name, reason) => (6, name, u32::from(reason.code()), 0),
+        Outcome::Broken(name, reason) => (7, name, u32::from(reason.code()), 0),
+        Outcome::Ignored(why) => (8, NO_NAME, why_of(why), 0),
     };
     LptOutcome {
         kind,
+        name: name_word_of(name),
         first,
         second,
     }
@@ -130,11 +170,15 @@ fn why_of(why: Why) -> u32
 pub(crate) fn applied_words_of(applied: Applied) -> LptApplied
     ensures { result ≡ applied_words applied }
 {
-    let (kind, value) = match applied {
-        Applied::Done(None) => (1, 0),
-        Applied::Done(Some(id)) => (2, u32::from(id)),
-        Applied::Silent => (3, 0),
-        Applied::Code(code) => (4, u32::from(code.number())),
+    let (kind, name, value) = match applied {
+        Applied::Done(None) => (1, NO_NAME, 0),
+        Applied::Done(Some(name)) => (2, name, 0),
+        Applied::Silent => (3, NO_NAME, 0),
+        Applied::Code(code) => (4, NO_NAME, u32::from(code.number())),
     };
-    LptApplied { kind, value }
+    LptApplied {
+        kind,
+        name: name_word_of(name),
+        value,
+    }
 }

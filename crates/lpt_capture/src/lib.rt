@@ -1,5 +1,5 @@
 //! Captures of packets, read: the octets of the records of a file of classic pcap, as they come.
-//! What doesn't begin as a capture is given as it is: a packet begins with three zeros, and a
+//! What doesn't begin as a capture is given as it is: a packet begins with three bits of 0, and a
 //! capture never does.
 //!
 //! The main type is `Captured`, a source over a source. The first call is `Captured::new`.

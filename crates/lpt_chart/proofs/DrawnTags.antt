@@ -435,18 +435,18 @@ foot f out p =
     let begin = inner_text (legend_y f) f.wide 198 0 in
     closed (legend_onto (out ++ begin)) (legend (out ++ begin) (tagged-append out begin p (inner (legend_y f) f.wide 198 0)))
 
-picture-tagged : (events : ℕ) (c : Choice) (title : List ℕ) (refused : List Refusal) (p : Picture)
-    → Tagged (picture_text events c title refused p)
+picture-tagged : (source events : ℕ) (c : Choice) (title : List ℕ) (refused : List Refusal) (p : Picture)
+    → Tagged (picture_text source events c title refused p)
 unfolding picture_text
-picture-tagged events c title refused p =
-    let f = frame_of c title refused p in
+picture-tagged source events c title refused p =
+    let f = frame_of source c title refused p in
     let head = head_of f events c p title in
     let ends-drawn = ends_onto f (grounds_onto f head p) in
     closed (foot_onto f (window_onto f refused ends-drawn p))
     (foot f _ (window f refused ends-drawn p (ends f _ (grounds f head p (headed f events c p title)))))
 
 -- the picture of a journal
-pub chart-tagged : (c : Choice) (title : List ℕ) (journal : List Entry) (refused : List Refusal)
-    → Tagged (chart_text c title journal refused)
-chart-tagged c title journal refused =
-    picture-tagged (length journal) c title refused (picture journal refused)
+pub chart-tagged : (source : ℕ) (c : Choice) (title : List ℕ) (journal : List Entry) (refused : List Refusal)
+    → Tagged (chart_text source c title journal refused)
+chart-tagged source c title journal refused =
+    picture-tagged source (length journal) c title refused (picture journal refused)

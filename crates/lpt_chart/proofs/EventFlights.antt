@@ -10,10 +10,10 @@ use Rattle.lpt_events.specs.declared.lane.Lane.{Lane}
 use Rattle.lpt_events.specs.declared.outcome.Outcome.{Outcome}
 use Rattle.lpt_events.specs.declared.reply.Answer.{Answer}
 use Rattle.lpt_chart.specs.declared.marks.Content.TheVariants.{Part, Request, Noise}
-use Rattle.lpt_chart.specs.declared.marks.Kind.TheVariants.{Sender}
 use Rattle.lpt_chart.specs.declared.marks.Saying.{Saying}
 use Rattle.lpt_chart.specs.declared.marks.Saying.TheVariants as say
 use Rattle.lpt_chart.specs.declared.marks.Stage.TheVariants.{Claimed, Committed}
+use Rattle.lpt_chart.specs.declared.marks.Thing.TheVariants.{Sender}
 use Rattle.lpt_chart.specs.Answers.{applied_in, boot_in, claimed_in, clock_in, committed_in, expired_in, is_finished, is_lost, is_retired, is_taken, number_put, outcome_in, parts_opened, stale_in}
 use Rattle.lpt_chart.specs.Deliveries.{delivery_in, delivery_told, shown_by}
 use Rattle.lpt_chart.specs.Events.{delivered, drawn, executed, expired, finished, first_told, from_side, message_opened, open_at, packet_lost, packet_put, packet_taken, part_put, restarted, second_told, worked}
@@ -73,9 +73,9 @@ drawn-flights p (Open d id m) a =
 drawn-flights p (Send d id k) a =
     other-flights p (Send d id k) a
     (told-flights (λ n. part_put p d id k n) (number_put a) p p
-    (λ n. put-flights p d n (Part id k (parts_of (open_at p (from_side d)) Sender id)) (task_of (open_at p (from_side d)) Sender id)) refl) refl
-drawn-flights p (Plain flags service subtype body) a =
-    other-flights p (Plain flags service subtype body) a
+    (λ n. put-flights p d n (Part id k (parts_of (open_at p (from_side d)) (Sender id))) (task_of (open_at p (from_side d)) (Sender id))) refl) refl
+drawn-flights p (Plain source flags service subtype body) a =
+    other-flights p (Plain source flags service subtype body) a
     (told-flights (λ n. packet_put p Up n (Request service subtype) (Some (asked_from service subtype body 0))) (number_put a) p p
     (λ n. put-flights p Up n (Request service subtype) (Some (asked_from service subtype body 0))) refl) refl
 drawn-flights p (Finish d id) a =

@@ -2,12 +2,15 @@
 use Rattle.std.specs.Prelude.{ℕ, ◌+◌, ◌-◌, ◌*◌, ◌/◌, ◌==◌, min, if◌then◌else◌, List, [], ◌∷◌, codes, decimal}
 use Rattle.lpt_events.specs.LptPacket.declared.direction.Direction.{Direction}
 use Rattle.lpt_events.specs.LptPacket.declared.direction.Direction.TheVariants.{Up, Down}
+use Rattle.lpt_events.specs.NameTexts.{name_text}
 use Rattle.lpt_events.specs.declared.side.Side.{Side}
 use Rattle.lpt_events.specs.declared.side.Side.TheVariants.{Ground, Craft}
 use Rattle.lpt_chart.specs.declared.frame.Frame.{Frame}
 use Rattle.lpt_chart.specs.declared.marks.Bar.{Bar}
 use Rattle.lpt_chart.specs.declared.marks.Stage.{Stage}
 use Rattle.lpt_chart.specs.declared.marks.Stage.TheVariants.{Sending, Kept, Waits, Claimed, Committed}
+use Rattle.lpt_chart.specs.declared.marks.Thing.{Thing}
+use Rattle.lpt_chart.specs.declared.marks.Thing.TheVariants.{Sender, Reception, Job}
 use Rattle.lpt_chart.specs.declared.shape.Shape.TheVariants.{Box}
 use Rattle.lpt_chart.specs.declared.style.Style.TheVariants.{Filled, Hollow, JobFilled, JobHollow, JobWaits, Light}
 use Rattle.lpt_chart.specs.Frames.{bar_x, shows, y_of}
@@ -48,22 +51,28 @@ stage_onto out x y high side Waits = waits_onto out x y high
 stage_onto out x y high side Claimed = drawn_onto out (Box x y 8 high 0 JobHollow)
 stage_onto out x y high side Committed = drawn_onto out (Box x y 8 high 0 JobFilled)
 
--- what a piece of a track is, for who points at it
-unfoldable pub stage_words : Side → (number : ℕ) → Stage → List ℕ
-stage_words side number (Sending n task) =
-    joined (codes "sender of " ∷ direction_word (sends side) ∷ codes " " ∷ decimal number ∷ [])
-stage_words side number (Kept k n) =
-    joined (codes "reception of " ∷ direction_word (receives side) ∷ codes " " ∷ decimal number ∷ codes ": kept "
+-- how a thing is named: by its transaction's name, or by its number
+unfoldable pub thing_words : (source : ℕ) → Thing → List ℕ
+thing_words source (Sender name) = name_text source name
+thing_words source (Reception name) = name_text source name
+thing_words source (Job number) = decimal number
+
+-- what a piece of the track of a thing of this name is, for who points at it
+unfoldable pub stage_words : Side → (name : List ℕ) → Stage → List ℕ
+stage_words side name (Sending n task) =
+    joined (codes "sender of " ∷ direction_word (sends side) ∷ codes " " ∷ name ∷ [])
+stage_words side name (Kept k n) =
+    joined (codes "reception of " ∷ direction_word (receives side) ∷ codes " " ∷ name ∷ codes ": kept "
     ∷ decimal k ∷ [])
-stage_words side number Waits = joined (codes "job " ∷ decimal number ∷ codes " waits" ∷ [])
-stage_words side number Claimed = joined (codes "job " ∷ decimal number ∷ codes " is claimed" ∷ [])
-stage_words side number Committed = joined (codes "job " ∷ decimal number ∷ codes " is committed" ∷ [])
+stage_words side name Waits = joined (codes "job " ∷ name ∷ codes " waits" ∷ [])
+stage_words side name Claimed = joined (codes "job " ∷ name ∷ codes " is claimed" ∷ [])
+stage_words side name Committed = joined (codes "job " ∷ name ∷ codes " is committed" ∷ [])
 
 -- a piece of a track as a group
 unfoldable pub bar_drawn : Frame → List ℕ → Bar → List ℕ
 bar_drawn f out b =
     group_end_onto
-    (stage_onto (group_onto out (stage_words b.side b.track.number b.track.stage))
+    (stage_onto (group_onto out (stage_words b.side (thing_words f.source b.track.thing) b.track.stage))
     (bar_x f b.side b.column) (y_of b.track.from) (11 * (b.to - b.track.from)) b.side b.track.stage)
 
 -- a piece of a track, where some of its heights is drawn

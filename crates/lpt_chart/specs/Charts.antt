@@ -186,11 +186,12 @@ head_of f events c p title =
     events c p title
 
 -- a picture of so many events
-unfoldable pub picture_text : (events : ℕ) → Choice → (title : List ℕ) → List Refusal → Picture → List ℕ
-picture_text events c title refused p =
-    let f = frame_of c title refused p in
+unfoldable pub picture_text : (source events : ℕ) → Choice → (title : List ℕ) → List Refusal → Picture → List ℕ
+picture_text source events c title refused p =
+    let f = frame_of source c title refused p in
     foot_onto f (window_onto f refused (ends_onto f (grounds_onto f (head_of f events c p title) p)) p) ++ closing_text
 
--- the picture of a journal, with lines that were refused
-abbrev pub chart_text : Choice → (title : List ℕ) → List Entry → List Refusal → List ℕ
-chart_text c title journal refused = picture_text (length journal) c title refused (picture journal refused)
+-- the picture of a journal, with lines that were refused, where this source is configured
+abbrev pub chart_text : (source : ℕ) → Choice → (title : List ℕ) → List Entry → List Refusal → List ℕ
+chart_text source c title journal refused =
+    picture_text source (length journal) c title refused (picture journal refused)

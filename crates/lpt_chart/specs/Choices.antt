@@ -79,17 +79,18 @@ same_side Craft Craft = true
 same_side _ _ = false
 
 -- how many letters a row has at a side
-unfoldable pub letters_at : Side → Saying → ℕ
-letters_at side saying =
-    if same_side side (saying_side saying) then min (length (saying_words saying)) 60 else 0
+unfoldable pub letters_at : (source : ℕ) → Side → Saying → ℕ
+letters_at source side saying =
+    if same_side side (saying_side saying) then min (length (saying_words source saying)) 60 else 0
 
 -- how many letters the widest row has at a side, 16 at least
-abbrev pub widest_at : Side → List Row → ℕ
-widest_at side rows = fold (λ n r. max n (letters_at side r.saying)) 16 rows
+abbrev pub widest_at : (source : ℕ) → Side → List Row → ℕ
+widest_at source side rows = fold (λ n r. max n (letters_at source side r.saying)) 16 rows
 
 -- the frame of a picture by its widths: its columns have 12 pixels each
-unfoldable pub frame_with : Choice → (title : List ℕ) → Picture → (left right : ℕ) → Frame
-frame_with c title p left right = record {
+unfoldable pub frame_with : (source : ℕ) → Choice → (title : List ℕ) → Picture → (left right : ℕ) → Frame
+frame_with source c title p left right = record {
+  source = source;
   words = 60 + wide_of left;
   left = 60 + wide_of left + (46 + 12 * min (length p.ground) 64);
   right = 60 + wide_of left + (46 + 12 * min (length p.ground) 64) + (420 + 12 * min (length p.craft) 64);
@@ -104,6 +105,7 @@ frame_with c title p left right = record {
 }
 
 -- the frame of a picture
-abbrev pub frame_of : Choice → (title : List ℕ) → List Refusal → Picture → Frame
-frame_of c title refused p =
-    frame_with c title p (widest_at Ground p.rows) (widest_refusal (widest_at Craft p.rows) refused)
+abbrev pub frame_of : (source : ℕ) → Choice → (title : List ℕ) → List Refusal → Picture → Frame
+frame_of source c title refused p =
+    frame_with source c title p (widest_at source Ground p.rows)
+    (widest_refusal (widest_at source Craft p.rows) refused)

@@ -20,13 +20,13 @@ use Rattle.lpt_events.specs.declared.side.Side.TheVariants.{Ground, Craft}
 use Rattle.lpt_chart.specs.declared.marks.Content.{Content}
 use Rattle.lpt_chart.specs.declared.marks.Content.TheVariants.{Part, Request, Report, Noise}
 use Rattle.lpt_chart.specs.declared.marks.Held.{Held}
-use Rattle.lpt_chart.specs.declared.marks.Kind.TheVariants.{Sender, Reception, Job}
 use Rattle.lpt_chart.specs.declared.marks.Saying.{Saying}
 use Rattle.lpt_chart.specs.declared.marks.Saying.TheVariants as say
 use Rattle.lpt_chart.specs.declared.marks.Sent.{Sent}
 use Rattle.lpt_chart.specs.declared.marks.Stage.{Stage}
 use Rattle.lpt_chart.specs.declared.marks.Stage.TheVariants.{Sending, Kept, Claimed, Committed}
 use Rattle.lpt_chart.specs.declared.marks.Task.{Task}
+use Rattle.lpt_chart.specs.declared.marks.Thing.TheVariants.{Sender, Reception, Job}
 use Rattle.lpt_chart.specs.declared.marks.Track.{Track}
 use Rattle.lpt_chart.specs.declared.refusal.Refusal.{Refusal}
 use Rattle.lpt_chart.specs.Answers.{applied_in, boot_in, claimed_in, clock_in, committed_in, expired_in, is_finished, is_lost, is_retired, is_taken, number_put, outcome_in, parts_opened, stale_in}
@@ -66,7 +66,7 @@ task_held held = option_map_or (λ h. option_map_or (λ s. s.task) h.sent None) 
 -- how many parts are kept with one more
 unfoldable pub kept_then : Picture → Direction → Name → ℕ
 kept_then p d id =
-    min (kept_of (at_side (to_side d) p.ground p.craft) Reception id + 1) (2 ^ 16 - 1)
+    min (kept_of (at_side (to_side d) p.ground p.craft) (Reception id) + 1) (2 ^ 16 - 1)
 
 -- the first number that is told of an outcome
 unfoldable pub first_told : Picture → Direction → Outcome → ℕ
@@ -94,17 +94,17 @@ second_told p held d (outcome.Ignored why) = 0
 
 -- a large message is released: its reception ends, and at the spacecraft a job begins
 abbrev pub released_by : Picture → Option Task → Direction → Name → Picture
-released_by p task Up id = with_job (tracked p Craft Reception id None) task
-released_by p task Down id = tracked p Ground Reception id None
+released_by p task Up id = with_job (tracked p Craft (Reception id) None) task
+released_by p task Down id = tracked p Ground (Reception id) None
 
 -- what an outcome does to the tracks
 unfoldable pub came_to : Picture → Option Held → Direction → Outcome → Picture
 came_to p held d (outcome.Kept id k) =
-    tracked p (to_side d) Reception id (Some (Kept (kept_then p d id) (parts_held held)))
+    tracked p (to_side d) (Reception id) (Some (Kept (kept_then p d id) (parts_held held)))
 came_to p held d (outcome.Released id len) = released_by p (task_held held) d id
 came_to p held d (outcome.PlainReleased len) = with_job p (task_held held)
-came_to p held d (outcome.AbortNoted id reason) = tracked p Ground Sender id None
-came_to p held d (outcome.Broken id reason) = tracked p (to_side d) Reception id None
+came_to p held d (outcome.AbortNoted id reason) = tracked p Ground (Sender id) None
+came_to p held d (outcome.Broken id reason) = tracked p (to_side d) (Reception id) None
 came_to p held d (outcome.Again id k) = p
 came_to p held d (outcome.ReportNoted service subtype) = p
 came_to p held d (outcome.Ignored why) = p
@@ -128,13 +128,13 @@ packet_put p d n content task = put (said p (say.Put d n content)) d content tas
 -- a part is put; of how many, and what its message asks for, is known of the open sender
 abbrev pub part_put : Picture → Direction → Name → (k n : ℕ) → Picture
 part_put p d id k n =
-    packet_put p d n (Part id k (parts_of (open_at p (from_side d)) Sender id))
-    (task_of (open_at p (from_side d)) Sender id)
+    packet_put p d n (Part id k (parts_of (open_at p (from_side d)) (Sender id)))
+    (task_of (open_at p (from_side d)) (Sender id))
 
 -- a message is opened
 abbrev pub message_opened : Picture → Direction → Name → List ℕ → (parts : ℕ) → Picture
 message_opened p d id message parts =
-    tracked (said p (say.Opened d id (length message) parts)) (from_side d) Sender id
+    tracked (said p (say.Opened d id (length message) parts)) (from_side d) (Sender id)
     (Some (Sending parts (asked_in d message)))
 
 -- a packet is lost
@@ -143,7 +143,7 @@ packet_lost p n = lost (said p (say.Lost (direction_of (slice_get p.sent n)) n))
 
 -- the sender of a report of data, where one was opened
 abbrev pub opened_by : Picture → Applied → Picture
-opened_by p (Done (Some id)) = tracked p Craft Sender id (Some (Sending 0 None))
+opened_by p (Done (Some id)) = tracked p Craft (Sender id) (Some (Sending 0 None))
 opened_by p (Done None) = p
 opened_by p Silent = p
 opened_by p (Code code) = p
@@ -156,8 +156,8 @@ executed p a = opened_by (without_job (said p (say.Applied p.boot p.applied (tas
 abbrev pub expired : Picture → Direction → Name → Picture
 expired p d id =
     let columns = open_at p (to_side d) in
-    tracked (said p (say.Expired d id (kept_of columns Reception id) (parts_of columns Reception id)))
-    (to_side d) Reception id None
+    tracked (said p (say.Expired d id (kept_of columns (Reception id)) (parts_of columns (Reception id))))
+    (to_side d) (Reception id) None
 
 -- a node is restarted
 abbrev pub restarted : Picture → Side → (boot : ℕ) → Picture
@@ -167,7 +167,7 @@ restarted p Craft boot =
 
 -- a sender is closed
 abbrev pub finished : Picture → Direction → Name → Picture
-finished p d id = tracked (said p (say.Finished d id)) (from_side d) Sender id None
+finished p d id = tracked (said p (say.Finished d id)) (from_side d) (Sender id) None
 
 -- a lane takes a packet
 abbrev pub packet_taken : Picture → Lane → ℕ → Picture
@@ -175,13 +175,13 @@ packet_taken p l n = taken (said p (say.Taken l n)) l n
 
 -- a job comes to a stage
 abbrev pub worked : Picture → Saying → (job : ℕ) → Stage → Picture
-worked p saying job stage = tracked (said p saying) Craft Job job (Some stage)
+worked p saying job stage = tracked (said p saying) Craft (Job job) (Some stage)
 
 -- what an accepted event draws by its answer; nothing for an answer that isn't the event's own
 abbrev pub drawn : Picture → Event → Answer → Picture
 drawn p (Open d id m) a = option_map_or (λ n. message_opened p d id m n) (parts_opened a) p
 drawn p (Send d id k) a = option_map_or (λ n. part_put p d id k n) (number_put a) p
-drawn p (Plain flags service subtype body) a =
+drawn p (Plain source flags service subtype body) a =
     option_map_or (λ n. packet_put p Up n (Request service subtype) (Some (asked_from service subtype body 0))) (number_put a) p
 drawn p (Finish d id) a = if is_finished a then finished p d id else p
 drawn p (Lose n) a = if is_lost a then packet_lost p n else p
@@ -205,7 +205,7 @@ own_puts (Expire side) puts = option_map_or (λ x. x.count) puts 0
 own_puts Apply puts = option_map_or (λ x. x.count) puts 0
 own_puts (Open d id m) puts = 0
 own_puts (Send d id k) puts = 0
-own_puts (Plain flags service subtype body) puts = 0
+own_puts (Plain source flags service subtype body) puts = 0
 own_puts (Finish d id) puts = 0
 own_puts (Lose n) puts = 0
 own_puts (Damage d b) puts = 0

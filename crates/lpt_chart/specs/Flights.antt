@@ -103,9 +103,9 @@ ended_onto out x to number d (outcome.Again id k) = bead_onto out x to number 7 
 ended_onto out x to number d (outcome.Ignored why) = bead_onto out x to number 7 (style.Dashed d) (Bead d)
 
 -- what a packet is, for who points at it
-unfoldable pub packet_words : (number : ℕ) → Sent → List ℕ
-packet_words number s =
-    joined (content_words s.direction s.content ∷ codes ", packet " ∷ decimal number ∷ [])
+unfoldable pub packet_words : (source number : ℕ) → Sent → List ℕ
+packet_words source number s =
+    joined (content_words source s.direction s.content ∷ codes ", packet " ∷ decimal number ∷ [])
 
 -- a packet's way from a lane's hand to the node, and its bead there
 unfoldable pub arrived_onto : Frame → List ℕ → Flight → (number : ℕ) → List ℕ
@@ -117,7 +117,7 @@ arrived_onto f out fl number =
 unfoldable pub flight_drawn : Frame → List ℕ → Flight → Held → Sent → List ℕ
 flight_drawn f out fl h s =
     group_end_onto
-    (arrived_onto f (carried_onto f (group_onto out (packet_words h.number s)) fl.lane s h.at fl.to) fl h.number)
+    (arrived_onto f (carried_onto f (group_onto out (packet_words f.source h.number s)) fl.lane s h.at fl.to) fl h.number)
 
 -- a delivery, where some of its heights is drawn
 unfoldable pub flight_of : Frame → List ℕ → Flight → Option Held → List ℕ
@@ -132,7 +132,7 @@ flight_onto f out fl = flight_of f out fl fl.held
 -- a packet in a hand, up to where the picture ends
 unfoldable pub hand_drawn : Frame → List ℕ → Lane → (end : ℕ) → Held → Sent → List ℕ
 hand_drawn f out l end h s =
-    group_end_onto (carried_onto f (group_onto out (packet_words h.number s)) l s h.at end)
+    group_end_onto (carried_onto f (group_onto out (packet_words f.source h.number s)) l s h.at end)
 
 -- a packet that is in a hand where the picture ends
 unfoldable pub held_onto : Frame → List ℕ → Lane → (end : ℕ) → Option Held → List ℕ
@@ -149,7 +149,7 @@ unfoldable pub loss_drawn : Frame → List ℕ → Loss → Sent → List ℕ
 loss_drawn f out l s =
     group_end_onto
     (drawn_onto
-    (drawn_onto (group_onto out (packet_words l.number s))
+    (drawn_onto (group_onto out (packet_words f.source l.number s))
     (shape.Line (start_x f s.direction s.content) (y_of s.at) (middle_x f) (y_of l.at) (loss_style s)))
     (shape.Cross (middle_x f) (y_of l.at) style.Cross))
 

@@ -14,8 +14,6 @@ use Rattle.lpt_chart.specs.declared.marks.Content.TheVariants.{Report}
 use Rattle.lpt_chart.specs.declared.marks.Flight.{Flight}
 use Rattle.lpt_chart.specs.declared.marks.Hands.{Hands}
 use Rattle.lpt_chart.specs.declared.marks.Held.{Held}
-use Rattle.lpt_chart.specs.declared.marks.Kind.{Kind}
-use Rattle.lpt_chart.specs.declared.marks.Kind.TheVariants.{Job}
 use Rattle.lpt_chart.specs.declared.marks.Loss.{Loss}
 use Rattle.lpt_chart.specs.declared.marks.Row.{Row}
 use Rattle.lpt_chart.specs.declared.marks.Saying.{Saying}
@@ -24,6 +22,8 @@ use Rattle.lpt_chart.specs.declared.marks.Sent.{Sent}
 use Rattle.lpt_chart.specs.declared.marks.Stage.{Stage}
 use Rattle.lpt_chart.specs.declared.marks.Stage.TheVariants.{Waits}
 use Rattle.lpt_chart.specs.declared.marks.Task.{Task}
+use Rattle.lpt_chart.specs.declared.marks.Thing.{Thing}
+use Rattle.lpt_chart.specs.declared.marks.Thing.TheVariants.{Job}
 use Rattle.lpt_chart.specs.declared.marks.Track.{Track}
 use Rattle.lpt_chart.specs.Tracks.{all_bars, bar_of, moved}
 
@@ -180,11 +180,11 @@ at_side Ground g c = g
 at_side Craft g c = c
 
 -- a track comes to a stage, or to its end: its piece up to here is drawn
-unfoldable pub tracked : Picture → Side → Kind → ℕ → Option Stage → Picture
-tracked p side kind number stage = record p {
-  ground = at_side side (moved p.here p.ground kind number stage) p.ground;
-  craft = at_side side p.craft (moved p.here p.craft kind number stage);
-  bars = p.bars ++ option_to_list (bar_of side p.here (at_side side p.ground p.craft) kind number);
+unfoldable pub tracked : Picture → Side → Thing → Option Stage → Picture
+tracked p side thing stage = record p {
+  ground = at_side side (moved p.here p.ground thing stage) p.ground;
+  craft = at_side side p.craft (moved p.here p.craft thing stage);
+  bars = p.bars ++ option_to_list (bar_of side p.here (at_side side p.ground p.craft) thing);
 }
 
 -- all tracks of a node end
@@ -244,7 +244,7 @@ reported (suc k) p =
 -- a job is released that asks for this
 unfoldable pub with_job : Picture → Option Task → Picture
 with_job p task =
-    record (tracked p Craft Job (length p.tasks) (Some Waits)) { tasks = p.tasks ++ task ∷ [] }
+    record (tracked p Craft (Job (length p.tasks)) (Some Waits)) { tasks = p.tasks ++ task ∷ [] }
 
 -- what the job asks for that is executed next
 abbrev pub task_known : Option (Option Task) → Option Task
@@ -256,4 +256,4 @@ task_next p = task_known (slice_get p.tasks p.applied)
 
 -- a job was executed
 unfoldable pub without_job : Picture → Picture
-without_job p = record (tracked p Craft Job p.applied None) { applied = one_more p.applied }
+without_job p = record (tracked p Craft (Job p.applied) None) { applied = one_more p.applied }

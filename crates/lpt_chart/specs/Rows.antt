@@ -129,7 +129,7 @@ unfoldable pub told_onto : Frame → List ℕ → Row → List ℕ
 told_onto f out r =
     if is_told r.saying
     then words_onto f out r.at (saying_side r.saying)
-    (side_letters (saying_side r.saying) (weight_of r.saying)) (saying_words r.saying)
+    (side_letters (saying_side r.saying) (weight_of r.saying)) (saying_words f.source r.saying)
     else out
 
 -- a row's place in the journal, where it shows it

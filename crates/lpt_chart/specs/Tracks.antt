@@ -1,30 +1,31 @@
 -- What is open at a node, each in a column of its own.
 use Rattle.std.specs.Prelude.{ℕ, ◌+◌, nat_lt, ◌==◌, ◌&&◌, Bool, true, false, if◌then◌else◌, List, [], ◌∷◌, ◌++◌, length, position, slice_get, slice_set, Option, Some, None, is_none, option_to_list}
 use Rattle.std.specs.Option.{option_map, option_map_or}
+use Rattle.lpt_events.specs.LptPacket.Names.{same_name}
 use Rattle.lpt_events.specs.declared.side.Side.{Side}
 use Rattle.lpt_chart.specs.declared.marks.Bar.{Bar}
-use Rattle.lpt_chart.specs.declared.marks.Kind.{Kind}
-use Rattle.lpt_chart.specs.declared.marks.Kind.TheVariants.{Sender, Reception, Job}
 use Rattle.lpt_chart.specs.declared.marks.Stage.{Stage}
 use Rattle.lpt_chart.specs.declared.marks.Stage.TheVariants.{Sending, Kept, Waits, Claimed, Committed}
 use Rattle.lpt_chart.specs.declared.marks.Task.{Task}
+use Rattle.lpt_chart.specs.declared.marks.Thing.{Thing}
+use Rattle.lpt_chart.specs.declared.marks.Thing.TheVariants.{Sender, Reception, Job}
 use Rattle.lpt_chart.specs.declared.marks.Track.{Track}
 
--- whether two kinds are the same
-abbrev pub same_kind : Kind → Kind → Bool
-same_kind Sender Sender = true
-same_kind Reception Reception = true
-same_kind Job Job = true
-same_kind _ _ = false
+-- whether two things are the same: senders or receptions of one name, or jobs of one number
+abbrev pub same_thing : Thing → Thing → Bool
+same_thing (Sender a) (Sender b) = same_name a b
+same_thing (Reception a) (Reception b) = same_name a b
+same_thing (Job a) (Job b) = a == b
+same_thing _ _ = false
 
--- whether a column has the track of this kind and number
-abbrev pub has_track : Kind → ℕ → Option Track → Bool
-has_track kind number None = false
-has_track kind number (Some t) = same_kind t.kind kind && (t.number == number)
+-- whether a column has this thing's track
+abbrev pub has_track : Thing → Option Track → Bool
+has_track thing None = false
+has_track thing (Some t) = same_thing t.thing thing
 
--- the column of the track of this kind and number
-abbrev pub column_of : List (Option Track) → Kind → ℕ → Option ℕ
-column_of columns kind number = position (has_track kind number) columns
+-- the column of this thing's track
+abbrev pub column_of : List (Option Track) → Thing → Option ℕ
+column_of columns thing = position (has_track thing) columns
 
 -- the first column that is free
 abbrev pub free_column : List (Option Track) → Option ℕ
@@ -42,13 +43,13 @@ placed columns None None = columns
 placed columns None (Some t) = begun columns (free_column columns) t
 
 -- a track that is at this stage from here on
-abbrev pub track_from : ℕ → Kind → ℕ → Stage → Track
-track_from here kind number stage = record { kind = kind; number = number; from = here; stage = stage }
+abbrev pub track_from : ℕ → Thing → Stage → Track
+track_from here thing stage = record { thing = thing; from = here; stage = stage }
 
 -- the columns, where a track comes to a stage, or to its end
-abbrev pub moved : ℕ → List (Option Track) → Kind → ℕ → Option Stage → List (Option Track)
-moved here columns kind number stage =
-    placed columns (column_of columns kind number) (option_map (track_from here kind number) stage)
+abbrev pub moved : ℕ → List (Option Track) → Thing → Option Stage → List (Option Track)
+moved here columns thing stage =
+    placed columns (column_of columns thing) (option_map (track_from here thing) stage)
 
 -- the track in a column, which may not be there
 abbrev pub track_at : Option (Option Track) → Option Track
@@ -66,8 +67,8 @@ bar_in side here columns (Some i) = bar_up_to side here i (track_at (slice_get c
 bar_in side here columns None = None
 
 -- the piece of a track that comes to its next stage or its end
-abbrev pub bar_of : Side → ℕ → List (Option Track) → Kind → ℕ → Option Bar
-bar_of side here columns kind number = bar_in side here columns (column_of columns kind number)
+abbrev pub bar_of : Side → ℕ → List (Option Track) → Thing → Option Bar
+bar_of side here columns thing = bar_in side here columns (column_of columns thing)
 
 -- the pieces of all tracks from column i on, up to here
 abbrev pub all_bars : Side → (here i : ℕ) → List (Option Track) → List Bar
@@ -80,9 +81,9 @@ abbrev pub track_in : List (Option Track) → Option ℕ → Option Track
 track_in columns (Some i) = track_at (slice_get columns i)
 track_in columns None = None
 
--- the track of this kind and number
-unfoldable pub track_of : List (Option Track) → Kind → ℕ → Option Track
-track_of columns kind number = track_in columns (column_of columns kind number)
+-- this thing's track
+unfoldable pub track_of : List (Option Track) → Thing → Option Track
+track_of columns thing = track_in columns (column_of columns thing)
 
 -- how many parts were kept at a stage
 abbrev pub kept_in : Stage → ℕ
@@ -92,9 +93,9 @@ kept_in Waits = 0
 kept_in Claimed = 0
 kept_in Committed = 0
 
--- how many parts the track of this kind and number has kept
-unfoldable pub kept_of : List (Option Track) → Kind → ℕ → ℕ
-kept_of columns kind number = option_map_or (λ t. kept_in t.stage) (track_of columns kind number) 0
+-- how many parts this thing's track has kept
+unfoldable pub kept_of : List (Option Track) → Thing → ℕ
+kept_of columns thing = option_map_or (λ t. kept_in t.stage) (track_of columns thing) 0
 
 -- of how many parts it is at a stage
 abbrev pub parts_in : Stage → ℕ
@@ -105,8 +106,8 @@ parts_in Claimed = 0
 parts_in Committed = 0
 
 -- of how many parts the message of this track is
-unfoldable pub parts_of : List (Option Track) → Kind → ℕ → ℕ
-parts_of columns kind number = option_map_or (λ t. parts_in t.stage) (track_of columns kind number) 0
+unfoldable pub parts_of : List (Option Track) → Thing → ℕ
+parts_of columns thing = option_map_or (λ t. parts_in t.stage) (track_of columns thing) 0
 
 -- what the message of a sender asks for
 abbrev pub task_in : Stage → Option Task
@@ -117,5 +118,5 @@ task_in Claimed = None
 task_in Committed = None
 
 -- what the message of this track asks for
-unfoldable pub task_of : List (Option Track) → Kind → ℕ → Option Task
-task_of columns kind number = option_map_or (λ t. task_in t.stage) (track_of columns kind number) None
+unfoldable pub task_of : List (Option Track) → Thing → Option Task
+task_of columns thing = option_map_or (λ t. task_in t.stage) (track_of columns thing) None

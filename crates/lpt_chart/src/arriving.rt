@@ -5,7 +5,7 @@ ghost use Rattle.lpt_chart.specs.Events.{came_to, delivered, first_told, parts_h
 ghost use Rattle.lpt_chart.specs.Pictures.{tracked};
 
 use crate::hands::in_hand;
-use crate::marks::{Content, Held, Kind, Saying, Stage, Task};
+use crate::marks::{Content, Held, Saying, Stage, Task, Thing};
 use crate::picture::{Picture, to_side};
 use lpt_events::{Direction, Lane, Name, Outcome, Side};
 use std::alloc::AllocError;
@@ -71,9 +71,7 @@ impl Picture {
             }
             Outcome::Released(id, _) => self.release_message(task_held(held), direction, id),
             Outcome::PlainReleased(_) => self.release(task_held(held)),
-            Outcome::AbortNoted(id, _) => {
-                self.track(Side::Ground, Kind::Sender, u64::from(id), None)
-            }
+            Outcome::AbortNoted(id, _) => { self.track(Side::Ground, Thing::Sender(id), None) }
             Outcome::Broken(id, _) => self.receive(direction, id, None),
             Outcome::Again(_, _) | Outcome::ReportNoted(_, _) | Outcome::Ignored(_) => Ok(()),
         }
@@ -86,9 +84,9 @@ impl Picture {
         id: Name,
         stage: Option<Stage>,
     ) -> Result<(), AllocError>
-        ensures { OnOk result (self.new ≡ tracked self.old (to_side direction) Kind.Reception id stage) }
+        ensures { OnOk result (self.new ≡ tracked self.old (to_side direction) (Thing.Reception id) stage) }
     {
-        self.track(to_side(direction), Kind::Reception, u64::from(id), stage)
+        self.track(to_side(direction), Thing::Reception(id), stage)
     }
 
     // A large message is released that asks for this.

@@ -1,14 +1,14 @@
 //! How what is open is drawn.
 
 ghost use Rattle.std.specs.Prelude.{◌≡◌, ◌<◌, ◌^◌, IfOk, OnOk, string_bytes};
-ghost use Rattle.lpt_chart.specs.Bars.{bar_drawn, bar_onto, filled, kept_onto, receives, sends, stage_onto, stage_words, waits_onto};
+ghost use Rattle.lpt_chart.specs.Bars.{bar_drawn, bar_onto, filled, kept_onto, receives, sends, stage_onto, stage_words, thing_words, waits_onto};
 
 use crate::frame::{Frame, bar_x, shows, y_of};
-use crate::marks::{Bar, Stage};
+use crate::marks::{Bar, Stage, Thing};
 use crate::shape::{Shape, begin_group, draw, end_group};
 use crate::style::Style;
 use crate::words::direction_word;
-use lpt_events::{Direction, Side};
+use lpt_events::{Direction, Side, name_word};
 use std::alloc::{AllocError, Global};
 
 // How much of a bar of width 8 so many parts fill.
@@ -121,23 +121,37 @@ pub(crate) fn draw_stage(
     }
 }
 
-// What a piece of a track is, for who points at it.
+// How a thing is named: by its transaction's name, or by its number.
+#[tactic(auto, unfolding(crate::specs::Bars::thing_words))]
+fn thing_words(alloc: Global, source: u16, thing: Thing) -> Result<String, AllocError>
+    ensures { IfOk result (λ t. string_bytes t ≡ thing_words source thing) }
+{
+    match thing {
+        Thing::Sender(name) | Thing::Reception(name) => {
+            let name = name_word(source, name);
+            format!(in alloc; "{name}")
+        }
+        Thing::Job(number) => format!(in alloc; "{number}"),
+    }
+}
+
+// What a piece of the track of a thing of this name is, for who points at it.
 #[tactic(auto, unfolding(crate::specs::Bars::stage_words))]
-fn stage_words(alloc: Global, side: Side, number: u64, stage: Stage) -> Result<String, AllocError>
-    ensures { IfOk result (λ t. string_bytes t ≡ stage_words side number stage) }
+fn stage_words(alloc: Global, side: Side, name: &str, stage: Stage) -> Result<String, AllocError>
+    ensures { IfOk result (λ t. string_bytes t ≡ stage_words side name.now stage) }
 {
     match stage {
         Stage::Sending(_, _) => {
             let way = direction_word(sends(side));
-            format!(in alloc; "sender of {way} {number}")
+            format!(in alloc; "sender of {way} {name}")
         }
         Stage::Kept(kept, _) => {
             let way = direction_word(receives(side));
-            format!(in alloc; "reception of {way} {number}: kept {kept}")
+            format!(in alloc; "reception of {way} {name}: kept {kept}")
         }
-        Stage::Waits => format!(in alloc; "job {number} waits"),
-        Stage::Claimed => format!(in alloc; "job {number} is claimed"),
-        Stage::Committed => format!(in alloc; "job {number} is committed"),
+        Stage::Waits => format!(in alloc; "job {name} waits"),
+        Stage::Claimed => format!(in alloc; "job {name} is claimed"),
+        Stage::Committed => format!(in alloc; "job {name} is committed"),
     }
 }
 
@@ -147,7 +161,8 @@ fn draw_piece(alloc: Global, out: &mut String, frame: Frame, bar: Bar) -> Result
     ensures { OnOk result (string_bytes out.new ≡ bar_drawn frame (string_bytes out.old) bar) }
 {
     let (from, stage) = (bar.track.from, bar.track.stage);
-    let words = stage_words(alloc, bar.side, bar.track.number, stage)?;
+    let name = thing_words(alloc, frame.source, bar.track.thing)?;
+    let words = stage_words(alloc, bar.side, name.as_str(), stage)?;
     begin_group(out, words.as_bytes())?;
     let (x, y) = (bar_x(frame, bar.side, bar.column), y_of(from));
     let high = 11 * u64::from(bar.to.saturating_sub(from));

@@ -3,7 +3,7 @@
 ghost use Rattle.std.specs.Prelude.{◌≡◌, ◌≤◌, length, nat_lt, position, IfOk, IfSome, OnOk};
 ghost use Rattle.lpt_chart.specs.Events.{after, after_all, before, closed, direction_of, drawn, executed, expired, finished, message_opened, own_puts, packet_lost, packet_put, packet_taken, part_put, picture, refusal_at, refusal_rows, restarted, worked};
 
-use crate::marks::{Content, Kind, Saying, Sent, Stage, Task};
+use crate::marks::{Content, Saying, Sent, Stage, Task, Thing};
 use crate::picture::{Picture, from_side, to_side};
 use crate::refusal::Refusal;
 use crate::task::{asked_from, asked_in};
@@ -106,7 +106,7 @@ impl Picture {
             (Event::Send(direction, id, part), Answer::Put(number)) => {
                 self.put_part(*direction, *id, *part, number)
             }
-            (Event::Plain(_, service, subtype, body), Answer::Put(number)) => {
+            (Event::Plain(_, _, service, subtype, body), Answer::Put(number)) => {
                 let task = asked_from(*service, *subtype, body.as_slice(), 0);
                 let content = Content::Request(*service, *subtype);
                 self.put_packet(Direction::Up, number, content, Some(task))
@@ -139,7 +139,7 @@ impl Picture {
             (
                 Event::Open(_, _, _)
                 | Event::Send(_, _, _)
-                | Event::Plain(_, _, _, _)
+                | Event::Plain(_, _, _, _, _)
                 | Event::Lose(_)
                 | Event::Damage(_, _)
                 | Event::Take(_, _)
@@ -169,7 +169,7 @@ impl Picture {
     {
         self.say(Saying::Opened(direction, id, message.len() as u64, parts))?;
         let stage = Some(Stage::Sending(parts, asked_in(direction, message)));
-        self.track(from_side(direction), Kind::Sender, u64::from(id), stage)
+        self.track(from_side(direction), Thing::Sender(id), stage)
     }
 
     // A part is put.
@@ -183,8 +183,8 @@ impl Picture {
         ensures { OnOk result (self.new ≡ part_put self.old direction id part number) }
     {
         let columns = self.columns(from_side(direction));
-        let parts = parts(columns, Kind::Sender, u64::from(id));
-        let task = task(columns, Kind::Sender, u64::from(id));
+        let parts = parts(columns, Thing::Sender(id));
+        let task = task(columns, Thing::Sender(id));
         self.put_packet(direction, number, Content::Part(id, part, parts), task)
     }
 
@@ -207,7 +207,7 @@ impl Picture {
         ensures { OnOk result (self.new ≡ finished self.old direction id) }
     {
         self.say(Saying::Finished(direction, id))?;
-        self.track(from_side(direction), Kind::Sender, u64::from(id), None)
+        self.track(from_side(direction), Thing::Sender(id), None)
     }
 
     // A packet is lost.
@@ -233,8 +233,8 @@ impl Picture {
         ensures { OnOk result (self.new ≡ expired self.old direction id) }
     {
         let columns = self.columns(to_side(direction));
-        let kept = kept(columns, Kind::Reception, u64::from(id));
-        let parts = parts(columns, Kind::Reception, u64::from(id));
+        let kept = kept(columns, Thing::Reception(id));
+        let parts = parts(columns, Thing::Reception(id));
         self.say(Saying::Expired(direction, id, kept, parts))?;
         self.receive(direction, id, None)
     }
@@ -244,7 +244,7 @@ impl Picture {
         ensures { OnOk result (self.new ≡ worked self.old saying job stage) }
     {
         self.say(saying)?;
-        self.track(Side::Craft, Kind::Job, job, Some(stage))
+        self.track(Side::Craft, Thing::Job(job), Some(stage))
     }
 
     // A job is executed.
@@ -257,7 +257,7 @@ impl Picture {
         match applied {
             Applied::Done(Some(id)) => {
                 let stage = Some(Stage::Sending(0, None));
-                self.track(Side::Craft, Kind::Sender, u64::from(id), stage)
+                self.track(Side::Craft, Thing::Sender(id), stage)
             }
             Applied::Done(None) | Applied::Silent | Applied::Code(_) => Ok(()),
         }
@@ -289,7 +289,7 @@ fn own_puts(event: &Event, puts: Option<Puts>) -> u64
     };
     match event {
         Event::Deliver(_) | Event::Expire(_) | Event::Apply => count,
-        Event::Open(_, _, _) | Event::Send(_, _, _) | Event::Plain(_, _, _, _) => 0,
+        Event::Open(_, _, _) | Event::Send(_, _, _) | Event::Plain(_, _, _, _, _) => 0,
         Event::Lose(_) | Event::Damage(_, _) | Event::Take(_, _) | Event::Finish(_, _) => 0,
         Event::Tick(_) | Event::Claim(_) | Event::Commit(_) => 0,
         Event::Retire(_, _) | Event::Restart(_) => 0,

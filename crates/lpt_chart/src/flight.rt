@@ -216,10 +216,10 @@ fn draw_ended(
 
 // What a packet is, for who points at it.
 #[tactic(auto, unfolding(crate::specs::Flights::packet_words))]
-fn packet_words(alloc: Global, number: u64, sent: Sent) -> Result<String, AllocError>
-    ensures { IfOk result (λ t. string_bytes t ≡ packet_words number sent) }
+fn packet_words(alloc: Global, source: u16, number: u64, sent: Sent) -> Result<String, AllocError>
+    ensures { IfOk result (λ t. string_bytes t ≡ packet_words source number sent) }
 {
-    let content = content_words(alloc, sent.direction, sent.content)?;
+    let content = content_words(alloc, source, sent.direction, sent.content)?;
     format!(in alloc; "{content}, packet {number}")
 }
 
@@ -253,7 +253,7 @@ fn draw_delivered(
 ) -> Result<(), AllocError>
     ensures { OnOk result (string_bytes out.new ≡ flight_drawn frame (string_bytes out.old) flight held sent) }
 {
-    let words = packet_words(alloc, held.number, sent)?;
+    let words = packet_words(alloc, frame.source, held.number, sent)?;
     begin_group(out, words.as_bytes())?;
     draw_carried(alloc, out, frame, flight.lane, sent, held.at, flight.to)?;
     draw_arrived(alloc, out, frame, flight, held.number)?;
@@ -295,7 +295,7 @@ fn draw_in_hand(
 ) -> Result<(), AllocError>
     ensures { OnOk result (string_bytes out.new ≡ hand_drawn frame (string_bytes out.old) lane end held sent) }
 {
-    let words = packet_words(alloc, held.number, sent)?;
+    let words = packet_words(alloc, frame.source, held.number, sent)?;
     begin_group(out, words.as_bytes())?;
     draw_carried(alloc, out, frame, lane, sent, held.at, end)?;
     end_group(out)
@@ -348,7 +348,7 @@ fn draw_lost(
 ) -> Result<(), AllocError>
     ensures { OnOk result (string_bytes out.new ≡ loss_drawn frame (string_bytes out.old) loss sent) }
 {
-    let words = packet_words(alloc, loss.number, sent)?;
+    let words = packet_words(alloc, frame.source, loss.number, sent)?;
     begin_group(out, words.as_bytes())?;
     let from = start_x(frame, sent.direction, sent.content);
     let (x, y) = (middle_x(frame), y_of(loss.at));

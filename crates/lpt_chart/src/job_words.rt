@@ -5,7 +5,7 @@ ghost use Rattle.lpt_chart.specs.Sayings.{applied_words, area_words, change_word
 
 use crate::marks::Task;
 use crate::words::{code_word, request_word};
-use lpt_events::{Applied, Name};
+use lpt_events::{Applied, Name, name_word};
 use std::alloc::{AllocError, Global};
 
 // What an executed request is called.
@@ -93,9 +93,10 @@ fn done_words(alloc: Global, task: Option<Task>) -> Result<String, AllocError>
 
 // A job that was done, and opened a report's sender.
 #[tactic(auto, unfolding(crate::specs::Sayings::opening_words))]
-fn opening_words(alloc: Global, id: Name) -> Result<String, AllocError>
-    ensures { IfOk result (λ t. string_bytes t ≡ opening_words id) }
+fn opening_words(alloc: Global, source: u16, id: Name) -> Result<String, AllocError>
+    ensures { IfOk result (λ t. string_bytes t ≡ opening_words source id) }
 {
+    let id = name_word(source, id);
     format!(in alloc; ": done, opens down {id}")
 }
 
@@ -110,12 +111,17 @@ fn refused_words(alloc: Global, code: u16) -> Result<String, AllocError>
 
 // What the execution of a job came to.
 #[tactic(auto, unfolding(crate::specs::Sayings::ended_words))]
-fn ended_words(alloc: Global, task: Option<Task>, applied: Applied) -> Result<String, AllocError>
-    ensures { IfOk result (λ t. string_bytes t ≡ ended_words task applied) }
+fn ended_words(
+    alloc: Global,
+    source: u16,
+    task: Option<Task>,
+    applied: Applied,
+) -> Result<String, AllocError>
+    ensures { IfOk result (λ t. string_bytes t ≡ ended_words source task applied) }
 {
     match applied {
         Applied::Done(None) => done_words(alloc, task),
-        Applied::Done(Some(id)) => opening_words(alloc, id),
+        Applied::Done(Some(id)) => opening_words(alloc, source, id),
         Applied::Silent => String::from_str(alloc, ": no request, nothing done"),
         Applied::Code(code) => refused_words(alloc, code.number()),
     }
@@ -125,14 +131,15 @@ fn ended_words(alloc: Global, task: Option<Task>, applied: Applied) -> Result<St
 #[tactic(auto, unfolding(crate::specs::Sayings::applied_words))]
 pub(crate) fn applied_words(
     alloc: Global,
+    source: u16,
     boot: u64,
     job: u64,
     task: Option<Task>,
     applied: Applied,
 ) -> Result<String, AllocError>
-    ensures { IfOk result (λ t. string_bytes t ≡ applied_words boot job task applied) }
+    ensures { IfOk result (λ t. string_bytes t ≡ applied_words source boot job task applied) }
 {
     let job = job_words(alloc, boot, job, task)?;
-    let end = ended_words(alloc, task, applied)?;
+    let end = ended_words(alloc, source, task, applied)?;
     format!(in alloc; "{job}{end}")
 }

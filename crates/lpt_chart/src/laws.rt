@@ -25,6 +25,6 @@ pub fn escaped_texts_are_plain()
 /// Each '<' of a picture opens or closes an element of a short list: `svg`, `title`, `g`, `text`, `path`
 /// and `rect`.
 pub fn each_element_is_known()
-    ensures { (c : Choice) (title : List ℕ) (journal : List Entry) (refused : List Refusal)
-        → is_tagged (chart_text c title journal refused) ≡ true }
+    ensures { (source : ℕ) (c : Choice) (title : List ℕ) (journal : List Entry) (refused : List Refusal)
+        → is_tagged (chart_text source c title journal refused) ≡ true }
 {}

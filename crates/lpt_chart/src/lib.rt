@@ -38,7 +38,7 @@ mod words;
 pub use choice::Choice;
 pub use frame::Frame;
 pub use marks::{
-    Bar, Content, Flight, Hands, Held, Kind, Loss, Row, Saying, Sent, Stage, Task, Track,
+    Bar, Content, Flight, Hands, Held, Loss, Row, Saying, Sent, Stage, Task, Thing, Track,
 };
 pub use picture::Picture;
 pub use refusal::Refusal;

@@ -88,13 +88,13 @@ pub struct Loss {
 
 /// What is open at a node.
 #[derive(Clone, Copy)]
-pub enum Kind {
-    /// A sender.
-    Sender,
-    /// A reception.
-    Reception,
-    /// A job of the spacecraft.
-    Job,
+pub enum Thing {
+    /// The sender of the transaction of this name.
+    Sender(Name),
+    /// The reception of the transaction of this name.
+    Reception(Name),
+    /// The spacecraft's job of this number.
+    Job(u64),
 }
 
 /// How far it has come.
@@ -116,9 +116,7 @@ pub enum Stage {
 #[derive(Clone, Copy)]
 pub struct Track {
     /// What it is.
-    pub kind: Kind,
-    /// Its transaction's name, or the job's number.
-    pub number: u64,
+    pub thing: Thing,
     /// The height from which it has been at its stage.
     pub from: u32,
     /// Its stage.

@@ -5,7 +5,7 @@ ghost use Rattle.lpt_chart.specs.Sayings.{abort_words, again_words, broken_words
 
 use crate::marks::Content;
 use crate::words::{direction_word, reason_word, report_word, request_word, why_word};
-use lpt_events::{Direction, Name, Outcome, Reason, Why};
+use lpt_events::{Direction, Name, Outcome, Reason, Why, name_word};
 use std::alloc::{AllocError, Global};
 
 // Of how many parts, where that is known.
@@ -23,15 +23,17 @@ pub(crate) fn of_words(alloc: Global, parts: u64) -> Result<String, AllocError>
 #[tactic(auto, unfolding(crate::specs::Sayings::part_words))]
 fn part_words(
     alloc: Global,
+    source: u16,
     direction: Direction,
     id: Name,
     part: u16,
     parts: u16,
 ) -> Result<String, AllocError>
-    ensures { IfOk result (λ t. string_bytes t ≡ part_words direction id part parts) }
+    ensures { IfOk result (λ t. string_bytes t ≡ part_words source direction id part parts) }
 {
     let way = direction_word(direction);
     let of = of_words(alloc, u64::from(parts))?;
+    let id = name_word(source, id);
     format!(in alloc; "{way} {id} part {part}{of}")
 }
 
@@ -61,13 +63,14 @@ fn noise_words(alloc: Global, octets: u64) -> Result<String, AllocError>
 #[tactic(auto, unfolding(crate::specs::Sayings::content_words))]
 pub(crate) fn content_words(
     alloc: Global,
+    source: u16,
     direction: Direction,
     content: Content,
 ) -> Result<String, AllocError>
-    ensures { IfOk result (λ t. string_bytes t ≡ content_words direction content) }
+    ensures { IfOk result (λ t. string_bytes t ≡ content_words source direction content) }
 {
     match content {
-        Content::Part(id, part, parts) => part_words(alloc, direction, id, part, parts),
+        Content::Part(id, part, parts) => part_words(alloc, source, direction, id, part, parts),
         Content::Request(service, subtype) => {
             let word = request_word(service, subtype);
             typed_words(alloc, "request", service, subtype, word)
@@ -81,16 +84,18 @@ pub(crate) fn content_words(
 #[tactic(auto, unfolding(crate::specs::Sayings::kept_words))]
 fn kept_words(
     alloc: Global,
+    source: u16,
     direction: Direction,
     id: Name,
     part: u16,
     kept: u64,
     parts: u64,
 ) -> Result<String, AllocError>
-    ensures { IfOk result (λ t. string_bytes t ≡ kept_words direction id part kept parts) }
+    ensures { IfOk result (λ t. string_bytes t ≡ kept_words source direction id part kept parts) }
 {
     let way = direction_word(direction);
     let of = of_words(alloc, parts)?;
+    let id = name_word(source, id);
     format!(in alloc; "kept {way} {id} part {part}: {kept}{of}")
 }
 
@@ -98,13 +103,15 @@ fn kept_words(
 #[tactic(auto, unfolding(crate::specs::Sayings::again_words))]
 fn again_words(
     alloc: Global,
+    source: u16,
     direction: Direction,
     id: Name,
     part: u16,
 ) -> Result<String, AllocError>
-    ensures { IfOk result (λ t. string_bytes t ≡ again_words direction id part) }
+    ensures { IfOk result (λ t. string_bytes t ≡ again_words source direction id part) }
 {
     let way = direction_word(direction);
+    let id = name_word(source, id);
     format!(in alloc; "again {way} {id} part {part}")
 }
 
@@ -112,21 +119,29 @@ fn again_words(
 #[tactic(auto, unfolding(crate::specs::Sayings::job_released_words))]
 fn job_released_words(
     alloc: Global,
+    source: u16,
     id: Name,
     octets: u32,
     boot: u64,
     job: u64,
 ) -> Result<String, AllocError>
-    ensures { IfOk result (λ t. string_bytes t ≡ job_released_words id octets boot job) }
+    ensures { IfOk result (λ t. string_bytes t ≡ job_released_words source id octets boot job) }
 {
+    let id = name_word(source, id);
     format!(in alloc; "released up {id}: {octets} octets, job {boot}.{job}")
 }
 
 // A message that was released at ground.
 #[tactic(auto, unfolding(crate::specs::Sayings::data_released_words))]
-fn data_released_words(alloc: Global, id: Name, octets: u32) -> Result<String, AllocError>
-    ensures { IfOk result (λ t. string_bytes t ≡ data_released_words id octets) }
+fn data_released_words(
+    alloc: Global,
+    source: u16,
+    id: Name,
+    octets: u32,
+) -> Result<String, AllocError>
+    ensures { IfOk result (λ t. string_bytes t ≡ data_released_words source id octets) }
 {
+    let id = name_word(source, id);
     format!(in alloc; "released down {id}: {octets} octets")
 }
 
@@ -134,17 +149,18 @@ fn data_released_words(alloc: Global, id: Name, octets: u32) -> Result<String, A
 #[tactic(auto, unfolding(crate::specs::Sayings::released_words))]
 fn released_words(
     alloc: Global,
+    source: u16,
     direction: Direction,
     id: Name,
     octets: u32,
     boot: u64,
     job: u64,
 ) -> Result<String, AllocError>
-    ensures { IfOk result (λ t. string_bytes t ≡ released_words direction id octets boot job) }
+    ensures { IfOk result (λ t. string_bytes t ≡ released_words source direction id octets boot job) }
 {
     match direction {
-        Direction::Up => job_released_words(alloc, id, octets, boot, job),
-        Direction::Down => data_released_words(alloc, id, octets),
+        Direction::Up => job_released_words(alloc, source, id, octets, boot, job),
+        Direction::Down => data_released_words(alloc, source, id, octets),
     }
 }
 
@@ -158,10 +174,11 @@ fn plain_words(alloc: Global, octets: u32, boot: u64, job: u64) -> Result<String
 
 // A sender that was broken off by the other end, and why.
 #[tactic(auto, unfolding(crate::specs::Sayings::abort_words))]
-fn abort_words(alloc: Global, id: Name, reason: Reason) -> Result<String, AllocError>
-    ensures { IfOk result (λ t. string_bytes t ≡ abort_words id reason) }
+fn abort_words(alloc: Global, source: u16, id: Name, reason: Reason) -> Result<String, AllocError>
+    ensures { IfOk result (λ t. string_bytes t ≡ abort_words source id reason) }
 {
     let reason = reason_word(reason);
+    let id = name_word(source, id);
     format!(in alloc; "broken off: up {id}, {reason}")
 }
 
@@ -169,13 +186,15 @@ fn abort_words(alloc: Global, id: Name, reason: Reason) -> Result<String, AllocE
 #[tactic(auto, unfolding(crate::specs::Sayings::broken_words))]
 fn broken_words(
     alloc: Global,
+    source: u16,
     direction: Direction,
     id: Name,
     reason: Reason,
 ) -> Result<String, AllocError>
-    ensures { IfOk result (λ t. string_bytes t ≡ broken_words direction id reason) }
+    ensures { IfOk result (λ t. string_bytes t ≡ broken_words source direction id reason) }
 {
     let (way, reason) = (direction_word(direction), reason_word(reason));
+    let id = name_word(source, id);
     format!(in alloc; "broken {way} {id}: {reason}")
 }
 
@@ -192,26 +211,27 @@ fn ignored_words(alloc: Global, why: Why) -> Result<String, AllocError>
 #[tactic(auto, unfolding(crate::specs::Sayings::delivered_words))]
 pub(crate) fn delivered_words(
     alloc: Global,
+    source: u16,
     direction: Direction,
     outcome: Outcome,
     first: u64,
     second: u64,
 ) -> Result<String, AllocError>
-    ensures { IfOk result (λ t. string_bytes t ≡ delivered_words direction outcome first second) }
+    ensures { IfOk result (λ t. string_bytes t ≡ delivered_words source direction outcome first second) }
 {
     match outcome {
-        Outcome::Kept(id, part) => kept_words(alloc, direction, id, part, first, second),
-        Outcome::Again(id, part) => again_words(alloc, direction, id, part),
+        Outcome::Kept(id, part) => kept_words(alloc, source, direction, id, part, first, second),
+        Outcome::Again(id, part) => again_words(alloc, source, direction, id, part),
         Outcome::Released(id, octets) => {
-            released_words(alloc, direction, id, octets, first, second)
+            released_words(alloc, source, direction, id, octets, first, second)
         }
         Outcome::PlainReleased(octets) => plain_words(alloc, octets, first, second),
         Outcome::ReportNoted(service, subtype) => {
             let word = report_word(service, subtype);
             typed_words(alloc, "report", service, subtype, word)
         }
-        Outcome::AbortNoted(id, reason) => abort_words(alloc, id, reason),
-        Outcome::Broken(id, reason) => broken_words(alloc, direction, id, reason),
+        Outcome::AbortNoted(id, reason) => abort_words(alloc, source, id, reason),
+        Outcome::Broken(id, reason) => broken_words(alloc, source, direction, id, reason),
         Outcome::Ignored(why) => ignored_words(alloc, why),
     }
 }

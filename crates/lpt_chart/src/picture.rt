@@ -8,7 +8,7 @@ ghost use Rattle.lpt_chart.specs.Pictures.{at_side, blank, cleared, flown, hand_
 use crate::hands::{in_hand, no_hands, with_hand};
 use crate::last_row::{other_ground, passed, run_in, same_ground, takes_last, told_again};
 use crate::marks::{
-    Bar, Content, Flight, Hands, Held, Kind, Loss, Row, Saying, Sent, Stage, Task, Track,
+    Bar, Content, Flight, Hands, Held, Loss, Row, Saying, Sent, Stage, Task, Thing, Track,
 };
 use crate::pieces::{add_both, end_all, move_track};
 use lpt_events::{Direction, Lane, Outcome, Side};
@@ -171,44 +171,33 @@ impl Picture {
     pub(crate) fn track(
         &mut self,
         side: Side,
-        kind: Kind,
-        number: u64,
+        thing: Thing,
         stage: Option<Stage>,
     ) -> Result<(), AllocError>
-        ensures { OnOk result (self.new ≡ tracked self.old side kind number stage) }
+        ensures { OnOk result (self.new ≡ tracked self.old side thing stage) }
     {
         match side {
-            Side::Ground => self.track_ground(kind, number, stage),
-            Side::Craft => self.track_craft(kind, number, stage),
+            Side::Ground => self.track_ground(thing, stage),
+            Side::Craft => self.track_craft(thing, stage),
         }
     }
 
     // The same at ground.
     #[tactic(auto, unfolding(crate::specs::Pictures::tracked))]
-    fn track_ground(
-        &mut self,
-        kind: Kind,
-        number: u64,
-        stage: Option<Stage>,
-    ) -> Result<(), AllocError>
-        ensures { OnOk result (self.new ≡ tracked self.old Side.Ground kind number stage) }
+    fn track_ground(&mut self, thing: Thing, stage: Option<Stage>) -> Result<(), AllocError>
+        ensures { OnOk result (self.new ≡ tracked self.old Side.Ground thing stage) }
     {
         let (bars, columns) = (&mut self.bars, &mut self.ground);
-        move_track(bars, columns, Side::Ground, self.here, kind, number, stage)
+        move_track(bars, columns, Side::Ground, self.here, thing, stage)
     }
 
     // The same at the spacecraft.
     #[tactic(auto, unfolding(crate::specs::Pictures::tracked))]
-    fn track_craft(
-        &mut self,
-        kind: Kind,
-        number: u64,
-        stage: Option<Stage>,
-    ) -> Result<(), AllocError>
-        ensures { OnOk result (self.new ≡ tracked self.old Side.Craft kind number stage) }
+    fn track_craft(&mut self, thing: Thing, stage: Option<Stage>) -> Result<(), AllocError>
+        ensures { OnOk result (self.new ≡ tracked self.old Side.Craft thing stage) }
     {
         let (bars, columns) = (&mut self.bars, &mut self.craft);
-        move_track(bars, columns, Side::Craft, self.here, kind, number, stage)
+        move_track(bars, columns, Side::Craft, self.here, thing, stage)
     }
 
     // All tracks of a node end.
@@ -300,7 +289,7 @@ impl Picture {
         ensures { OnOk result (self.new ≡ with_job self.old task) }
     {
         let job = self.tasks.len() as u64;
-        self.track(Side::Craft, Kind::Job, job, Some(Stage::Waits))?;
+        self.track(Side::Craft, Thing::Job(job), Some(Stage::Waits))?;
         self.add_task(task)
     }
 
@@ -327,7 +316,7 @@ impl Picture {
     pub(crate) fn apply(&mut self) -> Result<(), AllocError>
         ensures { OnOk result (self.new ≡ without_job self.old) }
     {
-        self.track(Side::Craft, Kind::Job, self.applied, None)?;
+        self.track(Side::Craft, Thing::Job(self.applied), None)?;
         self.count_execution();
         Ok(())
     }

@@ -3,7 +3,7 @@
 ghost use Rattle.std.specs.Prelude.{◌≡◌, ◌++◌, length, option_to_list, replicate, OnOk};
 ghost use Rattle.lpt_chart.specs.Tracks.{all_bars, bar_of, moved};
 
-use crate::marks::{Bar, Kind, Stage, Track};
+use crate::marks::{Bar, Stage, Thing, Track};
 use crate::tracks::{bring, piece, piece_up_to};
 use lpt_events::Side;
 use std::alloc::AllocError;
@@ -40,15 +40,14 @@ pub(crate) fn move_track(
     columns: &mut Vec<Option<Track>>,
     side: Side,
     here: u32,
-    kind: Kind,
-    number: u64,
+    thing: Thing,
     stage: Option<Stage>,
 ) -> Result<(), AllocError>
-    ensures bars { OnOk result (bars.new.items ≡ bars.old.items ++ option_to_list (bar_of side here columns.old.items kind number)) }
-    ensures columns { OnOk result (columns.new.items ≡ moved here columns.old.items kind number stage) }
+    ensures bars { OnOk result (bars.new.items ≡ bars.old.items ++ option_to_list (bar_of side here columns.old.items thing)) }
+    ensures columns { OnOk result (columns.new.items ≡ moved here columns.old.items thing stage) }
 {
-    let bar = piece(columns.as_slice(), side, here, kind, number);
-    bring(columns, here, kind, number, stage)?;
+    let bar = piece(columns.as_slice(), side, here, thing);
+    bring(columns, here, thing, stage)?;
     add_piece(bars, bar)
 }
 

@@ -3,7 +3,7 @@
 ghost use Rattle.std.specs.Prelude.{◌≡◌};
 ghost use Rattle.lpt_chart.specs.Events.{kept_then, open_at, to_side};
 
-use crate::marks::{Kind, Track};
+use crate::marks::{Thing, Track};
 use crate::picture::{Picture, to_side};
 use crate::tracks::kept;
 use lpt_events::{Direction, Name, Side};
@@ -25,6 +25,6 @@ impl Picture {
         ensures { result ≡ kept_then self.now direction id }
     {
         let columns = self.columns(to_side(direction));
-        kept(columns, Kind::Reception, u64::from(id)).saturating_add(1)
+        kept(columns, Thing::Reception(id)).saturating_add(1)
     }
 }

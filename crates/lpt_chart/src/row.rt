@@ -101,7 +101,7 @@ fn write_told(alloc: Global, out: &mut String, frame: Frame, row: Row) -> Result
     if !is_told(row.saying) {
         return Ok(());
     }
-    let words = saying_words(alloc, row.saying)?;
+    let words = saying_words(alloc, frame.source, row.saying)?;
     let side = saying_side(row.saying);
     let letters = side_letters(side, weight(row.saying));
     write_words(alloc, out, frame, row.at, side, letters, words.as_bytes())

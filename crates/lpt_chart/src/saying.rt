@@ -7,7 +7,7 @@ use crate::job_words::applied_words;
 use crate::marks::Saying;
 use crate::packet_words::{content_words, delivered_words, of_words};
 use crate::words::{direction_word, lane_word, worker_word};
-use lpt_events::{Direction, Lane, Name, Worker};
+use lpt_events::{Direction, Lane, Name, Worker, name_word};
 use std::alloc::{AllocError, Global};
 
 // How many ticks in a row.
@@ -34,15 +34,17 @@ fn ticks_words(alloc: Global, clock: u32, run: u64) -> Result<String, AllocError
 #[tactic(auto, unfolding(crate::specs::Sayings::expired_words))]
 fn expired_words(
     alloc: Global,
+    source: u16,
     direction: Direction,
     id: Name,
     kept: u16,
     parts: u16,
 ) -> Result<String, AllocError>
-    ensures { IfOk result (λ t. string_bytes t ≡ expired_words direction id kept parts) }
+    ensures { IfOk result (λ t. string_bytes t ≡ expired_words source direction id kept parts) }
 {
     let way = direction_word(direction);
     let of = of_words(alloc, u64::from(parts))?;
+    let id = name_word(source, id);
     format!(in alloc; "expired {way} {id}: {kept}{of}")
 }
 
@@ -74,13 +76,15 @@ fn stale_words(alloc: Global, worker: Worker, boot: u64, job: u64) -> Result<Str
 #[tactic(auto, unfolding(crate::specs::Sayings::named_words))]
 fn named_words(
     alloc: Global,
+    source: u16,
     word: &str,
     direction: Direction,
     id: Name,
 ) -> Result<String, AllocError>
-    ensures { IfOk result (λ t. string_bytes t ≡ named_words word.now direction id) }
+    ensures { IfOk result (λ t. string_bytes t ≡ named_words source word.now direction id) }
 {
     let way = direction_word(direction);
+    let id = name_word(source, id);
     format!(in alloc; "{word} {way} {id}")
 }
 
@@ -88,14 +92,16 @@ fn named_words(
 #[tactic(auto, unfolding(crate::specs::Sayings::opened_words))]
 fn opened_words(
     alloc: Global,
+    source: u16,
     direction: Direction,
     id: Name,
     octets: u64,
     parts: u16,
 ) -> Result<String, AllocError>
-    ensures { IfOk result (λ t. string_bytes t ≡ opened_words direction id octets parts) }
+    ensures { IfOk result (λ t. string_bytes t ≡ opened_words source direction id octets parts) }
 {
     let way = direction_word(direction);
+    let id = name_word(source, id);
     format!(in alloc; "open {way} {id}: {octets} octets, {parts} parts")
 }
 
@@ -126,32 +132,32 @@ fn restarted_words(alloc: Global, boot: u64) -> Result<String, AllocError>
 
 // What a row says. A refused line has words of its own.
 #[tactic(auto, unfolding(crate::specs::Sayings::saying_words))]
-pub(crate) fn saying_words(alloc: Global, saying: Saying) -> Result<String, AllocError>
-    ensures { IfOk result (λ t. string_bytes t ≡ saying_words saying) }
+pub(crate) fn saying_words(alloc: Global, source: u16, saying: Saying) -> Result<String, AllocError>
+    ensures { IfOk result (λ t. string_bytes t ≡ saying_words source saying) }
 {
     match saying {
         Saying::Opened(direction, id, octets, parts) => {
-            opened_words(alloc, direction, id, octets, parts)
+            opened_words(alloc, source, direction, id, octets, parts)
         }
-        Saying::Put(direction, _, content) => content_words(alloc, direction, content),
-        Saying::Finished(direction, id) => named_words(alloc, "finished", direction, id),
+        Saying::Put(direction, _, content) => content_words(alloc, source, direction, content),
+        Saying::Finished(direction, id) => named_words(alloc, source, "finished", direction, id),
         Saying::Lost(_, number) => lost_words(alloc, number),
         Saying::Taken(lane, number) => taken_words(alloc, lane, number),
         Saying::Passed(_, _) => Ok(String::new(alloc)),
         Saying::Delivered(lane, outcome, first, second) => {
-            delivered_words(alloc, lane.direction(), outcome, first, second)
+            delivered_words(alloc, source, lane.direction(), outcome, first, second)
         }
         Saying::Ticked(_, clock, run) => ticks_words(alloc, clock, run),
         Saying::Expired(direction, id, kept, parts) => {
-            expired_words(alloc, direction, id, kept, parts)
+            expired_words(alloc, source, direction, id, kept, parts)
         }
         Saying::Claimed(worker, boot, job) => work_words(alloc, worker, "claims", boot, job),
         Saying::Committed(worker, boot, job) => work_words(alloc, worker, "commits", boot, job),
         Saying::Stale(worker, boot, job) => stale_words(alloc, worker, boot, job),
         Saying::Applied(boot, job, task, applied) => {
-            applied_words(alloc, boot, job, task, applied)
+            applied_words(alloc, source, boot, job, task, applied)
         }
-        Saying::Retired(direction, id) => named_words(alloc, "retired", direction, id),
+        Saying::Retired(direction, id) => named_words(alloc, source, "retired", direction, id),
         Saying::Restarted(_, boot) => restarted_words(alloc, boot),
         Saying::Refused(_) => Ok(String::new(alloc)),
     }

@@ -22,20 +22,21 @@ use std::alloc::{AllocError, Global};
 /// The picture of a journal, as one SVG: rows, packets on their ways, what is open at the nodes. The
 /// lines that were refused have rows of their own; they are given in the order of their places.
 ///
-/// It is a function of the choice, the title, the journal and these lines. The only error is out of
-/// memory.
+/// A name of `source`, the configured one, is written without it. The picture is a function of the
+/// source, the choice, the title, the journal and these lines. The only error is out of memory.
 pub fn chart(
     alloc: Global,
+    source: u16,
     choice: Choice,
     title: &[u8],
     journal: &[Entry],
     refused: &[Refusal],
 ) -> Result<String, AllocError>
-    ensures { IfOk result (λ t. string_bytes t ≡ chart_text choice title.now journal.now refused.now) }
+    ensures { IfOk result (λ t. string_bytes t ≡ chart_text source choice title.now journal.now refused.now) }
 {
     let picture = draw_journal(alloc, journal, refused)?;
     let events = journal.len() as u64;
-    print_picture(alloc, events, choice, title, refused, &picture)
+    print_picture(alloc, source, events, choice, title, refused, &picture)
 }
 
 // A part of the picture that shows heights from one on, and nothing beyond them.
@@ -257,15 +258,16 @@ fn draw_foot(alloc: Global, out: &mut String, frame: Frame) -> Result<(), AllocE
 #[tactic(auto, unfolding(crate::specs::Charts::picture_text))]
 fn print_picture(
     alloc: Global,
+    source: u16,
     events: u64,
     choice: Choice,
     title: &[u8],
     refused: &[Refusal],
     picture: &Picture,
 ) -> Result<String, AllocError>
-    ensures { IfOk result (λ t. string_bytes t ≡ picture_text events choice title.now refused.now picture.now) }
+    ensures { IfOk result (λ t. string_bytes t ≡ picture_text source events choice title.now refused.now picture.now) }
 {
-    let frame = frame_of(alloc, choice, title, refused, picture)?;
+    let frame = frame_of(alloc, source, choice, title, refused, picture)?;
     let mut out = print_head(alloc, frame, events, choice, picture, title)?;
     draw_grounds(alloc, &mut out, frame, picture)?;
     draw_ends(alloc, &mut out, frame)?;

@@ -1,43 +1,43 @@
 //! What is open at a node, each in a column of its own.
 
 ghost use Rattle.std.specs.Prelude.{◌≡◌, ◌<◌, length, slice_get, IfSome, OnOk};
-ghost use Rattle.lpt_chart.specs.Tracks.{bar_of, bar_up_to, begun, column_of, free_column, has_track, kept_in, kept_of, moved, parts_in, parts_of, same_kind, task_in, task_of, track_at, track_of};
+ghost use Rattle.lpt_chart.specs.Tracks.{bar_of, bar_up_to, begun, column_of, free_column, has_track, kept_in, kept_of, moved, parts_in, parts_of, same_thing, task_in, task_of, track_at, track_of};
 
-use crate::marks::{Bar, Kind, Stage, Task, Track};
+use crate::marks::{Bar, Stage, Task, Thing, Track};
 use lpt_events::Side;
 use std::alloc::AllocError;
 
 /// The most columns that are drawn.
 const COLUMNS: usize = 64;
 
-// Whether two kinds are the same.
-fn is_kind(one: Kind, other: Kind) -> bool
-    ensures { result ≡ same_kind one other }
+// Whether two things are the same.
+fn is_thing(one: Thing, other: Thing) -> bool
+    ensures { result ≡ same_thing one other }
 {
     match (one, other) {
-        (Kind::Sender, Kind::Sender) => true,
-        (Kind::Reception, Kind::Reception) => true,
-        (Kind::Job, Kind::Job) => true,
-        (Kind::Sender | Kind::Reception | Kind::Job, _) => false,
+        (Thing::Sender(one), Thing::Sender(other)) => one == other,
+        (Thing::Reception(one), Thing::Reception(other)) => one == other,
+        (Thing::Job(one), Thing::Job(other)) => one == other,
+        (Thing::Sender(_) | Thing::Reception(_) | Thing::Job(_), _) => false,
     }
 }
 
-// Whether a column has the track of this kind and number.
-fn is_track(column: Option<Track>, kind: Kind, number: u64) -> bool
-    ensures { result ≡ has_track kind number column }
+// Whether a column has this thing's track.
+fn is_track(column: Option<Track>, thing: Thing) -> bool
+    ensures { result ≡ has_track thing column }
 {
     match column {
-        Some(track) => is_kind(track.kind, kind) && track.number == number,
+        Some(track) => is_thing(track.thing, thing),
         None => false,
     }
 }
 
-// The column of the track of this kind and number.
-fn column(columns: &[Option<Track>], kind: Kind, number: u64) -> Option<usize>
-    ensures at { result ≡ column_of columns.now kind number }
+// The column of the track of this thing.
+fn column(columns: &[Option<Track>], thing: Thing) -> Option<usize>
+    ensures at { result ≡ column_of columns.now thing }
     ensures bound { IfSome result (λ i. i < length columns.now) }
 {
-    columns.iter().position(|it| is_track(*it, kind, number))
+    columns.iter().position(|it| is_track(*it, thing))
 }
 
 // The first column that is free.
@@ -89,16 +89,10 @@ pub(crate) fn piece_up_to(side: Side, here: u32, column: u64, track: Option<Trac
 }
 
 // The piece of a track up to here, where there is such a track.
-pub(crate) fn piece(
-    columns: &[Option<Track>],
-    side: Side,
-    here: u32,
-    kind: Kind,
-    number: u64,
-) -> Option<Bar>
-    ensures { result ≡ bar_of side here columns.now kind number }
+pub(crate) fn piece(columns: &[Option<Track>], side: Side, here: u32, thing: Thing) -> Option<Bar>
+    ensures { result ≡ bar_of side here columns.now thing }
 {
-    match column(columns, kind, number) {
+    match column(columns, thing) {
         Some(at) => piece_up_to(side, here, at as u64, track_at(columns, at)),
         None => None,
     }
@@ -108,22 +102,20 @@ pub(crate) fn piece(
 pub(crate) fn bring(
     columns: &mut Vec<Option<Track>>,
     here: u32,
-    kind: Kind,
-    number: u64,
+    thing: Thing,
     stage: Option<Stage>,
 ) -> Result<(), AllocError>
-    ensures { OnOk result (columns.new.items ≡ moved here columns.old.items kind number stage) }
+    ensures { OnOk result (columns.new.items ≡ moved here columns.old.items thing stage) }
 {
     let track = match stage {
         Some(stage) => Some(Track {
-            kind,
-            number,
+            thing,
             from: here,
             stage,
         }),
         None => None,
     };
-    match (column(columns, kind, number), track) {
+    match (column(columns, thing), track) {
         (Some(at), track) => {
             columns[at] = track;
             Ok(())
@@ -133,12 +125,12 @@ pub(crate) fn bring(
     }
 }
 
-// The track of this kind and number.
+// The track of this thing.
 #[tactic(auto, unfolding(crate::specs::Tracks::track_of))]
-fn found(columns: &[Option<Track>], kind: Kind, number: u64) -> Option<Track>
-    ensures { result ≡ track_of columns.now kind number }
+fn found(columns: &[Option<Track>], thing: Thing) -> Option<Track>
+    ensures { result ≡ track_of columns.now thing }
 {
-    match column(columns, kind, number) {
+    match column(columns, thing) {
         Some(at) => track_at(columns, at),
         None => None,
     }
@@ -154,12 +146,12 @@ fn kept_by(stage: Stage) -> u16
     }
 }
 
-// How many parts the track of this kind and number has kept.
+// How many parts the track of this thing has kept.
 #[tactic(auto, unfolding(crate::specs::Tracks::kept_of))]
-pub(crate) fn kept(columns: &[Option<Track>], kind: Kind, number: u64) -> u16
-    ensures { result ≡ kept_of columns.now kind number }
+pub(crate) fn kept(columns: &[Option<Track>], thing: Thing) -> u16
+    ensures { result ≡ kept_of columns.now thing }
 {
-    match found(columns, kind, number) {
+    match found(columns, thing) {
         Some(track) => kept_by(track.stage),
         None => 0,
     }
@@ -175,12 +167,12 @@ fn parts_by(stage: Stage) -> u16
     }
 }
 
-// Of how many parts the message of the track of this kind and number is; 0 where that isn't known.
+// Of how many parts the message of the track of this thing is; 0 where that isn't known.
 #[tactic(auto, unfolding(crate::specs::Tracks::parts_of))]
-pub(crate) fn parts(columns: &[Option<Track>], kind: Kind, number: u64) -> u16
-    ensures { result ≡ parts_of columns.now kind number }
+pub(crate) fn parts(columns: &[Option<Track>], thing: Thing) -> u16
+    ensures { result ≡ parts_of columns.now thing }
 {
-    match found(columns, kind, number) {
+    match found(columns, thing) {
         Some(track) => parts_by(track.stage),
         None => 0,
     }
@@ -196,12 +188,12 @@ fn task_by(stage: Stage) -> Option<Task>
     }
 }
 
-// What the message of the track of this kind and number asks for.
+// What the message of the track of this thing asks for.
 #[tactic(auto, unfolding(crate::specs::Tracks::task_of))]
-pub(crate) fn task(columns: &[Option<Track>], kind: Kind, number: u64) -> Option<Task>
-    ensures { result ≡ task_of columns.now kind number }
+pub(crate) fn task(columns: &[Option<Track>], thing: Thing) -> Option<Task>
+    ensures { result ≡ task_of columns.now thing }
 {
-    match found(columns, kind, number) {
+    match found(columns, thing) {
         Some(track) => task_by(track.stage),
         None => None,
     }

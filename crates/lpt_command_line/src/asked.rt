@@ -95,7 +95,7 @@ fn asked_by<'a>(alloc: Global, matches: ArgMatches<'a>) -> Result<Asked<'a>, Una
 fn meant<'a>(alloc: Global, matches: &ArgMatches<'a>) -> Result<Asked<'a>, WordFault<'a>> {
     let (name, inner) = matches.subcommand().ok_or(WordFault::Missing)?;
     let (config, command) = match inner.subcommand() {
-        None => (inner.get_str("config"), command_of(name, inner)),
+        None => (inner.get_str("config"), command_of(name, inner)?),
         Some((name, inner)) => {
             let request = request_words(alloc, name, inner)?;
             (inner.get_str("config"), Some(Command::Request(request)))
@@ -106,8 +106,11 @@ fn meant<'a>(alloc: Global, matches: &ArgMatches<'a>) -> Result<Asked<'a>, WordF
 }
 
 // What the words of a command of this name ask for, where none that is required is missing.
-fn command_of<'a>(name: &str, words: &ArgMatches<'a>) -> Option<Command<'a>> {
-    match name {
+fn command_of<'a>(
+    name: &str,
+    words: &ArgMatches<'a>,
+) -> Result<Option<Command<'a>>, WordFault<'a>> {
+    Ok(match name {
         "run" => words.get_str("SCRIPT").map(Command::Run),
         "threads" => words.get_str("SCRIPT").map(Command::Threads),
         "shell" => Some(Command::Shell),
@@ -115,10 +118,10 @@ fn command_of<'a>(name: &str, words: &ArgMatches<'a>) -> Option<Command<'a>> {
         "chart" => chart_words(words).map(Command::Chart),
         "list" => list_words(words).map(Command::List),
         "split" => split_words(words).map(Command::Split),
-        "join" => join_words(words).map(Command::Join),
+        "join" => Some(Command::Join(join_words(words)?)),
         "extract" => extract_words(words).map(Command::Extract),
         _ => words.get_str("HEX").map(Command::Decode),
-    }
+    })
 }
 
 // What the words of `chart` ask for.

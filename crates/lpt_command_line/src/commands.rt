@@ -229,11 +229,11 @@ pub(crate) static COMMANDS: [Row; 10] = [
         named: &[
             Named {
                 name: "id",
-                value: U16,
+                value: TEXT,
                 behind: &["ID"],
                 action: ArgAction::Set,
                 other: &[],
-                help: "The message's identifier, 0 to 65535; without one, it is the only one there",
+                help: "The message's ID or SOURCE/ID; without one, it is the only one there",
             },
             CONFIG,
         ],

@@ -2,8 +2,9 @@
 
 ghost use Rattle.std.specs.Prelude.{◌≤◌, IfSome};
 
+use crate::word_fault::WordFault;
 use clap::ArgMatches;
-use lpt_pus::Direction;
+use lpt_pus::{Direction, Name};
 
 /// What `split` asks for.
 #[derive(Clone, Copy)]
@@ -25,13 +26,32 @@ pub struct SplitWords<'a> {
     ghost counts: { first ≤ 16383 },
 }
 
+/// What words name a transaction by: its identifier, behind its source where that is given.
+#[derive(Clone, Copy)]
+pub struct GivenName {
+    /// Its source, where it is given.
+    pub source: Option<u16>,
+    /// Its identifier.
+    pub id: u16,
+}
+
+impl GivenName {
+    /// The name that is meant where this source is configured.
+    pub fn under(&self, configured: u16) -> Name {
+        Name {
+            source: self.source.unwrap_or(configured),
+            id: self.id,
+        }
+    }
+}
+
 /// What `join` asks for.
 #[derive(Clone, Copy)]
 pub struct JoinWords<'a> {
     /// The direction of the packets.
     pub direction: Direction,
-    /// The identifier of the message; without one, it is the only one there.
-    pub id: Option<u16>,
+    /// What names the message; without that, it is the only one there.
+    pub name: Option<GivenName>,
     /// The path of the packets, or `-` for standard input.
     pub file: &'a str,
 }
@@ -61,11 +81,31 @@ pub fn split_words<'a>(matches: &ArgMatches<'a>) -> Option<SplitWords<'a>> {
 }
 
 /// What the words of `join` ask for.
-pub fn join_words<'a>(matches: &ArgMatches<'a>) -> Option<JoinWords<'a>> {
-    Some(JoinWords {
-        direction: direction_in(matches)?,
-        id: matches.get_one("id"),
-        file: matches.get_str("FILE")?,
+///
+/// Errors: `Missing`; `Id` where what should name the message doesn't.
+pub fn join_words<'a>(matches: &ArgMatches<'a>) -> Result<JoinWords<'a>, WordFault<'a>> {
+    let direction = direction_in(matches).ok_or(WordFault::Missing)?;
+    let file = matches.get_str("FILE").ok_or(WordFault::Missing)?;
+    let name = match matches.get_str("id") {
+        Some(word) => Some(name_in(word).ok_or(WordFault::Id(word))?),
+        None => None,
+    };
+    Ok(JoinWords {
+        direction,
+        name,
+        file,
+    })
+}
+
+// What a word names, as `ID` or as `SOURCE/ID`.
+fn name_in(word: &str) -> Option<GivenName> {
+    let (source, id) = match word.split_once('/') {
+        Some((source, id)) => (Some(source.parse().ok()?), id),
+        None => (None, word),
+    };
+    Some(GivenName {
+        source,
+        id: id.parse().ok()?,
     })
 }
 

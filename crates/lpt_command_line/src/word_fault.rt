@@ -9,6 +9,8 @@ pub enum WordFault<'a> {
     Missing,
     /// This one is no address.
     Address(&'a str),
+    /// This one names no message.
+    Id(&'a str),
     /// This one is no number of octets.
     Length(&'a str),
     /// Behind this address no number of octets stands.
@@ -31,6 +33,11 @@ impl WordFault<'_> {
             WordFault::Address(word) => {
                 format!(in alloc;
                     "invalid value '{word}' for '<ADDRESS>': no number of 0 to 4294967295"
+                )
+            }
+            WordFault::Id(word) => {
+                format!(in alloc;
+                    "invalid value '{word}' for '--id <ID>': no ID or SOURCE/ID of 0 to 65535"
                 )
             }
             WordFault::Length(word) => {

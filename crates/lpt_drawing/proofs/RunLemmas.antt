@@ -10,10 +10,10 @@ use Rattle.lpt_shell.specs.LptScript.Scripts.{line_ran}
 -- a line that could be read, and then the rest
 pub run-step : (text rest line : List ℕ) (w v : Shown) (n : ℕ) (before after : List Refusal)
     → lines text ≡ line ∷ lines rest
-    → LineLeaves (line_ran (reading_of line) n w) n line true v before after
+    → LineLeaves (line_ran (reading_of w.config.source line) n w) n line true v before after
     → lines_run (lines text) w n before ≡ lines_run (lines rest) v (n + 1) after
 run-step text rest line w v n before after first leaves =
-    let ran = line_ran (reading_of line) n w in
+    let ran = line_ran (reading_of w.config.source line) n w in
     let all = before ++ refusals_at (length ran.world.journal) n line ran.refused in
     ap (λ x. lines_run x w n before) first
     ∙ ap (run_on ran before (lines_run (lines rest) ran.world (n + 1) all)) leaves.0
@@ -23,10 +23,10 @@ run-step text rest line w v n before after first leaves =
 -- a line that could not be read
 pub run-stop : (text rest line : List ℕ) (w v : Shown) (n : ℕ) (before after : List Refusal)
     → lines text ≡ line ∷ lines rest
-    → LineLeaves (line_ran (reading_of line) n w) n line false v before after
+    → LineLeaves (line_ran (reading_of w.config.source line) n w) n line false v before after
     → lines_run (lines text) w n before ≡ left_by v after (Some n)
 run-stop text rest line w v n before after first leaves =
-    let ran = line_ran (reading_of line) n w in
+    let ran = line_ran (reading_of w.config.source line) n w in
     let all = before ++ refusals_at (length ran.world.journal) n line ran.refused in
     ap (λ x. lines_run x w n before) first
     ∙ ap (run_on ran before (lines_run (lines rest) ran.world (n + 1) all)) leaves.0

@@ -29,8 +29,8 @@ pub same_bad : (ls : List (List ℕ)) (w : Shown) (n k : ℕ) (refused : List Re
     → (lines_ran false ls w n k).bad ≡ (lines_run ls w n refused).bad
 same_bad [] w n k refused = refl
 same_bad (line ∷ more) w n k refused =
-    ap (λ r. (then_rest (line_ran r n w) n k (lines_ran false more) (line_ran r n w).bad).bad) (says_all (reading_of line))
-    ∙ by_bad (line_ran (reading_of line) n w) (line_ran (reading_of line) n w).bad
+    ap (λ r. (then_rest (line_ran r n w) n k (lines_ran false more) (line_ran r n w).bad).bad) (says_all (reading_of w.config.source line))
+    ∙ by_bad (line_ran (reading_of w.config.source line) n w) (line_ran (reading_of w.config.source line) n w).bad
     (λ v j before. same_bad more v (n + 1) j before)
   where
     by_bad : (ran : Ran) (x : Option ℕ)
@@ -50,8 +50,8 @@ pub same_refused : (ls : List (List ℕ)) (w : Shown) (n k : ℕ) (refused : Lis
     → (lines_ran false ls w n k).refused ≡ length (lines_run ls w n refused).refused
 same_refused [] w n k refused is = is
 same_refused (line ∷ more) w n k refused is =
-    ap (λ r. (then_rest (line_ran r n w) n k (lines_ran false more) (line_ran r n w).bad).refused) (says_all (reading_of line))
-    ∙ by_bad (line_ran (reading_of line) n w) (line_ran (reading_of line) n w).bad
+    ap (λ r. (then_rest (line_ran r n w) n k (lines_ran false more) (line_ran r n w).bad).refused) (says_all (reading_of w.config.source line))
+    ∙ by_bad (line_ran (reading_of w.config.source line) n w) (line_ran (reading_of w.config.source line) n w).bad
     (λ v j before. same_refused more v (n + 1) j before)
   where
     by_bad : (ran : Ran) (x : Option ℕ)
@@ -74,9 +74,9 @@ pub same_world : (ls : List (List ℕ)) (w : Shown) (n : ℕ) (refused : List Re
     → (lines_left false ls w n kept).world ≡ (lines_run ls w n refused).world
 same_world [] w n refused kept good = refl
 same_world (line ∷ more) w n refused kept good =
-    ap (λ r. (lines_left false more (line_ran r n w).world (n + 1) (kept ++ shows_left false (reading_of line))).world)
-    (says_all (reading_of line))
-    ∙ by_bad (line_ran (reading_of line) n w) (line_ran (reading_of line) n w).bad
+    ap (λ r. (lines_left false more (line_ran r n w).world (n + 1) (kept ++ shows_left false (reading_of w.config.source line))).world)
+    (says_all (reading_of w.config.source line))
+    ∙ by_bad (line_ran (reading_of w.config.source line) n w) (line_ran (reading_of w.config.source line) n w).bad
     (λ v before left. same_world more v (n + 1) before left) good
   where
     by_bad : (ran : Ran) (x : Option ℕ)
@@ -85,13 +85,13 @@ same_world (line ∷ more) w n refused kept good =
         → (lines_left false more v (n + 1) left).world ≡ (lines_run more v (n + 1) before).world)
         → (run_on ran refused
         (lines_run more ran.world (n + 1) (refused ++ refusals_at (length ran.world.journal) n line ran.refused)) x).bad ≡ None
-        → (lines_left false more ran.world (n + 1) (kept ++ shows_left false (reading_of line))).world
+        → (lines_left false more ran.world (n + 1) (kept ++ shows_left false (reading_of w.config.source line))).world
         ≡ (run_on ran refused
         (lines_run more ran.world (n + 1) (refused ++ refusals_at (length ran.world.journal) n line ran.refused)) x).world
     by_bad ran (Some j) rest bad = absurd cc
     by_bad ran None rest good =
         rest ran.world (refused ++ refusals_at (length ran.world.journal) n line ran.refused)
-        (kept ++ shows_left false (reading_of line)) good
+        (kept ++ shows_left false (reading_of w.config.source line)) good
 
 -- of a whole script
 pub same_run : (w : Shown) (text : List ℕ) → IsScriptRun w text

@@ -45,7 +45,7 @@ run_on ran refused rest None = rest
 abbrev pub lines_run : List (List ℕ) → Shown → ℕ → List Refusal → Run
 lines_run [] w n refused = left_by w refused None
 lines_run (line ∷ more) w n refused =
-    let ran = line_ran (reading_of line) n w in
+    let ran = line_ran (reading_of w.config.source line) n w in
     run_on ran refused
     (lines_run more ran.world (n + 1) (refused ++ refusals_at (length ran.world.journal) n line ran.refused)) ran.bad
 
@@ -74,7 +74,8 @@ drawn_refusals false refused = []
 
 -- the picture of what a script left
 abbrev pub run_text : Choice → (all : Bool) → (title : List ℕ) → Run → List ℕ
-run_text c all title run = chart_text c title run.world.journal (drawn_refusals all run.refused)
+run_text c all title run =
+    chart_text run.world.config.source c title run.world.journal (drawn_refusals all run.refused)
 
 -- how a script's run ended whose text was read to this end
 abbrev pub ended : End → ℕ → Result ScriptEnd ToolFault

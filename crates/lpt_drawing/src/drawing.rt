@@ -116,6 +116,7 @@ fn draw_front(
     let ran = run_end(end, refused.len() as u64, bad);
     let picture = print_run(
         alloc,
+        world.config().source,
         world.journal(),
         choice,
         all,
@@ -137,9 +138,11 @@ fn run_end(end: End, refused: u64, bad: Option<u64>) -> Result<ScriptEnd, ToolFa
     }
 }
 
-// The picture of a journal that a text left, with the lines that were refused.
+// The picture of a journal that a text left where this source is configured, with the lines that were
+// refused.
 fn print_run(
     alloc: Global,
+    source: u16,
     journal: &[Entry],
     choice: Choice,
     all: bool,
@@ -147,11 +150,12 @@ fn print_run(
     refused: &[Refusal],
 ) -> Result<String, AllocError>
     ensures { IfOk result (λ t. string_bytes t
-        ≡ chart_text choice (title_of text.now) journal.now (drawn_refusals all refused.now)) }
+        ≡ chart_text source choice (title_of text.now) journal.now (drawn_refusals all refused.now)) }
 {
     let title = title_of(alloc, text)?;
     chart(
         alloc,
+        source,
         choice,
         title.as_slice(),
         journal,

@@ -50,10 +50,10 @@ fn run_line(
     line: &[u8],
     number: u64,
 ) -> Result<bool, AllocError>
-    ensures { IfOk result (λ good. LineLeaves (line_ran (reading_of line.now) number world.old) number line.now
+    ensures { IfOk result (λ good. LineLeaves (line_ran (reading_of world.old.config.source line.now) number world.old) number line.now
         good world.new refused.old.items refused.new.items) }
 {
-    match read_line(alloc, line)? {
+    match read_line(alloc, world.config().source, line)? {
         Reading::Skipped => Ok(true),
         Reading::Unreadable => Ok(false),
         Reading::Asks(command) => {

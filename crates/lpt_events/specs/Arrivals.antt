@@ -4,7 +4,7 @@ use Rattle.std.specs.Option.{option_map_or}
 use Rattle.std.specs.Result.{result_ok}
 use Rattle.lpt_pus.specs.LptPacket.declared.direction.Direction.{Direction}
 use Rattle.lpt_pus.specs.LptPacket.declared.direction.Direction.TheVariants.{Up, Down}
-use Rattle.lpt_pus.specs.LptPacket.Names.{Name}
+use Rattle.lpt_pus.specs.LptPacket.Names.{Name, named_by}
 use Rattle.lpt_pus.specs.LptPacket.Packets.{Fields, Sight, IdlePacket, APacket, seen}
 use Rattle.lpt_pus.specs.Commands.{Command, tc_verdict}
 use Rattle.lpt_pus.specs.Telemetry.{Telemetry, tm_verdict}
@@ -30,7 +30,7 @@ pub data Arrival : Type 0 where
   AReport : (service subtype : ℕ) → Arrival
   NoPart : Arrival
   APart : NamedPart → Arrival
-  AnAbort : (id : Name) (reason : Reason) → Arrival
+  AnAbort : (name : Name) (reason : Reason) → Arrival
 
 -- the message subtype, in service 13, of a part of this kind
 abbrev pub part_subtype : Direction → Kind → ℕ
@@ -50,29 +50,31 @@ carried_kind d service subtype =
     else if subtype == part_subtype d Last then Some Last
     else None
 
--- what comes with a body that should be a part of this kind
-abbrev pub part_arrival : ℕ → List ℕ → Kind → Arrival
-part_arrival p body kind = option_map_or (λ q. APart (named q)) (part_in p kind body) NoPart
+-- what comes with a body that should be a part of this kind, from this source or to it
+abbrev pub part_arrival : (p source : ℕ) → List ℕ → Kind → Arrival
+part_arrival p source body kind =
+    option_map_or (λ q. APart (named source q)) (part_in p kind body) NoPart
 
--- what comes with a body that should be an abortion report's
-abbrev pub abort_arrival : List ℕ → Arrival
-abort_arrival body = option_map_or (λ a. AnAbort a.0 a.1) (abort_in body) NoPart
+-- what comes with a body that should be an abortion report's, to this source
+abbrev pub abort_arrival : (source : ℕ) → List ℕ → Arrival
+abort_arrival source body =
+    option_map_or (λ a. AnAbort (named_by source a.0) a.1) (abort_in body) NoPart
 
 -- what a telecommand is to the spacecraft; b is its whole packet
 abbrev pub command_arrival : ℕ → List ℕ → Command → Arrival
 command_arrival p b c =
-    option_map_or (part_arrival p c.body) (carried_kind Up c.service c.subtype) (ARequest b)
+    option_map_or (part_arrival p c.source c.body) (carried_kind Up c.service c.subtype) (ARequest b)
 
 -- what telemetry that carries no part is on ground
 abbrev pub report_arrival : Telemetry → Arrival
 report_arrival t =
-    if (t.service == 13) && (t.subtype == 16) then abort_arrival t.body
+    if (t.service == 13) && (t.subtype == 16) then abort_arrival t.destination t.body
     else AReport t.service t.subtype
 
 -- what telemetry is on ground
 abbrev pub telemetry_arrival : ℕ → Telemetry → Arrival
 telemetry_arrival p t =
-    option_map_or (part_arrival p t.body) (carried_kind Down t.service t.subtype) (report_arrival t)
+    option_map_or (part_arrival p t.destination t.body) (carried_kind Down t.service t.subtype) (report_arrival t)
 
 -- what a packet of the configured APID is to this node; b is the whole packet
 abbrev pub packet_arrival : Side → ℕ → List ℕ → Fields → Arrival

@@ -9,8 +9,8 @@ use Rattle.lpt_events.specs.declared.event.Event.TheVariants.{Open, Send, Plain,
 abbrev pub IsEvent : Event → Type 0
 IsEvent (Open d id m) = IsName id × IsOctets m
 IsEvent (Send d id k) = IsName id × (k < 65536)
-IsEvent (Plain flags service subtype body) =
-    (flags < 16) × (service < 256) × (subtype < 256) × IsOctets body
+IsEvent (Plain source flags service subtype body) =
+    (source < 65536) × (flags < 16) × (service < 256) × (subtype < 256) × IsOctets body
 IsEvent (Finish d id) = IsName id
 IsEvent (Lose n) = ⊤
 IsEvent (Damage d b) = IsOctets b

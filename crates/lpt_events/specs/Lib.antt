@@ -7,6 +7,7 @@ pub mod FaultNames
 pub mod Lanes
 pub mod LinkPackets
 pub mod MadePackets
+pub mod NameTexts
 pub mod NamedParts
 pub mod Requests
 pub mod Sides

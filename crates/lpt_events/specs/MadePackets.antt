@@ -12,6 +12,7 @@ use Rattle.lpt_part.specs.Parts.{Piece, body_of}
 use Rattle.lpt_part.specs.Splitting.{part_count, part_of, kind_at}
 use Rattle.lpt_events.specs.declared.config.Config.{Config}
 use Rattle.lpt_events.specs.Arrivals.{part_subtype}
+use Rattle.lpt_events.specs.NamedParts.{NamedPart, named}
 
 -- what ground's telecommand of this source and count says
 abbrev pub command_made : Config → (peer count flags service subtype : ℕ) → List ℕ → Command
@@ -52,8 +53,8 @@ abbrev pub tm_made : Config → (peer count counter time service subtype : ℕ) 
 tm_made c peer count counter time service subtype body =
     spelling (tm_packet_of (telemetry_made c peer count counter time service subtype body))
 
--- part k of a message, under its name
-abbrev pub nth_part : ℕ → Name → List ℕ → ℕ → Piece
+-- part k of a message, under its identifier
+abbrev pub nth_part : (p id : ℕ) → List ℕ → ℕ → Piece
 nth_part p id m k =
     record {
       id = id;
@@ -62,15 +63,18 @@ nth_part p id m k =
       octets = part_of m p k;
     }
 
--- the octets of a part's packet, of or to the configured source; a telecommand has neither counter nor
--- time
-abbrev pub part_made : Config → Direction → (count counter time : ℕ) → Piece → List ℕ
-part_made c Up count counter time q =
-    tc_made c c.source count 0 13 (part_subtype Up q.kind) (body_of q)
-part_made c Down count counter time q =
-    tm_made c c.source count counter time 13 (part_subtype Down q.kind) (body_of q)
+-- part k of a message, under its name
+abbrev pub nth_named : (p : ℕ) → Name → List ℕ → ℕ → NamedPart
+nth_named p name m k = named name.source (nth_part p name.id m k)
 
--- the octets of an abortion report's packet, to the configured source
+-- the octets of a part's packet, of this source or to it; a telecommand has neither counter nor time
+abbrev pub part_made : Config → Direction → (peer count counter time : ℕ) → Piece → List ℕ
+part_made c Up peer count counter time q =
+    tc_made c peer count 0 13 (part_subtype Up q.kind) (body_of q)
+part_made c Down peer count counter time q =
+    tm_made c peer count counter time 13 (part_subtype Down q.kind) (body_of q)
+
+-- the octets of an abortion report's packet, to the name's source
 abbrev pub abort_made : Config → (count counter time : ℕ) → Name → Reason → List ℕ
-abort_made c count counter time id reason =
-    tm_made c c.source count counter time 13 16 (abort_body id reason)
+abort_made c count counter time name reason =
+    tm_made c name.source count counter time 13 16 (abort_body name.id reason)

@@ -1,6 +1,6 @@
 -- A part with the name of its transaction: a body has an identifier alone.
 use Rattle.std.specs.Prelude.{ℕ, List}
-use Rattle.lpt_pus.specs.LptPacket.Names.{Name}
+use Rattle.lpt_pus.specs.LptPacket.Names.{Name, named_by}
 use Rattle.lpt_part.specs.declared.kind.Kind.{Kind}
 use Rattle.lpt_part.specs.Parts.{Piece}
 
@@ -11,10 +11,15 @@ pub record NamedPart : Type 0 where
   pub kind : Kind
   pub octets : List ℕ
 
--- a part under the name that its identifier means
-abbrev pub named : Piece → NamedPart
-named q = record { name = q.id; number = q.number; kind = q.kind; octets = q.octets }
+-- a part that comes from this source, or goes to it
+abbrev pub named : (source : ℕ) → Piece → NamedPart
+named source q = record {
+  name = named_by source q.id;
+  number = q.number;
+  kind = q.kind;
+  octets = q.octets;
+}
 
 -- what a body says of a part
 abbrev pub bare : NamedPart → Piece
-bare q = record { id = q.name; number = q.number; kind = q.kind; octets = q.octets }
+bare q = record { id = q.name.id; number = q.number; kind = q.kind; octets = q.octets }

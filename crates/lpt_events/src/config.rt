@@ -10,7 +10,7 @@ use lpt_part::Mode;
 pub struct Config {
     /// The application process identifier of all packets, 0 to 2046.
     pub apid: u16,
-    /// The source ID of telecommands and destination ID of telemetry.
+    /// The source ID that is meant where none is given, of a name and of a plain request.
     pub source: u16,
     /// The part size in octets, 4 to 1024.
     pub part_size: u32,

@@ -1,6 +1,7 @@
 //! What can be asked of a world.
 
 ghost use Rattle.std.specs.Prelude.{◌≡◌, IfOk};
+ghost use Rattle.lpt_pus.specs.LptPacket.Names.{IsName};
 ghost use Rattle.lpt_events.specs.Events.{IsEvent};
 
 use crate::{Lane, Side, Worker};
@@ -14,9 +15,9 @@ pub enum Event {
     Open(Direction, Name, Octets),
     /// Puts the part of this number of an open message on the link.
     Send(Direction, Name, u16),
-    /// Puts a plain request on the link, direction up: ground's telecommand of these flags, service
-    /// type, message subtype and body. It belongs to no transaction.
-    Plain(AckFlags, u8, u8, Octets),
+    /// Puts a plain request on the link, direction up: ground's telecommand of this source, these
+    /// flags, service type, message subtype and body. It belongs to no transaction.
+    Plain(u16, AckFlags, u8, u8, Octets),
     /// Closes the open sender of this name in its direction and lets its message go.
     Finish(Direction, Name),
     /// Loses the held packet of this number: the link holds it no more. A lane that has it in its
@@ -61,8 +62,8 @@ impl Event {
         Ok(match self {
             Event::Open(direction, id, message) => Event::Open(*direction, *id, message.copy()?),
             Event::Send(direction, id, part) => Event::Send(*direction, *id, *part),
-            Event::Plain(flags, service, subtype, body) => {
-                Event::Plain(*flags, *service, *subtype, body.copy()?)
+            Event::Plain(source, flags, service, subtype, body) => {
+                Event::Plain(*source, *flags, *service, *subtype, body.copy()?)
             }
             Event::Finish(direction, id) => Event::Finish(*direction, *id),
             Event::Lose(number) => Event::Lose(*number),
@@ -85,21 +86,22 @@ impl Event {
     {
         match self {
             Event::Open(_, id, message) => {
-                let _id = *id;
+                named(*id);
                 let _octets = message.as_slice();
             }
             Event::Send(_, id, k) => {
-                let _id = *id;
+                named(*id);
                 let _k = *k;
             }
-            Event::Plain(flags, service, subtype, body) => {
+            Event::Plain(source, flags, service, subtype, body) => {
+                let _source = *source;
                 let _flags = flags.bits();
                 let _service = *service;
                 let _subtype = *subtype;
                 let _octets = body.as_slice();
             }
             Event::Finish(_, id) => {
-                let _id = *id;
+                named(*id);
             }
             Event::Lose(_) => {}
             Event::Damage(_, octets) => {
@@ -113,9 +115,17 @@ impl Event {
             Event::Commit(_) => {}
             Event::Apply => {}
             Event::Retire(_, id) => {
-                let _id = *id;
+                named(*id);
             }
             Event::Restart(_) => {}
         }
     }
+}
+
+// Says that a name's numbers are of their types. It does nothing.
+fn named(name: Name)
+    ensures { IsName name }
+{
+    let _source = name.source;
+    let _id = name.id;
 }

@@ -17,6 +17,7 @@ mod lane;
 mod link_packets;
 mod log;
 mod message_types;
+mod naming;
 mod outcome;
 mod refused;
 mod reply;
@@ -43,6 +44,7 @@ pub use lpt_pus::{
     read_tc, read_tm,
 };
 pub use message_types::part_kind;
+pub use naming::{NameWord, name_word};
 pub use outcome::{Outcome, Why};
 pub use refused::{Refused, RunEnd};
 pub use reply::{Answer, Puts, Reply};

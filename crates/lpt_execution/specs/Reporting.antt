@@ -52,6 +52,11 @@ abbrev pub message_reports : (apid : ℕ) → List ℕ → Ending → List Repor
 message_reports apid m end =
     option_map_or (λ c. reports_of (long_at m 0) c.flags end) (command_in apid m) []
 
+-- the source that a message's reports go to: that of its own header; what is no telecommand with this
+-- APID has none
+abbrev pub request_source : (apid : ℕ) → List ℕ → ℕ
+request_source apid m = option_map_or (λ c. c.source) (command_in apid m) 0
+
 -- ---- reports with the packets that their node has made of them, in their order
 
 -- the packets that go on the link

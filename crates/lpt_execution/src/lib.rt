@@ -4,7 +4,7 @@
 //! sends them gives them their counts and their time.
 //!
 //! The main types are `Ending` and `Report`. The first calls are `ending_of` with a reading and the
-//! memories, then `reports`, and `load` for what a load does.
+//! memories, then `reports`, which go to the `request_source`, and `load` for what a load does.
 #![tactic(auto)]
 
 mod applied;
@@ -28,4 +28,4 @@ pub use lpt_memory::{
     TcHead, Ticket, TmHead, bodies, crc16, lengths, prepare, read_packet, read_tc, read_tm,
     seen_is_read, tc_octets, tc_pieces, tm_octets, tm_pieces, write_packet, write_tm,
 };
-pub use reporting::reports;
+pub use reporting::{reports, request_source};

@@ -4,13 +4,25 @@ ghost use Rattle.std.specs.Prelude.{◌≡◌, ◌≢◌, [], ◌++◌, map, opt
 ghost use Rattle.lpt_memory.specs.LptPus.Codes.{number_of};
 ghost use Rattle.lpt_verify.specs.Reports.{reports_before, reports_after, all_reports};
 ghost use Rattle.lpt_execution.specs.Ranges.{EndingFits, ReportFits};
-ghost use Rattle.lpt_execution.specs.Reporting.{data_report, message_reports, verification, verification_kind};
+ghost use Rattle.lpt_execution.specs.Reporting.{data_report, message_reports, request_source, verification, verification_kind};
 
 use crate::{Ending, Report};
 use lpt_events::TelemetryKind;
 use lpt_memory::{FailureCode, Reading, RequestId};
 use lpt_verify::{EncodedReport, Reports};
 use std::alloc::{AllocError, Global};
+
+/// The source that the reports of a request go to: that of its own header, under whatever name it
+/// came. 0 where the message is no telecommand for the APID, which has no reports. It takes no
+/// memory.
+pub fn request_source(reading: &Reading) -> u16
+    ensures { result ≡ request_source reading.now.apid reading.now.message }
+{
+    match reading.head() {
+        Some(head) => head.source,
+        None => 0,
+    }
+}
 
 /// The reports of a request whose execution ends so, in the order in which they are sent.
 ///

@@ -1,7 +1,8 @@
 //! The message of the only transaction of a stream, joined.
 
-ghost use Rattle.std.specs.Prelude.{◌≡◌, ◌≢◌, ◌⊎◌, ◌∷◌, ℕ, [], true, false, None, IfErr, IfOk, IfSome, IsErrOf, OnOk, Err};
+ghost use Rattle.std.specs.Prelude.{◌≡◌, ◌≢◌, ◌⊎◌, ◌∷◌, [], true, false, None, IfErr, IfOk, IfSome, IsErrOf, OnOk, Err};
 ghost use Rattle.lpt_join.specs.declared.gathering.Gathering.{Gathering};
+ghost use Rattle.lpt_join.specs.LptPacket.Names.{Name};
 ghost use Rattle.lpt_join.specs.LptText.Streams.{AppendsPart};
 ghost use Rattle.lpt_join.specs.LptStream.Reads.{IsEndless};
 ghost use Rattle.lpt_files.specs.Only.{IsOnly, JoinsOnly, LeavesOnly, OnlyLeaves, WritesOnly};
@@ -12,7 +13,7 @@ use lpt_join::{Gathering, Gatherings, Sink, Source, ToolFault, Transaction, gath
 use std::alloc::Global;
 
 /// Reads a stream of packets to its end, and writes the message of the only transaction of which they
-/// carry parts, of those that are read as this one is, whatever its identifier. The answer says what
+/// carry parts, of those that are read as this one is, whatever its name. The answer says what
 /// is kept of each transaction, and where there is only one, how its join ends; where there is none or
 /// there are more, nothing is written.
 ///
@@ -69,8 +70,8 @@ fn write_only<K: Sink>(gatherings: &Gatherings, out: &mut K) -> Result<Option<Jo
 
 // What is kept of the only transaction, where there is only one.
 fn only(gatherings: &Gatherings) -> Option<&Gathering>
-    ensures some { IfSome result (λ g. (id : ℕ) × IsOnly gatherings.now id g.now) }
-    ensures none { result ≡ None → (id : ℕ) (g : Gathering) → IsOnly gatherings.now id g → ⊥ }
+    ensures some { IfSome result (λ g. (name : Name) × IsOnly gatherings.now name g.now) }
+    ensures none { result ≡ None → (name : Name) (g : Gathering) → IsOnly gatherings.now name g → ⊥ }
 {
     if gatherings.has_more || gatherings.kept.len() != 1 {
         return None;

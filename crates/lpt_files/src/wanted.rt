@@ -2,7 +2,7 @@
 
 ghost use Rattle.std.specs.Prelude.{◌≤◌};
 
-use lpt_join::{Direction, Form, Name};
+use lpt_join::{Direction, Form};
 
 /// Which packets of a message are wanted.
 #[derive(Clone, Copy, Debug)]
@@ -10,7 +10,7 @@ pub struct Wanted<'a> {
     /// The direction in which the message goes.
     pub direction: Direction,
     /// Its identifier.
-    pub id: Name,
+    pub id: u16,
     /// A list of its parts: `1-` for all of them.
     pub parts: &'a [u8],
     /// The sequence count of the first packet, 0 to 16,383.

@@ -2,8 +2,8 @@
 
 use crate::packets::{FIRST, MESSAGE, SECOND, THIRD, USUAL};
 use lpt_files::{
-    Direction, Form, JoinEnd, SplitEnd, Told, Transaction, Wanted, join_message, missing_list,
-    read_parts, split_message,
+    Direction, Form, JoinEnd, Name, SplitEnd, Told, Transaction, Wanted, join_message,
+    missing_list, read_parts, split_message,
 };
 use lpt_requests::{AckFlags, Area, MemoryFault, Octets, Range, Request, write_request};
 use std::alloc::Global;
@@ -85,7 +85,7 @@ fn join(alloc: Global, packets: &[&[u8]]) -> Result<(JoinEnd, Vec<u8>, String), 
     }
     let transaction = Transaction {
         direction: Direction::Up,
-        id: 7,
+        name: Name { source: 1, id: 7 },
         apid: 100,
         part_size: 8,
     };

@@ -1,13 +1,15 @@
 //! Packets joined to a message.
 
 use crate::packets::{DAMAGED, FIRST, IDLE, MESSAGE, SECOND, THIRD};
-use lpt_join::{Came, Direction, Gathering, Joining, Told, Transaction, join_stream, missing};
+use lpt_join::{
+    Came, Direction, Gathering, Joining, Name, Told, Transaction, join_stream, missing,
+};
 use std::alloc::Global;
 use std::test::Fail;
 
 const TRANSACTION: Transaction = Transaction {
     direction: Direction::Up,
-    id: 7,
+    name: Name { source: 1, id: 7 },
     apid: 100,
     part_size: 8,
 };

@@ -23,13 +23,19 @@ use Rattle.lpt_split.specs.LptEvents.Arrivals.{NotRead, Foreign, ARequest, ARepo
 use Rattle.lpt_split.specs.LptEvents.Sides.{receiver_side}
 use Rattle.lpt_reception.specs.Received.{Kept}
 use Rattle.lpt_join.specs.declared.transaction.Transaction.{Transaction}
-use Rattle.lpt_split.specs.LptEvents.NamedParts.{named}
-use Rattle.lpt_join.specs.Offers.{piece_of, piece_in, part_of_id, part_of_piece, offered}
+use Rattle.lpt_pus.specs.LptPacket.Names.{Name, named_by, same_name}
+use Rattle.lpt_split.specs.LptEvents.NamedParts.{NamedPart, bare, named}
+use Rattle.lpt_join.specs.Offers.{piece_of, piece_in, part_of_name, part_of_piece, offered}
 
 -- where it is a part, it fits
 abbrev pub Fits : ℕ → Option Piece → Type 0
 Fits p None = Unit {0}
 Fits p (Some q) = PartFits q.kind q.number (length q.octets) p
+
+-- the same of a part with its name
+abbrev NamedFits : ℕ → Option NamedPart → Type 0
+NamedFits p None = Unit {0}
+NamedFits p (Some q) = PartFits q.kind q.number (length q.octets) p
 
 -- ---- the body
 
@@ -68,77 +74,82 @@ verdict_fits p kind b =
 
 -- ---- the packet
 
-part_by : (p : ℕ) (o : Option Piece) → Fits p o → Fits p (piece_of (option_map_or (λ q. APart (named q)) o NoPart))
-part_by p None h = tt
-part_by p (Some q) h = h
+part_by : (p source : ℕ) (o : Option Piece)
+    → Fits p o
+    → NamedFits p (piece_of (option_map_or (λ q. APart (named source q)) o NoPart))
+part_by p source None h = tt
+part_by p source (Some q) h = h
 
-part_fits : (p : ℕ) (body : List ℕ) (kind : Kind) → Fits p (piece_of (part_arrival p body kind))
-part_fits p body kind = part_by p (part_in p kind body) (verdict_fits p kind body)
+part_fits : (p source : ℕ) (body : List ℕ) (kind : Kind)
+    → NamedFits p (piece_of (part_arrival p source body kind))
+part_fits p source body kind = part_by p source (part_in p kind body) (verdict_fits p kind body)
 
-abort_by : (p : ℕ) (o : Option (ℕ × Reason)) → Fits p (piece_of (option_map_or (λ a. AnAbort a.0 a.1) o NoPart))
-abort_by p None = tt
-abort_by p (Some a) = tt
+abort_by : (p source : ℕ) (o : Option (ℕ × Reason))
+    → NamedFits p (piece_of (option_map_or (λ a. AnAbort (named_by source a.0) a.1) o NoPart))
+abort_by p source None = tt
+abort_by p source (Some a) = tt
 
-command_by : (p : ℕ) (b body : List ℕ) (o : Option Kind) → Fits p (piece_of (option_map_or (part_arrival p body) o (ARequest b)))
-command_by p b body None = tt
-command_by p b body (Some kind) = part_fits p body kind
+command_by : (p source : ℕ) (b body : List ℕ) (o : Option Kind)
+    → NamedFits p (piece_of (option_map_or (part_arrival p source body) o (ARequest b)))
+command_by p source b body None = tt
+command_by p source b body (Some kind) = part_fits p source body kind
 
 report_by : (p : ℕ) (t : Telemetry) (abort : Bool)
-    → Fits p (piece_of (if abort then abort_arrival t.body else AReport t.service t.subtype))
-report_by p t true = abort_by p (abort_in t.body)
+    → NamedFits p (piece_of (if abort then abort_arrival t.destination t.body else AReport t.service t.subtype))
+report_by p t true = abort_by p t.destination (abort_in t.body)
 report_by p t false = tt
 
-telemetry_by : (p : ℕ) (t : Telemetry) (o : Option Kind) → Fits p (piece_of (option_map_or (part_arrival p t.body) o (report_arrival t)))
+telemetry_by : (p : ℕ) (t : Telemetry) (o : Option Kind) → NamedFits p (piece_of (option_map_or (part_arrival p t.destination t.body) o (report_arrival t)))
 telemetry_by p t None = report_by p t ((t.service == 13) && (t.subtype == 16))
-telemetry_by p t (Some kind) = part_fits p t.body kind
+telemetry_by p t (Some kind) = part_fits p t.destination t.body kind
 
-up_by : (p : ℕ) (b : List ℕ) (r : Result Command PusFault) → Fits p (piece_of (option_map_or (command_arrival p b) (result_ok r) NotRead))
+up_by : (p : ℕ) (b : List ℕ) (r : Result Command PusFault) → NamedFits p (piece_of (option_map_or (command_arrival p b) (result_ok r) NotRead))
 up_by p b (Err e) = tt
-up_by p b (Ok c) = command_by p b c.body (carried_kind Up c.service c.subtype)
+up_by p b (Ok c) = command_by p c.source b c.body (carried_kind Up c.service c.subtype)
 
-down_by : (p : ℕ) (r : Result Telemetry PusFault) → Fits p (piece_of (option_map_or (telemetry_arrival p) (result_ok r) NotRead))
+down_by : (p : ℕ) (r : Result Telemetry PusFault) → NamedFits p (piece_of (option_map_or (telemetry_arrival p) (result_ok r) NotRead))
 down_by p (Err e) = tt
 down_by p (Ok t) = telemetry_by p t (carried_kind Down t.service t.subtype)
 
-packet_fits : (side : Side) (p : ℕ) (b : List ℕ) (f : Fields) → Fits p (piece_of (packet_arrival side p b f))
+packet_fits : (side : Side) (p : ℕ) (b : List ℕ) (f : Fields) → NamedFits p (piece_of (packet_arrival side p b f))
 packet_fits Craft p b f = up_by p b (tc_verdict f)
 packet_fits Ground p b f = down_by p (tm_verdict f)
 
 foreign_by : (side : Side) (p : ℕ) (b : List ℕ) (f : Fields) (same : Bool)
-    → Fits p (piece_of (if same then packet_arrival side p b f else Foreign))
+    → NamedFits p (piece_of (if same then packet_arrival side p b f else Foreign))
 foreign_by side p b f true = packet_fits side p b f
 foreign_by side p b f false = tt
 
-sight_fits : (side : Side) (apid p : ℕ) (b : List ℕ) (o : Option Sight) → Fits p (piece_of (sight_arrival side apid p b o))
+sight_fits : (side : Side) (apid p : ℕ) (b : List ℕ) (o : Option Sight) → NamedFits p (piece_of (sight_arrival side apid p b o))
 sight_fits side apid p b None = tt
 sight_fits side apid p b (Some IdlePacket) = tt
 sight_fits side apid p b (Some (APacket f)) = foreign_by side p b f (f.apid == apid)
 
-piece_fits : (t : Transaction) (b : List ℕ) → Fits t.part_size (piece_in t b)
+piece_fits : (t : Transaction) (b : List ℕ) → NamedFits t.part_size (piece_in t b)
 unfolding arrival
 piece_fits t b = sight_fits (receiver_side t.direction) t.apid t.part_size b (seen b)
 
 -- ---- the transaction
 
-id_by : (p : ℕ) (q : Piece) (same : Bool) (n : ℕ) (x : Kept)
+name_by : (p : ℕ) (q : NamedPart) (same : Bool) (n : ℕ) (x : Kept)
     → PartFits q.kind q.number (length q.octets) p
-    → ◌≡◌ {A = Option (ℕ × Kept)} (if same then Some (part_of_piece q) else None) (Some (n, x))
+    → ◌≡◌ {A = Option (ℕ × Kept)} (if same then Some (part_of_piece (bare q)) else None) (Some (n, x))
     → PartFits x.kind n (length x.octets) p
-id_by p q true n x h e =
-    let same : ◌≡◌ {A = ℕ × Kept} (part_of_piece q) (n, x) = cc in
+name_by p q true n x h e =
+    let same : ◌≡◌ {A = ℕ × Kept} (part_of_piece (bare q)) (n, x) = cc in
     subst (λ (y : ℕ × Kept). PartFits y.1.kind y.0 (length y.1.octets) p) same h
-id_by p q false n x h e = absurd cc
+name_by p q false n x h e = absurd cc
 
-of_by : (p id : ℕ) (o : Option Piece) (n : ℕ) (x : Kept)
-    → Fits p o
-    → part_of_id id o ≡ Some (n, x)
+of_by : (p : ℕ) (name : Name) (o : Option NamedPart) (n : ℕ) (x : Kept)
+    → NamedFits p o
+    → part_of_name name o ≡ Some (n, x)
     → PartFits x.kind n (length x.octets) p
-of_by p id None n x h e = absurd cc
-of_by p id (Some q) n x h e = id_by p q (q.id == id) n x h e
+of_by p name None n x h e = absurd cc
+of_by p name (Some q) n x h e = name_by p q (same_name q.name name) n x h e
 
 -- a part that octets carry may be one
 pub offered-fits : (t : Transaction) (b : List ℕ) (n : ℕ) (x : Kept)
     → offered t b ≡ Some (n, x)
     → PartFits x.kind n (length x.octets) t.part_size
 unfolding offered
-offered-fits t b n x e = of_by t.part_size t.id (piece_in t b) n x (piece_fits t b) e
+offered-fits t b n x e = of_by t.part_size t.name (piece_in t b) n x (piece_fits t b) e

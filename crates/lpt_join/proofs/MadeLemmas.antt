@@ -6,6 +6,7 @@ use Rattle.lpt_pus.specs.LptPacket.declared.direction.Direction.{Direction}
 use Rattle.lpt_pus.specs.LptPacket.declared.direction.Direction.TheVariants.{Up, Down}
 use Rattle.lpt_pus.specs.LptPacket.Packets.{Fields, IsPacket, spelling}
 use Rattle.lpt_pus.specs.LptPacket.Ranges.{InRange}
+use Rattle.lpt_pus.proofs.LptPacket.NameLemmas.{same_name-refl}
 use Rattle.lpt_pus.proofs.LptPacket.Readings.{eq_true}
 use Rattle.lpt_pus.proofs.LptPacket.SightLemmas.{seen_again}
 use Rattle.lpt_pus.specs.Commands.{Command, CommandFits, packet_of, tc_field}
@@ -30,7 +31,7 @@ use Rattle.lpt_reception.specs.PartsOf.{kept_of}
 use Rattle.lpt_join.specs.declared.transaction.Transaction.{Transaction}
 use Rattle.lpt_join.specs.Laws.{AreCounts, IsSending}
 use Rattle.lpt_split.specs.LptEvents.NamedParts.{named}
-use Rattle.lpt_join.specs.Offers.{piece_of, part_of_id, offered}
+use Rattle.lpt_join.specs.Offers.{piece_of, part_of_name, offered}
 
 -- ---- subtypes
 
@@ -111,7 +112,7 @@ pub made_packet : (c : Config) (d : Direction) (count counter time : ℕ) (q : P
     → IsConfig c
     → AreCounts count counter time
     → PartFits q.kind q.number (length q.octets) c.part_size
-    → (f : Fields) × IsPacket (part_made c d count counter time q) f
+    → (f : Fields) × IsPacket (part_made c d c.source count counter time q) f
 made_packet c Up count counter time q good counts fits =
     let t = command_made c c.source count 0 13 (part_subtype Up q.kind) (body_of q) in (
       packet_of t,
@@ -141,12 +142,12 @@ packet_arrives side p f r =
     ap (sight_arrival side f.apid p b) (seen_again f r)
     ∙ ap (λ t. if t then packet_arrival side p b f else Foreign) (eq_true f.apid f.apid refl)
 
-body_arrives : (p : ℕ) (q : Piece)
+body_arrives : (p source : ℕ) (q : Piece)
     → q.id < 65536
     → PartFits q.kind q.number (length q.octets) p
-    → part_arrival p (body_of q) q.kind ≡ APart (named q)
-body_arrives p q i fits =
-    ap (λ r. option_map_or (λ x. APart (named x)) (result_ok r) NoPart) (part_verdict-body_of p q i fits)
+    → part_arrival p source (body_of q) q.kind ≡ APart (named source q)
+body_arrives p source q i fits =
+    ap (λ r. option_map_or (λ x. APart (named source x)) (result_ok r) NoPart) (part_verdict-body_of p q i fits)
 
 command_arrives : (apid p : ℕ) (c : Command)
     → CommandFits c
@@ -176,19 +177,19 @@ part_arrives : (c : Config) (d : Direction) (count counter time : ℕ) (q : Piec
     → AreCounts count counter time
     → q.id < 65536
     → PartFits q.kind q.number (length q.octets) c.part_size
-    → arrival (receiver_side d) c.apid c.part_size (part_made c d count counter time q) ≡ APart (named q)
+    → arrival (receiver_side d) c.apid c.part_size (part_made c d c.source count counter time q) ≡ APart (named c.source q)
 part_arrives c Up count counter time q good counts i fits =
     let t = command_made c c.source count 0 13 (part_subtype Up q.kind) (body_of q) in
     command_arrives c.apid c.part_size t (part_command_fits c count counter time q good counts fits) refl
-    ∙ ap (λ o. option_map_or (part_arrival c.part_size (body_of q)) o
+    ∙ ap (λ o. option_map_or (part_arrival c.part_size c.source (body_of q)) o
     (ARequest (spelling (packet_of t)))) (carried_kind-part_subtype Up q.kind)
-    ∙ body_arrives c.part_size q i fits
+    ∙ body_arrives c.part_size c.source q i fits
 part_arrives c Down count counter time q good counts i fits =
     let t = telemetry_made c c.source count counter time 13 (part_subtype Down q.kind) (body_of q) in
     telemetry_arrives c.apid c.part_size t (part_telemetry_fits c count counter time q good counts fits) refl
-    ∙ ap (λ o. option_map_or (part_arrival c.part_size (body_of q)) o (report_arrival t))
+    ∙ ap (λ o. option_map_or (part_arrival c.part_size c.source (body_of q)) o (report_arrival t))
     (carried_kind-part_subtype Down q.kind)
-    ∙ body_arrives c.part_size q i fits
+    ∙ body_arrives c.part_size c.source q i fits
 
 -- ---- parts of a message
 
@@ -197,10 +198,10 @@ module _ (t : Transaction) (c : Config) (m : List ℕ) (sending : IsSending t c 
   pub nth_fits : (n : ℕ)
       → 1 ≤ n
       → n ≤ part_count (length m) t.part_size
-      → (let q = nth_part t.part_size t.id m n in
+      → (let q = nth_part t.part_size t.name.id m n in
       PartFits q.kind q.number (length q.octets) c.part_size)
   nth_fits n some within =
-      let q = nth_part t.part_size t.id m n in
+      let q = nth_part t.part_size t.name.id m n in
       subst (λ p. PartFits q.kind q.number (length q.octets) p) sending.of.size
       (part_of-fits m t.part_size n t.size sending.message.long sending.message.short some within)
 
@@ -209,15 +210,16 @@ module _ (t : Transaction) (c : Config) (m : List ℕ) (sending : IsSending t c 
       → AreCounts count counter time
       → 1 ≤ n
       → n ≤ part_count (length m) t.part_size
-      → offered t (part_made c t.direction count counter time (nth_part t.part_size t.id m n))
+      → offered t (part_made c t.direction c.source count counter time (nth_part t.part_size t.name.id m n))
       ≡ Some (n, kept_of m t.part_size n)
   unfolding offered
   made_carries n count counter time counts some within =
-      let q = nth_part t.part_size t.id m n in
-      let b = part_made c t.direction count counter time q in
-      let arrives : arrival (receiver_side t.direction) t.apid t.part_size b ≡ APart (named q) =
+      let q = nth_part t.part_size t.name.id m n in
+      let b = part_made c t.direction c.source count counter time q in
+      let arrives : arrival (receiver_side t.direction) t.apid t.part_size b ≡ APart (named c.source q) =
       (λ i. arrival (receiver_side t.direction) (sending.of.apid i) (sending.of.size i) b)
       ∙ part_arrives c t.direction count counter time q sending.good counts sending.id_fits
       (nth_fits n some within) in
-      ap (λ a. part_of_id t.id (piece_of a)) arrives
-      ∙ ap (λ b. if b then Some (n, kept_of m t.part_size n) else None) (eq_true t.id t.id refl)
+      ap (λ a. part_of_name t.name (piece_of a)) arrives
+      ∙ ap (λ (s : ℕ). part_of_name t.name (Some (named s q))) (sym sending.of.source)
+      ∙ ap (λ b. if b then Some (n, kept_of m t.part_size n) else None) (same_name-refl t.name)

@@ -1,26 +1,38 @@
 -- Octets that carry no part of a transaction.
-use Rattle.std.proofs.Common.{◌≡◌, ◌≢◌, ◌∙◌, ap, sym, ℕ, Bool, if◌then◌else◌, List, Option, Some, None}
+use Rattle.std.proofs.Common.{◌≡◌, ◌≢◌, ◌∙◌, ap, sym, refl, ℕ, Bool, true, false, if◌then◌else◌, List, Option, Some, None}
 use Rattle.lpt_pus.specs.LptPacket.Packets.{Fields, IdlePacket, APacket, seen}
-use Rattle.lpt_pus.proofs.LptPacket.Readings.{eq_false}
-use Rattle.lpt_reception.specs.LptPart.Parts.{Piece}
+use Rattle.lpt_pus.proofs.LptPacket.NameLemmas.{same_name-true}
+use Rattle.lpt_pus.specs.LptPacket.Names.{Name, same_name}
+use Rattle.lpt_split.specs.LptEvents.NamedParts.{NamedPart, bare}
 use Rattle.lpt_join.specs.declared.transaction.Transaction.{Transaction}
-use Rattle.lpt_join.specs.Offers.{piece_in, part_of_id, part_of_piece, offered}
+use Rattle.lpt_join.specs.Offers.{piece_in, part_of_name, part_of_piece, offered}
 use Rattle.lpt_join.proofs.ReadLemmas.{piece-seen, none-foreign}
 
 -- no part of any transaction
 pub none_carried : (t : Transaction) (b : List ℕ) → piece_in t b ≡ None → offered t b ≡ None
 unfolding offered
-none_carried t b e = ap (λ (o : Option Piece). part_of_id t.id o) e
+none_carried t b e = ap (λ (o : Option NamedPart). part_of_name t.name o) e
 
--- a part of another transaction
-pub other_carried : (t : Transaction) (b : List ℕ) (q : Piece)
+-- a part of a transaction of another name
+pub apart_carried : (t : Transaction) (b : List ℕ) (q : NamedPart)
     → piece_in t b ≡ Some q
-    → q.id ≢ t.id
+    → same_name q.name t.name ≡ false
     → offered t b ≡ None
 unfolding offered
+apart_carried t b q e other =
+    ap (λ (o : Option NamedPart). part_of_name t.name o) e
+    ∙ ap (λ (same : Bool). if same then Some (part_of_piece (bare q)) else None) other
+
+apart : (a b : Name) (same : Bool) → same_name a b ≡ same → a ≢ b → same_name a b ≡ false
+apart a b true is other = absurd (other (same_name-true a b is))
+apart a b false is other = is
+
+pub other_carried : (t : Transaction) (b : List ℕ) (q : NamedPart)
+    → piece_in t b ≡ Some q
+    → q.name ≢ t.name
+    → offered t b ≡ None
 other_carried t b q e other =
-    ap (λ (o : Option Piece). part_of_id t.id o) e
-    ∙ ap (λ (same : Bool). if same then Some (part_of_piece q) else None) (eq_false q.id t.id other)
+    apart_carried t b q e (apart q.name t.name (same_name q.name t.name) refl other)
 
 -- no packet
 pub unread_carried : (t : Transaction) (b : List ℕ) → seen b ≡ None → offered t b ≡ None

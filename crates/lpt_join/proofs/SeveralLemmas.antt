@@ -1,10 +1,10 @@
 -- What is kept of each transaction, a packet further.
-use Rattle.std.proofs.Common.{◌≡◌, ◌≢◌, ◌∙◌, ap, sym, subst, refl, ℕ, ◌==◌, Bool, true, false, if◌then◌else◌, ◌||◌, List, [], ◌∷◌, ◌++◌, Option, Some, None, is_some}
+use Rattle.std.proofs.Common.{◌≡◌, ◌∙◌, ap, sym, subst, refl, ℕ, Bool, true, false, if◌then◌else◌, ◌||◌, List, [], ◌∷◌, ◌++◌, Option, Some, None, is_some}
 use Rattle.std.specs.List.{list_any}
 use Rattle.std.specs.Option.{option_map}
-use Rattle.lpt_pus.specs.LptPacket.Names.{same_name}
+use Rattle.lpt_pus.specs.LptPacket.Names.{Name, same_name}
 use Rattle.lpt_pus.proofs.LptPacket.NameLemmas.{same_name-refl, same_name-true}
-use Rattle.lpt_reception.specs.LptPart.Parts.{Piece}
+use Rattle.lpt_split.specs.LptEvents.NamedParts.{NamedPart, bare}
 use Rattle.lpt_reception.specs.Received.{Kept, no_parts}
 use Rattle.lpt_join.specs.declared.gathering.Gathering.{Gathering}
 use Rattle.lpt_join.specs.declared.gatherings.Gatherings.{Gatherings}
@@ -12,9 +12,9 @@ use Rattle.lpt_join.specs.declared.transaction.Transaction.{Transaction}
 use Rattle.lpt_join.specs.Gatherings.{Gives}
 use Rattle.lpt_join.specs.Joins.{Joined, Missing, join_part, joined_from}
 use Rattle.lpt_join.specs.Laws.{is_part, is_end}
-use Rattle.lpt_join.specs.Offers.{offered, part_of_id, part_of_piece, piece_in}
-use Rattle.lpt_join.specs.Several.{carried, GivesEach, IsKept, kept_of, of_id}
-use Rattle.lpt_join.proofs.OtherLemmas.{none_carried, other_carried}
+use Rattle.lpt_join.specs.Offers.{offered, part_of_name, part_of_piece, piece_in}
+use Rattle.lpt_join.specs.Several.{carried, GivesEach, IsKept, kept_of, of_name}
+use Rattle.lpt_join.proofs.OtherLemmas.{none_carried, apart_carried}
 use Rattle.lpt_join.proofs.GatherLemmas.{any-next, gives-other, join_none}
 
 -- ---- nothing has come
@@ -91,102 +91,99 @@ module _ (t : Transaction) where
 
 -- ---- of each transaction
 
-same_some : (a b : ℕ) → Some a ≡ Some b → a ≡ b
+same_some : (a b : Name) → Some a ≡ Some b → a ≡ b
 same_some a b h = cc
 
-not_none : (a : ℕ) → Some a ≡ None → ⊥
+not_none : (a : Name) → Some a ≡ None → ⊥
 not_none a h = cc
 
-its_part : (id : ℕ) (o : Option Piece)
-    → Some id ≡ option_map (λ (q : Piece). q.id) o
-    → (q : Piece) × (o ≡ Some q) × (q.id ≡ id)
-its_part id (Some q) h = (q, refl, sym (same_some id q.id h))
-its_part id None h = absurd (not_none id h)
+its_part : (name : Name) (o : Option NamedPart)
+    → Some name ≡ option_map (λ (q : NamedPart). q.name) o
+    → (q : NamedPart) × (o ≡ Some q) × (q.name ≡ name)
+its_part name (Some q) h = (q, refl, sym (same_some name q.name h))
+its_part name None h = absurd (not_none name h)
 
-no_part : (o : Option Piece) → None ≡ option_map (λ (q : Piece). q.id) o → o ≡ None
+no_part : (o : Option NamedPart) → None ≡ option_map (λ (q : NamedPart). q.name) o → o ≡ None
 no_part None h = refl
-no_part (Some q) h = absurd (not_none q.id (sym h))
-
-differ : (n id : ℕ) → same_name n id ≡ false → n ≢ id
-differ n id e is = no_true (sym (subst (λ m. same_name n m ≡ true) is (same_name-refl n)) ∙ e)
+no_part (Some q) h = absurd (not_none q.name (sym h))
 
 -- no part of any transaction came
 pub each-none : (t : Transaction) (bs : List (List ℕ)) (b : List ℕ) (g : Gatherings)
-    → None ≡ option_map (λ (q : Piece). q.id) (piece_in t b)
+    → None ≡ option_map (λ (q : NamedPart). q.name) (piece_in t b)
     → GivesEach t bs g
     → GivesEach t (bs ++ b ∷ []) g
 each-none t bs b g e h = λ n.
-    kept-other (of_id t n) bs b g.has_more (kept_of g n)
-    (none_carried (of_id t n) b (no_part (piece_in t b) e)) (h n)
+    kept-other (of_name t n) bs b g.has_more (kept_of g n)
+    (none_carried (of_name t n) b (no_part (piece_in t b) e)) (h n)
 
-module _ (t : Transaction) (id : ℕ) (b : List ℕ) (e : Some id ≡ option_map (λ (q : Piece). q.id) (piece_in t b)) where
-  -- it is a part of the transaction of its identifier
-  pub offered-its : (x : ℕ × Kept) × (offered (of_id t id) b ≡ Some x)
+module _ (t : Transaction) (name : Name) (b : List ℕ)
+    (e : Some name ≡ option_map (λ (q : NamedPart). q.name) (piece_in t b)) where
+  -- it is a part of the transaction of its name
+  pub offered-its : (x : ℕ × Kept) × (offered (of_name t name) b ≡ Some x)
   unfolding offered
   offered-its =
-      let its = its_part id (piece_in t b) e in (
-        part_of_piece its.0,
-        ap (λ (o : Option Piece). part_of_id id o) its.1
-            ∙ ap (λ (m : ℕ). if m == id then Some (part_of_piece its.0) else None) its.2
-            ∙ ap (λ (same : Bool). if same then Some (part_of_piece its.0) else None) (same_name-refl id),
+      let its = its_part name (piece_in t b) e in (
+        part_of_piece (bare its.0),
+        ap (λ (o : Option NamedPart). part_of_name name o) its.1
+            ∙ ap (λ (m : Name). if same_name m name then Some (part_of_piece (bare its.0)) else None) its.2
+            ∙ ap (λ (same : Bool). if same then Some (part_of_piece (bare its.0)) else None) (same_name-refl name),
       )
 
   -- and of no other
-  offered-other : (n : ℕ) → n ≢ id → offered (of_id t n) b ≡ None
+  offered-other : (n : Name) → same_name name n ≡ false → offered (of_name t n) b ≡ None
   offered-other n other =
-      let its = its_part id (piece_in t b) e in
-      other_carried (of_id t n) b its.0 its.1 (λ same. other (sym same ∙ its.2))
+      let its = its_part name (piece_in t b) e in
+      apart_carried (of_name t n) b its.0 its.1 (ap (λ (m : Name). same_name m n) its.2 ∙ other)
 
   module _ (bs : List (List ℕ)) (old new : Gatherings)
-      (others : (n : ℕ) → n ≢ id → kept_of new n ≡ kept_of old n)
-      (rises : (n : ℕ) (o : Option Gathering) → IsKept (of_id t n) (bs ++ b ∷ []) old.has_more o
-      → IsKept (of_id t n) (bs ++ b ∷ []) new.has_more o)
-      (its : IsKept (of_id t id) (bs ++ b ∷ []) new.has_more (kept_of new id))
+      (others : (n : Name) → same_name name n ≡ false → kept_of new n ≡ kept_of old n)
+      (rises : (n : Name) (o : Option Gathering) → IsKept (of_name t n) (bs ++ b ∷ []) old.has_more o
+      → IsKept (of_name t n) (bs ++ b ∷ []) new.has_more o)
+      (its : IsKept (of_name t name) (bs ++ b ∷ []) new.has_more (kept_of new name))
       (h : GivesEach t bs old) where
-    each-at : (n : ℕ) (same : Bool) → same_name n id ≡ same
-        → IsKept (of_id t n) (bs ++ b ∷ []) new.has_more (kept_of new n)
+    each-at : (n : Name) (same : Bool) → same_name name n ≡ same
+        → IsKept (of_name t n) (bs ++ b ∷ []) new.has_more (kept_of new n)
     each-at n true is =
-        subst (λ m. IsKept (of_id t m) (bs ++ b ∷ []) new.has_more (kept_of new m))
-        (sym (same_name-true n id is)) its
+        subst (λ m. IsKept (of_name t m) (bs ++ b ∷ []) new.has_more (kept_of new m))
+        (same_name-true name n is) its
     each-at n false is =
-        let other = differ n id is in
-        subst (λ o. IsKept (of_id t n) (bs ++ b ∷ []) new.has_more o) (sym (others n other))
-        (rises n (kept_of old n) (kept-other (of_id t n) bs b old.has_more (kept_of old n)
-        (offered-other n other) (h n)))
+        subst (λ o. IsKept (of_name t n) (bs ++ b ∷ []) new.has_more o) (sym (others n is))
+        (rises n (kept_of old n) (kept-other (of_name t n) bs b old.has_more (kept_of old n)
+        (offered-other n is) (h n)))
 
     each-next : GivesEach t (bs ++ b ∷ []) new
-    each-next = λ n. each-at n (same_name n id) refl
+    each-next = λ n. each-at n (same_name name n) refl
 
-  rises_more : (bs : List (List ℕ)) (more : Bool) (n : ℕ) (o : Option Gathering)
-      → IsKept (of_id t n) bs more o
-      → IsKept (of_id t n) bs true o
+  rises_more : (bs : List (List ℕ)) (more : Bool) (n : Name) (o : Option Gathering)
+      → IsKept (of_name t n) bs more o
+      → IsKept (of_name t n) bs true o
   rises_more bs more n None h = λ few. absurd (no_true few)
   rises_more bs more n (Some g) h = h
 
   -- nothing is kept of it
   pub each-more : (bs : List (List ℕ)) (old new : Gatherings)
-      → ((n : ℕ) → n ≢ id → kept_of new n ≡ kept_of old n)
-      → kept_of new id ≡ None
+      → ((n : Name) → same_name name n ≡ false → kept_of new n ≡ kept_of old n)
+      → kept_of new name ≡ None
       → new.has_more ≡ true
       → GivesEach t bs old
       → GivesEach t (bs ++ b ∷ []) new
   each-more bs old new others none more h =
       each-next bs old new others
-      (λ n o k. subst (λ (m : Bool). IsKept (of_id t n) (bs ++ b ∷ []) m o) (sym more)
+      (λ n o k. subst (λ (m : Bool). IsKept (of_name t n) (bs ++ b ∷ []) m o) (sym more)
       (rises_more (bs ++ b ∷ []) old.has_more n o k))
-      (subst (λ o. IsKept (of_id t id) (bs ++ b ∷ []) new.has_more o) (sym none)
+      (subst (λ o. IsKept (of_name t name) (bs ++ b ∷ []) new.has_more o) (sym none)
       (λ few. absurd (no_true (sym more ∙ few)))) h
 
   -- this is
   pub each-part : (bs : List (List ℕ)) (old new : Gatherings) (g : Gathering)
-      → ((n : ℕ) → n ≢ id → kept_of new n ≡ kept_of old n)
-      → kept_of new id ≡ Some g
+      → ((n : Name) → same_name name n ≡ false → kept_of new n ≡ kept_of old n)
+      → kept_of new name ≡ Some g
       → new.has_more ≡ old.has_more
-      → Gives (of_id t id) (bs ++ b ∷ []) g
+      → Gives (of_name t name) (bs ++ b ∷ []) g
       → GivesEach t bs old
       → GivesEach t (bs ++ b ∷ []) new
   each-part bs old new g others some more gives h =
       each-next bs old new others
-      (λ n o k. subst (λ (m : Bool). IsKept (of_id t n) (bs ++ b ∷ []) m o) (sym more) k)
-      (subst (λ o. IsKept (of_id t id) (bs ++ b ∷ []) new.has_more o) (sym some)
-      (kept-part (of_id t id) bs b new.has_more offered-its.0 g offered-its.1 gives)) h
+      (λ n o k. subst (λ (m : Bool). IsKept (of_name t n) (bs ++ b ∷ []) m o) (sym more) k)
+      (subst (λ o. IsKept (of_name t name) (bs ++ b ∷ []) new.has_more o) (sym some)
+      (kept-part (of_name t name) bs b new.has_more offered-its.0 g offered-its.1 gives)) h

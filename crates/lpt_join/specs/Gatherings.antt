@@ -19,7 +19,7 @@ state joining.BrokenOff = Broken
 -- the reception is the transaction's
 abbrev pub IsJoiningOf : Transaction → Joining → Type 0
 IsJoiningOf t joining.Nothing = Unit {0}
-IsJoiningOf t (joining.Missing f) = (f.id ≡ t.id) × (f.p ≡ t.part_size)
+IsJoiningOf t (joining.Missing f) = (f.id ≡ t.name.id) × (f.p ≡ t.part_size)
 IsJoiningOf t (joining.Complete m) = Unit {0}
 IsJoiningOf t joining.BrokenOff = Unit {0}
 

@@ -9,15 +9,15 @@ use Rattle.lpt_join.specs.declared.transaction.Transaction.{Transaction}
 use Rattle.lpt_join.specs.Gatherings.{Gives}
 use Rattle.lpt_join.specs.Offers.{offered}
 
--- the transaction of another identifier, whose packets are read alike
-abbrev pub of_id : Transaction → Name → Transaction
-of_id t n = record t { id = n }
+-- the transaction of another name, whose packets are read alike
+abbrev pub of_name : Transaction → Name → Transaction
+of_name t n = record t { name = n }
 
 -- whether one of the packets carries a part of the transaction
 abbrev pub carried : Transaction → List (List ℕ) → Bool
 carried t bs = list_any (λ b. is_some (offered t b)) bs
 
--- what is kept of the transaction of an identifier
+-- what is kept of the transaction of a name
 abbrev pub kept_of : Gatherings → Name → Option Gathering
 kept_of g n = get name_cmp g.kept n
 
@@ -29,4 +29,4 @@ IsKept t bs more None = more ≡ false → carried t bs ≡ false
 
 -- of each transaction that is read as this one is, what is kept is what these packets give of it
 abbrev pub GivesEach : Transaction → List (List ℕ) → Gatherings → Type 0
-GivesEach t bs g = (n : ℕ) → IsKept (of_id t n) bs g.has_more (kept_of g n)
+GivesEach t bs g = (n : Name) → IsKept (of_name t n) bs g.has_more (kept_of g n)

@@ -1,10 +1,11 @@
 //! What is kept of each transaction among a stream's packets.
 
-ghost use Rattle.std.specs.Prelude.{◌≡◌, ◌≢◌, ℕ, List, [], ◌∷◌, ◌++◌, true, false, Some, None, IfOk, IfSome, OnOk, IfNone};
+ghost use Rattle.std.specs.Prelude.{◌≡◌, ℕ, List, [], ◌∷◌, ◌++◌, true, false, Some, None, IfOk, IfSome, OnOk, IfNone};
+ghost use Rattle.lpt_pus.specs.LptPacket.Names.{Name, same_name};
 ghost use Rattle.lpt_join.specs.declared.gathering.Gathering.{Gathering};
 ghost use Rattle.lpt_join.specs.declared.transaction.Transaction.{Transaction};
 
-use crate::{Gathering, Transaction, id_in};
+use crate::{Gathering, Transaction, name_in};
 use lpt_pus::Name;
 use lpt_stream::PieceKind;
 use std::alloc::{AllocError, Global};
@@ -17,7 +18,7 @@ pub const TRANSACTION_LIMIT: usize = 64;
 /// more than 64, nothing is kept of those that came last.
 #[derive(Drop)]
 pub struct Gatherings {
-    /// What is kept of each, by its identifier.
+    /// What is kept of each, by its name.
     pub kept: BTreeMap<Name, Gathering>,
     /// Whether a part came of one of which nothing is kept.
     pub has_more: bool,
@@ -26,7 +27,7 @@ pub struct Gatherings {
 impl Gatherings {
     ghost use Rattle.lpt_stream.specs.Pieces.{packet_before};
     ghost use Rattle.lpt_join.specs.Gatherings.{Gives};
-    ghost use Rattle.lpt_join.specs.Several.{GivesEach, kept_of, of_id, carried};
+    ghost use Rattle.lpt_join.specs.Several.{GivesEach, kept_of, of_name, carried};
 
     /// Nothing has come.
     pub fn new(alloc: Global) -> Gatherings
@@ -50,16 +51,16 @@ impl Gatherings {
         ensures { (packets : List (List ℕ)) → GivesEach transaction.now packets self
             → IfOk result (GivesEach transaction.now (packets ++ octets.now ∷ [])) }
     {
-        let Some(id) = id_in(octets, transaction) else {
+        let Some(name) = name_in(octets, transaction) else {
             return Ok(self);
         };
         let mut gatherings = self;
-        let Some(gathering) = gatherings.take_out(alloc, id) else {
+        let Some(gathering) = gatherings.take_out(alloc, name) else {
             gatherings.has_more = true;
             return Ok(gatherings);
         };
-        let gathering = gathering.take(alloc, &transaction.of_id(id), octets)?;
-        gatherings.put(id, gathering)?;
+        let gathering = gathering.take(alloc, &transaction.of_name(name), octets)?;
+        gatherings.put(name, gathering)?;
         Ok(gatherings)
     }
 
@@ -85,14 +86,15 @@ impl Gatherings {
 
     // What is kept of a transaction, taken out, or what nothing has given; none where nothing is kept
     // of it, and nothing can be.
-    fn take_out(&mut self, alloc: Global, id: Name) -> Option<Gathering>
+    fn take_out(&mut self, alloc: Global, name: Name) -> Option<Gathering>
         ensures given { (t : Transaction) (packets : List (List ℕ)) → GivesEach t packets self.old
-            → IfSome result (Gives (of_id t id) packets) }
-        ensures others { (n : ℕ) → n ≢ id → kept_of self.new n ≡ kept_of self.old n }
-        ensures none { IfNone result (kept_of self.new id ≡ None) }
+            → IfSome result (Gives (of_name t name) packets) }
+        ensures others { (n : Name) → same_name name n ≡ false
+            → kept_of self.new n ≡ kept_of self.old n }
+        ensures none { IfNone result (kept_of self.new name ≡ None) }
         ensures more { self.new.has_more ≡ self.old.has_more }
     {
-        match self.kept.remove(&id) {
+        match self.kept.remove(&name) {
             Some(gathering) => Some(gathering),
             None if self.has_room() => Some(Gathering::new(alloc)),
             None => None,
@@ -107,12 +109,13 @@ impl Gatherings {
     }
 
     // Keeps this of a transaction. The only error is out of memory.
-    fn put(&mut self, id: Name, gathering: Gathering) -> Result<(), AllocError>
-        ensures kept { OnOk result (kept_of self.new id ≡ Some gathering) }
-        ensures others { OnOk result ((n : ℕ) → n ≢ id → kept_of self.new n ≡ kept_of self.old n) }
+    fn put(&mut self, name: Name, gathering: Gathering) -> Result<(), AllocError>
+        ensures kept { OnOk result (kept_of self.new name ≡ Some gathering) }
+        ensures others { OnOk result ((n : Name) → same_name name n ≡ false
+            → kept_of self.new n ≡ kept_of self.old n) }
         ensures more { self.new.has_more ≡ self.old.has_more }
     {
-        self.kept.insert(id, gathering)?;
+        self.kept.insert(name, gathering)?;
         Ok(())
     }
 }

@@ -37,7 +37,7 @@ impl Joining {
         part: &Part<'_>,
     ) -> Result<Joining, AllocError>
         requires joining { IsJoiningOf transaction.now self }
-        requires id { part.now.id ≡ transaction.now.id }
+        requires id { part.now.id ≡ transaction.now.name.id }
         requires size { part.now.p ≡ transaction.now.part_size }
         ensures same { IfOk result (IsJoiningOf transaction.now) }
         ensures state { IfOk result (λ j. state j
@@ -61,7 +61,7 @@ fn after(step: Step) -> Result<Joining, AllocError>
     ensures state { (s : Received) (n : ℕ) (x : Kept) → Answers Any s n x step
         → IfOk result (λ j. state j ≡ added s.parts n x) }
     ensures same { (s : Received) (n : ℕ) (x : Kept) (t : Transaction) → Answers Any s n x step
-        → s.id ≡ t.id → s.p ≡ t.part_size → IfOk result (IsJoiningOf t) }
+        → s.id ≡ t.name.id → s.p ≡ t.part_size → IfOk result (IsJoiningOf t) }
 {
     match step {
         Step::Filling(filling) => Ok(Joining::Missing(filling)),

@@ -4,10 +4,10 @@ ghost use Rattle.std.specs.Prelude.{◌≡◌, ◌≢◌, ◌<◌, ◌≤◌, �
 ghost use Rattle.std.specs.FinMap as map;
 ghost use Rattle.lpt_pus.specs.LptPacket.Bursts.{DifferInBurst};
 ghost use Rattle.lpt_pus.specs.LptPacket.Packets.{Fields, IdlePacket, APacket, IsPacket, seen};
-ghost use Rattle.lpt_reception.specs.LptPart.Parts.{Piece};
 ghost use Rattle.lpt_reception.specs.LptPart.Splitting.{part_count};
 ghost use Rattle.lpt_split.specs.LptEvents.declared.config.Config.{Config};
 ghost use Rattle.lpt_split.specs.LptEvents.MadePackets.{part_made, nth_part};
+ghost use Rattle.lpt_split.specs.LptEvents.NamedParts.{NamedPart};
 ghost use Rattle.lpt_reception.specs.PartsOf.{IsMessage, kept_of, IsPartsOf};
 ghost use Rattle.lpt_reception.specs.Received.{Parts};
 ghost use Rattle.lpt_stream.specs.Pieces.{Finds};
@@ -28,12 +28,12 @@ pub fn split_joins()
         → IsSending t c m → first ≤ 16383
         → AreNumbers (part_count (length m) t.part_size) numbers
         → ((n : ℕ) → 1 ≤ n → n ≤ part_count (length m) t.part_size → HasNumber n numbers)
-        → joined t (split_of c t.direction t.id m first numbers) ≡ Complete m }
+        → joined t (split_of c t.direction t.name.id m first numbers) ≡ Complete m }
     ensures stream { (t : Transaction) (c : Config) (m : List ℕ) (first : ℕ) (numbers : List ℕ)
         → IsSending t c m → first ≤ 16383
         → AreNumbers (part_count (length m) t.part_size) numbers
-        → Finds (all_octets (split_of c t.direction t.id m first numbers))
-        (split_of c t.direction t.id m first numbers) }
+        → Finds (all_octets (split_of c t.direction t.name.id m first numbers))
+        (split_of c t.direction t.name.id m first numbers) }
 {}
 
 /// Over packets each of which is made of a part of the message, or carries no part of its
@@ -74,7 +74,8 @@ pub fn made_is_carried()
     ensures { (t : Transaction) (c : Config) (m : List ℕ) (n count counter time : ℕ)
         → IsSending t c m → AreCounts count counter time
         → 1 ≤ n → n ≤ part_count (length m) t.part_size
-        → offered t (part_made c t.direction count counter time (nth_part t.part_size t.id m n))
+        → offered t (part_made c t.direction c.source count counter time
+        (nth_part t.part_size t.name.id m n))
         ≡ Some (n, kept_of m t.part_size n) }
 {}
 
@@ -85,8 +86,8 @@ pub fn others_carry_none()
     ensures idle { (t : Transaction) (b : List ℕ) → seen b ≡ Some IdlePacket → offered t b ≡ None }
     ensures foreign { (t : Transaction) (b : List ℕ) (f : Fields)
         → seen b ≡ Some (APacket f) → f.apid ≢ t.apid → offered t b ≡ None }
-    ensures other { (t : Transaction) (b : List ℕ) (q : Piece)
-        → piece_in t b ≡ Some q → q.id ≢ t.id → offered t b ≡ None }
+    ensures other { (t : Transaction) (b : List ℕ) (q : NamedPart)
+        → piece_in t b ≡ Some q → q.name ≢ t.name → offered t b ≡ None }
     ensures none { (t : Transaction) (b : List ℕ) → piece_in t b ≡ None → offered t b ≡ None }
 {}
 

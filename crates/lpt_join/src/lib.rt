@@ -29,7 +29,7 @@ pub use lpt_split::{
     write_alone, write_out,
 };
 pub use lpt_stream::{Found, PacketBuffer, PieceKind, packet_length, whole_length};
-pub use reading::{id_in, part_in};
+pub use reading::{name_in, part_in};
 pub use several::gather_stream;
 pub use stream::join_stream;
 pub use transaction::Transaction;

@@ -3,9 +3,10 @@
 ghost use Rattle.std.specs.Prelude.{◌≡◌, ℕ, List, IfSome};
 ghost use Rattle.std.specs.Option.{option_map};
 ghost use Rattle.lpt_pus.specs.LptPacket.Packets.{fields};
-ghost use Rattle.lpt_reception.specs.LptPart.Parts.{Piece, piece};
+ghost use Rattle.lpt_reception.specs.LptPart.Parts.{piece};
 ghost use Rattle.lpt_reception.specs.LptPart.Splitting.{IsPartSize};
 ghost use Rattle.lpt_split.specs.LptEvents.Arrivals.{packet_arrival};
+ghost use Rattle.lpt_split.specs.LptEvents.NamedParts.{NamedPart, named};
 ghost use Rattle.lpt_split.specs.LptEvents.declared.side.Side.TheVariants.{Ground, Craft};
 ghost use Rattle.lpt_join.specs.Offers.{piece_of, piece_in, part_of_piece, offered};
 
@@ -20,33 +21,37 @@ use lpt_split::part_kind;
 pub fn part_in<'a>(octets: &'a [u8], transaction: &Transaction) -> Option<Part<'a>>
     ensures part { option_map (λ x. part_of_piece (piece x)) result
         ≡ offered transaction.now octets.now }
-    ensures id { IfSome result (λ x. x.id ≡ transaction.now.id) }
+    ensures id { IfSome result (λ x. x.id ≡ transaction.now.name.id) }
     ensures size { IfSome result (λ x. x.p ≡ transaction.now.part_size) }
 {
-    let Some(part) = any_part_in(octets, transaction) else {
+    let Some((source, part)) = any_part_in(octets, transaction) else {
         return None;
     };
-    if part.id != transaction.id {
+    if source != transaction.name.source || part.id != transaction.name.id {
         return None;
     }
     Some(part)
 }
 
-/// The identifier of the transaction, whichever it is, of which octets carry a part that is read as this
+/// The name of the transaction, whichever it is, of which octets carry a part that is read as this
 /// one's parts are; none where they carry none.
-pub fn id_in(octets: &[u8], transaction: &Transaction) -> Option<Name>
-    ensures { result ≡ option_map (λ (q : Piece). q.id) (piece_in transaction.now octets.now) }
+pub fn name_in(octets: &[u8], transaction: &Transaction) -> Option<Name>
+    ensures { result ≡ option_map (λ (q : NamedPart). q.name) (piece_in transaction.now octets.now) }
 {
     match any_part_in(octets, transaction) {
-        Some(part) => Some(part.id),
+        Some((source, part)) => Some(Name {
+            source,
+            id: part.id,
+        }),
         None => None,
     }
 }
 
-// The part of any transaction of this direction that octets carry, where they do.
-fn any_part_in<'a>(octets: &'a [u8], transaction: &Transaction) -> Option<Part<'a>>
-    ensures part { option_map piece result ≡ piece_in transaction.now octets.now }
-    ensures size { IfSome result (λ x. x.p ≡ transaction.now.part_size) }
+// The part of any transaction of this direction that octets carry, where they do, behind its source.
+fn any_part_in<'a>(octets: &'a [u8], transaction: &Transaction) -> Option<(u16, Part<'a>)>
+    ensures part { option_map (λ x. named x.0 (piece x.1)) result
+        ≡ piece_in transaction.now octets.now }
+    ensures size { IfSome result (λ x. x.1.p ≡ transaction.now.part_size) }
 {
     seen_is_read();
     match read_packet(octets) {
@@ -64,12 +69,12 @@ fn any_part_in<'a>(octets: &'a [u8], transaction: &Transaction) -> Option<Part<'
     }
 }
 
-// The part that a telecommand carries.
-fn part_in_uplink<'a>(packet: &Packet<'a>, p: u32) -> Option<Part<'a>>
+// The part that a telecommand carries, behind where that comes from.
+fn part_in_uplink<'a>(packet: &Packet<'a>, p: u32) -> Option<(u16, Part<'a>)>
     requires { IsPartSize p }
-    ensures part { (b : List ℕ) → option_map piece result
+    ensures part { (b : List ℕ) → option_map (λ x. named x.0 (piece x.1)) result
         ≡ piece_of (packet_arrival Craft p b (fields packet.now)) }
-    ensures size { IfSome result (λ x. x.p ≡ p) }
+    ensures size { IfSome result (λ x. x.1.p ≡ p) }
 {
     let Ok((head, body)) = read_tc(packet) else {
         return None;
@@ -80,15 +85,15 @@ fn part_in_uplink<'a>(packet: &Packet<'a>, p: u32) -> Option<Part<'a>>
     let Ok(part) = read_part(kind, body, p) else {
         return None;
     };
-    Some(part)
+    Some((head.source, part))
 }
 
-// The part that telemetry carries.
-fn part_in_downlink<'a>(packet: &Packet<'a>, p: u32) -> Option<Part<'a>>
+// The part that telemetry carries, behind where that goes.
+fn part_in_downlink<'a>(packet: &Packet<'a>, p: u32) -> Option<(u16, Part<'a>)>
     requires { IsPartSize p }
-    ensures part { (b : List ℕ) → option_map piece result
+    ensures part { (b : List ℕ) → option_map (λ x. named x.0 (piece x.1)) result
         ≡ piece_of (packet_arrival Ground p b (fields packet.now)) }
-    ensures size { IfSome result (λ x. x.p ≡ p) }
+    ensures size { IfSome result (λ x. x.1.p ≡ p) }
 {
     let Ok((head, body)) = read_tm(packet) else {
         return None;
@@ -99,5 +104,5 @@ fn part_in_downlink<'a>(packet: &Packet<'a>, p: u32) -> Option<Part<'a>>
     let Ok(part) = read_part(kind, body, p) else {
         return None;
     };
-    Some(part)
+    Some((head.destination, part))
 }

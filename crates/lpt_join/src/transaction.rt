@@ -9,8 +9,8 @@ use lpt_pus::{Direction, Name};
 pub struct Transaction {
     /// The direction of its packets.
     pub direction: Direction,
-    /// Its identifier.
-    pub id: Name,
+    /// Its name: where its packets come from, or go to, and its identifier.
+    pub name: Name,
     /// The application process identifier of its packets.
     pub apid: u16,
     /// The part size in octets, 4 to 1024.
@@ -20,15 +20,15 @@ pub struct Transaction {
 
 impl Transaction {
     ghost use Rattle.std.specs.Prelude.{◌≡◌};
-    ghost use Rattle.lpt_join.specs.Several.{of_id};
+    ghost use Rattle.lpt_join.specs.Several.{of_name};
 
-    /// The transaction of another identifier, whose packets are read alike.
-    pub fn of_id(&self, id: Name) -> Transaction
-        ensures { result ≡ of_id self.now id }
+    /// The transaction of another name, whose packets are read alike.
+    pub fn of_name(&self, name: Name) -> Transaction
+        ensures { result ≡ of_name self.now name }
     {
         Transaction {
             direction: self.direction,
-            id,
+            name,
             apid: self.apid,
             part_size: self.part_size,
         }

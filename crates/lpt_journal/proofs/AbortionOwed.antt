@@ -34,7 +34,7 @@ use Rattle.lpt_journal.specs.Replies.{expired_now, entry}
 use Rattle.lpt_journal.specs.Refusals.{refusal}
 use Rattle.lpt_journal.proofs.ClosedLemmas.{open_opening}
 use Rattle.lpt_journal.proofs.CommitLemmas.{commit_says}
-use Rattle.lpt_journal.proofs.DueLemmas.{Earliest, earliest_is, overdue_names, in_overdue}
+use Rattle.lpt_journal.proofs.DueLemmas.{due_open}
 use Rattle.lpt_journal.proofs.Events.{only_element}
 use Rattle.lpt_journal.proofs.Releasing.{IsReleaseOf}
 use Rattle.lpt_journal.proofs.Steps.{IsSound}
@@ -57,21 +57,6 @@ pub record IsAbortionOf (c : Config) (h : History) (x : Recorded) (e : Abortion)
   pub message : List ℕ
   pub ends_it : IsReleaseOf h x (as_release e message) (transaction e)
   pub releases_none : (k : ℕ) (r : Release) → slice_get (released_by c x h) k ≡ Some r → ⊥
-
--- what is due is an open reception
-due_open : (c : Config) (h : History) (d : Direction) (id : Name)
-    → due c h d ≡ Some id
-    → has_parts (heard c h d id) ≡ true
-due_open c h d id e = go (due c h d) (earliest_is (last_tick c h d) (overdue_names c h d)) e where
-  go : (o : Option Name)
-      → Earliest (last_tick c h d) (overdue_names c h d) o
-      → o ≡ Some id
-      → has_parts (heard c h d id) ≡ true
-  go None it k = absurd cc
-  go (Some i) it k =
-      let same : i ≡ id = cc in
-      ap (λ n. has_parts (heard c h d n)) (sym same)
-      ∙ and_r (is_overdue c h d i) (has_parts (heard c h d i)) (sym (in_overdue c h d i) ∙ it.is_in)
 
 receives_there : (side : Side) → same_side side (receiver_side (direction_to side)) ≡ true
 receives_there Ground = refl

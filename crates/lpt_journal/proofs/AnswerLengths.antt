@@ -1,21 +1,23 @@
 -- The answer to a message of octets fits a packet: a dump's by its test, a check's since its ranges
--- are counted by an octet.
+-- are counted by an octet. And so does the source that its reports go to.
 use Rattle.std.proofs.Common.{◌≡◌, sym, subst, ℕ, ◌<◌, ◌==◌, nat_lt, Bool, true, false, if◌then◌else◌, refl, List, length, map, drop, ◌-◌, Option, Some, None, arith}
+use Rattle.std.specs.Option.{option_map_or}
 use Rattle.lpt_reception.specs.LptPacket.Numbers.{IsOctets}
-use Rattle.lpt_reception.specs.LptPacket.Packets.{spelling, APacket}
+use Rattle.lpt_reception.specs.LptPacket.Packets.{Fields, spelling, APacket}
 use Rattle.lpt_reception.proofs.LptPacket.Codec.{octets_at}
 use Rattle.lpt_reception.proofs.LptPacket.OctetLists.{IsOctets-take, IsOctets-drop}
 use Rattle.lpt_reception.proofs.LptPacket.SightLemmas.{seen_sight}
 use Rattle.lpt_execution.specs.LptPus.declared.failure_code.FailureCode.{FailureCode}
 use Rattle.lpt_execution.specs.LptPus.declared.failure_code.FailureCode.TheVariants.{ReplyTooLong}
 use Rattle.lpt_execution.specs.LptPus.Commands.{Command, command_in}
-use Rattle.lpt_execution.proofs.LptPus.CommandLemmas.{command_in-found, body-tc_verdict}
+use Rattle.lpt_execution.proofs.LptPus.CommandLemmas.{command_in-found, body-tc_verdict, tc_verdict-found}
 use Rattle.lpt_execution.specs.LptMemory.Effects.{answer, AnswerFits}
 use Rattle.lpt_execution.specs.LptMemory.Meanings.{Meaning, Silent, Fault, Load, Dump, Check, Sizes, size_of, load_fault, range_fault, area, dump_length, unless, load_meaning, dump_meaning, check_meaning, in_memory, if_formed, body_meaning, command_meaning, meaning}
 use Rattle.lpt_execution.specs.LptMemory.Memories.{Contents, sizes_of}
 use Rattle.lpt_execution.specs.LptMemory.Ranges.{MeaningFits}
 use Rattle.lpt_execution.specs.LptMemory.Requests.{Request, front_load_area, front_range, request_in}
 use Rattle.lpt_execution.specs.LptMemory.Spellings.{range_text, RangeFits}
+use Rattle.lpt_execution.specs.Reporting.{request_source}
 use Rattle.lpt_execution.proofs.LptMemory.AnswerLemmas.{length-dump_body, length-check_body}
 use Rattle.lpt_execution.proofs.LptMemory.BodyLemmas.{range_takes, body_takes}
 use Rattle.lpt_execution.proofs.LptMemory.MeaningLemmas.{meaning-fits}
@@ -65,6 +67,14 @@ body_counted sizes service subtype body octets =
     (either (subtype == 9) _ _ check tt)))
     tt
 
+-- the data field of a packet in octets is octets
+field_octets : (m : List ℕ) (f : Fields) → IsOctets m → m ≡ spelling f → IsOctets f.octets
+field_octets m f octets is =
+    let b = spelling f in
+    let all : IsOctets b = subst (λ o. IsOctets o) is octets in
+    subst (λ o. IsOctets o) (octets_at f)
+    (IsOctets-take (length b - 8) (drop 6 b) (IsOctets-drop 6 b all))
+
 -- the body of a telecommand in octets is octets
 body_octets : (apid : ℕ) (m : List ℕ) (c : Command)
     → IsOctets m
@@ -73,13 +83,21 @@ body_octets : (apid : ℕ) (m : List ℕ) (c : Command)
 body_octets apid m c octets e =
     let found = command_in-found apid m c e in
     let is = seen_sight m (APacket found.packet) found.is_packet in
-    let b = spelling found.packet in
-    let all : IsOctets b = subst (λ o. IsOctets o) is.spelled octets in
-    let field : IsOctets found.packet.octets =
-    subst (λ o. IsOctets o) (octets_at found.packet)
-    (IsOctets-take (length b - 8) (drop 6 b) (IsOctets-drop 6 b all)) in
     subst (λ o. IsOctets o) (sym (body-tc_verdict found.packet c found.is_command))
-    (IsOctets-drop 5 found.packet.octets field)
+    (IsOctets-drop 5 found.packet.octets (field_octets m found.packet octets is.spelled))
+
+-- the source that the reports of a message of octets go to has 16 bits
+pub source_fits : (apid : ℕ) (m : List ℕ) → IsOctets m → request_source apid m < 65536
+source_fits apid m octets = go (command_in apid m) refl where
+  go : (o : Option Command)
+      → command_in apid m ≡ o
+      → option_map_or (λ (c : Command). c.source) o 0 < 65536
+  go None e = omega arith
+  go (Some c) e =
+      let found = command_in-found apid m c e in
+      let is = seen_sight m (APacket found.packet) found.is_packet in
+      (tc_verdict-found found.packet c is.ranges (field_octets m found.packet octets is.spelled)
+      found.is_command).fits.source_fits
 
 meaning_counted : (apid : ℕ) (sizes : Sizes) (m : List ℕ)
     → IsOctets m

@@ -21,7 +21,7 @@ use Rattle.lpt_journal.proofs.TestLemmas.{no_place}
 -- whether an event opens, retires, takes, hears and ticks nothing, whatever it puts
 abbrev pub is_calm : Event → Bool
 is_calm (Send d id k) = true
-is_calm (Plain flags service subtype body) = true
+is_calm (Plain source flags service subtype body) = true
 is_calm (Finish d id) = true
 is_calm (Lose n) = true
 is_calm (Damage d b) = true

@@ -37,7 +37,7 @@ use Rattle.lpt_journal.proofs.TestLemmas.{and_r}
 -- ---- nothing is kept of a closed transaction
 
 -- a part that is kept is of a transaction that isn't closed
-kept_open : (closed full clash again gap whole : Bool) (q : NamedPart) (len i k : ℕ)
+kept_open : (closed full clash again gap whole : Bool) (q : NamedPart) (len : ℕ) (i : Name) (k : ℕ)
     → chosen closed full clash again gap whole q len ≡ Kept i k
     → (closed ≡ false) × (q.name ≡ i)
 kept_open true full clash again gap whole q len i k e = absurd cc
@@ -48,7 +48,7 @@ kept_open false false false false true whole q len i k e = absurd cc
 kept_open false false false false false true q len i k e = absurd cc
 kept_open false false false false false false q len i k e = (refl, cc)
 
-judged_open : (c : Config) (h : History) (d : Direction) (a : Arrival) (i k : ℕ)
+judged_open : (c : Config) (h : History) (d : Direction) (a : Arrival) (i : Name) (k : ℕ)
     → judged c h d a ≡ Kept i k
     → is_closed h d i ≡ false
 judged_open c h d (APart q) i k e =
@@ -84,7 +84,7 @@ unheard_step c first h (Expire side) none d id over =
     ended_or_not t (is_closed h d id) (heard c h d id) (none d id) over
 unheard_step c first h (Deliver l) none d id over =
     go (same_direction (lane_direction l) d) refl (outcome c h l) refl over where
-      kept_part : (i k : ℕ) (t : Bool)
+      kept_part : (i : Name) (k : ℕ) (t : Bool)
           → same_name i id ≡ t
           → is_closed h d i ≡ false
           → is_closed h d id ≡ true

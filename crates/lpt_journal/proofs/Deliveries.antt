@@ -2,7 +2,7 @@
 use Rattle.std.proofs.Common.{◌≡◌, ◌∙◌, ap, sym, subst, refl, ℕ, ◌≤◌, Bool, true, false, inl, inr, ◌⊎◌, ◌∷◌, length, Option, Some, None, if◌then◌else◌}
 use Rattle.std.specs.List.{slice_get}
 use Rattle.lpt_reception.specs.LptPacket.declared.direction.Direction.{Direction}
-use Rattle.lpt_reception.specs.LptPacket.Names.{Name, same_name}
+use Rattle.lpt_reception.specs.LptPacket.Names.{Name, same_name, IsName}
 use Rattle.lpt_reception.proofs.LptPacket.NameLemmas.{same_name-true}
 use Rattle.lpt_reception.specs.LptPart.declared.mode.Mode.{Mode}
 use Rattle.lpt_reception.specs.LptPart.declared.mode.Mode.TheVariants.{Any, Strict}
@@ -154,12 +154,13 @@ puts_outcome : (c : Config) (h g : History) (l : Lane) (side : Side) (o : Outcom
     (p : SentPacket)
     → IsConfig c
     → IsSound c h
+    → ((id : Name) (reason : Reason) → o ≡ Broken id reason → IsName id)
     → slice_get (outcome_puts c h side o) k ≡ Some p
     → IsPut c g (Deliver l) p
-puts_outcome c h g l Ground (Broken id reason) k p good sound e = absurd (no_place k p e)
-puts_outcome c h g l Craft (Broken id reason) k p good sound e =
-    report_put c h g (Deliver l) id reason k p good sound refl refl e
-puts_outcome c h g l side o k p good sound e = absurd (no_place k p e)
+puts_outcome c h g l Ground (Broken id reason) k p good sound named e = absurd (no_place k p e)
+puts_outcome c h g l Craft (Broken id reason) k p good sound named e =
+    report_put c h g (Deliver l) id reason k p good sound (named id reason refl).source_fits refl refl e
+puts_outcome c h g l side o k p good sound named e = absurd (no_place k p e)
 
 taken_before : (k l : Lane) (before : Option ℕ) (n : ℕ)
     → (if same_lane k l then None else before) ≡ Some n
@@ -213,6 +214,20 @@ hears c h l n d id o e tells = go (same_direction (lane_direction l) d) refl o t
   go true b (Broken i reason) tells = with_name (same_name i id)
   go true b o tells = inl refl
 
+-- what is broken off is a name
+broken_named : (c : Config) (h : History) (l : Lane) (n : ℕ) (id : Name) (reason : Reason)
+    → IsSound c h
+    → hand h l ≡ Some n
+    → outcome c h l ≡ Broken id reason
+    → IsName id
+broken_named c h l n id reason sound e is =
+    let d = lane_direction l in
+    let t =
+    subst (λ o. TellsOf c h d (in_hand c h l) o) is (judged_tells c h d (in_hand c h l)) in
+    let part = hand_current c h l n t.0 sound e t.1 in
+    subst (λ q. IsName q) (sym t.2.same_id)
+    (sound.openings d t.0.name part.opening part.is_current).is_name
+
 -- a delivery pays what it owes
 pub deliver_owes : (c : Config) (first : Contents) (h : History) (l : Lane) (n : ℕ)
     → IsConfig c
@@ -224,7 +239,8 @@ deliver_owes c first h l n good sound e = record {
   retires = λ d id r. absurd cc;
   puts =
       λ k p f. puts_outcome c h (entry c first h (Deliver l) ∷ h) l (receiver_side (lane_direction l))
-      (outcome c h l) k p good sound f;
+      (outcome c h l) k p good sound
+      (λ id reason is. broken_named c h l n id reason sound e is) f;
   takes = λ m k f. inl (taken_before l m (hand h m) k f);
   hears =
       λ d id. hears c h l n d id (outcome c h l) e

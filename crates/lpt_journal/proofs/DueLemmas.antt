@@ -6,13 +6,13 @@ use Rattle.lpt_reception.specs.LptPacket.declared.direction.Direction.{Direction
 use Rattle.lpt_reception.specs.LptPacket.Names.{Name, same_name, name_before}
 use Rattle.lpt_reception.proofs.LptPacket.NameLemmas.{same_name-refl, same_name-true, name_before-refl, name_before-chain}
 use Rattle.lpt_execution.specs.LptEvents.declared.config.Config.{Config}
-use Rattle.lpt_journal.specs.Due.{is_overdue, comes_first, first_of_two, earliest}
+use Rattle.lpt_journal.specs.Due.{is_overdue, comes_first, first_of_two, earliest, due}
 use Rattle.lpt_journal.specs.Journal.{History}
-use Rattle.lpt_journal.specs.Receivers.{heard, has_parts, open_names, heard_names}
+use Rattle.lpt_journal.specs.Receivers.{heard, has_parts, last_tick, open_names, heard_names}
 use Rattle.lpt_journal.specs.Senders.{once}
 use Rattle.lpt_journal.proofs.CountLemmas.{any-filter, reception_named}
 use Rattle.lpt_journal.proofs.MapLemmas.{among}
-use Rattle.lpt_journal.proofs.TestLemmas.{or_true_r}
+use Rattle.lpt_journal.proofs.TestLemmas.{and_r, or_true_r}
 
 -- ---- the first of some names
 
@@ -176,6 +176,21 @@ in_overdue c h d id =
     ∙ ap (λ t. is_overdue c h d id && t)
     (any-once id (filter (λ q. has_parts (heard c h d q)) (heard_names h d))
     ∙ reception_named c h d id)
+
+-- what is due is an open reception
+pub due_open : (c : Config) (h : History) (d : Direction) (id : Name)
+    → due c h d ≡ Some id
+    → has_parts (heard c h d id) ≡ true
+due_open c h d id e = go (due c h d) (earliest_is (last_tick c h d) (overdue_names c h d)) e where
+  go : (o : Option Name)
+      → Earliest (last_tick c h d) (overdue_names c h d) o
+      → o ≡ Some id
+      → has_parts (heard c h d id) ≡ true
+  go None it k = absurd cc
+  go (Some i) it k =
+      let same : i ≡ id = cc in
+      ap (λ n. has_parts (heard c h d n)) (sym same)
+      ∙ and_r (is_overdue c h d i) (has_parts (heard c h d i)) (sym (in_overdue c h d i) ∙ it.is_in)
 
 pub le_true : (a b : ℕ) → a ≤ b → nat_le a b ≡ true
 le_true a b h = grind (arith, nat_tests)

@@ -8,13 +8,13 @@ use Rattle.lpt_reception.specs.LptPacket.Names.{Name, IsName}
 use Rattle.lpt_reception.specs.LptPart.Splitting.{part_count}
 use Rattle.lpt_reception.proofs.LptPart.SplitLemmas.{part_of-fits}
 use Rattle.lpt_reception.specs.PartsOf.{IsMessage}
-use Rattle.lpt_execution.specs.LptEvents.NamedParts.{NamedPart, named}
+use Rattle.lpt_execution.specs.LptEvents.NamedParts.{NamedPart}
 use Rattle.lpt_execution.specs.LptEvents.declared.lane.Lane.{Lane}
 use Rattle.lpt_execution.specs.LptEvents.Lanes.{lane_direction, same_lane}
 use Rattle.lpt_execution.specs.LptEvents.declared.config.Config.{Config}
 use Rattle.lpt_execution.specs.LptEvents.declared.side.Side.TheVariants.{Craft}
 use Rattle.lpt_execution.specs.LptEvents.Arrivals.{APart, part_name, part_subtype}
-use Rattle.lpt_execution.specs.LptEvents.MadePackets.{nth_part}
+use Rattle.lpt_execution.specs.LptEvents.MadePackets.{nth_part, nth_named}
 use Rattle.lpt_execution.specs.LptEvents.declared.event.Event.TheVariants.{Open, Send, Take}
 use Rattle.lpt_execution.specs.LptEvents.declared.entry.Opening.{Opening}
 use Rattle.lpt_execution.specs.LptEvents.declared.fault.StepFault.TheVariants.{InUse, Short, Long, TooMany, NotOpen, NoSuchPart, NotHeld, HandFull}
@@ -62,9 +62,10 @@ only_opening d id o u f = go (is_opening_of d id o) f where
 -- an opening pays what it owes
 pub open_owes : (c : Config) (first : Contents) (h : History) (d : Direction) (id : Name) (m : List ℕ)
     → IsSound c h
+    → IsName id
     → refusal c h (Open d id m) ≡ None
     → Owes c h (entry c first h (Open d id m))
-open_owes c first h d id m sound accepted =
+open_owes c first h d id m sound named accepted =
     let o : Opening = record { place = length h; direction = d; id = id; message = m } in
     let t =
     four_pass (not (is_free (sender h d id))) (nat_le (length m) c.part_size)
@@ -82,6 +83,8 @@ open_owes c first h d id m sound accepted =
           let found = opening_found e i (o ∷ []) u f in
           let same : o ≡ u = only_opening e i o u f in
           record {
+            is_name =
+                subst (λ n. IsName n) (ap (λ (v : Opening). v.id) same ∙ found.1) named;
             free =
                 (λ j. current h (sym found.0 j) (sym found.1 j))
                 ∙ ap (λ (v : Opening). current h v.direction v.id) (sym same) ∙ free;
@@ -117,15 +120,16 @@ packet_arrives : (c : Config) (h : History) (d : Direction) (id : Name) (m : Lis
     → k ≤ part_count (length m) c.part_size
     → arrival_of c (record {
       direction = d;
-      octets = part_packet c h d (nth_part c.part_size id m k);
-    }) ≡ APart (named (nth_part c.part_size id m k))
+      octets = part_packet c h d id.source (nth_part c.part_size id.id m k);
+    }) ≡ APart (nth_named c.part_size id m k)
 packet_arrives c h Up id m k good sound splits i one last =
     let counts : AreCounts (count h Up) 0 0 =
     record { count_fits = omega arith; counter_fits = omega arith; time_fits = omega arith } in
-    part_arrives c Up (count h Up) 0 0 (nth_part c.part_size id m k) good counts i.id_fits
+    part_arrives c Up id.source (count h Up) 0 0 (nth_part c.part_size id.id m k) good counts
+    i.source_fits i.id_fits
     (part_of-fits m c.part_size k good.part_size_fits splits.long splits.short one last)
 packet_arrives c h Down id m k good sound splits i one last =
-    let q = nth_part c.part_size id m k in
+    let q = nth_part c.part_size id.id m k in
     let counter = type_counter h 13 (part_subtype Down q.kind) in
     let counts : AreCounts (count h Down) counter (clock c h Craft) =
     record {
@@ -133,7 +137,8 @@ packet_arrives c h Down id m k good sound splits i one last =
       counter_fits = omega arith;
       time_fits = sound.clocks Craft;
     } in
-    part_arrives c Down (count h Down) counter (clock c h Craft) q good counts i.id_fits
+    part_arrives c Down id.source (count h Down) counter (clock c h Craft) q good counts i.source_fits
+    i.id_fits
     (part_of-fits m c.part_size k good.part_size_fits splits.long splits.short one last)
 
 pub only_element : {A : Type 0} (x : A) (n : ℕ) (y : A) → slice_get (x ∷ []) n ≡ Some y → x ≡ y
@@ -175,13 +180,13 @@ send_owes c first h d id k good sound i accepted =
         not_lt (part_count (length m) c.part_size) k
         (or_false_r (k == 0) (nat_lt (part_count (length m) c.part_size) k) u) in
         let now : IsPartOfCurrent c (entry c first h (Send d id k) ∷ h) d
-        (named (nth_part c.part_size id m k)) =
+        (nth_named c.part_size id m k) =
         record {
           opening = o.0;
           is_current = o.1;
           from_one = one;
           to_last = subst (λ b. k ≤ part_count (length b) c.part_size) (sym o.2) last;
-          is_part = ap (λ b. named (nth_part c.part_size id b k)) (sym o.2);
+          is_part = ap (λ b. nth_named c.part_size id b k) (sym o.2);
         } in
         let arrives = packet_arrives c h d id m k good sound splits i one last in
         subst (λ x. IsPut c (entry c first h (Send d id k) ∷ h) (Send d id k) x)

@@ -44,7 +44,7 @@ use Rattle.lpt_journal.proofs.DamageEvents.{damage_owes}
 use Rattle.lpt_journal.proofs.PlainEvents.{plain_owes}
 use Rattle.lpt_journal.proofs.WorkEvents.{apply_owes}
 use Rattle.lpt_journal.proofs.UpOctets.{AreUpOctets, up_octets_start, up_octets_step}
-use Rattle.lpt_journal.proofs.AnswerLengths.{answer_fits}
+use Rattle.lpt_journal.proofs.AnswerLengths.{answer_fits, source_fits}
 use Rattle.lpt_journal.proofs.TimeEvents.{tick_owes, expire_owes}
 use Rattle.lpt_journal.proofs.Deliveries.{delivery_sound, deliver_owes}
 use Rattle.lpt_journal.proofs.Releasing.{OwesReleases, ArePast, opening_is}
@@ -78,10 +78,11 @@ pub owes : (c : Config) (first : Contents) (h : History) (e : Event)
     → AreUpOctets c h
     → IsEnabled c h e
     → Owes c h (entry c first h e)
-owes c first h (Open d id m) good sound up can = open_owes c first h d id m sound can.accepted
+owes c first h (Open d id m) good sound up can =
+    open_owes c first h d id m sound can.in_range.0 can.accepted
 owes c first h (Send d id k) good sound up can = send_owes c first h d id k good sound can.in_range.0 can.accepted
-owes c first h (Plain flags service subtype body) good sound up can =
-    plain_owes c first h flags service subtype body good sound can.in_range can.accepted
+owes c first h (Plain source flags service subtype body) good sound up can =
+    plain_owes c first h source flags service subtype body good sound can.in_range can.accepted
 owes c first h (Damage d b) good sound up can = damage_owes c first h d b sound can.accepted
 owes c first h (Tick side) good sound up can = tick_owes c first h side sound can.accepted
 owes c first h (Expire side) good sound up can = expire_owes c first h side good sound
@@ -90,7 +91,9 @@ owes c first h (Deliver l) good sound up can =
     let n = delivered c h l can.accepted in deliver_owes c first h l n.0 good sound n.1
 owes c first h Apply good sound up can =
     apply_owes c first h good sound
-    (λ r e. answer_fits c.apid (memories c first h) r.message (up.requests (applied h) r e))
+    (λ r e.
+    let octets = up.requests (applied h) r e in
+    (answer_fits c.apid (memories c first h) r.message octets, source_fits c.apid r.message octets))
 owes c first h (Retire d id) good sound up can = retire_owes c first h d id sound can.accepted
 owes c first h (Restart side) good sound up can = restart_owes c first h side sound
 owes c first h e good sound up can = quiet_owes c first h e refl refl sound

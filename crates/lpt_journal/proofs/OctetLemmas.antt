@@ -4,7 +4,7 @@ use Rattle.std.specs.Option.{option_map_or}
 use Rattle.std.specs.Result.{result_ok}
 use Rattle.lpt_reception.specs.LptPacket.declared.direction.Direction.TheVariants.{Up, Down}
 use Rattle.lpt_reception.specs.LptPacket.Checksums.{checksum}
-use Rattle.lpt_reception.specs.LptPacket.Names.{Name}
+use Rattle.lpt_reception.specs.LptPacket.Names.{Name, named_by}
 use Rattle.lpt_reception.specs.LptPacket.Numbers.{be, IsOctets}
 use Rattle.lpt_reception.specs.LptPacket.Packets.{Fields, Sight, IdlePacket, APacket, packet_type, header, spelling, seen}
 use Rattle.lpt_reception.proofs.LptPacket.OctetLists.{IsOctets-take, IsOctets-drop}
@@ -87,12 +87,12 @@ up_subtype_small First = omega arith
 up_subtype_small kind = omega arith
 
 -- a part of a message of octets goes up in octets
-pub part_octets : (c : Config) (count k : ℕ) (id : Name) (m : List ℕ)
+pub part_octets : (c : Config) (peer count k id : ℕ) (m : List ℕ)
     → IsOctets m
-    → IsOctets (part_made c Up count 0 0 (nth_part c.part_size id m k))
-part_octets c count k id m o =
+    → IsOctets (part_made c Up peer count 0 0 (nth_part c.part_size id m k))
+part_octets c peer count k id m o =
     let q = nth_part c.part_size id m k in
-    made_octets c c.source count 0 13 (part_subtype Up q.kind) (body_of q) (omega arith) (omega arith)
+    made_octets c peer count 0 13 (part_subtype Up q.kind) (body_of q) (omega arith) (omega arith)
     (up_subtype_small q.kind)
     (body_of_octets q
     (IsOctets-take c.part_size (drop ((k - 1) * c.part_size) m)
@@ -100,43 +100,43 @@ part_octets c count k id m o =
 
 -- ---- requests
 
-part_is_none : (p : ℕ) (body : List ℕ) (kind : Kind) (r : List ℕ)
-    → part_arrival p body kind ≡ ARequest r
+part_is_none : (p source : ℕ) (body : List ℕ) (kind : Kind) (r : List ℕ)
+    → part_arrival p source body kind ≡ ARequest r
     → ⊥
-part_is_none p body kind r = go (part_in p kind body) where
-  go : (o : Option Piece) → option_map_or (λ q. APart (named q)) o NoPart ≡ ARequest r → ⊥
+part_is_none p source body kind r = go (part_in p kind body) where
+  go : (o : Option Piece) → option_map_or (λ q. APart (named source q)) o NoPart ≡ ARequest r → ⊥
   go None e = cc
   go (Some q) e = cc
 
-abort_is_none : (body r : List ℕ) → abort_arrival body ≡ ARequest r → ⊥
-abort_is_none body r = go (abort_in body) where
-  go : (o : Option (Name × Reason)) → option_map_or (λ a. AnAbort a.0 a.1) o NoPart ≡ ARequest r → ⊥
+abort_is_none : (source : ℕ) (body r : List ℕ) → abort_arrival source body ≡ ARequest r → ⊥
+abort_is_none source body r = go (abort_in body) where
+  go : (o : Option (ℕ × Reason)) → option_map_or (λ a. AnAbort (named_by source a.0) a.1) o NoPart ≡ ARequest r → ⊥
   go None e = cc
   go (Some a) e = cc
 
 report_is_none : (t : Telemetry) (r : List ℕ) → report_arrival t ≡ ARequest r → ⊥
 report_is_none t r = go ((t.service == 13) && (t.subtype == 16)) where
   go : (b : Bool)
-      → (if b then abort_arrival t.body else AReport t.service t.subtype) ≡ ARequest r
+      → (if b then abort_arrival t.destination t.body else AReport t.service t.subtype) ≡ ARequest r
       → ⊥
-  go true e = abort_is_none t.body r e
+  go true e = abort_is_none t.destination t.body r e
   go false e = cc
 
 telemetry_is_none : (p : ℕ) (t : Telemetry) (r : List ℕ) → telemetry_arrival p t ≡ ARequest r → ⊥
 telemetry_is_none p t r = go (carried_kind Down t.service t.subtype) where
   go : (o : Option Kind)
-      → option_map_or (part_arrival p t.body) o (report_arrival t) ≡ ARequest r
+      → option_map_or (part_arrival p t.destination t.body) o (report_arrival t) ≡ ARequest r
       → ⊥
   go None e = report_is_none t r e
-  go (Some kind) e = part_is_none p t.body kind r e
+  go (Some kind) e = part_is_none p t.destination t.body kind r e
 
 command_is : (p : ℕ) (b : List ℕ) (c : Command) (r : List ℕ)
     → command_arrival p b c ≡ ARequest r
     → b ≡ r
 command_is p b c r = go (carried_kind Up c.service c.subtype) where
-  go : (o : Option Kind) → option_map_or (part_arrival p c.body) o (ARequest b) ≡ ARequest r → b ≡ r
+  go : (o : Option Kind) → option_map_or (part_arrival p c.source c.body) o (ARequest b) ≡ ARequest r → b ≡ r
   go None e = cc
-  go (Some kind) e = absurd (part_is_none p c.body kind r e)
+  go (Some kind) e = absurd (part_is_none p c.source c.body kind r e)
 
 packet_is : (side : Side) (p : ℕ) (b : List ℕ) (f : Fields) (r : List ℕ)
     → packet_arrival side p b f ≡ ARequest r

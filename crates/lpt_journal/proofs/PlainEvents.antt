@@ -20,23 +20,24 @@ use Rattle.lpt_execution.specs.LptMemory.Memories.{Contents}
 use Rattle.lpt_journal.proofs.TestLemmas.{two_pass}
 
 -- a plain request pays what it owes: its packet is read, and is no part
-pub plain_owes : (c : Config) (first : Contents) (h : History) (flags service subtype : ℕ) (body : List ℕ)
+pub plain_owes : (c : Config) (first : Contents) (h : History) (source flags service subtype : ℕ)
+    (body : List ℕ)
     → IsConfig c
     → IsSound c h
-    → IsEvent (Plain flags service subtype body)
-    → refusal c h (Plain flags service subtype body) ≡ None
-    → Owes c h (entry c first h (Plain flags service subtype body))
-plain_owes c first h flags service subtype body good sound fits accepted =
+    → IsEvent (Plain source flags service subtype body)
+    → refusal c h (Plain source flags service subtype body) ≡ None
+    → Owes c h (entry c first h (Plain source flags service subtype body))
+plain_owes c first h source flags service subtype body good sound fits accepted =
     let t =
     two_pass (is_part_request service subtype) (is_too_long c (length body)) PartRequest Long
     accepted in
-    let packet = plain_packet c h flags service subtype body in
+    let packet = plain_packet c h source flags service subtype body in
     let arrives =
-    plain_arrives c c.source (count h Up) flags service subtype body good good.source_fits (omega arith) fits.0 fits.1
-    fits.2 t.0 t.1 in
-    calm_owes c first h (Plain flags service subtype body) refl sound
-    (λ k p f. subst (λ x. IsPut c (entry c first h (Plain flags service subtype body) ∷ h)
-    (Plain flags service subtype body) x)
+    plain_arrives c source (count h Up) flags service subtype body good fits.0 (omega arith) fits.1
+    fits.2 fits.3 t.0 t.1 in
+    calm_owes c first h (Plain source flags service subtype body) refl sound
+    (λ k p f. subst (λ x. IsPut c (entry c first h (Plain source flags service subtype body) ∷ h)
+    (Plain source flags service subtype body) x)
     (only_element _ k p f)
     (record {
       sound = record {

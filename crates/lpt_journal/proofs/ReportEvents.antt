@@ -1,5 +1,5 @@
 -- An abortion report that the spacecraft puts is read, and is no part, whatever event puts it.
-use Rattle.std.proofs.Common.{◌≡◌, ◌∙◌, ap, sym, subst, ℕ, Bool, false, Some, None, arith}
+use Rattle.std.proofs.Common.{◌≡◌, ◌∙◌, ap, sym, subst, ℕ, Bool, false, Some, None, arith, ◌<◌}
 use Rattle.std.specs.List.{slice_get}
 use Rattle.lpt_reception.specs.LptPacket.declared.direction.Direction.TheVariants.{Down}
 use Rattle.lpt_reception.specs.LptPacket.Names.{Name}
@@ -25,11 +25,12 @@ pub report_put : (c : Config) (h g : History) (e : Event) (id : Name) (reason : 
     (p : SentPacket)
     → IsConfig c
     → IsSound c h
+    → id.source < 65536
     → damages e ≡ false
     → tag_put e ≡ None
     → slice_get (abort_puts c h Craft id reason) k ≡ Some p
     → IsPut c g e p
-report_put c h g e id reason k p good sound no_noise no_tag f =
+report_put c h g e id reason k p good sound from no_noise no_tag f =
     let counter = type_counter h 13 16 in
     let counts : AreCounts (count h Down) counter (clock c h Craft) =
     record {
@@ -37,7 +38,7 @@ report_put c h g e id reason k p good sound no_noise no_tag f =
       counter_fits = omega arith;
       time_fits = sound.clocks Craft;
     } in
-    let it = abort_arrives c (count h Down) counter (clock c h Craft) id reason good counts in
+    let it = abort_arrives c (count h Down) counter (clock c h Craft) id reason good counts from in
     let made : SentPacket = record {
       direction = Down;
       octets = abort_made c (count h Down) counter (clock c h Craft) id reason;

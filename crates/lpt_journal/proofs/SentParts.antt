@@ -4,7 +4,7 @@ use Rattle.std.specs.Option.{option_map_or}
 use Rattle.std.specs.Result.{result_ok}
 use Rattle.lpt_reception.specs.LptPacket.declared.direction.Direction.{Direction}
 use Rattle.lpt_reception.specs.LptPacket.declared.direction.Direction.TheVariants.{Up, Down}
-use Rattle.lpt_reception.specs.LptPacket.Names.{Name}
+use Rattle.lpt_reception.specs.LptPacket.Names.{Name, named_by}
 use Rattle.lpt_reception.specs.LptPacket.Numbers.{word_at}
 use Rattle.lpt_reception.specs.LptPacket.Packets.{Fields, spelling}
 use Rattle.lpt_reception.specs.LptPacket.Ranges.{InRange}
@@ -63,12 +63,12 @@ packet_arrives side p f r =
     ap (sight_arrival side f.apid p b) (seen_again f r)
     ∙ ap (λ t. if t then packet_arrival side p b f else Foreign) (eq_true f.apid f.apid refl)
 
-body_arrives : (p : ℕ) (q : Piece)
+body_arrives : (p source : ℕ) (q : Piece)
     → q.id < 65536
     → PartFits q.kind q.number (length q.octets) p
-    → part_arrival p (body_of q) q.kind ≡ APart (named q)
-body_arrives p q i fits =
-    ap (λ r. option_map_or (λ x. APart (named x)) (result_ok r) NoPart) (part_verdict-body_of p q i fits)
+    → part_arrival p source (body_of q) q.kind ≡ APart (named source q)
+body_arrives p source q i fits =
+    ap (λ r. option_map_or (λ x. APart (named source x)) (result_ok r) NoPart) (part_verdict-body_of p q i fits)
 
 command_arrives : (apid p : ℕ) (c : Command)
     → CommandFits c
@@ -110,14 +110,15 @@ pub record AreCounts (count counter time : ℕ) : Type 0 where
   pub time_fits : time < 2 ^ 32
 
 -- a part that fits arrives as that part
-pub part_arrives : (c : Config) (d : Direction) (count counter time : ℕ) (q : Piece)
+pub part_arrives : (c : Config) (d : Direction) (peer count counter time : ℕ) (q : Piece)
     → IsConfig c
     → AreCounts count counter time
+    → peer < 65536
     → q.id < 65536
     → PartFits q.kind q.number (length q.octets) c.part_size
-    → arrival_in c d (part_made c d count counter time q) ≡ APart (named q)
-part_arrives c Up count counter time q good counts i fits =
-    let t = command_made c c.source count 0 13 (part_subtype Up q.kind) (body_of q) in
+    → arrival_in c d (part_made c d peer count counter time q) ≡ APart (named peer q)
+part_arrives c Up peer count counter time q good counts from i fits =
+    let t = command_made c peer count 0 13 (part_subtype Up q.kind) (body_of q) in
     let short : length (body_of q) ≤ 65529 =
     omega (arith, length-body_of q, fits.length_fits.greatest, good.part_size_fits.1) in
     let in_range : CommandFits t = record {
@@ -129,15 +130,15 @@ part_arrives c Up count counter time q good counts i fits =
           };
       service_fits = omega arith;
       subtype_fits = part_subtype_small Up q.kind;
-      source_fits = good.source_fits;
+      source_fits = from;
       body_fits = short;
     } in
     command_arrives c.apid c.part_size t in_range refl
-    ∙ ap (λ o. option_map_or (part_arrival c.part_size (body_of q)) o
+    ∙ ap (λ o. option_map_or (part_arrival c.part_size peer (body_of q)) o
     (ARequest (spelling (packet_of t)))) (carried_kind-part_subtype Up q.kind)
-    ∙ body_arrives c.part_size q i fits
-part_arrives c Down count counter time q good counts i fits =
-    let t = telemetry_made c c.source count counter time 13 (part_subtype Down q.kind) (body_of q) in
+    ∙ body_arrives c.part_size peer q i fits
+part_arrives c Down peer count counter time q good counts from i fits =
+    let t = telemetry_made c peer count counter time 13 (part_subtype Down q.kind) (body_of q) in
     let short : length (body_of q) ≤ 65523 =
     omega (arith, length-body_of q, fits.length_fits.greatest, good.part_size_fits.1) in
     let in_range : TelemetryFits t = record {
@@ -150,14 +151,14 @@ part_arrives c Down count counter time q good counts i fits =
       service_fits = omega arith;
       subtype_fits = part_subtype_small Down q.kind;
       counter_fits = counts.counter_fits;
-      destination_fits = good.source_fits;
+      destination_fits = from;
       time_fits = counts.time_fits;
       body_fits = short;
     } in
     telemetry_arrives c.apid c.part_size t in_range refl
-    ∙ ap (λ o. option_map_or (part_arrival c.part_size (body_of q)) o (report_arrival t))
+    ∙ ap (λ o. option_map_or (part_arrival c.part_size peer (body_of q)) o (report_arrival t))
     (carried_kind-part_subtype Down q.kind)
-    ∙ body_arrives c.part_size q i fits
+    ∙ body_arrives c.part_size peer q i fits
 
 -- ---- plain requests
 
@@ -186,19 +187,19 @@ plain_arrives c peer count flags service subtype body good from counts f s t no_
     } in
     command_arrives c.apid c.part_size (command_made c peer count flags service subtype body) in_range
     refl
-    ∙ ap (λ (o : Option Kind). option_map_or (part_arrival c.part_size body) o
+    ∙ ap (λ (o : Option Kind). option_map_or (part_arrival c.part_size peer body) o
     (ARequest (tc_made c peer count flags service subtype body)))
     (none_is (carried_kind Up service subtype) no_part)
 
 -- ---- abortion reports
 
-length-abort_body : (id : Name) (reason : Reason) → length (abort_body id reason) ≡ 3
+length-abort_body : (id : ℕ) (reason : Reason) → length (abort_body id reason) ≡ 3
 unfolding abort_body
 length-abort_body id reason = refl
 
 -- a report's body is read
-abort_read : (id : Name) (reason : Reason)
-    → (n : Name) × (abort_verdict (abort_body id reason) ≡ Ok (n, reason))
+abort_read : (id : ℕ) (reason : Reason)
+    → (n : ℕ) × (abort_verdict (abort_body id reason) ≡ Ok (n, reason))
 unfolding abort_body abort_verdict
 abort_read id Expired = (word_at (abort_body id Expired) 0, refl)
 abort_read id Discontinuity = (word_at (abort_body id Discontinuity) 0, refl)
@@ -208,12 +209,13 @@ abort_read id Conflict = (word_at (abort_body id Conflict) 0, refl)
 pub abort_arrives : (c : Config) (count counter time : ℕ) (id : Name) (reason : Reason)
     → IsConfig c
     → AreCounts count counter time
+    → id.source < 65536
     → (n : Name)
     × (arrival_in c Down (abort_made c count counter time id reason) ≡ AnAbort n reason)
-abort_arrives c count counter time id reason good counts =
-    let t = telemetry_made c c.source count counter time 13 16 (abort_body id reason) in
-    let short : length (abort_body id reason) ≤ 65523 =
-    omega (arith, length-abort_body id reason) in
+abort_arrives c count counter time id reason good counts from =
+    let t = telemetry_made c id.source count counter time 13 16 (abort_body id.id reason) in
+    let short : length (abort_body id.id reason) ≤ 65523 =
+    omega (arith, length-abort_body id.id reason) in
     let in_range : TelemetryFits t = record {
       head_fits =
           record {
@@ -224,12 +226,12 @@ abort_arrives c count counter time id reason good counts =
       service_fits = omega arith;
       subtype_fits = omega arith;
       counter_fits = counts.counter_fits;
-      destination_fits = good.source_fits;
+      destination_fits = from;
       time_fits = counts.time_fits;
       body_fits = short;
     } in
-    let read = abort_read id reason in (
-      read.0,
+    let read = abort_read id.id reason in (
+      named_by id.source read.0,
       telemetry_arrives c.apid c.part_size t in_range refl
-          ∙ ap (λ r. option_map_or (λ a. AnAbort a.0 a.1) (result_ok r) NoPart) read.1,
+          ∙ ap (λ r. option_map_or (λ a. AnAbort (named_by id.source a.0) a.1) (result_ok r) NoPart) read.1,
     )

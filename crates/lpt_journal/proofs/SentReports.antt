@@ -76,9 +76,9 @@ report_arrives c peer count counter time service subtype body good fits counts s
       body_fits = short;
     } in
     telemetry_arrives c.apid c.part_size it in_range refl
-    ∙ ap (λ (o : Option Kind). option_map_or (part_arrival c.part_size body) o (report_arrival it))
+    ∙ ap (λ (o : Option Kind). option_map_or (part_arrival c.part_size peer body) o (report_arrival it))
     (carries_none service subtype other)
-    ∙ ap (λ b. if b && (subtype == 16) then abort_arrival body else AReport service subtype) other
+    ∙ ap (λ b. if b && (subtype == 16) then abort_arrival peer body else AReport service subtype) other
 
 -- ---- reports
 
@@ -102,13 +102,14 @@ subtype_small Accepted = omega arith
 subtype_small k = omega arith
 
 -- of reports that fit all packets are made so
-pub all_made : (c : Config) (packets : List (List ℕ)) (time : ℕ) (rs : List Report)
+pub all_made : (c : Config) (peer : ℕ) (packets : List (List ℕ)) (time : ℕ) (rs : List Report)
     → IsConfig c
+    → peer < 65536
     → time < 2 ^ 32
     → AllByRecursion IsSendable rs
-    → AllByRecursion (IsReportMade c) (executions.reports_after c packets time rs)
-all_made c packets time [] good t all = tt
-all_made c packets time (r ∷ rs) good t all =
+    → AllByRecursion (IsReportMade c) (executions.reports_after c peer packets time rs)
+all_made c peer packets time [] good to t all = tt
+all_made c peer packets time (r ∷ rs) good to t all =
     let count = count_after packets in
     let counter = counter_after packets (service_of r.kind) (subtype_of r.kind) in
     let counts : AreCounts count counter time =
@@ -116,13 +117,14 @@ all_made c packets time (r ∷ rs) good t all =
       record {
         fits = all.0.fits;
         arrives =
-            report_arrives c c.source count counter time (service_of r.kind) (subtype_of r.kind)
-            r.body good good.source_fits counts (service_small r.kind) (subtype_small r.kind) all.0.no_part all.0.fits;
+            report_arrives c peer count counter time (service_of r.kind) (subtype_of r.kind)
+            r.body good to counts (service_small r.kind) (subtype_small r.kind) all.0.no_part all.0.fits;
         long =
             length-spelling_tm
-            (telemetry_made c c.source count counter time (service_of r.kind) (subtype_of r.kind) r.body);
+            (telemetry_made c peer count counter time (service_of r.kind) (subtype_of r.kind) r.body);
       },
-      all_made c (with_all packets (report_after c packets time r ∷ [])) time rs good t all.1,
+      all_made c peer (with_all packets (report_after c peer packets time r ∷ [])) time rs good to t
+          all.1,
     )
 
 -- ---- the reports of an execution

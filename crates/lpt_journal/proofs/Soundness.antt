@@ -36,6 +36,7 @@ later c h x d id o k =
     record {
       same_direction = k.same_direction;
       same_id = k.same_id;
+      is_name = k.is_name;
       place_fits = omega (arith, k.place_fits);
       splits = k.splits;
     }
@@ -58,6 +59,7 @@ openings_step c h x owes sound d id o e =
           record {
             same_direction = of.0;
             same_id = of.1;
+            is_name = fresh.is_name;
             place_fits = omega (arith, fresh.place);
             splits = fresh.splits;
           }

@@ -4,7 +4,7 @@ use Rattle.std.specs.List.{slice_get, find}
 use Rattle.std.specs.Option.{option_or}
 use Rattle.std.specs.FinMap as maps
 use Rattle.lpt_reception.specs.LptPacket.declared.direction.Direction.{Direction}
-use Rattle.lpt_reception.specs.LptPacket.Names.{Name, same_name}
+use Rattle.lpt_reception.specs.LptPacket.Names.{Name, same_name, IsName}
 use Rattle.lpt_reception.proofs.LptPacket.NameLemmas.{same_name-true}
 use Rattle.lpt_reception.specs.Received.{Kept as KeptPart, Parts, no_parts}
 use Rattle.lpt_reception.specs.PartsOf.{IsMessage}
@@ -32,6 +32,7 @@ pub record IsKnown (c : Config) (h : History) (d : Direction) (id : Name)
     (o : Opening) : Type 0 where
   pub same_direction : o.direction ≡ d
   pub same_id : o.id ≡ id
+  pub is_name : IsName id
   pub place_fits : o.place < length h
   pub splits : IsMessage o.message c.part_size
 
@@ -94,6 +95,7 @@ pub record IsSound (c : Config) (h : History) : Type 0 where
 
 -- an opening is of a free name, at the entry's place, and its message can be split
 pub record IsNew (c : Config) (h : History) (d : Direction) (id : Name) (o : Opening) : Type 0 where
+  pub is_name : IsName id
   pub free : current h d id ≡ None
   pub place : o.place ≡ length h
   pub splits : IsMessage o.message c.part_size

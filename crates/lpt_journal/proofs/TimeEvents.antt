@@ -2,8 +2,9 @@
 use Rattle.std.proofs.Common.{◌≡◌, ◌∙◌, ap, sym, subst, refl, ℕ, ◌+◌, ◌^◌, ◌<◌, ◌==◌, Bool, true, false, ◌&&◌, inl, ◌∷◌, Option, Some, None, if◌then◌else◌, arith}
 use Rattle.std.specs.List.{slice_get}
 use Rattle.std.proofs.lemmas.Bool.Decides.{nat_tests}
+use Rattle.lpt_reception.specs.LptPacket.declared.direction.Direction.{Direction}
 use Rattle.lpt_reception.specs.LptPacket.declared.direction.Direction.TheVariants.{Down}
-use Rattle.lpt_reception.specs.LptPacket.Names.{Name}
+use Rattle.lpt_reception.specs.LptPacket.Names.{Name, IsName}
 use Rattle.lpt_reception.specs.LptPart.declared.reason.Reason.{Reason}
 use Rattle.lpt_reception.specs.LptPart.declared.reason.Reason.TheVariants.{Expired as TimedOut}
 use Rattle.lpt_execution.specs.LptEvents.declared.config.Config.{Config}
@@ -20,6 +21,8 @@ use Rattle.lpt_execution.specs.LptEvents.Configs.{IsConfig}
 use Rattle.lpt_journal.specs.Replies.{abort_puts, expiry_puts, entry}
 use Rattle.lpt_journal.specs.Refusals.{refusal}
 use Rattle.lpt_journal.specs.Senders.{count, type_counter}
+use Rattle.lpt_journal.proofs.ClosedLemmas.{open_opening}
+use Rattle.lpt_journal.proofs.DueLemmas.{due_open}
 use Rattle.lpt_journal.proofs.Events.{only_element}
 use Rattle.lpt_journal.proofs.ReportEvents.{report_put}
 use Rattle.lpt_journal.proofs.TestLemmas.{one_passes, no_place}
@@ -69,12 +72,22 @@ tick_owes c first h t sound accepted =
 puts_report : (c : Config) (h g : History) (side : Side) (o : Option Name) (k : ℕ) (p : SentPacket)
     → IsConfig c
     → IsSound c h
+    → ((id : Name) → o ≡ Some id → IsName id)
     → slice_get (expiry_puts c h side o) k ≡ Some p
     → IsPut c g (Expire side) p
-puts_report c h g side None k p good sound f = absurd (no_place k p f)
-puts_report c h g Ground (Some id) k p good sound f = absurd (no_place k p f)
-puts_report c h g Craft (Some id) k p good sound f =
-    report_put c h g (Expire Craft) id TimedOut k p good sound refl refl f
+puts_report c h g side None k p good sound named f = absurd (no_place k p f)
+puts_report c h g Ground (Some id) k p good sound named f = absurd (no_place k p f)
+puts_report c h g Craft (Some id) k p good sound named f =
+    report_put c h g (Expire Craft) id TimedOut k p good sound (named id refl).source_fits refl refl f
+
+-- what is due is a name
+due_named : (c : Config) (h : History) (d : Direction) (id : Name)
+    → IsSound c h
+    → due c h d ≡ Some id
+    → IsName id
+due_named c h d id sound e =
+    let o = open_opening c h d id sound (due_open c h d id e) in
+    (sound.openings d id o.0 o.1).is_name
 
 -- the end of what is due pays what it owes
 pub expire_owes : (c : Config) (first : Contents) (h : History) (side : Side)
@@ -86,7 +99,9 @@ expire_owes c first h side good sound =
     record {
       opens = λ e j u f. absurd cc;
       retires = λ e j r. absurd cc;
-      puts = λ k p f. puts_report c h (x ∷ h) side (due c h (direction_to side)) k p good sound f;
+      puts =
+          λ k p f. puts_report c h (x ∷ h) side (due c h (direction_to side)) k p good sound
+          (λ id e. due_named c h (direction_to side) id sound e) f;
       takes = λ l n f. inl f;
       hears = λ d id. kept_or_none c h d id
           (same_side side (receiver_side d) && ends x.reply.answer id);

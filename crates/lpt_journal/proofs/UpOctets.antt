@@ -92,7 +92,7 @@ send_octets c h Up id k had (OpenSender m) is n p f up =
     let o = open_current h Up id m is in
     let message : IsOctets m = subst (λ b. IsOctets b) o.2 (had.openings id o.0 o.1) in
     subst (λ (x : SentPacket). IsOctets x.octets) (only_element _ n p f)
-    (part_octets c (count h Up) k id m message)
+    (part_octets c id.source (count h Up) k id.id m message)
 
 -- a report of an abortion goes down
 aborts_down : (c : Config) (h : History) (side : Side) (id : Name) (reason : Reason) (n : ℕ)
@@ -125,10 +125,10 @@ put_octets : (c : Config) (first : Contents) (h : History) (e : Event)
     → IsOctets p.octets
 put_octets c first h (Send d id k) can had n p f up =
     send_octets c h d id k had (sender h d id) refl n p f up
-put_octets c first h (Plain flags service subtype body) can had n p f up =
+put_octets c first h (Plain source flags service subtype body) can had n p f up =
     let fits = can.in_range in
     subst (λ (x : SentPacket). IsOctets x.octets) (only_element _ n p f)
-    (made_octets c c.source (count h Up) flags service subtype body fits.0 fits.1 fits.2 fits.3)
+    (made_octets c source (count h Up) flags service subtype body fits.1 fits.2 fits.3 fits.4)
 put_octets c first h (Damage d b) can had n p f up =
     subst (λ (x : SentPacket). IsOctets x.octets) (only_element _ n p f) can.in_range
 put_octets c first h (Deliver l) can had n p f up = absurd (go (outcome c h l) f) where

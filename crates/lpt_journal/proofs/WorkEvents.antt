@@ -2,12 +2,12 @@
 use Rattle.std.proofs.Common.{◌≡◌, ◌∙◌, ap, sym, subst, refl, ℕ, zero, suc, ◌+◌, nat_lt, ◌≤◌, ◌<◌, Bool, true, false, not, if◌then◌else◌, inl, List, [], ◌∷◌, length, map, Option, Some, None, arith}
 use Rattle.std.proofs.lemmas.Bool.Decides.{nat_tests}
 use Rattle.std.specs.List.{slice_get, find, filter, AllByRecursion}
-use Rattle.std.specs.Option.{is_some, option_map_or}
+use Rattle.std.specs.Option.{is_some, option_map_or, option_map}
 use Rattle.lpt_reception.specs.LptPacket.declared.direction.Direction.{Direction}
 use Rattle.lpt_reception.specs.LptPacket.declared.direction.Direction.TheVariants.{Down}
-use Rattle.lpt_reception.specs.LptPacket.Names.{Name}
+use Rattle.lpt_reception.specs.LptPacket.Names.{Name, IsName, named_by}
 use Rattle.lpt_reception.specs.PartsOf.{IsMessage}
-use Rattle.lpt_ledger.specs.LeastFree.{name_count}
+use Rattle.lpt_ledger.specs.LeastFree.{name_count, first_of_numbers}
 use Rattle.lpt_ledger.proofs.FirstLemmas.{IsFirst, IsFirst-first_of_numbers}
 use Rattle.lpt_execution.specs.LptMemory.Effects.{AnswerFits}
 use Rattle.lpt_execution.specs.LptMemory.Memories.{Contents}
@@ -20,9 +20,9 @@ use Rattle.lpt_execution.specs.LptEvents.declared.entry.Release.{Release}
 use Rattle.lpt_execution.specs.LptEvents.declared.event.Event.TheVariants.{Apply}
 use Rattle.lpt_execution.specs.LptEvents.declared.side.Side.TheVariants.{Craft}
 use Rattle.lpt_execution.specs.Endings.{is_small}
-use Rattle.lpt_execution.specs.Reporting.{message_reports, link_packets, large_packets, opened_of}
+use Rattle.lpt_execution.specs.Reporting.{message_reports, request_source, link_packets, large_packets, opened_of}
 use Rattle.lpt_execution.specs.declared.ending.Report.{Report}
-use Rattle.lpt_journal.specs.Executions.{effect_of, ending_of, front_reports, front_packets, opened_down}
+use Rattle.lpt_journal.specs.Executions.{effect_of, ending_of, front_reports, front_source, front_packets, opened_down}
 use Rattle.lpt_journal.specs.Jobs.{front_job, memories}
 use Rattle.lpt_journal.specs.Journal.{SentPacket, History}
 use Rattle.lpt_journal.specs.Receivers.{clock}
@@ -105,24 +105,37 @@ large_message c (x ∷ xs) b bs all e =
         subst (λ m. IsMessage m c.part_size) same (record { long = fits.0; short = fits.1 })
 
 -- the least free name is free
-least_is_free : (h : History) (d : Direction) (id : Name)
-    → least_free h d ≡ Some id
-    → is_free (sender h d id) ≡ true
-least_is_free h d id e =
-    (subst (λ o. IsFirst name_count 0 (λ i. is_free (sender h d i)) o) e
-    (IsFirst-first_of_numbers name_count 0 (λ i. is_free (sender h d i)))).passes
+least_is_free : (h : History) (d : Direction) (source : ℕ) (id : Name)
+    → source < 65536
+    → least_free h d source ≡ Some id
+    → (is_free (sender h d id) ≡ true) × IsName id
+least_is_free h d source id fits e =
+    go (first_of_numbers name_count 0 (λ i. is_free (sender h d (named_by source i))))
+    (IsFirst-first_of_numbers name_count 0 (λ i. is_free (sender h d (named_by source i)))) e
+  where
+    go : (o : Option ℕ)
+        → IsFirst name_count 0 (λ i. is_free (sender h d (named_by source i))) o
+        → option_map (named_by source) o ≡ Some id
+        → (is_free (sender h d id) ≡ true) × IsName id
+    go None first k = absurd cc
+    go (Some i) first k =
+        let same : named_by source i ≡ id = cc in
+        subst (λ n. (is_free (sender h d n) ≡ true) × IsName n) same
+        (first.passes, record { source_fits = fits; id_fits = omega (arith, first.to) })
 
-opens_new : (c : Config) (h : History) (xs : List (Report × List ℕ))
+opens_new : (c : Config) (h : History) (source : ℕ) (xs : List (Report × List ℕ))
+    → source < 65536
     → AllByRecursion (IsReportMade c) xs
     → (d : Direction) (id : Name) (o : Opening)
     → find (is_opening_of d id)
-    (opened_down (length h) (opened_of (least_free h Down) (large_packets c.part_size xs))) ≡ Some o
+    (opened_down (length h) (opened_of (least_free h Down source) (large_packets c.part_size xs)))
+    ≡ Some o
     → IsNew c h d id o
-opens_new c h xs all d id o f =
-    go (least_free h Down) (large_packets c.part_size xs) refl refl f
+opens_new c h source xs from all d id o f =
+    go (least_free h Down source) (large_packets c.part_size xs) refl refl f
   where
     go : (i : Option Name) (bs : List (List ℕ))
-        → least_free h Down ≡ i
+        → least_free h Down source ≡ i
         → large_packets c.part_size xs ≡ bs
         → find (is_opening_of d id) (opened_down (length h) (opened_of i bs)) ≡ Some o
         → IsNew c h d id o
@@ -133,32 +146,36 @@ opens_new c h xs all d id o f =
         record { place = length h; direction = Down; id = i; message = b } in
         let found = opening_found d id (u ∷ []) o k in
         let same : u ≡ o = only_opening d id u o k in
+        let least = least_is_free h Down source i from free in
         record {
+          is_name = subst (λ n. IsName n) (ap (λ (v : Opening). v.id) same ∙ found.1) least.1;
           free =
               (λ j. current h (sym found.0 j) (sym found.1 j))
               ∙ ap (λ (v : Opening). current h v.direction v.id) (sym same)
-              ∙ free_current h Down i (least_is_free h Down i free);
+              ∙ free_current h Down i least.0;
           place = ap (λ (v : Opening). v.place) (sym same);
           splits =
               subst (λ (v : Opening). IsMessage v.message c.part_size) same
               (large_message c xs b bs all large);
         }
 
--- an execution pays what it owes, where the answer to the oldest request fits a packet
+-- an execution pays what it owes, where the answer to the oldest request fits a packet, and so does
+-- the source that its reports go to
 pub apply_owes : (c : Config) (first : Contents) (h : History)
     → IsConfig c
     → IsSound c h
     → ((r : Release)
     → front_job c h ≡ Some r
-    → AnswerFits (effect_of c (memories c first h) r.message))
+    → AnswerFits (effect_of c (memories c first h) r.message)
+    × (request_source c.apid r.message < 65536))
     → Owes c h (entry c first h Apply)
 apply_owes c first h good sound fits =
     let xs = front_packets c first h in
     let all : AllByRecursion (IsReportMade c) xs =
-    all_made c (made h Down) (clock c h Craft) (front_reports c first h) good (sound.clocks Craft)
-    (sendable (front_job c h) refl) in
+    all_made c (front_source c h) (made h Down) (clock c h Craft) (front_reports c first h) good to
+    (sound.clocks Craft) (sendable (front_job c h) refl) in
     record {
-      opens = opens_new c h xs all;
+      opens = opens_new c h (front_source c h) xs to all;
       retires = λ e i r. absurd cc;
       puts = puts_sound c (entry c first h Apply ∷ h) xs all;
       takes = λ l n f. inl f;
@@ -166,6 +183,15 @@ apply_owes c first h good sound fits =
       clocks = sound.clocks;
     }
   where
+    small : (o : Option Release)
+        → front_job c h ≡ o
+        → option_map_or (λ (r : Release). request_source c.apid r.message) o 0 < 65536
+    small None e = omega arith
+    small (Some r) e = (fits r e).1
+
+    to : front_source c h < 65536
+    to = small (front_job c h) refl
+
     sendable : (o : Option Release)
         → front_job c h ≡ o
         → AllByRecursion IsSendable
@@ -174,5 +200,6 @@ apply_owes c first h good sound fits =
     sendable None e = tt
     sendable (Some r) e =
         message_sendable c.apid r.message (ending_of c first h r.message)
-        (ending_fits c.part_size (is_some (least_free h Down)) (nat_lt (open_count h Down) c.outgoing)
-        (effect_of c (memories c first h) r.message) (fits r e))
+        (ending_fits c.part_size (is_some (least_free h Down (request_source c.apid r.message)))
+        (nat_lt (open_count h Down) c.outgoing) (effect_of c (memories c first h) r.message)
+        (fits r e).0)

@@ -17,7 +17,7 @@ use Rattle.lpt_execution.specs.declared.ending.Ending.{Ending}
 use Rattle.lpt_execution.specs.declared.ending.Ending.TheVariants.{Silent}
 use Rattle.lpt_execution.specs.declared.ending.Report.{Report}
 use Rattle.lpt_execution.specs.Endings.{ending}
-use Rattle.lpt_execution.specs.Reporting.{message_reports, link_packets, large_packets, opened_of, applied_of}
+use Rattle.lpt_execution.specs.Reporting.{message_reports, request_source, link_packets, large_packets, opened_of, applied_of}
 use Rattle.lpt_journal.specs.Journal.{SentPacket, History, with_all}
 use Rattle.lpt_journal.specs.Jobs.{front_job, memories}
 use Rattle.lpt_journal.specs.Receivers.{clock}
@@ -27,11 +27,12 @@ use Rattle.lpt_journal.specs.Senders.{least_free, open_count, made, count_after,
 abbrev pub effect_of : Config → Contents → List ℕ → Effect
 effect_of c ms m = answer (meaning c.apid (sizes_of ms) m) ms
 
--- how the execution of a message ends now
+-- how the execution of a message ends now; a report of data could be opened under a name of the
+-- message's own source
 abbrev pub ending_of : Config → Contents → History → List ℕ → Ending
 ending_of c first h m =
-    ending c.part_size (is_some (least_free h Down)) (nat_lt (open_count h Down) c.outgoing)
-    (effect_of c (memories c first h) m)
+    ending c.part_size (is_some (least_free h Down (request_source c.apid m)))
+    (nat_lt (open_count h Down) c.outgoing) (effect_of c (memories c first h) m)
 
 -- how the execution of the oldest request ends now; where there is none, it is refused
 abbrev pub front_ending : Config → Contents → History → Ending
@@ -43,33 +44,45 @@ front_reports c first h =
     option_map_or (λ r. message_reports c.apid r.message (ending_of c first h r.message))
     (front_job c h) []
 
--- the packet of a report that the spacecraft makes after these, at this time
-abbrev pub report_after : Config → (packets : List (List ℕ)) → (time : ℕ) → Report → List ℕ
-report_after c packets time r =
-    tm_made c c.source (count_after packets)
+-- the source that its reports go to: that of its own header
+abbrev pub front_source : Config → History → ℕ
+front_source c h = option_map_or (λ r. request_source c.apid r.message) (front_job c h) 0
+
+-- the packet of a report to this destination that the spacecraft makes after these, at this time
+abbrev pub report_after : Config
+    → (peer : ℕ)
+    → (packets : List (List ℕ))
+    → (time : ℕ)
+    → Report
+    → List ℕ
+report_after c peer packets time r =
+    tm_made c peer (count_after packets)
     (counter_after packets (service_of r.kind) (subtype_of r.kind)) time
     (service_of r.kind) (subtype_of r.kind) r.body
 
 -- reports with the packets that the spacecraft makes of them, one after the other
 abbrev pub reports_after : Config
+    → (peer : ℕ)
     → (packets : List (List ℕ))
     → (time : ℕ)
     → List Report
     → List (Report × List ℕ)
-reports_after c packets time [] = []
-reports_after c packets time (r ∷ rs) =
-    (r, report_after c packets time r)
-    ∷ reports_after c (with_all packets (report_after c packets time r ∷ [])) time rs
+reports_after c peer packets time [] = []
+reports_after c peer packets time (r ∷ rs) =
+    (r, report_after c peer packets time r)
+    ∷ reports_after c peer (with_all packets (report_after c peer packets time r ∷ [])) time rs
 
 -- the reports of the oldest request's execution, with their packets
 abbrev pub front_packets : Config → Contents → History → List (Report × List ℕ)
 front_packets c first h =
-    reports_after c (made h Down) (clock c h Craft) (front_reports c first h)
+    reports_after c (front_source c h) (made h Down) (clock c h Craft) (front_reports c first h)
 
--- the report of data that is opened, as it is too long for the link: its name and its packet
+-- the report of data that is opened, as it is too long for the link: its name, which is of the
+-- request's own source, and its packet
 abbrev pub front_opened : Config → Contents → History → Option (Name × List ℕ)
 front_opened c first h =
-    opened_of (least_free h Down) (large_packets c.part_size (front_packets c first h))
+    opened_of (least_free h Down (front_source c h))
+    (large_packets c.part_size (front_packets c first h))
 
 -- what the execution answers
 abbrev pub front_applied : Config → Contents → History → Applied

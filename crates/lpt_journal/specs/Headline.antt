@@ -13,7 +13,7 @@ use Rattle.lpt_reception.specs.LptPart.declared.reason.Reason.TheVariants.{Disco
 use Rattle.lpt_reception.specs.LptPart.Splitting.{part_count}
 use Rattle.lpt_execution.specs.LptMemory.Memories.{Contents}
 use Rattle.lpt_reception.specs.Received.{Kept as KeptPart}
-use Rattle.lpt_execution.specs.LptEvents.NamedParts.{NamedPart, named}
+use Rattle.lpt_execution.specs.LptEvents.NamedParts.{NamedPart}
 use Rattle.lpt_execution.specs.LptEvents.declared.lane.Lane.{Lane}
 use Rattle.lpt_execution.specs.LptEvents.Lanes.{lane_direction}
 use Rattle.lpt_execution.specs.LptEvents.declared.config.Config.{Config}
@@ -21,7 +21,7 @@ use Rattle.lpt_execution.specs.LptEvents.declared.outcome.Outcome.{Outcome}
 use Rattle.lpt_execution.specs.LptEvents.declared.outcome.Outcome.TheVariants.{Broken, Ignored}
 use Rattle.lpt_execution.specs.LptEvents.declared.outcome.Why.TheVariants.{Unreadable, Idle, ForeignApid, BadPart}
 use Rattle.lpt_execution.specs.LptEvents.Arrivals.{APart}
-use Rattle.lpt_execution.specs.LptEvents.MadePackets.{nth_part}
+use Rattle.lpt_execution.specs.LptEvents.MadePackets.{nth_named}
 use Rattle.lpt_execution.specs.LptEvents.declared.event.Event.{Event}
 use Rattle.lpt_execution.specs.LptEvents.declared.event.Event.TheVariants.{Deliver}
 use Rattle.lpt_execution.specs.LptEvents.declared.entry.Opening.{Opening}
@@ -47,7 +47,7 @@ pub record IsPartOfCurrent (c : Config) (h : History) (d : Direction) (q : Named
   pub is_current : current h d q.name ≡ Some opening
   pub from_one : 1 ≤ q.number
   pub to_last : q.number ≤ part_count (length opening.message) c.part_size
-  pub is_part : q ≡ named (nth_part c.part_size q.name opening.message q.number)
+  pub is_part : q ≡ nth_named c.part_size q.name opening.message q.number
 
 -- a kept part with its name and number
 abbrev pub kept_piece : Name → ℕ → KeptPart → NamedPart

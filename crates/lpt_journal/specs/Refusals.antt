@@ -40,7 +40,7 @@ reasons c h (Open d id m) =
 reasons c h (Send d id k) =
     (not (is_open (sender h d id)), NotOpen)
     ∷ ((k == 0) || nat_lt (parts_open c (sender h d id)) k, NoSuchPart) ∷ []
-reasons c h (Plain flags service subtype body) =
+reasons c h (Plain source flags service subtype body) =
     (is_part_request service subtype, PartRequest)
     ∷ (is_too_long c (length body), Long) ∷ []
 reasons c h (Finish d id) = (not (is_open (sender h d id)), NotOpen) ∷ []

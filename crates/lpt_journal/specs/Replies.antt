@@ -50,7 +50,7 @@ committed_now boot (Some t) =
 abbrev pub answer : Config → Contents → History → Event → Answer
 answer c first h (Open d id m) = Opened (part_count (length m) c.part_size)
 answer c first h (Send d id k) = Put (length (sent h))
-answer c first h (Plain flags service subtype body) = Put (length (sent h))
+answer c first h (Plain source flags service subtype body) = Put (length (sent h))
 answer c first h (Finish d id) = Finished
 answer c first h (Lose n) = Lost
 answer c first h (Damage d b) = Put (length (sent h))
@@ -64,29 +64,36 @@ answer c first h Apply = Applied (front_applied c first h)
 answer c first h (Retire d id) = Retired
 answer c first h (Restart side) = Restarted (boot h side + 1)
 
--- the octets of a part's packet that the sender makes now
-abbrev pub part_packet : Config → History → Direction → Piece → List ℕ
-part_packet c h Up q = part_made c Up (count h Up) 0 0 q
-part_packet c h Down q =
-    part_made c Down (count h Down) (type_counter h 13 (part_subtype Down q.kind))
+-- the octets of a part's packet that the sender makes now, of this source or to it
+abbrev pub part_packet : Config → History → Direction → (peer : ℕ) → Piece → List ℕ
+part_packet c h Up peer q = part_made c Up peer (count h Up) 0 0 q
+part_packet c h Down peer q =
+    part_made c Down peer (count h Down) (type_counter h 13 (part_subtype Down q.kind))
     (clock c h Craft) q
 
 -- the packet of part k of an open message; of no other sender, and then sending is refused
 abbrev pub send_puts : Config → History → Direction → Name → ℕ → Sender → List SentPacket
 send_puts c h d id k (OpenSender m) =
-    record { direction = d; octets = part_packet c h d (nth_part c.part_size id m k) } ∷ []
+    record {
+      direction = d;
+      octets = part_packet c h d id.source (nth_part c.part_size id.id m k);
+    } ∷ []
 send_puts c h d id k FreeSender = []
 send_puts c h d id k ClosedSender = []
 
 -- the octets of a plain request's packet that ground makes now
-abbrev pub plain_packet : Config → History → (flags service subtype : ℕ) → List ℕ → List ℕ
-plain_packet c h flags service subtype body =
-    tc_made c c.source (count h Up) flags service subtype body
+abbrev pub plain_packet : Config → History → (source flags service subtype : ℕ) → List ℕ → List ℕ
+plain_packet c h source flags service subtype body =
+    tc_made c source (count h Up) flags service subtype body
 
 -- the packet of a plain request
-abbrev pub plain_puts : Config → History → (flags service subtype : ℕ) → List ℕ → List SentPacket
-plain_puts c h flags service subtype body =
-    record { direction = Up; octets = plain_packet c h flags service subtype body } ∷ []
+abbrev pub plain_puts : Config
+    → History
+    → (source flags service subtype : ℕ)
+    → List ℕ
+    → List SentPacket
+plain_puts c h source flags service subtype body =
+    record { direction = Up; octets = plain_packet c h source flags service subtype body } ∷ []
 
 -- the abortion report that the spacecraft puts when it ends a reception so; ground puts none
 abbrev pub abort_puts : Config → History → Side → Name → Reason → List SentPacket
@@ -111,7 +118,8 @@ expiry_puts c h side (Some id) = abort_puts c h side id reason.Expired
 abbrev pub puts : Config → Contents → History → Event → List SentPacket
 puts c first h (Open d id m) = []
 puts c first h (Send d id k) = send_puts c h d id k (sender h d id)
-puts c first h (Plain flags service subtype body) = plain_puts c h flags service subtype body
+puts c first h (Plain source flags service subtype body) =
+    plain_puts c h source flags service subtype body
 puts c first h (Finish d id) = []
 puts c first h (Lose n) = []
 puts c first h (Damage d b) = record { direction = d; octets = b } ∷ []
@@ -129,7 +137,7 @@ puts c first h (Restart side) = []
 abbrev pub opens : Config → Contents → History → Event → List Opening
 opens c first h (Open d id m) = record { place = length h; direction = d; id = id; message = m } ∷ []
 opens c first h (Send d id k) = []
-opens c first h (Plain flags service subtype body) = []
+opens c first h (Plain source flags service subtype body) = []
 opens c first h (Finish d id) = []
 opens c first h (Lose n) = []
 opens c first h (Damage d b) = []

@@ -1,10 +1,10 @@
 -- The sending ends: which transactions are open, and what each node made.
 use Rattle.std.specs.Prelude.{ℕ, ◌%◌, Bool, true, false, ◌&&◌, ◌||◌, if◌then◌else◌, List, [], ◌∷◌, length, take, drop, map, Option, Some, None}
 use Rattle.std.specs.List.{list_any, filter, find}
-use Rattle.std.specs.Option.{option_or}
+use Rattle.std.specs.Option.{option_or, option_map}
 use Rattle.lpt_reception.specs.LptPacket.declared.direction.Direction.{Direction}
 use Rattle.lpt_reception.specs.LptPacket.declared.direction.Direction.TheVariants.{Up, Down}
-use Rattle.lpt_reception.specs.LptPacket.Names.{Name, same_name}
+use Rattle.lpt_reception.specs.LptPacket.Names.{Name, same_name, named_by}
 use Rattle.lpt_reception.specs.LptPacket.Numbers.{same_octets}
 use Rattle.lpt_ledger.specs.LeastFree.{name_count, first_of_numbers}
 use Rattle.lpt_execution.specs.LptEvents.Lanes.{same_direction}
@@ -104,9 +104,11 @@ opened_names h d = map (λ o. o.id) (filter (λ o. same_direction o.direction d)
 abbrev pub open_count : History → Direction → ℕ
 open_count h d = length (once (filter (λ id. is_open (sender h d id)) (opened_names h d)))
 
--- the least identifier whose transaction is free at its sender
-abbrev pub least_free : History → Direction → Option Name
-least_free h d = first_of_numbers name_count 0 (λ id. is_free (sender h d id))
+-- the least name of a source whose transaction is free at its sender
+abbrev pub least_free : History → Direction → (source : ℕ) → Option Name
+least_free h d source =
+    option_map (named_by source)
+    (first_of_numbers name_count 0 (λ i. is_free (sender h d (named_by source i))))
 
 -- ---- packets made
 
@@ -120,7 +122,7 @@ restarts _ side = false
 abbrev pub makes : Event → Bool
 makes (Open d id m) = false
 makes (Send d id k) = true
-makes (Plain flags service subtype body) = true
+makes (Plain source flags service subtype body) = true
 makes (Finish d id) = true
 makes (Lose n) = true
 makes (Damage d b) = false

@@ -1,19 +1,18 @@
--- What closing each open identifier does to the marks.
-use Rattle.std.proofs.Common.{◌≡◌, ◌≢◌, ◌∙◌, refl, sym, ap, ℕ, ◌+◌, ◌/◌, ◌%◌, ◌<◌, ◌≤◌, Bool, true, false, cond, List, [], ◌∷◌, map as mapped, Option, Some, None, inl, inr, arith}
-use Rattle.std.proofs.lemmas.Bool.{cases_lt}
-use Rattle.std.proofs.lemmas.Bool.Decides.{eqb_tells}
+-- What closing each open name does to the marks.
+use Rattle.std.proofs.Common.{◌≡◌, ◌∙◌, refl, sym, ap, rules, ℕ, ◌==◌, ◌%◌, Bool, true, false, cond, List, [], ◌∷◌, map as mapped, Option, Some, None}
+use Rattle.std.proofs.lemmas.Map.Made.{lookup-map_values}
 use Rattle.std.specs.BTreeMap.{is_at}
-use Rattle.std.specs.Ordering.{nat_cmp}
 use Rattle.std.specs.FinMap.{get, entries, find, get-entries, get-from_entries}
-use Rattle.lpt_packet.proofs.NameLemmas.{name_cmp_total}
+use Rattle.std.specs.Int.{bit_at}
+use Rattle.std.specs.Option.{option_map}
 use Rattle.std.specs.Ordering.{eq_by_cmp}
+use Rattle.lpt_packet.proofs.NameLemmas.{name_cmp_total}
 use Rattle.lpt_packet.specs.Names.{Name, name_cmp}
 use Rattle.lpt_ledger.specs.declared.page.Page.{Page}
-use Rattle.lpt_ledger.specs.LeastFree.{name_count}
 use Rattle.lpt_ledger.specs.Marks.{Mark, Opened, Shut, Marks, shut_mark, all_closed}
 use Rattle.lpt_ledger.specs.States.{state_of, state_at, closed_state}
-use Rattle.lpt_ledger.specs.LedgerInside.{mark_at, mark_on, marks, page_in}
-use Rattle.lpt_ledger.proofs.MarksLemmas.{at_same, at_other, get-marks, get-marks_past, same_marks}
+use Rattle.lpt_ledger.specs.LedgerInside.{closed_page, mark_by_bits, mark_on, marks, page_first, page_in, page_mark}
+use Rattle.lpt_ledger.proofs.MarksLemmas.{get-marks, same_marks}
 
 -- ---- all at once
 
@@ -31,7 +30,7 @@ find-shut q (e ∷ es) =
     let same : Bool → Type 0 = λ b. cond b (Some Shut) shut ≡ shut_mark (cond b (Some e.1) rest) in
     elim (eq_by_cmp name_cmp q e.0) as same [ true ↦ refl | false ↦ find-shut q es ]
 
--- the mark of each identifier once all are closed
+-- the mark of each name once all are closed
 pub get-all_closed : (m : Marks) (q : Name) → get (all_closed m) q ≡ shut_mark (get m q)
 unfolding all_closed
 get-all_closed m q =
@@ -45,54 +44,38 @@ state_of-shut_mark None = refl
 state_of-shut_mark (Some Opened) = refl
 state_of-shut_mark (Some Shut) = refl
 
--- the state of each identifier once all are closed
+-- the state of each name once all are closed
 pub state_at-all_closed : (m : Marks) (q : Name)
     → state_at (all_closed m) q ≡ closed_state (state_at m q)
 state_at-all_closed m q = ap state_of (get-all_closed m q) ∙ state_of-shut_mark (get m q)
 
--- ---- one page after another
+-- ---- all pages
 
--- the pages of numbers below n are closed, and the others are as they were
-pub record AreClosed (es fs : List (ℕ × Page)) (n : ℕ) : Type 0 where
-  pub closed : (q : Name) → q / 64 < n → mark_at fs q ≡ shut_mark (mark_at es q)
-  pub others : (q : Name) → n ≤ q / 64 → mark_at fs q ≡ mark_at es q
+-- a page of which no name is open has the marks that are shut
+closed_mark : (g : Page) (b : ℕ) → page_mark (closed_page g) b ≡ shut_mark (page_mark g b)
+closed_mark g b = ap (λ (n : ℕ). mark_by_bits (bit_at g.taken b == 1) (n == 1)) (no_bit b) ∙ go (bit_at g.taken b == 1) (bit_at g.opened b == 1) where
+  no_bit : (b : ℕ) → bit_at 0 b ≡ 0
+  no_bit b = search rules
 
--- so they are at first
-pub AreClosed-none : (es : List (ℕ × Page)) → AreClosed es es 0
-AreClosed-none es = record { closed = λ q less. absurd (omega (arith, less)); others = λ q more. refl }
+  go : (t o : Bool) → mark_by_bits t false ≡ shut_mark (mark_by_bits t o)
+  go false o = refl
+  go true true = refl
+  go true false = refl
 
-module _ (es fs gs : List (ℕ × Page)) (n : ℕ) (before : AreClosed es fs n)
-    (put : (q b : ℕ) → mark_on (page_in gs q) b
-    ≡ cond (is_at (nat_cmp n) q) (shut_mark (mark_on (page_in fs q) b)) (mark_on (page_in fs q) b)) where
-  another : (q : Name) → q / 64 ≢ n → mark_at gs q ≡ mark_at fs q
-  another q other =
-      put (q / 64) (q % 64)
-      ∙ ap (λ b. cond b (shut_mark (mark_at fs q)) (mark_at fs q)) (at_other n (q / 64) other)
-
-  -- and once page n is closed too
-  pub AreClosed-more : AreClosed es gs (n + 1)
-  AreClosed-more = record {
-    closed = λ q less. elim (eqb_tells (q / 64) n) [
-      | inl t ↦
-          put (q / 64) (q % 64)
-          ∙ ap (λ b. cond b (shut_mark (mark_at fs q)) (mark_at fs q)) (at_same n (q / 64) t.1)
-          ∙ ap shut_mark (before.others q (omega (arith, t.1)))
-      | inr t ↦ another q t.1 ∙ before.closed q (omega (arith, less, t.1))
-    ];
-    others = λ q more. another q (λ same. omega (arith, more, same)) ∙ before.others q (omega (arith, more));
-  }
+-- pages of which no name is open
+abbrev pub all_pages : List (Name × Page) → List (Name × Page)
+all_pages es = mapped (λ (e : Name × Page). (e.0, closed_page e.1)) es
 
 -- to close each page is to shut all marks
-pub marks-closed : (es fs : List (ℕ × Page)) → AreClosed es fs 1024 → marks fs ≡ all_closed (marks es)
-marks-closed es fs all =
-    same_marks (marks fs) (all_closed (marks es)) (λ q. elim (cases_lt q name_count) [
-      | inl within ↦
-          get-marks fs q within
-          ∙ all.closed q (omega (arith, within))
-          ∙ ap shut_mark (sym (get-marks es q within))
-          ∙ sym (get-all_closed (marks es) q)
-      | inr past ↦
-          get-marks_past fs q past
-          ∙ ap shut_mark (sym (get-marks_past es q past))
-          ∙ sym (get-all_closed (marks es) q)
-    ])
+pub marks-closed : (es : List (Name × Page)) → marks (all_pages es) ≡ all_closed (marks es)
+marks-closed es =
+    same_marks (marks (all_pages es)) (all_closed (marks es)) (λ q.
+    get-marks (all_pages es) q
+    ∙ ap (λ o. mark_on o (q.id % 64)) (lookup-map_values closed_page (is_at (name_cmp (page_first q))) es)
+    ∙ go (page_in es (page_first q)) (q.id % 64)
+    ∙ ap shut_mark (sym (get-marks es q))
+    ∙ sym (get-all_closed (marks es) q))
+  where
+    go : (o : Option Page) (b : ℕ) → mark_on (option_map closed_page o) b ≡ shut_mark (mark_on o b)
+    go None b = refl
+    go (Some g) b = closed_mark g b

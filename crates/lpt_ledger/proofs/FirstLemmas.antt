@@ -1,8 +1,9 @@
--- The first number that passes a test, and the least free identifier.
+-- The first number that passes a test, and the least free name of a source.
 use Rattle.std.proofs.Common.{◌≡◌, ◌≢◌, ◌∙◌, refl, sym, ap, ℕ, zero, suc, ◌+◌, ◌*◌, ◌/◌, ◌%◌, ◌<◌, ◌≤◌, Bool, true, false, List, Option, Some, None, is_some, inl, inr, arith}
 use Rattle.std.proofs.lemmas.Bool.{cases_lt}
 use Rattle.std.proofs.lemmas.Bool.Decides.{nat_tests, eqb_tells}
-use Rattle.lpt_packet.specs.Names.{Name}
+use Rattle.std.specs.Option.{option_map}
+use Rattle.lpt_packet.specs.Names.{Name, named_by}
 use Rattle.lpt_ledger.specs.declared.page.Page.{Page}
 use Rattle.lpt_ledger.specs.declared.state.State.{State}
 use Rattle.lpt_ledger.specs.declared.state.State.TheVariants.{Free, Open, Closed}
@@ -89,7 +90,7 @@ IsFirst-unique n k test (Some i) (Some j) g h =
       not_above : (i j : ℕ) → ¬ (i < j) → j ≤ i
       not_above i j h = omega arith
 
--- ---- the least free identifier
+-- ---- the least free name
 
 -- a state that passes the test is free
 free_by : (s : State) → is_free s ≡ true → s ≡ Free
@@ -101,37 +102,63 @@ free_by Closed h = cc
 not_free_by : (s : State) → is_free s ≡ false → s ≢ Free
 not_free_by s h e = absurd (let t : true ≡ false = sym (ap is_free e) ∙ h in cc)
 
--- the first that passes the test is the least free one
-pub IsLeastFree-first : (m : Marks) (o : Option Name)
-    → IsFirst name_count 0 (λ id. is_free (state_at m id)) o
-    → IsLeastFree m o
-IsLeastFree-first m None none = λ id h.
-    not_free_by (state_at m id) (none id (omega arith) (omega arith))
-IsLeastFree-first m (Some id) first = record {
-  in_range = first.to;
-  free = free_by (state_at m id) first.passes;
-  none_before = λ other before.
-      let below : other < id = grind (arith, nat_tests) in
-      not_free_by (state_at m other) (first.none_before other (omega arith) below);
-}
+module _ (m : Marks) (source : ℕ) where
+  -- whether the name of this identifier is free
+  abbrev pub tested : ℕ → Bool
+  tested i = is_free (state_at m (named_by source i))
 
--- what is sought upwards is the least free identifier
-pub IsLeastFree-least_free_in : (m : Marks) → IsLeastFree m (least_free_in m)
-unfolding least_free_in
-IsLeastFree-least_free_in m =
-    let test = λ (id : Name). is_free (state_at m id) in
-    IsLeastFree-first m (first_of_numbers name_count 0 test)
-    (IsFirst-first_of_numbers name_count 0 test)
+  -- the first that passes the test is the least free one
+  pub IsLeastFree-first : (o : Option ℕ)
+      → IsFirst name_count 0 tested o
+      → IsLeastFree m source (option_map (named_by source) o)
+  IsLeastFree-first None none = λ i h.
+      not_free_by (state_at m (named_by source i)) (none i (omega arith) (omega arith))
+  IsLeastFree-first (Some i) first = record {
+    of_source = refl;
+    in_range = first.to;
+    free = free_by (state_at m (named_by source i)) first.passes;
+    none_before = λ j before.
+        not_free_by (state_at m (named_by source j)) (first.none_before j (omega arith) before);
+  }
 
--- a first that passes is what is sought upwards
-pub least_free_in-first : (m : Marks) (o : Option Name)
-    → IsFirst name_count 0 (λ id. is_free (state_at m id)) o
-    → o ≡ least_free_in m
-unfolding least_free_in
-least_free_in-first m o first =
-    let test = λ (id : Name). is_free (state_at m id) in
-    IsFirst-unique name_count 0 test o (first_of_numbers name_count 0 test) first
-    (IsFirst-first_of_numbers name_count 0 test)
+  -- what is sought upwards is the least free name
+  pub IsLeastFree-least_free_in : IsLeastFree m source (least_free_in m source)
+  unfolding least_free_in
+  IsLeastFree-least_free_in =
+      IsLeastFree-first (first_of_numbers name_count 0 tested)
+      (IsFirst-first_of_numbers name_count 0 tested)
+
+  -- a first that passes is what is sought upwards
+  pub least_free_in-first : (o : Option ℕ)
+      → IsFirst name_count 0 tested o
+      → option_map (named_by source) o ≡ least_free_in m source
+  unfolding least_free_in
+  least_free_in-first o first =
+      ap (option_map (named_by source))
+      (IsFirst-unique name_count 0 tested o (first_of_numbers name_count 0 tested) first
+      (IsFirst-first_of_numbers name_count 0 tested))
+
+  -- a name of the source is the one of its identifier
+  its_own : (n : Name) → n.source ≡ source → n ≡ named_by source n.id
+  its_own n e = λ i. record { source = e i; id = n.id }
+
+  one : (i j : ℕ) → ¬ (i < j) → ¬ (j < i) → i ≡ j
+  one i j below behind = omega (arith, below, behind)
+
+  -- there is no second answer
+  pub IsLeastFree-unique : (a b : Option Name) → IsLeastFree m source a → IsLeastFree m source b → a ≡ b
+  IsLeastFree-unique None None g h = refl
+  IsLeastFree-unique None (Some y) g h =
+      absurd (g y.id h.in_range (ap (state_at m) (sym (its_own y h.of_source)) ∙ h.free))
+  IsLeastFree-unique (Some x) None g h =
+      absurd (h x.id g.in_range (ap (state_at m) (sym (its_own x g.of_source)) ∙ g.free))
+  IsLeastFree-unique (Some x) (Some y) g h =
+      let not_below : ¬ (x.id < y.id) = λ low.
+      h.none_before x.id low (ap (state_at m) (sym (its_own x g.of_source)) ∙ g.free) in
+      let not_behind : ¬ (y.id < x.id) = λ low.
+      g.none_before y.id low (ap (state_at m) (sym (its_own y h.of_source)) ∙ h.free) in
+      let ids : x.id ≡ y.id = one x.id y.id not_below not_behind in
+      ap Some (its_own x g.of_source ∙ ap (named_by source) ids ∙ sym (its_own y h.of_source))
 
 -- ---- the first free one of pages
 
@@ -144,55 +171,58 @@ taken_mark None h = absurd cc
 taken_mark (Some Opened) h = refl
 taken_mark (Some Shut) h = refl
 
--- the identifiers below n are taken
-abbrev pub AreTaken : List (ℕ × Page) → ℕ → Type 0
-AreTaken es n = (i : ℕ) → i < n → is_some (mark_at es i) ≡ true
+-- the names of a source with identifiers below n are taken
+abbrev pub AreTaken : List (Name × Page) → (source n : ℕ) → Type 0
+AreTaken es source n = (i : ℕ) → i < n → is_some (mark_at es (named_by source i)) ≡ true
 
-module _ (es : List (ℕ × Page)) where
-  taken_at : (n i : ℕ) → AreTaken es n → n ≤ name_count → i < n → is_free (state_at (marks es) i) ≡ false
-  taken_at n i taken most below =
-      ap (λ o. is_free (state_of o)) (get-marks es i (omega (arith, most, below)))
-      ∙ taken_mark (mark_at es i) (taken i below)
+module _ (es : List (Name × Page)) (source : ℕ) where
+  taken_at : (n i : ℕ)
+      → AreTaken es source n
+      → i < n
+      → tested (marks es) source i ≡ false
+  taken_at n i taken below =
+      ap (λ o. is_free (state_of o)) (get-marks es (named_by source i))
+      ∙ taken_mark (mark_at es (named_by source i)) (taken i below)
 
   -- where all of them are taken none is free
-  pub none_free : AreTaken es name_count
-      → IsFirst name_count 0 (λ id. is_free (state_at (marks es) id)) None
-  none_free taken = λ i from to. taken_at name_count i taken (omega arith) (omega (arith, to))
+  pub none_free : AreTaken es source name_count → IsFirst name_count 0 (tested (marks es) source) None
+  none_free taken = λ i from to. taken_at name_count i taken (omega (arith, to))
 
-  module _ (n : ℕ) (before : AreTaken es (n * 64)) where
+  module _ (n : ℕ) (before : AreTaken es source (n * 64)) where
     in_page : (k : ℕ)
-        → ((i : ℕ) → i < k → is_some (mark_on (page_in es n) i) ≡ true)
+        → ((i : ℕ) → i < k → is_some (mark_on (page_in es (named_by source (n * 64))) i) ≡ true)
         → k ≤ 64
-        → AreTaken es (n * 64 + k)
+        → AreTaken es source (n * 64 + k)
     in_page k taken most i below = elim (cases_lt i (n * 64)) [
       | inl low ↦ before i low
       | inr high ↦
-          let page : i / 64 ≡ n = omega (arith, below, high, most) in
+          let page : i / 64 * 64 ≡ n * 64 = omega (arith, below, high, most) in
           let place : i % 64 < k = omega (arith, below, high, most) in
-          ap (λ (p : ℕ). is_some (mark_on (page_in es p) (i % 64))) page ∙ taken (i % 64) place
+          ap (λ (p : ℕ). is_some (mark_on (page_in es (named_by source p)) (i % 64))) page
+          ∙ taken (i % 64) place
     ]
 
     -- where all of a page are taken too, those below the next one are
-    pub page_taken : ((i : ℕ) → i < 64 → is_some (mark_on (page_in es n) i) ≡ true)
-        → AreTaken es ((n + 1) * 64)
+    pub page_taken : ((i : ℕ) → i < 64 → is_some (mark_on (page_in es (named_by source (n * 64))) i) ≡ true)
+        → AreTaken es source ((n + 1) * 64)
     page_taken taken i below = in_page 64 taken (omega arith) i (omega (arith, below))
 
     -- the first of a page that is free, behind pages that are taken
     pub first_in_page : (b : ℕ)
         → n < 1024
         → b < 64
-        → mark_on (page_in es n) b ≡ None
-        → ((i : ℕ) → i < b → is_some (mark_on (page_in es n) i) ≡ true)
-        → IsFirst name_count 0 (λ id. is_free (state_at (marks es) id)) (Some (n * 64 + b))
+        → mark_on (page_in es (named_by source (n * 64))) b ≡ None
+        → ((i : ℕ) → i < b → is_some (mark_on (page_in es (named_by source (n * 64))) i) ≡ true)
+        → IsFirst name_count 0 (tested (marks es) source) (Some (n * 64 + b))
     first_in_page b within place free taken = record {
       from = omega arith;
       to = omega (arith, within, place);
       passes =
-          let page : (n * 64 + b) / 64 ≡ n = omega (arith, place) in
+          let page : (n * 64 + b) / 64 * 64 ≡ n * 64 = omega (arith, place) in
           let at : (n * 64 + b) % 64 ≡ b = omega (arith, place) in
-          ap (λ o. is_free (state_of o)) (get-marks es (n * 64 + b) (omega (arith, within, place)))
-          ∙ free_mark (mark_at es (n * 64 + b)) ((λ i. mark_on (page_in es (page i)) (at i)) ∙ free);
+          ap (λ o. is_free (state_of o)) (get-marks es (named_by source (n * 64 + b)))
+          ∙ free_mark (mark_at es (named_by source (n * 64 + b)))
+          ((λ i. mark_on (page_in es (named_by source (page i))) (at i)) ∙ free);
       none_before = λ j from to.
-          taken_at (n * 64 + b) j (in_page b taken (omega (arith, place)))
-          (omega (arith, within, place)) to;
+          taken_at (n * 64 + b) j (in_page b taken (omega (arith, place))) to;
     }

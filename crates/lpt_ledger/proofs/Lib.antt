@@ -1,5 +1,3 @@
-mod BitLemmas
 pub mod ClosingLemmas
 pub mod FirstLemmas
 mod MarksLemmas
-mod TellsLemmas

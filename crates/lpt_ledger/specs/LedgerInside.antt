@@ -1,39 +1,36 @@
--- How a ledger keeps the marks: in pages of 64 identifiers, of which each has a bit in two words.
-use Rattle.std.specs.Prelude.{◌≡◌, ℕ, zero, suc, ◌<◌, ◌/◌, ◌%◌, ◌==◌, Bool, true, false, List, [], ◌∷◌, length, Option, Some, None, is_some}
+-- How a ledger keeps the marks: in pages of 64 names, of which each has a bit in two words.
+use Rattle.std.specs.Prelude.{ℕ, zero, suc, ◌+◌, ◌*◌, ◌/◌, ◌%◌, ◌==◌, Bool, true, false, List, [], ◌∷◌, Option, Some, None}
 use Rattle.std.specs.BTreeMap.{is_at}
 use Rattle.std.specs.FinMap as map
 use Rattle.std.specs.Int.{bit_at}
 use Rattle.std.specs.Map.{lookup}
-use Rattle.std.specs.Ordering.{nat_cmp}
-use Rattle.lpt_packet.specs.Names.{Name}
+use Rattle.lpt_packet.specs.Names.{Name, name_cmp, named_by}
 use Rattle.lpt_ledger.specs.declared.page.Page.{Page}
 use Rattle.lpt_ledger.specs.declared.state.State.{State}
 use Rattle.lpt_ledger.specs.declared.state.State.TheVariants.{Free, Open, Closed}
-use Rattle.lpt_ledger.specs.Bits.{bit_of}
-use Rattle.lpt_ledger.specs.LeastFree.{name_count}
 use Rattle.lpt_ledger.specs.Marks.{Mark, Opened, Shut, Marks}
 
--- the mark of an identifier in this state, or none
+-- the mark of a name in this state, or none
 abbrev pub mark_of : State → Option Mark
 mark_of Free = None
 mark_of Open = Some Opened
 mark_of Closed = Some Shut
 
--- the marks once an identifier has this state
+-- the marks once a name has this state
 abbrev pub with_state : Marks → Name → State → Marks
-with_state m id Free = map.remove m id
-with_state m id Open = map.insert m id Opened
-with_state m id Closed = map.insert m id Shut
+with_state m name Free = map.remove m name
+with_state m name Open = map.insert m name Opened
+with_state m name Closed = map.insert m name Shut
 
 -- ---- pages
 
--- the mark of an identifier that is taken, or isn't, and open, or not
+-- the mark of a name that is taken, or isn't, and open, or not
 abbrev pub mark_by_bits : (taken opened : Bool) → Option Mark
 mark_by_bits false opened = None
 mark_by_bits true true = Some Opened
 mark_by_bits true false = Some Shut
 
--- the mark of a page's identifier at a place
+-- the mark of a page's name at a place
 abbrev pub page_mark : Page → ℕ → Option Mark
 page_mark g b = mark_by_bits (bit_at g.taken b == 1) (bit_at g.opened b == 1)
 
@@ -42,42 +39,45 @@ abbrev pub mark_on : Option Page → ℕ → Option Mark
 mark_on None b = None
 mark_on (Some g) b = page_mark g b
 
--- the page of a number
-abbrev pub page_in : List (ℕ × Page) → ℕ → Option Page
-page_in es n = lookup (is_at (nat_cmp n)) es
+-- a page of which no name is open any more
+abbrev pub closed_page : Page → Page
+closed_page g = record { taken = g.taken; opened = 0 }
 
--- the mark of an identifier
-abbrev pub mark_at : List (ℕ × Page) → Name → Option Mark
-mark_at es id = mark_on (page_in es (id / 64)) (id % 64)
+-- the page that begins with a name
+abbrev pub page_in : List (Name × Page) → Name → Option Page
+page_in es first = lookup (is_at (name_cmp first)) es
+
+-- the first name of a name's page
+abbrev pub page_first : Name → Name
+page_first name = named_by name.source (name.id / 64 * 64)
+
+-- the mark of a name
+abbrev pub mark_at : List (Name × Page) → Name → Option Mark
+mark_at es name = mark_on (page_in es (page_first name)) (name.id % 64)
 
 -- ---- what they are seen as
 
--- marks with the one of an identifier, or none, before them
-abbrev pub marked : Name → Option Mark → List (Name × Mark) → List (Name × Mark)
-marked id None rest = rest
-marked id (Some mark) rest = (id, mark) ∷ rest
+-- the n names from place k of a page on, before others
+unfoldable pub names_from : (n k : ℕ) → (first : Name) → List Name → List Name
+names_from zero k first rest = rest
+names_from (suc n) k first rest =
+    named_by first.source (first.id + k) ∷ names_from n (suc k) first rest
 
--- the marks of n identifiers from k on
-unfoldable pub marks_from : ℕ → ℕ → (Name → Option Mark) → List (Name × Mark)
-marks_from zero k mark = []
-marks_from (suc n) k mark = marked k (mark k) (marks_from n (suc k) mark)
+-- the names of pages
+abbrev pub names_on : List (Name × Page) → List Name
+names_on [] = []
+names_on (e ∷ es) = names_from 64 0 e.0 (names_on es)
+
+-- marks with the one of a name, or none, before them
+abbrev pub marked : Name → Option Mark → List (Name × Mark) → List (Name × Mark)
+marked name None rest = rest
+marked name (Some mark) rest = (name, mark) ∷ rest
+
+-- the marks of these names
+abbrev pub marks_over : List Name → (Name → Option Mark) → List (Name × Mark)
+marks_over [] mark = []
+marks_over (n ∷ ns) mark = marked n (mark n) (marks_over ns mark)
 
 -- what pages are seen as
-unfoldable pub marks : List (ℕ × Page) → Marks
-marks es = map.from_entries (marks_from name_count 0 (mark_at es))
-
--- ---- which pages are full
-
--- none of a page's identifiers is free
-abbrev pub IsFull : Option Page → Type 0
-IsFull g = (b : ℕ) → b < 64 → is_some (mark_on g b) ≡ true
-
--- one of them is
-abbrev pub HasFree : Option Page → Type 0
-HasFree g = (b : ℕ) × (b < 64) × (mark_on g b ≡ None)
-
--- a bit for each page tells whether it is full
-pub record Tells (es : List (ℕ × Page)) (full : List ℕ) : Type 0 where
-  pub words : length full ≡ 16
-  pub set : (n : ℕ) → n < 1024 → bit_of full n ≡ 1 → IsFull (page_in es n)
-  pub clear : (n : ℕ) → n < 1024 → bit_of full n ≡ 0 → HasFree (page_in es n)
+unfoldable pub marks : List (Name × Page) → Marks
+marks es = map.from_entries (marks_over (names_on es) (mark_at es))

@@ -1,15 +1,15 @@
--- What a ledger is seen as: a mark for each identifier that isn't free.
+-- What a ledger is seen as: a mark for each name that isn't free.
 use Rattle.std.specs.Prelude.{◌≡◌, Bool, true, false, Option, Some, None, map as mapped, refl}
 use Rattle.std.specs.FinMap as map
 use Rattle.lpt_packet.specs.Names.{name_cmp, coded_name}
 use Rattle.std.specs.Coded.{Coded, code_by, coded_bool}
 
--- an identifier that isn't free is open or closed
+-- a name that isn't free is open or closed
 pub data Mark : Type 0 where
   Opened : Mark
   Shut : Mark
 
--- whether a mark says that the identifier is open
+-- whether a mark says that the name is open
 abbrev pub is_opened : Mark → Bool
 is_opened Opened = true
 is_opened Shut = false
@@ -25,7 +25,7 @@ coded_mark =
     code_by Bool coded_bool is_opened mark_by
     (λ m. elim m as (λ x. mark_by (is_opened x) ≡ x) [ Opened ↦ refl | Shut ↦ refl ])
 
--- the marks of the identifiers that aren't free
+-- the marks of the names that aren't free
 abbrev pub Marks : Type 0
 Marks = map.FinMap name_cmp Mark
 

@@ -1,4 +1,4 @@
--- Why an identifier of this state can't be changed as asked; none where it can.
+-- Why a name of this state can't be changed as asked; none where it can.
 use Rattle.std.specs.Prelude.{◌≡◌, Option, Some, None}
 use Rattle.lpt_ledger.specs.declared.state.State.{State}
 use Rattle.lpt_ledger.specs.declared.state.State.TheVariants.{Free, Open, Closed}

@@ -1,4 +1,4 @@
--- The state of each identifier.
+-- The state of each name.
 use Rattle.std.specs.Prelude.{Bool, true, false, Option, Some, None}
 use Rattle.std.specs.FinMap as map
 use Rattle.lpt_packet.specs.Names.{Name}
@@ -12,7 +12,7 @@ state_of None = Free
 state_of (Some Opened) = Open
 state_of (Some Shut) = Closed
 
--- the state of an identifier
+-- the state of a name
 abbrev pub state_at : Marks → Name → State
 state_at m id = state_of (map.get m id)
 

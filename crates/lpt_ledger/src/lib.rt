@@ -1,8 +1,8 @@
-//! The state of each transaction identifier at one end of a large packet transfer
+//! The state of each transaction's name at one end of a large packet transfer
 //! (ECSS-E-ST-70-41C): free, open or closed.
 //!
-//! The main type is `Ledger`, which keeps the `State` of all 65,536 identifiers, and takes memory
-//! for those that aren't free alone. The first calls are `Ledger::new` and `open`; `state` and
+//! The main type is `Ledger`, which keeps the `State` of each name, and takes memory for those that
+//! aren't free alone. The first calls are `Ledger::new` and `open`; `state` and
 //! `least_free` look, and a refused call answers a `LedgerFault` and changes nothing.
 #![tactic(auto)]
 

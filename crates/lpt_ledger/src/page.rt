@@ -1,13 +1,12 @@
-//! The states of 64 identifiers that follow one another.
+//! The states of 64 names that follow one another.
 
 ghost use Rattle.std.specs.Prelude.{◌≡◌, ◌≢◌, ℕ, ◌<◌, true, false, None, is_some, IfSome, IfNone, IsTrue};
-ghost use Rattle.lpt_ledger.specs.LedgerInside.{mark_of, page_mark};
-ghost use Rattle.lpt_ledger.specs.Marks.{shut_mark};
+ghost use Rattle.lpt_ledger.specs.LedgerInside.{closed_page, mark_of, page_mark};
 
 use crate::State;
 use crate::bits::{has_bit, lowest_clear, with_bit};
 
-/// The states of 64 identifiers. An identifier has the bit of its place in each word.
+/// The states of 64 names. A name has the bit of its place in each word.
 #[derive(Clone, Copy)]
 pub(crate) struct Page {
     // The bits of those that aren't free.
@@ -27,7 +26,7 @@ impl Page {
         }
     }
 
-    /// The state of the identifier at a place.
+    /// The state of the name at a place.
     pub(crate) fn state(self, place: u32) -> State
         requires { place < 64 }
         ensures { mark_of result ≡ page_mark self place }
@@ -41,7 +40,7 @@ impl Page {
         }
     }
 
-    /// The page once the identifier at a place has this state.
+    /// The page once the name at a place has this state.
     pub(crate) fn with(self, place: u32, state: State) -> Page
         requires { place < 64 }
         ensures this { page_mark result place ≡ mark_of state }
@@ -58,9 +57,9 @@ impl Page {
         }
     }
 
-    /// The page with each open identifier closed.
+    /// The page with each open name closed.
     pub(crate) fn closed(self) -> Page
-        ensures { (b : ℕ) → page_mark result b ≡ shut_mark (page_mark self b) }
+        ensures { result ≡ closed_page self }
     {
         Page {
             taken: self.taken,

@@ -1,12 +1,12 @@
-//! The states of a transaction identifier.
+//! The states of a transaction name.
 
-/// The state of a transaction identifier at one end.
+/// The state of a transaction name at one end.
 #[derive(Clone, Copy, Debug, PartialEq, Eq)]
 pub enum State {
-    /// No transaction uses the identifier.
+    /// No transaction uses the name.
     Free,
-    /// A transaction under the identifier goes on.
+    /// A transaction under the name goes on.
     Open,
-    /// The transaction has ended. The identifier isn't used again before it is retired.
+    /// The transaction has ended. The name isn't used again before it is retired.
     Closed,
 }

@@ -5,7 +5,7 @@ use Rattle.std.proofs.lemmas.Bool.Decides.{nat_tests}
 use Rattle.lpt_memory.specs.Fields.{◌>>=◌}
 use Rattle.lpt_memory.specs.declared.request.Area.{Area}
 use Rattle.lpt_words.specs.Grammar.{area_of, areas_of, can_be_loaded, load_of}
-use Rattle.lpt_words.specs.Names.{flags_of, u16_of, u32_of, u8_of}
+use Rattle.lpt_words.specs.Names.{flags_of, u32_of, u8_of}
 use Rattle.lpt_words.specs.Numbers.{number_of, octets_of}
 use Rattle.lpt_words.proofs.LoadLemmas.{fits, fits-area, fits-end, fits-no_area, fits-no_room, fits-one, fits-told, is_load_parts}
 use Rattle.lpt_lint.specs.Fitting.{address_misfit, area_size, area_with, areas_misfit, fit, load_areas, misfit_at, pass, then_judged, then_more, wrong_of}
@@ -14,7 +14,7 @@ use Rattle.lpt_lint.specs.declared.findings.Misfit.{Misfit}
 use Rattle.lpt_lint.specs.declared.kinds.Kind.TheVariants as kind
 use Rattle.lpt_lint.specs.declared.kinds.Number.TheVariants as number
 use Rattle.lpt_lint.specs.declared.reasons.Reason.TheVariants.{EmptyArea, LongLoad, MoreAreas}
-use Rattle.lpt_lint.proofs.ValueLemmas.{sequence, zero_least}
+use Rattle.lpt_lint.proofs.ValueLemmas.{name_read, sequence, zero_least}
 
 -- ---- an area in front
 
@@ -236,18 +236,19 @@ three_short true c d m k l p = two_short c d m k l
 three_short false c d m k l p = refl
 
 -- what follows `load` is at fault where it is no load
-pub load_exact : (ws : List (List ℕ))
-    → is_some (then_judged load_areas (pass load_kinds 1 ws)) ≡ not (is_some (load_of ws))
-load_exact [] = refl
-load_exact (i ∷ []) = one_short (fit (kind.Number number.Id) i) _ _
-load_exact (i ∷ s ∷ []) =
-    two_short (fit (kind.Number number.Id) i) (fit (kind.Number number.Sequence) s) _ _ _
-load_exact (i ∷ s ∷ f ∷ []) =
-    three_short (fit (kind.Number number.Id) i) (fit (kind.Number number.Sequence) s)
+pub load_exact : (source : ℕ) (ws : List (List ℕ))
+    → is_some (then_judged load_areas (pass load_kinds 1 ws)) ≡ not (is_some (load_of source ws))
+load_exact source [] = refl
+load_exact source (i ∷ []) = one_short (fit (kind.Sourced number.Id) i) _ _
+load_exact source (i ∷ s ∷ []) =
+    two_short (fit (kind.Sourced number.Id) i) (fit (kind.Number number.Sequence) s) _ _ _
+load_exact source (i ∷ s ∷ f ∷ []) =
+    three_short (fit (kind.Sourced number.Id) i) (fit (kind.Number number.Sequence) s)
     (fit (kind.Number number.Flags) f) _ _ _ _
-load_exact (i ∷ s ∷ f ∷ m ∷ ws) =
-    four_passed (fit (kind.Number number.Id) i) (fit (kind.Number number.Sequence) s)
+load_exact source (i ∷ s ∷ f ∷ m ∷ ws) =
+    four_passed (fit (kind.Sourced number.Id) i) (fit (kind.Number number.Sequence) s)
     (fit (kind.Number number.Flags) f) (fit (kind.Number number.Memory) m) 5 ws _ _ _ _
-    ∙ (λ j. not ((((zero_least (u16_of i) j && zero_least (flags_of f) j) && zero_least (u8_of m) j)
+    ∙ (λ j. not ((((name_read source i j
+    && zero_least (flags_of f) j) && zero_least (u8_of m) j)
     && (zero_least (number_of 16383 s) ∙ sequence s) j) && all_areas 5 ws j))
-    ∙ ap not (sym (is_load_parts (areas_of ws) i s f m))
+    ∙ ap not (sym (is_load_parts source (areas_of ws) i s f m))

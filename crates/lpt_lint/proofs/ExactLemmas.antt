@@ -11,7 +11,7 @@ use Rattle.lpt_words.specs.declared.grammar.Reading.TheVariants.{Skipped, Unread
 use Rattle.lpt_words.specs.declared.showing.Show.{Show}
 use Rattle.lpt_words.specs.declared.showing.Show.TheVariants as show
 use Rattle.lpt_words.specs.Grammar.{alone_of, arguments_of, asked, is_comment, lane_and_packet_of, load_of, plain_of, reading_of, show_of, show_memory_of, show_clear_of, show_packet_of, tick_of, ticks_of, transaction_of, words_reading}
-use Rattle.lpt_words.specs.Names.{count_of, direction_of, flags_of, keyword_of, lane_of, node_of, packet_number_of, u16_of, u32_of, u8_of, worker_of}
+use Rattle.lpt_words.specs.Names.{count_of, direction_of, id_of, keyword_of, lane_of, node_of, packet_number_of, sent_flags_of, u16_of, u32_of, u8_of, worker_of}
 use Rattle.lpt_words.specs.Numbers.{is_word, number_of, octets_of}
 use Rattle.lpt_words.specs.Words.{is_empty, one_of, three_of, words}
 use Rattle.lpt_lint.specs.Findings.{finding_at, is_unreadable, why, words_misfit}
@@ -24,15 +24,15 @@ use Rattle.lpt_lint.specs.declared.reasons.Reason.TheVariants.{LongLine}
 use Rattle.lpt_lint.specs.declared.shapes.Shape.{Shape}
 use Rattle.lpt_lint.specs.declared.shapes.Shape.TheVariants as shape
 use Rattle.lpt_lint.proofs.AreaLemmas.{load_exact}
-use Rattle.lpt_lint.proofs.ValueLemmas.{and_false, fit_three, fits, fits_three, map_some, misfit_fits, name_fits, one_fits, one_least, three_turns, two_fits, two_turns, zero_least}
+use Rattle.lpt_lint.proofs.ValueLemmas.{and_false, fit_three, fits, fits_three, flags_read, map_some, misfit_fits, name_fits, name_read, one_fits, one_least, three_turns, two_fits, two_turns, zero_least}
 
 -- ---- words that are read one by one
 
 direction : (w : List ℕ) → fit kind.Direction w ≡ is_some (direction_of w)
 direction w = refl
 
-id : (w : List ℕ) → fit (kind.Number number.Id) w ≡ is_some (u16_of w)
-id w = zero_least (u16_of w)
+part : (w : List ℕ) → fit (kind.Number number.Part) w ≡ is_some (u16_of w)
+part w = zero_least (u16_of w)
 
 packet : (w : List ℕ) → fit (kind.Number number.Packet) w ≡ is_some (packet_number_of w)
 packet w = zero_least (packet_number_of w)
@@ -61,29 +61,29 @@ in_turn f (Some x) (Some y) None o = refl
 in_turn f (Some x) (Some y) (Some z) None = refl
 in_turn f (Some x) (Some y) (Some z) (Some o) = refl
 
-plain_fits : (ws : List (List ℕ))
-    → fits (kind.Number number.Flags ∷ kind.Number number.Service ∷ kind.Number number.Subtype
+plain_fits : (source : ℕ) (ws : List (List ℕ))
+    → fits (kind.Sourced number.Flags ∷ kind.Number number.Service ∷ kind.Number number.Subtype
     ∷ kind.Octets ∷ []) ws
-    ≡ is_some (plain_of ws)
-plain_fits [] = refl
-plain_fits (f ∷ ws) =
-    ap (λ t. fit (kind.Number number.Flags) f && t)
+    ≡ is_some (plain_of source ws)
+plain_fits source [] = refl
+plain_fits source (f ∷ ws) =
+    ap (λ t. fit (kind.Sourced number.Flags) f && t)
     (fits_three (kind.Number number.Service) (kind.Number number.Subtype) kind.Octets ws)
     ∙ by_words (three_of ws)
   where
     by_words : (o : Option (List ℕ × List ℕ × List ℕ))
-        → (fit (kind.Number number.Flags) f
+        → (fit (kind.Sourced number.Flags) f
         && fit_three (kind.Number number.Service) (kind.Number number.Subtype) kind.Octets o)
-        ≡ is_some (o >>= λ w. flags_of f >>= λ flags. u8_of w.0 >>= λ service. u8_of w.1 >>=
-        λ subtype.
-        octets_of w.2 >>= λ body. Some (command.Event (event.Plain flags service subtype body)))
-    by_words None = and_false (fit (kind.Number number.Flags) f)
+        ≡ is_some (o >>= λ w. sent_flags_of source f >>= λ sent. u8_of w.0 >>= λ service.
+        u8_of w.1 >>= λ subtype. octets_of w.2 >>= λ body.
+        Some (command.Event (event.Plain sent.0 sent.1 service subtype body)))
+    by_words None = and_false (fit (kind.Sourced number.Flags) f)
     by_words (Some w) =
-        (λ i. zero_least (flags_of f) i
+        (λ i. flags_read source f i
         && (zero_least (u8_of w.0) i && (zero_least (u8_of w.1) i && is_some (octets_of w.2))))
-        ∙ in_turn (λ flags service subtype body. command.Event
-        (event.Plain flags service subtype body))
-        (flags_of f) (u8_of w.0) (u8_of w.1) (octets_of w.2)
+        ∙ in_turn (λ (sent : ℕ × ℕ) service subtype body. command.Event
+        (event.Plain sent.0 sent.1 service subtype body))
+        (sent_flags_of source f) (u8_of w.0) (u8_of w.1) (octets_of w.2)
 
 -- ---- `tick`
 
@@ -127,268 +127,275 @@ alone_fits : (c : Command) (ws : List (List ℕ)) → fits [] ws ≡ is_some (al
 alone_fits c [] = refl
 alone_fits c (w ∷ ws) = refl
 
--- ---- `show`
+-- ---- where this source is configured
 
-memory_fits : (ws : List (List ℕ))
-    → fits (kind.Number number.Memory ∷ kind.Number number.Address ∷ kind.Number number.Length ∷ [])
-    ws
-    ≡ is_some (show_memory_of ws)
-memory_fits =
-    three_turns (kind.Number number.Memory) (kind.Number number.Address) (kind.Number number.Length)
-    u8_of u32_of u32_of show.Memory (λ w. zero_least (u8_of w)) (λ w. zero_least (u32_of w))
-    (λ w. zero_least (u32_of w))
+module _ (source : ℕ) where
+  named : (w : List ℕ) → fit (kind.Sourced number.Id) w ≡ is_some (id_of source w)
+  named w = name_read source w
 
-clear_fits : (ws : List (List ℕ))
-    → fits (kind.Direction ∷ kind.Number number.Id ∷ []) ws ≡ is_some (show_clear_of ws)
-clear_fits ws =
-    two_fits kind.Direction (kind.Number number.Id) direction_of u16_of direction id ws
-    ∙ sym (map_some (λ t. show.Clear t.0 t.1) (transaction_of ws))
+  -- ---- `show`
 
-packet_fits : (ws : List (List ℕ))
-    → fits (kind.Number number.Packet ∷ []) ws ≡ is_some (show_packet_of ws)
-packet_fits ws =
-    one_fits (kind.Number number.Packet) packet_number_of packet ws
-    ∙ sym (map_some show.Packet (one_of ws >>= packet_number_of))
+  memory_fits : (ws : List (List ℕ))
+      → fits (kind.Number number.Memory ∷ kind.Number number.Address ∷ kind.Number number.Length ∷ [])
+      ws
+      ≡ is_some (show_memory_of ws)
+  memory_fits =
+      three_turns (kind.Number number.Memory) (kind.Number number.Address) (kind.Number number.Length)
+      u8_of u32_of u32_of show.Memory (λ w. zero_least (u8_of w)) (λ w. zero_least (u32_of w))
+      (λ w. zero_least (u32_of w))
 
--- the word that is this text
-is_text : (text w : List ℕ) → is_word text w ≡ true → w ≡ text
-is_text text w h = (bytes_decides w text).0 h
+  clear_fits : (ws : List (List ℕ))
+      → fits (kind.Direction ∷ kind.Sourced number.Id ∷ []) ws ≡ is_some (show_clear_of source ws)
+  clear_fits ws =
+      two_fits kind.Direction (kind.Sourced number.Id) direction_of (id_of source) direction named ws
+      ∙ sym (map_some (λ t. show.Clear t.0 t.1) (transaction_of source ws))
 
--- a word that is shown alone, or one that has others behind it
-abbrev ShowAgrees : List ℕ → List (List ℕ) → Type 0
-ShowAgrees w ws = is_some (show_misfit (w ∷ ws)) ≡ not (is_some (show_of (w ∷ ws)))
+  packet_fits : (ws : List (List ℕ))
+      → fits (kind.Number number.Packet ∷ []) ws ≡ is_some (show_packet_of ws)
+  packet_fits ws =
+      one_fits (kind.Number number.Packet) packet_number_of packet ws
+      ∙ sym (map_some show.Packet (one_of ws >>= packet_number_of))
 
--- by which word it is
-abbrev kinds_by : (r j m c p : Bool) → Option (List Kind)
-kinds_by r j m c p =
-    if r || j then Some []
-    else if m
-    then Some (kind.Number number.Memory ∷ kind.Number number.Address ∷ kind.Number number.Length ∷
-    [])
-    else if c then Some (kind.Direction ∷ kind.Number number.Id ∷ [])
-    else if p then Some (kind.Number number.Packet ∷ [])
-    else None
+  -- the word that is this text
+  is_text : (text w : List ℕ) → is_word text w ≡ true → w ≡ text
+  is_text text w h = (bytes_decides w text).0 h
 
-abbrev show_by : (r j m c p : Bool) → List (List ℕ) → Option Show
-show_by r j m c p ws =
-    if is_empty ws then (if r then Some show.Released else if j then Some show.Journal else None)
-    else if m then show_memory_of ws
-    else if c then show_clear_of ws
-    else if p then show_packet_of ws
-    else None
+  -- a word that is shown alone, or one that has others behind it
+  abbrev ShowAgrees : List ℕ → List (List ℕ) → Type 0
+  ShowAgrees w ws = is_some (show_misfit (w ∷ ws)) ≡ not (is_some (show_of source (w ∷ ws)))
 
--- a word that is none of the first two
-others : (w : List ℕ) (m c p : Bool) (ws : List (List ℕ))
-    → is_some (shown_misfit w ws (kinds_by false false m c p))
-    ≡ not (is_some (show_by false false m c p ws))
-others w true c p [] = refl
-others w false true p [] = refl
-others w false false true [] = refl
-others w false false false [] = refl
-others w true c p (v ∷ ws) =
-    misfit_fits (kind.Number number.Memory ∷ kind.Number number.Address ∷ kind.Number number.Length
-    ∷ []) 2
-    (v ∷ ws)
-    ∙ ap not (memory_fits (v ∷ ws))
-others w false true p (v ∷ ws) =
-    misfit_fits (kind.Direction ∷ kind.Number number.Id ∷ []) 2 (v ∷ ws)
-    ∙ ap not (clear_fits (v ∷ ws))
-others w false false true (v ∷ ws) =
-    misfit_fits (kind.Number number.Packet ∷ []) 2 (v ∷ ws) ∙ ap not (packet_fits (v ∷ ws))
-others w false false false (v ∷ ws) = refl
+  -- by which word it is
+  abbrev kinds_by : (r j m c p : Bool) → Option (List Kind)
+  kinds_by r j m c p =
+      if r || j then Some []
+      else if m
+      then Some (kind.Number number.Memory ∷ kind.Number number.Address ∷ kind.Number number.Length ∷
+      [])
+      else if c then Some (kind.Direction ∷ kind.Sourced number.Id ∷ [])
+      else if p then Some (kind.Number number.Packet ∷ [])
+      else None
 
-released : (ws : List (List ℕ)) → ShowAgrees (codes "released") ws
-released [] = refl
-released (v ∷ ws) = refl
+  abbrev show_by : (r j m c p : Bool) → List (List ℕ) → Option Show
+  show_by r j m c p ws =
+      if is_empty ws then (if r then Some show.Released else if j then Some show.Journal else None)
+      else if m then show_memory_of ws
+      else if c then show_clear_of source ws
+      else if p then show_packet_of ws
+      else None
 
-journal : (ws : List (List ℕ)) → ShowAgrees (codes "journal") ws
-journal [] = refl
-journal (v ∷ ws) = refl
+  -- a word that is none of the first two
+  others : (w : List ℕ) (m c p : Bool) (ws : List (List ℕ))
+      → is_some (shown_misfit w ws (kinds_by false false m c p))
+      ≡ not (is_some (show_by false false m c p ws))
+  others w true c p [] = refl
+  others w false true p [] = refl
+  others w false false true [] = refl
+  others w false false false [] = refl
+  others w true c p (v ∷ ws) =
+      misfit_fits (kind.Number number.Memory ∷ kind.Number number.Address ∷ kind.Number number.Length
+      ∷ []) 2
+      (v ∷ ws)
+      ∙ ap not (memory_fits (v ∷ ws))
+  others w false true p (v ∷ ws) =
+      misfit_fits (kind.Direction ∷ kind.Sourced number.Id ∷ []) 2 (v ∷ ws)
+      ∙ ap not (clear_fits (v ∷ ws))
+  others w false false true (v ∷ ws) =
+      misfit_fits (kind.Number number.Packet ∷ []) 2 (v ∷ ws) ∙ ap not (packet_fits (v ∷ ws))
+  others w false false false (v ∷ ws) = refl
 
-show_word : (w : List ℕ) (ws : List (List ℕ)) (r j : Bool)
-    → is_word (codes "released") w ≡ r
-    → is_word (codes "journal") w ≡ j
-    → ShowAgrees w ws
-show_word w ws true j e g =
-    subst (λ x. ShowAgrees x ws) (sym (is_text (codes "released") w e)) (released ws)
-show_word w ws false true e g =
-    subst (λ x. ShowAgrees x ws) (sym (is_text (codes "journal") w g)) (journal ws)
-show_word w ws false false e g =
-    let m = is_word (codes "memory") w in
-    let c = is_word (codes "clear") w in
-    let p = is_word (codes "packet") w in
-    ap (λ t. is_some (shown_misfit w ws (kinds_by (is_word (codes "released") w) t m c p))) g
-    ∙ ap (λ t. is_some (shown_misfit w ws (kinds_by t false m c p))) e
-    ∙ others w m c p ws
-    ∙ ap (λ t. not (is_some (show_by t false m c p ws))) (sym e)
-    ∙ ap (λ t. not (is_some (show_by (is_word (codes "released") w) t m c p ws))) (sym g)
+  released : (ws : List (List ℕ)) → ShowAgrees (codes "released") ws
+  released [] = refl
+  released (v ∷ ws) = refl
 
-show_exact : (ws : List (List ℕ)) → is_some (show_misfit ws) ≡ not (is_some (show_of ws))
-show_exact [] = refl
-show_exact (w ∷ ws) =
-    show_word w ws (is_word (codes "released") w) (is_word (codes "journal") w) refl refl
+  journal : (ws : List (List ℕ)) → ShowAgrees (codes "journal") ws
+  journal [] = refl
+  journal (v ∷ ws) = refl
 
--- ---- every command
+  show_word : (w : List ℕ) (ws : List (List ℕ)) (r j : Bool)
+      → is_word (codes "released") w ≡ r
+      → is_word (codes "journal") w ≡ j
+      → ShowAgrees w ws
+  show_word w ws true j e g =
+      subst (λ x. ShowAgrees x ws) (sym (is_text (codes "released") w e)) (released ws)
+  show_word w ws false true e g =
+      subst (λ x. ShowAgrees x ws) (sym (is_text (codes "journal") w g)) (journal ws)
+  show_word w ws false false e g =
+      let m = is_word (codes "memory") w in
+      let c = is_word (codes "clear") w in
+      let p = is_word (codes "packet") w in
+      ap (λ t. is_some (shown_misfit w ws (kinds_by (is_word (codes "released") w) t m c p))) g
+      ∙ ap (λ t. is_some (shown_misfit w ws (kinds_by t false m c p))) e
+      ∙ others w m c p ws
+      ∙ ap (λ t. not (is_some (show_by t false m c p ws))) (sym e)
+      ∙ ap (λ t. not (is_some (show_by (is_word (codes "released") w) t m c p ws))) (sym g)
 
--- a word behind the command of this name is at fault where the words aren't what it takes
-abbrev Agrees : List ℕ → Shape → Type 0
-Agrees text s =
-    (ws : List (List ℕ))
-    → is_some (shape_misfit s ws)
-    ≡ not (is_some (option_and_then (λ k. arguments_of k ws) (keyword_of text)))
+  show_exact : (ws : List (List ℕ)) → is_some (show_misfit ws) ≡ not (is_some (show_of source ws))
+  show_exact [] = refl
+  show_exact (w ∷ ws) =
+      show_word w ws (is_word (codes "released") w) (is_word (codes "journal") w) refl refl
 
-open_agrees : Agrees (codes "open") (shape.Three kind.Direction (kind.Number number.Id) kind.Octets)
-open_agrees ws =
-    misfit_fits (kind.Direction ∷ kind.Number number.Id ∷ kind.Octets ∷ []) 1 ws
-    ∙ ap not (name_fits kind.Direction (kind.Number number.Id) kind.Octets direction_of u16_of
-    octets_of
-    (λ n m. command.Event (event.Open n.0 n.1 m)) direction id octets ws)
+  -- ---- every command
 
-send_agrees : Agrees (codes "send") (shape.Three kind.Direction (kind.Number number.Id)
-    (kind.Number number.Part))
-send_agrees ws =
-    misfit_fits (kind.Direction ∷ kind.Number number.Id ∷ kind.Number number.Part ∷ []) 1 ws
-    ∙ ap not (name_fits kind.Direction (kind.Number number.Id) (kind.Number number.Part)
-    direction_of
-    u16_of u16_of (λ n k. command.Event (event.Send n.0 n.1 k)) direction id id ws)
+  -- a word behind the command of this name is at fault where the words aren't what it takes
+  abbrev Agrees : List ℕ → Shape → Type 0
+  Agrees text s =
+      (ws : List (List ℕ))
+      → is_some (shape_misfit s ws)
+      ≡ not (is_some (option_and_then (λ k. arguments_of source k ws) (keyword_of text)))
 
-finish_agrees : Agrees (codes "finish") (shape.Two kind.Direction (kind.Number number.Id))
-finish_agrees ws =
-    misfit_fits (kind.Direction ∷ kind.Number number.Id ∷ []) 1 ws
-    ∙ ap not (two_fits kind.Direction (kind.Number number.Id) direction_of u16_of direction id ws
-    ∙ sym (map_some (λ t. command.Event (event.Finish t.0 t.1)) (transaction_of ws)))
+  open_agrees : Agrees (codes "open") (shape.Three kind.Direction (kind.Sourced number.Id) kind.Octets)
+  open_agrees ws =
+      misfit_fits (kind.Direction ∷ kind.Sourced number.Id ∷ kind.Octets ∷ []) 1 ws
+      ∙ ap not (name_fits kind.Direction (kind.Sourced number.Id) kind.Octets direction_of
+      (id_of source) octets_of
+      (λ n m. command.Event (event.Open n.0 n.1 m)) direction named octets ws)
 
-plain_agrees : Agrees (codes "plain") (shape.Four (kind.Number number.Flags)
-    (kind.Number number.Service)
-    (kind.Number number.Subtype) kind.Octets)
-plain_agrees ws =
-    misfit_fits (kind.Number number.Flags ∷ kind.Number number.Service ∷ kind.Number number.Subtype
-    ∷ kind.Octets ∷ []) 1 ws
-    ∙ ap not (plain_fits ws)
+  send_agrees : Agrees (codes "send") (shape.Three kind.Direction (kind.Sourced number.Id)
+      (kind.Number number.Part))
+  send_agrees ws =
+      misfit_fits (kind.Direction ∷ kind.Sourced number.Id ∷ kind.Number number.Part ∷ []) 1 ws
+      ∙ ap not (name_fits kind.Direction (kind.Sourced number.Id) (kind.Number number.Part)
+      direction_of
+      (id_of source) u16_of (λ n k. command.Event (event.Send n.0 n.1 k)) direction named part ws)
 
-load_agrees : Agrees (codes "load") shape.Load
-load_agrees ws =
-    load_exact ws ∙ ap not (sym (map_some command.Load (load_of ws)))
+  finish_agrees : Agrees (codes "finish") (shape.Two kind.Direction (kind.Sourced number.Id))
+  finish_agrees ws =
+      misfit_fits (kind.Direction ∷ kind.Sourced number.Id ∷ []) 1 ws
+      ∙ ap not (two_fits kind.Direction (kind.Sourced number.Id) direction_of (id_of source) direction named ws
+      ∙ sym (map_some (λ t. command.Event (event.Finish t.0 t.1)) (transaction_of source ws)))
 
-retire_agrees : Agrees (codes "retire") (shape.Two kind.Direction (kind.Number number.Id))
-retire_agrees ws =
-    misfit_fits (kind.Direction ∷ kind.Number number.Id ∷ []) 1 ws
-    ∙ ap not (two_fits kind.Direction (kind.Number number.Id) direction_of u16_of direction id ws
-    ∙ sym (map_some (λ t. command.Event (event.Retire t.0 t.1)) (transaction_of ws)))
+  plain_agrees : Agrees (codes "plain") (shape.Four (kind.Sourced number.Flags)
+      (kind.Number number.Service)
+      (kind.Number number.Subtype) kind.Octets)
+  plain_agrees ws =
+      misfit_fits (kind.Sourced number.Flags ∷ kind.Number number.Service ∷ kind.Number number.Subtype
+      ∷ kind.Octets ∷ []) 1 ws
+      ∙ ap not (plain_fits source ws)
 
-lose_agrees : Agrees (codes "lose") (shape.One (kind.Number number.Packet))
-lose_agrees ws =
-    misfit_fits (kind.Number number.Packet ∷ []) 1 ws
-    ∙ ap not (one_fits (kind.Number number.Packet) packet_number_of packet ws
-    ∙ sym (map_some (λ n. command.Event (event.Lose n)) (one_of ws >>= packet_number_of)))
+  load_agrees : Agrees (codes "load") shape.Load
+  load_agrees ws =
+      load_exact source ws ∙ ap not (sym (map_some command.Load (load_of source ws)))
 
-damage_agrees : Agrees (codes "damage") (shape.Two kind.Direction kind.Octets)
-damage_agrees ws =
-    misfit_fits (kind.Direction ∷ kind.Octets ∷ []) 1 ws
-    ∙ ap not (two_turns kind.Direction kind.Octets direction_of octets_of
-    (λ d o. command.Event (event.Damage d o)) direction octets ws)
+  retire_agrees : Agrees (codes "retire") (shape.Two kind.Direction (kind.Sourced number.Id))
+  retire_agrees ws =
+      misfit_fits (kind.Direction ∷ kind.Sourced number.Id ∷ []) 1 ws
+      ∙ ap not (two_fits kind.Direction (kind.Sourced number.Id) direction_of (id_of source) direction named ws
+      ∙ sym (map_some (λ t. command.Event (event.Retire t.0 t.1)) (transaction_of source ws)))
 
-take_agrees : Agrees (codes "take") (shape.Two kind.Lane (kind.Number number.Packet))
-take_agrees ws =
-    misfit_fits (kind.Lane ∷ kind.Number number.Packet ∷ []) 1 ws
-    ∙ ap not (two_fits kind.Lane (kind.Number number.Packet) lane_of packet_number_of lane packet ws
-    ∙ sym (map_some (λ p. command.Event (event.Take p.0 p.1)) (lane_and_packet_of ws)))
+  lose_agrees : Agrees (codes "lose") (shape.One (kind.Number number.Packet))
+  lose_agrees ws =
+      misfit_fits (kind.Number number.Packet ∷ []) 1 ws
+      ∙ ap not (one_fits (kind.Number number.Packet) packet_number_of packet ws
+      ∙ sym (map_some (λ n. command.Event (event.Lose n)) (one_of ws >>= packet_number_of)))
 
-deliver_agrees : Agrees (codes "deliver") (shape.One kind.Lane)
-deliver_agrees ws =
-    misfit_fits (kind.Lane ∷ []) 1 ws
-    ∙ ap not (one_fits kind.Lane lane_of lane ws
-    ∙ sym (map_some (λ l. command.Event (event.Deliver l)) (one_of ws >>= lane_of)))
+  damage_agrees : Agrees (codes "damage") (shape.Two kind.Direction kind.Octets)
+  damage_agrees ws =
+      misfit_fits (kind.Direction ∷ kind.Octets ∷ []) 1 ws
+      ∙ ap not (two_turns kind.Direction kind.Octets direction_of octets_of
+      (λ d o. command.Event (event.Damage d o)) direction octets ws)
 
-pass_agrees : Agrees (codes "pass") (shape.Two kind.Lane (kind.Number number.Packet))
-pass_agrees ws =
-    misfit_fits (kind.Lane ∷ kind.Number number.Packet ∷ []) 1 ws
-    ∙ ap not (two_fits kind.Lane (kind.Number number.Packet) lane_of packet_number_of lane packet ws
-    ∙ sym (map_some (λ p. command.Pass p.0 p.1) (lane_and_packet_of ws)))
+  take_agrees : Agrees (codes "take") (shape.Two kind.Lane (kind.Number number.Packet))
+  take_agrees ws =
+      misfit_fits (kind.Lane ∷ kind.Number number.Packet ∷ []) 1 ws
+      ∙ ap not (two_fits kind.Lane (kind.Number number.Packet) lane_of packet_number_of lane packet ws
+      ∙ sym (map_some (λ p. command.Event (event.Take p.0 p.1)) (lane_and_packet_of ws)))
 
-show_agrees : Agrees (codes "show") shape.Show
-show_agrees ws =
-    show_exact ws ∙ ap not (sym (map_some command.Show (show_of ws)))
+  deliver_agrees : Agrees (codes "deliver") (shape.One kind.Lane)
+  deliver_agrees ws =
+      misfit_fits (kind.Lane ∷ []) 1 ws
+      ∙ ap not (one_fits kind.Lane lane_of lane ws
+      ∙ sym (map_some (λ l. command.Event (event.Deliver l)) (one_of ws >>= lane_of)))
 
-tick_agrees : Agrees (codes "tick") shape.Tick
-tick_agrees ws =
-    tick_exact ws
+  pass_agrees : Agrees (codes "pass") (shape.Two kind.Lane (kind.Number number.Packet))
+  pass_agrees ws =
+      misfit_fits (kind.Lane ∷ kind.Number number.Packet ∷ []) 1 ws
+      ∙ ap not (two_fits kind.Lane (kind.Number number.Packet) lane_of packet_number_of lane packet ws
+      ∙ sym (map_some (λ p. command.Pass p.0 p.1) (lane_and_packet_of ws)))
 
-expire_agrees : Agrees (codes "expire") (shape.One kind.Node)
-expire_agrees ws =
-    misfit_fits (kind.Node ∷ []) 1 ws
-    ∙ ap not (one_fits kind.Node node_of node ws
-    ∙ sym (map_some (λ n. command.Event (event.Expire n)) (one_of ws >>= node_of)))
+  show_agrees : Agrees (codes "show") shape.Show
+  show_agrees ws =
+      show_exact ws ∙ ap not (sym (map_some command.Show (show_of source ws)))
 
-claim_agrees : Agrees (codes "claim") (shape.One kind.Worker)
-claim_agrees ws =
-    misfit_fits (kind.Worker ∷ []) 1 ws
-    ∙ ap not (one_fits kind.Worker worker_of worker ws
-    ∙ sym (map_some (λ w. command.Event (event.Claim w)) (one_of ws >>= worker_of)))
+  tick_agrees : Agrees (codes "tick") shape.Tick
+  tick_agrees ws =
+      tick_exact ws
 
-commit_agrees : Agrees (codes "commit") (shape.One kind.Worker)
-commit_agrees ws =
-    misfit_fits (kind.Worker ∷ []) 1 ws
-    ∙ ap not (one_fits kind.Worker worker_of worker ws
-    ∙ sym (map_some (λ w. command.Event (event.Commit w)) (one_of ws >>= worker_of)))
+  expire_agrees : Agrees (codes "expire") (shape.One kind.Node)
+  expire_agrees ws =
+      misfit_fits (kind.Node ∷ []) 1 ws
+      ∙ ap not (one_fits kind.Node node_of node ws
+      ∙ sym (map_some (λ n. command.Event (event.Expire n)) (one_of ws >>= node_of)))
 
-apply_agrees : Agrees (codes "apply") shape.Alone
-apply_agrees ws =
-    misfit_fits [] 1 ws ∙ ap not (alone_fits (command.Event event.Apply) ws)
+  claim_agrees : Agrees (codes "claim") (shape.One kind.Worker)
+  claim_agrees ws =
+      misfit_fits (kind.Worker ∷ []) 1 ws
+      ∙ ap not (one_fits kind.Worker worker_of worker ws
+      ∙ sym (map_some (λ w. command.Event (event.Claim w)) (one_of ws >>= worker_of)))
 
-work_agrees : Agrees (codes "work") shape.Alone
-work_agrees ws =
-    misfit_fits [] 1 ws ∙ ap not (alone_fits command.Work ws)
+  commit_agrees : Agrees (codes "commit") (shape.One kind.Worker)
+  commit_agrees ws =
+      misfit_fits (kind.Worker ∷ []) 1 ws
+      ∙ ap not (one_fits kind.Worker worker_of worker ws
+      ∙ sym (map_some (λ w. command.Event (event.Commit w)) (one_of ws >>= worker_of)))
 
-restart_agrees : Agrees (codes "restart") (shape.One kind.Node)
-restart_agrees ws =
-    misfit_fits (kind.Node ∷ []) 1 ws
-    ∙ ap not (one_fits kind.Node node_of node ws
-    ∙ sym (map_some (λ n. command.Event (event.Restart n)) (one_of ws >>= node_of)))
+  apply_agrees : Agrees (codes "apply") shape.Alone
+  apply_agrees ws =
+      misfit_fits [] 1 ws ∙ ap not (alone_fits (command.Event event.Apply) ws)
 
--- the same of all commands of a table
-abbrev AllAgree : List (List ℕ × Shape) → Type 0
-AllAgree [] = Unit {0}
-AllAgree (row ∷ rows) = Agrees row.0 row.1 × AllAgree rows
+  work_agrees : Agrees (codes "work") shape.Alone
+  work_agrees ws =
+      misfit_fits [] 1 ws ∙ ap not (alone_fits command.Work ws)
 
-commands_agree : AllAgree commands
-commands_agree = (
-  open_agrees,
-  (
-    send_agrees,
+  restart_agrees : Agrees (codes "restart") (shape.One kind.Node)
+  restart_agrees ws =
+      misfit_fits (kind.Node ∷ []) 1 ws
+      ∙ ap not (one_fits kind.Node node_of node ws
+      ∙ sym (map_some (λ n. command.Event (event.Restart n)) (one_of ws >>= node_of)))
+
+  -- the same of all commands of a table
+  abbrev AllAgree : List (List ℕ × Shape) → Type 0
+  AllAgree [] = Unit {0}
+  AllAgree (row ∷ rows) = Agrees row.0 row.1 × AllAgree rows
+
+  commands_agree : AllAgree commands
+  commands_agree = (
+    open_agrees,
     (
-      finish_agrees,
+      send_agrees,
       (
-        plain_agrees,
+        finish_agrees,
         (
-          load_agrees,
+          plain_agrees,
           (
-            retire_agrees,
+            load_agrees,
             (
-              lose_agrees,
+              retire_agrees,
               (
-                damage_agrees,
+                lose_agrees,
                 (
-                  take_agrees,
+                  damage_agrees,
                   (
-                    deliver_agrees,
+                    take_agrees,
                     (
-                      pass_agrees,
+                      deliver_agrees,
                       (
-                        show_agrees,
+                        pass_agrees,
                         (
-                          tick_agrees,
+                          show_agrees,
                           (
-                            expire_agrees,
+                            tick_agrees,
                             (
-                              claim_agrees,
+                              expire_agrees,
                               (
-                                commit_agrees,
+                                claim_agrees,
                                 (
-                                  apply_agrees,
+                                  commit_agrees,
                                   (
-                                    work_agrees,
-                                    (restart_agrees, tt),
+                                    apply_agrees,
+                                    (
+                                      work_agrees,
+                                      (restart_agrees, tt),
+                                    ),
                                   ),
                                 ),
                               ),
@@ -405,93 +412,92 @@ commands_agree = (
         ),
       ),
     ),
-  ),
-)
+  )
 
--- a word is none of these names
-abbrev IsNone : List (List ℕ × Shape) → List ℕ → Type 0
-IsNone [] word = Unit {0}
-IsNone (row ∷ rows) word = (is_word row.0 word ≡ false) × IsNone rows word
+  -- a word is none of these names
+  abbrev IsNone : List (List ℕ × Shape) → List ℕ → Type 0
+  IsNone [] word = Unit {0}
+  IsNone (row ∷ rows) word = (is_word row.0 word ≡ false) × IsNone rows word
 
--- a word is at fault where the words aren't what the command of this name takes
-abbrev CommandAgrees : List ℕ → List (List ℕ) → Option Shape → Type 0
-CommandAgrees w ws s =
-    is_some (command_misfit w ws s)
-    ≡ not (is_some (option_and_then (λ k. arguments_of k ws) (keyword_of w)))
+  -- a word is at fault where the words aren't what the command of this name takes
+  abbrev CommandAgrees : List ℕ → List (List ℕ) → Option Shape → Type 0
+  CommandAgrees w ws s =
+      is_some (command_misfit w ws s)
+      ≡ not (is_some (option_and_then (λ k. arguments_of source k ws) (keyword_of w)))
 
--- this is so of every name where it is so of a table's and of any other
-by_table : (rows : List (List ℕ × Shape)) (w : List ℕ) (ws : List (List ℕ))
-    → AllAgree rows
-    → (IsNone rows w → CommandAgrees w ws None)
-    → CommandAgrees w ws (shape_in rows w)
-by_table [] w ws all other = other tt
-by_table (row ∷ rows) w ws all other =
-    by_row (is_word row.0 w) refl (λ none. by_table rows w ws all.1 none)
-  where
-    by_row : (b : Bool) → is_word row.0 w ≡ b
-        → ((IsNone rows w → CommandAgrees w ws None) → CommandAgrees w ws (shape_in rows w))
-        → CommandAgrees w ws (if b then Some row.1 else shape_in rows w)
-    by_row true e rest =
-        subst (λ x. CommandAgrees x ws (Some row.1)) (sym (is_text row.0 w e)) (all.0 ws)
-    by_row false e rest = rest (λ none. other (e, none))
+  -- this is so of every name where it is so of a table's and of any other
+  by_table : (rows : List (List ℕ × Shape)) (w : List ℕ) (ws : List (List ℕ))
+      → AllAgree rows
+      → (IsNone rows w → CommandAgrees w ws None)
+      → CommandAgrees w ws (shape_in rows w)
+  by_table [] w ws all other = other tt
+  by_table (row ∷ rows) w ws all other =
+      by_row (is_word row.0 w) refl (λ none. by_table rows w ws all.1 none)
+    where
+      by_row : (b : Bool) → is_word row.0 w ≡ b
+          → ((IsNone rows w → CommandAgrees w ws None) → CommandAgrees w ws (shape_in rows w))
+          → CommandAgrees w ws (if b then Some row.1 else shape_in rows w)
+      by_row true e rest =
+          subst (λ x. CommandAgrees x ws (Some row.1)) (sym (is_text row.0 w e)) (all.0 ws)
+      by_row false e rest = rest (λ none. other (e, none))
 
--- what is no name is no command
-no_command : (w : List ℕ) (ws : List (List ℕ)) → IsNone commands w → CommandAgrees w ws None
-no_command w ws h =
-    rw (
-      h.0,
-      h.1.0,
-      h.1.1.0,
-      h.1.1.1.0,
-      h.1.1.1.1.0,
-      h.1.1.1.1.1.0,
-      h.1.1.1.1.1.1.0,
-      h.1.1.1.1.1.1.1.0,
-      h.1.1.1.1.1.1.1.1.0,
-      h.1.1.1.1.1.1.1.1.1.0,
-      h.1.1.1.1.1.1.1.1.1.1.0,
-      h.1.1.1.1.1.1.1.1.1.1.1.0,
-      h.1.1.1.1.1.1.1.1.1.1.1.1.0,
-      h.1.1.1.1.1.1.1.1.1.1.1.1.1.0,
-      h.1.1.1.1.1.1.1.1.1.1.1.1.1.1.0,
-      h.1.1.1.1.1.1.1.1.1.1.1.1.1.1.1.0,
-      h.1.1.1.1.1.1.1.1.1.1.1.1.1.1.1.1.0,
-      h.1.1.1.1.1.1.1.1.1.1.1.1.1.1.1.1.1.0,
-      h.1.1.1.1.1.1.1.1.1.1.1.1.1.1.1.1.1.1.0,
-    ) refl
+  -- what is no name is no command
+  no_command : (w : List ℕ) (ws : List (List ℕ)) → IsNone commands w → CommandAgrees w ws None
+  no_command w ws h =
+      rw (
+        h.0,
+        h.1.0,
+        h.1.1.0,
+        h.1.1.1.0,
+        h.1.1.1.1.0,
+        h.1.1.1.1.1.0,
+        h.1.1.1.1.1.1.0,
+        h.1.1.1.1.1.1.1.0,
+        h.1.1.1.1.1.1.1.1.0,
+        h.1.1.1.1.1.1.1.1.1.0,
+        h.1.1.1.1.1.1.1.1.1.1.0,
+        h.1.1.1.1.1.1.1.1.1.1.1.0,
+        h.1.1.1.1.1.1.1.1.1.1.1.1.0,
+        h.1.1.1.1.1.1.1.1.1.1.1.1.1.0,
+        h.1.1.1.1.1.1.1.1.1.1.1.1.1.1.0,
+        h.1.1.1.1.1.1.1.1.1.1.1.1.1.1.1.0,
+        h.1.1.1.1.1.1.1.1.1.1.1.1.1.1.1.1.0,
+        h.1.1.1.1.1.1.1.1.1.1.1.1.1.1.1.1.1.0,
+        h.1.1.1.1.1.1.1.1.1.1.1.1.1.1.1.1.1.1.0,
+      ) refl
 
-command_exact : (w : List ℕ) (ws : List (List ℕ)) → CommandAgrees w ws (command_shape w)
-command_exact w ws = by_table commands w ws commands_agree (no_command w ws)
+  command_exact : (w : List ℕ) (ws : List (List ℕ)) → CommandAgrees w ws (command_shape w)
+  command_exact w ws = by_table commands w ws commands_agree (no_command w ws)
 
--- ---- lines
+  -- ---- lines
 
-not_asked : (o : Option Command) → not (is_some o) ≡ is_unreadable (asked o)
-not_asked None = refl
-not_asked (Some c) = refl
+  not_asked : (o : Option Command) → not (is_some o) ≡ is_unreadable (asked o)
+  not_asked None = refl
+  not_asked (Some c) = refl
 
--- words are at fault where they say nothing
-pub words_exact : (ws : List (List ℕ)) → is_some (words_misfit ws) ≡ is_unreadable
-    (words_reading ws)
-words_exact [] = refl
-words_exact (w ∷ ws) = by_test (is_comment w)
-  where
-    by_test : (b : Bool)
-        → is_some (if b then None else command_misfit w ws (command_shape w))
-        ≡ is_unreadable (if b then Skipped
-        else asked (option_and_then (λ k. arguments_of k ws) (keyword_of w)))
-    by_test true = refl
-    by_test false =
-        command_exact w ws ∙ not_asked (option_and_then (λ k. arguments_of k ws) (keyword_of w))
+  -- words are at fault where they say nothing
+  pub words_exact : (ws : List (List ℕ)) → is_some (words_misfit ws) ≡ is_unreadable
+      (words_reading source ws)
+  words_exact [] = refl
+  words_exact (w ∷ ws) = by_test (is_comment w)
+    where
+      by_test : (b : Bool)
+          → is_some (if b then None else command_misfit w ws (command_shape w))
+          ≡ is_unreadable (if b then Skipped
+          else asked (option_and_then (λ k. arguments_of source k ws) (keyword_of w)))
+      by_test true = refl
+      by_test false =
+          command_exact w ws ∙ not_asked (option_and_then (λ k. arguments_of source k ws) (keyword_of w))
 
--- something is found in a line where it is unreadable
-pub why_exact : (line : List ℕ) → is_some (why line) ≡ is_unreadable (reading_of line)
-unfolding why reading_of
-why_exact line = by_length (nat_lt 140000 (length line))
-  where
-    by_length : (b : Bool)
-        → is_some (if b then Some (record { column = 140001; reason = LongLine })
-        else option_map (finding_at line) (words_misfit (words line)))
-        ≡ is_unreadable (if b then Unreadable else words_reading (words line))
-    by_length true = refl
-    by_length false = map_some (finding_at line) (words_misfit (words line)) ∙ words_exact
-        (words line)
+  -- something is found in a line where it is unreadable
+  pub why_exact : (line : List ℕ) → is_some (why line) ≡ is_unreadable (reading_of source line)
+  unfolding why reading_of
+  why_exact line = by_length (nat_lt 140000 (length line))
+    where
+      by_length : (b : Bool)
+          → is_some (if b then Some (record { column = 140001; reason = LongLine })
+          else option_map (finding_at line) (words_misfit (words line)))
+          ≡ is_unreadable (if b then Unreadable else words_reading source (words line))
+      by_length true = refl
+      by_length false = map_some (finding_at line) (words_misfit (words line)) ∙ words_exact
+          (words line)

@@ -175,17 +175,19 @@ why_first line f h short =
     short_test : nat_lt 140000 (length line) ≡ false
     short_test = grind (arith, nat_tests)
 
-    stopped : (xs : List (List ℕ)) → good_line xs ≡ false → is_unreadable (words_reading xs) ≡ false
+    stopped : (xs : List (List ℕ)) → good_line xs ≡ false
+        → is_unreadable (words_reading 0 xs) ≡ false
         → ⊥
-    stopped xs g u = let e = words_exact xs in absurd (by_value (is_some (words_misfit xs)) g
+    stopped xs g u = let e = words_exact 0 xs in absurd (by_value (is_some (words_misfit xs)) g
         (e ∙ u))
       where
         by_value : (b : Bool) → not b ≡ false → b ≡ false → ⊥
         by_value true g u = absurd cc
         by_value false g u = absurd cc
 
-    readable : (xs : List (List ℕ)) → good_line xs ≡ true → is_unreadable (words_reading xs) ≡ false
-    readable xs g = sym (words_exact xs) ∙ by_value (is_some (words_misfit xs)) g
+    readable : (xs : List (List ℕ)) → good_line xs ≡ true → (source : ℕ)
+        → is_unreadable (words_reading source xs) ≡ false
+    readable xs g source = sym (words_exact source xs) ∙ by_value (is_some (words_misfit xs)) g
       where
         by_value : (b : Bool) → not b ≡ true → b ≡ false
         by_value true g = absurd cc
@@ -212,6 +214,6 @@ why_first line f h short =
                 let next : take (s.0 + 1) (words line) ≡ take (suc s.0) (words line) = rw add-one
                 refl in
                 stopped (take (suc s.0) (words line) ++ begins.0) (s.2.stops lt begins.0)
-                (subst (λ x. is_unreadable (words_reading (x ++ begins.0)) ≡ false) next begins.1);
+                (subst (λ x. is_unreadable (words_reading 0 (x ++ begins.0)) ≡ false) next (begins.1 0));
           },
         )

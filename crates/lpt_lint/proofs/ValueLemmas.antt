@@ -4,12 +4,16 @@ use Rattle.std.specs.Option.{option_and_then, option_zip}
 use Rattle.std.proofs.lemmas.Bool.Decides.{nat_tests}
 use Rattle.lpt_memory.specs.Fields.{◌>>=◌}
 use Rattle.lpt_words.specs.Grammar.{counts}
-use Rattle.lpt_words.specs.Names.{u16_of}
+use Rattle.lpt_events.specs.LptPacket.Names.{named_by}
+use Rattle.lpt_words.specs.Names.{cut_source, flags_of, id_of, sent_flags_of, source_of, u16_of}
 use Rattle.lpt_words.specs.Numbers.{is_numeral, number_of, spelled}
 use Rattle.lpt_words.specs.Words.{one_of, two_of, three_of}
-use Rattle.lpt_lint.specs.Fitting.{at_least, behind, fit, misfit, pass, then_judged}
+use Rattle.lpt_lint.specs.Fitting.{at_least, behind, fit, fit_number, fit_sourced, misfit, pass, then_judged}
 use Rattle.lpt_lint.specs.declared.findings.Misfit.{Misfit}
 use Rattle.lpt_lint.specs.declared.kinds.Kind.{Kind}
+use Rattle.lpt_lint.specs.declared.kinds.Kind.TheVariants as kind
+use Rattle.lpt_lint.specs.declared.kinds.Number.{Number}
+use Rattle.lpt_lint.specs.declared.kinds.Number.TheVariants as number
 
 -- ---- tests
 
@@ -61,6 +65,44 @@ within true v = by_tests (nat_le v 16383) (nat_le v 65535) refl refl
 pub sequence : (word : List ℕ) → is_some (number_of 16383 word) ≡ counts (u16_of word)
 unfolding number_of
 sequence word = within (is_numeral word) (spelled word)
+
+-- ---- a source before a number
+
+both : {A B : Type 0} (x : Option A) (y : Option B)
+    → (is_some x && is_some y) ≡ is_some (option_zip x y)
+both None y = refl
+both (Some x) None = refl
+both (Some x) (Some y) = refl
+
+with_own : {A : Type 0} (source : ℕ) (o : Option A)
+    → is_some o ≡ is_some (option_zip (Some source) o)
+with_own source None = refl
+with_own source (Some x) = refl
+
+-- what may have a source before it is read as a pair
+pub sourced_read : {A : Type 0} (source : ℕ) (n : Number) (read : List ℕ → Option A)
+    → ((w : List ℕ) → fit_number n w ≡ is_some (read w))
+    → (before : Option (List ℕ)) (w : List ℕ)
+    → fit_sourced n before w ≡ is_some (option_zip (source_of source before) (read w))
+sourced_read source n read h None w = h w ∙ with_own source (read w)
+sourced_read source n read h (Some s) w =
+    (λ i. zero_least (u16_of s) i && h w i) ∙ both (u16_of s) (read w)
+
+-- the name of a transaction
+pub name_read : (source : ℕ) (w : List ℕ)
+    → fit (kind.Sourced number.Id) w ≡ is_some (id_of source w)
+name_read source w =
+    sourced_read source number.Id u16_of (λ v. zero_least (u16_of v)) (cut_source w).0
+    (cut_source w).1
+    ∙ sym (map_some (λ n. named_by n.0 n.1)
+    (option_zip (source_of source (cut_source w).0) (u16_of (cut_source w).1)))
+
+-- the source of a request and its flags
+pub flags_read : (source : ℕ) (w : List ℕ)
+    → fit (kind.Sourced number.Flags) w ≡ is_some (sent_flags_of source w)
+flags_read source w =
+    sourced_read source number.Flags flags_of (λ v. zero_least (flags_of v)) (cut_source w).0
+    (cut_source w).1
 
 -- ---- words of given kinds
 
@@ -140,12 +182,6 @@ one_fits a read h ws = fits_one a ws ∙ by_word (one_of ws)
     by_word : (o : Option (List ℕ)) → fit_one a o ≡ is_some (o >>= read)
     by_word None = refl
     by_word (Some w) = h w
-
-both : {A B : Type 0} (x : Option A) (y : Option B)
-    → (is_some x && is_some y) ≡ is_some (option_zip x y)
-both None y = refl
-both (Some x) None = refl
-both (Some x) (Some y) = refl
 
 -- two words
 pub two_fits : {A B : Type 0} (a b : Kind) (first : List ℕ → Option A) (second : List ℕ → Option B)

@@ -1,10 +1,11 @@
 -- Where words of given kinds stop being the front of good ones.
 use Rattle.std.proofs.Common.{◌≡◌, ◌∙◌, ap, sym, refl, ℕ, suc, ◌+◌, ◌<◌, ◌≤◌, not, Bool, true, false, if◌then◌else◌, List, [], ◌∷◌, ◌++◌, length, take, map, codes, Option, Some, Err, is_some, arith}
 use Rattle.lpt_words.specs.Numbers.{number_of, octets_of}
-use Rattle.lpt_lint.specs.Fitting.{behind, fit, misfit, misfit_at, missing_at, pass, then_judged, wrong_of}
+use Rattle.lpt_lint.specs.Fitting.{behind, fit, fit_number, misfit, misfit_at, missing_at, pass, then_judged, wrong_of}
 use Rattle.lpt_lint.specs.declared.findings.Misfit.{Misfit}
 use Rattle.lpt_lint.specs.declared.kinds.Kind.{Kind}
 use Rattle.lpt_lint.specs.declared.kinds.Kind.TheVariants as kind
+use Rattle.lpt_lint.specs.declared.kinds.Number.{Number}
 use Rattle.lpt_lint.specs.declared.kinds.Number.TheVariants as number
 use Rattle.lpt_lint.specs.declared.reasons.Reason.TheVariants.{Behind}
 
@@ -37,25 +38,32 @@ example kind.Node = codes "craft"
 example kind.Lane = codes "s1"
 example kind.Worker = codes "w1"
 example (kind.Number n) = codes "1"
+example (kind.Sourced n) = codes "1"
 example kind.Octets = codes "-"
 
+number_fits : (n : Number) → fit_number n (codes "1") ≡ true
+unfolding number_of
+number_fits number.Id = refl
+number_fits number.Source = refl
+number_fits number.Part = refl
+number_fits number.Packet = refl
+number_fits number.Count = refl
+number_fits number.Flags = refl
+number_fits number.Service = refl
+number_fits number.Subtype = refl
+number_fits number.Sequence = refl
+number_fits number.Memory = refl
+number_fits number.Address = refl
+number_fits number.Length = refl
+
 pub example_fits : (k : Kind) → fit k (example k) ≡ true
-unfolding example number_of octets_of
+unfolding example octets_of
 example_fits kind.Direction = refl
 example_fits kind.Node = refl
 example_fits kind.Lane = refl
 example_fits kind.Worker = refl
-example_fits (kind.Number number.Id) = refl
-example_fits (kind.Number number.Part) = refl
-example_fits (kind.Number number.Packet) = refl
-example_fits (kind.Number number.Count) = refl
-example_fits (kind.Number number.Flags) = refl
-example_fits (kind.Number number.Service) = refl
-example_fits (kind.Number number.Subtype) = refl
-example_fits (kind.Number number.Sequence) = refl
-example_fits (kind.Number number.Memory) = refl
-example_fits (kind.Number number.Address) = refl
-example_fits (kind.Number number.Length) = refl
+example_fits (kind.Number n) = number_fits n
+example_fits (kind.Sourced n) = number_fits n
 example_fits kind.Octets = refl
 
 -- whether nothing is at fault of words of these kinds and of those behind them

@@ -1,18 +1,19 @@
 -- Which word of a line is at fault, and why.
-use Rattle.std.specs.Prelude.{ℕ, ◌+◌, ◌-◌, ◌==◌, not, nat_le, nat_lt, Bool, false, is_some, if◌then◌else◌, List, [], ◌∷◌, length, Option, Some, None, Result, Ok, Err}
+use Rattle.std.specs.Prelude.{ℕ, ◌+◌, ◌-◌, ◌==◌, ◌&&◌, not, nat_le, nat_lt, Bool, false, is_some, if◌then◌else◌, List, [], ◌∷◌, length, Option, Some, None, Result, Ok, Err}
 use Rattle.std.specs.List.{list_all}
 use Rattle.std.specs.Char.{is_ascii_hexdigit}
 use Rattle.std.specs.Option.{option_or}
 use Rattle.lpt_words.specs.Grammar.{is_comment}
-use Rattle.lpt_words.specs.Names.{direction_of, lane_of, node_of, worker_of}
+use Rattle.lpt_words.specs.Names.{cut_source, direction_of, lane_of, node_of, worker_of}
 use Rattle.lpt_words.specs.Numbers.{number_of, octets_of}
 use Rattle.lpt_lint.specs.Kinds.{range_of}
 use Rattle.lpt_lint.specs.declared.findings.Misfit.{Misfit}
 use Rattle.lpt_lint.specs.declared.kinds.Kind.{Kind}
 use Rattle.lpt_lint.specs.declared.kinds.Kind.TheVariants as kind
+use Rattle.lpt_lint.specs.declared.kinds.Number.{Number}
 use Rattle.lpt_lint.specs.declared.kinds.Number.TheVariants as number
 use Rattle.lpt_lint.specs.declared.reasons.Reason.{Reason}
-use Rattle.lpt_lint.specs.declared.reasons.Reason.TheVariants.{Comment, Behind, Missing, Wrong, OutOfRange, OddDigits, EmptyArea, MoreAreas, LongLoad}
+use Rattle.lpt_lint.specs.declared.reasons.Reason.TheVariants.{Comment, Behind, Missing, Wrong, OutOfRange, SecondSlash, OddDigits, EmptyArea, MoreAreas, LongLoad}
 
 -- ---- one word
 
@@ -21,19 +22,42 @@ abbrev pub at_least : ℕ → Option ℕ → Bool
 at_least least None = false
 at_least least (Some n) = nat_le least n
 
+-- whether a word is such a number, in its range
+abbrev pub fit_number : Number → List ℕ → Bool
+fit_number n word = at_least (range_of n).0 (number_of (range_of n).1 word)
+
+-- whether a source, where one is written, and what stands behind it are such numbers
+abbrev pub fit_sourced : Number → Option (List ℕ) → List ℕ → Bool
+fit_sourced n None word = fit_number n word
+fit_sourced n (Some source) word = fit_number number.Source source && fit_number n word
+
 -- whether a word is of this kind
 abbrev pub fit : Kind → List ℕ → Bool
 fit kind.Direction word = is_some (direction_of word)
 fit kind.Node word = is_some (node_of word)
 fit kind.Lane word = is_some (lane_of word)
 fit kind.Worker word = is_some (worker_of word)
-fit (kind.Number n) word = at_least (range_of n).0 (number_of (range_of n).1 word)
+fit (kind.Number n) word = fit_number n word
+fit (kind.Sourced n) word = fit_sourced n (cut_source word).0 (cut_source word).1
 fit kind.Octets word = is_some (octets_of word)
+
+-- why a word isn't such a number
+abbrev pub wrong_number : Number → List ℕ → Reason
+wrong_number n word =
+    if is_some (number_of 9999999999 word) then OutOfRange n else Wrong (kind.Number n)
+
+-- why a source, where one is written, or what stands behind it isn't such a number
+abbrev pub wrong_sourced : Number → Option (List ℕ) → List ℕ → Reason
+wrong_sourced n None word = wrong_number n word
+wrong_sourced n (Some source) word =
+    if not (fit_number number.Source source) then wrong_number number.Source source
+    else if is_some (cut_source word).0 then SecondSlash
+    else wrong_number n word
 
 -- why a word isn't of this kind
 abbrev pub wrong_of : Kind → List ℕ → Reason
-wrong_of (kind.Number n) word =
-    if is_some (number_of 9999999999 word) then OutOfRange n else Wrong (kind.Number n)
+wrong_of (kind.Number n) word = wrong_number n word
+wrong_of (kind.Sourced n) word = wrong_sourced n (cut_source word).0 (cut_source word).1
 wrong_of kind.Octets word =
     if list_all is_ascii_hexdigit word then OddDigits else Wrong kind.Octets
 wrong_of k word = Wrong k

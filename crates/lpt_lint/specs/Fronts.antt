@@ -3,9 +3,11 @@ use Rattle.std.specs.Prelude.{◌≡◌, ℕ, ◌+◌, ◌<◌, ◌≤◌, false
 use Rattle.lpt_words.specs.Grammar.{words_reading}
 use Rattle.lpt_lint.specs.Findings.{is_unreadable}
 
--- a line that can be read begins with these words
+-- a line that can be read begins with these words, whatever source is configured
 abbrev pub BeginsLine : List (List ℕ) → Type 0
-BeginsLine ws = (more : List (List ℕ)) × (is_unreadable (words_reading (ws ++ more)) ≡ false)
+BeginsLine ws =
+    (more : List (List ℕ))
+    × ((source : ℕ) → is_unreadable (words_reading source (ws ++ more)) ≡ false)
 
 -- no readable line goes on like these words up to and with the one of this number, but one does up
 -- to it; where there is no such word, it is missing

@@ -8,6 +8,7 @@ use Rattle.lpt_lint.specs.declared.kinds.Number.TheVariants as number
 -- the least and the greatest that a number can be
 abbrev pub range_of : Number → ℕ × ℕ
 range_of number.Id = (0, 65535)
+range_of number.Source = (0, 65535)
 range_of number.Part = (0, 65535)
 range_of number.Packet = (0, 9999999999)
 range_of number.Count = (1, 100000)
@@ -22,6 +23,7 @@ range_of number.Length = (0, 4294967295)
 -- how the forms of lines name a number
 abbrev pub number_name : Number → List ℕ
 number_name number.Id = codes "ID"
+number_name number.Source = codes "SOURCE"
 number_name number.Part = codes "K"
 number_name number.Packet = codes "N"
 number_name number.Count = codes "COUNT"
@@ -40,4 +42,5 @@ kind_name kind.Node = codes "NODE"
 kind_name kind.Lane = codes "LANE"
 kind_name kind.Worker = codes "WORKER"
 kind_name (kind.Number n) = number_name n
+kind_name (kind.Sourced n) = number_name n
 kind_name kind.Octets = codes "HEX"

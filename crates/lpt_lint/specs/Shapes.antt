@@ -13,16 +13,16 @@ use Rattle.lpt_lint.specs.declared.shapes.Shape.TheVariants as shape
 -- the commands, with what follows each
 abbrev pub commands : List (List ℕ × Shape)
 commands =
-    (codes "open", shape.Three kind.Direction (kind.Number number.Id) kind.Octets)
-    ∷ (codes "send", shape.Three kind.Direction (kind.Number number.Id) (kind.Number number.Part))
-    ∷ (codes "finish", shape.Two kind.Direction (kind.Number number.Id))
+    (codes "open", shape.Three kind.Direction (kind.Sourced number.Id) kind.Octets)
+    ∷ (codes "send", shape.Three kind.Direction (kind.Sourced number.Id) (kind.Number number.Part))
+    ∷ (codes "finish", shape.Two kind.Direction (kind.Sourced number.Id))
     ∷ (
       codes "plain",
-      shape.Four (kind.Number number.Flags) (kind.Number number.Service)
+      shape.Four (kind.Sourced number.Flags) (kind.Number number.Service)
           (kind.Number number.Subtype) kind.Octets,
     )
     ∷ (codes "load", shape.Load)
-    ∷ (codes "retire", shape.Two kind.Direction (kind.Number number.Id))
+    ∷ (codes "retire", shape.Two kind.Direction (kind.Sourced number.Id))
     ∷ (codes "lose", shape.One (kind.Number number.Packet))
     ∷ (codes "damage", shape.Two kind.Direction kind.Octets)
     ∷ (codes "take", shape.Two kind.Lane (kind.Number number.Packet))
@@ -55,7 +55,7 @@ count_misfit n (w ∷ ws) = misfit (kind.Number number.Count ∷ []) n (w ∷ ws
 -- the words of a load before its areas
 abbrev pub load_kinds : List Kind
 load_kinds =
-    kind.Number number.Id ∷ kind.Number number.Sequence ∷ kind.Number number.Flags
+    kind.Sourced number.Id ∷ kind.Number number.Sequence ∷ kind.Number number.Flags
     ∷ kind.Number number.Memory ∷ []
 
 -- the words behind each that `show` shows
@@ -65,7 +65,7 @@ show_kinds word =
     else if is_word (codes "memory") word
     then Some (kind.Number number.Memory ∷ kind.Number number.Address
     ∷ kind.Number number.Length ∷ [])
-    else if is_word (codes "clear") word then Some (kind.Direction ∷ kind.Number number.Id ∷ [])
+    else if is_word (codes "clear") word then Some (kind.Direction ∷ kind.Sourced number.Id ∷ [])
     else if is_word (codes "packet") word then Some (kind.Number number.Packet ∷ [])
     else None
 

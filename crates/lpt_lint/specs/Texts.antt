@@ -8,13 +8,18 @@ use Rattle.lpt_lint.specs.declared.kinds.Number.{Number}
 use Rattle.lpt_lint.specs.declared.reasons.Reason.{Reason}
 use Rattle.lpt_lint.specs.declared.reasons.Reason.TheVariants as reason
 
+-- what a number is to be
+abbrev pub number_text : Number → List ℕ
+number_text n = number_name n ++ codes " is a number of 1 to 10 digits"
+
 -- what a word of this kind is to be
 abbrev pub kind_text : Kind → List ℕ
 kind_text kind.Direction = codes "DIRECTION is up or down"
 kind_text kind.Node = codes "NODE is ground or craft"
 kind_text kind.Lane = codes "LANE is s1, s2, g1 or g2"
 kind_text kind.Worker = codes "WORKER is w1 or w2"
-kind_text (kind.Number n) = number_name n ++ codes " is a number of 1 to 10 digits"
+kind_text (kind.Number n) = number_text n
+kind_text (kind.Sourced n) = number_text n
 kind_text kind.Octets = codes "HEX is pairs of hexadecimal digits, or - for no octets"
 
 -- the range of a number of this name
@@ -37,6 +42,7 @@ reason_text reason.Behind = codes "nothing may follow the last word"
 reason_text (reason.Missing k) = kind_name k ++ codes " is missing"
 reason_text (reason.Wrong k) = kind_text k
 reason_text (reason.OutOfRange n) = range_text n
+reason_text reason.SecondSlash = codes "one slash alone may stand behind SOURCE"
 reason_text reason.OddDigits = codes "HEX has an odd number of digits"
 reason_text reason.EmptyArea = codes "an area of a load has at least one octet"
 reason_text reason.MoreAreas = codes "a load has at most 255 areas"

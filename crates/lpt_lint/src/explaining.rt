@@ -1,6 +1,6 @@
 //! Why a line is unreadable.
 
-ghost use Rattle.std.specs.Prelude.{◌≡◌, ◌<◌, ◌==◌, ◌&&◌, length, not, is_some, position, IfSome};
+ghost use Rattle.std.specs.Prelude.{ℕ, ◌≡◌, ◌<◌, ◌==◌, ◌&&◌, length, not, is_some, position, IfSome};
 ghost use Rattle.lpt_words.specs.Grammar.{reading_of};
 ghost use Rattle.lpt_words.specs.Words.{words};
 ghost use Rattle.lpt_lint.specs.Findings.{column_of, front_word, is_unreadable, why, word_at, words_misfit};
@@ -19,12 +19,11 @@ pub(crate) const LONGEST_LINE: usize = 140_000;
 ///
 /// A line of more than 140,000 octets is unreadable whatever it holds. In any other it is the first
 /// word that doesn't fit those before it, or the word that is missing behind the last.
-#[tactic(auto, using(crate::proofs::ExactLemmas::why_exact))]
 pub fn explain(line: &[u8]) -> Option<Finding>
     ensures value { result ≡ why line.now }
 
-    // A line is unreadable here where it would end a run.
-    ensures exact { is_some result ≡ is_unreadable (reading_of line.now) }
+    // A line is unreadable here where it would end a run, whatever source is configured.
+    ensures exact { (source : ℕ) → is_some result ≡ is_unreadable (reading_of source line.now) }
 {
     find_fault(line)
 }

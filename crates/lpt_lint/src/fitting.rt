@@ -4,15 +4,14 @@ ghost use Rattle.std.specs.Prelude.{◌≡◌, ◌+◌, ◌≤◌, length, is_so
 ghost use Rattle.std.specs.List.{list_all};
 ghost use Rattle.std.specs.Char.{is_ascii_hexdigit};
 ghost use Rattle.lpt_words.specs.Grammar.{is_comment};
-ghost use Rattle.lpt_words.specs.Names.{direction_of, lane_of, node_of, worker_of};
-ghost use Rattle.lpt_words.specs.Numbers.{number_of, octets_of};
-ghost use Rattle.lpt_lint.specs.Fitting.{at_least, fit, misfit_at, missing_at, wrong_of};
-ghost use Rattle.lpt_lint.specs.Kinds.{range_of};
+ghost use Rattle.lpt_words.specs.Names.{cut_source, direction_of, lane_of, node_of, worker_of};
+ghost use Rattle.lpt_words.specs.Numbers.{octets_of};
+ghost use Rattle.lpt_lint.specs.Fitting.{fit, fit_number, fit_sourced, misfit_at, missing_at, wrong_number, wrong_of, wrong_sourced};
 
 use crate::findings::Misfit;
 use crate::kinds::{Kind, Number};
 use crate::reasons::Reason;
-use lpt_words::read_number;
+use lpt_words::{cut_source, read_number};
 
 /// The greatest number of ten digits.
 const GREATEST_NUMBER: u64 = 9_999_999_999;
@@ -27,6 +26,7 @@ pub(crate) fn fits(kind: Kind, word: &[u8]) -> bool
         Kind::Lane => is_lane(word),
         Kind::Worker => is_worker(word),
         Kind::Number(number) => is_in_range(number, word),
+        Kind::Sourced(number) => are_in_range(number, word),
         Kind::Octets => octets_spelled(word).is_some(),
     }
 }
@@ -43,13 +43,8 @@ fn why_wrong(kind: Kind, word: &[u8]) -> Reason
     ensures { result ≡ wrong_of kind word.now }
 {
     match kind {
-        Kind::Number(number) => {
-            if read_number(word, GREATEST_NUMBER).is_some() {
-                Reason::OutOfRange(number)
-            } else {
-                Reason::Wrong(kind)
-            }
-        }
+        Kind::Number(number) => wrong_number(number, word),
+        Kind::Sourced(number) => wrong_sourced(number, word),
         Kind::Octets => {
             if are_digits(word) {
                 Reason::OddDigits
@@ -58,6 +53,47 @@ fn why_wrong(kind: Kind, word: &[u8]) -> Reason
             }
         }
         Kind::Direction | Kind::Node | Kind::Lane | Kind::Worker => Reason::Wrong(kind),
+    }
+}
+
+// Why a word isn't such a number.
+fn wrong_number(number: Number, word: &[u8]) -> Reason
+    ensures { result ≡ wrong_number number word.now }
+{
+    if read_number(word, GREATEST_NUMBER).is_some() {
+        Reason::OutOfRange(number)
+    } else {
+        Reason::Wrong(Kind::Number(number))
+    }
+}
+
+// Why a word isn't such a number, with a source before it or without one.
+fn wrong_sourced(number: Number, word: &[u8]) -> Reason
+    ensures { result ≡ wrong_sourced number (cut_source word.now).0 (cut_source word.now).1 }
+{
+    let (before, behind) = cut_source(word);
+    match before {
+        Some(source) => {
+            if !is_in_range(Number::Source, source) {
+                wrong_number(Number::Source, source)
+            } else if has_slash(behind) {
+                Reason::SecondSlash
+            } else {
+                wrong_number(number, behind)
+            }
+        }
+        None => wrong_number(number, behind),
+    }
+}
+
+// Whether a word has a slash.
+fn has_slash(word: &[u8]) -> bool
+    ensures { result ≡ is_some (cut_source word.now).0 }
+{
+    let (before, _) = cut_source(word);
+    match before {
+        Some(_) => true,
+        None => false,
     }
 }
 
@@ -122,12 +158,23 @@ fn is_worker(word: &[u8]) -> bool
 
 // Whether a word is such a number, in its range.
 fn is_in_range(number: Number, word: &[u8]) -> bool
-    ensures { result ≡ at_least (range_of number).0 (number_of (range_of number).1 word.now) }
+    ensures { result ≡ fit_number number word.now }
 {
     let (least, greatest) = number.range();
     match read_number(word, greatest) {
         Some(read) => least <= read,
         None => false,
+    }
+}
+
+// Whether a word is such a number, in its range, with a source before it or without one.
+fn are_in_range(number: Number, word: &[u8]) -> bool
+    ensures { result ≡ fit_sourced number (cut_source word.now).0 (cut_source word.now).1 }
+{
+    let (before, behind) = cut_source(word);
+    match before {
+        Some(source) => is_in_range(Number::Source, source) && is_in_range(number, behind),
+        None => is_in_range(number, behind),
     }
 }
 

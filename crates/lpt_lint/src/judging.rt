@@ -15,7 +15,7 @@ use lpt_words::split_word;
 
 /// The words of a load before its areas.
 const LOAD: [Kind; 4] = [
-    Kind::Number(Number::Id),
+    Kind::Sourced(Number::Id),
     Kind::Number(Number::Sequence),
     Kind::Number(Number::Flags),
     Kind::Number(Number::Memory),
@@ -107,7 +107,7 @@ fn shown_misfit(word: &[u8], rest: &[u8]) -> Option<Misfit>
     } else if word == b"memory".as_slice() {
         misfit(&MEMORY, 2, rest)
     } else if word == b"clear".as_slice() {
-        misfit(&[Kind::Direction, Kind::Number(Number::Id)], 2, rest)
+        misfit(&[Kind::Direction, Kind::Sourced(Number::Id)], 2, rest)
     } else if word == b"packet".as_slice() {
         misfit(&[Kind::Number(Number::Packet)], 2, rest)
     } else {

@@ -16,6 +16,8 @@ pub enum Kind {
     Worker,
     /// A number in its range.
     Number(Number),
+    /// The same, or a source, a slash and then the number.
+    Sourced(Number),
     /// Octets, each as two hexadecimal digits, or `-` for none.
     Octets,
 }
@@ -25,6 +27,8 @@ pub enum Kind {
 pub enum Number {
     /// ID: the identifier of a message.
     Id,
+    /// SOURCE: the source of a message.
+    Source,
     /// K: the number of a part.
     Part,
     /// N: the number of a packet.
@@ -53,7 +57,7 @@ impl Number {
         ensures { result ≡ range_of self }
     {
         match self {
-            Number::Id | Number::Part => (0, 65_535),
+            Number::Id | Number::Source | Number::Part => (0, 65_535),
             Number::Packet => (0, 9_999_999_999),
             Number::Count => (1, 100_000),
             Number::Flags => (0, 15),
@@ -69,6 +73,7 @@ impl Number {
     {
         match self {
             Number::Id => "ID",
+            Number::Source => "SOURCE",
             Number::Part => "K",
             Number::Packet => "N",
             Number::Count => "COUNT",
@@ -96,7 +101,7 @@ impl Kind {
             Kind::Node => "NODE",
             Kind::Lane => "LANE",
             Kind::Worker => "WORKER",
-            Kind::Number(number) => number.name(),
+            Kind::Number(number) | Kind::Sourced(number) => number.name(),
             Kind::Octets => "HEX",
         }
     }

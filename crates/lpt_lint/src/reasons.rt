@@ -23,6 +23,8 @@ pub enum Reason {
     Wrong(Kind),
     /// The number is out of its range.
     OutOfRange(Number),
+    /// A second slash is behind a source.
+    SecondSlash,
     /// The hexadecimal digits are odd in number.
     OddDigits,
     /// An area of a load has no octets.

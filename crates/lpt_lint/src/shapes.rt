@@ -18,13 +18,13 @@ pub(crate) enum Shape {
     Show,
 }
 
-const ID: Kind = Kind::Number(Number::Id);
+const ID: Kind = Kind::Sourced(Number::Id);
 
 const PART: Kind = Kind::Number(Number::Part);
 
 const PACKET: Kind = Kind::Number(Number::Packet);
 
-const FLAGS: Kind = Kind::Number(Number::Flags);
+const FLAGS: Kind = Kind::Sourced(Number::Flags);
 
 const SERVICE: Kind = Kind::Number(Number::Service);
 

@@ -63,6 +63,7 @@ pub fn reason_text(alloc: Global, reason: Reason) -> Result<String, AllocError>
         Reason::MissingShow => "what is to be shown is missing",
         Reason::Comment => "a comment needs a line of its own",
         Reason::Behind => "nothing may follow the last word",
+        Reason::SecondSlash => "one slash alone may stand behind SOURCE",
         Reason::OddDigits => "HEX has an odd number of digits",
         Reason::EmptyArea => "an area of a load has at least one octet",
         Reason::MoreAreas => "a load has at most 255 areas",
@@ -76,7 +77,7 @@ fn kind_text(alloc: Global, kind: Kind) -> Result<String, AllocError>
     ensures { IfOk result (λ t. string_bytes t ≡ kind_text kind) }
 {
     let words = match kind {
-        Kind::Number(number) => {
+        Kind::Number(number) | Kind::Sourced(number) => {
             let name = number.name();
             return format!(in alloc; "{name} is a number of 1 to 10 digits");
         }

@@ -3,10 +3,15 @@
 use lpt_lint::{Kind, Number, Reason, explain};
 use std::test::Fail;
 
-const ID: Kind = Kind::Number(Number::Id);
+const ID: Kind = Kind::Sourced(Number::Id);
+
+/// Why what is to be a number is none.
+const NO_ID: Reason = Reason::Wrong(Kind::Number(Number::Id));
+
+const NO_SOURCE: Reason = Reason::Wrong(Kind::Number(Number::Source));
 
 /// Lines, with the column and the reason of each.
-static BAD: [(&str, usize, Reason); 62] = [
+static BAD: [(&str, usize, Reason); 76] = [
     ("opne up 7 00", 1, Reason::NoCommand),
     ("  Open up 7 00", 3, Reason::NoCommand),
     ("\tapply", 1, Reason::NoCommand),
@@ -14,8 +19,15 @@ static BAD: [(&str, usize, Reason); 62] = [
     ("open upp 7 00", 6, Reason::Wrong(Kind::Direction)),
     ("open up", 8, Reason::Missing(ID)),
     ("open up 65536 00", 9, Reason::OutOfRange(Number::Id)),
-    ("open up 7a 00", 9, Reason::Wrong(ID)),
-    ("open up 00000000007 00", 9, Reason::Wrong(ID)),
+    ("open up 7a 00", 9, NO_ID),
+    ("open up 00000000007 00", 9, NO_ID),
+    ("open up 1/ 00", 9, NO_ID),
+    ("open up /7 00", 9, NO_SOURCE),
+    ("open up / 00", 9, NO_SOURCE),
+    ("open up 1/2/3 00", 9, Reason::SecondSlash),
+    ("open up a/2/3 00", 9, NO_SOURCE),
+    ("open up 65536/1 00", 9, Reason::OutOfRange(Number::Source)),
+    ("open up 1/65536 00", 9, Reason::OutOfRange(Number::Id)),
     ("open  up   7 ", 14, Reason::Missing(Kind::Octets)),
     ("open up 7 0", 11, Reason::OddDigits),
     ("open up 7 0g", 11, Reason::Wrong(Kind::Octets)),
@@ -25,6 +37,11 @@ static BAD: [(&str, usize, Reason); 62] = [
     ("send up 7", 10, Reason::Missing(Kind::Number(Number::Part))),
     ("send up 7 65536", 11, Reason::OutOfRange(Number::Part)),
     (
+        "send up 7 1/1",
+        11,
+        Reason::Wrong(Kind::Number(Number::Part)),
+    ),
+    (
         "send up 7 -1",
         11,
         Reason::Wrong(Kind::Number(Number::Part)),
@@ -32,6 +49,18 @@ static BAD: [(&str, usize, Reason); 62] = [
     ("finish left 7", 8, Reason::Wrong(Kind::Direction)),
     ("finish up 7 1", 13, Reason::Behind),
     ("plain 16 8 1 00", 7, Reason::OutOfRange(Number::Flags)),
+    ("plain 5/16 8 1 00", 7, Reason::OutOfRange(Number::Flags)),
+    (
+        "plain 65536/8 8 1 00",
+        7,
+        Reason::OutOfRange(Number::Source),
+    ),
+    ("plain 5/8/8 8 1 00", 7, Reason::SecondSlash),
+    (
+        "plain 8 5/8 1 00",
+        9,
+        Reason::Wrong(Kind::Number(Number::Service)),
+    ),
     ("plain 8 256 1 00", 9, Reason::OutOfRange(Number::Service)),
     ("plain 8 8 256 00", 11, Reason::OutOfRange(Number::Subtype)),
     ("plain 8 8 1 0x00", 13, Reason::Wrong(Kind::Octets)),
@@ -40,6 +69,12 @@ static BAD: [(&str, usize, Reason); 62] = [
         "load 1 16384 0 1 0 00",
         8,
         Reason::OutOfRange(Number::Sequence),
+    ),
+    ("load 2//1 0 0 1 0 00", 6, Reason::SecondSlash),
+    (
+        "load 1 0 2/0 1 0 00",
+        10,
+        Reason::Wrong(Kind::Number(Number::Flags)),
     ),
     ("load 1 0 16 1 0 00", 10, Reason::OutOfRange(Number::Flags)),
     (
@@ -108,19 +143,24 @@ static BAD: [(&str, usize, Reason); 62] = [
 ];
 
 /// Lines that can be read.
-static GOOD: [&str; 31] = [
+static GOOD: [&str; 37] = [
     "",
     "   ",
     "# open",
     "  #",
     "open up 0 -",
     "open down 65535 00fF",
+    "open down 65535/65535 00",
     "send up 0000000007 1",
+    "send up 0000000002/0000000007 1",
     "finish up 7",
     "plain 15 255 255 -",
+    "plain 65535/15 255 255 -",
     "load 65535 16383 15 255 4294967295 00",
     "load 1 0 0 1 0 00 8 0011",
+    "load 2/7 0 0 1 0 00",
     "retire down 7",
+    "retire down 0/0",
     "lose 9999999999",
     "damage up -",
     "take s1 0",
@@ -131,6 +171,7 @@ static GOOD: [&str; 31] = [
     "show packet 0",
     "show memory 255 4294967295 4294967295",
     "show clear up 7",
+    "show clear up 2/7",
     "show journal",
     "tick craft",
     "tick ground 100000",

@@ -8,7 +8,6 @@ use Rattle.lpt_events.specs.LptPacket.declared.fault.PacketFault.{PacketFault}
 use Rattle.lpt_events.specs.LptPacket.declared.packet.PacketKind.{PacketKind}
 use Rattle.lpt_events.specs.LptPacket.declared.packet.PacketKind.TheVariants.{Tm, Tc}
 use Rattle.lpt_events.specs.LptPacket.FaultNames as of_packet
-use Rattle.lpt_events.specs.LptPacket.Names.{Name}
 use Rattle.lpt_events.specs.LptPacket.Numbers.{be}
 use Rattle.lpt_events.specs.LptPacket.Packets.{Fields, Sight, IdlePacket, APacket, verdict}
 use Rattle.lpt_events.specs.LptPus.declared.fault.PusFault.{PusFault}
@@ -115,7 +114,7 @@ part_items q =
     ∷ Number (codes "octets") (codes "part_octets") (length q.octets) ∷ []
 
 -- the report that the reception of a large message was aborted
-abbrev pub abort_items : Name × Reason → List Item
+abbrev pub abort_items : ℕ × Reason → List Item
 abort_items a =
     Number (codes "abort id") (codes "large_message_transaction_identifier") a.0
     ∷ Number (codes "reason") (codes "failure_reason") (reason_code a.1) ∷ []

@@ -10,8 +10,8 @@ ghost use Rattle.lpt_list.specs.Items.{abort_items, abort_said, code_items, faul
 
 use crate::Form;
 use lpt_events::{
-    ABORT, Direction, Kind, Name, Packet, PacketKind, Reason, Seen, TRANSFER, TcHead, TmHead,
-    part_kind, read_abort, read_packet, read_part, read_tc, read_tm,
+    ABORT, Direction, Kind, Packet, PacketKind, Reason, Seen, TRANSFER, TcHead, TmHead, part_kind,
+    read_abort, read_packet, read_part, read_tc, read_tm,
 };
 use lpt_verify::{Report, read_report};
 use std::alloc::{AllocError, Global};
@@ -251,7 +251,7 @@ fn abort_said(alloc: Global, form: Form, body: &[u8]) -> Result<String, AllocErr
 }
 
 // What an abortion report says.
-fn abort_words(alloc: Global, form: Form, id: Name, reason: Reason) -> Result<String, AllocError>
+fn abort_words(alloc: Global, form: Form, id: u16, reason: Reason) -> Result<String, AllocError>
     ensures { IfOk result (λ t. string_bytes t ≡ items_text form (abort_items (id, reason))) }
 {
     let reason = reason.code();

@@ -18,14 +18,33 @@ enum Call {
     OpenEach,
 }
 
+// The source of the rows, and another one.
+const SOURCE: u16 = 5;
+
+const OTHER: u16 = 6;
+
+// The name of this identifier.
+fn name(id: u16) -> Name {
+    Name { source: SOURCE, id }
+}
+
+// The identifier of the least free name.
+fn least(ledger: &Ledger) -> Option<u16> {
+    match ledger.least_free(SOURCE) {
+        None => None,
+        Some(name) => Some(name.id),
+    }
+}
+
 // The code of the fault that a call answers, or 0 where it answers none. Of `OpenEach` it is how many
 // were refused.
-fn code(ledger: &mut Ledger, call: Call, id: Name) -> u16 {
+fn code(ledger: &mut Ledger, call: Call, id: u16) -> u16 {
+    let name = name(id);
     let answer = match call {
-        Call::Open => ledger.open(id),
-        Call::Close => ledger.close(id),
-        Call::Shut => ledger.shut(id),
-        Call::Retire => ledger.retire(id),
+        Call::Open => ledger.open(name),
+        Call::Close => ledger.close(name),
+        Call::Shut => ledger.shut(name),
+        Call::Retire => ledger.retire(name),
         Call::CloseAll => {
             ledger.close_all();
             Ok(())
@@ -41,8 +60,8 @@ fn code(ledger: &mut Ledger, call: Call, id: Name) -> u16 {
 // Opens each identifier, and answers how many were refused.
 fn open_each(ledger: &mut Ledger) -> u16 {
     let mut refused = 0u16;
-    for id in 0..=Name::MAX {
-        if ledger.open(id).is_err() {
+    for id in 0..=u16::MAX {
+        if ledger.open(name(id)).is_err() {
             refused = refused.saturating_add(1);
         }
     }
@@ -51,22 +70,28 @@ fn open_each(ledger: &mut Ledger) -> u16 {
 
 /// A call, its identifier, its code, the state in which it leaves that identifier, and the least free
 /// one behind it.
-type Row = (Call, Name, u16, State, Option<Name>);
+type Row = (Call, u16, u16, State, Option<u16>);
 
 // Each call answers its code, and leaves its identifier in its state.
 fn check_calls(rt: &impl Abort, ledger: &mut Ledger, rows: &[Row]) {
-    for (at, (call, id, number, state, least)) in rows.iter().enumerate() {
+    for (at, (call, id, number, state, want)) in rows.iter().enumerate() {
         let answer = code(ledger, *call, *id);
-        let left = (answer, ledger.state(*id), ledger.least_free());
-        assert!(rt; left == (*number, *state, *least), "row {at}");
+        let left = (answer, ledger.state(name(*id)), least(ledger));
+        assert!(rt; left == (*number, *state, *want), "row {at}");
     }
 }
 
 // The same of a ledger of which all is free.
 fn check(rt: &impl Abort, alloc: Global, rows: &[Row]) -> Result<(), Fail> {
     let mut ledger = Ledger::new(alloc);
-    assert!(rt; ledger.least_free() == Some(0));
+    assert!(rt; least(&ledger) == Some(0));
     check_calls(rt, &mut ledger, rows);
+    // Another source's names are all free.
+    let first = Name {
+        source: OTHER,
+        id: 0,
+    };
+    assert!(rt; ledger.least_free(OTHER) == Some(first));
     drop(ledger);
     Ok(())
 }

@@ -73,6 +73,17 @@ fn answer(alloc: Global, link: &mut Link, call: Call) -> Result<u64, LinkFault> 
     }
 }
 
+const ZERO: Name = Name { source: 1, id: 0 };
+
+const SEVEN: Name = Name { source: 1, id: 7 };
+
+const EIGHT: Name = Name { source: 1, id: 8 };
+
+const NINE: Name = Name { source: 1, id: 9 };
+
+/// The same identifier of another source.
+const OTHER_SEVEN: Name = Name { source: 2, id: 7 };
+
 type Row = (Call, Result<u64, LinkFault>);
 
 // Each call answers what its row says.
@@ -92,25 +103,26 @@ fn check(rt: &impl Abort, alloc: Global, rows: &[Row]) -> Result<(), Fail> {
 }
 
 /// A packet of transaction 7, taken by both lanes and lost, is held until both hands are empty.
-static HANDS: [Row; 11] = [
-    (Call::Put(Direction::Up, Some(7), &[1, 2]), Ok(0)),
+static HANDS: [Row; 12] = [
+    (Call::Put(Direction::Up, Some(SEVEN), &[1, 2]), Ok(0)),
     (Call::Take(Lane::S1, 0), Ok(0)),
     (Call::Take(Lane::S2, 0), Ok(0)),
     (Call::Lose(0), Ok(0)),
-    (Call::Holds(Direction::Down, 7), Ok(0)),
-    (Call::Holds(Direction::Up, 8), Ok(0)),
-    (Call::Holds(Direction::Up, 7), Ok(1)),
+    (Call::Holds(Direction::Down, SEVEN), Ok(0)),
+    (Call::Holds(Direction::Up, EIGHT), Ok(0)),
+    (Call::Holds(Direction::Up, OTHER_SEVEN), Ok(0)),
+    (Call::Holds(Direction::Up, SEVEN), Ok(1)),
     (Call::DropHand(Lane::S1), Ok(0)),
-    (Call::Holds(Direction::Up, 7), Ok(1)),
+    (Call::Holds(Direction::Up, SEVEN), Ok(1)),
     (Call::DropHand(Lane::S2), Ok(0)),
-    (Call::Holds(Direction::Up, 7), Ok(0)),
+    (Call::Holds(Direction::Up, SEVEN), Ok(0)),
 ];
 
 /// Two packets go up, of the transactions 7 and 8, and one down, of the transaction 7.
 static LOSSES: [Row; 27] = [
-    (Call::Put(Direction::Up, Some(7), &[7]), Ok(0)),
-    (Call::Put(Direction::Up, Some(8), &[8]), Ok(1)),
-    (Call::Put(Direction::Down, Some(7), &[7]), Ok(2)),
+    (Call::Put(Direction::Up, Some(SEVEN), &[7]), Ok(0)),
+    (Call::Put(Direction::Up, Some(EIGHT), &[8]), Ok(1)),
+    (Call::Put(Direction::Down, Some(SEVEN), &[7]), Ok(2)),
     // A lane takes what is held of its direction into an empty hand.
     (Call::Take(Lane::S1, 2), Err(LinkFault::NotHeld)),
     (Call::Take(Lane::S1, 3), Err(LinkFault::NotHeld)),
@@ -145,14 +157,14 @@ static LOSSES: [Row; 27] = [
 static ROOM: [Row; 10] = [
     (Call::Reserve(40, None), Ok(0)),
     (Call::Put(Direction::Down, None, &[]), Ok(0)),
-    (Call::Holds(Direction::Down, 0), Ok(0)),
-    (Call::Reserve(2, Some((Direction::Up, 9))), Ok(0)),
-    (Call::Holds(Direction::Up, 9), Ok(0)),
-    (Call::Put(Direction::Up, Some(9), &[9]), Ok(1)),
-    (Call::Reserve(0, Some((Direction::Up, 9))), Ok(0)),
-    (Call::Holds(Direction::Up, 9), Ok(1)),
+    (Call::Holds(Direction::Down, ZERO), Ok(0)),
+    (Call::Reserve(2, Some((Direction::Up, NINE))), Ok(0)),
+    (Call::Holds(Direction::Up, NINE), Ok(0)),
+    (Call::Put(Direction::Up, Some(NINE), &[9]), Ok(1)),
+    (Call::Reserve(0, Some((Direction::Up, NINE))), Ok(0)),
+    (Call::Holds(Direction::Up, NINE), Ok(1)),
     (Call::Lose(1), Ok(0)),
-    (Call::Put(Direction::Up, Some(9), &[9]), Ok(2)),
+    (Call::Put(Direction::Up, Some(NINE), &[9]), Ok(2)),
 ];
 
 #[test]

@@ -7,6 +7,9 @@ use lpt_table::{Broken, Kind, Mode, Offer, Part, Reason, Table, Whole};
 use std::process::Abort;
 use std::test::Fail;
 
+/// The source of all parts.
+const SOURCE: u16 = 1;
+
 const ZEROS: [u8; 4] = [0, 0, 0, 0];
 
 const ONES: [u8; 4] = [1, 1, 1, 1];
@@ -31,9 +34,9 @@ enum Came {
     NoPart,
 }
 
-/// A part that is offered: its transaction, number, kind and octets, the tick, and what is to come
+/// A part that is offered: its identifier, number, kind and octets, the tick, and what is to come
 /// of it.
-type Row = (Name, u16, Kind, [u8; 4], u32, Came);
+type Row = (u16, u16, Kind, [u8; 4], u32, Came);
 
 /// What is done with what comes out of a table.
 #[derive(Clone, Copy)]
@@ -42,10 +45,17 @@ enum Way {
     PutBack,
 }
 
+// The name of this identifier of the source.
+fn named(id: u16) -> Name
+    ensures { result ≡ record { source = 1; id = id } }
+{
+    Name { source: SOURCE, id }
+}
+
 // Gives up a reception that came out whole, or puts it back.
 fn end(table: &mut Table, id: Name, whole: Whole, way: Way) -> Came
     requires out { IsSomeAnd table.old.out (λ o. o.0 ≡ id) }
-    requires id { whole.before.id ≡ id }
+    requires id { whole.before.id ≡ id.id }
     requires p { whole.before.p ≡ table.old.p }
     ensures p { table.new.p ≡ table.old.p }
     ensures settled { table.new.out ≡ None }
@@ -62,7 +72,7 @@ fn end(table: &mut Table, id: Name, whole: Whole, way: Way) -> Came
 // Releases a message, or puts its reception back where there is no memory.
 fn release(table: &mut Table, id: Name, whole: Whole) -> Came
     requires out { IsSomeAnd table.old.out (λ o. o.0 ≡ id) }
-    requires id { whole.before.id ≡ id }
+    requires id { whole.before.id ≡ id.id }
     requires p { whole.before.p ≡ table.old.p }
     ensures p { table.new.p ≡ table.old.p }
     ensures settled { table.new.out ≡ None }
@@ -82,7 +92,7 @@ fn release(table: &mut Table, id: Name, whole: Whole) -> Came
 // Gives up a reception that came out broken, or puts it back.
 fn break_off(table: &mut Table, id: Name, broken: Broken, way: Way) -> Came
     requires out { IsSomeAnd table.old.out (λ o. o.0 ≡ id) }
-    requires id { broken.before.id ≡ id }
+    requires id { broken.before.id ≡ id.id }
     requires p { broken.before.p ≡ table.old.p }
     ensures p { table.new.p ≡ table.old.p }
     ensures settled { table.new.out ≡ None }
@@ -106,14 +116,15 @@ fn offer(table: &mut Table, part: &Part<'_>, now: u32, way: Way) -> Came
     ensures p { table.new.p ≡ table.old.p }
     ensures settled { table.new.out ≡ None }
 {
-    match table.offer(part, now) {
+    let name = named(part.id);
+    match table.offer(SOURCE, part, now) {
         Offer::Kept => Came::Kept,
         Offer::Again => Came::Again,
         Offer::NoRoom => Came::NoRoom,
         Offer::Gap => Came::Gap,
         Offer::Memory => Came::Memory,
-        Offer::Conflict(broken) => break_off(table, part.id, broken, way),
-        Offer::Whole(whole) => end(table, part.id, whole, way),
+        Offer::Conflict(broken) => break_off(table, name, broken, way),
+        Offer::Whole(whole) => end(table, name, whole, way),
     }
 }
 
@@ -146,17 +157,25 @@ fn offer_rows(rt: &impl Abort, table: &mut Table, rows: &[Row])
 }
 
 // The receptions that are due at two ticks.
-fn due_at(table: &Table, first: u32, second: u32) -> (Option<Name>, Option<Name>)
+fn due_at(table: &Table, first: u32, second: u32) -> (Option<u16>, Option<u16>)
     requires { table.now.out ≡ None }
 {
-    (table.due(first), table.due(second))
+    (due(table, first), due(table, second))
+}
+
+// The identifier of the reception that is due.
+fn due(table: &Table, now: u32) -> Option<u16>
+    requires { table.now.out ≡ None }
+{
+    let name = table.due(now)?;
+    Some(name.id)
 }
 
 // The receptions that are due at ticks 9, 10 and 14.
-fn check_due_at(rt: &impl Abort, table: &Table, want: [Option<Name>; 3])
+fn check_due_at(rt: &impl Abort, table: &Table, want: [Option<u16>; 3])
     requires { table.now.out ≡ None }
 {
-    let due = [table.due(9), table.due(10), table.due(14)];
+    let due = [due(table, 9), due(table, 10), due(table, 14)];
     assert!(rt; due == want);
 }
 
@@ -175,7 +194,7 @@ fn check_room(rt: &impl Abort, table: &mut Table)
         (9, 1, Kind::First, ZEROS, 2, Came::Kept),
     ];
     offer_rows(rt, table, &rows);
-    assert!(rt; table.len() == 1 && table.is_open(9) && !table.is_open(8));
+    assert!(rt; table.len() == 1 && table.is_open(named(9)) && !table.is_open(named(8)));
 }
 
 #[test]
@@ -223,10 +242,10 @@ fn check_due(rt: &impl Abort, table: &mut Table)
     ensures settled { table.new.out ≡ None }
 {
     check_due_at(rt, table, [None, Some(3), Some(3)]);
-    let expired = (table.expire(3), table.expire(3));
+    let expired = (table.expire(named(3)), table.expire(named(3)));
     assert!(rt; expired == (true, false));
     check_due_at(rt, table, [None, Some(9), Some(9)]);
-    let expired = table.expire(9);
+    let expired = table.expire(named(9));
     let due = due_at(table, 13, 14);
     assert!(rt; expired && due == (None, Some(1)));
 }
@@ -289,7 +308,7 @@ fn check_order(rt: &impl Abort, table: &mut Table)
     ];
     offer_rows(rt, table, &rows);
     assert!(rt; due_at(table, 10, 12) == (Some(9), Some(9)));
-    let expired = table.expire(9);
+    let expired = table.expire(named(9));
     assert!(rt; expired && due_at(table, 11, 12) == (None, Some(3)));
 }
 

@@ -125,7 +125,7 @@ refusal_of c s (Open d id m) =
     option_map node_fault (refusal_open c (end_of s (sender_side d)) id (length m))
 refusal_of c s (Send d id k) =
     option_map node_fault (refusal_send c (end_of s (sender_side d)) id k)
-refusal_of c s (Plain flags service subtype body) =
+refusal_of c s (Plain source flags service subtype body) =
     option_map node_fault (refusal_plain c service subtype (length body))
 refusal_of c s (Finish d id) = option_map node_fault (refusal_finish (end_of s (sender_side d)) id)
 refusal_of c s (Lose n) = option_map link_fault (refusal_lose s.link n)
@@ -177,9 +177,9 @@ requested_on s x = (
   put_one (length s.link.packets) (Put (length s.link.packets)),
 )
 
-abbrev pub after_plain : Config → State → (flags service subtype : ℕ) → List ℕ → State × Reply
-after_plain c s flags service subtype body =
-    requested_on s (plain_made c s.on_ground flags service subtype body)
+abbrev pub after_plain : Config → State → (source flags service subtype : ℕ) → List ℕ → State × Reply
+after_plain c s source flags service subtype body =
+    requested_on s (plain_made c s.on_ground source flags service subtype body)
 
 -- a sender is closed
 abbrev pub after_finish : State → Direction → Name → State × Reply
@@ -359,7 +359,8 @@ IsReady c s e = Unit {0}
 abbrev pub after : Config → ℕ → State → Event → State × Reply
 after c place s (Open d id m) = after_open c place s d id m
 after c place s (Send d id k) = after_send c s d id k
-after c place s (Plain flags service subtype body) = after_plain c s flags service subtype body
+after c place s (Plain source flags service subtype body) =
+    after_plain c s source flags service subtype body
 after c place s (Finish d id) = after_finish s d id
 after c place s (Lose n) = after_losing s n
 after c place s (Damage d b) = after_damage s d b

@@ -101,13 +101,13 @@ pub uplink_part : (b : List ℕ) (f : Fields) (c : Command) (kind : Kind)
     → c.body ≡ drop 5 f.octets
     → Some kind ≡ carried_kind Up c.service c.subtype
     → seen b ≡ Some (APacket f)
-    → IsFoundIn Craft f b (found.Part kind 5)
+    → IsFoundIn Craft f b (found.Part kind c.source 5)
 uplink_part b f c kind is verdict body carried e =
     let s = seen_packet b f e in
     record {
       within = body_within 5 b f s (omega arith) (command_length f c is);
-      is = λ p. ap (λ (body : List ℕ). part_arrival p body kind) (body-seen 5 b f c.body s body)
-          ∙ ap (λ (k : Option Kind). option_map_or (part_arrival p c.body) k (ARequest b)) carried
+      is = λ p. ap (λ (body : List ℕ). part_arrival p c.source body kind) (body-seen 5 b f c.body s body)
+          ∙ ap (λ (k : Option Kind). option_map_or (part_arrival p c.source c.body) k (ARequest b)) carried
           ∙ ap (λ (r : Result Command PusFault). option_map_or (command_arrival p b) (result_ok r) NotRead) (sym verdict);
     }
 
@@ -120,7 +120,7 @@ pub uplink_request : (b : List ℕ) (f : Fields) (c : Command)
 uplink_request b f c verdict carried e =
     record {
       within = (seen_packet b f e).short;
-      is = λ p. ap (λ (k : Option Kind). option_map_or (part_arrival p c.body) k (ARequest b)) carried
+      is = λ p. ap (λ (k : Option Kind). option_map_or (part_arrival p c.source c.body) k (ARequest b)) carried
           ∙ ap (λ (r : Result Command PusFault). option_map_or (command_arrival p b) (result_ok r) NotRead) (sym verdict);
     }
 
@@ -133,13 +133,13 @@ pub downlink_part : (b : List ℕ) (f : Fields) (t : Telemetry) (kind : Kind)
     → t.body ≡ drop 11 f.octets
     → Some kind ≡ carried_kind Down t.service t.subtype
     → seen b ≡ Some (APacket f)
-    → IsFoundIn Ground f b (found.Part kind 11)
+    → IsFoundIn Ground f b (found.Part kind t.destination 11)
 downlink_part b f t kind is verdict body carried e =
     let s = seen_packet b f e in
     record {
       within = body_within 11 b f s (omega arith) (telemetry_length f t is);
-      is = λ p. ap (λ (body : List ℕ). part_arrival p body kind) (body-seen 11 b f t.body s body)
-          ∙ ap (λ (k : Option Kind). option_map_or (part_arrival p t.body) k (report_arrival t)) carried
+      is = λ p. ap (λ (body : List ℕ). part_arrival p t.destination body kind) (body-seen 11 b f t.body s body)
+          ∙ ap (λ (k : Option Kind). option_map_or (part_arrival p t.destination t.body) k (report_arrival t)) carried
           ∙ ap (λ (r : Result Telemetry PusFault). option_map_or (telemetry_arrival p) (result_ok r) NotRead) (sym verdict);
     }
 
@@ -152,15 +152,15 @@ pub downlink_abort : (b : List ℕ) (f : Fields) (t : Telemetry)
     → t.service ≡ 13
     → t.subtype ≡ 16
     → seen b ≡ Some (APacket f)
-    → IsFoundIn Ground f b (found.Abort 11)
+    → IsFoundIn Ground f b (found.Abort t.destination 11)
 downlink_abort b f t is verdict body carried service subtype e =
     let s = seen_packet b f e in
     let reports : ((t.service == 13) && (t.subtype == 16)) ≡ true = grind (arith, nat_tests) in
     record {
       within = body_within 11 b f s (omega arith) (telemetry_length f t is);
-      is = λ p. ap abort_arrival (body-seen 11 b f t.body s body)
-          ∙ ap (λ (r : Bool). if r then abort_arrival t.body else AReport t.service t.subtype) (sym reports)
-          ∙ ap (λ (k : Option Kind). option_map_or (part_arrival p t.body) k (report_arrival t)) carried
+      is = λ p. ap (abort_arrival t.destination) (body-seen 11 b f t.body s body)
+          ∙ ap (λ (r : Bool). if r then abort_arrival t.destination t.body else AReport t.service t.subtype) (sym reports)
+          ∙ ap (λ (k : Option Kind). option_map_or (part_arrival p t.destination t.body) k (report_arrival t)) carried
           ∙ ap (λ (r : Result Telemetry PusFault). option_map_or (telemetry_arrival p) (result_ok r) NotRead) (sym verdict);
     }
 

@@ -11,6 +11,6 @@ unfolding body_of
 length-body_of q = omega (arith, length-append {A = ℕ})
 
 -- the body of an abortion report has three octets
-pub length-abort_body : (id : Name) (reason : Reason) → length (abort_body id reason) ≡ 3
+pub length-abort_body : (id : ℕ) (reason : Reason) → length (abort_body id reason) ≡ 3
 unfolding abort_body
 length-abort_body id reason = omega (arith, length-append {A = ℕ})

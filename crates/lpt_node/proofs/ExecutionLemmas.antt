@@ -26,37 +26,39 @@ passed-cons test x made =
 
 -- a report's packet is added to those that pass a test, where its report does
 passed-added : (test : Report × List ℕ → Bool)
-    → (c : Config) (s t : Sending) (clock : ℕ) (r : Report) (rs reports : List Report)
+    → (c : Config) (peer : ℕ) (s t : Sending) (clock : ℕ) (r : Report) (rs reports : List Report)
     → (before after : List (List ℕ))
     → reports ≡ r ∷ rs
-    → after ≡ before ++ passed test (report_packets c s clock (r ∷ []))
+    → after ≡ before ++ passed test (report_packets c peer s clock (r ∷ []))
     → t ≡ counted_kind s r.kind
-    → after ++ passed test (report_packets c t clock rs)
-    ≡ before ++ passed test (report_packets c s clock reports)
-passed-added test c s t clock r rs reports before after items added counted =
-    let packet : Report × List ℕ = (r, report_packet c s clock r) in
-    let behind : List (Report × List ℕ) = report_packets c (counted_kind s r.kind) clock rs in
-    (λ i. added i ++ passed test (report_packets c (counted i) clock rs))
+    → after ++ passed test (report_packets c peer t clock rs)
+    ≡ before ++ passed test (report_packets c peer s clock reports)
+passed-added test c peer s t clock r rs reports before after items added counted =
+    let packet : Report × List ℕ = (r, report_packet c peer s clock r) in
+    let behind : List (Report × List ℕ) = report_packets c peer (counted_kind s r.kind) clock rs in
+    (λ i. added i ++ passed test (report_packets c peer (counted i) clock rs))
     ∙ append_assoc before (passed test (packet ∷ [])) (passed test behind)
     ∙ ap (λ (l : List (List ℕ)). before ++ l) (sym (passed-cons test packet behind))
-    ∙ ap (λ (l : List Report). before ++ passed test (report_packets c s clock l)) (sym items)
+    ∙ ap (λ (l : List Report). before ++ passed test (report_packets c peer s clock l)) (sym items)
 
 -- the same, of the packets of the link
-pub link-added : (c : Config) (s t : Sending) (clock : ℕ) (r : Report) (rs reports : List Report)
+pub link-added : (c : Config) (peer : ℕ) (s t : Sending) (clock : ℕ) (r : Report)
+    → (rs reports : List Report)
     → (before after : List (List ℕ))
     → reports ≡ r ∷ rs
-    → after ≡ before ++ link_packets c.part_size (report_packets c s clock (r ∷ []))
+    → after ≡ before ++ link_packets c.part_size (report_packets c peer s clock (r ∷ []))
     → t ≡ counted_kind s r.kind
-    → after ++ link_packets c.part_size (report_packets c t clock rs)
-    ≡ before ++ link_packets c.part_size (report_packets c s clock reports)
+    → after ++ link_packets c.part_size (report_packets c peer t clock rs)
+    ≡ before ++ link_packets c.part_size (report_packets c peer s clock reports)
 link-added c = passed-added (λ x. is_small c.part_size (length x.0.body)) c
 
 -- the same, of those that are too long for it
-pub large-added : (c : Config) (s t : Sending) (clock : ℕ) (r : Report) (rs reports : List Report)
+pub large-added : (c : Config) (peer : ℕ) (s t : Sending) (clock : ℕ) (r : Report)
+    → (rs reports : List Report)
     → (before after : List (List ℕ))
     → reports ≡ r ∷ rs
-    → after ≡ before ++ large_packets c.part_size (report_packets c s clock (r ∷ []))
+    → after ≡ before ++ large_packets c.part_size (report_packets c peer s clock (r ∷ []))
     → t ≡ counted_kind s r.kind
-    → after ++ large_packets c.part_size (report_packets c t clock rs)
-    ≡ before ++ large_packets c.part_size (report_packets c s clock reports)
+    → after ++ large_packets c.part_size (report_packets c peer t clock rs)
+    ≡ before ++ large_packets c.part_size (report_packets c peer s clock reports)
 large-added c = passed-added (λ x. not (is_small c.part_size (length x.0.body))) c

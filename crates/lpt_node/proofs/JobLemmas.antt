@@ -1,5 +1,6 @@
 -- What a delivery leaves of an end's jobs: those that were there, and behind them maybe one that waits.
 use Rattle.std.proofs.Common.{ℕ, List, [], ◌∷◌, ◌++◌, Option, Some, None}
+use Rattle.lpt_execution.specs.LptPacket.Names.{Name}
 use Rattle.lpt_execution.specs.LptEvents.Arrivals.{Arrival, NotRead, AnIdle, Foreign, ARequest, AReport, NoPart, APart, AnAbort}
 use Rattle.lpt_execution.specs.LptEvents.declared.config.Config.{Config}
 use Rattle.lpt_execution.specs.LptEvents.declared.side.Side.{Side}
@@ -24,7 +25,7 @@ module _ (P : List Job → Type 0) (waits : (js : List Job) (m : List ℕ) → P
   jobs_released Ground d m all = all
   jobs_released Craft d m all = waits d.jobs.jobs m all
 
-  jobs_taken : (side : Side) (d : NodeData) (id number : ℕ) (t : Taken)
+  jobs_taken : (side : Side) (d : NodeData) (id : Name) (number : ℕ) (t : Taken)
       → P d.jobs.jobs
       → P (after_taken side d id number t).0.jobs.jobs
   jobs_taken side d id number taking.Closed all = all
@@ -46,5 +47,5 @@ module _ (P : List Job → Type 0) (waits : (js : List Job) (m : List ℕ) → P
   jobs_accepted side c d NoPart all = all
   jobs_accepted side c d (AnAbort id reason) all = all
   jobs_accepted side c d (APart q) all =
-      let x = received (abort_head side c d) (receiver_of c d.receiving) q d.clock in
+      let x = received (abort_head side c d q.name.source) (receiver_of c d.receiving) q d.clock in
       jobs_taken side (with_receiver d x.0) q.name q.number x.1 all

@@ -4,7 +4,7 @@ use Rattle.lpt_execution.specs.LptMemory.Memories.{Contents}
 use Rattle.lpt_execution.specs.LptMemory.Readings.{Source}
 use Rattle.lpt_execution.specs.LptEvents.declared.config.Config.{Config}
 use Rattle.lpt_execution.specs.declared.ending.Report.{Report}
-use Rattle.lpt_execution.specs.Reporting.{message_reports}
+use Rattle.lpt_execution.specs.Reporting.{message_reports, request_source}
 use Rattle.lpt_jobs.specs.Jobs.{Head, NoJob, NotReady, Ready}
 use Rattle.lpt_node.specs.declared.counts.Counts.{Counts}
 use Rattle.lpt_node.specs.Jobs.{ending_at, report_packets}
@@ -20,7 +20,8 @@ reports_at c d ms r = message_reports r.apid r.message (ending_at c d ms r)
 
 -- the same, with their packets
 abbrev pub made_at : Config → NodeData → Contents → Source → List (Report × List ℕ)
-made_at c d ms r = report_packets c d.sending d.clock (reports_at c d ms r)
+made_at c d ms r =
+    report_packets c (request_source r.apid r.message) d.sending d.clock (reports_at c d ms r)
 
 -- the reports of the execution of what stands at the front, where it is ready
 abbrev pub front_reports : Config → NodeData → Contents → Head → List Report

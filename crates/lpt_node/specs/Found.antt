@@ -23,8 +23,8 @@ arrival_found p b found.Idle = AnIdle
 arrival_found p b found.Foreign = Foreign
 arrival_found p b found.Request = ARequest b
 arrival_found p b (found.Report service subtype) = AReport service subtype
-arrival_found p b (found.Part kind from) = part_arrival p (body_from b from) kind
-arrival_found p b (found.Abort from) = abort_arrival (body_from b from)
+arrival_found p b (found.Part kind source from) = part_arrival p source (body_from b from) kind
+arrival_found p b (found.Abort source from) = abort_arrival source (body_from b from)
 
 -- the body that was found lies within the data field, and a request is no longer than a packet
 abbrev pub IsWithin : List ℕ → Found → Type 0
@@ -33,8 +33,8 @@ IsWithin b found.Idle = Unit {0}
 IsWithin b found.Foreign = Unit {0}
 IsWithin b found.Request = length b ≤ longest_packet
 IsWithin b (found.Report service subtype) = Unit {0}
-IsWithin b (found.Part kind from) = from + 8 ≤ length b
-IsWithin b (found.Abort from) = from + 8 ≤ length b
+IsWithin b (found.Part kind source from) = from + 8 ≤ length b
+IsWithin b (found.Abort source from) = from + 8 ≤ length b
 
 -- this was found in the octets
 pub record IsFound (side : Side) (apid p : ℕ) (b : List ℕ) (f : Found) : Type 0 where
@@ -55,8 +55,8 @@ Shows p b sight.Foreign a = a ≡ Foreign
 Shows p b sight.Request a = (a ≡ ARequest b) × (length b ≤ longest_packet)
 Shows p b (sight.Report service subtype) a = a ≡ AReport service subtype
 Shows p b sight.BadPart a = a ≡ NoPart
-Shows p b (sight.Part part) a = (a ≡ APart (named (piece part))) × (part.p ≡ p)
-Shows p b (sight.Abort id reason) a = a ≡ AnAbort id reason
+Shows p b (sight.Part source part) a = (a ≡ APart (named source (piece part))) × (part.p ≡ p)
+Shows p b (sight.Abort name reason) a = a ≡ AnAbort name reason
 
 -- what is shown is no plain request, and a part is of this size
 abbrev pub IsShown : ℕ → Sight → Type 0
@@ -66,8 +66,8 @@ IsShown p sight.Foreign = Unit {0}
 IsShown p sight.Request = false ≡ true
 IsShown p (sight.Report service subtype) = Unit {0}
 IsShown p sight.BadPart = Unit {0}
-IsShown p (sight.Part part) = part.p ≡ p
-IsShown p (sight.Abort id reason) = Unit {0}
+IsShown p (sight.Part source part) = part.p ≡ p
+IsShown p (sight.Abort name reason) = Unit {0}
 
 -- the arrival that is shown, a plain request aside
 abbrev pub arrival_shown : Sight → Arrival
@@ -77,5 +77,5 @@ arrival_shown sight.Foreign = Foreign
 arrival_shown sight.Request = NotRead
 arrival_shown (sight.Report service subtype) = AReport service subtype
 arrival_shown sight.BadPart = NoPart
-arrival_shown (sight.Part part) = APart (named (piece part))
-arrival_shown (sight.Abort id reason) = AnAbort id reason
+arrival_shown (sight.Part source part) = APart (named source (piece part))
+arrival_shown (sight.Abort name reason) = AnAbort name reason

@@ -15,7 +15,7 @@ use Rattle.lpt_execution.specs.LptEvents.MadePackets.{tm_made}
 use Rattle.lpt_execution.specs.declared.ending.Ending.{Ending}
 use Rattle.lpt_execution.specs.declared.ending.Report.{Report}
 use Rattle.lpt_execution.specs.Endings.{ending}
-use Rattle.lpt_execution.specs.Reporting.{message_reports, link_packets, large_packets, opened_of, applied_of}
+use Rattle.lpt_execution.specs.Reporting.{message_reports, request_source, link_packets, large_packets, opened_of, applied_of}
 use Rattle.lpt_node.specs.declared.executed.Executed.{Executed}
 use Rattle.lpt_node.specs.declared.fault.NodeFault.{NodeFault}
 use Rattle.lpt_node.specs.declared.fault.NodeFault.TheVariants.{NoJob, NotReady}
@@ -76,23 +76,30 @@ FrontIsFor (Ready r) apid ms = (r.apid ≡ apid) × (r.sizes ≡ sizes_of ms)
 abbrev pub IsReadFor : NodeView → Contents → Type 0
 IsReadFor n ms = FrontIsFor (head_of n.at.jobs.jobs) n.config.apid ms
 
--- how the execution of a reading ends, over these memories
+-- how the execution of a reading ends, over these memories; a reply could be opened under a name of
+-- the request's own source
 abbrev pub ending_at : Config → NodeData → Contents → Source → Ending
 ending_at c d ms r =
-    ending c.part_size (is_some (least_free_in d.sending.ledger))
+    ending c.part_size
+    (is_some (least_free_in d.sending.ledger (request_source r.apid r.message)))
     (nat_lt (map.len d.sending.messages) c.outgoing) (answer (meant r) ms)
 
--- the octets of a report, by the counts of its sender and the clock
-abbrev pub report_packet : Config → Sending → (clock : ℕ) → Report → List ℕ
-report_packet c s clock r =
-    tm_made c c.source s.count (counter_of s.types r.kind) clock (service_of r.kind)
+-- the octets of a report to this destination, by the counts of its sender and the clock
+abbrev pub report_packet : Config → (peer : ℕ) → Sending → (clock : ℕ) → Report → List ℕ
+report_packet c peer s clock r =
+    tm_made c peer s.count (counter_of s.types r.kind) clock (service_of r.kind)
     (subtype_of r.kind) r.body
 
 -- reports with their packets, each by the counts after those before it
-abbrev pub report_packets : Config → Sending → (clock : ℕ) → List Report → List (Report × List ℕ)
-report_packets c s clock [] = []
-report_packets c s clock (r ∷ rs) =
-    (r, report_packet c s clock r) ∷ report_packets c (counted_kind s r.kind) clock rs
+abbrev pub report_packets : Config
+    → (peer : ℕ)
+    → Sending
+    → (clock : ℕ)
+    → List Report
+    → List (Report × List ℕ)
+report_packets c peer s clock [] = []
+report_packets c peer s clock (r ∷ rs) =
+    (r, report_packet c peer s clock r) ∷ report_packets c peer (counted_kind s r.kind) clock rs
 
 -- reports were made
 abbrev pub reported : Sending → List Report → Sending
@@ -115,24 +122,33 @@ pub record Execution : Type 0 where
 abbrev pub execution : Executed → Execution
 execution x = record { applied = x.applied; packets = x.packets.items; opened = x.opened }
 
--- the front job was executed, which ended so and opened this, or nothing
-abbrev pub executed_with : Config → NodeData → Ending → List Report → Option (Name × List ℕ) → NodeData × Execution
-executed_with c d end reports message = (
+-- the front job was executed, which ended so, has these reports to this destination, and opened this,
+-- or nothing
+abbrev pub executed_with : Config
+    → NodeData
+    → (peer : ℕ)
+    → Ending
+    → List Report
+    → Option (Name × List ℕ)
+    → NodeData × Execution
+executed_with c d peer end reports message = (
   with_opened (record d { sending = reported d.sending reports; jobs = without_front d.jobs }) message,
   record {
     applied = applied_of end message;
-    packets = link_packets c.part_size (report_packets c d.sending d.clock reports);
+    packets = link_packets c.part_size (report_packets c peer d.sending d.clock reports);
     opened = message;
   },
 )
 
--- the same, where its execution ends so: its reports, and what is opened of them
+-- the same, where its execution ends so: its reports go to the request's own source, and what is
+-- opened of them has a name of that source
 abbrev pub executed_ending : Config → NodeData → Source → Ending → NodeData × Execution
 executed_ending c d r end =
+    let peer = request_source r.apid r.message in
     let reports = message_reports r.apid r.message end in
-    executed_with c d end reports
-    (opened_of (least_free_in d.sending.ledger)
-    (large_packets c.part_size (report_packets c d.sending d.clock reports)))
+    executed_with c d peer end reports
+    (opened_of (least_free_in d.sending.ledger peer)
+    (large_packets c.part_size (report_packets c peer d.sending d.clock reports)))
 
 -- nothing is executed, and the call is refused
 abbrev pub not_executed : Execution

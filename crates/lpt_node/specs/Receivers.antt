@@ -66,7 +66,7 @@ pub record IsReceiver (m : Marks) (t : TableState) : Type 0 where
 
 -- the report that a reception was broken off, with this head
 abbrev pub abort_packet : Telemetry → Name → Reason → List ℕ
-abort_packet head id reason = spelling (tm_packet_of (record head { body = abort_body id reason }))
+abort_packet head id reason = spelling (tm_packet_of (record head { body = abort_body id.id reason }))
 
 -- the report that a reception was broken off, where reports have a head
 abbrev pub abort_report : Option Telemetry → Name → Reason → Option (List ℕ)

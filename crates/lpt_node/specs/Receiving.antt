@@ -89,17 +89,24 @@ after_taken side d id number (taking.Broken reason packet) =
 abbrev pub after_received : Side → NodeData → NamedPart → ReceiverState × Taken → NodeData × Accepted
 after_received side d q x = after_taken side (with_receiver d x.0) q.name q.number x.1
 
--- the head of the next report of an abortion, by the counts and the clock: the spacecraft makes it, and
--- ground makes none
-abbrev pub abort_head_at : Side → Config → (count : ℕ) → (types : List ℕ) → (clock : ℕ) → Option Telemetry
-abort_head_at Ground c count types clock = None
-abort_head_at Craft c count types clock =
-    Some (telemetry_made c c.source count (counter_of types Abort) clock 13 16 [])
+-- the head of the next report of an abortion to this destination, by the counts and the clock: the
+-- spacecraft makes it, and ground makes none
+abbrev pub abort_head_at : Side
+    → Config
+    → (peer count : ℕ)
+    → (types : List ℕ)
+    → (clock : ℕ)
+    → Option Telemetry
+abort_head_at Ground c peer count types clock = None
+abort_head_at Craft c peer count types clock =
+    Some (telemetry_made c peer count (counter_of types Abort) clock 13 16 [])
 
 -- the same, of an end
-abbrev pub abort_head : Side → Config → NodeData → Option Telemetry
-abort_head side c d = abort_head_at side c d.sending.count d.sending.types d.clock
+abbrev pub abort_head : Side → Config → NodeData → (peer : ℕ) → Option Telemetry
+abort_head side c d peer = abort_head_at side c peer d.sending.count d.sending.types d.clock
 
 -- a part is delivered: the end after it, and the answer
 abbrev pub parted : Side → Config → NodeData → NamedPart → NodeData × Accepted
-parted side c d q = after_received side d q (received (abort_head side c d) (receiver_of c d.receiving) q d.clock)
+parted side c d q =
+    after_received side d q
+    (received (abort_head side c d q.name.source) (receiver_of c d.receiving) q d.clock)

@@ -15,9 +15,13 @@ refusal_plain c service subtype len =
     else if is_too_long c len then Some Long
     else None
 
--- a plain request is made: the end after it, and the packet
-abbrev pub plain_made : Config → NodeData → (flags service subtype : ℕ) → List ℕ → NodeData × List ℕ
-plain_made c d flags service subtype body = (
+-- a plain request of this source is made: the end after it, and the packet
+abbrev pub plain_made : Config
+    → NodeData
+    → (source flags service subtype : ℕ)
+    → List ℕ
+    → NodeData × List ℕ
+plain_made c d source flags service subtype body = (
   record d { sending = counted d.sending },
-  tc_made c c.source d.sending.count flags service subtype body,
+  tc_made c source d.sending.count flags service subtype body,
 )

@@ -78,24 +78,31 @@ abbrev pub counted_part : Side → Sending → Kind → Sending
 counted_part side s kind =
     record s { count = next_count s.count; types = part_types side s.types kind }
 
--- the packet that carries a part: a telecommand from ground, telemetry from the spacecraft
-abbrev pub part_packet_at : Side → Config → (count : ℕ) → (types : List ℕ) → (clock : ℕ) → Piece → List ℕ
-part_packet_at side c count types clock q =
-    part_made c (direction_from side) count (counter_of types (part_telemetry q.kind)) clock q
+-- the packet that carries a part: a telecommand from ground, of this source, or telemetry from the
+-- spacecraft, to it
+abbrev pub part_packet_at : Side
+    → Config
+    → (peer count : ℕ)
+    → (types : List ℕ)
+    → (clock : ℕ)
+    → Piece
+    → List ℕ
+part_packet_at side c peer count types clock q =
+    part_made c (direction_from side) peer count (counter_of types (part_telemetry q.kind)) clock q
 
 -- the same, of an end
-abbrev pub part_packet : Side → Config → NodeData → Piece → List ℕ
-part_packet side c d q = part_packet_at side c d.sending.count d.sending.types d.clock q
+abbrev pub part_packet : Side → Config → NodeData → (peer : ℕ) → Piece → List ℕ
+part_packet side c d peer q = part_packet_at side c peer d.sending.count d.sending.types d.clock q
 
 -- a part is sent: the end after it, and the packet
-abbrev pub sent_piece : Side → Config → NodeData → Piece → NodeData × List ℕ
-sent_piece side c d q =
-    (record d { sending = counted_part side d.sending q.kind }, part_packet side c d q)
+abbrev pub sent_piece : Side → Config → NodeData → (peer : ℕ) → Piece → NodeData × List ℕ
+sent_piece side c d peer q =
+    (record d { sending = counted_part side d.sending q.kind }, part_packet side c d peer q)
 
 -- part k of a message is sent; of none nothing is, where the call is refused
 abbrev pub sent_of : Side → Config → NodeData → Name → ℕ → Option (List ℕ) → NodeData × List ℕ
 sent_of side c d id k None = (d, [])
-sent_of side c d id k (Some m) = sent_piece side c d (nth_part c.part_size id m k)
+sent_of side c d id k (Some m) = sent_piece side c d id.source (nth_part c.part_size id.id m k)
 
 -- part k of this name's message is sent
 abbrev pub sent : Side → Config → NodeData → Name → ℕ → NodeData × List ℕ

@@ -43,7 +43,7 @@ expired_with c d id packet = (
 -- the reception that is due is given up; where none is nothing is, and the call is refused
 abbrev pub expired_of : Side → Config → NodeData → Option Name → NodeData × Expired
 expired_of side c d None = (d, record { id = no_name; packet = None })
-expired_of side c d (Some id) = expired_with c d id (abort_report (abort_head side c d) id reason.Expired)
+expired_of side c d (Some id) = expired_with c d id (abort_report (abort_head side c d id.source) id reason.Expired)
 
 -- a reception is given up for its age: the end after it, and the answer
 abbrev pub expired : Side → Config → NodeData → NodeData × Expired

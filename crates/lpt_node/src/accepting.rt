@@ -14,7 +14,7 @@ use crate::found::Sight;
 use crate::parsed::sight_in;
 use crate::taken::Taken;
 use crate::{Accepted, Node, Outcome, Parsed, Side, TelemetryKind, Why};
-use lpt_execution::{Octets, Part};
+use lpt_execution::{Name, Octets, Part};
 use std::alloc::AllocError;
 
 impl Node {
@@ -100,10 +100,10 @@ impl Node {
             Sight::Request => unreachable!(),
             Sight::Report(service, subtype) => Ok(noted(Outcome::ReportNoted(*service, *subtype))),
             Sight::BadPart => Ok(ignored(Why::BadPart)),
-            Sight::Part(part) => self.accept_part(part),
-            Sight::Abort(id, reason) => {
-                self.close(*id);
-                Ok(noted(Outcome::AbortNoted(*id, *reason)))
+            Sight::Part(source, part) => self.accept_part(*source, part),
+            Sight::Abort(name, reason) => {
+                self.close(*name);
+                Ok(noted(Outcome::AbortNoted(*name, *reason)))
             }
         }
     }
@@ -127,38 +127,42 @@ impl Node {
         }
     }
 
-    // Takes a part.
-    fn accept_part(&mut self, part: &Part<'_>) -> Result<Accepted, AllocError>
+    // Takes a part that came from this source, or to it.
+    fn accept_part(&mut self, source: u16, part: &Part<'_>) -> Result<Accepted, AllocError>
         requires p { part.now.p ≡ self.old.config.part_size }
         requires numbers { numbered self.old.at.jobs + 1 < 2 ^ 64 }
-        ensures ok { IfOk result (λ r. (self.new.at, r) ≡ parted self.old.side self.old.config self.old.at (named (piece part.now))) }
+        ensures ok { IfOk result (λ r. (self.new.at, r) ≡ parted self.old.side self.old.config self.old.at (named source (piece part.now))) }
 
         ensures side { self.new.side ≡ self.old.side }
         ensures config { self.new.config ≡ self.old.config }
 
         ensures memory { OnErr result
-            (grows (parted self.old.side self.old.config self.old.at (named (piece part.now))).1 ≡ true) }
+            (grows (parted self.old.side self.old.config self.old.at (named source (piece part.now))).1 ≡ true) }
         ensures err { OnErr result (self.new.at ≡ self.old.at) }
     {
-        let head = self.abort_head(&self.counts);
+        let name = Name {
+            source,
+            id: part.id,
+        };
+        let head = self.abort_head(&self.counts, source);
         let (side, clock) = (self.side, self.clock);
         match self
             .receiver
-            .accept(side, &mut self.jobs, head, part, clock)?
+            .accept(side, &mut self.jobs, head, source, part, clock)?
         {
             Taken::Closed => Ok(ignored(Why::Closed)),
-            Taken::Kept => Ok(noted(Outcome::Kept(part.id, part.number))),
-            Taken::Again => Ok(noted(Outcome::Again(part.id, part.number))),
+            Taken::Kept => Ok(noted(Outcome::Kept(name, part.number))),
+            Taken::Again => Ok(noted(Outcome::Again(name, part.number))),
             Taken::NoRoom => Ok(ignored(Why::NoRoom)),
             Taken::Whole(message) => Ok(Accepted {
-                outcome: Outcome::Released(part.id, message.as_slice().len() as u32),
+                outcome: Outcome::Released(name, message.as_slice().len() as u32),
                 packet: None,
                 released: Some(message),
             }),
             Taken::Broken(reason, packet) => {
                 self.count_abort(packet.as_ref());
                 Ok(Accepted {
-                    outcome: Outcome::Broken(part.id, reason),
+                    outcome: Outcome::Broken(name, reason),
                     packet,
                     released: None,
                 })

@@ -36,7 +36,7 @@ pub(crate) fn release(
 ) -> Result<Taken, AllocError>
     requires free { state_at ledger.old id ≡ State.Free }
     requires out { IsSomeAnd table.old.out (λ o. o.0 ≡ id) }
-    requires id { whole.before.id ≡ id }
+    requires id { whole.before.id ≡ id.id }
     requires p { whole.before.p ≡ table.old.p }
     requires numbers { numbered jobs.old + 1 < 2 ^ 64 }
     ensures ok { IfOk result (λ t. t ≡ taking.Whole (spelled (all_of whole))) }
@@ -118,7 +118,7 @@ pub(crate) fn abort(
 ) -> Result<Taken, AllocError>
     requires free { state_at ledger.old id ≡ State.Free }
     requires out { IsSomeAnd table.old.out (λ o. o.0 ≡ id) }
-    requires id { broken.before.id ≡ id }
+    requires id { broken.before.id ≡ id.id }
     requires p { broken.before.p ≡ table.old.p }
     ensures ok { IfOk result (λ t. t ≡ taking.Broken broken.reason
         (abort_report (option_map (λ h. as_written (telemetry h [])) head) id broken.reason)) }

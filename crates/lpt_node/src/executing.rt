@@ -14,7 +14,7 @@ use crate::Node;
 use crate::counts::Counts;
 use crate::sending::begin;
 use lpt_execution::{
-    Applied, Memories, Name, Octets, Reading, Report, ending_of, is_small, reports,
+    Applied, Memories, Name, Octets, Reading, Report, ending_of, is_small, reports, request_source,
 };
 use std::alloc::AllocError;
 
@@ -30,7 +30,7 @@ pub(crate) struct Made {
 
 impl Node {
     // What the execution of a reading answers where it opens no message, and the packets of its
-    // reports. A load isn't done yet.
+    // reports, which go to the request's own source. A load isn't done yet.
     pub(crate) fn execution(
         &self,
         memories: &Memories,
@@ -56,23 +56,24 @@ impl Node {
             (reports_at self.now.config self.now.at memories.now reading.now ≢ []) }
     {
         let p = self.config.part_size;
-        let free = self.senders.least_free().is_some();
+        let peer = request_source(reading);
+        let free = self.senders.least_free(peer).is_some();
         let room = self.outgoing.len() < self.config.outgoing as usize;
         let ending = ending_of(p, free, room, memories, reading)?;
         let applied = ending.applied();
         let reports = reports(self.alloc, reading, ending)?;
-        Ok((applied, self.report_packets(reports)?))
+        Ok((applied, self.report_packets(peer, reports)?))
     }
 
-    // Makes the packets of reports in their order, by a copy of the counts.
-    fn report_packets(&self, reports: Vec<Report>) -> Result<Made, AllocError>
+    // Makes the packets of reports to this destination in their order, by a copy of the counts.
+    fn report_packets(&self, peer: u16, reports: Vec<Report>) -> Result<Made, AllocError>
         requires { All ReportFits reports.items }
         ensures packets { IfOk result (λ m. m.packets.items
             ≡ link_packets self.now.config.part_size
-            (report_packets self.now.config self.now.at.sending self.now.at.clock reports.items)) }
+            (report_packets self.now.config peer self.now.at.sending self.now.at.clock reports.items)) }
         ensures large { IfOk result (λ m. m.large.items
             ≡ large_packets self.now.config.part_size
-            (report_packets self.now.config self.now.at.sending self.now.at.clock reports.items)) }
+            (report_packets self.now.config peer self.now.at.sending self.now.at.clock reports.items)) }
         ensures counts { IfOk result (λ m. with_counts self.now.at.sending m.counts
             ≡ reported self.now.at.sending reports.items) }
         ensures fits { IfOk result (λ m.
@@ -85,22 +86,22 @@ impl Node {
             large: Vec::new(self.alloc),
         };
         for report in reports {
-            self.add_report(&mut made, &report)?;
+            self.add_report(&mut made, peer, &report)?;
         }
         Ok(made)
     }
 
-    // Makes the packet of a report, and adds it to those of its length.
-    fn add_report(&self, made: &mut Made, report: &Report) -> Result<(), AllocError>
+    // Makes the packet of a report to this destination, and adds it to those of its length.
+    fn add_report(&self, made: &mut Made, peer: u16, report: &Report) -> Result<(), AllocError>
         requires { ReportFits report.now }
         ensures packets { OnOk result (made.new.packets.items
             ≡ made.old.packets.items ++ link_packets self.now.config.part_size
-            (report_packets self.now.config
+            (report_packets self.now.config peer
             (with_counts self.now.at.sending made.old.counts)
             self.now.at.clock (report.now ∷ []))) }
         ensures large { OnOk result (made.new.large.items
             ≡ made.old.large.items ++ large_packets self.now.config.part_size
-            (report_packets self.now.config
+            (report_packets self.now.config peer
             (with_counts self.now.at.sending made.old.counts)
             self.now.at.clock (report.now ∷ []))) }
         ensures counts { OnOk result (with_counts self.now.at.sending made.new.counts
@@ -109,7 +110,7 @@ impl Node {
             → OnOk result
             (All (λ b. MessageFits self.now.config.part_size (length b)) made.new.large.items) }
     {
-        let packet = self.report_packet(&mut made.counts, report)?;
+        let packet = self.report_packet(&mut made.counts, peer, report)?;
         if is_small(self.config.part_size, report.body.as_slice().len()) {
             made.packets.push(packet)?;
         } else {
@@ -118,15 +119,17 @@ impl Node {
         Ok(())
     }
 
-    // Opens the first of these messages under the least free name, and answers what was opened.
+    // Opens the first of these messages under the least free name of this source, and answers what
+    // was opened.
     pub(crate) fn open_first(
         &mut self,
+        source: u16,
         messages: Vec<Octets>,
     ) -> Result<Option<(Name, Octets)>, AllocError>
         requires { All (λ m. MessageFits self.old.config.part_size (length m)) messages.items }
         ensures at { IfOk result (λ x. self.new.at ≡ with_opened self.old.at x) }
         ensures opened { IfOk result (λ x.
-            x ≡ opened_of (least_free_in self.old.at.sending.ledger) messages.items) }
+            x ≡ opened_of (least_free_in self.old.at.sending.ledger source) messages.items) }
 
         ensures side { self.new.side ≡ self.old.side }
         ensures config { self.new.config ≡ self.old.config }
@@ -138,7 +141,7 @@ impl Node {
         let Some(message) = messages.into_iter().next() else {
             return Ok(None);
         };
-        let Some(id) = self.senders.least_free() else {
+        let Some(id) = self.senders.least_free(source) else {
             return Ok(None);
         };
         let copy = message.copy()?;

@@ -16,10 +16,10 @@ pub(crate) enum Found {
     Request,
     /// Telemetry of this service type and message subtype that is neither of the next two.
     Report(u8, u8),
-    /// A message that is to carry a part of this kind.
-    Part(Kind, usize),
-    /// A report that a reception was broken off.
-    Abort(usize),
+    /// A message that is to carry a part of this kind, from this source or to it.
+    Part(Kind, u16, usize),
+    /// A report to this source that a reception was broken off.
+    Abort(u16, usize),
 }
 
 /// What a parsed packet shows.
@@ -38,8 +38,8 @@ pub(crate) enum Sight<'a> {
     Report(u8, u8),
     /// A part or a report of an abortion whose body isn't read.
     BadPart,
-    /// A part.
-    Part(Part<'a>),
+    /// A part, from this source or to it.
+    Part(u16, Part<'a>),
     /// A report that the reception of this name was broken off, for this reason.
     Abort(Name, Reason),
 }

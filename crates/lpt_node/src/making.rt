@@ -25,10 +25,10 @@ use lpt_execution::{
 use std::alloc::{AllocError, Global};
 
 impl Node {
-    // The head of the next telemetry of a kind, by these counts.
-    fn head(&self, counts: &Counts, kind: TelemetryKind) -> TmHead
+    // The head of the next telemetry of a kind to this destination, by these counts.
+    fn head(&self, counts: &Counts, peer: u16, kind: TelemetryKind) -> TmHead
         ensures { telemetry result []
-            ≡ telemetry_made self.now.config self.now.config.source counts.now.count
+            ≡ telemetry_made self.now.config peer counts.now.count
             (counter_of counts.now.types kind) self.now.at.clock
             (service_of kind) (subtype_of kind) [] }
     {
@@ -39,50 +39,55 @@ impl Node {
             service: kind.service(),
             subtype: kind.subtype(),
             counter: counts.counter(kind),
-            destination: self.config.source,
+            destination: peer,
             time: self.clock,
         }
     }
 
-    // The head of the next report of an abortion, by these counts: the spacecraft alone makes it.
-    pub(crate) fn abort_head(&self, counts: &Counts) -> Option<TmHead>
+    // The head of the next report of an abortion to this destination, by these counts: the spacecraft
+    // alone makes it.
+    pub(crate) fn abort_head(&self, counts: &Counts, peer: u16) -> Option<TmHead>
         ensures { option_map (λ h. as_written (telemetry h [])) result
-            ≡ abort_head_at self.now.side self.now.config counts.now.count counts.now.types self.now.at.clock }
+            ≡ abort_head_at self.now.side self.now.config peer counts.now.count counts.now.types self.now.at.clock }
     {
         match self.side {
             Side::Ground => None,
-            Side::Craft => Some(self.head(counts, TelemetryKind::Abort)),
+            Side::Craft => Some(self.head(counts, peer, TelemetryKind::Abort)),
         }
     }
 
-    // Makes the packet of a report, and counts it. The only error is out of memory.
+    // Makes the packet of a report to this destination, and counts it. The only error is out of
+    // memory.
     pub(crate) fn report_packet(
         &self,
         counts: &mut Counts,
+        peer: u16,
         report: &Report,
     ) -> Result<Octets, AllocError>
         requires { ReportFits report.now }
-        ensures packet { IfOk result (λ o. o ≡ report_packet self.now.config
+        ensures packet { IfOk result (λ o. o ≡ report_packet self.now.config peer
             (with_counts self.now.at.sending counts.old) self.now.at.clock report.now) }
         ensures length { IfOk result (λ o. length o ≡ length report.now.body + 19) }
         ensures counts { OnOk result (with_counts self.now.at.sending counts.new
             ≡ counted_kind (with_counts self.now.at.sending counts.old) report.now.kind) }
     {
         lengths();
-        let head = self.head(counts, report.kind);
+        let head = self.head(counts, peer, report.kind);
         let packet = tm_octets(self.alloc, &head, report.body.as_slice())?;
         counts.step_kind(report.kind);
         Ok(packet)
     }
 
-    // Makes the packet that carries a part, and counts it. The only error is out of memory.
+    // Makes the packet that carries a part, of this source or to it, and counts it. The only error is
+    // out of memory.
     pub(crate) fn part_packet(
         &self,
         counts: &mut Counts,
+        peer: u16,
         part: &Part<'_>,
     ) -> Result<Octets, AllocError>
         ensures packet { IfOk result (λ o. o ≡ part_packet_at self.now.side self.now.config
-            counts.old.count counts.old.types self.now.at.clock (piece part.now)) }
+            peer counts.old.count counts.old.types self.now.at.clock (piece part.now)) }
         ensures count { OnOk result (counts.new.count ≡ next_count counts.old.count) }
         ensures types { OnOk result (counts.new.types
             ≡ part_types self.now.side counts.old.types part.now.kind) }
@@ -96,7 +101,7 @@ impl Node {
                     flags: 0,
                     service: TRANSFER,
                     subtype: subtype_of_part(part.kind),
-                    source: self.config.source,
+                    source: peer,
                 };
                 let packet = tc_pieces(self.alloc, &head, &header, part.octets)?;
                 counts.step();
@@ -104,7 +109,7 @@ impl Node {
             }
             Side::Craft => {
                 let kind = telemetry_of(part.kind);
-                let head = self.head(counts, kind);
+                let head = self.head(counts, peer, kind);
                 let packet = tm_pieces(self.alloc, &head, &header, part.octets)?;
                 counts.step_kind(kind);
                 Ok(packet)
@@ -150,7 +155,7 @@ pub(crate) fn abort_report(
     match head {
         None => Ok(None),
         Some(head) => {
-            let body = abort_octets(id, reason);
+            let body = abort_octets(id.id, reason);
             Ok(Some(tm_octets(alloc, &head, &body)?))
         }
     }

@@ -12,8 +12,8 @@ ghost use Rattle.lpt_node.specs.Found.{arrival_found, body_from, IsFound, IsFoun
 use crate::Side;
 use crate::found::{Found, Sight};
 use lpt_execution::{
-    ABORT, Direction, Octets, Packet, Seen, TC_HEADER, TM_HEADER, TRANSFER, bodies, part_kind,
-    read_abort, read_packet, read_part, read_tc, read_tm, seen_is_read,
+    ABORT, Direction, Name, Octets, Packet, Seen, TC_HEADER, TM_HEADER, TRANSFER, bodies,
+    part_kind, read_abort, read_packet, read_part, read_tc, read_tm, seen_is_read,
 };
 use std::marker::Model;
 
@@ -115,12 +115,12 @@ fn shown(found: Found, octets: &[u8], p: u32) -> Sight<'_>
         Found::Foreign => Sight::Foreign,
         Found::Request => Sight::Request,
         Found::Report(service, subtype) => Sight::Report(service, subtype),
-        Found::Part(kind, from) => match read_part(kind, body_from(octets, from), p) {
-            Ok(part) => Sight::Part(part),
+        Found::Part(kind, source, from) => match read_part(kind, body_from(octets, from), p) {
+            Ok(part) => Sight::Part(source, part),
             Err(_) => Sight::BadPart,
         },
-        Found::Abort(from) => match read_abort(body_from(octets, from)) {
-            Ok((id, reason)) => Sight::Abort(id, reason),
+        Found::Abort(source, from) => match read_abort(body_from(octets, from)) {
+            Ok((id, reason)) => Sight::Abort(Name { source, id }, reason),
             Err(_) => Sight::BadPart,
         },
     }
@@ -166,7 +166,7 @@ fn found_in_uplink(packet: &Packet<'_>) -> Found
         return Found::Unreadable;
     };
     match part_kind(Direction::Up, head.service, head.subtype) {
-        Some(kind) => Found::Part(kind, TC_HEADER),
+        Some(kind) => Found::Part(kind, head.source, TC_HEADER),
         None => Found::Request,
     }
 }
@@ -181,10 +181,10 @@ fn found_in_downlink(packet: &Packet<'_>) -> Found
         return Found::Unreadable;
     };
     match part_kind(Direction::Down, head.service, head.subtype) {
-        Some(kind) => Found::Part(kind, TM_HEADER),
+        Some(kind) => Found::Part(kind, head.destination, TM_HEADER),
         None => {
             if head.service == TRANSFER && head.subtype == ABORT {
-                Found::Abort(TM_HEADER)
+                Found::Abort(head.destination, TM_HEADER)
             } else {
                 Found::Report(head.service, head.subtype)
             }

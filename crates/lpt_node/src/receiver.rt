@@ -102,7 +102,7 @@ impl Receiver {
         self.table.due(now)
     }
 
-    /// Takes a part at this tick. A message that is whole is joined and its reception ended; at the
+    /// Takes a part that came from this source, or to it, at this tick. A message that is whole is joined and its reception ended; at the
     /// spacecraft it becomes a job. One that is broken off is ended with a report of it, where
     /// reports have a head.
     ///
@@ -112,13 +112,14 @@ impl Receiver {
         side: Side,
         jobs: &mut JobQueue,
         head: Option<TmHead>,
+        source: u16,
         part: &Part<'_>,
         now: u32,
     ) -> Result<Taken, AllocError>
         requires p { part.now.p ≡ self.old.p }
         requires numbers { numbered jobs.old + 1 < 2 ^ 64 }
         ensures ok { IfOk result (λ t. (self.new, t)
-            ≡ received (option_map (λ h. as_written (telemetry h [])) head) self.old (named (piece part.now)) now) }
+            ≡ received (option_map (λ h. as_written (telemetry h [])) head) self.old (named source (piece part.now)) now) }
         ensures jobs { IfOk result (λ t. jobs.new ≡ jobs_after side jobs.old t) }
         ensures short { IfOk result IsShort }
 
@@ -126,37 +127,34 @@ impl Receiver {
 
         // Memory runs out only where some is taken.
         ensures memory { OnErr result
-            (grows (received (option_map (λ h. as_written (telemetry h [])) head) self.old (named (piece part.now)) now).1 ≡ true) }
+            (grows (received (option_map (λ h. as_written (telemetry h [])) head) self.old (named source (piece part.now)) now).1 ≡ true) }
         ensures err { OnErr result (self.new ≡ self.old) }
         ensures no_job { OnErr result (jobs.new ≡ jobs.old) }
     {
-        if self.ledger.state(part.id) != State::Free {
+        let name = Name {
+            source,
+            id: part.id,
+        };
+        if self.ledger.state(name) != State::Free {
             return Ok(Taken::Closed);
         }
         put_back_undoes();
-        match self.table.offer(part, now) {
+        match self.table.offer(source, part, now) {
             Offer::Kept => Ok(Taken::Kept),
             Offer::Again => Ok(Taken::Again),
             Offer::NoRoom => Ok(Taken::NoRoom),
             Offer::Memory => Err(AllocError),
             Offer::Whole(whole) => {
-                release(
-                    side,
-                    jobs,
-                    &mut self.ledger,
-                    &mut self.table,
-                    part.id,
-                    whole,
-                )
+                release(side, jobs, &mut self.ledger, &mut self.table, name, whole)
             }
-            Offer::Gap => break_off(self.alloc, &mut self.ledger, head, part.id),
+            Offer::Gap => break_off(self.alloc, &mut self.ledger, head, name),
             Offer::Conflict(broken) => {
                 abort(
                     self.alloc,
                     &mut self.ledger,
                     &mut self.table,
                     head,
-                    part.id,
+                    name,
                     broken,
                 )
             }

@@ -15,14 +15,15 @@ use lpt_execution::{
 const AROUND_A_BODY: usize = PRIMARY_HEADER + TC_HEADER + ERROR_CONTROL;
 
 impl Node {
-    /// Makes the packet of a plain request: a telecommand of this service type, message subtype and
-    /// body that carries no part. Ground alone makes them.
+    /// Makes the packet of a plain request: a telecommand of this source, service type, message
+    /// subtype and body that carries no part. Ground alone makes them.
     ///
     /// Errors, with nothing changed, the first that applies: `PartRequest`, the service type is 13
     /// and the message subtype 9, 10 or 11, a part's; `Long`, the packet would have more octets than
     /// the part size and 23; `Memory`.
     pub fn plain(
         &mut self,
+        source: u16,
         flags: AckFlags,
         service: u8,
         subtype: u8,
@@ -31,7 +32,7 @@ impl Node {
         requires { self.old.side ≡ Ground }
         ensures enabled { OnOk result (refusal_plain self.old.config service subtype (length body.now) ≡ None) }
         ensures ok { IfOk result (λ o. (self.new.at, o)
-            ≡ plain_made self.old.config self.old.at flags service subtype body.now) }
+            ≡ plain_made self.old.config self.old.at source flags service subtype body.now) }
 
         ensures side { self.new.side ≡ self.old.side }
         ensures config { self.new.config ≡ self.old.config }
@@ -49,7 +50,7 @@ impl Node {
             flags: flags.bits(),
             service,
             subtype,
-            source: self.config.source,
+            source,
         };
         let Ok(packet) = tc_octets(self.alloc, &head, body) else {
             return Err(NodeFault::Memory);

@@ -62,9 +62,9 @@ impl Node {
         let Some(message) = self.outgoing.get(id) else {
             unreachable!()
         };
-        let part = part_at(message, self.config.part_size, id, k);
+        let part = part_at(message, self.config.part_size, id.id, k);
         let mut counts = self.counts;
-        let Ok(packet) = self.part_packet(&mut counts, &part) else {
+        let Ok(packet) = self.part_packet(&mut counts, id.source, &part) else {
             return Err(NodeFault::Memory);
         };
         self.counts = counts;
@@ -132,7 +132,7 @@ pub(crate) fn begin(
 }
 
 // Part k of a message that has as many.
-fn part_at(message: &[u8], p: u32, id: Name, k: u16) -> Part<'_>
+fn part_at(message: &[u8], p: u32, id: u16, k: u16) -> Part<'_>
     requires part_size { IsPartSize p }
     requires fits { MessageFits p (length message.now) }
     requires some { 1 ≤ k }

@@ -47,7 +47,7 @@ impl Node {
             return Err(NodeFault::NothingDue);
         };
         let mut counts = self.counts;
-        let head = self.abort_head(&counts);
+        let head = self.abort_head(&counts, id.source);
         let Ok(packet) = self.receiver.expire(head, id) else {
             return Err(NodeFault::Memory);
         };

@@ -9,7 +9,7 @@ ghost use Rattle.lpt_node.specs.Sending.{RefusedBy};
 
 use crate::executing::Made;
 use crate::{Executed, Node, NodeFault};
-use lpt_execution::{Memories, Octets, Reading, Ticket, applied_with};
+use lpt_execution::{Memories, Octets, Reading, Ticket, applied_with, request_source};
 use lpt_jobs::Front;
 
 impl Node {
@@ -88,8 +88,9 @@ impl Node {
     }
 
     /// Executes the oldest job, whose reading must be for these memories and the node's APID: does
-    /// what it asks of them, makes its reports, and lets the job go. A report of data that is too
-    /// long for a packet on the link is opened under the least free name.
+    /// what it asks of them, makes its reports, and lets the job go. The reports go to the source in
+    /// the request's own header. A report of data that is too long for a packet on the link is opened
+    /// under the least free name of that source.
     ///
     /// Errors, with node and memories unchanged, the first that applies: `NoJob`, there is none;
     /// `NotReady`, no reading of the oldest was handed in; `Memory`, where there is a report.
@@ -117,6 +118,7 @@ impl Node {
         let Front::Ready(reading) = self.jobs.front() else {
             unreachable!()
         };
+        let source = request_source(reading);
         // All that takes memory comes first, and the new message last of it.
         let Ok((applied, made)) = self.execution(memories, reading) else {
             return Err(NodeFault::Memory);
@@ -126,7 +128,7 @@ impl Node {
             packets,
             large,
         } = made;
-        let Ok(opened) = self.open_first(large) else {
+        let Ok(opened) = self.open_first(source, large) else {
             return Err(NodeFault::Memory);
         };
         self.counts = counts;

@@ -7,7 +7,6 @@ use Rattle.lpt_events.specs.LptPacket.declared.fault.PacketFault.{PacketFault}
 use Rattle.lpt_events.specs.LptPacket.declared.packet.PacketKind.{PacketKind}
 use Rattle.lpt_events.specs.LptPacket.declared.packet.PacketKind.TheVariants.{Tm, Tc}
 use Rattle.lpt_events.specs.LptPacket.FaultNames as of_packet
-use Rattle.lpt_events.specs.LptPacket.Names.{Name}
 use Rattle.lpt_events.specs.LptPacket.Numbers.{be}
 use Rattle.lpt_events.specs.LptPacket.Packets.{Fields, Sight, IdlePacket, APacket, verdict}
 use Rattle.lpt_events.specs.LptPus.declared.fault.PusFault.{PusFault}
@@ -67,7 +66,7 @@ part_text q =
     ∷ codes "number" ∷ decimal q.number ∷ codes "octets" ∷ decimal (length q.octets) ∷ [])
 
 -- the report that the reception of a large message was aborted
-abbrev pub abort_text : Name × Reason → List ℕ
+abbrev pub abort_text : ℕ × Reason → List ℕ
 abort_text a =
     line_of (codes "abort" ∷ codes "id" ∷ decimal a.0
     ∷ codes "reason" ∷ decimal (reason_code a.1) ∷ [])

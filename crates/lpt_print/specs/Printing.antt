@@ -25,6 +25,7 @@ use Rattle.lpt_events.specs.declared.reply.Reply.{Reply}
 use Rattle.lpt_events.specs.declared.side.Side.{Side}
 use Rattle.lpt_events.specs.declared.side.Side.TheVariants.{Ground, Craft}
 use Rattle.lpt_events.specs.FaultNames.{code_of, name_of}
+use Rattle.lpt_events.specs.NameTexts.{name_text}
 
 -- ---- words
 
@@ -50,10 +51,12 @@ octets_text m = if length m == 0 then codes "-" else encode_lower m
 
 -- ---- what an event did
 
+-- The first argument of those that have a name in them is the configured source.
+
 -- a message was opened; it has so many parts
-abbrev pub opened_text : Direction → Name → (parts : ℕ) → List ℕ
-opened_text d id parts =
-    line_of (codes "opened" ∷ direction_text d ∷ decimal id ∷ codes "parts" ∷ decimal parts ∷ [])
+abbrev pub opened_text : ℕ → Direction → Name → (parts : ℕ) → List ℕ
+opened_text source d id parts =
+    line_of (codes "opened" ∷ direction_text d ∷ name_text source id ∷ codes "parts" ∷ decimal parts ∷ [])
 
 -- a packet of this number was put on the link
 abbrev pub put_text : ℕ → List ℕ
@@ -64,24 +67,24 @@ abbrev pub took_text : ℕ → List ℕ
 took_text n = line_of (codes "took" ∷ decimal n ∷ [])
 
 -- a word, a transaction and a number
-abbrev pub transaction_line : List ℕ → Direction → Name → ℕ → List ℕ
-transaction_line word d id n = line_of (word ∷ direction_text d ∷ decimal id ∷ decimal n ∷ [])
+abbrev pub transaction_line : ℕ → List ℕ → Direction → Name → ℕ → List ℕ
+transaction_line source word d id n = line_of (word ∷ direction_text d ∷ name_text source id ∷ decimal n ∷ [])
 
 -- a word and a transaction
-abbrev pub named_line : List ℕ → Direction → Name → List ℕ
-named_line word d id = line_of (word ∷ direction_text d ∷ decimal id ∷ [])
+abbrev pub named_line : ℕ → List ℕ → Direction → Name → List ℕ
+named_line source word d id = line_of (word ∷ direction_text d ∷ name_text source id ∷ [])
 
 -- the packet of this number is lost
 abbrev pub lost_text : ℕ → List ℕ
 lost_text n = line_of (codes "lost" ∷ decimal n ∷ [])
 
 -- the sender of this transaction was closed
-abbrev pub finished_text : Direction → Name → List ℕ
-finished_text d id = named_line (codes "finished") d id
+abbrev pub finished_text : ℕ → Direction → Name → List ℕ
+finished_text source d id = named_line source (codes "finished") d id
 
 -- the reception of this transaction was ended
-abbrev pub expired_text : Direction → Name → List ℕ
-expired_text d id = named_line (codes "expired") d id
+abbrev pub expired_text : ℕ → Direction → Name → List ℕ
+expired_text source d id = named_line source (codes "expired") d id
 
 -- a word and a job, by its boot and its number in it
 abbrev pub job_line : List ℕ → (boot job : ℕ) → List ℕ
@@ -100,20 +103,20 @@ abbrev pub stale_text : (boot job : ℕ) → List ℕ
 stale_text boot job = job_line (codes "stale") boot job
 
 -- this transaction is free at both ends
-abbrev pub retired_text : Direction → Name → List ℕ
-retired_text d id = named_line (codes "retired") d id
+abbrev pub retired_text : ℕ → Direction → Name → List ℕ
+retired_text source d id = named_line source (codes "retired") d id
 
 -- a node was restarted, and has this boot now
 abbrev pub restarted_text : Side → (boot : ℕ) → List ℕ
 restarted_text side boot = line_of (codes "restarted" ∷ side_text side ∷ decimal boot ∷ [])
 
 -- a request was executed; the report of data that was opened has this identifier
-abbrev pub applied_text : Applied → List ℕ
-applied_text (Done None) = line_of (codes "applied" ∷ codes "done" ∷ [])
-applied_text (Done (Some id)) =
-    line_of (codes "applied" ∷ codes "done" ∷ codes "down" ∷ decimal id ∷ [])
-applied_text Silent = line_of (codes "applied" ∷ codes "silent" ∷ [])
-applied_text (Code code) = line_of (codes "applied" ∷ codes "code" ∷ decimal (number_of code) ∷ [])
+abbrev pub applied_text : ℕ → Applied → List ℕ
+applied_text source (Done None) = line_of (codes "applied" ∷ codes "done" ∷ [])
+applied_text source (Done (Some id)) =
+    line_of (codes "applied" ∷ codes "done" ∷ codes "down" ∷ name_text source id ∷ [])
+applied_text source Silent = line_of (codes "applied" ∷ codes "silent" ∷ [])
+applied_text source (Code code) = line_of (codes "applied" ∷ codes "code" ∷ decimal (number_of code) ∷ [])
 
 -- a clock has this value now
 abbrev pub clock_text : ℕ → List ℕ
@@ -129,55 +132,55 @@ why_name Closed = codes "Closed"
 why_name NoRoom = codes "NoRoom"
 
 -- what became of a packet that was delivered in this direction
-abbrev pub outcome_text : Direction → Outcome → List ℕ
-outcome_text d (Kept id k) = transaction_line (codes "kept") d id k
-outcome_text d (Again id k) = transaction_line (codes "again") d id k
-outcome_text d (Released id len) = transaction_line (codes "released") d id len
-outcome_text d (PlainReleased len) = line_of (codes "plain" ∷ decimal len ∷ [])
-outcome_text d (ReportNoted service subtype) =
+abbrev pub outcome_text : ℕ → Direction → Outcome → List ℕ
+outcome_text source d (Kept id k) = transaction_line source (codes "kept") d id k
+outcome_text source d (Again id k) = transaction_line source (codes "again") d id k
+outcome_text source d (Released id len) = transaction_line source (codes "released") d id len
+outcome_text source d (PlainReleased len) = line_of (codes "plain" ∷ decimal len ∷ [])
+outcome_text source d (ReportNoted service subtype) =
     line_of (codes "report" ∷ decimal service ∷ decimal subtype ∷ [])
-outcome_text d (AbortNoted id reason) =
-    line_of (codes "abort" ∷ decimal id ∷ decimal (reason_code reason) ∷ [])
-outcome_text d (Broken id reason) = transaction_line (codes "broken") d id (reason_code reason)
-outcome_text d (Ignored why) = line_of (codes "ignored" ∷ why_name why ∷ [])
+outcome_text source d (AbortNoted id reason) =
+    line_of (codes "abort" ∷ name_text source id ∷ decimal (reason_code reason) ∷ [])
+outcome_text source d (Broken id reason) = transaction_line source (codes "broken") d id (reason_code reason)
+outcome_text source d (Ignored why) = line_of (codes "ignored" ∷ why_name why ∷ [])
 
 -- what an accepted event prints by its answer; nothing for an answer that isn't the event's own
-abbrev pub answer_text : Event → Answer → List ℕ
-answer_text (Open d id m) (Opened parts) = opened_text d id parts
-answer_text (Send d id k) (Put n) = put_text n
-answer_text (Plain flags service subtype body) (Put n) = put_text n
-answer_text (Lose n) Lost = lost_text n
-answer_text (Damage d b) (Put n) = put_text n
-answer_text (Take l n) (Took k) = took_text k
-answer_text (Deliver l) (Delivered o) = outcome_text (lane_direction l) o
-answer_text (Finish d id) Finished = finished_text d id
-answer_text (Tick side) (Clock t) = clock_text t
-answer_text (Expire side) (Expired d id) = expired_text d id
-answer_text (Claim w) (Claimed boot job) = claimed_text boot job
-answer_text (Commit w) (Committed boot job) = committed_text boot job
-answer_text (Commit w) (Stale boot job) = stale_text boot job
-answer_text Apply (AppliedTo applied) = applied_text applied
-answer_text (Retire d id) Retired = retired_text d id
-answer_text (Restart side) (Restarted boot) = restarted_text side boot
-answer_text (Open d id m) _ = []
-answer_text (Send d id k) _ = []
-answer_text (Plain flags service subtype body) _ = []
-answer_text (Lose n) _ = []
-answer_text (Damage d b) _ = []
-answer_text (Take l n) _ = []
-answer_text (Deliver l) _ = []
-answer_text (Finish d id) _ = []
-answer_text (Tick side) _ = []
-answer_text (Expire side) _ = []
-answer_text (Claim w) _ = []
-answer_text (Commit w) _ = []
-answer_text Apply _ = []
-answer_text (Retire d id) _ = []
-answer_text (Restart side) _ = []
+abbrev pub answer_text : ℕ → Event → Answer → List ℕ
+answer_text source (Open d id m) (Opened parts) = opened_text source d id parts
+answer_text source (Send d id k) (Put n) = put_text n
+answer_text source (Plain from flags service subtype body) (Put n) = put_text n
+answer_text source (Lose n) Lost = lost_text n
+answer_text source (Damage d b) (Put n) = put_text n
+answer_text source (Take l n) (Took k) = took_text k
+answer_text source (Deliver l) (Delivered o) = outcome_text source (lane_direction l) o
+answer_text source (Finish d id) Finished = finished_text source d id
+answer_text source (Tick side) (Clock t) = clock_text t
+answer_text source (Expire side) (Expired d id) = expired_text source d id
+answer_text source (Claim w) (Claimed boot job) = claimed_text boot job
+answer_text source (Commit w) (Committed boot job) = committed_text boot job
+answer_text source (Commit w) (Stale boot job) = stale_text boot job
+answer_text source Apply (AppliedTo applied) = applied_text source applied
+answer_text source (Retire d id) Retired = retired_text source d id
+answer_text source (Restart side) (Restarted boot) = restarted_text side boot
+answer_text source (Open d id m) _ = []
+answer_text source (Send d id k) _ = []
+answer_text source (Plain from flags service subtype body) _ = []
+answer_text source (Lose n) _ = []
+answer_text source (Damage d b) _ = []
+answer_text source (Take l n) _ = []
+answer_text source (Deliver l) _ = []
+answer_text source (Finish d id) _ = []
+answer_text source (Tick side) _ = []
+answer_text source (Expire side) _ = []
+answer_text source (Claim w) _ = []
+answer_text source (Commit w) _ = []
+answer_text source Apply _ = []
+answer_text source (Retire d id) _ = []
+answer_text source (Restart side) _ = []
 
 -- what an accepted event prints
-abbrev pub accepted_text : Event → Reply → List ℕ
-accepted_text event reply = answer_text event reply.answer
+abbrev pub accepted_text : ℕ → Event → Reply → List ℕ
+accepted_text source event reply = answer_text source event reply.answer
 
 -- an event was refused
 abbrev pub refused_text : StepFault → List ℕ
@@ -222,15 +225,16 @@ memory_text id address None =
     line_of (codes "memory" ∷ decimal id ∷ decimal address ∷ codes "none" ∷ [])
 
 -- a message that was released, by its transaction, or as a plain request
-abbrev pub message_text : Option (Direction × Name) → List ℕ → List ℕ
-message_text (Some of) m = line_of (direction_text of.0 ∷ decimal of.1 ∷ octets_text m ∷ [])
-message_text None m = line_of (codes "plain" ∷ octets_text m ∷ [])
+abbrev pub message_text : ℕ → Option (Direction × Name) → List ℕ → List ℕ
+message_text source (Some of) m =
+    line_of (direction_text of.0 ∷ name_text source of.1 ∷ octets_text m ∷ [])
+message_text source None m = line_of (codes "plain" ∷ octets_text m ∷ [])
 
 -- a release
-abbrev pub release_text : Release → List ℕ
-release_text r = message_text r.of r.message
+abbrev pub release_text : ℕ → Release → List ℕ
+release_text source r = message_text source r.of r.message
 
 -- all releases, each in order; `none` where there is none
-abbrev pub releases_text : List Release → List ℕ
-releases_text [] = none_text
-releases_text (r ∷ rs) = flat_map release_text (r ∷ rs)
+abbrev pub releases_text : ℕ → List Release → List ℕ
+releases_text source [] = none_text
+releases_text source (r ∷ rs) = flat_map (release_text source) (r ∷ rs)

@@ -12,7 +12,9 @@ mod printing;
 mod words;
 
 pub use decoding::{Decoded, print_decoded};
-pub use lpt_events::{Kind, Seen, part_kind, read_packet, read_part, read_tc, read_tm};
+pub use lpt_events::{
+    Kind, NameWord, Seen, name_word, part_kind, read_packet, read_part, read_tc, read_tm,
+};
 pub use printing::{
     print_accepted, print_applied, print_applied_count, print_claimed, print_clear, print_clock,
     print_committed, print_expired, print_finished, print_journal, print_lost, print_memory,

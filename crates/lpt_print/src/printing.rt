@@ -1,4 +1,5 @@
-//! The lines that a script prints.
+//! The lines that a script prints. A name is printed as its identifier where it is of the configured
+//! source, and as `SOURCE/ID` otherwise.
 
 ghost use Rattle.std.specs.Prelude.{◌≡◌, IfOk};
 ghost use Rattle.std.specs.Option.{option_copied};
@@ -7,40 +8,51 @@ ghost use Rattle.lpt_print.specs.Printing.{accepted_text, opened_text, finished_
 
 use crate::words::{direction_word, octets_word, side_word, text_around, text_of, why_word};
 use lpt_events::{
-    Answer, Applied, Direction, Event, Name, Outcome, Release, Reply, Side, StepFault,
+    Answer, Applied, Direction, Event, Name, Outcome, Release, Reply, Side, StepFault, name_word,
 };
 use std::alloc::{AllocError, Global};
 
 /// What an accepted event prints by its reply: the text of its own answer, and nothing for another.
-pub fn print_accepted(alloc: Global, event: &Event, reply: &Reply) -> Result<String, AllocError>
-    ensures { IfOk result (λ t. string_bytes t ≡ accepted_text event.now reply.now) }
+pub fn print_accepted(
+    alloc: Global,
+    source: u16,
+    event: &Event,
+    reply: &Reply,
+) -> Result<String, AllocError>
+    ensures { IfOk result (λ t. string_bytes t ≡ accepted_text source event.now reply.now) }
 {
     match (event, reply.answer) {
         (Event::Open(direction, id, _), Answer::Opened(parts)) => {
-            print_opened(alloc, *direction, *id, parts)
+            print_opened(alloc, source, *direction, *id, parts)
         }
         (Event::Send(_, _, _), Answer::Put(number)) => print_put(alloc, number),
-        (Event::Plain(_, _, _, _), Answer::Put(number)) => print_put(alloc, number),
+        (Event::Plain(_, _, _, _, _), Answer::Put(number)) => print_put(alloc, number),
         (Event::Lose(number), Answer::Lost) => print_lost(alloc, *number),
         (Event::Damage(_, _), Answer::Put(number)) => print_put(alloc, number),
         (Event::Take(_, _), Answer::Took(number)) => print_took(alloc, number),
         (Event::Deliver(lane), Answer::Delivered(outcome)) => {
-            print_outcome(alloc, lane.direction(), outcome)
+            print_outcome(alloc, source, lane.direction(), outcome)
         }
-        (Event::Finish(direction, id), Answer::Finished) => print_finished(alloc, *direction, *id),
+        (Event::Finish(direction, id), Answer::Finished) => print_finished(
+            alloc, source, *direction, *id,
+        ),
         (Event::Tick(_), Answer::Clock(ticks)) => print_clock(alloc, ticks),
-        (Event::Expire(_), Answer::Expired(direction, id)) => print_expired(alloc, direction, id),
+        (Event::Expire(_), Answer::Expired(direction, id)) => print_expired(
+            alloc, source, direction, id,
+        ),
         (Event::Claim(_), Answer::Claimed(boot, job)) => print_claimed(alloc, boot, job),
         (Event::Commit(_), Answer::Committed(boot, job)) => print_committed(alloc, boot, job),
         (Event::Commit(_), Answer::Stale(boot, job)) => print_stale(alloc, boot, job),
-        (Event::Apply, Answer::Applied(applied)) => print_applied(alloc, applied),
-        (Event::Retire(direction, id), Answer::Retired) => print_retired(alloc, *direction, *id),
+        (Event::Apply, Answer::Applied(applied)) => print_applied(alloc, source, applied),
+        (Event::Retire(direction, id), Answer::Retired) => print_retired(
+            alloc, source, *direction, *id,
+        ),
         (Event::Restart(side), Answer::Restarted(boot)) => print_restarted(alloc, *side, boot),
         // Each event by its name, so that a new one is missed here.
         (
             Event::Open(_, _, _)
             | Event::Send(_, _, _)
-            | Event::Plain(_, _, _, _)
+            | Event::Plain(_, _, _, _, _)
             | Event::Lose(_)
             | Event::Damage(_, _)
             | Event::Take(_, _)
@@ -61,13 +73,15 @@ pub fn print_accepted(alloc: Global, event: &Event, reply: &Reply) -> Result<Str
 /// `opened up 7 parts 3`: a message was opened, and has so many parts.
 pub fn print_opened(
     alloc: Global,
+    source: u16,
     direction: Direction,
     id: Name,
     parts: u16,
 ) -> Result<String, AllocError>
-    ensures { IfOk result (λ t. string_bytes t ≡ opened_text direction id parts) }
+    ensures { IfOk result (λ t. string_bytes t ≡ opened_text source direction id parts) }
 {
     let direction = direction_word(direction);
+    let id = name_word(source, id);
     text_of(
         alloc,
         format_args!("opened {direction} {id} parts {parts}\n"),
@@ -96,18 +110,30 @@ pub fn print_lost(alloc: Global, n: u64) -> Result<String, AllocError>
 }
 
 /// `finished up 7`: the sender of this transaction was closed.
-pub fn print_finished(alloc: Global, direction: Direction, id: Name) -> Result<String, AllocError>
-    ensures { IfOk result (λ t. string_bytes t ≡ finished_text direction id) }
+pub fn print_finished(
+    alloc: Global,
+    source: u16,
+    direction: Direction,
+    id: Name,
+) -> Result<String, AllocError>
+    ensures { IfOk result (λ t. string_bytes t ≡ finished_text source direction id) }
 {
     let direction = direction_word(direction);
+    let id = name_word(source, id);
     text_of(alloc, format_args!("finished {direction} {id}\n"))
 }
 
 /// `expired up 7`: the reception of this transaction was ended.
-pub fn print_expired(alloc: Global, direction: Direction, id: Name) -> Result<String, AllocError>
-    ensures { IfOk result (λ t. string_bytes t ≡ expired_text direction id) }
+pub fn print_expired(
+    alloc: Global,
+    source: u16,
+    direction: Direction,
+    id: Name,
+) -> Result<String, AllocError>
+    ensures { IfOk result (λ t. string_bytes t ≡ expired_text source direction id) }
 {
     let direction = direction_word(direction);
+    let id = name_word(source, id);
     text_of(alloc, format_args!("expired {direction} {id}\n"))
 }
 
@@ -134,10 +160,16 @@ pub fn print_stale(alloc: Global, boot: u64, job: u64) -> Result<String, AllocEr
 }
 
 /// `retired up 7`: this transaction is free at both ends.
-pub fn print_retired(alloc: Global, direction: Direction, id: Name) -> Result<String, AllocError>
-    ensures { IfOk result (λ t. string_bytes t ≡ retired_text direction id) }
+pub fn print_retired(
+    alloc: Global,
+    source: u16,
+    direction: Direction,
+    id: Name,
+) -> Result<String, AllocError>
+    ensures { IfOk result (λ t. string_bytes t ≡ retired_text source direction id) }
 {
     let direction = direction_word(direction);
+    let id = name_word(source, id);
     text_of(alloc, format_args!("retired {direction} {id}\n"))
 }
 
@@ -151,12 +183,15 @@ pub fn print_restarted(alloc: Global, side: Side, boot: u64) -> Result<String, A
 
 /// `applied done`, `applied done down 0` with the identifier of the report of data that was opened,
 /// `applied silent`, or `applied code 4` with the number of the fault: a request was executed.
-pub fn print_applied(alloc: Global, applied: Applied) -> Result<String, AllocError>
-    ensures { IfOk result (λ t. string_bytes t ≡ applied_text applied) }
+pub fn print_applied(alloc: Global, source: u16, applied: Applied) -> Result<String, AllocError>
+    ensures { IfOk result (λ t. string_bytes t ≡ applied_text source applied) }
 {
     match applied {
         Applied::Done(None) => String::from_str(alloc, "applied done\n"),
-        Applied::Done(Some(id)) => text_of(alloc, format_args!("applied done down {id}\n")),
+        Applied::Done(Some(id)) => {
+            let id = name_word(source, id);
+            text_of(alloc, format_args!("applied done down {id}\n"))
+        }
         Applied::Silent => String::from_str(alloc, "applied silent\n"),
         Applied::Code(code) => {
             let code = code.number();
@@ -178,28 +213,37 @@ pub fn print_clock(alloc: Global, ticks: u32) -> Result<String, AllocError>
 /// reason, `ignored Closed` with its name.
 pub fn print_outcome(
     alloc: Global,
+    source: u16,
     direction: Direction,
     outcome: Outcome,
 ) -> Result<String, AllocError>
-    ensures { IfOk result (λ t. string_bytes t ≡ outcome_text direction outcome) }
+    ensures { IfOk result (λ t. string_bytes t ≡ outcome_text source direction outcome) }
 {
     let direction = direction_word(direction);
     match outcome {
-        Outcome::Kept(id, part) => text_of(alloc, format_args!("kept {direction} {id} {part}\n")),
-        Outcome::Again(id, part) => text_of(alloc, format_args!("again {direction} {id} {part}\n")),
-        Outcome::Released(id, octets) => text_of(
-            alloc,
-            format_args!("released {direction} {id} {octets}\n"),
-        ),
+        Outcome::Kept(id, part) => {
+            let id = name_word(source, id);
+            text_of(alloc, format_args!("kept {direction} {id} {part}\n"))
+        }
+        Outcome::Again(id, part) => {
+            let id = name_word(source, id);
+            text_of(alloc, format_args!("again {direction} {id} {part}\n"))
+        }
+        Outcome::Released(id, octets) => {
+            let id = name_word(source, id);
+            text_of(alloc, format_args!("released {direction} {id} {octets}\n"))
+        }
         Outcome::PlainReleased(octets) => text_of(alloc, format_args!("plain {octets}\n")),
         Outcome::ReportNoted(service, subtype) => {
             text_of(alloc, format_args!("report {service} {subtype}\n"))
         }
         Outcome::AbortNoted(id, reason) => {
+            let id = name_word(source, id);
             let reason = reason.code();
             text_of(alloc, format_args!("abort {id} {reason}\n"))
         }
         Outcome::Broken(id, reason) => {
+            let id = name_word(source, id);
             let reason = reason.code();
             text_of(alloc, format_args!("broken {direction} {id} {reason}\n"))
         }
@@ -293,13 +337,14 @@ pub fn print_memory(
 }
 
 /// `up 7 1864c000`, or `plain 1864c000` where the message was of no transaction: a release.
-pub fn print_release(alloc: Global, release: &Release) -> Result<String, AllocError>
-    ensures { IfOk result (λ t. string_bytes t ≡ release_text release.now) }
+pub fn print_release(alloc: Global, source: u16, release: &Release) -> Result<String, AllocError>
+    ensures { IfOk result (λ t. string_bytes t ≡ release_text source release.now) }
 {
     let octets = octets_word(alloc, release.message.as_slice())?;
     match release.of {
         Some((direction, id)) => {
             let direction = direction_word(direction);
+            let id = name_word(source, id);
             text_around(
                 alloc,
                 octets.len(),

@@ -76,14 +76,14 @@ part_delivered : (side : Side) (c : Config) (d : NodeData) (q : NamedPart) (clos
     ≡ delivery side closed full (contradicts before q.number (kept q))
     (is_some (maps.get before q.number)) (is_gap c.mode before q.number)
     (is_open (table_in (receiver_of c d.receiving)) q.name) (is_whole (with_piece before q))
-    (abort_head side c d) d
+    (abort_head side c d q.name.source) d
     (receiver_of c d.receiving) q before (with_piece before q)
 unfolding received offered
 part_delivered side c d q closed full before e1 e2 e3 =
     let r = receiver_of c d.receiving in
     λ i. after_received side d q
     (if_free (state_of (e1 i)) r
-    (received_from (abort_head side c d) r q.name (with_piece (e3 i) q)
+    (received_from (abort_head side c d q.name.source) r q.name (with_piece (e3 i) q)
     (made_of (e2 i) (contradicts (e3 i) q.number (kept q)) (is_some (maps.get (e3 i) q.number))
     (is_gap c.mode (e3 i) q.number) (is_open (table_in r) q.name) (is_whole (with_piece (e3 i) q)) (table_in r) q.name (e3 i) (with_piece (e3 i) q) d.clock)))
 
@@ -95,7 +95,7 @@ delivery_told c h w d q =
     (not (has_parts s) && nat_le c.receptions (reception_count c h w))
     (contradicts s q.number (kept q)) (is_some (maps.get s q.number))
     (is_gap c.mode s q.number) (is_open (table_in (receiver_of c d.receiving)) q.name)
-    (is_whole (with_piece s q)) (abort_head (receiver_side w) c d) d (receiver_of c d.receiving) q s (with_piece s q)
+    (is_whole (with_piece s q)) (abort_head (receiver_side w) c d q.name.source) d (receiver_of c d.receiving) q s (with_piece s q)
 
 pub part_agrees : (c : Config) (h : History) (w : Direction) (d : NodeData) (q : NamedPart)
     → ShowsReceiving d.receiving (receiving_view c h w)

@@ -5,7 +5,7 @@ use Rattle.std.specs.Prelude.{slice_get}
 use Rattle.std.specs.Result.{result_ok}
 use Rattle.lpt_model.specs.LptPacket.declared.direction.Direction.{Direction}
 use Rattle.lpt_model.specs.LptPacket.declared.direction.Direction.TheVariants.{Up, Down}
-use Rattle.lpt_model.specs.LptPacket.Names.{Name}
+use Rattle.lpt_model.specs.LptPacket.Names.{Name, named_by}
 use Rattle.lpt_model.specs.LptPacket.Packets.{Fields, Sight, IdlePacket, APacket, seen}
 use Rattle.lpt_model.specs.LptPus.Commands.{Command, tc_verdict}
 use Rattle.lpt_model.specs.LptPus.Telemetry.{Telemetry, tm_verdict}
@@ -29,42 +29,43 @@ MayCome Up (AnAbort id reason) = ⊥
 MayCome Down (ARequest b) = ⊥
 MayCome d a = Unit {0}
 
-part_comes : (d : Direction) (o : Option Piece) → MayCome d (option_map_or (λ q. APart (named q)) o NoPart)
-part_comes Up None = tt
-part_comes Up (Some q) = tt
-part_comes Down None = tt
-part_comes Down (Some q) = tt
+part_comes : (d : Direction) (source : ℕ) (o : Option Piece)
+    → MayCome d (option_map_or (λ q. APart (named source q)) o NoPart)
+part_comes Up source None = tt
+part_comes Up source (Some q) = tt
+part_comes Down source None = tt
+part_comes Down source (Some q) = tt
 
-command_comes : (p : ℕ) (b body : List ℕ) (o : Option Kind)
-    → MayCome Up (option_map_or (part_arrival p body) o (ARequest b))
-command_comes p b body None = tt
-command_comes p b body (Some kind) = part_comes Up (part_in p kind body)
+command_comes : (p source : ℕ) (b body : List ℕ) (o : Option Kind)
+    → MayCome Up (option_map_or (part_arrival p source body) o (ARequest b))
+command_comes p source b body None = tt
+command_comes p source b body (Some kind) = part_comes Up source (part_in p kind body)
 
-abort_comes : (o : Option (Name × Reason))
-    → MayCome Down (option_map_or (λ a. AnAbort a.0 a.1) o NoPart)
-abort_comes None = tt
-abort_comes (Some a) = tt
+abort_comes : (source : ℕ) (o : Option (ℕ × Reason))
+    → MayCome Down (option_map_or (λ a. AnAbort (named_by source a.0) a.1) o NoPart)
+abort_comes source None = tt
+abort_comes source (Some a) = tt
 
 report_comes : (t : Telemetry) → MayCome Down (report_arrival t)
 report_comes t = go ((t.service == 13) && (t.subtype == 16)) where
   go : (u : Bool)
       → MayCome Down
-      (if u then option_map_or (λ a. AnAbort a.0 a.1) (abort_in t.body) NoPart
+      (if u then option_map_or (λ a. AnAbort (named_by t.destination a.0) a.1) (abort_in t.body) NoPart
       else AReport t.service t.subtype)
-  go true = abort_comes (abort_in t.body)
+  go true = abort_comes t.destination (abort_in t.body)
   go false = tt
 
 telemetry_comes : (p : ℕ) (t : Telemetry) (o : Option Kind)
-    → MayCome Down (option_map_or (part_arrival p t.body) o (report_arrival t))
+    → MayCome Down (option_map_or (part_arrival p t.destination t.body) o (report_arrival t))
 telemetry_comes p t None = report_comes t
-telemetry_comes p t (Some kind) = part_comes Down (part_in p kind t.body)
+telemetry_comes p t (Some kind) = part_comes Down t.destination (part_in p kind t.body)
 
 packet_comes : (d : Direction) (p : ℕ) (b : List ℕ) (f : Fields)
     → MayCome d (packet_arrival (receiver_side d) p b f)
 packet_comes Up p b f = go (result_ok (tc_verdict f)) where
   go : (o : Option Command) → MayCome Up (option_map_or (command_arrival p b) o NotRead)
   go None = tt
-  go (Some c) = command_comes p b c.body (carried_kind Up c.service c.subtype)
+  go (Some c) = command_comes p c.source b c.body (carried_kind Up c.service c.subtype)
 packet_comes Down p b f = go (result_ok (tm_verdict f)) where
   go : (o : Option Telemetry) → MayCome Down (option_map_or (telemetry_arrival p) o NotRead)
   go None = tt

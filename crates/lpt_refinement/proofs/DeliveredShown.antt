@@ -58,7 +58,7 @@ PartShown c first h s hands w q closed full contra again gap there whole =
     let with_it = with_piece parts q in
     Shows
     (received_as (length h) w s
-    (delivery (receiver_side w) closed full contra again gap there whole (abort_head (receiver_side w) c d) d
+    (delivery (receiver_side w) closed full contra again gap there whole (abort_head (receiver_side w) c d q.name.source) d
     (receiver_of c d.receiving) q parts with_it))
     (outcome_view c first h w hands (APart q)
     (chosen closed full contra again gap whole q (length (spelled with_it))))

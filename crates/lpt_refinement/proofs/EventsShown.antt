@@ -64,8 +64,8 @@ event_shown c first s h (Send d id n) in_range k fits e =
     (sender h d id) _
     (not_false (is_open (sender h d id)) (two_pass _ _ NotOpen NoSuchPart e).0)
     ((sending_at c first h d k).messages id) k
-event_shown c first s h (Plain flags service subtype body) in_range k fits e =
-    plain_shown c first s h flags service subtype body k
+event_shown c first s h (Plain source flags service subtype body) in_range k fits e =
+    plain_shown c first s h source flags service subtype body k
 event_shown c first s h (Finish Up id) in_range k fits e =
     with_sending Ground k (closed_shown h Up id k.ground.sending)
 event_shown c first s h (Finish Down id) in_range k fits e =

@@ -13,6 +13,7 @@ use Rattle.lpt_model.specs.LptEvents.declared.event.Event.TheVariants.{Apply}
 use Rattle.lpt_model.specs.LptEvents.declared.reply.Answer.{Answer}
 use Rattle.lpt_model.specs.LptEvents.declared.side.Side.TheVariants.{Ground, Craft}
 use Rattle.lpt_model.specs.LptEvents.Configs.{IsConfig}
+use Rattle.lpt_model.specs.LptExecution.Reporting.{request_source}
 use Rattle.lpt_model.specs.LptMemory.Memories.{Contents}
 use Rattle.lpt_model.specs.LptJobs.Jobs.{without_front}
 use Rattle.lpt_model.specs.LptNode.Jobs.{Execution, reported, executed, executed_of, with_opened as node_opened}
@@ -148,10 +149,12 @@ craft_shown : (c : Config) (first : Contents) (s : State) (h : History) (m : Lis
     (sending_view (told_entry c first h m ∷ h) Down)
 craft_shown c first s h m in_range k =
     craft_opens h (length h) _ (message c first h m)
-    (reports_shown c (reports c first h m) (clock c h Craft) _ _ (octets_down (on_link c first h m))
+    (reports_shown c (request_source c.apid m) (reports c first h m) (clock c h Craft) _ _
+    (octets_down (on_link c first h m))
     (opened_message (length h) (message c first h m)
-    ∙ large_opened c.part_size in_range.part_size_fits.0 c (made h Down) (clock c h Craft) c.apid m
-    (least_free h Down) (nat_lt (open_count h Down) c.outgoing)
+    ∙ large_opened c.part_size in_range.part_size_fits.0 c (request_source c.apid m) (made h Down)
+    (clock c h Craft) c.apid m
+    (least_free h Down (request_source c.apid m)) (nat_lt (open_count h Down) c.outgoing)
     (effect_of c (memories c first h) m))
     k.craft.sending)
 

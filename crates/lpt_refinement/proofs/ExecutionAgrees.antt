@@ -1,10 +1,10 @@
 -- What the node does with a message that is executed is what the journal tells.
 use Rattle.std.proofs.Common.{◌≡◌, ◌∙◌, ap, sym, refl, ℕ, nat_lt, List, [], ◌∷◌, ◌++◌, length, map, Option, Some, is_some}
 use Rattle.std.specs.FinMap as maps
-use Rattle.std.specs.Option.{option_map_or}
+use Rattle.std.specs.Option.{option_map_or, option_map}
 use Rattle.std.proofs.lemmas.List.{map-append}
 use Rattle.lpt_model.specs.LptPacket.declared.direction.Direction.TheVariants.{Down}
-use Rattle.lpt_model.specs.LptPacket.Names.{Name}
+use Rattle.lpt_model.specs.LptPacket.Names.{Name, named_by}
 use Rattle.lpt_model.specs.LptLedger.LeastFree.{least_free_in, first_of_numbers, name_count}
 use Rattle.lpt_model.specs.LptLedger.States.{state_of, is_free as is_free_mark}
 use Rattle.lpt_model.specs.LptEvents.declared.config.Config.{Config}
@@ -24,7 +24,7 @@ use Rattle.lpt_model.specs.LptExecution.declared.ending.Ending.{Ending}
 use Rattle.lpt_model.specs.LptExecution.declared.ending.Ending.TheVariants.{Silent}
 use Rattle.lpt_model.specs.LptExecution.declared.ending.Report.{Report}
 use Rattle.lpt_model.specs.LptExecution.Endings.{ending}
-use Rattle.lpt_model.specs.LptExecution.Reporting.{message_reports, link_packets, large_packets, opened_of, applied_of}
+use Rattle.lpt_model.specs.LptExecution.Reporting.{message_reports, request_source, link_packets, large_packets, opened_of, applied_of}
 use Rattle.lpt_model.specs.LptNode.Jobs.{Execution, ending_at, report_packets, reported, executed_ending, with_opened as node_opened}
 use Rattle.lpt_model.specs.LptNode.Nodes.{NodeData, Sending}
 use Rattle.lpt_journal.specs.Journal.{SentPacket, Recorded, History, with_all}
@@ -49,15 +49,15 @@ free_shown (OpenSender m) = refl
 free_shown ClosedSender = refl
 
 -- the least free name of the ledger is the journal's
-least_shown : {x : Sending} (h : History)
+least_shown : {x : Sending} (h : History) (source : ℕ)
     → ShowsSending Craft x (sending_view h Down)
-    → least_free_in x.ledger ≡ least_free h Down
+    → least_free_in x.ledger source ≡ least_free h Down source
 unfolding least_free_in
-least_shown {x = x} h k =
+least_shown {x = x} h source k =
     let same : (id : Name)
     → is_free_mark (state_of (maps.get x.ledger id)) ≡ is_free (sender h Down id) =
     λ id. ap (λ m. is_free_mark (state_of m)) (k.ledger id) ∙ free_shown (sender h Down id) in
-    λ i. first_of_numbers name_count 0 (λ id. same id i)
+    λ i. option_map (named_by source) (first_of_numbers name_count 0 (λ n. same (named_by source n) i))
 
 -- the execution ends as the journal tells
 ending_shown : (c : Config) (first : Contents) (s : State) (h : History) (m : List ℕ)
@@ -65,7 +65,7 @@ ending_shown : (c : Config) (first : Contents) (s : State) (h : History) (m : Li
     → ending_at c s.on_craft s.memories (source c first m) ≡ ending_of c first h m
 ending_shown c first s h m k =
     let count = open_as_many h Down k.craft.sending in
-    let free = least_shown h k.craft.sending in
+    let free = least_shown h (request_source c.apid m) k.craft.sending in
     let sizes : sizes_of first ≡ sizes_of (memories c first h) = sym k.sizes in
     λ i. ending c.part_size (is_some (free i)) (nat_lt (count i) c.outgoing)
     (answer (meaning c.apid (sizes i) m) (k.memories i))
@@ -78,12 +78,14 @@ reports c first h m = message_reports c.apid m (ending_of c first h m)
 
 -- with their packets
 abbrev pub packets : Config → Contents → History → List ℕ → List (Report × List ℕ)
-packets c first h m = reports_after c (made h Down) (clock c h Craft) (reports c first h m)
+packets c first h m =
+    reports_after c (request_source c.apid m) (made h Down) (clock c h Craft) (reports c first h m)
 
 -- what it opens
 abbrev pub message : Config → Contents → History → List ℕ → Option (Name × List ℕ)
 message c first h m =
-    opened_of (least_free h Down) (large_packets c.part_size (packets c first h m))
+    opened_of (least_free h Down (request_source c.apid m))
+    (large_packets c.part_size (packets c first h m))
 
 -- what it answers
 abbrev pub told_answer : Config → Contents → History → List ℕ → Answer
@@ -125,8 +127,9 @@ entry_by c first h o =
     let end = option_map_or (λ r. ending_of c first h r.message) o Silent in
     let rs =
     option_map_or (λ r. message_reports c.apid r.message (ending_of c first h r.message)) o [] in
-    let bs = reports_after c (made h Down) (clock c h Craft) rs in
-    let opens = opened_of (least_free h Down) (large_packets c.part_size bs) in
+    let peer = option_map_or (λ r. request_source c.apid r.message) o 0 in
+    let bs = reports_after c peer (made h Down) (clock c h Craft) rs in
+    let opens = opened_of (least_free h Down peer) (large_packets c.part_size bs) in
     let ps = sent_down (link_packets c.part_size bs) in
     record {
       event = Apply;
@@ -174,10 +177,11 @@ pub execution_agrees : (c : Config) (first : Contents) (s : State) (h : History)
     (ending_at c s.on_craft s.memories (source c first m))
     ≡ ended_told c first s h m
 execution_agrees c first s h m k =
-    let free = least_shown h k.craft.sending in
-    let made : report_packets c s.on_craft.sending s.on_craft.clock (reports c first h m)
+    let peer = request_source c.apid m in
+    let free = least_shown h peer k.craft.sending in
+    let made : report_packets c peer s.on_craft.sending s.on_craft.clock (reports c first h m)
     ≡ packets c first h m =
-    packets_agree c (reports c first h m) s.on_craft.clock (clock c h Craft) k.craft.clock
+    packets_agree c peer (reports c first h m) s.on_craft.clock (clock c h Craft) k.craft.clock
     k.craft.sending in
     ap (executed_ending c s.on_craft (source c first m)) (ending_shown c first s h m k)
     ∙ (λ i. ended c s.on_craft (ending_of c first h m) (reports c first h m) (made i)

@@ -23,7 +23,7 @@ ready_shown : (c : Config) (first : Contents) (s : State) (h : History) (e : Eve
     → IsReady c s e
 ready_shown c first s h (Open d id m) k fits = tt
 ready_shown c first s h (Send d id n) k fits = tt
-ready_shown c first s h (Plain flags service subtype body) k fits = tt
+ready_shown c first s h (Plain source flags service subtype body) k fits = tt
 ready_shown c first s h (Finish d id) k fits = tt
 ready_shown c first s h (Lose n) k fits = tt
 ready_shown c first s h (Damage d b) k fits = tt

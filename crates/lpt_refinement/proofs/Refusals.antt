@@ -197,7 +197,7 @@ refusal_shown c first s h (Open d id m) k fits =
 refusal_shown c first s h (Send d id n) k fits =
     ap (λ o. option_map node_fault (refusal_send_of c n o)) ((sending_at c first h d k).messages id)
     ∙ refuses_send c n (sender h d id)
-refusal_shown c first s h (Plain flags service subtype body) k fits =
+refusal_shown c first s h (Plain source flags service subtype body) k fits =
     by_request (is_part_request service subtype) (is_too_long c (length body))
 refusal_shown c first s h (Finish d id) k fits =
     ap (λ m. option_map node_fault (refusal_finish_in (state_of m)))

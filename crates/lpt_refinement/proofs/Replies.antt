@@ -60,7 +60,7 @@ reply_with n a ps = record { answer = a; puts = told n ps }
 -- the reply tells of the report that an end made, where it made one
 told_report : (c : Config) (h : History) (side : Side) (d : NodeData) (n : ℕ) (a : Answer)
     (id : Name) (r : Reason)
-    → put_some n a (as_list (abort_report (abort_head side c d) id r))
+    → put_some n a (as_list (abort_report (abort_head side c d id.source) id r))
     ≡ reply_with n a (abort_puts c h side id r)
 told_report c h Ground d n a id r = refl
 told_report c h Craft d n a id r = refl
@@ -87,7 +87,7 @@ reply_told c h side n o = reply_with n (Delivered o) (outcome_puts c h side o)
 told_part : (c : Config) (h : History) (side : Side) (n : ℕ) (d : NodeData) (t : ReceiverState)
     (q : NamedPart) (before with_it : Parts) (closed full contra again gap there whole : Bool)
     → reply_to n
-    (delivery side closed full contra again gap there whole (abort_head side c d) d t q before with_it)
+    (delivery side closed full contra again gap there whole (abort_head side c d q.name.source) d t q before with_it)
     ≡ reply_told c h side n (chosen closed full contra again gap whole q (length (spelled with_it)))
 told_part c h side n d t q before with_it true full contra again gap there whole = refl
 told_part c h side n d t q before with_it false true contra again gap there whole = refl
@@ -145,7 +145,7 @@ reply_shown c first s h (Send d id n) k fits e =
     ap (λ j. put_one j (Put j)) (as_many_packets k.link)
     ∙ reply_sent c h d id n (length (sent h)) (sender h d id)
     (not_false (is_open (sender h d id)) (two_pass _ _ NotOpen NoSuchPart e).0)
-reply_shown c first s h (Plain flags service subtype body) k fits e =
+reply_shown c first s h (Plain source flags service subtype body) k fits e =
     ap (λ j. put_one j (Put j)) (as_many_packets k.link)
 reply_shown c first s h (Finish d id) k fits e = refl
 reply_shown c first s h (Lose n) k fits e = refl

@@ -145,13 +145,13 @@ module _ (p : ℕ) (fits : 4 ≤ p) where
         (sym (reports_long (long_at m 0) c.flags end)) (data_long free room a)
 
   -- as many packets are too long
-  length-large_packets : (c : Config) (ps : List (List ℕ)) (time : ℕ) (rs : List Report)
-      → length (large_packets p (reports_after c ps time rs)) ≡ length (too_long rs)
-  length-large_packets c ps time [] = refl
-  length-large_packets c ps time (r ∷ rs) =
-      let b = report_after c ps time r in
-      go b (is_large r) (reports_after c (ps ++ b ∷ []) time rs)
-      (length-large_packets c (ps ++ b ∷ []) time rs) where
+  length-large_packets : (c : Config) (peer : ℕ) (ps : List (List ℕ)) (time : ℕ) (rs : List Report)
+      → length (large_packets p (reports_after c peer ps time rs)) ≡ length (too_long rs)
+  length-large_packets c peer ps time [] = refl
+  length-large_packets c peer ps time (r ∷ rs) =
+      let b = report_after c peer ps time r in
+      go b (is_large r) (reports_after c peer (ps ++ b ∷ []) time rs)
+      (length-large_packets c peer (ps ++ b ∷ []) time rs) where
         go : (b : List ℕ) (t : Bool) (all : List (Report × List ℕ))
             → length (large_packets p all) ≡ length (too_long rs)
             → length
@@ -175,13 +175,13 @@ module _ (p : ℕ) (fits : 4 ≤ p) where
   opens_all (Some id) (b ∷ d ∷ bs) (inr one) = absurd (omega (arith, one.0))
 
   -- all packets that are too long are opened
-  pub large_opened : (c : Config) (ps : List (List ℕ)) (time apid : ℕ) (m : List ℕ)
+  pub large_opened : (c : Config) (peer : ℕ) (ps : List (List ℕ)) (time apid : ℕ) (m : List ℕ)
       (free : Option Name) (room : Bool) (a : Effect)
       → let large = large_packets p
-      (reports_after c ps time (message_reports apid m (ending p (is_some free) room a))) in
+      (reports_after c peer ps time (message_reports apid m (ending p (is_some free) room a))) in
       as_list (option_map (λ x. x.1) (opened_of free large)) ≡ large
-  large_opened c ps time apid m free room a =
+  large_opened c peer ps time apid m free room a =
       let rs = message_reports apid m (ending p (is_some free) room a) in
-      opens_all free (large_packets p (reports_after c ps time rs))
-      (subst (λ (n : ℕ). AtMostOne (is_some free) n) (sym (length-large_packets c ps time rs))
+      opens_all free (large_packets p (reports_after c peer ps time rs))
+      (subst (λ (n : ℕ). AtMostOne (is_some free) n) (sym (length-large_packets c peer ps time rs))
       (message_long apid m (is_some free) room a))

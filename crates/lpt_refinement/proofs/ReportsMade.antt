@@ -24,39 +24,39 @@ use Rattle.lpt_refinement.proofs.MadeShown.{is_report-made, report_made}
 -- ---- in their order
 
 -- one report was made
-one_made : {x : Sending} {y : SendingView} (c : Config) (time : ℕ) (r : Report)
+one_made : {x : Sending} {y : SendingView} (c : Config) (peer time : ℕ) (r : Report)
     → ShowsSending Craft x y
     → ShowsSending Craft (counted_kind x r.kind)
-    (record y { made = y.made ++ report_after c y.made time r ∷ [] })
-one_made {y = y} c time r k =
-    report_made r.kind (report_after c y.made time r) (λ s t. is_report-made c _ _ _ _ _ _ _ s t) k
+    (record y { made = y.made ++ report_after c peer y.made time r ∷ [] })
+one_made {y = y} c peer time r k =
+    report_made r.kind (report_after c peer y.made time r) (λ s t. is_report-made c _ _ _ _ _ _ _ s t) k
 
 -- the node makes the packets that the journal tells
-pub packets_agree : (c : Config) (rs : List Report) {x : Sending} {y : SendingView}
+pub packets_agree : (c : Config) (peer : ℕ) (rs : List Report) {x : Sending} {y : SendingView}
     (time time' : ℕ)
     → time ≡ time'
     → ShowsSending Craft x y
-    → report_packets c x time rs ≡ reports_after c y.made time' rs
-packets_agree c [] time time' e k = refl
-packets_agree c (r ∷ rs) {x = x} {y = y} time time' e k =
-    let packet : report_packet c x time r ≡ report_after c y.made time' r =
-    λ i. tm_made c c.source (k.count i) (k.types.counter r.kind i) (e i) (service_of r.kind)
+    → report_packets c peer x time rs ≡ reports_after c peer y.made time' rs
+packets_agree c peer [] time time' e k = refl
+packets_agree c peer (r ∷ rs) {x = x} {y = y} time time' e k =
+    let packet : report_packet c peer x time r ≡ report_after c peer y.made time' r =
+    λ i. tm_made c peer (k.count i) (k.types.counter r.kind i) (e i) (service_of r.kind)
     (subtype_of r.kind) r.body in
-    let rest = packets_agree c rs time time' e (one_made c time' r k) in
+    let rest = packets_agree c peer rs time time' e (one_made c peer time' r k) in
     λ i. (r, packet i) ∷ rest i
 
 -- after them their sender shows their packets in this order
-reported_shown : (c : Config) (rs : List Report) {x : Sending} {y : SendingView} (time : ℕ)
+reported_shown : (c : Config) (peer : ℕ) (rs : List Report) {x : Sending} {y : SendingView} (time : ℕ)
     → ShowsSending Craft x y
     → ShowsSending Craft (reported x rs)
-    (record y { made = with_all y.made (map (λ p. p.1) (reports_after c y.made time rs)) })
-reported_shown c [] time k = k
-reported_shown c (r ∷ rs) {x = x} {y = y} time k =
-    let b = report_after c y.made time r in
+    (record y { made = with_all y.made (map (λ p. p.1) (reports_after c peer y.made time rs)) })
+reported_shown c peer [] time k = k
+reported_shown c peer (r ∷ rs) {x = x} {y = y} time k =
+    let b = report_after c peer y.made time r in
     subst (λ (bs : List (List ℕ)).
     ShowsSending Craft (reported x (r ∷ rs)) (record y { made = bs }))
-    (with_all-more y.made b (map (λ p. p.1) (reports_after c (y.made ++ b ∷ []) time rs)))
-    (reported_shown c rs time (one_made c time r k))
+    (with_all-more y.made b (map (λ p. p.1) (reports_after c peer (y.made ++ b ∷ []) time rs)))
+    (reported_shown c peer rs time (one_made c peer time r k))
 
 -- ---- in another order
 
@@ -138,14 +138,14 @@ two_sides part_size (r ∷ rs) p =
     (filter (λ x. not (is_small part_size (length x.0.body))) rs) i)))
 
 -- after reports their sender shows the packets of the link, and then those that are too long
-pub reports_shown : (c : Config) (rs : List Report) {x : Sending} {y : SendingView} (time : ℕ)
+pub reports_shown : (c : Config) (peer : ℕ) (rs : List Report) {x : Sending} {y : SendingView} (time : ℕ)
     (link large : List (List ℕ))
-    → link ≡ link_packets c.part_size (reports_after c y.made time rs)
-    → large ≡ large_packets c.part_size (reports_after c y.made time rs)
+    → link ≡ link_packets c.part_size (reports_after c peer y.made time rs)
+    → large ≡ large_packets c.part_size (reports_after c peer y.made time rs)
     → ShowsSending Craft x y
     → ShowsSending Craft (reported x rs) (record y { made = with_all y.made (with_all link large) })
-reports_shown c rs {y = y} time link large e f k =
-    let all = reports_after c y.made time rs in
+reports_shown c peer rs {y = y} time link large e f k =
+    let all = reports_after c peer y.made time rs in
     alike_shown (with_all y.made (map (λ p. p.1) all)) (with_all y.made (with_all link large))
     (λ p. passing p y.made (map (λ p. p.1) all)
     ∙ ap (λ n. length (filter p y.made) + n)
@@ -153,4 +153,4 @@ reports_shown c rs {y = y} time link large e f k =
     ∙ sym (passing p link large
     ∙ (λ i. length (filter p (e i)) + length (filter p (f i)))))
     ∙ sym (passing p y.made (with_all link large)))
-    (reported_shown c rs time k)
+    (reported_shown c peer rs time k)

@@ -39,10 +39,10 @@ kind_counter h First = refl
 kind_counter h Middle = refl
 kind_counter h Last = refl
 
-is_report-part : (c : Config) (n counter time : ℕ) (q : Piece)
-    → IsReportOf (part_telemetry q.kind) (part_made c Down n counter time q)
-is_report-part c n counter time q s t =
-    is_report-made c c.source n counter time 13 (part_subtype Down q.kind) (body_of q) s t ∙ go q.kind where
+is_report-part : (c : Config) (peer n counter time : ℕ) (q : Piece)
+    → IsReportOf (part_telemetry q.kind) (part_made c Down peer n counter time q)
+is_report-part c peer n counter time q s t =
+    is_report-made c peer n counter time 13 (part_subtype Down q.kind) (body_of q) s t ∙ go q.kind where
       go : (kind : Kind)
           → ((13 == s) && ((part_subtype Down kind == t) && true))
           ≡ ((service_of (part_telemetry kind) == s)
@@ -67,22 +67,22 @@ part_sent : (c : Config) (first : Contents) (s : State) (h : History) (w : Direc
     → Shows (sent_on s w id (sent_of (sender_side w) c (end_of s (sender_side w)) id n (Some m))).0
     (views c first (sent_entry c h w id n number r (OpenSender m)))
 part_sent c first s h Up id n number r m k =
-    let q = nth_part c.part_size id m n in
-    let packet : part_packet Ground c s.on_ground q ≡ journal_packet c h Up q =
-    ap (λ j. part_made c Up j 0 0 q) k.ground.sending.count in
+    let q = nth_part c.part_size id.id m n in
+    let packet : part_packet Ground c s.on_ground id.source q ≡ journal_packet c h Up id.source q =
+    ap (λ j. part_made c Up id.source j 0 0 q) k.ground.sending.count in
     with_link (with_sending Ground k (command_made _ k.ground.sending))
     (link_more Up (Some id) _ _ packet k.link)
 part_sent c first s h Down id n number r m k =
-    let q = nth_part c.part_size id m n in
+    let q = nth_part c.part_size id.id m n in
     let kind = kind_at n (part_count (length m) c.part_size) in
     let counter : counter_of s.on_craft.sending.types (part_telemetry kind)
     ≡ type_counter h 13 (part_subtype Down kind) =
     k.craft.sending.types.counter (part_telemetry kind) ∙ kind_counter h kind in
-    let packet : part_packet Craft c s.on_craft q ≡ journal_packet c h Down q =
-    λ i. part_made c Down (k.craft.sending.count i) (counter i) (k.craft.clock i) q in
+    let packet : part_packet Craft c s.on_craft id.source q ≡ journal_packet c h Down id.source q =
+    λ i. part_made c Down id.source (k.craft.sending.count i) (counter i) (k.craft.clock i) q in
     with_link
     (with_sending Craft k
-    (report_made (part_telemetry kind) _ (is_report-part c _ _ _ q) k.craft.sending))
+    (report_made (part_telemetry kind) _ (is_report-part c _ _ _ _ q) k.craft.sending))
     (link_more Down (Some id) _ _ packet k.link)
 
 -- what an open sender has is sent
@@ -102,9 +102,14 @@ sent_shown c first s h w id n number r (OpenSender m) o t e k =
     (part_sent c first s h w id n number r m k)
 
 -- a plain request is put: a view with its packet
-abbrev pub plain_view : Config → Contents → History → (flags service subtype : ℕ) → List ℕ → Views
-plain_view c first h flags service subtype body =
-    let b = plain_packet c h flags service subtype body in
+abbrev pub plain_view : Config
+    → Contents
+    → History
+    → (source flags service subtype : ℕ)
+    → List ℕ
+    → Views
+plain_view c first h source flags service subtype body =
+    let b = plain_packet c h source flags service subtype body in
     let v = views c first h in
     record v {
       ground = record v.ground { sending = record v.ground.sending { made = made h Up ++ b ∷ [] } };
@@ -115,13 +120,13 @@ plain_view c first h flags service subtype body =
     }
 
 pub plain_shown : (c : Config) (first : Contents) (s : State) (h : History)
-    (flags service subtype : ℕ) (body : List ℕ)
+    (source flags service subtype : ℕ) (body : List ℕ)
     → Shows s (views c first h)
-    → Shows (after_plain c s flags service subtype body).0
-    (plain_view c first h flags service subtype body)
-plain_shown c first s h flags service subtype body k =
-    let packet : tc_made c c.source s.on_ground.sending.count flags service subtype body
-    ≡ plain_packet c h flags service subtype body
-    = ap (λ n. tc_made c c.source n flags service subtype body) k.ground.sending.count in
+    → Shows (after_plain c s source flags service subtype body).0
+    (plain_view c first h source flags service subtype body)
+plain_shown c first s h source flags service subtype body k =
+    let packet : tc_made c source s.on_ground.sending.count flags service subtype body
+    ≡ plain_packet c h source flags service subtype body
+    = ap (λ n. tc_made c source n flags service subtype body) k.ground.sending.count in
     with_link (with_sending Ground k (command_made _ k.ground.sending))
     (link_more Up None _ _ packet k.link)

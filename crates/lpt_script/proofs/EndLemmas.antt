@@ -61,13 +61,13 @@ unreadable_ends n w (tool.Threads k) a b p = p
 pub accepted_ends : (w v : Shown) (e : Event) (r : Result (Option StepFault) ToolFault) (a b : Option (List ℕ))
     → refusal_at w 0 e ≡ None
     → v ≡ with_entry w 0 e (answered w e)
-    → TextEnds (accepted_text e (answered w e)) r a b
+    → TextEnds (accepted_text w.config.source e (answered w e)) r a b
     → IfOk r (λ refused. refused ≡ None)
     → LineEnds (stepped w e) r v a b
 accepted_ends w v e r a b none next p not_refused =
     subst (λ x. LineEnds (stepped_as w e x) r v a b) (sym none) (told r p not_refused)
   where
-    told : (r : Result (Option StepFault) ToolFault) → TextEnds (accepted_text e (answered w e)) r a b → IfOk r (λ refused. refused ≡ None)
+    told : (r : Result (Option StepFault) ToolFault) → TextEnds (accepted_text w.config.source e (answered w e)) r a b → IfOk r (λ refused. refused ≡ None)
         → LineEnds (stepped_as w e None) r v a b
     told (Ok f) p q = (refl, q, next, p)
     told (Err tool.Write) p q = p
@@ -101,7 +101,7 @@ refused_ends w v e fault r a b by same p was_refused memory = by_reason (refusal
     by_reason None is =
         let ends = memory is in
         subst (λ x. LineEnds (stepped_as w e None) x v a b) (sym ends.0)
-        (subst (λ x. AppendsPart a x (accepted_text e (answered w e))) ends.1 (part_unchanged a (accepted_text e (answered w e))))
+        (subst (λ x. AppendsPart a x (accepted_text w.config.source e (answered w e))) ends.1 (part_unchanged a (accepted_text w.config.source e (answered w e))))
     by_reason (Some first) is = told first is r p was_refused
 
 -- ---- one event after another

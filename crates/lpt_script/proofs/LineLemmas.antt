@@ -34,11 +34,11 @@ pub record Goes (later : Bool) (all : Script) (rest : List (List ℕ)) (w : Show
 -- the line's text follows what was written
 pub line_first : (later : Bool) (all : Script) (line : List ℕ) (more : List (List ℕ)) (w : Shown) (n refused : ℕ) (a b : Option (List ℕ))
     → (goes : Goes later all (line ∷ more) w n refused a b)
-    → (line_ran (says later line) n w).bad ≡ None
-    → all ≡ behind (goes.done ++ (line_ran (says later line) n w).text)
-    (lines_ran later more (line_ran (says later line) n w).world (n + 1) (refused + from_bool (is_some (line_ran (says later line) n w).refused)))
+    → (line_ran (says later w.config.source line) n w).bad ≡ None
+    → all ≡ behind (goes.done ++ (line_ran (says later w.config.source line) n w).text)
+    (lines_ran later more (line_ran (says later w.config.source line) n w).world (n + 1) (refused + from_bool (is_some (line_ran (says later w.config.source line) n w).refused)))
 line_first later all line more w n refused a b goes good =
-    let ran = line_ran (says later line) n w in
+    let ran = line_ran (says later w.config.source line) n w in
     goes.follows
     ∙ ap (λ x. behind goes.done (then_rest ran n refused (lines_ran later more) x)) good
     ∙ behind_behind goes.done ran.text (lines_ran later more ran.world (n + 1) (refused + from_bool (is_some ran.refused)))
@@ -47,10 +47,10 @@ line_first later all line more w n refused a b goes good =
 pub line_done : (later : Bool) (all : Script) (rest more : List (List ℕ)) (line : List ℕ) (w v : Shown) (n refused : ℕ) (f : Option StepFault) (a b c : Option (List ℕ))
     → Goes later all rest w n refused a b
     → rest ≡ line ∷ more
-    → LineEnds (line_ran (says later line) n w) (Ok f) v b c
+    → LineEnds (line_ran (says later w.config.source line) n w) (Ok f) v b c
     → Goes later all more v (n + 1) (refused + from_bool (is_some f)) a c
 line_done later all rest more line w v n refused f a b c goes at ends =
-    let ran = line_ran (says later line) n w in
+    let ran = line_ran (says later w.config.source line) n w in
     let here = subst (λ x. Goes later all x w n refused a b) at goes in
     record {
       done = here.done ++ ran.text;
@@ -63,12 +63,12 @@ line_done later all rest more line w v n refused f a b c goes at ends =
 -- all that a line's text is a front part of
 line_front : (later : Bool) (all : Script) (line : List ℕ) (more : List (List ℕ)) (w : Shown) (n refused : ℕ) (a b c : Option (List ℕ))
     → Goes later all (line ∷ more) w n refused a b
-    → AppendsPart b c (line_ran (says later line) n w).text
+    → AppendsPart b c (line_ran (says later w.config.source line) n w).text
     → AppendsPart a c all.text
 line_front later all line more w n refused a b c goes p = by_bad ran.bad refl
   where
     ran : Ran
-    ran = line_ran (says later line) n w
+    ran = line_ran (says later w.config.source line) n w
 
     front : AppendsPart a c (goes.done ++ ran.text)
     front = part_after a b c goes.done ran.text goes.written p
@@ -86,12 +86,12 @@ line_front later all line more w n refused a b c goes p = by_bad ran.bad refl
 pub line_fault : (later : Bool) (all : Script) (rest more : List (List ℕ)) (line : List ℕ) (w v : Shown) (n refused : ℕ) (fault : ToolFault) (a b c : Option (List ℕ))
     → Goes later all rest w n refused a b
     → rest ≡ line ∷ more
-    → LineEnds (line_ran (says later line) n w) (Err fault) v b c
+    → LineEnds (line_ran (says later w.config.source line) n w) (Err fault) v b c
     → LinesEnd all (Err fault) a c
 line_fault later all rest more line w v n refused fault a b c goes at ends = by_fault fault ends
   where
     ran : Ran
-    ran = line_ran (says later line) n w
+    ran = line_ran (says later w.config.source line) n w
 
     here : Goes later all (line ∷ more) w n refused a b
     here = subst (λ x. Goes later all x w n refused a b) at goes
@@ -154,7 +154,7 @@ last_goes later line w n refused b = record { done = []; written = Appends-nil b
 pub last_done : (later : Bool) (line : List ℕ) (w v : Shown) (n refused : ℕ) (f : Option StepFault) (b c : Option (List ℕ))
     → line_end line ≡ None
     → 0 < length line
-    → LineEnds (line_ran (says later line) n w) (Ok f) v b c
+    → LineEnds (line_ran (says later w.config.source line) n w) (Ok f) v b c
     → LinesEnd (lines_ran later (lines line) w n refused) (Ok (record { refused = refused + from_bool (is_some f) })) b c
 last_done later line w v n refused f b c none some ends =
     let all = lines_ran later (lines line) w n refused in
@@ -165,31 +165,35 @@ last_done later line w v n refused f b c none some ends =
 pub last_left : (later : Bool) (line : List ℕ) (w v : Shown) (n : ℕ) (f : Option StepFault) (b c : Option (List ℕ)) (before after : List Show)
     → line_end line ≡ None
     → 0 < length line
-    → LineEnds (line_ran (says later line) n w) (Ok f) v b c
-    → after ≡ before ++ shows_left later (reading_of line)
+    → LineEnds (line_ran (says later w.config.source line) n w) (Ok f) v b c
+    → after ≡ before ++ shows_left later (reading_of w.config.source line)
     → lines_left later (lines line) w n before ≡ left_of v after
 last_left later line w v n f b c before after none some ends is =
     ap (λ x. lines_left later x w n before) (lines-nowhere line none some)
-    ∙ ap (λ x. left_of x (before ++ shows_left later (reading_of line))) (sym ends.2)
+    ∙ ap (λ x. left_of x (before ++ shows_left later (reading_of w.config.source line))) (sym ends.2)
     ∙ ap (left_of v) (sym is)
 
 -- it ended by a fault
 pub last_fault : (later : Bool) (line : List ℕ) (w v : Shown) (n refused : ℕ) (fault : ToolFault) (b c : Option (List ℕ))
     → line_end line ≡ None
     → 0 < length line
-    → LineEnds (line_ran (says later line) n w) (Err fault) v b c
+    → LineEnds (line_ran (says later w.config.source line) n w) (Err fault) v b c
     → LinesEnd (lines_ran later (lines line) w n refused) (Err fault) b c
 last_fault later line w v n refused fault b c none some ends =
     line_fault later (lines_ran later (lines line) w n refused) (lines line) [] line w v n refused fault b b c
     (last_goes later line w n refused b) (lines-nowhere line none some) ends
 
 -- it is too long
-pub unread : (line : List ℕ) → 140000 < length line → reading_of line ≡ Unreadable
+pub unread : (source : ℕ) (line : List ℕ)
+    → 140000 < length line
+    → reading_of source line ≡ Unreadable
 unfolding reading_of
-unread line long = grind (arith, nat_tests)
+unread source line long = grind (arith, nat_tests)
 
-too_long : (later : Bool) (line : List ℕ) → 140000 < length line → says later line ≡ Unreadable
-too_long later line long = ap (says_now later) (unread line long)
+too_long : (later : Bool) (source : ℕ) (line : List ℕ)
+    → 140000 < length line
+    → says later source line ≡ Unreadable
+too_long later source line long = ap (says_now later) (unread source line long)
 
 -- then it is unreadable
 pub long_bad : (later : Bool) (line : List ℕ) (w : Shown) (n refused : ℕ)
@@ -199,4 +203,4 @@ pub long_bad : (later : Bool) (line : List ℕ) (w : Shown) (n refused : ℕ)
 long_bad later line w n refused none long =
     let one = lines-nowhere line none (omega arith) in
     ap (λ x. (lines_ran later x w n refused).bad) one
-    ∙ ap (λ x. (then_rest (line_ran x n w) n refused (lines_ran later []) (line_ran x n w).bad).bad) (too_long later line long)
+    ∙ ap (λ x. (then_rest (line_ran x n w) n refused (lines_ran later []) (line_ran x n w).bad).bad) (too_long later w.config.source line long)

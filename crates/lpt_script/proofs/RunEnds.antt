@@ -71,7 +71,7 @@ memory_ends later first read old new before failed wrote p =
 pub runs_fault : (later : Bool) (had kept : List Show) (first w v : Shown) (n refused place : ℕ) (fault : ToolFault) (text : List ℕ) (room : ℕ) (old now a b c : Option (List ℕ)) (failed wrote : Bool)
     → Runs later had kept first w n refused text room old now a b
     → line_end text ≡ Some place
-    → LineEnds (line_ran (says later (ended_line (take place text))) n w) (Err fault) v b c
+    → LineEnds (line_ran (says later w.config.source (ended_line (take place text))) n w) (Err fault) v b c
     → (fault ≡ tool.Write → wrote ≡ true)
     → RunEnds later first (Err fault) old now a c failed wrote
 runs_fault later had kept first w v n refused place fault text room old now a b c failed wrote runs at ends cause =

@@ -133,12 +133,12 @@ pub runs_line : (later : Bool) (had kept next : List Show) (first w v : Shown) (
     → Runs later had kept first w n refused text room old now a b
     → line_end text ≡ Some place
     → rest ≡ drop (place + 1) text
-    → LineEnds (line_ran (says later (ended_line (take place text))) n w) (Ok f) v b c
-    → next ≡ kept ++ shows_left later (reading_of (ended_line (take place text)))
+    → LineEnds (line_ran (says later w.config.source (ended_line (take place text))) n w) (Ok f) v b c
+    → next ≡ kept ++ shows_left later (reading_of w.config.source (ended_line (take place text)))
     → Runs later had next first v (n + 1) (refused + from_bool (is_some f)) rest room old now a c
 runs_line later had kept next first w v n refused place f text rest room old now a b c runs at is ends keeps =
     let line = ended_line (take place text) in
-    let ran = line_ran (says later line) n w in
+    let ran = line_ran (says later w.config.source line) n w in
     let found = position-Some (λ b. b == 10) text place 0 at in
     let long : length (take (place + 1) text) ≡ place + 1 = length-take-le (place + 1) text (omega (arith, found.0)) in
     let whole : length text ≡ length (take (place + 1) text) + length (drop (place + 1) text) =
@@ -167,7 +167,7 @@ runs_line later had kept next first w v n refused place f text rest room old now
           ap (λ x. lines_left later (lines x) first 1 had) (append_assoc runs.given (take (place + 1) text) more)
           ∙ runs.left (take (place + 1) text ++ more)
           ∙ ap (λ x. lines_left later x w n kept) (lines-first text more place at)
-          ∙ ap (λ x. lines_left later (lines more) x (n + 1) (kept ++ shows_left later (reading_of line))) (sym ends.2)
+          ∙ ap (λ x. lines_left later (lines more) x (n + 1) (kept ++ shows_left later (reading_of w.config.source line))) (sym ends.2)
           ∙ ap (lines_left later (lines more) v (n + 1)) (sym keeps);
       numbered = omega (arith, runs.numbered, long, longer);
       some = omega (arith, runs.some, at_most_one (is_some f));

@@ -56,7 +56,7 @@ answered w e = reply w.config w.first (history w) e
 
 -- one event, by the reason for which it is refused: a refused one changes nothing
 abbrev pub stepped_as : Shown → Event → Option StepFault → Ran
-stepped_as w e None = printed (with_entry w 0 e (answered w e)) (accepted_text e (answered w e))
+stepped_as w e None = printed (with_entry w 0 e (answered w e)) (accepted_text w.config.source e (answered w e))
 stepped_as w e (Some fault) = record { world = w; text = refused_text fault; refused = Some fault; bad = None }
 
 -- one event, which the session asks for, seat 0
@@ -107,7 +107,7 @@ memory_octets w id address len =
 
 -- what is printed of a world where a line asks for this
 abbrev pub show_text : Show → Shown → List ℕ
-show_text show.Released w = releases_text (releases w.config (history w))
+show_text show.Released w = releases_text w.config.source (releases w.config (history w))
 show_text (show.Packet n) w = packet_text n (packet_octets w n)
 show_text (show.Memory id address len) w = memory_text id address (memory_octets w id address len)
 show_text (show.Clear d id) w = clear_text (is_clear w.config (history w) d id)
@@ -116,7 +116,7 @@ show_text show.Journal w = journal_text (length w.journal)
 -- what a command does
 abbrev pub command_ran : Command → Shown → Ran
 command_ran (command.Event e) w = stepped w e
-command_ran (command.Load l) w = stepped w (Open Up l.id (load_packet w.config.apid w.config.source l))
+command_ran (command.Load l) w = stepped w (Open Up l.id (load_packet w.config.apid l))
 command_ran (command.Pass l n) w = and_then (stepped w (Take l n)) (λ after. stepped after (Deliver l))
 command_ran (command.Tick side count) w = ticked count side w
 command_ran command.Work w = worked w
@@ -146,9 +146,9 @@ says_now later Skipped = Skipped
 says_now later (Asks c) = asks (now_done later c)
 says_now later Unreadable = Unreadable
 
--- the same by the line's octets
-abbrev pub says : (later : Bool) → List ℕ → Reading
-says later line = says_now later (reading_of line)
+-- the same by the line's octets, where this source is configured
+abbrev pub says : (later : Bool) → (source : ℕ) → List ℕ → Reading
+says later source line = says_now later (reading_of source line)
 
 -- what a line does, by what it says and by its number
 abbrev pub line_ran : Reading → ℕ → Shown → Ran
@@ -182,7 +182,7 @@ then_rest ran n refused rest None =
 abbrev pub lines_ran : (later : Bool) → List (List ℕ) → Shown → ℕ → ℕ → Script
 lines_ran later [] w n refused = record { text = []; refused = refused; bad = None }
 lines_ran later (line ∷ more) w n refused =
-    let ran = line_ran (says later line) n w in
+    let ran = line_ran (says later w.config.source line) n w in
     then_rest ran n refused (lines_ran later more) ran.bad
 
 -- what a script does to a world
@@ -216,8 +216,8 @@ left_of w kept = record { world = w; kept = kept }
 abbrev pub lines_left : (later : Bool) → List (List ℕ) → Shown → ℕ → (kept : List Show) → Left
 lines_left later [] w n kept = left_of w kept
 lines_left later (line ∷ more) w n kept =
-    lines_left later more (line_ran (says later line) n w).world (n + 1)
-    (kept ++ shows_left later (reading_of line))
+    lines_left later more (line_ran (says later w.config.source line) n w).world (n + 1)
+    (kept ++ shows_left later (reading_of w.config.source line))
 
 -- what a script leaves of a world
 abbrev pub script_left : (later : Bool) → Shown → List ℕ → Left

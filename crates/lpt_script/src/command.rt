@@ -76,29 +76,33 @@ fn put_last<K: Sink>(
     out: &mut K,
 ) -> Result<Option<StepFault>, ToolFault>
     ensures ends { IfSome (slice_get world.now.journal (length world.now.journal - 1))
-        (λ x. TextEnds (accepted_text x.event x.reply) result (K.contents out.old) (K.contents out.new)) }
+        (λ x. TextEnds (accepted_text world.now.config.source x.event x.reply) result (K.contents out.old) (K.contents out.new)) }
     ensures accepted { IfOk result (λ r. r ≡ None) }
     ensures cause { IsErrOf result ToolFault.Write → K.failed out.new ≡ true }
     ensures told { result ≢ Err ToolFault.Write → K.failed out.new ≡ K.failed out.old }
 {
     match world.journal().last() {
-        Some(entry) => put_entry(alloc, entry, out),
+        Some(entry) => put_entry(alloc, world.config().source, entry, out),
         None => Ok(None),
     }
 }
 
-// Prints what an accepted event answered.
+// Prints what an accepted event answered, where this source is configured.
 fn put_entry<K: Sink>(
     alloc: Global,
+    source: u16,
     entry: &Entry,
     out: &mut K,
 ) -> Result<Option<StepFault>, ToolFault>
-    ensures ends { TextEnds (accepted_text entry.now.event entry.now.reply) result (K.contents out.old) (K.contents out.new) }
+    ensures ends { TextEnds (accepted_text source entry.now.event entry.now.reply) result (K.contents out.old) (K.contents out.new) }
     ensures accepted { IfOk result (λ r. r ≡ None) }
     ensures cause { IsErrOf result ToolFault.Write → K.failed out.new ≡ true }
     ensures told { result ≢ Err ToolFault.Write → K.failed out.new ≡ K.failed out.old }
 {
-    match put(out, print_accepted(alloc, &entry.event, &entry.reply)) {
+    match put(
+        out,
+        print_accepted(alloc, source, &entry.event, &entry.reply),
+    ) {
         Ok(()) => Ok(None),
         Err(fault) => Err(fault),
     }

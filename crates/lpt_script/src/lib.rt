@@ -18,11 +18,11 @@ pub use command::run_command;
 pub use decoding::decode;
 pub use end::ScriptEnd;
 pub use lpt_print::{
-    Kind, Seen, part_kind, print_applied_count, print_clock, print_decoded, print_expired,
-    print_finished, print_journal, print_memory, print_none, print_opened, print_outcome,
-    print_packet, print_plain_count, print_put, print_refused, print_release, print_restarted,
-    print_retired, print_stale, print_took, print_unreadable, read_packet, read_part, read_tc,
-    read_tm,
+    Kind, Seen, name_word, part_kind, print_applied_count, print_clock, print_decoded,
+    print_expired, print_finished, print_journal, print_memory, print_none, print_opened,
+    print_outcome, print_packet, print_plain_count, print_put, print_refused, print_release,
+    print_restarted, print_retired, print_stale, print_took, print_unreadable, read_packet,
+    read_part, read_tc, read_tm,
 };
 pub use lpt_text::{
     End, LineBuffer, Passes, Sink, Source, Told, ToolFault, flush_out, read_text, write_out,

@@ -11,8 +11,8 @@ use lpt_words::Load;
 use lpt_world::{Direction, Event, StepFault, World};
 use std::alloc::Global;
 
-/// Opens the packet of a load upwards, with the configured APID and source, prints what came of it,
-/// and answers why it was refused, if it was.
+/// Opens the packet of a load upwards, with the configured APID and the source of its name, prints
+/// what came of it, and answers why it was refused, if it was.
 pub(crate) fn run_load<K: Sink>(
     alloc: Global,
     world: &mut World,
@@ -20,13 +20,13 @@ pub(crate) fn run_load<K: Sink>(
     out: &mut K,
 ) -> Result<Option<StepFault>, ToolFault>
     ensures ends { LineEnds (stepped world.old (Event.Open Direction.Up load.now.id
-        (load_packet world.old.config.apid world.old.config.source load.now)))
+        (load_packet world.old.config.apid load.now)))
         result world.new (K.contents out.old) (K.contents out.new) }
     ensures cause { IsErrOf result ToolFault.Write → K.failed out.new ≡ true }
     ensures told { result ≢ Err ToolFault.Write → K.failed out.new ≡ K.failed out.old }
 {
     let config = world.config();
-    match load.packet(alloc, config.apid, config.source) {
+    match load.packet(alloc, config.apid) {
         Ok(packet) => run_event(
             alloc,
             world,

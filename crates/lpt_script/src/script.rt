@@ -175,12 +175,12 @@ fn run_line<K: Sink>(
     out: &mut K,
 ) -> Result<Option<StepFault>, ToolFault>
     ensures same { is_later shows.new ≡ is_later shows.old }
-    ensures left { IfOk result (λ _. kept_of shows.new ≡ kept_of shows.old ++ shows_left (is_later shows.old) (reading_of line.now)) }
-    ensures ends { LineEnds (line_ran (says (is_later shows.old) line.now) number world.old) result world.new (K.contents out.old) (K.contents out.new) }
+    ensures left { IfOk result (λ _. kept_of shows.new ≡ kept_of shows.old ++ shows_left (is_later shows.old) (reading_of world.old.config.source line.now)) }
+    ensures ends { LineEnds (line_ran (says (is_later shows.old) world.old.config.source line.now) number world.old) result world.new (K.contents out.old) (K.contents out.new) }
     ensures cause { IsErrOf result ToolFault.Write → K.failed out.new ≡ true }
     ensures told { result ≢ Err ToolFault.Write → K.failed out.new ≡ K.failed out.old }
 {
-    match read_line(alloc, line) {
+    match read_line(alloc, world.config().source, line) {
         Err(_) => Err(ToolFault::Memory),
         Ok(Reading::Skipped) => Ok(None),
         Ok(Reading::Asks(command)) => match shows.keep(command) {

@@ -29,7 +29,7 @@ pub fn run_show<K: Sink>(
     ensures told { result ≢ Err ToolFault.Write → K.failed out.new ≡ K.failed out.old }
 {
     match show {
-        Show::Released => show_released(alloc, world.released(), out),
+        Show::Released => { show_released(alloc, world.config().source, world.released(), out) }
         Show::Packet(number) => put(out, print_packet(alloc, number, world.packet(number))),
         Show::Memory(id, address, len) => show_memory(alloc, world, id, address, len, out),
         Show::Clear(direction, id) => show_clear(alloc, world, direction, id, out),
@@ -85,26 +85,36 @@ fn octets_from(content: &[u8], address: u32, len: u32) -> Option<&[u8]>
 }
 
 // Prints the released messages, or that there is none.
-fn show_released<K: Sink>(alloc: Global, releases: &[Release], out: &mut K) -> Result<(), ToolFault>
-    ensures ends { TextEnds (releases_text releases.now) result (K.contents out.old) (K.contents out.new) }
+fn show_released<K: Sink>(
+    alloc: Global,
+    source: u16,
+    releases: &[Release],
+    out: &mut K,
+) -> Result<(), ToolFault>
+    ensures ends { TextEnds (releases_text source releases.now) result (K.contents out.old) (K.contents out.new) }
     ensures cause { IsErrOf result ToolFault.Write → K.failed out.new ≡ true }
     ensures told { result ≢ Err ToolFault.Write → K.failed out.new ≡ K.failed out.old }
 {
     if releases.is_empty() {
         put(out, print_none(alloc))
     } else {
-        put_releases(alloc, releases, out)
+        put_releases(alloc, source, releases, out)
     }
 }
 
 // Prints released messages, one a line.
-fn put_releases<K: Sink>(alloc: Global, releases: &[Release], out: &mut K) -> Result<(), ToolFault>
-    ensures ends { TextEnds (flat_map release_text releases.now) result (K.contents out.old) (K.contents out.new) }
+fn put_releases<K: Sink>(
+    alloc: Global,
+    source: u16,
+    releases: &[Release],
+    out: &mut K,
+) -> Result<(), ToolFault>
+    ensures ends { TextEnds (flat_map (release_text source) releases.now) result (K.contents out.old) (K.contents out.new) }
     ensures cause { IsErrOf result ToolFault.Write → K.failed out.new ≡ true }
     ensures told { result ≢ Err ToolFault.Write → K.failed out.new ≡ K.failed out.old }
 {
     for release in releases {
-        match put(out, print_release(alloc, release)) {
+        match put(out, print_release(alloc, source, release)) {
             Ok(()) => {}
             Err(fault) => return Err(fault),
         }

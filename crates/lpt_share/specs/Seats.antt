@@ -1,7 +1,6 @@
 -- What each seat of a run does, whom it tells, and of what.
 use Rattle.std.specs.Prelude.{◌≡◌, ◌==◌, ◌&&◌, ◌||◌, ◌+◌, ℕ, Bool, true, false, not, if◌then◌else◌, List, [], ◌∷◌, is_some, ⊤}
 use Rattle.std.specs.List.Sorted.{IsPermutation, IsSorted}
-use Rattle.std.specs.Ordering.{nat_cmp}
 use Rattle.lpt_audit.specs.Kinds.{lane_seat, timer_seat, worker_seat, sender_seat}
 use Rattle.lpt_audit.specs.LptEvents.Lanes.{same_direction}
 use Rattle.lpt_audit.specs.LptEvents.declared.entry.Opening.{Opening}
@@ -10,7 +9,7 @@ use Rattle.lpt_audit.specs.LptEvents.declared.outcome.Outcome.TheVariants.{Relea
 use Rattle.lpt_audit.specs.LptEvents.declared.reply.Answer.{Answer}
 use Rattle.lpt_audit.specs.LptEvents.declared.reply.Answer.TheVariants.{Delivered}
 use Rattle.lpt_audit.specs.LptJournal.Senders.{opened, sender}
-use Rattle.lpt_audit.specs.LptPacket.Names.{Name}
+use Rattle.lpt_audit.specs.LptPacket.Names.{Name, name_cmp}
 use Rattle.lpt_audit.specs.LptPacket.declared.direction.Direction.{Direction}
 use Rattle.lpt_audit.specs.LptWorld.LptNode.Nodes.{is_open}
 use Rattle.lpt_audit.specs.LptWorld.Worlds.{Shown, history, state_shown}
@@ -55,7 +54,7 @@ names_in d w (o ∷ os) = if is_open_in d w o then o.id ∷ names_in d w os else
 
 -- the names of the transactions of a direction that are open, rising
 abbrev pub AreOpenNames : Direction → Shown → List Name → Type 0
-AreOpenNames d w names = IsPermutation (names_in d w (opened (history w))) names × IsSorted nat_cmp names
+AreOpenNames d w names = IsPermutation (names_in d w (opened (history w))) names × IsSorted name_cmp names
 
 -- whether an outcome is a release
 abbrev pub is_release : Outcome → Bool

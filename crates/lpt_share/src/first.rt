@@ -31,7 +31,7 @@ struct Channels {
 }
 
 /// All seats, from 1 to 10. They have notices of what stands in the world: each held packet, each
-/// job that waits, and each open transaction by rising identifier. No end of a channel is left that
+/// job that waits, and each open transaction by rising name. No end of a channel is left that
 /// no seat has. Errors: out of memory.
 pub fn all_seats<R: Wait>(alloc: Global, rt: &R, world: &World) -> Result<Vec<Seat>, AllocError>
     ensures count { IfOk result (λ v. vec_len v ≡ 10) }

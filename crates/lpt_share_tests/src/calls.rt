@@ -1,5 +1,6 @@
 //! Calls and turns of one thread, and logs beside the journal.
 
+use crate::names::{ID_5, ID_7, ID_9};
 use crate::scenes::{Asked, CONFIG, Free, MESSAGE, octets, world_after};
 use lpt_share::Direction::{Down, Up};
 use lpt_share::{
@@ -14,8 +15,8 @@ use std::test::Fail;
 // A message goes up as 5, one goes down as 9, and a load is put.
 fn openings() -> [Asked<'static>; 3] {
     [
-        Asked::Open(Up, 5, &MESSAGE),
-        Asked::Open(Down, 9, &MESSAGE),
+        Asked::Open(Up, ID_5, &MESSAGE),
+        Asked::Open(Down, ID_9, &MESSAGE),
         Asked::Load,
     ]
 }
@@ -38,8 +39,8 @@ fn take_turns<R: Wait + Abort>(rt: &R, alloc: Global, shared: &Shared, log: &mut
     let lane = shared.lane_turn(rt, log, Lane::S1, 0, &Free);
     let worker = shared.worker_turn(alloc, rt, log, Worker::W1, &Free);
     let timer = shared.timer_turn(rt, log, Side::Craft, &Free);
-    let sender = shared.sender_turn(rt, log, Up, 5, Some(1), &Free);
-    let finish = shared.sender_turn(rt, log, Down, 9, None, &Free);
+    let sender = shared.sender_turn(rt, log, Up, ID_5, Some(1), &Free);
+    let finish = shared.sender_turn(rt, log, Down, ID_9, None, &Free);
     assert!(rt; (lane, worker, timer) == (Ok(2), Ok(3), Ok(1)));
     assert!(rt; (sender, finish) == (Ok(1), Ok(1)));
 }
@@ -121,7 +122,7 @@ fn open_seven<R: Wait>(
     log: &mut SeatLog,
 ) -> Result<Done, CallFault> {
     match octets(alloc, &MESSAGE[..9]) {
-        Ok(message) => shared.call(rt, log, Event::Open(Up, 7, message)),
+        Ok(message) => shared.call(rt, log, Event::Open(Up, ID_7, message)),
         Err(_) => Err(CallFault::Memory(Event::Apply)),
     }
 }
@@ -145,7 +146,7 @@ fn fault_of(answer: &Result<Done, CallFault>) -> Option<(StepFault, u64)> {
 // How many entries a journal had that were too few, where the opening came back.
 fn length_of_torn(answer: &Result<Done, CallFault>) -> Option<u64> {
     match answer {
-        Err(CallFault::Torn(length, Event::Open(Up, 7, _))) => Some(*length),
+        Err(CallFault::Torn(length, Event::Open(Up, ID_7, _))) => Some(*length),
         _ => None,
     }
 }
@@ -177,7 +178,7 @@ fn a_timer_ends_what_a_lane_began(rt: HostRuntime) -> Result<(), Fail> {
     let shared = Shared::new(world_after(alloc, config, &[]).ok_or("no world")?);
     let (mut sender, mut timer) = (SeatLog::new(alloc, 9, 0), SeatLog::new(alloc, 5, 0));
     let opened = place_of(&open_seven(&rt, alloc, &shared, &mut sender));
-    let sent = shared.sender_turn(&rt, &mut sender, Up, 7, Some(1), &Free);
+    let sent = shared.sender_turn(&rt, &mut sender, Up, ID_7, Some(1), &Free);
     let lane = lane_begins(&rt, alloc, &shared);
     assert!(rt; (opened, sent, lane) == (Some(0), Ok(1), Ok(2)));
     assert!(rt; ticks(&rt, &shared, &mut timer, 9) == 9);
@@ -211,7 +212,7 @@ fn is_expired(log: &SeatLog) -> bool {
         [.., tick, expiry, _] => {
             tick.event == Event::Tick(Side::Craft)
                 && expiry.event == Event::Expire(Side::Craft)
-                && expiry.reply.answer == Answer::Expired(Up, 7)
+                && expiry.reply.answer == Answer::Expired(Up, ID_7)
         }
         _ => false,
     }

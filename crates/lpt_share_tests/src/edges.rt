@@ -1,6 +1,7 @@
 //! Runs that make reports and large dumps, in which receptions expire at both nodes, that begin with a
 //! committed job, fill a log, or end a clock.
 
+use crate::names::{ID_7, ID_9};
 use crate::runs::{TURNS, executed, loads};
 use crate::scenes::{Asked, CONFIG, Free, MESSAGE, run, run_under};
 use lpt_share::Direction::{Down, Up};
@@ -23,16 +24,16 @@ fn reports_and_a_large_dump_come_down(rt: HostRuntime) -> Result<(), Fail> {
 // A part of a message is with each receiver, and its sender has finished it.
 fn left_alone() -> [Asked<'static>; 10] {
     [
-        Asked::Open(Up, 7, &MESSAGE),
-        Asked::Send(Up, 7, 1),
+        Asked::Open(Up, ID_7, &MESSAGE),
+        Asked::Send(Up, ID_7, 1),
         Asked::Take(Lane::S1, 0),
         Asked::Deliver(Lane::S1),
-        Asked::Finish(Up, 7),
-        Asked::Open(Down, 9, &MESSAGE),
-        Asked::Send(Down, 9, 1),
+        Asked::Finish(Up, ID_7),
+        Asked::Open(Down, ID_9, &MESSAGE),
+        Asked::Send(Down, ID_9, 1),
         Asked::Take(Lane::G1, 1),
         Asked::Deliver(Lane::G1),
-        Asked::Finish(Down, 9),
+        Asked::Finish(Down, ID_9),
     ]
 }
 
@@ -46,12 +47,12 @@ fn receptions_expire_at_both_nodes(rt: HostRuntime) -> Result<(), Fail> {
     let turns = Turns { ticks: 3, ..TURNS };
     let (world, logs) = run_under(rt.alloc(), &rt, config, &left_alone(), turns, &Free)?;
     drop(logs);
-    assert!(rt; has_answer(&world, 5, Answer::Expired(Up, 7)));
-    assert!(rt; has_answer(&world, 6, Answer::Expired(Down, 9)));
+    assert!(rt; has_answer(&world, 5, Answer::Expired(Up, ID_7)));
+    assert!(rt; has_answer(&world, 6, Answer::Expired(Down, ID_9)));
     assert!(rt;
         world.journal().iter().any(|it| matches!(
             it.reply.answer,
-            Answer::Delivered(Outcome::AbortNoted(7, _))
+            Answer::Delivered(Outcome::AbortNoted(ID_7, _))
         ))
     );
     drop(world);

@@ -1,5 +1,6 @@
 //! The lock is free at each point of the gate.
 
+use crate::names::ID_5;
 use crate::scenes::{Asked, CONFIG, MESSAGE, world_after};
 use lpt_share::Direction::Up;
 use lpt_share::{Config, Event, Gate, Lane, Point, SeatLog, Shared, Side, Worker};
@@ -55,8 +56,8 @@ const SHORT: Config = Config {
 // The first part of message 5 is received, and a load is put.
 fn reception() -> [Asked<'static>; 5] {
     [
-        Asked::Open(Up, 5, &MESSAGE),
-        Asked::Send(Up, 5, 1),
+        Asked::Open(Up, ID_5, &MESSAGE),
+        Asked::Send(Up, ID_5, 1),
         Asked::Take(Lane::S1, 0),
         Asked::Deliver(Lane::S1),
         Asked::Load,
@@ -84,8 +85,8 @@ fn passes<R: Wait + Abort>(rt: &R, alloc: Global, shared: &Shared) {
     let lane = shared.lane_turn(rt, &mut log, Lane::S1, 1, &gate);
     let worker = shared.worker_turn(alloc, rt, &mut log, Worker::W1, &gate);
     let timer = shared.timer_turn(rt, &mut log, Side::Craft, &gate);
-    let part = shared.sender_turn(rt, &mut log, Up, 5, Some(2), &gate);
-    let end = shared.sender_turn(rt, &mut log, Up, 5, None, &gate);
+    let part = shared.sender_turn(rt, &mut log, Up, ID_5, Some(2), &gate);
+    let end = shared.sender_turn(rt, &mut log, Up, ID_5, None, &gate);
     assert!(rt; (lane, worker, timer, part, end) == (Ok(2), Ok(3), Ok(2), Ok(1), Ok(1)));
     assert!(rt; gate.told.load(SeqCst) == 511);
 }

@@ -12,6 +12,8 @@ mod growths;
 #[cfg(test)]
 mod meeting;
 #[cfg(test)]
+mod names;
+#[cfg(test)]
 mod origins;
 #[cfg(test)]
 mod runs;

@@ -3,6 +3,7 @@
 ghost use Rattle.std.specs.Prelude.{◌≡◌, Some};
 ghost use Rattle.lpt_share.specs.Origins.{Continues};
 
+use crate::names::ID_5;
 use crate::scenes::{Asked, CONFIG, world_after};
 use lpt_share::Direction::Up;
 use lpt_share::{Event, Origin, SeatLog, Shared, Side, World};
@@ -33,7 +34,7 @@ fn ticked_under<J: Origin, R: Wait>(rt: &R, alloc: Global, world: World) -> Worl
 
 #[test]
 fn what_comes_out_of_a_lock_goes_on(rt: HostRuntime) -> Result<(), Fail> {
-    let asked = [Asked::Open(Up, 5, &[0, 1, 2, 3, 4, 5, 6, 7, 8])];
+    let asked = [Asked::Open(Up, ID_5, &[0, 1, 2, 3, 4, 5, 6, 7, 8])];
     let world = world_after(rt.alloc(), CONFIG, &asked).ok_or("no world")?;
     let world = ticked(&rt, rt.alloc(), world);
     assert!(rt; world.journal().len() == 2 && world.clock(Side::Craft) == 1);

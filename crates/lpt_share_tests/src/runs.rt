@@ -1,5 +1,6 @@
 //! Runs of ten threads.
 
+use crate::names::{ID_1, ID_2, ID_3, ID_4, ID_5, ID_9, OTHER_1};
 use crate::scenes::{Asked, Free, MESSAGE, run};
 use lpt_share::Direction::{self, Down, Up};
 use lpt_share::{Answer, Lane, Name, Outcome, SeatLog, Side, Turns, Why, Worker, World};
@@ -33,15 +34,16 @@ const FOURS: [u8; 27] = [
     0x30, 0x00, 0x04, 0x44, 0x44, 0x44, 0x44, 0x28, 0x88, 0x6e, 0x2e,
 ];
 
-/// Four large loads and a message go up, and a message goes down.
+/// Four large loads go up, and a message by the first one's identifier of another source; a message goes
+/// down.
 pub(crate) fn loads() -> [Asked<'static>; 6] {
     [
-        Asked::Open(Up, 1, &ONES),
-        Asked::Open(Up, 2, &TWOS),
-        Asked::Open(Up, 3, &THREES),
-        Asked::Open(Up, 4, &FOURS),
-        Asked::Open(Up, 5, &[0, 1, 2, 3, 4, 5, 6, 7, 8]),
-        Asked::Open(Down, 9, &MESSAGE),
+        Asked::Open(Up, ID_1, &ONES),
+        Asked::Open(Up, ID_2, &TWOS),
+        Asked::Open(Up, ID_3, &THREES),
+        Asked::Open(Up, ID_4, &FOURS),
+        Asked::Open(Up, OTHER_1, &[0, 1, 2, 3, 4, 5, 6, 7, 8]),
+        Asked::Open(Down, ID_9, &MESSAGE),
     ]
 }
 
@@ -57,15 +59,15 @@ fn ten_seats_do_all_that_is_to_do(rt: HostRuntime) -> Result<(), Fail> {
 /// Asserts that all messages are released, all loads executed, and that each timer has ticked.
 pub(crate) fn are_done(rt: &impl Abort, world: &World, logs: &[SeatLog]) {
     let released = [
-        (Up, 1, 27),
-        (Up, 2, 27),
-        (Up, 3, 27),
-        (Up, 4, 27),
-        (Up, 5, 9),
-        (Down, 9, 20),
+        (Up, ID_1, 27),
+        (Up, ID_2, 27),
+        (Up, ID_3, 27),
+        (Up, ID_4, 27),
+        (Up, OTHER_1, 9),
+        (Down, ID_9, 20),
     ];
     for (direction, id, octets) in released {
-        assert!(rt; is_released(world, direction, id, octets), "{id}");
+        assert!(rt; is_released(world, direction, id, octets), "{id:?}");
     }
     assert!(rt; world.released().len() == 6 && executed(world) == 5);
     for (address, octet) in [(0, 0x11), (16, 0x22), (32, 0x33), (48, 0x44), (4, 0)] {
@@ -109,18 +111,18 @@ fn ticks(logs: &[SeatLog], seat: u8) -> usize {
 // and then the spacecraft restarts.
 fn losses() -> [Asked<'static>; 13] {
     [
-        Asked::Open(Up, 5, &MESSAGE),
-        Asked::Send(Up, 5, 1),
+        Asked::Open(Up, ID_5, &MESSAGE),
+        Asked::Send(Up, ID_5, 1),
         Asked::Lose(0),
-        Asked::Open(Down, 9, &MESSAGE),
-        Asked::Send(Down, 9, 1),
+        Asked::Open(Down, ID_9, &MESSAGE),
+        Asked::Send(Down, ID_9, 1),
         Asked::Damage(Up, &[0x18, 0x64, 0xc0]),
         Asked::Load,
         Asked::Take(Lane::S1, 3),
         Asked::Deliver(Lane::S1),
         Asked::Claim(Worker::W1),
         Asked::Take(Lane::S2, 2),
-        Asked::Send(Up, 5, 2),
+        Asked::Send(Up, ID_5, 2),
         Asked::Restart(Side::Craft),
     ]
 }
@@ -139,7 +141,7 @@ fn are_made_good(rt: &impl Abort, world: &World, logs: &[SeatLog]) {
     let unreadable = Answer::Delivered(Outcome::Ignored(Why::Unreadable));
     assert!(rt; first_answer(logs, 2) == Some(unreadable));
     assert!(rt; first_answer(logs, 7) == Some(Answer::Stale(0, 0)));
-    assert!(rt; is_released(world, Up, 5, 20) && !is_released(world, Down, 9, 20));
+    assert!(rt; is_released(world, Up, ID_5, 20) && !is_released(world, Down, ID_9, 20));
     assert!(rt; world.released().len() == 3 && executed(world) == 2);
     assert!(rt; has_at(world, 16, [0xab, 0xcd, 0xef, 0x01]));
 }

@@ -152,7 +152,7 @@ fn event(alloc: Global, asked: Asked<'_>) -> Result<Event, AllocError> {
 // A request of the memory service as a packet of its own.
 fn plain(alloc: Global, flags: u8, subtype: u8, body: &[u8]) -> Result<Event, AllocError> {
     let flags = AckFlags::new(flags).ok_or(AllocError)?;
-    Ok(Event::Plain(flags, 6, subtype, octets(alloc, body)?))
+    Ok(Event::Plain(1, flags, 6, subtype, octets(alloc, body)?))
 }
 
 // A copy of these octets.

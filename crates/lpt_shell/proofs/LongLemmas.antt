@@ -40,7 +40,7 @@ pub long_line : (prompt line : List ℕ) (w : Shown)
     → line_served prompt line w ≡ prompted prompt (long_answered w)
 long_line prompt line w long =
     let test : nat_lt 140000 (length line) ≡ true = grind (arith, nat_tests) in
-    ap (λ r. prompted prompt (answered w line r)) (unread line long)
+    ap (λ r. prompted prompt (answered w line r)) (unread w.config.source line long)
     ∙ ap (λ o. prompted prompt (own_served w line o)) (own_none w line test)
     ∙ ap (λ o. prompted prompt (served w (finding_text o) true)) (why_long line test)
 
@@ -113,7 +113,7 @@ ticks_good (suc (suc k)) side w =
 pub command_good : (c : Command) (w : Shown) → (command_ran c w).bad ≡ None
 command_good (command.Event e) w = good_event w e
 command_good (command.Load l) w =
-    good_event w (Open Up l.id (load_packet w.config.apid w.config.source l))
+    good_event w (Open Up l.id (load_packet w.config.apid l))
 command_good (command.Pass l n) w = good_events w (Take l n) (Deliver l)
 command_good (command.Tick side count) w = ticks_good count side w
 command_good command.Work w =

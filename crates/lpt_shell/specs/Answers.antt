@@ -74,7 +74,7 @@ prompted prompt s = record s { text = s.text ++ prompt }
 
 -- what a line does in a shell with this prompt
 abbrev pub line_served : (prompt : List ℕ) → List ℕ → Shown → Served
-line_served prompt line w = prompted prompt (answered w line (reading_of line))
+line_served prompt line w = prompted prompt (answered w line (reading_of w.config.source line))
 
 -- ---- lines
 

@@ -22,7 +22,7 @@ ServedEnds s (Err _) w old new = ⊥
 -- what a line does, of which more than a line may have was dropped already, or not
 abbrev pub piece_answered : (is_long : Bool) → List ℕ → Shown → Served
 piece_answered true line w = long_answered w
-piece_answered false line w = answered w line (reading_of line)
+piece_answered false line w = answered w line (reading_of w.config.source line)
 
 -- the same with the prompt behind it
 abbrev pub piece_served : (is_long : Bool) → (prompt : List ℕ) → List ℕ → Shown → Served

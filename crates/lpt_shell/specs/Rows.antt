@@ -3,6 +3,7 @@ use Rattle.std.specs.Prelude.{ℕ, ◌==◌, ◌||◌, if◌then◌else◌, Bool
 use Rattle.std.specs.List.{range_with_len}
 use Rattle.lpt_script.specs.LptPrint.Printing.{direction_text, line_of, packet_text}
 use Rattle.lpt_script.specs.Scripts.{packet_octets}
+use Rattle.lpt_script.specs.LptWorld.LptEvents.NameTexts.{name_text}
 use Rattle.lpt_script.specs.LptWorld.LptEvents.declared.entry.Opening.{Opening}
 use Rattle.lpt_script.specs.LptWorld.LptJournal.Link.{is_held}
 use Rattle.lpt_script.specs.LptWorld.LptJournal.Senders.{is_open, is_opening_of, opened, sender}
@@ -43,24 +44,24 @@ parts w o = part_count (length o.message) w.config.part_size
 abbrev pub sender_row : Shown → Direction → Name → (parts : ℕ) → List ℕ
 sender_row w d id parts =
     if is_open (sender (history w) d id)
-    then line_of (codes "open" ∷ direction_text d ∷ decimal id ∷ codes "parts" ∷ decimal parts ∷ [])
+    then line_of (codes "open" ∷ direction_text d ∷ name_text w.config.source id ∷ codes "parts" ∷ decimal parts ∷ [])
     else []
 
--- a message of so many parts, and which of them its receiver doesn't keep
-abbrev pub missing_line : Direction → Name → (kept : List ℕ) → (parts : ℕ) → List ℕ
-missing_line d id kept parts =
-    codes "reception " ++ (direction_text d ++ (codes " " ++ (decimal id ++ (codes " parts "
+-- a message of so many parts, and which of them its receiver doesn't keep, where this source is configured
+abbrev pub missing_line : (source : ℕ) → Direction → Name → (kept : List ℕ) → (parts : ℕ) → List ℕ
+missing_line source d id kept parts =
+    codes "reception " ++ (direction_text d ++ (codes " " ++ (name_text source id ++ (codes " parts "
     ++ (decimal parts ++ (codes " missing" ++ (gaps_text kept parts ++ 10 ∷ [])))))))
 
 -- the same where the receiver keeps parts of it
-abbrev pub missing_row : Direction → Name → (kept : List ℕ) → (parts : ℕ) → List ℕ
-missing_row d id kept parts = if length kept == 0 then [] else missing_line d id kept parts
+abbrev pub missing_row : (source : ℕ) → Direction → Name → (kept : List ℕ) → (parts : ℕ) → List ℕ
+missing_row source d id kept parts = if length kept == 0 then [] else missing_line source d id kept parts
 
 -- a message at its sender or at its receiver
 abbrev pub message_row : Shown → Half → Opening → List ℕ
 message_row w half.Sender o = sender_row w o.direction o.id (parts w o)
 message_row w half.Receiver o =
-    missing_row o.direction o.id (kept_numbers o.direction o.id (history w)) (parts w o)
+    missing_row w.config.source o.direction o.id (kept_numbers o.direction o.id (history w)) (parts w o)
 
 -- whether one of these openings is of the transaction
 abbrev pub is_opened : List Opening → Direction → Name → Bool

@@ -71,11 +71,11 @@ fn answer<K: Sink>(
     line: &[u8],
     out: &mut K,
 ) -> Result<bool, ToolFault>
-    ensures ends { ServedEnds (answered world.old line.now (reading_of line.now)) result world.new (K.contents out.old) (K.contents out.new) }
+    ensures ends { ServedEnds (answered world.old line.now (reading_of world.old.config.source line.now)) result world.new (K.contents out.old) (K.contents out.new) }
     ensures cause { IsErrOf result ToolFault.Write → K.failed out.new ≡ true }
     ensures told { result ≢ Err ToolFault.Write → K.failed out.new ≡ K.failed out.old }
 {
-    match read_line(alloc, line) {
+    match read_line(alloc, world.config().source, line) {
         Err(_) => Err(ToolFault::Memory),
         Ok(Reading::Skipped) => Ok(false),
         Ok(Reading::Asks(command)) => run_noted(alloc, world, command, out),

@@ -8,7 +8,7 @@ ghost use Rattle.lpt_shell.specs.Rows.{held_row, is_opened, message_row, message
 
 use crate::kept::{add_gaps, kept_numbers};
 use crate::openings::{count, is_opening_of};
-use lpt_script::{Direction, Name, Opening, State, World, print_packet};
+use lpt_script::{Direction, Name, Opening, State, World, name_word, print_packet};
 use std::alloc::{AllocError, Global};
 
 /// The end at which messages are listed.
@@ -123,7 +123,14 @@ fn add_message(
         Half::Sender => add_sender(text, world, opening.direction, opening.id, parts),
         Half::Receiver => {
             let kept = kept_numbers(alloc, world, opening.direction, opening.id)?;
-            add_missing(text, opening.direction, opening.id, &kept, parts)
+            add_missing(
+                text,
+                world.config().source,
+                opening.direction,
+                opening.id,
+                &kept,
+                parts,
+            )
         }
     }
 }
@@ -142,23 +149,26 @@ fn add_sender(
         return Ok(());
     }
     let direction = direction_word(direction);
+    let id = name_word(world.config().source, id);
     write!(text, "open {direction} {id} parts {parts}\n")
 }
 
 // Adds a message of so many parts, of which these are kept, and which of them are missing.
 fn add_missing(
     text: &mut String,
+    source: u16,
     direction: Direction,
     id: Name,
     kept: &[u64],
     parts: usize,
 ) -> Result<(), AllocError>
-    ensures { OnOk result (string_bytes text.new ≡ string_bytes text.old ++ missing_row direction id kept.now parts) }
+    ensures { OnOk result (string_bytes text.new ≡ string_bytes text.old ++ missing_row source direction id kept.now parts) }
 {
     if kept.is_empty() {
         return Ok(());
     }
     let direction = direction_word(direction);
+    let id = name_word(source, id);
     write!(text, "reception {direction} {id} parts {parts} missing")?;
     add_gaps(text, kept, parts as u64)?;
     text.push_str("\n")

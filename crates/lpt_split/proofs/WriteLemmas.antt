@@ -108,7 +108,7 @@ alone_part form time p a b c h k =
 module _ (form : Form) (c : Config) (d : Direction) (id : ℕ) (m : List ℕ) (ns : List ℕ) (i : ℕ) where
   -- the packet of the part at a place of the list
   abbrev pub packet_at : ℕ → List ℕ
-  packet_at count = part_made c d count 0 c.clock (nth_part c.part_size id m (get_or ns i 0))
+  packet_at count = part_made c d c.source count 0 c.clock (nth_part c.part_size id m (get_or ns i 0))
 
   -- the packets of the parts from there on are that packet, and the others
   pub octets-next : (count next : ℕ)

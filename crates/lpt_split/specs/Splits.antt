@@ -2,7 +2,6 @@
 use Rattle.std.specs.Prelude.{ℕ, ◌+◌, ◌%◌, ◌≤◌, List, [], ◌∷◌}
 use Rattle.std.specs.List.{flat_map}
 use Rattle.lpt_pus.specs.LptPacket.declared.direction.Direction.{Direction}
-use Rattle.lpt_pus.specs.LptPacket.Names.{Name}
 use Rattle.lpt_events.specs.declared.config.Config.{Config}
 use Rattle.lpt_events.specs.MadePackets.{nth_part, part_made}
 use Rattle.lpt_stream.specs.Captures.{capture_of}
@@ -24,10 +23,10 @@ AreNumbers parts [] = Unit {0}
 AreNumbers parts (n ∷ ns) = IsNumber parts n × AreNumbers parts ns
 
 -- the packets of these parts, of sequence counts from this one on
-abbrev pub split_of : Config → Direction → Name → List ℕ → (count : ℕ) → List ℕ → List (List ℕ)
+abbrev pub split_of : Config → Direction → (id : ℕ) → List ℕ → (count : ℕ) → List ℕ → List (List ℕ)
 split_of c d id m count [] = []
 split_of c d id m count (n ∷ ns) =
-    part_made c d count 0 c.clock (nth_part c.part_size id m n)
+    part_made c d c.source count 0 c.clock (nth_part c.part_size id m n)
     ∷ split_of c d id m (next_count count) ns
 
 -- the octets of packets, one behind the other

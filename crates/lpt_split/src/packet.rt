@@ -12,11 +12,11 @@ ghost use Rattle.lpt_split.specs.Splits.{IsNumber};
 use lpt_events::Config;
 use lpt_part::laws::parts_fit;
 use lpt_part::{Kind, Part, TRANSFER, count, slice};
-use lpt_pus::{Direction, Name, Octets, TcHead, TmHead, tc_pieces, tm_pieces};
+use lpt_pus::{Direction, Octets, TcHead, TmHead, tc_pieces, tm_pieces};
 use std::alloc::{AllocError, Global};
 
 /// Part `k` of a message that has as many, for parts of `p` octets; parts are counted from 1.
-pub fn part_at(message: &[u8], p: u32, id: Name, k: u16) -> Part<'_>
+pub fn part_at(message: &[u8], p: u32, id: u16, k: u16) -> Part<'_>
     requires part_size { IsPartSize p }
     requires long { p < length message.now }
     requires short { length message.now ≤ 65542 }
@@ -58,7 +58,7 @@ pub fn part_packet(
     requires config { IsConfig config.now }
     requires count { count ≤ 16383 }
     ensures { IfOk result (λ o. o
-        ≡ part_made config.now direction count 0 config.now.clock (piece part.now)) }
+        ≡ part_made config.now direction config.now.source count 0 config.now.clock (piece part.now)) }
 {
     match direction {
         Direction::Up => uplink_packet(alloc, config, count, part),
@@ -76,7 +76,7 @@ fn uplink_packet(
     requires config { IsConfig config.now }
     requires count { count ≤ 16383 }
     ensures { IfOk result (λ o. o
-        ≡ part_made config.now Up count 0 config.now.clock (piece part.now)) }
+        ≡ part_made config.now Up config.now.source count 0 config.now.clock (piece part.now)) }
 {
     let head = TcHead {
         apid: config.apid,
@@ -99,7 +99,7 @@ fn downlink_packet(
     requires config { IsConfig config.now }
     requires count { count ≤ 16383 }
     ensures { IfOk result (λ o. o
-        ≡ part_made config.now Down count 0 config.now.clock (piece part.now)) }
+        ≡ part_made config.now Down config.now.source count 0 config.now.clock (piece part.now)) }
 {
     let head = TmHead {
         apid: config.apid,

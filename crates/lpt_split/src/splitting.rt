@@ -12,7 +12,7 @@ ghost use Rattle.lpt_split.specs.Splits.{next_count, split_of, written_in, AreNu
 use crate::Form;
 use crate::packet::{part_at, part_packet};
 use lpt_events::Config;
-use lpt_pus::{Direction, Name};
+use lpt_pus::Direction;
 use lpt_stream::{capture_header, record_header};
 use lpt_text::{Sink, ToolFault, write_out};
 use std::alloc::Global;
@@ -28,7 +28,7 @@ pub fn split<K: Sink>(
     alloc: Global,
     config: &Config,
     direction: Direction,
-    id: Name,
+    id: u16,
     message: &[u8],
     numbers: &[u16],
     first: u16,
@@ -97,7 +97,7 @@ fn write_parts<K: Sink>(
     alloc: Global,
     config: &Config,
     direction: Direction,
-    id: Name,
+    id: u16,
     message: &[u8],
     numbers: &[u16],
     first: u16,

@@ -13,7 +13,7 @@ use Rattle.lpt_model.specs.LptExecution.declared.ending.Ending.{Ending}
 use Rattle.lpt_model.specs.LptExecution.declared.ending.Ending.TheVariants.{Silent, Refused, Carried}
 use Rattle.lpt_model.specs.LptExecution.declared.ending.Report.{Report}
 use Rattle.lpt_model.specs.LptExecution.Endings.{is_small}
-use Rattle.lpt_model.specs.LptExecution.Reporting.{verification, data_report, reports_of, message_reports, link_packets}
+use Rattle.lpt_model.specs.LptExecution.Reporting.{verification, data_report, reports_of, message_reports, request_source, link_packets}
 use Rattle.lpt_model.specs.LptJobs.Jobs.{Head, NoJob as NoHead, NotReady, Ready, head_of}
 use Rattle.lpt_model.specs.LptNode.Jobs.{report_packets, ending_at, executed_of, executed}
 use Rattle.lpt_model.specs.LptNode.Nodes.{Sending, NodeData}
@@ -77,11 +77,11 @@ link_few p (x ∷ xs) = go (is_small p (length x.0.body)) (link_few p xs) where
   go true few = omega (arith, few)
   go false few = omega (arith, few)
 
-length-report_packets : (c : Config) (s : Sending) (clock : ℕ) (rs : List Report)
-    → length (report_packets c s clock rs) ≡ length rs
-length-report_packets c s clock [] = refl
-length-report_packets c s clock (r ∷ rs) =
-    ap (λ n. suc n) (length-report_packets c (counted_kind s r.kind) clock rs)
+length-report_packets : (c : Config) (peer : ℕ) (s : Sending) (clock : ℕ) (rs : List Report)
+    → length (report_packets c peer s clock rs) ≡ length rs
+length-report_packets c peer s clock [] = refl
+length-report_packets c peer s clock (r ∷ rs) =
+    ap (λ n. suc n) (length-report_packets c peer (counted_kind s r.kind) clock rs)
 
 -- an execution puts four packets on the link at most
 pub few_packets : (c : Config) (d : NodeData) (ms : Contents)
@@ -92,10 +92,11 @@ few_packets c d ms = go (head_of d.jobs.jobs) where
   go NotReady = omega arith
   go (Ready r) =
       let reports = message_reports r.apid r.message (ending_at c d ms r) in
-      let made = report_packets c d.sending d.clock reports in
+      let peer = request_source r.apid r.message in
+      let made = report_packets c peer d.sending d.clock reports in
       omega (
         arith,
         link_few c.part_size made,
-        length-report_packets c d.sending d.clock reports,
+        length-report_packets c peer d.sending d.clock reports,
         few_reports r.apid r.message (ending_at c d ms r),
       )

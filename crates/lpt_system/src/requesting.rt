@@ -14,21 +14,22 @@ impl System {
     /// changed.
     pub(crate) fn plain(
         &mut self,
+        source: u16,
         flags: AckFlags,
         service: u8,
         subtype: u8,
         body: &Octets,
     ) -> Result<Reply, AllocError>
-        requires { refusal_of self.old.config (state_of self.old) (Event.Plain flags service subtype body.now) ≡ None }
+        requires { refusal_of self.old.config (state_of self.old) (Event.Plain source flags service subtype body.now) ≡ None }
         ensures ok { IfOk result (λ r. (state_of self.new, r)
-            ≡ after self.old.config 0 (state_of self.old) (Event.Plain flags service subtype body.now)) }
+            ≡ after self.old.config 0 (state_of self.old) (Event.Plain source flags service subtype body.now)) }
         ensures err { OnErr result (state_of self.new ≡ state_of self.old) }
         ensures config { self.new.config ≡ self.old.config }
     {
         self.link.reserve(1, None)?;
         match self
             .on_ground
-            .plain(flags, service, subtype, body.as_slice())
+            .plain(source, flags, service, subtype, body.as_slice())
         {
             Ok(octets) => {
                 let n = put_reserved(&mut self.link, Direction::Up, None, octets);

@@ -69,7 +69,7 @@ impl System {
                 self.ask(Side::sender(*direction), ask)
             }
             Event::Send(direction, id, k) => self.ask(Side::sender(*direction), Ask::Send(*id, *k)),
-            Event::Plain(_, service, subtype, body) => {
+            Event::Plain(_, _, service, subtype, body) => {
                 let ask = Ask::Plain(*service, *subtype, body.as_slice().len());
                 self.ask(Side::Ground, ask)
             }
@@ -113,8 +113,8 @@ impl System {
         match event {
             Event::Open(direction, id, message) => self.open(place, *direction, *id, message),
             Event::Send(direction, id, k) => self.send(*direction, *id, *k),
-            Event::Plain(flags, service, subtype, body) => {
-                self.plain(*flags, *service, *subtype, body)
+            Event::Plain(source, flags, service, subtype, body) => {
+                self.plain(*source, *flags, *service, *subtype, body)
             }
             Event::Finish(direction, id) => Ok(self.finish(*direction, *id)),
             Event::Lose(n) => Ok(self.lose(*n)),

@@ -94,7 +94,7 @@ takes_keeps mode s new n x took.NoMemory h =
     (ap (λ (r : Received). r.id) h.1, ap (λ (r : Received). r.p) h.1)
 
 module _ (timeout : ℕ) (mode : Mode) (gone : Option (Name × ℕ)) (o w : Listing)
-    (id n now : ℕ) (x : KeptPart) where
+    (id : Name) (n now : ℕ) (x : KeptPart) where
   abbrev old : TableState
   old = table timeout mode gone o
 
@@ -102,10 +102,10 @@ module _ (timeout : ℕ) (mode : Mode) (gone : Option (Name × ℕ)) (o w : List
   new = table timeout mode gone w
 
   abbrev received : Parts → Received
-  received parts = record { id = id; p = o.p; parts = parts }
+  received parts = record { id = id.id; p = o.p; parts = parts }
 
   same : (e : TableEntry) → map.get o.entries id ≡ Some e → received e.parts ≡ received_at old id
-  same e was = λ i. record { id = id; p = o.p; parts = ap parts_of (sym was) i }
+  same e was = λ i. record { id = id.id; p = o.p; parts = ap parts_of (sym was) i }
 
   not_full : (e : TableEntry) → map.get o.entries id ≡ Some e → is_full old id ≡ false
   not_full e was = ap (λ r. not (is_some r) && nat_le o.limit (map.len o.entries)) was
@@ -193,7 +193,7 @@ module _ (timeout : ℕ) (mode : Mode) (gone : Option (Name × ℕ)) (o w : List
 
     came_out : received_at new id ≡ received parts
     came_out = λ i. record {
-      id = id;
+      id = id.id;
       p = ap (λ (l : Listing). l.p) is i;
       parts = ap parts_of found i;
     }
@@ -260,7 +260,7 @@ break_cases false false false r e = absurd cc
 
 -- ---- what an answer says
 
-module _ (old new : TableState) (id n now : ℕ) (x : KeptPart) where
+module _ (old new : TableState) (id : Name) (n now : ℕ) (x : KeptPart) where
   -- what comes out is of this name and part size
   pub offers_its : (offer : Offer) → Offers old id n x now offer new → Its id old.p offer
   offers_its Kept h = tt

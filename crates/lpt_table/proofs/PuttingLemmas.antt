@@ -186,7 +186,7 @@ module _ (limit p capacity : ℕ) (s : Slab Received) (xs : List Place)
             record {
               filling = e.filling;
               kept = ap (λ (x : Place). get t x.key) (sym here) ∙ u.changed;
-              named = its.named ∙ sym (equal_tied q e.id is);
+              named = its.named ∙ ap (λ (n : Name). n.id) (sym (equal_tied q e.id is));
               of_size = its.of_size;
             }
         held_by q y false is g =

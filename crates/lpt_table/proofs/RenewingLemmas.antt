@@ -138,7 +138,7 @@ module _ (limit p capacity : ℕ) (s : Slab Received) (xs : List Place)
 
   -- the list is sound with it
   pub renewed-listed : (more : ℕ)
-      → f.id ≡ id
+      → f.id ≡ id.id
       → f.p ≡ p
       → capacity ≤ more
       → IsListed limit p more after (renewed xs at place)

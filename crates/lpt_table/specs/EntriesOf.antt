@@ -13,13 +13,13 @@ use Rattle.lpt_table.specs.Tables.{TableEntry, Entries}
 abbrev pub entry_in : Entry → TableEntry
 entry_in e = record { parts = e.filling.parts; last = e.last }
 
--- the reception is of this part size, and of the name that it stands under
+-- the reception is of this part size, and of the identifier of the name that it stands under
 pub record IsIts (p : ℕ) (e : Entry) : Type 0 where
   pub of_size : e.filling.p ≡ p
-  pub named : e.filling.id ≡ e.id
+  pub named : e.filling.id ≡ e.id.id
 
 -- the entry is what a map has under a name, and stands under this name, of this part size
-pub record IsEntry (at : Option TableEntry) (id p : ℕ) (e : Entry) : Type 0 where
+pub record IsEntry (at : Option TableEntry) (id : Name) (p : ℕ) (e : Entry) : Type 0 where
   pub found : at ≡ Some (entry_in e)
   pub named : e.id ≡ id
   pub its : IsIts p e
@@ -45,7 +45,7 @@ map_of s xs = maps.from_entries (entries_of s xs)
 pub record IsHeld (s : Slab Received) (p : ℕ) (id : Name) (x : Place) : Type 0 where
   pub filling : Received
   pub kept : get s x.key ≡ Some filling
-  pub named : filling.id ≡ id
+  pub named : filling.id ≡ id.id
   pub of_size : filling.p ≡ p
 
 -- the places are in order, no name stands twice, each has its reception, which stands at no other

@@ -48,8 +48,8 @@ pub record TakesIn (mode : Mode) (old new : Listing) (id : Name) (n now : ℕ) (
   pub entry : TableEntry
   pub parts : Parts
   pub was : maps.get old.entries id ≡ Some entry
-  pub takes : Takes mode (record { id = id; p = old.p; parts = entry.parts }) n x t
-      (record { id = id; p = old.p; parts = parts })
+  pub takes : Takes mode (record { id = id.id; p = old.p; parts = entry.parts }) n x t
+      (record { id = id.id; p = old.p; parts = parts })
   pub becomes : new ≡ record old {
     entries = maps.insert old.entries id
         (record { parts = parts; last = last_after t entry.last now });

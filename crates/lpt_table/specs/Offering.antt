@@ -27,7 +27,7 @@ parts_at t id = parts_of (map.get t.entries id)
 
 -- what is kept under a name
 abbrev pub received_at : TableState → Name → Received
-received_at t id = record { id = id; p = t.p; parts = parts_at t id }
+received_at t id = record { id = id.id; p = t.p; parts = parts_at t id }
 
 -- these parts are kept under a name, and this is their last tick
 abbrev pub with_entry : TableState → Name → Parts → ℕ → TableState

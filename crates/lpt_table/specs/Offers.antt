@@ -44,12 +44,12 @@ Offers old id n x now Memory new =
     × Answers old.mode (received_at old id) n x (step.NoMemory (received_at old id))
     × (new ≡ old)
 
--- what comes out is of this name and part size
+-- what comes out is of this name's identifier and part size
 abbrev pub Its : Name → ℕ → Offer → Type 0
 Its id p Kept = Unit {0}
 Its id p Again = Unit {0}
-Its id p (Whole w) = (w.before.id ≡ id) × (w.before.p ≡ p)
-Its id p (Conflict b) = (b.before.id ≡ id) × (b.before.p ≡ p)
+Its id p (Whole w) = (w.before.id ≡ id.id) × (w.before.p ≡ p)
+Its id p (Conflict b) = (b.before.id ≡ id.id) × (b.before.p ≡ p)
 Its id p Gap = Unit {0}
 Its id p NoRoom = Unit {0}
 Its id p Memory = Unit {0}

@@ -91,21 +91,21 @@ impl EntryList {
         spot_of(&self.places, id).is_some()
     }
 
-    /// Lets the reception of the part's name, where one is open, take the part in this mode. It
-    /// stays in the list; where it has the part and others are missing, its last tick is `now`.
-    pub(crate) fn offer(&mut self, mode: Mode, part: &Part<'_>, now: u32) -> Option<Took>
-        requires { part.now.p ≡ self.old.p }
-        ensures none { IfNone result (map.get self.old.entries part.now.id ≡ None) }
+    /// Lets the reception of this name, where one is open, take a part of it in this mode. It stays
+    /// in the list; where it has the part and others are missing, its last tick is `now`.
+    pub(crate) fn offer(&mut self, mode: Mode, id: Name, part: &Part<'_>, now: u32) -> Option<Took>
+        requires p { part.now.p ≡ self.old.p }
+        requires named { id.id ≡ part.now.id }
+        ensures none { IfNone result (map.get self.old.entries id ≡ None) }
         ensures unchanged { IfNone result (self.new ≡ self.old) }
-        ensures took { IfSome result (TakesIn mode self.old self.new part.now.id part.now.number now
+        ensures took { IfSome result (TakesIn mode self.old self.new id part.now.number now
             (kept part.now)) }
         ensures len { map.len self.new.entries ≡ map.len self.old.entries }
     {
-        let at = spot_of(&self.places, part.id)?;
+        let at = spot_of(&self.places, id)?;
         let Place { last, id: _, key } = self.places[at];
         let took = self.fillings[key].take(mode, part);
         let last = last_after(&took, last, now);
-        let id = part.id;
         renew(&mut self.places, at, Place { last, id, key });
         Some(took)
     }

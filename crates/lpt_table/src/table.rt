@@ -2,6 +2,7 @@
 
 ghost use Rattle.std.specs.Prelude.{◌≡◌, ◌<◌, IfOk, IfSome, IsSome, IsSomeAnd, None, Some};
 ghost use Rattle.std.specs.FinMap as map;
+ghost use Rattle.lpt_reception.specs.LptPacket.Names.{named_by};
 ghost use Rattle.lpt_reception.specs.Steps.{kept};
 ghost use Rattle.lpt_reception.specs.Received.{is_gap, no_parts};
 ghost use Rattle.lpt_table.specs.Deadlines.{IsDue, due_of};
@@ -80,42 +81,49 @@ impl Table {
         })
     }
 
-    /// Offers a part to its transaction's reception, and opens one where none is open. `now` is the
-    /// tick at which the part has come; it isn't compared with earlier ticks.
+    /// Offers a part that came from this source to its transaction's reception, and opens one where
+    /// none is open. `now` is the tick at which the part has come; it isn't compared with earlier
+    /// ticks.
     ///
     /// The answer is the first of these that applies: `NoRoom`; `Conflict` for a contradiction;
     /// `Again`; in strict mode, for a part that isn't the next one, `Conflict` where a reception is
     /// open and `Gap` where none is; `Whole`; `Kept`. `Memory` comes in place of the last two alone.
     /// A reception that comes out leaves its last tick and its place in the table.
-    pub fn offer(&mut self, part: &Part<'_>, now: u32) -> Offer
+    pub fn offer(&mut self, source: u16, part: &Part<'_>, now: u32) -> Offer
         requires p { part.now.p ≡ self.old.p }
         requires settled { self.old.out ≡ None }
-        ensures answer { Offers self.old part.now.id part.now.number (kept part.now) now
-            result self.new }
+        ensures answer { Offers self.old (named_by source part.now.id) part.now.number
+            (kept part.now) now result self.new }
 
         // A reception that comes out may be put back.
-        ensures its { Its part.now.id self.old.p result }
+        ensures its { Its (named_by source part.now.id) self.old.p result }
 
         // The same as a function, out of memory aside.
         ensures offered { IfSome (kind_of result) (λ k.
-            offered self.old part.now.id part.now.number (kept part.now) now ≡ (k, self.new)) }
+            offered self.old (named_by source part.now.id) part.now.number (kept part.now) now
+            ≡ (k, self.new)) }
     {
-        self.answer(part, now)
+        let name = Name {
+            source,
+            id: part.id,
+        };
+        self.answer(name, part, now)
     }
 
-    // The same, with one clause of which the others follow.
-    fn answer(&mut self, part: &Part<'_>, now: u32) -> Offer
+    // The same by the name, with one clause of which the others follow.
+    fn answer(&mut self, name: Name, part: &Part<'_>, now: u32) -> Offer
         requires p { part.now.p ≡ self.old.p }
         requires settled { self.old.out ≡ None }
-        ensures { Offers self.old part.now.id part.now.number (kept part.now) now result self.new }
+        requires named { name.id ≡ part.now.id }
+        ensures { Offers self.old name part.now.number (kept part.now) now result self.new }
     {
-        match self.receptions.offer(self.mode, part, now) {
-            None => self.offer_first(part, now),
+        match self.receptions.offer(self.mode, name, part, now) {
+            None => self.offer_first(name, part, now),
             Some(Took::Kept) => Offer::Kept,
             Some(Took::Again) => Offer::Again,
-            Some(Took::Whole) => Offer::Whole(self.take_out(part.id).ended_by(part.number)),
+            Some(Took::Whole) => Offer::Whole(self.take_out(name).ended_by(part.number)),
             Some(Took::Conflict(reason)) => {
-                Offer::Conflict(self.take_out(part.id).broken_for(reason))
+                Offer::Conflict(self.take_out(name).broken_for(reason))
             }
             Some(Took::NoMemory) => Offer::Memory,
         }
@@ -143,11 +151,12 @@ impl Table {
     }
 
     // Opens a reception with this part.
-    fn offer_first(&mut self, part: &Part<'_>, now: u32) -> Offer
+    fn offer_first(&mut self, name: Name, part: &Part<'_>, now: u32) -> Offer
         requires part { part.now.p ≡ self.old.p }
         requires settled { self.old.out ≡ None }
-        requires absent { map.get self.old.entries part.now.id ≡ None }
-        ensures { Offers self.old part.now.id part.now.number (kept part.now) now result self.new }
+        requires named { name.id ≡ part.now.id }
+        requires absent { map.get self.old.entries name ≡ None }
+        ensures { Offers self.old name part.now.number (kept part.now) now result self.new }
     {
         if self.receptions.is_full() {
             return Offer::NoRoom;
@@ -157,7 +166,7 @@ impl Table {
         }
         match Filling::start(self.alloc, part, part.p) {
             Ok(filling) => {
-                self.keep(part.id, filling, now);
+                self.keep(name, filling, now);
                 Offer::Kept
             }
             Err(AllocError) => Offer::Memory,
@@ -181,7 +190,7 @@ impl Table {
         requires settled { self.old.out ≡ None }
         requires absent { map.get self.old.entries id ≡ None }
         requires room { map.len self.old.entries < self.old.limit }
-        requires id { filling.id ≡ id }
+        requires id { filling.id ≡ id.id }
         requires p { filling.p ≡ self.old.p }
         ensures { self.new ≡ with_entry self.old id filling.parts last }
     {
@@ -202,7 +211,7 @@ impl Table {
     /// tick. It takes no memory.
     pub fn put_back(&mut self, id: Name, filling: Filling)
         requires out { IsSomeAnd self.old.out (λ o. o.0 ≡ id) }
-        requires id { filling.id ≡ id }
+        requires id { filling.id ≡ id.id }
         requires p { filling.p ≡ self.old.p }
         ensures { self.new ≡ put_back self.old id filling.parts }
     {

@@ -40,31 +40,31 @@ text_only text (Err (tool.Threads k)) a b p = absurd p
 -- ---- the summary
 
 -- the lines of large releases by name
-abbrev pub AreWritten : Direction → List Release → (a b : Option (List ℕ)) → Type 0
-AreWritten d rs a b =
-    (sorted : List (Name × ℕ)) × IsByName (large_of d rs) sorted × Appends a b (large_text d sorted)
+abbrev pub AreWritten : (source : ℕ) → Direction → List Release → (a b : Option (List ℕ)) → Type 0
+AreWritten source d rs a b =
+    (sorted : List (Name × ℕ)) × IsByName (large_of d rs) sorted × Appends a b (large_text source d sorted)
 
-pub large_written : (d : Direction) (rs : List Release) (sorted : List (Name × ℕ)) (r : Result Unit ToolFault) (a b : Option (List ℕ))
+pub large_written : (source : ℕ) (d : Direction) (rs : List Release) (sorted : List (Name × ℕ)) (r : Result Unit ToolFault) (a b : Option (List ℕ))
     → IsByName (large_of d rs) sorted
-    → TextEnds (large_text d sorted) r a b
-    → OnOk r (AreWritten d rs a b)
-large_written d rs sorted (Ok u) a b is p = (sorted, is, p)
-large_written d rs sorted (Err fault) a b is p = tt
+    → TextEnds (large_text source d sorted) r a b
+    → OnOk r (AreWritten source d rs a b)
+large_written source d rs sorted (Ok u) a b is p = (sorted, is, p)
+large_written source d rs sorted (Err fault) a b is p = tt
 
 -- the counts behind the large releases of both directions
-pub summary_written : (rs : List Release) (xs : List Entry) (r : Result Unit ToolFault) (a b c d e : Option (List ℕ))
-    → AreWritten Up rs a b
-    → AreWritten Down rs b c
+pub summary_written : (source : ℕ) (rs : List Release) (xs : List Entry) (r : Result Unit ToolFault) (a b c d e : Option (List ℕ))
+    → AreWritten source Up rs a b
+    → AreWritten source Down rs b c
     → Appends c d (plain_count_text (plain_count rs))
     → TextEnds (applied_count_text (applied_count xs)) r d e
-    → OnOk r ((text : List ℕ) × IsSummary rs xs text × Appends a e text)
-summary_written rs xs (Err fault) a b c d e ups downs plain applied = tt
-summary_written rs xs (Ok u) a b c d e ups downs plain applied =
+    → OnOk r ((text : List ℕ) × IsSummary source rs xs text × Appends a e text)
+summary_written source rs xs (Err fault) a b c d e ups downs plain applied = tt
+summary_written source rs xs (Ok u) a b c d e ups downs plain applied =
     let counts = plain_count_text (plain_count rs) ++ applied_count_text (applied_count xs) in
-    let behind = large_text Down downs.0 ++ counts in (
-      large_text Up ups.0 ++ behind,
+    let behind = large_text source Down downs.0 ++ counts in (
+      large_text source Up ups.0 ++ behind,
       (ups.0, downs.0, ups.1, downs.1, refl),
-      Appends-trans a b e (large_text Up ups.0) behind ups.2
-          (Appends-trans b c e (large_text Down downs.0) counts downs.2
+      Appends-trans a b e (large_text source Up ups.0) behind ups.2
+          (Appends-trans b c e (large_text source Down downs.0) counts downs.2
           (Appends-trans c d e (plain_count_text (plain_count rs)) (applied_count_text (applied_count xs)) plain applied)),
     )

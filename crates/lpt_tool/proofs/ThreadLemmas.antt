@@ -104,7 +104,7 @@ lines_then turns left w end (Err fault) old new a b c failed wrote more leave en
 pub shown_passed : (turns : Turns) (left : Left) (done : ThreadsEnd) (w : Shown) (a b c : Option (List ℕ)) (wrote : Bool)
     → done.full.items ≡ full_seats turns.per_seat w.journal
     → IsRun turns left.world w
-    → ((summary : List ℕ) × IsSummary (releases w.config (history w)) w.journal summary × Appends a b (summary ++ shown_text left.kept w))
+    → ((summary : List ℕ) × IsSummary w.config.source (releases w.config (history w)) w.journal summary × Appends a b (summary ++ shown_text left.kept w))
     → Keeps b c
     → GoesOn turns left done.refused (Ok done) a c wrote
 shown_passed turns left done w a b c wrote full ran p q =
@@ -112,8 +112,8 @@ shown_passed turns left done w a b c wrote full ran p q =
 
 -- what a run left, and what kept lines show of it
 pub left_shown : (kept : List Show) (w : Shown) (r : Result Unit ToolFault) (a b c : Option (List ℕ))
-    → ((summary : List ℕ) × IsSummary (releases w.config (history w)) w.journal summary × Appends a b summary)
+    → ((summary : List ℕ) × IsSummary w.config.source (releases w.config (history w)) w.journal summary × Appends a b summary)
     → TextEnds (shown_text kept w) r b c
-    → OnOk r ((summary : List ℕ) × IsSummary (releases w.config (history w)) w.journal summary × Appends a c (summary ++ shown_text kept w))
+    → OnOk r ((summary : List ℕ) × IsSummary w.config.source (releases w.config (history w)) w.journal summary × Appends a c (summary ++ shown_text kept w))
 left_shown kept w (Ok u) a b c p q = (p.0, p.1, Appends-trans a b c p.0 (shown_text kept w) p.2 q)
 left_shown kept w (Err fault) a b c p q = tt

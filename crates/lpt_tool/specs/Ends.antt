@@ -32,7 +32,7 @@ IsShownBehind text turns left full before after =
     × IsRun turns left.world w
     × (full ≡ full_seats turns.per_seat w.journal)
     × (summary : List ℕ)
-    × IsSummary (releases w.config (history w)) w.journal summary
+    × IsSummary w.config.source (releases w.config (history w)) w.journal summary
     × Appends before after (text ++ (summary ++ shown_text left.kept w))
 
 -- How a script with threads ends. Ok: all was read, each line could be, and what those print that don't

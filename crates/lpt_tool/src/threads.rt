@@ -35,7 +35,7 @@ impl Gate for Open {
 ///
 /// The lines that don't show are run as `run_script` runs them, and print the same; those that show
 /// are read with them, so an unreadable one ends the run in its place, and no thread runs. Behind that
-/// text stand the large releases, by direction and identifier, how many plain requests were released
+/// text stand the large releases, by direction and name, how many plain requests were released
 /// and how many requests executed; then what the kept lines show, in order. Where the run ends well,
 /// `out` has passed on all that was written, and it is answered which seats have as many calls in the
 /// journal as `turns` gives each, or more: of those much may be left to do.
@@ -151,14 +151,20 @@ fn show_left<K: Sink>(
     kept: &[Show],
     out: &mut K,
 ) -> Result<(), ToolFault>
-    ensures all { OnOk result ((summary : List ℕ) × IsSummary (releases world.now.config (history world.now)) world.now.journal summary
+    ensures all { OnOk result ((summary : List ℕ) × IsSummary world.now.config.source (releases world.now.config (history world.now)) world.now.journal summary
         × Appends (K.contents out.old) (K.contents out.new) (summary ++ shown_text kept.now world.now)) }
     ensures grows { Grows (K.contents out.old) (K.contents out.new) }
     ensures only { IfErr result (λ e. (e ≡ ToolFault.Write) ⊎ (e ≡ ToolFault.Memory)) }
     ensures cause { IsErrOf result ToolFault.Write → K.failed out.new ≡ true }
     ensures told { result ≢ Err ToolFault.Write → K.failed out.new ≡ K.failed out.old }
 {
-    match put_summary(alloc, world.released(), world.journal(), out) {
+    match put_summary(
+        alloc,
+        world.config().source,
+        world.released(),
+        world.journal(),
+        out,
+    ) {
         Ok(()) => show_kept(alloc, world, kept, out),
         Err(fault) => Err(fault),
     }

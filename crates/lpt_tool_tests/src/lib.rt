@@ -20,6 +20,8 @@ mod lines;
 #[cfg(test)]
 mod memories;
 #[cfg(test)]
+mod names;
+#[cfg(test)]
 mod scripts;
 #[cfg(test)]
 mod settings;

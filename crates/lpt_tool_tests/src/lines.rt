@@ -1,8 +1,9 @@
 //! Lines of scripts with what they say, worked out by hand.
 
+use crate::names::{ID_0, ID_7, ID_9, ID_65535};
 use lpt_tool::{
-    AckFlags, Area, Command, Direction, Event, Lane, Load, Octets, Reading, Show, Side, read_hex,
-    read_line, read_number, split_line, split_word,
+    AckFlags, Area, Command, Direction, Event, Lane, Load, Name, Octets, Reading, Show, Side,
+    read_hex, read_line, read_number, split_line, split_word,
 };
 use std::alloc::{AllocError, Global};
 use std::process::Abort;
@@ -10,7 +11,7 @@ use std::test::Fail;
 
 /// Whether a line is read as this.
 pub(crate) fn reads(alloc: Global, line: &[u8], wanted: &Reading) -> bool {
-    match read_line(alloc, line) {
+    match read_line(alloc, 1, line) {
         Ok(reading) => reading == *wanted,
         Err(_) => false,
     }
@@ -29,13 +30,13 @@ fn reads_each_line(rt: HostRuntime) {
         &rt,
         alloc,
         "send up 0 1",
-        Command::Event(Event::Send(Direction::Up, 0, 1)),
+        Command::Event(Event::Send(Direction::Up, ID_0, 1)),
     );
     asks(
         &rt,
         alloc,
         "send down 65535 065535",
-        Command::Event(Event::Send(Direction::Down, 65535, 65535)),
+        Command::Event(Event::Send(Direction::Down, ID_65535, 65535)),
     );
     asks(
         &rt,
@@ -66,7 +67,7 @@ fn reads_each_line(rt: HostRuntime) {
         &rt,
         alloc,
         "finish down 9",
-        Command::Event(Event::Finish(Direction::Down, 9)),
+        Command::Event(Event::Finish(Direction::Down, ID_9)),
     );
     asks(&rt, alloc, "tick craft", Command::Tick(Side::Craft, 1));
     asks(
@@ -85,7 +86,7 @@ fn reads_each_line(rt: HostRuntime) {
         &rt,
         alloc,
         "retire up 7",
-        Command::Event(Event::Retire(Direction::Up, 7)),
+        Command::Event(Event::Retire(Direction::Up, ID_7)),
     );
     asks(
         &rt,
@@ -130,7 +131,7 @@ fn reads_the_octets_of_a_message(rt: HostRuntime) -> Result<(), Fail> {
             &rt,
             rt.alloc(),
             line,
-            Command::Event(Event::Open(Direction::Down, 7, message)),
+            Command::Event(Event::Open(Direction::Down, ID_7, message)),
         );
     }
     Ok(())
@@ -156,7 +157,7 @@ fn reads_plain_requests(rt: HostRuntime) -> Result<(), Fail> {
         &rt,
         rt.alloc(),
         "plain 15 255 0 01fF",
-        Command::Event(Event::Plain(flags, 255, 0, body)),
+        Command::Event(Event::Plain(1, flags, 255, 0, body)),
     );
     Ok(())
 }
@@ -167,9 +168,10 @@ type Head = (u16, u16, u8, u8);
 // A load of areas of these addresses and octets.
 fn load(alloc: Global, head: Head, areas: &[(u32, &[u8])]) -> Result<Load, Fail> {
     let (id, count, flags, memory) = head;
+    let name = Name { source: 1, id };
     let flags = AckFlags::new(flags).ok_or("no flags")?;
     let areas = areas_of(alloc, areas)?;
-    Ok(Load::new(id, count, flags, memory, areas).ok_or("no load")?)
+    Ok(Load::new(name, count, flags, memory, areas).ok_or("no load")?)
 }
 
 fn areas_of(alloc: Global, rows: &[(u32, &[u8])]) -> Result<Vec<Area>, AllocError> {
@@ -219,7 +221,7 @@ fn load_line(alloc: Global, count: usize, octets: usize) -> Result<Vec<u8>, Fail
 // Whether a load of so many areas of so many octets each is read as a command.
 fn reads_load(alloc: Global, count: usize, octets: usize) -> Result<bool, Fail> {
     let line = load_line(alloc, count, octets)?;
-    Ok(matches!(read_line(alloc, &line)?, Reading::Asks(_)))
+    Ok(matches!(read_line(alloc, 1, &line)?, Reading::Asks(_)))
 }
 
 #[test]

@@ -1,5 +1,6 @@
 //! Each text of an event, an outcome and a show once, written out by hand.
 
+use crate::names::{ID_3, ID_7, ID_8, ID_65535, OTHER_7};
 use lpt_tool::{
     Direction, Name, Octets, Outcome, Reason, Release, Side, StepFault, Why, print_clock,
     print_expired, print_finished, print_journal, print_memory, print_none, print_opened,
@@ -27,19 +28,19 @@ fn prints_what_an_event_did(rt: HostRuntime) {
     let alloc = rt.alloc();
     prints(
         &rt,
-        print_opened(alloc, Direction::Up, 7, 3),
+        print_opened(alloc, 1, Direction::Up, ID_7, 3),
         "opened up 7 parts 3\n",
     );
     prints(&rt, print_put(alloc, 0), "put 0\n");
     prints(&rt, print_took(alloc, 2), "took 2\n");
     prints(
         &rt,
-        print_finished(alloc, Direction::Up, 7),
+        print_finished(alloc, 1, Direction::Up, ID_7),
         "finished up 7\n",
     );
     prints(
         &rt,
-        print_expired(alloc, Direction::Down, 65535),
+        print_expired(alloc, 1, Direction::Down, ID_65535),
         "expired down 65535\n",
     );
     prints(&rt, print_clock(alloc, 4_294_967_295), "clock 4294967295\n");
@@ -51,7 +52,7 @@ fn prints_what_an_event_did(rt: HostRuntime) {
     prints(&rt, print_unreadable(alloc, 2), "line 2: unreadable\n");
     prints(
         &rt,
-        print_retired(alloc, Direction::Down, 3),
+        print_retired(alloc, 1, Direction::Down, ID_3),
         "retired down 3\n",
     );
     prints(&rt, print_stale(alloc, 0, 4), "stale 0 4\n");
@@ -77,29 +78,30 @@ fn prints_what_an_event_did(rt: HostRuntime) {
     );
 }
 
-static OUTCOMES: [(Direction, Outcome, &str); 14] = [
-    (Direction::Up, Outcome::Kept(7, 3), "kept up 7 3\n"),
-    (Direction::Up, Outcome::Again(7, 1), "again up 7 1\n"),
+static OUTCOMES: [(Direction, Outcome, &str); 15] = [
+    (Direction::Up, Outcome::Kept(OTHER_7, 3), "kept up 2/7 3\n"),
+    (Direction::Up, Outcome::Kept(ID_7, 3), "kept up 7 3\n"),
+    (Direction::Up, Outcome::Again(ID_7, 1), "again up 7 1\n"),
     (
         Direction::Up,
-        Outcome::Released(7, 20),
+        Outcome::Released(ID_7, 20),
         "released up 7 20\n",
     ),
     (
         Direction::Down,
-        Outcome::Released(65535, 65542),
+        Outcome::Released(ID_65535, 65542),
         "released down 65535 65542\n",
     ),
     (Direction::Up, Outcome::PlainReleased(27), "plain 27\n"),
     (Direction::Down, Outcome::ReportNoted(1, 4), "report 1 4\n"),
     (
         Direction::Down,
-        Outcome::AbortNoted(7, Reason::Expired),
+        Outcome::AbortNoted(ID_7, Reason::Expired),
         "abort 7 1\n",
     ),
     (
         Direction::Up,
-        Outcome::Broken(7, Reason::Conflict),
+        Outcome::Broken(ID_7, Reason::Conflict),
         "broken up 7 3\n",
     ),
     (
@@ -133,7 +135,7 @@ static OUTCOMES: [(Direction, Outcome, &str); 14] = [
 #[test]
 fn prints_each_outcome(rt: HostRuntime) {
     for (direction, outcome, text) in &OUTCOMES {
-        assert!(rt; is(print_outcome(rt.alloc(), *direction, *outcome), text));
+        assert!(rt; is(print_outcome(rt.alloc(), 1, *direction, *outcome), text));
     }
 }
 
@@ -166,8 +168,8 @@ fn prints_what_a_world_shows(rt: HostRuntime) {
 #[test]
 fn prints_what_was_released(rt: HostRuntime) {
     for (of, text) in [
-        (Some((Direction::Up, 7)), "up 7 00ff\n"),
-        (Some((Direction::Down, 8)), "down 8 00ff\n"),
+        (Some((Direction::Up, ID_7)), "up 7 00ff\n"),
+        (Some((Direction::Down, ID_8)), "down 8 00ff\n"),
         (None, "plain 00ff\n"),
     ] {
         assert!(rt; is(release_text(rt.alloc(), of), text));
@@ -182,5 +184,5 @@ fn release_text(alloc: Global, of: Option<(Direction, Name)>) -> Result<String, 
         of,
         message,
     };
-    print_release(alloc, &release)
+    print_release(alloc, 1, &release)
 }

@@ -18,17 +18,17 @@ is_asked (Some x) h = tt
 is_asked None h = absurd cc
 
 -- a line of which a keyword's words are a command asks for it
-pub asks : (line w : List ℕ) (ws : List (List ℕ)) (k : Keyword)
+pub asks : (source : ℕ) (line w : List ℕ) (ws : List (List ℕ)) (k : Keyword)
     → nat_lt 140000 (length line) ≡ false
     → words line ≡ w ∷ ws
     → is_comment w ≡ false
     → keyword_of w ≡ Some k
-    → IsSome (arguments_of k ws)
-    → IsAsked (reading_of line)
+    → IsSome (arguments_of source k ws)
+    → IsAsked (reading_of source line)
 unfolding reading_of
-asks line w ws k short cut plain key some =
+asks source line w ws k short cut plain key some =
     subst IsAsked
-    (sym ((λ i. if short i then Unreadable else words_reading (cut i))
+    (sym ((λ i. if short i then Unreadable else words_reading source (cut i))
     ∙ (λ i. if plain i then Skipped
-    else asked (option_and_then (λ j. arguments_of j ws) (key i)))))
-    (is_asked (arguments_of k ws) some)
+    else asked (option_and_then (λ j. arguments_of source j ws) (key i)))))
+    (is_asked (arguments_of source k ws) some)

@@ -8,7 +8,8 @@ use Rattle.lpt_memory.specs.declared.request.Area.{Area}
 use Rattle.std.proofs.lemmas.List.Sums.{sum_by-cons}
 use Rattle.lpt_words.specs.Grammar.{area_of, areas_of, load_with, can_be_loaded, counts}
 use Rattle.lpt_words.specs.Loads.{LoadView, if_written}
-use Rattle.lpt_words.specs.Names.{u16_of, u8_of, flags_of}
+use Rattle.lpt_events.specs.LptPacket.Names.{Name}
+use Rattle.lpt_words.specs.Names.{id_of, u16_of, u8_of, flags_of}
 
 -- ---- areas
 
@@ -183,7 +184,7 @@ written_parts : (w : Bool) (n : ℕ) (l : LoadView)
 written_parts true n l = grind (arith, nat_tests)
 written_parts false n l = grind (arith, nat_tests)
 
-load_parts : (areas : List Area) (i s f m : Option ℕ)
+load_parts : (areas : List Area) (i : Option Name) (s f m : Option ℕ)
     → is_some (i >>= λ id. s >>= λ count. f >>= λ flags. m >>= λ memory.
     if_written (record { id = id; count = count; flags = flags; memory = memory; areas = areas }))
     ≡ ((((is_some i && is_some f) && is_some m) && counts s) && can_be_loaded (Some areas))
@@ -198,11 +199,11 @@ load_parts areas (Some i) (Some s) (Some f) (Some m) =
     (record { id = i; count = s; flags = f; memory = m; areas = areas })
 
 -- words and areas are a load where each is what it should be
-pub is_load_parts : (areas : Option (List Area)) (i s f m : List ℕ)
-    → is_some (areas >>= load_with i s f m)
-    ≡ ((((is_some (u16_of i) && is_some (flags_of f)) && is_some (u8_of m)) && counts (u16_of s))
+pub is_load_parts : (source : ℕ) (areas : Option (List Area)) (i s f m : List ℕ)
+    → is_some (areas >>= load_with source i s f m)
+    ≡ ((((is_some (id_of source i) && is_some (flags_of f)) && is_some (u8_of m)) && counts (u16_of s))
     && can_be_loaded areas)
-is_load_parts None i s f m =
-    sym (and_nothing (is_some (u16_of i)) (is_some (flags_of f)) (is_some (u8_of m))
+is_load_parts source None i s f m =
+    sym (and_nothing (is_some (id_of source i)) (is_some (flags_of f)) (is_some (u8_of m))
     (counts (u16_of s)))
-is_load_parts (Some areas) i s f m = load_parts areas (u16_of i) (u16_of s) (flags_of f) (u8_of m)
+is_load_parts source (Some areas) i s f m = load_parts areas (id_of source i) (u16_of s) (flags_of f) (u8_of m)

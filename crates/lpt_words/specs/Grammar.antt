@@ -1,6 +1,7 @@
 -- What each line of a script asks for.
 use Rattle.std.specs.Prelude.{◌≡◌, ℕ, ◌==◌, Bool, false, not, is_some, if◌then◌else◌, nat_le, nat_lt, List, [], ◌∷◌, length, ◌⊎◌, Option, Some, None, codes, ⊤}
 use Rattle.std.specs.Option.{option_map, option_and_then, option_zip}
+use Rattle.lpt_events.specs.LptPacket.Names.{Name}
 use Rattle.lpt_events.specs.LptPacket.declared.direction.Direction.{Direction}
 use Rattle.lpt_events.specs.declared.event.Event.TheVariants as event
 use Rattle.lpt_events.specs.declared.lane.Lane.{Lane}
@@ -17,38 +18,38 @@ use Rattle.lpt_words.specs.declared.showing.Show.{Show}
 use Rattle.lpt_words.specs.declared.showing.Show.TheVariants as show
 use Rattle.lpt_words.specs.declared.names.Keyword.{Keyword}
 use Rattle.lpt_words.specs.declared.names.Keyword.TheVariants as key
-use Rattle.lpt_words.specs.Names.{keyword_of, direction_of, lane_of, name_of, node_of, u8_of, u16_of, u32_of, flags_of, packet_number_of, worker_of, count_of}
+use Rattle.lpt_words.specs.Names.{keyword_of, direction_of, id_of, lane_of, name_of, node_of, u8_of, u16_of, u32_of, flags_of, sent_flags_of, packet_number_of, worker_of, count_of}
 use Rattle.lpt_words.specs.Numbers.{is_word, octets_of}
 use Rattle.lpt_words.specs.Words.{is_empty, one_of, three_of, two_of, words}
 
 -- ---- the words after the first, a definition a kind of line
 
 -- `open DIRECTION ID HEX`
-abbrev pub open_of : List (List ℕ) → Option Command
-open_of ws = do
+abbrev pub open_of : (source : ℕ) → List (List ℕ) → Option Command
+open_of source ws = do
   w ← three_of ws
-  name ← name_of w.0 w.1
+  name ← name_of source w.0 w.1
   message ← octets_of w.2
   Some (command.Event (event.Open name.0 name.1 message))
 
 -- `send DIRECTION ID K`
-abbrev pub send_of : List (List ℕ) → Option Command
-send_of ws = do
+abbrev pub send_of : (source : ℕ) → List (List ℕ) → Option Command
+send_of source ws = do
   w ← three_of ws
-  name ← name_of w.0 w.1
+  name ← name_of source w.0 w.1
   part ← u16_of w.2
   Some (command.Event (event.Send name.0 name.1 part))
 
 -- `plain FLAGS SERVICE SUBTYPE HEX`
-abbrev pub plain_of : List (List ℕ) → Option Command
-plain_of [] = None
-plain_of (f ∷ ws) = do
+abbrev pub plain_of : (source : ℕ) → List (List ℕ) → Option Command
+plain_of source [] = None
+plain_of source (f ∷ ws) = do
   w ← three_of ws
-  flags ← flags_of f
+  sent ← sent_flags_of source f
   service ← u8_of w.0
   subtype ← u8_of w.1
   body ← octets_of w.2
-  Some (command.Event (event.Plain flags service subtype body))
+  Some (command.Event (event.Plain sent.0 sent.1 service subtype body))
 
 -- `ADDR HEX`: an area of a load
 abbrev pub area_of : List ℕ → List ℕ → Option Area
@@ -67,18 +68,18 @@ areas_of (a ∷ m ∷ ws) = do
   Some (first ∷ others)
 
 -- the load of these words and areas
-abbrev pub load_with : List ℕ → List ℕ → List ℕ → List ℕ → List Area → Option Load
-load_with i s f m areas = do
-  id ← u16_of i
+abbrev pub load_with : (source : ℕ) → List ℕ → List ℕ → List ℕ → List ℕ → List Area → Option Load
+load_with source i s f m areas = do
+  id ← id_of source i
   count ← u16_of s
   flags ← flags_of f
   memory ← u8_of m
   if_written (record { id = id; count = count; flags = flags; memory = memory; areas = areas })
 
 -- `load ID SEQ FLAGS MEM ADDR HEX [ADDR HEX ..]`
-abbrev pub load_of : List (List ℕ) → Option Load
-load_of (i ∷ s ∷ f ∷ m ∷ ws) = areas_of ws >>= load_with i s f m
-load_of _ = None
+abbrev pub load_of : (source : ℕ) → List (List ℕ) → Option Load
+load_of source (i ∷ s ∷ f ∷ m ∷ ws) = areas_of ws >>= load_with source i s f m
+load_of source _ = None
 
 -- whether there are areas, and a load of them can be written
 abbrev pub can_be_loaded : Option (List Area) → Bool
@@ -95,8 +96,8 @@ abbrev pub lane_and_packet_of : List (List ℕ) → Option (Lane × ℕ)
 lane_and_packet_of ws = two_of ws >>= λ w. option_zip (lane_of w.0) (packet_number_of w.1)
 
 -- `DIRECTION ID`
-abbrev pub transaction_of : List (List ℕ) → Option (Direction × ℕ)
-transaction_of ws = two_of ws >>= λ w. name_of w.0 w.1
+abbrev pub transaction_of : (source : ℕ) → List (List ℕ) → Option (Direction × Name)
+transaction_of source ws = two_of ws >>= λ w. name_of source w.0 w.1
 
 -- `lose N`
 abbrev pub lose_of : List (List ℕ) → Option Command
@@ -123,8 +124,8 @@ abbrev pub pass_of : List (List ℕ) → Option Command
 pass_of ws = option_map (λ p. command.Pass p.0 p.1) (lane_and_packet_of ws)
 
 -- `finish DIRECTION ID`
-abbrev pub finish_of : List (List ℕ) → Option Command
-finish_of ws = option_map (λ t. command.Event (event.Finish t.0 t.1)) (transaction_of ws)
+abbrev pub finish_of : (source : ℕ) → List (List ℕ) → Option Command
+finish_of source ws = option_map (λ t. command.Event (event.Finish t.0 t.1)) (transaction_of source ws)
 
 -- how many ticks the words after a node ask for: one, unless they say
 abbrev pub ticks_of : List (List ℕ) → Option ℕ
@@ -152,8 +153,8 @@ abbrev pub commit_of : List (List ℕ) → Option Command
 commit_of ws = option_map (λ w. command.Event (event.Commit w)) (one_of ws >>= worker_of)
 
 -- `retire DIRECTION ID`
-abbrev pub retire_of : List (List ℕ) → Option Command
-retire_of ws = option_map (λ t. command.Event (event.Retire t.0 t.1)) (transaction_of ws)
+abbrev pub retire_of : (source : ℕ) → List (List ℕ) → Option Command
+retire_of source ws = option_map (λ t. command.Event (event.Retire t.0 t.1)) (transaction_of source ws)
 
 -- `restart NODE`
 abbrev pub restart_of : List (List ℕ) → Option Command
@@ -184,40 +185,40 @@ show_memory_of ws = do
   Some (show.Memory id address len)
 
 -- `clear DIRECTION ID` behind `show`
-abbrev pub show_clear_of : List (List ℕ) → Option Show
-show_clear_of ws = option_map (λ t. show.Clear t.0 t.1) (transaction_of ws)
+abbrev pub show_clear_of : (source : ℕ) → List (List ℕ) → Option Show
+show_clear_of source ws = option_map (λ t. show.Clear t.0 t.1) (transaction_of source ws)
 
 -- all of these
-abbrev pub show_of : List (List ℕ) → Option Show
-show_of [] = None
-show_of (w ∷ ws) =
+abbrev pub show_of : (source : ℕ) → List (List ℕ) → Option Show
+show_of source [] = None
+show_of source (w ∷ ws) =
     if is_empty ws then show_whole_of w
     else if is_word (codes "memory") w then show_memory_of ws
-    else if is_word (codes "clear") w then show_clear_of ws
+    else if is_word (codes "clear") w then show_clear_of source ws
     else if is_word (codes "packet") w then show_packet_of ws
     else None
 
--- the command of a keyword and the words after it
-abbrev pub arguments_of : Keyword → List (List ℕ) → Option Command
-arguments_of key.Open ws = open_of ws
-arguments_of key.Send ws = send_of ws
-arguments_of key.Lose ws = lose_of ws
-arguments_of key.Damage ws = damage_of ws
-arguments_of key.Take ws = take_of ws
-arguments_of key.Deliver ws = deliver_of ws
-arguments_of key.Pass ws = pass_of ws
-arguments_of key.Show ws = option_map command.Show (show_of ws)
-arguments_of key.Finish ws = finish_of ws
-arguments_of key.Tick ws = tick_of ws
-arguments_of key.Expire ws = expire_of ws
-arguments_of key.Plain ws = plain_of ws
-arguments_of key.Load ws = option_map command.Load (load_of ws)
-arguments_of key.Claim ws = claim_of ws
-arguments_of key.Commit ws = commit_of ws
-arguments_of key.Apply ws = alone_of (command.Event event.Apply) ws
-arguments_of key.Work ws = alone_of command.Work ws
-arguments_of key.Retire ws = retire_of ws
-arguments_of key.Restart ws = restart_of ws
+-- the command of a keyword and the words after it; the names in it are of this source
+abbrev pub arguments_of : (source : ℕ) → Keyword → List (List ℕ) → Option Command
+arguments_of source key.Open ws = open_of source ws
+arguments_of source key.Send ws = send_of source ws
+arguments_of source key.Lose ws = lose_of ws
+arguments_of source key.Damage ws = damage_of ws
+arguments_of source key.Take ws = take_of ws
+arguments_of source key.Deliver ws = deliver_of ws
+arguments_of source key.Pass ws = pass_of ws
+arguments_of source key.Show ws = option_map command.Show (show_of source ws)
+arguments_of source key.Finish ws = finish_of source ws
+arguments_of source key.Tick ws = tick_of ws
+arguments_of source key.Expire ws = expire_of ws
+arguments_of source key.Plain ws = plain_of source ws
+arguments_of source key.Load ws = option_map command.Load (load_of source ws)
+arguments_of source key.Claim ws = claim_of ws
+arguments_of source key.Commit ws = commit_of ws
+arguments_of source key.Apply ws = alone_of (command.Event event.Apply) ws
+arguments_of source key.Work ws = alone_of command.Work ws
+arguments_of source key.Retire ws = retire_of source ws
+arguments_of source key.Restart ws = restart_of ws
 
 -- ---- lines
 
@@ -247,12 +248,13 @@ asked (Some c) = Asks c
 asked None = Unreadable
 
 -- what the words of a line say: a blank line and a comment are skipped
-abbrev pub words_reading : List (List ℕ) → Reading
-words_reading [] = Skipped
-words_reading (w ∷ ws) =
+abbrev pub words_reading : (source : ℕ) → List (List ℕ) → Reading
+words_reading source [] = Skipped
+words_reading source (w ∷ ws) =
     if is_comment w then Skipped
-    else asked (option_and_then (λ k. arguments_of k ws) (keyword_of w))
+    else asked (option_and_then (λ k. arguments_of source k ws) (keyword_of w))
 
--- what a line says; one of more than 140,000 octets is unreadable, whatever it holds
-unfoldable pub reading_of : List ℕ → Reading
-reading_of line = if nat_lt 140000 (length line) then Unreadable else words_reading (words line)
+-- what a line says where this source is configured; one of more than 140,000 octets is unreadable, whatever it holds
+unfoldable pub reading_of : (source : ℕ) → List ℕ → Reading
+reading_of source line =
+    if nat_lt 140000 (length line) then Unreadable else words_reading source (words line)

@@ -1,6 +1,7 @@
 -- The words of a line that name something, each by itself.
-use Rattle.std.specs.Prelude.{ℕ, ◌==◌, if◌then◌else◌, List, [], ◌∷◌, Option, Some, None, codes}
-use Rattle.std.specs.Option.{option_and_then, option_zip}
+use Rattle.std.specs.Prelude.{ℕ, ◌+◌, ◌==◌, if◌then◌else◌, List, [], ◌∷◌, take, drop, position, Option, Some, None, codes}
+use Rattle.std.specs.Option.{option_and_then, option_map, option_zip}
+use Rattle.lpt_events.specs.LptPacket.Names.{Name, named_by}
 use Rattle.lpt_events.specs.LptPacket.declared.direction.Direction.{Direction}
 use Rattle.lpt_events.specs.LptPacket.declared.direction.Direction.TheVariants.{Up, Down}
 use Rattle.lpt_events.specs.declared.lane.Lane.{Lane}
@@ -66,13 +67,39 @@ lane_of word =
 abbrev pub u16_of : List ℕ → Option ℕ
 u16_of word = number_of 65535 word
 
--- the direction and the identifier of a transaction
-abbrev pub name_of : List ℕ → List ℕ → Option (Direction × ℕ)
-name_of direction id = option_zip (direction_of direction) (u16_of id)
+-- a word cut at a slash in this place: what is before it, and what is behind
+abbrev pub cut_at : List ℕ → Option ℕ → Option (List ℕ) × List ℕ
+cut_at word None = (None, word)
+cut_at word (Some n) = (Some (take n word), drop (n + 1) word)
+
+-- a word cut at its first slash, where it has one: the word of a source, and what is of that source
+abbrev pub cut_source : List ℕ → Option (List ℕ) × List ℕ
+cut_source word = cut_at word (position (λ b. b == 47) word)
+
+-- the source that a word names, or else the configured one
+abbrev pub source_of : (source : ℕ) → Option (List ℕ) → Option ℕ
+source_of source None = Some source
+source_of source (Some word) = u16_of word
+
+-- the name of a transaction: `ID`, where this source is configured, or `SOURCE/ID`
+abbrev pub id_of : (source : ℕ) → List ℕ → Option Name
+id_of source word =
+    option_map (λ n. named_by n.0 n.1)
+    (option_zip (source_of source (cut_source word).0) (u16_of (cut_source word).1))
+
+-- the direction and the name of a transaction
+abbrev pub name_of : (source : ℕ) → List ℕ → List ℕ → Option (Direction × Name)
+name_of source direction id = option_zip (direction_of direction) (id_of source id)
 
 -- acknowledgement flags
 abbrev pub flags_of : List ℕ → Option ℕ
 flags_of word = number_of 15 word
+
+-- the source of a request and its acknowledgement flags: `FLAGS`, where this source is configured,
+-- or `SOURCE/FLAGS`
+abbrev pub sent_flags_of : (source : ℕ) → List ℕ → Option (ℕ × ℕ)
+sent_flags_of source word =
+    option_zip (source_of source (cut_source word).0) (flags_of (cut_source word).1)
 
 -- a service type, a message subtype or the identifier of a memory
 abbrev pub u8_of : List ℕ → Option ℕ

@@ -45,24 +45,27 @@ pub enum Reading {
     Unreadable,
 }
 
-/// Reads a line, given without its line feed and the carriage return dropped with that.
+/// Reads a line, given without its line feed and the carriage return dropped with that. A
+/// transaction that it names is one of `source`, the configured one, unless the line says SOURCE/ID
+/// in place of ID; and so is a plain request, unless the line says SOURCE/FLAGS in place of FLAGS.
 ///
 /// A blank line and one whose first word begins with `#` are skipped, whatever else they hold. A
 /// line of more than 140,000 octets is unreadable, even one that would be skipped. The words of a
 /// command are in lower case: DIRECTION is `up` or `down`, LANE is `s1`, `s2`, `g1` or `g2`, NODE
-/// is `craft` or `ground`, WORKER is `w1` or `w2`, ID and K are numbers to 65,535, SEQ is one to 16,383, FLAGS one to 15,
-/// SERVICE, SUBTYPE, MEM and the ID of a memory are numbers to 255, ADDR and LEN to 4,294,967,295,
-/// N is one of at most ten digits, and HEX is as `read_hex` reads it. A load has at least one pair
-/// of ADDR and HEX, and is unreadable where it can't be written (`Load::new`).
+/// is `craft` or `ground`, WORKER is `w1` or `w2`, ID, SOURCE and K are numbers to 65,535, SEQ is
+/// one to 16,383, FLAGS one to 15, SERVICE, SUBTYPE, MEM and the ID of a memory are numbers to 255,
+/// ADDR and LEN to 4,294,967,295, N is one of at most ten digits, and HEX is as `read_hex` reads it.
+/// A load has at least one pair of ADDR and HEX, and is unreadable where it can't be written
+/// (`Load::new`).
 /// Nothing may follow the last word.
 /// Errors: out of memory, only at a line that asks for an `open`, a `damage`, a `plain` or a `load`.
 #[tactic(auto, unfolding(crate::specs::Grammar::reading_of))]
-pub fn read_line(alloc: Global, line: &[u8]) -> Result<Reading, AllocError>
-    ensures says { IfOk result (λ r. r ≡ reading_of line.now) }
+pub fn read_line(alloc: Global, source: u16, line: &[u8]) -> Result<Reading, AllocError>
+    ensures says { IfOk result (λ r. r ≡ reading_of source line.now) }
 
     // Only the octets of a message, of damage, of a request or of a load take memory, once all else
     // is judged.
-    ensures asked { OnErr result (IsAsked (reading_of line.now)) }
+    ensures asked { OnErr result (IsAsked (reading_of source line.now)) }
     ensures memory { OnErr result (TakesMemory (words line.now)) }
 {
     if line.len() > LONGEST_LINE {
@@ -77,7 +80,7 @@ pub fn read_line(alloc: Global, line: &[u8]) -> Result<Reading, AllocError>
     let Some(keyword) = read_keyword(word) else {
         return Ok(Reading::Unreadable);
     };
-    match read_arguments(alloc, keyword, rest)? {
+    match read_arguments(alloc, source, keyword, rest)? {
         Some(command) => Ok(Reading::Asks(command)),
         None => Ok(Reading::Unreadable),
     }
@@ -93,33 +96,34 @@ fn begins_comment(word: &[u8]) -> bool
 // The command of a keyword and of the words after it.
 fn read_arguments(
     alloc: Global,
+    source: u16,
     keyword: Keyword,
     rest: &[u8],
 ) -> Result<Option<Command>, AllocError>
-    ensures says { IfOk result (λ r. r ≡ arguments_of keyword (words rest.now)) }
-    ensures asked { OnErr result (IsSome (arguments_of keyword (words rest.now))) }
+    ensures says { IfOk result (λ r. r ≡ arguments_of source keyword (words rest.now)) }
+    ensures asked { OnErr result (IsSome (arguments_of source keyword (words rest.now))) }
     ensures memory { OnErr result ((keyword ≡ Keyword.Open) ⊎ (keyword ≡ Keyword.Damage)
         ⊎ (keyword ≡ Keyword.Plain) ⊎ (keyword ≡ Keyword.Load)) }
 {
     match keyword {
-        Keyword::Open => read_open(alloc, rest),
-        Keyword::Send => Ok(read_send(rest)),
+        Keyword::Open => read_open(alloc, source, rest),
+        Keyword::Send => Ok(read_send(source, rest)),
         Keyword::Lose => Ok(read_lose(rest)),
         Keyword::Damage => read_damage(alloc, rest),
         Keyword::Take => Ok(read_take(rest)),
         Keyword::Deliver => Ok(read_deliver(rest)),
         Keyword::Pass => Ok(read_pass(rest)),
-        Keyword::Show => Ok(read_show(rest).map(Command::Show)),
-        Keyword::Finish => Ok(read_finish(rest)),
+        Keyword::Show => Ok(read_show(source, rest).map(Command::Show)),
+        Keyword::Finish => Ok(read_finish(source, rest)),
         Keyword::Tick => Ok(read_tick(rest)),
         Keyword::Expire => Ok(read_expire(rest)),
-        Keyword::Plain => read_plain(alloc, rest),
-        Keyword::Load => Ok(read_load(alloc, rest)?.map(Command::Load)),
+        Keyword::Plain => read_plain(alloc, source, rest),
+        Keyword::Load => Ok(read_load(alloc, source, rest)?.map(Command::Load)),
         Keyword::Claim => Ok(read_claim(rest)),
         Keyword::Commit => Ok(read_commit(rest)),
         Keyword::Apply => Ok(is_blank(rest).then_some(Command::Event(Event::Apply))),
         Keyword::Work => Ok(is_blank(rest).then_some(Command::Work)),
-        Keyword::Retire => Ok(read_retire(rest)),
+        Keyword::Retire => Ok(read_retire(source, rest)),
         Keyword::Restart => Ok(read_restart(rest)),
     }
 }

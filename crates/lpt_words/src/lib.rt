@@ -8,6 +8,7 @@
 #![tactic(auto)]
 
 mod grammar;
+pub mod laws;
 mod load;
 mod messages;
 mod names;
@@ -19,6 +20,7 @@ mod words;
 
 pub use grammar::{Command, Reading, read_line};
 pub use load::Load;
+pub use names::cut_source;
 pub use numbers::{read_hex, read_number};
 pub use showing::Show;
 pub use words::{ended, split_line, split_word};

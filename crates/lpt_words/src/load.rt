@@ -5,7 +5,7 @@ ghost use Rattle.lpt_words.specs.Grammar.{area_of, areas_of, load_of, load_with,
 ghost use Rattle.lpt_words.specs.Names.{u16_of};
 ghost use Rattle.lpt_words.specs.Words.{words};
 
-use crate::names::{read_flags, read_u8, read_u16, read_u32};
+use crate::names::{read_flags, read_id, read_u8, read_u16, read_u32};
 use crate::numbers::{octets_spelled, read_hex};
 use crate::words::split_word;
 use lpt_events::{AckFlags, Name, Octets, TcHead};
@@ -83,19 +83,20 @@ impl Load {
         })
     }
 
-    /// The identifier of the message.
+    /// The name of the message.
     pub fn id(&self) -> Name
         ensures { result ≡ self.now.id }
     {
         self.id
     }
 
-    /// The packet of the load, with this APID and source: a telecommand of service 6, subtype 2.
+    /// The packet of the load, with this APID: a telecommand of service 6, subtype 2, and of the
+    /// source that the message's name has.
     ///
     /// The only error is out of memory.
-    pub fn packet(&self, alloc: Global, apid: u16, source: u16) -> Result<Octets, AllocError>
+    pub fn packet(&self, alloc: Global, apid: u16) -> Result<Octets, AllocError>
         requires { apid ≤ 2046 }
-        ensures { IfOk result (λ o. o ≡ load_packet apid source self.now) }
+        ensures { IfOk result (λ o. o ≡ load_packet apid self.now) }
     {
         let head = TcHead {
             apid,
@@ -103,7 +104,7 @@ impl Load {
             flags: self.flags.bits(),
             service: 6,
             subtype: 2,
-            source,
+            source: self.id.source,
         };
         write_load(alloc, &head, self.memory, &self.areas).map_err(|_| AllocError)
     }
@@ -134,9 +135,9 @@ impl Eq for Load {
 
 // The words after `load`. The only error is out of memory, where they are a load.
 #[tactic(auto, using(crate::proofs::Hexes::none_of))]
-pub(crate) fn read_load(alloc: Global, rest: &[u8]) -> Result<Option<Load>, AllocError>
-    ensures says { IfOk result (λ r. r ≡ load_of (words rest.now)) }
-    ensures asked { OnErr result (IsSome (load_of (words rest.now))) }
+pub(crate) fn read_load(alloc: Global, source: u16, rest: &[u8]) -> Result<Option<Load>, AllocError>
+    ensures says { IfOk result (λ r. r ≡ load_of source (words rest.now)) }
+    ensures asked { OnErr result (IsSome (load_of source (words rest.now))) }
 {
     let Some((id, rest)) = split_word(rest) else {
         return Ok(None);
@@ -151,22 +152,22 @@ pub(crate) fn read_load(alloc: Global, rest: &[u8]) -> Result<Option<Load>, Allo
         return Ok(None);
     };
     // All of the line is judged before memory is taken for its areas.
-    if !is_load(id, count, flags, memory, rest) {
+    if !is_load(source, id, count, flags, memory, rest) {
         return Ok(None);
     }
     let Some(areas) = read_areas(alloc, rest)? else {
         return Ok(None);
     };
-    Ok(load_with(id, count, flags, memory, areas))
+    Ok(load_with(source, id, count, flags, memory, areas))
 }
 
 // Whether these words, with the pairs of words in `areas`, are a load.
 #[tactic(auto, using(crate::proofs::LoadLemmas::is_load_parts))]
-fn is_load(id: &[u8], count: &[u8], flags: &[u8], memory: &[u8], areas: &[u8]) -> bool
+fn is_load(source: u16, id: &[u8], count: &[u8], flags: &[u8], memory: &[u8], areas: &[u8]) -> bool
     ensures { result ≡ is_some (option_and_then
-        (load_with id.now count.now flags.now memory.now) (areas_of (words areas.now))) }
+        (load_with source id.now count.now flags.now memory.now) (areas_of (words areas.now))) }
 {
-    read_u16(id).is_some()
+    read_id(source, id).is_some()
         && read_flags(flags).is_some()
         && read_u8(memory).is_some()
         && is_count(count)
@@ -217,10 +218,17 @@ fn area_len(address: &[u8], octets: &[u8]) -> Option<usize>
 }
 
 // The load of these words and areas, where it can be written.
-fn load_with(id: &[u8], count: &[u8], flags: &[u8], memory: &[u8], areas: Vec<Area>) -> Option<Load>
-    ensures { result ≡ load_with id.now count.now flags.now memory.now areas.items }
+fn load_with(
+    source: u16,
+    id: &[u8],
+    count: &[u8],
+    flags: &[u8],
+    memory: &[u8],
+    areas: Vec<Area>,
+) -> Option<Load>
+    ensures { result ≡ load_with source id.now count.now flags.now memory.now areas.items }
 {
-    let id = read_u16(id)?;
+    let id = read_id(source, id)?;
     let count = read_u16(count)?;
     let flags = read_flags(flags)?;
     let memory = read_u8(memory)?;

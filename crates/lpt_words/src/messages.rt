@@ -5,21 +5,25 @@ ghost use Rattle.lpt_words.specs.Grammar.{finish_of, open_of, plain_of, retire_o
 ghost use Rattle.lpt_words.specs.Words.{words};
 
 use crate::grammar::Command;
-use crate::names::{read_flags, read_name, read_u8, read_u16};
+use crate::names::{read_name, read_sent_flags, read_u8, read_u16};
 use crate::numbers::read_hex;
 use crate::words::{split_word, three_words, two_words};
 use lpt_events::{Direction, Event, Name};
 use std::alloc::{AllocError, Global};
 
 // The words after `open`.
-pub(crate) fn read_open(alloc: Global, rest: &[u8]) -> Result<Option<Command>, AllocError>
-    ensures says { IfOk result (λ r. r ≡ open_of (words rest.now)) }
-    ensures asked { OnErr result (IsSome (open_of (words rest.now))) }
+pub(crate) fn read_open(
+    alloc: Global,
+    source: u16,
+    rest: &[u8],
+) -> Result<Option<Command>, AllocError>
+    ensures says { IfOk result (λ r. r ≡ open_of source (words rest.now)) }
+    ensures asked { OnErr result (IsSome (open_of source (words rest.now))) }
 {
     let Some((direction, id, message)) = three_words(rest) else {
         return Ok(None);
     };
-    let Some((direction, id)) = read_name(direction, id) else {
+    let Some((direction, id)) = read_name(source, direction, id) else {
         return Ok(None);
     };
     let Some(message) = read_hex(alloc, message)? else {
@@ -29,43 +33,47 @@ pub(crate) fn read_open(alloc: Global, rest: &[u8]) -> Result<Option<Command>, A
 }
 
 // The words after `send`.
-pub(crate) fn read_send(rest: &[u8]) -> Option<Command>
-    ensures { result ≡ send_of (words rest.now) }
+pub(crate) fn read_send(source: u16, rest: &[u8]) -> Option<Command>
+    ensures { result ≡ send_of source (words rest.now) }
 {
     let (direction, id, part) = three_words(rest)?;
-    let (direction, id) = read_name(direction, id)?;
+    let (direction, id) = read_name(source, direction, id)?;
     let part = read_u16(part)?;
     Some(Command::Event(Event::Send(direction, id, part)))
 }
 
 // The words after `finish`.
-pub(crate) fn read_finish(rest: &[u8]) -> Option<Command>
-    ensures { result ≡ finish_of (words rest.now) }
+pub(crate) fn read_finish(source: u16, rest: &[u8]) -> Option<Command>
+    ensures { result ≡ finish_of source (words rest.now) }
 {
-    let (direction, id) = read_transaction(rest)?;
+    let (direction, id) = read_transaction(source, rest)?;
     Some(Command::Event(Event::Finish(direction, id)))
 }
 
 // The words after `retire`.
-pub(crate) fn read_retire(rest: &[u8]) -> Option<Command>
-    ensures { result ≡ retire_of (words rest.now) }
+pub(crate) fn read_retire(source: u16, rest: &[u8]) -> Option<Command>
+    ensures { result ≡ retire_of source (words rest.now) }
 {
-    let (direction, id) = read_transaction(rest)?;
+    let (direction, id) = read_transaction(source, rest)?;
     Some(Command::Event(Event::Retire(direction, id)))
 }
 
-// The direction and the identifier of a transaction, and no further word.
-pub(crate) fn read_transaction(rest: &[u8]) -> Option<(Direction, Name)>
-    ensures { result ≡ transaction_of (words rest.now) }
+// The direction and the name of a transaction, and no further word.
+pub(crate) fn read_transaction(source: u16, rest: &[u8]) -> Option<(Direction, Name)>
+    ensures { result ≡ transaction_of source (words rest.now) }
 {
     let (direction, id) = two_words(rest)?;
-    read_name(direction, id)
+    read_name(source, direction, id)
 }
 
 // The words after `plain`.
-pub(crate) fn read_plain(alloc: Global, rest: &[u8]) -> Result<Option<Command>, AllocError>
-    ensures says { IfOk result (λ r. r ≡ plain_of (words rest.now)) }
-    ensures asked { OnErr result (IsSome (plain_of (words rest.now))) }
+pub(crate) fn read_plain(
+    alloc: Global,
+    source: u16,
+    rest: &[u8],
+) -> Result<Option<Command>, AllocError>
+    ensures says { IfOk result (λ r. r ≡ plain_of source (words rest.now)) }
+    ensures asked { OnErr result (IsSome (plain_of source (words rest.now))) }
 {
     let Some((flags, rest)) = split_word(rest) else {
         return Ok(None);
@@ -73,8 +81,8 @@ pub(crate) fn read_plain(alloc: Global, rest: &[u8]) -> Result<Option<Command>, 
     let Some((service, subtype, body)) = three_words(rest) else {
         return Ok(None);
     };
-    let (Some(flags), Some(service), Some(subtype)) = (
-        read_flags(flags),
+    let (Some((source, flags)), Some(service), Some(subtype)) = (
+        read_sent_flags(source, flags),
         read_u8(service),
         read_u8(subtype),
     ) else {
@@ -83,5 +91,5 @@ pub(crate) fn read_plain(alloc: Global, rest: &[u8]) -> Result<Option<Command>, 
     let Some(body) = read_hex(alloc, body)? else {
         return Ok(None);
     };
-    Ok(Some(Command::Event(Event::Plain(flags, service, subtype, body))))
+    Ok(Some(Command::Event(Event::Plain(source, flags, service, subtype, body))))
 }

@@ -1,10 +1,11 @@
 //! The words of a line that name something, each by itself.
 
-ghost use Rattle.std.specs.Prelude.{◌≡◌, map};
-ghost use Rattle.lpt_words.specs.Names.{count_of, direction_of, flags_of, keyword_in, keyword_of, lane_of, name_of, node_of, packet_number_of, u8_of, u16_of, u32_of, worker_of};
+ghost use Rattle.std.specs.Prelude.{◌≡◌, map, option_map};
+ghost use Rattle.lpt_words.specs.Names.{count_of, cut_source, direction_of, flags_of, id_of, keyword_in, keyword_of, lane_of, name_of, node_of, packet_number_of, sent_flags_of, source_of, u8_of, u16_of, u32_of, worker_of};
 
 use crate::numbers::read_number;
 use lpt_events::{AckFlags, Direction, Lane, Name, Side, Worker};
+use lpt_text::first_place;
 
 /// The greatest number of ten digits.
 const GREATEST_NUMBER: u64 = 9_999_999_999;
@@ -119,11 +120,43 @@ pub(crate) fn read_u16(word: &[u8]) -> Option<u16>
     Some(number as u16)
 }
 
-// The direction and the identifier of a transaction.
-pub(crate) fn read_name(direction: &[u8], id: &[u8]) -> Option<(Direction, Name)>
-    ensures { result ≡ name_of direction.now id.now }
+/// Cuts a word at its first slash: what stands before that, where the word has one, and what stands
+/// behind. So a source stands before what is of it.
+pub fn cut_source(word: &[u8]) -> (Option<&[u8]>, &[u8])
+    ensures before { option_map (λ w. w.now) result.0 ≡ (cut_source word.now).0 }
+    ensures behind { result.1.now ≡ (cut_source word.now).1 }
 {
-    read_direction(direction).zip(read_u16(id))
+    match first_place(word, b'/') {
+        Some(end) => (Some(&word[..end]), &word[end + 1..]),
+        None => (None, word),
+    }
+}
+
+// The source that a word names; where there is none, it is the configured one.
+fn read_source(source: u16, word: Option<&[u8]>) -> Option<u16>
+    ensures { result ≡ source_of source (option_map (λ w. w.now) word.entry) }
+{
+    match word {
+        Some(word) => read_u16(word),
+        None => Some(source),
+    }
+}
+
+// The name of a transaction: `ID`, where this source is configured, or `SOURCE/ID`.
+pub(crate) fn read_id(source: u16, word: &[u8]) -> Option<Name>
+    ensures { result ≡ id_of source word.now }
+{
+    let (before, id) = cut_source(word);
+    let source = read_source(source, before)?;
+    let id = read_u16(id)?;
+    Some(Name { source, id })
+}
+
+// The direction and the name of a transaction.
+pub(crate) fn read_name(source: u16, direction: &[u8], id: &[u8]) -> Option<(Direction, Name)>
+    ensures { result ≡ name_of source direction.now id.now }
+{
+    read_direction(direction).zip(read_id(source, id))
 }
 
 // Acknowledgement flags.
@@ -132,6 +165,15 @@ pub(crate) fn read_flags(word: &[u8]) -> Option<AckFlags>
 {
     let number = read_number(word, GREATEST_FLAGS)?;
     AckFlags::new(number as u8)
+}
+
+// The source of a request and its acknowledgement flags: `FLAGS`, where this source is configured,
+// or `SOURCE/FLAGS`.
+pub(crate) fn read_sent_flags(source: u16, word: &[u8]) -> Option<(u16, AckFlags)>
+    ensures { result ≡ sent_flags_of source word.now }
+{
+    let (before, flags) = cut_source(word);
+    read_source(source, before).zip(read_flags(flags))
 }
 
 // A service type, a message subtype or the identifier of a memory.

@@ -25,8 +25,8 @@ pub enum Show {
 }
 
 // The words after `show`.
-pub(crate) fn read_show(rest: &[u8]) -> Option<Show>
-    ensures { result ≡ show_of (words rest.now) }
+pub(crate) fn read_show(source: u16, rest: &[u8]) -> Option<Show>
+    ensures { result ≡ show_of source (words rest.now) }
 {
     let (what, rest) = split_word(rest)?;
     if is_blank(rest) {
@@ -34,7 +34,7 @@ pub(crate) fn read_show(rest: &[u8]) -> Option<Show>
     } else if what == b"memory".as_slice() {
         read_show_memory(rest)
     } else if what == b"clear".as_slice() {
-        read_show_clear(rest)
+        read_show_clear(source, rest)
     } else if what == b"packet".as_slice() {
         read_show_packet(rest)
     } else {
@@ -61,10 +61,10 @@ fn read_show_memory(rest: &[u8]) -> Option<Show>
 }
 
 // The words after `show clear`.
-fn read_show_clear(rest: &[u8]) -> Option<Show>
-    ensures { result ≡ show_clear_of (words rest.now) }
+fn read_show_clear(source: u16, rest: &[u8]) -> Option<Show>
+    ensures { result ≡ show_clear_of source (words rest.now) }
 {
-    let (direction, id) = read_transaction(rest)?;
+    let (direction, id) = read_transaction(source, rest)?;
     Some(Show::Clear(direction, id))
 }
 

@@ -25,24 +25,24 @@ use Rattle.lpt_worked.proofs.LegalRows.{usual_pass}
 use Rattle.lpt_worked.proofs.Listed.{recorded_is}
 use Rattle.lpt_worked.proofs.ListedReleases.{releases_passed}
 use Rattle.lpt_worked.proofs.Played.{Refuses, played, played_is, gives, puts_packet}
-use Rattle.lpt_worked.specs.Passes.{IsPass, passed, answers, usual, usual_memories, m20, m9, load, load_packet, renewed}
+use Rattle.lpt_worked.specs.Passes.{IsPass, passed, answers, usual, usual_memories, m20, m9, load, load_packet, renewed, own}
 
 -- the pass, with events between that are refused
 abbrev asked : List Event
 asked =
-    Plain 0 6 2 load ∷ Take S1 0 ∷ Deliver S1
+    Plain 1 0 6 2 load ∷ Take S1 0 ∷ Deliver S1
     ∷ Claim W1 ∷ Restart Craft ∷ Commit W1 ∷ Claim W1
-    ∷ Open Up 7 m20 ∷ Send Up 7 1 ∷ Send Up 7 2 ∷ Send Up 7 3
+    ∷ Open Up (own 7) m20 ∷ Send Up (own 7) 1 ∷ Send Up (own 7) 2 ∷ Send Up (own 7) 3
     ∷ Take S2 2
     ∷ Take S1 1 ∷ Deliver S1 ∷ Take S1 2 ∷ Deliver S1 ∷ Take S1 3 ∷ Deliver S1
     ∷ Lose 1 ∷ Lose 2 ∷ Lose 3
-    ∷ Retire Up 7 ∷ Finish Up 7 ∷ Retire Up 7 ∷ Deliver S2 ∷ Retire Up 7
-    ∷ Open Up 7 m9 ∷ Send Up 7 1 ∷ Send Up 7 2
+    ∷ Retire Up (own 7) ∷ Finish Up (own 7) ∷ Retire Up (own 7) ∷ Deliver S2 ∷ Retire Up (own 7)
+    ∷ Open Up (own 7) m9 ∷ Send Up (own 7) 1 ∷ Send Up (own 7) 2
     ∷ Take S1 4 ∷ Deliver S1 ∷ Take S1 5 ∷ Deliver S1
     ∷ Claim W1 ∷ Commit W1
-    ∷ Open Up 8 m9 ∷ Send Up 8 1 ∷ Restart Ground ∷ Send Up 8 2 ∷ Retire Up 8
-    ∷ Lose 6 ∷ Retire Up 8 ∷ Retire Up 8
-    ∷ Lose 4 ∷ Lose 5 ∷ Retire Up 7 ∷ Open Up 7 m20 ∷ Send Up 7 1 ∷ []
+    ∷ Open Up (own 8) m9 ∷ Send Up (own 8) 1 ∷ Restart Ground ∷ Send Up (own 8) 2 ∷ Retire Up (own 8)
+    ∷ Lose 6 ∷ Retire Up (own 8) ∷ Retire Up (own 8)
+    ∷ Lose 4 ∷ Lose 5 ∷ Retire Up (own 7) ∷ Open Up (own 7) m20 ∷ Send Up (own 7) 1 ∷ []
 
 -- A request that was claimed before the restart is stale, and there is none to claim. A name is
 -- retired once its sender is closed and no part of it is on its way.
@@ -51,14 +51,14 @@ pub asked-given : (played usual asked).given ≡
     ∷ gives (Claimed 0 0) ∷ gives (Restarted 1) ∷ gives (Stale 0 0) ∷ Refuses NoJob
     ∷ gives (Opened 3) ∷ puts_packet 1 ∷ puts_packet 2 ∷ puts_packet 3
     ∷ gives (Took 2)
-    ∷ gives (Took 1) ∷ gives (Delivered (Kept 7 1)) ∷ gives (Took 2)
-    ∷ gives (Delivered (Kept 7 2)) ∷ gives (Took 3) ∷ gives (Delivered (Released 7 20))
+    ∷ gives (Took 1) ∷ gives (Delivered (Kept (own 7) 1)) ∷ gives (Took 2)
+    ∷ gives (Delivered (Kept (own 7) 2)) ∷ gives (Took 3) ∷ gives (Delivered (Released (own 7) 20))
     ∷ gives Lost ∷ gives Lost ∷ gives Lost
     ∷ Refuses StillOpen ∷ gives Finished ∷ Refuses NotClear
     ∷ gives (Delivered (Ignored Closed)) ∷ gives Retired
     ∷ gives (Opened 2) ∷ puts_packet 4 ∷ puts_packet 5
-    ∷ gives (Took 4) ∷ gives (Delivered (Kept 7 1)) ∷ gives (Took 5)
-    ∷ gives (Delivered (Released 7 9))
+    ∷ gives (Took 4) ∷ gives (Delivered (Kept (own 7) 1)) ∷ gives (Took 5)
+    ∷ gives (Delivered (Released (own 7) 9))
     ∷ gives (Claimed 1 0) ∷ gives (Committed 1 0)
     ∷ gives (Opened 2) ∷ puts_packet 6 ∷ gives (Restarted 1) ∷ Refuses NotOpen
     ∷ Refuses NotClear ∷ gives Lost ∷ gives Retired ∷ Refuses NotOpen
@@ -89,8 +89,8 @@ renewed-stale =
 -- the request was released, and both messages of the name, each as it was opened
 pub renewed-released : releases usual (passed usual renewed)
     ≡ record { place = 2; of = None; message = load_packet }
-    ∷ record { place = 16; of = Some (Up, 7); message = m20 }
-    ∷ record { place = 29; of = Some (Up, 7); message = m9 } ∷ []
+    ∷ record { place = 16; of = Some (Up, own 7); message = m20 }
+    ∷ record { place = 29; of = Some (Up, own 7); message = m9 } ∷ []
 unfolding seen spelling checksum octets_in shift_all tc_field tc_verdict body_of part_verdict
     arrival
 renewed-released = releases_passed usual renewed

@@ -16,7 +16,7 @@ use Rattle.lpt_journal.specs.LptEvents.declared.reply.Answer.TheVariants.{Opened
 use Rattle.lpt_journal.specs.LptEvents.Arrivals.{arrival}
 use Rattle.lpt_journal.specs.Link.{is_damaged}
 use Rattle.lpt_journal.specs.Senders.{count}
-use Rattle.lpt_worked.specs.Passes.{usual, m9}
+use Rattle.lpt_worked.specs.Passes.{usual, m9, own}
 use Rattle.lpt_worked.proofs.Played.{Refuses, played, played_is, gives, puts_packet}
 
 -- an idle packet with one octet in its data field
@@ -26,8 +26,8 @@ idle = 7 ∷ 255 ∷ 192 ∷ 0 ∷ 0 ∷ 0 ∷ 0 ∷ []
 -- before and behind a part, noise leaves three octets and none; 32 octets are more than 8 and 23
 abbrev tried : List Event
 tried =
-    Open Up 7 m9
-    ∷ Damage Up (24 ∷ 100 ∷ 192 ∷ []) ∷ Send Up 7 1 ∷ Damage Down []
+    Open Up (own 7) m9
+    ∷ Damage Up (24 ∷ 100 ∷ 192 ∷ []) ∷ Send Up (own 7) 1 ∷ Damage Down []
     ∷ Damage Up (replicate 32 0) ∷ Damage Up idle ∷ Damage Down idle
     ∷ Take S1 0 ∷ Deliver S1 ∷ Take S1 1 ∷ Deliver S1
     ∷ Take G1 2 ∷ Deliver G1 ∷ []
@@ -38,7 +38,7 @@ pub tried-given : (played usual tried).given ≡
     ∷ puts_packet 0 ∷ puts_packet 1 ∷ puts_packet 2
     ∷ Refuses Long ∷ Refuses LooksWhole ∷ Refuses LooksWhole
     ∷ gives (Took 0) ∷ gives (Delivered (Ignored Unreadable))
-    ∷ gives (Took 1) ∷ gives (Delivered (Kept 7 1))
+    ∷ gives (Took 1) ∷ gives (Delivered (Kept (own 7) 1))
     ∷ gives (Took 2) ∷ gives (Delivered (Ignored Unreadable)) ∷ []
 unfolding seen spelling checksum octets_in shift_all tc_field tc_verdict body_of part_verdict
     arrival

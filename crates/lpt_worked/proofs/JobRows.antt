@@ -28,7 +28,7 @@ use Rattle.lpt_worked.proofs.LegalRows.{usual_pass}
 use Rattle.lpt_worked.proofs.Listed.{recorded_is}
 use Rattle.lpt_worked.proofs.ListedReleases.{releases_passed}
 use Rattle.lpt_worked.proofs.Played.{Given, Gives, Refuses, played, played_is, gives, puts_packet}
-use Rattle.lpt_worked.specs.Passes.{IsPass, passed, answers, usual, usual_memories, load, executed_load, loaded_memories, clear, two_loads, cleared_memories, dump, dump_packet, report_packet, large_report}
+use Rattle.lpt_worked.specs.Passes.{IsPass, passed, answers, usual, usual_memories, load, executed_load, loaded_memories, clear, two_loads, cleared_memories, dump, dump_packet, report_packet, large_report, own}
 
 -- an execution that puts so many packets, the first of which gets this number
 abbrev applied_puts : (first count : ℕ) → Given
@@ -91,7 +91,7 @@ executed_load-reported =
 -- the pass, with events between that are refused
 abbrev asked_loads : List Event
 asked_loads =
-    Apply ∷ Plain 0 6 2 load ∷ Plain 0 6 2 clear
+    Apply ∷ Plain 1 0 6 2 load ∷ Plain 1 0 6 2 clear
     ∷ Take S1 0 ∷ Deliver S1 ∷ Take S1 1 ∷ Deliver S1
     ∷ Commit W1 ∷ Claim W1 ∷ Claim W1 ∷ Claim W2
     ∷ Commit W2 ∷ Claim W2 ∷ Apply
@@ -134,16 +134,16 @@ two_loads-left = ap (memories usual usual_memories) (recorded_is usual (reverse 
 -- two octets are dumped, then three
 abbrev dumps : List Event
 dumps =
-    Plain 0 6 5 (dump 2) ∷ Take S1 0 ∷ Deliver S1 ∷ Claim W1 ∷ Commit W1 ∷ Apply
-    ∷ Plain 0 6 5 (dump 3) ∷ Take S1 2 ∷ Deliver S1 ∷ Claim W2 ∷ Commit W2 ∷ Apply
-    ∷ Send Down 0 4 ∷ []
+    Plain 1 0 6 5 (dump 2) ∷ Take S1 0 ∷ Deliver S1 ∷ Claim W1 ∷ Commit W1 ∷ Apply
+    ∷ Plain 1 0 6 5 (dump 3) ∷ Take S1 2 ∷ Deliver S1 ∷ Claim W2 ∷ Commit W2 ∷ Apply
+    ∷ Send Down (own 0) 4 ∷ []
 
 -- one report is a packet; the other has one octet too many, and is opened under the least free name
 pub dumps-given : (played usual dumps).given ≡
     puts_packet 0 ∷ gives (Took 0) ∷ gives (Delivered (PlainReleased 21))
     ∷ gives (Claimed 0 0) ∷ gives (Committed 0 0) ∷ applied_puts 1 1
     ∷ puts_packet 2 ∷ gives (Took 2) ∷ gives (Delivered (PlainReleased 21))
-    ∷ gives (Claimed 0 1) ∷ gives (Committed 0 1) ∷ gives (AppliedSo (Done (Some 0)))
+    ∷ gives (Claimed 0 1) ∷ gives (Committed 0 1) ∷ gives (AppliedSo (Done (Some (own 0))))
     ∷ puts_packet 3 ∷ []
 unfolding seen spelling checksum octets_in shift_all tc_field tc_verdict command_in tm_field
     tm_verdict body_of first_of_numbers front_range front_head request_in body_meaning meaning arrival
@@ -160,7 +160,7 @@ dumps-packet = ap (λ p. slice_get (sent p.after) 1) (played_is usual dumps)
 pub dumps-opened : opened (played usual dumps).after ≡ record {
   place = 11;
   direction = Down;
-  id = 0;
+  id = own 0;
   message =
       8 ∷ 100 ∷ 192 ∷ 1 ∷ 0 ∷ 25 ∷ 32 ∷ 6 ∷ 6 ∷ 0 ∷ 1 ∷ 0 ∷ 1 ∷ 0 ∷ 0 ∷ 0 ∷ 0 ∷ 1 ∷ 1 ∷ 0 ∷ 0 ∷ 0 ∷ 16 ∷ 0
       ∷ 3 ∷ 0 ∷ 0 ∷ 0 ∷ 204 ∷ 156 ∷ 233 ∷ 8 ∷ [];
@@ -180,7 +180,7 @@ large_report-pass = usual_pass large_report refl
 
 -- the execution opens the report under the least free name
 pub large_report-opened :
-    slice_get (answers usual large_report) 5 ≡ Some (AppliedSo (Done (Some 0)))
+    slice_get (answers usual large_report) 5 ≡ Some (AppliedSo (Done (Some (own 0))))
 unfolding seen spelling checksum octets_in shift_all tc_field tc_verdict command_in tm_field
     tm_verdict body_of part_verdict first_of_numbers front_range front_head request_in body_meaning
     meaning arrival
@@ -191,7 +191,7 @@ large_report-opened =
 -- the request is released as it is, and the report on ground
 pub large_report-released : releases usual (passed usual large_report)
     ≡ record { place = 2; of = None; message = dump_packet }
-    ∷ record { place = 17; of = Some (Down, 0); message = report_packet } ∷ []
+    ∷ record { place = 17; of = Some (Down, own 0); message = report_packet } ∷ []
 unfolding seen spelling checksum octets_in shift_all tc_field tc_verdict command_in tm_field
     tm_verdict body_of part_verdict first_of_numbers front_range front_head request_in body_meaning
     meaning arrival

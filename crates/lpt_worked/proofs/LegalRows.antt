@@ -27,36 +27,46 @@ are_octets (x ∷ b) h zero = small x 256 (and_l (nat_lt x 256) (list_all (λ x.
 are_octets (x ∷ b) h (suc i) =
     are_octets b (and_r (nat_lt x 256) (list_all (λ x. nat_lt x 256) b) h) i
 
+abbrev in_name : Name → Bool
+in_name n = nat_lt n.source 65536 && nat_lt n.id 65536
+
 abbrev in_range : Event → Bool
-in_range (Open d id m) = nat_lt id 65536 && list_all (λ x. nat_lt x 256) m
-in_range (Send d id k) = nat_lt id 65536 && nat_lt k 65536
-in_range (Plain flags service subtype body) =
-    nat_lt flags 16
-    && (nat_lt service 256 && (nat_lt subtype 256 && list_all (λ x. nat_lt x 256) body))
-in_range (Finish d id) = nat_lt id 65536
-in_range (Retire d id) = nat_lt id 65536
+in_range (Open d id m) = in_name id && list_all (λ x. nat_lt x 256) m
+in_range (Send d id k) = in_name id && nat_lt k 65536
+in_range (Plain source flags service subtype body) =
+    nat_lt source 65536
+    && (nat_lt flags 16
+    && (nat_lt service 256 && (nat_lt subtype 256 && list_all (λ x. nat_lt x 256) body)))
+in_range (Finish d id) = in_name id
+in_range (Retire d id) = in_name id
 in_range (Damage d b) = list_all (λ x. nat_lt x 256) b
 in_range _ = true
 
-is_name : (id : Name) → nat_lt id 65536 ≡ true → IsName id
-is_name id h = record { id_fits = small id 65536 h }
+is_name : (id : Name) → in_name id ≡ true → IsName id
+is_name id h = record {
+  source_fits = small id.source 65536 (and_l (nat_lt id.source 65536) (nat_lt id.id 65536) h);
+  id_fits = small id.id 65536 (and_r (nat_lt id.source 65536) (nat_lt id.id 65536) h);
+}
 
 is_event : (e : Event) → in_range e ≡ true → IsEvent e
 is_event (Open d id m) h = (
-  is_name id (and_l (nat_lt id 65536) (list_all (λ x. nat_lt x 256) m) h),
-  are_octets m (and_r (nat_lt id 65536) (list_all (λ x. nat_lt x 256) m) h),
+  is_name id (and_l (in_name id) (list_all (λ x. nat_lt x 256) m) h),
+  are_octets m (and_r (in_name id) (list_all (λ x. nat_lt x 256) m) h),
 )
 is_event (Send d id k) h = (
-  is_name id (and_l (nat_lt id 65536) (nat_lt k 65536) h),
-  small k 65536 (and_r (nat_lt id 65536) (nat_lt k 65536) h),
+  is_name id (and_l (in_name id) (nat_lt k 65536) h),
+  small k 65536 (and_r (in_name id) (nat_lt k 65536) h),
 )
-is_event (Plain flags service subtype body) h =
+is_event (Plain source flags service subtype body) h =
     let octets = list_all (λ x. nat_lt x 256) body in
     let rest = nat_lt subtype 256 && octets in
-    let behind = and_r (nat_lt flags 16) (nat_lt service 256 && rest) h in
-    let last = and_r (nat_lt service 256) rest behind in (
-      small flags 16 (and_l (nat_lt flags 16) (nat_lt service 256 && rest) h),
-      small service 256 (and_l (nat_lt service 256) rest behind),
+    let types = nat_lt service 256 && rest in
+    let behind = and_r (nat_lt source 65536) (nat_lt flags 16 && types) h in
+    let ahead = and_r (nat_lt flags 16) types behind in
+    let last = and_r (nat_lt service 256) rest ahead in (
+      small source 65536 (and_l (nat_lt source 65536) (nat_lt flags 16 && types) h),
+      small flags 16 (and_l (nat_lt flags 16) types behind),
+      small service 256 (and_l (nat_lt service 256) rest ahead),
       small subtype 256 (and_l (nat_lt subtype 256) octets last),
       are_octets body (and_r (nat_lt subtype 256) octets last),
     )

@@ -12,13 +12,13 @@ use Rattle.lpt_journal.specs.LptEvents.declared.lane.Lane.TheVariants.{S1, S2}
 use Rattle.lpt_journal.specs.LptEvents.declared.outcome.Outcome.TheVariants.{Kept}
 use Rattle.lpt_journal.specs.LptEvents.declared.reply.Answer.TheVariants.{Opened, Lost, Took, Delivered}
 use Rattle.lpt_journal.specs.LptEvents.Arrivals.{arrival}
-use Rattle.lpt_worked.specs.Passes.{usual, m9}
+use Rattle.lpt_worked.specs.Passes.{usual, m9, own}
 use Rattle.lpt_worked.proofs.Played.{Refuses, played, played_is, gives, puts_packet}
 
 -- a packet is lost while a lane has it in its hand
 abbrev lossy : List Event
 lossy =
-    Open Up 7 m9 ∷ Send Up 7 1
+    Open Up (own 7) m9 ∷ Send Up (own 7) 1
     ∷ Take S1 0 ∷ Lose 0 ∷ Lose 0 ∷ Take S2 0
     ∷ Deliver S1 ∷ []
 
@@ -27,7 +27,7 @@ pub lossy-given : (played usual lossy).given ≡
     gives (Opened 2)
     ∷ puts_packet 0
     ∷ gives (Took 0) ∷ gives Lost ∷ Refuses NotHeld ∷ Refuses NotHeld
-    ∷ gives (Delivered (Kept 7 1)) ∷ []
+    ∷ gives (Delivered (Kept (own 7) 1)) ∷ []
 unfolding seen spelling checksum octets_in shift_all tc_field tc_verdict body_of part_verdict
     arrival
 lossy-given = ap (λ p. p.given) (played_is usual lossy)

@@ -17,7 +17,7 @@ use Rattle.lpt_journal.specs.Releases.{releases}
 use Rattle.lpt_worked.proofs.LegalRows.{usual_pass, impatient_pass}
 use Rattle.lpt_worked.proofs.Listed.{recorded_is}
 use Rattle.lpt_worked.proofs.ListedReleases.{releases_passed}
-use Rattle.lpt_worked.specs.Passes.{IsPass, passed, answers, usual, impatient, m9, m20, out_of_order, both_ways, noisy, two_expire}
+use Rattle.lpt_worked.specs.Passes.{IsPass, passed, answers, usual, impatient, m9, m20, out_of_order, both_ways, noisy, two_expire, own, other}
 
 -- ---- three parts that come in another order
 
@@ -27,7 +27,7 @@ unfolding seen spelling checksum octets_in shift_all tc_field tc_verdict body_of
 out_of_order-pass = usual_pass out_of_order refl
 
 pub out_of_order-released : releases usual (passed usual out_of_order)
-    ≡ record { place = 9; of = Some (Up, 7); message = m20 } ∷ []
+    ≡ record { place = 9; of = Some (Up, own 7); message = m20 } ∷ []
 unfolding seen spelling checksum octets_in shift_all tc_field tc_verdict body_of part_verdict
     arrival
 out_of_order-released = releases_passed usual out_of_order
@@ -40,8 +40,8 @@ unfolding seen spelling checksum octets_in shift_all tc_field tc_verdict tm_fiel
 both_ways-pass = usual_pass both_ways refl
 
 pub both_ways-released : releases usual (passed usual both_ways)
-    ≡ record { place = 14; of = Some (Down, 7); message = m9 }
-    ∷ record { place = 16; of = Some (Up, 7); message = m20 } ∷ []
+    ≡ record { place = 14; of = Some (Down, own 7); message = m9 }
+    ∷ record { place = 16; of = Some (Up, own 7); message = m20 } ∷ []
 unfolding seen spelling checksum octets_in shift_all tc_field tc_verdict tm_field tm_verdict body_of
     part_verdict abort_verdict arrival
 both_ways-released = releases_passed usual both_ways
@@ -66,7 +66,7 @@ noisy-down =
     ap (λ h. slice_get (reverse (map (λ x. x.reply.answer) h)) 10) (recorded_is usual (reverse noisy))
 
 pub noisy-released : releases usual (passed usual noisy)
-    ≡ record { place = 12; of = Some (Up, 7); message = m9 } ∷ []
+    ≡ record { place = 12; of = Some (Up, own 7); message = m9 } ∷ []
 unfolding seen spelling checksum octets_in shift_all tc_field tc_verdict tm_field tm_verdict body_of
     part_verdict abort_verdict arrival
 noisy-released = releases_passed usual noisy
@@ -79,7 +79,8 @@ unfolding seen spelling checksum octets_in shift_all tc_field tc_verdict body_of
 two_expire-pass = impatient_pass two_expire refl
 
 pub two_expire-expired : abortions (passed impatient two_expire)
-    ≡ record { place = 9; direction = Up; id = 3 } ∷ record { place = 10; direction = Up; id = 9 } ∷ []
+    ≡ record { place = 9; direction = Up; id = own 9 }
+    ∷ record { place = 10; direction = Up; id = other 3 } ∷ []
 unfolding seen spelling checksum octets_in shift_all tc_field tc_verdict body_of part_verdict
     arrival
 two_expire-expired = ap abortions (recorded_is impatient (reverse two_expire))

@@ -22,10 +22,10 @@ use Rattle.lpt_worked.specs.Passes.{IsPass, usual, m20, load, load_packet}
 -- a request is put and delivered; a part's and one that is too long are refused
 abbrev pub loading : List Event
 loading =
-    Plain 0 6 2 load
+    Plain 1 0 6 2 load
     ∷ Take S1 0 ∷ Deliver S1
-    ∷ Plain 0 13 9 [] ∷ Plain 0 13 11 m20 ∷ Plain 0 6 2 m20
-    ∷ Plain 15 13 12 [] ∷ []
+    ∷ Plain 1 0 13 9 [] ∷ Plain 1 0 13 11 m20 ∷ Plain 1 0 6 2 m20
+    ∷ Plain 1 15 13 12 [] ∷ []
 
 pub loading-given : (played usual loading).given ≡
     puts_packet 0
@@ -51,7 +51,7 @@ loading-released =
 
 -- what isn't refused of it
 abbrev accepted : List Event
-accepted = Plain 0 6 2 load ∷ Take S1 0 ∷ Deliver S1 ∷ Plain 15 13 12 [] ∷ []
+accepted = Plain 1 0 6 2 load ∷ Take S1 0 ∷ Deliver S1 ∷ Plain 1 15 13 12 [] ∷ []
 
 -- it is a pass
 pub accepted-pass : IsPass usual accepted

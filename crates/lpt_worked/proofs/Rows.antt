@@ -16,7 +16,7 @@ use Rattle.lpt_journal.specs.LptEvents.declared.fault.StepFault.TheVariants.{InU
 use Rattle.lpt_journal.specs.LptEvents.declared.reply.Answer.TheVariants.{Opened, Finished, Took, Delivered}
 use Rattle.lpt_journal.specs.Link.{sent}
 use Rattle.lpt_journal.specs.Releases.{releases}
-use Rattle.lpt_worked.specs.Passes.{usual, m20, m16, m9, out_of_order}
+use Rattle.lpt_worked.specs.Passes.{usual, m20, m16, m9, out_of_order, own}
 use Rattle.lpt_worked.proofs.ListedReleases.{releases_is}
 use Rattle.lpt_worked.proofs.Played.{Refuses, played, played_listed, played_is, gives, puts_packet}
 
@@ -26,9 +26,9 @@ use Rattle.lpt_worked.proofs.Played.{Refuses, played, played_listed, played_is, 
 pub out_of_order-given : (played usual out_of_order).given ≡
     gives (Opened 3)
     ∷ puts_packet 0 ∷ puts_packet 1 ∷ puts_packet 2
-    ∷ gives (Took 2) ∷ gives (Delivered (Kept 7 3))
-    ∷ gives (Took 0) ∷ gives (Delivered (Kept 7 1))
-    ∷ gives (Took 1) ∷ gives (Delivered (Released 7 20)) ∷ []
+    ∷ gives (Took 2) ∷ gives (Delivered (Kept (own 7) 3))
+    ∷ gives (Took 0) ∷ gives (Delivered (Kept (own 7) 1))
+    ∷ gives (Took 1) ∷ gives (Delivered (Released (own 7) 20)) ∷ []
 unfolding seen spelling checksum octets_in shift_all tc_field tc_verdict body_of part_verdict
     arrival
 out_of_order-given = ap (λ p. p.given) (played_is usual out_of_order)
@@ -59,8 +59,8 @@ last_packet = ap (λ p. slice_get (sent p.after) 2) (played_is usual out_of_orde
 
 abbrev repeated : List Event
 repeated =
-    Open Up 7 m20
-    ∷ Send Up 7 1 ∷ Send Up 7 2 ∷ Send Up 7 3
+    Open Up (own 7) m20
+    ∷ Send Up (own 7) 1 ∷ Send Up (own 7) 2 ∷ Send Up (own 7) 3
     ∷ Take S1 0 ∷ Deliver S1
     ∷ Take S1 1 ∷ Deliver S1
     ∷ Take S1 0 ∷ Deliver S1
@@ -73,10 +73,10 @@ repeated =
 pub repeated-given : (played usual repeated).given ≡
     gives (Opened 3)
     ∷ puts_packet 0 ∷ puts_packet 1 ∷ puts_packet 2
-    ∷ gives (Took 0) ∷ gives (Delivered (Kept 7 1))
-    ∷ gives (Took 1) ∷ gives (Delivered (Kept 7 2))
-    ∷ gives (Took 0) ∷ gives (Delivered (Again 7 1))
-    ∷ gives (Took 2) ∷ gives (Delivered (Released 7 20))
+    ∷ gives (Took 0) ∷ gives (Delivered (Kept (own 7) 1))
+    ∷ gives (Took 1) ∷ gives (Delivered (Kept (own 7) 2))
+    ∷ gives (Took 0) ∷ gives (Delivered (Again (own 7) 1))
+    ∷ gives (Took 2) ∷ gives (Delivered (Released (own 7) 20))
     ∷ gives (Took 0) ∷ gives (Delivered (Ignored Closed))
     ∷ gives (Took 1) ∷ gives (Delivered (Ignored Closed))
     ∷ gives (Took 2) ∷ gives (Delivered (Ignored Closed)) ∷ []
@@ -86,7 +86,7 @@ repeated-given = ap (λ p. p.given) (played_is usual repeated)
 
 -- there is one release
 pub repeated-released : releases usual (played usual repeated).after
-    ≡ record { place = 11; of = Some (Up, 7); message = m20 } ∷ []
+    ≡ record { place = 11; of = Some (Up, own 7); message = m20 } ∷ []
 unfolding seen spelling checksum octets_in shift_all tc_field tc_verdict body_of part_verdict
     arrival
 repeated-released =
@@ -97,8 +97,8 @@ repeated-released =
 
 abbrev two_parts : List Event
 two_parts =
-    Open Up 7 m9
-    ∷ Send Up 7 1 ∷ Send Up 7 2 ∷ Send Up 7 3
+    Open Up (own 7) m9
+    ∷ Send Up (own 7) 1 ∷ Send Up (own 7) 2 ∷ Send Up (own 7) 3
     ∷ Take S1 0 ∷ Deliver S1
     ∷ Take S2 1 ∷ Deliver S2 ∷ []
 
@@ -106,8 +106,8 @@ two_parts =
 pub two_parts-given : (played usual two_parts).given ≡
     gives (Opened 2)
     ∷ puts_packet 0 ∷ puts_packet 1 ∷ Refuses NoSuchPart
-    ∷ gives (Took 0) ∷ gives (Delivered (Kept 7 1))
-    ∷ gives (Took 1) ∷ gives (Delivered (Released 7 9)) ∷ []
+    ∷ gives (Took 0) ∷ gives (Delivered (Kept (own 7) 1))
+    ∷ gives (Took 1) ∷ gives (Delivered (Released (own 7) 9)) ∷ []
 unfolding seen spelling checksum octets_in shift_all tc_field tc_verdict body_of part_verdict
     arrival
 two_parts-given = ap (λ p. p.given) (played_is usual two_parts)
@@ -123,7 +123,7 @@ short_last_packet = ap (λ p. slice_get (sent p.after) 1) (played_is usual two_p
 
 -- the release is the message
 pub two_parts-released : releases usual (played usual two_parts).after
-    ≡ record { place = 6; of = Some (Up, 7); message = m9 } ∷ []
+    ≡ record { place = 6; of = Some (Up, own 7); message = m9 } ∷ []
 unfolding seen spelling checksum octets_in shift_all tc_field tc_verdict body_of part_verdict
     arrival
 two_parts-released =
@@ -134,8 +134,8 @@ two_parts-released =
 
 abbrev full_parts : List Event
 full_parts =
-    Open Up 7 m16
-    ∷ Send Up 7 1 ∷ Send Up 7 2
+    Open Up (own 7) m16
+    ∷ Send Up (own 7) 1 ∷ Send Up (own 7) 2
     ∷ Take S1 1 ∷ Deliver S1
     ∷ Take S1 0 ∷ Deliver S1 ∷ []
 
@@ -143,15 +143,15 @@ full_parts =
 pub full_parts-given : (played usual full_parts).given ≡
     gives (Opened 2)
     ∷ puts_packet 0 ∷ puts_packet 1
-    ∷ gives (Took 1) ∷ gives (Delivered (Kept 7 2))
-    ∷ gives (Took 0) ∷ gives (Delivered (Released 7 16)) ∷ []
+    ∷ gives (Took 1) ∷ gives (Delivered (Kept (own 7) 2))
+    ∷ gives (Took 0) ∷ gives (Delivered (Released (own 7) 16)) ∷ []
 unfolding seen spelling checksum octets_in shift_all tc_field tc_verdict body_of part_verdict
     arrival
 full_parts-given = ap (λ p. p.given) (played_is usual full_parts)
 
 -- the release is the message
 pub full_parts-released : releases usual (played usual full_parts).after
-    ≡ record { place = 6; of = Some (Up, 7); message = m16 } ∷ []
+    ≡ record { place = 6; of = Some (Up, own 7); message = m16 } ∷ []
 unfolding seen spelling checksum octets_in shift_all tc_field tc_verdict body_of part_verdict
     arrival
 full_parts-released =
@@ -162,16 +162,16 @@ full_parts-released =
 
 abbrev finished : List Event
 finished =
-    Open Up 7 m9
-    ∷ Send Up 7 1
+    Open Up (own 7) m9
+    ∷ Send Up (own 7) 1
     ∷ Take S1 0 ∷ Deliver S1
-    ∷ Finish Up 7 ∷ Send Up 7 2 ∷ Finish Up 7 ∷ Open Up 7 m9 ∷ []
+    ∷ Finish Up (own 7) ∷ Send Up (own 7) 2 ∷ Finish Up (own 7) ∷ Open Up (own 7) m9 ∷ []
 
 -- a closed sender sends nothing, isn't finished again, and its name isn't free
 pub finished-given : (played usual finished).given ≡
     gives (Opened 2)
     ∷ puts_packet 0
-    ∷ gives (Took 0) ∷ gives (Delivered (Kept 7 1))
+    ∷ gives (Took 0) ∷ gives (Delivered (Kept (own 7) 1))
     ∷ gives Finished ∷ Refuses NotOpen ∷ Refuses NotOpen ∷ Refuses InUse ∷ []
 unfolding seen spelling checksum octets_in shift_all tc_field tc_verdict body_of part_verdict
     arrival

@@ -18,15 +18,15 @@ use Rattle.lpt_journal.specs.LptEvents.declared.fault.StepFault.TheVariants.{InU
 use Rattle.lpt_journal.specs.LptEvents.declared.reply.Answer.TheVariants.{Opened, Took, Delivered}
 use Rattle.lpt_journal.specs.Link.{sent}
 use Rattle.lpt_journal.specs.Refusals.{first_fault, refusal}
-use Rattle.lpt_worked.specs.Passes.{usual, m9, both_ways}
+use Rattle.lpt_worked.specs.Passes.{usual, m9, both_ways, own}
 use Rattle.lpt_worked.proofs.Played.{Refuses, played, played_is, gives, puts_packet}
 
 -- ---- a second transaction meets no room
 
 abbrev no_room : List Event
 no_room =
-    Open Up 7 m9 ∷ Open Up 8 m9
-    ∷ Send Up 7 1 ∷ Send Up 8 1 ∷ Send Up 7 2
+    Open Up (own 7) m9 ∷ Open Up (own 8) m9
+    ∷ Send Up (own 7) 1 ∷ Send Up (own 8) 1 ∷ Send Up (own 7) 2
     ∷ Take S1 0 ∷ Deliver S1
     ∷ Take S1 1 ∷ Deliver S1
     ∷ Take S1 2 ∷ Deliver S1
@@ -36,10 +36,10 @@ no_room =
 pub no_room-given : (played (record usual { receptions = 1 }) no_room).given ≡
     gives (Opened 2) ∷ gives (Opened 2)
     ∷ puts_packet 0 ∷ puts_packet 1 ∷ puts_packet 2
-    ∷ gives (Took 0) ∷ gives (Delivered (Kept 7 1))
+    ∷ gives (Took 0) ∷ gives (Delivered (Kept (own 7) 1))
     ∷ gives (Took 1) ∷ gives (Delivered (Ignored NoRoom))
-    ∷ gives (Took 2) ∷ gives (Delivered (Released 7 9))
-    ∷ gives (Took 1) ∷ gives (Delivered (Kept 8 1)) ∷ []
+    ∷ gives (Took 2) ∷ gives (Delivered (Released (own 7) 9))
+    ∷ gives (Took 1) ∷ gives (Delivered (Kept (own 8) 1)) ∷ []
 unfolding seen spelling checksum octets_in shift_all tc_field tc_verdict body_of part_verdict
     arrival
 no_room-given = ap (λ p. p.given) (played_is (record usual { receptions = 1 }) no_room)
@@ -48,10 +48,10 @@ no_room-given = ap (λ p. p.given) (played_is (record usual { receptions = 1 }) 
 
 abbrev refused : List Event
 refused =
-    Send Up 7 1 ∷ Deliver S1 ∷ Take S1 0
-    ∷ Open Up 7 (0 ∷ 1 ∷ 2 ∷ 3 ∷ 4 ∷ 5 ∷ 6 ∷ 7 ∷ [])
-    ∷ Open Up 7 m9 ∷ Open Up 7 m9 ∷ Open Up 8 m9
-    ∷ Send Up 7 0 ∷ Send Up 7 1 ∷ Send Up 7 3 ∷ Send Down 7 1
+    Send Up (own 7) 1 ∷ Deliver S1 ∷ Take S1 0
+    ∷ Open Up (own 7) (0 ∷ 1 ∷ 2 ∷ 3 ∷ 4 ∷ 5 ∷ 6 ∷ 7 ∷ [])
+    ∷ Open Up (own 7) m9 ∷ Open Up (own 7) m9 ∷ Open Up (own 8) m9
+    ∷ Send Up (own 7) 0 ∷ Send Up (own 7) 1 ∷ Send Up (own 7) 3 ∷ Send Down (own 7) 1
     ∷ Take S1 0 ∷ Take S1 0 ∷ Take G1 0 ∷ Take S2 1 ∷ Deliver S2 ∷ []
 
 -- the first fault of each line
@@ -66,7 +66,7 @@ unfolding seen spelling checksum octets_in shift_all tc_field tc_verdict body_of
 refused-given = ap (λ p. p.given) (played_is (record usual { outgoing = 1 }) refused)
 
 -- a message of one octet more than the longest packet
-pub too_long-refused : (m : List ℕ) → length m ≡ 65543 → refusal usual [] (Open Up 7 m) ≡ Some Long
+pub too_long-refused : (m : List ℕ) → length m ≡ 65543 → refusal usual [] (Open Up (own 7) m) ≡ Some Long
 too_long-refused m e =
     ap (λ n. first_fault ((nat_le n 8, Short) ∷ (nat_lt 65542 n, Long) ∷ (false, TooMany) ∷ [])) e
 
@@ -76,11 +76,11 @@ too_long-refused m e =
 pub both_ways-given : (played usual (both_ways ++ Take S1 1 ∷ [])).given ≡
     gives (Opened 3) ∷ gives (Opened 2)
     ∷ puts_packet 0 ∷ puts_packet 1 ∷ puts_packet 2 ∷ puts_packet 3 ∷ puts_packet 4
-    ∷ gives (Took 0) ∷ gives (Delivered (Kept 7 1))
-    ∷ gives (Took 1) ∷ gives (Delivered (Kept 7 1))
-    ∷ gives (Took 2) ∷ gives (Delivered (Kept 7 2))
-    ∷ gives (Took 3) ∷ gives (Delivered (Released 7 9))
-    ∷ gives (Took 4) ∷ gives (Delivered (Released 7 20))
+    ∷ gives (Took 0) ∷ gives (Delivered (Kept (own 7) 1))
+    ∷ gives (Took 1) ∷ gives (Delivered (Kept (own 7) 1))
+    ∷ gives (Took 2) ∷ gives (Delivered (Kept (own 7) 2))
+    ∷ gives (Took 3) ∷ gives (Delivered (Released (own 7) 9))
+    ∷ gives (Took 4) ∷ gives (Delivered (Released (own 7) 20))
     ∷ Refuses NotHeld ∷ []
 unfolding seen spelling checksum octets_in shift_all tc_field tc_verdict tm_field tm_verdict body_of
     part_verdict abort_verdict arrival

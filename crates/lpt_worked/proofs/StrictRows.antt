@@ -17,7 +17,7 @@ use Rattle.lpt_journal.specs.Releases.{releases}
 use Rattle.lpt_worked.proofs.LegalRows.{strict_pass}
 use Rattle.lpt_worked.proofs.Listed.{recorded_is}
 use Rattle.lpt_worked.proofs.ListedReleases.{releases_passed}
-use Rattle.lpt_worked.specs.Passes.{IsPass, passed, answers, strict, m20, out_of_order, second_part_missing, in_order}
+use Rattle.lpt_worked.specs.Passes.{IsPass, passed, answers, strict, m20, out_of_order, second_part_missing, in_order, own}
 
 -- ---- a gap behind a part that was kept
 
@@ -27,21 +27,21 @@ unfolding seen spelling checksum octets_in shift_all tc_field tc_verdict tm_fiel
 second_part_missing-pass = strict_pass second_part_missing refl
 
 pub second_part_missing-broken : slice_get (answers strict second_part_missing) 7
-    ≡ Some (Delivered (Broken 7 Discontinuity))
+    ≡ Some (Delivered (Broken (own 7) Discontinuity))
 unfolding seen spelling checksum octets_in shift_all tc_field tc_verdict tm_field tm_verdict body_of
     part_verdict abort_body abort_verdict arrival
 second_part_missing-broken =
     ap (λ h. slice_get (reverse (map (λ x. x.reply.answer) h)) 7) (recorded_is strict (reverse second_part_missing))
 
 pub second_part_missing-noted : slice_get (answers strict second_part_missing) 11
-    ≡ Some (Delivered (AbortNoted 7 Discontinuity))
+    ≡ Some (Delivered (AbortNoted (own 7) Discontinuity))
 unfolding seen spelling checksum octets_in shift_all tc_field tc_verdict tm_field tm_verdict body_of
     part_verdict abort_body abort_verdict arrival
 second_part_missing-noted =
     ap (λ h. slice_get (reverse (map (λ x. x.reply.answer) h)) 11) (recorded_is strict (reverse second_part_missing))
 
 pub second_part_missing-aborted : abortions (passed strict second_part_missing)
-    ≡ record { place = 7; direction = Up; id = 7 } ∷ []
+    ≡ record { place = 7; direction = Up; id = own 7 } ∷ []
 unfolding seen spelling checksum octets_in shift_all tc_field tc_verdict tm_field tm_verdict body_of
     part_verdict abort_body abort_verdict arrival
 second_part_missing-aborted = ap abortions (recorded_is strict (reverse second_part_missing))
@@ -59,14 +59,14 @@ unfolding seen spelling checksum octets_in shift_all tc_field tc_verdict tm_fiel
 out_of_order-pass = strict_pass out_of_order refl
 
 pub out_of_order-broken : slice_get (answers strict out_of_order) 5
-    ≡ Some (Delivered (Broken 7 Discontinuity))
+    ≡ Some (Delivered (Broken (own 7) Discontinuity))
 unfolding seen spelling checksum octets_in shift_all tc_field tc_verdict tm_field tm_verdict body_of
     part_verdict abort_body abort_verdict arrival
 out_of_order-broken =
     ap (λ h. slice_get (reverse (map (λ x. x.reply.answer) h)) 5) (recorded_is strict (reverse out_of_order))
 
 pub out_of_order-aborted : abortions (passed strict out_of_order)
-    ≡ record { place = 5; direction = Up; id = 7 } ∷ []
+    ≡ record { place = 5; direction = Up; id = own 7 } ∷ []
 unfolding seen spelling checksum octets_in shift_all tc_field tc_verdict tm_field tm_verdict body_of
     part_verdict abort_body abort_verdict arrival
 out_of_order-aborted = ap abortions (recorded_is strict (reverse out_of_order))
@@ -84,7 +84,7 @@ unfolding seen spelling checksum octets_in shift_all tc_field tc_verdict tm_fiel
 in_order-pass = strict_pass in_order refl
 
 pub in_order-released : releases strict (passed strict in_order)
-    ≡ record { place = 11; of = Some (Up, 7); message = m20 } ∷ []
+    ≡ record { place = 11; of = Some (Up, own 7); message = m20 } ∷ []
 unfolding seen spelling checksum octets_in shift_all tc_field tc_verdict tm_field tm_verdict body_of
     part_verdict abort_body abort_verdict arrival
 in_order-released = releases_passed strict in_order

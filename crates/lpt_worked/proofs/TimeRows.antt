@@ -19,7 +19,7 @@ use Rattle.lpt_journal.specs.LptEvents.declared.event.Event.TheVariants.{Open, S
 use Rattle.lpt_journal.specs.LptEvents.declared.fault.StepFault.TheVariants.{NotOpen, NothingDue, ClockEnd}
 use Rattle.lpt_journal.specs.LptEvents.declared.reply.Answer.TheVariants.{Opened, Took, Delivered, Clock, Expired}
 use Rattle.lpt_journal.specs.Link.{sent}
-use Rattle.lpt_worked.specs.Passes.{usual, m20, m9, impatient, two_expire}
+use Rattle.lpt_worked.specs.Passes.{usual, m20, m9, impatient, two_expire, own, other}
 use Rattle.lpt_worked.proofs.Played.{Given, Gives, Refuses, played, played_is, gives, puts_packet}
 
 -- ---- two clocks
@@ -43,8 +43,8 @@ nine_ticks =
 -- a part renews the reception; later it expires, and the report closes the sender
 abbrev expiring : List Event
 expiring =
-    Open Up 7 m20
-    ∷ Send Up 7 1 ∷ Send Up 7 2 ∷ Send Up 7 3
+    Open Up (own 7) m20
+    ∷ Send Up (own 7) 1 ∷ Send Up (own 7) 2 ∷ Send Up (own 7) 3
     ∷ Take S1 0 ∷ Deliver S1
     ∷ nine_ticks
     ++ Take S1 1 ∷ Deliver S1
@@ -53,7 +53,7 @@ expiring =
     ++ Expire Craft
     ∷ Take S1 2 ∷ Deliver S1
     ∷ Take G1 3 ∷ Deliver G1
-    ∷ Send Up 7 3 ∷ []
+    ∷ Send Up (own 7) 3 ∷ []
 
 abbrev nine_clocks : List Given
 nine_clocks =
@@ -69,14 +69,14 @@ later_clocks =
 pub expiring-given : (played usual expiring).given ≡
     gives (Opened 3)
     ∷ puts_packet 0 ∷ puts_packet 1 ∷ puts_packet 2
-    ∷ gives (Took 0) ∷ gives (Delivered (Kept 7 1))
+    ∷ gives (Took 0) ∷ gives (Delivered (Kept (own 7) 1))
     ∷ nine_clocks
-    ++ gives (Took 1) ∷ gives (Delivered (Kept 7 2))
+    ++ gives (Took 1) ∷ gives (Delivered (Kept (own 7) 2))
     ∷ gives (Clock 10) ∷ Refuses NothingDue
     ∷ later_clocks
-    ++ Gives (record { answer = Expired Up 7; puts = Some (record { first = 3; count = 1 }) })
+    ++ Gives (record { answer = Expired Up (own 7); puts = Some (record { first = 3; count = 1 }) })
     ∷ gives (Took 2) ∷ gives (Delivered (Ignored Closed))
-    ∷ gives (Took 3) ∷ gives (Delivered (AbortNoted 7 TimedOut))
+    ∷ gives (Took 3) ∷ gives (Delivered (AbortNoted (own 7) TimedOut))
     ∷ Refuses NotOpen ∷ []
 unfolding seen spelling checksum octets_in shift_all tc_field tc_verdict tm_field tm_verdict body_of
     part_verdict abort_body abort_verdict arrival
@@ -97,20 +97,20 @@ expiry_packet = ap (λ p. slice_get (sent p.after) 3) (played_is usual expiring)
 
 abbrev on_ground : List Event
 on_ground =
-    Open Down 7 m9
-    ∷ Send Down 7 1
+    Open Down (own 7) m9
+    ∷ Send Down (own 7) 1
     ∷ Take G1 0 ∷ Deliver G1
     ∷ Tick Ground ∷ Expire Ground ∷ Tick Ground ∷ Expire Craft ∷ Expire Ground
-    ∷ Send Down 7 2
+    ∷ Send Down (own 7) 2
     ∷ Take G1 1 ∷ Deliver G1 ∷ []
 
 -- ground puts no report, so the next packet is numbered 1, and the sender stays open
 pub on_ground-given : (played (record usual { timeout = 2 }) on_ground).given ≡
     gives (Opened 2)
     ∷ puts_packet 0
-    ∷ gives (Took 0) ∷ gives (Delivered (Kept 7 1))
+    ∷ gives (Took 0) ∷ gives (Delivered (Kept (own 7) 1))
     ∷ gives (Clock 1) ∷ Refuses NothingDue ∷ gives (Clock 2) ∷ Refuses NothingDue
-    ∷ gives (Expired Down 7)
+    ∷ gives (Expired Down (own 7))
     ∷ puts_packet 1
     ∷ gives (Took 1) ∷ gives (Delivered (Ignored Closed)) ∷ []
 unfolding seen spelling checksum octets_in shift_all tc_field tc_verdict tm_field tm_verdict body_of
@@ -123,11 +123,11 @@ on_ground-given = ap (λ p. p.given) (played_is (record usual { timeout = 2 }) o
 pub two_expire-given : (played impatient two_expire).given ≡
     gives (Opened 2) ∷ gives (Opened 2)
     ∷ puts_packet 0 ∷ puts_packet 1
-    ∷ gives (Took 0) ∷ gives (Delivered (Kept 9 1))
-    ∷ gives (Took 1) ∷ gives (Delivered (Kept 3 1))
+    ∷ gives (Took 0) ∷ gives (Delivered (Kept (other 3) 1))
+    ∷ gives (Took 1) ∷ gives (Delivered (Kept (own 9) 1))
     ∷ gives (Clock 1)
-    ∷ Gives (record { answer = Expired Up 3; puts = Some (record { first = 2; count = 1 }) })
-    ∷ Gives (record { answer = Expired Up 9; puts = Some (record { first = 3; count = 1 }) }) ∷ []
+    ∷ Gives (record { answer = Expired Up (own 9); puts = Some (record { first = 2; count = 1 }) })
+    ∷ Gives (record { answer = Expired Up (other 3); puts = Some (record { first = 3; count = 1 }) }) ∷ []
 unfolding seen spelling checksum octets_in shift_all tc_field tc_verdict tm_field tm_verdict body_of
     part_verdict abort_body abort_verdict arrival
 two_expire-given = ap (λ p. p.given) (played_is impatient two_expire)

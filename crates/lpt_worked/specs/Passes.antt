@@ -1,6 +1,7 @@
 -- Worked passes: the configurations, the messages and the events.
 use Rattle.std.specs.Prelude.{ℕ, List, [], ◌∷◌, ◌++◌, map, replicate, reverse}
 use Rattle.lpt_journal.specs.LptMemory.Memories.{Contents}
+use Rattle.lpt_journal.specs.LptPacket.Names.{Name, named_by}
 use Rattle.lpt_journal.specs.LptPacket.declared.direction.Direction.TheVariants.{Up, Down}
 use Rattle.lpt_journal.specs.LptPart.declared.mode.Mode.TheVariants.{Any, Strict}
 use Rattle.lpt_journal.specs.LptEvents.Configs.{IsConfig}
@@ -30,6 +31,14 @@ usual =
       clock = 0;
       mode = Any;
     }
+
+-- the name of this identifier of the source 1
+abbrev pub own : ℕ → Name
+own id = named_by 1 id
+
+-- the name of this identifier of another source
+abbrev pub other : ℕ → Name
+other id = named_by 2 id
 
 -- one memory 1 of 256 octets of 0
 abbrev pub usual_memories : Contents
@@ -65,8 +74,8 @@ m9 = 0 ∷ 1 ∷ 2 ∷ 3 ∷ 4 ∷ 5 ∷ 6 ∷ 7 ∷ 8 ∷ []
 -- the last part is delivered first
 abbrev pub out_of_order : List Event
 out_of_order =
-    Open Up 7 m20
-    ∷ Send Up 7 1 ∷ Send Up 7 2 ∷ Send Up 7 3
+    Open Up (own 7) m20
+    ∷ Send Up (own 7) 1 ∷ Send Up (own 7) 2 ∷ Send Up (own 7) 3
     ∷ Take S1 2 ∷ Deliver S1
     ∷ Take S1 0 ∷ Deliver S1
     ∷ Take S1 1 ∷ Deliver S1 ∷ []
@@ -76,8 +85,8 @@ out_of_order =
 -- up 7 and down 7 are two transactions
 abbrev pub both_ways : List Event
 both_ways =
-    Open Up 7 m20 ∷ Open Down 7 m9
-    ∷ Send Up 7 1 ∷ Send Down 7 1 ∷ Send Up 7 2 ∷ Send Down 7 2 ∷ Send Up 7 3
+    Open Up (own 7) m20 ∷ Open Down (own 7) m9
+    ∷ Send Up (own 7) 1 ∷ Send Down (own 7) 1 ∷ Send Up (own 7) 2 ∷ Send Down (own 7) 2 ∷ Send Up (own 7) 3
     ∷ Take S1 0 ∷ Deliver S1
     ∷ Take G1 1 ∷ Deliver G1
     ∷ Take S2 2 ∷ Deliver S2
@@ -89,8 +98,8 @@ both_ways =
 -- before and behind the first part, noise leaves three octets and none
 abbrev pub noisy : List Event
 noisy =
-    Open Up 7 m9
-    ∷ Damage Up (24 ∷ 100 ∷ 192 ∷ []) ∷ Send Up 7 1 ∷ Damage Down [] ∷ Send Up 7 2
+    Open Up (own 7) m9
+    ∷ Damage Up (24 ∷ 100 ∷ 192 ∷ []) ∷ Send Up (own 7) 1 ∷ Damage Down [] ∷ Send Up (own 7) 2
     ∷ Take S1 0 ∷ Deliver S1 ∷ Take S1 1 ∷ Deliver S1
     ∷ Take G1 2 ∷ Deliver G1 ∷ Take S1 3 ∷ Deliver S1 ∷ []
 
@@ -103,8 +112,8 @@ strict = record usual { mode = Strict }
 -- the third part comes behind the first, and then the second; ground gets the report of it
 abbrev pub second_part_missing : List Event
 second_part_missing =
-    Open Up 7 m20
-    ∷ Send Up 7 1 ∷ Send Up 7 2 ∷ Send Up 7 3
+    Open Up (own 7) m20
+    ∷ Send Up (own 7) 1 ∷ Send Up (own 7) 2 ∷ Send Up (own 7) 3
     ∷ Take S1 0 ∷ Deliver S1
     ∷ Take S1 2 ∷ Deliver S1
     ∷ Take S1 1 ∷ Deliver S1
@@ -113,8 +122,8 @@ second_part_missing =
 -- the first part comes twice, and then each other one
 abbrev pub in_order : List Event
 in_order =
-    Open Up 7 m20
-    ∷ Send Up 7 1 ∷ Send Up 7 2 ∷ Send Up 7 3
+    Open Up (own 7) m20
+    ∷ Send Up (own 7) 1 ∷ Send Up (own 7) 2 ∷ Send Up (own 7) 3
     ∷ Take S1 0 ∷ Deliver S1
     ∷ Take S1 0 ∷ Deliver S1
     ∷ Take S1 1 ∷ Deliver S1
@@ -126,11 +135,11 @@ in_order =
 abbrev pub impatient : Config
 impatient = record usual { timeout = 1 }
 
--- two receptions of one last tick expire
+-- two receptions of one last tick and of two sources expire
 abbrev pub two_expire : List Event
 two_expire =
-    Open Up 9 m9 ∷ Open Up 3 m9
-    ∷ Send Up 9 1 ∷ Send Up 3 1
+    Open Up (other 3) m9 ∷ Open Up (own 9) m9
+    ∷ Send Up (other 3) 1 ∷ Send Up (own 9) 1
     ∷ Take S1 0 ∷ Deliver S1
     ∷ Take S1 1 ∷ Deliver S1
     ∷ Tick Craft ∷ Expire Craft ∷ Expire Craft ∷ []
@@ -150,7 +159,7 @@ load_packet =
 -- a worker reads the request before it is executed; ground gets the three reports that it asked for
 abbrev pub executed_load : List Event
 executed_load =
-    Plain 15 6 2 load
+    Plain 1 15 6 2 load
     ∷ Take S1 0 ∷ Deliver S1
     ∷ Claim W1 ∷ Commit W1 ∷ Apply
     ∷ Take G1 1 ∷ Deliver G1
@@ -170,7 +179,7 @@ clear = 1 ∷ 1 ∷ 0 ∷ 0 ∷ 0 ∷ 16 ∷ 0 ∷ 2 ∷ 0 ∷ 0 ∷ 29 ∷ 15 �
 -- the second request's reading is handed in first
 abbrev pub two_loads : List Event
 two_loads =
-    Plain 0 6 2 load ∷ Plain 0 6 2 clear
+    Plain 1 0 6 2 load ∷ Plain 1 0 6 2 clear
     ∷ Take S1 0 ∷ Deliver S1 ∷ Take S1 1 ∷ Deliver S1
     ∷ Claim W1 ∷ Claim W2 ∷ Commit W2 ∷ Commit W1 ∷ Apply ∷ Apply ∷ []
 
@@ -198,9 +207,9 @@ report_packet =
 -- the report has 32 octets: it is opened, and goes down in four parts
 abbrev pub large_report : List Event
 large_report =
-    Plain 0 6 5 (dump 3) ∷ Take S1 0 ∷ Deliver S1
+    Plain 1 0 6 5 (dump 3) ∷ Take S1 0 ∷ Deliver S1
     ∷ Claim W1 ∷ Commit W1 ∷ Apply
-    ∷ Send Down 0 1 ∷ Send Down 0 2 ∷ Send Down 0 3 ∷ Send Down 0 4
+    ∷ Send Down (own 0) 1 ∷ Send Down (own 0) 2 ∷ Send Down (own 0) 3 ∷ Send Down (own 0) 4
     ∷ Take G1 1 ∷ Deliver G1 ∷ Take G1 2 ∷ Deliver G1
     ∷ Take G1 3 ∷ Deliver G1 ∷ Take G1 4 ∷ Deliver G1 ∷ []
 
@@ -210,15 +219,15 @@ large_report =
 -- then used for a shorter one. Ground is restarted while transactions are open.
 abbrev pub renewed : List Event
 renewed =
-    Plain 0 6 2 load ∷ Take S1 0 ∷ Deliver S1
+    Plain 1 0 6 2 load ∷ Take S1 0 ∷ Deliver S1
     ∷ Claim W1 ∷ Restart Craft ∷ Commit W1
-    ∷ Open Up 7 m20 ∷ Send Up 7 1 ∷ Send Up 7 2 ∷ Send Up 7 3
+    ∷ Open Up (own 7) m20 ∷ Send Up (own 7) 1 ∷ Send Up (own 7) 2 ∷ Send Up (own 7) 3
     ∷ Take S2 2
     ∷ Take S1 1 ∷ Deliver S1 ∷ Take S1 2 ∷ Deliver S1 ∷ Take S1 3 ∷ Deliver S1
     ∷ Lose 1 ∷ Lose 2 ∷ Lose 3
-    ∷ Finish Up 7 ∷ Deliver S2 ∷ Retire Up 7
-    ∷ Open Up 7 m9 ∷ Send Up 7 1 ∷ Send Up 7 2
+    ∷ Finish Up (own 7) ∷ Deliver S2 ∷ Retire Up (own 7)
+    ∷ Open Up (own 7) m9 ∷ Send Up (own 7) 1 ∷ Send Up (own 7) 2
     ∷ Take S1 4 ∷ Deliver S1 ∷ Take S1 5 ∷ Deliver S1
     ∷ Claim W1 ∷ Commit W1
-    ∷ Open Up 8 m9 ∷ Send Up 8 1 ∷ Restart Ground ∷ Lose 6 ∷ Retire Up 8
-    ∷ Lose 4 ∷ Lose 5 ∷ Retire Up 7 ∷ Open Up 7 m20 ∷ Send Up 7 1 ∷ []
+    ∷ Open Up (own 8) m9 ∷ Send Up (own 8) 1 ∷ Restart Ground ∷ Lose 6 ∷ Retire Up (own 8)
+    ∷ Lose 4 ∷ Lose 5 ∷ Retire Up (own 7) ∷ Open Up (own 7) m20 ∷ Send Up (own 7) 1 ∷ []

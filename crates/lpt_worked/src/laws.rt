@@ -11,21 +11,21 @@ ghost use Rattle.lpt_journal.specs.LptPart.declared.reason.Reason.TheVariants.{D
 ghost use Rattle.lpt_journal.specs.Abortions.{abortions};
 ghost use Rattle.lpt_journal.specs.Jobs.{executed, memories};
 ghost use Rattle.lpt_journal.specs.Releases.{releases};
-ghost use Rattle.lpt_worked.specs.Passes.{IsPass, passed, answers, usual, strict, impatient, m9, m20, out_of_order, second_part_missing, in_order, both_ways, noisy, two_expire, executed_load, two_loads, dump_packet, report_packet, large_report, renewed, load_packet, usual_memories, loaded_memories, cleared_memories};
+ghost use Rattle.lpt_worked.specs.Passes.{IsPass, passed, answers, usual, strict, impatient, m9, m20, out_of_order, second_part_missing, in_order, both_ways, noisy, two_expire, executed_load, two_loads, dump_packet, report_packet, large_report, renewed, load_packet, usual_memories, loaded_memories, cleared_memories, own, other};
 
 /// A message of three parts is delivered with its last part first, and released.
 pub fn out_of_order_is_legal()
     ensures pass { IsPass usual out_of_order }
     ensures released { releases usual (passed usual out_of_order)
-        ≡ record { place = 9; of = Some (Up, 7); message = m20 } ∷ [] }
+        ≡ record { place = 9; of = Some (Up, own 7); message = m20 } ∷ [] }
 {}
 
 /// One name is opened in both directions, and the message of each is released in its own.
 pub fn both_ways_is_legal()
     ensures pass { IsPass usual both_ways }
     ensures released { releases usual (passed usual both_ways)
-        ≡ record { place = 14; of = Some (Down, 7); message = m9 }
-        ∷ record { place = 16; of = Some (Up, 7); message = m20 } ∷ [] }
+        ≡ record { place = 14; of = Some (Down, own 7); message = m9 }
+        ∷ record { place = 16; of = Some (Up, own 7); message = m20 } ∷ [] }
 {}
 
 /// What the link's noise left before and behind a part isn't read at either end, and the message is
@@ -35,7 +35,7 @@ pub fn noisy_is_legal()
     ensures up { slice_get (answers usual noisy) 6 ≡ Some (Delivered (Ignored Unreadable)) }
     ensures down { slice_get (answers usual noisy) 10 ≡ Some (Delivered (Ignored Unreadable)) }
     ensures released { releases usual (passed usual noisy)
-        ≡ record { place = 12; of = Some (Up, 7); message = m9 } ∷ [] }
+        ≡ record { place = 12; of = Some (Up, own 7); message = m9 } ∷ [] }
 {}
 
 /// Where parts are taken in the order of their numbers, the third one breaks a reception off that has
@@ -43,11 +43,11 @@ pub fn noisy_is_legal()
 pub fn second_part_missing_is_legal()
     ensures pass { IsPass strict second_part_missing }
     ensures broken { slice_get (answers strict second_part_missing) 7
-        ≡ Some (Delivered (Broken 7 Discontinuity)) }
+        ≡ Some (Delivered (Broken (own 7) Discontinuity)) }
     ensures noted { slice_get (answers strict second_part_missing) 11
-        ≡ Some (Delivered (AbortNoted 7 Discontinuity)) }
+        ≡ Some (Delivered (AbortNoted (own 7) Discontinuity)) }
     ensures aborted { abortions (passed strict second_part_missing)
-        ≡ record { place = 7; direction = Up; id = 7 } ∷ [] }
+        ≡ record { place = 7; direction = Up; id = own 7 } ∷ [] }
     ensures released { releases strict (passed strict second_part_missing) ≡ [] }
 {}
 
@@ -56,9 +56,9 @@ pub fn second_part_missing_is_legal()
 pub fn last_part_first_is_legal()
     ensures pass { IsPass strict out_of_order }
     ensures broken { slice_get (answers strict out_of_order) 5
-        ≡ Some (Delivered (Broken 7 Discontinuity)) }
+        ≡ Some (Delivered (Broken (own 7) Discontinuity)) }
     ensures aborted { abortions (passed strict out_of_order)
-        ≡ record { place = 5; direction = Up; id = 7 } ∷ [] }
+        ≡ record { place = 5; direction = Up; id = own 7 } ∷ [] }
     ensures released { releases strict (passed strict out_of_order) ≡ [] }
 {}
 
@@ -66,16 +66,16 @@ pub fn last_part_first_is_legal()
 pub fn in_order_is_legal()
     ensures pass { IsPass strict in_order }
     ensures released { releases strict (passed strict in_order)
-        ≡ record { place = 11; of = Some (Up, 7); message = m20 } ∷ [] }
+        ≡ record { place = 11; of = Some (Up, own 7); message = m20 } ∷ [] }
 {}
 
-/// Two receptions expire, one after the other: of equal last ticks the least name first. Nothing is
-/// released.
+/// Two receptions expire, one after the other: of equal last ticks that of the least source first,
+/// whatever their identifiers. Nothing is released.
 pub fn two_expire_is_legal()
     ensures pass { IsPass impatient two_expire }
     ensures expired { abortions (passed impatient two_expire)
-        ≡ record { place = 9; direction = Up; id = 3 }
-        ∷ record { place = 10; direction = Up; id = 9 } ∷ [] }
+        ≡ record { place = 9; direction = Up; id = own 9 }
+        ∷ record { place = 10; direction = Up; id = other 3 } ∷ [] }
     ensures released { releases impatient (passed impatient two_expire) ≡ [] }
 {}
 
@@ -99,10 +99,10 @@ pub fn two_loads_is_legal()
 /// parts and is released on ground.
 pub fn large_report_is_legal()
     ensures pass { IsPass usual large_report }
-    ensures opened { slice_get (answers usual large_report) 5 ≡ Some (Applied (Done (Some 0))) }
+    ensures opened { slice_get (answers usual large_report) 5 ≡ Some (Applied (Done (Some (own 0)))) }
     ensures released { releases usual (passed usual large_report)
         ≡ record { place = 2; of = None; message = dump_packet }
-        ∷ record { place = 17; of = Some (Down, 0); message = report_packet } ∷ [] }
+        ∷ record { place = 17; of = Some (Down, own 0); message = report_packet } ∷ [] }
 {}
 
 /// Both nodes are restarted, a request of the earlier boot is handed in and is stale, and a name
@@ -112,7 +112,7 @@ pub fn renewed_is_legal()
     ensures stale { slice_get (answers usual renewed) 5 ≡ Some (Stale 0 0) }
     ensures released { releases usual (passed usual renewed)
         ≡ record { place = 2; of = None; message = load_packet }
-        ∷ record { place = 16; of = Some (Up, 7); message = m20 }
-        ∷ record { place = 29; of = Some (Up, 7); message = m9 } ∷ [] }
+        ∷ record { place = 16; of = Some (Up, own 7); message = m20 }
+        ∷ record { place = 29; of = Some (Up, own 7); message = m9 } ∷ [] }
     ensures left { memories usual usual_memories (passed usual renewed) ≡ usual_memories }
 {}

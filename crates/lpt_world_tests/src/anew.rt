@@ -1,5 +1,6 @@
 //! Lone nodes: names that are retired, restarts, and a request from its release to its execution.
 
+use crate::names::ID_7;
 use crate::packets::*;
 use crate::playing::{Packet, Play, Row, play_all};
 use crate::stations::PASS;
@@ -23,14 +24,14 @@ static PLAYS: [Play; 3] = [
         sides: &[Ground],
         config: PASS,
         rows: &[
-            Row::Opens(7, 20, 0),
+            Row::Opens(ID_7, 20, 0),
             Row::Restarts(1),
             Row::Clock(9),
-            Row::Sender(7, State::Closed),
-            Row::Retires(7),
-            Row::Sender(7, State::Free),
-            Row::Opens(7, 20, 0),
-            Row::Sends(7, 1, Ok(&FIRST_UP)),
+            Row::Sender(ID_7, State::Closed),
+            Row::Retires(ID_7),
+            Row::Sender(ID_7, State::Free),
+            Row::Opens(ID_7, 20, 0),
+            Row::Sends(ID_7, 1, Ok(&FIRST_UP)),
         ],
     },
     // A reception is dropped, and what is closed stays so until it is retired.
@@ -39,16 +40,16 @@ static PLAYS: [Play; 3] = [
         sides: &[Craft],
         config: PASS,
         rows: &[
-            Row::Hears(FIRST, Kept(7, 1), &[]),
+            Row::Hears(FIRST, Kept(ID_7, 1), &[]),
             Row::Restarts(1),
-            Row::Receives(7, false),
-            Row::Hears(FIRST, Kept(7, 1), &[]),
-            Row::Hears(LAST, Released(7, 9), &NINE),
+            Row::Receives(ID_7, false),
+            Row::Hears(FIRST, Kept(ID_7, 1), &[]),
+            Row::Hears(LAST, Released(ID_7, 9), &NINE),
             Row::Hears(FIRST, CLOSED, &[]),
             Row::Restarts(2),
             Row::Hears(FIRST, CLOSED, &[]),
-            Row::Retires(7),
-            Row::Hears(FIRST, Kept(7, 1), &[]),
+            Row::Retires(ID_7),
+            Row::Hears(FIRST, Kept(ID_7, 1), &[]),
         ],
     },
     // A load is done, and the next one is stale once the node has restarted.

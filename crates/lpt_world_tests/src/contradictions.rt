@@ -1,6 +1,7 @@
 //! Parts that contradict what a lone node has kept, or come out of order where that breaks off, and
 //! parts at the end of the longest message.
 
+use crate::names::ID_7;
 use crate::packets::{FIRST_DOWN, FIRST_UP, MIDDLE_DOWN, MIDDLE_UP};
 use crate::playing::{Packet, Play, Row, play_all};
 use crate::stations::PASS;
@@ -8,9 +9,9 @@ use lpt_world::Outcome::{self, *};
 use lpt_world::Side::{self, Craft, Ground};
 use lpt_world::{Config, Mode, Reason, Why};
 
-const BROKEN: Outcome = Broken(7, Reason::Conflict);
+const BROKEN: Outcome = Broken(ID_7, Reason::Conflict);
 
-const GAP: Outcome = Broken(7, Reason::Discontinuity);
+const GAP: Outcome = Broken(ID_7, Reason::Discontinuity);
 
 const CLOSED: Outcome = Ignored(Why::Closed);
 
@@ -147,10 +148,10 @@ static PLAYS: [Play; 11] = [
         sides: &BOTH,
         config: PASS,
         rows: &[
-            Row::Hears(FIRST, Kept(7, 1), &[]),
+            Row::Hears(FIRST, Kept(ID_7, 1), &[]),
             Row::Hears(OTHER, BROKEN, &REPORT),
             Row::Hears(MIDDLE, CLOSED, &[]),
-            Row::Receives(7, false),
+            Row::Receives(ID_7, false),
         ],
     },
     Play {
@@ -158,8 +159,8 @@ static PLAYS: [Play; 11] = [
         sides: &BOTH,
         config: PASS,
         rows: &[
-            Row::Hears(FIRST, Kept(7, 1), &[]),
-            Row::Hears(LAST_3, Kept(7, 3), &[]),
+            Row::Hears(FIRST, Kept(ID_7, 1), &[]),
+            Row::Hears(LAST_3, Kept(ID_7, 3), &[]),
             Row::Hears(LAST_2, BROKEN, &REPORT),
             Row::Hears(FIRST, CLOSED, &[]),
         ],
@@ -169,7 +170,7 @@ static PLAYS: [Play; 11] = [
         sides: &BOTH,
         config: PASS,
         rows: &[
-            Row::Hears(MIDDLE_3, Kept(7, 3), &[]),
+            Row::Hears(MIDDLE_3, Kept(ID_7, 3), &[]),
             Row::Hears(LAST_2, BROKEN, &REPORT),
             Row::Hears(FIRST, CLOSED, &[]),
         ],
@@ -179,7 +180,7 @@ static PLAYS: [Play; 11] = [
         sides: &BOTH,
         config: PASS,
         rows: &[
-            Row::Hears(LAST_2, Kept(7, 2), &[]),
+            Row::Hears(LAST_2, Kept(ID_7, 2), &[]),
             Row::Hears(MIDDLE_3, BROKEN, &REPORT),
             Row::Hears(FIRST, CLOSED, &[]),
         ],
@@ -189,7 +190,7 @@ static PLAYS: [Play; 11] = [
         sides: &BOTH,
         config: PASS,
         rows: &[
-            Row::Hears(LAST_3, Kept(7, 3), &[]),
+            Row::Hears(LAST_3, Kept(ID_7, 3), &[]),
             Row::Hears(MIDDLE_3, BROKEN, &REPORT),
             Row::Hears(FIRST, CLOSED, &[]),
         ],
@@ -200,7 +201,7 @@ static PLAYS: [Play; 11] = [
         config: PASS,
         rows: &[
             Row::Hears(MIDDLE_65535, BAD, &[]),
-            Row::Hears(FIRST, Kept(7, 1), &[]),
+            Row::Hears(FIRST, Kept(ID_7, 1), &[]),
         ],
     },
     Play {
@@ -209,7 +210,7 @@ static PLAYS: [Play; 11] = [
         config: PASS,
         rows: &[
             Row::Hears(LONG_8193, BAD, &[]),
-            Row::Hears(FIRST, Kept(7, 1), &[]),
+            Row::Hears(FIRST, Kept(ID_7, 1), &[]),
         ],
     },
     Play {
@@ -217,8 +218,8 @@ static PLAYS: [Play; 11] = [
         sides: &BOTH,
         config: PASS,
         rows: &[
-            Row::Hears(LAST_8193, Kept(7, 8193), &[]),
-            Row::Hears(FIRST, Kept(7, 1), &[]),
+            Row::Hears(LAST_8193, Kept(ID_7, 8193), &[]),
+            Row::Hears(FIRST, Kept(ID_7, 1), &[]),
         ],
     },
     Play {
@@ -226,10 +227,10 @@ static PLAYS: [Play; 11] = [
         sides: &BOTH,
         config: STRICT,
         rows: &[
-            Row::Hears(FIRST, Kept(7, 1), &[]),
+            Row::Hears(FIRST, Kept(ID_7, 1), &[]),
             Row::Hears(MIDDLE_3, GAP, &GAP_REPORT),
             Row::Hears(MIDDLE, CLOSED, &[]),
-            Row::Receives(7, false),
+            Row::Receives(ID_7, false),
         ],
     },
     Play {
@@ -239,7 +240,7 @@ static PLAYS: [Play; 11] = [
         rows: &[
             Row::Hears(MIDDLE, GAP, &GAP_REPORT),
             Row::Hears(FIRST, CLOSED, &[]),
-            Row::Receives(7, false),
+            Row::Receives(ID_7, false),
         ],
     },
     Play {
@@ -247,9 +248,9 @@ static PLAYS: [Play; 11] = [
         sides: &BOTH,
         config: STRICT,
         rows: &[
-            Row::Hears(FIRST, Kept(7, 1), &[]),
-            Row::Hears(MIDDLE, Kept(7, 2), &[]),
-            Row::Hears(FIRST, Again(7, 1), &[]),
+            Row::Hears(FIRST, Kept(ID_7, 1), &[]),
+            Row::Hears(MIDDLE, Kept(ID_7, 2), &[]),
+            Row::Hears(FIRST, Again(ID_7, 1), &[]),
             Row::Hears(OTHER, BROKEN, &REPORT),
         ],
     },

@@ -2,6 +2,7 @@
 //!
 //! `tests/growths` has each growth fail in turn, in the tests as they are built.
 
+use crate::names::ID_0;
 use crate::packets::LOAD;
 use crate::rows::{CONFIG, Content, ONE, Path, Row, Shown};
 use crate::walking::walk;
@@ -56,9 +57,9 @@ const EXECUTED: [Row; 26] = [
     Row::Gives(S1, PlainReleased(21)),
     Row::Claims(2),
     Row::Commits(2),
-    Row::Shows(Shown::Sender(Down, 0, State::Free)),
-    Row::Applies(Applied::Done(Some(0)), 0),
-    Row::Shows(Shown::Sender(Down, 0, State::Open)),
+    Row::Shows(Shown::Sender(Down, ID_0, State::Free)),
+    Row::Applies(Applied::Done(Some(ID_0)), 0),
+    Row::Shows(Shown::Sender(Down, ID_0, State::Open)),
     Row::Shows(Shown::Packets(4)),
     Row::Shows(Shown::Memory(15, &LOADED)),
 ];
@@ -68,7 +69,7 @@ static PATHS: [Path; 1] = [Path {
     config: CONFIG,
     memories: &ONE,
     rows: &EXECUTED,
-    opened: &[(17, Some((Down, 0)), Content::Octets(&DUMPED_LARGE))],
+    opened: &[(17, Some((Down, ID_0)), Content::Octets(&DUMPED_LARGE))],
     released: &[
         (2, None, Content::Packet(0)),
         (8, None, Content::Packet(1)),

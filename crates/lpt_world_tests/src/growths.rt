@@ -2,6 +2,7 @@
 //!
 //! `tests/growths` has each growth fail in turn, in the tests as they are built.
 
+use crate::names::ID_7;
 use crate::packets::{FIRST_UP, LAST_UP};
 use crate::rows::{CONFIG, Content, ONE, Path, Row, Shown};
 use crate::walking::walk;
@@ -11,18 +12,18 @@ use lpt_world::Outcome;
 
 /// The first path: a message is opened, its three parts are sent and delivered as 3, 1, 2.
 const FIRST_PATH: [Row; 15] = [
-    Row::Opens(Up, 7, 20, 3),
+    Row::Opens(Up, ID_7, 20, 3),
     Row::Shows(Shown::Packet(0, None)),
-    Row::Sends(Up, 7, 1, 0),
+    Row::Sends(Up, ID_7, 1, 0),
     Row::Shows(Shown::Packet(0, Some(&FIRST_UP))),
-    Row::Sends(Up, 7, 2, 1),
-    Row::Sends(Up, 7, 3, 2),
+    Row::Sends(Up, ID_7, 2, 1),
+    Row::Sends(Up, ID_7, 3, 2),
     Row::Takes(S1, 2),
-    Row::Gives(S1, Outcome::Kept(7, 3)),
+    Row::Gives(S1, Outcome::Kept(ID_7, 3)),
     Row::Takes(S1, 0),
-    Row::Gives(S1, Outcome::Kept(7, 1)),
+    Row::Gives(S1, Outcome::Kept(ID_7, 1)),
     Row::Takes(S1, 1),
-    Row::Gives(S1, Outcome::Released(7, 20)),
+    Row::Gives(S1, Outcome::Released(ID_7, 20)),
     Row::Shows(Shown::Packet(0, Some(&FIRST_UP))),
     Row::Shows(Shown::Packet(2, Some(&LAST_UP))),
     Row::Shows(Shown::Packet(3, None)),
@@ -33,8 +34,8 @@ pub(crate) static PATHS: [Path; 1] = [Path {
     config: CONFIG,
     memories: &ONE,
     rows: &FIRST_PATH,
-    opened: &[(0, Some((Up, 7)), Content::Counting(20))],
-    released: &[(9, Some((Up, 7)), Content::Counting(20))],
+    opened: &[(0, Some((Up, ID_7)), Content::Counting(20))],
+    released: &[(9, Some((Up, ID_7)), Content::Counting(20))],
 }];
 
 #[test]

@@ -23,6 +23,10 @@ mod execution_growths;
 #[cfg(test)]
 mod growths;
 #[cfg(test)]
+mod identifiers;
+#[cfg(test)]
+mod names;
+#[cfg(test)]
 mod outside;
 #[cfg(test)]
 mod packets;
@@ -46,6 +50,8 @@ mod runs;
 mod sending;
 #[cfg(test)]
 mod shown;
+#[cfg(test)]
+mod sources;
 #[cfg(test)]
 mod stations;
 #[cfg(test)]

@@ -1,6 +1,7 @@
 //! Work outside a world: a packet is taken out of it, read, and delivered; a job is claimed with its
 //! ticket, read, and committed.
 
+use crate::names::ID_7;
 use crate::packets::{FIRST_UP, LAST_UP, LOAD, LOADING, LOADING_AGAIN};
 use crate::rows::{Asked, CONFIG, Content, ONE, Path, Read, Row, SEAT, Shown, Step, octets_of};
 use crate::walking::{shape_of, walk};
@@ -101,13 +102,13 @@ fn is_committed(world: &mut World, step: &Step, prepared: Prepared) -> bool {
 
 /// The first part is taken and delivered, and the last part isn't, of which the lane has nothing.
 const DELIVERED: [Row; 5] = [
-    Row::Opens(Up, 7, 20, 3),
-    Row::Sends(Up, 7, 1, 0),
+    Row::Opens(Up, ID_7, 20, 3),
+    Row::Sends(Up, ID_7, 1, 0),
     Row::Answers(Asked::TakeOut(0, &FIRST_UP), Answer::Took(0), 0),
     Row::Refuses(SEAT, Asked::DeliverRead(&LAST_UP), StepFault::NotYours),
     Row::Answers(
         Asked::DeliverRead(&FIRST_UP),
-        Answer::Delivered(Outcome::Kept(7, 1)),
+        Answer::Delivered(Outcome::Kept(ID_7, 1)),
         0,
     ),
 ];
@@ -193,7 +194,7 @@ static PATHS: [Path; 3] = [
         config: CONFIG,
         memories: &ONE,
         rows: &DELIVERED,
-        opened: &[(0, Some((Up, 7)), Content::Counting(20))],
+        opened: &[(0, Some((Up, ID_7)), Content::Counting(20))],
         released: &[],
     },
     Path {

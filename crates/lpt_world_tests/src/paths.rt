@@ -1,25 +1,28 @@
 //! Worked paths: what worlds answer and show, with the numbers written out by hand.
 
+use crate::identifiers::{DUE_BY_SOURCE, TWO_SOURCES};
+use crate::names::{ID_7, ID_8, ID_9};
 use crate::packets::LAST_OCTET;
 use crate::rows::{Asked, CONFIG, Content, ONE, Path, Row, SEAT, Shown};
+use crate::sources;
 use crate::walking::walk;
 use lpt_world::Direction::{Down, Up};
 use lpt_world::Lane::{G1, S1, S2};
 use lpt_world::{Config, Outcome, StepFault, Why};
 
 const RELEASED_ONCE: [Row; 18] = [
-    Row::Opens(Up, 7, 20, 3),
-    Row::Sends(Up, 7, 1, 0),
-    Row::Sends(Up, 7, 2, 1),
-    Row::Sends(Up, 7, 3, 2),
+    Row::Opens(Up, ID_7, 20, 3),
+    Row::Sends(Up, ID_7, 1, 0),
+    Row::Sends(Up, ID_7, 2, 1),
+    Row::Sends(Up, ID_7, 3, 2),
     Row::Takes(S1, 0),
-    Row::Gives(S1, Outcome::Kept(7, 1)),
+    Row::Gives(S1, Outcome::Kept(ID_7, 1)),
     Row::Takes(S1, 1),
-    Row::Gives(S1, Outcome::Kept(7, 2)),
+    Row::Gives(S1, Outcome::Kept(ID_7, 2)),
     Row::Takes(S1, 0),
-    Row::Gives(S1, Outcome::Again(7, 1)),
+    Row::Gives(S1, Outcome::Again(ID_7, 1)),
     Row::Takes(S1, 2),
-    Row::Gives(S1, Outcome::Released(7, 20)),
+    Row::Gives(S1, Outcome::Released(ID_7, 20)),
     Row::Takes(S1, 0),
     Row::Gives(S1, Outcome::Ignored(Why::Closed)),
     Row::Takes(S1, 1),
@@ -29,64 +32,66 @@ const RELEASED_ONCE: [Row; 18] = [
 ];
 
 const SPLIT: [Row; 10] = [
-    Row::Refuses(SEAT, Asked::Open(Up, 7, 8), StepFault::Short),
-    Row::Opens(Up, 7, 9, 2),
-    Row::Sends(Up, 7, 2, 0),
-    Row::Opens(Up, 8, 16, 2),
-    Row::Refuses(SEAT, Asked::Open(Up, 9, 65543), StepFault::Long),
-    Row::Opens(Up, 9, 65542, 8193),
-    Row::Refuses(SEAT, Asked::Send(Up, 9, 0), StepFault::NoSuchPart),
-    Row::Refuses(SEAT, Asked::Send(Up, 9, 8194), StepFault::NoSuchPart),
-    Row::Sends(Up, 9, 8193, 1),
+    Row::Refuses(SEAT, Asked::Open(Up, ID_7, 8), StepFault::Short),
+    Row::Opens(Up, ID_7, 9, 2),
+    Row::Sends(Up, ID_7, 2, 0),
+    Row::Opens(Up, ID_8, 16, 2),
+    Row::Refuses(SEAT, Asked::Open(Up, ID_9, 65543), StepFault::Long),
+    Row::Opens(Up, ID_9, 65542, 8193),
+    Row::Refuses(SEAT, Asked::Send(Up, ID_9, 0), StepFault::NoSuchPart),
+    Row::Refuses(SEAT, Asked::Send(Up, ID_9, 8194), StepFault::NoSuchPart),
+    Row::Sends(Up, ID_9, 8193, 1),
     Row::Shows(Shown::Packet(0, Some(&LAST_OCTET))),
 ];
 
 const BOTH_DIRECTIONS: [Row; 19] = [
-    Row::Opens(Up, 7, 20, 3),
-    Row::Opens(Down, 7, 9, 2),
-    Row::Sends(Up, 7, 1, 0),
-    Row::Sends(Down, 7, 1, 1),
-    Row::Sends(Up, 7, 2, 2),
-    Row::Sends(Down, 7, 2, 3),
-    Row::Sends(Up, 7, 3, 4),
+    Row::Opens(Up, ID_7, 20, 3),
+    Row::Opens(Down, ID_7, 9, 2),
+    Row::Sends(Up, ID_7, 1, 0),
+    Row::Sends(Down, ID_7, 1, 1),
+    Row::Sends(Up, ID_7, 2, 2),
+    Row::Sends(Down, ID_7, 2, 3),
+    Row::Sends(Up, ID_7, 3, 4),
     Row::Refuses(SEAT, Asked::Take(S1, 1), StepFault::NotHeld),
     Row::Refuses(SEAT, Asked::Take(G1, 0), StepFault::NotHeld),
     Row::Takes(S1, 0),
     Row::Takes(G1, 3),
     Row::Takes(S2, 4),
-    Row::Gives(G1, Outcome::Kept(7, 2)),
-    Row::Gives(S2, Outcome::Kept(7, 3)),
+    Row::Gives(G1, Outcome::Kept(ID_7, 2)),
+    Row::Gives(S2, Outcome::Kept(ID_7, 3)),
     Row::Takes(G1, 1),
-    Row::Gives(S1, Outcome::Kept(7, 1)),
-    Row::Gives(G1, Outcome::Released(7, 9)),
+    Row::Gives(S1, Outcome::Kept(ID_7, 1)),
+    Row::Gives(G1, Outcome::Released(ID_7, 9)),
     Row::Takes(S2, 2),
-    Row::Gives(S2, Outcome::Released(7, 20)),
+    Row::Gives(S2, Outcome::Released(ID_7, 20)),
 ];
 
 const ROOM_AGAIN: [Row; 13] = [
-    Row::Opens(Up, 7, 9, 2),
-    Row::Opens(Up, 8, 9, 2),
-    Row::Sends(Up, 7, 1, 0),
-    Row::Sends(Up, 7, 2, 1),
-    Row::Sends(Up, 8, 1, 2),
+    Row::Opens(Up, ID_7, 9, 2),
+    Row::Opens(Up, ID_8, 9, 2),
+    Row::Sends(Up, ID_7, 1, 0),
+    Row::Sends(Up, ID_7, 2, 1),
+    Row::Sends(Up, ID_8, 1, 2),
     Row::Takes(S1, 0),
-    Row::Gives(S1, Outcome::Kept(7, 1)),
+    Row::Gives(S1, Outcome::Kept(ID_7, 1)),
     Row::Takes(S1, 2),
     Row::Gives(S1, Outcome::Ignored(Why::NoRoom)),
     Row::Takes(S1, 1),
-    Row::Gives(S1, Outcome::Released(7, 9)),
+    Row::Gives(S1, Outcome::Released(ID_7, 9)),
     Row::Takes(S1, 2),
-    Row::Gives(S1, Outcome::Kept(8, 1)),
+    Row::Gives(S1, Outcome::Kept(ID_8, 1)),
 ];
 
-static PATHS: [Path; 5] = [
+static PATHS: [Path; 8] = [
+    TWO_SOURCES,
+    DUE_BY_SOURCE,
     Path {
         name: "what comes again isn't released again",
         config: CONFIG,
         memories: &ONE,
         rows: &RELEASED_ONCE,
-        opened: &[(0, Some((Up, 7)), Content::Counting(20))],
-        released: &[(11, Some((Up, 7)), Content::Counting(20))],
+        opened: &[(0, Some((Up, ID_7)), Content::Counting(20))],
+        released: &[(11, Some((Up, ID_7)), Content::Counting(20))],
     },
     Path {
         name: "messages are split by their length",
@@ -94,9 +99,9 @@ static PATHS: [Path; 5] = [
         memories: &ONE,
         rows: &SPLIT,
         opened: &[
-            (0, Some((Up, 7)), Content::Counting(9)),
-            (2, Some((Up, 8)), Content::Counting(16)),
-            (3, Some((Up, 9)), Content::Counting(65542)),
+            (0, Some((Up, ID_7)), Content::Counting(9)),
+            (2, Some((Up, ID_8)), Content::Counting(16)),
+            (3, Some((Up, ID_9)), Content::Counting(65542)),
         ],
         released: &[],
     },
@@ -107,8 +112,8 @@ static PATHS: [Path; 5] = [
             ..CONFIG
         },
         memories: &ONE,
-        rows: &[Row::Opens(Down, 9, 65542, 16386)],
-        opened: &[(0, Some((Down, 9)), Content::Counting(65542))],
+        rows: &[Row::Opens(Down, ID_9, 65542, 16386)],
+        opened: &[(0, Some((Down, ID_9)), Content::Counting(65542))],
         released: &[],
     },
     Path {
@@ -117,12 +122,12 @@ static PATHS: [Path; 5] = [
         memories: &ONE,
         rows: &BOTH_DIRECTIONS,
         opened: &[
-            (0, Some((Up, 7)), Content::Counting(20)),
-            (1, Some((Down, 7)), Content::Counting(9)),
+            (0, Some((Up, ID_7)), Content::Counting(20)),
+            (1, Some((Down, ID_7)), Content::Counting(9)),
         ],
         released: &[
-            (14, Some((Down, 7)), Content::Counting(9)),
-            (16, Some((Up, 7)), Content::Counting(20)),
+            (14, Some((Down, ID_7)), Content::Counting(9)),
+            (16, Some((Up, ID_7)), Content::Counting(20)),
         ],
     },
     Path {
@@ -134,11 +139,12 @@ static PATHS: [Path; 5] = [
         memories: &ONE,
         rows: &ROOM_AGAIN,
         opened: &[
-            (0, Some((Up, 7)), Content::Counting(9)),
-            (1, Some((Up, 8)), Content::Counting(9)),
+            (0, Some((Up, ID_7)), Content::Counting(9)),
+            (1, Some((Up, ID_8)), Content::Counting(9)),
         ],
-        released: &[(10, Some((Up, 7)), Content::Counting(9))],
+        released: &[(10, Some((Up, ID_7)), Content::Counting(9))],
     },
+    sources::PATH,
 ];
 
 #[test]

@@ -1,6 +1,7 @@
 //! Plays of lone nodes: what is asked of a node row by row, and what comes of it.
 
 use crate::executing::{executes, is_too_late};
+use crate::names::ID_7;
 use crate::rows::{counting, octets_of};
 use crate::stations::Station;
 use lpt_world::Direction::Up;
@@ -135,7 +136,7 @@ fn sends(station: &mut Station, id: Name, part: u16, want: Result<&[u8], NodeFau
 // Sends a part of message 7 for each of these numbers.
 fn counts(station: &mut Station, part: u16, at: usize, first: u16, last: u16) -> bool {
     for wanted in first..=last {
-        let right = match station.node.send_part(7, part) {
+        let right = match station.node.send_part(ID_7, part) {
             Ok(packet) => number_in(packet.as_slice(), at) == Some(wanted),
             Err(_) => false,
         };
@@ -170,7 +171,7 @@ fn requests(
         Side::Ground => {}
         Side::Craft => return false,
     }
-    match station.node.plain(flags, service, subtype, body) {
+    match station.node.plain(1, flags, service, subtype, body) {
         Ok(packet) => want == Ok(packet.as_slice()),
         Err(fault) => want == Err(fault),
     }

@@ -1,5 +1,6 @@
 //! What worlds show: the link, the hands, the ends and the memories; and their law.
 
+use crate::names::ID_7;
 use crate::rows::{CONFIG, Content, ONE, Path, Row, Shown};
 use crate::walking::walk;
 use lpt_world::Direction::{Down, Up};
@@ -8,23 +9,23 @@ use lpt_world::{Side, State, laws};
 
 /// The link, the hands and the ends.
 const SHOWN: [Row; 12] = [
-    Row::Opens(Up, 7, 20, 3),
-    Row::Sends(Up, 7, 1, 0),
-    Row::Sends(Up, 7, 2, 1),
+    Row::Opens(Up, ID_7, 20, 3),
+    Row::Sends(Up, ID_7, 1, 0),
+    Row::Sends(Up, ID_7, 2, 1),
     Row::Takes(S1, 1),
     Row::Shows(Shown::Packets(2)),
     Row::Shows(Shown::Held(1, true)),
     Row::Shows(Shown::Held(2, false)),
     Row::Shows(Shown::Hand(S1, Some(1))),
     Row::Shows(Shown::Hand(G1, None)),
-    Row::Shows(Shown::Sender(Up, 7, State::Open)),
-    Row::Shows(Shown::Sender(Down, 7, State::Free)),
+    Row::Shows(Shown::Sender(Up, ID_7, State::Open)),
+    Row::Shows(Shown::Sender(Down, ID_7, State::Free)),
     Row::Shows(Shown::Clock(Side::Craft, 0)),
 ];
 
 /// Memories keep what they had first.
 const KEPT: [Row; 4] = [
-    Row::Opens(Up, 7, 20, 3),
+    Row::Opens(Up, ID_7, 20, 3),
     Row::Shows(Shown::Kept(7, Some(&[1, 2, 3]))),
     Row::Shows(Shown::Kept(3, Some(&[4, 5, 6]))),
     Row::Shows(Shown::Kept(1, None)),
@@ -36,7 +37,7 @@ static PATHS: [Path; 2] = [
         config: CONFIG,
         memories: &ONE,
         rows: &SHOWN,
-        opened: &[(0, Some((Up, 7)), Content::Counting(20))],
+        opened: &[(0, Some((Up, ID_7)), Content::Counting(20))],
         released: &[],
     },
     Path {
@@ -44,7 +45,7 @@ static PATHS: [Path; 2] = [
         config: CONFIG,
         memories: &[(7, &[1, 2, 3]), (3, &[4, 5, 6])],
         rows: &KEPT,
-        opened: &[(0, Some((Up, 7)), Content::Counting(20))],
+        opened: &[(0, Some((Up, ID_7)), Content::Counting(20))],
         released: &[],
     },
 ];

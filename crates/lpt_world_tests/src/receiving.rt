@@ -1,5 +1,6 @@
 //! What nodes make of the packets that are delivered to them, and of their clocks.
 
+use crate::names::{ID_7, ID_8, ID_9};
 use crate::packets::*;
 use crate::playing::{Packet, Play, Row, play_all};
 use crate::stations::PASS;
@@ -21,9 +22,9 @@ static PLAYS: [Play; 7] = [
         sides: &[Ground, Craft],
         config: PASS,
         rows: &[
-            Row::Hears(LAST, Kept(7, 3), &[]),
-            Row::Hears(FIRST, Kept(7, 1), &[]),
-            Row::Hears(MIDDLE, Released(7, 20), &MESSAGE),
+            Row::Hears(LAST, Kept(ID_7, 3), &[]),
+            Row::Hears(FIRST, Kept(ID_7, 1), &[]),
+            Row::Hears(MIDDLE, Released(ID_7, 20), &MESSAGE),
         ],
     },
     Play {
@@ -34,19 +35,19 @@ static PLAYS: [Play; 7] = [
             ..PASS
         },
         rows: &[
-            Row::Hears(FIRST, Kept(7, 1), &[]),
-            Row::Hears(MIDDLE, Kept(7, 2), &[]),
+            Row::Hears(FIRST, Kept(ID_7, 1), &[]),
+            Row::Hears(MIDDLE, Kept(ID_7, 2), &[]),
             Row::Hears((&FIRST_OF_8, &[]), Ignored(Why::NoRoom), &[]),
-            Row::Receives(8, false),
-            Row::Hears(FIRST, Again(7, 1), &[]),
-            Row::Hears(LAST, Released(7, 20), &MESSAGE),
+            Row::Receives(ID_8, false),
+            Row::Hears(FIRST, Again(ID_7, 1), &[]),
+            Row::Hears(LAST, Released(ID_7, 20), &MESSAGE),
             Row::Hears(FIRST, CLOSED, &[]),
-            Row::Receives(7, false),
+            Row::Receives(ID_7, false),
             Row::Hears(MIDDLE, CLOSED, &[]),
-            Row::Receives(7, false),
+            Row::Receives(ID_7, false),
             Row::Hears(LAST, CLOSED, &[]),
-            Row::Receives(7, false),
-            Row::Hears((&FIRST_OF_8, &[]), Kept(8, 1), &[]),
+            Row::Receives(ID_7, false),
+            Row::Hears((&FIRST_OF_8, &[]), Kept(ID_8, 1), &[]),
         ],
     },
     Play {
@@ -54,8 +55,8 @@ static PLAYS: [Play; 7] = [
         sides: &[Craft],
         config: PASS,
         rows: &[
-            Row::Hears((&FIRST_OF_9, &[]), Kept(9, 1), &[]),
-            Row::Hears(FIRST, Kept(7, 1), &[]),
+            Row::Hears((&FIRST_OF_9, &[]), Kept(ID_9, 1), &[]),
+            Row::Hears(FIRST, Kept(ID_7, 1), &[]),
             Row::Expires(Err(NodeFault::NothingDue)),
             Row::Ticks(10),
             Row::Expires(Err(NodeFault::NothingDue)),
@@ -76,10 +77,10 @@ static PLAYS: [Play; 7] = [
             Row::Ticks(18),
             Row::Expires(Err(NodeFault::NothingDue)),
             Row::Ticks(19),
-            Row::Expires(Ok((7, &EXPIRED))),
+            Row::Expires(Ok((ID_7, &EXPIRED))),
             Row::Hears(MIDDLE, CLOSED, &[]),
-            Row::Receives(7, false),
-            Row::Expires(Ok((9, &EXPIRED_9))),
+            Row::Receives(ID_7, false),
+            Row::Expires(Ok((ID_9, &EXPIRED_9))),
         ],
     },
     Play {
@@ -87,11 +88,11 @@ static PLAYS: [Play; 7] = [
         sides: &[Craft],
         config: PASS,
         rows: &[
-            Row::Opens(7, 20, 0),
+            Row::Opens(ID_7, 20, 0),
             Row::Hears((&IDLE, &[]), Ignored(Why::Idle), &[]),
             Row::Hears((&EXPIRED, &[]), Ignored(Why::Unreadable), &[]),
             Row::Hears((&PLAIN, &[]), PlainReleased(13), &[]),
-            Row::Sender(7, State::Open),
+            Row::Sender(ID_7, State::Open),
         ],
     },
     Play {
@@ -99,9 +100,9 @@ static PLAYS: [Play; 7] = [
         sides: &[Craft],
         config: Config { apid: 101, ..PASS },
         rows: &[
-            Row::Opens(7, 20, 0),
+            Row::Opens(ID_7, 20, 0),
             Row::Hears(FIRST, Ignored(Why::ForeignApid), &[]),
-            Row::Sender(7, State::Open),
+            Row::Sender(ID_7, State::Open),
         ],
     },
     Play {
@@ -112,9 +113,9 @@ static PLAYS: [Play; 7] = [
             ..PASS
         },
         rows: &[
-            Row::Opens(7, 20, 0),
+            Row::Opens(ID_7, 20, 0),
             Row::Hears(FIRST, Ignored(Why::BadPart), &[]),
-            Row::Sender(7, State::Open),
+            Row::Sender(ID_7, State::Open),
         ],
     },
     Play {
@@ -122,12 +123,12 @@ static PLAYS: [Play; 7] = [
         sides: &[Ground],
         config: PASS,
         rows: &[
-            Row::Opens(7, 20, 0),
+            Row::Opens(ID_7, 20, 0),
             Row::Hears((&[], &PLAIN), Ignored(Why::Unreadable), &[]),
             Row::Hears((&[], &REPORT), ReportNoted(1, 1), &[]),
-            Row::Sender(7, State::Open),
-            Row::Hears((&[], &EXPIRED), AbortNoted(7, Reason::Expired), &[]),
-            Row::Sender(7, State::Closed),
+            Row::Sender(ID_7, State::Open),
+            Row::Hears((&[], &EXPIRED), AbortNoted(ID_7, Reason::Expired), &[]),
+            Row::Sender(ID_7, State::Closed),
         ],
     },
 ];

@@ -1,6 +1,7 @@
 //! What worlds refuse, for the first reason, what they make of noise, and how faults are numbered and
 //! named.
 
+use crate::names::{ID_7, ID_8};
 use crate::packets::{FIRST_UP, FOREIGN, IDLE, REPORT};
 use crate::rows::{Asked, CONFIG, Content, ONE, Path, Row, SEAT, Shown};
 use crate::walking::{memories_of, walk};
@@ -10,25 +11,25 @@ use lpt_world::{Answer, Config, ConfigFault, Outcome, StepFault, Why, World};
 use std::alloc::{AllocError, Global};
 
 const MOSTLY_REFUSED: [Row; 20] = [
-    Row::Opens(Up, 7, 20, 3),
-    Row::Sends(Up, 7, 1, 0),
+    Row::Opens(Up, ID_7, 20, 3),
+    Row::Sends(Up, ID_7, 1, 0),
     Row::Takes(S1, 0),
-    Row::Refuses(0, Asked::Open(Up, 7, 8), StepFault::InUse),
-    Row::Refuses(0, Asked::Open(Up, 8, 8), StepFault::Short),
-    Row::Refuses(0, Asked::Open(Up, 8, 65543), StepFault::Long),
-    Row::Refuses(0, Asked::Open(Up, 8, 20), StepFault::TooMany),
-    Row::Refuses(0, Asked::Send(Up, 8, 0), StepFault::NotOpen),
-    Row::Refuses(0, Asked::Send(Down, 7, 1), StepFault::NotOpen),
-    Row::Refuses(0, Asked::Send(Up, 7, 0), StepFault::NoSuchPart),
-    Row::Refuses(0, Asked::Send(Up, 7, 4), StepFault::NoSuchPart),
+    Row::Refuses(0, Asked::Open(Up, ID_7, 8), StepFault::InUse),
+    Row::Refuses(0, Asked::Open(Up, ID_8, 8), StepFault::Short),
+    Row::Refuses(0, Asked::Open(Up, ID_8, 65543), StepFault::Long),
+    Row::Refuses(0, Asked::Open(Up, ID_8, 20), StepFault::TooMany),
+    Row::Refuses(0, Asked::Send(Up, ID_8, 0), StepFault::NotOpen),
+    Row::Refuses(0, Asked::Send(Down, ID_7, 1), StepFault::NotOpen),
+    Row::Refuses(0, Asked::Send(Up, ID_7, 0), StepFault::NoSuchPart),
+    Row::Refuses(0, Asked::Send(Up, ID_7, 4), StepFault::NoSuchPart),
     Row::Refuses(0, Asked::Take(S2, 1), StepFault::NotHeld),
     Row::Refuses(0, Asked::Take(S1, 1), StepFault::HandFull),
     Row::Refuses(10, Asked::Deliver(S2), StepFault::HandEmpty),
-    Row::Refuses(11, Asked::Open(Up, 7, 8), StepFault::NoSuchSeat),
-    Row::Refuses(11, Asked::Send(Up, 8, 0), StepFault::NoSuchSeat),
+    Row::Refuses(11, Asked::Open(Up, ID_7, 8), StepFault::NoSuchSeat),
+    Row::Refuses(11, Asked::Send(Up, ID_8, 0), StepFault::NoSuchSeat),
     Row::Refuses(11, Asked::Take(S1, 1), StepFault::NoSuchSeat),
     Row::Refuses(11, Asked::Deliver(S1), StepFault::NoSuchSeat),
-    Row::Gives(S1, Outcome::Kept(7, 1)),
+    Row::Gives(S1, Outcome::Kept(ID_7, 1)),
     Row::Shows(Shown::Packet(1, None)),
 ];
 
@@ -70,7 +71,7 @@ static PATHS: [Path; 3] = [
         },
         memories: &ONE,
         rows: &MOSTLY_REFUSED,
-        opened: &[(0, Some((Up, 7)), Content::Counting(20))],
+        opened: &[(0, Some((Up, ID_7)), Content::Counting(20))],
         released: &[],
     },
     Path {

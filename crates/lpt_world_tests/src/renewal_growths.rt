@@ -3,6 +3,7 @@
 //!
 //! `tests/growths` has each growth fail in turn, in the tests as they are built.
 
+use crate::names::ID_7;
 use crate::packets::{LOAD, LOADING};
 use crate::rows::{Asked, CONFIG, Content, ONE, Path, Row, SEAT, Shown};
 use crate::walking::walk;
@@ -19,34 +20,34 @@ const LAST_OCTET_LATER: [u8; 18] = [
 /// A message is released while a lane has a copy of its second part in its hand. Its transaction is
 /// retired once its sender is closed and no packet of it is left, and its name is used again.
 const RETIRING: [Row; 29] = [
-    Row::Opens(Up, 7, 20, 3),
-    Row::Sends(Up, 7, 1, 0),
-    Row::Sends(Up, 7, 2, 1),
-    Row::Sends(Up, 7, 3, 2),
+    Row::Opens(Up, ID_7, 20, 3),
+    Row::Sends(Up, ID_7, 1, 0),
+    Row::Sends(Up, ID_7, 2, 1),
+    Row::Sends(Up, ID_7, 3, 2),
     Row::Takes(S2, 1),
     Row::Takes(S1, 0),
-    Row::Gives(S1, Outcome::Kept(7, 1)),
+    Row::Gives(S1, Outcome::Kept(ID_7, 1)),
     Row::Takes(S1, 1),
-    Row::Gives(S1, Outcome::Kept(7, 2)),
+    Row::Gives(S1, Outcome::Kept(ID_7, 2)),
     Row::Takes(S1, 2),
-    Row::Gives(S1, Outcome::Released(7, 20)),
+    Row::Gives(S1, Outcome::Released(ID_7, 20)),
     Row::Answers(Asked::Lose(0), Answer::Lost, 0),
     Row::Answers(Asked::Lose(1), Answer::Lost, 0),
     Row::Answers(Asked::Lose(2), Answer::Lost, 0),
-    Row::Refuses(SEAT, Asked::Retire(Up, 7), StepFault::StillOpen),
-    Row::Answers(Asked::Finish(Up, 7), Answer::Finished, 0),
-    Row::Refuses(SEAT, Asked::Retire(Up, 7), StepFault::NotClear),
-    Row::Shows(Shown::Clear(Up, 7, false)),
+    Row::Refuses(SEAT, Asked::Retire(Up, ID_7), StepFault::StillOpen),
+    Row::Answers(Asked::Finish(Up, ID_7), Answer::Finished, 0),
+    Row::Refuses(SEAT, Asked::Retire(Up, ID_7), StepFault::NotClear),
+    Row::Shows(Shown::Clear(Up, ID_7, false)),
     Row::Gives(S2, Outcome::Ignored(Why::Closed)),
-    Row::Shows(Shown::Clear(Up, 7, true)),
-    Row::Answers(Asked::Retire(Up, 7), Answer::Retired, 0),
-    Row::Opens(Up, 7, 9, 2),
-    Row::Sends(Up, 7, 1, 3),
-    Row::Sends(Up, 7, 2, 4),
+    Row::Shows(Shown::Clear(Up, ID_7, true)),
+    Row::Answers(Asked::Retire(Up, ID_7), Answer::Retired, 0),
+    Row::Opens(Up, ID_7, 9, 2),
+    Row::Sends(Up, ID_7, 1, 3),
+    Row::Sends(Up, ID_7, 2, 4),
     Row::Takes(S1, 3),
-    Row::Gives(S1, Outcome::Kept(7, 1)),
+    Row::Gives(S1, Outcome::Kept(ID_7, 1)),
     Row::Takes(S1, 4),
-    Row::Gives(S1, Outcome::Released(7, 9)),
+    Row::Gives(S1, Outcome::Released(ID_7, 9)),
     Row::Shows(Shown::Packet(4, Some(&LAST_OCTET_LATER))),
 ];
 
@@ -71,12 +72,12 @@ static PATHS: [Path; 2] = [
         memories: &ONE,
         rows: &RETIRING,
         opened: &[
-            (0, Some((Up, 7)), Content::Counting(20)),
-            (17, Some((Up, 7)), Content::Counting(9)),
+            (0, Some((Up, ID_7)), Content::Counting(20)),
+            (17, Some((Up, ID_7)), Content::Counting(9)),
         ],
         released: &[
-            (10, Some((Up, 7)), Content::Counting(20)),
-            (23, Some((Up, 7)), Content::Counting(9)),
+            (10, Some((Up, ID_7)), Content::Counting(20)),
+            (23, Some((Up, ID_7)), Content::Counting(9)),
         ],
     },
     Path {

@@ -55,9 +55,11 @@ pub(crate) enum Content {
 pub(crate) enum Asked {
     /// The opening of a message of so many octets, which count from 0.
     Open(Direction, Name, usize),
+    /// The opening of these octets.
+    OpenOf(Direction, Name, &'static [u8]),
     Send(Direction, Name, u16),
-    /// A plain request of service 6: its flags, its subtype and its body.
-    Plain(u8, u8, &'static [u8]),
+    /// A plain request of service 6: its source, its flags, its subtype and its body.
+    Plain(u16, u8, u8, &'static [u8]),
     Finish(Direction, Name),
     Lose(u64),
     Damage(Direction, &'static [u8]),
@@ -153,7 +155,11 @@ pub(crate) fn step_of(row: &Row) -> Option<Step> {
             (Asked::Send(direction, id, part), Answer::Put(number), 1)
         }
         Row::Requests(flags, subtype, body, number) => {
-            (Asked::Plain(flags, subtype, body), Answer::Put(number), 1)
+            (
+                Asked::Plain(1, flags, subtype, body),
+                Answer::Put(number),
+                1,
+            )
         }
         Row::Takes(lane, number) => (Asked::Take(lane, number), Answer::Took(number), 0),
         Row::Gives(lane, outcome) => (Asked::Deliver(lane), Answer::Delivered(outcome), 0),
@@ -172,10 +178,13 @@ pub(crate) fn step_of(row: &Row) -> Option<Step> {
 pub(crate) fn event_of(alloc: Global, asked: Asked) -> Result<Event, AllocError> {
     Ok(match asked {
         Asked::Open(direction, id, octets) => Event::Open(direction, id, counting(alloc, octets)?),
+        Asked::OpenOf(direction, id, octets) => {
+            Event::Open(direction, id, octets_of(alloc, octets)?)
+        }
         Asked::Send(direction, id, part) => Event::Send(direction, id, part),
-        Asked::Plain(flags, subtype, body) => {
+        Asked::Plain(source, flags, subtype, body) => {
             let flags = AckFlags::new(flags).ok_or(AllocError)?;
-            Event::Plain(flags, 6, subtype, octets_of(alloc, body)?)
+            Event::Plain(source, flags, 6, subtype, octets_of(alloc, body)?)
         }
         Asked::Finish(direction, id) => Event::Finish(direction, id),
         Asked::Lose(number) => Event::Lose(number),

@@ -2,6 +2,7 @@
 
 use crate::execution_growths::LARGE;
 use crate::growths::PATHS;
+use crate::names::{ID_7, ID_8};
 use crate::rows::{CONFIG, ONE, Row, event_of, octets_of, step_of};
 use crate::walking::memories_of;
 use lpt_world::Direction::{Down, Up};
@@ -11,9 +12,9 @@ use std::alloc::{AllocError, Global};
 
 /// The second row isn't accepted.
 static NOT_OPEN: [Row; 3] = [
-    Row::Opens(Up, 7, 20, 3),
-    Row::Sends(Up, 8, 1, 0),
-    Row::Sends(Up, 7, 1, 0),
+    Row::Opens(Up, ID_7, 20, 3),
+    Row::Sends(Up, ID_8, 1, 0),
+    Row::Sends(Up, ID_7, 1, 0),
 ];
 
 /// A dump of which the report is to be opened as a message.
@@ -31,7 +32,7 @@ type Ran = (u64, Option<StepFault>, Option<Answer>);
 
 #[test]
 fn runs_events_up_to_the_first_that_is_refused(rt: HostRuntime) {
-    let released = Answer::Delivered(Outcome::Released(7, 20));
+    let released = Answer::Delivered(Outcome::Released(ID_7, 20));
     let whole = run(rt.alloc(), Ok(Vec::new(rt.alloc())), PATHS[0].rows);
     assert!(rt; whole == Ok((10, None, Some(released))));
     let front = run(rt.alloc(), Ok(Vec::new(rt.alloc())), &NOT_OPEN);
@@ -48,7 +49,8 @@ fn a_dump_finds_no_free_name(rt: HostRuntime) {
 // Each of the 65,536 names is opened and finished.
 fn uses_of_all_names(alloc: Global) -> Result<Vec<Event>, AllocError> {
     let mut events = Vec::new(alloc);
-    for name in 0..=Name::MAX {
+    for id in 0..=u16::MAX {
+        let name = Name { source: 1, id };
         events.push(Event::Open(Down, name, octets_of(alloc, &[0; 9])?))?;
         events.push(Event::Finish(Down, name))?;
     }

@@ -3,6 +3,7 @@
 //! The sequence count stands in the low 14 bits of octets 2 and 3 of a packet, behind the sequence
 //! flags 11. The message type counter stands in octets 9 and 10 of telemetry.
 
+use crate::names::{ID_7, ID_8, ID_9};
 use crate::packets::*;
 use crate::playing::{Play, Row, play_all};
 use crate::stations::PASS;
@@ -15,10 +16,10 @@ static PLAYS: [Play; 7] = [
         sides: &[Ground],
         config: PASS,
         rows: &[
-            Row::Opens(7, 20, 0),
-            Row::Sends(7, 1, Ok(&FIRST_UP)),
-            Row::Sends(7, 2, Ok(&MIDDLE_UP)),
-            Row::Sends(7, 3, Ok(&LAST_UP)),
+            Row::Opens(ID_7, 20, 0),
+            Row::Sends(ID_7, 1, Ok(&FIRST_UP)),
+            Row::Sends(ID_7, 2, Ok(&MIDDLE_UP)),
+            Row::Sends(ID_7, 3, Ok(&LAST_UP)),
         ],
     },
     Play {
@@ -26,10 +27,10 @@ static PLAYS: [Play; 7] = [
         sides: &[Craft],
         config: PASS,
         rows: &[
-            Row::Opens(7, 20, 0),
-            Row::Sends(7, 1, Ok(&FIRST_DOWN)),
-            Row::Sends(7, 2, Ok(&MIDDLE_DOWN)),
-            Row::Sends(7, 3, Ok(&LAST_DOWN)),
+            Row::Opens(ID_7, 20, 0),
+            Row::Sends(ID_7, 1, Ok(&FIRST_DOWN)),
+            Row::Sends(ID_7, 2, Ok(&MIDDLE_DOWN)),
+            Row::Sends(ID_7, 3, Ok(&LAST_DOWN)),
         ],
     },
     Play {
@@ -37,7 +38,7 @@ static PLAYS: [Play; 7] = [
         sides: &[Ground, Craft],
         config: PASS,
         rows: &[
-            Row::Opens(7, 20, 0),
+            Row::Opens(ID_7, 20, 0),
             Row::Counts(1, 2, 0xc000, 0xffff),
             Row::Counts(1, 2, 0xc000, 0xc000),
         ],
@@ -47,7 +48,7 @@ static PLAYS: [Play; 7] = [
         sides: &[Craft],
         config: PASS,
         rows: &[
-            Row::Opens(7, 20, 0),
+            Row::Opens(ID_7, 20, 0),
             Row::Counts(3, 9, 0, 1),
             Row::Counts(1, 9, 0, 65535),
             Row::Counts(1, 9, 0, 0),
@@ -61,14 +62,14 @@ static PLAYS: [Play; 7] = [
         sides: &[Craft],
         config: PASS,
         rows: &[
-            Row::Opens(7, 9, 0),
-            Row::Opens(7, 0, 41),
-            Row::Opens(8, 8, 42),
-            Row::Opens(8, 65543, 43),
-            Row::Opens(8, 65542, 0),
-            Row::Opens(9, 20, 44),
-            Row::Finishes(7),
-            Row::Opens(7, 20, 41),
+            Row::Opens(ID_7, 9, 0),
+            Row::Opens(ID_7, 0, 41),
+            Row::Opens(ID_8, 8, 42),
+            Row::Opens(ID_8, 65543, 43),
+            Row::Opens(ID_8, 65542, 0),
+            Row::Opens(ID_9, 20, 44),
+            Row::Finishes(ID_7),
+            Row::Opens(ID_7, 20, 41),
         ],
     },
     Play {
@@ -79,15 +80,15 @@ static PLAYS: [Play; 7] = [
             ..PASS
         },
         rows: &[
-            Row::Opens(7, 20, 0),
-            Row::Refuses(Ask::Open(7, 0), Some(NodeFault::InUse)),
-            Row::Refuses(Ask::Send(7, 3), None),
-            Row::Refuses(Ask::Send(7, 0), Some(NodeFault::NoSuchPart)),
-            Row::Refuses(Ask::Send(9, 0), Some(NodeFault::NotOpen)),
-            Row::Refuses(Ask::Finish(9), Some(NodeFault::NotOpen)),
+            Row::Opens(ID_7, 20, 0),
+            Row::Refuses(Ask::Open(ID_7, 0), Some(NodeFault::InUse)),
+            Row::Refuses(Ask::Send(ID_7, 3), None),
+            Row::Refuses(Ask::Send(ID_7, 0), Some(NodeFault::NoSuchPart)),
+            Row::Refuses(Ask::Send(ID_9, 0), Some(NodeFault::NotOpen)),
+            Row::Refuses(Ask::Finish(ID_9), Some(NodeFault::NotOpen)),
             Row::Refuses(Ask::Tick, Some(NodeFault::ClockEnd)),
             Row::Refuses(Ask::Expire, Some(NodeFault::NothingDue)),
-            Row::Sends(7, 4, Err(NodeFault::NoSuchPart)),
+            Row::Sends(ID_7, 4, Err(NodeFault::NoSuchPart)),
         ],
     },
     Play {

@@ -1,5 +1,6 @@
 //! What worlds show.
 
+use crate::names::{ID_0, ID_7};
 use crate::rows::{Content, Message, Row, Shown};
 use lpt_world::Direction::{self, Down, Up};
 use lpt_world::{Name, Octets, Side, Worker, World, crc16};
@@ -45,7 +46,7 @@ pub(crate) type Sight = (u64, u16, (bool, bool), u32);
 
 /// What a world shows as plain values, beside what its journal tells.
 pub(crate) fn sight_of(world: &World) -> Sight {
-    let clear = (world.is_clear(Up, 7), world.is_clear(Down, 0));
+    let clear = (world.is_clear(Up, ID_7), world.is_clear(Down, ID_0));
     let sum = octets_in(world);
     (world.packets(), sum, clear, world.clock(Side::Craft))
 }

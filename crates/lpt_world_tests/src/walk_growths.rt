@@ -3,6 +3,7 @@
 //!
 //! `tests/growths` has each growth fail in turn, in the tests as they are built.
 
+use crate::names::{ID_0, ID_7, ID_8, ID_9};
 use crate::packets::EXPIRED;
 use crate::rows::{Asked, CONFIG, Content, ONE, Path, Row, SEAT, Shown};
 use crate::walking::walk;
@@ -57,54 +58,54 @@ const GAP_REPORT: [u8; 22] = [
 ];
 
 /// What is answered where a gap breaks a reception off.
-const GAP_7: Answer = Answer::Delivered(Outcome::Broken(7, Reason::Discontinuity));
+const GAP_7: Answer = Answer::Delivered(Outcome::Broken(ID_7, Reason::Discontinuity));
 
-const GAP_8: Answer = Answer::Delivered(Outcome::Broken(8, Reason::Discontinuity));
+const GAP_8: Answer = Answer::Delivered(Outcome::Broken(ID_8, Reason::Discontinuity));
 
 /// A gap comes behind a part that was kept, and one before any; the spacecraft reports both, and ground
 /// none of its own.
 const GAPS: [Row; 18] = [
-    Row::Opens(Up, 7, 20, 3),
-    Row::Sends(Up, 7, 1, 0),
-    Row::Sends(Up, 7, 3, 1),
+    Row::Opens(Up, ID_7, 20, 3),
+    Row::Sends(Up, ID_7, 1, 0),
+    Row::Sends(Up, ID_7, 3, 1),
     Row::Takes(S1, 0),
-    Row::Gives(S1, Outcome::Kept(7, 1)),
+    Row::Gives(S1, Outcome::Kept(ID_7, 1)),
     Row::Takes(S1, 1),
     Row::Answers(Asked::Deliver(S1), GAP_7, 1),
     Row::Takes(G1, 2),
-    Row::Gives(G1, Outcome::AbortNoted(7, Reason::Discontinuity)),
-    Row::Opens(Up, 8, 20, 3),
-    Row::Sends(Up, 8, 2, 3),
+    Row::Gives(G1, Outcome::AbortNoted(ID_7, Reason::Discontinuity)),
+    Row::Opens(Up, ID_8, 20, 3),
+    Row::Sends(Up, ID_8, 2, 3),
     Row::Takes(S1, 3),
     Row::Answers(Asked::Deliver(S1), GAP_8, 1),
-    Row::Opens(Down, 9, 20, 3),
-    Row::Sends(Down, 9, 2, 5),
+    Row::Opens(Down, ID_9, 20, 3),
+    Row::Sends(Down, ID_9, 2, 5),
     Row::Takes(G1, 5),
-    Row::Gives(G1, Outcome::Broken(9, Reason::Discontinuity)),
+    Row::Gives(G1, Outcome::Broken(ID_9, Reason::Discontinuity)),
     Row::Shows(Shown::Packet(2, Some(&GAP_REPORT))),
 ];
 
 /// Two of three parts come, the second a tick later. What they wait for is overdue two ticks after
 /// that; ground is told, and its sender is closed.
 const EXPIRY: [Row; 19] = [
-    Row::Opens(Up, 7, 20, 3),
-    Row::Sends(Up, 7, 1, 0),
-    Row::Sends(Up, 7, 2, 1),
-    Row::Sends(Up, 7, 3, 2),
+    Row::Opens(Up, ID_7, 20, 3),
+    Row::Sends(Up, ID_7, 1, 0),
+    Row::Sends(Up, ID_7, 2, 1),
+    Row::Sends(Up, ID_7, 3, 2),
     Row::Takes(S1, 0),
-    Row::Gives(S1, Outcome::Kept(7, 1)),
+    Row::Gives(S1, Outcome::Kept(ID_7, 1)),
     Row::Ticks(17),
     Row::Takes(S1, 1),
-    Row::Gives(S1, Outcome::Kept(7, 2)),
+    Row::Gives(S1, Outcome::Kept(ID_7, 2)),
     Row::Ticks(18),
     Row::Refuses(SEAT, Asked::Expire, StepFault::NothingDue),
     Row::Ticks(19),
-    Row::Answers(Asked::Expire, Answer::Expired(Up, 7), 1),
+    Row::Answers(Asked::Expire, Answer::Expired(Up, ID_7), 1),
     Row::Takes(S1, 2),
     Row::Gives(S1, Outcome::Ignored(Why::Closed)),
     Row::Takes(G1, 3),
-    Row::Gives(G1, Outcome::AbortNoted(7, Reason::Expired)),
-    Row::Refuses(SEAT, Asked::Send(Up, 7, 3), StepFault::NotOpen),
+    Row::Gives(G1, Outcome::AbortNoted(ID_7, Reason::Expired)),
+    Row::Refuses(SEAT, Asked::Send(Up, ID_7, 3), StepFault::NotOpen),
     Row::Shows(Shown::Packet(3, Some(&EXPIRED))),
 ];
 
@@ -148,19 +149,19 @@ const DUMPS: [Row; 26] = [
     Row::Gives(S1, Outcome::PlainReleased(21)),
     Row::Claims(1),
     Row::Commits(1),
-    Row::Applies(Applied::Done(Some(0)), 0),
-    Row::Sends(Down, 0, 1, 3),
-    Row::Sends(Down, 0, 2, 4),
-    Row::Sends(Down, 0, 3, 5),
-    Row::Sends(Down, 0, 4, 6),
+    Row::Applies(Applied::Done(Some(ID_0)), 0),
+    Row::Sends(Down, ID_0, 1, 3),
+    Row::Sends(Down, ID_0, 2, 4),
+    Row::Sends(Down, ID_0, 3, 5),
+    Row::Sends(Down, ID_0, 4, 6),
     Row::Takes(G1, 3),
-    Row::Gives(G1, Outcome::Kept(0, 1)),
+    Row::Gives(G1, Outcome::Kept(ID_0, 1)),
     Row::Takes(G1, 4),
-    Row::Gives(G1, Outcome::Kept(0, 2)),
+    Row::Gives(G1, Outcome::Kept(ID_0, 2)),
     Row::Takes(G1, 5),
-    Row::Gives(G1, Outcome::Kept(0, 3)),
+    Row::Gives(G1, Outcome::Kept(ID_0, 3)),
     Row::Takes(G1, 6),
-    Row::Gives(G1, Outcome::Released(0, 32)),
+    Row::Gives(G1, Outcome::Released(ID_0, 32)),
     Row::Shows(Shown::Packet(1, Some(&DUMPED))),
     Row::Shows(Shown::Memory(16, &[0, 0])),
 ];
@@ -195,7 +196,7 @@ static PATHS: [Path; 5] = [
         },
         memories: &ONE,
         rows: &EXPIRY,
-        opened: &[(0, Some((Up, 7)), Content::Counting(20))],
+        opened: &[(0, Some((Up, ID_7)), Content::Counting(20))],
         released: &[],
     },
     Path {
@@ -207,9 +208,9 @@ static PATHS: [Path; 5] = [
         memories: &ONE,
         rows: &GAPS,
         opened: &[
-            (0, Some((Up, 7)), Content::Counting(20)),
-            (9, Some((Up, 8)), Content::Counting(20)),
-            (13, Some((Down, 9)), Content::Counting(20)),
+            (0, Some((Up, ID_7)), Content::Counting(20)),
+            (9, Some((Up, ID_8)), Content::Counting(20)),
+            (13, Some((Down, ID_9)), Content::Counting(20)),
         ],
         released: &[],
     },
@@ -233,11 +234,11 @@ static PATHS: [Path; 5] = [
         config: CONFIG,
         memories: &ONE,
         rows: &DUMPS,
-        opened: &[(11, Some((Down, 0)), Content::Octets(&DUMPED_LARGE))],
+        opened: &[(11, Some((Down, ID_0)), Content::Octets(&DUMPED_LARGE))],
         released: &[
             (2, None, Content::Packet(0)),
             (8, None, Content::Packet(2)),
-            (23, Some((Down, 0)), Content::Octets(&DUMPED_LARGE)),
+            (23, Some((Down, ID_0)), Content::Octets(&DUMPED_LARGE)),
         ],
     },
     Path {

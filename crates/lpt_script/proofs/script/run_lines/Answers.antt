@@ -95,9 +95,9 @@ returns-in-Err-run_line-clause-ends g c =
     (g.K.Sink.contents c.args.out.now) (g.K.Sink.contents c.find_line.new.out) (g.K.Sink.contents c.run_line.new.out)
     (g.S.Source.failed c.find_line.new.source) (g.K.Sink.failed c.run_line.new.out)
     runs finds.2
-    (subst (λ x. LineEnds (line_ran (says (is_later c.args.shows.now) x) c.loop-len.number c.loop-len.world) (Err c.in-Err-run_line.fault) c.run_line.new.world
+    (subst (λ x. LineEnds (line_ran (says (is_later c.args.shows.now) c.loop-len.world.config.source x) c.loop-len.number c.loop-len.world) (Err c.in-Err-run_line.fault) c.run_line.new.world
     (g.K.Sink.contents c.find_line.new.out) (g.K.Sink.contents c.run_line.new.out)) line
-    (subst (λ l. LineEnds (line_ran (says l c.ended.result.now) c.loop-len.number c.loop-len.world) (Err c.in-Err-run_line.fault) c.run_line.new.world
+    (subst (λ l. LineEnds (line_ran (says l c.loop-len.world.config.source c.ended.result.now) c.loop-len.number c.loop-len.world) (Err c.in-Err-run_line.fault) c.run_line.new.world
     (g.K.Sink.contents c.find_line.new.out) (g.K.Sink.contents c.run_line.new.out)) c.loop-len.invariant.same c.in-Err-run_line.ensures.ends))
     (λ is. c.in-Err-run_line.ensures.cause (ap Err is))
 
@@ -118,12 +118,12 @@ loop-len-preserved g c =
     text (held c.skip.new.self) (room_of c.find_line.new.self) a d
     (g.K.Sink.contents c.args.out.now) (g.K.Sink.contents c.find_line.new.out) (g.K.Sink.contents c.run_line.new.out)
     runs finds.2 c.skip.ensures.held
-    (subst (λ x. LineEnds (line_ran (says (is_later c.args.shows.now) x) c.loop-len.number c.loop-len.world) (Ok c.in-Ok.was_refused) c.run_line.new.world
+    (subst (λ x. LineEnds (line_ran (says (is_later c.args.shows.now) c.loop-len.world.config.source x) c.loop-len.number c.loop-len.world) (Ok c.in-Ok.was_refused) c.run_line.new.world
     (g.K.Sink.contents c.find_line.new.out) (g.K.Sink.contents c.run_line.new.out)) line
-    (subst (λ l. LineEnds (line_ran (says l c.ended.result.now) c.loop-len.number c.loop-len.world) (Ok c.in-Ok.was_refused) c.run_line.new.world
+    (subst (λ l. LineEnds (line_ran (says l c.loop-len.world.config.source c.ended.result.now) c.loop-len.number c.loop-len.world) (Ok c.in-Ok.was_refused) c.run_line.new.world
     (g.K.Sink.contents c.find_line.new.out) (g.K.Sink.contents c.run_line.new.out)) c.loop-len.invariant.same c.in-Ok.ensures.ends))
-    (subst (λ x. kept_of c.run_line.new.shows ≡ kept_of c.loop-len.shows ++ shows_left (is_later c.args.shows.now) (reading_of x)) line
-    (subst (λ l. kept_of c.run_line.new.shows ≡ kept_of c.loop-len.shows ++ shows_left l (reading_of c.ended.result.now)) c.loop-len.invariant.same
+    (subst (λ x. kept_of c.run_line.new.shows ≡ kept_of c.loop-len.shows ++ shows_left (is_later c.args.shows.now) (reading_of c.loop-len.world.config.source x)) line
+    (subst (λ l. kept_of c.run_line.new.shows ≡ kept_of c.loop-len.shows ++ shows_left l (reading_of c.loop-len.world.config.source c.ended.result.now)) c.loop-len.invariant.same
     c.in-Ok.ensures.left)) in
     record {
       runs = subst (λ n. Runs (is_later c.args.shows.now) (kept_of c.args.shows.now) (kept_of c.run_line.new.shows) c.args.world.now c.run_line.new.world (c.loop-len.number + 1) (c.loop-len.refused + n) (held c.skip.new.self)

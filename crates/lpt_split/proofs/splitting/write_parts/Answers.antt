@@ -23,7 +23,7 @@ returns-in-Err-clause-part g c =
     let count = c.loop-number.count in
     let next = octets-next c.args.form config d c.args.id m ns i count (next_count count) c.loop-number-test.true refl in
     let is = c.as_slice.ensures.same ∙ c.in-Ok.ensures
-    ∙ ap (part_made config d count 0 config.clock) c.part_at-part.ensures.part in
+    ∙ ap (part_made config d config.source count 0 config.clock) c.part_at-part.ensures.part in
     let part = c.in-Err.ensures.part in
     wrote-part-more _ _ _ (packet_in c.args.form config.clock (packet_at c.args.form config d c.args.id m ns i count)) _ _ _
     c.loop-number.invariant.written next
@@ -41,7 +41,7 @@ loop-number-preserved g c =
     let parts = part_count (length m) config.part_size in
     let next = octets-next c.args.form config d c.args.id m ns i count c.next_count-count.result c.loop-number-test.true c.next_count-count.ensures.next in
     let is = c.as_slice.ensures.same ∙ c.in-Ok.ensures
-    ∙ ap (part_made config d count 0 config.clock) c.part_at-part.ensures.part in
+    ∙ ap (part_made config d config.source count 0 config.clock) c.part_at-part.ensures.part in
     let all = c.in-Ok-write_packet.ensures.ok in
     record {
       count = c.next_count-count.ensures.fits;

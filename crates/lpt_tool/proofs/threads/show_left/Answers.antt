@@ -2,6 +2,7 @@ use Rattle.std.proofs.Common.{List, ℕ, subst}
 use Rattle.std.specs.Io.KnownBytes.{Appends}
 use Rattle.lpt_share.specs.LptEvents.declared.entry.Entry.{Entry}
 use Rattle.lpt_share.specs.LptEvents.declared.entry.Release.{Release}
+use Rattle.lpt_share.specs.LptEvents.declared.config.Config.{Config}
 use Rattle.lpt_tool.specs.Summary.{IsSummary}
 use Rattle.lpt_script.proofs.GrowthLemmas.{grows_on}
 use Rattle.lpt_script.specs.Scripts.{show_text}
@@ -15,11 +16,13 @@ pub returns-in-Ok-clause-all : goal.returns-in-Ok-clause-all
 returns-in-Ok-clause-all g c =
     left_shown c.args.kept.now c.args.world.now c.show_kept.result
     (g.K.Sink.contents c.args.out.now) (g.K.Sink.contents c.put_summary.new.out) (g.K.Sink.contents c.show_kept.new.out)
-    (subst (λ (rs : List Release). (summary : List ℕ) × IsSummary rs c.args.world.now.journal summary
+    (subst (λ (rs : List Release). (summary : List ℕ) × IsSummary c.args.world.now.config.source rs c.args.world.now.journal summary
     × Appends (g.K.Sink.contents c.args.out.now) (g.K.Sink.contents c.put_summary.new.out) summary) c.released.ensures.all
-    (subst (λ (es : List Entry). (summary : List ℕ) × IsSummary c.released.result.now es summary
+    (subst (λ (es : List Entry). (summary : List ℕ) × IsSummary c.args.world.now.config.source c.released.result.now es summary
     × Appends (g.K.Sink.contents c.args.out.now) (g.K.Sink.contents c.put_summary.new.out) summary) c.journal.ensures.shown
-    c.in-Ok.ensures.all))
+    (subst (λ (k : Config). (summary : List ℕ) × IsSummary k.source c.released.result.now c.journal.result.now summary
+    × Appends (g.K.Sink.contents c.args.out.now) (g.K.Sink.contents c.put_summary.new.out) summary) c.config.ensures.shown
+    c.in-Ok.ensures.all)))
     c.show_kept.ensures.ends
 
 pub returns-in-Ok-clause-grows : goal.returns-in-Ok-clause-grows

@@ -14,7 +14,7 @@ pub returns-in_err-read_load-in-Load-clause-asked :
     goal.returns-in_err-read_load-in-Load-clause-asked
 returns-in_err-read_load-in-Load-clause-asked c =
     let ws = words c.args.rest.now in
-    let load : IsSome (load_of ws) = c.in_err-read_load-in-Load.ensures.asked in
-    let asked : IsSome (arguments_of c.args.keyword ws) =
-    rw c.in-Load.is (mapped command.Load (load_of ws) load) in
-    on_err c.from_residual.result (IsSome (arguments_of c.args.keyword ws)) asked
+    let load : IsSome (load_of c.args.source ws) = c.in_err-read_load-in-Load.ensures.asked in
+    let asked : IsSome (arguments_of c.args.source c.args.keyword ws) =
+    rw c.in-Load.is (mapped command.Load (load_of c.args.source ws) load) in
+    on_err c.from_residual.result (IsSome (arguments_of c.args.source c.args.keyword ws)) asked

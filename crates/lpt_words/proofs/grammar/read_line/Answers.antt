@@ -11,8 +11,8 @@ returns-in_err-command-clause-asked c =
     let line = c.args.line.now in
     let short : nat_lt 140000 (length line) ≡ false =
     grind (arith, nat_tests, c.if-line-gt-LONGEST_LINE.false) in
-    on_err c.from_residual.result (IsAsked (reading_of line))
-    (asks line c.in-Some.word.now (words c.in-Some.rest.now) c.in-Some-read_keyword.keyword short
+    on_err c.from_residual.result (IsAsked (reading_of c.args.source line))
+    (asks c.args.source line c.in-Some.word.now (words c.in-Some.rest.now) c.in-Some-read_keyword.keyword short
     c.in-Some.ensures.words
     (sym c.begins_comment.ensures ∙ c.if-begins_comment.false)
     (sym c.read_keyword.ensures ∙ c.in-Some-read_keyword.is)

@@ -7,5 +7,5 @@ use Rattle.lpt_words.proofs.load.read_load.Goals as goal
 
 pub returns-in_err-areas-clause-asked : goal.returns-in_err-areas-clause-asked
 returns-in_err-areas-clause-asked c =
-    let asked : IsSome (load_of (words c.args.rest.now)) = search rules in
-    on_err c.from_residual.result (IsSome (load_of (words c.args.rest.now))) asked
+    let asked : IsSome (load_of c.args.source (words c.args.rest.now)) = search rules in
+    on_err c.from_residual.result (IsSome (load_of c.args.source (words c.args.rest.now))) asked

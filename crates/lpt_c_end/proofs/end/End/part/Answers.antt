@@ -6,7 +6,7 @@ use Rattle.lpt_c_end.proofs.end.End.part.Goals as goal
 pub invariant_of-self-clause-ready : goal.invariant_of-self-clause-ready
 invariant_of-self-clause-ready c =
     let e = c.make_place.new.self in
-    ready_sent e.node c.send_part.new.self e.memories e.node.side e.node.config c.in-Ok.packet c.args.id c.args.k c.send_part.ensures.config c.in-Ok.ensures.ok e.ready
+    ready_sent e.node c.send_part.new.self e.memories e.node.side e.node.config c.in-Ok.packet c.args.name c.args.k c.send_part.ensures.config c.in-Ok.ensures.ok e.ready
 
 -- memory ran out
 pub invariant_of-self-in-Err-clause-ready : goal.invariant_of-self-in-Err-clause-ready

@@ -6,7 +6,7 @@ use Rattle.lpt_c_end.proofs.end.End.plain.Goals as goal
 pub invariant_of-self-clause-ready : goal.invariant_of-self-clause-ready
 invariant_of-self-clause-ready c =
     let e = c.make_place.new.self in
-    ready_plain e.node c.plain.new.self e.memories e.node.config c.in-Ok.packet c.in-Some.flags c.args.service c.args.subtype c.args.body.now c.plain.ensures.config c.in-Ok.ensures.ok e.ready
+    ready_plain e.node c.plain.new.self e.memories e.node.config c.in-Ok.packet c.args.source c.in-Some.flags c.args.service c.args.subtype c.args.body.now c.plain.ensures.config c.in-Ok.ensures.ok e.ready
 
 -- memory ran out
 pub invariant_of-self-in-Err-clause-ready : goal.invariant_of-self-in-Err-clause-ready

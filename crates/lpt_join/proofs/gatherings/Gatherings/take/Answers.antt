@@ -12,7 +12,7 @@ returns-in_default c = λ packets h.
 -- a part of one of which nothing can be kept
 pub returns-in_default-take_out : goal.returns-in_default-take_out
 returns-in_default-take_out c = λ packets h.
-    each-more c.args.transaction.now c.in-Some.id c.args.octets.now c.in-Some.ensures packets c.args.self
+    each-more c.args.transaction.now c.in-Some.name c.args.octets.now c.in-Some.ensures packets c.args.self
     record { kept = c.take_out.new.self.kept; has_more = true }
     c.take_out.ensures.others c.in_default-take_out.ensures.none refl h
 
@@ -20,18 +20,18 @@ returns-in_default-take_out c = λ packets h.
 pub take-requires : goal.take-requires
 take-requires c = (
   c.requires.0,
-  subst (λ t. Gives t c.requires.0 c.in-Some-take_out.gathering) (sym c.of_id.ensures)
+  subst (λ t. Gives t c.requires.0 c.in-Some-take_out.gathering) (sym c.of_name.ensures)
       (c.in-Some-take_out.ensures.given c.args.transaction.now c.requires.0 c.requires.1),
 )
 
 -- a part of one of which this is kept
 pub returns : goal.returns
 returns c = λ packets h.
-    each-part c.args.transaction.now c.in-Some.id c.args.octets.now c.in-Some.ensures packets c.args.self
+    each-part c.args.transaction.now c.in-Some.name c.args.octets.now c.in-Some.ensures packets c.args.self
     c.put.new.self c.in_ok-gathering.gathering
     (λ n other. c.in_ok-put.ensures.others n other ∙ c.take_out.ensures.others n other)
     c.in_ok-put.ensures.kept (c.put.ensures.more ∙ c.take_out.ensures.more)
-    (subst (λ t. Gives t (packets ++ c.args.octets.now ∷ []) c.in_ok-gathering.gathering) c.of_id.ensures
+    (subst (λ t. Gives t (packets ++ c.args.octets.now ∷ []) c.in_ok-gathering.gathering) c.of_name.ensures
     (c.in_ok-gathering.ensures packets
-    (subst (λ t. Gives t packets c.in-Some-take_out.gathering) (sym c.of_id.ensures)
+    (subst (λ t. Gives t packets c.in-Some-take_out.gathering) (sym c.of_name.ensures)
     (c.in-Some-take_out.ensures.given c.args.transaction.now packets h)))) h

@@ -1,11 +1,18 @@
--- Nothing of the transaction came.
-use Rattle.std.proofs.Common.{sym, subst}
-use Rattle.lpt_join.specs.Several.{IsKept, of_id}
+-- What is kept of the transaction, or that nothing of it came.
+use Rattle.std.proofs.Common.{Some, sym, subst}
+use Rattle.lpt_join.specs.Several.{IsKept, of_name}
 use Rattle.lpt_join.proofs.SeveralLemmas.{gives-none}
 use Rattle.lpt_join.proofs.gatherings.Gatherings.take_out.Goals as goal
 
 pub returns-in-None-clause-given : goal.returns-in-None-clause-given
 returns-in-None-clause-given c = λ t packets h.
-    gives-none (of_id t c.args.id) packets c.new.result (c.new.ensures (of_id t c.args.id))
-    (subst (λ o. IsKept (of_id t c.args.id) packets c.args.self.now.has_more o)
-    (sym c.in-None.ensures.value) (h c.args.id) (c.has_room.ensures c.if-has_room.true))
+    gives-none (of_name t c.args.name) packets c.new.result (c.new.ensures (of_name t c.args.name))
+    (subst (λ o. IsKept (of_name t c.args.name) packets c.args.self.now.has_more o)
+    (sym c.in-None.ensures.value) (h c.args.name) (c.has_room.ensures c.if-has_room.true))
+
+pub returns-in-Some-clause-given : goal.returns-in-Some-clause-given
+returns-in-Some-clause-given c = λ t packets h.
+    let kept : IsKept (of_name t c.args.name) packets c.args.self.now.has_more (Some c.in-Some.gathering) =
+    subst (λ o. IsKept (of_name t c.args.name) packets c.args.self.now.has_more o)
+    (sym c.in-Some.ensures.value) (h c.args.name) in
+    kept.0

@@ -1,29 +1,13 @@
--- All pages are closed.
-use Rattle.std.proofs.Common.{◌≡◌, ◌∙◌, ap, subst, ℕ, arith}
-use Rattle.lpt_ledger.specs.Marks.{all_closed}
-use Rattle.lpt_ledger.proofs.ClosingLemmas.{AreClosed, AreClosed-more, marks-closed}
-use Rattle.lpt_ledger.proofs.TellsLemmas.{Tells-same, same_free}
+-- Each page is closed.
+use Rattle.std.proofs.Common.{rules, ap, ◌∙◌}
+use Rattle.std.proofs.lemmas.Map.Made.{map_same_pairs}
+use Rattle.lpt_ledger.specs.Marks.{Marks, all_closed}
+use Rattle.lpt_ledger.specs.LedgerInside.{closed_page, marks}
+use Rattle.lpt_ledger.proofs.ClosingLemmas.{marks-closed}
 use Rattle.lpt_ledger.proofs.ledger.Ledger.close_all.Goals as goal
 
 pub returns : goal.returns
 returns c =
-    let old = c.self.inside.pages.entries in
-    let new = c.loop-number.self-inside.pages.entries in
-    let last : c.loop-number.number ≡ 1024 = omega arith in
-    marks-closed old new (subst (λ (n : ℕ). AreClosed old new n) last c.loop-number.invariant.0)
-    ∙ ap all_closed c.self.view_is
-
--- and none is freed
-pub invariant_of-self : goal.invariant_of-self
-invariant_of-self c = c.loop-number.invariant.1
-
--- page after page
-pub loop-number-preserved : goal.loop-number-preserved
-loop-number-preserved c =
-    let old = c.self.inside.pages.entries in
-    let now = c.loop-number.self-inside.pages.entries in
-    let new = c.close_page.new.pages.entries in (
-      AreClosed-more old now new c.loop-number.number c.loop-number.invariant.0 c.close_page.ensures,
-      Tells-same now new c.loop-number.self-inside.full c.loop-number.invariant.1 (λ n b _ _.
-          same_free now new c.loop-number.number c.close_page.ensures n b),
-    )
+    ap marks (map_same_pairs _ closed_page _ (λ k v b w f' t. search rules) _ _ c.retain.ensures.filtered)
+    ∙ marks-closed c.self.inside.pages.entries
+    ∙ ap (λ (m : Marks). all_closed m) c.self.view_is

@@ -39,3 +39,7 @@ returns-in-Ok-clause-number c =
     c.len-number.ensures
     ∙ c.self.inside.packets.ok.0
     ∙ ap (λ (v : LinkView). length v.at.packets) c.self.view_is
+
+-- where it isn't put all is as before
+pub invariant_of-self-in-Err : goal.invariant_of-self-in-Err
+invariant_of-self-in-Err c = rw c.in-Err.ensures.items c.self.invariant

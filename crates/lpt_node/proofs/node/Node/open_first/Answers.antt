@@ -50,4 +50,4 @@ returns-clause-opened c =
     ap (λ (m : List ℕ). Some (c.in-Some-least_free.id, m)) c.in_ok-copy.ensures
     ∙ ap (λ (ms : List (List ℕ)). opened_of (Some c.in-Some-least_free.id) ms) (sym c.in-Some.ensures.items ∙ c.into_iter.ensures.rest)
     ∙ ap (λ (o : Option Name). opened_of o c.args.messages.items) c.in-Some-least_free.ensures.value
-    ∙ ap (λ (n : NodeView). opened_of (least_free_in n.at.sending.ledger) c.args.messages.items) c.self.view_is
+    ∙ ap (λ (n : NodeView). opened_of (least_free_in n.at.sending.ledger c.args.source) c.args.messages.items) c.self.view_is

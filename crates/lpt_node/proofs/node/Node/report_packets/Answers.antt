@@ -17,11 +17,11 @@ loop-report-preserved c =
     let items : reports ≡ c.in-Some.report ∷ rest = search rules in
     record {
       packets =
-          link-added node.config s t node.at.clock c.in-Some.report rest reports _ _ items
+          link-added node.config c.args.peer s t node.at.clock c.in-Some.report rest reports _ _ items
           c.in_ok-add_report.ensures.packets c.in_ok-add_report.ensures.counts
           ∙ c.loop-report.invariant.packets;
       large =
-          large-added node.config s t node.at.clock c.in-Some.report rest reports _ _ items
+          large-added node.config c.args.peer s t node.at.clock c.in-Some.report rest reports _ _ items
           c.in_ok-add_report.ensures.large c.in_ok-add_report.ensures.counts
           ∙ c.loop-report.invariant.large;
       counts =

@@ -12,17 +12,17 @@ invariant-loop-report l = record {
   packets :
       l.made.packets.items
       ++ link_packets l.fn.self.config.part_size
-      (report_packets l.fn.self.config (with_counts l.fn.self.at.sending l.made.counts)
+      (report_packets l.fn.self.config l.fn.peer (with_counts l.fn.self.at.sending l.made.counts)
       l.fn.self.at.clock l.report-iterator.rest.items)
       ≡ link_packets l.fn.self.config.part_size
-      (report_packets l.fn.self.config l.fn.self.at.sending l.fn.self.at.clock l.fn.reports.items);
+      (report_packets l.fn.self.config l.fn.peer l.fn.self.at.sending l.fn.self.at.clock l.fn.reports.items);
   large :
       l.made.large.items
       ++ large_packets l.fn.self.config.part_size
-      (report_packets l.fn.self.config (with_counts l.fn.self.at.sending l.made.counts)
+      (report_packets l.fn.self.config l.fn.peer (with_counts l.fn.self.at.sending l.made.counts)
       l.fn.self.at.clock l.report-iterator.rest.items)
       ≡ large_packets l.fn.self.config.part_size
-      (report_packets l.fn.self.config l.fn.self.at.sending l.fn.self.at.clock l.fn.reports.items);
+      (report_packets l.fn.self.config l.fn.peer l.fn.self.at.sending l.fn.self.at.clock l.fn.reports.items);
   counts :
       reported (with_counts l.fn.self.at.sending l.made.counts) l.report-iterator.rest.items
       ≡ reported l.fn.self.at.sending l.fn.reports.items;

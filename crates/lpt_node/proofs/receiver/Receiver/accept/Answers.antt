@@ -1,6 +1,7 @@
 -- What a receiver makes of a part, by what its table answered.
 use Rattle.std.proofs.Common.{[], ap, rules}
 use Rattle.std.specs.Option.{option_map}
+use Rattle.lpt_execution.specs.LptPacket.Names.{named_by}
 use Rattle.lpt_execution.specs.LptPart.Parts.{piece}
 use Rattle.lpt_execution.specs.LptEvents.NamedParts.{named}
 use Rattle.lpt_execution.specs.LptPus.Telemetry.{telemetry, as_written}
@@ -11,19 +12,19 @@ use Rattle.lpt_node.proofs.receiver.Receiver.accept.Goals as goal
 
 pub returns-then-ne-clause-ok : goal.returns-then-ne-clause-ok
 returns-then-ne-clause-ok c =
-    received-closed (option_map (λ h. as_written (telemetry h [])) c.args.head) c.args.self.now (named (piece c.args.part.now)) c.args.now
+    received-closed (option_map (λ h. as_written (telemetry h [])) c.args.head) c.args.self.now (named c.args.source (piece c.args.part.now)) c.args.now
     (search rules)
 
 pub invariant_of-self : goal.invariant_of-self
 invariant_of-self c =
-    sound-kept c.self.inside.ledger c.self.inside.table c.offer.new.self c.args.part.now.id _
+    sound-kept c.self.inside.ledger c.self.inside.table c.offer.new.self (named_by c.args.source c.args.part.now.id) _
     c.self.invariant
     (search rules)
     c.in-Kept.ensures.answer.2
 
 pub invariant_of-self-in-Again : goal.invariant_of-self-in-Again
 invariant_of-self-in-Again c =
-    sound-kept c.self.inside.ledger c.self.inside.table c.offer.new.self c.args.part.now.id _
+    sound-kept c.self.inside.ledger c.self.inside.table c.offer.new.self (named_by c.args.source c.args.part.now.id) _
     c.self.invariant
     (search rules)
     c.in-Again.ensures.answer.2
@@ -31,7 +32,7 @@ invariant_of-self-in-Again c =
 pub invariant_of-self-in-Whole : goal.invariant_of-self-in-Whole
 invariant_of-self-in-Whole c =
     sound-out c.release.result c.self.inside.ledger c.release.new.ledger
-    c.self.inside.table c.offer.new.self c.release.new.table c.args.part.now.id c.in-Whole.whole.before
+    c.self.inside.table c.offer.new.self c.release.new.table (named_by c.args.source c.args.part.now.id) c.in-Whole.whole.before
     c.self.invariant
     c.in-Whole.ensures.answer.2
     c.release.ensures.shut
@@ -39,12 +40,12 @@ invariant_of-self-in-Whole c =
     c.release.ensures.unshut
     c.release.ensures.back
     (ap (λ (w : Ended). w.before) c.in-Whole.ensures.answer.1.2)
-    (c.put_back_undoes.ensures c.self.inside.table c.offer.new.self c.args.part.now.id c.self.invariant.settled c.in-Whole.ensures.answer.2)
+    (c.put_back_undoes.ensures c.self.inside.table c.offer.new.self (named_by c.args.source c.args.part.now.id) c.self.invariant.settled c.in-Whole.ensures.answer.2)
 
 pub invariant_of-self-in-Conflict : goal.invariant_of-self-in-Conflict
 invariant_of-self-in-Conflict c =
     sound-out c.abort.result c.self.inside.ledger c.abort.new.ledger
-    c.self.inside.table c.offer.new.self c.abort.new.table c.args.part.now.id c.in-Conflict.broken.before
+    c.self.inside.table c.offer.new.self c.abort.new.table (named_by c.args.source c.args.part.now.id) c.in-Conflict.broken.before
     c.self.invariant
     c.in-Conflict.ensures.answer.2
     c.abort.ensures.shut
@@ -52,12 +53,12 @@ invariant_of-self-in-Conflict c =
     c.abort.ensures.unshut
     c.abort.ensures.back
     c.in-Conflict.ensures.answer.1.1
-    (c.put_back_undoes.ensures c.self.inside.table c.offer.new.self c.args.part.now.id c.self.invariant.settled c.in-Conflict.ensures.answer.2)
+    (c.put_back_undoes.ensures c.self.inside.table c.offer.new.self (named_by c.args.source c.args.part.now.id) c.self.invariant.settled c.in-Conflict.ensures.answer.2)
 
 pub returns-in-Kept-clause-ok : goal.returns-in-Kept-clause-ok
 returns-in-Kept-clause-ok c =
     received-kept (option_map (λ h. as_written (telemetry h [])) c.args.head) c.self.inside.ledger c.self.inside.table c.offer.new.self
-    (named (piece c.args.part.now)) c.args.now c.args.self.now
+    (named c.args.source (piece c.args.part.now)) c.args.now c.args.self.now
     c.self.view_is
     c.self.invariant
     (search rules)
@@ -68,7 +69,7 @@ returns-in-Kept-clause-ok c =
 pub returns-in-Again-clause-ok : goal.returns-in-Again-clause-ok
 returns-in-Again-clause-ok c =
     received-again (option_map (λ h. as_written (telemetry h [])) c.args.head) c.self.inside.ledger c.self.inside.table c.offer.new.self
-    (named (piece c.args.part.now)) c.args.now c.args.self.now
+    (named c.args.source (piece c.args.part.now)) c.args.now c.args.self.now
     c.self.view_is
     c.self.invariant
     (search rules)
@@ -79,7 +80,7 @@ returns-in-Again-clause-ok c =
 pub returns-in-NoRoom-clause-ok : goal.returns-in-NoRoom-clause-ok
 returns-in-NoRoom-clause-ok c =
     received-no_room (option_map (λ h. as_written (telemetry h [])) c.args.head) c.self.inside.ledger c.self.inside.table c.offer.new.self
-    (named (piece c.args.part.now)) c.args.now c.args.self.now
+    (named c.args.source (piece c.args.part.now)) c.args.now c.args.self.now
     c.self.view_is
     c.self.invariant
     (search rules)
@@ -89,7 +90,7 @@ returns-in-NoRoom-clause-ok c =
 pub returns-in-Whole-clause-ok : goal.returns-in-Whole-clause-ok
 returns-in-Whole-clause-ok c =
     received-whole (option_map (λ h. as_written (telemetry h [])) c.args.head) c.self.inside.ledger c.self.inside.table c.offer.new.self
-    (named (piece c.args.part.now)) c.args.now c.args.self.now
+    (named c.args.source (piece c.args.part.now)) c.args.now c.args.self.now
     c.self.view_is
     c.self.invariant
     (search rules)
@@ -105,7 +106,7 @@ returns-in-Whole-clause-ok c =
 pub returns-in-Conflict-clause-ok : goal.returns-in-Conflict-clause-ok
 returns-in-Conflict-clause-ok c =
     received-broken (option_map (λ h. as_written (telemetry h [])) c.args.head) c.self.inside.ledger c.self.inside.table c.offer.new.self
-    (named (piece c.args.part.now)) c.args.now c.args.self.now
+    (named c.args.source (piece c.args.part.now)) c.args.now c.args.self.now
     c.self.view_is
     c.self.invariant
     (search rules)
@@ -120,7 +121,7 @@ returns-in-Conflict-clause-ok c =
 pub returns-in-Memory-clause-memory : goal.returns-in-Memory-clause-memory
 returns-in-Memory-clause-memory c =
     grows-kept (option_map (λ h. as_written (telemetry h [])) c.args.head) c.self.inside.ledger c.self.inside.table c.offer.new.self
-    (named (piece c.args.part.now)) c.args.now c.args.self.now
+    (named c.args.source (piece c.args.part.now)) c.args.now c.args.self.now
     c.self.view_is
     c.self.invariant
     (search rules)
@@ -129,7 +130,7 @@ returns-in-Memory-clause-memory c =
 pub returns-in-Whole-clause-memory : goal.returns-in-Whole-clause-memory
 returns-in-Whole-clause-memory c =
     grows-whole (option_map (λ h. as_written (telemetry h [])) c.args.head) c.self.inside.ledger c.self.inside.table c.offer.new.self
-    (named (piece c.args.part.now)) c.args.now c.args.self.now
+    (named c.args.source (piece c.args.part.now)) c.args.now c.args.self.now
     c.self.view_is
     c.self.invariant
     (search rules)
@@ -139,7 +140,7 @@ returns-in-Whole-clause-memory c =
 pub returns-in-Conflict-clause-memory : goal.returns-in-Conflict-clause-memory
 returns-in-Conflict-clause-memory c =
     grows-broken (option_map (λ h. as_written (telemetry h [])) c.args.head) c.self.inside.ledger c.self.inside.table c.offer.new.self
-    (named (piece c.args.part.now)) c.args.now c.args.self.now
+    (named c.args.source (piece c.args.part.now)) c.args.now c.args.self.now
     c.self.view_is
     c.self.invariant
     (search rules)
@@ -149,7 +150,7 @@ returns-in-Conflict-clause-memory c =
 pub invariant_of-self-in-Gap : goal.invariant_of-self-in-Gap
 invariant_of-self-in-Gap c =
     sound-gap c.break_off.result c.self.inside.ledger c.break_off.new.ledger
-    c.self.inside.table c.offer.new.self c.args.part.now.id
+    c.self.inside.table c.offer.new.self (named_by c.args.source c.args.part.now.id)
     c.self.invariant
     c.break_off.ensures.shut
     c.break_off.ensures.unshut
@@ -159,7 +160,7 @@ invariant_of-self-in-Gap c =
 pub returns-in-Gap-clause-ok : goal.returns-in-Gap-clause-ok
 returns-in-Gap-clause-ok c =
     received-gap (option_map (λ h. as_written (telemetry h [])) c.args.head) c.self.inside.ledger c.self.inside.table c.offer.new.self
-    (named (piece c.args.part.now)) c.args.now c.args.self.now
+    (named c.args.source (piece c.args.part.now)) c.args.now c.args.self.now
     c.self.view_is
     c.self.invariant
     (search rules)
@@ -173,7 +174,7 @@ returns-in-Gap-clause-ok c =
 pub returns-in-Gap-clause-memory : goal.returns-in-Gap-clause-memory
 returns-in-Gap-clause-memory c =
     grows-gap (option_map (λ h. as_written (telemetry h [])) c.args.head) c.self.inside.ledger c.self.inside.table c.offer.new.self
-    (named (piece c.args.part.now)) c.args.now c.args.self.now
+    (named c.args.source (piece c.args.part.now)) c.args.now c.args.self.now
     c.self.view_is
     c.self.invariant
     (search rules)

@@ -1,4 +1,4 @@
-use Rattle.lpt_reception.specs.LptPacket.Names.{name_cmp}
+use Rattle.lpt_reception.specs.LptPacket.Names.{Name, name_cmp}
 use Rattle.std.proofs.Common.{◌∙◌, ap, subst, sym, arith, ◌+◌, ◌≤◌, ℕ, Option}
 use Rattle.std.specs.FinMap as map
 use Rattle.lpt_table.specs.EntryLists.{Listing, how_many_out, IsAway}
@@ -13,7 +13,7 @@ invariant_of-self c =
     ∙ map.len-empty name_cmp TableEntry
     in
     let settled = ap (λ (t : TableState). t.out) c.self.view_is ∙ c.requires.settled in
-    subst (λ (o : Option (ℕ × ℕ)).
+    subst (λ (o : Option (Name × ℕ)).
     (map.len c.clear.new.self.entries + how_many_out o ≤ c.clear.new.self.limit)
     × IsAway o c.clear.new.self.entries)
     (sym settled) (omega (arith, len), tt)

@@ -3,6 +3,7 @@
 use Rattle.std.proofs.Common.{◌≡◌, ◌∙◌, ap, sym, ℕ, Option, None, Some}
 use Rattle.std.specs.Prelude.{MatchOption, is_some}
 use Rattle.std.specs.FinMap as map
+use Rattle.lpt_reception.specs.LptPacket.Names.{Name}
 use Rattle.lpt_table.specs.declared.entries.Entry.{Entry}
 use Rattle.lpt_table.specs.EntriesOf.{IsEntry}
 use Rattle.lpt_table.specs.EntryLists.{Listing}
@@ -11,7 +12,7 @@ use Rattle.lpt_table.specs.Tables.{TableEntry, TableState}
 use Rattle.lpt_table.proofs.table.Table.expire.Goals as goal
 
 -- an entry comes out where there was one
-is_some-taken : (r : Option Entry) (at : Option TableEntry) (id p : ℕ)
+is_some-taken : (r : Option Entry) (at : Option TableEntry) (id : Name) (p : ℕ)
     → MatchOption r (at ≡ None) (λ e. IsEntry at id p e)
     → is_some r ≡ is_some at
 is_some-taken None at id p h = ap is_some (sym h)

@@ -1,0 +1,8 @@
+-- How the name of a transaction is written.
+use Rattle.std.specs.Prelude.{ℕ, ◌==◌, if◌then◌else◌, List, ◌∷◌, ◌++◌, decimal}
+use Rattle.lpt_pus.specs.LptPacket.Names.{Name}
+
+-- a name: its identifier alone where it is of the configured source, which is the first argument
+abbrev pub name_text : (source : ℕ) → Name → List ℕ
+name_text source n =
+    if n.source == source then decimal n.id else decimal n.source ++ 47 ∷ decimal n.id

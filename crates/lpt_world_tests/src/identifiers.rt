@@ -1,0 +1,126 @@
+//! Worked paths of two sources: an identifier names a transaction of each.
+
+use crate::names::ID_7;
+use crate::rows::{Asked, CONFIG, Content, ONE, Path, Row, SEAT, Shown};
+use lpt_world::Direction::Up;
+use lpt_world::Lane::{G1, S1};
+use lpt_world::{Answer, Config, Name, Outcome, Reason, State, StepFault};
+
+const OTHER_3: Name = Name { source: 2, id: 3 };
+
+const OTHER_7: Name = Name { source: 2, id: 7 };
+
+/// TC\[13,9\] of count 1: the octets 0 to 7 as the first part of transaction 7 of source 2.
+const FIRST_OF_OTHER: [u8; 25] = [
+    0x18, 0x64, 0xc0, 0x01, 0x00, 0x12, 0x20, 0x0d, 0x09, 0x00, 0x02, 0x00, 0x07, 0x00, 0x01, 0x00,
+    0x01, 0x02, 0x03, 0x04, 0x05, 0x06, 0x07, 0x0e, 0x1b,
+];
+
+/// TM\[13,16\] to source 2 of counts 1: the reception of its transaction 7 was given up at tick 2.
+const OTHER_EXPIRED: [u8; 22] = [
+    0x08, 0x64, 0xc0, 0x01, 0x00, 0x0f, 0x20, 0x0d, 0x10, 0x00, 0x01, 0x00, 0x02, 0x00, 0x00, 0x00,
+    0x02, 0x00, 0x07, 0x01, 0x94, 0x56,
+];
+
+/// Message 7 of source 1 stays open, while one of source 2 is released, retired and opened again. Then
+/// both receptions are given up, and ground notes each of its source.
+const ONE_IDENTIFIER: [Row; 41] = [
+    Row::Opens(Up, ID_7, 20, 3),
+    Row::Opens(Up, OTHER_7, 9, 2),
+    Row::Refuses(SEAT, Asked::Open(Up, OTHER_7, 9), StepFault::InUse),
+    Row::Sends(Up, ID_7, 1, 0),
+    Row::Sends(Up, OTHER_7, 1, 1),
+    Row::Sends(Up, OTHER_7, 2, 2),
+    Row::Shows(Shown::Packet(1, Some(&FIRST_OF_OTHER))),
+    Row::Takes(S1, 0),
+    Row::Gives(S1, Outcome::Kept(ID_7, 1)),
+    Row::Takes(S1, 1),
+    Row::Gives(S1, Outcome::Kept(OTHER_7, 1)),
+    Row::Takes(S1, 2),
+    Row::Gives(S1, Outcome::Released(OTHER_7, 9)),
+    Row::Answers(Asked::Finish(Up, OTHER_7), Answer::Finished, 0),
+    Row::Refuses(SEAT, Asked::Retire(Up, OTHER_7), StepFault::NotClear),
+    Row::Answers(Asked::Lose(1), Answer::Lost, 0),
+    Row::Answers(Asked::Lose(2), Answer::Lost, 0),
+    Row::Shows(Shown::Clear(Up, OTHER_7, true)),
+    Row::Shows(Shown::Clear(Up, ID_7, false)),
+    Row::Answers(Asked::Retire(Up, OTHER_7), Answer::Retired, 0),
+    Row::Refuses(SEAT, Asked::Retire(Up, ID_7), StepFault::StillOpen),
+    Row::Shows(Shown::Sender(Up, OTHER_7, State::Free)),
+    Row::Shows(Shown::Sender(Up, ID_7, State::Open)),
+    Row::Opens(Up, OTHER_7, 20, 3),
+    Row::Sends(Up, OTHER_7, 1, 3),
+    Row::Takes(S1, 3),
+    Row::Gives(S1, Outcome::Kept(OTHER_7, 1)),
+    Row::Ticks(1),
+    Row::Ticks(2),
+    Row::Answers(Asked::Expire, Answer::Expired(Up, ID_7), 1),
+    Row::Answers(Asked::Expire, Answer::Expired(Up, OTHER_7), 1),
+    Row::Shows(Shown::Packet(5, Some(&OTHER_EXPIRED))),
+    Row::Takes(G1, 5),
+    Row::Gives(G1, Outcome::AbortNoted(OTHER_7, Reason::Expired)),
+    Row::Shows(Shown::Sender(Up, OTHER_7, State::Closed)),
+    Row::Shows(Shown::Sender(Up, ID_7, State::Open)),
+    Row::Sends(Up, ID_7, 2, 6),
+    Row::Refuses(SEAT, Asked::Send(Up, OTHER_7, 2), StepFault::NotOpen),
+    Row::Takes(G1, 4),
+    Row::Gives(G1, Outcome::AbortNoted(ID_7, Reason::Expired)),
+    Row::Shows(Shown::Sender(Up, ID_7, State::Closed)),
+];
+
+/// Three receptions took their parts in one tick. They are given up in the order of their sources, and
+/// those of one source in that of their identifiers.
+const BY_SOURCE: [Row; 21] = [
+    Row::Opens(Up, OTHER_7, 9, 2),
+    Row::Opens(Up, OTHER_3, 9, 2),
+    Row::Opens(Up, ID_7, 9, 2),
+    Row::Sends(Up, OTHER_7, 1, 0),
+    Row::Sends(Up, OTHER_3, 1, 1),
+    Row::Sends(Up, ID_7, 1, 2),
+    Row::Takes(S1, 0),
+    Row::Gives(S1, Outcome::Kept(OTHER_7, 1)),
+    Row::Takes(S1, 1),
+    Row::Gives(S1, Outcome::Kept(OTHER_3, 1)),
+    Row::Takes(S1, 2),
+    Row::Gives(S1, Outcome::Kept(ID_7, 1)),
+    Row::Ticks(1),
+    Row::Ticks(2),
+    Row::Answers(Asked::Expire, Answer::Expired(Up, ID_7), 1),
+    Row::Answers(Asked::Expire, Answer::Expired(Up, OTHER_3), 1),
+    Row::Answers(Asked::Expire, Answer::Expired(Up, OTHER_7), 1),
+    Row::Takes(G1, 3),
+    Row::Gives(G1, Outcome::AbortNoted(ID_7, Reason::Expired)),
+    Row::Takes(G1, 4),
+    Row::Gives(G1, Outcome::AbortNoted(OTHER_3, Reason::Expired)),
+];
+
+const SHORT_TIMEOUT: Config = Config {
+    timeout: 2,
+    ..CONFIG
+};
+
+pub(crate) const TWO_SOURCES: Path = Path {
+    name: "one identifier of two sources",
+    config: SHORT_TIMEOUT,
+    memories: &ONE,
+    rows: &ONE_IDENTIFIER,
+    opened: &[
+        (0, Some((Up, ID_7)), Content::Counting(20)),
+        (1, Some((Up, OTHER_7)), Content::Counting(9)),
+        (15, Some((Up, OTHER_7)), Content::Counting(20)),
+    ],
+    released: &[(10, Some((Up, OTHER_7)), Content::Counting(9))],
+};
+
+pub(crate) const DUE_BY_SOURCE: Path = Path {
+    name: "what is due at once goes by source and identifier",
+    config: SHORT_TIMEOUT,
+    memories: &ONE,
+    rows: &BY_SOURCE,
+    opened: &[
+        (0, Some((Up, OTHER_7)), Content::Counting(9)),
+        (1, Some((Up, OTHER_3)), Content::Counting(9)),
+        (2, Some((Up, ID_7)), Content::Counting(9)),
+    ],
+    released: &[],
+};
