@@ -58,7 +58,7 @@ complete -c lpt -n '__lpt_at list' -l strict -d 'End at the first place where no
 complete -c lpt -n '__lpt_at split' -l parts -x -d 'The parts to write, as 3,7-9,12-'
 complete -c lpt -n '__lpt_at split' -l whole -d 'Pass on a message that has no more octets than a part'
 complete -c lpt -n '__lpt_at split' -l pcap -d 'Write the packets as a capture, a pcap file'
-complete -c lpt -n '__lpt_at join' -l id -x -d "The message's identifier, 0 to 65535; without one, it is the only one there"
+complete -c lpt -n '__lpt_at join' -l id -x -d "The message's ID or SOURCE/ID; without one, it is the only one there"
 complete -c lpt -n '__lpt_at extract' -l at -x -d 'Write an image of this memory, its areas at their places'
 complete -c lpt -n '__lpt_at extract' -l from -x -d 'The address at which the image begins, 0 without it'
 complete -c lpt -n '__lpt_at extract' -l fill -x -d 'The octet where no area gives one, 0 to 255, 0 without it'
