@@ -1,5 +1,5 @@
 -- What closing each open name does to the marks.
-use Rattle.std.proofs.Common.{◌≡◌, ◌∙◌, refl, sym, ap, rules, ℕ, ◌==◌, ◌%◌, Bool, true, false, cond, List, [], ◌∷◌, map as mapped, Option, Some, None}
+use Rattle.std.proofs.Common.{◌≡◌, ◌∙◌, refl, sym, ap, rules, ℕ, ◌==◌, ◌%◌, Bool, true, false, cond, List, [], ◌∷◌, map as mapped, Option, Some, None, is_some}
 use Rattle.std.proofs.lemmas.Map.Made.{lookup-map_values}
 use Rattle.std.specs.BTreeMap.{is_at}
 use Rattle.std.specs.FinMap.{get, entries, find, get-entries, get-from_entries}
@@ -11,7 +11,7 @@ use Rattle.lpt_packet.specs.Names.{Name, name_cmp}
 use Rattle.lpt_ledger.specs.declared.page.Page.{Page}
 use Rattle.lpt_ledger.specs.Marks.{Mark, Opened, Shut, Marks, shut_mark, all_closed}
 use Rattle.lpt_ledger.specs.States.{state_of, state_at, closed_state}
-use Rattle.lpt_ledger.specs.LedgerInside.{closed_page, mark_by_bits, mark_on, marks, page_first, page_in, page_mark}
+use Rattle.lpt_ledger.specs.LedgerInside.{closed_page, mark_at, mark_by_bits, mark_on, marks, page_first, page_in, page_mark, Tells}
 use Rattle.lpt_ledger.proofs.MarksLemmas.{get-marks, same_marks}
 
 -- ---- all at once
@@ -66,16 +66,28 @@ closed_mark g b = ap (λ (n : ℕ). mark_by_bits (bit_at g.taken b == 1) (n == 1
 abbrev pub all_pages : List (Name × Page) → List (Name × Page)
 all_pages es = mapped (λ (e : Name × Page). (e.0, closed_page e.1)) es
 
+-- the mark of each name is shut
+mark_at-closed : (es : List (Name × Page)) (q : Name) → mark_at (all_pages es) q ≡ shut_mark (mark_at es q)
+mark_at-closed es q =
+    ap (λ o. mark_on o (q.id % 64)) (lookup-map_values closed_page (is_at (name_cmp (page_first q))) es)
+    ∙ go (page_in es (page_first q)) (q.id % 64)
+  where
+    go : (o : Option Page) (b : ℕ) → mark_on (option_map closed_page o) b ≡ shut_mark (mark_on o b)
+    go None b = refl
+    go (Some g) b = closed_mark g b
+
 -- to close each page is to shut all marks
 pub marks-closed : (es : List (Name × Page)) → marks (all_pages es) ≡ all_closed (marks es)
 marks-closed es =
     same_marks (marks (all_pages es)) (all_closed (marks es)) (λ q.
     get-marks (all_pages es) q
-    ∙ ap (λ o. mark_on o (q.id % 64)) (lookup-map_values closed_page (is_at (name_cmp (page_first q))) es)
-    ∙ go (page_in es (page_first q)) (q.id % 64)
+    ∙ mark_at-closed es q
     ∙ ap shut_mark (sym (get-marks es q))
     ∙ sym (get-all_closed (marks es) q))
-  where
-    go : (o : Option Page) (b : ℕ) → mark_on (option_map closed_page o) b ≡ shut_mark (mark_on o b)
-    go None b = refl
-    go (Some g) b = closed_mark g b
+
+-- and frees none
+pub Tells-closed : (es : List (Name × Page)) (ws : List (Name × ℕ)) → Tells es ws → Tells (all_pages es) ws
+Tells-closed es ws tells q one = ap is_some (mark_at-closed es q) ∙ go (mark_at es q) ∙ tells q one where
+  go : (o : Option Mark) → is_some (shut_mark o) ≡ is_some o
+  go None = refl
+  go (Some x) = refl

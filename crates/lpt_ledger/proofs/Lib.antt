@@ -1,3 +1,4 @@
 pub mod ClosingLemmas
 pub mod FirstLemmas
+mod FullLemmas
 mod MarksLemmas

@@ -1,5 +1,5 @@
 -- How a ledger keeps the marks: in pages of 64 names, of which each has a bit in two words.
-use Rattle.std.specs.Prelude.{ℕ, zero, suc, ◌+◌, ◌*◌, ◌/◌, ◌%◌, ◌==◌, Bool, true, false, List, [], ◌∷◌, Option, Some, None}
+use Rattle.std.specs.Prelude.{◌≡◌, ℕ, zero, suc, ◌+◌, ◌*◌, ◌/◌, ◌%◌, ◌==◌, Bool, true, false, List, [], ◌∷◌, Option, Some, None, is_some, unwrap_or}
 use Rattle.std.specs.BTreeMap.{is_at}
 use Rattle.std.specs.FinMap as map
 use Rattle.std.specs.Int.{bit_at}
@@ -81,3 +81,21 @@ marks_over (n ∷ ns) mark = marked n (mark n) (marks_over ns mark)
 -- what pages are seen as
 unfoldable pub marks : List (Name × Page) → Marks
 marks es = map.from_entries (marks_over (names_on es) (mark_at es))
+
+-- ---- which pages are full
+
+-- the word of the 64 pages that begin with a name; where there is none, no bit is set
+abbrev pub word_in : List (Name × ℕ) → Name → ℕ
+word_in ws first = unwrap_or (lookup (is_at (name_cmp first)) ws) 0
+
+-- the first name of the 64 pages of a name
+abbrev pub word_first : Name → Name
+word_first name = named_by name.source (name.id / 4096 * 4096)
+
+-- the bit of a name's page
+abbrev pub full_bit : List (Name × ℕ) → Name → ℕ
+full_bit ws name = bit_at (word_in ws (word_first name)) (name.id / 64 % 64)
+
+-- a page has its bit set only where none of its names is free
+abbrev pub Tells : List (Name × Page) → List (Name × ℕ) → Type 0
+Tells es ws = (q : Name) → full_bit ws q ≡ 1 → is_some (mark_at es q) ≡ true

@@ -10,18 +10,17 @@ ghost use Rattle.lpt_ledger.specs.Refusals.{refusal_open, refusal_close, refusal
 ghost use Rattle.lpt_ledger.specs.LeastFree.{least_free_in, IsLeastFree};
 ghost use Rattle.lpt_ledger.specs.LedgerInside.{mark_on, page_first, page_in, page_mark, with_state};
 
-use crate::page::Page;
+use crate::bits::has_bit;
+use crate::full::{WORD, WORD_NAMES, Words, keep_place, put_bit, word_of};
+use crate::page::{PAGE, Page, first_among};
 use crate::{LedgerFault, State};
 use lpt_packet::Name;
 use std::alloc::{AllocError, Global};
 use std::collections::BTreeMap;
 use std::marker::Model;
 
-// How many names a page has.
-const PAGE: u16 = 64;
-
-// How many pages have all names of a source.
-const PAGES: u16 = 1_024;
+// How many words have a bit for each page of a source.
+const WORDS: u16 = 16;
 
 /// The state of each name at one end.
 #[derive(Drop)]
@@ -29,17 +28,21 @@ pub struct Ledger {
     // The pages of the names that aren't free, by their first names. A page has a place in memory
     // where one of its names isn't free.
     pages: BTreeMap<Name, Page>,
+    // A bit for each page, which is set only where none of its names is free.
+    full: Words,
 }
 
 impl Model for Ledger {
     ghost use Rattle.lpt_ledger.specs.Marks.{Marks, coded_marks};
-    ghost use Rattle.lpt_ledger.specs.LedgerInside.{marks};
+    ghost use Rattle.lpt_ledger.specs.LedgerInside.{marks, Tells};
 
     ghost Value = { Marks };
 
     ghost coded = { coded_marks };
 
     ghost view = { λ a. marks a.pages.entries };
+
+    ghost invariant = { λ a. Tells a.pages.entries a.full.entries };
 }
 
 impl Ledger {
@@ -49,6 +52,7 @@ impl Ledger {
     {
         Ledger {
             pages: BTreeMap::new(alloc),
+            full: BTreeMap::new(alloc),
         }
     }
 
@@ -56,22 +60,30 @@ impl Ledger {
     pub fn state(&self, name: Name) -> State
         ensures { result ≡ state_at self.now name }
     {
-        page_of(&self.pages, first_of(name)).state(u32::from(name.id % PAGE))
+        page_of(&self.pages, first_among(name, PAGE)).state(u32::from(name.id % PAGE))
     }
 
-    /// The least free name of a source, or `None` where none of its 65,536 is free. It looks for no
-    /// more than 1,024 pages, whatever is taken.
+    /// The least free name of a source, or `None` where none of its 65,536 is free. It looks at no
+    /// more than 16 words of 64 bits, and at the pages that no bit tells as full.
     pub fn least_free(&self, source: u16) -> Option<Name>
         ensures least { IsLeastFree self.now source result }
         ensures value { result ≡ least_free_in self.now source }
     {
-        for number in 0..PAGES {
-            let id = number * PAGE;
-            if let Some(place) = first_free(&self.pages, Name { source, id }) {
-                return Some(Name {
-                    source,
-                    id: id + place as u16,
-                });
+        for number in 0..WORDS {
+            let first = number * WORD_NAMES;
+            let word = word_of(&self.full, Name { source, id: first });
+            if word == u64::MAX {
+                continue;
+            }
+            for bit in 0..WORD {
+                if has_bit(word, u32::from(bit)) {
+                    continue;
+                }
+                let id = first + bit * PAGE;
+                if let Some(place) = first_free(&self.pages, Name { source, id }) {
+                    let id = id + place as u16;
+                    return Some(Name { source, id });
+                }
             }
         }
         None
@@ -189,20 +201,13 @@ impl Ledger {
         ensures free { OnErr result (state_at self.old name ≡ State.Free) }
         ensures err { OnErr result (self.new ≡ self.old) }
     {
-        let first = first_of(name);
-        let page = page_of(&self.pages, first).with(u32::from(name.id % PAGE), state);
+        let first = first_among(name, PAGE);
+        let before = page_of(&self.pages, first);
+        let page = before.with(u32::from(name.id % PAGE), state);
+        keep_place(&mut self.full, name, before, page)?;
         put_page(&mut self.pages, first, page)?;
+        put_bit(&mut self.full, name, page.is_full());
         Ok(())
-    }
-}
-
-// The first name of a name's page.
-fn first_of(name: Name) -> Name
-    ensures { result ≡ page_first name }
-{
-    Name {
-        source: name.source,
-        id: name.id / PAGE * PAGE,
     }
 }
 

@@ -8,6 +8,7 @@
 
 mod bits;
 mod fault;
+mod full;
 pub mod laws;
 mod ledger;
 mod page;

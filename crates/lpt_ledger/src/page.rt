@@ -1,10 +1,15 @@
 //! The states of 64 names that follow one another.
 
-ghost use Rattle.std.specs.Prelude.{◌≡◌, ◌≢◌, ℕ, ◌<◌, true, false, None, is_some, IfSome, IfNone, IsTrue};
+ghost use Rattle.std.specs.Prelude.{◌≡◌, ◌≢◌, ℕ, ◌*◌, ◌/◌, ◌<◌, true, false, None, is_some, IfSome, IfNone, IsTrue};
+ghost use Rattle.lpt_packet.specs.Names.{named_by};
 ghost use Rattle.lpt_ledger.specs.LedgerInside.{closed_page, mark_of, page_mark};
 
 use crate::State;
 use crate::bits::{has_bit, lowest_clear, with_bit};
+use lpt_packet::Name;
+
+/// How many names a page has.
+pub(crate) const PAGE: u16 = 64;
 
 /// The states of 64 names. A name has the bit of its place in each word.
 #[derive(Clone, Copy)]
@@ -90,5 +95,16 @@ impl Page {
         ensures none { IfNone result ((i : ℕ) → i < 64 → is_some (page_mark self i) ≡ true) }
     {
         lowest_clear(self.taken)
+    }
+}
+
+/// The first of a name's run, where the names of a source stand in runs of so many.
+pub(crate) fn first_among(name: Name, names: u16) -> Name
+    requires { 0 < names }
+    ensures { result ≡ named_by name.source (name.id / names * names) }
+{
+    Name {
+        source: name.source,
+        id: name.id / names * names,
     }
 }

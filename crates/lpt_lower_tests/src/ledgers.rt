@@ -72,12 +72,17 @@ fn open_each(ledger: &mut Ledger) -> u16 {
 /// one behind it.
 type Row = (Call, u16, u16, State, Option<u16>);
 
-// Each call answers its code, and leaves its identifier in its state.
+// Each call answers its code, and leaves its identifier in its state. Another source's names stay free.
 fn check_calls(rt: &impl Abort, ledger: &mut Ledger, rows: &[Row]) {
     for (at, (call, id, number, state, want)) in rows.iter().enumerate() {
         let answer = code(ledger, *call, *id);
         let left = (answer, ledger.state(name(*id)), least(ledger));
         assert!(rt; left == (*number, *state, *want), "row {at}");
+        let first = Name {
+            source: OTHER,
+            id: 0,
+        };
+        assert!(rt; ledger.least_free(OTHER) == Some(first), "row {at}");
     }
 }
 
@@ -86,12 +91,6 @@ fn check(rt: &impl Abort, alloc: Global, rows: &[Row]) -> Result<(), Fail> {
     let mut ledger = Ledger::new(alloc);
     assert!(rt; least(&ledger) == Some(0));
     check_calls(rt, &mut ledger, rows);
-    // Another source's names are all free.
-    let first = Name {
-        source: OTHER,
-        id: 0,
-    };
-    assert!(rt; ledger.least_free(OTHER) == Some(first));
     drop(ledger);
     Ok(())
 }
@@ -127,7 +126,7 @@ static LEAST_FREE: [Row; 6] = [
 ];
 
 /// With every identifier taken none is free.
-static TAKEN: [Row; 8] = [
+static TAKEN: [Row; 11] = [
     (Call::Shut, 1, 0, State::Closed, Some(0)),
     (Call::CloseAll, 0, 0, State::Free, Some(0)),
     (Call::CloseAll, 1, 0, State::Closed, Some(0)),
@@ -136,6 +135,9 @@ static TAKEN: [Row; 8] = [
     (Call::Retire, 65_535, 0, State::Free, Some(65_535)),
     (Call::Retire, 64, 0, State::Free, Some(64)),
     (Call::Open, 64, 0, State::Open, Some(65_535)),
+    (Call::Retire, 40_000, 0, State::Free, Some(40_000)),
+    (Call::Shut, 40_000, 0, State::Closed, Some(65_535)),
+    (Call::Shut, 65_535, 0, State::Closed, None),
 ];
 
 #[test]

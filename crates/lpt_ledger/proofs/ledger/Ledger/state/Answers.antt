@@ -14,7 +14,7 @@ returns c =
     c.state.ensures
     ∙ ap (λ (b : ℕ). page_mark c.page_of.result b) c.from.ensures
     ∙ c.page_of.ensures (c.args.name.id % 64)
-    ∙ ap (λ (n : Name). mark_on (page_in c.self.inside.pages.entries n) (c.args.name.id % 64)) c.first_of.ensures
+    ∙ ap (λ (n : Name). mark_on (page_in c.self.inside.pages.entries n) (c.args.name.id % 64)) c.first_among.ensures
     ∙ sym (get-marks c.self.inside.pages.entries c.args.name)
     )
     ∙ ap (λ (m : Marks). state_at m c.args.name) c.self.view_is
