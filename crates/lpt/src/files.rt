@@ -15,7 +15,7 @@ use std::alloc::{AllocError, Global};
 pub fn split(rt: &HostRuntime, config: &Config, words: &SplitWords<'_>) -> Result<Status, Failure>
     requires { IsConfig config.now }
 {
-    let wanted = wanted(words);
+    let wanted = wanted(words, config.source);
     let mut source = opened(rt, words.file)?;
     let mut out = output(rt)?;
     let split = split_message(rt.alloc(), config, &wanted, &mut source, &mut out);
@@ -32,11 +32,11 @@ pub fn split(rt: &HostRuntime, config: &Config, words: &SplitWords<'_>) -> Resul
     }
 }
 
-// What `split` wants.
-fn wanted<'a>(words: &SplitWords<'a>) -> Wanted<'a> {
+// What `split` wants, where this source is configured.
+fn wanted<'a>(words: &SplitWords<'a>, source: u16) -> Wanted<'a> {
     Wanted {
         direction: words.direction,
-        id: words.id,
+        name: words.name.under(source),
         parts: words.parts.as_bytes(),
         first: words.first,
         whole: words.whole,

@@ -117,7 +117,7 @@ fn command_of<'a>(
         "lint" => words.get_str("SCRIPT").map(Command::Lint),
         "chart" => chart_words(words).map(Command::Chart),
         "list" => list_words(words).map(Command::List),
-        "split" => split_words(words).map(Command::Split),
+        "split" => Some(Command::Split(split_words(words)?)),
         "join" => Some(Command::Join(join_words(words)?)),
         "extract" => extract_words(words).map(Command::Extract),
         _ => words.get_str("HEX").map(Command::Decode),

@@ -8,8 +8,6 @@ const TEXT: ValueParser<'static> = ValueParser::String;
 
 const U8: ValueParser<'static> = ValueParser::Signed(0, 255);
 
-const U16: ValueParser<'static> = ValueParser::Signed(0, 65_535);
-
 const U32: ValueParser<'static> = ValueParser::Signed(0, 4_294_967_295);
 
 const U64: ValueParser<'static> = ValueParser::Unsigned(0, u64::MAX);
@@ -174,9 +172,9 @@ pub(crate) static COMMANDS: [Row; 10] = [
             DIRECTION,
             Word {
                 name: "ID",
-                value: U16,
+                value: TEXT,
                 need: Need::One,
-                help: "The message's identifier, 0 to 65535",
+                help: "The message's ID or SOURCE/ID, numbers of 0 to 65535",
             },
             Word {
                 name: "FILE",

@@ -11,8 +11,8 @@ use lpt_pus::{Direction, Name};
 pub struct SplitWords<'a> {
     /// The direction in which the message goes.
     pub direction: Direction,
-    /// Its identifier.
-    pub id: u16,
+    /// What names it.
+    pub name: GivenName,
     /// The path of the message, or `-` for standard input.
     pub file: &'a str,
     /// The list of the parts.
@@ -68,13 +68,16 @@ pub struct ListWords<'a> {
 }
 
 /// What the words of `split` ask for.
-pub fn split_words<'a>(matches: &ArgMatches<'a>) -> Option<SplitWords<'a>> {
-    Some(SplitWords {
-        direction: direction_in(matches)?,
-        id: matches.get_one("ID")?,
-        file: matches.get_str("FILE")?,
-        parts: matches.get_str("parts")?,
-        first: count_in(matches)?,
+///
+/// Errors: `Missing`; `Id` where what should name the message doesn't.
+pub fn split_words<'a>(matches: &ArgMatches<'a>) -> Result<SplitWords<'a>, WordFault<'a>> {
+    let word = matches.get_str("ID").ok_or(WordFault::Missing)?;
+    Ok(SplitWords {
+        direction: direction_in(matches).ok_or(WordFault::Missing)?,
+        name: name_in(word).ok_or(WordFault::Id("<ID>", word))?,
+        file: matches.get_str("FILE").ok_or(WordFault::Missing)?,
+        parts: matches.get_str("parts").ok_or(WordFault::Missing)?,
+        first: count_in(matches).ok_or(WordFault::Missing)?,
         whole: matches.get_flag("whole"),
         pcap: matches.get_flag("pcap"),
     })
@@ -87,7 +90,7 @@ pub fn join_words<'a>(matches: &ArgMatches<'a>) -> Result<JoinWords<'a>, WordFau
     let direction = direction_in(matches).ok_or(WordFault::Missing)?;
     let file = matches.get_str("FILE").ok_or(WordFault::Missing)?;
     let name = match matches.get_str("id") {
-        Some(word) => Some(name_in(word).ok_or(WordFault::Id(word))?),
+        Some(word) => Some(name_in(word).ok_or(WordFault::Id("--id <ID>", word))?),
         None => None,
     };
     Ok(JoinWords {

@@ -9,8 +9,8 @@ pub enum WordFault<'a> {
     Missing,
     /// This one is no address.
     Address(&'a str),
-    /// This one names no message.
-    Id(&'a str),
+    /// Where this stands, this one names no message.
+    Id(&'static str, &'a str),
     /// This one is no number of octets.
     Length(&'a str),
     /// Behind this address no number of octets stands.
@@ -35,9 +35,9 @@ impl WordFault<'_> {
                     "invalid value '{word}' for '<ADDRESS>': no number of 0 to 4294967295"
                 )
             }
-            WordFault::Id(word) => {
+            WordFault::Id(place, word) => {
                 format!(in alloc;
-                    "invalid value '{word}' for '--id <ID>': no ID or SOURCE/ID of 0 to 65535"
+                    "invalid value '{word}' for '{place}': no ID or SOURCE/ID of 0 to 65535"
                 )
             }
             WordFault::Length(word) => {

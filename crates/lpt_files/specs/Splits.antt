@@ -19,7 +19,7 @@ pub record ArePackets (c : Config) (w : Wanted) (m octets : List ℕ) : Type 0 w
   pub short : length m ≤ 65542
   pub numbers : List ℕ
   pub named : numbers_of (part_count (length m) c.part_size) w.parts.now ≡ Some numbers
-  pub are : octets ≡ written_in w.form c.clock (split_of c w.direction w.id m w.first numbers)
+  pub are : octets ≡ written_in w.form c.clock (split_of c w.direction w.name m w.first numbers)
 
 -- the octets that are wanted of a message: those packets; or the message itself as one, where it
 -- isn't split and may go as it is

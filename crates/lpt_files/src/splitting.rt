@@ -86,13 +86,12 @@ fn write_parts<K: Sink>(
         Ok(None) => return Ok(SplitEnd::NoSuchPart(last)),
         Err(_) => return Err(ToolFault::Memory),
     };
-    let id = wanted.id;
     let numbers = numbers.as_slice();
     match split(
         alloc,
         config,
         wanted.direction,
-        id,
+        wanted.name,
         message,
         numbers,
         wanted.first,

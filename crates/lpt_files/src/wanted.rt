@@ -2,15 +2,15 @@
 
 ghost use Rattle.std.specs.Prelude.{◌≤◌};
 
-use lpt_join::{Direction, Form};
+use lpt_join::{Direction, Form, Name};
 
 /// Which packets of a message are wanted.
 #[derive(Clone, Copy, Debug)]
 pub struct Wanted<'a> {
     /// The direction in which the message goes.
     pub direction: Direction,
-    /// Its identifier.
-    pub id: u16,
+    /// Its name.
+    pub name: Name,
     /// A list of its parts: `1-` for all of them.
     pub parts: &'a [u8],
     /// The sequence count of the first packet, 0 to 16,383.

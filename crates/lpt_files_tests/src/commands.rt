@@ -47,7 +47,7 @@ fn split(
 ) -> Result<(SplitEnd, Vec<u8>), Fail> {
     let wanted = Wanted {
         direction: Direction::Up,
-        id: 7,
+        name: Name { source: 1, id: 7 },
         parts: parts.as_bytes(),
         first: 0,
         whole,

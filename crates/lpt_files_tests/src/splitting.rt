@@ -1,7 +1,7 @@
 //! A message split into packets.
 
 use crate::packets::{FIRST, MESSAGE, SECOND, THIRD, USUAL};
-use lpt_join::{Direction, Form, Told, ToolFault, split};
+use lpt_join::{Direction, Form, Name, Told, ToolFault, split};
 use std::alloc::Global;
 
 // The packets of the message's parts 1, 2 and 3, of sequence counts from 0 on.
@@ -11,7 +11,7 @@ fn packets(alloc: Global) -> Result<Vec<u8>, ToolFault> {
         alloc,
         &USUAL,
         Direction::Up,
-        7,
+        Name { source: 1, id: 7 },
         &MESSAGE,
         &[1, 2, 3],
         0,

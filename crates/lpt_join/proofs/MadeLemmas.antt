@@ -69,12 +69,13 @@ telemetry_range t fits = record {
 }
 
 -- a part's packet is within its ranges
-part_command_fits : (c : Config) (count counter time : ℕ) (q : Piece)
+part_command_fits : (c : Config) (source count counter time : ℕ) (q : Piece)
     → IsConfig c
+    → source < 65536
     → AreCounts count counter time
     → PartFits q.kind q.number (length q.octets) c.part_size
-    → CommandFits (command_made c c.source count 0 13 (part_subtype Up q.kind) (body_of q))
-part_command_fits c count counter time q good counts fits = record {
+    → CommandFits (command_made c source count 0 13 (part_subtype Up q.kind) (body_of q))
+part_command_fits c source count counter time q good from counts fits = record {
   head_fits =
       record {
         apid_fits = good.apid_fits;
@@ -83,16 +84,17 @@ part_command_fits c count counter time q good counts fits = record {
       };
   service_fits = omega arith;
   subtype_fits = part_subtype-small Up q.kind;
-  source_fits = good.source_fits;
+  source_fits = from;
   body_fits = omega (arith, length-body_of q, fits.length_fits.greatest, good.part_size_fits.1);
 }
 
-part_telemetry_fits : (c : Config) (count counter time : ℕ) (q : Piece)
+part_telemetry_fits : (c : Config) (source count counter time : ℕ) (q : Piece)
     → IsConfig c
+    → source < 65536
     → AreCounts count counter time
     → PartFits q.kind q.number (length q.octets) c.part_size
-    → TelemetryFits (telemetry_made c c.source count counter time 13 (part_subtype Down q.kind) (body_of q))
-part_telemetry_fits c count counter time q good counts fits = record {
+    → TelemetryFits (telemetry_made c source count counter time 13 (part_subtype Down q.kind) (body_of q))
+part_telemetry_fits c source count counter time q good from counts fits = record {
   head_fits =
       record {
         apid_fits = good.apid_fits;
@@ -102,30 +104,31 @@ part_telemetry_fits c count counter time q good counts fits = record {
   service_fits = omega arith;
   subtype_fits = part_subtype-small Down q.kind;
   counter_fits = counts.counter_fits;
-  destination_fits = good.source_fits;
+  destination_fits = from;
   time_fits = counts.time_fits;
   body_fits = omega (arith, length-body_of q, fits.length_fits.greatest, good.part_size_fits.1);
 }
 
 -- what is made of a part is a packet
-pub made_packet : (c : Config) (d : Direction) (count counter time : ℕ) (q : Piece)
+pub made_packet : (c : Config) (d : Direction) (source count counter time : ℕ) (q : Piece)
     → IsConfig c
+    → source < 65536
     → AreCounts count counter time
     → PartFits q.kind q.number (length q.octets) c.part_size
-    → (f : Fields) × IsPacket (part_made c d c.source count counter time q) f
-made_packet c Up count counter time q good counts fits =
-    let t = command_made c c.source count 0 13 (part_subtype Up q.kind) (body_of q) in (
+    → (f : Fields) × IsPacket (part_made c d source count counter time q) f
+made_packet c Up source count counter time q good from counts fits =
+    let t = command_made c source count 0 13 (part_subtype Up q.kind) (body_of q) in (
       packet_of t,
       record {
-        ranges = command_range t (part_command_fits c count counter time q good counts fits);
+        ranges = command_range t (part_command_fits c source count counter time q good from counts fits);
         spelled = refl;
       },
     )
-made_packet c Down count counter time q good counts fits =
-    let t = telemetry_made c c.source count counter time 13 (part_subtype Down q.kind) (body_of q) in (
+made_packet c Down source count counter time q good from counts fits =
+    let t = telemetry_made c source count counter time 13 (part_subtype Down q.kind) (body_of q) in (
       tm_packet_of t,
       record {
-        ranges = telemetry_range t (part_telemetry_fits c count counter time q good counts fits);
+        ranges = telemetry_range t (part_telemetry_fits c source count counter time q good from counts fits);
         spelled = refl;
       },
     )
@@ -172,24 +175,25 @@ telemetry_arrives apid p t fits e =
 -- ---- parts
 
 -- a part that fits arrives as that part
-part_arrives : (c : Config) (d : Direction) (count counter time : ℕ) (q : Piece)
+part_arrives : (c : Config) (d : Direction) (source count counter time : ℕ) (q : Piece)
     → IsConfig c
+    → source < 65536
     → AreCounts count counter time
     → q.id < 65536
     → PartFits q.kind q.number (length q.octets) c.part_size
-    → arrival (receiver_side d) c.apid c.part_size (part_made c d c.source count counter time q) ≡ APart (named c.source q)
-part_arrives c Up count counter time q good counts i fits =
-    let t = command_made c c.source count 0 13 (part_subtype Up q.kind) (body_of q) in
-    command_arrives c.apid c.part_size t (part_command_fits c count counter time q good counts fits) refl
-    ∙ ap (λ o. option_map_or (part_arrival c.part_size c.source (body_of q)) o
+    → arrival (receiver_side d) c.apid c.part_size (part_made c d source count counter time q) ≡ APart (named source q)
+part_arrives c Up source count counter time q good from counts i fits =
+    let t = command_made c source count 0 13 (part_subtype Up q.kind) (body_of q) in
+    command_arrives c.apid c.part_size t (part_command_fits c source count counter time q good from counts fits) refl
+    ∙ ap (λ o. option_map_or (part_arrival c.part_size source (body_of q)) o
     (ARequest (spelling (packet_of t)))) (carried_kind-part_subtype Up q.kind)
-    ∙ body_arrives c.part_size c.source q i fits
-part_arrives c Down count counter time q good counts i fits =
-    let t = telemetry_made c c.source count counter time 13 (part_subtype Down q.kind) (body_of q) in
-    telemetry_arrives c.apid c.part_size t (part_telemetry_fits c count counter time q good counts fits) refl
-    ∙ ap (λ o. option_map_or (part_arrival c.part_size c.source (body_of q)) o (report_arrival t))
+    ∙ body_arrives c.part_size source q i fits
+part_arrives c Down source count counter time q good from counts i fits =
+    let t = telemetry_made c source count counter time 13 (part_subtype Down q.kind) (body_of q) in
+    telemetry_arrives c.apid c.part_size t (part_telemetry_fits c source count counter time q good from counts fits) refl
+    ∙ ap (λ o. option_map_or (part_arrival c.part_size source (body_of q)) o (report_arrival t))
     (carried_kind-part_subtype Down q.kind)
-    ∙ body_arrives c.part_size c.source q i fits
+    ∙ body_arrives c.part_size source q i fits
 
 -- ---- parts of a message
 
@@ -210,16 +214,16 @@ module _ (t : Transaction) (c : Config) (m : List ℕ) (sending : IsSending t c 
       → AreCounts count counter time
       → 1 ≤ n
       → n ≤ part_count (length m) t.part_size
-      → offered t (part_made c t.direction c.source count counter time (nth_part t.part_size t.name.id m n))
+      → offered t (part_made c t.direction t.name.source count counter time (nth_part t.part_size t.name.id m n))
       ≡ Some (n, kept_of m t.part_size n)
   unfolding offered
   made_carries n count counter time counts some within =
       let q = nth_part t.part_size t.name.id m n in
-      let b = part_made c t.direction c.source count counter time q in
-      let arrives : arrival (receiver_side t.direction) t.apid t.part_size b ≡ APart (named c.source q) =
+      let b = part_made c t.direction t.name.source count counter time q in
+      let arrives : arrival (receiver_side t.direction) t.apid t.part_size b ≡ APart (named t.name.source q) =
       (λ i. arrival (receiver_side t.direction) (sending.of.apid i) (sending.of.size i) b)
-      ∙ part_arrives c t.direction count counter time q sending.good counts sending.id_fits
+      ∙ part_arrives c t.direction t.name.source count counter time q sending.good sending.source_fits counts
+      sending.id_fits
       (nth_fits n some within) in
       ap (λ a. part_of_name t.name (piece_of a)) arrives
-      ∙ ap (λ (s : ℕ). part_of_name t.name (Some (named s q))) (sym sending.of.source)
       ∙ ap (λ b. if b then Some (n, kept_of m t.part_size n) else None) (same_name-refl t.name)

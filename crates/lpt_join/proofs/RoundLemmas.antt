@@ -26,7 +26,7 @@ module _ (t : Transaction) (c : Config) (m : List ℕ) (sending : IsSending t c 
   made : (n count : ℕ)
       → IsNumber (part_count (length m) t.part_size) n
       → count ≤ 16383
-      → IsMade t c m n (part_made c t.direction c.source count 0 c.clock (nth_part c.part_size t.name.id m n))
+      → IsMade t c m n (part_made c t.direction t.name.source count 0 c.clock (nth_part c.part_size t.name.id m n))
   made n count h k = record {
     some = h.some;
     within = h.within;
@@ -34,14 +34,14 @@ module _ (t : Transaction) (c : Config) (m : List ℕ) (sending : IsSending t c 
     counter = 0;
     time = c.clock;
     counts = counts count k;
-    is = ap (λ (p : ℕ). part_made c t.direction c.source count 0 c.clock (nth_part p t.name.id m n))
+    is = ap (λ (p : ℕ). part_made c t.direction t.name.source count 0 c.clock (nth_part p t.name.id m n))
         (sym sending.of.size);
   }
 
   made_all : (ns : List ℕ) (count : ℕ)
       → count ≤ 16383
       → AreNumbers (part_count (length m) t.part_size) ns
-      → AllMadeOrOther t c m (split_of c t.direction t.name.id m count ns)
+      → AllMadeOrOther t c m (split_of c t.direction t.name m count ns)
   made_all [] count k h = tt
   made_all (n ∷ ns) count k h =
       (inr (n, made n count h.0 k), made_all ns (next_count count) (omega arith) h.1)
@@ -50,10 +50,10 @@ module _ (t : Transaction) (c : Config) (m : List ℕ) (sending : IsSending t c 
       → count ≤ 16383
       → AreNumbers (part_count (length m) t.part_size) ns
       → HasNumber n ns
-      → IsAmong t c m n (split_of c t.direction t.name.id m count ns)
+      → IsAmong t c m n (split_of c t.direction t.name m count ns)
   among n [] count k h has = absurd has
   among n (q ∷ ns) count k h (inl e) =
-      let b = part_made c t.direction c.source count 0 c.clock (nth_part c.part_size t.name.id m q) in
+      let b = part_made c t.direction t.name.source count 0 c.clock (nth_part c.part_size t.name.id m q) in
       inl (subst (λ (i : ℕ). IsMade t c m i b) e (made q count h.0 k))
   among n (q ∷ ns) count k h (inr has) =
       inr (among n ns (next_count count) (omega arith) h.1 has)
@@ -63,22 +63,22 @@ module _ (t : Transaction) (c : Config) (m : List ℕ) (sending : IsSending t c 
       → count ≤ 16383
       → AreNumbers (part_count (length m) t.part_size) ns
       → ((n : ℕ) → 1 ≤ n → n ≤ part_count (length m) t.part_size → HasNumber n ns)
-      → joined t (split_of c t.direction t.name.id m count ns) ≡ Complete m
+      → joined t (split_of c t.direction t.name m count ns) ≡ Complete m
   split_joined count ns k h each =
-      sent_joined t c m sending (split_of c t.direction t.name.id m count ns) (made_all ns count k h)
+      sent_joined t c m sending (split_of c t.direction t.name m count ns) (made_all ns count k h)
       (λ n some within. among n ns count k h (each n some within))
 
   -- they are packets
   pub split_stream : (count : ℕ) (ns : List ℕ)
       → count ≤ 16383
       → AreNumbers (part_count (length m) t.part_size) ns
-      → IsStream (split_of c t.direction t.name.id m count ns)
+      → IsStream (split_of c t.direction t.name m count ns)
   split_stream count [] k h = tt
   split_stream count (n ∷ ns) k h =
       let q = nth_part t.part_size t.name.id m n in
       let fits = nth_fits t c m sending n h.0.some h.0.within in
-      let packet = made_packet c t.direction count 0 c.clock q sending.good (counts count k) fits in (
-        inl (subst (λ (p : ℕ). IsSomePacket (part_made c t.direction c.source count 0 c.clock (nth_part p t.name.id m n)))
+      let packet = made_packet c t.direction t.name.source count 0 c.clock q sending.good sending.source_fits (counts count k) fits in (
+        inl (subst (λ (p : ℕ). IsSomePacket (part_made c t.direction t.name.source count 0 c.clock (nth_part p t.name.id m n)))
             sending.of.size packet),
         split_stream (next_count count) ns (omega arith) h.1,
       )

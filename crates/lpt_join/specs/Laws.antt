@@ -56,16 +56,16 @@ IsThere t n x (b ∷ bs) = (offered t b ≡ Some (n, x)) ⊎ IsThere t n x bs
 
 -- ---- packets that are made of a message
 
--- the transaction is one of this configuration
+-- the transaction is one of this configuration, whatever its source
 pub record IsOf (t : Transaction) (c : Config) : Type 0 where
   pub apid : t.apid ≡ c.apid
-  pub source : t.name.source ≡ c.source
   pub size : t.part_size ≡ c.part_size
 
 -- the transaction's message, sent under this configuration, is what it may be
 pub record IsSending (t : Transaction) (c : Config) (m : List ℕ) : Type 0 where
   pub of : IsOf t c
   pub good : IsConfig c
+  pub source_fits : t.name.source < 65536
   pub id_fits : t.name.id < 65536
   pub message : IsMessage m t.part_size
 
@@ -83,7 +83,7 @@ pub record IsMade (t : Transaction) (c : Config) (m : List ℕ) (n : ℕ) (b : L
   pub counter : ℕ
   pub time : ℕ
   pub counts : AreCounts count counter time
-  pub is : b ≡ part_made c t.direction c.source count counter time (nth_part t.part_size t.name.id m n)
+  pub is : b ≡ part_made c t.direction t.name.source count counter time (nth_part t.part_size t.name.id m n)
 
 -- the octets carry no part of the transaction, or are made of the message
 abbrev pub IsMadeOrOther : Transaction → Config → List ℕ → List ℕ → Type 0

@@ -28,12 +28,12 @@ pub fn split_joins()
         → IsSending t c m → first ≤ 16383
         → AreNumbers (part_count (length m) t.part_size) numbers
         → ((n : ℕ) → 1 ≤ n → n ≤ part_count (length m) t.part_size → HasNumber n numbers)
-        → joined t (split_of c t.direction t.name.id m first numbers) ≡ Complete m }
+        → joined t (split_of c t.direction t.name m first numbers) ≡ Complete m }
     ensures stream { (t : Transaction) (c : Config) (m : List ℕ) (first : ℕ) (numbers : List ℕ)
         → IsSending t c m → first ≤ 16383
         → AreNumbers (part_count (length m) t.part_size) numbers
-        → Finds (all_octets (split_of c t.direction t.name.id m first numbers))
-        (split_of c t.direction t.name.id m first numbers) }
+        → Finds (all_octets (split_of c t.direction t.name m first numbers))
+        (split_of c t.direction t.name m first numbers) }
 {}
 
 /// Over packets each of which is made of a part of the message, or carries no part of its
@@ -74,7 +74,7 @@ pub fn made_is_carried()
     ensures { (t : Transaction) (c : Config) (m : List ℕ) (n count counter time : ℕ)
         → IsSending t c m → AreCounts count counter time
         → 1 ≤ n → n ≤ part_count (length m) t.part_size
-        → offered t (part_made c t.direction c.source count counter time
+        → offered t (part_made c t.direction t.name.source count counter time
         (nth_part t.part_size t.name.id m n))
         ≡ Some (n, kept_of m t.part_size n) }
 {}

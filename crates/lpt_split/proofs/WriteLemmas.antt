@@ -4,6 +4,7 @@ use Rattle.std.proofs.KnownBytes.{Appends-trans}
 use Rattle.std.specs.Io.KnownBytes.{Appends}
 use Rattle.lpt_text.specs.Streams.{AppendsPart}
 use Rattle.lpt_text.proofs.StreamLemmas.{part_after, part_of_front, part_whole}
+use Rattle.lpt_pus.specs.LptPacket.Names.{Name}
 use Rattle.lpt_pus.specs.LptPacket.declared.direction.Direction.{Direction}
 use Rattle.lpt_events.specs.declared.config.Config.{Config}
 use Rattle.lpt_events.specs.MadePackets.{part_made, nth_part}
@@ -105,24 +106,24 @@ pub alone_part : (form : Form) (time : ℕ) (p : List ℕ) (a b c : Option (List
 alone_part form time p a b c h k =
     written_part form time (p ∷ []) a b c h (subst (AppendsPart b c) (packets-one form time p) k)
 
-module _ (form : Form) (c : Config) (d : Direction) (id : ℕ) (m : List ℕ) (ns : List ℕ) (i : ℕ) where
+module _ (form : Form) (c : Config) (d : Direction) (name : Name) (m : List ℕ) (ns : List ℕ) (i : ℕ) where
   -- the packet of the part at a place of the list
   abbrev pub packet_at : ℕ → List ℕ
-  packet_at count = part_made c d c.source count 0 c.clock (nth_part c.part_size id m (get_or ns i 0))
+  packet_at count = part_made c d name.source count 0 c.clock (nth_part c.part_size name.id m (get_or ns i 0))
 
   -- the packets of the parts from there on are that packet, and the others
   pub octets-next : (count next : ℕ)
       → i < length ns
       → next ≡ next_count count
-      → packets_in form c.clock (split_of c d id m count (drop i ns))
+      → packets_in form c.clock (split_of c d name m count (drop i ns))
       ≡ packet_in form c.clock (packet_at count)
-      ++ packets_in form c.clock (split_of c d id m next (drop (i + 1) ns))
+      ++ packets_in form c.clock (split_of c d name m next (drop (i + 1) ns))
   octets-next count next h is =
       let cons : drop i ns ≡ get_or ns i 0 ∷ drop (i + 1) ns = rw (add-one, drop-cons ns i 0) refl in
-      ap (λ ks. packets_in form c.clock (split_of c d id m count ks)) cons
-      ∙ packets-cons form c.clock (packet_at count) (split_of c d id m (next_count count) (drop (i + 1) ns))
+      ap (λ ks. packets_in form c.clock (split_of c d name m count ks)) cons
+      ∙ packets-cons form c.clock (packet_at count) (split_of c d name m (next_count count) (drop (i + 1) ns))
       ∙ ap (λ n. packet_in form c.clock (packet_at count)
-      ++ packets_in form c.clock (split_of c d id m n (drop (i + 1) ns))) (sym is)
+      ++ packets_in form c.clock (split_of c d name m n (drop (i + 1) ns))) (sym is)
 
 -- the numbers behind the one at a place
 pub numbers-next : (parts : ℕ) (ns : List ℕ) (i : ℕ)

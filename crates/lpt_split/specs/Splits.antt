@@ -1,6 +1,7 @@
 -- The packets of a message's parts.
 use Rattle.std.specs.Prelude.{ℕ, ◌+◌, ◌%◌, ◌≤◌, List, [], ◌∷◌}
 use Rattle.std.specs.List.{flat_map}
+use Rattle.lpt_pus.specs.LptPacket.Names.{Name}
 use Rattle.lpt_pus.specs.LptPacket.declared.direction.Direction.{Direction}
 use Rattle.lpt_events.specs.declared.config.Config.{Config}
 use Rattle.lpt_events.specs.MadePackets.{nth_part, part_made}
@@ -22,12 +23,12 @@ abbrev pub AreNumbers : ℕ → List ℕ → Type 0
 AreNumbers parts [] = Unit {0}
 AreNumbers parts (n ∷ ns) = IsNumber parts n × AreNumbers parts ns
 
--- the packets of these parts, of sequence counts from this one on
-abbrev pub split_of : Config → Direction → (id : ℕ) → List ℕ → (count : ℕ) → List ℕ → List (List ℕ)
-split_of c d id m count [] = []
-split_of c d id m count (n ∷ ns) =
-    part_made c d c.source count 0 c.clock (nth_part c.part_size id m n)
-    ∷ split_of c d id m (next_count count) ns
+-- the packets of these parts, which go under this name, of sequence counts from this one on
+abbrev pub split_of : Config → Direction → Name → List ℕ → (count : ℕ) → List ℕ → List (List ℕ)
+split_of c d name m count [] = []
+split_of c d name m count (n ∷ ns) =
+    part_made c d name.source count 0 c.clock (nth_part c.part_size name.id m n)
+    ∷ split_of c d name m (next_count count) ns
 
 -- the octets of packets, one behind the other
 abbrev pub octets_of : List (List ℕ) → List ℕ

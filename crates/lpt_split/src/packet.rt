@@ -45,24 +45,25 @@ pub fn part_at(message: &[u8], p: u32, id: u16, k: u16) -> Part<'_>
     }
 }
 
-/// The packet that carries a part, of this sequence count (0 to 16,383), up as a telecommand and
-/// down as telemetry. Telemetry has message type counter 0 and the configuration's clock as its
+/// The packet that carries a part, of this sequence count (0 to 16,383), up as a telecommand of this
+/// source, and down as telemetry to it. Telemetry has message type counter 0 and the configuration's clock as its
 /// time. The only error is out of memory.
 pub fn part_packet(
     alloc: Global,
     config: &Config,
     direction: Direction,
+    source: u16,
     count: u16,
     part: &Part<'_>,
 ) -> Result<Octets, AllocError>
     requires config { IsConfig config.now }
     requires count { count ≤ 16383 }
     ensures { IfOk result (λ o. o
-        ≡ part_made config.now direction config.now.source count 0 config.now.clock (piece part.now)) }
+        ≡ part_made config.now direction source count 0 config.now.clock (piece part.now)) }
 {
     match direction {
-        Direction::Up => uplink_packet(alloc, config, count, part),
-        Direction::Down => downlink_packet(alloc, config, count, part),
+        Direction::Up => uplink_packet(alloc, config, source, count, part),
+        Direction::Down => downlink_packet(alloc, config, source, count, part),
     }
 }
 
@@ -70,13 +71,14 @@ pub fn part_packet(
 fn uplink_packet(
     alloc: Global,
     config: &Config,
+    source: u16,
     count: u16,
     part: &Part<'_>,
 ) -> Result<Octets, AllocError>
     requires config { IsConfig config.now }
     requires count { count ≤ 16383 }
     ensures { IfOk result (λ o. o
-        ≡ part_made config.now Up config.now.source count 0 config.now.clock (piece part.now)) }
+        ≡ part_made config.now Up source count 0 config.now.clock (piece part.now)) }
 {
     let head = TcHead {
         apid: config.apid,
@@ -84,7 +86,7 @@ fn uplink_packet(
         flags: 0,
         service: TRANSFER,
         subtype: subtype_of(Direction::Up, part.kind),
-        source: config.source,
+        source,
     };
     tc_pieces(alloc, &head, &part.header(), part.octets)
 }
@@ -93,13 +95,14 @@ fn uplink_packet(
 fn downlink_packet(
     alloc: Global,
     config: &Config,
+    source: u16,
     count: u16,
     part: &Part<'_>,
 ) -> Result<Octets, AllocError>
     requires config { IsConfig config.now }
     requires count { count ≤ 16383 }
     ensures { IfOk result (λ o. o
-        ≡ part_made config.now Down config.now.source count 0 config.now.clock (piece part.now)) }
+        ≡ part_made config.now Down source count 0 config.now.clock (piece part.now)) }
 {
     let head = TmHead {
         apid: config.apid,
@@ -108,7 +111,7 @@ fn downlink_packet(
         service: TRANSFER,
         subtype: subtype_of(Direction::Down, part.kind),
         counter: 0,
-        destination: config.source,
+        destination: source,
         time: config.clock,
     };
     tm_pieces(alloc, &head, &part.header(), part.octets)

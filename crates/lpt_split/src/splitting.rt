@@ -12,12 +12,13 @@ ghost use Rattle.lpt_split.specs.Splits.{next_count, split_of, written_in, AreNu
 use crate::Form;
 use crate::packet::{part_at, part_packet};
 use lpt_events::Config;
-use lpt_pus::Direction;
+use lpt_pus::{Direction, Name};
 use lpt_stream::{capture_header, record_header};
 use lpt_text::{Sink, ToolFault, write_out};
 use std::alloc::Global;
 
-/// Writes the packets of these parts of a message, in this order and form. Their sequence counts go
+/// Writes the packets of these parts of a message, which goes under this name, in this order and
+/// form. Their sequence counts go
 /// from `first` (0 to 16,383) on, and after 16,383 from 0 on. In a capture each has the
 /// configuration's clock as its time in seconds.
 ///
@@ -28,7 +29,7 @@ pub fn split<K: Sink>(
     alloc: Global,
     config: &Config,
     direction: Direction,
-    id: u16,
+    name: Name,
     message: &[u8],
     numbers: &[u16],
     first: u16,
@@ -41,7 +42,7 @@ pub fn split<K: Sink>(
     requires numbers { AreNumbers (part_count (length message.now) config.now.part_size) numbers.now }
     requires first { first ≤ 16383 }
     ensures ok { OnOk result (Appends (K.contents out.old) (K.contents out.new) (written_in form
-        config.now.clock (split_of config.now direction id message.now first numbers.now))) }
+        config.now.clock (split_of config.now direction name message.now first numbers.now))) }
     ensures told { OnOk result (K.failed out.new ≡ K.failed out.old) }
 
     // It fails only by a write that failed, or when out of memory.
@@ -49,14 +50,14 @@ pub fn split<K: Sink>(
         ⊎ ((e ≡ ToolFault.Memory) × (K.failed out.new ≡ K.failed out.old))) }
     ensures part { IfErr result (λ _. AppendsPart (K.contents out.old) (K.contents out.new)
         (written_in form config.now.clock
-        (split_of config.now direction id message.now first numbers.now))) }
+        (split_of config.now direction name message.now first numbers.now))) }
 {
     match write_front(form, out) {
         Ok(()) => {}
         Err(fault) => return Err(fault),
     }
     match write_parts(
-        alloc, config, direction, id, message, numbers, first, form, out,
+        alloc, config, direction, name, message, numbers, first, form, out,
     ) {
         Ok(()) => Ok(()),
         Err(fault) => Err(fault),
@@ -97,7 +98,7 @@ fn write_parts<K: Sink>(
     alloc: Global,
     config: &Config,
     direction: Direction,
-    id: u16,
+    name: Name,
     message: &[u8],
     numbers: &[u16],
     first: u16,
@@ -110,18 +111,18 @@ fn write_parts<K: Sink>(
     requires numbers { AreNumbers (part_count (length message.now) config.now.part_size) numbers.now }
     requires first { first ≤ 16383 }
     ensures ok { OnOk result (Appends (K.contents out.old) (K.contents out.new) (packets_in form
-        config.now.clock (split_of config.now direction id message.now first numbers.now))) }
+        config.now.clock (split_of config.now direction name message.now first numbers.now))) }
     ensures told { OnOk result (K.failed out.new ≡ K.failed out.old) }
     ensures fault { IfErr result (λ e. ((e ≡ ToolFault.Write) × (K.failed out.new ≡ true))
         ⊎ ((e ≡ ToolFault.Memory) × (K.failed out.new ≡ K.failed out.old))) }
     ensures part { IfErr result (λ _. AppendsPart (K.contents out.old) (K.contents out.new)
         (packets_in form config.now.clock
-        (split_of config.now direction id message.now first numbers.now))) }
+        (split_of config.now direction name message.now first numbers.now))) }
 {
     let mut count = first;
     for number in numbers {
-        let part = part_at(message, config.part_size, id, *number);
-        let Ok(packet) = part_packet(alloc, config, direction, count, &part) else {
+        let part = part_at(message, config.part_size, name.id, *number);
+        let Ok(packet) = part_packet(alloc, config, direction, name.source, count, &part) else {
             return Err(ToolFault::Memory);
         };
         match write_packet(form, config.clock, packet.as_slice(), out) {

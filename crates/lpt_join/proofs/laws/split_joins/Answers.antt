@@ -8,6 +8,6 @@ returns c = record {
   message = λ t config m first numbers sending k h each.
       split_joined t config m sending first numbers k h each;
   stream = λ t config m first numbers sending k h.
-      stream_found (split_of config t.direction t.name.id m first numbers)
+      stream_found (split_of config t.direction t.name m first numbers)
       (split_stream t config m sending first numbers k h);
 }

@@ -6,7 +6,7 @@ use Rattle.lpt_split.proofs.splitting.split.Goals as goal
 pub returns-in-Err-write_parts-clause-part : goal.returns-in-Err-write_parts-clause-part
 returns-in-Err-write_parts-clause-part g c =
     written_part c.args.form c.args.config.now.clock
-    (split_of c.args.config.now c.args.direction c.args.id c.args.message.now c.args.first
+    (split_of c.args.config.now c.args.direction c.args.name c.args.message.now c.args.first
     c.args.numbers.now)
     (g.K.Sink.contents c.args.out.now) (g.K.Sink.contents c.write_front.new.out)
     (g.K.Sink.contents c.write_parts.new.out)

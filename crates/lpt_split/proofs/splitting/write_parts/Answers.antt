@@ -21,11 +21,11 @@ returns-in-Err-clause-part g c =
     let ns = c.args.numbers.now in
     let i = c.loop-number.number-index in
     let count = c.loop-number.count in
-    let next = octets-next c.args.form config d c.args.id m ns i count (next_count count) c.loop-number-test.true refl in
+    let next = octets-next c.args.form config d c.args.name m ns i count (next_count count) c.loop-number-test.true refl in
     let is = c.as_slice.ensures.same ∙ c.in-Ok.ensures
-    ∙ ap (part_made config d config.source count 0 config.clock) c.part_at-part.ensures.part in
+    ∙ ap (part_made config d c.args.name.source count 0 config.clock) c.part_at-part.ensures.part in
     let part = c.in-Err.ensures.part in
-    wrote-part-more _ _ _ (packet_in c.args.form config.clock (packet_at c.args.form config d c.args.id m ns i count)) _ _ _
+    wrote-part-more _ _ _ (packet_in c.args.form config.clock (packet_at c.args.form config d c.args.name m ns i count)) _ _ _
     c.loop-number.invariant.written next
     (subst (λ b. AppendsPart (g.K.Sink.contents c.loop-number.out) (g.K.Sink.contents c.write_packet.new.out) (packet_in c.args.form config.clock b)) is part)
 
@@ -39,14 +39,14 @@ loop-number-preserved g c =
     let i = c.loop-number.number-index in
     let count = c.loop-number.count in
     let parts = part_count (length m) config.part_size in
-    let next = octets-next c.args.form config d c.args.id m ns i count c.next_count-count.result c.loop-number-test.true c.next_count-count.ensures.next in
+    let next = octets-next c.args.form config d c.args.name m ns i count c.next_count-count.result c.loop-number-test.true c.next_count-count.ensures.next in
     let is = c.as_slice.ensures.same ∙ c.in-Ok.ensures
-    ∙ ap (part_made config d config.source count 0 config.clock) c.part_at-part.ensures.part in
+    ∙ ap (part_made config d c.args.name.source count 0 config.clock) c.part_at-part.ensures.part in
     let all = c.in-Ok-write_packet.ensures.ok in
     record {
       count = c.next_count-count.ensures.fits;
       left = numbers-next parts ns i c.loop-number-test.true c.loop-number.invariant.left;
-      written = wrote-more _ _ _ (packet_in c.args.form config.clock (packet_at c.args.form config d c.args.id m ns i count)) _ _ _
+      written = wrote-more _ _ _ (packet_in c.args.form config.clock (packet_at c.args.form config d c.args.name m ns i count)) _ _ _
           c.loop-number.invariant.written next
           (subst (λ b. Appends (g.K.Sink.contents c.loop-number.out) (g.K.Sink.contents c.write_packet.new.out) (packet_in c.args.form config.clock b)) is all);
       told = c.in-Ok-write_packet.ensures.told ∙ c.loop-number.invariant.told;

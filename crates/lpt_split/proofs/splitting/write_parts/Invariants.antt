@@ -12,8 +12,8 @@ invariant-loop-number g l = record {
   left : AreNumbers (part_count (length l.message) l.config.part_size) (drop l.number-index l.numbers);
   written : (done : List ℕ) × Appends (g.K.Sink.contents l.fn.out) (g.K.Sink.contents l.out) done
       × (done ++ packets_in l.form l.config.clock
-      (split_of l.config l.direction l.id l.message l.count (drop l.number-index l.numbers))
+      (split_of l.config l.direction l.name l.message l.count (drop l.number-index l.numbers))
       ≡ packets_in l.form l.config.clock
-      (split_of l.config l.direction l.id l.message l.first l.numbers));
+      (split_of l.config l.direction l.name l.message l.first l.numbers));
   told : g.K.Sink.failed l.out ≡ g.K.Sink.failed l.fn.out;
 }
