@@ -5,9 +5,9 @@ use Rattle.lpt_script.specs.LptWords.Numbers.{is_word}
 -- the lines, each under its first word
 abbrev pub topics : List (List ℕ × List ℕ)
 topics =
-    (codes "open", codes "open DIRECTION ID HEX: hands a message to its sender")
+    (codes "open", codes "open DIRECTION ID HEX: hands a message to its sender; a message's ID may be SOURCE/ID here and below")
     ∷ (codes "send", codes "send DIRECTION ID K: puts part K of an open message on the link")
-    ∷ (codes "plain", codes "plain FLAGS SERVICE SUBTYPE HEX: puts a plain request on the link")
+    ∷ (codes "plain", codes "plain FLAGS SERVICE SUBTYPE HEX: puts a plain request on the link; FLAGS may be SOURCE/FLAGS")
     ∷ (codes "load", codes "load ID SEQ FLAGS MEM ADDR HEX [ADDR HEX ..]: opens a load of a memory as a message up")
     ∷ (codes "finish", codes "finish DIRECTION ID: closes the sender of an open message")
     ∷ (codes "lose", codes "lose N: loses a packet that the link holds")

@@ -10,7 +10,7 @@ use std::alloc::{AllocError, Global};
 static TOPICS: [(&str, &str); 21] = [
     (
         "open",
-        "open DIRECTION ID HEX: hands a message to its sender",
+        "open DIRECTION ID HEX: hands a message to its sender; a message's ID may be SOURCE/ID here and below",
     ),
     (
         "send",
@@ -18,7 +18,7 @@ static TOPICS: [(&str, &str); 21] = [
     ),
     (
         "plain",
-        "plain FLAGS SERVICE SUBTYPE HEX: puts a plain request on the link",
+        "plain FLAGS SERVICE SUBTYPE HEX: puts a plain request on the link; FLAGS may be SOURCE/FLAGS",
     ),
     (
         "load",
