@@ -2,10 +2,10 @@
 
 paths.py [CRATES.TXT]
 
-The kit reads the files of each library below a crate once for each path on which it is reached, at each
-check of the crate, and remembers none. So a crate lists the libraries that its own files name, and no
-library that another of them gives out. It prints how many paths there are from the program's crate, and
-how many from all crates together.
+The kit's stamp of a crate reads the files of each library below it once for each path on which that is
+reached, unless the command that asks for it remembers them. So a crate lists the libraries that its own
+files name, and no library that another of them gives out. It prints how many paths there are from the
+program's crate, and how many from all crates together.
 """
 
 import functools
