@@ -1,0 +1,158 @@
+-- Each fact is due, in the log of every legal journal: what is released was awaited or asked, what
+-- is aborted was awaited, and what is executed waits.
+use Rattle.std.proofs.Common.{◌≡◌, ◌∙◌, ap, sym, refl, ℕ, ◌<◌, ◌-◌, true, not, List, [], ◌∷◌, length, drop, Option, Some, None, is_some, arith}
+use Rattle.std.specs.Prelude.{slice_get}
+use Rattle.std.proofs.lemmas.List.{length-map, length-drop}
+use Rattle.std.proofs.lemmas.Option.{slice_get_within}
+use Rattle.lpt_model.specs.LptPacket.declared.direction.Direction.{Direction}
+use Rattle.lpt_model.specs.LptPacket.Names.{Name}
+use Rattle.lpt_model.specs.LptMemory.Memories.{Contents}
+use Rattle.lpt_model.specs.LptEvents.Configs.{IsConfig}
+use Rattle.lpt_model.specs.LptEvents.declared.config.Config.{Config}
+use Rattle.lpt_model.specs.LptEvents.declared.entry.Opening.{Opening}
+use Rattle.lpt_model.specs.LptEvents.declared.entry.Release.{Release}
+use Rattle.lpt_model.specs.LptEvents.declared.event.Event.{Event}
+use Rattle.lpt_model.specs.LptEvents.declared.event.Event.TheVariants.{Plain, Deliver, Expire, Apply, Retire, Restart}
+use Rattle.lpt_model.specs.LptEvents.declared.fault.StepFault.TheVariants.{NoJob, NotReady}
+use Rattle.lpt_model.specs.LptEvents.declared.outcome.Outcome.TheVariants.{Broken}
+use Rattle.lpt_model.specs.LptEvents.declared.reply.Answer.{Answer}
+use Rattle.lpt_model.specs.LptEvents.declared.reply.Answer.TheVariants.{Delivered, Expired}
+use Rattle.lpt_refinement.specs.LptJournal.Abortions.{Abortion, abortion_at}
+use Rattle.lpt_refinement.specs.LptJournal.Due.{due}
+use Rattle.lpt_refinement.specs.LptJournal.Executions.{front_opens}
+use Rattle.lpt_refinement.specs.LptJournal.Jobs.{jobs, applied, front_job, is_committed}
+use Rattle.lpt_refinement.specs.LptJournal.Journal.{SentPacket, Recorded, History}
+use Rattle.lpt_refinement.specs.LptJournal.Legal.{Legal}
+use Rattle.lpt_refinement.specs.LptJournal.Releases.{released_by}
+use Rattle.lpt_refinement.specs.LptJournal.Replies.{answer, opens, recorded, entry}
+use Rattle.lpt_refinement.proofs.LptJournal.AbortionLemmas.{abortion_is_final}
+use Rattle.lpt_refinement.proofs.LptJournal.AbortionOwed.{owes_abortion}
+use Rattle.lpt_refinement.proofs.LptJournal.HeadlineLemmas.{every, owes_releases}
+use Rattle.lpt_refinement.proofs.LptJournal.Releasing.{OwesReleases}
+use Rattle.lpt_refinement.proofs.LptJournal.TestLemmas.{not_false, two_pass}
+use Rattle.lpt_apart.specs.Facts.{Asked, Released, Aborted, Executed, Log, waiting, IsDue, AllDue}
+use Rattle.lpt_apart.specs.Told.{with_openings, with_releases, with_ended, with_asked, with_event, told}
+use Rattle.lpt_apart.proofs.Asking.{release_asked}
+use Rattle.lpt_apart.proofs.Awaiting.{awaited_releases, is_awaited}
+use Rattle.lpt_apart.proofs.Queues.{waiting_openings, waiting_told}
+
+some_is : {A : Type 0} (o : Option A) → is_some o ≡ true → (x : A) × (o ≡ Some x)
+some_is None e = absurd cc
+some_is (Some x) e = (x, refl)
+
+module _ (c : Config) (first : Contents) (good : IsConfig c) where
+  asked_due : (ps : List SentPacket) (log : Log) → AllDue log → AllDue (with_asked ps log)
+  asked_due [] log all = all
+  asked_due (p ∷ ps) log all = asked_due ps (Asked p.octets ∷ log) (all, tt)
+
+  event_due : (e : Event) (ps : List SentPacket) (log : Log)
+      → AllDue log
+      → (e ≡ Apply → IsDue Executed log)
+      → AllDue (with_event e ps log)
+  event_due (Plain source flags service subtype body) ps log all waits = asked_due ps log all
+  event_due Apply ps log all waits = (all, waits refl)
+  event_due (Retire d id) ps log all waits = (all, tt)
+  event_due (Restart side) ps log all waits = (all, tt)
+  event_due e ps log all waits = all
+
+  openings_due : (os : List Opening) (log : Log) → AllDue log → AllDue (with_openings os log)
+  openings_due [] log all = all
+  openings_due (o ∷ os) log all = (openings_due os log all, tt)
+
+  -- the abortion of an entry is due where it is of an awaited reception
+  ended_due : (place : ℕ) (e : Event) (a : Answer) (log : Log)
+      → AllDue log
+      → ((j : ℕ) (b : Abortion)
+      → slice_get (abortion_at place e a) j ≡ Some b
+      → IsDue (Aborted b.direction b.id) log)
+      → AllDue (with_ended e a log)
+  ended_due place (Deliver l) (Delivered (Broken id why)) log all due = (all, due 0 _ refl)
+  ended_due place (Deliver l) (Delivered o) log all due = all
+  ended_due place (Deliver l) a log all due = all
+  ended_due place (Expire side) (Expired d id) log all due = (all, due 0 _ refl)
+  ended_due place (Expire side) a log all due = all
+  ended_due place e a log all due = all
+
+  -- at most one release is due where it is the awaited one
+  releases_due : (rs : List Release) (log : Log)
+      → AllDue log
+      → ((k : ℕ) (r : Release) → slice_get rs k ≡ Some r → k ≡ 0)
+      → ((r : Release) → slice_get rs 0 ≡ Some r → IsDue (Released r.of r.message) log)
+      → AllDue (with_releases rs log)
+  releases_due [] log all one due = all
+  releases_due (r ∷ []) log all one due = (all, due r refl)
+  releases_due (r ∷ s ∷ rs) log all one due = absurd (omega (arith, one 1 s refl))
+
+  -- a request that an event executes waits
+  execution_due : (e : Event) (es : List Event)
+      → Legal c first (e ∷ es)
+      → e ≡ Apply
+      → 0 < length (waiting (with_openings (opens c first (recorded c first es) e)
+      (with_ended e (answer c first (recorded c first es) e)
+      (with_releases (released_by c (entry c first (recorded c first es) e) (recorded c first es))
+      (told c (recorded c first es))))))
+  execution_due Apply es legal is =
+      let h : History = recorded c first es in
+      let passed =
+      two_pass (not (is_some (front_job c h))) (not (is_committed h (applied h))) NoJob NotReady
+      legal.1.accepted in
+      let front = some_is (front_job c h) (not_false (is_some (front_job c h)) passed.0) in
+      let within : applied h < length (jobs c h) =
+      slice_get_within (jobs c h) (applied h) front.0 front.1 in
+      let many : length (waiting (with_openings (front_opens c first h) (told c h)))
+      ≡ length (jobs c h) - applied h =
+      ap (λ (ws : List (List ℕ)). length ws)
+      (waiting_openings (front_opens c first h) (told c h) ∙ waiting_told c first es legal.0)
+      ∙ length-map (drop (applied h) (jobs c h)) (λ (r : Release). r.message)
+      ∙ length-drop (applied h) (jobs c h) in
+      omega (arith, within, many)
+  execution_due e es legal is = absurd cc
+
+  -- the log of a legal journal is due
+  pub all_due : (es : List Event) → Legal c first es → AllDue (told c (recorded c first es))
+  all_due [] legal = tt
+  all_due (e ∷ es) legal =
+      event_due e x.puts (with_openings x.opens over)
+      (openings_due x.opens over
+      (ended_due (length h) e x.reply.answer released
+      (releases_due (released_by c x h) (told c h) (all_due es legal.0) owes.one release)
+      abortion)) (execution_due e es legal) where
+        h : History
+        h = recorded c first es
+
+        x : Recorded
+        x = entry c first h e
+
+        released : Log
+        released = with_releases (released_by c x h) (told c h)
+
+        over : Log
+        over = with_ended e x.reply.answer released
+
+        owes : OwesReleases c h x
+        owes = owes_releases c first h e good (every c first es good legal.0).0 legal.1
+
+        release : (r : Release)
+            → slice_get (released_by c x h) 0 ≡ Some r
+            → IsDue (Released r.of r.message) (told c h)
+        release r at = go r.of refl where
+          go : (o : Option (Direction × Name)) → r.of ≡ o → IsDue (Released o r.message) (told c h)
+          go None of = release_asked c first good e es legal r at of
+          go (Some t) of =
+              let p = owes.large 0 r t at of in
+              is_awaited c first good es legal.0 t.0 t.1 p.opening p.is_current p.was_open
+              ∙ ap Some (sym p.is_message)
+
+        abortion : (j : ℕ) (b : Abortion)
+            → slice_get (abortion_at (length h) e x.reply.answer) j ≡ Some b
+            → IsDue (Aborted b.direction b.id) released
+        abortion j b at =
+            let p =
+            owes_abortion c first h e (every c first es good legal.0).0
+            (abortion_is_final c first es good legal.0).unheard legal.1.accepted j b at in
+            ap is_some
+            (awaited_releases (released_by c x h) (told c h) b.direction b.id
+            (λ k r f. absurd (p.releases_none k r f))
+            ∙ is_awaited c first good es legal.0 b.direction b.id p.ends_it.opening
+            p.ends_it.is_current
+            p.ends_it.was_open)

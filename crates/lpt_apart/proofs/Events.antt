@@ -1,0 +1,242 @@
+-- Each step but handing over and retiring is one event.
+use Rattle.std.proofs.Common.{◌≡◌, ◌∙◌, ap, subst, refl, ℕ, true, List, [], ◌∷◌, length, Option, Some, None, is_some}
+use Rattle.std.specs.Option.{option_map}
+use Rattle.std.specs.Prelude.{IfSome, IsTrue}
+use Rattle.lpt_model.specs.LptPacket.declared.direction.Direction.{Direction}
+use Rattle.lpt_model.specs.LptPacket.declared.direction.Direction.TheVariants.{Up, Down}
+use Rattle.lpt_model.specs.LptPacket.Names.{Name}
+use Rattle.lpt_model.specs.LptMemory.Memories.{Contents}
+use Rattle.lpt_model.specs.LptMemory.Readings.{Job}
+use Rattle.lpt_model.specs.LptEvents.Configs.{IsConfig}
+use Rattle.lpt_model.specs.LptEvents.Events.{IsEvent}
+use Rattle.lpt_model.specs.LptEvents.Sides.{direction_to}
+use Rattle.lpt_model.specs.LptEvents.declared.config.Config.{Config}
+use Rattle.lpt_model.specs.LptEvents.declared.event.Event.{Event}
+use Rattle.lpt_model.specs.LptEvents.declared.event.Event.TheVariants.{Open, Send, Plain, Finish, Tick, Expire, Claim, Commit, Apply, Restart}
+use Rattle.lpt_model.specs.LptEvents.declared.lane.Lane.{Lane}
+use Rattle.lpt_model.specs.LptEvents.declared.side.Side.{Side}
+use Rattle.lpt_model.specs.LptEvents.declared.side.Side.TheVariants.{Ground, Craft}
+use Rattle.lpt_model.specs.LptEvents.declared.worker.Worker.{Worker}
+use Rattle.lpt_model.specs.LptJobs.Jobs.{Head, NoJob, NotReady, Ready, head_of, is_claimed}
+use Rattle.lpt_model.specs.LptLink.Links.{hand_of}
+use Rattle.lpt_model.specs.LptNode.Faults.{node_fault}
+use Rattle.lpt_model.specs.LptNode.Jobs.{FrontIsFor, refusal_apply_of, executed}
+use Rattle.lpt_model.specs.LptNode.Requests.{plain_made}
+use Rattle.lpt_model.specs.LptNode.Sending.{sent}
+use Rattle.lpt_model.specs.LptNode.Nodes.{NodeData}
+use Rattle.lpt_model.specs.LptNode.Times.{expired}
+use Rattle.lpt_model.specs.LptNode.declared.expired.Expired.{Expired as Ended}
+use Rattle.lpt_model.specs.State.{State, after, as_list, committed_on, refusal_of, refusal_claim_by, refusal_commit_of}
+use Rattle.lpt_model.specs.Tickets.{ticket_of}
+use Rattle.lpt_refinement.specs.Shows.{Shows}
+use Rattle.lpt_refinement.specs.Views.{views}
+use Rattle.lpt_refinement.specs.LptJournal.Replies.{recorded}
+use Rattle.lpt_apart.specs.Ends.{PutOut, put_out}
+use Rattle.lpt_apart.specs.Facts.{Opened, Asked, Aborted, Executed, Restarted, Log}
+use Rattle.lpt_apart.specs.Steps.{CanHappen, with_report}
+use Rattle.lpt_apart.specs.Steps as steps
+use Rattle.lpt_apart.specs.Told.{told}
+use Rattle.lpt_apart.specs.Worlds.{IsReadyNode}
+use Rattle.lpt_apart.proofs.Links.{AllHeld, put_held, put_hands}
+use Rattle.lpt_apart.proofs.Telling.{plain_told, expiry_told, execution_told}
+use Rattle.lpt_apart.proofs.Ties.{ends_of, IsTied, Follows, longer}
+
+module _ (c : Config) (first : Contents) (s : State) (ways : List PutOut) (log : Log)
+    (es : List Event)
+    (good : IsConfig c) (t : IsTied c first s ways log es) where
+  -- the world after an event
+  abbrev state_after : Event → State
+  state_after e = (after c (length (recorded c first es)) s e).0
+
+  -- an event is done: it leaves no hand full, what may be handed over is held, and the log is told
+  once : (e : Event) (ways' : List PutOut) (log' : Log)
+      → IsEvent e
+      → refusal_of c s e ≡ None
+      → ((l : Lane) → hand_of (state_after e).link l ≡ None)
+      → AllHeld (state_after e).link.packets ways'
+      → told c (recorded c first (e ∷ es)) ≡ log'
+      → Follows c first (ends_of (state_after e) ways' log')
+  once e ways' log' ranged free hands held tells =
+      let more = longer c first s es e good t.legal t.shown ranged free in
+      record {
+        state = state_after e;
+        events = e ∷ es;
+        tied = record {
+          legal = more.legal;
+          shown = more.shown;
+          hands = hands;
+          held = held;
+          tells = tells;
+        };
+        is = refl;
+      }
+
+  -- ---- sending
+
+  pub open_step : (d : Direction) (id : Name) (m : List ℕ)
+      → CanHappen c (ends_of s ways log) (steps.Open d id m)
+      → Follows c first (steps.after c (ends_of s ways log) (steps.Open d id m))
+  open_step Up id m can =
+      once (Open Up id m) ways (Opened Up id m ∷ log) can.0 (ap (option_map node_fault) can.1)
+      t.hands t.held
+      (ap (λ (l : Log). Opened Up id m ∷ l) t.tells)
+  open_step Down id m can =
+      once (Open Down id m) ways (Opened Down id m ∷ log) can.0 (ap (option_map node_fault) can.1)
+      t.hands t.held
+      (ap (λ (l : Log). Opened Down id m ∷ l) t.tells)
+
+  pub send : (d : Direction) (id : Name) (k : ℕ)
+      → CanHappen c (ends_of s ways log) (steps.Send d id k)
+      → Follows c first (steps.after c (ends_of s ways log) (steps.Send d id k))
+  send Up id k can =
+      let b : List ℕ = (sent Ground c s.on_ground id k).1 in
+      once (Send Up id k) (put_out ways Up (Some id) (b ∷ [])) log can.0
+      (ap (option_map node_fault) can.1) t.hands
+      (put_held s.link ways Up (Some id) (b ∷ []) t.held) t.tells
+  send Down id k can =
+      let b : List ℕ = (sent Craft c s.on_craft id k).1 in
+      once (Send Down id k) (put_out ways Down (Some id) (b ∷ [])) log can.0
+      (ap (option_map node_fault) can.1) t.hands
+      (put_held s.link ways Down (Some id) (b ∷ []) t.held) t.tells
+
+  pub plain : (source flags service subtype : ℕ) (body : List ℕ)
+      → CanHappen c (ends_of s ways log) (steps.Plain source flags service subtype body)
+      → Follows c first (steps.after c (ends_of s ways log)
+      (steps.Plain source flags service subtype body))
+  plain source flags service subtype body can =
+      let b : List ℕ = (plain_made c s.on_ground source flags service subtype body).1 in
+      once (Plain source flags service subtype body) (put_out ways Up None (b ∷ []))
+      (Asked b ∷ log) can.0
+      (ap (option_map node_fault) can.1) t.hands
+      (put_held s.link ways Up None (b ∷ []) t.held)
+      (plain_told c first s log es t.shown t.tells source flags service subtype body)
+
+  pub finish : (d : Direction) (id : Name)
+      → CanHappen c (ends_of s ways log) (steps.Finish d id)
+      → Follows c first (steps.after c (ends_of s ways log) (steps.Finish d id))
+  finish Up id can =
+      once (Finish Up id) ways log can.0 (ap (option_map node_fault) can.1) t.hands t.held t.tells
+  finish Down id can =
+      once (Finish Down id) ways log can.0 (ap (option_map node_fault) can.1) t.hands t.held t.tells
+
+  -- ---- time and restarts
+
+  pub tick : (side : Side)
+      → CanHappen c (ends_of s ways log) (steps.Tick side)
+      → Follows c first (steps.after c (ends_of s ways log) (steps.Tick side))
+  tick Ground can = once (Tick Ground) ways log tt (ap (option_map node_fault) can) t.hands t.held
+      t.tells
+  tick Craft can = once (Tick Craft) ways log tt (ap (option_map node_fault) can) t.hands t.held
+      t.tells
+
+  pub expire : (side : Side)
+      → CanHappen c (ends_of s ways log) (steps.Expire side)
+      → Follows c first (steps.after c (ends_of s ways log) (steps.Expire side))
+  expire Ground can =
+      let x : NodeData × Ended = expired Ground c s.on_ground in
+      let bs : List (List ℕ) = as_list x.1.packet in
+      let free : refusal_of c s (Expire Ground) ≡ None = ap (option_map node_fault) can in
+      once (Expire Ground) (put_out ways Down None bs)
+      (Aborted (direction_to Ground) x.1.id ∷ log) tt free
+      (λ l. put_hands s.link Down None bs l ∙ t.hands l)
+      (put_held s.link ways Down None bs t.held)
+      (expiry_told c first s log es t.shown t.tells Ground
+      (longer c first s es (Expire Ground) good t.legal t.shown tt free))
+  expire Craft can =
+      let x : NodeData × Ended = expired Craft c s.on_craft in
+      let bs : List (List ℕ) = as_list x.1.packet in
+      let free : refusal_of c s (Expire Craft) ≡ None = ap (option_map node_fault) can in
+      once (Expire Craft) (put_out ways Down None bs)
+      (Aborted (direction_to Craft) x.1.id ∷ log) tt free
+      (λ l. put_hands s.link Down None bs l ∙ t.hands l)
+      (put_held s.link ways Down None bs t.held)
+      (expiry_told c first s log es t.shown t.tells Craft
+      (longer c first s es (Expire Craft) good t.legal t.shown tt free))
+
+  pub restart : (side : Side)
+      → CanHappen c (ends_of s ways log) (steps.Restart side)
+      → Follows c first (steps.after c (ends_of s ways log) (steps.Restart side))
+  restart Ground can =
+      once (Restart Ground) ways (Restarted Ground ∷ log) tt refl t.hands t.held
+      (ap (λ (l : Log). Restarted Ground ∷ l) t.tells)
+  restart Craft can =
+      once (Restart Craft) ways (Restarted Craft ∷ log) tt refl t.hands t.held
+      (ap (λ (l : Log). Restarted Craft ∷ l) t.tells)
+
+  -- ---- jobs
+
+  pub claim : (w : Worker)
+      → CanHappen c (ends_of s ways log) (steps.Claim w)
+      → Follows c first (steps.after c (ends_of s ways log) (steps.Claim w))
+  claim w can =
+      once (Claim w) ways log tt
+      (ap (refusal_claim_by s.on_craft) can.0 ∙ ap (option_map node_fault) can.1) t.hands t.held
+      t.tells
+
+  pub commit : (w : Worker)
+      → CanHappen c (ends_of s ways log) (steps.Commit w)
+      → Follows c first (steps.after c (ends_of s ways log) (steps.Commit w))
+  commit w can = go (ticket_of s.tickets w) refl can where
+    go : (o : Option Job)
+        → ticket_of s.tickets w ≡ o
+        → is_some o ≡ true
+        → Follows c first (steps.committed_on c (ends_of s ways log) w o)
+    go None e some = absurd cc
+    go (Some j) e some =
+        let free : refusal_of c s (Commit w) ≡ None = ap refusal_commit_of e in
+        let more = longer c first s es (Commit w) good t.legal t.shown tt free in
+        record {
+          state = (committed_on c s w (Some j)).0;
+          events = Commit w ∷ es;
+          tied = record {
+            legal = more.legal;
+            shown =
+                subst (λ (o : Option Job). Shows (committed_on c s w o).0
+                (views c first (recorded c first (Commit w ∷ es))))
+                e more.shown;
+            hands = t.hands;
+            held = t.held;
+            tells = t.tells;
+          };
+          is = refl;
+        }
+
+  pub apply : CanHappen c (ends_of s ways log) steps.Apply
+      → Follows c first (steps.after c (ends_of s ways log) steps.Apply)
+  apply can =
+      let free : refusal_of c s Apply ≡ None = ap (option_map node_fault) can in
+      let x = executed c s.on_craft s.memories in
+      once Apply (put_out ways Down None x.0.1.packets)
+      (Executed ∷ with_report log x.0.1.opened) tt free
+      (λ l. put_hands s.link Down None x.0.1.packets l ∙ t.hands l)
+      (put_held s.link ways Down None x.0.1.packets t.held)
+      (execution_told c first s log es t.shown t.tells
+      (longer c first s es Apply good t.legal t.shown tt free))
+
+  -- ---- what the node asks for besides
+
+  commits : (w : Worker) (j : Job)
+      → ticket_of s.tickets w ≡ Some j
+      → j.boot ≡ s.on_craft.boot
+      → IsTrue (is_claimed s.on_craft.jobs j.job)
+  commits w j is =
+      let free : refusal_of c s (Commit w) ≡ None = ap refusal_commit_of is in
+      subst (λ (o : Option Job). IfSome o
+      (λ j. j.boot ≡ s.on_craft.boot → IsTrue (is_claimed s.on_craft.jobs j.job)))
+      is (longer c first s es (Commit w) good t.legal t.shown tt free).ready
+
+  executes : FrontIsFor (head_of s.on_craft.jobs.jobs) c.apid s.memories
+  executes = go (head_of s.on_craft.jobs.jobs) refl where
+    go : (x : Head)
+        → head_of s.on_craft.jobs.jobs ≡ x
+        → FrontIsFor x c.apid s.memories
+    go NoJob is = tt
+    go NotReady is = tt
+    go (Ready r) is =
+        let free : refusal_of c s Apply ≡ None =
+        ap (λ (x : Head). option_map node_fault (refusal_apply_of x)) is in
+        subst (λ (x : Head). FrontIsFor x c.apid s.memories) is
+        (longer c first s es Apply good t.legal t.shown tt free).ready
+
+  pub ready : IsReadyNode c (ends_of s ways log)
+  ready = record { commits = commits; executes = executes }

@@ -1,0 +1,302 @@
+-- Two ends of which receivers have freed some names do a step as the others do, where no part of
+-- these comes.
+use Rattle.std.proofs.Common.{◌≡◌, ◌∙◌, ap, sym, subst, refl, ℕ, Bool, true, false, inl, inr, List, Option, Some, None}
+use Rattle.std.specs.FinMap as maps
+use Rattle.lpt_model.specs.LptPacket.declared.direction.Direction.{Direction}
+use Rattle.lpt_model.specs.LptPacket.declared.direction.Direction.TheVariants.{Up, Down}
+use Rattle.lpt_model.specs.LptPacket.Names.{Name, name_cmp}
+use Rattle.lpt_model.specs.LptMemory.Memories.{Contents, sizes_of}
+use Rattle.lpt_model.specs.LptMemory.Readings.{Job}
+use Rattle.lpt_model.specs.LptEvents.Arrivals.{Arrival, APart, arrival_in}
+use Rattle.lpt_model.specs.LptEvents.Configs.{IsConfig}
+use Rattle.lpt_model.specs.LptEvents.NamedParts.{NamedPart}
+use Rattle.lpt_model.specs.LptEvents.declared.config.Config.{Config}
+use Rattle.lpt_model.specs.LptEvents.declared.side.Side.{Side}
+use Rattle.lpt_model.specs.LptEvents.declared.side.Side.TheVariants.{Ground, Craft}
+use Rattle.lpt_model.specs.LptEvents.declared.worker.Worker.{Worker}
+use Rattle.lpt_model.specs.LptJobs.Jobs.{head_of, unclaimed}
+use Rattle.lpt_model.specs.LptLedger.Marks.{Marks}
+use Rattle.lpt_model.specs.LptNode.declared.accepted.Accepted.{Accepted}
+use Rattle.lpt_model.specs.LptNode.declared.expired.Expired.{Expired}
+use Rattle.lpt_model.specs.LptNode.Jobs.{Execution}
+use Rattle.lpt_model.specs.LptNode.Nodes.{Receiving, NodeData, message_at}
+use Rattle.lpt_model.specs.LptNode.Receivers.{table_in}
+use Rattle.lpt_model.specs.LptNode.Receiving.{receiver_of}
+use Rattle.lpt_model.specs.LptNode.Times.{due}
+use Rattle.lpt_model.specs.LptTable.Deadlines.{IsDue}
+use Rattle.lpt_model.specs.LptTable.Tables.{TableEntry}
+use Rattle.lpt_model.proofs.LptTable.DueLemmas.{due_of_is}
+use Rattle.lpt_model.specs.Tickets.{ticket_of}
+use Rattle.lpt_apart.specs.Ends.{Ends}
+use Rattle.lpt_apart.specs.Steps.{Step, Open, Send, Plain, Finish, Accept, Tick, Expire, Claim, Commit, Apply, Retire, Restart, CanHappen, after, sent_on, accepted_on, expired_on, claimed_on, committed_on, executed_on}
+use Rattle.lpt_apart.specs.Moves.{with_ledgers, KnowsLess}
+use Rattle.lpt_apart.proofs.Lessening.{sent_less, sent_receiving, claimed_less, claimed_receiving, committed_less, committed_receiving, executed_less, executed_receiving}
+use Rattle.lpt_apart.proofs.Fewer.{accepted_less, expired_less}
+use Rattle.lpt_apart.proofs.Staleness.{is_stale}
+use Rattle.lpt_apart.proofs.Stepping.{run_on}
+use Rattle.lpt_apart.proofs.Freed.{IsLess, IsBut}
+
+-- ---- steps
+
+module _ (c : Config) (first : Contents) (good : IsConfig c) (freed : Direction → Name → Bool)
+    (w : Ends) (g k : Marks) (l : IsLess c first freed w g k) where
+  -- what two ends are that know less
+  abbrev ends : Ends
+  ends = with_ledgers g k w
+
+  -- a step that no receiver has a part in
+  quiet : (x : Step)
+      → CanHappen c w x
+      → with_ledgers g k (after c w x) ≡ after c ends x
+      → (after c w x).on_ground.receiving ≡ w.on_ground.receiving
+      → (after c w x).on_craft.receiving ≡ w.on_craft.receiving
+      → IsBut c first freed (after c ends x)
+  quiet x can is rg rk = record {
+    whole = after c w x;
+    on_ground = g;
+    on_craft = k;
+    less = record {
+      follows = run_on c first good w x l.follows can;
+      on_ground = subst (λ (r : Receiving). KnowsLess g (freed Down) r.ledger) (sym rg) l.on_ground;
+      on_craft = subst (λ (r : Receiving). KnowsLess k (freed Up) r.ledger) (sym rk) l.on_craft;
+      no_down = λ id gone. ap (λ (r : Receiving). maps.get r.entries id) rg ∙ l.no_down id gone;
+      no_up = λ id gone. ap (λ (r : Receiving). maps.get r.entries id) rk ∙ l.no_up id gone;
+    };
+    is = is;
+  }
+
+  send : (d : Direction) (id : Name) (n : ℕ)
+      → CanHappen c ends (Send d id n)
+      → IsBut c first freed (after c ends (Send d id n))
+  send Up id n can =
+      quiet (Send Up id n) can
+      (ap (λ (x : NodeData × List ℕ). sent_on ends Up id x)
+      (sym (sent_less Ground c g w.on_ground id n (message_at w.on_ground id))))
+      (sent_receiving Ground c w.on_ground id n (message_at w.on_ground id)) refl
+  send Down id n can =
+      quiet (Send Down id n) can
+      (ap (λ (x : NodeData × List ℕ). sent_on ends Down id x)
+      (sym (sent_less Craft c k w.on_craft id n (message_at w.on_craft id))))
+      refl (sent_receiving Craft c w.on_craft id n (message_at w.on_craft id))
+
+  claim : (v : Worker) → CanHappen c ends (Claim v) → IsBut c first freed (after c ends (Claim v))
+  claim v can =
+      quiet (Claim v) can
+      (ap (λ (x : NodeData × Job). claimed_on ends v x)
+      (sym (claimed_less k w.on_craft (unclaimed w.on_craft.jobs))))
+      refl (claimed_receiving w.on_craft (unclaimed w.on_craft.jobs))
+
+  commit : (v : Worker)
+      → CanHappen c ends (Commit v)
+      → IsBut c first freed (after c ends (Commit v))
+  commit v can =
+      quiet (Commit v) can (is (ticket_of w.tickets v)) (same_g (ticket_of w.tickets v))
+      (same_k (ticket_of w.tickets v)) where
+        is : (o : Option Job) → with_ledgers g k (committed_on c w v o) ≡ committed_on c ends v o
+        is None = refl
+        is (Some t) =
+            ap (λ (d : NodeData). record (committed_on c ends v (Some t)) { on_craft = d })
+            (sym (committed_less k w.on_craft t.boot t.job (record {
+              apid = c.apid;
+              sizes = sizes_of w.memories;
+              message = t.message;
+            })))
+
+        same_g : (o : Option Job)
+            → (committed_on c w v o).on_ground.receiving ≡ w.on_ground.receiving
+        same_g None = refl
+        same_g (Some t) = refl
+
+        same_k : (o : Option Job)
+            → (committed_on c w v o).on_craft.receiving ≡ w.on_craft.receiving
+        same_k None = refl
+        same_k (Some t) =
+            committed_receiving w.on_craft t.boot t.job (record {
+              apid = c.apid;
+              sizes = sizes_of w.memories;
+              message = t.message;
+            })
+
+  apply : CanHappen c ends Apply → IsBut c first freed (after c ends Apply)
+  apply can =
+      quiet Apply can
+      (ap (λ (x : (NodeData × Execution) × Contents). executed_on ends x)
+      (sym (executed_less c k w.on_craft w.memories (head_of w.on_craft.jobs.jobs))))
+      refl (executed_receiving c w.on_craft w.memories (head_of w.on_craft.jobs.jobs))
+
+  -- ---- moves of a receiver
+
+  restart : (side : Side)
+      → CanHappen c ends (Restart side)
+      → IsBut c first freed (after c ends (Restart side))
+  restart Ground can = record {
+    whole = after c w (Restart Ground);
+    on_ground = g;
+    on_craft = k;
+    less = record {
+      follows = run_on c first good w (Restart Ground) l.follows tt;
+      on_ground = l.on_ground;
+      on_craft = l.on_craft;
+      no_down = λ id gone. maps.get-empty name_cmp id;
+      no_up = l.no_up;
+    };
+    is = refl;
+  }
+  restart Craft can = record {
+    whole = after c w (Restart Craft);
+    on_ground = g;
+    on_craft = k;
+    less = record {
+      follows = run_on c first good w (Restart Craft) l.follows tt;
+      on_ground = l.on_ground;
+      on_craft = l.on_craft;
+      no_down = l.no_down;
+      no_up = λ id gone. maps.get-empty name_cmp id;
+    };
+    is = refl;
+  }
+
+  -- a receiver gives up no reception of a freed name
+  not_freed : (n : NodeData) (gone : Name → Bool)
+      → ((id : Name) → gone id ≡ true → maps.get n.receiving.entries id ≡ None)
+      → (id : Name)
+      → due c n ≡ Some id
+      → gone id ≡ false
+  not_freed n gone none id is = go (gone id) refl where
+    open_one : (o : Option Name)
+        → IsDue (table_in (receiver_of c n.receiving)) n.clock o
+        → o ≡ Some id
+        → (x : TableEntry) × (maps.get n.receiving.entries id ≡ Some x)
+    open_one None it e = absurd cc
+    open_one (Some i) it e =
+        let same : i ≡ id = cc in
+        (it.0, subst (λ (j : Name). maps.get n.receiving.entries j ≡ Some it.0) same it.1.present)
+
+    go : (b : Bool) → gone id ≡ b → b ≡ false
+    go false e = refl
+    go true e =
+        let there = open_one (due c n) (due_of_is (table_in (receiver_of c n.receiving)) n.clock)
+        is
+        in
+        absurd (let both : None ≡ Some there.0 = sym (none id e) ∙ there.1 in cc)
+
+  expire : (side : Side)
+      → CanHappen c ends (Expire side)
+      → IsBut c first freed (after c ends (Expire side))
+  expire Ground can =
+      let x = expired_less Ground c g w.on_ground (due c w.on_ground) (freed Down) l.on_ground
+      (not_freed w.on_ground (freed Down) l.no_down) in
+      record {
+        whole = after c w (Expire Ground);
+        on_ground = x.marks;
+        on_craft = k;
+        less = record {
+          follows = run_on c first good w (Expire Ground) l.follows can;
+          on_ground = x.knows;
+          on_craft = l.on_craft;
+          no_down = λ id gone. x.unheard id gone (l.no_down id gone);
+          no_up = l.no_up;
+        };
+        is = ap (λ (y : NodeData × Expired). expired_on ends Ground y) (sym x.is);
+      }
+  expire Craft can =
+      let x = expired_less Craft c k w.on_craft (due c w.on_craft) (freed Up) l.on_craft
+      (not_freed w.on_craft (freed Up) l.no_up) in
+      record {
+        whole = after c w (Expire Craft);
+        on_ground = g;
+        on_craft = x.marks;
+        less = record {
+          follows = run_on c first good w (Expire Craft) l.follows can;
+          on_ground = l.on_ground;
+          on_craft = x.knows;
+          no_down = l.no_down;
+          no_up = λ id gone. x.unheard id gone (l.no_up id gone);
+        };
+        is = ap (λ (y : NodeData × Expired). expired_on ends Craft y) (sym x.is);
+      }
+
+  -- what may come to two ends may come to the others
+  pub may_come : (d : Direction) (b : List ℕ)
+      → CanHappen c ends (Accept d b)
+      → CanHappen c w (Accept d b)
+  may_come d b (inl on) =
+      inl (record {
+        place = on.place;
+        packet = on.packet;
+        there = on.there;
+        goes = on.goes;
+        octets = on.octets;
+      })
+  may_come d b (inr harmless) = inr harmless
+
+  new_part : (d : Direction) (a : Arrival)
+      → is_stale freed d a ≡ false
+      → (q : NamedPart)
+      → a ≡ APart q
+      → freed d q.name ≡ false
+  new_part d a new q is = ap (is_stale freed d) (sym is) ∙ new
+
+  accept : (d : Direction) (b : List ℕ)
+      → CanHappen c ends (Accept d b)
+      → is_stale freed d (arrival_in c d b) ≡ false
+      → IsBut c first freed (after c ends (Accept d b))
+  accept Up b can new =
+      let x = accepted_less Craft c k w.on_craft (arrival_in c Up b) (freed Up) l.on_craft
+      (new_part Up (arrival_in c Up b) new) in
+      record {
+        whole = after c w (Accept Up b);
+        on_ground = g;
+        on_craft = x.marks;
+        less = record {
+          follows = run_on c first good w (Accept Up b) l.follows (may_come Up b can);
+          on_ground = l.on_ground;
+          on_craft = x.knows;
+          no_down = l.no_down;
+          no_up = λ id gone. x.unheard id gone (l.no_up id gone);
+        };
+        is = ap (λ (y : NodeData × Accepted). accepted_on ends Up y) (sym x.is);
+      }
+  accept Down b can new =
+      let x = accepted_less Ground c g w.on_ground (arrival_in c Down b) (freed Down) l.on_ground
+      (new_part Down (arrival_in c Down b) new) in
+      record {
+        whole = after c w (Accept Down b);
+        on_ground = x.marks;
+        on_craft = k;
+        less = record {
+          follows = run_on c first good w (Accept Down b) l.follows (may_come Down b can);
+          on_ground = x.knows;
+          on_craft = l.on_craft;
+          no_down = λ id gone. x.unheard id gone (l.no_down id gone);
+          no_up = l.no_up;
+        };
+        is = ap (λ (y : NodeData × Accepted). accepted_on ends Down y) (sym x.is);
+      }
+
+  -- ---- all of them
+
+  -- what is handed over is no part of a freed name, and nothing is retired
+  abbrev pub IsUsual : Step → Type 0
+  IsUsual (Accept d b) = is_stale freed d (arrival_in c d b) ≡ false
+  IsUsual (Retire d id) = ⊥
+  IsUsual x = Unit {0}
+
+  -- two ends that know less do a step
+  pub step : (x : Step) → CanHappen c ends x → IsUsual x → IsBut c first freed (after c ends x)
+  step (Open Up id m) can usual = quiet (Open Up id m) can refl refl refl
+  step (Open Down id m) can usual = quiet (Open Down id m) can refl refl refl
+  step (Send d id n) can usual = send d id n can
+  step (Plain source flags service subtype body) can usual =
+      quiet (Plain source flags service subtype body) can refl refl refl
+  step (Finish Up id) can usual = quiet (Finish Up id) can refl refl refl
+  step (Finish Down id) can usual = quiet (Finish Down id) can refl refl refl
+  step (Accept d b) can usual = accept d b can usual
+  step (Tick Ground) can usual = quiet (Tick Ground) can refl refl refl
+  step (Tick Craft) can usual = quiet (Tick Craft) can refl refl refl
+  step (Expire side) can usual = expire side can
+  step (Claim v) can usual = claim v can
+  step (Commit v) can usual = commit v can
+  step Apply can usual = apply can
+  step (Retire d id) can usual = absurd usual
+  step (Restart side) can usual = restart side can

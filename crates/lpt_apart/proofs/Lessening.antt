@@ -1,0 +1,163 @@
+-- What a node does that looks at no name that its receiver knows, and how it closes one: so also
+-- where its receiver has freed some names.
+use Rattle.std.proofs.Common.{◌≡◌, ◌∙◌, ap, sym, refl, ℕ, Bool, true, false, ◌==◌, if◌then◌else◌, List, Option, Some, None}
+use Rattle.std.specs.FinMap as maps
+use Rattle.lpt_model.specs.LptPacket.Names.{Name, same_name}
+use Rattle.lpt_model.proofs.LptPacket.NameLemmas.{same_name-true}
+use Rattle.lpt_model.specs.LptMemory.Memories.{Contents, effect}
+use Rattle.lpt_model.specs.LptMemory.Readings.{Source, meant}
+use Rattle.lpt_model.specs.LptEvents.declared.config.Config.{Config}
+use Rattle.lpt_model.specs.LptEvents.declared.side.Side.{Side}
+use Rattle.lpt_model.specs.LptJobs.Jobs.{Head, NoJob, NotReady, Ready, after_commit}
+use Rattle.lpt_model.specs.LptLedger.Marks.{Mark, Marks, Shut}
+use Rattle.lpt_model.specs.LptLedger.States.{state_of, state_at}
+use Rattle.lpt_model.specs.LptExecution.declared.ending.Ending.{Ending}
+use Rattle.lpt_model.specs.LptExecution.declared.ending.Report.{Report}
+use Rattle.lpt_model.specs.LptExecution.Reporting.{message_reports, request_source, large_packets, opened_of}
+use Rattle.lpt_model.specs.LptLedger.LeastFree.{least_free_in}
+use Rattle.lpt_model.specs.LptNode.Jobs.{Execution, claimed_of, committed, ending_at, report_packets, executed_with, executed_of}
+use Rattle.lpt_model.specs.LptNode.Nodes.{NodeData}
+use Rattle.lpt_model.specs.LptNode.Receiving.{with_report}
+use Rattle.lpt_model.specs.LptNode.Sending.{sent_of}
+use Rattle.lpt_model.specs.LptMemory.Readings.{Job}
+use Rattle.lpt_refinement.proofs.LptJournal.MapLemmas.{get_insert}
+use Rattle.lpt_apart.specs.Moves.{with_ledger, KnowsLess}
+
+-- ---- what doesn't look at the names that a receiver knows
+
+pub sent_less : (side : Side) (c : Config) (m : Marks) (n : NodeData) (id : Name) (k : ℕ)
+    (o : Option (List ℕ))
+    → ◌≡◌ {A = NodeData × List ℕ} (sent_of side c (with_ledger m n) id k o)
+    (with_ledger m (sent_of side c n id k o).0, (sent_of side c n id k o).1)
+sent_less side c m n id k None = refl
+sent_less side c m n id k (Some x) = refl
+
+pub sent_receiving : (side : Side) (c : Config) (n : NodeData) (id : Name) (k : ℕ)
+    (o : Option (List ℕ))
+    → (sent_of side c n id k o).0.receiving ≡ n.receiving
+sent_receiving side c n id k None = refl
+sent_receiving side c n id k (Some x) = refl
+
+pub claimed_less : (m : Marks) (n : NodeData) (o : Option (ℕ × List ℕ))
+    → ◌≡◌ {A = NodeData × Job} (claimed_of (with_ledger m n) o)
+    (with_ledger m (claimed_of n o).0, (claimed_of n o).1)
+claimed_less m n None = refl
+claimed_less m n (Some x) = refl
+
+pub claimed_receiving : (n : NodeData) (o : Option (ℕ × List ℕ))
+    → (claimed_of n o).0.receiving ≡ n.receiving
+claimed_receiving n None = refl
+claimed_receiving n (Some x) = refl
+
+-- what a commit comes to, by whether it is of this boot
+abbrev pub committed_by : NodeData → (job : ℕ) → Source → Bool → NodeData × Bool
+committed_by n job r b =
+    if b then (record n { jobs = after_commit n.jobs job r }, true) else (n, false)
+
+pub committed_less : (m : Marks) (n : NodeData) (boot job : ℕ) (r : Source)
+    → (committed (with_ledger m n) boot job r).0 ≡ with_ledger m (committed n boot job r).0
+committed_less m n boot job r = go (boot == n.boot) where
+  go : (b : Bool)
+      → (committed_by (with_ledger m n) job r b).0 ≡ with_ledger m (committed_by n job r b).0
+  go true = refl
+  go false = refl
+
+pub committed_receiving : (n : NodeData) (boot job : ℕ) (r : Source)
+    → (committed n boot job r).0.receiving ≡ n.receiving
+committed_receiving n boot job r = go (boot == n.boot) where
+  go : (b : Bool) → (committed_by n job r b).0.receiving ≡ n.receiving
+  go true = refl
+  go false = refl
+
+executed_with_less : (c : Config) (m : Marks) (n : NodeData) (peer : ℕ) (end : Ending)
+    (reports : List Report)
+    (o : Option (Name × List ℕ))
+    → ◌≡◌ {A = NodeData × Execution} (executed_with c (with_ledger m n) peer end reports o) (
+      with_ledger m (executed_with c n peer end reports o).0,
+      (executed_with c n peer end reports o).1,
+    )
+executed_with_less c m n peer end reports None = refl
+executed_with_less c m n peer end reports (Some x) = refl
+
+executed_with_receiving : (c : Config) (n : NodeData) (peer : ℕ) (end : Ending)
+    (reports : List Report)
+    (o : Option (Name × List ℕ))
+    → (executed_with c n peer end reports o).0.receiving ≡ n.receiving
+executed_with_receiving c n peer end reports None = refl
+executed_with_receiving c n peer end reports (Some x) = refl
+
+-- what an execution that ends so opens
+abbrev message_of : Config → NodeData → Source → Ending → Option (Name × List ℕ)
+message_of c n r end =
+    opened_of (least_free_in n.sending.ledger (request_source r.apid r.message))
+    (large_packets c.part_size
+    (report_packets c (request_source r.apid r.message) n.sending n.clock
+    (message_reports r.apid r.message end)))
+
+pub executed_less : (c : Config) (m : Marks) (n : NodeData) (ms : Contents) (x : Head)
+    → ◌≡◌ {A = (NodeData × Execution) × Contents} (executed_of c (with_ledger m n) ms x) (
+      (with_ledger m (executed_of c n ms x).0.0, (executed_of c n ms x).0.1),
+      (executed_of c n ms x).1,
+    )
+executed_less c m n ms NoJob = refl
+executed_less c m n ms NotReady = refl
+executed_less c m n ms (Ready r) =
+    let end : Ending = ending_at c n ms r in
+    ap (λ (y : NodeData × Execution). (y, effect (meant r) ms))
+    (executed_with_less c m n (request_source r.apid r.message) end
+    (message_reports r.apid r.message end)
+    (message_of c n r end))
+
+pub executed_receiving : (c : Config) (n : NodeData) (ms : Contents) (x : Head)
+    → (executed_of c n ms x).0.0.receiving ≡ n.receiving
+executed_receiving c n ms NoJob = refl
+executed_receiving c n ms NotReady = refl
+executed_receiving c n ms (Ready r) =
+    let end : Ending = ending_at c n ms r in
+    executed_with_receiving c n (request_source r.apid r.message) end
+    (message_reports r.apid r.message end)
+    (message_of c n r end)
+
+-- ---- what does
+
+pub report_less : (m : Marks) (n : NodeData) (o : Option (List ℕ))
+    → with_report (with_ledger m n) o ≡ with_ledger m (with_report n o)
+report_less m n None = refl
+report_less m n (Some b) = refl
+
+pub report_receiving : (n : NodeData) (o : Option (List ℕ))
+    → (with_report n o).receiving ≡ n.receiving
+report_receiving n None = refl
+report_receiving n (Some b) = refl
+
+-- a report changes no name of a sender
+pub report_ledger : (n : NodeData) (o : Option (List ℕ))
+    → (with_report n o).sending.ledger ≡ n.sending.ledger
+report_ledger n None = refl
+report_ledger n (Some b) = refl
+
+-- a name that isn't freed is as the receiver knows it
+pub same_state : (less m : Marks) (freed : Name → Bool) (id : Name)
+    → KnowsLess less freed m
+    → freed id ≡ false
+    → state_at less id ≡ state_at m id
+same_state less m freed id knows free =
+    ap state_of (knows id ∙ ap (λ (b : Bool). if b then None else maps.get m id) free)
+
+-- the receiver closes a name that isn't freed
+pub less_shut : (less m : Marks) (freed : Name → Bool) (id : Name)
+    → KnowsLess less freed m
+    → freed id ≡ false
+    → KnowsLess (maps.insert less id Shut) freed (maps.insert m id Shut)
+less_shut less m freed id knows free q =
+    get_insert less id Shut q
+    ∙ go (same_name q id) refl
+    ∙ sym (ap (λ (o : Option Mark). if freed q then None else o) (get_insert m id Shut q)) where
+      go : (b : Bool)
+          → same_name q id ≡ b
+          → (if b then Some Shut else maps.get less q)
+          ≡ (if freed q then None else (if b then Some Shut else maps.get m q))
+      go true e =
+          let same : freed q ≡ false = ap freed (same_name-true q id e) ∙ free in
+          sym (ap (λ (t : Bool). if t then None else Some Shut) same)
+      go false e = knows q

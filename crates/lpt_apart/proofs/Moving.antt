@@ -1,0 +1,190 @@
+-- Two ends that free names one after the other are a world's but for the freed names, and keep its
+-- promise.
+use Rattle.std.proofs.Common.{◌≡◌, ap, subst, refl, Bool, true, not, ◌&&◌, List, [], ◌∷◌, is_some}
+use Rattle.std.specs.FinMap as maps
+use Rattle.lpt_model.specs.LptPacket.declared.direction.Direction.{Direction}
+use Rattle.lpt_model.specs.LptPacket.declared.direction.Direction.TheVariants.{Up, Down}
+use Rattle.lpt_model.specs.LptPacket.Names.{Name, same_name}
+use Rattle.lpt_model.specs.LptMemory.Memories.{Contents}
+use Rattle.lpt_model.specs.LptEvents.Configs.{IsConfig}
+use Rattle.lpt_model.specs.LptEvents.declared.config.Config.{Config}
+use Rattle.lpt_model.specs.LptLedger.Marks.{Marks}
+use Rattle.lpt_refinement.proofs.LptJournal.TestLemmas.{and_r, none_is}
+use Rattle.lpt_refinement.specs.LptJournal.Jobs.{left_by}
+use Rattle.lpt_apart.specs.Ends.{Ends, no_ends}
+use Rattle.lpt_apart.specs.Facts.{AllDue, executed as executed_in}
+use Rattle.lpt_apart.specs.Steps.{Accept, Retire, after}
+use Rattle.lpt_apart.specs.Worlds.{IsPromised}
+use Rattle.lpt_apart.specs.Moves.{Pair, Move, Do, Free, moved, CanMove, came_to, CanMoveAll, with_ledgers, EndsApartAreAWorld, EndsApartKeepThePromise}
+use Rattle.lpt_apart.proofs.Promise.{promised}
+use Rattle.lpt_apart.proofs.Stepping.{run_on, begins, is_a_world}
+use Rattle.lpt_apart.proofs.Freed.{IsLess, IsBut, less_removed, less_retired, removed_unheard, forgetting, forget}
+use Rattle.lpt_apart.proofs.Freeing.{may_come, step}
+use Rattle.lpt_apart.proofs.Silence.{AreSilent, AreMute, silent_on}
+use Rattle.lpt_apart.proofs.Staleness.{are_mute, not_stale, silent_whole, mute_less}
+
+module _ (c : Config) (first : Contents) (good : IsConfig c) (freed : Direction → Name → Bool)
+    (w : Ends) (g k : Marks) (l : IsLess c first freed w g k)
+    (silent : AreSilent freed (with_ledgers g k w)) where
+  -- two ends that know less
+  abbrev pair : Pair
+  pair = record { ends = with_ledgers g k w; freed = freed }
+
+  -- the receiver frees a name
+  free : (d : Direction) (id : Name)
+      → CanMove c pair (Free d id)
+      → IsBut c first (moved c pair (Free d id)).freed
+      (moved c pair (Free d id)).ends
+  free Up id can = record {
+    whole = forgetting Up id w;
+    on_ground = g;
+    on_craft = maps.remove k id;
+    less = record {
+      follows = forget c first Up id w l.follows;
+      on_ground = l.on_ground;
+      on_craft = less_removed k w.on_craft.receiving.ledger (freed Up) id l.on_craft;
+      no_down = l.no_down;
+      no_up = removed_unheard w.on_craft (freed Up) id l.no_up
+          (none_is (maps.get w.on_craft.receiving.entries id) can.1.unheard);
+    };
+    is = refl;
+  }
+  free Down id can = record {
+    whole = forgetting Down id w;
+    on_ground = maps.remove g id;
+    on_craft = k;
+    less = record {
+      follows = forget c first Down id w l.follows;
+      on_ground = less_removed g w.on_ground.receiving.ledger (freed Down) id l.on_ground;
+      on_craft = l.on_craft;
+      no_down = removed_unheard w.on_ground (freed Down) id l.no_down
+          (none_is (maps.get w.on_ground.receiving.entries id) can.1.unheard);
+      no_up = l.no_up;
+    };
+    is = refl;
+  }
+
+  -- the sender frees a name too
+  retire : (d : Direction) (id : Name)
+      → CanMove c pair (Do (Retire d id))
+      → IsBut c first (moved c pair (Do (Retire d id))).freed
+      (moved c pair (Do (Retire d id))).ends
+  retire Up id can = record {
+    whole = after c w (Retire Up id);
+    on_ground = g;
+    on_craft = k;
+    less = record {
+      follows = run_on c first good w (Retire Up id) l.follows (
+        can.0,
+        record {
+          closed = silent.shut Up id can.1;
+          unheard =
+              ap is_some (l.no_up id can.1);
+        },
+      );
+      on_ground = l.on_ground;
+      on_craft = less_retired k w.on_craft.receiving.ledger (freed Up) id can.1 l.on_craft;
+      no_down = l.no_down;
+      no_up = λ q gone. l.no_up q (and_r (not (true && same_name id q)) (freed Up q) gone);
+    };
+    is = refl;
+  }
+  retire Down id can = record {
+    whole = after c w (Retire Down id);
+    on_ground = g;
+    on_craft = k;
+    less = record {
+      follows = run_on c first good w (Retire Down id) l.follows (
+        can.0,
+        record {
+          closed = silent.shut Down id can.1;
+          unheard =
+              ap is_some (l.no_down id can.1);
+        },
+      );
+      on_ground = less_retired g w.on_ground.receiving.ledger (freed Down) id can.1 l.on_ground;
+      on_craft = l.on_craft;
+      no_down = λ q gone. l.no_down q (and_r (not (true && same_name id q)) (freed Down q) gone);
+      no_up = l.no_up;
+    };
+    is = refl;
+  }
+
+  -- a move
+  move : (x : Move) → CanMove c pair x → IsBut c first (moved c pair x).freed (moved c pair x).ends
+  move (Do (Accept d b)) can =
+      step c first good freed w g k l (Accept d b) can
+      (not_stale c first freed w d b good l.follows (silent_whole freed g k w silent)
+      (may_come c first good freed w g k l d b can))
+  move (Do (Retire d id)) can = retire d id can
+  move (Do x) can = step c first good freed w g k l x can tt
+  move (Free d id) can = free d id can
+
+-- Two ends are a world's but for freed names, and of those no part comes.
+record AreApart (c : Config) (first : Contents) (p : Pair) : Type 0 where
+  but : IsBut c first p.freed p.ends
+  silent : AreSilent p.freed p.ends
+
+-- whatever moves they did
+apart : (c : Config) (first : Contents) (xs : List Move)
+    → IsConfig c
+    → CanMoveAll c first xs
+    → AreApart c first (came_to c first xs)
+apart c first [] good can = record {
+  but = record {
+    whole = no_ends c first;
+    on_ground = maps.empty;
+    on_craft = maps.empty;
+    less = record {
+      follows = begins c first;
+      on_ground = λ id. refl;
+      on_craft = λ id. refl;
+      no_down = λ id gone. absurd cc;
+      no_up = λ id gone. absurd cc;
+    };
+    is = refl;
+  };
+  silent = record { shut = λ d id is. absurd cc; gone = λ d id is. refl };
+}
+apart c first (x ∷ xs) good can =
+    let p : Pair = came_to c first xs in
+    let a : AreApart c first p = apart c first xs good can.0 in
+    let b : IsBut c first p.freed p.ends = a.but in
+    let mute : AreMute p.ends =
+    subst (λ (e : Ends). AreMute e) b.is
+    (mute_less b.on_ground b.on_craft b.whole (are_mute c first b.whole b.less.follows)) in
+    record {
+      but =
+          subst (λ (e : Ends). AreSilent p.freed e
+          → CanMove c (record { ends = e; freed = p.freed }) x
+          → IsBut c first (moved c (record { ends = e; freed = p.freed }) x).freed
+          (moved c (record { ends = e; freed = p.freed }) x).ends) b.is
+          (λ silent can. move c first good p.freed b.whole b.on_ground b.on_craft b.less silent x
+          can)
+          a.silent can.1;
+      silent = silent_on c p x can.1 mute a.silent;
+    }
+
+pub ends_apart_are_a_world : EndsApartAreAWorld
+ends_apart_are_a_world c first xs good can =
+    let b = (apart c first xs good can).but in
+    record {
+      whole = b.whole;
+      on_ground = b.on_ground;
+      on_craft = b.on_craft;
+      world = is_a_world c first b.whole good b.less.follows;
+      less_on_ground = b.less.on_ground;
+      less_on_craft = b.less.on_craft;
+      is = b.is;
+    }
+
+pub ends_apart_keep_the_promise : EndsApartKeepThePromise
+ends_apart_keep_the_promise c first xs good can =
+    let b = (apart c first xs good can).but in
+    let whole : IsPromised c first b.whole =
+    promised c first b.whole good (is_a_world c first b.whole good b.less.follows) in
+    record {
+      due = subst (λ (e : Ends). AllDue e.log) b.is whole.due;
+      memories = subst (λ (e : Ends). e.memories ≡ left_by c.apid (executed_in e.log) first) b.is
+          whole.memories;
+    }

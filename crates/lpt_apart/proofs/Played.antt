@@ -1,0 +1,275 @@
+-- Whatever a world does, two ends can do.
+use Rattle.std.proofs.Common.{◌≡◌, ◌∙◌, ap, sym, subst, refl, false, not, List, [], ◌∷◌, length, Option, Some, None, is_some}
+use Rattle.std.specs.FinMap as maps
+use Rattle.lpt_model.specs.LptPacket.declared.direction.Direction.{Direction}
+use Rattle.lpt_model.specs.LptPacket.declared.direction.Direction.TheVariants.{Up, Down}
+use Rattle.lpt_model.specs.LptPacket.Names.{Name}
+use Rattle.lpt_model.specs.LptMemory.Memories.{Contents}
+use Rattle.lpt_model.specs.LptMemory.Readings.{Job}
+use Rattle.lpt_model.specs.LptEvents.Configs.{IsConfig}
+use Rattle.lpt_model.specs.LptEvents.Sides.{direction_to}
+use Rattle.lpt_model.specs.LptEvents.declared.config.Config.{Config}
+use Rattle.lpt_model.specs.LptEvents.declared.event.Event.{Event}
+use Rattle.lpt_model.specs.LptEvents.declared.event.Event.TheVariants as event
+use Rattle.lpt_model.specs.LptEvents.declared.side.Side.{Side}
+use Rattle.lpt_model.specs.LptEvents.declared.side.Side.TheVariants.{Ground, Craft}
+use Rattle.lpt_model.specs.LptLedger.States.{state_at}
+use Rattle.lpt_model.specs.LptEvents.declared.worker.Worker.{Worker}
+use Rattle.lpt_model.specs.LptLink.Links.{holds}
+use Rattle.lpt_model.specs.LptNode.Faults.{node_fault}
+use Rattle.lpt_model.specs.LptNode.Jobs.{executed}
+use Rattle.lpt_model.specs.LptNode.Times.{expired}
+use Rattle.lpt_model.specs.State.{State, no_state, after, as_list, is_gone, refusal_of, refusal_claim_by, committed_on}
+use Rattle.lpt_model.specs.Tickets.{ticket_of}
+use Rattle.lpt_refinement.specs.LptJournal.Legal.{Legal}
+use Rattle.lpt_refinement.specs.LptJournal.Replies.{recorded}
+use Rattle.lpt_refinement.proofs.Follows.{follows}
+use Rattle.lpt_refinement.proofs.LptJournal.TestLemmas.{and_l, and_r, not_true, no_place}
+use Rattle.lpt_apart.specs.Ends.{PutOut, Ends, put_out, without}
+use Rattle.lpt_apart.specs.Facts.{Aborted, Executed, Retired, Restarted, Log}
+use Rattle.lpt_apart.specs.Plays.{step_of, with_step, steps_of, WorldsAreEnds}
+use Rattle.lpt_apart.specs.Steps.{Step, is_harmless, CanHappen, MayCome, with_release, with_report, accepted_on, reached, CanRun}
+use Rattle.lpt_apart.specs.Steps as steps
+use Rattle.lpt_apart.specs.Told.{told}
+use Rattle.lpt_apart.proofs.Leaving.{AllHad, had_put, had_lost, had_retired}
+use Rattle.lpt_apart.proofs.Telling.{expiry_told, execution_told}
+use Rattle.lpt_apart.proofs.Ties.{ends_of, IsLonger, not_refused}
+use Rattle.lpt_apart.proofs.Players.{Plays, Goes, CanPlay, unmapped, no_ticket, some_ticket, retires_closed}
+use Rattle.lpt_apart.proofs.Playing as play
+
+module _ (c : Config) (first : Contents) (s : State) (ways : List PutOut) (log : Log)
+    (es : List Event) (good : IsConfig c) (t : CanPlay c first s ways log es) where
+  -- what two ends that play this are
+  abbrev ends : Ends
+  ends = ends_of s ways log
+
+  -- an event goes on in two ends
+  abbrev GoesOn : Event → Type 0
+  GoesOn e =
+      Legal c first (e ∷ es) → Goes c first (e ∷ es) ends (step_of (recorded c first es) e)
+
+  -- the world after an event
+  abbrev state_after : Event → State
+  state_after e = (after c (length (recorded c first es)) s e).0
+
+  free : (e : Event) → Legal c first (e ∷ es) → refusal_of c s e ≡ None
+  free e legal = not_refused c first s es e good t.shown legal
+
+  more : (e : Event) → Legal c first (e ∷ es) → IsLonger c first s es e
+  more e legal = play.more c first s ways log es good t e legal
+
+  plays : (e : Event) (new : List PutOut) (now : Log)
+      → Legal c first (e ∷ es)
+      → AllHad c (state_after e).link new
+      → told c (recorded c first (e ∷ es)) ≡ now
+      → Plays c first (e ∷ es) (ends_of (state_after e) new now)
+  plays e new now legal all tells =
+      play.plays c first s ways log es good t e new now legal all tells
+
+  -- ---- time, jobs and names
+
+  ticks : (side : Side) → GoesOn (event.Tick side)
+  ticks Ground legal = (
+    unmapped node_fault _ (free (event.Tick Ground) legal),
+    plays (event.Tick Ground) ways log legal t.had t.tells,
+  )
+  ticks Craft legal = (
+    unmapped node_fault _ (free (event.Tick Craft) legal),
+    plays (event.Tick Craft) ways log legal t.had t.tells,
+  )
+
+  expires : (side : Side) → GoesOn (event.Expire side)
+  expires Ground legal =
+      let x = expired Ground c s.on_ground in (
+        unmapped node_fault _ (free (event.Expire Ground) legal),
+        plays (event.Expire Ground) (put_out ways Down None (as_list x.1.packet))
+            (Aborted (direction_to Ground) x.1.id ∷ log) legal
+            (had_put c s.link ways Down None (as_list x.1.packet) t.had)
+            (expiry_told c first s log es t.shown t.tells Ground
+            (more (event.Expire Ground) legal)),
+      )
+  expires Craft legal =
+      let x = expired Craft c s.on_craft in (
+        unmapped node_fault _ (free (event.Expire Craft) legal),
+        plays (event.Expire Craft) (put_out ways Down None (as_list x.1.packet))
+            (Aborted (direction_to Craft) x.1.id ∷ log) legal
+            (had_put c s.link ways Down None (as_list x.1.packet) t.had)
+            (expiry_told c first s log es t.shown t.tells Craft (more (event.Expire Craft) legal)),
+      )
+
+  claims : (w : Worker) → GoesOn (event.Claim w)
+  claims w legal =
+      let none : ticket_of s.tickets w ≡ None =
+      no_ticket s.on_craft (ticket_of s.tickets w) (free (event.Claim w) legal) in (
+        (
+          none,
+          unmapped node_fault _
+              (ap (refusal_claim_by s.on_craft) (sym none) ∙ free (event.Claim w) legal),
+        ),
+        plays (event.Claim w) ways log legal t.had t.tells,
+      )
+
+  commits : (w : Worker) → GoesOn (event.Commit w)
+  commits w legal = (
+    some_ticket (ticket_of s.tickets w) (free (event.Commit w) legal),
+    record {
+      state = state_after (event.Commit w);
+      shown = (more (event.Commit w) legal).shown;
+      had = link (ticket_of s.tickets w);
+      tells = t.tells ∙ logs (ticket_of s.tickets w);
+      is = same (ticket_of s.tickets w);
+    },
+  ) where
+    link : (o : Option Job) → AllHad c (committed_on c s w o).0.link
+        (steps.committed_on c ends w o).on_the_way
+    link None = t.had
+    link (Some j) = t.had
+
+    logs : (o : Option Job) → log ≡ (steps.committed_on c ends w o).log
+    logs None = refl
+    logs (Some j) = refl
+
+    same : (o : Option Job)
+        → ends_of (committed_on c s w o).0 (steps.committed_on c ends w o).on_the_way
+        (steps.committed_on c ends w o).log
+        ≡ steps.committed_on c ends w o
+    same None = refl
+    same (Some j) = refl
+
+  applies : GoesOn event.Apply
+  applies legal =
+      let x = executed c s.on_craft s.memories in (
+        unmapped node_fault _ (free event.Apply legal),
+        plays event.Apply (put_out ways Down None x.0.1.packets)
+            (Executed ∷ with_report log x.0.1.opened) legal
+            (had_put c s.link ways Down None x.0.1.packets t.had)
+            (execution_told c first s log es t.shown t.tells (more event.Apply legal)),
+      )
+
+  retires : (d : Direction) (id : Name) → GoesOn (event.Retire d id)
+  retires Up id legal =
+      let over =
+      retires_closed (state_at s.on_ground.sending.ledger id) (is_gone s Up id)
+      (free (event.Retire Up id) legal) in
+      let none : holds s.link Up id ≡ false =
+      not_true (holds s.link Up id)
+      (and_l (not (holds s.link Up id)) (not (is_some (maps.get s.on_craft.receiving.entries id)))
+      over.1) in
+      let unheard : is_some (maps.get s.on_craft.receiving.entries id) ≡ false =
+      not_true (is_some (maps.get s.on_craft.receiving.entries id))
+      (and_r (not (holds s.link Up id)) (not (is_some (maps.get s.on_craft.receiving.entries id)))
+      over.1) in (
+        (legal.1.in_range, record { closed = over.0; unheard = unheard }),
+        plays (event.Retire Up id) (without Up id ways) (Retired Up id ∷ log) legal
+            (had_retired c s.link ways Up id none t.had)
+            (ap (λ (l : Log). Retired Up id ∷ l) t.tells),
+      )
+  retires Down id legal =
+      let over =
+      retires_closed (state_at s.on_craft.sending.ledger id) (is_gone s Down id)
+      (free (event.Retire Down id) legal) in
+      let none : holds s.link Down id ≡ false =
+      not_true (holds s.link Down id)
+      (and_l (not (holds s.link Down id))
+      (not (is_some (maps.get s.on_ground.receiving.entries id)))
+      over.1) in
+      let unheard : is_some (maps.get s.on_ground.receiving.entries id) ≡ false =
+      not_true (is_some (maps.get s.on_ground.receiving.entries id))
+      (and_r (not (holds s.link Down id))
+      (not (is_some (maps.get s.on_ground.receiving.entries id)))
+      over.1) in (
+        (legal.1.in_range, record { closed = over.0; unheard = unheard }),
+        plays (event.Retire Down id) (without Down id ways) (Retired Down id ∷ log) legal
+            (had_retired c s.link ways Down id none t.had)
+            (ap (λ (l : Log). Retired Down id ∷ l) t.tells),
+      )
+
+  restarts : (side : Side) → GoesOn (event.Restart side)
+  restarts Ground legal = (
+    tt,
+    plays (event.Restart Ground) ways (Restarted Ground ∷ log) legal t.had
+        (ap (λ (l : Log). Restarted Ground ∷ l) t.tells),
+  )
+  restarts Craft legal = (
+    tt,
+    plays (event.Restart Craft) ways (Restarted Craft ∷ log) legal t.had
+        (ap (λ (l : Log). Restarted Craft ∷ l) t.tells),
+  )
+
+  -- ---- all of them
+
+  goes_on : (e : Event) → GoesOn e
+  goes_on (event.Open d id m) legal =
+      play.opens c first s ways log es good t d id m legal
+  goes_on (event.Send d id k) legal =
+      play.sends c first s ways log es good t d id k legal
+  goes_on (event.Plain source flags service subtype body) legal =
+      play.plain c first s ways log es good t source flags service subtype body legal
+  goes_on (event.Finish d id) legal =
+      play.finishes c first s ways log es good t d id legal
+  goes_on (event.Lose n) legal =
+      plays (event.Lose n) ways log legal (had_lost c s.link ways n t.had) t.tells
+  goes_on (event.Damage d b) legal =
+      play.damages c first s ways log es good t d b legal
+  goes_on (event.Take l n) legal =
+      play.takes c first s ways log es good t l n legal
+  goes_on (event.Deliver l) legal =
+      play.delivers c first s ways log es good t l legal
+  goes_on (event.Tick side) legal = ticks side legal
+  goes_on (event.Expire side) legal = expires side legal
+  goes_on (event.Claim w) legal = claims w legal
+  goes_on (event.Commit w) legal = commits w legal
+  goes_on event.Apply legal = applies legal
+  goes_on (event.Retire d id) legal = retires d id legal
+  goes_on (event.Restart side) legal = restarts side legal
+
+-- two ends play a journal
+record ArePlayed (c : Config) (first : Contents) (es : List Event) (xs : List Step) : Type 0 where
+  can : CanRun c first xs
+  plays : Plays c first es (reached c first xs)
+
+-- with one step more, or none, they play the longer one
+with_one : (c : Config) (first : Contents) (es all : List Event) (xs : List Step) (o : Option Step)
+    → ArePlayed c first es xs
+    → Goes c first all (reached c first xs) o
+    → ArePlayed c first all (with_step o xs)
+with_one c first es all xs None had goes = record { can = had.can; plays = goes }
+with_one c first es all xs (Some x) had goes = record { can = (had.can, goes.0); plays = goes.1 }
+
+are_played : (c : Config) (first : Contents) (es : List Event)
+    → IsConfig c
+    → Legal c first es
+    → ArePlayed c first es (steps_of c first es)
+are_played c first [] good legal = record {
+  can = tt;
+  plays = record {
+    state = no_state c first;
+    shown = follows.begins c first;
+    had = λ n p at. absurd (no_place n p at);
+    tells = refl;
+    is = refl;
+  };
+}
+are_played c first (e ∷ es) good legal =
+    let had = are_played c first es good legal.0 in
+    let p = had.plays in
+    with_one c first es (e ∷ es) (steps_of c first es) (step_of (recorded c first es) e) had
+    (subst (λ (y : Ends). Goes c first (e ∷ es) y (step_of (recorded c first es) e)) p.is
+    (goes_on c first p.state _ _ es good
+    (record { shown = p.shown; had = p.had; tells = p.tells }) e legal))
+
+pub worlds_are_ends : WorldsAreEnds
+worlds_are_ends c first es good legal =
+    let it = are_played c first es good legal in
+    record {
+      can = it.can;
+      are = record {
+        world = it.plays.state;
+        shown = it.plays.shown;
+        ground = ap (λ (y : Ends). y.on_ground) it.plays.is;
+        craft = ap (λ (y : Ends). y.on_craft) it.plays.is;
+        tickets = ap (λ (y : Ends). y.tickets) it.plays.is;
+        memories = ap (λ (y : Ends). y.memories) it.plays.is;
+        log = it.plays.tells;
+      };
+    }

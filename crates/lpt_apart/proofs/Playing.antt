@@ -1,0 +1,246 @@
+-- Two ends play what a world sends, and what its link does.
+use Rattle.std.proofs.Common.{◌≡◌, ◌∙◌, ap, sym, subst, refl, ℕ, true, inl, inr, List, [], ◌∷◌, length, Option, Some, None, is_some}
+use Rattle.std.specs.Option.{option_and_then}
+use Rattle.std.specs.Prelude.{slice_get}
+use Rattle.lpt_model.specs.LptPacket.declared.direction.Direction.{Direction}
+use Rattle.lpt_model.specs.LptPacket.declared.direction.Direction.TheVariants.{Up, Down}
+use Rattle.lpt_model.specs.LptPacket.Names.{Name}
+use Rattle.lpt_model.specs.LptMemory.Memories.{Contents}
+use Rattle.lpt_model.specs.LptEvents.Arrivals.{Arrival, NotRead, arrival_in}
+use Rattle.lpt_model.specs.LptEvents.Configs.{IsConfig}
+use Rattle.lpt_model.specs.LptEvents.Lanes.{lane_direction}
+use Rattle.lpt_model.specs.LptEvents.declared.config.Config.{Config}
+use Rattle.lpt_model.specs.LptEvents.declared.event.Event.{Event}
+use Rattle.lpt_model.specs.LptEvents.declared.event.Event.TheVariants as event
+use Rattle.lpt_model.specs.LptEvents.declared.lane.Lane.{Lane}
+use Rattle.lpt_model.specs.LptEvents.declared.lane.Lane.TheVariants.{S1, S2, G1, G2}
+use Rattle.lpt_model.specs.LptEvents.declared.side.Side.TheVariants.{Ground, Craft}
+use Rattle.lpt_model.specs.LptLink.Links.{hand_of, is_held_for, packet_in_hand, after_drop}
+use Rattle.lpt_model.specs.LptNode.Accepting.{accepted}
+use Rattle.lpt_model.specs.LptNode.Faults.{node_fault}
+use Rattle.lpt_model.specs.LptNode.Nodes.{NodeData}
+use Rattle.lpt_model.specs.LptNode.Requests.{plain_made}
+use Rattle.lpt_model.specs.LptNode.Sending.{sent}
+use Rattle.lpt_model.specs.LptNode.declared.accepted.Accepted.{Accepted}
+use Rattle.lpt_model.specs.State.{State, after, as_list, link_fault, refusal_of, arrival_held, released_of}
+use Rattle.lpt_refinement.specs.LptJournal.Journal.{History}
+use Rattle.lpt_refinement.specs.LptJournal.Legal.{Legal}
+use Rattle.lpt_refinement.specs.LptJournal.Replies.{recorded}
+use Rattle.lpt_refinement.proofs.LptJournal.HeadlineLemmas.{every, owes}
+use Rattle.lpt_apart.specs.Ends.{PutOut, Ends, put_out}
+use Rattle.lpt_apart.specs.Facts.{Opened, Asked, Log, with_abortion}
+use Rattle.lpt_apart.specs.Plays.{octets_held, step_of}
+use Rattle.lpt_apart.specs.Steps.{is_harmless, MayCome, with_release, accepted_on}
+use Rattle.lpt_apart.specs.Told.{told}
+use Rattle.lpt_apart.proofs.Leaving.{IsHad, AllHad, out_at, had_one, had_put, had_taken, had_dropped}
+use Rattle.lpt_apart.proofs.Telling.{plain_told, delivery_told}
+use Rattle.lpt_apart.proofs.Ties.{ends_of, IsLonger, longer, not_refused}
+use Rattle.lpt_apart.proofs.Players.{Plays, Goes, CanPlay, HasInHand, unmapped, takes_held, held_is, has_in_hand}
+
+module _ (c : Config) (first : Contents) (s : State) (ways : List PutOut) (log : Log)
+    (es : List Event) (good : IsConfig c) (t : CanPlay c first s ways log es) where
+  -- two ends with that world's nodes
+  abbrev pub ends : Ends
+  ends = ends_of s ways log
+
+  -- the history
+  abbrev pub h : History
+  h = recorded c first es
+
+  -- the world after an event
+  abbrev pub state_after : Event → State
+  state_after e = (after c (length h) s e).0
+
+  -- what is legal isn't refused
+  pub free : (e : Event) → Legal c first (e ∷ es) → refusal_of c s e ≡ None
+  free e legal = not_refused c first s es e good t.shown legal
+
+  -- and can be done
+  pub more : (e : Event) → Legal c first (e ∷ es) → IsLonger c first s es e
+  more e legal =
+      longer c first s es e good legal.0 t.shown legal.1.in_range (free e legal)
+
+  -- the longer journal is played by two ends of the world after an event
+  pub plays : (e : Event) (new : List PutOut) (now : Log)
+      → Legal c first (e ∷ es)
+      → AllHad c (state_after e).link new
+      → told c (recorded c first (e ∷ es)) ≡ now
+      → Plays c first (e ∷ es) (ends_of (state_after e) new now)
+  plays e new now legal all now_told = record {
+    state = state_after e;
+    shown = (more e legal).shown;
+    had = all;
+    tells = now_told;
+    is = refl;
+  }
+
+  -- an event goes on in two ends
+  abbrev pub GoesOn : Event → Type 0
+  GoesOn e = Legal c first (e ∷ es) → Goes c first (e ∷ es) ends (step_of h e)
+
+  -- ---- sending
+
+  -- a message is opened
+  pub opens : (d : Direction) (id : Name) (m : List ℕ) → GoesOn (event.Open d id m)
+  opens Up id m legal = (
+    (legal.1.in_range, unmapped node_fault _ (free (event.Open Up id m) legal)),
+    plays (event.Open Up id m) ways (Opened Up id m ∷ log) legal t.had
+        (ap (λ (l : Log). Opened Up id m ∷ l) t.tells),
+  )
+  opens Down id m legal = (
+    (legal.1.in_range, unmapped node_fault _ (free (event.Open Down id m) legal)),
+    plays (event.Open Down id m) ways (Opened Down id m ∷ log) legal t.had
+        (ap (λ (l : Log). Opened Down id m ∷ l) t.tells),
+  )
+
+  -- a part is sent
+  pub sends : (d : Direction) (id : Name) (k : ℕ) → GoesOn (event.Send d id k)
+  sends Up id k legal =
+      let bs : List (List ℕ) = (sent Ground c s.on_ground id k).1 ∷ [] in (
+        (legal.1.in_range, unmapped node_fault _ (free (event.Send Up id k) legal)),
+        plays (event.Send Up id k) (put_out ways Up (Some id) bs) log legal
+            (had_put c s.link ways Up (Some id) bs t.had) t.tells,
+      )
+  sends Down id k legal =
+      let bs : List (List ℕ) = (sent Craft c s.on_craft id k).1 ∷ [] in (
+        (legal.1.in_range, unmapped node_fault _ (free (event.Send Down id k) legal)),
+        plays (event.Send Down id k) (put_out ways Down (Some id) bs) log legal
+            (had_put c s.link ways Down (Some id) bs t.had) t.tells,
+      )
+
+  -- a plain request is made
+  pub plain : (source flags service subtype : ℕ) (body : List ℕ)
+      → GoesOn (event.Plain source flags service subtype body)
+  plain source flags service subtype body legal =
+      let e : Event = event.Plain source flags service subtype body in
+      let b : List ℕ = (plain_made c s.on_ground source flags service subtype body).1 in (
+        (legal.1.in_range, unmapped node_fault _ (free e legal)),
+        plays (event.Plain source flags service subtype body) (put_out ways Up None (b ∷ []))
+            (Asked b ∷ log) legal
+            (had_put c s.link ways Up None (b ∷ []) t.had)
+            (plain_told c first s log es t.shown t.tells source flags service subtype body),
+      )
+
+  -- a message is finished
+  pub finishes : (d : Direction) (id : Name) → GoesOn (event.Finish d id)
+  finishes Up id legal = (
+    (legal.1.in_range, unmapped node_fault _ (free (event.Finish Up id) legal)),
+    plays (event.Finish Up id) ways log legal t.had t.tells,
+  )
+  finishes Down id legal = (
+    (legal.1.in_range, unmapped node_fault _ (free (event.Finish Down id) legal)),
+    plays (event.Finish Down id) ways log legal t.had t.tells,
+  )
+
+  -- ---- the link
+
+  -- what the link's noise left isn't read
+  pub damages : (d : Direction) (b : List ℕ) → GoesOn (event.Damage d b)
+  damages d b legal =
+      let all = every c first es good legal.0 in
+      let unread : arrival_in c d b ≡ NotRead =
+      ((owes c first h (event.Damage d b) good all.0 all.2 legal.1).puts 0
+      (record { direction = d; octets = b }) refl).sound in
+      plays (event.Damage d b) ways log legal
+      (had_one c s.link ways ways d None b t.had (λ p is. is) (inr unread)) t.tells
+
+  -- what a lane takes can be delivered still
+  pub takes : (l : Lane) (n : ℕ) → GoesOn (event.Take l n)
+  takes l n legal =
+      let held : is_held_for s.link (lane_direction l) n ≡ true =
+      takes_held (is_some (hand_of s.link l)) (is_held_for s.link (lane_direction l) n)
+      (unmapped link_fault _ (free (event.Take l n) legal)) in
+      plays (event.Take l n) ways log legal
+      (had_taken c s.link ways l n (held_is s.link (lane_direction l) n held) t.had) t.tells
+
+  -- what is in a lane's hand may come
+  comes : (l : Lane)
+      → HasInHand s h l
+      → MayCome c ends (lane_direction l) (octets_held h l)
+  comes l it = go (t.had it.number it.packet it.there (inr (l, it.in_hand))) where
+    go : IsHad c ways it.packet → MayCome c ends (lane_direction l) (octets_held h l)
+    go (inl out) =
+        let at = out_at ways it.packet.direction it.packet.tag it.packet.octets out in
+        inl (record {
+          place = at.place;
+          packet = at.packet;
+          there = at.there;
+          goes = at.is.direction ∙ it.goes;
+          octets = at.is.octets ∙ it.octets;
+        })
+    go (inr unread) =
+        inr (ap is_harmless ((λ i. arrival_in c (sym it.goes i) (sym it.octets i)) ∙ unread))
+
+  -- and is that to the node that receives it
+  arrives : (l : Lane)
+      → HasInHand s h l
+      → arrival_held c (lane_direction l) (packet_in_hand s.link l)
+      ≡ arrival_in c (lane_direction l) (octets_held h l)
+  arrives l it =
+      ap (λ (o : Option ℕ). arrival_held c (lane_direction l)
+      (option_and_then (slice_get s.link.packets) o)) it.in_hand
+      ∙ ap (arrival_held c (lane_direction l)) it.there
+      ∙ ap (arrival_in c (lane_direction l)) it.octets
+
+  -- what a lane delivers is handed over
+  pub delivers : (l : Lane) → GoesOn (event.Deliver l)
+  delivers S1 legal =
+      let it = has_in_hand c first s es S1 good legal.0 t.shown (free (event.Deliver S1) legal) in
+      let x : NodeData × Accepted =
+      accepted Craft c s.on_craft (arrival_held c Up (packet_in_hand s.link S1)) in (
+        comes S1 it,
+        subst (λ (a : Arrival). Plays c first (event.Deliver S1 ∷ es)
+            (accepted_on ends Up (accepted Craft c s.on_craft a))) (arrives S1 it)
+            (plays (event.Deliver S1) (put_out ways Down None (as_list x.1.packet))
+            (with_abortion Up x.1.outcome
+            (with_release log (released_of Up x.1.outcome) x.1.released)) legal
+            (had_put c (after_drop s.link S1) ways Down None (as_list x.1.packet)
+            (had_dropped c s.link ways S1 t.had))
+            (delivery_told c first s log es t.shown t.tells S1 (more (event.Deliver S1) legal) x
+            refl)),
+      )
+  delivers S2 legal =
+      let it = has_in_hand c first s es S2 good legal.0 t.shown (free (event.Deliver S2) legal) in
+      let x : NodeData × Accepted =
+      accepted Craft c s.on_craft (arrival_held c Up (packet_in_hand s.link S2)) in (
+        comes S2 it,
+        subst (λ (a : Arrival). Plays c first (event.Deliver S2 ∷ es)
+            (accepted_on ends Up (accepted Craft c s.on_craft a))) (arrives S2 it)
+            (plays (event.Deliver S2) (put_out ways Down None (as_list x.1.packet))
+            (with_abortion Up x.1.outcome
+            (with_release log (released_of Up x.1.outcome) x.1.released)) legal
+            (had_put c (after_drop s.link S2) ways Down None (as_list x.1.packet)
+            (had_dropped c s.link ways S2 t.had))
+            (delivery_told c first s log es t.shown t.tells S2 (more (event.Deliver S2) legal) x
+            refl)),
+      )
+  delivers G1 legal =
+      let it = has_in_hand c first s es G1 good legal.0 t.shown (free (event.Deliver G1) legal) in
+      let x : NodeData × Accepted =
+      accepted Ground c s.on_ground (arrival_held c Down (packet_in_hand s.link G1)) in (
+        comes G1 it,
+        subst (λ (a : Arrival). Plays c first (event.Deliver G1 ∷ es)
+            (accepted_on ends Down (accepted Ground c s.on_ground a))) (arrives G1 it)
+            (plays (event.Deliver G1) (put_out ways Down None (as_list x.1.packet))
+            (with_abortion Down x.1.outcome
+            (with_release log (released_of Down x.1.outcome) x.1.released)) legal
+            (had_put c (after_drop s.link G1) ways Down None (as_list x.1.packet)
+            (had_dropped c s.link ways G1 t.had))
+            (delivery_told c first s log es t.shown t.tells G1 (more (event.Deliver G1) legal) x
+            refl)),
+      )
+  delivers G2 legal =
+      let it = has_in_hand c first s es G2 good legal.0 t.shown (free (event.Deliver G2) legal) in
+      let x : NodeData × Accepted =
+      accepted Ground c s.on_ground (arrival_held c Down (packet_in_hand s.link G2)) in (
+        comes G2 it,
+        subst (λ (a : Arrival). Plays c first (event.Deliver G2 ∷ es)
+            (accepted_on ends Down (accepted Ground c s.on_ground a))) (arrives G2 it)
+            (plays (event.Deliver G2) (put_out ways Down None (as_list x.1.packet))
+            (with_abortion Down x.1.outcome
+            (with_release log (released_of Down x.1.outcome) x.1.released)) legal
+            (had_put c (after_drop s.link G2) ways Down None (as_list x.1.packet)
+            (had_dropped c s.link ways G2 t.had))
+            (delivery_told c first s log es t.shown t.tells G2 (more (event.Deliver G2) legal) x
+            refl)),
+      )

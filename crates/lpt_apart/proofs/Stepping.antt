@@ -1,0 +1,106 @@
+-- Two ends follow a world, whatever steps they do.
+use Rattle.std.proofs.Common.{◌≡◌, ap, subst, refl, List, [], ◌∷◌, None}
+use Rattle.lpt_model.specs.LptMemory.Memories.{Contents}
+use Rattle.lpt_model.specs.LptEvents.Configs.{IsConfig}
+use Rattle.lpt_model.specs.LptEvents.declared.config.Config.{Config}
+use Rattle.lpt_model.specs.LptEvents.declared.event.Event.{Event}
+use Rattle.lpt_model.specs.LptEvents.declared.lane.Lane.{Lane}
+use Rattle.lpt_model.specs.LptEvents.declared.lane.Lane.TheVariants.{S1, S2, G1, G2}
+use Rattle.lpt_model.specs.LptLink.Links.{hand_of, empty_link}
+use Rattle.lpt_model.specs.State.{State, no_state}
+use Rattle.lpt_refinement.proofs.Follows.{follows}
+use Rattle.lpt_apart.specs.Ends.{PutOut, Ends, no_ends}
+use Rattle.lpt_apart.specs.Facts.{Log}
+use Rattle.lpt_apart.specs.Steps.{Step, Open, Send, Plain, Finish, Accept, Tick, Expire, Claim, Commit, Apply, Retire, Restart, CanHappen, CanRun, after, reached}
+use Rattle.lpt_apart.specs.Worlds.{IsReadyNode, IsAWorld, EndsAreAWorld}
+use Rattle.lpt_apart.proofs.Accepting.{accept}
+use Rattle.lpt_apart.proofs.Events.{open_step, send, plain, finish, tick, expire, claim, commit, apply, restart, ready}
+use Rattle.lpt_apart.proofs.Retiring.{retire}
+use Rattle.lpt_apart.proofs.Ties.{ends_of, IsTied, Follows}
+
+-- two ends that are tied to a world follow one after a step
+step : (c : Config) (first : Contents) (s : State) (ways : List PutOut) (log : Log)
+    (es : List Event) (x : Step)
+    → IsConfig c
+    → IsTied c first s ways log es
+    → CanHappen c (ends_of s ways log) x
+    → Follows c first (after c (ends_of s ways log) x)
+step c first s ways log es (Open d id m) good t can =
+    open_step c first s ways log es good t d id m can
+step c first s ways log es (Send d id k) good t can = send c first s ways log es good t d id k can
+step c first s ways log es (Plain source flags service subtype body) good t can =
+    plain c first s ways log es good t source flags service subtype body can
+step c first s ways log es (Finish d id) good t can = finish c first s ways log es good t d id can
+step c first s ways log es (Accept d b) good t can = accept c first s ways log es good t d b can
+step c first s ways log es (Tick side) good t can = tick c first s ways log es good t side can
+step c first s ways log es (Expire side) good t can = expire c first s ways log es good t side can
+step c first s ways log es (Claim w) good t can = claim c first s ways log es good t w can
+step c first s ways log es (Commit w) good t can = commit c first s ways log es good t w can
+step c first s ways log es Apply good t can = apply c first s ways log es good t can
+step c first s ways log es (Retire d id) good t can = retire c first s ways log es d id good t can
+step c first s ways log es (Restart side) good t can = restart c first s ways log es good t side can
+
+no_hand : (l : Lane) → hand_of empty_link l ≡ None
+no_hand S1 = refl
+no_hand S2 = refl
+no_hand G1 = refl
+no_hand G2 = refl
+
+-- two new ends follow a new world
+pub begins : (c : Config) (first : Contents) → Follows c first (no_ends c first)
+begins c first = record {
+  state = no_state c first;
+  events = [];
+  tied = record {
+    legal = tt;
+    shown = follows.begins c first;
+    hands = no_hand;
+    held = tt;
+    tells = refl;
+  };
+  is = refl;
+}
+
+-- two ends that follow a world follow one after a step
+pub run_on : (c : Config) (first : Contents)
+    → IsConfig c
+    → (e : Ends) (x : Step)
+    → Follows c first e
+    → CanHappen c e x
+    → Follows c first (after c e x)
+run_on c first good e x f can =
+    subst (λ (y : Ends). CanHappen c y x → Follows c first (after c y x)) f.is
+    (step c first f.state e.on_the_way e.log f.events x good f.tied) can
+
+-- two ends follow a world, whatever steps they do
+run : (c : Config) (first : Contents) (xs : List Step)
+    → IsConfig c
+    → CanRun c first xs
+    → Follows c first (reached c first xs)
+run c first [] good can = begins c first
+run c first (x ∷ xs) good can =
+    run_on c first good (reached c first xs) x (run c first xs good can.0) can.1
+
+-- what follows a world is one
+pub is_a_world : (c : Config) (first : Contents) (e : Ends)
+    → IsConfig c
+    → Follows c first e
+    → IsAWorld c first e
+is_a_world c first e good f = record {
+  events = f.events;
+  world = f.state;
+  legal = f.tied.legal;
+  shown = f.tied.shown;
+  ground = ap (λ (y : Ends). y.on_ground) f.is;
+  craft = ap (λ (y : Ends). y.on_craft) f.is;
+  tickets = ap (λ (y : Ends). y.tickets) f.is;
+  memories = ap (λ (y : Ends). y.memories) f.is;
+  log = f.tied.tells;
+  ready =
+      subst (λ (y : Ends). IsReadyNode c y) f.is
+      (ready c first f.state e.on_the_way e.log f.events good f.tied);
+}
+
+pub ends_are_a_world : EndsAreAWorld
+ends_are_a_world c first xs good can =
+    is_a_world c first (reached c first xs) good (run c first xs good can)

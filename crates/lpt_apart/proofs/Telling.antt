@@ -1,0 +1,114 @@
+-- What a journal tells with one event more is what the nodes of a world that shows it say.
+use Rattle.std.proofs.Common.{◌≡◌, ◌∙◌, ap, sym, ℕ, List, ◌∷◌, length}
+use Rattle.lpt_model.specs.LptMemory.Memories.{Contents}
+use Rattle.lpt_model.specs.LptEvents.Lanes.{lane_direction}
+use Rattle.lpt_model.specs.LptEvents.MadePackets.{tc_made}
+use Rattle.lpt_model.specs.LptEvents.Sides.{receiver_side, direction_to}
+use Rattle.lpt_model.specs.LptEvents.declared.config.Config.{Config}
+use Rattle.lpt_model.specs.LptEvents.declared.entry.Opening.{Opening}
+use Rattle.lpt_model.specs.LptEvents.declared.entry.Release.{Release}
+use Rattle.lpt_model.specs.LptEvents.declared.event.Event.{Event}
+use Rattle.lpt_model.specs.LptEvents.declared.event.Event.TheVariants.{Plain, Deliver, Expire, Apply}
+use Rattle.lpt_model.specs.LptEvents.declared.lane.Lane.{Lane}
+use Rattle.lpt_model.specs.LptEvents.declared.reply.Answer.{Answer}
+use Rattle.lpt_model.specs.LptEvents.declared.reply.Answer.TheVariants.{Delivered, Expired}
+use Rattle.lpt_model.specs.LptEvents.declared.reply.Reply.{Reply}
+use Rattle.lpt_model.specs.LptEvents.declared.side.Side.{Side}
+use Rattle.lpt_model.specs.LptLink.Links.{packet_in_hand}
+use Rattle.lpt_model.specs.LptNode.Accepting.{accepted}
+use Rattle.lpt_model.specs.LptNode.Jobs.{executed}
+use Rattle.lpt_model.specs.LptNode.Nodes.{NodeData}
+use Rattle.lpt_model.specs.LptNode.Requests.{plain_made}
+use Rattle.lpt_model.specs.LptNode.Times.{expired}
+use Rattle.lpt_model.specs.LptNode.declared.accepted.Accepted.{Accepted}
+use Rattle.lpt_model.specs.LptNode.declared.expired.Expired.{Expired as Ended}
+use Rattle.lpt_model.specs.State.{State, end_of, as_list, arrival_held, add_release, add_opening, released_of}
+use Rattle.lpt_refinement.specs.Shows.{Shows}
+use Rattle.lpt_refinement.specs.Views.{views}
+use Rattle.lpt_refinement.specs.LptJournal.Delivery.{outcome}
+use Rattle.lpt_refinement.specs.LptJournal.Executions.{front_opens}
+use Rattle.lpt_refinement.specs.LptJournal.Journal.{History}
+use Rattle.lpt_refinement.specs.LptJournal.Releases.{released_by, releases}
+use Rattle.lpt_refinement.specs.LptJournal.Replies.{answer, recorded, entry}
+use Rattle.lpt_refinement.specs.LptJournal.Senders.{opened}
+use Rattle.lpt_apart.specs.Facts.{Asked, Aborted, Executed, Log, with_abortion}
+use Rattle.lpt_apart.specs.Steps.{with_release, with_report}
+use Rattle.lpt_apart.specs.Told.{with_releases, with_ended, told}
+use Rattle.lpt_apart.proofs.Logs.{opened_told, released_told, put_some-answer}
+use Rattle.lpt_apart.proofs.Ties.{IsLonger}
+
+module _ (c : Config) (first : Contents) (s : State) (log : Log) (es : List Event)
+    (shown : Shows s (views c first (recorded c first es)))
+    (tells : told c (recorded c first es) ≡ log) where
+  abbrev h : History
+  h = recorded c first es
+
+  -- ground has asked the plain request that it made
+  pub plain_told : (source flags service subtype : ℕ) (body : List ℕ)
+      → told c (recorded c first (Plain source flags service subtype body ∷ es))
+      ≡ Asked (plain_made c s.on_ground source flags service subtype body).1 ∷ log
+  plain_told source flags service subtype body =
+      ap (λ (n : ℕ). Asked (tc_made c source n flags service subtype body) ∷ told c h)
+      (sym shown.ground.sending.count)
+      ∙ ap (λ (l : Log). Asked (plain_made c s.on_ground source flags service subtype body).1 ∷ l)
+      tells
+
+  -- what a node gives up for its age is aborted
+  pub expiry_told : (side : Side)
+      → IsLonger c first s es (Expire side)
+      → told c (recorded c first (Expire side ∷ es))
+      ≡ Aborted (direction_to side) (expired side c (end_of s side)).1.id ∷ log
+  expiry_told side more =
+      let x : NodeData × Ended = expired side c (end_of s side) in
+      let answered : Expired (direction_to side) x.1.id ≡ answer c first h (Expire side) =
+      sym
+      (put_some-answer (length s.link.packets) (Expired (direction_to side) x.1.id)
+      (as_list x.1.packet))
+      ∙ ap (λ (r : Reply). r.answer) more.answered in
+      ap (λ (a : Answer). with_ended (Expire side) a (told c h)) (sym answered)
+      ∙ ap (λ (l : Log). Aborted (direction_to side) x.1.id ∷ l) tells
+
+  -- the spacecraft has executed a request, and opened the report of data that it made, or none
+  pub execution_told : IsLonger c first s es Apply
+      → told c (recorded c first (Apply ∷ es))
+      ≡ Executed ∷ with_report log (executed c s.on_craft s.memories).0.1.opened
+  execution_told more =
+      let o = (executed c s.on_craft s.memories).0.1.opened in
+      let opens : add_opening (opened h) (length h) o ≡ opened (entry c first h Apply ∷ h) =
+      ap (λ (os : List Opening). add_opening os (length h) o) (sym shown.opened)
+      ∙ more.shown.opened in
+      ap (λ (l : Log). Executed ∷ l)
+      (opened_told (opened h) (length h) o (front_opens c first h) (told c h) opens
+      ∙ ap (λ (l : Log). with_report l o) tells)
+
+  -- what a node answers to a delivery was released or broken off
+  pub delivery_told : (l : Lane)
+      → IsLonger c first s es (Deliver l)
+      → (x : NodeData × Accepted)
+      → x ≡ accepted (receiver_side (lane_direction l)) c
+      (end_of s (receiver_side (lane_direction l)))
+      (arrival_held c (lane_direction l) (packet_in_hand s.link l))
+      → told c (recorded c first (Deliver l ∷ es))
+      ≡ with_abortion (lane_direction l) x.1.outcome
+      (with_release log (released_of (lane_direction l) x.1.outcome) x.1.released)
+  delivery_told l more y is =
+      let d = lane_direction l in
+      let x : NodeData × Accepted =
+      accepted (receiver_side d) c (end_of s (receiver_side d))
+      (arrival_held c d (packet_in_hand s.link l)) in
+      let both : Delivered x.1.outcome ≡ Delivered (outcome c h l) =
+      sym (put_some-answer (length s.link.packets) (Delivered x.1.outcome) (as_list x.1.packet))
+      ∙ ap (λ (r : Reply). r.answer) more.answered in
+      let same : outcome c h l ≡ x.1.outcome = cc in
+      let released : with_releases (released_by c (entry c first h (Deliver l)) h) (told c h)
+      ≡ with_release log (released_of d x.1.outcome) x.1.released =
+      released_told (releases c h) (length h) d x.1.outcome x.1.released
+      (released_by c (entry c first h (Deliver l)) h) (told c h)
+      (ap (λ (rs : List Release). add_release rs (length h) d x.1.outcome x.1.released)
+      (sym shown.released)
+      ∙ more.shown.released)
+      ∙ ap (λ (l : Log). with_release l (released_of d x.1.outcome) x.1.released) tells in
+      (λ i. with_abortion d (same i) (released i))
+      ∙ ap (λ (y : NodeData × Accepted).
+      with_abortion d y.1.outcome (with_release log (released_of d y.1.outcome) y.1.released))
+      (sym is)

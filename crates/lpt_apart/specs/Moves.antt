@@ -1,0 +1,128 @@
+-- Two ends apart that free a name one after the other: its receiver first, and then its sender.
+--
+-- So no call is of both ends. In between the receiver has the name free, and the sender has it
+-- closed.
+use Rattle.std.specs.Prelude.{◌≡◌, Bool, true, false, not, ◌&&◌, ◌||◌, if◌then◌else◌, List, [], ◌∷◌, None, ⊤}
+use Rattle.std.specs.FinMap as maps
+use Rattle.lpt_model.specs.LptPacket.declared.direction.Direction.{Direction}
+use Rattle.lpt_model.specs.LptPacket.declared.direction.Direction.TheVariants.{Up, Down}
+use Rattle.lpt_model.specs.LptPacket.Names.{Name}
+use Rattle.lpt_model.specs.LptMemory.Memories.{Contents}
+use Rattle.lpt_model.specs.LptEvents.Configs.{IsConfig}
+use Rattle.lpt_model.specs.LptEvents.Events.{IsEvent}
+use Rattle.lpt_model.specs.LptEvents.Sides.{sender_side, receiver_side}
+use Rattle.lpt_model.specs.LptEvents.declared.config.Config.{Config}
+use Rattle.lpt_model.specs.LptEvents.declared.event.Event.TheVariants as event
+use Rattle.lpt_model.specs.LptLedger.Marks.{Marks}
+use Rattle.lpt_model.specs.LptNode.Anew.{retired}
+use Rattle.lpt_model.specs.LptNode.Nodes.{NodeData}
+use Rattle.lpt_apart.specs.Ends.{Ends, no_ends, node_at, with_node, without}
+use Rattle.lpt_apart.specs.Facts.{Retired, is_same}
+use Rattle.lpt_apart.specs.Steps.{Step, Retire, IsOver, CanHappen, after}
+use Rattle.lpt_apart.specs.Worlds.{IsAWorld, IsPromised}
+
+-- ---- moves
+
+-- two ends, and the names that their receivers have freed and their senders haven't
+pub record Pair : Type 0 where
+  pub ends : Ends
+  pub freed : Direction → Name → Bool
+
+-- two new ends
+abbrev pub no_pair : Config → Contents → Pair
+no_pair c first = record { ends = no_ends c first; freed = λ d id. false }
+
+-- a step, of which a retirement is the sender's alone; or the receiver of a direction frees a name
+pub data Move : Type 0 where
+  Do : Step → Move
+  Free : Direction → Name → Move
+
+-- the receiver has freed a name; no part of it that was put out before may be handed over any more
+abbrev pub freed_by : Pair → Direction → Name → Pair
+freed_by p d id = record {
+  ends =
+      record (with_node p.ends (receiver_side d)
+      (retired (receiver_side d) (node_at p.ends (receiver_side d)) d id)) {
+        on_the_way = without d id p.ends.on_the_way;
+      };
+  freed = λ e i. is_same d id e i || p.freed e i;
+}
+
+-- the sender has freed a name too
+abbrev pub retired_by : Pair → Direction → Name → Pair
+retired_by p d id = record {
+  ends =
+      record (with_node p.ends (sender_side d)
+      (retired (sender_side d) (node_at p.ends (sender_side d)) d id)) {
+        on_the_way = without d id p.ends.on_the_way;
+        log = Retired d id ∷ p.ends.log;
+      };
+  freed = λ e i. not (is_same d id e i) && p.freed e i;
+}
+
+-- what a move makes of two ends
+abbrev pub moved : Config → Pair → Move → Pair
+moved c p (Do (Retire d id)) = retired_by p d id
+moved c p (Do x) = record p { ends = after c p.ends x }
+moved c p (Free d id) = freed_by p d id
+
+-- ---- when a move can happen
+
+-- A step can happen as before, but a name is retired where its receiver has freed it. A receiver
+-- frees a name where it is over.
+abbrev pub CanMove : Config → Pair → Move → Type 0
+CanMove c p (Do (Retire d id)) = IsEvent (event.Retire d id) × (p.freed d id ≡ true)
+CanMove c p (Do x) = CanHappen c p.ends x
+CanMove c p (Free d id) = IsEvent (event.Retire d id) × IsOver p.ends d id
+
+-- two ends after these moves, the newest of which stands first
+abbrev pub came_to : Config → Contents → List Move → Pair
+came_to c first [] = no_pair c first
+came_to c first (x ∷ xs) = moved c (came_to c first xs) x
+
+-- each move can happen after those before it
+abbrev pub CanMoveAll : Config → Contents → List Move → Type 0
+CanMoveAll c first [] = ⊤
+CanMoveAll c first (x ∷ xs) = CanMoveAll c first xs × CanMove c (came_to c first xs) x
+
+-- ---- what they are
+
+-- a node whose receiver knows these names
+abbrev pub with_ledger : Marks → NodeData → NodeData
+with_ledger m n = record n { receiving = record n.receiving { ledger = m } }
+
+-- two ends whose receivers know these names
+abbrev pub with_ledgers : (on_ground on_craft : Marks) → Ends → Ends
+with_ledgers g k e =
+    record e { on_ground = with_ledger g e.on_ground; on_craft = with_ledger k e.on_craft }
+
+-- a receiver knows what another knows but for the freed names
+abbrev pub KnowsLess : Marks → (Name → Bool) → Marks → Type 0
+KnowsLess less freed m =
+    (id : Name) → maps.get less id ≡ (if freed id then None else maps.get m id)
+
+-- two ends are a world's, but that their receivers have freed some names already
+pub record IsAWorldBut (c : Config) (first : Contents) (p : Pair) : Type 0 where
+  pub whole : Ends
+  pub on_ground : Marks
+  pub on_craft : Marks
+  pub world : IsAWorld c first whole
+  pub less_on_ground : KnowsLess on_ground (p.freed Down) whole.on_ground.receiving.ledger
+  pub less_on_craft : KnowsLess on_craft (p.freed Up) whole.on_craft.receiving.ledger
+  pub is : with_ledgers on_ground on_craft whole ≡ p.ends
+
+-- whatever two ends did, they are a world's but for freed names
+abbrev pub EndsApartAreAWorld : Type 0
+EndsApartAreAWorld =
+    (c : Config) (first : Contents) (xs : List Move)
+    → IsConfig c
+    → CanMoveAll c first xs
+    → IsAWorldBut c first (came_to c first xs)
+
+-- whatever two ends did, they keep the promise
+abbrev pub EndsApartKeepThePromise : Type 0
+EndsApartKeepThePromise =
+    (c : Config) (first : Contents) (xs : List Move)
+    → IsConfig c
+    → CanMoveAll c first xs
+    → IsPromised c first (came_to c first xs).ends

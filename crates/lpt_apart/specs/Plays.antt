@@ -1,0 +1,100 @@
+-- The steps of two ends that the events of a world are: so whatever a world does, two ends can do.
+use Rattle.std.specs.Prelude.{◌≡◌, ℕ, List, [], ◌∷◌, slice_get, Option, Some, None}
+use Rattle.std.specs.Option.{option_map_or}
+use Rattle.lpt_model.specs.LptMemory.Memories.{Contents}
+use Rattle.lpt_model.specs.LptEvents.Configs.{IsConfig}
+use Rattle.lpt_model.specs.LptEvents.Lanes.{lane_direction}
+use Rattle.lpt_model.specs.LptEvents.declared.config.Config.{Config}
+use Rattle.lpt_model.specs.LptEvents.declared.event.Event.{Event}
+use Rattle.lpt_model.specs.LptEvents.declared.event.Event.TheVariants as event
+use Rattle.lpt_model.specs.LptEvents.declared.lane.Lane.{Lane}
+use Rattle.lpt_model.specs.State.{State}
+use Rattle.lpt_refinement.specs.LptJournal.Hands.{hand}
+use Rattle.lpt_refinement.specs.LptJournal.Journal.{History}
+use Rattle.lpt_refinement.specs.LptJournal.Legal.{Legal}
+use Rattle.lpt_refinement.specs.LptJournal.Link.{sent}
+use Rattle.lpt_refinement.specs.LptJournal.Replies.{recorded}
+use Rattle.lpt_refinement.specs.Shows.{Shows}
+use Rattle.lpt_refinement.specs.Views.{views}
+use Rattle.lpt_apart.specs.Ends.{Ends}
+use Rattle.lpt_apart.specs.Moves.{Move, Do, Free, came_to, CanMoveAll}
+use Rattle.lpt_apart.specs.Steps.{Step, Open, Send, Plain, Finish, Accept, Tick, Expire, Claim, Commit, Apply, Retire, Restart, reached, CanRun}
+use Rattle.lpt_apart.specs.Told.{told}
+
+-- ---- a world's events as steps
+
+-- the octets of the packet in a lane's hand; of an empty one there are none
+abbrev pub octets_held : History → Lane → List ℕ
+octets_held h l =
+    option_map_or (λ n. option_map_or (λ p. p.octets) (slice_get (sent h) n) []) (hand h l) []
+
+-- The step that an event is after this history: what a lane delivers is handed over. What the link
+-- does by itself is none.
+abbrev pub step_of : History → Event → Option Step
+step_of h (event.Open d id m) = Some (Open d id m)
+step_of h (event.Send d id k) = Some (Send d id k)
+step_of h (event.Plain source flags service subtype body) =
+    Some (Plain source flags service subtype body)
+step_of h (event.Finish d id) = Some (Finish d id)
+step_of h (event.Lose n) = None
+step_of h (event.Damage d b) = None
+step_of h (event.Take l n) = None
+step_of h (event.Deliver l) = Some (Accept (lane_direction l) (octets_held h l))
+step_of h (event.Tick side) = Some (Tick side)
+step_of h (event.Expire side) = Some (Expire side)
+step_of h (event.Claim w) = Some (Claim w)
+step_of h (event.Commit w) = Some (Commit w)
+step_of h event.Apply = Some Apply
+step_of h (event.Retire d id) = Some (Retire d id)
+step_of h (event.Restart side) = Some (Restart side)
+
+-- steps with one more, or none
+abbrev pub with_step : Option Step → List Step → List Step
+with_step None xs = xs
+with_step (Some x) xs = x ∷ xs
+
+-- the steps that a journal is
+abbrev pub steps_of : Config → Contents → List Event → List Step
+steps_of c first [] = []
+steps_of c first (e ∷ es) = with_step (step_of (recorded c first es) e) (steps_of c first es)
+
+-- two ends have the nodes, jobs and memories of a world that shows this journal, and its log
+pub record AreEndsOf (c : Config) (first : Contents) (es : List Event) (e : Ends) : Type 0 where
+  pub world : State
+  pub shown : Shows world (views c first (recorded c first es))
+  pub ground : world.on_ground ≡ e.on_ground
+  pub craft : world.on_craft ≡ e.on_craft
+  pub tickets : world.tickets ≡ e.tickets
+  pub memories : world.memories ≡ e.memories
+  pub log : told c (recorded c first es) ≡ e.log
+
+-- two ends can do the steps that a journal is, and then have what a world has
+pub record AreSteps (c : Config) (first : Contents) (es : List Event) : Type 0 where
+  pub can : CanRun c first (steps_of c first es)
+  pub are : AreEndsOf c first es (reached c first (steps_of c first es))
+
+-- whatever a world does
+abbrev pub WorldsAreEnds : Type 0
+WorldsAreEnds =
+    (c : Config) (first : Contents) (es : List Event)
+    → IsConfig c
+    → Legal c first es
+    → AreSteps c first es
+
+-- ---- steps as moves
+
+-- the moves that steps are: a name is freed at its receiver, and then at its sender
+abbrev pub moves_of : List Step → List Move
+moves_of [] = []
+moves_of (Retire d id ∷ xs) = Do (Retire d id) ∷ Free d id ∷ moves_of xs
+moves_of (x ∷ xs) = Do x ∷ moves_of xs
+
+-- two ends can do the moves that steps are, and then have what they would have by the steps
+pub record AreMoves (c : Config) (first : Contents) (xs : List Step) : Type 0 where
+  pub can : CanMoveAll c first (moves_of xs)
+  pub ends : (came_to c first (moves_of xs)).ends ≡ reached c first xs
+
+-- whatever they can do
+abbrev pub StepsAreMoves : Type 0
+StepsAreMoves =
+    (c : Config) (first : Contents) (xs : List Step) → CanRun c first xs → AreMoves c first xs

@@ -1,0 +1,229 @@
+-- What each step of two ends apart does, and when it can happen.
+--
+-- A step is a call of one node, which doesn't refuse it, done where its packets and its answer go.
+-- Only a retirement is of both.
+use Rattle.std.specs.Prelude.{◌≡◌, ℕ, Bool, true, false, ◌⊎◌, List, [], ◌∷◌, length, slice_get, Option, Some, None, is_some, ⊤}
+use Rattle.std.specs.FinMap as maps
+use Rattle.lpt_model.specs.LptPacket.declared.direction.Direction.{Direction}
+use Rattle.lpt_model.specs.LptPacket.declared.direction.Direction.TheVariants.{Up, Down}
+use Rattle.lpt_model.specs.LptPacket.Names.{Name}
+use Rattle.lpt_model.specs.LptMemory.Memories.{Contents, sizes_of}
+use Rattle.lpt_model.specs.LptMemory.Readings.{Job}
+use Rattle.lpt_model.specs.LptEvents.Arrivals.{Arrival, NotRead, AnIdle, Foreign, ARequest, AReport, NoPart, APart, AnAbort, arrival_in}
+use Rattle.lpt_model.specs.LptEvents.Events.{IsEvent}
+use Rattle.lpt_model.specs.LptEvents.Sides.{sender_side, receiver_side, direction_to}
+use Rattle.lpt_model.specs.LptEvents.declared.config.Config.{Config}
+use Rattle.lpt_model.specs.LptEvents.declared.event.Event.TheVariants as event
+use Rattle.lpt_model.specs.LptEvents.declared.side.Side.{Side}
+use Rattle.lpt_model.specs.LptEvents.declared.side.Side.TheVariants.{Ground, Craft}
+use Rattle.lpt_model.specs.LptEvents.declared.worker.Worker.{Worker}
+use Rattle.lpt_model.specs.LptLedger.States.{state_at}
+use Rattle.lpt_model.specs.LptLedger.declared.state.State.TheVariants.{Closed}
+use Rattle.lpt_model.specs.LptNode.declared.accepted.Accepted.{Accepted}
+use Rattle.lpt_model.specs.LptNode.declared.expired.Expired.{Expired}
+use Rattle.lpt_model.specs.LptNode.Accepting.{accepted}
+use Rattle.lpt_model.specs.LptNode.Anew.{retired, restarted}
+use Rattle.lpt_model.specs.LptNode.Jobs.{Execution, refusal_claim, claimed, committed, refusal_apply, executed}
+use Rattle.lpt_model.specs.LptNode.Nodes.{NodeData}
+use Rattle.lpt_model.specs.LptNode.Requests.{refusal_plain, plain_made}
+use Rattle.lpt_model.specs.LptNode.Sending.{refusal_open, opened, refusal_send, sent, refusal_finish, closed}
+use Rattle.lpt_model.specs.LptNode.Times.{refusal_tick, ticked, refusal_expire, expired}
+use Rattle.lpt_model.specs.State.{as_list, released_of}
+use Rattle.lpt_model.specs.Tickets.{ticket_of, with_ticket}
+use Rattle.lpt_apart.specs.Ends.{PutOut, Ends, no_ends, node_at, with_node, put_out, without}
+use Rattle.lpt_apart.specs.Facts.{Opened, Asked, Released, Aborted, Executed, Retired, Restarted, Log, with_abortion}
+
+-- ---- steps
+
+-- The node that sends in a direction takes a message, puts a part out, or lets a message go; ground
+-- puts a plain request out; octets are handed to the node that receives in a direction; the node of
+-- a side sets its clock on, or gives the reception up that is due; a worker of the spacecraft
+-- claims a request, or hands its reading in; the spacecraft executes its oldest request; both nodes
+-- free a name; the node of a side is restarted.
+pub data Step : Type 0 where
+  Open : Direction → Name → (message : List ℕ) → Step
+  Send : Direction → Name → (k : ℕ) → Step
+  Plain : (source flags service subtype : ℕ) → (body : List ℕ) → Step
+  Finish : Direction → Name → Step
+  Accept : Direction → (octets : List ℕ) → Step
+  Tick : Side → Step
+  Expire : Side → Step
+  Claim : Worker → Step
+  Commit : Worker → Step
+  Apply : Step
+  Retire : Direction → Name → Step
+  Restart : Side → Step
+
+-- ---- what the network may hand over
+
+-- the octets are of what was put out in this direction and may be handed over still
+pub record IsOnTheWay (e : Ends) (d : Direction) (b : List ℕ) : Type 0 where
+  pub place : ℕ
+  pub packet : PutOut
+  pub there : slice_get e.on_the_way place ≡ Some packet
+  pub goes : packet.direction ≡ d
+  pub octets : packet.octets ≡ b
+
+-- whether what comes to a node is neither a part nor a plain request
+abbrev pub is_harmless : Arrival → Bool
+is_harmless NotRead = true
+is_harmless AnIdle = true
+is_harmless Foreign = true
+is_harmless (ARequest b) = false
+is_harmless (AReport service subtype) = true
+is_harmless NoPart = true
+is_harmless (APart q) = false
+is_harmless (AnAbort id reason) = true
+
+-- the network may hand octets to the node that receives in this direction
+abbrev pub MayCome : Config → Ends → Direction → List ℕ → Type 0
+MayCome c e d b = IsOnTheWay e d b ⊎ (is_harmless (arrival_in c d b) ≡ true)
+
+-- ---- when a step can happen
+
+-- a name can be retired: its sender is closed, and no reception of it is open
+pub record IsOver (e : Ends) (d : Direction) (id : Name) : Type 0 where
+  pub closed : state_at (node_at e (sender_side d)).sending.ledger id ≡ Closed
+  pub unheard : is_some (maps.get (node_at e (receiver_side d)).receiving.entries id) ≡ false
+
+-- a step can happen: its numbers are of their types, and the node doesn't refuse it
+abbrev pub CanHappen : Config → Ends → Step → Type 0
+CanHappen c e (Open d id m) =
+    IsEvent (event.Open d id m) × (refusal_open c (node_at e (sender_side d)) id (length m) ≡ None)
+CanHappen c e (Send d id k) =
+    IsEvent (event.Send d id k) × (refusal_send c (node_at e (sender_side d)) id k ≡ None)
+CanHappen c e (Plain source flags service subtype body) =
+    IsEvent (event.Plain source flags service subtype body)
+    × (refusal_plain c service subtype (length body) ≡ None)
+CanHappen c e (Finish d id) =
+    IsEvent (event.Finish d id) × (refusal_finish (node_at e (sender_side d)) id ≡ None)
+CanHappen c e (Accept d b) = MayCome c e d b
+CanHappen c e (Tick side) = refusal_tick (node_at e side) ≡ None
+CanHappen c e (Expire side) = refusal_expire c (node_at e side) ≡ None
+CanHappen c e (Claim w) = (ticket_of e.tickets w ≡ None) × (refusal_claim e.on_craft ≡ None)
+CanHappen c e (Commit w) = is_some (ticket_of e.tickets w) ≡ true
+CanHappen c e Apply = refusal_apply e.on_craft ≡ None
+CanHappen c e (Retire d id) = IsEvent (event.Retire d id) × IsOver e d id
+CanHappen c e (Restart side) = ⊤
+
+-- ---- what a step does
+
+-- a part's packet is put out
+abbrev pub sent_on : Ends → Direction → Name → NodeData × List ℕ → Ends
+sent_on e d id x =
+    record (with_node e (sender_side d) x.0) {
+      on_the_way = put_out e.on_the_way d (Some id) (x.1 ∷ []);
+    }
+
+-- a plain request's packet is put out
+abbrev pub requested_on : Ends → NodeData × List ℕ → Ends
+requested_on e x =
+    record e {
+      on_ground = x.0;
+      on_the_way = put_out e.on_the_way Up None (x.1 ∷ []);
+      log = Asked x.1 ∷ e.log;
+    }
+
+-- the log with what was released, where something was
+abbrev pub with_release : Log → Option (Direction × Name) → Option (List ℕ) → Log
+with_release log of None = log
+with_release log of (Some m) = Released of m ∷ log
+
+-- a node has taken what was handed to it, and its report is put out, where it made one
+abbrev pub accepted_on : Ends → Direction → NodeData × Accepted → Ends
+accepted_on e d x =
+    record (with_node e (receiver_side d) x.0) {
+      on_the_way = put_out e.on_the_way Down None (as_list x.1.packet);
+      log =
+          with_abortion d x.1.outcome
+          (with_release e.log (released_of d x.1.outcome) x.1.released);
+    }
+
+-- a node has given a reception up, and its report is put out, where it made one
+abbrev pub expired_on : Ends → Side → NodeData × Expired → Ends
+expired_on e side x =
+    record (with_node e side x.0) {
+      on_the_way = put_out e.on_the_way Down None (as_list x.1.packet);
+      log = Aborted (direction_to side) x.1.id ∷ e.log;
+    }
+
+-- a worker has a job
+abbrev pub claimed_on : Ends → Worker → NodeData × Job → Ends
+claimed_on e w x =
+    record e { on_craft = x.0; tickets = with_ticket e.tickets w (Some x.1) }
+
+-- a worker hands in what the message of its job means for the memories; it has a job, else it
+-- doesn't
+abbrev pub committed_on : Config → Ends → Worker → Option Job → Ends
+committed_on c e w None = e
+committed_on c e w (Some t) =
+    record e {
+      on_craft = (committed e.on_craft t.boot t.job (record {
+        apid = c.apid;
+        sizes = sizes_of e.memories;
+        message = t.message;
+      })).0;
+      tickets = with_ticket e.tickets w None;
+    }
+
+-- the log with the opening of a report of data, where one was opened
+abbrev pub with_report : Log → Option (Name × List ℕ) → Log
+with_report log None = log
+with_report log (Some x) = Opened Down x.0 x.1 ∷ log
+
+-- the spacecraft has executed a request, and its reports are put out
+abbrev pub executed_on : Ends → (NodeData × Execution) × Contents → Ends
+executed_on e x =
+    record e {
+      on_craft = x.0.0;
+      memories = x.1;
+      on_the_way = put_out e.on_the_way Down None x.0.1.packets;
+      log = Executed ∷ with_report e.log x.0.1.opened;
+    }
+
+-- both nodes have freed a name, and no part of it that was put out before may be handed over any
+-- more
+abbrev pub retired_on : Ends → Direction → Name → Ends
+retired_on e d id =
+    record e {
+      on_ground = retired Ground e.on_ground d id;
+      on_craft = retired Craft e.on_craft d id;
+      on_the_way = without d id e.on_the_way;
+      log = Retired d id ∷ e.log;
+    }
+
+-- what a step makes of two ends
+abbrev pub after : Config → Ends → Step → Ends
+after c e (Open d id m) =
+    record (with_node e (sender_side d) (opened (node_at e (sender_side d)) id m)) {
+      log = Opened d id m ∷ e.log;
+    }
+after c e (Send d id k) =
+    sent_on e d id (sent (sender_side d) c (node_at e (sender_side d)) id k)
+after c e (Plain source flags service subtype body) =
+    requested_on e (plain_made c e.on_ground source flags service subtype body)
+after c e (Finish d id) =
+    with_node e (sender_side d) (closed (node_at e (sender_side d)) id)
+after c e (Accept d b) =
+    accepted_on e d
+    (accepted (receiver_side d) c (node_at e (receiver_side d)) (arrival_in c d b))
+after c e (Tick side) = with_node e side (ticked (node_at e side))
+after c e (Expire side) = expired_on e side (expired side c (node_at e side))
+after c e (Claim w) = claimed_on e w (claimed e.on_craft)
+after c e (Commit w) = committed_on c e w (ticket_of e.tickets w)
+after c e Apply = executed_on e (executed c e.on_craft e.memories)
+after c e (Retire d id) = retired_on e d id
+after c e (Restart side) =
+    record (with_node e side (restarted (node_at e side))) { log = Restarted side ∷ e.log }
+
+-- ---- runs
+
+-- two ends after these steps, the newest of which stands first
+abbrev pub reached : Config → Contents → List Step → Ends
+reached c first [] = no_ends c first
+reached c first (x ∷ xs) = after c (reached c first xs) x
+
+-- each step can happen after those before it
+abbrev pub CanRun : Config → Contents → List Step → Type 0
+CanRun c first [] = ⊤
+CanRun c first (x ∷ xs) = CanRun c first xs × CanHappen c (reached c first xs) x

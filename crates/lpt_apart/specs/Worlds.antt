@@ -1,0 +1,66 @@
+-- Two ends apart are a world, and keep its promise.
+use Rattle.std.specs.Prelude.{◌≡◌, List, Some, IsTrue}
+use Rattle.lpt_model.specs.LptMemory.Memories.{Contents}
+use Rattle.lpt_model.specs.LptMemory.Readings.{Job}
+use Rattle.lpt_model.specs.LptEvents.Configs.{IsConfig}
+use Rattle.lpt_model.specs.LptEvents.declared.config.Config.{Config}
+use Rattle.lpt_model.specs.LptEvents.declared.event.Event.{Event}
+use Rattle.lpt_model.specs.LptEvents.declared.worker.Worker.{Worker}
+use Rattle.lpt_model.specs.LptJobs.Jobs.{head_of, is_claimed}
+use Rattle.lpt_model.specs.LptNode.Jobs.{FrontIsFor}
+use Rattle.lpt_model.specs.State.{State}
+use Rattle.lpt_model.specs.Tickets.{ticket_of}
+use Rattle.lpt_refinement.specs.LptJournal.Jobs.{left_by}
+use Rattle.lpt_refinement.specs.LptJournal.Legal.{Legal}
+use Rattle.lpt_refinement.specs.LptJournal.Replies.{recorded}
+use Rattle.lpt_refinement.specs.Shows.{Shows}
+use Rattle.lpt_refinement.specs.Views.{views}
+use Rattle.lpt_apart.specs.Ends.{Ends}
+use Rattle.lpt_apart.specs.Facts.{AllDue, executed}
+use Rattle.lpt_apart.specs.Steps.{Step, reached, CanRun}
+use Rattle.lpt_apart.specs.Told.{told}
+
+-- What the spacecraft's node asks for besides: a job that a worker has was claimed and not handed
+-- in, where it is of this boot; and what would be executed was read for these memories.
+pub record IsReadyNode (c : Config) (e : Ends) : Type 0 where
+  pub commits : (w : Worker) (t : Job)
+      → ticket_of e.tickets w ≡ Some t
+      → t.boot ≡ e.on_craft.boot
+      → IsTrue (is_claimed e.on_craft.jobs t.job)
+  pub executes : FrontIsFor (head_of e.on_craft.jobs.jobs) c.apid e.memories
+
+-- there is a legal journal, and a world that shows it has these two nodes, jobs, memories and log
+pub record IsAWorld (c : Config) (first : Contents) (e : Ends) : Type 0 where
+  pub events : List Event
+  pub world : State
+  pub legal : Legal c first events
+  pub shown : Shows world (views c first (recorded c first events))
+  pub ground : world.on_ground ≡ e.on_ground
+  pub craft : world.on_craft ≡ e.on_craft
+  pub tickets : world.tickets ≡ e.tickets
+  pub memories : world.memories ≡ e.memories
+  pub log : told c (recorded c first events) ≡ e.log
+  pub ready : IsReadyNode c e
+
+-- whatever steps two ends did
+abbrev pub EndsAreAWorld : Type 0
+EndsAreAWorld =
+    (c : Config) (first : Contents) (xs : List Step)
+    → IsConfig c
+    → CanRun c first xs
+    → IsAWorld c first (reached c first xs)
+
+-- Each fact of the log was due: a message that was released under a name was the awaited one, and
+-- a plain request one that ground asked. The memories are their first content, changed by the
+-- executed requests in order of release.
+pub record IsPromised (c : Config) (first : Contents) (e : Ends) : Type 0 where
+  pub due : AllDue e.log
+  pub memories : e.memories ≡ left_by c.apid (executed e.log) first
+
+-- whatever steps two ends did
+abbrev pub EndsKeepThePromise : Type 0
+EndsKeepThePromise =
+    (c : Config) (first : Contents) (xs : List Step)
+    → IsConfig c
+    → CanRun c first xs
+    → IsPromised c first (reached c first xs)

@@ -1,0 +1,45 @@
+//! What is proved of two ends apart: functions with empty bodies.
+
+ghost use Rattle.lpt_apart.specs.Moves.{EndsApartAreAWorld, EndsApartKeepThePromise};
+ghost use Rattle.lpt_apart.specs.Plays.{WorldsAreEnds, StepsAreMoves};
+ghost use Rattle.lpt_apart.specs.Worlds.{EndsAreAWorld, EndsKeepThePromise};
+
+/// Take two nodes of one configuration, one on each side, and any list of steps of them that can
+/// happen, where the network hands over only what the other end put out, and what is neither a part
+/// nor a request. Then there is a legal journal of a world that shows it, which has both nodes as
+/// they are, the workers' jobs, the memories and the log.
+pub fn ends_are_a_world()
+    ensures { EndsAreAWorld }
+{}
+
+/// Of such two ends each large message that was released is the one last opened under its name at
+/// the other end, and since then it was neither released, nor did its reception expire, nor was it
+/// broken off. Each plain request that was released is one that ground asked. The memories are
+/// their first content, changed by the executed requests in order of release.
+pub fn ends_keep_the_promise()
+    ensures { EndsKeepThePromise }
+{}
+
+/// The same, where a name is freed at its receiver first and then at its sender, so that no call is
+/// of both ends: but for names that are freed at their receivers alone, the ends are a world's.
+pub fn ends_apart_are_a_world()
+    ensures { EndsApartAreAWorld }
+{}
+
+/// Such ends keep the promise too.
+pub fn ends_apart_keep_the_promise()
+    ensures { EndsApartKeepThePromise }
+{}
+
+/// Whatever a world does, two ends can do: each legal journal is steps of them, where what a lane
+/// delivers is handed over, and they come to the nodes, jobs, memories and log of a world that
+/// shows it. So of the network no more is asked than a world asks of its link.
+pub fn worlds_are_ends()
+    ensures { WorldsAreEnds }
+{}
+
+/// Steps that two ends can do they can also do where a name is freed at its receiver first and then
+/// at its sender.
+pub fn steps_are_moves()
+    ensures { StepsAreMoves }
+{}

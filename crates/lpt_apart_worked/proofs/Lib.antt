@@ -1,0 +1,3 @@
+pub mod ListedSteps
+pub mod RunRows
+pub mod Swapped
