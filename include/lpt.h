@@ -6,9 +6,14 @@
  * been written through a pointer but what the call's comment says. docs/FORMATS.md has the layouts
  * and the faults, docs/C.md what the caller promises:
  *
- *   - a length is the true number of octets behind its pointer, and these are initialised;
+ *   - a length is the true number of octets behind its pointer, and these are initialised. So is
+ *     what a call only writes through, as `out` and `needed`: that it may begin without a value is
+ *     not promised yet, so give it one;
  *   - no pointer is null, also where a length is 0, and each is aligned for its type;
- *   - what a call writes to (a pointer without const) overlaps nothing else that it is passed.
+ *   - what a call writes to (a pointer without const) overlaps nothing else that it is passed, and
+ *     nothing else writes there, or to what it reads, while it runs.
+ *
+ * Calls over different buffers may run at once, on whatever threads.
  */
 #ifndef LPT_H
 #define LPT_H

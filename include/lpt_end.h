@@ -4,13 +4,16 @@
  * reception up.
  *
  * An end stands behind a handle, an LptEnd, which begins as LPT_END_EMPTY. It is read and written
- * by these calls alone, is never copied, and is passed to one call at a time. Each call answers
- * LPT_DONE, or the number of the first thing that is wrong, in the order of its comment; then the
- * end is as it was, and nothing has been written through a pointer but what the comment says.
- * LPT_MEMORY, out of memory, comes last of all. docs/FORMATS.md has the faults, docs/C.md what the
- * caller promises:
+ * by these calls alone, and is never copied. Each call answers LPT_DONE, or the number of the first
+ * thing that is wrong, in the order of its comment; then the end is as it was, and nothing has been
+ * written through a pointer but what the comment says. LPT_MEMORY, out of memory, comes last.
+ * docs/FORMATS.md has the faults, docs/C.md what the caller promises:
  *
  *   - what include/lpt.h says of lengths, pointers and overlaps;
+ *   - one call at a time uses a handle, none is made from a signal handler, and a handle stays on
+ *     its thread. Calls on different handles run at once only where the three functions may that
+ *     give memory;
+ *   - the rules of lpt_end_new, lpt_end_packet and lpt_end_retire for the two ends of a link;
  *   - the program has the three functions that give memory, LptTried rattle_alloc(..) and so on,
  *     and they do what their comments say.
  */
@@ -90,7 +93,7 @@ typedef struct LptEnd {
 /* A handle that holds no end, to begin with. */
 #define LPT_END_EMPTY {false, {NULL}}
 
-/* What is fixed of an end. The ends of a link have the same. */
+/* What is fixed of an end. Both ends of a link have the same, in every value, the clock's too. */
 typedef struct LptConfig {
     uint16_t apid;       /* of all packets, 0 to 2046 */
     uint32_t part_size;  /* in octets, 4 to 1024 */
@@ -116,9 +119,12 @@ typedef struct LptMemory {
 } LptMemory;
 
 /*
- * Makes an end into an empty handle. The spacecraft's has these memories, which begin with octets of
- * the content; those are copied. Ground's has none, and neither list nor content is looked at, but
- * their pointers aren't null.
+ * Makes an end into an empty handle. The spacecraft's has these memories, which begin with octets
+ * of the content; those are copied. Ground's has none, and neither list nor content is looked at,
+ * but their pointers aren't null.
+ * An end that was freed, or went with its program, and is made anew isn't restarted: it has
+ * forgotten which names are used up. So the other end is made anew too then, and no packet of
+ * before may come any more.
  * LPT_DONE; LPT_FULL; LPT_RANGE for another side or mode; LPT_BAD_APID to LPT_BAD_OUTGOING;
  * LPT_BAD_MEMORIES where the spacecraft's aren't 1 to 16 with distinct identifiers, of 1 to
  * 1,048,576 octets each, all of the content; LPT_MEMORY.
@@ -168,6 +174,8 @@ typedef struct LptOutcome {
 /*
  * Takes a packet that came, and says what became of it; what it released can be copied until the
  * next is taken. A spacecraft that aborts a reception has a report of it to be sent.
+ * Where packets begin and end is for the link below to say. Don't search damaged octets for the
+ * next packet: a message may hold packets, and one of those would be taken as if it had been sent.
  * LPT_DONE, and *outcome is written; LPT_EMPTY; LPT_NO_NUMBER; LPT_MEMORY.
  */
 uint32_t lpt_end_packet(LptEnd *end, const uint8_t *octets, size_t octets_len, LptOutcome *outcome);
@@ -202,7 +210,8 @@ uint32_t lpt_end_part(LptEnd *end, const LptName *name, uint16_t k);
 /*
  * Makes the packet of a plain request, of this source, these acknowledgement flags, service type,
  * message subtype and body: it is to be sent, behind those that are. Ground alone makes them. Its
- * reports go to that source.
+ * reports go to that source. Each delivery of the packet is a request of its own, so it is executed
+ * as often as it is delivered.
  * LPT_DONE; LPT_EMPTY; LPT_RANGE for flags above 15, and at the spacecraft; LPT_PART_REQUEST;
  * LPT_LONG_MESSAGE where the packet would have more octets than the part size and 23; LPT_MEMORY.
  */
@@ -265,8 +274,14 @@ uint32_t lpt_end_memory(LptEnd *end, uint8_t id, uint8_t *out, size_t out_len, s
 uint32_t lpt_end_tick(LptEnd *end);
 
 /*
- * Makes the name of a transaction free at this end, so that it can be used again. The other end has
- * to do so too, and no packet of it may be on its way.
+ * Makes the name of a transaction free at this end. A name is used again only once both ends have
+ * freed it, in this order:
+ *   1. The sender's message is closed: by lpt_end_finish, a restart, or the report of an abortion.
+ *   2. No part of it will come to the receiver any more: none is on its way, and none is to be sent
+ *      still at the sender.
+ *   3. The receiver's end answers LPT_DONE to this call.
+ *   4. The sender's end does.
+ * The call looks at its own end's names alone: not at the other end, and not at what is to be sent.
  * LPT_DONE, also of a name that is free; LPT_EMPTY; LPT_RANGE for another direction; LPT_STILL_OPEN
  * where a message of this name is open to be sent in this direction, or a reception of it is.
  */
@@ -274,8 +289,8 @@ uint32_t lpt_end_retire(LptEnd *end, uint32_t direction, const LptName *name);
 
 /*
  * Restarts the end. Its open messages are closed and let go, its open receptions and what it
- * keeps of released requests are dropped, and it counts its packets from 0. It knows other names
- * and the clock as before. What was released last, and what is to be sent, stays.
+ * keeps of released requests are dropped, and it counts its packets from 0. It knows other names,
+ * the clock and the memories as before. What was released last, and what is to be sent, stays.
  * LPT_DONE; LPT_EMPTY; LPT_NO_NUMBER.
  */
 uint32_t lpt_end_restart(LptEnd *end);

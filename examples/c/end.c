@@ -17,8 +17,8 @@ static const LptName name = {1, 7};
 /* Makes the packet of a part at one end, and gives it to the other: what became of it, or the
    number of what is wrong. */
 static uint32_t carry(LptEnd *from, LptEnd *to, uint16_t k, LptOutcome *outcome) {
-    uint8_t packet[PART_SIZE + 32];
-    size_t len;
+    uint8_t packet[PART_SIZE + 23] = {0};
+    size_t len = 0;
     uint32_t fault = lpt_end_part(from, &name, k);
     while (fault == LPT_DONE && lpt_end_outgoing(from, packet, sizeof packet, &len) == LPT_DONE) {
         fault = lpt_end_packet(to, packet, len, outcome);
@@ -35,7 +35,7 @@ int main(void) {
     static uint8_t message[MESSAGE], received[MESSAGE], content[1024];
     LptEnd ground = LPT_END_EMPTY, spacecraft = LPT_END_EMPTY;
     LptOutcome outcome = {0, {0, 0}, 0, 0};
-    size_t len, i;
+    size_t len = 0, i;
     uint16_t k, parts = (uint16_t)lpt_part_count(MESSAGE, PART_SIZE);
     uint32_t fault = lpt_end_new(&ground, LPT_GROUND, &config, memories, 0, content, 0);
     for (i = 0; i < MESSAGE; i++) {

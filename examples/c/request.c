@@ -36,8 +36,8 @@ static size_t put_area(uint8_t *body) {
 
 /* What telemetry says that ground has noted: a verification report. */
 static void print_report(const uint8_t *packet, size_t len) {
-    LptTm tm;
-    LptReport report;
+    LptTm tm = {{0, 0, 0, 0, 0, 0, 0, 0}, 0, 0};
+    LptReport report = {0, 0, 0};
     if (lpt_read_tm(packet, len, &tm) == LPT_DONE &&
         lpt_read_report(tm.head.subtype, packet + tm.at, tm.len, &report) == LPT_DONE) {
         printf("request %08x: report %u, code %u\n", (unsigned)report.request,
@@ -48,8 +48,8 @@ static void print_report(const uint8_t *packet, size_t len) {
 /* What the message says that ground has joined: a dump report. */
 static void print_dump(void) {
     static uint8_t message[LPT_LONGEST];
-    LptTm tm;
-    size_t len;
+    LptTm tm = {{0, 0, 0, 0, 0, 0, 0, 0}, 0, 0};
+    size_t len = 0;
     if (lpt_end_released(&ground, message, sizeof message, &len) == LPT_DONE &&
         lpt_read_tm(message, len, &tm) == LPT_DONE && tm.len == 8 + OCTETS + 2) {
         printf("dump: %d octets, %s\n", OCTETS,
@@ -59,9 +59,9 @@ static void print_dump(void) {
 
 /* Sends down what waits at the spacecraft. */
 static void send_down(void) {
-    uint8_t packet[LONGEST];
-    size_t len;
-    LptOutcome outcome;
+    uint8_t packet[LONGEST] = {0};
+    size_t len = 0;
+    LptOutcome outcome = {0, {0, 0}, 0, 0};
     while (lpt_end_outgoing(&spacecraft, packet, sizeof packet, &len) == LPT_DONE) {
         if (lpt_end_packet(&ground, packet, len, &outcome) != LPT_DONE) {
             return; /* memory ran out: the packet still waits */
@@ -77,7 +77,7 @@ static void send_down(void) {
 
 /* Executes what was released. A reply that is too long for a packet goes in parts. */
 static void serve(void) {
-    LptApplied applied;
+    LptApplied applied = {0, {0, 0}, 0};
     uint16_t k;
     while (lpt_end_read(&spacecraft) == LPT_DONE) {
     }
@@ -95,9 +95,9 @@ static void serve(void) {
 
 /* Sends up what waits on ground, and has each request executed that the spacecraft releases. */
 static void send_up(void) {
-    uint8_t packet[LONGEST];
-    size_t len;
-    LptOutcome outcome;
+    uint8_t packet[LONGEST] = {0};
+    size_t len = 0;
+    LptOutcome outcome = {0, {0, 0}, 0, 0};
     while (lpt_end_outgoing(&ground, packet, sizeof packet, &len) == LPT_DONE) {
         if (lpt_end_packet(&spacecraft, packet, len, &outcome) != LPT_DONE) {
             return;
@@ -114,7 +114,7 @@ static void send_up(void) {
 static uint32_t load(void) {
     static const LptTcHead head = {APID, 16383, 1 + 8, 6, 2, SOURCE};
     static uint8_t body[8 + OCTETS + 2], request[sizeof body + 13];
-    size_t at = put_area(body), len;
+    size_t at = put_area(body), len = 0;
     uint16_t k;
     uint32_t fault;
     memcpy(body + at, image, OCTETS);
@@ -134,7 +134,7 @@ static uint32_t load(void) {
 
 /* Asks for the same octets, by a plain request. */
 static uint32_t dump(void) {
-    uint8_t body[8];
+    uint8_t body[8] = {0};
     uint32_t fault = lpt_end_plain(&ground, SOURCE, 1 + 8, 6, 5, body, put_area(body));
     send_up();
     return fault;

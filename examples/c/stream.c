@@ -1,6 +1,8 @@
 /*
- * A message of 20 octets goes up in three parts, with an idle packet between them, as one stream of
- * octets. The receiver cuts the stream into packets, skips the idle one, and reads the parts.
+ * A message of 20 octets goes up in three parts, with an idle packet and a telecommand of another
+ * service between them, as one stream of octets with noise at its end. The receiver cuts the stream
+ * into packets, skips those two, and reads the parts. Where no packet begins it stops, and says so:
+ * behind a damaged length the inside of a packet may follow, and a message may hold packets.
  *
  *   cc -Iinclude examples/c/stream.c build/liblpt.a -o stream && ./stream
  */
@@ -8,14 +10,14 @@
 
 #include <stdio.h>
 
-enum { PART_SIZE = 8, MESSAGE = 20, STREAM = 200 };
+enum { PART_SIZE = 8, MESSAGE = 20, STREAM = 200, TRANSFER = 13, TEST = 17 };
 
 /* Puts part k of a message at the end of a stream, as a telecommand: the stream's length then. */
 static size_t send_part(uint8_t *stream, size_t len, const uint8_t *message, uint16_t k) {
-    uint8_t body[4 + PART_SIZE];
-    uint32_t kind;
-    size_t body_len, needed;
-    LptTcHead head = {100, 0, 0, 13, 0, 1};
+    uint8_t body[4 + PART_SIZE] = {0};
+    uint32_t kind = 0;
+    size_t body_len = 0, needed = 0;
+    LptTcHead head = {100, 0, 0, TRANSFER, 0, 1};
     if (lpt_slice_part(message, MESSAGE, PART_SIZE, 7, k, &kind, body, sizeof body, &body_len) !=
         LPT_DONE) {
         return len;
@@ -28,11 +30,27 @@ static size_t send_part(uint8_t *stream, size_t len, const uint8_t *message, uin
     return len + needed;
 }
 
-/* Reads a packet that came, and says what it is. */
+/* Puts a telecommand of another service, without a body, at the end of a stream: the stream's
+   length then. */
+static size_t send_other(uint8_t *stream, size_t len, const uint8_t *message) {
+    static const LptTcHead head = {100, 3, 0, TEST, 1, 1};
+    size_t needed = 0;
+    if (lpt_write_tc(&head, message, 0, stream + len, STREAM - len, &needed) != LPT_DONE) {
+        return len;
+    }
+    return len + needed;
+}
+
+/* Reads a packet that came, and says what it is. Telecommands of service 13 with the subtypes 9, 10
+   and 11 carry parts. */
 static void receive(const uint8_t *octets, size_t len) {
     LptTc tc = {{0, 0, 0, 0, 0, 0}, 0, 0};
     LptPart part = {0, 0, 0, 0, 0};
     uint32_t fault = lpt_read_tc(octets, len, &tc);
+    if (fault == LPT_DONE && tc.head.service != TRANSFER) {
+        printf("service %u: no part\n", tc.head.service);
+        return;
+    }
     if (fault == LPT_DONE) {
         fault = lpt_read_part(tc.head.subtype - 8u, octets + tc.at, tc.len, PART_SIZE, &part);
     }
@@ -45,8 +63,8 @@ static void receive(const uint8_t *octets, size_t len) {
 
 int main(void) {
     static const uint8_t idle[] = {0x07, 0xff, 0xc0, 0x00, 0x00, 0x01, 0x00, 0x00};
-    uint8_t message[MESSAGE], stream[STREAM];
-    size_t len = 0, at = 0, packet, k;
+    uint8_t message[MESSAGE] = {0}, stream[STREAM] = {0};
+    size_t len = 0, at = 0, packet = 0, k;
     for (k = 0; k < MESSAGE; k++) {
         message[k] = (uint8_t)k;
     }
@@ -56,15 +74,23 @@ int main(void) {
         stream[len++] = idle[k];
     }
     len = send_part(stream, len, message, 2);
+    len = send_other(stream, len, message);
     len = send_part(stream, len, message, 3);
     stream[len - 1] ^= 1;
+    stream[len++] = 0xff; /* noise: no packet begins so */
 
     while (at < len) {
         uint32_t said = lpt_packet_length(stream + at, len - at, &packet);
+        if (said == LPT_VERSION) {
+            printf("octet %u: no packet begins here, and nothing more is read\n", (unsigned)at);
+            break;
+        }
+        if (said == LPT_MORE || packet > len - at) {
+            printf("octet %u: the packet hasn't come whole\n", (unsigned)at);
+            break;
+        }
         if (said == LPT_IDLE) {
             printf("idle: %u octets\n", (unsigned)packet);
-        } else if (said != LPT_DONE || packet > len - at) {
-            break;
         } else {
             receive(stream + at, packet);
         }
