@@ -18,10 +18,10 @@ _lpt() {
     case $command:$request in
     lint:*) options='--help --version' ;;
     chart:*) options+=' --from --to --refused' ;;
-    list:*) options+=' --json --strict' ;;
+    list:*) options+=' --json --strict --from --to' ;;
     split:*) options+=' --parts --count --whole --pcap' ;;
-    join:*) options+=' --id' ;;
-    extract:*) options+=' --at --from --fill' ;;
+    join:*) options+=' --id --first --any --each --from --to' ;;
+    extract:*) options+=' --at --from --fill --whole' ;;
     request:load) options+=' --area --ack --count' ;;
     request:dump | request:check) options+=' --ack --count' ;;
     esac
@@ -29,6 +29,10 @@ _lpt() {
     case $command:$request:$before:$word in
     *:*:--config:*)
         mapfile -t COMPREPLY < <(compgen -f -- "$word")
+        return
+        ;;
+    *:*:--each:*)
+        mapfile -t COMPREPLY < <(compgen -d -- "$word")
         return
         ;;
     *:*:--from:* | *:*:--to:* | *:*:--at:* | *:*:--fill:* | *:*:--parts:* | *:*:--id:* | *:*:--ack:* | *:*:--count:* | *:*:--area:*)

@@ -55,13 +55,21 @@ complete -c lpt -n '__lpt_at chart' -l to -x -d 'The last place of the journal t
 complete -c lpt -n '__lpt_at chart' -l refused -d 'Draw the lines that were refused, too'
 complete -c lpt -n '__lpt_at list' -l json -d 'Print each line as an object of JSON'
 complete -c lpt -n '__lpt_at list' -l strict -d 'End at the first place where no packet is'
+for command in list join
+    complete -c lpt -n "__lpt_at $command" -l from -x -d 'The place of the first octet that is read, as list prints it'
+    complete -c lpt -n "__lpt_at $command" -l to -x -d "The place of the first octet that isn't read any more"
+end
 complete -c lpt -n '__lpt_at split' -l parts -x -d 'The parts to write, as 3,7-9,12-'
 complete -c lpt -n '__lpt_at split' -l whole -d 'Pass on a message that has no more octets than a part'
 complete -c lpt -n '__lpt_at split' -l pcap -d 'Write the packets as a capture, a pcap file'
 complete -c lpt -n '__lpt_at join' -l id -x -d "The message's ID or SOURCE/ID; without one, it is the only one there"
+complete -c lpt -n '__lpt_at join' -l first -d 'Take the first whole message, whatever comes behind it'
+complete -c lpt -n '__lpt_at join' -l any -d 'Write what is joined also where it is no packet'
+complete -c lpt -n '__lpt_at join' -l each -x -a '(__fish_complete_directories)' -d 'Write every message there is, each as a file in this folder'
 complete -c lpt -n '__lpt_at extract' -l at -x -d 'Write an image of this memory, its areas at their places'
 complete -c lpt -n '__lpt_at extract' -l from -x -d 'The address at which the image begins, 0 without it'
 complete -c lpt -n '__lpt_at extract' -l fill -x -d 'The octet where no area gives one, 0 to 255, 0 without it'
+complete -c lpt -n '__lpt_at extract' -l whole -d 'Write an image only where no octet of it is wanting'
 complete -c lpt -n '__lpt_at request load' -l area -x -d 'Octets for another address'
 for command in 'request load' 'request dump' 'request check'
     complete -c lpt -n "__lpt_at $command" -l ack -x -d 'The acknowledgement flags, 0 to 15'

@@ -1,18 +1,21 @@
 //! The picture of a script's run.
 
-use crate::end::{Failure, Status};
-use crate::input::{Incoming, name_of, opened};
-use crate::streams::{flush, output};
+use crate::end::{Failure, Status, tell_place};
+use crate::input::opened_script;
+use crate::recalled::{Kept, Script};
+use crate::streams::{finish, output};
 use crate::work::status_at_end;
 use lpt_command_line::ChartWords;
 use lpt_drawing::{Choice, Drawing, draw_script};
 use lpt_tool::{Config, Memories, ToolFault, write_out};
 
 /// Runs a script on a new world of these memories, the one at this path or standard input for `-`,
-/// and writes the picture of what happened.
+/// and writes the picture of what happened. Standard error is told where the run has fewer events
+/// than the choice of rows begins at.
 ///
-/// Errors: `Line` at an unreadable line, `Read` where the script can't be opened or read: then the
-/// picture is of what happened before; `Write` where a write failed, `Memory`.
+/// Errors: `Line` at an unreadable line, after standard error was told why it is, `Read` where the
+/// script can't be opened or read: then the picture is of what happened before, and there is none
+/// where nothing did; `Write` where a write failed, `Memory`.
 pub fn chart(
     rt: &HostRuntime,
     config: Config,
@@ -23,7 +26,7 @@ pub fn chart(
         from: words.from,
         to: words.to,
     };
-    let mut source = match opened(rt, words.script) {
+    let mut source = match opened_script(rt, words.script, Kept::Whole) {
         Ok(source) => source,
         Err(failure) => {
             drop(memories);
@@ -33,7 +36,7 @@ pub fn chart(
     let alloc = rt.alloc();
     let drawn = draw_script(alloc, config, memories, choice, words.refused, &mut source);
     let status = match drawn {
-        Ok(drawing) => told(rt, &source, words.script, drawing),
+        Ok(drawing) => told(rt, &source, words, drawing),
         Err(fault) => Err(Failure::from(fault)),
     };
     drop(source);
@@ -43,21 +46,41 @@ pub fn chart(
 // Writes a picture, and gives how the run ended that it is of.
 fn told(
     rt: &HostRuntime,
-    source: &Incoming,
-    script: &str,
+    source: &Script,
+    words: &ChartWords<'_>,
     drawing: Drawing,
 ) -> Result<Status, Failure> {
-    let Drawing { picture, ran } = drawing;
-    let written = write_picture(rt, picture.as_bytes());
+    let Drawing {
+        picture,
+        ran,
+        events,
+    } = drawing;
+    let written = if events == 0 && matches!(ran, Err(ToolFault::Read)) {
+        Ok(())
+    } else {
+        write_picture(rt, picture.as_bytes())
+    };
     drop(picture);
     written?;
-    match ran {
-        Err(ToolFault::Line(number)) => {
-            let name = name_of(script);
-            let place = format!(in rt.alloc(); "{name}:{number}: unreadable");
-            Err(Failure::at(ToolFault::Line(number), place))
-        }
-        ran => status_at_end(rt, source, script, ran),
+    tell_short(rt, words, events);
+    status_at_end(rt, source, words.script, ran)
+}
+
+// Says on standard error that a choice begins behind a run of so many events. A line that was
+// refused behind the last of them has their count for its place.
+fn tell_short(rt: &HostRuntime, words: &ChartWords<'_>, events: u64) {
+    let Some(from) = words.from else {
+        return;
+    };
+    if from < events || (words.refused && from == events) {
+        return;
+    }
+    let text = match events.checked_sub(1) {
+        Some(last) => format!(in rt.alloc(); "--from {from}: the run's events are 0 to {last}"),
+        None => format!(in rt.alloc(); "--from {from}: the run has no event"),
+    };
+    if let Ok(text) = text {
+        tell_place(rt, text.as_str());
     }
 }
 
@@ -65,6 +88,6 @@ fn told(
 fn write_picture(rt: &HostRuntime, picture: &[u8]) -> Result<(), Failure> {
     let mut out = output(rt)?;
     let written = write_out(&mut out, picture);
-    flush(rt, out)?;
+    finish(rt, out)?;
     Ok(written?)
 }

@@ -15,8 +15,8 @@ use std::str;
 /// The most octets that the file may have.
 const LONGEST_FILE: usize = 1_048_576;
 
-/// Reads the configuration, the first memories, and how much a run of threads does, in the file at this
-/// path; without one, they are those of an empty file.
+/// Reads the configuration, the first memories, and how much a run of threads does, in the file at
+/// this path; without one, they are those of an empty file.
 ///
 /// Errors: `Read` where the file can't be opened or read; `Config` where it has more than 1,048,576
 /// octets, isn't UTF-8 or is refused; `Memory`.

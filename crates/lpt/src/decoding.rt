@@ -3,12 +3,15 @@
 ghost use Rattle.lpt_tool.specs.LptPart.Splitting.{IsPartSize};
 
 use crate::end::{Failure, Status, tell_place};
-use crate::streams::{flush, output};
+use crate::input::{STANDARD, opened, read_failure};
+use crate::streams::{finish, output};
 use crate::work::status_of;
+use lpt_files::{End, Octets, read_text};
 use lpt_tool::{
     Config, Direction, Kind, Packet, PacketKind, Seen, ToolFault, part_kind, read_hex, read_packet,
     read_part, read_tc, read_tm,
 };
+use std::alloc::AllocError;
 
 /// How many octets of a part's body stand before the part's own.
 const PART_FIELDS: usize = 4;
@@ -19,48 +22,124 @@ const LEAST_PART_SIZE: u32 = 4;
 /// The greatest part size that can be configured.
 const GREATEST_PART_SIZE: u32 = 1024;
 
-/// Prints what octets are as a packet.
+// Where hexadecimal digits come from.
+#[derive(Clone, Copy, PartialEq, Eq)]
+enum Given {
+    // A word of the command line.
+    Word,
+    // Standard input.
+    Input,
+}
+
+impl Given {
+    // That the octet at this place, from 1, is no digit. The only error is out of memory.
+    fn no_digit(self, rt: &HostRuntime, place: u64) -> Result<String, AllocError> {
+        match self {
+            Given::Word => format!(in rt.alloc();
+                "HEX: octet {place} of the word isn't a hexadecimal digit"
+            ),
+            Given::Input => format!(in rt.alloc();
+                "standard input: octet {place} isn't a hexadecimal digit"
+            ),
+        }
+    }
+
+    // That there are so many digits. The only error is out of memory.
+    fn odd(self, rt: &HostRuntime, digits: usize) -> Result<String, AllocError> {
+        let name = match self {
+            Given::Word => "HEX",
+            Given::Input => "standard input",
+        };
+        format!(in rt.alloc(); "{name}: {digits} digits, and an octet has two")
+    }
+}
+
+/// Prints what octets are as a packet: those of a word, or of standard input for `-`, where white
+/// space is passed over.
 ///
-/// Errors: `Write` where a write failed, `Memory`. Words that aren't octets are no error here: they
-/// are reported on standard error, and the status says so. Where a part isn't read for the
-/// configured part size, a note on standard error says which one fits, if one does.
+/// Errors: `Read`, `Write` where a read or a write failed, `Memory`. What stands for no octets is
+/// no error here: it is reported on standard error, and the status says so. Where a part isn't read
+/// for the configured part size, a note on standard error says which one fits, if one does.
 pub fn decode(rt: &HostRuntime, config: Config, hex: &str) -> Result<Status, Failure>
     requires { IsPartSize config.part_size }
 {
-    let octets = match read_hex(rt.alloc(), hex.as_bytes()) {
-        Ok(Some(octets)) => octets,
-        Ok(None) => {
-            refuse_hex(rt, hex);
-            return Ok(Status::Unreadable);
-        }
-        Err(_) => return Err(Failure::from(ToolFault::Memory)),
+    let given = if hex == STANDARD {
+        let text = standard_text(rt)?;
+        octets_in(rt, Given::Input, text.as_slice())
+    } else {
+        octets_in(rt, Given::Word, hex.as_bytes())
+    };
+    let Some(octets) = given? else {
+        return Ok(Status::Unreadable);
     };
     let mut out = output(rt)?;
     let decoded = lpt_tool::decode(rt.alloc(), octets.as_slice(), config.part_size, &mut out);
-    flush(rt, out)?;
+    finish(rt, out)?;
     let is_faulty = decoded?;
     tell_size(rt, octets.as_slice(), config.part_size);
     Ok(status_of(is_faulty))
 }
 
-// Says on standard error that a word isn't octets, and where.
-fn refuse_hex(rt: &HostRuntime, hex: &str) {
-    let _ = rt.eprintln("hex refused");
-    let digits = hex.len();
-    let place = match hex.bytes().position(|octet| !octet.is_ascii_hexdigit()) {
-        Some(before) => {
-            let place = before.saturating_add(1);
-            format!(in rt.alloc(); "HEX: octet {place} of the word isn't a hexadecimal digit")
+// The text of standard input.
+//
+// Errors: `Read` where it can't be read, or has more than 16,777,216 octets; `Memory`.
+fn standard_text(rt: &HostRuntime) -> Result<Vec<u8>, Failure> {
+    let mut source = opened(rt, STANDARD)?;
+    let (text, end) = read_text(rt.alloc(), &mut source)?;
+    let failure = match end {
+        End::Whole => None,
+        End::Failed => Some(read_failure(rt, &source, STANDARD)),
+        End::TooLong => {
+            let place = format!(in rt.alloc(); "standard input: more than 16777216 octets");
+            Some(Failure::at(ToolFault::Read, place))
         }
-        None => format!(in rt.alloc(); "HEX: {digits} digits, and an octet has two"),
     };
+    drop(source);
+    match failure {
+        Some(failure) => Err(failure),
+        None => Ok(text),
+    }
+}
+
+// The octets that a text stands for, in hexadecimal digits; none where it stands for none, after
+// standard error was told so. The only error is out of memory.
+fn octets_in(rt: &HostRuntime, given: Given, text: &[u8]) -> Result<Option<Octets>, ToolFault> {
+    let mut digits = Vec::new(rt.alloc());
+    let mut place = 0u64;
+    for octet in text {
+        place = place.saturating_add(1);
+        if octet.is_ascii_hexdigit() {
+            if digits.push(*octet).is_err() {
+                return Err(ToolFault::Memory);
+            }
+        } else if !(given == Given::Input && octet.is_ascii_whitespace()) {
+            refuse_hex(rt, given.no_digit(rt, place));
+            return Ok(None);
+        }
+    }
+    if digits.is_empty() {
+        return Ok(Some(Octets::from_vec(digits)));
+    }
+    match read_hex(rt.alloc(), digits.as_slice()) {
+        Ok(Some(octets)) => Ok(Some(octets)),
+        Ok(None) => {
+            refuse_hex(rt, given.odd(rt, digits.len()));
+            Ok(None)
+        }
+        Err(_) => Err(ToolFault::Memory),
+    }
+}
+
+// Says on standard error that a text isn't octets, and where.
+fn refuse_hex(rt: &HostRuntime, place: Result<String, AllocError>) {
+    let _ = rt.eprintln("hex refused");
     if let Ok(place) = place {
         tell_place(rt, place.as_str());
     }
 }
 
-// Says on standard error where octets carry a part that isn't read for parts of `p` octets, but would be
-// for parts of its own length.
+// Says on standard error where octets carry a part that isn't read for parts of `p` octets, but
+// would be for parts of its own length.
 fn tell_size(rt: &HostRuntime, octets: &[u8], p: u32)
     requires { IsPartSize p }
 {

@@ -4,6 +4,7 @@ use clap::error::ErrorKind;
 use lpt_command_line::{Unasked, WordFault};
 use lpt_tool::ToolFault;
 use std::alloc::{AllocError, Global};
+use std::io;
 
 /// What the program's status says.
 #[derive(Clone, Copy)]
@@ -78,10 +79,17 @@ pub fn told(rt: &impl Eprint, ended: Result<Status, Failure>) -> Status {
     status
 }
 
-/// Says on standard error where a fault is, and what is wrong there.
+/// Says on standard error where a fault is, and what is wrong there. A question mark stands for a
+/// character that would move a cursor: a path may have one.
 pub fn tell_place(rt: &impl Eprint, place: &str) {
     let _ = rt.eprint("lpt: ");
-    let _ = rt.eprintln(place);
+    let mut pieces = place.split(|letter: char| letter.is_control());
+    let _ = rt.eprint(pieces.next().unwrap_or(""));
+    for piece in pieces {
+        let _ = rt.eprint("?");
+        let _ = rt.eprint(piece);
+    }
+    let _ = rt.eprintln("");
 }
 
 // Names a fault on standard error, and gives the status that it ends by.
@@ -103,7 +111,7 @@ fn named(rt: &impl Eprint, fault: ToolFault) -> Status {
 /// that was printed: a usage fault, or the help or the version that was asked for.
 pub fn explained<R: Print + Eprint>(rt: &R, alloc: Global, unasked: &Unasked<'_>) -> Status {
     match unasked {
-        Unasked::Said(error) => said(rt, error),
+        Unasked::Said(error) => said(rt, alloc, error),
         Unasked::Fault(WordFault::Memory) => named(rt, ToolFault::Memory),
         Unasked::Fault(fault) => match fault.text(alloc) {
             Ok(text) => {
@@ -117,8 +125,9 @@ pub fn explained<R: Print + Eprint>(rt: &R, alloc: Global, unasked: &Unasked<'_>
     }
 }
 
-// The status by which the program ends that only had to say this, after it was printed.
-fn said<R: Print + Eprint>(rt: &R, error: &clap::Error) -> Status {
+// The status by which the program ends that only had to say this, after it was printed. Where
+// nobody reads it, nothing is reported of that.
+fn said<R: Print + Eprint>(rt: &R, alloc: Global, error: &clap::Error) -> Status {
     if error.kind() == ErrorKind::OutOfMemory {
         return named(rt, ToolFault::Memory);
     }
@@ -128,6 +137,10 @@ fn said<R: Print + Eprint>(rt: &R, error: &clap::Error) -> Status {
     }
     match printed {
         Ok(()) => Status::Done,
-        Err(_) => named(rt, ToolFault::Write),
+        Err(error) if error.kind() == io::ErrorKind::BrokenPipe => Status::Failed,
+        Err(error) => {
+            let place = format!(in alloc; "standard output: {error}");
+            told(rt, Err(Failure::at(ToolFault::Write, place)))
+        }
     }
 }

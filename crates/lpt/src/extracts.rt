@@ -1,15 +1,18 @@
 //! The octets of dump reports, from a file or standard input to standard output.
 
+use crate::counts::tell_no_packets;
 use crate::end::{Failure, Status, tell_place};
-use crate::input::{opened, packets_failure};
+use crate::input::{opened_packets, packets_end};
 use crate::streams::{finish, output};
-use lpt_capture::Captured;
 use lpt_command_line::ExtractWords;
-use lpt_extract::{ExtractEnd, Listener, Notice, Place, Span, Wanted, extract_stream};
+use lpt_extract::{
+    ExtractEnd, Extracted, Gap, Listener, Notice, Others, Place, Span, Tally, Wanted,
+    extract_stream,
+};
 use lpt_files::{Config, ToolFault};
 use std::alloc::{AllocError, Global};
 
-/// Standard error, which is told of each area.
+/// Standard error, which is told of each area, and of each report that isn't read.
 #[derive(Drop)]
 struct Telling<'a> {
     rt: &'a HostRuntime,
@@ -21,7 +24,7 @@ impl Listener for Telling<'_> {
     ghost heard = { λ _. None };
 
     fn tell(&mut self, notice: Notice) {
-        if let Ok(text) = notice_text(self.rt.alloc(), notice) {
+        if let Ok(Some(text)) = notice_text(self.rt.alloc(), notice) {
             tell_place(self.rt, text.as_str());
         }
     }
@@ -37,26 +40,24 @@ pub fn extract(
     words: &ExtractWords<'_>,
 ) -> Result<Status, Failure> {
     let Ok(at) = place(words) else {
-        tell_place(rt, "--from and --fill stand beside --at");
+        tell_place(rt, "--from, --fill and --whole stand beside --at");
         return Ok(Status::Unreadable);
     };
     let wanted = Wanted {
         apid: config.apid,
         at,
     };
-    let mut source = Captured::new(opened(rt, words.file)?);
+    let mut source = opened_packets(rt, &words.files, None, None)?;
     let mut out = output(rt)?;
     let mut telling = Telling { rt };
     let extracted = extract_stream(rt.alloc(), &wanted, &mut source, &mut out, &mut telling);
-    let failure = match extracted {
-        Err(ToolFault::Read) => Some(packets_failure(rt, &source, words.file)),
-        _ => None,
-    };
+    let failed = matches!(extracted, Err(ToolFault::Read));
+    let failure = packets_end(rt, &source, &words.files, failed);
     drop(source);
     finish(rt, out)?;
     match (extracted, failure) {
         (_, Some(failure)) => Err(failure),
-        (Ok(end), None) => extract_status(rt, &wanted, end),
+        (Ok(extracted), None) => extract_status(rt, &wanted, &extracted),
         (Err(fault), None) => Err(Failure::from(fault)),
     }
 }
@@ -70,28 +71,79 @@ fn place(words: &ExtractWords<'_>) -> Result<Option<Place>, ()> {
             memory,
             from: words.from.unwrap_or(0),
             fill: words.fill.unwrap_or(0),
+            whole: words.whole,
         })),
-        None if words.from.is_some() || words.fill.is_some() => Err(()),
+        None if words.from.is_some() || words.fill.is_some() || words.whole => Err(()),
         None => Ok(None),
     }
 }
 
-// The status of an extraction that ended so, after it was told why nothing was written.
-fn extract_status(rt: &HostRuntime, wanted: &Wanted, end: ExtractEnd) -> Result<Status, Failure> {
-    match end {
-        ExtractEnd::Written => Ok(Status::Done),
-        ExtractEnd::Nothing => {
-            if let Ok(text) = nothing_text(rt.alloc(), wanted) {
-                tell_place(rt, text.as_str());
-            }
-            Ok(Status::Refused)
+// The status of an extraction that ended so, after it was told why nothing was written, what is
+// missing, and what was no packet.
+fn extract_status(
+    rt: &HostRuntime,
+    wanted: &Wanted,
+    extracted: &Extracted,
+) -> Result<Status, Failure> {
+    match extracted.end {
+        ExtractEnd::Written => tell_gaps(rt, wanted, &extracted.gaps),
+        ExtractEnd::NotWhole => {
+            tell_place(rt, "nothing was written: the image isn't whole");
+            tell_gaps(rt, wanted, &extracted.gaps);
         }
+        ExtractEnd::Nothing => tell_nothing(rt, wanted, &extracted.tally),
+        ExtractEnd::TooLarge(_) => {}
+    }
+    tell_no_packets(rt, extracted.tally.damaged, extracted.tally.stray);
+    match extracted.end {
         ExtractEnd::TooLarge(size) => {
             let place = format!(in rt.alloc();
                 "an image of {size} octets isn't written: it has 268435456 at most, see --from"
             );
             Err(Failure::at(ToolFault::Memory, place))
         }
+        _ => Ok(if extracted.is_clean() {
+            Status::Done
+        } else {
+            Status::Refused
+        }),
+    }
+}
+
+// Tells of which addresses of the image no octets came.
+fn tell_gaps(rt: &HostRuntime, wanted: &Wanted, gaps: &[Gap]) {
+    let Some(Place { memory, .. }) = wanted.at else {
+        return;
+    };
+    for gap in gaps {
+        let Gap { first, last } = *gap;
+        let text = if first == last {
+            format!(in rt.alloc(); "memory {memory}: no octets came of {first}")
+        } else {
+            format!(in rt.alloc(); "memory {memory}: no octets came of {first}-{last}")
+        };
+        tell_text(rt, text);
+    }
+}
+
+// Tells that nothing was written, and which reports were of others than what is wanted.
+fn tell_nothing(rt: &HostRuntime, wanted: &Wanted, tally: &Tally) {
+    tell_text(rt, nothing_text(rt.alloc(), wanted));
+    for (others, of) in [(tally.apids, "APID"), (tally.memories, "memory")] {
+        let Others { count, first } = others;
+        if let Some(first) = first {
+            let text = format!(in rt.alloc();
+                "dump reports of another {of}: {count}, the first of {first}"
+            );
+            tell_text(rt, text);
+        }
+    }
+}
+
+// Tells a text, unless there was no memory for it.
+fn tell_text(rt: &HostRuntime, text: Result<String, AllocError>) {
+    if let Ok(text) = text {
+        tell_place(rt, text.as_str());
     }
 }
 
@@ -107,8 +159,8 @@ fn nothing_text(alloc: Global, wanted: &Wanted) -> Result<String, AllocError> {
     }
 }
 
-// What is reported of an area or a report. The only error is out of memory.
-fn notice_text(alloc: Global, notice: Notice) -> Result<String, AllocError> {
+// What is reported of an area or a report, where something is. The only error is out of memory.
+fn notice_text(alloc: Global, notice: Notice) -> Result<Option<String>, AllocError> {
     match notice {
         Notice::Taken(
             Span {
@@ -116,18 +168,30 @@ fn notice_text(alloc: Global, notice: Notice) -> Result<String, AllocError> {
                 address,
                 len,
             },
-        ) => format!(in alloc; "memory {memory}, address {address}: {len} octets"),
+        ) => {
+            let text = format!(in alloc; "memory {memory}, address {address}: {len} octets")?;
+            Ok(Some(text))
+        }
         Notice::WrongChecksum(
             Span {
                 memory,
                 address,
                 len,
             },
-        ) => format!(in alloc;
-            "memory {memory}, address {address}: {len} octets passed over: their checksum is wrong"
-        ),
-        Notice::Unread(len) => {
-            format!(in alloc; "a dump report passed over: its body of {len} octets isn't read")
+            place,
+        ) => {
+            let text = format!(in alloc;
+                "memory {memory}, address {address}: {len} octets passed over at octet {place}: \
+                their checksum is wrong"
+            )?;
+            Ok(Some(text))
         }
+        Notice::Unread(len, place) => {
+            let text = format!(in alloc;
+                "a dump report passed over at octet {place}: its body of {len} octets isn't read"
+            )?;
+            Ok(Some(text))
+        }
+        Notice::OtherMemory(_) | Notice::OtherApid(_) | Notice::Damaged | Notice::Stray => Ok(None),
     }
 }

@@ -1,9 +1,11 @@
 //! What is read: a file, or standard input for `-`.
 
-use crate::end::Failure;
+use crate::end::{Failure, tell_place};
+use crate::recalled::{Kept, Recalled, Script};
 use crate::watched::Watched;
 use lpt_capture::Captured;
 use lpt_files::{Told, ToolFault};
+use lpt_sources::{Chain, Span};
 use std::fs::File;
 use std::io::{self, Read, StdinLock};
 
@@ -31,23 +33,59 @@ impl Read for Input {
 /// Octets as they come from a file or standard input, which keeps why it failed.
 pub type Incoming = Told<Watched<Input>>;
 
-/// Octets of packets as they come: the records of a capture, or what is none as it is.
-pub type Packets = Captured<Incoming>;
+/// Octets of packets as they come, of files one behind the other, from one place up to another: of
+/// each file the records of a capture, or what is none as it is.
+pub type Packets = Span<Chain<Captured<Incoming>>>;
 
 /// The file at this path, or standard input for `-`, to be read.
 ///
 /// Errors: `Read` where it can't be opened.
 pub fn opened(rt: &HostRuntime, path: &str) -> Result<Incoming, Failure> {
+    Ok(Told::new(Watched::new(input_at(rt, path)?)))
+}
+
+/// The same of a script, of which so much is kept.
+///
+/// Errors: `Read` where it can't be opened.
+pub fn opened_script(rt: &HostRuntime, path: &str, kept: Kept) -> Result<Script, Failure> {
+    let input = input_at(rt, path)?;
+    Ok(Told::new(Watched::new(Recalled::new(rt.alloc(), input, kept))))
+}
+
+// The file at this path, or standard input for `-`.
+fn input_at(rt: &HostRuntime, path: &str) -> Result<Input, Failure> {
     if path == STANDARD {
-        return Ok(Told::new(Watched::new(Input::Standard(rt.reader()))));
+        return Ok(Input::Standard(rt.reader()));
     }
     match File::open(rt, path) {
-        Ok(file) => Ok(Told::new(Watched::new(Input::File(file)))),
+        Ok(file) => Ok(Input::File(file)),
         Err(error) => {
             let place = format!(in rt.alloc(); "{path}: {error}");
             Err(Failure::at(ToolFault::Read, place))
         }
     }
+}
+
+/// The octets of packets in the files at these paths, `-` for standard input, from a place up to
+/// another. All are opened before any is read.
+///
+/// Errors: `Read` where one can't be opened; `Memory`.
+pub fn opened_packets(
+    rt: &HostRuntime,
+    paths: &[&str],
+    from: Option<u64>,
+    to: Option<u64>,
+) -> Result<Packets, Failure> {
+    let mut sources = Vec::new(rt.alloc());
+    for path in paths {
+        let source = Captured::new(opened(rt, path)?);
+        if sources.push(source).is_err() {
+            return Err(Failure::from(ToolFault::Memory));
+        }
+    }
+    let before = from.unwrap_or(0);
+    let left = to.map(|to| to.saturating_sub(before));
+    Ok(Span::new(Chain::new(sources), before, left))
 }
 
 /// What is read at this path, as messages name it.
@@ -71,14 +109,41 @@ pub fn read_failure(rt: &HostRuntime, source: &Incoming, path: &str) -> Failure 
     }
 }
 
-/// Why the packets that are read at this path failed: what is wrong with the capture, or the read.
-pub fn packets_failure(rt: &HostRuntime, packets: &Packets, path: &str) -> Failure {
-    match packets.fault() {
+/// Why the packets that are read at these paths failed, where a read did. Else standard error is
+/// told which captures end within a record: what stands in front of that was read.
+pub fn packets_end(
+    rt: &HostRuntime,
+    packets: &Packets,
+    paths: &[&str],
+    failed: bool,
+) -> Option<Failure> {
+    if failed {
+        return Some(packets_failure(rt, packets, paths));
+    }
+    for (captured, path) in packets.source().sources().iter().zip(paths) {
+        if let Some(fault) = captured.fault() {
+            let name = name_of(path);
+            if let Ok(text) = format!(in rt.alloc(); "{name}: {fault}") {
+                tell_place(rt, text.as_str());
+            }
+        }
+    }
+    None
+}
+
+// Why the packets that are read at these paths failed: what is wrong with a capture, or the read.
+fn packets_failure(rt: &HostRuntime, packets: &Packets, paths: &[&str]) -> Failure {
+    let chain = packets.source();
+    let at = chain.place();
+    let (Some(captured), Some(path)) = (chain.sources().get(at), paths.get(at)) else {
+        return Failure::from(ToolFault::Read);
+    };
+    match captured.fault() {
         Some(fault) => {
             let name = name_of(path);
             let place = format!(in rt.alloc(); "{name}: {fault}");
             Failure::at(ToolFault::Read, place)
         }
-        None => read_failure(rt, packets.source(), path),
+        None => read_failure(rt, captured.source(), path),
     }
 }

@@ -3,13 +3,12 @@
 ghost use Rattle.lpt_files.specs.LptEvents.Configs.{IsConfig};
 
 use crate::end::{Failure, Status, tell_place};
-use crate::input::{Packets, opened, packets_failure};
+use crate::input::{Packets, opened_packets, packets_end};
 use crate::streams::{Output, finish, output};
-use lpt_capture::Captured;
 use lpt_command_line::JoinWords;
 use lpt_files::{
-    Came, Config, Direction, Gatherings, JoinEnd, Joining, Name, ToolFault, Transaction,
-    join_message, join_only, missing_list,
+    Came, Config, Direction, Gatherings, JoinEnd, JoinReport, Joining, Misfit, Name, Reading,
+    Skips, ToolFault, Transaction, check_message, join_message, join_only, missing_list,
 };
 use lpt_tool::name_word;
 use std::alloc::{AllocError, Global};
@@ -18,9 +17,9 @@ use std::alloc::{AllocError, Global};
 #[derive(Drop)]
 enum Joined {
     /// Of the transaction that was asked for.
-    One(Name, JoinEnd, Came),
+    One(Name, JoinReport),
     /// Of all, where none was.
-    Each(Option<JoinEnd>, Gatherings),
+    Each(Option<JoinEnd>, Gatherings, Skips),
 }
 
 /// Writes the message that packets carry.
@@ -30,18 +29,18 @@ enum Joined {
 pub fn join(rt: &HostRuntime, config: &Config, words: &JoinWords<'_>) -> Result<Status, Failure>
     requires { IsConfig config.now }
 {
-    let mut source = Captured::new(opened(rt, words.file)?);
+    let mut source = opened_packets(rt, &words.files, words.span.from, words.span.to)?;
     let mut out = output(rt)?;
     let joined = join_packets(rt.alloc(), config, words, &mut source, &mut out);
-    let failure = match &joined {
-        Err(ToolFault::Read) => Some(packets_failure(rt, &source, words.file)),
-        _ => None,
-    };
+    let failed = matches!(joined, Err(ToolFault::Read));
+    let failure = packets_end(rt, &source, &words.files, failed);
     drop(source);
     finish(rt, out)?;
     match (joined, failure) {
         (_, Some(failure)) => Err(failure),
-        (Ok(joined), None) => told(rt, config, words, &joined),
+        (Ok(joined), None) => told(rt, config, words, &joined).map_err(|_| Failure::from(
+            ToolFault::Memory,
+        )),
         (Err(fault), None) => Err(Failure::from(fault)),
     }
 }
@@ -65,31 +64,79 @@ fn join_packets(
         part_size: config.part_size,
     };
     if given.is_some() {
-        let (end, came) = join_message(alloc, &transaction, source, out)?;
-        return Ok(Joined::One(name, end, came));
+        let report = join_message(alloc, &transaction, words.any, source, out)?;
+        return Ok(Joined::One(name, report));
     }
-    let (end, gatherings) = join_only(alloc, &transaction, source, out)?;
-    Ok(Joined::Each(end, gatherings))
+    let (end, gatherings, skips) = join_only(alloc, &transaction, words.any, source, out)?;
+    Ok(Joined::Each(end, gatherings, skips))
 }
 
-// The status of a join that ended so, after it was told what isn't whole.
+// The status of a join that ended so, after it was told what isn't whole, or isn't all, and where
+// nothing was written, what was passed over. The only error is out of memory.
 fn told(
     rt: &HostRuntime,
     config: &Config,
     words: &JoinWords<'_>,
     joined: &Joined,
-) -> Result<Status, Failure> {
-    let told = match joined {
-        Joined::One(_, JoinEnd::Written(_), _) => return Ok(Status::Done),
-        Joined::Each(Some(JoinEnd::Written(_)), _) => return Ok(Status::Done),
-        Joined::One(name, JoinEnd::Missing, came) => tell_missing(rt, config, words, *name, came),
-        Joined::One(name, JoinEnd::BrokenOff, _) => tell_broken(rt, config, words, *name),
-        Joined::Each(_, gatherings) => tell_each(rt, config, words, gatherings),
+) -> Result<Status, AllocError>
+    requires { IsConfig config.now }
+{
+    let (status, end, name, skips) = match joined {
+        Joined::One(name, report) => {
+            let (came, against) = (&report.came, report.against);
+            let status = tell_end(rt, config, words, *name, report.end, came, against)?;
+            (status, Some(report.end), Some(*name), &report.skips)
+        }
+        Joined::Each(end, gatherings, skips) => {
+            let status = tell_only(rt, config, words, *end, gatherings)?;
+            (status, *end, None, skips)
+        }
     };
-    match told {
-        Ok(()) => Ok(Status::Refused),
-        Err(_) => Err(Failure::from(ToolFault::Memory)),
+    if let Some(JoinEnd::Written(_)) = end {
+        return Ok(status);
     }
+    tell_skips(rt, config, words, name, skips)?;
+    Ok(status)
+}
+
+/// Says on standard error what was passed over, and why, where parts of this name were wanted, or
+/// of any. The only error is out of memory.
+pub fn tell_skips(
+    rt: &HostRuntime,
+    config: &Config,
+    words: &JoinWords<'_>,
+    name: Option<Name>,
+    skips: &Skips,
+) -> Result<(), AllocError>
+    requires { IsConfig config.now }
+{
+    let reading = Reading {
+        direction: words.direction,
+        apid: config.apid,
+        part_size: config.part_size,
+        name,
+    };
+    for line in skips.lines(rt.alloc(), &reading, config.source)? {
+        tell_place(rt, line.as_str());
+    }
+    Ok(())
+}
+
+// What is told of a join that takes the only transaction there is. The only error is out of memory.
+fn tell_only(
+    rt: &HostRuntime,
+    config: &Config,
+    words: &JoinWords<'_>,
+    end: Option<JoinEnd>,
+    gatherings: &Gatherings,
+) -> Result<Status, AllocError> {
+    let only = gatherings.kept.first_key_value();
+    if let (Some(end), Some((name, gathering))) = (end, only) {
+        let came = &gathering.came;
+        return tell_end(rt, config, words, *name, end, came, gathering.against);
+    }
+    tell_each(rt, config, words, gatherings)?;
+    Ok(Status::Refused)
 }
 
 // Says of each transaction what isn't whole. The only error is out of memory.
@@ -107,17 +154,14 @@ fn tell_each(
         );
     }
     for (name, gathering) in gatherings.kept.iter() {
-        match &gathering.joining {
-            Joining::Complete(_) => {
-                let id = name_word(config.source, *name);
-                let text = format!(in rt.alloc(); "{direction} {id}: whole, --id {id} writes it");
-                tell(rt, text)?;
-            }
-            Joining::BrokenOff => tell_broken(rt, config, words, *name)?,
-            Joining::Nothing | Joining::Missing(_) => {
-                tell_missing(rt, config, words, *name, &gathering.came)?;
-            }
+        let end = end_of(words, &gathering.joining);
+        if let JoinEnd::Written(_) = end {
+            let id = name_word(config.source, *name);
+            let text = format!(in rt.alloc(); "whole, --id {id} writes it");
+            tell_of(rt, config, words, *name, text)?;
         }
+        let came = &gathering.came;
+        tell_end(rt, config, words, *name, end, came, gathering.against)?;
     }
     if gatherings.has_more {
         let text = "others: --id tells of them";
@@ -126,8 +170,83 @@ fn tell_each(
     Ok(())
 }
 
-// Says on standard error which parts are missing. The only error is out of memory.
-fn tell_missing(
+// How the join of a transaction would end.
+fn end_of(words: &JoinWords<'_>, joining: &Joining) -> JoinEnd {
+    match joining {
+        Joining::Nothing | Joining::Missing(_) => JoinEnd::Missing,
+        Joining::BrokenOff => JoinEnd::BrokenOff,
+        Joining::Complete(message) => {
+            let octets = message.as_slice();
+            match check_message(words.direction, octets) {
+                Err(misfit) if !words.any => JoinEnd::Unfit(misfit),
+                _ => JoinEnd::Written(octets.len()),
+            }
+        }
+    }
+}
+
+// Says how the join of a transaction ended, where not all of it is well, and gives the status of
+// that. The only error is out of memory.
+fn tell_end(
+    rt: &HostRuntime,
+    config: &Config,
+    words: &JoinWords<'_>,
+    name: Name,
+    end: JoinEnd,
+    came: &Came,
+    against: Option<u64>,
+) -> Result<Status, AllocError> {
+    match end {
+        JoinEnd::Written(_) if words.first => return Ok(Status::Done),
+        JoinEnd::Written(_) if against.is_none() => return Ok(Status::Done),
+        JoinEnd::Written(_) | JoinEnd::BrokenOff => {}
+        JoinEnd::Unfit(misfit) => tell_unfit(rt, config, words, name, misfit)?,
+        JoinEnd::Missing => tell_missing(rt, config, words, name, came)?,
+    }
+    if let Some(behind) = against {
+        let place = behind.saturating_add(words.span.from.unwrap_or(0));
+        let text = match end {
+            JoinEnd::BrokenOff => contradicting(rt.alloc(), place),
+            _ => foreign(rt.alloc(), place),
+        };
+        tell_of(rt, config, words, name, text)?;
+    }
+    Ok(Status::Refused)
+}
+
+// That the part at this place broke a message off.
+fn contradicting(alloc: Global, place: u64) -> Result<String, AllocError> {
+    format!(in alloc; "broken off: the part at octet {place} contradicts those before it")
+}
+
+// That the parts from this place on aren't all of the message.
+fn foreign(alloc: Global, place: u64) -> Result<String, AllocError> {
+    format!(in alloc; "parts of another message of this name come from octet {place} on")
+}
+
+/// Says on standard error that what was joined isn't written, and why. The only error is out of
+/// memory.
+pub fn tell_unfit(
+    rt: &HostRuntime,
+    config: &Config,
+    words: &JoinWords<'_>,
+    name: Name,
+    misfit: Misfit,
+) -> Result<(), AllocError> {
+    let joined = "what was joined is no packet";
+    let text = match misfit {
+        Misfit::NoPacket(fault) => {
+            let code = fault.code();
+            let word = fault.name();
+            format!(in rt.alloc(); "{joined}: fault {code} {word}")
+        }
+        Misfit::OtherKind => format!(in rt.alloc(); "{joined} of its direction"),
+    };
+    tell_of(rt, config, words, name, text)
+}
+
+/// Says on standard error which parts are missing. The only error is out of memory.
+pub fn tell_missing(
     rt: &HostRuntime,
     config: &Config,
     words: &JoinWords<'_>,
@@ -135,36 +254,33 @@ fn tell_missing(
     came: &Came,
 ) -> Result<(), AllocError> {
     let list = missing_list(rt.alloc(), came)?;
-    let direction = word_of(words.direction);
-    let id = name_word(config.source, name);
-    tell(
-        rt,
-        format!(in rt.alloc(); "{direction} {id}: missing parts: {list}"),
-    )
+    let text = format!(in rt.alloc(); "missing parts: {list}");
+    tell_of(rt, config, words, name, text)
 }
 
-// Says on standard error that a transaction was aborted. The only error is out of memory.
-fn tell_broken(
+// Says this of a transaction on standard error, where there was memory for it.
+fn tell_of(
     rt: &HostRuntime,
     config: &Config,
     words: &JoinWords<'_>,
     name: Name,
+    text: Result<String, AllocError>,
 ) -> Result<(), AllocError> {
+    let text = text?;
     let direction = word_of(words.direction);
     let id = name_word(config.source, name);
-    let text = "broken off: a part contradicts those before it";
     tell(rt, format!(in rt.alloc(); "{direction} {id}: {text}"))
 }
 
-// Says this on standard error, where there was memory for it.
-fn tell(rt: &HostRuntime, text: Result<String, AllocError>) -> Result<(), AllocError> {
+/// Says this on standard error, where there was memory for it.
+pub fn tell(rt: &HostRuntime, text: Result<String, AllocError>) -> Result<(), AllocError> {
     let text = text?;
     tell_place(rt, text.as_str());
     Ok(())
 }
 
-// The word of a direction.
-fn word_of(direction: Direction) -> &'static str {
+/// The word of a direction.
+pub fn word_of(direction: Direction) -> &'static str {
     match direction {
         Direction::Up => "up",
         Direction::Down => "down",

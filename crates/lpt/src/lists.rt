@@ -3,12 +3,11 @@
 ghost use Rattle.lpt_files.specs.LptEvents.Configs.{IsConfig};
 
 use crate::end::{Failure, Status, tell_place};
-use crate::input::{opened, packets_failure};
+use crate::input::{opened_packets, packets_end};
 use crate::streams::{finish, output};
-use lpt_capture::Captured;
 use lpt_command_line::ListWords;
 use lpt_files::{Config, ToolFault};
-use lpt_list::{Form, ListEnd, list_stream};
+use lpt_list::{Form, ListEnd, Listed, Tally, list_stream};
 
 /// Lists the packets of a stream.
 ///
@@ -18,32 +17,47 @@ pub fn list(rt: &HostRuntime, config: &Config, words: &ListWords<'_>) -> Result<
     requires { IsConfig config.now }
 {
     let form = if words.json { Form::Json } else { Form::Text };
-    let size = config.part_size;
-    let mut source = Captured::new(opened(rt, words.file)?);
+    let (size, strict) = (config.part_size, words.strict);
+    let from = words.span.from.unwrap_or(0);
+    let mut source = opened_packets(rt, &words.files, words.span.from, words.span.to)?;
     let mut out = output(rt)?;
-    let listed = list_stream(rt.alloc(), form, size, words.strict, &mut source, &mut out);
-    let failure = match listed {
-        Err(ToolFault::Read) => Some(packets_failure(rt, &source, words.file)),
-        _ => None,
-    };
+    let listed = list_stream(rt.alloc(), form, size, strict, from, &mut source, &mut out);
+    let failed = matches!(listed, Err(ToolFault::Read));
+    let failure = packets_end(rt, &source, &words.files, failed);
     drop(source);
     finish(rt, out)?;
     match (listed, failure) {
         (_, Some(failure)) => Err(failure),
-        (Ok(end), None) => Ok(list_status(rt, end)),
+        (Ok(listed), None) => Ok(list_status(rt, listed)),
         (Err(fault), None) => Err(Failure::from(fault)),
     }
 }
 
-// The status of a list that ended so, after it was told where no packet is.
-fn list_status(rt: &HostRuntime, end: ListEnd) -> Status {
-    match end {
-        ListEnd::Whole => Status::Done,
+// The status of a list that ended so, after it was told where no packet is, or how much is none.
+fn list_status(rt: &HostRuntime, listed: Listed) -> Status {
+    match listed.end {
+        ListEnd::Whole => {
+            tell_tally(rt, listed.tally);
+            Status::Done
+        }
         ListEnd::Stopped(place) => {
             if let Ok(text) = format!(in rt.alloc(); "octet {place}: no packet") {
                 tell_place(rt, text.as_str());
             }
             Status::Refused
         }
+    }
+}
+
+// Tells how much of a stream is no packet, where something is.
+fn tell_tally(rt: &HostRuntime, tally: Tally) {
+    let Tally { damaged, stray } = tally;
+    if damaged == 0 && stray == 0 {
+        return;
+    }
+    if let Ok(text) = format!(in rt.alloc();
+        "damaged packets: {damaged}, octets that are no packet: {stray}"
+    ) {
+        tell_place(rt, text.as_str());
     }
 }

@@ -1,6 +1,6 @@
-//! `lpt`: runs scripts of large packet transfer, answers their lines one by one, draws what they did,
-//! splits messages into packets and joins them, writes requests to a memory, and says what octets and
-//! streams are as packets.
+//! `lpt`: runs scripts of large packet transfer, answers their lines one by one, draws what they
+//! did, splits messages into packets and joins them, writes requests to a memory, and says what
+//! octets and streams are as packets.
 //!
 //! It reads its words, its files and its input, and prints; what is done with them stands in the
 //! crates below.
@@ -8,7 +8,9 @@
 
 mod charting;
 mod configuration;
+mod counts;
 mod decoding;
+mod eaches;
 mod end;
 mod extracts;
 mod files;
@@ -16,6 +18,7 @@ mod input;
 mod joins;
 mod linting;
 mod lists;
+mod recalled;
 mod requests;
 mod shelling;
 mod streams;
@@ -86,7 +89,10 @@ fn done<T: Threads + Wait + Sync>(
         Command::Decode(hex) => decoding::decode(rt, config, hex),
         Command::List(words) => lists::list(rt, &config, words),
         Command::Split(words) => files::split(rt, &config, words),
-        Command::Join(words) => joins::join(rt, &config, words),
+        Command::Join(words) => match words.each {
+            Some(folder) => eaches::join_each(rt, &config, words, folder),
+            None => joins::join(rt, &config, words),
+        },
         Command::Extract(words) => extracts::extract(rt, &config, words),
         Command::Request(words) => requests::request(rt, &config, words),
     }

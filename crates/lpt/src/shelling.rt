@@ -1,6 +1,6 @@
 //! A shell, with a prompt where a terminal is.
 
-use crate::input::Incoming;
+use crate::recalled::Script;
 use crate::streams::Output;
 use lpt_drawing::run_shell;
 use lpt_tool::{Config, Memories, ScriptEnd, ToolFault};
@@ -9,18 +9,22 @@ use std::io::IsTerminal;
 /// What a shell writes before each line, where standard input is a terminal.
 const PROMPT: &str = "lpt> ";
 
-/// Answers the lines of standard input on a new world of these memories. How that ended, as a run does:
-/// a line that is unreadable counts as one that is refused.
+/// What standard error says before the first of them.
+const GREETING: &str = "help lists the lines; exit or Ctrl-D ends";
+
+/// Answers the lines of standard input on a new world of these memories. How that ended, as a run
+/// does: a line that is unreadable counts as one that is refused.
 ///
 /// Errors: `Read` where it can't be read, `Write` where a write failed, `Memory`.
 pub fn answer_lines(
     rt: &HostRuntime,
     config: Config,
     memories: Memories,
-    source: &mut Incoming,
+    source: &mut Script,
     out: &mut Output<'_>,
 ) -> Result<ScriptEnd, ToolFault> {
     let prompt = if rt.reader().is_terminal() {
+        let _ = rt.eprintln(GREETING);
         PROMPT
     } else {
         ""

@@ -19,20 +19,10 @@ pub fn output(rt: &HostRuntime) -> Result<Output<'_>, ToolFault> {
     }
 }
 
-/// Writes what the output has kept back, and gives why that failed, or a write before it.
+/// Writes what the output has kept back, and gives why that failed, or a write before it. Where
+/// nobody reads the output any more, nothing is reported of it.
 ///
 /// Errors: `Write`.
-pub fn flush(rt: &HostRuntime, mut out: Output<'_>) -> Result<(), Failure> {
-    let flushed = flush_out(&mut out);
-    let failure = write_failure(rt, out.inner().get_ref(), flushed);
-    drop(out);
-    match failure {
-        None => Ok(()),
-        Some(failure) => Err(failure),
-    }
-}
-
-/// As `flush`; but where nobody reads the output any more, nothing is reported of it.
 pub fn finish(rt: &HostRuntime, mut out: Output<'_>) -> Result<(), Failure> {
     let flushed = flush_out(&mut out);
     let writer = out.inner().get_ref();

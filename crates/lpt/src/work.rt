@@ -1,12 +1,15 @@
 //! Scripts run, with threads behind them and without.
 
 use crate::end::{Failure, Status, tell_place};
-use crate::input::{Incoming, name_of, opened};
+use crate::input::{name_of, opened_script};
+use crate::linting::tell_unreadable;
+use crate::recalled::{Kept, Script};
 use crate::shelling::answer_lines;
-use crate::streams::{flush, output};
+use crate::streams::{finish, output};
 use lpt_tool::{
     Config, Memories, ScriptEnd, ThreadsEnd, ToolFault, Turns, run_script, run_threads_script,
 };
+use std::io;
 use std::sync::Wait;
 use std::thread::Threads;
 
@@ -23,8 +26,9 @@ pub enum Way {
 
 /// Runs a script on a new world of these memories: the one at this path, or standard input for `-`.
 ///
-/// Errors: `Line` at an unreadable line; `Read` where the script can't be opened or read, `Write`
-/// where a write failed, `Memory`, `Threads` where the threads failed.
+/// Errors: `Line` at an unreadable line, after standard error was told why it is; `Read` where the
+/// script can't be opened or read, `Write` where a write failed, `Memory`, `Threads` where the
+/// threads failed.
 pub fn run<T: Threads + Wait + Sync>(
     rt: &HostRuntime,
     threads: &T,
@@ -33,7 +37,7 @@ pub fn run<T: Threads + Wait + Sync>(
     way: Way,
     script: &str,
 ) -> Result<Status, Failure> {
-    let mut source = match opened(rt, script) {
+    let mut source = match opened_script(rt, script, Kept::Last) {
         Ok(source) => source,
         Err(failure) => {
             drop(memories);
@@ -48,15 +52,15 @@ pub fn run<T: Threads + Wait + Sync>(
     status
 }
 
-// Runs the lines of a script, and writes what the output has kept back: how the run ended, or why the
-// output can't be written.
+// Runs the lines of a script, and writes what the output has kept back: how the run ended, or why
+// the output can't be written.
 fn lines_run<T: Threads + Wait + Sync>(
     rt: &HostRuntime,
     threads: &T,
     config: Config,
     memories: Memories,
     way: Way,
-    source: &mut Incoming,
+    source: &mut Script,
 ) -> Result<Result<ScriptEnd, ToolFault>, Failure> {
     let mut out = match output(rt) {
         Ok(out) => out,
@@ -74,14 +78,14 @@ fn lines_run<T: Threads + Wait + Sync>(
             told_full(rt, turns, ran)
         }
     };
-    match flush(rt, out) {
+    match finish(rt, out) {
         Ok(()) => Ok(ran),
         Err(failure) => Err(failure),
     }
 }
 
-// How the lines of a script with threads ended, after standard error was told which seats reached their
-// limit.
+// How the lines of a script with threads ended, after standard error was told which seats reached
+// their limit.
 fn told_full(
     rt: &HostRuntime,
     turns: Turns,
@@ -127,10 +131,27 @@ fn seat_words(seat: u8) -> &'static str {
     }
 }
 
-// How the run of a script at this path ends.
+// How the run of a script at this path ends, after it was told why its last line is unreadable,
+// where it is.
 pub(crate) fn status_at_end(
     rt: &HostRuntime,
-    source: &Incoming,
+    source: &Script,
+    path: &str,
+    ran: Result<ScriptEnd, ToolFault>,
+) -> Result<Status, Failure> {
+    let watched = source.inner();
+    if let Err(ToolFault::Line(number)) = ran {
+        if let Some(line) = watched.inner().line(number) {
+            tell_unreadable(rt, path, number, line);
+        }
+    }
+    status_after(rt, watched.error(), path, ran)
+}
+
+// The same, where a read failed of this error or none did.
+pub(crate) fn status_after(
+    rt: &HostRuntime,
+    error: Option<&io::Error>,
     path: &str,
     ran: Result<ScriptEnd, ToolFault>,
 ) -> Result<Status, Failure> {
@@ -138,7 +159,7 @@ pub(crate) fn status_at_end(
         Ok(end) => Ok(status_of(end.refused > 0)),
         Err(ToolFault::Read) => {
             let name = name_of(path);
-            let place = match source.inner().error() {
+            let place = match error {
                 Some(error) => format!(in rt.alloc(); "{name}: {error}"),
                 None => format!(in rt.alloc(); "{name}: more than 16777216 octets"),
             };

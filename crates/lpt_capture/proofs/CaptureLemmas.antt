@@ -5,8 +5,8 @@ use Rattle.std.proofs.lemmas.List.{get_or_append_left}
 use Rattle.std.proofs.Math.Seq.{drop-append-add, take-append-add, drop-append-le}
 use Rattle.lpt_packet.specs.Sizes.{longest_packet}
 use Rattle.lpt_capture.specs.declared.fault.CaptureFault.{CaptureFault}
-use Rattle.lpt_capture.specs.declared.fault.CaptureFault.TheVariants.{Short, LinkType, Size}
-use Rattle.lpt_capture.specs.Captured.{Finding, sound, broken, before, number_at, begins_so, order_of, in_record, place_behind, some_records, records_of, found_by, found_in}
+use Rattle.lpt_capture.specs.declared.fault.CaptureFault.TheVariants.{Header, Short, LinkType, Size, Pcapng}
+use Rattle.lpt_capture.specs.Captured.{Finding, sound, broken, before, number_at, begins_so, order_of, in_record, place_behind, some_records, records_of, is_pcapng, found_by, found_in}
 
 -- ---- the octets in front
 
@@ -73,15 +73,21 @@ none-left at b others =
     let whole = lt-false (length b) 0 (omega arith) in
     rw whole refl
 
--- octets that are no capture are found as they are
-pub plain_front : (h b : List ℕ)
+-- octets that are no capture are found as they are, unless they are one of another form
+pub other_front : (h b : List ℕ)
     → order_of h ≡ None
     → (length h < 4 → b ≡ [])
-    → found_in (h ++ b) ≡ sound (h ++ b)
+    → found_in (h ++ b) ≡ (if is_pcapng h then broken [] Pcapng else sound (h ++ b))
 unfolding found_in
-plain_front h b plain short =
-    ⊎_elim (λ less. ap (λ o. found_by o (h ++ b)) (ap order_of (none-behind h b (short less)) ∙ plain))
-    (λ more. ap (λ o. found_by o (h ++ b)) (order-front h b more ∙ plain))
+other_front h b plain short =
+    ⊎_elim (λ less.
+    let same = none-behind h b (short less) in
+    ap (λ o. found_by o (h ++ b)) (ap order_of same ∙ plain)
+    ∙ ap (λ (other : Bool). if other then broken [] Pcapng else sound (h ++ b)) (ap is_pcapng same))
+    (λ more.
+    ap (λ o. found_by o (h ++ b)) (order-front h b more ∙ plain)
+    ∙ ap (λ (other : Bool). if other then broken [] Pcapng else sound (h ++ b))
+    (begins-front 0x0a 0x0d 0x0d 0x0a h b more))
     (cases_lt (length h) 4)
 
 -- a capture whose header is whole
@@ -128,7 +134,7 @@ pub capture_short : (t : Bool) (h b : List ℕ)
     → order_of h ≡ Some t
     → length h < 24
     → b ≡ []
-    → found_in (h ++ b) ≡ broken [] (Short 0)
+    → found_in (h ++ b) ≡ broken [] Header
 unfolding found_in
 capture_short t h b is short none =
     let less = lt-true (length h) 24 short in

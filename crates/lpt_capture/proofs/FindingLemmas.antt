@@ -3,10 +3,10 @@ use Rattle.std.proofs.Common.{◌≡◌, ◌∙◌, ap, sym, subst, refl, ℕ, �
 use Rattle.std.specs.Option.{option_map}
 use Rattle.std.specs.Io.KnownBytes.{Consumes, IsAtEnd, Keeps, prepend_known}
 use Rattle.lpt_capture.specs.declared.place.Place.{Place}
-use Rattle.lpt_capture.specs.declared.place.Place.TheVariants.{Front, Plain}
-use Rattle.lpt_capture.specs.Captured.{Finding, sound, before, found_in, in_record, order_of}
-use Rattle.lpt_capture.specs.States.{Gives, IsDone, found_at, front_size, octets_of}
-use Rattle.lpt_capture.proofs.CaptureLemmas.{plain_front, record_given}
+use Rattle.lpt_capture.specs.declared.place.Place.TheVariants.{Front}
+use Rattle.lpt_capture.specs.Captured.{Finding, before, found_in, in_record}
+use Rattle.lpt_capture.specs.States.{Gives, IsDone, found_at, octets_of}
+use Rattle.lpt_capture.proofs.CaptureLemmas.{record_given}
 
 -- before nothing
 before-nil : (f : Finding) → before [] f ≡ f
@@ -53,28 +53,21 @@ gives-consumed f g None b xs h made = tt
 gives-consumed f g (Some x) None xs h made = absurd h
 gives-consumed f g (Some x) (Some y) xs h made = ap f h ∙ made y
 
--- at the end
-pub done-end : (g : List ℕ → Finding) (b : Option (List ℕ))
-    → IsAtEnd b
-    → g [] ≡ sound []
-    → IsDone (option_map g b)
-done-end g None h none = tt
-done-end g (Some y) h none = ap g h ∙ none
-
--- a front that is no capture's, of which enough is held
-pub plain-found : (p : Place) (a : Option (List ℕ)) (h : List ℕ) (rest : Option (List ℕ))
+-- what is found of a front of which so many octets are held, or all; k of them are left
+pub front-found : (p q : Place) (a : Option (List ℕ)) (h k : List ℕ) (rest : Option (List ℕ))
+    → (n : ℕ)
     → p ≡ Front
     → Keeps a (prepend_known h rest)
-    → order_of h ≡ None
-    → (length h < front_size (order_of h) → IsAtEnd rest)
-    → Gives (option_map (found_at p) a) (option_map (found_at Plain) (prepend_known h rest)) []
-plain-found p a h rest place same plain end =
+    → (length h < n → IsAtEnd rest)
+    → ((b : List ℕ) → (length h < n → b ≡ []) → found_in (h ++ b) ≡ found_at q (k ++ b))
+    → Gives (option_map (found_at p) a) (option_map (found_at q) (prepend_known k rest)) []
+front-found p q a h k rest n place same end found =
+    let ahead = option_map found_in (prepend_known h rest) in
     let kept = gives-kept found_in a (prepend_known h rest) same in
-    let front : Gives (option_map (found_at p) a) (option_map found_in (prepend_known h rest)) [] =
-    subst (λ q. Gives (option_map (found_at q) a) (option_map found_in (prepend_known h rest)) []) (sym place) kept in
+    let front : Gives (option_map (found_at p) a) ahead [] =
+    subst (λ r. Gives (option_map (found_at r) a) ahead []) (sym place) kept in
     gives-trans _ _ _ front
-    (gives-behind found_in (found_at Plain) h h rest
-    (λ b ended. plain_front h b plain (λ short. ended (end (subst (λ o. length h < front_size o) (sym plain) short)))))
+    (gives-behind found_in (found_at q) h k rest (λ b ended. found b (λ short. ended (end short))))
 
 -- octets of a record are given
 pub record-found : (f g : List ℕ → Finding) (at left : ℕ) (others : List ℕ → Finding) (a b : Option (List ℕ)) (xs zs : List ℕ)
@@ -107,4 +100,4 @@ keeps-given (Some f) (Some g) h = sym (ap octets_of h)
 
 pub end-done : (b : Option Finding) → IsDone b → IsAtEnd (option_map octets_of b)
 end-done None h = tt
-end-done (Some f) h = ap octets_of h
+end-done (Some f) h = h.0

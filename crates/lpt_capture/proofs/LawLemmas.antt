@@ -1,23 +1,25 @@
 -- What was written as a capture is found in it.
-use Rattle.std.proofs.Common.{◌≡◌, ◌∙◌, ap, refl, ⊎_elim, ℕ, ◌+◌, ◌-◌, ◌*◌, ◌<◌, ◌≤◌, ◌&&◌, nat_le, Bool, true, false, List, [], ◌∷◌, ◌++◌, length, drop, slice_index, None, arith, append_assoc}
+use Rattle.std.proofs.Common.{◌≡◌, ◌∙◌, ap, refl, ⊎_elim, ℕ, ◌+◌, ◌-◌, ◌*◌, ◌<◌, ◌≤◌, ◌&&◌, nat_le, if◌then◌else◌, sym, Bool, true, false, List, [], ◌∷◌, ◌++◌, length, drop, slice_index, None, arith, append_assoc}
 use Rattle.std.specs.List.{flat_map}
 use Rattle.std.proofs.lemmas.Bool.{ne_eqb, le-ltb}
 use Rattle.std.proofs.lemmas.List.{get_or_append_left}
 use Rattle.lpt_packet.specs.declared.packet.PacketKind.{PacketKind}
 use Rattle.lpt_packet.specs.declared.packet.PacketKind.TheVariants.{Tm, Tc}
 use Rattle.lpt_packet.specs.Numbers.{word_at}
-use Rattle.lpt_packet.specs.Packets.{Fields, IsPacket, IsIdle, packet_type}
+use Rattle.lpt_packet.specs.Packets.{Fields, IsPacket, IsIdle, packet_type, spelling}
+use Rattle.lpt_packet.specs.Ranges.{InRange}
 use Rattle.lpt_packet.specs.Sizes.{longest_packet}
 use Rattle.lpt_packet.proofs.Codec.{length-spelling, word_at-0}
 use Rattle.lpt_stream.specs.Captures.{capture_header, record_header, record_of, capture_of}
 use Rattle.lpt_stream.specs.Streams.{IsPacketOrIdle, IsStream, all_octets}
-use Rattle.lpt_capture.specs.Captured.{Finding, sound, before, number_at, order_of, begins_so, in_record, place_behind, records_of, found_by, found_in}
+use Rattle.lpt_capture.specs.declared.fault.CaptureFault.TheVariants.{Pcapng}
+use Rattle.lpt_capture.specs.Captured.{Finding, sound, broken, before, number_at, order_of, begins_so, is_pcapng, in_record, place_behind, records_of, found_by, found_in}
 use Rattle.lpt_capture.proofs.CaptureLemmas.{capture_whole, record_whole, record_given, no-records, none-left}
 
 -- ---- sizes
 
 record IsSized (n : ℕ) : Type 0 where
-  some : 0 < n
+  some : 7 ≤ n
   most : n ≤ 65542
 
 sized-packet : (b : List ℕ) (f : Fields) → IsPacket b f → IsSized (length b)
@@ -130,14 +132,51 @@ no-capture b small =
     let s = not-so 0x4d 0x3c 0xb2 0xa1 b small (omega arith) in
     rw (p, q, r, s) refl
 
+third-octet : (f : Fields) → InRange f.apid f.count f.octets → 192 ≤ slice_index (spelling f) 2
+unfolding spelling
+third-octet f r = omega (arith, r.count_fits)
+
+-- the two flags of a packet's sequence are set, so its third octet isn't 13
+other-packet : (b : List ℕ) (f : Fields) → IsPacket b f → slice_index b 2 ≡ 13 → ⊥
+other-packet b f h third =
+    let same : slice_index b 2 ≡ slice_index (spelling f) 2 = ap (λ x. slice_index x 2) h.spelled in
+    omega (arith, third, same, third-octet f h.ranges)
+
+-- the APID of an idle one is 2047, so it doesn't begin with 10 and 13
+other-idle : (b : List ℕ) → IsIdle b → slice_index b 0 ≡ 10 → slice_index b 1 ≡ 13 → ⊥
+other-idle b h first second =
+    let apid = h.apid in
+    omega (arith, apid, first, second)
+
+other-kind : (b : List ℕ) → IsPacketOrIdle b
+    → slice_index b 0 ≡ 10
+    → slice_index b 1 ≡ 13
+    → slice_index b 2 ≡ 13
+    → ⊥
+other-kind b h p q r =
+    ⊎_elim (λ packet. other-packet b packet.0 packet.1 r) (λ idle. other-idle b idle.0 p q) h
+
+not-pcapng : (b : List ℕ)
+    → (slice_index b 0 ≡ 10 → slice_index b 1 ≡ 13 → slice_index b 2 ≡ 13 → ⊥)
+    → is_pcapng b ≡ false
+not-pcapng b other = grind arith
+
 pub stream_read : (packets : List (List ℕ))
     → IsStream packets
     → found_in (all_octets packets) ≡ sound (all_octets packets)
 unfolding found_in
 stream_read [] h = refl
 stream_read (p ∷ ps) h =
-    let some = (sized p h.0).some in
-    let front : slice_index (p ++ all_octets ps) 0 ≡ slice_index p 0 = get_or_append_left p (all_octets ps) 0 0 some in
-    let first = first-small p h.0 in
-    ap (λ o. found_by o (p ++ all_octets ps))
-    (no-capture (p ++ all_octets ps) (omega (arith, front, first)))
+    let all = p ++ all_octets ps in
+    let size = (sized p h.0).some in
+    let rest = all_octets ps in
+    let first : slice_index all 0 ≡ slice_index p 0 =
+    get_or_append_left p rest 0 0 (omega (arith, size)) in
+    let second : slice_index all 1 ≡ slice_index p 1 =
+    get_or_append_left p rest 0 1 (omega (arith, size)) in
+    let third : slice_index all 2 ≡ slice_index p 2 =
+    get_or_append_left p rest 0 2 (omega (arith, size)) in
+    let small = first-small p h.0 in
+    ap (λ o. found_by o all) (no-capture all (omega (arith, first, small)))
+    ∙ ap (λ (other : Bool). if other then broken [] Pcapng else sound all)
+    (not-pcapng all (λ a b c. other-kind p h.0 (sym first ∙ a) (sym second ∙ b) (sym third ∙ c)))

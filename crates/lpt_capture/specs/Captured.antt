@@ -3,7 +3,7 @@
 use Rattle.std.specs.Prelude.{ℕ, suc, zero, ◌+◌, ◌-◌, ◌*◌, ◌^◌, ◌==◌, ◌&&◌, ◌||◌, nat_lt, nat_le, min, Bool, true, false, if◌then◌else◌, List, [], ◌++◌, length, take, drop, slice_index, Option, Some, None}
 use Rattle.lpt_packet.specs.Sizes.{longest_packet}
 use Rattle.lpt_capture.specs.declared.fault.CaptureFault.{CaptureFault}
-use Rattle.lpt_capture.specs.declared.fault.CaptureFault.TheVariants.{Short, LinkType, Size}
+use Rattle.lpt_capture.specs.declared.fault.CaptureFault.TheVariants.{Header, Short, LinkType, Size, Pcapng}
 
 -- ---- what is found
 
@@ -82,13 +82,21 @@ records_of turned at b = some_records (length b) turned at b
 -- a capture: nothing is found where its front isn't whole, or where it has another link type
 abbrev pub found_in_capture : (turned : Bool) → List ℕ → Finding
 found_in_capture turned b =
-    if nat_lt (length b) 24 then broken [] (Short 0)
+    if nat_lt (length b) 24 then broken [] Header
     else if number_at turned b 20 == 147 then records_of turned 24 (drop 24 b)
     else broken [] (LinkType (number_at turned b 20))
 
+-- whether a file begins as one of the form pcapng does
+abbrev pub is_pcapng : List ℕ → Bool
+is_pcapng b = begins_so 0x0a 0x0d 0x0d 0x0a b
+
+-- octets that are no capture: those of another form of captures aren't taken for packets
+abbrev pub found_in_other : List ℕ → Finding
+found_in_other b = if is_pcapng b then broken [] Pcapng else sound b
+
 -- a capture, or octets that are none
 abbrev pub found_by : Option Bool → List ℕ → Finding
-found_by None b = sound b
+found_by None b = found_in_other b
 found_by (Some turned) b = found_in_capture turned b
 
 -- what is found in a file

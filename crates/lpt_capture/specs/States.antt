@@ -5,8 +5,9 @@ use Rattle.std.specs.Io.KnownBytes.{prepend_known}
 use Rattle.lpt_capture.specs.declared.ahead.Ahead.{Ahead}
 use Rattle.lpt_capture.specs.declared.captured.Captured.{Captured}
 use Rattle.lpt_capture.specs.declared.fault.CaptureFault.{CaptureFault}
+use Rattle.lpt_capture.specs.declared.fault.CaptureFault.TheVariants.{Short}
 use Rattle.lpt_capture.specs.declared.place.Place.{Place}
-use Rattle.lpt_capture.specs.declared.place.Place.TheVariants.{Front, Plain, Record, Ended, Broken}
+use Rattle.lpt_capture.specs.declared.place.Place.TheVariants.{Front, Plain, Record, Ended, Cut, Broken}
 use Rattle.lpt_capture.specs.Captured.{Finding, sound, broken, before, in_record, records_of, found_in}
 
 -- ---- octets read ahead
@@ -30,6 +31,7 @@ found_at Front b = found_in b
 found_at Plain b = sound b
 found_at (Record r) b = in_record r.at r.left b (records_of r.turned r.next)
 found_at Ended b = sound []
+found_at (Cut at) b = broken [] (Short at)
 found_at (Broken fault) b = broken [] fault
 
 -- how many octets are looked at in front of a file: those that show that it is no capture, or all
@@ -44,7 +46,17 @@ IsSettled Front = ⊥
 IsSettled Plain = ⊤
 IsSettled (Record r) = 0 < r.left
 IsSettled Ended = ⊤
+IsSettled (Cut at) = ⊤
 IsSettled (Broken fault) = ⊤
+
+-- something is wrong with the file, other than that it ends within a record
+abbrev pub IsBroken : Place → Type 0
+IsBroken Front = ⊥
+IsBroken Plain = ⊥
+IsBroken (Record r) = ⊥
+IsBroken Ended = ⊥
+IsBroken (Cut at) = ⊥
+IsBroken (Broken fault) = ⊤
 
 -- what is wrong with the file, where that was found
 abbrev pub fault_at : Place → Option CaptureFault
@@ -52,6 +64,7 @@ fault_at Front = None
 fault_at Plain = None
 fault_at (Record r) = None
 fault_at Ended = None
+fault_at (Cut at) = Some (Short at)
 fault_at (Broken fault) = Some fault
 
 -- ---- the reader of a file
@@ -84,10 +97,16 @@ Gives None new b = ⊤
 Gives (Some f) None b = ⊥
 Gives (Some f) (Some g) b = f ≡ before b g
 
--- nothing more is found, and nothing is wrong
+-- nothing is wrong, but that a capture may end within a record
+abbrev pub IsGood : Option CaptureFault → Type 0
+IsGood None = ⊤
+IsGood (Some (Short at)) = ⊤
+IsGood (Some fault) = ⊥
+
+-- nothing more is found, and nothing is wrong, but that a capture may end within a record
 abbrev pub IsDone : Option Finding → Type 0
 IsDone None = ⊤
-IsDone (Some f) = f ≡ sound []
+IsDone (Some f) = (f.octets ≡ []) × IsGood f.fault
 
 -- a read gave a front part of what was to be found, nothing at the end alone; or it failed, and
 -- gave none

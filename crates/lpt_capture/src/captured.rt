@@ -1,17 +1,18 @@
 //! The octets of a capture's records, as the capture is read (classic pcap).
 
-ghost use Rattle.std.specs.Prelude.{◌≡◌, ◌<◌, ◌≤◌, ◌⊎◌, ℕ, List, [], true, false, Some, length, take, Option, MatchOption, IfSome, IfNone, IsSome};
+ghost use Rattle.std.specs.Prelude.{◌≡◌, ◌<◌, ◌≤◌, ◌⊎◌, ℕ, List, [], true, false, Some, length, take, Option, MatchOption, IfSome, IfNone};
 ghost use Rattle.std.specs.Io.KnownBytes.{Consumes, IsAtEnd, Keeps};
 ghost use Rattle.lpt_stream.specs.LptText.Streams.{read_failed};
 ghost use Rattle.lpt_capture.specs.declared.place.Place.{Place};
 ghost use Rattle.lpt_capture.specs.Captured.{Finding, found_in, order_of};
-ghost use Rattle.lpt_capture.specs.States.{ahead_of, fault_at, found, found_at, front_size, has_failed, held, known, octets_left, place_of, source_of, Gives, IsSettled, Reads};
+ghost use Rattle.lpt_capture.specs.States.{ahead_of, fault_at, found, found_at, front_size, has_failed, held, known, octets_left, place_of, source_of, Gives, IsBroken, IsSettled, Reads};
 
 use crate::CaptureFault;
 use crate::ahead::Ahead;
 use crate::numbers::order_in;
 use crate::place::{
-    FILE_HEADER, Place, RECORD_HEADER, Record, behind_file_header, behind_record_header,
+    FILE_HEADER, Place, RECORD_HEADER, Record, behind_file_header, behind_other,
+    behind_record_header,
 };
 use lpt_stream::Source;
 
@@ -19,7 +20,8 @@ use lpt_stream::Source;
 const MAGIC: usize = 4;
 
 /// A source of the octets that the records of a capture have. What doesn't begin as a capture is
-/// given as it is.
+/// given as it is. Where a capture ends within a record, that is no failure: those octets of the
+/// record are given that are there, and `fault` tells of it.
 #[derive(Drop)]
 pub struct Captured<S> {
     ahead: Ahead<S>,
@@ -63,7 +65,8 @@ impl<S: Source> Source for Captured<S> {
     ghost failed = { λ c. has_failed c };
 
     // What is still to be found stays the same but for the octets that are given: also what is
-    // wrong with the capture. A read fails only where one of the source did, or something is wrong.
+    // wrong with the capture. A read fails only where one of the source did, or something else is
+    // wrong than that the capture ends within a record.
     fn read(&mut self, buf: &mut [u8]) -> Option<usize>
         ensures bound { IfSome result (λ n. n ≤ length buf.new) }
         ensures bytes { MatchOption result
@@ -75,7 +78,7 @@ impl<S: Source> Source for Captured<S> {
         ensures found { Reads result (found S.remaining self.old) (found S.remaining self.new)
             buf.new }
         ensures fault { IfNone result ((S.failed (source_of (ahead_of self.new)) ≡ true)
-            ⊎ IsSome (fault_at (place_of self.new))) }
+            ⊎ IsBroken (place_of self.new)) }
     {
         if buf.is_empty() {
             return Some(0);
@@ -96,7 +99,7 @@ impl<S: Source> Captured<S> {
         ensures found { Reads result (found S.remaining self.old) (found S.remaining self.new)
             buf.new }
         ensures cause { IfNone result ((S.failed (source_of (ahead_of self.new)) ≡ true)
-            ⊎ IsSome (fault_at (place_of self.new))) }
+            ⊎ IsBroken (place_of self.new)) }
         ensures failed { has_failed self.new ≡ has_failed self.old }
     {
         if !self.settle() {
@@ -107,6 +110,7 @@ impl<S: Source> Captured<S> {
             Place::Plain => self.ahead.read(buf),
             Place::Record(current) => self.read_record(current, buf),
             Place::Ended => Some(0),
+            Place::Cut(_) => Some(0),
         }
     }
 
@@ -119,14 +123,14 @@ impl<S: Source> Captured<S> {
         ensures found { Reads result (found S.remaining self.old) (found S.remaining self.new)
             buf.new }
         ensures cause { IfNone result ((S.failed (source_of (ahead_of self.new)) ≡ true)
-            ⊎ IsSome (fault_at (place_of self.new))) }
+            ⊎ IsBroken (place_of self.new)) }
         ensures failed { has_failed self.new ≡ has_failed self.old }
     {
         let asked = current.left.min(buf.len());
         let n = self.ahead.read(&mut buf[..asked])?;
         if n == 0 {
-            self.place = Place::Broken(CaptureFault::Short(current.at));
-            return None;
+            self.place = Place::Cut(current.at);
+            return Some(0);
         }
         self.place = Place::Record(Record {
             turned: current.turned,
@@ -169,7 +173,7 @@ impl<S: Source> Captured<S> {
             return false;
         }
         match order_in(self.ahead.held()) {
-            None => self.place = Place::Plain,
+            None => self.place = behind_other(self.ahead.held()),
             Some(turned) => {
                 self.place = behind_file_header(self.ahead.held(), turned);
                 self.ahead.skip(FILE_HEADER);

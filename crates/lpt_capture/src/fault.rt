@@ -5,7 +5,10 @@ use thiserror::Error;
 /// The first fault of a capture, with its place in the file.
 #[derive(Clone, Copy, Debug, Error)]
 pub enum CaptureFault {
-    /// The front of the file, or the record, that begins at this octet isn't whole.
+    /// It isn't whole, and ends within its header.
+    #[error("octet 0: the capture ends within what begins here")]
+    Header,
+    /// The record that begins at this octet isn't whole: the capture ends within it.
     #[error("octet {0}: the capture ends within what begins here")]
     Short(u64),
     /// Its link type isn't 147.
@@ -14,4 +17,7 @@ pub enum CaptureFault {
     /// The record that begins at this octet has so many octets.
     #[error("octet {0}: a record of {1} octets, and not of 1 to 65542")]
     Size(u64, u32),
+    /// It is one of another form, pcapng, which isn't read.
+    #[error("this is pcapng: editcap -F pcap makes a capture of it")]
+    Pcapng,
 }

@@ -1,7 +1,7 @@
 //! The numbers of a capture.
 
 ghost use Rattle.std.specs.Prelude.{◌≡◌, ◌+◌, ◌<◌, length, slice_index};
-ghost use Rattle.lpt_capture.specs.Captured.{begins_so, number_at, order_of};
+ghost use Rattle.lpt_capture.specs.Captured.{begins_so, is_pcapng, number_at, order_of};
 
 /// The number of 32 bits at a place, its last octet first where the order is turned.
 pub(crate) fn number_in(octets: &[u8], turned: bool, at: usize) -> u32
@@ -27,6 +27,13 @@ pub(crate) fn order_in(octets: &[u8]) -> Option<bool>
         return Some(true);
     }
     None
+}
+
+/// Whether a file that begins so is of the form pcapng.
+pub(crate) fn is_pcapng(octets: &[u8]) -> bool
+    ensures { result ≡ is_pcapng octets.now }
+{
+    begins_so(octets, 0x0a, 0x0d, 0x0d, 0x0a)
 }
 
 // Whether octets begin with these four.

@@ -1,12 +1,12 @@
 //! At which place of a file a reader of captures is.
 
-ghost use Rattle.std.specs.Prelude.{◌≡◌, ◌<◌, ◌++◌, ℕ, List, [], Some, length, drop};
+ghost use Rattle.std.specs.Prelude.{◌≡◌, ◌<◌, ◌++◌, ℕ, List, [], None, Some, length, drop};
 ghost use Rattle.lpt_capture.specs.declared.place.Place.{Place};
 ghost use Rattle.lpt_capture.specs.Captured.{found_in, order_of, records_of};
 ghost use Rattle.lpt_capture.specs.States.{fault_at, found_at, IsSettled};
 
 use crate::CaptureFault;
-use crate::numbers::number_in;
+use crate::numbers::{is_pcapng, number_in};
 
 /// How many octets a capture's own header has.
 pub(crate) const FILE_HEADER: usize = 24;
@@ -31,6 +31,8 @@ pub enum Place {
     Record(Record),
     /// Behind the last record.
     Ended,
+    /// At the end of a capture that ends within the record that begins at this octet.
+    Cut(u64),
     /// Behind a fault.
     Broken(CaptureFault),
 }
@@ -55,8 +57,23 @@ impl Place {
     {
         match self {
             Place::Broken(fault) => Some(fault),
+            Place::Cut(at) => Some(CaptureFault::Short(at)),
             Place::Front | Place::Plain | Place::Record(_) | Place::Ended => None,
         }
+    }
+}
+
+/// The place in front of a file that is no capture, of which four octets are looked at, or all.
+pub(crate) fn behind_other(head: &[u8]) -> Place
+    requires { order_of head.now ≡ None }
+    ensures found { (b : List ℕ) → (length head.now < 4 → b ≡ [])
+        → found_in (head.now ++ b) ≡ found_at result (head.now ++ b) }
+    ensures behind { result ≡ Place.Front → ⊥ }
+{
+    if is_pcapng(head) {
+        Place::Broken(CaptureFault::Pcapng)
+    } else {
+        Place::Plain
     }
 }
 
@@ -68,7 +85,7 @@ pub(crate) fn behind_file_header(head: &[u8], turned: bool) -> Place
     ensures behind { result ≡ Place.Front → ⊥ }
 {
     if head.len() < FILE_HEADER {
-        return Place::Broken(CaptureFault::Short(0));
+        return Place::Broken(CaptureFault::Header);
     }
     let link_type = number_in(head, turned, 20);
     if link_type != LINK_TYPE {
@@ -94,7 +111,7 @@ pub(crate) fn behind_record_header(head: &[u8], turned: bool, at: u64) -> Place
         return Place::Ended;
     }
     if head.len() < RECORD_HEADER {
-        return Place::Broken(CaptureFault::Short(at));
+        return Place::Cut(at);
     }
     let size = number_in(head, turned, 8);
     if size == 0 || size > LONGEST {

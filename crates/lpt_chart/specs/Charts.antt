@@ -23,6 +23,7 @@ use Rattle.lpt_chart.specs.Legends.{legend_onto}
 use Rattle.lpt_chart.specs.Pictures.{Picture}
 use Rattle.lpt_chart.specs.Rows.{base_onto, row_onto}
 use Rattle.lpt_chart.specs.Shapes.{drawn_onto, escaped, joined, size_text, written_onto}
+use Rattle.lpt_chart.specs.Words.{plural}
 
 -- ---- the head
 
@@ -44,8 +45,8 @@ opening_text f title = svg_text f ++ escaped title ++ (codes "</title>" ++ 10 �
 -- how much has happened
 unfoldable pub counts_words : (events packets flights losses : ℕ) → List ℕ
 counts_words events packets flights losses =
-    joined (decimal events ∷ codes " events, " ∷ decimal packets ∷ codes " packets, " ∷ decimal flights
-    ∷ codes " delivered, " ∷ decimal losses ∷ codes " lost" ∷ [])
+    joined (decimal events ∷ codes " event" ∷ plural events ∷ codes ", " ∷ decimal packets ∷ codes " packet"
+    ∷ plural packets ∷ codes ", " ∷ decimal flights ∷ codes " delivered, " ∷ decimal losses ∷ codes " lost" ∷ [])
 
 -- the same of a picture
 unfoldable pub counts_text : (events : ℕ) → Picture → List ℕ
@@ -54,7 +55,7 @@ counts_text events p = counts_words events (length p.sent) (length p.flights) (l
 -- that rows are left out
 unfoldable pub hidden_text : (above below : ℕ) → List ℕ
 hidden_text above below =
-    joined (decimal above ∷ codes " rows above, " ∷ decimal below ∷ codes " rows below: --from and --to choose" ∷ [])
+    joined (codes "rows left out: " ∷ decimal above ∷ codes " above, " ∷ decimal below ∷ codes " below; --from and --to choose" ∷ [])
 
 -- a line of the title, where there is one
 unfoldable pub line_onto : List ℕ → (y : ℕ) → List ℕ → List ℕ

@@ -1,5 +1,5 @@
 -- Which rows are drawn, how wide a picture is, and the lines of its title.
-use Rattle.std.specs.Prelude.{ℕ, ◌+◌, ◌-◌, ◌*◌, ◌/◌, ◌==◌, min, max, nat_le, nat_lt, Bool, true, false, if◌then◌else◌, List, length, take, drop, position, slice_get, fold, is_none}
+use Rattle.std.specs.Prelude.{ℕ, ◌+◌, ◌-◌, ◌*◌, ◌/◌, ◌==◌, min, max, nat_le, nat_lt, Bool, true, false, if◌then◌else◌, List, [], ◌∷◌, length, take, drop, position, slice_get, fold, is_none}
 use Rattle.std.specs.Option.{option_map_or}
 use Rattle.lpt_events.specs.declared.side.Side.{Side}
 use Rattle.lpt_events.specs.declared.side.Side.TheVariants.{Ground, Craft}
@@ -48,12 +48,17 @@ line_end t =
     if nat_le (length t) 60 then length t
     else option_map_or (λ k. min k 14 + 46) (position (λ b. b == 32) (drop 46 t)) 60
 
--- a line, and what follows it
+-- a text without the space at its front, where there is one
+abbrev pub behind_space : List ℕ → List ℕ
+behind_space [] = []
+behind_space (b ∷ t) = if b == 32 then t else b ∷ t
+
+-- a line, and what follows it and the space that parts them
 abbrev pub title_front : List ℕ → List ℕ
 title_front t = take (line_end t) t
 
 abbrev pub title_rest : List ℕ → List ℕ
-title_rest t = drop (line_end t) t
+title_rest t = behind_space (drop (line_end t) t)
 
 -- what follows two lines
 abbrev pub title_end : List ℕ → List ℕ

@@ -23,7 +23,7 @@ use Rattle.lpt_chart.specs.declared.marks.Saying.TheVariants as say
 use Rattle.lpt_chart.specs.declared.marks.Task.{Task}
 use Rattle.lpt_chart.specs.Events.{from_side, to_side}
 use Rattle.lpt_chart.specs.Shapes.{joined}
-use Rattle.lpt_chart.specs.Words.{code_word, direction_word, lane_word, reason_word, report_word, request_word, why_word, worker_word}
+use Rattle.lpt_chart.specs.Words.{code_word, direction_word, lane_word, plural, reason_word, report_word, request_word, why_word, worker_word}
 
 -- of how many parts, where that is known
 unfoldable pub of_words : (parts : ℕ) → List ℕ
@@ -41,7 +41,7 @@ typed_words kind service subtype word =
 
 -- what the link's noise left
 unfoldable pub noise_words : (octets : ℕ) → List ℕ
-noise_words octets = joined (codes "noise: " ∷ decimal octets ∷ codes " octets" ∷ [])
+noise_words octets = joined (codes "noise: " ∷ decimal octets ∷ codes " octet" ∷ plural octets ∷ [])
 
 -- what a packet that is put is
 unfoldable pub content_words : (source : ℕ) → Direction → Content → List ℕ
@@ -127,13 +127,13 @@ is_load task = (task.service == 6) && (task.subtype == 2)
 unfoldable pub area_words : Task → List ℕ
 area_words task =
     joined (codes ", memory " ∷ decimal task.memory ∷ codes " at " ∷ decimal task.address ∷ codes ": "
-    ∷ decimal task.octets ∷ codes " octets" ∷ [])
+    ∷ decimal task.octets ∷ codes " octet" ∷ plural task.octets ∷ [])
 
 -- how many areas more there are
 unfoldable pub more_words : Task → List ℕ
 more_words task =
     if nat_le task.areas 1 then []
-    else joined (codes " and " ∷ decimal (task.areas - 1) ∷ codes " areas" ∷ [])
+    else joined (codes " and " ∷ decimal (task.areas - 1) ∷ codes " area" ∷ plural (task.areas - 1) ∷ [])
 
 -- what a load has changed
 unfoldable pub load_words : Task → List ℕ

@@ -11,6 +11,10 @@ use Rattle.lpt_events.specs.declared.outcome.Why.TheVariants.{Unreadable, Idle, 
 use Rattle.lpt_events.specs.declared.worker.Worker.{Worker}
 use Rattle.lpt_events.specs.declared.worker.Worker.TheVariants.{W1, W2}
 
+-- what makes a word of more than one thing, behind it
+abbrev pub plural : (count : ℕ) → List ℕ
+plural count = if count == 1 then [] else codes "s"
+
 -- a direction's word
 abbrev pub direction_word : Direction → List ℕ
 direction_word Up = codes "up"

@@ -9,6 +9,7 @@ use crate::picture::Picture;
 use crate::shape::{Shape, draw, print_size, write, write_escaped};
 use crate::style::{Letters, Style};
 use crate::title::{title_end, title_front, title_rest};
+use crate::words::plural;
 use std::alloc::{AllocError, Global};
 
 // The letters of a picture, and the beginning of its title.
@@ -51,7 +52,8 @@ fn counts_words(
 ) -> Result<String, AllocError>
     ensures { IfOk result (λ t. string_bytes t ≡ counts_words events packets flights losses) }
 {
-    format!(in alloc; "{events} events, {packets} packets, {flights} delivered, {losses} lost")
+    let (s, t) = (plural(events), plural(packets));
+    format!(in alloc; "{events} event{s}, {packets} packet{t}, {flights} delivered, {losses} lost")
 }
 
 // How much has happened.
@@ -70,7 +72,7 @@ fn print_counts(alloc: Global, events: u64, picture: &Picture) -> Result<String,
 fn hidden_words(alloc: Global, above: u64, below: u64) -> Result<String, AllocError>
     ensures { IfOk result (λ t. string_bytes t ≡ hidden_text above below) }
 {
-    format!(in alloc; "{above} rows above, {below} rows below: --from and --to choose")
+    format!(in alloc; "rows left out: {above} above, {below} below; --from and --to choose")
 }
 
 // That rows are left out, where some are.

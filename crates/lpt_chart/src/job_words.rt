@@ -4,7 +4,7 @@ ghost use Rattle.std.specs.Prelude.{◌≡◌, IfOk, string_bytes};
 ghost use Rattle.lpt_chart.specs.Sayings.{applied_words, area_words, change_words, done_words, ended_words, is_load, job_words, load_words, more_words, opening_words, refused_words, task_word};
 
 use crate::marks::Task;
-use crate::words::{code_word, request_word};
+use crate::words::{code_word, plural, request_word};
 use lpt_events::{Applied, Name, name_word};
 use std::alloc::{AllocError, Global};
 
@@ -32,7 +32,8 @@ fn area_words(alloc: Global, task: Task) -> Result<String, AllocError>
     ensures { IfOk result (λ t. string_bytes t ≡ area_words task) }
 {
     let (memory, address, octets) = (task.memory, task.address, task.octets);
-    format!(in alloc; ", memory {memory} at {address}: {octets} octets")
+    let s = plural(u64::from(octets));
+    format!(in alloc; ", memory {memory} at {address}: {octets} octet{s}")
 }
 
 // How many areas more there are.
@@ -44,7 +45,8 @@ fn more_words(alloc: Global, task: Task) -> Result<String, AllocError>
         return Ok(String::new(alloc));
     }
     let more = task.areas - 1;
-    format!(in alloc; " and {more} areas")
+    let s = plural(u64::from(more));
+    format!(in alloc; " and {more} area{s}")
 }
 
 // What a load has changed.

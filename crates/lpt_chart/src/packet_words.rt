@@ -4,7 +4,7 @@ ghost use Rattle.std.specs.Prelude.{◌≡◌, IfOk, string_bytes};
 ghost use Rattle.lpt_chart.specs.Sayings.{abort_words, again_words, broken_words, content_words, data_released_words, delivered_words, ignored_words, job_released_words, kept_words, noise_words, of_words, part_words, plain_words, released_words, typed_words};
 
 use crate::marks::Content;
-use crate::words::{direction_word, reason_word, report_word, request_word, why_word};
+use crate::words::{direction_word, plural, reason_word, report_word, request_word, why_word};
 use lpt_events::{Direction, Name, Outcome, Reason, Why, name_word};
 use std::alloc::{AllocError, Global};
 
@@ -56,7 +56,8 @@ fn typed_words(
 fn noise_words(alloc: Global, octets: u64) -> Result<String, AllocError>
     ensures { IfOk result (λ t. string_bytes t ≡ noise_words octets) }
 {
-    format!(in alloc; "noise: {octets} octets")
+    let s = plural(octets);
+    format!(in alloc; "noise: {octets} octet{s}")
 }
 
 // What a packet that is put is.

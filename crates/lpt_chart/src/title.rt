@@ -1,7 +1,7 @@
 //! The lines of a title.
 
 ghost use Rattle.std.specs.Prelude.{◌≡◌, ◌≤◌, ◌==◌, length, position};
-ghost use Rattle.lpt_chart.specs.Choices.{line_end, title_end, title_front, title_rest, title_room};
+ghost use Rattle.lpt_chart.specs.Choices.{behind_space, line_end, title_end, title_front, title_rest, title_room};
 
 // The first space behind the 46th letter, counted from there.
 fn space_behind(tail: &[u8]) -> Option<usize>
@@ -31,11 +31,21 @@ pub(crate) fn title_front(text: &[u8]) -> &[u8]
     text.split_at(line_end(text)).0
 }
 
-/// What follows the first line.
+// A text without the space at its front, where there is one.
+fn behind_space(text: &[u8]) -> &[u8]
+    ensures { result.now ≡ behind_space text.now }
+{
+    match text {
+        [b' ', more @ ..] => more,
+        _ => text,
+    }
+}
+
+/// What follows the first line, and the space that parts them.
 pub(crate) fn title_rest(text: &[u8]) -> &[u8]
     ensures { result.now ≡ title_rest text.now }
 {
-    text.split_at(line_end(text)).1
+    behind_space(text.split_at(line_end(text)).1)
 }
 
 /// What follows two lines.

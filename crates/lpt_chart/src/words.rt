@@ -1,9 +1,16 @@
 //! The words for what has few cases.
 
 ghost use Rattle.std.specs.Prelude.{◌≡◌};
-ghost use Rattle.lpt_chart.specs.Words.{code_word, course_word, direction_word, lane_word, reason_word, report_word, request_word, why_word, worker_word};
+ghost use Rattle.lpt_chart.specs.Words.{code_word, course_word, direction_word, lane_word, plural, reason_word, report_word, request_word, why_word, worker_word};
 
 use lpt_events::{Direction, Lane, Reason, Why, Worker};
+
+// What makes a word of more than one thing, behind it.
+pub(crate) fn plural(count: u64) -> &'static str
+    ensures { result.now ≡ plural count }
+{
+    if count == 1 { "" } else { "s" }
+}
 
 // A direction's word.
 pub(crate) fn direction_word(direction: Direction) -> &'static str

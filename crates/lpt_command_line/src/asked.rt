@@ -2,7 +2,9 @@
 
 use crate::building::program;
 use crate::extract_words::{ExtractWords, extract_words};
-use crate::file_words::{JoinWords, ListWords, SplitWords, join_words, list_words, split_words};
+use crate::file_words::{
+    JoinWords, ListWords, SplitWords, check_order, join_words, list_words, split_words,
+};
 use crate::request_words::{RequestWords, request_words};
 use crate::word_fault::WordFault;
 use clap::{ArgMatches, Error};
@@ -32,13 +34,13 @@ pub enum Command<'a> {
     Chart(ChartWords<'a>),
     /// `decode HEX`: octets as hexadecimal digits.
     Decode(&'a str),
-    /// `list [FILE]`.
+    /// `list [FILE]..`.
     List(ListWords<'a>),
     /// `split up|down ID [FILE]`.
     Split(SplitWords<'a>),
-    /// `join up|down [FILE]`.
+    /// `join up|down [FILE]..`.
     Join(JoinWords<'a>),
-    /// `extract [FILE]`.
+    /// `extract [FILE]..`.
     Extract(ExtractWords<'a>),
     /// `request load|dump|check MEMORY ..`.
     Request(RequestWords<'a>),
@@ -95,7 +97,7 @@ fn asked_by<'a>(alloc: Global, matches: ArgMatches<'a>) -> Result<Asked<'a>, Una
 fn meant<'a>(alloc: Global, matches: &ArgMatches<'a>) -> Result<Asked<'a>, WordFault<'a>> {
     let (name, inner) = matches.subcommand().ok_or(WordFault::Missing)?;
     let (config, command) = match inner.subcommand() {
-        None => (inner.get_str("config"), command_of(name, inner)?),
+        None => (inner.get_str("config"), command_of(alloc, name, inner)?),
         Some((name, inner)) => {
             let request = request_words(alloc, name, inner)?;
             (inner.get_str("config"), Some(Command::Request(request)))
@@ -107,6 +109,7 @@ fn meant<'a>(alloc: Global, matches: &ArgMatches<'a>) -> Result<Asked<'a>, WordF
 
 // What the words of a command of this name ask for, where none that is required is missing.
 fn command_of<'a>(
+    alloc: Global,
     name: &str,
     words: &ArgMatches<'a>,
 ) -> Result<Option<Command<'a>>, WordFault<'a>> {
@@ -115,21 +118,25 @@ fn command_of<'a>(
         "threads" => words.get_str("SCRIPT").map(Command::Threads),
         "shell" => Some(Command::Shell),
         "lint" => words.get_str("SCRIPT").map(Command::Lint),
-        "chart" => chart_words(words).map(Command::Chart),
-        "list" => list_words(words).map(Command::List),
+        "chart" => Some(Command::Chart(chart_words(words)?)),
+        "list" => Some(Command::List(list_words(alloc, words)?)),
         "split" => Some(Command::Split(split_words(words)?)),
-        "join" => Some(Command::Join(join_words(words)?)),
-        "extract" => extract_words(words).map(Command::Extract),
+        "join" => Some(Command::Join(join_words(alloc, words)?)),
+        "extract" => Some(Command::Extract(extract_words(alloc, words)?)),
         _ => words.get_str("HEX").map(Command::Decode),
     })
 }
 
 // What the words of `chart` ask for.
-fn chart_words<'a>(words: &ArgMatches<'a>) -> Option<ChartWords<'a>> {
-    Some(ChartWords {
-        script: words.get_str("SCRIPT")?,
+//
+// Errors: `Missing`, `Order`.
+fn chart_words<'a>(words: &ArgMatches<'a>) -> Result<ChartWords<'a>, WordFault<'a>> {
+    let chart = ChartWords {
+        script: words.get_str("SCRIPT").ok_or(WordFault::Missing)?,
         from: words.get_one("from"),
         to: words.get_one("to"),
         refused: words.get_flag("refused"),
-    })
+    };
+    check_order(chart.from, chart.to)?;
+    Ok(chart)
 }

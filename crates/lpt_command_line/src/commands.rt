@@ -40,6 +40,31 @@ const PLACES: Word = Word {
     help: "Addresses, each with a number of octets, 1 to 65535",
 };
 
+const PACKETS: Word = Word {
+    name: "FILE",
+    value: TEXT,
+    need: Need::Any(&["-"]),
+    help: "The packets' paths, or - for standard input",
+};
+
+const FROM: Named = Named {
+    name: "from",
+    value: U64,
+    behind: &["PLACE"],
+    action: ArgAction::Set,
+    other: &[],
+    help: "The place of the first octet that is read, as list prints it",
+};
+
+const TO: Named = Named {
+    name: "to",
+    value: U64,
+    behind: &["PLACE"],
+    action: ArgAction::Set,
+    other: &[],
+    help: "The place of the first octet that isn't read any more",
+};
+
 const CONFIG: Named = Named {
     name: "config",
     value: TEXT,
@@ -132,19 +157,14 @@ pub(crate) static COMMANDS: [Row; 10] = [
             name: "HEX",
             value: TEXT,
             need: Need::One,
-            help: "Octets as hexadecimal digits, or - for none",
+            help: "Octets as hexadecimal digits, or - for standard input",
         }],
         named: &[CONFIG],
     },
     Row {
         name: "list",
         about: "Say what each packet of a stream is",
-        words: &[Word {
-            name: "FILE",
-            value: TEXT,
-            need: Need::Else(&["-"]),
-            help: "The packets' path, or - for standard input",
-        }],
+        words: &[PACKETS],
         named: &[
             Named {
                 name: "json",
@@ -162,6 +182,8 @@ pub(crate) static COMMANDS: [Row; 10] = [
                 other: &[],
                 help: "End at the first place where no packet is",
             },
+            FROM,
+            TO,
             CONFIG,
         ],
     },
@@ -215,15 +237,7 @@ pub(crate) static COMMANDS: [Row; 10] = [
     Row {
         name: "join",
         about: "Write the message that packets carry",
-        words: &[
-            DIRECTION,
-            Word {
-                name: "FILE",
-                value: TEXT,
-                need: Need::Else(&["-"]),
-                help: "The packets' path, or - for standard input",
-            },
-        ],
+        words: &[DIRECTION, PACKETS],
         named: &[
             Named {
                 name: "id",
@@ -233,18 +247,39 @@ pub(crate) static COMMANDS: [Row; 10] = [
                 other: &[],
                 help: "The message's ID or SOURCE/ID; without one, it is the only one there",
             },
+            Named {
+                name: "first",
+                value: ValueParser::Bool,
+                behind: &[],
+                action: ArgAction::SetTrue,
+                other: &[],
+                help: "Take the first whole message, whatever comes behind it",
+            },
+            Named {
+                name: "any",
+                value: ValueParser::Bool,
+                behind: &[],
+                action: ArgAction::SetTrue,
+                other: &[],
+                help: "Write what is joined also where it is no packet",
+            },
+            Named {
+                name: "each",
+                value: TEXT,
+                behind: &["DIR"],
+                action: ArgAction::Set,
+                other: &[],
+                help: "Write every message there is, each as a file in this folder",
+            },
+            FROM,
+            TO,
             CONFIG,
         ],
     },
     Row {
         name: "extract",
         about: "Write the octets that dump reports hold",
-        words: &[Word {
-            name: "FILE",
-            value: TEXT,
-            need: Need::Else(&["-"]),
-            help: "The packets' path, or - for standard input",
-        }],
+        words: &[PACKETS],
         named: &[
             Named {
                 name: "at",
@@ -269,6 +304,14 @@ pub(crate) static COMMANDS: [Row; 10] = [
                 action: ArgAction::Set,
                 other: &[],
                 help: "The octet where no area gives one, 0 to 255, 0 without it",
+            },
+            Named {
+                name: "whole",
+                value: ValueParser::Bool,
+                behind: &[],
+                action: ArgAction::SetTrue,
+                other: &[],
+                help: "Write an image only where no octet of it is wanting",
             },
             CONFIG,
         ],

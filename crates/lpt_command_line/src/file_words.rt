@@ -5,6 +5,10 @@ ghost use Rattle.std.specs.Prelude.{◌≤◌, IfSome};
 use crate::word_fault::WordFault;
 use clap::ArgMatches;
 use lpt_pus::{Direction, Name};
+use std::alloc::Global;
+
+/// The word for standard input.
+const STANDARD: &str = "-";
 
 /// What `split` asks for.
 #[derive(Clone, Copy)]
@@ -46,25 +50,44 @@ impl GivenName {
 }
 
 /// What `join` asks for.
-#[derive(Clone, Copy)]
+#[derive(Drop)]
 pub struct JoinWords<'a> {
     /// The direction of the packets.
     pub direction: Direction,
     /// What names the message; without that, it is the only one there.
     pub name: Option<GivenName>,
-    /// The path of the packets, or `-` for standard input.
-    pub file: &'a str,
+    /// The paths of the packets, one behind the other, or `-` for standard input.
+    pub files: Vec<&'a str>,
+    /// Whether what is joined needn't be a packet.
+    pub any: bool,
+    /// Whether the first whole message is taken for good.
+    pub first: bool,
+    /// The folder into which every message is written, where one is given.
+    pub each: Option<&'a str>,
+    /// Which octets of the packets are read.
+    pub span: Span,
+}
+
+/// Which octets of a stream are read.
+#[derive(Clone, Copy)]
+pub struct Span {
+    /// The place of the first, from 0, where one is given.
+    pub from: Option<u64>,
+    /// The place of the first that isn't read any more, where one is given.
+    pub to: Option<u64>,
 }
 
 /// What `list` asks for.
-#[derive(Clone, Copy)]
+#[derive(Drop)]
 pub struct ListWords<'a> {
-    /// The path of the packets, or `-` for standard input.
-    pub file: &'a str,
+    /// The paths of the packets, one behind the other, or `-` for standard input.
+    pub files: Vec<&'a str>,
     /// Whether each line is an object of JSON.
     pub json: bool,
     /// Whether the list ends at the first place where no packet is.
     pub strict: bool,
+    /// Which octets of the packets are read.
+    pub span: Span,
 }
 
 /// What the words of `split` ask for.
@@ -85,19 +108,68 @@ pub fn split_words<'a>(matches: &ArgMatches<'a>) -> Result<SplitWords<'a>, WordF
 
 /// What the words of `join` ask for.
 ///
-/// Errors: `Missing`; `Id` where what should name the message doesn't.
-pub fn join_words<'a>(matches: &ArgMatches<'a>) -> Result<JoinWords<'a>, WordFault<'a>> {
+/// Errors: `Missing`; `Id` where what should name the message doesn't; `Beside`, `Order`, `Memory`.
+pub fn join_words<'a>(
+    alloc: Global,
+    matches: &ArgMatches<'a>,
+) -> Result<JoinWords<'a>, WordFault<'a>> {
     let direction = direction_in(matches).ok_or(WordFault::Missing)?;
-    let file = matches.get_str("FILE").ok_or(WordFault::Missing)?;
     let name = match matches.get_str("id") {
         Some(word) => Some(name_in(word).ok_or(WordFault::Id("--id <ID>", word))?),
         None => None,
     };
+    let first = matches.get_flag("first");
+    let each = matches.get_str("each");
+    if each.is_some() && name.is_some() {
+        return Err(WordFault::Beside("--each <DIR>", "--id <ID>"));
+    }
+    if each.is_some() && first {
+        return Err(WordFault::Beside("--each <DIR>", "--first"));
+    }
     Ok(JoinWords {
         direction,
         name,
-        file,
+        any: matches.get_flag("any"),
+        first,
+        each,
+        span: span_in(matches)?,
+        files: files_in(alloc, matches)?,
     })
+}
+
+// Which octets are read.
+fn span_in<'a>(matches: &ArgMatches<'a>) -> Result<Span, WordFault<'a>> {
+    let span = Span {
+        from: matches.get_one("from"),
+        to: matches.get_one("to"),
+    };
+    check_order(span.from, span.to)?;
+    Ok(span)
+}
+
+// Refuses a first place behind a last.
+pub(crate) fn check_order<'a>(from: Option<u64>, to: Option<u64>) -> Result<(), WordFault<'a>> {
+    match (from, to) {
+        (Some(from), Some(to)) if from > to => Err(WordFault::Order(from, to)),
+        _ => Ok(()),
+    }
+}
+
+// The paths, of which one alone may be standard input.
+pub(crate) fn files_in<'a>(
+    alloc: Global,
+    matches: &ArgMatches<'a>,
+) -> Result<Vec<&'a str>, WordFault<'a>> {
+    let mut files = Vec::new(alloc);
+    for file in matches.get_strs("FILE").ok_or(WordFault::Missing)? {
+        if *file == STANDARD && files.contains(&STANDARD) {
+            return Err(WordFault::Twice);
+        }
+        if files.push(*file).is_err() {
+            return Err(WordFault::Memory);
+        }
+    }
+    Ok(files)
 }
 
 // What a word names, as `ID` or as `SOURCE/ID`.
@@ -113,11 +185,17 @@ fn name_in(word: &str) -> Option<GivenName> {
 }
 
 /// What the words of `list` ask for.
-pub fn list_words<'a>(matches: &ArgMatches<'a>) -> Option<ListWords<'a>> {
-    Some(ListWords {
-        file: matches.get_str("FILE")?,
+///
+/// Errors: `Missing`, `Order`, `Memory`.
+pub fn list_words<'a>(
+    alloc: Global,
+    matches: &ArgMatches<'a>,
+) -> Result<ListWords<'a>, WordFault<'a>> {
+    Ok(ListWords {
         json: matches.get_flag("json"),
         strict: matches.get_flag("strict"),
+        span: span_in(matches)?,
+        files: files_in(alloc, matches)?,
     })
 }
 

@@ -20,7 +20,7 @@ mod word_fault;
 
 pub use asked::{Asked, ChartWords, Command, Unasked, read_words};
 pub use extract_words::ExtractWords;
-pub use file_words::{GivenName, JoinWords, ListWords, SplitWords};
+pub use file_words::{GivenName, JoinWords, ListWords, Span, SplitWords};
 pub use lpt_pus::{AckFlags, Direction, Name};
 pub use request_words::{RequestWords, What};
 pub use word_fault::WordFault;

@@ -47,12 +47,14 @@ pub(crate) enum Need {
     Several(&'static [&'static str]),
     /// It needn't, and is this one then.
     Else(&'static [&'static str; 1]),
+    /// There may be as many as one likes, and where there is none, it is this one.
+    Any(&'static [&'static str; 1]),
 }
 
 impl Need {
     // Whether it must be there.
     pub(crate) fn is_needed(self) -> bool {
-        !matches!(self, Need::Else(_))
+        !matches!(self, Need::Else(_) | Need::Any(_))
     }
 
     // The names by which help calls them, where it has others than its own.
@@ -66,7 +68,7 @@ impl Need {
     // What it is where it isn't there.
     pub(crate) fn other(self) -> &'static [&'static str] {
         match self {
-            Need::Else(other) => other,
+            Need::Else(other) | Need::Any(other) => other,
             _ => &[],
         }
     }
@@ -75,6 +77,7 @@ impl Need {
     pub(crate) fn count(self) -> RangeInclusive<usize> {
         match self {
             Need::Several(names) => names.len()..=usize::MAX,
+            Need::Any(_) => 1..=usize::MAX,
             _ => 1..=1,
         }
     }

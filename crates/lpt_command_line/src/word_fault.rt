@@ -15,6 +15,12 @@ pub enum WordFault<'a> {
     Length(&'a str),
     /// Behind this address no number of octets stands.
     NoLength(&'a str),
+    /// These two don't stand beside each other.
+    Beside(&'static str, &'static str),
+    /// What is read would begin at the first of these places, behind the second, where it ends.
+    Order(u64, u64),
+    /// Standard input is to be read twice.
+    Twice,
     /// Memory runs out.
     Memory,
 }
@@ -46,6 +52,13 @@ impl WordFault<'_> {
             WordFault::NoLength(word) => {
                 format!(in alloc; "no '<LENGTH>' stands behind the '<ADDRESS>' {word}")
             }
+            WordFault::Beside(one, other) => {
+                format!(in alloc; "the argument '{one}' cannot be used with '{other}'")
+            }
+            WordFault::Order(from, to) => {
+                format!(in alloc; "'--from {from}' stands behind '--to {to}'")
+            }
+            WordFault::Twice => format!(in alloc; "'-' stands twice: standard input is read once"),
             WordFault::Memory => format!(in alloc; "memory is wanting"),
         }
     }

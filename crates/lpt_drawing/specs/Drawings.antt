@@ -92,6 +92,7 @@ run_end end refused None = ended end refused
 pub record IsDrawn (w : Shown) (c : Choice) (all : Bool) (end : End) (text : List ℕ) (d : Drawing) : Type 0 where
   pub picture : string_bytes d.picture ≡ run_text c all (title_of text) (text_run w text)
   pub ran : d.ran ≡ run_end end (length (text_run w text).refused) (text_run w text).bad
+  pub events : d.events ≡ length (text_run w text).world.journal
 
 -- the drawing of a text of which so much was read
 abbrev pub IsDrawing : Shown → Choice → (all : Bool) → End → List ℕ → Drawing → Type 0

@@ -16,7 +16,7 @@ use lpt_shell::{
 };
 use std::alloc::{AllocError, Global};
 
-/// The picture of a script's run, and how the run ended.
+/// The picture of a script's run, how the run ended, and how many events there were.
 #[derive(Drop)]
 pub struct Drawing {
     /// The picture, as one SVG: of all, or of what happened before an unreadable line, or before the
@@ -25,6 +25,8 @@ pub struct Drawing {
     /// How the run ended: `Line` at an unreadable line, `Read` where a read failed or more octets came
     /// than a script may have.
     pub ran: Result<ScriptEnd, ToolFault>,
+    /// How many events there were.
+    pub events: u64,
 }
 
 /// Reads a script from a reader, runs its lines on a new world of this configuration and these memories,
@@ -114,6 +116,7 @@ fn draw_front(
 {
     let bad = run_text(alloc, world, refused, front)?;
     let ran = run_end(end, refused.len() as u64, bad);
+    let events = world.journal().len() as u64;
     let picture = print_run(
         alloc,
         world.config().source,
@@ -123,7 +126,11 @@ fn draw_front(
         front,
         refused.as_slice(),
     )?;
-    Ok(Drawing { picture, ran })
+    Ok(Drawing {
+        picture,
+        ran,
+        events,
+    })
 }
 
 // How a script's run ended whose text was read to this end, by how many lines were refused and by the

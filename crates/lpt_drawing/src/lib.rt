@@ -13,6 +13,6 @@ mod title;
 
 pub use drawing::{Drawing, draw_script};
 pub use lpt_chart::{Choice, Refusal};
-pub use lpt_shell::{lint, run_shell};
+pub use lpt_shell::{explain, finding_text, lint, run_shell};
 pub use running::run_text;
 pub use title::title_of;

@@ -1,27 +1,33 @@
 -- What areas give, one behind the other.
-use Rattle.std.proofs.Common.{◌≡◌, ◌∙◌, ap, sym, subst, refl, ℕ, ◌≤◌, max, true, List, [], ◌∷◌, ◌++◌, ◌+◌, ◌<◌, length, take, drop, get_or, map, Option, Some, None, arith, append-nil}
+use Rattle.std.proofs.Common.{◌≡◌, ◌∙◌, ap, sym, subst, refl, ℕ, ◌≤◌, max, Bool, true, false, List, [], ◌∷◌, ◌++◌, ◌+◌, ◌<◌, length, take, drop, get_or, map, Option, Some, None, arith, append-nil, append_assoc}
 use Rattle.std.proofs.lemmas.Grind.{common_steps, flat_map-append}
 use Rattle.std.proofs.lemmas.List.{map-append, nil_from_length, take_more, take-append-drop}
 use Rattle.std.proofs.lemmas.List.Elements.{filter-append}
-use Rattle.std.proofs.KnownBytes.{Appends-nil, Appends-trans}
-use Rattle.std.specs.Io.KnownBytes.{Appends}
+use Rattle.std.proofs.KnownBytes.{Appends-kept, Appends-nil, Appends-trans}
+use Rattle.std.specs.Io.KnownBytes.{Appends, Keeps}
 use Rattle.lpt_stream.specs.LptText.Streams.{AppendsPart}
-use Rattle.lpt_stream.proofs.LptText.StreamLemmas.{part_after, part_of_front}
+use Rattle.lpt_stream.specs.Pieces.{Piece}
+use Rattle.lpt_stream.proofs.LptText.StreamLemmas.{part_after, part_of_front, part_of_nothing, part_whole}
 use Rattle.lpt_stream.specs.LptText.declared.fault.ToolFault.TheVariants as tool
 use Rattle.lpt_memory.specs.declared.request.Area.{Area}
 use Rattle.lpt_memory.specs.Meanings.{area}
-use Rattle.lpt_extract.specs.declared.extract_end.ExtractEnd.{ExtractEnd}
-use Rattle.lpt_extract.specs.declared.extract_end.ExtractEnd.TheVariants.{Written, Nothing, TooLarge}
+use Rattle.lpt_extract.specs.declared.extracted.ExtractEnd.{ExtractEnd}
+use Rattle.lpt_extract.specs.declared.extracted.ExtractEnd.TheVariants.{Written, Nothing, TooLarge, NotWhole}
 use Rattle.lpt_extract.specs.declared.image.Image.{Image}
+use Rattle.lpt_memory.specs.Requests.{LoadArea, Request}
+use Rattle.lpt_extract.specs.declared.holding.Holding.{Holding}
 use Rattle.lpt_extract.specs.declared.notice.Notice.{Notice}
+use Rattle.lpt_extract.specs.declared.notice.Notice.TheVariants.{OtherMemory, WrongChecksum}
 use Rattle.lpt_extract.specs.declared.seen_area.SeenArea.{SeenArea}
 use Rattle.lpt_extract.specs.declared.wanted.Place.{Place}
 use Rattle.lpt_extract.specs.declared.wanted.Wanted.{Wanted}
 use Rattle.lpt_extract.specs.Areas.{all_octets, end_of, extent}
-use Rattle.lpt_extract.specs.Extracts.{is_of, start, whole_areas, written, written_first, areas_in, notices_in, areas_of, notices_of, Ends, LeavesFront}
-use Rattle.lpt_extract.specs.ExtractsInside.{given, told_of, written_last, EndsBy, Held}
+use Rattle.lpt_extract.specs.Extracts.{is_of, start, whole_areas, written, written_first, areas_in, notices_at, notices_in, areas_of, notices_of, Ends, LeavesFront}
+use Rattle.lpt_extract.specs.CoversInside.{gaps_of}
+use Rattle.lpt_extract.specs.Gaps.{is_given, AreGaps}
+use Rattle.lpt_extract.specs.ExtractsInside.{given, size_of, told_of, written_last, EndsBy, HasImage, Held}
 use Rattle.lpt_extract.specs.ImagesInside.{end_of_image, octets_of_image}
-use Rattle.lpt_extract.specs.Notices.{is_whole, notice, Hears}
+use Rattle.lpt_extract.specs.Notices.{is_whole, notice, span, up_to_limit, Hears}
 use Rattle.lpt_extract.proofs.ImageLemmas.{extent-more, image-none}
 use Rattle.lpt_extract.specs.Reports.{Saying, Areas, report_in}
 use Rattle.lpt_extract.specs.ReportsInside.{load_area}
@@ -39,9 +45,9 @@ given-append xs ys =
     ∙ ap (map area) (filter-append is_whole (map load_area xs) (map load_area ys))
     ∙ map-append area _ _
 
-pub told-append : (m : ℕ) (xs ys : List SeenArea) → told_of m (xs ++ ys) ≡ told_of m xs ++ told_of m ys
-told-append m xs ys =
-    ap (map (notice m)) (map-append load_area xs ys) ∙ map-append (notice m) _ _
+pub told-append : (m n : ℕ) (xs ys : List SeenArea) → told_of m n (xs ++ ys) ≡ told_of m n xs ++ told_of m n ys
+told-append m n xs ys =
+    ap (map (notice m n)) (map-append load_area xs ys) ∙ map-append (notice m n) _ _
 
 -- of the next area
 pub given-more : (xs : List SeenArea) (i : ℕ) (d : SeenArea)
@@ -49,11 +55,23 @@ pub given-more : (xs : List SeenArea) (i : ℕ) (d : SeenArea)
     → given (take (i + 1) xs) ≡ given (take i xs) ++ given (get_or xs i d ∷ [])
 given-more xs i d h = ap given (take_more xs i d h) ∙ given-append (take i xs) (get_or xs i d ∷ [])
 
-pub told-more : (m : ℕ) (xs : List SeenArea) (i : ℕ) (d : SeenArea)
+pub told-more : (m n : ℕ) (xs : List SeenArea) (i : ℕ) (d : SeenArea)
     → i < length xs
-    → told_of m (take (i + 1) xs) ≡ told_of m (take i xs) ++ told_of m (get_or xs i d ∷ [])
-told-more m xs i d h =
-    ap (told_of m) (take_more xs i d h) ∙ told-append m (take i xs) (get_or xs i d ∷ [])
+    → told_of m n (take (i + 1) xs) ≡ told_of m n (take i xs) ++ told_of m n (get_or xs i d ∷ [])
+told-more m n xs i d h =
+    ap (told_of m n) (take_more xs i d h) ∙ told-append m n (take i xs) (get_or xs i d ∷ [])
+
+-- of one with a wrong checksum, and with a right one
+pub given-wrong : (s : SeenArea) → is_whole (load_area s) ≡ false → given (s ∷ []) ≡ []
+given-wrong s h = rw h refl
+
+pub given-right : (s : SeenArea) → is_whole (load_area s) ≡ true → given (s ∷ []) ≡ area (load_area s) ∷ []
+given-right s h = rw h refl
+
+pub told-wrong : (m n : ℕ) (s : SeenArea)
+    → is_whole (load_area s) ≡ false
+    → told_of m n (s ∷ []) ≡ WrongChecksum (span m (load_area s)) n ∷ []
+told-wrong m n s h = rw h refl
 
 -- what a report of a memory that is wanted gives
 pub areas-said : (at : Option Place) (m : ℕ) (xs ys : List SeenArea) (r : Saying)
@@ -71,35 +89,92 @@ given-split n xs = sym (given-append (take n xs) (drop n xs)) ∙ ap given (take
 pub areas-append : (w : Wanted) (xs ys : List (List ℕ)) → areas_in w (xs ++ ys) ≡ areas_in w xs ++ areas_in w ys
 areas-append w xs ys = flat_map-append (λ b. areas_of w.at (report_in w.apid b)) xs ys
 
-pub notices-append : (w : Wanted) (xs ys : List (List ℕ))
-    → notices_in w (xs ++ ys) ≡ notices_in w xs ++ notices_in w ys
-notices-append w xs ys = flat_map-append (λ b. notices_of w.at (report_in w.apid b)) xs ys
+-- the octets of a piece more
+pub size-next : (ps : List Piece) (p : Piece) → size_of (ps ++ p ∷ []) ≡ size_of ps + length p.octets
+size-next [] p = omega arith
+size-next (q ∷ ps) p = let rest = size-next ps p in omega (arith, rest)
+
+-- what is told of a piece more
+pub notices-next : (w : Wanted) (n : ℕ) (ps : List Piece) (p : Piece)
+    → notices_in w n (ps ++ p ∷ [])
+    ≡ notices_in w n ps ++ notices_at w (up_to_limit (n + size_of ps)) p.kind p.octets
+notices-next w n [] p =
+    append-nil (notices_at w (up_to_limit n) p.kind p.octets)
+    ∙ ap (λ k. notices_at w (up_to_limit k) p.kind p.octets) (omega arith)
+notices-next w n (q ∷ ps) p =
+    let first = notices_at w (up_to_limit n) q.kind q.octets in
+    ap (λ ns. first ++ ns) (notices-next w (n + length q.octets) ps p
+    ∙ ap (λ k. notices_in w (n + length q.octets) ps ++ notices_at w (up_to_limit k) p.kind p.octets)
+    (omega arith))
+    ∙ sym (append_assoc first (notices_in w (n + length q.octets) ps) _)
 
 -- ---- nothing
 
-pub held-none : (at : Option Place) (i : Image)
+pub image-held-none : (at : Option Place) (i : Image)
     → end_of_image i ≡ 0
+    → gaps_of i.cover ≡ []
     → octets_of_image i ≡ []
-    → Held at [] i
-held-none None i end octets = end
-held-none (Some p) i end octets = record {
-  end_is = end;
+    → HasImage at [] i
+image-held-none None i end gaps octets = (end, gaps)
+image-held-none (Some p) i end gaps octets = record {
+  covers = record {
+    end_is = end;
+    gaps_are = subst (AreGaps (is_given []) p.from 0) (sym gaps) (λ n c d. absurd (omega (arith, d)));
+    reached = λ h. absurd (omega (arith, h));
+  };
   octets_are = λ fits. octets ∙ image-none p.from p.fill;
 }
 
 -- an area more that isn't put into an image
-pub held-next : (at : Option Place) (before : List Area) (a : Area) (i j : Image)
+pub image-held-next : (at : Option Place) (before : List Area) (a : Area) (i j : Image)
     → at ≡ None
     → end_of_image j ≡ max (end_of_image i) (end_of a)
-    → Held at before i
-    → Held at (before ++ a ∷ []) j
-held-next None before a i j is e h =
-    e ∙ ap (λ k. max k (end_of a)) h ∙ sym (extent-more before a)
-held-next (Some p) before a i j is e h = absurd cc
+    → gaps_of j.cover ≡ gaps_of i.cover
+    → HasImage at before i
+    → HasImage at (before ++ a ∷ []) j
+image-held-next None before a i j is e g h =
+    (e ∙ ap (λ k. max k (end_of a)) h.0 ∙ sym (extent-more before a), g ∙ h.1)
+image-held-next (Some p) before a i j is e g h = absurd cc
 
 pub wrote-none : (at : Option Place) (a : Option (List ℕ)) → Appends a a (written_first at [])
 wrote-none None a = Appends-nil a
 wrote-none (Some p) a = Appends-nil a
+
+-- ---- what is held
+
+-- other areas and notices, which are the same
+pub held-as : (at : Option Place) (xs ys : List Area) (ns ms : List Notice) (h : Holding)
+    → xs ≡ ys
+    → ns ≡ ms
+    → Held at xs ns h
+    → Held at ys ms h
+held-as at xs ys ns ms h e f k =
+    subst (λ zs. Held at zs ms h) e (subst (λ ks. Held at xs ks h) f k)
+
+-- with no area more
+pub held-same : (at : Option Place) (xs : List Area) (ns : List Notice) (h : Holding)
+    → Held at xs ns h
+    → Held at (xs ++ []) ns h
+held-same at xs ns h k = held-as at xs (xs ++ []) ns ns h (sym (append-nil xs)) refl k
+
+-- with a report of another memory
+pub held-other : (at : Option Place) (r : Request LoadArea) (place : ℕ) (xs : List Area) (ns : List Notice)
+    (h : Holding)
+    → is_of at r.memory ≡ false
+    → Held at xs (ns ++ OtherMemory r.memory ∷ []) h
+    → Held at (xs ++ areas_of at (Areas r)) (ns ++ notices_of at place (Areas r)) h
+held-other at r place xs ns h e k = rw e (held-same at xs _ h k)
+
+-- more and more
+pub held-more : (at : Option Place) (xs ys zs all : List Area) (ns ms ks told : List Notice) (h : Holding)
+    → all ≡ ys ++ zs
+    → told ≡ ms ++ ks
+    → Held at ((xs ++ ys) ++ zs) ((ns ++ ms) ++ ks) h
+    → Held at (xs ++ all) (ns ++ told) h
+held-more at xs ys zs all ns ms ks told h e f k =
+    held-as at _ (xs ++ all) _ (ns ++ told) h
+    (append_assoc xs ys zs ∙ ap (λ l. xs ++ l) (sym e))
+    (append_assoc ns ms ks ∙ ap (λ l. ns ++ l) (sym f)) k
 
 -- ---- what was told
 
@@ -156,23 +231,29 @@ none-first None (a ∷ areas) h =
     ap (λ (o : List ℕ). o ++ all_octets areas) none ∙ none-first None areas (omega (arith, h))
 none-first (Some p) areas h = refl
 
+never-false : true ≡ false → ⊥
+never-false h = cc
+
 -- how the whole ends, by how its end does
-pub ends-by : (at : Option Place) (areas : List Area) (end : ExtractEnd) (a b c : Option (List ℕ))
+pub ends-by : (at : Option Place) (areas : List Area) (u : Bool) (end : ExtractEnd) (a b c : Option (List ℕ))
     → Appends a b (written_first at areas)
-    → EndsBy at areas end b c
-    → Ends at areas end a c
-ends-by at areas Written a b c h k = (
+    → EndsBy at areas u end b c
+    → Ends at areas u end a c
+ends-by at areas u Written a b c h k = (
   k.0,
   k.1,
-  subst (Appends a c) (written-both at areas) (Appends-trans a b c _ _ h k.2),
+  k.2,
+  subst (Appends a c) (written-both at areas) (Appends-trans a b c _ _ h k.3),
 )
-ends-by at areas Nothing a b c h k = (
+ends-by at areas u Nothing a b c h k = (
   k.0,
   subst (Appends a c) (none-first at areas k.0)
       (subst (Appends a c) (append-nil (written_first at areas)) (Appends-trans a b c _ _ h k.1)),
 )
-ends-by None areas (TooLarge n) a b c h k = absurd k.0
-ends-by (Some p) areas (TooLarge n) a b c h k = (k.0, Appends-trans a b c [] [] h k.1)
+ends-by None areas u (TooLarge n) a b c h k = absurd k.0
+ends-by (Some p) areas u (TooLarge n) a b c h k = (k.0, Appends-trans a b c [] [] h k.1)
+ends-by None areas u NotWhole a b c h k = absurd (never-false k.2)
+ends-by (Some p) areas u NotWhole a b c h k = (k.0, k.1, k.2, Appends-trans a b c [] [] h k.3)
 
 -- ---- what a fault leaves
 
@@ -195,3 +276,13 @@ pub leaves-last : (at : Option Place) (areas : List Area) (a b c : Option (List 
     → LeavesFront tool.Write at areas a c
 leaves-last at areas a b c h k =
     subst (AppendsPart a c) (written-both at areas) (part_after a b c _ _ h k)
+
+-- and of what was written last, where it couldn't be passed on
+pub part-by : (at : Option Place) (areas : List Area) (u : Bool) (end : ExtractEnd) (a b c : Option (List ℕ))
+    → EndsBy at areas u end a b
+    → Keeps b c
+    → AppendsPart a c (written_last at areas)
+part-by at areas u Written a b c h k = part_whole a c _ (Appends-kept a b c _ h.3 k)
+part-by at areas u Nothing a b c h k = part_of_nothing a c _ (Appends-kept a b c [] h.1 k)
+part-by at areas u (TooLarge n) a b c h k = part_of_nothing a c _ (Appends-kept a b c [] h.1 k)
+part-by at areas u NotWhole a b c h k = part_of_nothing a c _ (Appends-kept a b c [] h.3 k)

@@ -1,3 +1,5 @@
+mod CoverLemmas
+mod GapLemmas
 mod GiveLemmas
 mod ImageLemmas
 mod ReadLemmas

@@ -1,8 +1,9 @@
 -- What is taken of the pieces of a stream.
-use Rattle.std.proofs.Common.{◌≡◌, ◌∙◌, ap, sym, subst, ℕ, ◌⊎◌, inl, inr, Bool, true, List, [], ◌∷◌, ◌++◌, Option, Result, Ok, Err}
+use Rattle.std.proofs.Common.{◌≡◌, ◌∙◌, ap, sym, subst, refl, ℕ, ◌+◌, ◌⊎◌, inl, inr, Bool, true, List, [], ◌∷◌, ◌++◌, length, Option, Result, Ok, Err, arith}
+use Rattle.std.proofs.KnownBytes.{Appends-kept}
 use Rattle.std.specs.Prelude.{IfOk, IfErr}
-use Rattle.std.specs.Io.KnownBytes.{Appends, Consumes}
-use Rattle.lpt_stream.specs.Buffers.{FindsPiece}
+use Rattle.std.specs.Io.KnownBytes.{Appends, Consumes, Keeps}
+use Rattle.lpt_stream.specs.Buffers.{FindsPassing}
 use Rattle.lpt_stream.specs.declared.buffer.PacketBuffer.{PacketBuffer}
 use Rattle.lpt_stream.specs.Pieces.{Piece, Leads, packet_before, packets_of}
 use Rattle.lpt_stream.proofs.CutLemmas.{packets-next}
@@ -10,31 +11,44 @@ use Rattle.lpt_stream.specs.LptText.declared.fault.ToolFault.{ToolFault}
 use Rattle.lpt_stream.specs.LptText.declared.fault.ToolFault.TheVariants as tool
 use Rattle.lpt_stream.specs.LptText.Streams.{AppendsPart}
 use Rattle.lpt_memory.specs.declared.request.Area.{Area}
-use Rattle.lpt_extract.specs.declared.image.Image.{Image}
+use Rattle.lpt_extract.specs.declared.holding.Holding.{Holding}
 use Rattle.lpt_extract.specs.declared.notice.Notice.{Notice}
 use Rattle.lpt_extract.specs.declared.wanted.Wanted.{Wanted}
-use Rattle.lpt_extract.specs.Extracts.{areas_in, notices_in, written_first, ExtractLeaves, LeavesFront}
-use Rattle.lpt_extract.specs.ExtractsInside.{Held}
-use Rattle.lpt_extract.specs.ImagesInside.{end_of_image, octets_of_image}
-use Rattle.lpt_extract.specs.Notices.{Hears}
-use Rattle.lpt_extract.proofs.GiveLemmas.{areas-append, notices-append, hears-more, hears-nothing, held-none, wrote-none, wrote-more, part-more, leaves-first}
+use Rattle.lpt_extract.specs.Extracts.{areas_in, notices_at, notices_in, written_first, ExtractLeaves, LeavesFront}
+use Rattle.lpt_extract.specs.ExtractsInside.{size_of, Held}
+use Rattle.lpt_extract.specs.Notices.{up_to_limit, Hears}
+use Rattle.lpt_extract.proofs.GiveLemmas.{areas-append, notices-next, size-next, held-as, hears-more, hears-nothing, wrote-none, wrote-more, part-more, leaves-first}
 
--- what the packets among pieces give was held, written and told
-pub record Taken (w : Wanted) (i : Image) (old new : Option (List ℕ)) (heard hears : Option (List Notice))
-    (ps : List Piece) : Type 0 where
-  pub held : Held w.at (areas_in w (packets_of ps)) i
+-- what pieces give was held, written and told, and the place behind them is known
+pub record Taken (w : Wanted) (h : Holding) (place : ℕ) (old new : Option (List ℕ))
+    (heard hears : Option (List Notice)) (ps : List Piece) : Type 0 where
+  pub held : Held w.at (areas_in w (packets_of ps)) (notices_in w 0 ps) h
   pub wrote : Appends old new (written_first w.at (areas_in w (packets_of ps)))
-  pub told : Hears heard hears (notices_in w (packets_of ps))
+  pub told : Hears heard hears (notices_in w 0 ps)
+  pub place_is : place ≡ up_to_limit (size_of ps)
 
 -- nothing was taken of no pieces
-pub taken-none : (w : Wanted) (i : Image) (old : Option (List ℕ)) (heard : Option (List Notice))
-    → end_of_image i ≡ 0
-    → octets_of_image i ≡ []
-    → Taken w i old old heard heard []
-taken-none w i old heard end octets = record {
-  held = held-none w.at i end octets;
+pub taken-none : (w : Wanted) (h : Holding) (old : Option (List ℕ)) (heard : Option (List Notice))
+    → Held w.at [] [] h
+    → Taken w h 0 old old heard heard []
+taken-none w h old heard held = record {
+  held = held;
   wrote = wrote-none w.at old;
   told = hears-nothing heard;
+  place_is = refl;
+}
+
+-- with what was written kept
+pub taken-kept : (w : Wanted) (h : Holding) (place : ℕ) (old mid new : Option (List ℕ))
+    (heard hears : Option (List Notice)) (ps : List Piece)
+    → Taken w h place old mid heard hears ps
+    → Keeps mid new
+    → Taken w h place old new heard hears ps
+taken-kept w h place old mid new heard hears ps taken keeps = record {
+  held = taken.held;
+  wrote = Appends-kept old mid new _ taken.wrote keeps;
+  told = taken.told;
+  place_is = taken.place_is;
 }
 
 -- the areas of a piece more
@@ -43,37 +57,38 @@ pub areas-next : (w : Wanted) (ps : List Piece) (p : Piece)
     ≡ areas_in w (packets_of ps) ++ areas_in w (packet_before p.kind p.octets [])
 areas-next w ps p = ap (areas_in w) (packets-next ps p) ∙ areas-append w (packets_of ps) _
 
-notices-next : (w : Wanted) (ps : List Piece) (p : Piece)
-    → notices_in w (packets_of (ps ++ p ∷ []))
-    ≡ notices_in w (packets_of ps) ++ notices_in w (packet_before p.kind p.octets [])
-notices-next w ps p = ap (notices_in w) (packets-next ps p) ∙ notices-append w (packets_of ps) _
-
 -- a piece more was taken
-pub taken-next : (w : Wanted) (i j : Image) (old mid new : Option (List ℕ))
+pub taken-next : (w : Wanted) (h k : Holding) (place behind : ℕ) (old mid new : Option (List ℕ))
     (heard hear hears : Option (List Notice)) (ps : List Piece) (p : Piece)
-    → Taken w i old mid heard hear ps
-    → ((areas : List Area) → Held w.at areas i
-    → Held w.at (areas ++ areas_in w (packet_before p.kind p.octets [])) j)
+    → Taken w h place old mid heard hear ps
+    → ((areas : List Area) (ns : List Notice) → Held w.at areas ns h
+    → Held w.at (areas ++ areas_in w (packet_before p.kind p.octets []))
+    (ns ++ notices_at w place p.kind p.octets) k)
     → Appends mid new (written_first w.at (areas_in w (packet_before p.kind p.octets [])))
-    → Hears hear hears (notices_in w (packet_before p.kind p.octets []))
-    → Taken w j old new heard hears (ps ++ p ∷ [])
-taken-next w i j old mid new heard hear hears ps p h held wrote told = record {
-  held = subst (λ areas. Held w.at areas j) (sym (areas-next w ps p)) (held _ h.held);
-  wrote = subst (λ areas. Appends old new (written_first w.at areas)) (sym (areas-next w ps p))
-      (wrote-more w.at old mid new _ _ h.wrote wrote);
-  told = subst (Hears heard hears) (sym (notices-next w ps p))
-      (hears-more heard hear hears _ _ h.told told);
-}
+    → Hears hear hears (notices_at w place p.kind p.octets)
+    → behind ≡ up_to_limit (place + length p.octets)
+    → Taken w k behind old new heard hears (ps ++ p ∷ [])
+taken-next w h k place behind old mid new heard hear hears ps p was held wrote told further =
+    let next : notices_in w 0 ps ++ notices_at w place p.kind p.octets ≡ notices_in w 0 (ps ++ p ∷ []) =
+    ap (λ n. notices_in w 0 ps ++ notices_at w n p.kind p.octets) (omega (arith, was.place_is))
+    ∙ sym (notices-next w 0 ps p) in
+    record {
+      held = held-as w.at _ _ _ _ k (sym (areas-next w ps p)) next (held _ _ was.held);
+      wrote = subst (λ areas. Appends old new (written_first w.at areas)) (sym (areas-next w ps p))
+          (wrote-more w.at old mid new _ _ was.wrote wrote);
+      told = subst (Hears heard hears) next (hears-more heard hear hears _ _ was.told told);
+      place_is = omega (arith, further, was.place_is, size-next ps p);
+    }
 
 -- a front part of what it gives was written
-pub part-next : (w : Wanted) (i : Image) (old mid new : Option (List ℕ))
+pub part-next : (w : Wanted) (h : Holding) (place : ℕ) (old mid new : Option (List ℕ))
     (heard hear : Option (List Notice)) (ps : List Piece) (p : Piece)
-    → Taken w i old mid heard hear ps
+    → Taken w h place old mid heard hear ps
     → AppendsPart mid new (written_first w.at (areas_in w (packet_before p.kind p.octets [])))
     → AppendsPart old new (written_first w.at (areas_in w (packets_of (ps ++ p ∷ []))))
-part-next w i old mid new heard hear ps p h part =
+part-next w h place old mid new heard hear ps p was part =
     subst (λ areas. AppendsPart old new (written_first w.at areas)) (sym (areas-next w ps p))
-    (part-more w.at old mid new _ _ h.wrote part)
+    (part-more w.at old mid new _ _ was.wrote part)
 
 -- ---- results
 
@@ -96,14 +111,25 @@ if-err P Q R (Err e) f h k = f e h k
 
 -- what was read of a stream in which no piece was found
 pub find-lost : (fault : ToolFault) (old new : PacketBuffer) (a b : Option (List ℕ)) (had failed : Bool)
-    → FindsPiece (Err fault) old new a b had failed
+    → FindsPassing (Err fault) old new a b had failed
     → (lost : List ℕ) × Consumes a b lost
 find-lost tool.Read old new a b had failed h = (h.0, h.1)
 find-lost tool.Memory old new a b had failed h = (h.0, h.1)
-find-lost tool.Write old new a b had failed h = absurd h
+find-lost tool.Write old new a b had failed h = (h.0, h.1.added.consumed)
 find-lost tool.Config old new a b had failed h = absurd h
 find-lost (tool.Line n) old new a b had failed h = absurd h
 find-lost (tool.Threads n) old new a b had failed h = absurd h
+
+-- which faults there are, and that only a read fails a source
+pub find-fault : (fault : ToolFault) (old new : PacketBuffer) (a b : Option (List ℕ)) (had failed : Bool)
+    → FindsPassing (Err fault) old new a b had failed
+    → (fault ≡ tool.Read) ⊎ ((fault ≡ tool.Write) ⊎ (fault ≡ tool.Memory))
+find-fault tool.Read old new a b had failed h = inl refl
+find-fault tool.Memory old new a b had failed h = inr (inr refl)
+find-fault tool.Write old new a b had failed h = inr (inl refl)
+find-fault tool.Config old new a b had failed h = absurd h
+find-fault (tool.Line n) old new a b had failed h = absurd h
+find-fault (tool.Threads n) old new a b had failed h = absurd h
 
 module _ (w : Wanted) (before after : Option (List ℕ)) (stream others : List ℕ) (pieces : List Piece)
     (in_step : Bool) (rest : List ℕ) (consumed : Consumes before after (stream ++ others))
@@ -122,29 +148,21 @@ module _ (w : Wanted) (before after : Option (List ℕ)) (stream others : List �
     front = front;
   }
 
-  -- a read failed, or memory ran out
-  pub left-read : (e : ToolFault) (A B : Type 0)
-      → ((e ≡ tool.Read) × A) ⊎ ((e ≡ tool.Memory) × B)
+  -- a read or a write failed, or memory ran out
+  pub left-first : (e : ToolFault)
+      → (e ≡ tool.Read) ⊎ ((e ≡ tool.Write) ⊎ (e ≡ tool.Memory))
       → AppendsPart old new (written_first w.at (areas_in w (packets_of pieces)))
       → ExtractLeaves w e before after old new
-  left-read e A B (inl h) part =
-      left e (subst (λ f. LeavesFront f w.at (areas_in w (packets_of pieces)) old new) (sym h.0)
-      (leaves-first w.at (areas_in w (packets_of pieces)) old new part).1)
-  left-read e A B (inr h) part =
-      left e (subst (λ f. LeavesFront f w.at (areas_in w (packets_of pieces)) old new) (sym h.0)
-      (leaves-first w.at (areas_in w (packets_of pieces)) old new part).0)
-
-  -- a write failed, or memory ran out
-  pub left-write : (e : ToolFault)
-      → (e ≡ tool.Write) ⊎ (e ≡ tool.Memory)
-      → AppendsPart old new (written_first w.at (areas_in w (packets_of pieces)))
-      → ExtractLeaves w e before after old new
-  left-write e (inl h) part =
-      left e (subst (λ f. LeavesFront f w.at (areas_in w (packets_of pieces)) old new) (sym h)
-      (leaves-first w.at (areas_in w (packets_of pieces)) old new part).2)
-  left-write e (inr h) part =
-      left e (subst (λ f. LeavesFront f w.at (areas_in w (packets_of pieces)) old new) (sym h)
-      (leaves-first w.at (areas_in w (packets_of pieces)) old new part).0)
+  left-first e is part =
+      let leaves = leaves-first w.at (areas_in w (packets_of pieces)) old new part in
+      let at : (f : ToolFault)
+      → LeavesFront f w.at (areas_in w (packets_of pieces)) old new → e ≡ f → ExtractLeaves w e before after old new =
+      λ f front same.
+      left e (subst (λ f. LeavesFront f w.at (areas_in w (packets_of pieces)) old new) (sym same) front) in
+      elim is [
+        | inl r ↦ at tool.Read leaves.1 r
+        | inr o ↦ elim o [ inl r ↦ at tool.Write leaves.2 r | inr r ↦ at tool.Memory leaves.0 r ]
+      ]
 
   -- the last write failed
   pub left-last : (e : ToolFault)

@@ -1,13 +1,10 @@
--- What octets are seen as, and the report's body in them.
+-- What octets are seen as, and the dump report in them.
 use Rattle.std.proofs.Common.{◌≡◌, ◌∙◌, ap, refl, ℕ, List, Some, None, Result, Ok, Err}
-use Rattle.std.specs.Option.{option_and_then}
 use Rattle.std.specs.Result.{result_ok}
 use Rattle.lpt_memory.specs.LptPacket.declared.fault.PacketFault.{PacketFault}
 use Rattle.lpt_memory.specs.LptPacket.declared.packet.Seen.{Seen}
 use Rattle.lpt_memory.specs.LptPacket.Packets.{Fields, Sight, IdlePacket, APacket, seen, sight, verdict}
-use Rattle.lpt_memory.specs.LptPus.Messages.{for_apid}
-use Rattle.lpt_memory.specs.LptPus.Telemetry.{telemetry_in, tm_verdict}
-use Rattle.lpt_extract.specs.Reports.{dump_body}
+use Rattle.lpt_extract.specs.Reports.{dump_in, dump_in_packet}
 
 -- what a reader saw is seen
 pub seen-read : (b : List ℕ) (s r : Seen)
@@ -25,21 +22,16 @@ pub seen-unread : (b : List ℕ) (e : PacketFault)
     → seen b ≡ None
 seen-unread b e law h = law ∙ ap (λ (r : Result Sight PacketFault). result_ok r) h
 
--- no packet has no body
-pub body-none : (apid : ℕ) (b : List ℕ) → seen b ≡ None → None ≡ option_and_then dump_body (telemetry_in apid b)
-unfolding telemetry_in
-body-none apid b e = rw e refl
+-- no packet is no dump report
+pub dump-none : (b : List ℕ) → seen b ≡ None → None ≡ dump_in b
+unfolding dump_in
+dump-none b e = rw e refl
 
-pub body-idle : (apid : ℕ) (b : List ℕ)
-    → seen b ≡ Some IdlePacket
-    → None ≡ option_and_then dump_body (telemetry_in apid b)
-unfolding telemetry_in
-body-idle apid b e = rw e refl
+pub dump-idle : (b : List ℕ) → seen b ≡ Some IdlePacket → None ≡ dump_in b
+unfolding dump_in
+dump-idle b e = rw e refl
 
--- that of a packet
-pub body-packet : (apid : ℕ) (b : List ℕ) (f : Fields)
-    → seen b ≡ Some (APacket f)
-    → option_and_then dump_body (for_apid (λ t. t.apid) apid (tm_verdict f))
-    ≡ option_and_then dump_body (telemetry_in apid b)
-unfolding telemetry_in
-body-packet apid b f e = rw e refl
+-- that which a packet is
+pub dump-packet : (b : List ℕ) (f : Fields) → seen b ≡ Some (APacket f) → dump_in_packet f ≡ dump_in b
+unfolding dump_in
+dump-packet b f e = rw e refl

@@ -1,24 +1,29 @@
 -- What is extracted of a stream.
-use Rattle.std.specs.Prelude.{◌≡◌, ◌<◌, ◌≤◌, ◌==◌, ◌-◌, ℕ, Bool, true, if◌then◌else◌, List, [], ◌∷◌, ◌++◌, map, filter, Option, Some, None}
+use Rattle.std.specs.Prelude.{◌≡◌, ◌<◌, ◌≤◌, ◌==◌, ◌+◌, ◌-◌, ◌&&◌, ◌||◌, not, ℕ, Bool, true, false, if◌then◌else◌, List, [], ◌∷◌, ◌++◌, length, map, filter, Option, Some, None}
 use Rattle.std.specs.List.{flat_map}
-use Rattle.std.specs.Io.KnownBytes.{Appends, Consumes}
+use Rattle.std.specs.Io.KnownBytes.{Appends, Consumes, IsAtEnd}
 use Rattle.lpt_stream.specs.LptText.Streams.{AppendsPart}
 use Rattle.lpt_stream.specs.LptText.declared.fault.ToolFault.{ToolFault}
 use Rattle.lpt_stream.specs.LptText.declared.fault.ToolFault.TheVariants as tool
-use Rattle.lpt_stream.specs.Pieces.{Piece, Leads, packets_of}
-use Rattle.lpt_stream.specs.Reads.{ReadsAll}
+use Rattle.lpt_stream.specs.declared.piece_kind.PieceKind.{PieceKind}
+use Rattle.lpt_stream.specs.declared.piece_kind.PieceKind.TheVariants.{Whole, Damaged, Stray}
+use Rattle.lpt_stream.specs.Pieces.{Piece, Cuts, Leads, packets_of}
 use Rattle.lpt_memory.specs.declared.request.Area.{Area}
 use Rattle.lpt_memory.specs.Meanings.{area}
 use Rattle.lpt_memory.specs.Requests.{LoadArea}
-use Rattle.lpt_extract.specs.declared.extract_end.ExtractEnd.{ExtractEnd}
-use Rattle.lpt_extract.specs.declared.extract_end.ExtractEnd.TheVariants as ends
+use Rattle.lpt_extract.specs.declared.extracted.ExtractEnd.{ExtractEnd}
+use Rattle.lpt_extract.specs.declared.extracted.ExtractEnd.TheVariants as ends
+use Rattle.lpt_extract.specs.declared.extracted.Extracted.{Extracted}
+use Rattle.lpt_extract.specs.declared.gap.Gap.{Gap}
 use Rattle.lpt_extract.specs.declared.notice.Notice.{Notice}
 use Rattle.lpt_extract.specs.declared.notice.Notice.TheVariants as notices
 use Rattle.lpt_extract.specs.declared.wanted.Place.{Place}
 use Rattle.lpt_extract.specs.declared.wanted.Wanted.{Wanted}
 use Rattle.lpt_extract.specs.Areas.{all_octets, extent, image, image_limit}
-use Rattle.lpt_extract.specs.Notices.{is_whole, notice, Hears}
-use Rattle.lpt_extract.specs.Reports.{Saying, Other, Unread, Areas, report_in}
+use Rattle.lpt_extract.specs.Gaps.{is_given, AreGaps}
+use Rattle.lpt_extract.specs.Notices.{is_whole, notice, up_to_limit, Hears}
+use Rattle.lpt_extract.specs.Reports.{Saying, Other, Foreign, Unread, Areas, report_in}
+use Rattle.lpt_extract.specs.Tallies.{IsTally}
 
 -- ---- what reports give
 
@@ -34,22 +39,35 @@ whole_areas areas = map area (filter is_whole areas)
 -- the areas that a report gives
 abbrev pub areas_of : Option Place → Saying → List Area
 areas_of at Other = []
+areas_of at (Foreign apid) = []
 areas_of at (Unread n) = []
 areas_of at (Areas r) = if is_of at r.memory then whole_areas r.areas else []
-
--- what is told of a report
-abbrev pub notices_of : Option Place → Saying → List Notice
-notices_of at Other = []
-notices_of at (Unread n) = notices.Unread n ∷ []
-notices_of at (Areas r) = if is_of at r.memory then map (notice r.memory) r.areas else []
 
 -- the areas that packets give, in the order in which they stand
 abbrev pub areas_in : Wanted → List (List ℕ) → List Area
 areas_in w packets = flat_map (λ b. areas_of w.at (report_in w.apid b)) packets
 
--- what is told of them
-abbrev pub notices_in : Wanted → List (List ℕ) → List Notice
-notices_in w packets = flat_map (λ b. notices_of w.at (report_in w.apid b)) packets
+-- ---- what is told
+
+-- of a report at a place
+abbrev pub notices_of : Option Place → (place : ℕ) → Saying → List Notice
+notices_of at n Other = []
+notices_of at n (Foreign apid) = notices.OtherApid apid ∷ []
+notices_of at n (Unread k) = notices.Unread k n ∷ []
+notices_of at n (Areas r) =
+    if is_of at r.memory then map (notice r.memory n) r.areas else notices.OtherMemory r.memory ∷ []
+
+-- of a piece of a stream at a place
+abbrev pub notices_at : Wanted → (place : ℕ) → PieceKind → List ℕ → List Notice
+notices_at w n Whole b = notices_of w.at n (report_in w.apid b)
+notices_at w n Damaged b = notices.Damaged ∷ []
+notices_at w n Stray b = notices.Stray ∷ []
+
+-- of pieces, one behind the other, with so many octets before them
+abbrev pub notices_in : Wanted → (before : ℕ) → List Piece → List Notice
+notices_in w n [] = []
+notices_in w n (p ∷ ps) =
+    notices_at w (up_to_limit n) p.kind p.octets ++ notices_in w (n + length p.octets) ps
 
 -- ---- what is written
 
@@ -78,20 +96,61 @@ abbrev pub IsTooLarge : Option Place → List Area → ℕ → Type 0
 IsTooLarge None areas n = ⊥
 IsTooLarge (Some p) areas n = (n ≡ extent areas - p.from) × (image_limit < n)
 
--- how an extraction ends: what is wanted of areas was written; or nothing was, where none of them
--- gives an octet that is wanted, or where the image is too large
-abbrev pub Ends : Option Place → List Area → ExtractEnd → (old new : Option (List ℕ)) → Type 0
-Ends at areas ends.Written old new =
-    (start at < extent areas) × Fits at areas × Appends old new (written at areas)
-Ends at areas ends.Nothing old new = (extent areas ≤ start at) × Appends old new []
-Ends at areas (ends.TooLarge n) old new = IsTooLarge at areas n × Appends old new []
+-- whether there is no gap and nothing was passed over
+abbrev pub is_unbroken : List Gap → (passed : ℕ) → Bool
+is_unbroken gaps passed = (length gaps == 0) && (passed == 0)
 
--- a stream was read to its end, and what its packets give was written and told
-abbrev pub ExtractsTo : Wanted → ExtractEnd → (before after old new : Option (List ℕ))
-    → (heard hears : Option (List Notice)) → Type 0
-ExtractsTo w end before after old new heard hears =
-    ReadsAll before after (λ packets. Ends w.at (areas_in w packets) end old new
-    × Hears heard hears (notices_in w packets))
+-- whether that does: an image may be wanted only where it is unbroken
+abbrev pub suits : Option Place → (unbroken : Bool) → Bool
+suits None u = true
+suits (Some p) u = not p.whole || u
+
+-- how an extraction ends: what is wanted of areas was written; or nothing was, where none of them
+-- gives an octet that is wanted, where the image is too large, or where it was to be unbroken and
+-- isn't
+abbrev pub Ends : Option Place → List Area → (unbroken : Bool) → ExtractEnd
+    → (old new : Option (List ℕ)) → Type 0
+Ends at areas u ends.Written old new =
+    (start at < extent areas) × Fits at areas × (suits at u ≡ true)
+    × Appends old new (written at areas)
+Ends at areas u ends.Nothing old new = (extent areas ≤ start at) × Appends old new []
+Ends at areas u (ends.TooLarge n) old new = IsTooLarge at areas n × Appends old new []
+Ends at areas u ends.NotWhole old new =
+    (start at < extent areas) × Fits at areas × (suits at u ≡ false)
+    × Appends old new []
+
+-- the addresses of the image that no area gives; without an image none
+abbrev pub AreMissing : Option Place → List Area → List Gap → Type 0
+AreMissing None areas gaps = gaps ≡ []
+AreMissing (Some p) areas gaps = AreGaps (is_given areas) p.from (extent areas) gaps
+
+-- a stream was read to its end, and what its packets give was written; what is missing and what
+-- wasn't taken was told
+pub record ExtractsTo (w : Wanted) (x : Extracted) (before after old new : Option (List ℕ))
+    (heard hears : Option (List Notice)) : Type 0 where
+  pub stream : List ℕ
+  pub pieces : List Piece
+  pub consumed : Consumes before after stream
+  pub at_end : IsAtEnd after
+  pub cut : Cuts stream pieces
+  pub ends : Ends w.at (areas_in w (packets_of pieces))
+      (is_unbroken x.gaps.items x.tally.passed) x.end old new
+  pub missing : AreMissing w.at (areas_in w (packets_of pieces)) x.gaps.items
+  pub told : Hears heard hears (notices_in w 0 pieces)
+  pub counted : IsTally (notices_in w 0 pieces) x.tally
+
+-- ---- an end without a word
+
+-- whether what is wanted was written
+abbrev pub is_written : ExtractEnd → Bool
+is_written ends.Written = true
+is_written other = false
+
+-- whether what is wanted was written, with no gap, nothing passed over and nothing but packets
+abbrev pub is_clean : Extracted → Bool
+is_clean x =
+    is_written x.end && is_unbroken x.gaps.items x.tally.passed
+    && (x.tally.damaged == 0) && (x.tally.stray == 0)
 
 -- ---- faults
 

@@ -1,31 +1,47 @@
 -- What is held and told as areas are taken.
-use Rattle.std.specs.Prelude.{◌≡◌, ◌<◌, ◌≤◌, ℕ, List, [], map, Option, Some, None}
+use Rattle.std.specs.Prelude.{◌≡◌, ◌<◌, ◌≤◌, ℕ, Bool, true, false, List, [], map, length, ◌∷◌, ◌+◌, Option, Some, None}
 use Rattle.std.specs.Io.KnownBytes.{Appends}
+use Rattle.lpt_stream.specs.Pieces.{Piece}
 use Rattle.lpt_memory.specs.declared.request.Area.{Area}
-use Rattle.lpt_extract.specs.declared.extract_end.ExtractEnd.{ExtractEnd}
-use Rattle.lpt_extract.specs.declared.extract_end.ExtractEnd.TheVariants.{Written, Nothing, TooLarge}
+use Rattle.lpt_extract.specs.declared.extracted.ExtractEnd.{ExtractEnd}
+use Rattle.lpt_extract.specs.declared.extracted.ExtractEnd.TheVariants.{Written, Nothing, TooLarge, NotWhole}
+use Rattle.lpt_extract.specs.declared.extracted.Extracted.{Extracted}
+use Rattle.lpt_extract.specs.declared.holding.Holding.{Holding}
 use Rattle.lpt_extract.specs.declared.image.Image.{Image}
 use Rattle.lpt_extract.specs.declared.notice.Notice.{Notice}
 use Rattle.lpt_extract.specs.declared.seen_area.SeenArea.{SeenArea}
 use Rattle.lpt_extract.specs.declared.wanted.Place.{Place}
 use Rattle.lpt_extract.specs.Areas.{extent, image}
-use Rattle.lpt_extract.specs.Extracts.{start, whole_areas, Fits, IsTooLarge}
+use Rattle.lpt_extract.specs.CoversInside.{gaps_of}
+use Rattle.lpt_extract.specs.Extracts.{is_unbroken, AreMissing, start, suits, whole_areas, Fits, IsTooLarge}
 use Rattle.lpt_extract.specs.ImagesInside.{end_of_image, Imaged}
 use Rattle.lpt_extract.specs.Notices.{notice}
 use Rattle.lpt_extract.specs.ReportsInside.{load_area}
+use Rattle.lpt_extract.specs.Tallies.{IsTally}
+
+-- how many octets pieces have
+abbrev pub size_of : List Piece → ℕ
+size_of [] = 0
+size_of (p ∷ ps) = length p.octets + size_of ps
 
 -- where the area ends that ends last of these, and their image, where one is wanted
-abbrev pub Held : Option Place → List Area → Image → Type 0
-Held None areas i = end_of_image i ≡ extent areas
-Held (Some p) areas i = Imaged p areas i
+abbrev pub HasImage : Option Place → List Area → Image → Type 0
+HasImage None areas i = (end_of_image i ≡ extent areas) × (gaps_of i.cover ≡ [])
+HasImage (Some p) areas i = Imaged p areas i
+
+-- and what was told is counted
+pub record Held (at : Option Place) (areas : List Area) (ns : List Notice) (h : Holding)
+    : Type 0 where
+  pub image : HasImage at areas h.image
+  pub counted : IsTally ns h.tally
 
 -- the areas with a right checksum among those that were seen
 abbrev pub given : List SeenArea → List Area
 given areas = whole_areas (map load_area areas)
 
--- what is told of areas that were seen
-abbrev pub told_of : ℕ → List SeenArea → List Notice
-told_of m areas = map (notice m) (map load_area areas)
+-- what is told of areas that were seen in a report at a place
+abbrev pub told_of : (memory place : ℕ) → List SeenArea → List Notice
+told_of m n areas = map (notice m n) (map load_area areas)
 
 -- what is written once all areas have come
 abbrev pub written_last : Option Place → List Area → List ℕ
@@ -33,8 +49,24 @@ written_last None areas = []
 written_last (Some p) areas = image p.from p.fill areas
 
 -- how an extraction ends, and what is written then
-abbrev pub EndsBy : Option Place → List Area → ExtractEnd → (old new : Option (List ℕ)) → Type 0
-EndsBy at areas Written old new =
-    (start at < extent areas) × Fits at areas × Appends old new (written_last at areas)
-EndsBy at areas Nothing old new = (extent areas ≤ start at) × Appends old new []
-EndsBy at areas (TooLarge n) old new = IsTooLarge at areas n × Appends old new []
+abbrev pub EndsBy : Option Place → List Area → (unbroken : Bool) → ExtractEnd
+    → (old new : Option (List ℕ)) → Type 0
+EndsBy at areas u Written old new =
+    (start at < extent areas) × Fits at areas × (suits at u ≡ true)
+    × Appends old new (written_last at areas)
+EndsBy at areas u Nothing old new = (extent areas ≤ start at) × Appends old new []
+EndsBy at areas u (TooLarge n) old new = IsTooLarge at areas n × Appends old new []
+EndsBy at areas u NotWhole old new =
+    (start at < extent areas) × Fits at areas × (suits at u ≡ false)
+    × Appends old new []
+
+-- whether what was taken has no gap and nothing was passed over
+abbrev pub is_unbroken_so_far : Holding → Bool
+is_unbroken_so_far h = is_unbroken (gaps_of h.image.cover) h.tally.passed
+
+-- what an extraction gives that ends so
+pub record EndsAs (at : Option Place) (areas : List Area) (ns : List Notice) (x : Extracted)
+    (old new : Option (List ℕ)) : Type 0 where
+  pub by : EndsBy at areas (is_unbroken x.gaps.items x.tally.passed) x.end old new
+  pub missing : AreMissing at areas x.gaps.items
+  pub counted : IsTally ns x.tally

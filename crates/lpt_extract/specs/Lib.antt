@@ -1,7 +1,10 @@
 pub mod Areas
+pub mod CoversInside
 pub mod Extracts
 pub mod ExtractsInside
+pub mod Gaps
 pub mod ImagesInside
 pub mod Notices
 pub mod Reports
 pub mod ReportsInside
+pub mod Tallies

@@ -1,5 +1,5 @@
--- What is told of dump reports.
-use Rattle.std.specs.Prelude.{◌≡◌, ◌==◌, Bool, if◌then◌else◌, ℕ, List, ◌++◌, length, Option, Some, None, ⊤}
+-- What is told of a stream.
+use Rattle.std.specs.Prelude.{◌≡◌, ◌==◌, min, Bool, if◌then◌else◌, ℕ, List, ◌++◌, length, Option, Some, None, ⊤}
 use Rattle.lpt_memory.specs.LptPacket.Checksums.{checksum}
 use Rattle.lpt_memory.specs.Requests.{LoadArea}
 use Rattle.lpt_extract.specs.declared.notice.Notice.{Notice}
@@ -12,6 +12,10 @@ Hears None new ns = ⊤
 Hears (Some xs) None ns = ⊥
 Hears (Some xs) (Some ys) ns = ys ≡ xs ++ ns
 
+-- a number as it is told and counted: no more than 2^64 - 1
+abbrev pub up_to_limit : ℕ → ℕ
+up_to_limit n = min n 18446744073709551615
+
 -- where the octets of an area stand
 abbrev pub span : ℕ → LoadArea → Span
 span m a = record { memory = m; address = a.address; len = length a.octets }
@@ -20,6 +24,6 @@ span m a = record { memory = m; address = a.address; len = length a.octets }
 abbrev pub is_whole : LoadArea → Bool
 is_whole a = checksum a.octets == a.checksum
 
--- what is told of an area
-abbrev pub notice : ℕ → LoadArea → Notice
-notice m a = if is_whole a then Taken (span m a) else WrongChecksum (span m a)
+-- what is told of an area of a report at a place
+abbrev pub notice : (memory place : ℕ) → LoadArea → Notice
+notice m n a = if is_whole a then Taken (span m a) else WrongChecksum (span m a) n

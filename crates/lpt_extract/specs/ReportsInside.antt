@@ -4,7 +4,7 @@ use Rattle.lpt_memory.specs.Requests.{LoadArea}
 use Rattle.lpt_extract.specs.declared.seen_area.SeenArea.{SeenArea}
 use Rattle.lpt_extract.specs.declared.report.Report.{Report}
 use Rattle.lpt_extract.specs.declared.report.Report.TheVariants as seen
-use Rattle.lpt_extract.specs.Reports.{Saying, Other, Unread, Areas}
+use Rattle.lpt_extract.specs.Reports.{Saying, Other, Foreign, Unread, Areas}
 
 -- an area, as it stands in the body
 abbrev pub load_area : SeenArea → LoadArea
@@ -13,5 +13,6 @@ load_area a = record { address = a.address; octets = a.octets.now; checksum = a.
 -- what a report says
 abbrev pub said : Report → Saying
 said seen.Other = Other
+said (seen.Foreign apid) = Foreign apid
 said (seen.Unread n) = Unread n
 said (seen.Areas m areas) = Areas (record { memory = m; areas = map load_area areas.items })

@@ -1,18 +1,20 @@
 //! The octets of dump reports, extracted from a stream as it comes.
 
-ghost use Rattle.std.specs.Prelude.{◌≡◌, ◌≢◌, ◌⊎◌, true, Err, IfErr, IfOk, IsErrOf};
+ghost use Rattle.std.specs.Prelude.{◌≡◌, ◌≢◌, ◌⊎◌, true, Err, IfErr, IfOk, IsErrOf, IsOk};
 ghost use Rattle.lpt_stream.specs.Reads.{IsEndless};
 ghost use Rattle.lpt_extract.specs.Extracts.{ExtractLeaves, ExtractsTo};
 
-use crate::image::Image;
-use crate::taking::{take_piece, write_image};
-use crate::{ExtractEnd, Listener, Wanted};
+use crate::ending::end_extract;
+use crate::holding::Holding;
+use crate::taking::take_piece;
+use crate::{Extracted, Listener, Wanted};
 use lpt_stream::{PacketBuffer, Sink, Source, ToolFault};
 use std::alloc::Global;
 
 /// Reads a stream of packets to its end, and writes what is wanted of the dump reports among them:
 /// the octets of each area, as it comes; or at the end an image, in which of two areas that overlap
-/// the later one wins. The listener is told of each area and each report that isn't read.
+/// the later one wins. The listener is told of each area, of each dump report that isn't taken, and
+/// of what is no packet. Before each read, and at the end, `out` passes on what was written.
 ///
 /// Errors: `Read` where a read failed, or where 2^64 - 1 pieces came; `Write` where a write failed;
 /// `Memory`. A front part of the octets stays written; of an image, only where a write failed.
@@ -22,10 +24,13 @@ pub fn extract_stream<S: Source, K: Sink, L: Listener>(
     source: &mut S,
     out: &mut K,
     listener: &mut L,
-) -> Result<ExtractEnd, ToolFault>
-    ensures ends { IfOk result (λ end. ExtractsTo wanted.now end
+) -> Result<Extracted, ToolFault>
+    ensures ends { IfOk result (λ x. ExtractsTo wanted.now x
         (S.remaining source.old) (S.remaining source.new) (K.contents out.old) (K.contents out.new)
         (L.heard listener.old) (L.heard listener.new)) }
+
+    // All that was written is passed on.
+    ensures passed { IsOk result → K.passed out.new ≡ K.contents out.new }
 
     // Each fault is that of a read, of a write or of memory.
     ensures leaves { IfErr result (λ e. ExtractLeaves wanted.now e
@@ -38,18 +43,29 @@ pub fn extract_stream<S: Source, K: Sink, L: Listener>(
     ensures told { result ≢ Err ToolFault.Write → K.failed out.new ≡ K.failed out.old }
 {
     let mut buffer = PacketBuffer::new(alloc);
-    let mut image = Image::new(alloc);
+    let mut holding = Holding::new(alloc);
+    let mut place: u64 = 0;
     for count in 0..u64::MAX {
-        let found = match buffer.find_piece(source) {
+        let found = match buffer.find_piece_passing(source, out) {
             Ok(Some(found)) => found,
-            Ok(None) => return write_image(wanted, &image, out),
+            Ok(None) => return end_extract(wanted, holding, out),
             Err(fault) => return Err(fault),
         };
         let octets = &buffer.held()[..found.len];
-        match take_piece(alloc, wanted, found.kind, octets, &mut image, out, listener) {
+        match take_piece(
+            alloc,
+            wanted,
+            place,
+            found.kind,
+            octets,
+            &mut holding,
+            out,
+            listener,
+        ) {
             Ok(()) => {}
             Err(fault) => return Err(fault),
         }
+        place = place.saturating_add(found.len as u64);
         buffer.skip(found);
     }
     Err(ToolFault::Read)

@@ -1,6 +1,6 @@
 //! Fields at the front of octets. Each reader gives a value and the octets behind it.
 
-ghost use Rattle.std.specs.Prelude.{◌≡◌, ◌≤◌, length, option_map, IfSome};
+ghost use Rattle.std.specs.Prelude.{◌≡◌, ◌<◌, ◌≤◌, length, option_map, IfSome};
 ghost use Rattle.lpt_memory.specs.Fields.{front_octet, front_word, front_long, front_octets};
 
 // One octet.
@@ -30,6 +30,7 @@ pub(crate) fn long(bytes: &[u8]) -> Option<(u32, &[u8])>
 // So many octets, at least one.
 pub(crate) fn part(bytes: &[u8], len: u16) -> Option<(&[u8], &[u8])>
     ensures value { option_map (λ x. (x.0.now, x.1.now)) result ≡ front_octets len bytes.now }
+    ensures some { IfSome result (λ x. 0 < length x.0.now) }
     ensures short { IfSome result (λ x. length x.0.now ≤ 65535) }
 {
     if len == 0 {

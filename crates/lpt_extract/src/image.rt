@@ -1,8 +1,9 @@
 //! The octets of areas at their places.
 
-ghost use Rattle.std.specs.Prelude.{◌≤◌, length};
+ghost use Rattle.std.specs.Prelude.{◌<◌, ◌≤◌, length};
 
-use crate::Place;
+use crate::cover::Cover;
+use crate::{Gap, Place};
 use std::alloc::{AllocError, Global};
 
 /// The most octets of an image.
@@ -12,24 +13,25 @@ const IMAGE_LIMIT: u64 = 268_435_456;
 #[derive(Drop)]
 pub(crate) struct Image {
     octets: Vec<u8>,
-    // Where the area ends that ends last.
-    end: u64,
+    cover: Cover,
 }
 
 impl Image {
-    ghost use Rattle.std.specs.Prelude.{◌≡◌, ◌+◌, ◌-◌, ◌++◌, ◌∷◌, List, [], drop, replicate, max, OnOk};
+    ghost use Rattle.std.specs.Prelude.{◌≡◌, ◌==◌, ◌+◌, ◌-◌, ◌++◌, ◌∷◌, List, [], drop, replicate, max, not, OnOk};
     ghost use Rattle.lpt_memory.specs.declared.request.Area.{Area};
     ghost use Rattle.lpt_memory.specs.Memories.{put_at};
+    ghost use Rattle.lpt_extract.specs.CoversInside.{gaps_of};
     ghost use Rattle.lpt_extract.specs.ImagesInside.{end_of_image, octets_of_image, Imaged, IsSize};
 
     // Of no areas.
     pub(crate) fn new(alloc: Global) -> Image
         ensures octets { octets_of_image result ≡ [] }
         ensures end { end_of_image result ≡ 0 }
+        ensures gaps { gaps_of result.cover ≡ [] }
     {
         Image {
             octets: Vec::new(alloc),
-            end: 0,
+            cover: Cover::new(alloc),
         }
     }
 
@@ -37,7 +39,22 @@ impl Image {
     pub(crate) fn end(&self) -> u64
         ensures { result ≡ end_of_image self.now }
     {
-        self.end
+        self.cover.end()
+    }
+
+    // Whether there are gaps.
+    pub(crate) fn has_gaps(&self) -> bool
+        ensures { result ≡ not (length (gaps_of self.now.cover) == 0) }
+    {
+        self.cover.has_gaps()
+    }
+
+    // The gaps.
+    pub(crate) fn into_gaps(self) -> Vec<Gap>
+        ensures { result.items ≡ gaps_of self.cover }
+    {
+        let Image { octets: _, cover } = self;
+        cover.into_gaps()
     }
 
     // The octets.
@@ -47,20 +64,20 @@ impl Image {
         self.octets.as_slice()
     }
 
-    // Notes an area of so many octets.
+    // Notes where an area ends.
     pub(crate) fn reach(&mut self, address: u32, len: usize)
         requires { len ≤ 65535 }
         ensures end { end_of_image self.new ≡ max (end_of_image self.old) (address + len) }
-        ensures octets { octets_of_image self.new ≡ octets_of_image self.old }
+        ensures gaps { gaps_of self.new.cover ≡ gaps_of self.old.cover }
     {
-        self.end = self.end.max(u64::from(address) + len as u64);
+        self.cover.reach(u64::from(address) + len as u64);
     }
 
     // How many octets it has from an address on, where they aren't too many.
     pub(crate) fn size(&self, from: u32) -> Option<usize>
         ensures { IsSize (end_of_image self.now - from) result }
     {
-        let size = self.end.saturating_sub(u64::from(from));
+        let size = self.end().saturating_sub(u64::from(from));
         if size > IMAGE_LIMIT {
             return None;
         }
@@ -74,12 +91,15 @@ impl Image {
         address: u32,
         octets: &[u8],
     ) -> Result<(), AllocError>
-        requires { length octets.now ≤ 65535 }
+        requires some { 0 < length octets.now }
+        requires short { length octets.now ≤ 65535 }
         ensures { (areas : List Area) → Imaged place.now areas self.old
             → OnOk result (Imaged place.now
             (areas ++ record { address = address; octets = octets.now } ∷ []) self.new) }
     {
-        self.reach(address, octets.len());
+        let first = u64::from(address);
+        self.cover
+            .add(u64::from(place.from), first, first + octets.len() as u64)?;
         let Some(size) = self.size(place.from) else {
             return Ok(());
         };
@@ -92,7 +112,7 @@ impl Image {
     fn grow(&mut self, size: usize, fill: u8) -> Result<(), AllocError>
         ensures octets { OnOk result (octets_of_image self.new ≡ octets_of_image self.old
             ++ replicate (size - length (octets_of_image self.old)) fill) }
-        ensures end { end_of_image self.new ≡ end_of_image self.old }
+        ensures cover { self.new.cover ≡ self.old.cover }
     {
         if self.octets.len() < size {
             self.octets.resize(size, fill)?;
@@ -105,7 +125,7 @@ impl Image {
         requires { address + length octets.now - from ≤ length (octets_of_image self.old) }
         ensures octets { octets_of_image self.new ≡ put_at (octets_of_image self.old)
             (address - from) (drop (from - address) octets.now) }
-        ensures end { end_of_image self.new ≡ end_of_image self.old }
+        ensures cover { self.new.cover ≡ self.old.cover }
     {
         let skipped = from.saturating_sub(address) as usize;
         let at = address.saturating_sub(from) as usize;

@@ -2,24 +2,32 @@
 //! areas in dump reports, in the order in which they stand, or at their places in an image.
 //!
 //! A dump report is telemetry; its body is encoded as a load's. Where an area's checksum is wrong,
-//! or the body isn't read, it is passed over. What is no such report is passed over, too.
+//! or the body isn't read, it is passed over, and told with its place. The addresses of an image that
+//! no area gave are known as its gaps. A `Tally` counts what was passed over, skipped, or no packet.
 //!
 //! The main type is `Wanted`. The first call is `extract_stream`, with a stream of packets, a sink
 //! for the octets, and a `Listener`, who is told of each area.
 #![tactic(auto)]
 
-mod extract_end;
+mod cover;
+mod ending;
+mod extracted;
 mod extracting;
 mod fields;
+mod gap;
+mod holding;
 mod image;
 mod notice;
 mod report;
 mod seen_area;
 mod taking;
+mod tally;
 mod wanted;
 
-pub use extract_end::ExtractEnd;
+pub use extracted::{ExtractEnd, Extracted};
 pub use extracting::extract_stream;
+pub use gap::Gap;
 pub use lpt_stream::{Sink, Source, ToolFault};
 pub use notice::{Listener, Notice, Span};
+pub use tally::{Others, Tally};
 pub use wanted::{Place, Wanted};

@@ -1,18 +1,29 @@
-//! What is told of dump reports as they come.
+//! What is told of a stream as it comes.
 
-/// What became of an area of a dump report, or of a report.
-#[derive(Clone, Copy, Debug, PartialEq, Eq)]
+/// What became of an area of a dump report, of a report, or of octets that are no packet.
+///
+/// A place is where the packet begins: how many octets of the stream come before it. One beyond
+/// 2^64 - 1 is told as that.
+#[derive(Clone, Copy)]
 pub enum Notice {
     /// The octets of an area were taken.
     Taken(Span),
-    /// The checksum of an area is wrong, and it was passed over.
-    WrongChecksum(Span),
-    /// The body of a report, of so many octets, isn't read, and it was passed over.
-    Unread(usize),
+    /// The checksum of an area is wrong, and it was passed over; the place of its report.
+    WrongChecksum(Span, u64),
+    /// The body of a report, of so many octets, isn't read, and it was passed over; its place.
+    Unread(usize, u64),
+    /// A report is of this memory, which isn't the one that is wanted.
+    OtherMemory(u8),
+    /// A dump report is of this application process, which isn't the one that is wanted.
+    OtherApid(u16),
+    /// As many octets as a header says are no packet.
+    Damaged,
+    /// An octet is part of no packet.
+    Stray,
 }
 
 /// Where the octets of an area stand.
-#[derive(Clone, Copy, Debug, PartialEq, Eq)]
+#[derive(Clone, Copy)]
 pub struct Span {
     /// The memory's identifier.
     pub memory: u8,
@@ -22,7 +33,7 @@ pub struct Span {
     pub len: usize,
 }
 
-/// Who is told what becomes of areas and reports.
+/// Who is told what becomes of areas, of reports and of what is no packet.
 pub trait Listener {
     ghost use Rattle.std.specs.Prelude.{◌∷◌, [], List, Option};
     ghost use Rattle.lpt_extract.specs.declared.notice.Notice.{Notice};

@@ -1,13 +1,10 @@
 //! Dump reports, read.
 
 ghost use Rattle.std.specs.Prelude.{◌≡◌, map, option_map, IfOk};
-ghost use Rattle.std.specs.Option.{option_and_then};
 ghost use Rattle.lpt_memory.specs.Fields.{all_areas};
 ghost use Rattle.lpt_memory.specs.LptPacket.Packets.{fields};
-ghost use Rattle.lpt_memory.specs.LptPus.Messages.{for_apid};
-ghost use Rattle.lpt_memory.specs.LptPus.Telemetry.{telemetry_in, tm_verdict};
 ghost use Rattle.lpt_memory.specs.Requests.{front_head, front_load_area};
-ghost use Rattle.lpt_extract.specs.Reports.{body_report, dump_body, report_in};
+ghost use Rattle.lpt_extract.specs.Reports.{body_report, dump_in, dump_in_packet, report_in};
 ghost use Rattle.lpt_extract.specs.ReportsInside.{load_area, said};
 
 use crate::fields::{long, octet, part, word};
@@ -26,6 +23,8 @@ const DUMP_REPORT: u8 = 6;
 pub(crate) enum Report<'a> {
     /// They are no dump report.
     Other,
+    /// They are one of this other APID.
+    Foreign(u16),
     /// They are one whose body, of so many octets, isn't read.
     Unread(usize),
     /// They are one of this memory.
@@ -41,37 +40,40 @@ pub(crate) fn read_report<'a>(
 ) -> Result<Report<'a>, AllocError>
     ensures { IfOk result (λ r. said r ≡ report_in apid octets.now) }
 {
-    match dump_body_in(apid, octets) {
+    match dump_in(octets) {
         None => Ok(Report::Other),
-        Some(body) => read_body(alloc, body),
+        Some((of, body)) => {
+            if of != apid {
+                return Ok(Report::Foreign(of));
+            }
+            read_body(alloc, body)
+        }
     }
 }
 
-// The body of the dump report that octets are.
-fn dump_body_in<'a>(apid: u16, octets: &'a [u8]) -> Option<&'a [u8]>
-    ensures { option_map (λ b. b.now) result
-        ≡ option_and_then dump_body (telemetry_in apid octets.now) }
+// The APID and the body of the dump report that octets are.
+fn dump_in<'a>(octets: &'a [u8]) -> Option<(u16, &'a [u8])>
+    ensures { option_map (λ x. (x.0, x.1.now)) result ≡ dump_in octets.now }
 {
     seen_is_read();
     match read_packet(octets) {
-        Ok(Seen::Packet(packet)) => dump_body_of(apid, &packet),
+        Ok(Seen::Packet(packet)) => dump_in_packet(&packet),
         Ok(Seen::Idle) => None,
         Err(_) => None,
     }
 }
 
-// The body of the dump report that a packet is.
-fn dump_body_of<'a>(apid: u16, packet: &Packet<'a>) -> Option<&'a [u8]>
-    ensures { option_map (λ b. b.now) result ≡ option_and_then dump_body
-        (for_apid (λ t. t.apid) apid (tm_verdict (fields packet.now))) }
+// Those of the dump report that a packet is.
+fn dump_in_packet<'a>(packet: &Packet<'a>) -> Option<(u16, &'a [u8])>
+    ensures { option_map (λ x. (x.0, x.1.now)) result ≡ dump_in_packet (fields packet.now) }
 {
     let Ok((head, body)) = read_tm(packet) else {
         return None;
     };
-    if head.apid != apid || head.service != MEMORY || head.subtype != DUMP_REPORT {
+    if head.service != MEMORY || head.subtype != DUMP_REPORT {
         return None;
     }
-    Some(body)
+    Some((head.apid, body))
 }
 
 // What the body of a dump report says. The only error is out of memory.

@@ -1,21 +1,22 @@
 //! What a piece of a stream gives.
 
-ghost use Rattle.std.specs.Prelude.{◌≡◌, ◌≢◌, ◌⊎◌, ◌∷◌, ◌++◌, ℕ, List, [], true, Err, IfErr, IfOk, IsErrOf, OnOk};
+ghost use Rattle.std.specs.Prelude.{◌≡◌, ◌≢◌, ◌⊎◌, ◌∷◌, ◌++◌, List, [], true, Err, IfErr, IsErrOf, OnOk};
 ghost use Rattle.std.specs.Io.KnownBytes.{Appends};
 ghost use Rattle.lpt_stream.specs.LptText.Streams.{AppendsPart};
 ghost use Rattle.lpt_stream.specs.Pieces.{packet_before};
 ghost use Rattle.lpt_memory.specs.declared.request.Area.{Area};
 ghost use Rattle.lpt_memory.specs.Meanings.{area};
-ghost use Rattle.lpt_extract.specs.Extracts.{areas_in, areas_of, notices_in, notices_of, written_first};
-ghost use Rattle.lpt_extract.specs.ExtractsInside.{given, told_of, written_last, EndsBy, Held};
+ghost use Rattle.lpt_extract.specs.declared.notice.Notice.{Notice};
+ghost use Rattle.lpt_extract.specs.Extracts.{areas_in, areas_of, notices_at, notices_of, written_first};
+ghost use Rattle.lpt_extract.specs.ExtractsInside.{given, told_of, Held};
 ghost use Rattle.lpt_extract.specs.Notices.{Hears};
 ghost use Rattle.lpt_extract.specs.Reports.{report_in};
 ghost use Rattle.lpt_extract.specs.ReportsInside.{load_area};
 
-use crate::image::Image;
+use crate::holding::Holding;
 use crate::report::{Report, read_report};
 use crate::seen_area::SeenArea;
-use crate::{ExtractEnd, Listener, Notice, Span, Wanted};
+use crate::{Listener, Notice, Span, Wanted};
 use lpt_memory::crc16;
 use lpt_stream::{PieceKind, Sink, ToolFault, write_out};
 use std::alloc::Global;
@@ -26,19 +27,21 @@ use std::alloc::Global;
 pub(crate) fn take_piece<K: Sink, L: Listener>(
     alloc: Global,
     wanted: &Wanted,
+    place: u64,
     kind: PieceKind,
     octets: &[u8],
-    image: &mut Image,
+    holding: &mut Holding,
     out: &mut K,
     listener: &mut L,
 ) -> Result<(), ToolFault>
-    ensures held { (areas : List Area) → Held wanted.now.at areas image.old
+    ensures held { (areas : List Area) (ns : List Notice) → Held wanted.now.at areas ns holding.old
         → OnOk result (Held wanted.now.at
-        (areas ++ areas_in wanted.now (packet_before kind octets.now [])) image.new) }
+        (areas ++ areas_in wanted.now (packet_before kind octets.now []))
+        (ns ++ notices_at wanted.now place kind octets.now) holding.new) }
     ensures wrote { OnOk result (Appends (K.contents out.old) (K.contents out.new)
         (written_first wanted.now.at (areas_in wanted.now (packet_before kind octets.now [])))) }
     ensures heard { OnOk result (Hears (L.heard listener.old) (L.heard listener.new)
-        (notices_in wanted.now (packet_before kind octets.now []))) }
+        (notices_at wanted.now place kind octets.now)) }
     ensures fault { IfErr result (λ e. (e ≡ ToolFault.Write) ⊎ (e ≡ ToolFault.Memory)) }
     ensures part { IfErr result (λ _. AppendsPart (K.contents out.old) (K.contents out.new)
         (written_first wanted.now.at (areas_in wanted.now (packet_before kind octets.now [])))) }
@@ -46,9 +49,15 @@ pub(crate) fn take_piece<K: Sink, L: Listener>(
     ensures told { result ≢ Err ToolFault.Write → K.failed out.new ≡ K.failed out.old }
 {
     match kind {
-        PieceKind::Whole => take_packet(alloc, wanted, octets, image, out, listener),
-        PieceKind::Damaged => Ok(()),
-        PieceKind::Stray => Ok(()),
+        PieceKind::Whole => take_packet(alloc, wanted, place, octets, holding, out, listener),
+        PieceKind::Damaged => {
+            holding.tell(listener, Notice::Damaged);
+            Ok(())
+        }
+        PieceKind::Stray => {
+            holding.tell(listener, Notice::Stray);
+            Ok(())
+        }
     }
 }
 
@@ -56,18 +65,20 @@ pub(crate) fn take_piece<K: Sink, L: Listener>(
 fn take_packet<K: Sink, L: Listener>(
     alloc: Global,
     wanted: &Wanted,
+    place: u64,
     octets: &[u8],
-    image: &mut Image,
+    holding: &mut Holding,
     out: &mut K,
     listener: &mut L,
 ) -> Result<(), ToolFault>
-    ensures held { (areas : List Area) → Held wanted.now.at areas image.old
+    ensures held { (areas : List Area) (ns : List Notice) → Held wanted.now.at areas ns holding.old
         → OnOk result (Held wanted.now.at
-        (areas ++ areas_of wanted.now.at (report_in wanted.now.apid octets.now)) image.new) }
+        (areas ++ areas_of wanted.now.at (report_in wanted.now.apid octets.now))
+        (ns ++ notices_of wanted.now.at place (report_in wanted.now.apid octets.now)) holding.new) }
     ensures wrote { OnOk result (Appends (K.contents out.old) (K.contents out.new)
         (written_first wanted.now.at (areas_of wanted.now.at (report_in wanted.now.apid octets.now)))) }
     ensures heard { OnOk result (Hears (L.heard listener.old) (L.heard listener.new)
-        (notices_of wanted.now.at (report_in wanted.now.apid octets.now))) }
+        (notices_of wanted.now.at place (report_in wanted.now.apid octets.now))) }
     ensures fault { IfErr result (λ e. (e ≡ ToolFault.Write) ⊎ (e ≡ ToolFault.Memory)) }
     ensures part { IfErr result (λ _. AppendsPart (K.contents out.old) (K.contents out.new)
         (written_first wanted.now.at (areas_of wanted.now.at (report_in wanted.now.apid octets.now)))) }
@@ -80,15 +91,20 @@ fn take_packet<K: Sink, L: Listener>(
     };
     match report {
         Report::Other => Ok(()),
+        Report::Foreign(of) => {
+            holding.tell(listener, Notice::OtherApid(of));
+            Ok(())
+        }
         Report::Unread(len) => {
-            listener.tell(Notice::Unread(len));
+            holding.tell(listener, Notice::Unread(len, place));
             Ok(())
         }
         Report::Areas(memory, areas) => {
             if !wanted.is_of(memory) {
+                holding.tell(listener, Notice::OtherMemory(memory));
                 return Ok(());
             }
-            take_areas(wanted, memory, &areas, image, out, listener)
+            take_areas(wanted, place, memory, &areas, holding, out, listener)
         }
     }
 }
@@ -96,18 +112,21 @@ fn take_packet<K: Sink, L: Listener>(
 // Takes the areas of a memory.
 fn take_areas<K: Sink, L: Listener>(
     wanted: &Wanted,
+    place: u64,
     memory: u8,
     areas: &[SeenArea<'_>],
-    image: &mut Image,
+    holding: &mut Holding,
     out: &mut K,
     listener: &mut L,
 ) -> Result<(), ToolFault>
-    ensures held { (before : List Area) → Held wanted.now.at before image.old
-        → OnOk result (Held wanted.now.at (before ++ given areas.now) image.new) }
+    ensures held { (before : List Area) (ns : List Notice)
+        → Held wanted.now.at before ns holding.old
+        → OnOk result (Held wanted.now.at (before ++ given areas.now)
+        (ns ++ told_of memory place areas.now) holding.new) }
     ensures wrote { OnOk result (Appends (K.contents out.old) (K.contents out.new)
         (written_first wanted.now.at (given areas.now))) }
     ensures heard { OnOk result (Hears (L.heard listener.old) (L.heard listener.new)
-        (told_of memory areas.now)) }
+        (told_of memory place areas.now)) }
     ensures fault { IfErr result (λ e. (e ≡ ToolFault.Write) ⊎ (e ≡ ToolFault.Memory)) }
     ensures part { IfErr result (λ _. AppendsPart (K.contents out.old) (K.contents out.new)
         (written_first wanted.now.at (given areas.now))) }
@@ -115,7 +134,7 @@ fn take_areas<K: Sink, L: Listener>(
     ensures told { result ≢ Err ToolFault.Write → K.failed out.new ≡ K.failed out.old }
 {
     for seen in areas {
-        match take_area(wanted, memory, seen, image, out, listener) {
+        match take_area(wanted, place, memory, seen, holding, out, listener) {
             Ok(()) => {}
             Err(fault) => return Err(fault),
         }
@@ -126,18 +145,21 @@ fn take_areas<K: Sink, L: Listener>(
 // Takes an area of a memory, where its checksum is right.
 fn take_area<K: Sink, L: Listener>(
     wanted: &Wanted,
+    place: u64,
     memory: u8,
     seen: &SeenArea<'_>,
-    image: &mut Image,
+    holding: &mut Holding,
     out: &mut K,
     listener: &mut L,
 ) -> Result<(), ToolFault>
-    ensures held { (before : List Area) → Held wanted.now.at before image.old
-        → OnOk result (Held wanted.now.at (before ++ given (seen.now ∷ [])) image.new) }
+    ensures held { (before : List Area) (ns : List Notice)
+        → Held wanted.now.at before ns holding.old
+        → OnOk result (Held wanted.now.at (before ++ given (seen.now ∷ []))
+        (ns ++ told_of memory place (seen.now ∷ [])) holding.new) }
     ensures wrote { OnOk result (Appends (K.contents out.old) (K.contents out.new)
         (written_first wanted.now.at (given (seen.now ∷ [])))) }
     ensures heard { OnOk result (Hears (L.heard listener.old) (L.heard listener.new)
-        (told_of memory (seen.now ∷ []))) }
+        (told_of memory place (seen.now ∷ []))) }
     ensures fault { IfErr result (λ e. (e ≡ ToolFault.Write) ⊎ (e ≡ ToolFault.Memory)) }
     ensures part { IfErr result (λ _. AppendsPart (K.contents out.old) (K.contents out.new)
         (written_first wanted.now.at (given (seen.now ∷ [])))) }
@@ -150,22 +172,24 @@ fn take_area<K: Sink, L: Listener>(
         len: seen.octets.len(),
     };
     if crc16(seen.octets) != seen.checksum {
-        listener.tell(Notice::WrongChecksum(span));
+        holding.tell(listener, Notice::WrongChecksum(span, place));
         return Ok(());
     }
-    listener.tell(Notice::Taken(span));
-    keep_area(wanted, seen, image, out)
+    holding.tell(listener, Notice::Taken(span));
+    keep_area(wanted, seen, holding, out)
 }
 
 // Writes an area, or puts it into the image.
 fn keep_area<K: Sink>(
     wanted: &Wanted,
     seen: &SeenArea<'_>,
-    image: &mut Image,
+    holding: &mut Holding,
     out: &mut K,
 ) -> Result<(), ToolFault>
-    ensures held { (before : List Area) → Held wanted.now.at before image.old
-        → OnOk result (Held wanted.now.at (before ++ area (load_area seen.now) ∷ []) image.new) }
+    ensures held { (before : List Area) (ns : List Notice)
+        → Held wanted.now.at before ns holding.old
+        → OnOk result (Held wanted.now.at
+        (before ++ area (load_area seen.now) ∷ []) ns holding.new) }
     ensures wrote { OnOk result (Appends (K.contents out.old) (K.contents out.new)
         (written_first wanted.now.at (area (load_area seen.now) ∷ []))) }
     ensures fault { IfErr result (λ e. (e ≡ ToolFault.Write) ⊎ (e ≡ ToolFault.Memory)) }
@@ -176,44 +200,15 @@ fn keep_area<K: Sink>(
 {
     match wanted.at {
         None => {
-            image.reach(seen.address, seen.octets.len());
+            holding.image.reach(seen.address, seen.octets.len());
             match write_out(out, seen.octets) {
                 Ok(()) => Ok(()),
                 Err(_) => Err(ToolFault::Write),
             }
         }
-        Some(place) => match image.put(&place, seen.address, seen.octets) {
+        Some(place) => match holding.image.put(&place, seen.address, seen.octets) {
             Ok(()) => Ok(()),
             Err(_) => Err(ToolFault::Memory),
         },
-    }
-}
-
-// Ends an extraction once all areas are taken: writes the image, where one is wanted.
-pub(crate) fn write_image<K: Sink>(
-    wanted: &Wanted,
-    image: &Image,
-    out: &mut K,
-) -> Result<ExtractEnd, ToolFault>
-    ensures ends { (areas : List Area) → Held wanted.now.at areas image.now
-        → IfOk result (λ end. EndsBy wanted.now.at areas end (K.contents out.old) (K.contents out.new)) }
-    ensures fault { IfErr result (λ e. (e ≡ ToolFault.Write) × (K.failed out.new ≡ true)) }
-    ensures part { (areas : List Area) → Held wanted.now.at areas image.now
-        → IfErr result (λ _. AppendsPart (K.contents out.old) (K.contents out.new)
-        (written_last wanted.now.at areas)) }
-    ensures told { OnOk result (K.failed out.new ≡ K.failed out.old) }
-{
-    if image.end() <= wanted.start() {
-        return Ok(ExtractEnd::Nothing);
-    }
-    let Some(place) = wanted.at else {
-        return Ok(ExtractEnd::Written);
-    };
-    if image.size(place.from).is_none() {
-        return Ok(ExtractEnd::TooLarge(image.end() - u64::from(place.from)));
-    }
-    match write_out(out, image.octets()) {
-        Ok(()) => Ok(ExtractEnd::Written),
-        Err(_) => Err(ToolFault::Write),
     }
 }

@@ -1,7 +1,7 @@
 //! What is wanted of dump reports.
 
 /// Which octets are wanted, and as what.
-#[derive(Clone, Copy, Debug)]
+#[derive(Clone, Copy)]
 pub struct Wanted {
     /// The application process identifier of the reports.
     pub apid: u16,
@@ -11,7 +11,7 @@ pub struct Wanted {
 }
 
 /// An image of one memory.
-#[derive(Clone, Copy, Debug)]
+#[derive(Clone, Copy)]
 pub struct Place {
     /// The memory's identifier.
     pub memory: u8,
@@ -19,11 +19,13 @@ pub struct Place {
     pub from: u32,
     /// The octet that stands where no area gives one.
     pub fill: u8,
+    /// Whether it is to be written only where no octet is missing and nothing was passed over.
+    pub whole: bool,
 }
 
 impl Wanted {
     ghost use Rattle.std.specs.Prelude.{◌≡◌};
-    ghost use Rattle.lpt_extract.specs.Extracts.{is_of, start};
+    ghost use Rattle.lpt_extract.specs.Extracts.{is_of, start, suits};
 
     // Whether the areas of this memory are wanted.
     pub(crate) fn is_of(&self, memory: u8) -> bool
@@ -42,6 +44,16 @@ impl Wanted {
         match self.at {
             None => 0,
             Some(place) => u64::from(place.from),
+        }
+    }
+
+    // Whether what is wanted may be written, where that is unbroken or not.
+    pub(crate) fn suits(&self, is_unbroken: bool) -> bool
+        ensures { result ≡ suits self.now.at is_unbroken }
+    {
+        match self.at {
+            None => true,
+            Some(place) => !place.whole || is_unbroken,
         }
     }
 }

@@ -1,41 +1,72 @@
 -- How a message is joined from one stream to another.
-use Rattle.std.specs.Prelude.{◌≡◌, ℕ, List, length, Option}
+use Rattle.std.specs.Prelude.{◌≡◌, ◌⊎◌, ℕ, Bool, if◌then◌else◌, List, length, Option, Some, None}
+use Rattle.std.specs.Option.{option_map}
 use Rattle.std.specs.Io.KnownBytes.{Appends}
-use Rattle.lpt_join.specs.declared.came.Came.{Came}
+use Rattle.lpt_join.specs.declared.messages.Misfit.{Misfit}
 use Rattle.lpt_join.specs.declared.transaction.Transaction.{Transaction}
 use Rattle.lpt_join.specs.CameInside.{has, is_ended}
+use Rattle.lpt_join.specs.Contradictions.{first_against, told_place}
 use Rattle.lpt_join.specs.Joins.{Joined, Complete, Missing as MissingParts, Broken, joined}
 use Rattle.lpt_join.specs.Laws.{came, ended}
-use Rattle.lpt_join.specs.LptStream.Reads.{ReadsAll}
+use Rattle.lpt_join.specs.LptPacket.declared.direction.Direction.{Direction}
+use Rattle.lpt_join.specs.LptStream.Pieces.{Piece, packets_of}
 use Rattle.lpt_join.specs.LptReception.Received.{Parts}
 use Rattle.lpt_join.specs.LptText.Streams.{AppendsPart}
 use Rattle.lpt_join.specs.LptText.declared.fault.ToolFault.{ToolFault}
 use Rattle.lpt_join.specs.LptText.declared.fault.ToolFault.TheVariants as tool
+use Rattle.lpt_join.specs.LptSkips.Tallies.{skips_of}
+use Rattle.lpt_join.specs.Messages.{misfit, IsFit}
+use Rattle.lpt_join.specs.Reads.{ReadsPieces}
+use Rattle.lpt_join.specs.Several.{reading_of}
 use Rattle.lpt_files.specs.declared.join_end.JoinEnd.{JoinEnd}
-use Rattle.lpt_files.specs.declared.join_end.JoinEnd.TheVariants.{Written, Missing, BrokenOff}
+use Rattle.lpt_files.specs.declared.join_end.JoinEnd.TheVariants.{Written, Unfit, Missing, BrokenOff}
+use Rattle.lpt_files.specs.declared.join_end.JoinReport.{JoinReport}
 
--- the message was written that parts are joined to; or nothing was, where some are missing, or one
--- contradicted others
-abbrev pub WritesJoined : Joined → JoinEnd → (old new : Option (List ℕ)) → Type 0
-WritesJoined j (Written n) old new =
-    (m : List ℕ) × (j ≡ Complete m) × Appends old new m × (n ≡ length m)
-WritesJoined j Missing old new = ((s : Parts) × (j ≡ MissingParts s)) × (new ≡ old)
-WritesJoined j BrokenOff old new = (j ≡ Broken) × (new ≡ old)
+-- why what was joined isn't fit to be written, where it isn't: it is no packet of the direction, and
+-- not any octets are taken
+abbrev pub unfit : Direction → (any : Bool) → List ℕ → Option Misfit
+unfit d any m = if any then None else misfit d m
+
+-- the message was written that parts are joined to; or nothing was, where that isn't fit, where some
+-- are missing, or one contradicted others
+abbrev pub WritesJoined :
+    Direction → (any : Bool) → Joined → JoinEnd → (old new : Option (List ℕ)) → Type 0
+WritesJoined d any j (Written n) old new =
+    (m : List ℕ) × (j ≡ Complete m) × (unfit d any m ≡ None) × Appends old new m × (n ≡ length m)
+WritesJoined d any j (Unfit e) old new =
+    (m : List ℕ) × (j ≡ Complete m) × (unfit d any m ≡ Some e) × (new ≡ old)
+WritesJoined d any j Missing old new = ((s : Parts) × (j ≡ MissingParts s)) × (new ≡ old)
+WritesJoined d any j BrokenOff old new = (j ≡ Broken) × (new ≡ old)
+
+-- nothing was written, or a packet of the direction
+abbrev pub WritesFit : Direction → (old new : Option (List ℕ)) → Type 0
+WritesFit d old new = (new ≡ old) ⊎ ((m : List ℕ) × IsFit d m × Appends old new m)
 
 -- a front part of that message was
-abbrev pub LeavesJoined : Joined → (old new : Option (List ℕ)) → Type 0
-LeavesJoined j old new = (m : List ℕ) × (j ≡ Complete m) × AppendsPart old new m
+abbrev pub LeavesJoined : Direction → (any : Bool) → Joined → (old new : Option (List ℕ)) → Type 0
+LeavesJoined d any j old new =
+    (m : List ℕ) × (j ≡ Complete m) × (unfit d any m ≡ None) × AppendsPart old new m
 
--- a stream was read to its end, and so written what its packets give; these parts came
-abbrev pub JoinsTo : Transaction → JoinEnd → Came → (before after old new : Option (List ℕ)) → Type 0
-JoinsTo t end c before after old new =
-    ReadsAll before after (λ packets. WritesJoined (joined t packets) end old new
-    × ((n : ℕ) → has c n ≡ came t n packets) × (is_ended c ≡ ended t packets))
+-- so was written what the packets among these pieces give; these parts came; the first that
+-- contradicts those before it came there; and that was passed over
+pub record Reports (t : Transaction) (any : Bool) (pieces : List Piece) (r : JoinReport) (old new : Option (List ℕ)) : Type 0 where
+  pub writes : WritesJoined t.direction any (joined t (packets_of pieces)) r.end old new
+  pub came_is : (n : ℕ) → has r.came n ≡ came t n (packets_of pieces)
+  pub ended_is : is_ended r.came ≡ ended t (packets_of pieces)
+  pub against_is : r.against ≡ option_map told_place (first_against t pieces)
+  pub skips_are : r.skips ≡ skips_of (reading_of t (Some t.name)) pieces
+
+-- a stream was read to its end, and that is told of its pieces
+abbrev pub JoinsTo :
+    Transaction → (any : Bool) → JoinReport → (before after old new : Option (List ℕ)) → Type 0
+JoinsTo t any r before after old new =
+    ReadsPieces before after (λ pieces. Reports t any pieces r old new)
 
 -- nothing was written; or a write failed, behind a front part of the message
-abbrev pub JoinLeaves : Transaction → ToolFault → (before after old new : Option (List ℕ)) → Type 0
-JoinLeaves t tool.Write before after old new =
-    ReadsAll before after (λ packets. LeavesJoined (joined t packets) old new)
-JoinLeaves t tool.Read before after old new = new ≡ old
-JoinLeaves t tool.Memory before after old new = new ≡ old
-JoinLeaves t _ before after old new = ⊥
+abbrev pub JoinLeaves :
+    Transaction → (any : Bool) → ToolFault → (before after old new : Option (List ℕ)) → Type 0
+JoinLeaves t any tool.Write before after old new =
+    ReadsPieces before after (λ pieces. LeavesJoined t.direction any (joined t (packets_of pieces)) old new)
+JoinLeaves t any tool.Read before after old new = new ≡ old
+JoinLeaves t any tool.Memory before after old new = new ≡ old
+JoinLeaves t any _ before after old new = ⊥

@@ -1,48 +1,58 @@
 //! A message joined from one stream to another.
 
-ghost use Rattle.std.specs.Prelude.{◌≡◌, ◌≢◌, ◌⊎◌, ℕ, List, true, Some, IfErr, IfOk, IsErrOf, OnOk, Err};
+ghost use Rattle.std.specs.Prelude.{◌≡◌, ◌≢◌, ◌⊎◌, ℕ, List, true, false, Some, None, IfErr, IfOk, IsErrOf, OnOk, Err};
 ghost use Rattle.std.specs.Io.KnownBytes.{Appends};
 ghost use Rattle.lpt_join.specs.LptEvents.declared.config.Config.{Config};
 ghost use Rattle.lpt_join.specs.LptStream.Pieces.{Finds};
 ghost use Rattle.lpt_join.specs.LptText.Streams.{AppendsPart};
+ghost use Rattle.lpt_join.specs.Joins.{Complete};
 ghost use Rattle.lpt_join.specs.Laws.{AllMadeOrOther, EachIsAmong, IsSending};
 ghost use Rattle.lpt_join.specs.LptStream.Reads.{IsEndless};
 ghost use Rattle.lpt_join.specs.Gatherings.{state};
-ghost use Rattle.lpt_files.specs.Joins.{JoinLeaves, JoinsTo, LeavesJoined, WritesJoined};
+ghost use Rattle.lpt_join.specs.Messages.{IsFit};
+ghost use Rattle.lpt_files.specs.Joins.{JoinLeaves, JoinsTo, LeavesJoined, WritesFit, WritesJoined, unfit};
 
-use crate::JoinEnd;
+use crate::{JoinEnd, JoinReport};
 use lpt_join::{
-    Came, Gathering, Joining, Sink, Source, ToolFault, Transaction, join_stream, write_out,
+    Direction, Gathering, Joining, Misfit, Sink, Source, ToolFault, Transaction, check_message,
+    join_stream, write_out,
 };
 use std::alloc::Global;
 
 /// Reads a stream of packets to its end, and writes the message that the parts of this transaction
-/// among them are joined to. Where they are joined to none, nothing is written. The answer says which
-/// parts came.
+/// among them are joined to. Where they are joined to none, nothing is written, and neither where what
+/// they are joined to is no packet of the direction, unless `any` octets are taken. The answer says
+/// which parts came, where the first came that contradicts those before it, and what was passed over.
 ///
 /// Errors: `Read` where a read failed; `Write` where a write failed, after a front part of the
 /// message; `Memory`.
 pub fn join_message<S: Source, K: Sink>(
     alloc: Global,
     transaction: &Transaction,
+    any: bool,
     source: &mut S,
     out: &mut K,
-) -> Result<(JoinEnd, Came), ToolFault>
-    ensures ends { IfOk result (λ end. JoinsTo transaction.now end.0 end.1
+) -> Result<JoinReport, ToolFault>
+    ensures ends { IfOk result (λ r. JoinsTo transaction.now any r
         (S.remaining source.old) (S.remaining source.new)
+        (K.contents out.old) (K.contents out.new)) }
+
+    // What is written is a packet of the direction, with a right checksum, unless any octets are taken.
+    ensures fit { any ≡ false → IfOk result (λ _. WritesFit transaction.now.direction
         (K.contents out.old) (K.contents out.new)) }
 
     // Over a stream of packets that are made of a message, and others that carry no part of its
     // transaction, in any order and with repeats, once each part is among them, exactly that
-    // message is written.
+    // message is written; where it is a packet of the direction, or any octets are taken.
     ensures message { IfOk result (λ _. (c : Config) (m stream : List ℕ)
         (packets : List (List ℕ)) → S.remaining source.old ≡ Some stream
         → Finds stream packets → IsSending transaction.now c m
         → AllMadeOrOther transaction.now c m packets → EachIsAmong transaction.now c m packets
+        → (any ≡ true) ⊎ IsFit transaction.now.direction m
         → Appends (K.contents out.old) (K.contents out.new) m) }
 
     // Each fault is that of a read, of a write or of memory.
-    ensures leaves { IfErr result (λ e. JoinLeaves transaction.now e
+    ensures leaves { IfErr result (λ e. JoinLeaves transaction.now any e
         (S.remaining source.old) (S.remaining source.new)
         (K.contents out.old) (K.contents out.new)) }
     ensures read { IsErrOf result ToolFault.Read → (S.failed source.new ≡ true)
@@ -51,34 +61,87 @@ pub fn join_message<S: Source, K: Sink>(
     ensures cause { IsErrOf result ToolFault.Write → K.failed out.new ≡ true }
     ensures told { result ≢ Err ToolFault.Write → K.failed out.new ≡ K.failed out.old }
 {
-    let gathering = match join_stream(alloc, transaction, source) {
-        Ok(gathering) => gathering,
+    let (gathering, skips) = match join_stream(alloc, transaction, source) {
+        Ok(joined) => joined,
         Err(fault) => return Err(fault),
     };
-    let Gathering { joining, came } = gathering;
-    let written = write_joined(&joining, out);
+    let Gathering {
+        joining,
+        came,
+        against,
+    } = gathering;
+    let written = write_joined(transaction.direction, any, &joining, out);
     drop(joining);
     match written {
-        Ok(end) => Ok((end, came)),
+        Ok(end) => Ok(JoinReport {
+            end,
+            came,
+            against,
+            skips,
+        }),
         Err(fault) => Err(fault),
     }
 }
 
-// Writes the message that parts are joined to, where they are.
-pub(crate) fn write_joined<K: Sink>(joining: &Joining, out: &mut K) -> Result<JoinEnd, ToolFault>
-    ensures ends { IfOk result (λ end. WritesJoined (state joining.now) end
+// Writes the message that parts are joined to, where they are to one that is fit to be written.
+pub(crate) fn write_joined<K: Sink>(
+    direction: Direction,
+    any: bool,
+    joining: &Joining,
+    out: &mut K,
+) -> Result<JoinEnd, ToolFault>
+    ensures ends { IfOk result (λ end. WritesJoined direction any (state joining.now) end
         (K.contents out.old) (K.contents out.new)) }
+    ensures fit { any ≡ false → IfOk result (λ _. WritesFit direction (K.contents out.old)
+        (K.contents out.new)) }
     ensures leaves { IfErr result (λ e. (e ≡ ToolFault.Write) × (K.failed out.new ≡ true)
-        × LeavesJoined (state joining.now) (K.contents out.old) (K.contents out.new)) }
+        × LeavesJoined direction any (state joining.now) (K.contents out.old)
+        (K.contents out.new)) }
     ensures told { OnOk result (K.failed out.new ≡ K.failed out.old) }
 {
     match joining {
         Joining::Nothing => Ok(JoinEnd::Missing),
         Joining::Missing(_) => Ok(JoinEnd::Missing),
-        Joining::Complete(message) => match write_out(out, message.as_slice()) {
-            Ok(()) => Ok(JoinEnd::Written(message.as_slice().len())),
-            Err(_) => Err(ToolFault::Write),
-        },
+        Joining::Complete(message) => write_message(direction, any, message.as_slice(), out),
         Joining::BrokenOff => Ok(JoinEnd::BrokenOff),
+    }
+}
+
+// Writes a message that is fit to be written.
+fn write_message<K: Sink>(
+    direction: Direction,
+    any: bool,
+    message: &[u8],
+    out: &mut K,
+) -> Result<JoinEnd, ToolFault>
+    ensures ends { IfOk result (λ end. WritesJoined direction any (Complete message.now) end
+        (K.contents out.old) (K.contents out.new)) }
+    ensures fit { any ≡ false → IfOk result (λ _. WritesFit direction (K.contents out.old)
+        (K.contents out.new)) }
+    ensures leaves { IfErr result (λ e. (e ≡ ToolFault.Write) × (K.failed out.new ≡ true)
+        × LeavesJoined direction any (Complete message.now) (K.contents out.old)
+        (K.contents out.new)) }
+    ensures told { OnOk result (K.failed out.new ≡ K.failed out.old) }
+{
+    if let Some(misfit) = unfit(direction, any, message) {
+        return Ok(JoinEnd::Unfit(misfit));
+    }
+    match write_out(out, message) {
+        Ok(()) => Ok(JoinEnd::Written(message.len())),
+        Err(_) => Err(ToolFault::Write),
+    }
+}
+
+// Why octets aren't fit to be written, where they aren't.
+fn unfit(direction: Direction, any: bool, octets: &[u8]) -> Option<Misfit>
+    ensures exact { result ≡ unfit direction any octets.now }
+    ensures fit { any ≡ false → result ≡ None → IsFit direction octets.now }
+{
+    if any {
+        return None;
+    }
+    match check_message(direction, octets) {
+        Ok(()) => None,
+        Err(misfit) => Some(misfit),
     }
 }

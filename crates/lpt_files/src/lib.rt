@@ -18,12 +18,13 @@ mod splitting;
 mod telling;
 mod wanted;
 
-pub use join_end::JoinEnd;
+pub use join_end::{JoinEnd, JoinReport};
 pub use joining::join_message;
 pub use lists::read_parts;
 pub use lpt_join::{
-    Came, Config, Direction, End, Form, Gathering, Gatherings, Joining, Name, Octets, Sink, Source,
-    Told, ToolFault, Transaction, flush_out, read_text, write_out,
+    Came, Config, Direction, End, Form, Gathering, Gatherings, Joining, Misfit, Name, Octets,
+    Reading, Sink, Skips, Source, Told, ToolFault, Transaction, check_message, flush_out,
+    read_text, write_out,
 };
 pub use only::join_only;
 pub use split_end::SplitEnd;

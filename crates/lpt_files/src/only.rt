@@ -1,35 +1,62 @@
 //! The message of the only transaction of a stream, joined.
 
-ghost use Rattle.std.specs.Prelude.{◌≡◌, ◌≢◌, ◌⊎◌, ◌∷◌, [], true, false, None, IfErr, IfOk, IfSome, IsErrOf, OnOk, Err};
+ghost use Rattle.std.specs.Prelude.{◌≡◌, ◌≢◌, ◌⊎◌, ◌∷◌, [], ℕ, List, true, false, Some, None, IfErr, IfOk, IfSome, IsErrOf, OnOk, Err};
+ghost use Rattle.std.specs.BTreeMap.{IsOrdered};
+ghost use Rattle.std.specs.Io.KnownBytes.{Appends};
+ghost use Rattle.lpt_join.specs.LptEvents.declared.config.Config.{Config};
+ghost use Rattle.lpt_join.specs.LptStream.Pieces.{Finds};
+ghost use Rattle.lpt_join.specs.Laws.{AllMadeOrNone, EachIsAmong, IsSending};
+ghost use Rattle.lpt_join.specs.Messages.{IsFit};
+ghost use Rattle.lpt_join.specs.Several.{of_name};
 ghost use Rattle.lpt_join.specs.declared.gathering.Gathering.{Gathering};
-ghost use Rattle.lpt_join.specs.LptPacket.Names.{Name};
+ghost use Rattle.lpt_join.specs.LptPacket.Names.{Name, name_cmp};
 ghost use Rattle.lpt_join.specs.LptText.Streams.{AppendsPart};
 ghost use Rattle.lpt_join.specs.LptStream.Reads.{IsEndless};
+ghost use Rattle.lpt_files.specs.Joins.{WritesFit};
 ghost use Rattle.lpt_files.specs.Only.{IsOnly, JoinsOnly, LeavesOnly, OnlyLeaves, WritesOnly};
 
 use crate::JoinEnd;
 use crate::joining::write_joined;
-use lpt_join::{Gathering, Gatherings, Sink, Source, ToolFault, Transaction, gather_stream};
+use lpt_join::{
+    Direction, Gathering, Gatherings, Sink, Skips, Source, ToolFault, Transaction, gather_stream,
+};
 use std::alloc::Global;
 
-/// Reads a stream of packets to its end, and writes the message of the only transaction of which they
-/// carry parts, of those that are read as this one is, whatever its name. The answer says what
-/// is kept of each transaction, and where there is only one, how its join ends; where there is none or
-/// there are more, nothing is written.
+/// Reads a stream of packets to its end, and writes the message of the only transaction of which
+/// they carry parts, of those that are read as this one is, whatever its name. The answer says what
+/// is kept of each transaction and what was passed over, and where there is only one, how its join
+/// ends. Where there is none or there are more, nothing is written, and neither where what is joined
+/// is no packet of the direction, unless `any` octets are taken.
 ///
 /// Errors: those of `join_message`.
 pub fn join_only<S: Source, K: Sink>(
     alloc: Global,
     transaction: &Transaction,
+    any: bool,
     source: &mut S,
     out: &mut K,
-) -> Result<(Option<JoinEnd>, Gatherings), ToolFault>
-    ensures ends { IfOk result (λ r. JoinsOnly transaction.now r.0 r.1
+) -> Result<(Option<JoinEnd>, Gatherings, Skips), ToolFault>
+    ensures ends { IfOk result (λ r. JoinsOnly transaction.now any r.0 r.1 r.2
         (S.remaining source.old) (S.remaining source.new)
         (K.contents out.old) (K.contents out.new)) }
 
+    // What is written is a packet of the direction, with a right checksum, unless any octets are taken.
+    ensures fit { any ≡ false → IfOk result (λ _. WritesFit transaction.now.direction
+        (K.contents out.old) (K.contents out.new)) }
+
+    // Over a stream of packets that are made of a message of any name, and others that carry no part
+    // of any name, in any order and with repeats, once each part is among them, exactly that message is
+    // written; where it is a packet of the direction, or any octets are taken.
+    ensures message { IfOk result (λ _. (name : Name) (c : Config) (m stream : List ℕ)
+        (packets : List (List ℕ)) → S.remaining source.old ≡ Some stream
+        → Finds stream packets → IsSending (of_name transaction.now name) c m
+        → AllMadeOrNone (of_name transaction.now name) c m packets
+        → EachIsAmong (of_name transaction.now name) c m packets
+        → (any ≡ true) ⊎ IsFit transaction.now.direction m
+        → Appends (K.contents out.old) (K.contents out.new) m) }
+
     // Each fault is that of a read, of a write or of memory.
-    ensures leaves { IfErr result (λ e. OnlyLeaves transaction.now e
+    ensures leaves { IfErr result (λ e. OnlyLeaves transaction.now any e
         (S.remaining source.old) (S.remaining source.new)
         (K.contents out.old) (K.contents out.new)) }
     ensures read { IsErrOf result ToolFault.Read → (S.failed source.new ≡ true)
@@ -38,12 +65,12 @@ pub fn join_only<S: Source, K: Sink>(
     ensures cause { IsErrOf result ToolFault.Write → K.failed out.new ≡ true }
     ensures told { result ≢ Err ToolFault.Write → K.failed out.new ≡ K.failed out.old }
 {
-    let gatherings = match gather_stream(alloc, transaction, source) {
-        Ok(gatherings) => gatherings,
+    let (gatherings, skips) = match gather_stream(alloc, transaction, source) {
+        Ok(gathered) => gathered,
         Err(fault) => return Err(fault),
     };
-    match write_only(&gatherings, out) {
-        Ok(end) => Ok((end, gatherings)),
+    match write_only(transaction.direction, any, &gatherings, out) {
+        Ok(end) => Ok((end, gatherings, skips)),
         Err(fault) => {
             drop(gatherings);
             Err(fault)
@@ -52,17 +79,25 @@ pub fn join_only<S: Source, K: Sink>(
 }
 
 // Writes the message of the only transaction, where there is only one and it is whole.
-fn write_only<K: Sink>(gatherings: &Gatherings, out: &mut K) -> Result<Option<JoinEnd>, ToolFault>
-    ensures ends { IfOk result (λ end. WritesOnly gatherings.now end
+fn write_only<K: Sink>(
+    direction: Direction,
+    any: bool,
+    gatherings: &Gatherings,
+    out: &mut K,
+) -> Result<Option<JoinEnd>, ToolFault>
+    ensures ends { IfOk result (λ end. WritesOnly direction any gatherings.now end
         (K.contents out.old) (K.contents out.new)) }
+    ensures fit { any ≡ false → IfOk result (λ _. WritesFit direction
+        (K.contents out.old) (K.contents out.new)) }
+    ensures ordered { IsOrdered name_cmp gatherings.now.kept }
     ensures leaves { IfErr result (λ e. (e ≡ ToolFault.Write) × (K.failed out.new ≡ true)
-        × LeavesOnly gatherings.now (K.contents out.old) (K.contents out.new)) }
+        × LeavesOnly direction any gatherings.now (K.contents out.old) (K.contents out.new)) }
     ensures told { OnOk result (K.failed out.new ≡ K.failed out.old) }
 {
     let Some(gathering) = only(gatherings) else {
         return Ok(None);
     };
-    match write_joined(&gathering.joining, out) {
+    match write_joined(direction, any, &gathering.joining, out) {
         Ok(end) => Ok(Some(end)),
         Err(_) => Err(ToolFault::Write),
     }
@@ -72,8 +107,9 @@ fn write_only<K: Sink>(gatherings: &Gatherings, out: &mut K) -> Result<Option<Jo
 fn only(gatherings: &Gatherings) -> Option<&Gathering>
     ensures some { IfSome result (λ g. (name : Name) × IsOnly gatherings.now name g.now) }
     ensures none { result ≡ None → (name : Name) (g : Gathering) → IsOnly gatherings.now name g → ⊥ }
+    ensures ordered { IsOrdered name_cmp gatherings.now.kept }
 {
-    if gatherings.has_more || gatherings.kept.len() != 1 {
+    if gatherings.kept.len() != 1 || gatherings.has_more {
         return None;
     }
     match gatherings.kept.first_key_value() {

@@ -1,8 +1,8 @@
 //! The parts that are missing, as a part list.
 
-ghost use Rattle.std.specs.Prelude.{◌≡◌, ◌≤◌, ℕ, true, List, [], IfOk};
+ghost use Rattle.std.specs.Prelude.{◌≡◌, ℕ, List, [], IfOk};
 ghost use Rattle.std.specs.String.{string_bytes};
-ghost use Rattle.lpt_join.specs.CameInside.{has, is_ended};
+ghost use Rattle.lpt_join.specs.CameInside.{has, is_ended, IsHighest};
 ghost use Rattle.lpt_join.specs.Missing.{AreGaps};
 ghost use Rattle.lpt_files.specs.MissingLists.{item_text, items_text, list_text, open_text, with_item};
 
@@ -15,7 +15,7 @@ use std::alloc::{AllocError, Global};
 /// The only error is out of memory.
 pub fn missing_list(alloc: Global, came: &Came) -> Result<String, AllocError>
     ensures { IfOk result (λ text. (last : ℕ) × (gaps : List (ℕ × ℕ))
-        × ((n : ℕ) → has came.now n ≡ true → n ≤ last) × AreGaps (has came.now) 1 last gaps
+        × IsHighest (has came.now) last × AreGaps (has came.now) 1 last gaps
         × (string_bytes text ≡ list_text gaps last (is_ended came.now))) }
 {
     let last = came.highest();

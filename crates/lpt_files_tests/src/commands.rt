@@ -1,10 +1,11 @@
 //! What the commands do: part lists, splits and joins from stream to stream, and requests.
 
-use crate::packets::{FIRST, MESSAGE, SECOND, THIRD, USUAL};
+use crate::packets::{FIRST, MESSAGE, OTHER, SECOND, THIRD, USUAL};
 use lpt_files::{
-    Direction, Form, JoinEnd, Name, SplitEnd, Told, Transaction, Wanted, join_message,
-    missing_list, read_parts, split_message,
+    Direction, Form, JoinEnd, JoinReport, Misfit, Name, SplitEnd, Told, Transaction, Wanted,
+    join_message, missing_list, read_parts, split_message,
 };
+use lpt_join::PacketFault;
 use lpt_requests::{AckFlags, Area, MemoryFault, Octets, Range, Request, write_request};
 use std::alloc::Global;
 use std::test::Fail;
@@ -77,8 +78,8 @@ fn splits_from_stream_to_stream(rt: HostRuntime) -> Result<(), Fail> {
     Ok(())
 }
 
-// How the join of packets ends, what it writes, and which parts it reports as missing.
-fn join(alloc: Global, packets: &[&[u8]]) -> Result<(JoinEnd, Vec<u8>, String), Fail> {
+// What is reported of the join of packets, and what it writes.
+fn join(alloc: Global, any: bool, packets: &[&[u8]]) -> Result<(JoinReport, Vec<u8>), Fail> {
     let mut stream = Vec::new(alloc);
     for packet in packets {
         stream.extend_from_slice(*packet)?;
@@ -91,29 +92,53 @@ fn join(alloc: Global, packets: &[&[u8]]) -> Result<(JoinEnd, Vec<u8>, String), 
     };
     let mut source = Told::new(stream.as_slice());
     let mut out = Told::new(Vec::new(alloc));
-    let (end, came) = join_message(alloc, &transaction, &mut source, &mut out)?;
-    let list = missing_list(alloc, &came)?;
-    Ok((end, out.into_inner(), list))
+    let report = join_message(alloc, &transaction, any, &mut source, &mut out)?;
+    Ok((report, out.into_inner()))
 }
+
+// The end where what is joined is the message, which is no packet.
+const UNFIT: JoinEnd = JoinEnd::Unfit(Misfit::NoPacket(PacketFault::Length));
 
 #[test]
 fn joins_from_stream_to_stream(rt: HostRuntime) -> Result<(), Fail> {
-    let cases: [(&[&[u8]], JoinEnd, usize, &str); 5] = [
+    // The packets, and whether any octets are taken; the end, how much is written, the missing parts,
+    // and where a part contradicts those before it.
+    let cases: [(&[&[u8]], bool, JoinEnd, usize, &str, Option<u64>); 8] = [
         (
             &[&THIRD, &FIRST, &SECOND, &FIRST],
+            true,
             JoinEnd::Written(20),
             20,
             "",
+            None,
         ),
-        (&[&THIRD, &FIRST], JoinEnd::Missing, 0, "2"),
-        (&[&THIRD], JoinEnd::Missing, 0, "1-2"),
-        (&[&SECOND], JoinEnd::Missing, 0, "1,3-"),
-        (&[], JoinEnd::Missing, 0, "1-"),
+        (&[&FIRST, &SECOND, &THIRD], false, UNFIT, 0, "", None),
+        (
+            &[&FIRST, &SECOND, &THIRD, &OTHER],
+            true,
+            JoinEnd::Written(20),
+            20,
+            "",
+            Some(71),
+        ),
+        (
+            &[&FIRST, &OTHER],
+            true,
+            JoinEnd::BrokenOff,
+            0,
+            "2-",
+            Some(25),
+        ),
+        (&[&THIRD, &FIRST], false, JoinEnd::Missing, 0, "2", None),
+        (&[&THIRD], false, JoinEnd::Missing, 0, "1-2", None),
+        (&[&SECOND], false, JoinEnd::Missing, 0, "1,3-", None),
+        (&[], false, JoinEnd::Missing, 0, "1-", None),
     ];
-    for (packets, wanted, len, missing) in cases {
-        let (end, written, list) = join(rt.alloc(), packets)?;
-        let is_so = end == wanted && written.len() == len && list.as_str() == missing;
-        assert!(rt; is_so, "{list}");
+    for (packets, any, end, len, missing, against) in cases {
+        let (report, written) = join(rt.alloc(), any, packets)?;
+        let list = missing_list(rt.alloc(), &report.came)?;
+        let is_so = report.end == end && report.against == against && written.len() == len;
+        assert!(rt; is_so && list.as_str() == missing, "{list}");
     }
     Ok(())
 }

@@ -21,7 +21,8 @@ fn gathered(alloc: Global, packets: &[&[u8]]) -> Result<Gathering, Fail> {
         stream.extend_from_slice(*packet)?;
     }
     let mut source = Told::new(stream.as_slice());
-    Ok(join_stream(alloc, &TRANSACTION, &mut source)?)
+    let (gathering, _) = join_stream(alloc, &TRANSACTION, &mut source)?;
+    Ok(gathering)
 }
 
 #[test]

@@ -17,13 +17,13 @@ use Rattle.lpt_join.proofs.SetLemmas.{get_more, get_none, nothing_whole, whole_w
 -- ---- what is gathered
 
 -- parts of the message, and not all; or the message
-abbrev IsGathered : List ℕ → ℕ → Joined → Type 0
+abbrev pub IsGathered : List ℕ → ℕ → Joined → Type 0
 IsGathered m p (Missing s) = IsPartsOf m p s × (is_whole s ≡ false)
 IsGathered m p (Complete x) = x ≡ m
 IsGathered m p Broken = ⊥
 
 -- whether part n was kept, where parts are missing
-abbrev Keeps : ℕ → Bool → Joined → Type 0
+abbrev pub Keeps : ℕ → Bool → Joined → Type 0
 Keeps n b (Missing s) = is_some (map.get s n) ≡ b
 Keeps n b (Complete x) = Unit {0}
 Keeps n b Broken = Unit {0}
@@ -59,7 +59,7 @@ added_agrees m p s n are some within =
     (parts_agree m p s n are some within)
 
 -- a packet of the message, or of none, keeps what is gathered so
-gathered_step : (t : Transaction) (m b : List ℕ) (j : Joined)
+pub gathered_step : (t : Transaction) (m b : List ℕ) (j : Joined)
     → IsPartSize t.part_size
     → IsGathered m t.part_size j
     → Belongs t m b
@@ -108,7 +108,7 @@ keeps_added s n x q b false h k =
     keeps_by (with_part s n x) q ((n == q) || b) (is_whole (with_part s n x))
     (get_more s n x q ∙ ap (λ c. (n == q) || c) h)
 
-keeps_step : (t : Transaction) (m b : List ℕ) (j : Joined) (q : ℕ) (k : Bool)
+pub keeps_step : (t : Transaction) (m b : List ℕ) (j : Joined) (q : ℕ) (k : Bool)
     → IsGathered m t.part_size j
     → Belongs t m b
     → Keeps q k j
@@ -152,10 +152,10 @@ keeps_all t m (b ∷ bs) j q k size h l was =
 pub gathered_none : (m : List ℕ) (p : ℕ) → IsGathered m p (Missing no_parts)
 gathered_none m p = (IsPartsOf-none m p, nothing_whole)
 
-nothing_kept : (q : ℕ) → Keeps q false (Missing no_parts)
+pub nothing_kept : (q : ℕ) → Keeps q false (Missing no_parts)
 nothing_kept q = ap is_some (get_none q)
 
-complete_by : (t : Transaction) (m : List ℕ) (j : Joined)
+pub complete_by : (t : Transaction) (m : List ℕ) (j : Joined)
     → IsPartSize t.part_size
     → IsMessage m t.part_size
     → IsGathered m t.part_size j

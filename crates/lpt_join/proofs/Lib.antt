@@ -1,14 +1,21 @@
+mod AgainstLemmas
 mod BreakLemmas
 mod DamageLemmas
-mod EndLemmas
-mod FitLemmas
-mod GatherLemmas
-mod LawLemmas
+pub mod EndLemmas
+pub mod FitLemmas
+pub mod GatherLemmas
+mod LastLemmas
+pub mod LawLemmas
 mod MadeLemmas
-mod OtherLemmas
+pub mod MessageLemmas
+pub mod OtherLemmas
 mod ReadLemmas
-mod RoundLemmas
-mod SentLemmas
-mod SetLemmas
-mod SeveralLemmas
-mod ThereLemmas
+pub mod RoundLemmas
+pub mod SentLemmas
+pub mod SetLemmas
+pub mod SeveralLemmas
+pub mod SoleLemmas
+pub mod ThereLemmas
+pub use Rattle.lpt_pus.proofs.LptPacket as LptPacket
+pub use Rattle.lpt_reception.proofs as LptReception
+pub use Rattle.lpt_stream.proofs as LptStream

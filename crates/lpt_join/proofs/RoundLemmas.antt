@@ -23,7 +23,7 @@ module _ (t : Transaction) (c : Config) (m : List ℕ) (sending : IsSending t c 
     time_fits = sending.good.clock_fits;
   }
 
-  made : (n count : ℕ)
+  pub made : (n count : ℕ)
       → IsNumber (part_count (length m) t.part_size) n
       → count ≤ 16383
       → IsMade t c m n (part_made c t.direction t.name.source count 0 c.clock (nth_part c.part_size t.name.id m n))
@@ -38,7 +38,7 @@ module _ (t : Transaction) (c : Config) (m : List ℕ) (sending : IsSending t c 
         (sym sending.of.size);
   }
 
-  made_all : (ns : List ℕ) (count : ℕ)
+  pub made_all : (ns : List ℕ) (count : ℕ)
       → count ≤ 16383
       → AreNumbers (part_count (length m) t.part_size) ns
       → AllMadeOrOther t c m (split_of c t.direction t.name m count ns)
@@ -46,7 +46,7 @@ module _ (t : Transaction) (c : Config) (m : List ℕ) (sending : IsSending t c 
   made_all (n ∷ ns) count k h =
       (inr (n, made n count h.0 k), made_all ns (next_count count) (omega arith) h.1)
 
-  among : (n : ℕ) (ns : List ℕ) (count : ℕ)
+  pub among : (n : ℕ) (ns : List ℕ) (count : ℕ)
       → count ≤ 16383
       → AreNumbers (part_count (length m) t.part_size) ns
       → HasNumber n ns

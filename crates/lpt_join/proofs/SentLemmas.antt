@@ -11,7 +11,7 @@ use Rattle.lpt_join.proofs.MadeLemmas.{made_carries}
 use Rattle.lpt_join.proofs.LawLemmas.{joined_whole}
 
 module _ (t : Transaction) (c : Config) (m : List ℕ) (sending : IsSending t c m) where
-  carries : (n : ℕ) (b : List ℕ) → IsMade t c m n b → offered t b ≡ Some (n, kept_of m t.part_size n)
+  pub carries : (n : ℕ) (b : List ℕ) → IsMade t c m n b → offered t b ≡ Some (n, kept_of m t.part_size n)
   carries n b h =
       ap (offered t) h.is
       ∙ made_carries t c m sending n h.count h.counter h.time h.counts h.some h.within
@@ -20,7 +20,7 @@ module _ (t : Transaction) (c : Config) (m : List ℕ) (sending : IsSending t c 
   belongs b (inl e) = inl e
   belongs b (inr w) = inr (w.0, record { some = w.1.some; within = w.1.within; is = carries w.0 b w.1 })
 
-  all_belong : (bs : List (List ℕ)) → AllMadeOrOther t c m bs → AllBelong t m bs
+  pub all_belong : (bs : List (List ℕ)) → AllMadeOrOther t c m bs → AllBelong t m bs
   all_belong [] h = tt
   all_belong (b ∷ bs) h = (belongs b h.0, all_belong bs h.1)
 
@@ -28,7 +28,7 @@ module _ (t : Transaction) (c : Config) (m : List ℕ) (sending : IsSending t c 
   or_right true = refl
   or_right false = refl
 
-  has_come : (n : ℕ) (bs : List (List ℕ)) → IsAmong t c m n bs → came t n bs ≡ true
+  pub has_come : (n : ℕ) (bs : List (List ℕ)) → IsAmong t c m n bs → came t n bs ≡ true
   has_come n [] h = absurd h
   has_come n (b ∷ bs) (inl h) =
       ap (λ o. is_part n o || came t n bs) (carries n b h) ∙ ap (λ e. e || came t n bs) (eq_true n n refl)

@@ -17,14 +17,14 @@ use Rattle.lpt_reception.specs.Received.{Kept, Parts, no_parts, with_part, is_la
 
 -- ---- a part added
 
-get_same : (s : Parts) (n : ℕ) (x : Kept) (q : ℕ)
+pub get_same : (s : Parts) (n : ℕ) (x : Kept) (q : ℕ)
     → q ≡ n
     → map.get (with_part s n x) q ≡ Some x
 get_same s n x q same =
     map.get-insert nat_cmp_total s n x q
     ∙ ap (λ b. cond b (Some x) (map.get s q)) (unsigned_tied q n ∙ eq-eqb q n same)
 
-get_other : (s : Parts) (n : ℕ) (x : Kept) (q : ℕ)
+pub get_other : (s : Parts) (n : ℕ) (x : Kept) (q : ℕ)
     → q ≢ n
     → map.get (with_part s n x) q ≡ map.get s q
 get_other s n x q other =
@@ -101,7 +101,7 @@ kind_last n h =
     ∙ ap (λ b. if b then Last else Middle) (eq_true n n refl)
 
 -- a test that an entry passes isn't failed by all
-not_none : (p : ℕ × Kept → Bool) (s : Parts) (n : ℕ) (x : Kept) (t : Bool)
+pub not_none : (p : ℕ × Kept → Bool) (s : Parts) (n : ℕ) (x : Kept) (t : Bool)
     → list_any p (map.entries s) ≡ t
     → map.get s n ≡ Some x
     → p (n, x) ≡ true

@@ -1,93 +1,87 @@
--- What is kept of each transaction, a packet further.
-use Rattle.std.proofs.Common.{◌≡◌, ◌∙◌, ap, sym, subst, refl, ℕ, Bool, true, false, if◌then◌else◌, ◌||◌, List, [], ◌∷◌, ◌++◌, Option, Some, None, is_some}
-use Rattle.std.specs.List.{list_any}
+-- What is kept of each transaction, a piece further.
+use Rattle.std.proofs.Common.{◌≡◌, ◌∙◌, ap, sym, subst, refl, inl, inr, ◌⊎◌, ℕ, ◌+◌, ◌≤◌, Bool, true, false, if◌then◌else◌, ◌||◌, List, [], ◌∷◌, ◌++◌, length, Option, Some, None, is_some, append-nil, append_assoc, arith}
 use Rattle.std.specs.Option.{option_map}
+use Rattle.std.proofs.lemmas.Bool.{or_parts}
 use Rattle.lpt_pus.specs.LptPacket.Names.{Name, same_name}
 use Rattle.lpt_pus.proofs.LptPacket.NameLemmas.{same_name-refl, same_name-true}
 use Rattle.lpt_split.specs.LptEvents.NamedParts.{NamedPart, bare}
-use Rattle.lpt_reception.specs.Received.{Kept, no_parts}
+use Rattle.lpt_reception.specs.Received.{Kept}
+use Rattle.lpt_stream.specs.declared.piece_kind.PieceKind.{PieceKind}
+use Rattle.lpt_stream.specs.declared.piece_kind.PieceKind.TheVariants.{Whole, Damaged, Stray}
+use Rattle.lpt_stream.specs.Pieces.{Piece, packet_before, packets_of}
 use Rattle.lpt_join.specs.declared.gathering.Gathering.{Gathering}
 use Rattle.lpt_join.specs.declared.gatherings.Gatherings.{Gatherings}
 use Rattle.lpt_join.specs.declared.transaction.Transaction.{Transaction}
+use Rattle.lpt_join.specs.Contradictions.{offered_in}
 use Rattle.lpt_join.specs.Gatherings.{Gives}
-use Rattle.lpt_join.specs.Joins.{Joined, Missing, join_part, joined_from}
-use Rattle.lpt_join.specs.Laws.{is_part, is_end}
 use Rattle.lpt_join.specs.Offers.{offered, part_of_name, part_of_piece, piece_in}
 use Rattle.lpt_join.specs.Several.{carried, GivesEach, IsKept, kept_of, of_name}
+use Rattle.lpt_join.specs.SeveralInside.{HasPlace, IsFull}
 use Rattle.lpt_join.proofs.OtherLemmas.{none_carried, apart_carried}
-use Rattle.lpt_join.proofs.GatherLemmas.{any-next, gives-other, join_none}
+use Rattle.lpt_join.proofs.GatherLemmas.{any-piece, gives-other}
 
 -- ---- nothing has come
 
 no_true : true ≡ false → ⊥
 no_true e = cc
 
-or_front : (a b : Bool) → (a || b) ≡ false → a ≡ false
-or_front true b h = h
-or_front false b h = refl
-
-or_behind : (a b : Bool) → (a || b) ≡ false → b ≡ false
-or_behind true b h = absurd (no_true h)
-or_behind false b h = h
-
-not_some : (o : Option (ℕ × Kept)) → is_some o ≡ false → o ≡ None
+pub not_some : (o : Option (ℕ × Kept)) → is_some o ≡ false → o ≡ None
 not_some None h = refl
 not_some (Some x) h = absurd (no_true h)
 
 module _ (t : Transaction) where
-  joined-none : (j : Joined) (bs : List (List ℕ)) → carried t bs ≡ false → joined_from t j bs ≡ j
-  joined-none j [] h = refl
-  joined-none j (b ∷ bs) h =
-      let none = not_some (offered t b) (or_front (is_some (offered t b)) (carried t bs) h) in
-      ap (λ o. joined_from t (join_part j o) bs) none ∙ ap (λ k. joined_from t k bs) (join_none j)
-      ∙ joined-none j bs (or_behind (is_some (offered t b)) (carried t bs) h)
+  carried-front : (k : PieceKind) (b : List ℕ) (bs : List (List ℕ))
+      → carried t (packet_before k b bs) ≡ false
+      → (offered_in t k b ≡ None) × (carried t bs ≡ false)
+  carried-front Whole b bs h =
+      let parts = or_parts (is_some (offered t b)) (carried t bs) h in
+      (not_some (offered t b) parts.0, parts.1)
+  carried-front Damaged b bs h = (refl, h)
+  carried-front Stray b bs h = (refl, h)
 
-  any-none : (p : Option (ℕ × Kept) → Bool) → p None ≡ false → (bs : List (List ℕ))
-      → carried t bs ≡ false → list_any (λ b. p (offered t b)) bs ≡ false
-  any-none p false_there [] h = refl
-  any-none p false_there (b ∷ bs) h =
-      let none = not_some (offered t b) (or_front (is_some (offered t b)) (carried t bs) h) in
-      ap (λ o. p o || list_any (λ c. p (offered t c)) bs) none
-      ∙ ap (λ e. e || list_any (λ c. p (offered t c)) bs) false_there
-      ∙ any-none p false_there bs (or_behind (is_some (offered t b)) (carried t bs) h)
+  gives-run : (ps qs : List Piece) (g : Gathering)
+      → Gives t ps g
+      → carried t (packets_of qs) ≡ false
+      → Gives t (ps ++ qs) g
+  gives-run ps [] g h none = subst (λ x. Gives t x g) (sym (append-nil ps)) h
+  gives-run ps (q ∷ qs) g h none =
+      let parts = carried-front q.kind q.octets (packets_of qs) none in
+      subst (λ x. Gives t x g) (append_assoc ps (q ∷ []) qs)
+      (gives-run (ps ++ q ∷ []) qs g (gives-other t ps q g h (sym parts.0)) parts.1)
 
-  -- packets that carry no part of a transaction give of it what no packet gives
-  pub gives-none : (bs : List (List ℕ)) (g : Gathering)
+  -- pieces that carry no part of a transaction give of it what no piece gives
+  pub gives-none : (bs : List Piece) (g : Gathering)
       → Gives t [] g
-      → carried t bs ≡ false
+      → carried t (packets_of bs) ≡ false
       → Gives t bs g
-  gives-none bs g h none = record {
-    of = h.of;
-    state_is = h.state_is ∙ sym (joined-none (Missing no_parts) bs none);
-    came_is = λ n. h.came_is n ∙ sym (any-none (is_part n) refl bs none);
-    ended_is = h.ended_is ∙ sym (any-none is_end refl bs none);
-  }
+  gives-none bs g h none = gives-run [] bs g h none
 
-  -- ---- a packet more
+  -- ---- a piece more
 
-  carried-next : (bs : List (List ℕ)) (b : List ℕ)
-      → carried t (bs ++ b ∷ []) ≡ (is_some (offered t b) || carried t bs)
-  carried-next bs b = any-next (λ c. is_some (offered t c)) bs b
+  carried-next : (bs : List Piece) (b : Piece)
+      → carried t (packets_of (bs ++ b ∷ []))
+      ≡ (is_some (offered_in t b.kind b.octets) || carried t (packets_of bs))
+  carried-next bs b = any-piece t is_some refl bs b
 
-  -- a packet that carries no part of the transaction leaves what is kept
-  pub kept-other : (bs : List (List ℕ)) (b : List ℕ) (more : Bool) (o : Option Gathering)
-      → offered t b ≡ None
+  -- a piece that carries no part of the transaction leaves what is kept
+  pub kept-other : (bs : List Piece) (b : Piece) (more : Bool) (o : Option Gathering)
+      → offered_in t b.kind b.octets ≡ None
       → IsKept t bs more o
       → IsKept t (bs ++ b ∷ []) more o
   kept-other bs b more None none h = λ few.
-      carried-next bs b ∙ ap (λ o. is_some o || carried t bs) none ∙ h few
+      carried-next bs b ∙ ap (λ o. is_some o || carried t (packets_of bs)) none ∙ h few
   kept-other bs b more (Some g) none h = (
     gives-other t bs b g h.0 (sym none),
-    carried-next bs b ∙ ap (λ o. is_some o || carried t bs) none ∙ h.1,
+    carried-next bs b ∙ ap (λ o. is_some o || carried t (packets_of bs)) none ∙ h.1,
   )
 
   -- one that does
-  pub kept-part : (bs : List (List ℕ)) (b : List ℕ) (more : Bool) (x : ℕ × Kept) (g : Gathering)
-      → offered t b ≡ Some x
+  pub kept-part : (bs : List Piece) (b : Piece) (more : Bool) (x : ℕ × Kept) (g : Gathering)
+      → offered_in t b.kind b.octets ≡ Some x
       → Gives t (bs ++ b ∷ []) g
       → IsKept t (bs ++ b ∷ []) more (Some g)
   kept-part bs b more x g some h =
-      (h, carried-next bs b ∙ ap (λ o. is_some o || carried t bs) some)
+      (h, carried-next bs b ∙ ap (λ o. is_some o || carried t (packets_of bs)) some)
 
 -- ---- of each transaction
 
@@ -97,24 +91,65 @@ same_some a b h = cc
 not_none : (a : Name) → Some a ≡ None → ⊥
 not_none a h = cc
 
-its_part : (name : Name) (o : Option NamedPart)
+pub its_part : (name : Name) (o : Option NamedPart)
     → Some name ≡ option_map (λ (q : NamedPart). q.name) o
     → (q : NamedPart) × (o ≡ Some q) × (q.name ≡ name)
 its_part name (Some q) h = (q, refl, sym (same_some name q.name h))
 its_part name None h = absurd (not_none name h)
 
-no_part : (o : Option NamedPart) → None ≡ option_map (λ (q : NamedPart). q.name) o → o ≡ None
+pub no_part : (o : Option NamedPart) → None ≡ option_map (λ (q : NamedPart). q.name) o → o ≡ None
 no_part None h = refl
 no_part (Some q) h = absurd (not_none q.name (sym h))
 
--- no part of any transaction came
-pub each-none : (t : Transaction) (bs : List (List ℕ)) (b : List ℕ) (g : Gatherings)
-    → None ≡ option_map (λ (q : NamedPart). q.name) (piece_in t b)
+-- a piece that carries no part of any
+pub each-other : (t : Transaction) (bs : List Piece) (b : Piece) (g : Gatherings)
+    → ((n : Name) → offered_in (of_name t n) b.kind b.octets ≡ None)
     → GivesEach t bs g
     → GivesEach t (bs ++ b ∷ []) g
-each-none t bs b g e h = λ n.
-    kept-other (of_name t n) bs b g.has_more (kept_of g n)
-    (none_carried (of_name t n) b (no_part (piece_in t b) e)) (h n)
+each-other t bs b g none h = record {
+  each = λ n. kept-other (of_name t n) bs b g.has_more (kept_of g n) (none n) (h.each n);
+  most = h.most;
+  full = h.full;
+}
+
+-- the packet
+abbrev packet : List ℕ → Piece
+packet b = record { kind = Whole; octets = b }
+
+-- no part of any transaction came
+pub each-none : (t : Transaction) (bs : List Piece) (b : List ℕ) (g : Gatherings)
+    → None ≡ option_map (λ (q : NamedPart). q.name) (piece_in t b)
+    → GivesEach t bs g
+    → GivesEach t (bs ++ packet b ∷ []) g
+each-none t bs b g e h =
+    each-other t bs (packet b) g (λ n. none_carried (of_name t n) b (no_part (piece_in t b) e)) h
+
+full_size : (old new : Gatherings)
+    → IsFull old new
+    → length old.kept.entries ≤ 64
+    → (old.has_more ≡ true → length old.kept.entries ≡ 64)
+    → length new.kept.entries ≡ 64
+full_size old new h most full = ap length h.0 ∙ go h.1 where
+  go : (old.has_more ≡ true) ⊎ (64 ≤ length old.kept.entries) → length old.kept.entries ≡ 64
+  go (inl more) = full more
+  go (inr many) = omega arith
+
+module _ (old taken new : Gatherings)
+    (place : HasPlace old taken)
+    (size : length new.kept.entries ≡ length taken.kept.entries + 1) where
+  place_most : length old.kept.entries ≤ 64 → length new.kept.entries ≤ 64
+  place_most most = elim place [
+    | inl h ↦ omega arith
+    | inr h ↦ let same : length taken.kept.entries ≡ length old.kept.entries = ap length h.0 in omega (arith, h.2)
+  ]
+
+  place_full : (old.has_more ≡ true → length old.kept.entries ≡ 64)
+      → old.has_more ≡ true
+      → length new.kept.entries ≡ 64
+  place_full full more = elim place [
+    | inl h ↦ let same = full more in omega arith
+    | inr h ↦ absurd (no_true (sym more ∙ h.1))
+  ]
 
 module _ (t : Transaction) (name : Name) (b : List ℕ)
     (e : Some name ≡ option_map (λ (q : NamedPart). q.name) (piece_in t b)) where
@@ -130,60 +165,68 @@ module _ (t : Transaction) (name : Name) (b : List ℕ)
       )
 
   -- and of no other
-  offered-other : (n : Name) → same_name name n ≡ false → offered (of_name t n) b ≡ None
+  pub offered-other : (n : Name) → same_name name n ≡ false → offered (of_name t n) b ≡ None
   offered-other n other =
       let its = its_part name (piece_in t b) e in
       apart_carried (of_name t n) b its.0 its.1 (ap (λ (m : Name). same_name m n) its.2 ∙ other)
 
-  module _ (bs : List (List ℕ)) (old new : Gatherings)
+  module _ (bs : List Piece) (old new : Gatherings)
       (others : (n : Name) → same_name name n ≡ false → kept_of new n ≡ kept_of old n)
-      (rises : (n : Name) (o : Option Gathering) → IsKept (of_name t n) (bs ++ b ∷ []) old.has_more o
-      → IsKept (of_name t n) (bs ++ b ∷ []) new.has_more o)
-      (its : IsKept (of_name t name) (bs ++ b ∷ []) new.has_more (kept_of new name))
+      (rises : (n : Name) (o : Option Gathering) → IsKept (of_name t n) (bs ++ packet b ∷ []) old.has_more o
+      → IsKept (of_name t n) (bs ++ packet b ∷ []) new.has_more o)
+      (its : IsKept (of_name t name) (bs ++ packet b ∷ []) new.has_more (kept_of new name))
       (h : GivesEach t bs old) where
     each-at : (n : Name) (same : Bool) → same_name name n ≡ same
-        → IsKept (of_name t n) (bs ++ b ∷ []) new.has_more (kept_of new n)
+        → IsKept (of_name t n) (bs ++ packet b ∷ []) new.has_more (kept_of new n)
     each-at n true is =
-        subst (λ m. IsKept (of_name t m) (bs ++ b ∷ []) new.has_more (kept_of new m))
+        subst (λ m. IsKept (of_name t m) (bs ++ packet b ∷ []) new.has_more (kept_of new m))
         (same_name-true name n is) its
     each-at n false is =
-        subst (λ o. IsKept (of_name t n) (bs ++ b ∷ []) new.has_more o) (sym (others n is))
-        (rises n (kept_of old n) (kept-other (of_name t n) bs b old.has_more (kept_of old n)
-        (offered-other n is) (h n)))
+        subst (λ o. IsKept (of_name t n) (bs ++ packet b ∷ []) new.has_more o) (sym (others n is))
+        (rises n (kept_of old n) (kept-other (of_name t n) bs (packet b) old.has_more (kept_of old n)
+        (offered-other n is) (h.each n)))
 
-    each-next : GivesEach t (bs ++ b ∷ []) new
-    each-next = λ n. each-at n (same_name name n) refl
+    each-next : (n : Name) → IsKept (of_name t n) (bs ++ packet b ∷ []) new.has_more (kept_of new n)
+    each-next n = each-at n (same_name name n) refl
 
-  rises_more : (bs : List (List ℕ)) (more : Bool) (n : Name) (o : Option Gathering)
+  rises_more : (bs : List Piece) (more : Bool) (n : Name) (o : Option Gathering)
       → IsKept (of_name t n) bs more o
       → IsKept (of_name t n) bs true o
   rises_more bs more n None h = λ few. absurd (no_true few)
   rises_more bs more n (Some g) h = h
 
   -- nothing is kept of it
-  pub each-more : (bs : List (List ℕ)) (old new : Gatherings)
-      → ((n : Name) → same_name name n ≡ false → kept_of new n ≡ kept_of old n)
-      → kept_of new name ≡ None
-      → new.has_more ≡ true
+  pub each-more : (bs : List Piece) (old taken : Gatherings)
+      → ((n : Name) → same_name name n ≡ false → kept_of taken n ≡ kept_of old n)
+      → kept_of taken name ≡ None
+      → IsFull old taken
       → GivesEach t bs old
-      → GivesEach t (bs ++ b ∷ []) new
-  each-more bs old new others none more h =
-      each-next bs old new others
-      (λ n o k. subst (λ (m : Bool). IsKept (of_name t n) (bs ++ b ∷ []) m o) (sym more)
-      (rises_more (bs ++ b ∷ []) old.has_more n o k))
-      (subst (λ o. IsKept (of_name t name) (bs ++ b ∷ []) new.has_more o) (sym none)
-      (λ few. absurd (no_true (sym more ∙ few)))) h
+      → GivesEach t (bs ++ packet b ∷ []) (record taken { has_more = true })
+  each-more bs old taken others none is h =
+      let new = record taken { has_more = true } in
+      let size = full_size old taken is h.most h.full in record {
+        each = each-next bs old new others (λ n o k. rises_more (bs ++ packet b ∷ []) old.has_more n o k)
+            (subst (λ o. IsKept (of_name t name) (bs ++ packet b ∷ []) true o) (sym none)
+            (λ few. absurd (no_true few))) h;
+        most = omega arith;
+        full = λ more. size;
+      }
 
   -- this is
-  pub each-part : (bs : List (List ℕ)) (old new : Gatherings) (g : Gathering)
+  pub each-part : (bs : List Piece) (old taken new : Gatherings) (g : Gathering)
       → ((n : Name) → same_name name n ≡ false → kept_of new n ≡ kept_of old n)
       → kept_of new name ≡ Some g
       → new.has_more ≡ old.has_more
-      → Gives (of_name t name) (bs ++ b ∷ []) g
+      → HasPlace old taken
+      → length new.kept.entries ≡ length taken.kept.entries + 1
+      → Gives (of_name t name) (bs ++ packet b ∷ []) g
       → GivesEach t bs old
-      → GivesEach t (bs ++ b ∷ []) new
-  each-part bs old new g others some more gives h =
-      each-next bs old new others
-      (λ n o k. subst (λ (m : Bool). IsKept (of_name t n) (bs ++ b ∷ []) m o) (sym more) k)
-      (subst (λ o. IsKept (of_name t name) (bs ++ b ∷ []) new.has_more o) (sym some)
-      (kept-part (of_name t name) bs b new.has_more offered-its.0 g offered-its.1 gives)) h
+      → GivesEach t (bs ++ packet b ∷ []) new
+  each-part bs old taken new g others some more place size gives h = record {
+    each = each-next bs old new others
+        (λ n o k. subst (λ (m : Bool). IsKept (of_name t n) (bs ++ packet b ∷ []) m o) (sym more) k)
+        (subst (λ o. IsKept (of_name t name) (bs ++ packet b ∷ []) new.has_more o) (sym some)
+        (kept-part (of_name t name) bs (packet b) new.has_more offered-its.0 g offered-its.1 gives)) h;
+    most = place_most old taken new place size h.most;
+    full = λ is. place_full old taken new place size h.full (sym more ∙ is);
+  }

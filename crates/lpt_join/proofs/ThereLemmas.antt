@@ -16,25 +16,25 @@ use Rattle.lpt_join.proofs.SetLemmas.{added_cases, all_there, get_none, nothing_
 
 module _ (t : Transaction) (all : List (List ℕ)) where
   -- parts that fit, don't contradict one another and stand in the stream
-  record IsFrom (s : Parts) : Type 0 where
-    fit : AllFit t.part_size s
-    agree : is_overrun s ≡ false
-    there : (n : ℕ) (x : Kept) → map.get s n ≡ Some x → IsThere t n x all
+  pub record IsFrom (s : Parts) : Type 0 where
+    pub fit : AllFit t.part_size s
+    pub agree : is_overrun s ≡ false
+    pub there : (n : ℕ) (x : Kept) → map.get s n ≡ Some x → IsThere t n x all
 
   -- what is joined comes of such parts
-  abbrev IsOf : Joined → Type 0
+  abbrev pub IsOf : Joined → Type 0
   IsOf (Missing s) = IsFrom s
   IsOf (Complete m) = (s : Parts) × IsFrom s × (is_whole s ≡ true) × (m ≡ spelled s)
   IsOf Broken = Unit {0}
 
-  from_none : IsFrom no_parts
+  pub from_none : IsFrom no_parts
   from_none = record {
     fit = λ n x h. let none = get_none n in absurd cc;
     agree = nothing_overrun;
     there = λ n x h. let none = get_none n in absurd cc;
   }
 
-  from_more : (s : Parts) (n : ℕ) (x : Kept)
+  pub from_more : (s : Parts) (n : ℕ) (x : Kept)
       → IsFrom s
       → PartFits x.kind n (length x.octets) t.part_size
       → IsThere t n x all
@@ -66,7 +66,7 @@ module _ (t : Transaction) (all : List (List ℕ)) where
   of_by s n x false true h fits here e = h
   of_by s n x false false h fits here e = of_kept (with_part s n x) (is_whole (with_part s n x)) (from_more s n x h fits here e) refl
 
-  of_step : (j : Joined) (o : Option (ℕ × Kept))
+  pub of_step : (j : Joined) (o : Option (ℕ × Kept))
       → IsOf j
       → ((n : ℕ) (x : Kept) → o ≡ Some (n, x) → PartFits x.kind n (length x.octets) t.part_size × IsThere t n x all)
       → IsOf (join_part j o)
@@ -78,7 +78,7 @@ module _ (t : Transaction) (all : List (List ℕ)) where
   of_step Broken o h each = h
 
   -- each of these packets stands in the stream
-  abbrev AreIn : List (List ℕ) → Type 0
+  abbrev pub AreIn : List (List ℕ) → Type 0
   AreIn [] = Unit {0}
   AreIn (b ∷ bs) = ((n : ℕ) (x : Kept) → offered t b ≡ Some (n, x) → IsThere t n x all) × AreIn bs
 
@@ -93,24 +93,22 @@ are_in_more : (t : Transaction) (c : List ℕ) (all bs : List (List ℕ)) → Ar
 are_in_more t c all [] h = tt
 are_in_more t c all (b ∷ bs) h = (λ n x e. inr (h.0 n x e), are_in_more t c all bs h.1)
 
-are_in : (t : Transaction) (bs : List (List ℕ)) → AreIn t bs bs
+pub are_in : (t : Transaction) (bs : List (List ℕ)) → AreIn t bs bs
 are_in t [] = tt
 are_in t (b ∷ bs) = (λ n x e. inl e, are_in_more t b bs bs (are_in t bs))
 
--- what is joined is a message each part of which stands in the stream
-pub complete_there : (t : Transaction) (bs : List (List ℕ)) (m : List ℕ)
+-- what parts that stand in the stream are joined to is a message each part of which stands there
+pub whole_there : (t : Transaction) (bs : List (List ℕ)) (m : List ℕ)
     → ((p : ℕ) (s : Parts) → IsPartSize p → AllFit p s → is_overrun s ≡ false → is_whole s ≡ true
     → IsMessage (spelled s) p)
     → ((p : ℕ) (s : Parts) → IsPartSize p → AllFit p s → is_overrun s ≡ false → is_whole s ≡ true
     → IsSplit (spelled s) p s)
-    → joined t bs ≡ Complete m
+    → IsOf t bs (Complete m)
     → IsMessage m t.part_size
     × ((n : ℕ) → 1 ≤ n → n ≤ part_count (length m) t.part_size
     → IsThere t n (kept_of m t.part_size n) bs)
-complete_there t bs m messages splits e =
+whole_there t bs m messages splits w =
     let p = t.part_size in
-    let w = subst (λ (j : Joined). IsOf t bs j) e
-    (of_all t bs bs (Missing no_parts) (from_none t bs) (are_in t bs)) in
     let s = w.0 in
     let message = messages p s t.size w.1.fit w.1.agree w.2 in
     let split = splits p s t.size w.1.fit w.1.agree w.2 in
@@ -124,3 +122,17 @@ complete_there t bs m messages splits e =
           let is = (split.parts n at.0 at.1).is in
           subst (λ (x : Kept). IsThere t n x bs) is (w.1.there n at.0 at.1),
     )
+
+-- so is what packets give
+pub complete_there : (t : Transaction) (bs : List (List ℕ)) (m : List ℕ)
+    → ((p : ℕ) (s : Parts) → IsPartSize p → AllFit p s → is_overrun s ≡ false → is_whole s ≡ true
+    → IsMessage (spelled s) p)
+    → ((p : ℕ) (s : Parts) → IsPartSize p → AllFit p s → is_overrun s ≡ false → is_whole s ≡ true
+    → IsSplit (spelled s) p s)
+    → joined t bs ≡ Complete m
+    → IsMessage m t.part_size
+    × ((n : ℕ) → 1 ≤ n → n ≤ part_count (length m) t.part_size
+    → IsThere t n (kept_of m t.part_size n) bs)
+complete_there t bs m messages splits e =
+    whole_there t bs m messages splits (subst (λ (j : Joined). IsOf t bs j) e
+    (of_all t bs bs (Missing no_parts) (from_none t bs) (are_in t bs)))

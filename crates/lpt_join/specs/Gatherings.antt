@@ -1,11 +1,14 @@
 -- What is kept of a stream's packets.
 use Rattle.std.specs.Prelude.{◌≡◌, ℕ, List}
+use Rattle.std.specs.Option.{option_map}
 use Rattle.lpt_reception.specs.Received.{no_parts}
+use Rattle.lpt_stream.specs.Pieces.{Piece, packets_of}
 use Rattle.lpt_join.specs.declared.gathering.Gathering.{Gathering}
 use Rattle.lpt_join.specs.declared.joining.Joining.{Joining}
 use Rattle.lpt_join.specs.declared.joining.Joining.TheVariants as joining
 use Rattle.lpt_join.specs.declared.transaction.Transaction.{Transaction}
 use Rattle.lpt_join.specs.CameInside.{has, is_ended}
+use Rattle.lpt_join.specs.Contradictions.{first_against, told_place}
 use Rattle.lpt_join.specs.Joins.{Joined, Missing, Complete, Broken, joined}
 use Rattle.lpt_join.specs.Laws.{came, ended}
 
@@ -23,9 +26,11 @@ IsJoiningOf t (joining.Missing f) = (f.id ≡ t.name.id) × (f.p ≡ t.part_size
 IsJoiningOf t (joining.Complete m) = Unit {0}
 IsJoiningOf t joining.BrokenOff = Unit {0}
 
--- it keeps what these packets give of the transaction, and which of its parts came
-pub record Gives (t : Transaction) (packets : List (List ℕ)) (g : Gathering) : Type 0 where
+-- it keeps what the packets among these pieces give of the transaction, which of its parts came, and
+-- where the first came that contradicts those before it
+pub record Gives (t : Transaction) (pieces : List Piece) (g : Gathering) : Type 0 where
   pub of : IsJoiningOf t g.joining
-  pub state_is : state g.joining ≡ joined t packets
-  pub came_is : (n : ℕ) → has g.came n ≡ came t n packets
-  pub ended_is : is_ended g.came ≡ ended t packets
+  pub state_is : state g.joining ≡ joined t (packets_of pieces)
+  pub came_is : (n : ℕ) → has g.came n ≡ came t n (packets_of pieces)
+  pub ended_is : is_ended g.came ≡ ended t (packets_of pieces)
+  pub against_is : g.against ≡ option_map told_place (first_against t pieces)

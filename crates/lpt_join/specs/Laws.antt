@@ -8,7 +8,7 @@ use Rattle.lpt_split.specs.LptEvents.MadePackets.{part_made, nth_part}
 use Rattle.lpt_reception.specs.PartsOf.{IsMessage, kept_of}
 use Rattle.lpt_reception.specs.Received.{Kept, is_last}
 use Rattle.lpt_join.specs.declared.transaction.Transaction.{Transaction}
-use Rattle.lpt_join.specs.Offers.{offered}
+use Rattle.lpt_join.specs.Offers.{offered, piece_in}
 
 -- ---- packets that carry parts
 
@@ -93,6 +93,15 @@ IsMadeOrOther t c m b = (offered t b ≡ None) ⊎ ((n : ℕ) × IsMade t c m n 
 abbrev pub AllMadeOrOther : Transaction → Config → List ℕ → List (List ℕ) → Type 0
 AllMadeOrOther t c m [] = Unit {0}
 AllMadeOrOther t c m (b ∷ bs) = IsMadeOrOther t c m b × AllMadeOrOther t c m bs
+
+-- the octets carry no part of any transaction that is read as this one is, or are made of the message
+abbrev pub IsMadeOrNone : Transaction → Config → List ℕ → List ℕ → Type 0
+IsMadeOrNone t c m b = (piece_in t b ≡ None) ⊎ ((n : ℕ) × IsMade t c m n b)
+
+-- each of the packets does, or is
+abbrev pub AllMadeOrNone : Transaction → Config → List ℕ → List (List ℕ) → Type 0
+AllMadeOrNone t c m [] = Unit {0}
+AllMadeOrNone t c m (b ∷ bs) = IsMadeOrNone t c m b × AllMadeOrNone t c m bs
 
 -- a packet of part n is among these
 abbrev pub IsAmong : Transaction → Config → List ℕ → ℕ → List (List ℕ) → Type 0

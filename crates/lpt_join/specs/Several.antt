@@ -1,8 +1,10 @@
 -- What is kept of each transaction among a stream's packets.
-use Rattle.std.specs.Prelude.{◌≡◌, ℕ, Bool, true, false, List, Option, Some, None, is_some}
+use Rattle.std.specs.Prelude.{◌≡◌, ◌≤◌, ℕ, Bool, true, false, List, length, Option, Some, None, is_some}
 use Rattle.std.specs.BTreeMap.{get}
 use Rattle.std.specs.List.{list_any}
 use Rattle.lpt_pus.specs.LptPacket.Names.{Name, name_cmp}
+use Rattle.lpt_skips.specs.declared.reading.Reading.{Reading}
+use Rattle.lpt_stream.specs.Pieces.{Piece, packets_of}
 use Rattle.lpt_join.specs.declared.gathering.Gathering.{Gathering}
 use Rattle.lpt_join.specs.declared.gatherings.Gatherings.{Gatherings}
 use Rattle.lpt_join.specs.declared.transaction.Transaction.{Transaction}
@@ -12,6 +14,16 @@ use Rattle.lpt_join.specs.Offers.{offered}
 -- the transaction of another name, whose packets are read alike
 abbrev pub of_name : Transaction → Name → Transaction
 of_name t n = record t { name = n }
+
+-- how its parts are read, and those of any other name or of this one alone are wanted
+abbrev pub reading_of : Transaction → Option Name → Reading
+reading_of t name = record {
+  direction = t.direction;
+  apid = t.apid;
+  part_size = t.part_size;
+  name = name;
+  size = t.size;
+}
 
 -- whether one of the packets carries a part of the transaction
 abbrev pub carried : Transaction → List (List ℕ) → Bool
@@ -23,10 +35,13 @@ kept_of g n = get name_cmp g.kept n
 
 -- it is what the packets give of a transaction of which they carry parts; nothing is kept of one of
 -- which they carry none, or where more came than are kept
-abbrev pub IsKept : Transaction → List (List ℕ) → (more : Bool) → Option Gathering → Type 0
-IsKept t bs more (Some g) = Gives t bs g × (carried t bs ≡ true)
-IsKept t bs more None = more ≡ false → carried t bs ≡ false
+abbrev pub IsKept : Transaction → List Piece → (more : Bool) → Option Gathering → Type 0
+IsKept t bs more (Some g) = Gives t bs g × (carried t (packets_of bs) ≡ true)
+IsKept t bs more None = more ≡ false → carried t (packets_of bs) ≡ false
 
--- of each transaction that is read as this one is, what is kept is what these packets give of it
-abbrev pub GivesEach : Transaction → List (List ℕ) → Gatherings → Type 0
-GivesEach t bs g = (n : Name) → IsKept (of_name t n) bs g.has_more (kept_of g n)
+-- of each transaction that is read as this one is, what is kept is what the packets among these
+-- pieces give of it; of at most 64, and where more came, of as many
+pub record GivesEach (t : Transaction) (bs : List Piece) (g : Gatherings) : Type 0 where
+  pub each : (n : Name) → IsKept (of_name t n) bs g.has_more (kept_of g n)
+  pub most : length g.kept.entries ≤ 64
+  pub full : g.has_more ≡ true → length g.kept.entries ≡ 64

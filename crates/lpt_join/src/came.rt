@@ -1,6 +1,6 @@
 //! Which parts came.
 
-ghost use Rattle.std.specs.Prelude.{◌≤◌, length};
+ghost use Rattle.std.specs.Prelude.{◌≡◌, ◌≤◌, ◌-◌, ◌==◌, ◌||◌, ℕ, length, get_or, true, false, OnOk};
 
 use lpt_reception::Kind;
 use std::alloc::{AllocError, Global};
@@ -12,13 +12,14 @@ pub struct Came {
     marks: Vec<bool>,
     ended: bool,
     ghost few: { length marks.items ≤ 65536 },
+    ghost top: { get_or marks.items (length marks.items - 1) true ≡ true },
 }
 
 impl Came {
-    ghost use Rattle.std.specs.Prelude.{◌≡◌, ℕ, ◌==◌, ◌||◌, true, false, OnOk};
+    ghost use Rattle.std.specs.Prelude.{◌≡◌, ◌≤◌, ℕ, ◌==◌, ◌||◌, false, OnOk};
     ghost use Rattle.lpt_reception.specs.LptPart.Parts.{same_kind};
     ghost use Rattle.lpt_reception.specs.LptPart.declared.kind.Kind.TheVariants.{Last};
-    ghost use Rattle.lpt_join.specs.CameInside.{has, is_ended};
+    ghost use Rattle.lpt_join.specs.CameInside.{has, is_ended, IsHighest};
 
     /// No part came.
     pub fn new(alloc: Global) -> Came
@@ -48,9 +49,9 @@ impl Came {
         self.ended
     }
 
-    /// A number, at most 65,535, that is no less than that of any part that came.
+    /// The highest number of a part that came, at most 65,535; 0 where none came.
     pub fn highest(&self) -> u32
-        ensures most { (n : ℕ) → has self.now n ≡ true → n ≤ result }
+        ensures highest { IsHighest (has self.now) result }
         ensures small { result ≤ 65535 }
     {
         self.marks.len().saturating_sub(1) as u32
@@ -61,12 +62,25 @@ impl Came {
         ensures came { OnOk result ((n : ℕ) → has self.new n ≡ ((number == n) || has self.old n)) }
         ensures ended { OnOk result (is_ended self.new ≡ (same_kind kind Last || is_ended self.old)) }
     {
-        let place = usize::from(number);
-        if self.marks.len() <= place {
-            self.marks.resize(place + 1, false)?;
-        }
-        self.marks[place] = true;
+        mark(&mut self.marks, usize::from(number))?;
         self.ended = self.ended || kind == Kind::Last;
         Ok(())
     }
+}
+
+// Marks a number. The only error is out of memory.
+fn mark(marks: &mut Vec<bool>, place: usize) -> Result<(), AllocError>
+    requires place { place ≤ 65535 }
+    requires few { length marks.old.items ≤ 65536 }
+    requires top { get_or marks.old.items (length marks.old.items - 1) true ≡ true }
+    ensures came { OnOk result ((n : ℕ) → get_or marks.new.items n false
+        ≡ ((place == n) || get_or marks.old.items n false)) }
+    ensures few { length marks.new.items ≤ 65536 }
+    ensures top { get_or marks.new.items (length marks.new.items - 1) true ≡ true }
+{
+    if marks.len() <= place {
+        marks.resize(place + 1, false)?;
+    }
+    marks[place] = true;
+    Ok(())
 }

@@ -1,6 +1,6 @@
 //! What is kept of each transaction among a stream's packets.
 
-ghost use Rattle.std.specs.Prelude.{◌≡◌, ℕ, List, [], ◌∷◌, ◌++◌, true, false, Some, None, IfOk, IfSome, OnOk, IfNone};
+ghost use Rattle.std.specs.Prelude.{◌≡◌, ◌≤◌, ◌<◌, ◌+◌, ◌⊎◌, ℕ, List, [], ◌∷◌, ◌++◌, length, true, false, Some, None, IfOk, IfSome, OnOk, IfNone};
 ghost use Rattle.lpt_pus.specs.LptPacket.Names.{Name, same_name};
 ghost use Rattle.lpt_join.specs.declared.gathering.Gathering.{Gathering};
 ghost use Rattle.lpt_join.specs.declared.transaction.Transaction.{Transaction};
@@ -25,9 +25,12 @@ pub struct Gatherings {
 }
 
 impl Gatherings {
-    ghost use Rattle.lpt_stream.specs.Pieces.{packet_before};
+    ghost use Rattle.lpt_stream.specs.declared.piece_kind.PieceKind.TheVariants.{Whole};
+    ghost use Rattle.lpt_stream.specs.Pieces.{Piece};
+    ghost use Rattle.lpt_join.specs.Contradictions.{octets_in, told_place};
     ghost use Rattle.lpt_join.specs.Gatherings.{Gives};
-    ghost use Rattle.lpt_join.specs.Several.{GivesEach, kept_of, of_name, carried};
+    ghost use Rattle.lpt_join.specs.Several.{GivesEach, kept_of, of_name};
+    ghost use Rattle.lpt_join.specs.SeveralInside.{HasPlace, IsFull};
 
     /// Nothing has come.
     pub fn new(alloc: Global) -> Gatherings
@@ -39,17 +42,19 @@ impl Gatherings {
         }
     }
 
-    /// Takes a packet. Where it carries a part of one of these transactions, the part is kept. The
-    /// only error is out of memory.
+    /// Takes a packet that stands at a place of the stream, or beyond 2^64 - 1 where it is that. Where it
+    /// carries a part of one of these transactions, the part is kept. The only error is out of memory.
     pub fn take(
         self,
         alloc: Global,
         transaction: &Transaction,
+        place: u64,
         octets: &[u8],
     ) -> Result<Gatherings, AllocError>
-        requires { (packets : List (List ℕ)) × GivesEach transaction.now packets self }
-        ensures { (packets : List (List ℕ)) → GivesEach transaction.now packets self
-            → IfOk result (GivesEach transaction.now (packets ++ octets.now ∷ [])) }
+        requires { (pieces : List Piece) × GivesEach transaction.now pieces self }
+        ensures { (pieces : List Piece) → GivesEach transaction.now pieces self
+            → place ≡ told_place (octets_in pieces) → IfOk result (GivesEach transaction.now
+            (pieces ++ record { kind = Whole; octets = octets.now } ∷ [])) }
     {
         let Some(name) = name_in(octets, transaction) else {
             return Ok(self);
@@ -59,26 +64,28 @@ impl Gatherings {
             gatherings.has_more = true;
             return Ok(gatherings);
         };
-        let gathering = gathering.take(alloc, &transaction.of_name(name), octets)?;
+        let gathering = gathering.take(alloc, &transaction.of_name(name), place, octets)?;
         gatherings.put(name, gathering)?;
         Ok(gatherings)
     }
 
-    /// Takes a piece of a stream: a packet, or what is none and gives nothing. The only error is out
-    /// of memory.
+    /// Takes a piece that stands at a place of the stream: a packet, or what is none and gives nothing.
+    /// The only error is out of memory.
     pub fn take_piece(
         self,
         alloc: Global,
         transaction: &Transaction,
+        place: u64,
         kind: PieceKind,
         octets: &[u8],
     ) -> Result<Gatherings, AllocError>
-        requires { (packets : List (List ℕ)) × GivesEach transaction.now packets self }
-        ensures { (packets : List (List ℕ)) → GivesEach transaction.now packets self
-            → IfOk result (GivesEach transaction.now (packets ++ packet_before kind octets.now [])) }
+        requires { (pieces : List Piece) × GivesEach transaction.now pieces self }
+        ensures { (pieces : List Piece) → GivesEach transaction.now pieces self
+            → place ≡ told_place (octets_in pieces) → IfOk result (GivesEach transaction.now
+            (pieces ++ record { kind = kind; octets = octets.now } ∷ [])) }
     {
         match kind {
-            PieceKind::Whole => self.take(alloc, transaction, octets),
+            PieceKind::Whole => self.take(alloc, transaction, place, octets),
             PieceKind::Damaged => Ok(self),
             PieceKind::Stray => Ok(self),
         }
@@ -87,12 +94,16 @@ impl Gatherings {
     // What is kept of a transaction, taken out, or what nothing has given; none where nothing is kept
     // of it, and nothing can be.
     fn take_out(&mut self, alloc: Global, name: Name) -> Option<Gathering>
-        ensures given { (t : Transaction) (packets : List (List ℕ)) → GivesEach t packets self.old
-            → IfSome result (Gives (of_name t name) packets) }
+        ensures given { (t : Transaction) (pieces : List Piece) → GivesEach t pieces self.old
+            → IfSome result (Gives (of_name t name) pieces) }
         ensures others { (n : Name) → same_name name n ≡ false
             → kept_of self.new n ≡ kept_of self.old n }
-        ensures none { IfNone result (kept_of self.new name ≡ None) }
+        ensures none { kept_of self.new name ≡ None }
         ensures more { self.new.has_more ≡ self.old.has_more }
+
+        // There is room for it, and nothing is kept of no more than there is room for.
+        ensures room { IfSome result (λ _. HasPlace self.old self.new) }
+        ensures full { IfNone result (IsFull self.old self.new) }
     {
         match self.kept.remove(&name) {
             Some(gathering) => Some(gathering),
@@ -103,14 +114,17 @@ impl Gatherings {
 
     // Whether a transaction more can be kept, and none was left out.
     fn has_room(&self) -> bool
-        ensures { result ≡ true → self.now.has_more ≡ false }
+        ensures room { result ≡ true → (self.now.has_more ≡ false) × (length self.now.kept.entries < 64) }
+        ensures full { result ≡ false → (self.now.has_more ≡ true) ⊎ (64 ≤ length self.now.kept.entries) }
     {
         !self.has_more && self.kept.len() < TRANSACTION_LIMIT
     }
 
-    // Keeps this of a transaction. The only error is out of memory.
+    // Keeps this of a transaction of which nothing is kept. The only error is out of memory.
     fn put(&mut self, name: Name, gathering: Gathering) -> Result<(), AllocError>
+        requires { kept_of self.old name ≡ None }
         ensures kept { OnOk result (kept_of self.new name ≡ Some gathering) }
+        ensures size { OnOk result (length self.new.kept.entries ≡ length self.old.kept.entries + 1) }
         ensures others { OnOk result ((n : Name) → same_name name n ≡ false
             → kept_of self.new n ≡ kept_of self.old n) }
         ensures more { self.new.has_more ≡ self.old.has_more }

@@ -1,6 +1,6 @@
 //! The law of joining, proved of all streams: functions whose bodies only call laws from below.
 
-ghost use Rattle.std.specs.Prelude.{◌≡◌, ◌≢◌, ◌<◌, ◌≤◌, ℕ, List, length, None, Some, is_some};
+ghost use Rattle.std.specs.Prelude.{◌≡◌, ◌≢◌, ◌<◌, ◌≤◌, ℕ, List, length, None, Some, is_some, true};
 ghost use Rattle.std.specs.FinMap as map;
 ghost use Rattle.lpt_pus.specs.LptPacket.Bursts.{DifferInBurst};
 ghost use Rattle.lpt_pus.specs.LptPacket.Packets.{Fields, IdlePacket, APacket, IsPacket, seen};
@@ -10,12 +10,14 @@ ghost use Rattle.lpt_split.specs.LptEvents.MadePackets.{part_made, nth_part};
 ghost use Rattle.lpt_split.specs.LptEvents.NamedParts.{NamedPart};
 ghost use Rattle.lpt_reception.specs.PartsOf.{IsMessage, kept_of, IsPartsOf};
 ghost use Rattle.lpt_reception.specs.Received.{Parts};
-ghost use Rattle.lpt_stream.specs.Pieces.{Finds};
+ghost use Rattle.lpt_stream.specs.Pieces.{Finds, Piece, packets_of};
 ghost use Rattle.lpt_stream.specs.Streams.{all_octets};
 ghost use Rattle.lpt_split.specs.Splits.{AreNumbers, split_of};
 ghost use Rattle.lpt_join.specs.declared.transaction.Transaction.{Transaction};
+ghost use Rattle.lpt_join.specs.CameInside.{IsHighest};
+ghost use Rattle.lpt_join.specs.Contradictions.{first_against};
 ghost use Rattle.lpt_join.specs.Joins.{Missing, Complete, joined};
-ghost use Rattle.lpt_join.specs.Laws.{AllBelong, AllCame, came, AreCounts, IsSending, AllMadeOrOther, EachIsAmong, IsThere, HasNumber};
+ghost use Rattle.lpt_join.specs.Laws.{AllBelong, AllCame, came, ended, AreCounts, IsSending, AllMadeOrOther, EachIsAmong, IsThere, HasNumber};
 ghost use Rattle.lpt_join.specs.Offers.{offered, piece_in};
 
 use lpt_reception::laws::whole_is_split;
@@ -56,6 +58,31 @@ pub fn split_is_joined()
         → AllBelong t m packets → joined t packets ≡ Missing s
         → IsPartsOf m t.part_size s
         × ((n : ℕ) → is_some (map.get s n) ≡ came t n packets) }
+{}
+
+/// No part of a message contradicts another: nothing is told of packets each of which carries a part
+/// of the message, or no part of its transaction. And where nothing is told of the pieces of a stream
+/// whose packets are joined to a message, each of these packets carries a part of that message, or
+/// no part of its transaction, also those that came once it was whole.
+pub fn contradictions_are_told()
+    ensures none { (t : Transaction) (m : List ℕ) (pieces : List Piece)
+        → IsMessage m t.part_size → AllBelong t m (packets_of pieces)
+        → first_against t pieces ≡ None }
+    ensures all { (t : Transaction) (m : List ℕ) (pieces : List Piece)
+        → joined t (packets_of pieces) ≡ Complete m → first_against t pieces ≡ None
+        → AllBelong t m (packets_of pieces) }
+{
+    whole_is_split();
+}
+
+/// Over packets each of which carries a part of the message, or no part of its transaction: where the
+/// last part came, the highest number that came is the number of the message's parts. So the list of
+/// the parts that are missing has just those of the message that didn't come.
+pub fn last_part_is_highest()
+    ensures { (t : Transaction) (m : List ℕ) (packets : List (List ℕ)) (last : ℕ)
+        → AllBelong t m packets → ended t packets ≡ true
+        → IsHighest (λ n. came t n packets) last
+        → last ≡ part_count (length m) t.part_size }
 {}
 
 /// What is joined is a message each part of which stands among the packets, whatever these are.

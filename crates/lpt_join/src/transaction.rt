@@ -3,6 +3,7 @@
 ghost use Rattle.lpt_reception.specs.LptPart.Splitting.{IsPartSize};
 
 use lpt_pus::{Direction, Name};
+use lpt_skips::Reading;
 
 /// Which transaction, and how its packets are read.
 #[derive(Clone, Copy, Debug)]
@@ -20,7 +21,7 @@ pub struct Transaction {
 
 impl Transaction {
     ghost use Rattle.std.specs.Prelude.{◌≡◌};
-    ghost use Rattle.lpt_join.specs.Several.{of_name};
+    ghost use Rattle.lpt_join.specs.Several.{of_name, reading_of};
 
     /// The transaction of another name, whose packets are read alike.
     pub fn of_name(&self, name: Name) -> Transaction
@@ -31,6 +32,18 @@ impl Transaction {
             name,
             apid: self.apid,
             part_size: self.part_size,
+        }
+    }
+
+    /// How its parts are read, where parts of this name alone are wanted, or of any.
+    pub fn reading(&self, name: Option<Name>) -> Reading
+        ensures { result ≡ reading_of self.now name }
+    {
+        Reading {
+            direction: self.direction,
+            apid: self.apid,
+            part_size: self.part_size,
+            name,
         }
     }
 }

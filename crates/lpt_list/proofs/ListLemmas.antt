@@ -1,12 +1,13 @@
 -- A list, a piece further.
-use Rattle.std.proofs.Common.{◌≡◌, ◌≢◌, ◌⊎◌, ◌∙◌, ap, sym, subst, refl, inl, inr, ℕ, ◌+◌, ◌≤◌, Bool, true, false, List, [], ◌∷◌, ◌++◌, length, take, drop, Option, Result, Err, append-nil, append_assoc, arith, take_all}
-use Rattle.std.specs.Io.KnownBytes.{Appends, Consumes, IsAtEnd}
+use Rattle.std.proofs.Common.{◌≡◌, ◌≢◌, ◌⊎◌, ◌∙◌, ap, sym, subst, refl, inl, inr, ℕ, ◌+◌, ◌<◌, ◌≤◌, Bool, true, false, List, [], ◌∷◌, ◌++◌, length, take, drop, Option, Some, None, Result, Err, append-nil, append_assoc, arith, take_all}
+use Rattle.std.specs.Io.KnownBytes.{Appends, Consumes, IsAtEnd, Keeps}
 use Rattle.std.proofs.KnownBytes.{Appends-nil, Appends-trans, Consumes-nil, Consumes-trans}
 use Rattle.std.proofs.lemmas.List.{length-take, length-take-le, length-drop}
 use Rattle.lpt_stream.specs.declared.buffer.PacketBuffer.{PacketBuffer}
 use Rattle.lpt_stream.specs.declared.found.Found.{Found}
-use Rattle.lpt_stream.specs.declared.piece_kind.PieceKind.TheVariants.{Whole as APacket}
-use Rattle.lpt_stream.specs.Buffers.{held, is_in_step, is_ended, found_piece, FindsPiece, Goes, IsInFront}
+use Rattle.lpt_stream.specs.declared.piece_kind.PieceKind.{PieceKind}
+use Rattle.lpt_stream.specs.declared.piece_kind.PieceKind.TheVariants.{Whole as APacket, Damaged, Stray}
+use Rattle.lpt_stream.specs.Buffers.{held, is_in_step, is_ended, found_piece, Goes, IsInFront}
 use Rattle.lpt_stream.specs.LptText.declared.fault.ToolFault.{ToolFault}
 use Rattle.lpt_stream.specs.LptText.declared.fault.ToolFault.TheVariants as tool
 use Rattle.lpt_stream.specs.LptText.Streams.{AppendsPart}
@@ -14,9 +15,11 @@ use Rattle.lpt_stream.specs.Pieces.{Piece, Leads, keeps_step, kind_in, lookahead
 use Rattle.lpt_stream.proofs.CutLemmas.{IsRead, read-none, read-more, read-next, read-end, read-leads, read-front}
 use Rattle.lpt_stream.proofs.LptText.StreamLemmas.{part_after}
 use Rattle.lpt_list.specs.declared.list_end.ListEnd.{ListEnd}
+use Rattle.lpt_list.specs.declared.list_end.Listed.{Listed}
+use Rattle.lpt_list.specs.declared.list_end.Tally.{Tally}
 use Rattle.lpt_list.specs.declared.list_end.ListEnd.TheVariants.{Whole as AtEnd, Stopped}
 use Rattle.lpt_list.specs.declared.form.Form.{Form}
-use Rattle.lpt_list.specs.Lists.{line_for, listing, place_behind, ArePackets, IsTooLong, ListLeaves, ListsTo}
+use Rattle.lpt_list.specs.Lists.{line_for, listing, place_behind, ArePackets, IsTooLong, ListLeaves, ListsTo, no_tally, tally_behind, tally_with}
 
 -- whether the place behind pieces is in step
 abbrev pub step_behind : Bool → List Piece → Bool
@@ -44,6 +47,27 @@ step-next : (s : Bool) (xs : List Piece) (x : Piece) → step_behind s (xs ++ x 
 step-next s [] x = refl
 step-next s (y ∷ ys) x = step-next (keeps_step y.kind) ys x
 
+tally-next : (n : Tally) (xs : List Piece) (x : Piece)
+    → tally_behind n (xs ++ x ∷ []) ≡ tally_with x.kind (tally_behind n xs)
+tally-next n [] x = refl
+tally-next n (y ∷ ys) x = tally-next (tally_with y.kind n) ys x
+
+-- no more is counted than there are octets
+pub tally_fits : (k : PieceKind) (n m : Tally) (place len : ℕ)
+    → m ≡ tally_with k n
+    → 0 < len
+    → n.damaged + n.stray ≤ place
+    → m.damaged + m.stray ≤ place + len
+tally_fits k n m place len is some h =
+    subst (λ (q : Tally). q.damaged + q.stray ≤ place + len) (sym is) (fits k n place len some h) where
+      fits : (k : PieceKind) (n : Tally) (place len : ℕ)
+          → 0 < len
+          → n.damaged + n.stray ≤ place
+          → (tally_with k n).damaged + (tally_with k n).stray ≤ place + len
+      fits APacket n place len some h = omega (arith, some, h)
+      fits Damaged n place len some h = omega (arith, some, h)
+      fits Stray n place len some h = omega (arith, some, h)
+
 packets-next : (xs : List Piece) (x : Piece) → ArePackets xs → x.kind ≡ APacket → ArePackets (xs ++ x ∷ [])
 packets-next [] x h is = (is, tt)
 packets-next (y ∷ ys) x h is = (h.0, packets-next ys x h.1 is)
@@ -67,91 +91,136 @@ place_within s b (p ∷ ps) t c n h =
     omega (arith, size, left, rest)
 
 -- the list of the pieces so far was written; behind them the stream is at this place
-pub record IsListed (form : Form) (p : ℕ) (strict : Bool) (old now : Option (List ℕ)) (place : ℕ)
-    (s : Bool) (pieces : List Piece) : Type 0 where
-  pub written : Appends old now (listing form p 0 true pieces)
-  pub place_is : place ≡ place_behind 0 pieces
+pub record IsListed (form : Form) (p from : ℕ) (strict : Bool) (old now : Option (List ℕ)) (place : ℕ)
+    (s : Bool) (n : Tally) (pieces : List Piece) : Type 0 where
+  pub written : Appends old now (listing form p from true pieces)
+  pub place_is : place ≡ place_behind from pieces
   pub step_is : s ≡ step_behind true pieces
   pub only : strict ≡ true → ArePackets pieces
+  pub counted : n ≡ tally_behind no_tally pieces
 
-pub listed-none : (form : Form) (p : ℕ) (strict : Bool) (a : Option (List ℕ))
-    → IsListed form p strict a a 0 true []
-listed-none form p strict a =
-    record { written = Appends-nil a; place_is = refl; step_is = refl; only = λ is. tt }
+pub listed-none : (form : Form) (p from : ℕ) (strict : Bool) (a : Option (List ℕ))
+    → IsListed form p from strict a a from true no_tally []
+listed-none form p from strict a = record {
+  written = Appends-nil a;
+  place_is = refl;
+  step_is = refl;
+  only = λ is. tt;
+  counted = refl;
+}
 
-module _ (form : Form) (p : ℕ) (strict : Bool) (old mid new : Option (List ℕ)) (place : ℕ) (s : Bool)
-    (pieces : List Piece) (x : Piece) (h : IsListed form p strict old mid place s pieces) where
+module _ (form : Form) (p from : ℕ) (strict : Bool) (old mid new : Option (List ℕ)) (place : ℕ) (s : Bool) (n : Tally)
+    (pieces : List Piece) (x : Piece) (h : IsListed form p from strict old mid place s n pieces) where
   -- what is listed of the next piece
-  pub next_line : listing form p 0 true (pieces ++ x ∷ [])
-      ≡ listing form p 0 true pieces ++ line_for form p place s x.kind x.octets
+  pub next_line : listing form p from true (pieces ++ x ∷ [])
+      ≡ listing form p from true pieces ++ line_for form p place s x.kind x.octets
   next_line =
-      listing-next form p 0 true pieces x
-      ∙ (λ i. listing form p 0 true pieces ++ line_for form p (sym h.place_is i) (sym h.step_is i) x.kind x.octets)
+      listing-next form p from true pieces x
+      ∙ (λ i. listing form p from true pieces ++ line_for form p (sym h.place_is i) (sym h.step_is i) x.kind x.octets)
 
-  pub listed-next : (after : ℕ) (t : Bool)
+  -- the count with it
+  pub next_count : (m : Tally) → m ≡ tally_with x.kind n → m ≡ tally_behind no_tally (pieces ++ x ∷ [])
+  next_count m is = is ∙ ap (tally_with x.kind) h.counted ∙ sym (tally-next no_tally pieces x)
+
+  pub listed-next : (after : ℕ) (t : Bool) (m : Tally)
       → Appends mid new (line_for form p place s x.kind x.octets)
       → after ≡ place + length x.octets
       → t ≡ keeps_step x.kind
       → (strict ≡ true → x.kind ≡ APacket)
-      → IsListed form p strict old new after t (pieces ++ x ∷ [])
-  listed-next after t more place_after step still = record {
+      → m ≡ tally_with x.kind n
+      → IsListed form p from strict old new after t m (pieces ++ x ∷ [])
+  listed-next after t m more place_after step still count = record {
     written = subst (Appends old new) (sym next_line)
-        (Appends-trans old mid new (listing form p 0 true pieces) _ h.written more);
-    place_is = place_after ∙ ap (λ q. q + length x.octets) h.place_is ∙ sym (place-next 0 pieces x);
+        (Appends-trans old mid new (listing form p from true pieces) _ h.written more);
+    place_is = place_after ∙ ap (λ q. q + length x.octets) h.place_is ∙ sym (place-next from pieces x);
     step_is = step ∙ sym (step-next true pieces x);
     only = λ is. packets-next pieces x (h.only is) (still is);
+    counted = next_count m count;
   }
 
 -- the octets of a piece that was found are as many
 pub found_size : (b : PacketBuffer) (f : Found) → IsInFront b f → length (take f.len (held b)) ≡ f.len
 found_size b f h = length-take-le f.len (held b) h.within
 
+-- what was written stays
+pub kept_all : (old mid new : Option (List ℕ)) (text : List ℕ)
+    → Appends old mid text
+    → Keeps mid new
+    → Appends old new text
+kept_all None mid new text h k = tt
+kept_all (Some x) None new text h k = absurd h
+kept_all (Some x) (Some y) None text h k = absurd k
+kept_all (Some x) (Some y) (Some z) text h k = k ∙ h
+
+-- all of it is a front part
+all_written : (old mid new : Option (List ℕ)) (text : List ℕ)
+    → Appends old mid text
+    → Keeps mid new
+    → AppendsPart old new text
+all_written old mid new text h k =
+    (length text, subst (Appends old new) (sym (take_all _ text (omega arith))) (kept_all old mid new text h k))
+
 -- ---- a stream further
 
 -- what was read and listed so far
-pub record IsAt (form : Form) (p : ℕ) (strict : Bool) (before now old new : Option (List ℕ))
-    (b : PacketBuffer) (place : ℕ) (s : Bool) : Type 0 where
+pub record IsAt (form : Form) (p from : ℕ) (strict : Bool) (before now old new : Option (List ℕ))
+    (b : PacketBuffer) (place : ℕ) (s : Bool) (n : Tally) : Type 0 where
   pub stream : List ℕ
   pub consumed : Consumes before now stream
   pub count : ℕ
-  pub read : IsRead (IsListed form p strict old new place s) b stream count
+  pub read : IsRead (IsListed form p from strict old new place s n) b stream count
   pub ended : is_ended b ≡ true → IsAtEnd now
 
 never : (e : Bool) → e ≡ false → e ≡ true → ⊥
 never e h k = cc
 
-module _ (form : Form) (p : ℕ) (strict : Bool) (before old : Option (List ℕ)) where
+module _ (form : Form) (p from : ℕ) (strict : Bool) (before old : Option (List ℕ)) where
   -- nothing
   pub at-none : (b : PacketBuffer)
       → held b ≡ []
       → is_in_step b ≡ true
       → is_ended b ≡ false
-      → IsAt form p strict before before old old b 0 true
+      → IsAt form p from strict before before old old b from true no_tally
   at-none b none step more_comes = record {
     stream = [];
     consumed = Consumes-nil before;
     count = 0;
-    read = read-none (IsListed form p strict old old 0 true) b (listed-none form p strict old) none step;
+    read = read-none (IsListed form p from strict old old from true no_tally) b (listed-none form p from strict old) none step;
     ended = λ e. absurd (never (is_ended b) more_comes e);
   }
 
-  -- with more read behind
-  pub at-more : (now after new : Option (List ℕ)) (b c : PacketBuffer) (place : ℕ) (s : Bool) (read : List ℕ)
-      → IsAt form p strict before now old new b place s
+  -- with more read behind, and what was written passed on
+  pub at-more : (now after new new2 : Option (List ℕ)) (b c : PacketBuffer) (place : ℕ) (s : Bool) (n : Tally)
+      (read : List ℕ)
+      → IsAt form p from strict before now old new b place s n
       → Goes b c now after read
-      → IsAt form p strict before after old new c place s
-  at-more now after new b c place s read h goes = record {
-    stream = h.stream ++ read;
-    consumed = Consumes-trans before now after h.stream read h.consumed goes.added.consumed;
-    count = h.count;
-    read = read-more (IsListed form p strict old new place s) b c now after h.stream read h.count h.read goes;
-    ended = goes.at_end h.ended;
-  }
+      → Keeps new new2
+      → IsAt form p from strict before after old new2 c place s n
+  at-more now after new new2 b c place s n read h goes keeps =
+      let more = read-more (IsListed form p from strict old new place s n) b c now after h.stream read h.count h.read goes in
+      record {
+        stream = h.stream ++ read;
+        consumed = Consumes-trans before now after h.stream read h.consumed goes.added.consumed;
+        count = h.count;
+        read = record {
+          pieces = more.pieces;
+          leads = more.leads;
+          gives = record {
+            written = kept_all old new new2 (listing form p from true more.pieces) more.gives.written keeps;
+            place_is = more.gives.place_is;
+            step_is = more.gives.step_is;
+            only = more.gives.only;
+            counted = more.gives.counted;
+          };
+          count_is = more.count_is;
+        };
+        ended = goes.at_end h.ended;
+      }
 
-  module _ (now new new2 : Option (List ℕ)) (b : PacketBuffer) (place : ℕ) (s : Bool) (f : Found)
-      (h : IsAt form p strict before now old new b place s) (front : IsInFront b f) where
+  module _ (now new new2 : Option (List ℕ)) (b : PacketBuffer) (place : ℕ) (s : Bool) (n : Tally) (f : Found)
+      (h : IsAt form p from strict before now old new b place s n) (front : IsInFront b f) where
     -- with the piece in front listed
-    pub at-next : (c : PacketBuffer) (place2 : ℕ) (s2 : Bool)
+    pub at-next : (c : PacketBuffer) (place2 : ℕ) (s2 : Bool) (n2 : Tally)
         → held c ≡ drop f.len (held b)
         → is_in_step c ≡ keeps_step f.kind
         → is_ended c ≡ is_ended b
@@ -159,23 +228,26 @@ module _ (form : Form) (p : ℕ) (strict : Bool) (before old : Option (List ℕ)
         → place2 ≡ place + f.len
         → s2 ≡ keeps_step f.kind
         → (strict ≡ true → f.kind ≡ APacket)
-        → IsAt form p strict before now old new2 c place2 s2
-    at-next c place2 s2 over step end written behind in_step still = record {
+        → n2 ≡ tally_with f.kind n
+        → IsAt form p from strict before now old new2 c place2 s2 n2
+    at-next c place2 s2 n2 over step end written behind in_step still count = record {
       stream = h.stream;
       consumed = h.consumed;
       count = h.count + 1;
-      read = read-next (IsListed form p strict old new place s) (IsListed form p strict old new2 place2 s2) b c f
+      read = read-next (IsListed form p from strict old new place s n) (IsListed form p from strict old new2 place2 s2 n2) b c f
           h.stream h.count h.read front over step end
-          (listed-next form p strict old new new2 place s h.read.pieces (found_piece b f) h.read.gives
-          place2 s2 written (behind ∙ ap (λ n. place + n) (sym (found_size b f front))) in_step still);
+          (listed-next form p from strict old new new2 place s n h.read.pieces (found_piece b f) h.read.gives
+          place2 s2 n2 written (behind ∙ ap (λ k. place + k) (sym (found_size b f front))) in_step still count);
       ended = λ e. h.ended (sym end ∙ e);
     }
 
     -- where that is the last line
-    pub at-stop : Appends new new2 (line_for form p place s f.kind (take f.len (held b)))
+    pub at-stop : (n2 : Tally)
+        → Appends new new2 (line_for form p place s f.kind (take f.len (held b)))
         → (strict ≡ true) × (f.kind ≢ APacket)
-        → ListsTo form p strict (Stopped place) before now old new2
-    at-stop written other = record {
+        → n2 ≡ tally_with f.kind n
+        → ListsTo form p from strict (Stopped place) n2 before now old new2
+    at-stop n2 written other count = record {
       asked = other.0;
       stream = h.stream;
       pieces = h.read.pieces;
@@ -183,18 +255,19 @@ module _ (form : Form) (p : ℕ) (strict : Bool) (before old : Option (List ℕ)
       step = keeps_step f.kind;
       rest = drop (length (take f.len (held b))) (held b);
       consumed = h.consumed;
-      cut = read-front (IsListed form p strict old new place s) b f h.stream h.count h.read front;
+      cut = read-front (IsListed form p from strict old new place s n) b f h.stream h.count h.read front;
       only = h.read.gives.only other.0;
       none = other.1;
       at = h.read.gives.place_is;
+      counted = next_count form p from strict old new new2 place s n h.read.pieces (found_piece b f) h.read.gives n2 count;
       written = subst (Appends old new2)
-          (sym (next_line form p strict old new new2 place s h.read.pieces (found_piece b f) h.read.gives))
-          (Appends-trans old new new2 (listing form p 0 true h.read.pieces) _ h.read.gives.written written);
+          (sym (next_line form p from strict old new new2 place s n h.read.pieces (found_piece b f) h.read.gives))
+          (Appends-trans old new new2 (listing form p from true h.read.pieces) _ h.read.gives.written written);
     }
 
     -- where it isn't written whole
     pub at-part : AppendsPart new new2 (line_for form p place s f.kind (take f.len (held b)))
-        → ListLeaves form p before now old new2
+        → ListLeaves form p from before now old new2
     at-part part = (
       h.stream,
       [],
@@ -202,75 +275,90 @@ module _ (form : Form) (p : ℕ) (strict : Bool) (before old : Option (List ℕ)
       keeps_step f.kind,
       drop (length (take f.len (held b))) (held b),
       subst (Consumes before now) (sym (append-nil h.stream)) h.consumed,
-      read-front (IsListed form p strict old new place s) b f h.stream h.count h.read front,
+      read-front (IsListed form p from strict old new place s n) b f h.stream h.count h.read front,
       subst (AppendsPart old new2)
-          (sym (next_line form p strict old new new2 place s h.read.pieces (found_piece b f) h.read.gives))
-          (part_after old new new2 (listing form p 0 true h.read.pieces) _ h.read.gives.written part),
+          (sym (next_line form p from strict old new new2 place s n h.read.pieces (found_piece b f) h.read.gives))
+          (part_after old new new2 (listing form p from true h.read.pieces) _ h.read.gives.written part),
     )
 
   -- at the end
-  pub at-end : (now new : Option (List ℕ)) (b : PacketBuffer) (place : ℕ) (s : Bool)
-      → IsAt form p strict before now old new b place s
+  pub at-end : (now new : Option (List ℕ)) (b : PacketBuffer) (place : ℕ) (s : Bool) (n : Tally)
+      → IsAt form p from strict before now old new b place s n
       → held b ≡ []
       → is_ended b ≡ true
-      → ListsTo form p strict AtEnd before now old new
-  at-end now new b place s h none end = record {
+      → ListsTo form p from strict AtEnd n before now old new
+  at-end now new b place s n h none end = record {
     stream = h.stream;
     pieces = h.read.pieces;
     consumed = h.consumed;
     at_end = h.ended end;
-    cut = read-end (IsListed form p strict old new place s) b h.stream h.count h.read none;
+    cut = read-end (IsListed form p from strict old new place s n) b h.stream h.count h.read none;
     only = h.read.gives.only;
+    counted = h.read.gives.counted;
     written = h.read.gives.written;
   }
 
   -- where so much came
-  pub at-most : (now new : Option (List ℕ)) (b : PacketBuffer) (place : ℕ) (s : Bool)
-      → IsAt form p strict before now old new b place s
+  pub at-most : (now new : Option (List ℕ)) (b : PacketBuffer) (place : ℕ) (s : Bool) (n : Tally)
+      → IsAt form p from strict before now old new b place s n
       → 18446744073709420531 ≤ place
-      → IsTooLong before now
-  at-most now new b place s h most =
-      let leads = read-leads (IsListed form p strict old new place s) b h.stream h.count h.read in
-      let far = place_within true h.stream h.read.pieces (is_in_step b) (held b) 0 leads in
+      → IsTooLong from before now
+  at-most now new b place s n h most =
+      let leads = read-leads (IsListed form p from strict old new place s n) b h.stream h.count h.read in
+      let far = place_within true h.stream h.read.pieces (is_in_step b) (held b) from leads in
       (h.stream, h.consumed, omega (arith, most, h.read.gives.place_is, far))
 
   -- where what came then is lost
-  pub at-lost : (now after new : Option (List ℕ)) (b : PacketBuffer) (place : ℕ) (s : Bool) (lost : List ℕ)
-      → IsAt form p strict before now old new b place s
+  pub at-lost : (now after new new2 : Option (List ℕ)) (b : PacketBuffer) (place : ℕ) (s : Bool) (n : Tally)
+      (lost : List ℕ)
+      → IsAt form p from strict before now old new b place s n
       → Consumes now after lost
-      → ListLeaves form p before after old new
-  at-lost now after new b place s lost h consumed = (
+      → Keeps new new2
+      → ListLeaves form p from before after old new2
+  at-lost now after new new2 b place s n lost h consumed keeps = (
     h.stream,
     lost,
     h.read.pieces,
     is_in_step b,
     held b,
     Consumes-trans before now after h.stream lost h.consumed consumed,
-    read-leads (IsListed form p strict old new place s) b h.stream h.count h.read,
-    (
-      length (listing form p 0 true h.read.pieces),
-      subst (Appends old new) (sym (take_all _ (listing form p 0 true h.read.pieces) (omega arith)))
-          h.read.gives.written,
-    ),
+    read-leads (IsListed form p from strict old new place s n) b h.stream h.count h.read,
+    all_written old new new2 (listing form p from true h.read.pieces) h.read.gives.written keeps,
   )
 
--- what a search that failed has read
-pub found_lost : (fault : ToolFault) (old new : PacketBuffer) (a b : Option (List ℕ)) (had failed : Bool)
-    → FindsPiece (Err fault) old new a b had failed
-    → (lost : List ℕ) × Consumes a b lost
-found_lost tool.Read old new a b had failed h = (h.0, h.1)
-found_lost tool.Memory old new a b had failed h = (h.0, h.1)
-found_lost tool.Write old new a b had failed h = absurd h
-found_lost tool.Config old new a b had failed h = absurd h
-found_lost (tool.Line n) old new a b had failed h = absurd h
-found_lost (tool.Threads n) old new a b had failed h = absurd h
+-- a list that ended leaves all of it, where a fault comes then
+pub at-last : (form : Form) (p from : ℕ) (strict : Bool) (end : ListEnd) (n : Tally) (before after old mid new : Option (List ℕ))
+    → ListsTo form p from strict end n before after old mid
+    → Keeps mid new
+    → ListLeaves form p from before after old new
+at-last form p from strict AtEnd n before after old mid new h keeps = (
+  h.stream,
+  [],
+  h.pieces,
+  h.cut.0,
+  [],
+  subst (Consumes before after) (sym (append-nil h.stream)) h.consumed,
+  h.cut.1,
+  all_written old mid new (listing form p from true h.pieces) h.written keeps,
+)
+at-last form p from strict (Stopped place) n before after old mid new h keeps = (
+  h.stream,
+  [],
+  h.pieces ++ h.last ∷ [],
+  h.step,
+  h.rest,
+  subst (Consumes before after) (sym (append-nil h.stream)) h.consumed,
+  h.cut,
+  all_written old mid new (listing form p from true (h.pieces ++ h.last ∷ [])) h.written keeps,
+)
 
-abbrev fails : ToolFault → Result ListEnd ToolFault
+abbrev fails : ToolFault → Result Listed ToolFault
 fails e = Err e
 
 -- a fault that isn't a read's leaves the reader as it was
 pub heard_by : (fault : ToolFault) (had failed : Bool)
-    → ((fault ≡ tool.Read) × (failed ≡ true)) ⊎ ((fault ≡ tool.Memory) × (failed ≡ had))
+    → ((fault ≡ tool.Read) × (failed ≡ true))
+    ⊎ (((fault ≡ tool.Write) ⊎ (fault ≡ tool.Memory)) × (failed ≡ had))
     → fails fault ≢ fails tool.Read
     → failed ≡ had
 heard_by fault had failed (inl h) ne = absurd (ne (ap fails h.0))
@@ -283,3 +371,27 @@ pub told_by : (fault : ToolFault) (had failed : Bool)
     → failed ≡ had
 told_by fault had failed (inl h) ne = absurd (ne (ap fails h.0))
 told_by fault had failed (inr h) ne = h.1
+
+same_fault : (f g : ToolFault) → ◌≡◌ {A = Result (Option Found) ToolFault} (Err f) (Err g) → f ≡ g
+same_fault f g e = cc
+
+-- a search that didn't fail by the writer leaves it as it was
+pub told_found : (fault : ToolFault) (had failed : Bool)
+    → (◌≢◌ {A = Result (Option Found) ToolFault} (Err fault) (Err tool.Write) → failed ≡ had)
+    → fails fault ≢ fails tool.Write
+    → failed ≡ had
+told_found fault had failed h other = h (λ e. other (ap fails (same_fault fault tool.Write e)))
+
+abbrev fails_found : ToolFault → Result (Option Found) ToolFault
+fails_found e = Err e
+
+-- what a search that failed says of the fault
+pub fault_found : (fault : ToolFault) (had failed wrote : Bool) (TooLong : Type 0)
+    → ((fault ≡ tool.Read) × (failed ≡ true))
+    ⊎ (((fault ≡ tool.Write) ⊎ (fault ≡ tool.Memory)) × (failed ≡ had))
+    → (◌≡◌ {A = Result (Option Found) ToolFault} (Err fault) (Err tool.Write) → wrote ≡ true)
+    → ((fault ≡ tool.Read) × ((failed ≡ true) ⊎ TooLong))
+    ⊎ (((fault ≡ tool.Write) × (wrote ≡ true)) ⊎ (fault ≡ tool.Memory))
+fault_found fault had failed wrote TooLong (inl h) cause = inl (h.0, inl h.1)
+fault_found fault had failed wrote TooLong (inr (inl w, k)) cause = inr (inl (w, cause (ap fails_found w)))
+fault_found fault had failed wrote TooLong (inr (inr m, k)) cause = inr (inr m)

@@ -58,46 +58,42 @@ items_text form (i ∷ j ∷ rest) = item_text form i ++ items_text form (j ∷ 
 
 -- ---- what packets say
 
--- the first items of a telecommand's headers, and the others
-abbrev pub tc_front : Command → List Item
-tc_front c =
-    Alone (codes "packet_type") (codes "tc")
-    ∷ Number (codes "apid") (codes "application_process_id") c.apid
-    ∷ Number (codes "count") (codes "packet_sequence_count") c.count
-    ∷ Number (codes "flags") (codes "acknowledgement_flags") c.flags ∷ []
+-- a packet's type
+abbrev pub type_text : PacketKind → List ℕ
+type_text Tc = codes "tc"
+type_text Tm = codes "tm"
 
-abbrev pub tc_rest : Command → List Item
-tc_rest c =
-    Number (codes "service") (codes "service_type") c.service
+-- the primary header
+abbrev pub primary_items : Fields → List Item
+primary_items f =
+    Alone (codes "packet_type") (type_text f.kind)
+    ∷ Number (codes "apid") (codes "application_process_id") f.apid
+    ∷ Number (codes "count") (codes "packet_sequence_count") f.count ∷ []
+
+-- the secondary header of a telecommand
+abbrev pub tc_items : Command → List Item
+tc_items c =
+    Number (codes "flags") (codes "acknowledgement_flags") c.flags
+    ∷ Number (codes "service") (codes "service_type") c.service
     ∷ Number (codes "subtype") (codes "message_subtype") c.subtype
     ∷ Number (codes "source") (codes "source_id") c.source ∷ []
 
--- the headers of a telecommand
-abbrev pub tc_items : Command → List Item
-tc_items c = tc_front c ++ tc_rest c
-
--- the first items of a telemetry packet's headers, and the others
+-- the first items of a telemetry packet's secondary header, and the others
 abbrev pub tm_front : Telemetry → List Item
 tm_front t =
-    Alone (codes "packet_type") (codes "tm")
-    ∷ Number (codes "apid") (codes "application_process_id") t.apid
-    ∷ Number (codes "count") (codes "packet_sequence_count") t.count
-    ∷ Number (codes "status") (codes "spacecraft_time_reference_status") t.status ∷ []
-
-abbrev pub tm_middle : Telemetry → List Item
-tm_middle t =
-    Number (codes "service") (codes "service_type") t.service
-    ∷ Number (codes "subtype") (codes "message_subtype") t.subtype
-    ∷ Number (codes "counter") (codes "message_type_counter") t.counter ∷ []
+    Number (codes "status") (codes "spacecraft_time_reference_status") t.status
+    ∷ Number (codes "service") (codes "service_type") t.service
+    ∷ Number (codes "subtype") (codes "message_subtype") t.subtype ∷ []
 
 abbrev pub tm_rest : Telemetry → List Item
 tm_rest t =
-    Number (codes "destination") (codes "destination_id") t.destination
+    Number (codes "counter") (codes "message_type_counter") t.counter
+    ∷ Number (codes "destination") (codes "destination_id") t.destination
     ∷ Number (codes "time") (codes "time") t.time ∷ []
 
--- the headers of a telemetry packet
+-- the secondary header of a telemetry packet
 abbrev pub tm_items : Telemetry → List Item
-tm_items t = (tm_front t ++ tm_middle t) ++ tm_rest t
+tm_items t = tm_front t ++ tm_rest t
 
 -- which of its message's parts a part is
 abbrev pub kind_text : Kind → List ℕ
@@ -112,6 +108,10 @@ part_items q =
     ∷ Number (codes "id") (codes "large_message_transaction_identifier") q.id
     ∷ Number (codes "number") (codes "part_sequence_number") q.number
     ∷ Number (codes "octets") (codes "part_octets") (length q.octets) ∷ []
+
+-- what should be a part, and isn't read as one of this part size
+abbrev pub unread_items : List Item
+unread_items = Word (codes "part") (codes "part") (codes "unread") ∷ []
 
 -- the report that the reception of a large message was aborted
 abbrev pub abort_items : ℕ × Reason → List Item
@@ -139,9 +139,9 @@ fault_items code name = Number (codes "fault") (codes "fault_code") code ∷ Alo
 
 -- ---- what they carry
 
--- a body that should be a part of this kind; nothing where it isn't read
+-- a body that should be a part of this kind
 abbrev pub part_said : ℕ → List ℕ → Kind → List Item
-part_said p body kind = option_map_or part_items (part_in p kind body) []
+part_said p body kind = option_map_or part_items (part_in p kind body) unread_items
 
 -- a body that should be an abortion report's
 abbrev pub abort_said : List ℕ → List Item
@@ -169,25 +169,30 @@ tm_carried p t =
 
 -- ---- octets
 
--- a packet that is read as a telecommand, or the first test of the header that it fails
+-- what is behind the primary header, where it is read as a telecommand's; or the first test that it
+-- fails
 abbrev pub tc_said : ℕ → Result Command PusFault → List Item
 tc_said p (Ok c) = tc_items c ++ tc_carried p c
 tc_said p (Err e) = fault_items (of_header.code_of e) (of_header.name_of e)
 
--- a packet that is read as telemetry, or the first test of the header that it fails
+-- what is behind it, where it is read as telemetry's; or the first test that it fails
 abbrev pub tm_said : ℕ → Result Telemetry PusFault → List Item
 tm_said p (Ok t) = tm_items t ++ tm_carried p t
 tm_said p (Err e) = fault_items (of_header.code_of e) (of_header.name_of e)
 
--- a packet of this type
-abbrev pub packet_said : ℕ → PacketKind → Fields → List Item
-packet_said p Tc f = tc_said p (tc_verdict f)
-packet_said p Tm f = tm_said p (tm_verdict f)
+-- what is behind it in a packet of this type
+abbrev pub field_said : ℕ → PacketKind → Fields → List Item
+field_said p Tc f = tc_said p (tc_verdict f)
+field_said p Tm f = tm_said p (tm_verdict f)
+
+-- a packet: its primary header, whatever stands behind it, and then that
+abbrev pub packet_said : ℕ → Fields → List Item
+packet_said p f = primary_items f ++ field_said p f.kind f
 
 -- octets of this verdict
 abbrev pub verdict_said : ℕ → Result Sight PacketFault → List Item
 verdict_said p (Ok IdlePacket) = Alone (codes "packet_type") (codes "idle") ∷ []
-verdict_said p (Ok (APacket f)) = packet_said p f.kind f
+verdict_said p (Ok (APacket f)) = packet_said p f
 verdict_said p (Err e) = fault_items (of_packet.code_of e) (of_packet.name_of e)
 
 -- octets, for parts of p octets

@@ -10,6 +10,7 @@ use Rattle.lpt_list.specs.declared.form.Form.{Form}
 use Rattle.lpt_list.specs.declared.form.Form.TheVariants.{Text, Json}
 use Rattle.lpt_list.specs.declared.list_end.ListEnd.{ListEnd}
 use Rattle.lpt_list.specs.declared.list_end.ListEnd.TheVariants.{Whole, Stopped}
+use Rattle.lpt_list.specs.declared.list_end.Tally.{Tally}
 use Rattle.lpt_list.specs.Items.{Item, Alone, Number, items_text, said}
 
 -- ---- a line
@@ -61,6 +62,23 @@ abbrev pub place_behind : ℕ → List Piece → ℕ
 place_behind place [] = place
 place_behind place (x ∷ xs) = place_behind (place + length x.octets) xs
 
+-- ---- what is no packet
+
+-- of nothing
+abbrev pub no_tally : Tally
+no_tally = record { damaged = 0; stray = 0 }
+
+-- with a piece more: one that is as long as its header says, or an octet
+abbrev pub tally_with : PieceKind → Tally → Tally
+tally_with APacket t = t
+tally_with Damaged t = record t { damaged = t.damaged + 1 }
+tally_with Stray t = record t { stray = t.stray + 1 }
+
+-- with pieces more
+abbrev pub tally_behind : Tally → List Piece → Tally
+tally_behind t [] = t
+tally_behind t (x ∷ xs) = tally_behind (tally_with x.kind t) xs
+
 -- ---- a stream
 
 -- each of the pieces is a packet, or an idle one
@@ -68,19 +86,21 @@ abbrev pub ArePackets : List Piece → Type 0
 ArePackets [] = Unit {0}
 ArePackets (x ∷ xs) = (x.kind ≡ APacket) × ArePackets xs
 
--- the stream was read to its end, and its list written; where it is a strict one, all of it is packets
-pub record ListsAll (form : Form) (p : ℕ) (strict : Bool) (before after old new : Option (List ℕ))
-    : Type 0 where
+-- the stream, which begins at a place, was read to its end, and its list written; where it is a
+-- strict one, all of it is packets
+pub record ListsAll (form : Form) (p from : ℕ) (strict : Bool) (tally : Tally)
+    (before after old new : Option (List ℕ)) : Type 0 where
   pub stream : List ℕ
   pub pieces : List Piece
   pub consumed : Consumes before after stream
   pub at_end : IsAtEnd after
   pub cut : Cuts stream pieces
   pub only : strict ≡ true → ArePackets pieces
-  pub written : Appends old new (listing form p 0 true pieces)
+  pub counted : tally ≡ tally_behind no_tally pieces
+  pub written : Appends old new (listing form p from true pieces)
 
 -- the stream was read up to its first piece that is no packet, and the list up to that written
-pub record ListsFront (form : Form) (p : ℕ) (strict : Bool) (place : ℕ)
+pub record ListsFront (form : Form) (p from : ℕ) (strict : Bool) (place : ℕ) (tally : Tally)
     (before after old new : Option (List ℕ)) : Type 0 where
   pub asked : strict ≡ true
   pub stream : List ℕ
@@ -92,23 +112,26 @@ pub record ListsFront (form : Form) (p : ℕ) (strict : Bool) (place : ℕ)
   pub cut : Leads true stream (pieces ++ last ∷ []) step rest
   pub only : ArePackets pieces
   pub none : last.kind ≢ APacket
-  pub at : place ≡ place_behind 0 pieces
-  pub written : Appends old new (listing form p 0 true (pieces ++ last ∷ []))
+  pub at : place ≡ place_behind from pieces
+  pub counted : tally ≡ tally_behind no_tally (pieces ++ last ∷ [])
+  pub written : Appends old new (listing form p from true (pieces ++ last ∷ []))
 
--- what a list that ended so has read and written
-abbrev pub ListsTo :
-    Form → (p : ℕ) → (strict : Bool) → ListEnd → (before after old new : Option (List ℕ)) → Type 0
-ListsTo form p s Whole before after old new = ListsAll form p s before after old new
-ListsTo form p s (Stopped place) before after old new = ListsFront form p s place before after old new
+-- what a list that ended so, with so much that is no packet, has read and written
+abbrev pub ListsTo : Form → (p from : ℕ) → (strict : Bool) → ListEnd → Tally
+    → (before after old new : Option (List ℕ)) → Type 0
+ListsTo form p from s Whole t before after old new = ListsAll form p from s t before after old new
+ListsTo form p from s (Stopped place) t before after old new =
+    ListsFront form p from s place t before after old new
 
 -- more octets came than are listed
-abbrev pub IsTooLong : (before after : Option (List ℕ)) → Type 0
-IsTooLong before after =
-    (stream : List ℕ) × Consumes before after stream × (18446744073709420531 ≤ length stream)
+abbrev pub IsTooLong : (from : ℕ) → (before after : Option (List ℕ)) → Type 0
+IsTooLong from before after =
+    (stream : List ℕ) × Consumes before after stream × (18446744073709420531 ≤ from + length stream)
 
--- the stream was read up to a fault, and a front part of the list of what was read before is written
-abbrev pub ListLeaves : Form → (p : ℕ) → (before after old new : Option (List ℕ)) → Type 0
-ListLeaves form p before after old new =
+-- the stream was read up to a fault, and a front part of the list of what was read before is
+-- written
+abbrev pub ListLeaves : Form → (p from : ℕ) → (before after old new : Option (List ℕ)) → Type 0
+ListLeaves form p from before after old new =
     (stream : List ℕ) × (lost : List ℕ) × (pieces : List Piece) × (t : Bool) × (rest : List ℕ)
     × Consumes before after (stream ++ lost) × Leads true stream pieces t rest
-    × AppendsPart old new (listing form p 0 true pieces)
+    × AppendsPart old new (listing form p from true pieces)

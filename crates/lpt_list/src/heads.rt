@@ -1,14 +1,15 @@
 //! What octets say, as the items of a line.
 
-ghost use Rattle.std.specs.Prelude.{◌≡◌, ◌++◌, [], IfOk};
+ghost use Rattle.std.specs.Prelude.{◌≡◌, IfOk};
 ghost use Rattle.std.specs.String.{string_bytes};
 ghost use Rattle.lpt_events.specs.LptPacket.Packets.{fields};
 ghost use Rattle.lpt_events.specs.LptPus.Commands.{command, tc_verdict};
 ghost use Rattle.lpt_events.specs.LptPus.Telemetry.{telemetry, tm_verdict};
 ghost use Rattle.lpt_events.specs.LptPart.Splitting.{IsPartSize};
-ghost use Rattle.lpt_list.specs.Items.{abort_items, abort_said, code_items, fault_items, items_text, kind_text, part_said, report_items, report_said, request_items, said, tc_carried, tc_front, tc_items, tc_rest, tc_said, tm_carried, tm_front, tm_items, tm_middle, tm_rest, tm_said};
+ghost use Rattle.lpt_list.specs.Items.{abort_items, abort_said, code_items, fault_items, field_said, items_text, kind_text, packet_said, part_said, report_items, report_said, request_items, said, tc_carried, tc_said, tm_carried, tm_said, unread_items};
 
 use crate::Form;
+use crate::headers::{joined, primary, tc_head, tm_head};
 use lpt_events::{
     ABORT, Direction, Kind, Packet, PacketKind, Reason, Seen, TRANSFER, TcHead, TmHead, part_kind,
     read_abort, read_packet, read_part, read_tc, read_tm,
@@ -29,15 +30,35 @@ pub(crate) fn said(alloc: Global, form: Form, octets: &[u8], p: u32) -> Result<S
             Form::Text => String::from_str(alloc, " idle"),
             Form::Json => String::from_str(alloc, ",\"packet_type\":\"idle\""),
         },
-        Ok(Seen::Packet(packet)) => match packet.kind {
-            PacketKind::Tc => tc_said(alloc, form, &packet, p),
-            PacketKind::Tm => tm_said(alloc, form, &packet, p),
-        },
+        Ok(Seen::Packet(packet)) => packet_said(alloc, form, &packet, p),
         Err(fault) => fault_said(alloc, form, fault.code(), fault.name()),
     }
 }
 
-// What a packet says as a telecommand.
+// What a packet says: its primary header, and what is behind it.
+#[tactic(auto, using(crate::proofs::ItemLemmas::items_append))]
+fn packet_said(alloc: Global, form: Form, packet: &Packet<'_>, p: u32) -> Result<String, AllocError>
+    requires { IsPartSize p }
+    ensures { IfOk result (λ t. string_bytes t
+        ≡ items_text form (packet_said p (fields packet.now))) }
+{
+    let front = primary(alloc, form, packet)?;
+    joined(front, field_said(alloc, form, packet, p)?)
+}
+
+// What is behind it.
+fn field_said(alloc: Global, form: Form, packet: &Packet<'_>, p: u32) -> Result<String, AllocError>
+    requires { IsPartSize p }
+    ensures { IfOk result (λ t. string_bytes t
+        ≡ items_text form (field_said p packet.now.kind (fields packet.now))) }
+{
+    match packet.kind {
+        PacketKind::Tc => tc_said(alloc, form, packet, p),
+        PacketKind::Tm => tm_said(alloc, form, packet, p),
+    }
+}
+
+// What is behind it in a telecommand.
 #[tactic(auto, using(crate::proofs::ItemLemmas::items_append))]
 fn tc_said(alloc: Global, form: Form, packet: &Packet<'_>, p: u32) -> Result<String, AllocError>
     requires { IsPartSize p }
@@ -53,7 +74,7 @@ fn tc_said(alloc: Global, form: Form, packet: &Packet<'_>, p: u32) -> Result<Str
     }
 }
 
-// What a packet says as telemetry.
+// What is behind it in telemetry.
 #[tactic(auto, using(crate::proofs::ItemLemmas::items_append))]
 fn tm_said(alloc: Global, form: Form, packet: &Packet<'_>, p: u32) -> Result<String, AllocError>
     requires { IsPartSize p }
@@ -69,15 +90,6 @@ fn tm_said(alloc: Global, form: Form, packet: &Packet<'_>, p: u32) -> Result<Str
     }
 }
 
-// A text with another behind it.
-fn joined(front: String, more: String) -> Result<String, AllocError>
-    ensures { IfOk result (λ t. string_bytes t ≡ string_bytes front ++ string_bytes more) }
-{
-    let mut text = front;
-    text.push_str(more.as_str())?;
-    Ok(text)
-}
-
 // The first test that octets fail.
 fn fault_said(alloc: Global, form: Form, code: u16, name: &str) -> Result<String, AllocError>
     ensures { IfOk result (λ t. string_bytes t ≡ items_text form (fault_items code name.now)) }
@@ -85,91 +97,6 @@ fn fault_said(alloc: Global, form: Form, code: u16, name: &str) -> Result<String
     match form {
         Form::Text => format!(in alloc; " fault {code} {name}"),
         Form::Json => format!(in alloc; ",\"fault_code\":{code},\"fault\":\"{name}\""),
-    }
-}
-
-// What a telecommand's headers say.
-#[tactic(auto, using(crate::proofs::ItemLemmas::items_append))]
-fn tc_head(alloc: Global, form: Form, head: &TcHead) -> Result<String, AllocError>
-    ensures { IfOk result (λ t. string_bytes t ≡ items_text form (tc_items (command head.now []))) }
-{
-    let front = tc_front(alloc, form, head)?;
-    joined(front, tc_rest(alloc, form, head)?)
-}
-
-// Its first items.
-fn tc_front(alloc: Global, form: Form, head: &TcHead) -> Result<String, AllocError>
-    ensures { IfOk result (λ t. string_bytes t ≡ items_text form (tc_front (command head.now []))) }
-{
-    let (apid, count, flags) = (head.apid, head.count, head.flags);
-    match form {
-        Form::Text => format!(in alloc; " tc apid {apid} count {count} flags {flags}"),
-        Form::Json => format!(in alloc;
-            ",\"packet_type\":\"tc\",\"application_process_id\":{apid},\
-            \"packet_sequence_count\":{count},\"acknowledgement_flags\":{flags}"
-        ),
-    }
-}
-
-// The others.
-fn tc_rest(alloc: Global, form: Form, head: &TcHead) -> Result<String, AllocError>
-    ensures { IfOk result (λ t. string_bytes t ≡ items_text form (tc_rest (command head.now []))) }
-{
-    let (service, subtype, source) = (head.service, head.subtype, head.source);
-    match form {
-        Form::Text => format!(in alloc; " service {service} subtype {subtype} source {source}"),
-        Form::Json => format!(in alloc;
-            ",\"service_type\":{service},\"message_subtype\":{subtype},\"source_id\":{source}"
-        ),
-    }
-}
-
-// What a telemetry packet's headers say.
-#[tactic(auto, using(crate::proofs::ItemLemmas::items_append))]
-fn tm_head(alloc: Global, form: Form, head: &TmHead) -> Result<String, AllocError>
-    ensures { IfOk result (λ t. string_bytes t ≡ items_text form (tm_items (telemetry head.now []))) }
-{
-    let front = tm_front(alloc, form, head)?;
-    let front = joined(front, tm_middle(alloc, form, head)?)?;
-    joined(front, tm_rest(alloc, form, head)?)
-}
-
-// Its first items.
-fn tm_front(alloc: Global, form: Form, head: &TmHead) -> Result<String, AllocError>
-    ensures { IfOk result (λ t. string_bytes t ≡ items_text form (tm_front (telemetry head.now []))) }
-{
-    let (apid, count, status) = (head.apid, head.count, head.status);
-    match form {
-        Form::Text => format!(in alloc; " tm apid {apid} count {count} status {status}"),
-        Form::Json => format!(in alloc;
-            ",\"packet_type\":\"tm\",\"application_process_id\":{apid},\
-            \"packet_sequence_count\":{count},\"spacecraft_time_reference_status\":{status}"
-        ),
-    }
-}
-
-// The next.
-fn tm_middle(alloc: Global, form: Form, head: &TmHead) -> Result<String, AllocError>
-    ensures { IfOk result (λ t. string_bytes t ≡ items_text form (tm_middle (telemetry head.now []))) }
-{
-    let (service, subtype, counter) = (head.service, head.subtype, head.counter);
-    match form {
-        Form::Text => format!(in alloc; " service {service} subtype {subtype} counter {counter}"),
-        Form::Json => format!(in alloc;
-            ",\"service_type\":{service},\"message_subtype\":{subtype},\
-            \"message_type_counter\":{counter}"
-        ),
-    }
-}
-
-// The others.
-fn tm_rest(alloc: Global, form: Form, head: &TmHead) -> Result<String, AllocError>
-    ensures { IfOk result (λ t. string_bytes t ≡ items_text form (tm_rest (telemetry head.now []))) }
-{
-    let (destination, time) = (head.destination, head.time);
-    match form {
-        Form::Text => format!(in alloc; " destination {destination} time {time}"),
-        Form::Json => format!(in alloc; ",\"destination_id\":{destination},\"time\":{time}"),
     }
 }
 
@@ -213,7 +140,7 @@ fn tm_carried(
     }
 }
 
-// The part of this kind that a body is; nothing where it isn't read as one.
+// The part of this kind that a body is, or that it isn't read as one.
 fn part_said(
     alloc: Global,
     form: Form,
@@ -225,7 +152,7 @@ fn part_said(
     ensures { IfOk result (λ t. string_bytes t ≡ items_text form (part_said p body.now kind)) }
 {
     let Ok(part) = read_part(kind, body, p) else {
-        return Ok(String::new(alloc));
+        return unread(alloc, form);
     };
     let kind = kind_word(part.kind);
     let id = part.id;
@@ -237,6 +164,16 @@ fn part_said(
             ",\"part\":\"{kind}\",\"large_message_transaction_identifier\":{id},\
             \"part_sequence_number\":{number},\"part_octets\":{octets}"
         ),
+    }
+}
+
+// That a part isn't read.
+fn unread(alloc: Global, form: Form) -> Result<String, AllocError>
+    ensures { IfOk result (λ t. string_bytes t ≡ items_text form unread_items) }
+{
+    match form {
+        Form::Text => String::from_str(alloc, " part unread"),
+        Form::Json => String::from_str(alloc, ",\"part\":\"unread\""),
     }
 }
 

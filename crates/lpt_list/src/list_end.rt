@@ -1,5 +1,10 @@
 //! How a list ends.
 
+ghost use Rattle.std.specs.Prelude.{◌≡◌, ◌<◌, ◌+◌};
+ghost use Rattle.lpt_list.specs.Lists.{tally_with};
+
+use lpt_stream::PieceKind;
+
 /// How the list of a stream ends.
 #[derive(Clone, Copy)]
 pub enum ListEnd {
@@ -7,4 +12,41 @@ pub enum ListEnd {
     Whole,
     /// At the first place at which no packet is, where no more was asked for.
     Stopped(u64),
+}
+
+/// How much of a stream is no packet.
+#[derive(Clone, Copy)]
+pub struct Tally {
+    /// So many pieces, each as long as its header says.
+    pub damaged: u64,
+    /// So many octets besides.
+    pub stray: u64,
+}
+
+/// What was listed.
+#[derive(Clone, Copy)]
+pub struct Listed {
+    /// How the list ends.
+    pub end: ListEnd,
+    /// How much of what was listed is no packet.
+    pub tally: Tally,
+}
+
+// With a piece more.
+pub(crate) fn counted(tally: Tally, kind: PieceKind) -> Tally
+    requires { tally.damaged + tally.stray < 18446744073709420531 }
+    ensures { result ≡ tally_with kind tally }
+{
+    let Tally { damaged, stray } = tally;
+    match kind {
+        PieceKind::Whole => tally,
+        PieceKind::Damaged => Tally {
+            damaged: damaged + 1,
+            stray,
+        },
+        PieceKind::Stray => Tally {
+            damaged,
+            stray: stray + 1,
+        },
+    }
 }

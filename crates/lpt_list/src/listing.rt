@@ -1,6 +1,6 @@
 //! The list of a stream, written as the stream comes.
 
-ghost use Rattle.std.specs.Prelude.{◌≡◌, ◌≢◌, ◌⊎◌, Err, IfErr, IfOk, OnOk, false, true};
+ghost use Rattle.std.specs.Prelude.{◌≡◌, ◌≢◌, ◌⊎◌, Err, IfErr, IfOk, IsOk, OnOk, false, true};
 ghost use Rattle.std.specs.Io.KnownBytes.{Appends};
 ghost use Rattle.std.specs.String.{string_bytes};
 ghost use Rattle.lpt_events.specs.LptPart.Splitting.{IsPartSize};
@@ -9,49 +9,98 @@ ghost use Rattle.lpt_stream.specs.Pieces.{keeps_step};
 ghost use Rattle.lpt_list.specs.Lists.{line_for, IsTooLong, ListLeaves, ListsTo};
 
 use crate::lines::{print_none, print_piece};
-use crate::{Form, ListEnd};
-use lpt_stream::{PacketBuffer, PieceKind, Sink, Source, ToolFault, write_out};
+use crate::list_end::counted;
+use crate::{Form, ListEnd, Listed, Tally};
+use lpt_stream::{PacketBuffer, PieceKind, Sink, Source, ToolFault, flush_out, write_out};
 use std::alloc::{AllocError, Global};
 
-/// So far a stream is listed: its first 2^64 - 131,085 octets.
+/// So far a stream is listed: up to place 2^64 - 131,085.
 const LAST_PLACE: u64 = u64::MAX - 131_084;
 
-/// Reads a stream to its end, and writes a line for each packet in it, for parts of `p` octets (4 to
-/// 1024), and one for each place from which on octets are no packet. Where `strict` is set, it ends
-/// behind the first line of what is no packet.
+/// Reads a stream to its end, of which the first octet has the place `from`, and writes a line for
+/// each packet in it, for parts of `p` octets (4 to 1024), and one for each place from which on
+/// octets are no packet. Where `strict` is set, it ends behind the first line of what is no packet.
+/// How much is no packet is counted.
 ///
-/// Errors: `Read` where a read failed, or where more octets came than can be counted; `Write` where a
-/// write failed; `Memory`. A front part of the list stays written.
+/// Each line is written as its packet comes, and before more is read `out` has passed on what was
+/// written.
+///
+/// Errors: `Read` where a read failed, or where more octets came than can be counted; `Write` where
+/// a write failed; `Memory`. A front part of the list stays written.
 pub fn list_stream<S: Source, K: Sink>(
     alloc: Global,
     form: Form,
     p: u32,
     strict: bool,
+    from: u64,
     source: &mut S,
     out: &mut K,
-) -> Result<ListEnd, ToolFault>
+) -> Result<Listed, ToolFault>
     requires { IsPartSize p }
-    ensures ends { IfOk result (λ end. ListsTo form p strict end
+    ensures ends { IfOk result (λ l. ListsTo form p from strict l.end l.tally
         (S.remaining source.old) (S.remaining source.new)
         (K.contents out.old) (K.contents out.new)) }
 
     // Each fault is that of a read, of a write or of memory.
     ensures fault { IfErr result (λ e. ((e ≡ ToolFault.Read) × ((S.failed source.new ≡ true)
-        ⊎ IsTooLong (S.remaining source.old) (S.remaining source.new)))
+        ⊎ IsTooLong from (S.remaining source.old) (S.remaining source.new)))
         ⊎ (((e ≡ ToolFault.Write) × (K.failed out.new ≡ true)) ⊎ (e ≡ ToolFault.Memory))) }
-    ensures leaves { IfErr result (λ _. ListLeaves form p
+    ensures leaves { IfErr result (λ _. ListLeaves form p from
+        (S.remaining source.old) (S.remaining source.new)
+        (K.contents out.old) (K.contents out.new)) }
+    ensures heard { result ≢ Err ToolFault.Read → S.failed source.new ≡ S.failed source.old }
+    ensures told { result ≢ Err ToolFault.Write → K.failed out.new ≡ K.failed out.old }
+    ensures passed { IsOk result → K.passed out.new ≡ K.contents out.new }
+{
+    let listed = match list_pieces(alloc, form, p, strict, from, source, out) {
+        Ok(listed) => listed,
+        Err(fault) => return Err(fault),
+    };
+    match flush_out(out) {
+        Ok(()) => Ok(listed),
+        Err(fault) => Err(fault),
+    }
+}
+
+// Does so, but for what is written last, which may be kept back.
+fn list_pieces<S: Source, K: Sink>(
+    alloc: Global,
+    form: Form,
+    p: u32,
+    strict: bool,
+    from: u64,
+    source: &mut S,
+    out: &mut K,
+) -> Result<Listed, ToolFault>
+    requires { IsPartSize p }
+    ensures ends { IfOk result (λ l. ListsTo form p from strict l.end l.tally
+        (S.remaining source.old) (S.remaining source.new)
+        (K.contents out.old) (K.contents out.new)) }
+    ensures fault { IfErr result (λ e. ((e ≡ ToolFault.Read) × ((S.failed source.new ≡ true)
+        ⊎ IsTooLong from (S.remaining source.old) (S.remaining source.new)))
+        ⊎ (((e ≡ ToolFault.Write) × (K.failed out.new ≡ true)) ⊎ (e ≡ ToolFault.Memory))) }
+    ensures leaves { IfErr result (λ _. ListLeaves form p from
         (S.remaining source.old) (S.remaining source.new)
         (K.contents out.old) (K.contents out.new)) }
     ensures heard { result ≢ Err ToolFault.Read → S.failed source.new ≡ S.failed source.old }
     ensures told { result ≢ Err ToolFault.Write → K.failed out.new ≡ K.failed out.old }
 {
     let mut buffer = PacketBuffer::new(alloc);
-    let mut place = 0;
+    let mut place = from;
     let mut in_step = true;
+    let mut tally = Tally {
+        damaged: 0,
+        stray: 0,
+    };
     while place < LAST_PLACE {
-        let found = match buffer.find_piece(source) {
+        let found = match buffer.find_piece_passing(source, out) {
             Ok(Some(found)) => found,
-            Ok(None) => return Ok(ListEnd::Whole),
+            Ok(None) => {
+                return Ok(Listed {
+                    end: ListEnd::Whole,
+                    tally,
+                });
+            }
             Err(fault) => return Err(fault),
         };
         let octets = &buffer.held()[..found.len];
@@ -59,8 +108,12 @@ pub fn list_stream<S: Source, K: Sink>(
             Ok(()) => {}
             Err(fault) => return Err(fault),
         }
+        tally = counted(tally, found.kind);
         if is_last(strict, found.kind) {
-            return Ok(ListEnd::Stopped(place));
+            return Ok(Listed {
+                end: ListEnd::Stopped(place),
+                tally,
+            });
         }
         place += found.len as u64;
         in_step = goes_on(found.kind);

@@ -20,7 +20,7 @@ use Rattle.lpt_script.specs.LptWorld.LptEvents.declared.side.Side.{Side}
 use Rattle.lpt_script.specs.LptWorld.LptEvents.declared.worker.Worker.TheVariants.{W1}
 use Rattle.lpt_script.specs.LptWorld.LptPacket.declared.direction.Direction.TheVariants.{Up}
 use Rattle.lpt_script.specs.LptWorld.Worlds.{Shown, refusal_at, with_entry}
-use Rattle.lpt_shell.specs.Answers.{Session, answered, finding_text, line_served, lines_served, long_answered, own_line, own_served, prompted, served}
+use Rattle.lpt_shell.specs.Answers.{Session, answered, ends_session, finding_text, left, line_served, lines_served, long_answered, own_line, own_served, prompted, served}
 use Rattle.lpt_shell.specs.EndsInside.{last_served, one_served}
 
 -- ---- a line that is too long
@@ -33,6 +33,12 @@ why_long : (line : List ℕ)
     → why line ≡ Some (record { column = 140001; reason = LongLine })
 unfolding why
 why_long line long = rw long refl
+
+-- it ends no session
+pub long_stays : (line : List ℕ) → 140000 < length line → ends_session line ≡ false
+long_stays line long =
+    let test : nat_lt 140000 (length line) ≡ true = grind (arith, nat_tests) in
+    rw test refl
 
 -- it does the same, whatever it holds
 pub long_line : (prompt line : List ℕ) (w : Shown)
@@ -55,10 +61,13 @@ IsDropped true cut = (line_end cut ≡ None) × (140000 < length cut)
 
 -- a line alone
 alone : (prompt line : List ℕ) (w : Shown) (count : ℕ)
-    → lines_served prompt (line ∷ []) w count ≡ one_served (line_served prompt line w) count
+    → lines_served prompt (line ∷ []) w count
+    ≡ (if ends_session line then left count true else one_served (line_served prompt line w) count)
 alone prompt line w count =
     let s = line_served prompt line w in
-    let with_text : List ℕ → Session = λ t. record { text = t; failed = count + from_bool s.failed } in
+    let with_text : List ℕ → Session =
+    λ t. if ends_session line then left count true
+    else record { text = t; failed = count + from_bool s.failed; over = false } in
     ap with_text (append-nil s.text)
 
 -- what was dropped of it and what is held
@@ -71,7 +80,9 @@ last_does false prompt cut [] w count is none =
 last_does false prompt cut (b ∷ bs) w count is none =
     let some : (length (b ∷ bs) == 0) ≡ false = grind (arith, nat_tests) in
     let unless : Bool → Session =
-    λ t. if t then record { text = []; failed = count } else one_served (line_served prompt (b ∷ bs) w) count in
+    λ t. if t then left count false
+    else if ends_session (b ∷ bs) then left count true
+    else one_served (line_served prompt (b ∷ bs) w) count in
     ap (λ x. lines_served prompt (lines (x ++ b ∷ bs)) w count) is
     ∙ ap (λ x. lines_served prompt x w count) (lines-nowhere (b ∷ bs) none (omega arith))
     ∙ alone prompt (b ∷ bs) w count
@@ -81,6 +92,8 @@ last_does true prompt cut rest w count is none =
     ap (λ x. lines_served prompt x w count)
     (lines-nowhere (cut ++ rest) (line_end-nowhere cut rest is.0 none) (omega arith))
     ∙ alone prompt (cut ++ rest) w count
+    ∙ ap (λ t. if t then left count true else one_served (line_served prompt (cut ++ rest) w) count)
+    (long_stays (cut ++ rest) longer)
     ∙ ap (λ r. one_served r count) (long_line prompt (cut ++ rest) w longer)
 
 -- ---- no command ends a script

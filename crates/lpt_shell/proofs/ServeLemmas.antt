@@ -1,5 +1,5 @@
 -- The lines of a shell under way, and how they end.
-use Rattle.std.proofs.Common.{◌≡◌, ℕ, suc, ◌+◌, ◌<◌, ◌≤◌, ◌==◌, nat_lt, List, [], ◌∷◌, ◌++◌, length, take, drop, Option, Some, None, Result, Ok, Err, Bool, true, false, refl, sym, ap, ◌∙◌, subst, inl, inr, ◌⊎◌, append_assoc, append-nil, length-append, take-append-drop, arith}
+use Rattle.std.proofs.Common.{◌≡◌, ℕ, suc, ◌+◌, ◌<◌, ◌≤◌, ◌==◌, nat_lt, if◌then◌else◌, List, [], ◌∷◌, ◌++◌, length, take, drop, Option, Some, None, Result, Ok, Err, Bool, true, false, refl, sym, ap, ◌∙◌, subst, inl, inr, ◌⊎◌, append_assoc, append-nil, length-append, take-append-drop, arith}
 use Rattle.std.specs.Int.{from_bool}
 use Rattle.std.proofs.KnownBytes.{Appends-kept, Appends-trans, Consumes-nil, Consumes-trans}
 use Rattle.std.proofs.lemmas.Bool.Decides.{nat_tests}
@@ -18,9 +18,10 @@ use Rattle.lpt_script.specs.LptText.declared.fault.ToolFault.TheVariants as tool
 use Rattle.lpt_script.specs.LptText.declared.lines.LineBuffer.{LineBuffer}
 use Rattle.lpt_script.specs.LptWords.Words.{ended_line, lines}
 use Rattle.lpt_script.specs.LptWorld.Worlds.{Shown}
-use Rattle.lpt_shell.specs.Answers.{Served, Session, behind, line_served, lines_served}
-use Rattle.lpt_shell.specs.EndsInside.{LastEnds, LinesServed, ServedEnds, last_served, piece_served}
-use Rattle.lpt_shell.proofs.LongLemmas.{IsDropped, last_does, long_line}
+use Rattle.lpt_shell.specs.Answers.{Served, Session, behind, ends_session, left, line_served, lines_served}
+use Rattle.lpt_shell.specs.EndsInside.{LastEnds, LinesServed, ServedEnds, last_served, piece_ends, piece_served}
+use Rattle.lpt_shell.specs.declared.shell.Heard.{Heard}
+use Rattle.lpt_shell.proofs.LongLemmas.{IsDropped, last_does, long_line, long_stays}
 
 -- ---- what was dropped of a line
 
@@ -69,6 +70,19 @@ line_does true prompt cut text place w long =
     let test : nat_lt 140000 (length all) ≡ true = grind (arith, nat_tests) in
     let kept : ended_line all ≡ all = rw test refl in
     ap (λ x. line_served prompt x w) kept ∙ long_line prompt all w longer
+
+-- it ends the session where its end does
+line_stops : (is_long : Bool) (cut text : List ℕ) (place : ℕ)
+    → IsDropped is_long cut
+    → ends_session (ended_line (cut ++ take place text)) ≡ piece_ends is_long (ended_line (take place text))
+line_stops false cut text place none =
+    ap (λ x. ends_session (ended_line (x ++ take place text))) none
+line_stops true cut text place long =
+    let all = cut ++ take place text in
+    let longer : 140000 < length all = omega (arith, length-append cut (take place text), long.1) in
+    let test : nat_lt 140000 (length all) ≡ true = grind (arith, nat_tests) in
+    let kept : ended_line all ≡ all = rw test refl in
+    ap ends_session kept ∙ long_stays all longer
 
 -- ---- under way
 
@@ -170,23 +184,53 @@ cut_ends : (given cut text : List ℕ) (place : ℕ)
 cut_ends given cut text place at =
     subst EndsLine (append_assoc given cut (take (place + 1) text)) (line_ends (given ++ cut) text place at)
 
+-- all that lines do, up to the line that ends there, with this behind it
+to_line : (prompt : List ℕ) (first w : Shown) (is_long : Bool) (failed place : ℕ) (text : List ℕ) (room : ℕ) (old now a b : Option (List ℕ))
+    → (s : Serves prompt first w is_long failed text room old now a b)
+    → line_end text ≡ Some place
+    → (more : List ℕ)
+    → lines_served prompt (lines ((s.given ++ (s.cut ++ take (place + 1) text)) ++ more)) first 0
+    ≡ behind s.done (lines_served prompt (ended_line (s.cut ++ take place text) ∷ lines more) w failed)
+to_line prompt first w is_long failed place text room old now a b s at more =
+    let piece = s.cut ++ take (place + 1) text in
+    ap (λ x. lines_served prompt (lines x) first 0) (append_assoc s.given piece more)
+    ∙ s.follows (piece ++ more)
+    ∙ ap (λ x. behind s.done (lines_served prompt x w failed)) (line_cut is_long s.cut text more place s.is_cut at)
+
+-- nothing more, where it ends the session
+stops_line : (prompt : List ℕ) (first w : Shown) (is_long : Bool) (failed place : ℕ) (text : List ℕ) (room : ℕ) (old now a b : Option (List ℕ))
+    → (s : Serves prompt first w is_long failed text room old now a b)
+    → line_end text ≡ Some place
+    → piece_ends is_long (ended_line (take place text)) ≡ true
+    → (more : List ℕ)
+    → lines_served prompt (lines ((s.given ++ (s.cut ++ take (place + 1) text)) ++ more)) first 0
+    ≡ record { text = s.done; failed = failed; over = true }
+stops_line prompt first w is_long failed place text room old now a b s at stops more =
+    let line = ended_line (s.cut ++ take place text) in
+    let ran = line_served prompt line w in
+    let rest = behind ran.text (lines_served prompt (lines more) ran.world (failed + from_bool ran.failed)) in
+    to_line prompt first w is_long failed place text room old now a b s at more
+    ∙ ap (λ t. behind s.done (if t then left failed true else rest))
+    (line_stops is_long s.cut text place s.is_cut ∙ stops)
+    ∙ ap (λ t. record { text = t; failed = failed; over = true }) (append-nil s.done)
+
 -- all that lines do, from the line that ends there on
 goes_line : (prompt : List ℕ) (first w : Shown) (is_long : Bool) (failed place : ℕ) (text : List ℕ) (room : ℕ) (old now a b : Option (List ℕ))
     → (s : Serves prompt first w is_long failed text room old now a b)
     → line_end text ≡ Some place
+    → piece_ends is_long (ended_line (take place text)) ≡ false
     → (more : List ℕ)
     → let ran = piece_served is_long prompt (ended_line (take place text)) w in
     lines_served prompt (lines ((s.given ++ (s.cut ++ take (place + 1) text)) ++ more)) first 0
     ≡ behind (s.done ++ ran.text) (lines_served prompt (lines more) ran.world (failed + from_bool ran.failed))
-goes_line prompt first w is_long failed place text room old now a b s at more =
+goes_line prompt first w is_long failed place text room old now a b s at goes more =
     let line = ended_line (s.cut ++ take place text) in
-    let piece = s.cut ++ take (place + 1) text in
     let rest : Served → Session = λ r. behind r.text (lines_served prompt (lines more) r.world (failed + from_bool r.failed)) in
     let ran = piece_served is_long prompt (ended_line (take place text)) w in
     let after = lines_served prompt (lines more) ran.world (failed + from_bool ran.failed) in
-    ap (λ x. lines_served prompt (lines x) first 0) (append_assoc s.given piece more)
-    ∙ s.follows (piece ++ more)
-    ∙ ap (λ x. behind s.done (lines_served prompt x w failed)) (line_cut is_long s.cut text more place s.is_cut at)
+    to_line prompt first w is_long failed place text room old now a b s at more
+    ∙ ap (λ t. behind s.done (if t then left failed true else rest (line_served prompt line w)))
+    (line_stops is_long s.cut text place s.is_cut ∙ goes)
     ∙ ap (λ r. behind s.done (rest r)) (line_does is_long prompt s.cut text place w s.is_cut)
     ∙ ap (λ t. record after { text = t }) (sym (append_assoc s.done ran.text after.text))
 
@@ -198,10 +242,11 @@ at_most_one false = omega arith
 pub serves_line : (prompt : List ℕ) (first w v : Shown) (is_long : Bool) (failed place : ℕ) (f : Bool) (text rest : List ℕ) (room : ℕ) (old now a b c : Option (List ℕ))
     → Serves prompt first w is_long failed text room old now a b
     → line_end text ≡ Some place
+    → piece_ends is_long (ended_line (take place text)) ≡ false
     → rest ≡ drop (place + 1) text
     → ServedEnds (piece_served is_long prompt (ended_line (take place text)) w) (Ok f) v b c
     → Serves prompt first v false (failed + from_bool f) rest room old now a c
-serves_line prompt first w v is_long failed place f text rest room old now a b c s at is ends =
+serves_line prompt first w v is_long failed place f text rest room old now a b c s at goes is ends =
     let ran = piece_served is_long prompt (ended_line (take place text)) w in
     let piece = s.cut ++ take (place + 1) text in
     let found = position-Some (λ b. b == 10) text place 0 at in
@@ -223,7 +268,7 @@ serves_line prompt first w v is_long failed place f text rest room old now a b c
       counted = omega (arith, s.counted, long, whole, longer, left);
       written = Appends-trans a b c s.done ran.text s.written ends.2;
       follows = λ more.
-          goes_line prompt first w is_long failed place text room old now a b s at more
+          goes_line prompt first w is_long failed place text room old now a b s at goes more
           ∙ ap (λ x. behind (s.done ++ ran.text) (lines_served prompt (lines more) x (failed + from_bool ran.failed))) (sym ends.1)
           ∙ ap (λ x. behind (s.done ++ ran.text) (lines_served prompt (lines more) v (failed + from_bool x))) (sym ends.0);
       few = omega (arith, s.few, long, longer, at_most_one f);
@@ -245,12 +290,12 @@ begun_ends prompt first (tool.Line k) text more old now a c failed wrote p q cau
 begun_ends prompt first (tool.Threads k) text more old now a c failed wrote p q cause = absurd q
 
 -- what the lines did that were answered
-done_text : (prompt : List ℕ) (first w : Shown) (is_long : Bool) (failed : ℕ) (rest : List ℕ) (room : ℕ) (old now a b : Option (List ℕ))
+done_so_far : (prompt : List ℕ) (first w : Shown) (is_long : Bool) (failed : ℕ) (rest : List ℕ) (room : ℕ) (old now a b : Option (List ℕ))
     → (s : Serves prompt first w is_long failed rest room old now a b)
-    → (lines_served prompt (lines s.given) first 0).text ≡ s.done
-done_text prompt first w is_long failed rest room old now a b s =
-    ap (λ x. (lines_served prompt (lines x) first 0).text) (sym (append-nil s.given))
-    ∙ ap (λ x. x.text) (s.follows []) ∙ append-nil s.done
+    → lines_served prompt (lines s.given) first 0 ≡ record { text = s.done; failed = failed; over = false }
+done_so_far prompt first w is_long failed rest room old now a b s =
+    ap (λ x. lines_served prompt (lines x) first 0) (sym (append-nil s.given))
+    ∙ s.follows [] ∙ ap (λ t. record { text = t; failed = failed; over = false }) (append-nil s.done)
 
 -- no more could be read, or what was written could not be passed on
 pub serves_cut : (prompt : List ℕ) (first w : Shown) (is_long : Bool) (count : ℕ) (before after : LineBuffer) (fault : ToolFault) (old now next a b c : Option (List ℕ)) (was failed wrote : Bool)
@@ -262,9 +307,11 @@ pub serves_cut : (prompt : List ℕ) (first w : Shown) (is_long : Bool) (count :
 serves_cut prompt first w is_long count before after fault old now next a b c was failed wrote s finds keeps cause =
     by_fault fault finds cause
   where
+    left_by : lines_served prompt (lines s.given) first 0 ≡ record { text = s.done; failed = count; over = false }
+    left_by = done_so_far prompt first w is_long count (held before) (room_of before) old now a b s
+
     written : Appends a c (lines_served prompt (lines s.given) first 0).text
-    written = subst (Appends a c) (sym (done_text prompt first w is_long count (held before) (room_of before) old now a b s))
-        (Appends-kept a b c s.done s.written keeps)
+    written = subst (λ x. Appends a c x.text) (sym left_by) (Appends-kept a b c s.done s.written keeps)
 
     joined : (more : List ℕ) → Consumes now next more → Consumes old next (s.given ++ ((s.cut ++ held before) ++ more))
     joined more p = subst (Consumes old next)
@@ -283,7 +330,7 @@ serves_cut prompt first w is_long count before after fault old now next a b c wa
     by_fault (tool.Line k) q cause = absurd q
     by_fault (tool.Threads k) q cause = absurd q
     by_fault tool.Read q cause =
-        (s.given, (s.cut ++ held before) ++ (q.0 ++ q.1), joined (q.0 ++ q.1) q.2.consumed, s.ends, why q.5, written)
+        (s.given, (s.cut ++ held before) ++ (q.0 ++ q.1), joined (q.0 ++ q.1) q.2.consumed, s.ends, why q.5, (ap (λ x. x.over) left_by, written))
       where
         cut : List ℕ
         cut = (s.cut ++ held before) ++ (q.0 ++ q.1)
@@ -300,14 +347,57 @@ serves_cut prompt first w is_long count before after fault old now next a b c wa
         why (inl p) = inl p.1
         why (inr p) = inr (omega (arith, s.counted, total, q.2.counted, p.0, p.1))
 
+-- a line ended the session
+pub serves_exit : (prompt : List ℕ) (first w : Shown) (is_long : Bool) (count place : ℕ) (text : List ℕ) (room : ℕ) (old now a b : Option (List ℕ)) (failed wrote : Bool)
+    → Serves prompt first w is_long count text room old now a b
+    → line_end text ≡ Some place
+    → piece_ends is_long (ended_line (take place text)) ≡ true
+    → LinesServed prompt first (Ok (record { failed = count; is_over = true })) old now a b failed wrote
+serves_exit prompt first w is_long count place text room old now a b failed wrote s at stops =
+    (front ++ more, consumed, inr (front, more, refl, cut_ends s.given s.cut text place at, over), bound, done)
+  where
+    front : List ℕ
+    front = s.given ++ (s.cut ++ take (place + 1) text)
+
+    more : List ℕ
+    more = drop (place + 1) text
+
+    consumed : Consumes old now (front ++ more)
+    consumed = subst (Consumes old now) (cut_behind s.given s.cut text place) s.consumed
+
+    bound : length (front ++ more) ≤ 16777216
+    bound = omega (
+      arith,
+      s.counted,
+      ap length (cut_behind s.given s.cut text place),
+      length-append (s.given ++ s.cut) text,
+      length-append s.given s.cut,
+    )
+
+    all : (rest : List ℕ) → lines_served prompt (lines (front ++ rest)) first 0 ≡ record { text = s.done; failed = count; over = true }
+    all rest = stops_line prompt first w is_long count place text room old now a b s at stops rest
+
+    over : (lines_served prompt (lines front) first 0).over ≡ true
+    over = ap (λ x. (lines_served prompt (lines x) first 0).over) (sym (append-nil front)) ∙ ap (λ x. x.over) (all [])
+
+    done : (count ≡ (lines_served prompt (lines (front ++ more)) first 0).failed)
+        × (true ≡ (lines_served prompt (lines (front ++ more)) first 0).over)
+        × Appends a b (lines_served prompt (lines (front ++ more)) first 0).text
+    done = (
+      sym (ap (λ x. x.failed) (all more)),
+      sym (ap (λ x. x.over) (all more)),
+      subst (λ x. Appends a b x.text) (sym (all more)) s.written,
+    )
+
 -- a line ended by a fault
 pub serves_fault : (prompt : List ℕ) (first w v : Shown) (is_long : Bool) (count place : ℕ) (fault : ToolFault) (text : List ℕ) (room : ℕ) (old now a b c : Option (List ℕ)) (failed wrote : Bool)
     → Serves prompt first w is_long count text room old now a b
     → line_end text ≡ Some place
+    → piece_ends is_long (ended_line (take place text)) ≡ false
     → ServedEnds (piece_served is_long prompt (ended_line (take place text)) w) (Err fault) v b c
     → (fault ≡ tool.Write → wrote ≡ true)
     → LinesServed prompt first (Err fault) old now a c failed wrote
-serves_fault prompt first w v is_long count place fault text room old now a b c failed wrote s at ends cause =
+serves_fault prompt first w v is_long count place fault text room old now a b c failed wrote s at goes ends cause =
     begun_ends prompt first fault given (drop (place + 1) text) old now a c failed wrote
     (subst (Consumes old now) (cut_behind s.given s.cut text place) s.consumed) (by_fault fault ends) cause
   where
@@ -320,7 +410,7 @@ serves_fault prompt first w v is_long count place fault text room old now a b c 
     all : lines_served prompt (lines given) first 0
         ≡ behind (s.done ++ ran.text) (lines_served prompt (lines []) ran.world (count + from_bool ran.failed))
     all = ap (λ x. lines_served prompt (lines x) first 0) (sym (append-nil given))
-        ∙ goes_line prompt first w is_long count place text room old now a b s at []
+        ∙ goes_line prompt first w is_long count place text room old now a b s at goes []
 
     part : AppendsPart b c ran.text → AppendsPart a c (lines_served prompt (lines given) first 0).text
     part p = subst (λ x. AppendsPart a c x.text) (sym all)
@@ -335,7 +425,7 @@ serves_fault prompt first w v is_long count place fault text room old now a b c 
     by_fault (tool.Threads k) p = absurd p
 
 -- what is behind the last line end was answered
-pub serves_end : (prompt : List ℕ) (first w : Shown) (is_long : Bool) (count : ℕ) (rest : List ℕ) (room : ℕ) (r : Result ℕ ToolFault) (old now a b c : Option (List ℕ)) (failed wrote : Bool)
+pub serves_end : (prompt : List ℕ) (first w : Shown) (is_long : Bool) (count : ℕ) (rest : List ℕ) (room : ℕ) (r : Result Heard ToolFault) (old now a b c : Option (List ℕ)) (failed wrote : Bool)
     → Serves prompt first w is_long count rest room old now a b
     → line_end rest ≡ None
     → IsAtEnd now
@@ -370,16 +460,17 @@ serves_end prompt first w is_long count rest room r old now a b c failed wrote s
     by_fault (tool.Line k) p = absurd p
     by_fault (tool.Threads k) p = absurd p
 
-    by_result : (r : Result ℕ ToolFault) → LastEnds last r b c → (r ≡ Err tool.Write → wrote ≡ true)
+    by_result : (r : Result Heard ToolFault) → LastEnds last r b c → (r ≡ Err tool.Write → wrote ≡ true)
         → LinesServed prompt first r old now a c failed wrote
-    by_result (Ok n) p cause = (
+    by_result (Ok h) p cause = (
       given,
       consumed,
-      at_end,
+      inl at_end,
       bound,
       (
         p.0 ∙ sym (ap (λ x. x.failed) all),
-        subst (λ x. Appends a c x.text) (sym all) (Appends-trans a b c s.done last.text s.written p.1),
+        p.1 ∙ sym (ap (λ x. x.over) all),
+        subst (λ x. Appends a c x.text) (sym all) (Appends-trans a b c s.done last.text s.written p.2),
       ),
     )
     by_result (Err fault) p cause =

@@ -1,5 +1,5 @@
 -- What a line does in a shell, and what it prints.
-use Rattle.std.specs.Prelude.{ℕ, ◌+◌, ◌==◌, nat_lt, if◌then◌else◌, Bool, true, false, List, [], ◌∷◌, ◌++◌, length, codes, decimal, Option, Some, None, is_some}
+use Rattle.std.specs.Prelude.{ℕ, ◌+◌, ◌==◌, ◌&&◌, ◌||◌, nat_lt, if◌then◌else◌, Bool, true, false, List, [], ◌∷◌, ◌++◌, length, codes, decimal, Option, Some, None, is_some}
 use Rattle.std.specs.Int.{from_bool}
 use Rattle.lpt_lint.specs.Findings.{why}
 use Rattle.lpt_lint.specs.Texts.{reason_text}
@@ -8,7 +8,8 @@ use Rattle.lpt_lint.specs.declared.reasons.Reason.{Reason}
 use Rattle.lpt_lint.specs.declared.reasons.Reason.TheVariants as reason
 use Rattle.lpt_script.specs.Scripts.{Ran, command_ran}
 use Rattle.lpt_script.specs.LptWords.Grammar.{reading_of}
-use Rattle.lpt_script.specs.LptWords.Words.{lines, words}
+use Rattle.lpt_script.specs.LptWords.Numbers.{is_word}
+use Rattle.lpt_script.specs.LptWords.Words.{is_empty, lines, words}
 use Rattle.lpt_script.specs.LptWords.declared.grammar.Reading.{Reading}
 use Rattle.lpt_script.specs.LptWords.declared.grammar.Reading.TheVariants.{Skipped, Asks, Unreadable}
 use Rattle.lpt_script.specs.LptWorld.Worlds.{Shown}
@@ -78,30 +79,49 @@ line_served prompt line w = prompted prompt (answered w line (reading_of w.confi
 
 -- ---- lines
 
--- what lines leave: their text, and how many of them failed
+-- whether words end a session: `exit` or `quit` alone
+abbrev pub is_exit : List (List ℕ) → Bool
+is_exit [] = false
+is_exit (word ∷ ws) = is_empty ws && (is_word (codes "exit") word || is_word (codes "quit") word)
+
+-- whether a line ends a session; one that is too long isn't looked at
+abbrev pub ends_session : List ℕ → Bool
+ends_session line = if nat_lt 140000 (length line) then false else is_exit (words line)
+
+-- what lines leave: their text, how many of them failed, and whether one of them ended the session
 pub record Session : Type 0 where
   pub text : List ℕ
   pub failed : ℕ
+  pub over : Bool
+
+-- nothing more is printed, and so many lines failed
+abbrev pub left : (failed : ℕ) → (over : Bool) → Session
+left failed over = record { text = []; failed = failed; over = over }
 
 -- the same with this text before its own
 abbrev pub behind : List ℕ → Session → Session
 behind text s = record s { text = text ++ s.text }
 
--- what lines do, from this world on, with so many failed before
+-- what lines do, from this world on, with so many failed before: nothing is done of those behind one that
+-- ends the session
 abbrev pub lines_served : (prompt : List ℕ) → List (List ℕ) → Shown → ℕ → Session
-lines_served prompt [] w failed = record { text = []; failed = failed }
+lines_served prompt [] w failed = left failed false
 lines_served prompt (line ∷ more) w failed =
     let s = line_served prompt line w in
-    behind s.text (lines_served prompt more s.world (failed + from_bool s.failed))
+    if ends_session line then left failed true
+    else behind s.text (lines_served prompt more s.world (failed + from_bool s.failed))
 
 -- what a shell does with the octets that were read: a prompt, and then their lines
 abbrev pub session : (prompt : List ℕ) → Shown → List ℕ → Session
 session prompt w text = behind prompt (lines_served prompt (lines text) w 0)
 
--- what is behind the last prompt: a line end, where there are prompts
-abbrev pub closing : (prompt : List ℕ) → List ℕ
-closing prompt = if length prompt == 0 then [] else 10 ∷ []
+-- what is behind the last prompt: a line end, where there are prompts, and no line ended the session
+abbrev pub closing : (prompt : List ℕ) → (over : Bool) → List ℕ
+closing prompt true = []
+closing prompt false = if length prompt == 0 then [] else 10 ∷ []
 
 -- all that a shell prints
 abbrev pub shell_text : (prompt : List ℕ) → Shown → List ℕ → List ℕ
-shell_text prompt w text = (session prompt w text).text ++ closing prompt
+shell_text prompt w text =
+    let s = session prompt w text in
+    s.text ++ closing prompt s.over

@@ -3,7 +3,7 @@ use Rattle.std.specs.Prelude.{ℕ, ◌==◌, if◌then◌else◌, List, [], ◌�
 use Rattle.lpt_script.specs.LptWords.Numbers.{is_word}
 
 -- the lines, each under its first word
-abbrev pub topics : List (List ℕ × List ℕ)
+unfoldable pub topics : List (List ℕ × List ℕ)
 topics =
     (codes "open", codes "open DIRECTION ID HEX: hands a message to its sender; a message's ID may be SOURCE/ID here and below")
     ∷ (codes "send", codes "send DIRECTION ID K: puts part K of an open message on the link")
@@ -26,6 +26,8 @@ topics =
     ∷ (codes "show", codes "show released, show packet N, show memory ID ADDR LEN, show clear DIRECTION ID, show journal")
     ∷ (codes "show", codes "show link, show receptions, show senders, show jobs, show packets FROM TO: in a shell alone")
     ∷ (codes "help", codes "help, help WORD: the lines, or those that begin with a word: in a shell alone")
+    ∷ (codes "exit", codes "exit, quit: ends the session, as the end of the input (Ctrl-D) does: in a shell alone")
+    ∷ (codes "quit", codes "quit: the same as exit")
     ∷ []
 
 -- a line is told on a line of its own

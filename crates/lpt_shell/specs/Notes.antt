@@ -30,7 +30,7 @@ sentence parts fault.StillOpen = codes "the message's sender is open; finish clo
 sentence parts fault.ClockEnd = codes "the clock is at its greatest value"
 sentence parts fault.NoSuchSeat = codes "there is no such seat"
 sentence parts fault.Memory = codes "memory is wanting"
-sentence parts fault.NotYours = codes "another seat has it"
+sentence parts fault.NotYours = codes "what was read isn't what the lane or the worker has, or was read for another receiver"
 sentence parts fault.PartRequest = codes "a telecommand of service 13, subtype 9 to 11, carries a part: open and send put it"
 
 -- the line that tells a fault

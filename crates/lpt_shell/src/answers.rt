@@ -1,24 +1,49 @@
 //! What a line does in a shell.
 
-ghost use Rattle.std.specs.Prelude.{◌≡◌, ◌≢◌, ℕ, List, IfOk, IsErrOf, Err, true, option_map, string_bytes};
+ghost use Rattle.std.specs.Prelude.{◌≡◌, ◌≢◌, ◌&&◌, ◌||◌, ℕ, List, IfOk, IsErrOf, Err, true, option_map, string_bytes};
 ghost use Rattle.lpt_script.specs.Ends.{TextEnds};
 ghost use Rattle.lpt_script.specs.Scripts.{command_ran};
 ghost use Rattle.lpt_script.specs.LptWords.Grammar.{reading_of};
-ghost use Rattle.lpt_shell.specs.Answers.{answered, finding_line, finding_text, long_answered, noted, own_line, own_served, why_words};
-ghost use Rattle.lpt_shell.specs.EndsInside.{ServedEnds, piece_answered, piece_served};
+ghost use Rattle.lpt_script.specs.LptWords.Words.{words};
+ghost use Rattle.lpt_shell.specs.Answers.{answered, ends_session, finding_line, finding_text, is_exit, long_answered, noted, own_line, own_served, why_words};
+ghost use Rattle.lpt_shell.specs.EndsInside.{ServedEnds, piece_answered, piece_ends, piece_served};
 ghost use Rattle.lpt_shell.specs.Notes.{parts_named};
 ghost use Rattle.lpt_lint.specs.Findings.{why};
 
 use crate::notes::{fault_line, parts_named};
-use crate::views::own_line;
+use crate::views::{is_blank, own_line};
 use lpt_lint::{Finding, Reason, explain, reason_text};
 use lpt_script::{
-    Command, Reading, Sink, ToolFault, World, put, read_line, run_command, write_out,
+    Command, Reading, Sink, ToolFault, World, put, read_line, run_command, split_word, write_out,
 };
 use std::alloc::{AllocError, Global};
 
 /// The most octets of a line, with the carriage return that its line feed drops.
 pub(crate) const LONGEST_LINE: usize = 140_000;
+
+// Whether a line ends the session, of which more than a line may have was dropped already, or not.
+pub(crate) fn piece_ends(is_long: bool, line: &[u8]) -> bool
+    ensures { result ≡ piece_ends is_long line.now }
+{
+    !is_long && ends_session(line)
+}
+
+// Whether a line ends the session; one that is too long isn't looked at.
+fn ends_session(line: &[u8]) -> bool
+    ensures { result ≡ ends_session line.now }
+{
+    line.len() <= LONGEST_LINE && is_exit(line)
+}
+
+// Whether a line's words end the session: `exit` or `quit` alone.
+fn is_exit(line: &[u8]) -> bool
+    ensures { result ≡ is_exit (words line.now) }
+{
+    let Some((word, rest)) = split_word(line) else {
+        return false;
+    };
+    is_blank(rest) && (word == b"exit".as_slice() || word == b"quit".as_slice())
+}
 
 // Answers a line, with the prompt for the next one behind it, and says whether it was unreadable or
 // an event of it refused. A line that is too long is answered by that alone.

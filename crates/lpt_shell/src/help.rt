@@ -2,12 +2,12 @@
 
 ghost use Rattle.std.specs.Prelude.{◌≡◌, ◌++◌, if◌then◌else◌, [], flat_map, map, take, IfOk, string_bytes};
 ghost use Rattle.lpt_script.specs.LptWords.Numbers.{is_word};
-ghost use Rattle.lpt_shell.specs.Help.{help_text, lines_on, topic_line, topic_text};
+ghost use Rattle.lpt_shell.specs.Help.{help_text, lines_on, topic_line, topic_text, topics};
 
 use std::alloc::{AllocError, Global};
 
 /// The lines, each under its first word.
-static TOPICS: [(&str, &str); 21] = [
+static TOPICS: [(&str, &str); 23] = [
     (
         "open",
         "open DIRECTION ID HEX: hands a message to its sender; a message's ID may be SOURCE/ID here and below",
@@ -77,20 +77,33 @@ static TOPICS: [(&str, &str); 21] = [
         "help",
         "help, help WORD: the lines, or those that begin with a word: in a shell alone",
     ),
+    (
+        "exit",
+        "exit, quit: ends the session, as the end of the input (Ctrl-D) does: in a shell alone",
+    ),
+    ("quit", "quit: the same as exit"),
 ];
+
+// The lines, as they are defined.
+#[tactic(auto, unfolding(crate::specs::Help::topics))]
+fn all_rows() -> &'static [(&'static str, &'static str)]
+    ensures { map (λ row. (row.0.now, row.1.now)) result.now ≡ topics }
+{
+    &TOPICS
+}
 
 // What is said of all lines.
 pub(crate) fn all_topics(alloc: Global) -> Result<String, AllocError>
     ensures { IfOk result (λ t. string_bytes t ≡ help_text) }
 {
-    topic_lines(alloc, &TOPICS)
+    topic_lines(alloc, all_rows())
 }
 
 // What is said of a word.
 pub(crate) fn topic(alloc: Global, word: &[u8]) -> Result<String, AllocError>
     ensures { IfOk result (λ t. string_bytes t ≡ topic_text word.now) }
 {
-    let lines = lines_on(alloc, word, &TOPICS)?;
+    let lines = lines_on(alloc, word, all_rows())?;
     if lines.is_empty() {
         return String::from_str(alloc, "there is no such command\n");
     }

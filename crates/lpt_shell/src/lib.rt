@@ -15,7 +15,7 @@ mod rows;
 mod shell;
 mod views;
 
-pub use lpt_lint::lint;
+pub use lpt_lint::{explain, finding_text, lint};
 pub use lpt_script::{
     Command, Config, ConfigFault, End, Entry, Memories, Octets, Reading, ScriptEnd, Sink, Source,
     StepFault, ToolFault, World, read_line, read_text, run_command, split_line,

@@ -62,7 +62,9 @@ fn sentence(fault: StepFault) -> &'static str
         StepFault::ClockEnd => "the clock is at its greatest value",
         StepFault::NoSuchSeat => "there is no such seat",
         StepFault::Memory => "memory is wanting",
-        StepFault::NotYours => "another seat has it",
+        StepFault::NotYours => {
+            "what was read isn't what the lane or the worker has, or was read for another receiver"
+        }
         StepFault::PartRequest => {
             "a telecommand of service 13, subtype 9 to 11, carries a part: open and send put it"
         }

@@ -10,22 +10,32 @@ ghost use Rattle.lpt_shell.specs.EndsInside.{LastEnds, LinesServed, last_served}
 ghost use Rattle.lpt_script.specs.LptWorld.LptEvents.Configs.{config_fault};
 ghost use Rattle.lpt_script.specs.LptWorld.Worlds.{new_world};
 
-use crate::answers::{LONGEST_LINE, serve_line};
+use crate::answers::{LONGEST_LINE, piece_ends, serve_line};
 use lpt_script::{
     Config, ConfigFault, LineBuffer, Memories, Sink, Source, ToolFault, World, ended, flush_out,
     write_out,
 };
 use std::alloc::Global;
 
+// What is known of a session once no more of it is answered.
+#[derive(Clone, Copy)]
+pub(crate) struct Heard {
+    // How many lines failed.
+    failed: u64,
+    // Whether a line ended it.
+    is_over: bool,
+}
+
 /// Answers lines from a reader on a new world of this configuration and these memories, and counts
 /// those that were unreadable or asked for an event that was refused.
 ///
 /// A line that a script reads does and prints what it does there, and where an event of it was refused,
 /// a further line says why. `help`, `help WORD`, `show link`, `show receptions`, `show senders`,
-/// `show jobs` and `show packets FROM TO` are a shell's own. Of any other line it is said where and why
-/// it is unreadable, and the next one is answered. The prompt is written before each line is waited
-/// for; where it isn't empty, a line end is written behind the last. Before more is read, `out` has
-/// passed on what was written.
+/// `show jobs` and `show packets FROM TO` are a shell's own; `exit` and `quit` end the session: they
+/// print nothing, and what is behind them isn't answered. Of any other line it is said where and why it
+/// is unreadable, and the next one is answered. The prompt is written before each line is waited for;
+/// where it isn't empty and the text ends, a line end is written behind the last. Before more is read,
+/// `out` has passed on what was written.
 ///
 /// Errors: `Config` for a configuration out of its ranges, before anything is read or written; `Read`
 /// where a read failed or more than 16,777,216 octets came, after the lines before that; `Write` where a
@@ -77,25 +87,25 @@ fn serve<S: Source, K: Sink>(
         Ok(()) => {}
         Err(fault) => return Err(fault),
     }
-    let failed = match serve_lines(alloc, world, prompt, reader, out) {
-        Ok(failed) => failed,
+    let heard = match serve_lines(alloc, world, prompt, reader, out) {
+        Ok(heard) => heard,
         Err(fault) => return Err(fault),
     };
-    match close(prompt, out) {
-        Ok(()) => Ok(failed),
+    match close(prompt, heard.is_over, out) {
+        Ok(()) => Ok(heard.failed),
         Err(fault) => Err(fault),
     }
 }
 
-// Ends the line of the last prompt, and has all passed on.
-fn close<K: Sink>(prompt: &[u8], out: &mut K) -> Result<(), ToolFault>
-    ensures ok { OnOk result (Appends (K.contents out.old) (K.contents out.new) (closing prompt.now)) }
+// Ends the line of the last prompt, unless the session is over, and has all passed on.
+fn close<K: Sink>(prompt: &[u8], is_over: bool, out: &mut K) -> Result<(), ToolFault>
+    ensures ok { OnOk result (Appends (K.contents out.old) (K.contents out.new) (closing prompt.now is_over)) }
     ensures passed { OnOk result (K.passed out.new ≡ K.contents out.new) }
     ensures told { OnOk result (K.failed out.new ≡ K.failed out.old) }
     ensures fault { IfErr result (λ e. (e ≡ ToolFault.Write) × (K.failed out.new ≡ true)) }
-    ensures part { IfErr result (λ _. AppendsPart (K.contents out.old) (K.contents out.new) (closing prompt.now)) }
+    ensures part { IfErr result (λ _. AppendsPart (K.contents out.old) (K.contents out.new) (closing prompt.now is_over)) }
 {
-    if !prompt.is_empty() {
+    if !is_over && !prompt.is_empty() {
         match write_out(out, b"\n") {
             Ok(()) => {}
             Err(fault) => return Err(fault),
@@ -104,14 +114,14 @@ fn close<K: Sink>(prompt: &[u8], out: &mut K) -> Result<(), ToolFault>
     flush_out(out)
 }
 
-// Answers the lines that a reader gives, and counts those that failed.
+// Answers the lines that a reader gives, up to one that ends the session, and counts those that failed.
 fn serve_lines<S: Source, K: Sink>(
     alloc: Global,
     world: &mut World,
     prompt: &[u8],
     reader: &mut S,
     out: &mut K,
-) -> Result<u64, ToolFault>
+) -> Result<Heard, ToolFault>
     ensures ends { LinesServed prompt.now world.old result (S.remaining reader.old) (S.remaining reader.new)
         (K.contents out.old) (K.contents out.new) (S.failed reader.new) (K.failed out.new) }
     ensures told { result ≢ Err ToolFault.Write → K.failed out.new ≡ K.failed out.old }
@@ -136,6 +146,12 @@ fn serve_lines<S: Source, K: Sink>(
             Err(fault) => return Err(fault),
         };
         let line = ended(&lines.held()[..len]);
+        if piece_ends(is_long, line) {
+            return Ok(Heard {
+                failed,
+                is_over: true,
+            });
+        }
         match serve_line(alloc, world, prompt, line, is_long, out) {
             Ok(has_failed) => failed += u64::from(has_failed),
             Err(fault) => return Err(fault),
@@ -155,17 +171,29 @@ fn serve_last<K: Sink>(
     is_long: bool,
     failed: u64,
     out: &mut K,
-) -> Result<u64, ToolFault>
+) -> Result<Heard, ToolFault>
     requires fits { failed + 1 < 2 ^ 64 }
     ensures ends { LastEnds (last_served is_long prompt.now last.now world.old failed) result (K.contents out.old) (K.contents out.new) }
     ensures cause { IsErrOf result ToolFault.Write → K.failed out.new ≡ true }
     ensures told { result ≢ Err ToolFault.Write → K.failed out.new ≡ K.failed out.old }
 {
     if last.is_empty() && !is_long {
-        return Ok(failed);
+        return Ok(Heard {
+            failed,
+            is_over: false,
+        });
+    }
+    if piece_ends(is_long, last) {
+        return Ok(Heard {
+            failed,
+            is_over: true,
+        });
     }
     match serve_line(alloc, world, prompt, last, is_long, out) {
-        Ok(has_failed) => Ok(failed + u64::from(has_failed)),
+        Ok(has_failed) => Ok(Heard {
+            failed: failed + u64::from(has_failed),
+            is_over: false,
+        }),
         Err(fault) => Err(fault),
     }
 }

@@ -76,7 +76,7 @@ fn help_line(alloc: Global, line: &[u8]) -> Result<Option<String>, AllocError>
 }
 
 // Whether a line has no word.
-fn is_blank(line: &[u8]) -> bool
+pub(crate) fn is_blank(line: &[u8]) -> bool
     ensures { result ≡ is_empty (words line.now) }
 {
     split_word(line).is_none()

@@ -1,18 +1,17 @@
 -- Octets of a stream that are read behind those that are held.
-use Rattle.std.proofs.Common.{◌≡◌, ◌⊎◌, ◌∙◌, ap, sym, subst, inl, inr, ℕ, ◌+◌, ◌-◌, ◌<◌, ◌≤◌, ◌==◌, min, Bool, true, false, if◌then◌else◌, refl, List, [], ◌++◌, length, take, Option, Err, arith, append_assoc, append-nil, length-append}
-use Rattle.std.specs.Io.KnownBytes.{IsAtEnd}
+use Rattle.std.proofs.Common.{◌≡◌, ◌⊎◌, ◌∙◌, ap, sym, subst, inl, inr, ℕ, ◌+◌, ◌-◌, ◌<◌, ◌≤◌, ◌==◌, min, Bool, true, false, if◌then◌else◌, refl, List, [], ◌∷◌, ◌++◌, length, take, Option, Err, arith, append_assoc, append-nil, length-append, take_all}
+use Rattle.std.specs.Io.KnownBytes.{Consumes, IsAtEnd}
 use Rattle.std.proofs.KnownBytes.{Consumes-nil, Consumes-trans}
 use Rattle.std.proofs.lemmas.List.{length-take, take_min}
 use Rattle.lpt_packet.specs.Numbers.{word_at}
 use Rattle.lpt_text.specs.declared.fault.ToolFault.{ToolFault}
 use Rattle.lpt_text.specs.declared.fault.ToolFault.TheVariants as tool
 use Rattle.lpt_stream.specs.declared.buffer.PacketBuffer.{PacketBuffer}
-use Rattle.lpt_stream.specs.declared.found.Found.{Found}
 use Rattle.lpt_stream.specs.declared.piece_kind.PieceKind.{PieceKind}
 use Rattle.lpt_stream.specs.declared.piece_kind.PieceKind.TheVariants.{Whole}
-use Rattle.lpt_stream.specs.Buffers.{held, is_in_step, is_ended, IsInFront, Adds, Goes, Fills, FindsPiece}
-use Rattle.lpt_stream.specs.Pieces.{lookahead, begins, kind_in, size_in}
-use Rattle.lpt_stream.proofs.PieceLemmas.{packet_stays, front_stays, near_stays}
+use Rattle.lpt_stream.specs.Buffers.{held, is_in_step, is_ended, found_piece, IsInFront, IsUnsettled, Adds, Goes, IsAsked, Fills, FindsPiece, FindsPassing}
+use Rattle.lpt_stream.specs.Pieces.{lookahead, begins, is_framed, kind_in, size_in, piece_at, waits}
+use Rattle.lpt_stream.proofs.PieceLemmas.{packet_stays, piece_stays, last_stays, judged_stays, unframed_begins}
 
 -- nothing was read
 pub goes-nothing : (b : PacketBuffer) (a : Option (List ℕ)) → Goes b b a a []
@@ -80,6 +79,32 @@ nearer mid new b c more more_comes few q (inr h) =
     subst (λ e. (if e then 0 else 131085 - length (held new)) < (if is_ended mid then 0 else 131085 - length (held mid))) (sym h.0)
     (subst (λ e. 0 < (if e then 0 else 131085 - length (held mid))) (sym more_comes) (omega (arith, few)))
 
+-- it was asked for, since what was held waited
+pub asked-more : (old mid : PacketBuffer) (a b : Option (List ℕ)) (read more : List ℕ)
+    → Goes old mid a b read
+    → IsUnsettled mid
+    → length more ≤ 65536
+    → IsAsked (is_in_step old) (held old) (read ++ more)
+asked-more old mid a b read more goes h size = inr (
+  read,
+  more,
+  refl,
+  sym (λ i. waits (goes.added.step i) (goes.added.behind i)) ∙ h.waits,
+  subst (λ x. length x < lookahead) goes.added.behind h.few,
+  size,
+)
+
+-- what is judged stays so
+pub judged-more : (mid new : PacketBuffer) (b c : Option (List ℕ)) (more : List ℕ) (framed : Bool)
+    → Adds mid new b c more
+    → IsUnsettled mid
+    → framed ≡ is_framed (held mid)
+    → framed ≡ true
+    → begins (is_in_step new) (take lookahead (held new)) ≡ false
+judged-more mid new b c more framed added h is e =
+    (λ i. begins (added.step i) (take lookahead (added.behind i)))
+    ∙ judged_stays (is_in_step mid) (held mid) more (sym is ∙ e) h.none h.few
+
 -- a read that failed, or for which memory ran out, ends the search
 pub fill-fault : (fault : ToolFault) (old mid new : PacketBuffer) (a b c : Option (List ℕ))
     (read : List ℕ) (had told failed : Bool)
@@ -96,6 +121,17 @@ fill-fault tool.Config old mid new a b c read had told failed p same q = q
 fill-fault (tool.Line n) old mid new a b c read had told failed p same q = q
 fill-fault (tool.Threads n) old mid new a b c read had told failed p same q = q
 
+-- and a search that passes on
+pub passing-fault : (fault : ToolFault) (old new : PacketBuffer) (a b : Option (List ℕ)) (had failed : Bool)
+    → FindsPiece (Err fault) old new a b had failed
+    → FindsPassing (Err fault) old new a b had failed
+passing-fault tool.Read old new a b had failed h = h
+passing-fault tool.Memory old new a b had failed h = h
+passing-fault tool.Write old new a b had failed h = absurd h
+passing-fault tool.Config old new a b had failed h = h
+passing-fault (tool.Line n) old new a b had failed h = h
+passing-fault (tool.Threads n) old new a b had failed h = h
+
 -- a search ends by a read that failed, or when out of memory
 pub find-fault : (fault : ToolFault) (old new : PacketBuffer) (a b : Option (List ℕ)) (had failed : Bool)
     → FindsPiece (Err fault) old new a b had failed
@@ -106,6 +142,29 @@ find-fault tool.Write old new a b had failed h = absurd h
 find-fault tool.Config old new a b had failed h = absurd h
 find-fault (tool.Line n) old new a b had failed h = absurd h
 find-fault (tool.Threads n) old new a b had failed h = absurd h
+
+-- one that passes on ends so as well, or by the sink
+pub passing-ends : (fault : ToolFault) (old new : PacketBuffer) (a b : Option (List ℕ)) (had failed : Bool)
+    → FindsPassing (Err fault) old new a b had failed
+    → ((fault ≡ tool.Read) × (failed ≡ true))
+    ⊎ (((fault ≡ tool.Write) ⊎ (fault ≡ tool.Memory)) × (failed ≡ had))
+passing-ends tool.Read old new a b had failed h = inl (refl, h.2)
+passing-ends tool.Memory old new a b had failed h = inr (inr refl, h.2)
+passing-ends tool.Write old new a b had failed h = inr (inl refl, h.2)
+passing-ends tool.Config old new a b had failed h = absurd h
+passing-ends (tool.Line n) old new a b had failed h = absurd h
+passing-ends (tool.Threads n) old new a b had failed h = absurd h
+
+-- what it has read then
+pub passing-lost : (fault : ToolFault) (old new : PacketBuffer) (a b : Option (List ℕ)) (had failed : Bool)
+    → FindsPassing (Err fault) old new a b had failed
+    → (lost : List ℕ) × Consumes a b lost
+passing-lost tool.Read old new a b had failed h = (h.0, h.1)
+passing-lost tool.Memory old new a b had failed h = (h.0, h.1)
+passing-lost tool.Write old new a b had failed h = (h.0, h.1.added.consumed)
+passing-lost tool.Config old new a b had failed h = absurd h
+passing-lost (tool.Line n) old new a b had failed h = absurd h
+passing-lost (tool.Threads n) old new a b had failed h = absurd h
 
 -- ---- what is in front
 
@@ -139,35 +198,79 @@ packet_settled p near n is some least taken size within =
           (size ∙ ap (λ x. 7 + word_at x 4) is) (subst (λ x. n ≤ length x) is within) fits.0;
     }
 
-all_near : (b more : List ℕ) (ended : Bool)
-    → ((ended ≡ false) × (lookahead ≤ length b)) ⊎ (ended ≡ true)
-    → (ended ≡ true → more ≡ [])
-    → (more ≡ []) ⊎ (lookahead ≤ length b)
-all_near b more ended (inl h) e = inr h.1
-all_near b more ended (inr h) e = inl (e h)
-
--- what is none
+-- what doesn't wait, or is the last
 pub other_settled : (p : PacketBuffer) (near : List ℕ) (k : PieceKind) (n : ℕ)
     → near ≡ take lookahead (held p)
     → 0 < length (held p)
     → 0 < n
-    → ((is_ended p ≡ false) × (lookahead ≤ length (held p))) ⊎ (is_ended p ≡ true)
+    → (waits (is_in_step p) near ≡ false) ⊎ (is_ended p ≡ true)
     → k ≡ kind_in (is_in_step p) near
     → n ≡ size_in k near
     → n ≤ length near
     → IsInFront p (record { kind = k; len = n })
-other_settled p near k n is some least all kind size within =
+other_settled p near k n is some least known kind size within =
     let fits = near_size (held p) near n is within in
+    let kind_is = kind ∙ ap (kind_in (is_in_step p)) is in
+    let size_is = size ∙ ap (size_in k) is in
     record {
       some = some;
       least = least;
       most = fits.1;
       within = fits.0;
-      is = λ more e.
-          front_stays (is_in_step p) (held p) more k n
-          (near_stays (held p) more (all_near (held p) more (is_ended p) all e))
-          (kind ∙ ap (kind_in (is_in_step p)) is) (size ∙ ap (size_in k) is) fits.0;
+      is = λ more e. go more e kind_is size_is fits.0 known;
+    } where
+      go : (more : List ℕ)
+          → (is_ended p ≡ true → more ≡ [])
+          → k ≡ kind_in (is_in_step p) (take lookahead (held p))
+          → n ≡ size_in k (take lookahead (held p))
+          → n ≤ length (held p)
+          → (waits (is_in_step p) near ≡ false) ⊎ (is_ended p ≡ true)
+          → piece_at (is_in_step p) (held p ++ more) ≡ found_piece p (record { kind = k; len = n })
+      go more e kind_is size_is fits (inl h) =
+          piece_stays (is_in_step p) (held p) more k n (sym (ap (waits (is_in_step p)) is) ∙ h) kind_is size_is fits
+      go more e kind_is size_is fits (inr h) =
+          last_stays (is_in_step p) (held p) more k n (e h) kind_is size_is fits
+
+-- where fewer are held than are looked at, those are all
+pub all_held : (b near : List ℕ) → near ≡ take lookahead b → length near < 131084 → near ≡ b
+all_held b near is few =
+    let size : length near ≡ min lookahead (length b) = ap length is ∙ length-take lookahead b in
+    is ∙ take_all lookahead b (omega (arith, size, few))
+
+-- what is looked at waits
+pub unsettled : (p : PacketBuffer) (near : List ℕ)
+    → near ≡ take lookahead (held p)
+    → waits (is_in_step p) near ≡ true
+    → length near < 131084
+    → begins (is_in_step p) near ≡ false
+    → is_ended p ≡ false
+    → IsUnsettled p
+unsettled p near is waiting few none more_comes =
+    let all = all_held (held p) near is few in
+    record {
+      waits = sym (ap (waits (is_in_step p)) all) ∙ waiting;
+      few = subst (λ x. length x < lookahead) all few;
+      none = sym (ap (begins (is_in_step p)) all) ∙ none;
+      last = λ e. absurd (both (is_ended p) e more_comes);
     }
+
+-- nothing is held
+pub nothing_held : (p : PacketBuffer) (o : List ℕ) → o ≡ held p → (length o == 0) ≡ true → IsUnsettled p
+nothing_held p o is none =
+    let empty : [] ≡ held p = sym (no_octets o none) ∙ is in
+    record {
+      waits = sym (ap (waits (is_in_step p)) empty) ∙ at_none (is_in_step p);
+      few = subst (λ x. length x < lookahead) empty (omega arith);
+      none = sym (ap (begins (is_in_step p)) empty) ∙ unframed_begins (is_in_step p) [] refl;
+      last = λ e. sym empty;
+    } where
+      no_octets : (o : List ℕ) → (length o == 0) ≡ true → o ≡ []
+      no_octets [] h = refl
+      no_octets (x ∷ o) h = grind (arith, h)
+
+      at_none : (s : Bool) → waits s [] ≡ true
+      at_none true = refl
+      at_none false = refl
 
 -- some octets are held
 pub some_held : (b o : List ℕ) → o ≡ b → false ≡ (length o == 0) → 0 < length b
@@ -179,11 +282,3 @@ pub near_held : (b o : List ℕ) (n : ℕ)
     → n ≡ min lookahead (length o)
     → take n o ≡ take lookahead b
 near_held b o n is size = ap (λ k. take k o) size ∙ take_min lookahead o ∙ ap (take lookahead) is
-
--- all that is looked at has come
-pub looked_at : (b o : List ℕ) (ended : Bool)
-    → o ≡ b
-    → ((ended ≡ false) × (131084 ≤ length o)) ⊎ (ended ≡ true)
-    → ((ended ≡ false) × (lookahead ≤ length b)) ⊎ (ended ≡ true)
-looked_at b o ended is (inl h) = inl (h.0, subst (λ x. lookahead ≤ length x) is h.1)
-looked_at b o ended is (inr h) = inr h

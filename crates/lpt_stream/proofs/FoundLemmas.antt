@@ -1,12 +1,10 @@
 -- The packets of a stream are found in it.
-use Rattle.std.proofs.Common.{◌≡◌, ◌∙◌, ap, sym, subst, refl, inl, inr, ℕ, ◌+◌, ◌≤◌, ◌<◌, Bool, true, List, [], ◌∷◌, ◌++◌, length, take, drop, Result, Ok, arith, take_all, length-append}
-use Rattle.std.proofs.Math.Seq.{take-append_seam, drop-append_seam}
-use Rattle.lpt_packet.specs.declared.fault.PacketFault.{PacketFault}
+use Rattle.std.proofs.Common.{◌≡◌, ◌∙◌, ap, sym, subst, refl, inl, inr, ℕ, ◌+◌, ◌≤◌, ◌<◌, true, List, [], ◌∷◌, ◌++◌, length, take, arith, take_all, length-append}
+use Rattle.std.proofs.Math.Seq.{drop-append_seam}
 use Rattle.lpt_packet.specs.Numbers.{word_at}
-use Rattle.lpt_packet.specs.Packets.{Fields, Sight, IdlePacket, APacket, IsPacket, IsSight, verdict}
+use Rattle.lpt_packet.specs.Packets.{IdlePacket, APacket, verdict}
 use Rattle.lpt_packet.proofs.Codec.{length-spelling}
 use Rattle.lpt_packet.proofs.Found.{again}
-use Rattle.lpt_stream.specs.declared.piece_kind.PieceKind.TheVariants.{Whole}
 use Rattle.lpt_stream.specs.Pieces.{Piece, lookahead, frame, is_taken, begins, piece_at, Leads, Finds, packets_of}
 use Rattle.lpt_stream.specs.Streams.{IsFramed, IsPacketOrIdle, IsStream, all_octets}
 use Rattle.lpt_stream.proofs.PieceLemmas.{packet_stays, whole}

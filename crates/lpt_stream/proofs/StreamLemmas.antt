@@ -1,12 +1,12 @@
 -- Packets are cut out by their lengths.
-use Rattle.std.proofs.Common.{◌≡◌, ◌∙◌, ap, sym, refl, inl, inr, ℕ, ◌+◌, ◌*◌, ◌≤◌, nat_lt, true, false, if◌then◌else◌, List, [], ◌∷◌, ◌++◌, length, Option, Some, None, arith, append-nil, length-append}
-use Rattle.std.proofs.lemmas.List.{append_assoc, get_or_append_left}
+use Rattle.std.proofs.Common.{◌≡◌, ◌∙◌, ap, sym, ℕ, ◌+◌, ◌*◌, ◌≤◌, nat_lt, false, if◌then◌else◌, List, ◌++◌, length, Some, None, arith, length-append}
+use Rattle.std.proofs.lemmas.List.{get_or_append_left}
 use Rattle.std.proofs.Math.Seq.{take-append_seam, drop-append_seam}
 use Rattle.lpt_packet.specs.Numbers.{word_at}
 use Rattle.lpt_packet.specs.Packets.{Fields, IsPacket, IsIdle}
 use Rattle.lpt_packet.proofs.Codec.{length-spelling, word_at-4}
 use Rattle.lpt_packet.proofs.Readings.{lt_false}
-use Rattle.lpt_stream.specs.Streams.{wanted, IsUnfinished, cut_at, front_of, IsFramed}
+use Rattle.lpt_stream.specs.Streams.{wanted, cut_at, front_of, IsFramed}
 
 -- ---- the front
 

@@ -5,7 +5,7 @@ use Rattle.lpt_text.specs.declared.fault.ToolFault.{ToolFault}
 use Rattle.lpt_text.specs.declared.fault.ToolFault.TheVariants as tool
 use Rattle.lpt_stream.specs.declared.buffer.PacketBuffer.{PacketBuffer}
 use Rattle.lpt_stream.specs.declared.found.Found.{Found}
-use Rattle.lpt_stream.specs.Pieces.{Piece, lookahead, piece_at}
+use Rattle.lpt_stream.specs.Pieces.{Piece, begins, lookahead, piece_at, waits}
 
 -- ---- what is held
 
@@ -34,6 +34,13 @@ pub record IsInFront (b : PacketBuffer) (f : Found) : Type 0 where
   pub is : (more : List ℕ) → (is_ended b ≡ true → more ≡ [])
       → piece_at (is_in_step b) (held b ++ more) ≡ found_piece b f
 
+-- nothing can be said of it yet: it depends on octets that may still come
+pub record IsUnsettled (b : PacketBuffer) : Type 0 where
+  pub waits : waits (is_in_step b) (held b) ≡ true
+  pub few : length (held b) < lookahead
+  pub none : begins (is_in_step b) (held b) ≡ false
+  pub last : is_ended b ≡ true → held b ≡ []
+
 -- ---- reads
 
 -- octets were read, and are held behind the rest
@@ -48,7 +55,7 @@ abbrev pub Fills :
     Result Unit ToolFault → (old new : PacketBuffer) → (before after : Option (List ℕ))
     → (had failed : Bool) → Type 0
 Fills (Ok _) old new before after had failed =
-    (read : List ℕ) × Adds old new before after read × (failed ≡ had)
+    (read : List ℕ) × Adds old new before after read × (failed ≡ had) × (length read ≤ 65536)
     × (((is_ended new ≡ false) × (0 < length read)) ⊎ ((is_ended new ≡ true) × IsAtEnd after))
 Fills (Err tool.Read) old new before after had failed =
     Adds old new before after [] × (failed ≡ true)
@@ -62,6 +69,14 @@ pub record Goes (old new : PacketBuffer) (before after : Option (List ℕ)) (rea
   pub stays : is_ended old ≡ true → (is_ended new ≡ true) × (read ≡ [])
   pub at_end : (is_ended old ≡ true → IsAtEnd before) → is_ended new ≡ true → IsAtEnd after
 
+-- the last octets were asked for while those that were held before them left open what is in front,
+-- and were fewer than those of two packets
+abbrev pub IsAsked : (in_step : Bool) → (held read : List ℕ) → Type 0
+IsAsked s held read =
+    (read ≡ [])
+    ⊎ ((most : List ℕ) × (last : List ℕ) × (read ≡ most ++ last) × (waits s (held ++ most) ≡ true)
+    × (length (held ++ most) < lookahead) × (length last ≤ 65536))
+
 -- what a search for a piece gives: the one in front; or that none is left at the end of the stream;
 -- or that a read failed
 abbrev pub FindsPiece :
@@ -69,6 +84,7 @@ abbrev pub FindsPiece :
     → (had failed : Bool) → Type 0
 FindsPiece (Ok (Some f)) old new before after had failed =
     (read : List ℕ) × Goes old new before after read × IsInFront new f × (failed ≡ had)
+    × IsAsked (is_in_step old) (held old) read
 FindsPiece (Ok None) old new before after had failed =
     (read : List ℕ) × Goes old new before after read × (held new ≡ []) × (is_ended new ≡ true)
     × (failed ≡ had)
@@ -77,3 +93,18 @@ FindsPiece (Err tool.Read) old new before after had failed =
 FindsPiece (Err tool.Memory) old new before after had failed =
     (lost : List ℕ) × Consumes before after lost × (failed ≡ had)
 FindsPiece (Err _) old new before after had failed = ⊥
+
+-- what such a search gives where a sink passes on what it has kept back before each read: the same;
+-- or that the sink failed, with all that was read held
+abbrev pub FindsPassing :
+    Result (Option Found) ToolFault → (old new : PacketBuffer) → (before after : Option (List ℕ))
+    → (had failed : Bool) → Type 0
+FindsPassing (Ok found) old new before after had failed =
+    FindsPiece (Ok found) old new before after had failed
+FindsPassing (Err tool.Read) old new before after had failed =
+    FindsPiece (Err tool.Read) old new before after had failed
+FindsPassing (Err tool.Write) old new before after had failed =
+    (read : List ℕ) × Goes old new before after read × (failed ≡ had)
+FindsPassing (Err tool.Memory) old new before after had failed =
+    FindsPiece (Err tool.Memory) old new before after had failed
+FindsPassing (Err _) old new before after had failed = ⊥

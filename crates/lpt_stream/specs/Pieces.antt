@@ -1,5 +1,5 @@
 -- How a stream is cut into pieces, where not all of its octets are packets.
-use Rattle.std.specs.Prelude.{◌≡◌, ℕ, ◌+◌, ◌<◌, ◌==◌, ◌&&◌, ◌||◌, nat_le, Bool, true, false, if◌then◌else◌, List, [], ◌∷◌, ◌++◌, length, take, drop, Result, Ok, Err}
+use Rattle.std.specs.Prelude.{◌≡◌, ℕ, ◌+◌, ◌<◌, ◌==◌, ◌&&◌, ◌||◌, not, ◌/◌, ◌%◌, nat_lt, nat_le, Bool, true, false, if◌then◌else◌, List, [], ◌∷◌, length, take, drop, Result, Ok, Err}
 use Rattle.lpt_packet.specs.declared.fault.PacketFault.{PacketFault}
 use Rattle.lpt_packet.specs.Numbers.{word_at}
 use Rattle.lpt_packet.specs.Packets.{Sight, IdlePacket, APacket, verdict}
@@ -31,10 +31,13 @@ is_taken s (Err e) = false
 abbrev pub begins : (in_step : Bool) → List ℕ → Bool
 begins s b = is_taken s (verdict (frame b))
 
+-- whether as many octets have come as the header at the front says
+abbrev pub is_framed : List ℕ → Bool
+is_framed b = nat_le (7 + word_at b 4) (length b)
+
 -- whether what begins at the front is as long as its header says, with a packet behind it, or nothing
 abbrev pub is_passed : List ℕ → Bool
-is_passed b =
-    nat_le (7 + word_at b 4) (length b) && ((length (behind b) == 0) || begins false (behind b))
+is_passed b = is_framed b && ((length (behind b) == 0) || begins false (behind b))
 
 -- what stands at the front: a packet; or in step as many octets as a header says; or one octet
 abbrev pub kind_in : (in_step : Bool) → List ℕ → PieceKind
@@ -45,6 +48,38 @@ abbrev pub size_in : PieceKind → List ℕ → ℕ
 size_in Whole b = 7 + word_at b 4
 size_in Damaged b = 7 + word_at b 4
 size_in Stray b = 1
+
+-- ---- what may still come
+
+-- whether the first word of a header is right, as far as it has come: version 0, a secondary header,
+-- and no idle packet's APID
+abbrev pub first_fits : List ℕ → Bool
+first_fits b =
+    (word_at b 0 / 8192 == 0)
+    && (nat_lt (length b) 2 || ((word_at b 0 / 2048 % 2 == 1) && not (word_at b 0 % 2048 == 2047)))
+
+-- whether its second word is, or hasn't come: unsegmented
+abbrev pub flags_fit : List ℕ → Bool
+flags_fit b = nat_lt (length b) 4 || (word_at b 2 / 16384 == 3)
+
+-- whether its third is, or hasn't come: the two octets of a checksum stand behind the header
+abbrev pub size_fits : List ℕ → Bool
+size_fits b = nat_lt (length b) 6 || not (word_at b 4 == 0)
+
+-- whether a packet that isn't idle may begin with these octets and others behind them
+abbrev pub may_begin : List ℕ → Bool
+may_begin b = first_fits b && flags_fit b && size_fits b
+
+-- whether that is open: one may, and not all of its octets have come
+abbrev pub is_open : List ℕ → Bool
+is_open b = may_begin b && not (is_framed b)
+
+-- whether what is at the front depends on octets that may still come. Where as many have come as its
+-- header says, and are no packet, in step, so does it until it is known if a packet stands behind.
+-- Where fewer have come, it does in step, and elsewhere if a packet may begin
+abbrev pub waits : (in_step : Bool) → List ℕ → Bool
+waits s b =
+    if is_framed b then s && not (begins s b) && is_open (behind b) else s || may_begin b
 
 -- ---- the stream
 

@@ -3,8 +3,10 @@
 ghost use Rattle.std.specs.Prelude.{◌≤◌, length};
 
 use crate::PieceKind;
-use crate::found::{Found, other_in_front, packet_in_front};
-use lpt_text::{Source, ToolFault};
+use crate::cutting::whole_length;
+use crate::found::{Found, other_in_front, packet_unless};
+use crate::waiting::waits;
+use lpt_text::{Sink, Source, ToolFault, flush_out};
 use std::alloc::Global;
 
 /// How many octets are asked for at a time.
@@ -29,9 +31,10 @@ pub struct PacketBuffer {
 }
 
 impl PacketBuffer {
-    ghost use Rattle.std.specs.Prelude.{◌≡◌, ◌<◌, ◌++◌, [], drop, true, false, None, IfErr, IfSome, OnOk};
-    ghost use Rattle.lpt_stream.specs.Buffers.{held, is_ended, is_in_step, Fills, FindsPiece, IsInFront};
-    ghost use Rattle.lpt_stream.specs.Pieces.{keeps_step};
+    ghost use Rattle.std.specs.Prelude.{◌≡◌, ◌≢◌, ◌⊎◌, ◌<◌, ◌++◌, [], drop, take, true, false, None, Err, IfErr, IfSome, IsErrOf, OnOk};
+    ghost use Rattle.std.specs.Io.KnownBytes.{Keeps};
+    ghost use Rattle.lpt_stream.specs.Buffers.{held, is_ended, is_in_step, Fills, FindsPassing, FindsPiece, IsInFront, IsUnsettled};
+    ghost use Rattle.lpt_stream.specs.Pieces.{begins, is_framed, keeps_step, lookahead, waits};
 
     /// A stream of which nothing was read.
     pub fn new(alloc: Global) -> Self
@@ -75,13 +78,54 @@ impl PacketBuffer {
         ensures { FindsPiece result self.old self.new (S.remaining source.old)
             (S.remaining source.new) (S.failed source.old) (S.failed source.new) }
     {
+        let mut is_judged = false;
         loop {
-            match self.settled() {
+            match self.settled(is_judged) {
                 Some(found) => return Ok(Some(found)),
                 None => {}
             }
             if self.ended {
                 return Ok(None);
+            }
+            is_judged = self.is_framed();
+            match self.fill(source) {
+                Ok(()) => {}
+                Err(fault) => return Err(fault),
+            }
+        }
+    }
+
+    /// Does the same for a stream that somebody waits for: before each read `out` passes on what it
+    /// has kept back.
+    ///
+    /// Errors: `Read` and `Memory`, as there; `Write` where `out` failed. All that was read is held
+    /// then.
+    pub fn find_piece_passing<S: Source, K: Sink>(
+        &mut self,
+        source: &mut S,
+        out: &mut K,
+    ) -> Result<Option<Found>, ToolFault>
+        ensures finds { FindsPassing result self.old self.new (S.remaining source.old)
+            (S.remaining source.new) (S.failed source.old) (S.failed source.new) }
+
+        // What was written stays, and where something was read, all of it was passed on before.
+        ensures same { Keeps (K.contents out.old) (K.contents out.new) }
+        ensures passed { result ≢ Err ToolFault.Write →
+            (source.new ≡ source.old) ⊎ (K.passed out.new ≡ K.contents out.new) }
+        ensures cause { IsErrOf result ToolFault.Write → K.failed out.new ≡ true }
+        ensures told { result ≢ Err ToolFault.Write → K.failed out.new ≡ K.failed out.old }
+    {
+        let mut is_judged = false;
+        loop {
+            match self.settled(is_judged) {
+                Some(found) => return Ok(Some(found)),
+                None if self.ended => return Ok(None),
+                None => {}
+            }
+            is_judged = self.is_framed();
+            match flush_out(out) {
+                Ok(()) => {}
+                Err(fault) => return Err(fault),
             }
             match self.fill(source) {
                 Ok(()) => {}
@@ -90,18 +134,20 @@ impl PacketBuffer {
         }
     }
 
-    // The piece in front, where the octets that are held show it, whatever comes behind them.
-    fn settled(&self) -> Option<Found>
+    // The piece in front, as soon as nothing that may come behind the octets that are held can change
+    // it. Where it is judged already that no packet is there, that isn't looked at again.
+    fn settled(&self, is_judged: bool) -> Option<Found>
+        requires { is_judged ≡ true
+            → begins (is_in_step self.now) (take lookahead (held self.now)) ≡ false }
         ensures some { IfSome result (IsInFront self.now) }
-        ensures few { result ≡ None → length (held self.now) < 131084 }
-        ensures none { result ≡ None → is_ended self.now ≡ true → held self.now ≡ [] }
+        ensures none { result ≡ None → IsUnsettled self.now }
     {
         let octets = self.held();
         if octets.is_empty() {
             return None;
         }
         let near = &octets[..LOOKAHEAD.min(octets.len())];
-        match packet_in_front(near, self.in_step) {
+        match packet_unless(is_judged, near, self.in_step) {
             Some(len) => {
                 return Some(Found {
                     kind: PieceKind::Whole,
@@ -110,10 +156,28 @@ impl PacketBuffer {
             }
             None => {}
         }
-        if !self.ended && octets.len() < LOOKAHEAD {
+        if self.is_unsettled(near) {
             return None;
         }
         Some(other_in_front(near, self.in_step))
+    }
+
+    // Whether what is in front of these octets, which is no packet, depends on what may still come.
+    fn is_unsettled(&self, near: &[u8]) -> bool
+        requires { begins (is_in_step self.now) near.now ≡ false }
+        ensures waits { result ≡ true → (waits (is_in_step self.now) near.now ≡ true)
+            × (length near.now < 131084) × (is_ended self.now ≡ false) }
+        ensures shows { result ≡ false → (waits (is_in_step self.now) near.now ≡ false)
+            ⊎ (is_ended self.now ≡ true) }
+    {
+        !self.ended && waits(near, self.in_step)
+    }
+
+    // Whether as many octets are held as the header in front says.
+    fn is_framed(&self) -> bool
+        ensures { result ≡ is_framed (held self.now) }
+    {
+        whole_length(self.held()).is_some()
     }
 
     // Reads some octets behind those that are held, or the stream's end.

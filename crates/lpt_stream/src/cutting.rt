@@ -29,6 +29,7 @@ pub fn whole_length(bytes: &[u8]) -> Option<usize>
     ensures cut { option_map (λ n. cut_at n bytes.now) result ≡ front_of bytes.now }
     ensures framed { IfSome result (λ n. IsFramed (take n bytes.now)) }
     ensures within { IfSome result (λ n. n ≤ length bytes.now) }
+    ensures most { IfSome result (λ n. n ≤ longest_packet) }
 
     // Fewer octets than the longest packet's are missing.
     ensures none { (result ≡ None) ↔ IsUnfinished bytes.now }

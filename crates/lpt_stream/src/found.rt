@@ -33,6 +33,20 @@ pub(crate) fn packet_in_front(bytes: &[u8], in_step: bool) -> Option<usize>
     }
 }
 
+// The same, where it isn't judged already that none is there.
+pub(crate) fn packet_unless(is_judged: bool, bytes: &[u8], in_step: bool) -> Option<usize>
+    requires { is_judged ≡ true → begins in_step bytes.now ≡ false }
+    ensures some { IfSome result (λ n. (begins in_step bytes.now ≡ true) × (n ≡ 7 + word_at bytes.now 4)
+        × (n ≤ length bytes.now)) }
+    ensures least { IfSome result (λ n. 0 < n) }
+    ensures none { result ≡ None → begins in_step bytes.now ≡ false }
+{
+    if is_judged {
+        return None;
+    }
+    packet_in_front(bytes, in_step)
+}
+
 // What stands at the front of octets with which no packet begins.
 pub(crate) fn other_in_front(bytes: &[u8], in_step: bool) -> Found
     requires some { 0 < length bytes.now }

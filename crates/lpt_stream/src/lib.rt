@@ -1,9 +1,10 @@
 //! A stream of octets as space packets (CCSDS 133.0-B), one behind the other, and what is none. It
-//! is cut into pieces as it comes: no more of it is held than the octets of two packets and what
-//! one read gives. Whether a piece is a packet, `lpt_packet` says. Behind octets that are none, the
+//! is cut into pieces as it comes, each as soon as nothing that may still come can change it: no more
+//! of it is held than the octets of two packets and what one read gives. Whether a piece is a packet, `lpt_packet` says. Behind octets that are none, the
 //! next place is searched at which a packet with a right checksum begins.
 //!
-//! The main type is `PacketBuffer`. The first call is its `find_piece`, with a source;
+//! The main type is `PacketBuffer`. The first call is its `find_piece`, with a source, or
+//! `find_piece_passing`, where somebody waits for what is written;
 //! `packet_length` says how long the packet is that begins with these octets.
 #![tactic(auto)]
 
@@ -13,10 +14,11 @@ mod cutting;
 mod found;
 pub mod laws;
 mod piece_kind;
+mod waiting;
 
 pub use buffer::PacketBuffer;
 pub use capture::{capture_header, record_header};
 pub use cutting::{packet_length, whole_length};
 pub use found::Found;
-pub use lpt_text::{Sink, Source, ToolFault, write_out};
+pub use lpt_text::{Sink, Source, ToolFault, flush_out, write_out};
 pub use piece_kind::PieceKind;

@@ -1,28 +1,29 @@
 -- Piece after piece, until none is left.
-use Rattle.std.proofs.Common.{◌≡◌, ◌∙◌, inl, inr, ◌++◌, ◌∷◌, [], ℕ, List, take, Option, Ok, Err, Result, Bool, true, false, ap, sym, subst, refl, arith, append-nil}
-use Rattle.std.proofs.KnownBytes.{Consumes-nil, Consumes-trans}
+use Rattle.std.proofs.Common.{◌≡◌, ◌∙◌, inl, inr, ◌++◌, ◌∷◌, [], ℕ, List, length, take, Option, Ok, Err, Result, Bool, true, false, ap, sym, subst, refl, arith, append-nil}
+use Rattle.std.proofs.lemmas.List.{length-take-le}
+use Rattle.std.proofs.KnownBytes.{Appends-kept, Consumes-nil, Consumes-trans}
 use Rattle.std.specs.Io.KnownBytes.{Appends, Consumes}
 use Rattle.lpt_stream.specs.declared.found.Found.{Found}
-use Rattle.lpt_stream.specs.Buffers.{held, is_in_step, found_piece, FindsPiece}
+use Rattle.lpt_stream.specs.Buffers.{held, is_in_step, found_piece, FindsPassing}
 use Rattle.lpt_stream.specs.Pieces.{Piece, keeps_step, packet_before, packets_of}
-use Rattle.lpt_stream.proofs.BufferLemmas.{find-fault}
 use Rattle.lpt_stream.proofs.CutLemmas.{read-none, read-more, read-next, read-end, read-front, read-leads}
 use Rattle.lpt_stream.proofs.LptText.StreamLemmas.{part_whole}
 use Rattle.lpt_stream.specs.LptText.declared.fault.ToolFault.{ToolFault}
 use Rattle.lpt_stream.specs.LptText.declared.fault.ToolFault.TheVariants as tool
 use Rattle.lpt_stream.specs.LptText.Streams.{AppendsPart}
 use Rattle.lpt_memory.specs.declared.request.Area.{Area}
-use Rattle.lpt_extract.specs.Extracts.{areas_in, notices_in, written_first, ExtractLeaves, ExtractsTo}
-use Rattle.lpt_extract.specs.ExtractsInside.{written_last, EndsBy, Held}
+use Rattle.lpt_extract.specs.Extracts.{areas_in, notices_at, notices_in, written_first, ExtractLeaves, ExtractsTo}
+use Rattle.lpt_extract.specs.ExtractsInside.{written_last, EndsAs, Held}
+use Rattle.lpt_extract.specs.declared.notice.Notice.{Notice}
 use Rattle.lpt_extract.specs.Notices.{Hears}
 use Rattle.lpt_extract.proofs.GiveLemmas.{ends-by, leaves-last}
-use Rattle.lpt_extract.proofs.ReadLemmas.{Taken, taken-none, taken-next, part-next, if-ok, if-err, find-lost, left-read, left-write, left-last}
+use Rattle.lpt_extract.proofs.ReadLemmas.{Taken, taken-kept, taken-none, taken-next, part-next, if-ok, if-err, find-fault, find-lost, left-first, left-last}
 use Rattle.lpt_extract.proofs.extracting.extract_stream.Goals as goal
 
 never : (e : Bool) → e ≡ false → e ≡ true → ⊥
 never e h k = cc
 
-no-fault : (x : Unit {0}) (e : ToolFault) → ◌≡◌ {A = Result (Unit {0}) ToolFault} (Ok x) (Err e) → ⊥
+no-fault : {A : Type 0} (x : A) (e : ToolFault) → ◌≡◌ {A = Result A ToolFault} (Ok x) (Err e) → ⊥
 no-fault x e h = cc
 
 nothing-behind : (a b : Option (List ℕ)) (read : List ℕ) → Consumes a b read → Consumes a b (read ++ [])
@@ -37,8 +38,8 @@ loop-count-init g c =
       read = (
         [],
         Consumes-nil (g.S.Source.remaining c.args.source.now),
-        read-none (Taken w c.new-image.result out out heard heard) c.new-buffer.result
-            (taken-none w c.new-image.result out heard c.new-image.ensures.end c.new-image.ensures.octets)
+        read-none (Taken w c.new-holding.result 0 out out heard heard) c.new-buffer.result
+            (taken-none w c.new-holding.result out heard (c.new-holding.ensures w.at))
             c.new-buffer.ensures.held c.new-buffer.ensures.step,
       );
       ended = λ e. absurd (never (c.new-buffer.result.ended) c.new-buffer.ensures.end e);
@@ -52,63 +53,74 @@ returns-in-Ok-None-clause-ends g c =
     let w = c.args.wanted.now in
     let a = g.S.Source.remaining c.args.source.now in
     let b = g.S.Source.remaining c.loop-count.source in
-    let d = g.S.Source.remaining c.find_piece.new.source in
+    let d = g.S.Source.remaining c.find_piece_passing.new.source in
     let old = g.K.Sink.contents c.args.out.now in
-    let mid = g.K.Sink.contents c.loop-count.out in
-    let new = g.K.Sink.contents c.write_image.new.out in
+    let kept = g.K.Sink.contents c.loop-count.out in
+    let mid = g.K.Sink.contents c.find_piece_passing.new.out in
+    let new = g.K.Sink.contents c.end_extract.new.out in
     let heard = g.L.Listener.heard c.args.listener.now in
     let hears = g.L.Listener.heard c.loop-count.listener in
-    let found = subst (λ (f : Option Found). FindsPiece (Ok f) c.loop-count.buffer c.find_piece.new.self b d
-    (g.S.Source.failed c.loop-count.source) (g.S.Source.failed c.find_piece.new.source))
-    c.in-Ok-None.field-0-is c.in-Ok-None.ensures in
+    let found = subst (λ (f : Option Found). FindsPassing (Ok f) c.loop-count.buffer c.find_piece_passing.new.self b d
+    (g.S.Source.failed c.loop-count.source) (g.S.Source.failed c.find_piece_passing.new.source))
+    c.in-Ok-None.field-0-is c.in-Ok-None.ensures.finds in
     let was = c.loop-count.invariant.read in
-    let P : List Piece → Type 0 = Taken w c.loop-count.image old mid heard hears in
-    let read = read-more P c.loop-count.buffer c.find_piece.new.self b d was.0 found.0
+    let P : List Piece → Type 0 = Taken w c.loop-count.holding c.loop-count.place old kept heard hears in
+    let read = read-more P c.loop-count.buffer c.find_piece_passing.new.self b d was.0 found.0
     c.loop-count.count was.2 found.1 in
+    let gives = taken-kept w c.loop-count.holding c.loop-count.place old kept mid heard hears read.pieces read.gives
+    c.in-Ok-None.ensures.same in
     let areas = areas_in w (packets_of read.pieces) in
-    if-ok (λ end. EndsBy w.at areas end mid new) (λ end. ExtractsTo w end a d old new heard hears)
-    c.write_image.result
-    (λ end by. (
-      was.0 ++ found.0,
-      packets_of read.pieces,
-      Consumes-trans a b d was.0 found.0 was.1 found.1.added.consumed,
-      found.1.at_end c.loop-count.invariant.ended found.3,
-      (read.pieces, read-end P c.find_piece.new.self (was.0 ++ found.0) c.loop-count.count read found.2, refl),
-      (ends-by w.at areas end old mid new read.gives.wrote by, read.gives.told),
-    ))
-    (c.write_image.ensures.ends areas read.gives.held)
+    let ns = notices_in w 0 read.pieces in
+    if-ok (λ x. EndsAs w.at areas ns x mid new) (λ x. ExtractsTo w x a d old new heard hears)
+    c.end_extract.result
+    (λ x as_is. record {
+      stream = was.0 ++ found.0;
+      pieces = read.pieces;
+      consumed = Consumes-trans a b d was.0 found.0 was.1 found.1.added.consumed;
+      at_end = found.1.at_end c.loop-count.invariant.ended found.3;
+      cut = read-end P c.find_piece_passing.new.self (was.0 ++ found.0) c.loop-count.count read found.2;
+      ends = ends-by w.at areas _ x.end old mid new gives.wrote as_is.by;
+      missing = as_is.missing;
+      told = gives.told;
+      counted = as_is.counted;
+    })
+    (c.end_extract.ensures.ends areas ns gives.held)
 
 pub returns-in-Ok-None-clause-leaves : goal.returns-in-Ok-None-clause-leaves
 returns-in-Ok-None-clause-leaves g c =
     let w = c.args.wanted.now in
     let a = g.S.Source.remaining c.args.source.now in
     let b = g.S.Source.remaining c.loop-count.source in
-    let d = g.S.Source.remaining c.find_piece.new.source in
+    let d = g.S.Source.remaining c.find_piece_passing.new.source in
     let old = g.K.Sink.contents c.args.out.now in
-    let mid = g.K.Sink.contents c.loop-count.out in
-    let new = g.K.Sink.contents c.write_image.new.out in
+    let kept = g.K.Sink.contents c.loop-count.out in
+    let mid = g.K.Sink.contents c.find_piece_passing.new.out in
+    let new = g.K.Sink.contents c.end_extract.new.out in
     let heard = g.L.Listener.heard c.args.listener.now in
     let hears = g.L.Listener.heard c.loop-count.listener in
-    let found = subst (λ (f : Option Found). FindsPiece (Ok f) c.loop-count.buffer c.find_piece.new.self b d
-    (g.S.Source.failed c.loop-count.source) (g.S.Source.failed c.find_piece.new.source))
-    c.in-Ok-None.field-0-is c.in-Ok-None.ensures in
+    let found = subst (λ (f : Option Found). FindsPassing (Ok f) c.loop-count.buffer c.find_piece_passing.new.self b d
+    (g.S.Source.failed c.loop-count.source) (g.S.Source.failed c.find_piece_passing.new.source))
+    c.in-Ok-None.field-0-is c.in-Ok-None.ensures.finds in
     let was = c.loop-count.invariant.read in
-    let P : List Piece → Type 0 = Taken w c.loop-count.image old mid heard hears in
-    let read = read-more P c.loop-count.buffer c.find_piece.new.self b d was.0 found.0
+    let P : List Piece → Type 0 = Taken w c.loop-count.holding c.loop-count.place old kept heard hears in
+    let read = read-more P c.loop-count.buffer c.find_piece_passing.new.self b d was.0 found.0
     c.loop-count.count was.2 found.1 in
+    let gives = taken-kept w c.loop-count.holding c.loop-count.place old kept mid heard hears read.pieces read.gives
+    c.in-Ok-None.ensures.same in
     let areas = areas_in w (packets_of read.pieces) in
-    if-err (λ e. (e ≡ tool.Write) × (g.K.Sink.failed c.write_image.new.out ≡ true))
+    let ns = notices_in w 0 read.pieces in
+    if-err (λ e. (e ≡ tool.Write) × (g.K.Sink.failed c.end_extract.new.out ≡ true))
     (λ e. AppendsPart mid new (written_last w.at areas))
     (λ e. ExtractLeaves w e a d old new)
-    c.write_image.result
+    c.end_extract.result
     (λ e cause part. left-last w a d (was.0 ++ found.0) [] read.pieces
-    (is_in_step c.find_piece.new.self) (held c.find_piece.new.self)
+    (is_in_step c.find_piece_passing.new.self) (held c.find_piece_passing.new.self)
     (nothing-behind a d (was.0 ++ found.0)
     (Consumes-trans a b d was.0 found.0 was.1 found.1.added.consumed))
-    (read-leads P c.find_piece.new.self (was.0 ++ found.0) c.loop-count.count read)
-    old new e cause.0 (leaves-last w.at areas old mid new read.gives.wrote part))
-    c.write_image.ensures.fault
-    (c.write_image.ensures.part areas read.gives.held)
+    (read-leads P c.find_piece_passing.new.self (was.0 ++ found.0) c.loop-count.count read)
+    old new e cause.0 (leaves-last w.at areas old mid new gives.wrote part))
+    c.end_extract.ensures.fault
+    (c.end_extract.ensures.part areas ns gives.held)
 
 -- a piece was taken
 pub loop-count-preserved : goal.loop-count-preserved
@@ -116,34 +128,41 @@ loop-count-preserved g c =
     let w = c.args.wanted.now in
     let a = g.S.Source.remaining c.args.source.now in
     let b = g.S.Source.remaining c.loop-count.source in
-    let d = g.S.Source.remaining c.find_piece.new.source in
+    let d = g.S.Source.remaining c.find_piece_passing.new.source in
     let old = g.K.Sink.contents c.args.out.now in
-    let mid = g.K.Sink.contents c.loop-count.out in
+    let kept = g.K.Sink.contents c.loop-count.out in
+    let mid = g.K.Sink.contents c.find_piece_passing.new.out in
     let new = g.K.Sink.contents c.take_piece.new.out in
     let heard = g.L.Listener.heard c.args.listener.now in
     let hear = g.L.Listener.heard c.loop-count.listener in
     let hears = g.L.Listener.heard c.take_piece.new.listener in
     let f = c.in-Ok-Some.found in
-    let now = c.find_piece.new.self in
-    let found = subst (λ (f : Option Found). FindsPiece (Ok f) c.loop-count.buffer now b d
-    (g.S.Source.failed c.loop-count.source) (g.S.Source.failed c.find_piece.new.source))
-    c.in-Ok-Some.field-0-is c.in-Ok-Some.ensures in
+    let now = c.find_piece_passing.new.self in
+    let found = subst (λ (f : Option Found). FindsPassing (Ok f) c.loop-count.buffer now b d
+    (g.S.Source.failed c.loop-count.source) (g.S.Source.failed c.find_piece_passing.new.source))
+    c.in-Ok-Some.field-0-is c.in-Ok-Some.ensures.finds in
     let was = c.loop-count.invariant.read in
-    let P : List Piece → Type 0 = Taken w c.loop-count.image old mid heard hear in
-    let Q : List Piece → Type 0 = Taken w c.take_piece.new.image old new heard hears in
+    let P : List Piece → Type 0 = Taken w c.loop-count.holding c.loop-count.place old kept heard hear in
+    let Q : List Piece → Type 0 =
+    Taken w c.take_piece.new.holding c.saturating_add-place.result old new heard hears in
     let read = read-more P c.loop-count.buffer now b d was.0 found.0 c.loop-count.count was.2 found.1 in
+    let gives = taken-kept w c.loop-count.holding c.loop-count.place old kept mid heard hear read.pieces read.gives
+    c.in-Ok-Some.ensures.same in
     let p = found_piece now f in
     let same : take f.len (c.held.result.now) ≡ p.octets = ap (take f.len) c.held.ensures in
     let step : Q (read.pieces ++ p ∷ []) =
-    taken-next w c.loop-count.image c.take_piece.new.image old mid new heard hear hears read.pieces p
-    read.gives
-    (subst (λ o. (areas : List Area) → Held w.at areas c.loop-count.image
-    → Held w.at (areas ++ areas_in w (packet_before f.kind o [])) c.take_piece.new.image) same
+    taken-next w c.loop-count.holding c.take_piece.new.holding c.loop-count.place c.saturating_add-place.result
+    old mid new heard hear hears read.pieces p gives
+    (subst (λ o. (areas : List Area) (ns : List Notice) → Held w.at areas ns c.loop-count.holding
+    → Held w.at (areas ++ areas_in w (packet_before f.kind o []))
+    (ns ++ notices_at w c.loop-count.place f.kind o) c.take_piece.new.holding) same
     c.in-Ok.ensures.held)
     (subst (λ o. Appends mid new (written_first w.at (areas_in w (packet_before f.kind o [])))) same
     c.in-Ok.ensures.wrote)
-    (subst (λ o. Hears hear hears (notices_in w (packet_before f.kind o []))) same
-    c.in-Ok.ensures.heard) in
+    (subst (λ o. Hears hear hears (notices_at w c.loop-count.place f.kind o)) same
+    c.in-Ok.ensures.heard)
+    (let size : length p.octets ≡ f.len = length-take-le f.len (held now) found.2.within in
+    omega (arith, size, c.saturating_add-place.ensures)) in
     record {
       read = (
         was.0 ++ found.0,
@@ -153,32 +172,36 @@ loop-count-preserved g c =
       );
       ended = λ e. found.1.at_end c.loop-count.invariant.ended (sym c.skip.ensures.end ∙ e);
       heard = found.3 ∙ c.loop-count.invariant.heard;
-      told = c.in-Ok.ensures.told (no-fault _ _) ∙ c.loop-count.invariant.told;
+      told = c.in-Ok.ensures.told (no-fault _ _) ∙ c.in-Ok-Some.ensures.told (no-fault _ _)
+          ∙ c.loop-count.invariant.told;
     }
 
--- a read failed, or memory ran out
+-- a read failed, memory ran out, or octets couldn't be passed on
 pub returns-in-Err-clause-leaves : goal.returns-in-Err-clause-leaves
 returns-in-Err-clause-leaves g c =
     let w = c.args.wanted.now in
     let a = g.S.Source.remaining c.args.source.now in
     let b = g.S.Source.remaining c.loop-count.source in
-    let d = g.S.Source.remaining c.find_piece.new.source in
+    let d = g.S.Source.remaining c.find_piece_passing.new.source in
     let old = g.K.Sink.contents c.args.out.now in
-    let mid = g.K.Sink.contents c.loop-count.out in
+    let kept = g.K.Sink.contents c.loop-count.out in
+    let mid = g.K.Sink.contents c.find_piece_passing.new.out in
     let heard = g.L.Listener.heard c.args.listener.now in
     let hear = g.L.Listener.heard c.loop-count.listener in
     let was = c.loop-count.invariant.read in
-    let P : List Piece → Type 0 = Taken w c.loop-count.image old mid heard hear in
-    let lost = find-lost c.in-Err.fault c.loop-count.buffer c.find_piece.new.self b d
-    (g.S.Source.failed c.loop-count.source) (g.S.Source.failed c.find_piece.new.source) c.in-Err.ensures in
-    left-read w a d was.0 lost.0 was.2.pieces
+    let P : List Piece → Type 0 = Taken w c.loop-count.holding c.loop-count.place old kept heard hear in
+    let lost = find-lost c.in-Err.fault c.loop-count.buffer c.find_piece_passing.new.self b d
+    (g.S.Source.failed c.loop-count.source) (g.S.Source.failed c.find_piece_passing.new.source) c.in-Err.ensures.finds in
+    left-first w a d was.0 lost.0 was.2.pieces
     (is_in_step c.loop-count.buffer) (held c.loop-count.buffer)
     (Consumes-trans a b d was.0 lost.0 was.1 lost.1)
     (read-leads P c.loop-count.buffer was.0 c.loop-count.count was.2)
-    old mid c.in-Err.fault _ _
-    (find-fault c.in-Err.fault c.loop-count.buffer c.find_piece.new.self b d
-    (g.S.Source.failed c.loop-count.source) (g.S.Source.failed c.find_piece.new.source) c.in-Err.ensures)
-    (part_whole old mid _ was.2.gives.wrote)
+    old mid c.in-Err.fault
+    (find-fault c.in-Err.fault c.loop-count.buffer c.find_piece_passing.new.self b d
+    (g.S.Source.failed c.loop-count.source) (g.S.Source.failed c.find_piece_passing.new.source) c.in-Err.ensures.finds)
+    (part_whole old mid (written_first w.at (areas_in w (packets_of was.2.pieces)))
+    (Appends-kept old kept mid (written_first w.at (areas_in w (packets_of was.2.pieces)))
+    was.2.gives.wrote c.in-Err.ensures.same))
 
 -- so many pieces came
 pub returns-clause-leaves : goal.returns-clause-leaves
@@ -191,13 +214,13 @@ returns-clause-leaves g c =
     let heard = g.L.Listener.heard c.args.listener.now in
     let hear = g.L.Listener.heard c.loop-count.listener in
     let was = c.loop-count.invariant.read in
-    let P : List Piece → Type 0 = Taken w c.loop-count.image old mid heard hear in
-    left-read w a b was.0 [] was.2.pieces
+    let P : List Piece → Type 0 = Taken w c.loop-count.holding c.loop-count.place old mid heard hear in
+    left-first w a b was.0 [] was.2.pieces
     (is_in_step c.loop-count.buffer) (held c.loop-count.buffer)
     (nothing-behind a b was.0 was.1)
     (read-leads P c.loop-count.buffer was.0 c.loop-count.count was.2)
-    old mid tool.Read Unit Unit (inl (refl, tt))
-    (part_whole old mid _ was.2.gives.wrote)
+    old mid tool.Read (inl refl)
+    (part_whole old mid (written_first w.at (areas_in w (packets_of was.2.pieces))) was.2.gives.wrote)
 
 pub returns-clause-read : goal.returns-clause-read
 returns-clause-read g c =
@@ -210,7 +233,7 @@ returns-clause-read g c =
       is_in_step c.loop-count.buffer,
       held c.loop-count.buffer,
       was.1,
-      read-leads (Taken c.args.wanted.now c.loop-count.image (g.K.Sink.contents c.args.out.now)
+      read-leads (Taken c.args.wanted.now c.loop-count.holding c.loop-count.place (g.K.Sink.contents c.args.out.now)
           (g.K.Sink.contents c.loop-count.out) (g.L.Listener.heard c.args.listener.now)
           (g.L.Listener.heard c.loop-count.listener)) c.loop-count.buffer was.0 c.loop-count.count was.2,
       was.2.count_is ∙ most,
@@ -222,28 +245,31 @@ returns-in-Err-take_piece-clause-leaves g c =
     let w = c.args.wanted.now in
     let a = g.S.Source.remaining c.args.source.now in
     let b = g.S.Source.remaining c.loop-count.source in
-    let d = g.S.Source.remaining c.find_piece.new.source in
+    let d = g.S.Source.remaining c.find_piece_passing.new.source in
     let old = g.K.Sink.contents c.args.out.now in
-    let mid = g.K.Sink.contents c.loop-count.out in
+    let kept = g.K.Sink.contents c.loop-count.out in
+    let mid = g.K.Sink.contents c.find_piece_passing.new.out in
     let new = g.K.Sink.contents c.take_piece.new.out in
     let heard = g.L.Listener.heard c.args.listener.now in
     let hear = g.L.Listener.heard c.loop-count.listener in
     let f = c.in-Ok-Some.found in
-    let now = c.find_piece.new.self in
-    let found = subst (λ (f : Option Found). FindsPiece (Ok f) c.loop-count.buffer now b d
-    (g.S.Source.failed c.loop-count.source) (g.S.Source.failed c.find_piece.new.source))
-    c.in-Ok-Some.field-0-is c.in-Ok-Some.ensures in
+    let now = c.find_piece_passing.new.self in
+    let found = subst (λ (f : Option Found). FindsPassing (Ok f) c.loop-count.buffer now b d
+    (g.S.Source.failed c.loop-count.source) (g.S.Source.failed c.find_piece_passing.new.source))
+    c.in-Ok-Some.field-0-is c.in-Ok-Some.ensures.finds in
     let was = c.loop-count.invariant.read in
-    let P : List Piece → Type 0 = Taken w c.loop-count.image old mid heard hear in
+    let P : List Piece → Type 0 = Taken w c.loop-count.holding c.loop-count.place old kept heard hear in
     let read = read-more P c.loop-count.buffer now b d was.0 found.0 c.loop-count.count was.2 found.1 in
+    let gives = taken-kept w c.loop-count.holding c.loop-count.place old kept mid heard hear read.pieces read.gives
+    c.in-Ok-Some.ensures.same in
     let p = found_piece now f in
     let same : take f.len (c.held.result.now) ≡ p.octets = ap (take f.len) c.held.ensures in
-    left-write w a d (was.0 ++ found.0) [] (read.pieces ++ p ∷ [])
+    left-first w a d (was.0 ++ found.0) [] (read.pieces ++ p ∷ [])
     (keeps_step f.kind) _
     (nothing-behind a d (was.0 ++ found.0)
     (Consumes-trans a b d was.0 found.0 was.1 found.1.added.consumed))
     (read-front P now f (was.0 ++ found.0) c.loop-count.count read found.2)
-    old new c.in-Err-take_piece.fault c.in-Err-take_piece.ensures.fault
-    (part-next w c.loop-count.image old mid new heard hear read.pieces p read.gives
+    old new c.in-Err-take_piece.fault (inr c.in-Err-take_piece.ensures.fault)
+    (part-next w c.loop-count.holding c.loop-count.place old mid new heard hear read.pieces p gives
     (subst (λ o. AppendsPart mid new (written_first w.at (areas_in w (packet_before f.kind o [])))) same
     c.in-Err-take_piece.ensures.part))

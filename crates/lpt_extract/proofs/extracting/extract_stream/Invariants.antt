@@ -10,7 +10,7 @@ abbrev pub invariant-loop-count : goal.invariant-loop-count
 invariant-loop-count g l = record {
   read : (stream : List ℕ)
       × Consumes (g.S.Source.remaining l.fn.source) (g.S.Source.remaining l.source) stream
-      × IsRead (Taken l.wanted l.image (g.K.Sink.contents l.fn.out) (g.K.Sink.contents l.out)
+      × IsRead (Taken l.wanted l.holding l.place (g.K.Sink.contents l.fn.out) (g.K.Sink.contents l.out)
       (g.L.Listener.heard l.fn.listener) (g.L.Listener.heard l.listener)) l.buffer stream l.count;
   ended : is_ended l.buffer ≡ true → IsAtEnd (g.S.Source.remaining l.source);
   heard : g.S.Source.failed l.source ≡ g.S.Source.failed l.fn.source;

@@ -1,9 +1,12 @@
--- A front part of an area more was written.
-use Rattle.std.proofs.Common.{◌≡◌, ◌∙◌, ap, sym, subst, ◌+◌, ◌++◌, ◌∷◌, [], take, drop}
+-- An area more was taken, or a front part of it was written.
+use Rattle.std.proofs.Common.{◌≡◌, ◌∙◌, ap, sym, subst, rules, arith, ◌+◌, ◌++◌, ◌∷◌, [], take, drop}
+use Rattle.std.proofs.lemmas.List.{take_all}
+use Rattle.std.specs.Io.KnownBytes.{Appends}
 use Rattle.lpt_stream.specs.LptText.Streams.{AppendsPart}
 use Rattle.lpt_extract.specs.Extracts.{written_first}
-use Rattle.lpt_extract.specs.ExtractsInside.{given}
-use Rattle.lpt_extract.proofs.GiveLemmas.{given-more, given-split, part-before, part-more}
+use Rattle.lpt_extract.specs.ExtractsInside.{given, told_of}
+use Rattle.lpt_extract.specs.Notices.{Hears}
+use Rattle.lpt_extract.proofs.GiveLemmas.{given-more, given-split, told-more, held-as, held-more, hears-more, part-before, part-more, wrote-more}
 use Rattle.lpt_extract.proofs.taking.take_areas.Goals as goal
 
 pub returns-in-Err-clause-part : goal.returns-in-Err-clause-part
@@ -23,3 +26,44 @@ returns-in-Err-clause-part g c =
     (subst (λ areas. AppendsPart old new (written_first at areas)) more
     (part-more at old mid new (given (take i xs)) (given (x ∷ []))
     c.loop-seen.invariant.wrote c.in-Err.ensures.part)))
+
+pub loop-seen-preserved : goal.loop-seen-preserved
+loop-seen-preserved g c =
+    let at = c.args.wanted.now.at in
+    let xs = c.args.areas.now in
+    let i = c.loop-seen.seen-index in
+    let x = c.seen-item.result in
+    let m = c.args.memory in
+    let n = c.args.place in
+    let more : given (take (i + 1) xs) ≡ given (take i xs) ++ given (x ∷ []) =
+    given-more xs i x c.loop-seen-test.true ∙ ap (λ y. given (take i xs) ++ given (y ∷ [])) (sym c.seen-item.is) in
+    let told : told_of m n (take (i + 1) xs) ≡ told_of m n (take i xs) ++ told_of m n (x ∷ []) =
+    told-more m n xs i x c.loop-seen-test.true ∙ ap (λ y. told_of m n (take i xs) ++ told_of m n (y ∷ [])) (sym c.seen-item.is) in
+    record {
+      held = λ before ns h.
+          held-more at before (given (take i xs)) (given (x ∷ [])) (given (take (i + 1) xs)) ns
+          (told_of m n (take i xs)) (told_of m n (x ∷ [])) (told_of m n (take (i + 1) xs))
+          c.take_area.new.holding more told
+          (c.in-Ok.ensures.held (before ++ given (take i xs)) (ns ++ told_of m n (take i xs))
+          (c.loop-seen.invariant.held before ns h));
+      wrote = subst (λ areas. Appends (g.K.Sink.contents c.args.out.now) (g.K.Sink.contents c.take_area.new.out)
+          (written_first at areas)) (sym more)
+          (wrote-more at (g.K.Sink.contents c.args.out.now) (g.K.Sink.contents c.loop-seen.out)
+          (g.K.Sink.contents c.take_area.new.out) (given (take i xs)) (given (x ∷ []))
+          c.loop-seen.invariant.wrote c.in-Ok.ensures.wrote);
+      heard = subst (Hears (g.L.Listener.heard c.args.listener.now) (g.L.Listener.heard c.take_area.new.listener))
+          (sym told)
+          (hears-more (g.L.Listener.heard c.args.listener.now) (g.L.Listener.heard c.loop-seen.listener)
+          (g.L.Listener.heard c.take_area.new.listener) (told_of m n (take i xs)) (told_of m n (x ∷ []))
+          c.loop-seen.invariant.heard c.in-Ok.ensures.heard);
+      told = search rules;
+    }
+
+pub returns-clause-held : goal.returns-clause-held
+returns-clause-held g c = λ before ns h.
+    let xs = c.args.areas.now in
+    let all : take c.loop-seen.seen-index xs ≡ xs = take_all c.loop-seen.seen-index xs (omega arith) in
+    held-as c.args.wanted.now.at _ _ _ _ c.loop-seen.holding
+    (ap (λ ys. before ++ given ys) all)
+    (ap (λ ys. ns ++ told_of c.args.memory c.args.place ys) all)
+    (c.loop-seen.invariant.held before ns h)

@@ -1,13 +1,41 @@
 -- What the areas of a report give is what it gives.
-use Rattle.std.proofs.Common.{◌≡◌, ◌∙◌, ap, sym, subst, rules, true, List}
+use Rattle.std.proofs.Common.{◌≡◌, ◌∙◌, ap, sym, subst, rules, true, false, List, ◌++◌}
 use Rattle.std.specs.Prelude.{IfErr}
 use Rattle.lpt_memory.specs.declared.request.Area.{Area}
 use Rattle.lpt_stream.specs.LptText.Streams.{AppendsPart}
-use Rattle.lpt_extract.specs.Extracts.{is_of, written_first}
+use Rattle.lpt_extract.specs.Extracts.{is_of, areas_of, notices_of, written_first}
+use Rattle.lpt_extract.specs.ExtractsInside.{Held}
 use Rattle.lpt_extract.specs.Reports.{report_in}
 use Rattle.lpt_extract.specs.ReportsInside.{said}
-use Rattle.lpt_extract.proofs.GiveLemmas.{areas-said}
+use Rattle.lpt_extract.proofs.GiveLemmas.{areas-said, held-other, held-same}
 use Rattle.lpt_extract.proofs.taking.take_packet.Goals as goal
+
+-- it is of another application process
+pub returns-in-Foreign-clause-held : goal.returns-in-Foreign-clause-held
+returns-in-Foreign-clause-held g c = λ areas ns h.
+    let at = c.args.wanted.now.at in
+    subst (λ r. Held at (areas ++ areas_of at r) (ns ++ notices_of at c.args.place r) c.tell.new.self)
+    (ap said (sym c.in-Foreign.is) ∙ c.in-Ok.ensures)
+    (held-same at areas _ c.tell.new.self (c.tell.ensures.held at areas ns h))
+
+-- its body isn't read
+pub returns-in-Unread-clause-held : goal.returns-in-Unread-clause-held
+returns-in-Unread-clause-held g c = λ areas ns h.
+    let at = c.args.wanted.now.at in
+    subst (λ r. Held at (areas ++ areas_of at r) (ns ++ notices_of at c.args.place r) c.tell-in-Unread.new.self)
+    (ap said (sym c.in-Unread.is) ∙ c.in-Ok.ensures)
+    (held-same at areas _ c.tell-in-Unread.new.self (c.tell-in-Unread.ensures.held at areas ns h))
+
+-- it is of another memory
+pub returns-then-not-is_of-clause-held : goal.returns-then-not-is_of-clause-held
+returns-then-not-is_of-clause-held g c = λ areas ns h.
+    let at = c.args.wanted.now.at in
+    let other : is_of at c.in-Areas.memory ≡ false = search rules in
+    subst (λ r. Held at (areas ++ areas_of at r) (ns ++ notices_of at c.args.place r) c.tell-then-not-is_of.new.self)
+    (ap said (sym c.in-Areas.is) ∙ c.in-Ok.ensures)
+    (held-other at _ c.args.place areas ns c.tell-then-not-is_of.new.self other (c.tell-then-not-is_of.ensures.held at areas ns h))
+
+-- its areas were taken
 
 pub returns-else-not-is_of-clause-part : goal.returns-else-not-is_of-clause-part
 returns-else-not-is_of-clause-part g c =

@@ -1,12 +1,15 @@
 -- Piece after piece, until none is left.
-use Rattle.std.proofs.Common.{◌≡◌, ◌∙◌, inl, inr, ◌++◌, ◌∷◌, [], List, take, Option, Ok, Bool, true, false, sym, subst, refl, arith}
+use Rattle.std.proofs.Common.{◌≡◌, ◌∙◌, ap, inl, inr, ◌++◌, ◌∷◌, [], List, take, Option, None, Ok, Bool, true, false, sym, subst, refl, arith}
+use Rattle.std.proofs.lemmas.List.{length-take-le}
 use Rattle.std.proofs.KnownBytes.{Consumes-nil, Consumes-trans}
 use Rattle.lpt_stream.specs.declared.found.Found.{Found}
 use Rattle.lpt_stream.specs.Buffers.{held, is_in_step, found_piece, FindsPiece}
-use Rattle.lpt_stream.specs.Pieces.{Piece, packet_before, packets_of}
+use Rattle.lpt_stream.specs.Pieces.{Piece}
 use Rattle.lpt_stream.proofs.BufferLemmas.{find-fault}
-use Rattle.lpt_stream.proofs.CutLemmas.{read-none, read-more, read-next, read-end, read-leads, packets-next}
-use Rattle.lpt_join.specs.Several.{GivesEach}
+use Rattle.lpt_stream.proofs.CutLemmas.{read-none, read-more, read-next, read-end, read-leads}
+use Rattle.lpt_join.specs.Several.{GivesEach, reading_of}
+use Rattle.lpt_join.proofs.GatherLemmas.{noted-next, told-next}
+use Rattle.lpt_join.proofs.several.gather_stream.Invariants.{Keeps}
 use Rattle.lpt_join.proofs.several.gather_stream.Goals as goal
 
 never : (e : Bool) → e ≡ false → e ≡ true → ⊥
@@ -17,9 +20,9 @@ loop-count-init g c = record {
   read = (
     [],
     Consumes-nil (g.S.Source.remaining c.args.source.now),
-    read-none (λ pieces. GivesEach c.args.transaction.now (packets_of pieces) c.new-gatherings.result)
+    read-none (λ pieces. Keeps c.args.transaction.now pieces c.new-gatherings.result 0 c.new-skips.result)
         c.new-buffer.result
-        (c.new-gatherings.ensures c.args.transaction.now) c.new-buffer.ensures.held c.new-buffer.ensures.step,
+        (c.new-gatherings.ensures c.args.transaction.now, refl, c.new-skips.ensures) c.new-buffer.ensures.held c.new-buffer.ensures.step,
   );
   ended = λ e. absurd (never (c.new-buffer.result.ended) c.new-buffer.ensures.end e);
   told = refl;
@@ -35,15 +38,15 @@ returns-in-Ok-None-clause-gathered g c =
     (g.S.Source.failed c.loop-count.source) (g.S.Source.failed c.find_piece.new.source))
     c.in-Ok-None.field-0-is c.in-Ok-None.ensures in
     let was = c.loop-count.invariant.read in
-    let P : List Piece → Type 0 = λ pieces. GivesEach c.args.transaction.now (packets_of pieces) c.loop-count.gatherings in
+    let P : List Piece → Type 0 = λ pieces. Keeps c.args.transaction.now pieces c.loop-count.gatherings c.loop-count.place c.loop-count.skips in
     let read = read-more P c.loop-count.buffer c.find_piece.new.self b d was.0 found.0
     c.loop-count.count was.2 found.1 in (
       was.0 ++ found.0,
-      packets_of read.pieces,
+      read.pieces,
       Consumes-trans a b d was.0 found.0 was.1 found.1.added.consumed,
       found.1.at_end c.loop-count.invariant.ended found.3,
-      (read.pieces, read-end P c.find_piece.new.self (was.0 ++ found.0) c.loop-count.count read found.2, refl),
-      read.gives,
+      read-end P c.find_piece.new.self (was.0 ++ found.0) c.loop-count.count read found.2,
+      (read.gives.0, read.gives.2),
     )
 
 -- a piece was taken
@@ -59,13 +62,20 @@ loop-count-preserved g c =
     (g.S.Source.failed c.loop-count.source) (g.S.Source.failed c.find_piece.new.source))
     c.in-Ok-Some.field-0-is c.in-Ok-Some.ensures in
     let was = c.loop-count.invariant.read in
-    let P : List Piece → Type 0 = λ pieces. GivesEach t (packets_of pieces) c.loop-count.gatherings in
-    let Q : List Piece → Type 0 = λ pieces. GivesEach t (packets_of pieces) c.in-Ok.more in
+    let P : List Piece → Type 0 = λ pieces. Keeps t pieces c.loop-count.gatherings c.loop-count.place c.loop-count.skips in
+    let Q : List Piece → Type 0 = λ pieces. Keeps t pieces c.in-Ok.more c.saturating_add-place.result c.note.new.self in
     let read = read-more P c.loop-count.buffer now b d was.0 found.0 c.loop-count.count was.2 found.1 in
-    let step : Q (read.pieces ++ found_piece now f ∷ []) =
-    subst (λ bs. GivesEach t bs c.in-Ok.more) (sym (packets-next read.pieces (found_piece now f)))
-    (subst (λ o. GivesEach t (packets_of read.pieces ++ packet_before f.kind (take f.len o) []) c.in-Ok.more)
-    c.held.ensures (c.in-Ok.ensures (packets_of read.pieces) read.gives)) in
+    let piece = found_piece now f in
+    let gives = subst (λ o. GivesEach t (read.pieces ++ record { kind = f.kind; octets = take f.len o } ∷ []) c.in-Ok.more)
+    c.held.ensures (c.in-Ok.ensures read.pieces read.gives.0 read.gives.1) in
+    let step : Q (read.pieces ++ piece ∷ []) = (
+      gives,
+      told-next read.pieces piece c.loop-count.place c.saturating_add-place.result f.len read.gives.1
+          (length-take-le f.len (held now) found.2.within) c.saturating_add-place.ensures,
+      noted-next (reading_of t None) c.reading-reading.result c.loop-count.skips c.note.new.self
+          read.pieces piece record { kind = f.kind; octets = take f.len c.held.result.now } c.reading-reading.ensures read.gives.2
+          (ap (λ o. record { kind = f.kind; octets = take f.len o }) c.held.ensures) c.note.ensures.noted,
+    ) in
     record {
       read = (
         was.0 ++ found.0,
@@ -99,7 +109,7 @@ returns-clause-fault g c =
         is_in_step c.loop-count.buffer,
         held c.loop-count.buffer,
         was.1,
-        read-leads (λ pieces. GivesEach c.args.transaction.now (packets_of pieces) c.loop-count.gatherings)
+        read-leads (λ pieces. Keeps c.args.transaction.now pieces c.loop-count.gatherings c.loop-count.place c.loop-count.skips)
             c.loop-count.buffer was.0 c.loop-count.count was.2,
         was.2.count_is ∙ most,
       ),

@@ -22,7 +22,7 @@ returns-in-Err-serve_lines-clause-ends g c =
 -- what is behind the last prompt could not be written or passed on
 pub returns-in-Err-close-clause-ends : goal.returns-in-Err-close-clause-ends
 returns-in-Err-close-clause-ends g c =
-    session_unclosed c.args.prompt.now c.args.world.now c.in-Ok-serve_lines.failed c.in-Err-close.fault
+    session_unclosed c.args.prompt.now c.args.world.now c.in-Ok-serve_lines.heard c.in-Err-close.fault
     (g.S.Source.remaining c.args.reader.now) (g.S.Source.remaining c.serve_lines.new.reader)
     (g.K.Sink.contents c.args.out.now) (g.K.Sink.contents c.write_out.new.out)
     (g.K.Sink.contents c.serve_lines.new.out) (g.K.Sink.contents c.close.new.out)
@@ -33,7 +33,7 @@ returns-in-Err-close-clause-ends g c =
 -- all was written
 pub returns-in-Ok-close-clause-ends : goal.returns-in-Ok-close-clause-ends
 returns-in-Ok-close-clause-ends g c =
-    session_ends c.args.prompt.now c.args.world.now c.in-Ok-serve_lines.failed
+    session_ends c.args.prompt.now c.args.world.now c.in-Ok-serve_lines.heard
     (g.S.Source.remaining c.args.reader.now) (g.S.Source.remaining c.serve_lines.new.reader)
     (g.K.Sink.contents c.args.out.now) (g.K.Sink.contents c.write_out.new.out)
     (g.K.Sink.contents c.serve_lines.new.out) (g.K.Sink.contents c.close.new.out)

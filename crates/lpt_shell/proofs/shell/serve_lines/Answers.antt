@@ -5,8 +5,8 @@ use Rattle.std.proofs.lemmas.Grind.{common_steps}
 use Rattle.lpt_lint.proofs.LintLemmas.{at_end}
 use Rattle.lpt_script.specs.LptText.Lines.{held, room_of, FindsLine}
 use Rattle.lpt_script.specs.LptWords.Words.{ended_line}
-use Rattle.lpt_shell.proofs.ServeLemmas.{Serves, serves_cut, serves_end, serves_fault, serves_line, serves_long, serves_read, serves_start}
-use Rattle.lpt_shell.specs.EndsInside.{LastEnds, ServedEnds, last_served, piece_served}
+use Rattle.lpt_shell.proofs.ServeLemmas.{Serves, serves_cut, serves_end, serves_exit, serves_fault, serves_line, serves_long, serves_read, serves_start}
+use Rattle.lpt_shell.specs.EndsInside.{LastEnds, ServedEnds, last_served, piece_ends, piece_served}
 use Rattle.lpt_shell.proofs.shell.serve_lines.Goals as goal
 
 -- nothing was read
@@ -93,6 +93,30 @@ loop-len-preserved-in-Ok-None g c =
       written = grind (arith, common_steps);
     }
 
+-- a line ended the session
+pub returns-then-piece_ends-clause-ends : goal.returns-then-piece_ends-clause-ends
+returns-then-piece_ends-clause-ends g c =
+    let l = c.loop-len in
+    let a = g.S.Source.remaining c.args.reader.now in
+    let b = g.S.Source.remaining l.reader in
+    let d = g.S.Source.remaining c.find_line.new.source in
+    let text = held c.find_line.new.self in
+    let finds = subst (λ r. FindsLine (Ok r) l.lines c.find_line.new.self b d
+    (g.S.Source.failed l.reader) (g.S.Source.failed c.find_line.new.source))
+    c.in-Ok-Some.field-0-is c.in-Ok-Some.ensures.finds in
+    let serves = serves_read c.args.prompt.now c.args.world.now l.world l.is_long l.failed l.lines
+    c.find_line.new.self
+    finds.0 a b d (g.K.Sink.contents c.args.out.now) (g.K.Sink.contents l.out)
+    (g.K.Sink.contents c.find_line.new.out) l.invariant.serves finds.1 c.in-Ok-Some.ensures.same in
+    let line : c.ended-line.result.now ≡ ended_line (take c.in-Ok-Some.len text) =
+    grind (arith, common_steps, c.ended-line.ensures, c.held-in-loop-len.ensures) in
+    serves_exit c.args.prompt.now c.args.world.now l.world l.is_long l.failed c.in-Ok-Some.len text
+    (room_of c.find_line.new.self) a d (g.K.Sink.contents c.args.out.now)
+    (g.K.Sink.contents c.find_line.new.out)
+    (g.S.Source.failed c.find_line.new.source) (g.K.Sink.failed c.find_line.new.out)
+    serves finds.2
+    (ap (piece_ends l.is_long) (sym line) ∙ sym c.piece_ends.ensures ∙ c.if-piece_ends.true)
+
 -- a line ended by a fault
 pub returns-in-Err-serve_line-clause-ends : goal.returns-in-Err-serve_line-clause-ends
 returns-in-Err-serve_line-clause-ends g c =
@@ -110,12 +134,14 @@ returns-in-Err-serve_line-clause-ends g c =
     (g.K.Sink.contents c.find_line.new.out) l.invariant.serves finds.1 c.in-Ok-Some.ensures.same in
     let line : c.ended-line.result.now ≡ ended_line (take c.in-Ok-Some.len text) =
     grind (arith, common_steps, c.ended-line.ensures, c.held-in-loop-len.ensures) in
+    let goes : piece_ends l.is_long (ended_line (take c.in-Ok-Some.len text)) ≡ false =
+    ap (piece_ends l.is_long) (sym line) ∙ sym c.piece_ends.ensures ∙ c.if-piece_ends.false in
     serves_fault c.args.prompt.now c.args.world.now l.world c.serve_line.new.world l.is_long l.failed c.in-Ok-Some.len
     c.in-Err-serve_line.fault text (room_of c.find_line.new.self) a d
     (g.K.Sink.contents c.args.out.now) (g.K.Sink.contents c.find_line.new.out)
     (g.K.Sink.contents c.serve_line.new.out)
     (g.S.Source.failed c.find_line.new.source) (g.K.Sink.failed c.serve_line.new.out)
-    serves finds.2
+    serves finds.2 goes
     (subst (λ x. ServedEnds (piece_served l.is_long c.args.prompt.now x l.world) (Err c.in-Err-serve_line.fault)
     c.serve_line.new.world (g.K.Sink.contents c.find_line.new.out) (g.K.Sink.contents c.serve_line.new.out))
     line c.in-Err-serve_line.ensures.ends)
@@ -138,6 +164,8 @@ loop-len-preserved g c =
     (g.K.Sink.contents c.find_line.new.out) l.invariant.serves finds.1 c.in-Ok-Some.ensures.same in
     let line : c.ended-line.result.now ≡ ended_line (take c.in-Ok-Some.len text) =
     grind (arith, common_steps, c.ended-line.ensures, c.held-in-loop-len.ensures) in
+    let goes : piece_ends l.is_long (ended_line (take c.in-Ok-Some.len text)) ≡ false =
+    ap (piece_ends l.is_long) (sym line) ∙ sym c.piece_ends.ensures ∙ c.if-piece_ends.false in
     record {
       serves = subst (λ k. Serves c.args.prompt.now c.args.world.now c.serve_line.new.world false (l.failed + k)
           (held c.skip-in-loop-len.new.self) (room_of c.skip-in-loop-len.new.self) a d
@@ -150,7 +178,7 @@ loop-len-preserved g c =
           (subst (λ r. Serves c.args.prompt.now c.args.world.now l.world l.is_long l.failed text r a d
           (g.K.Sink.contents c.args.out.now) (g.K.Sink.contents c.find_line.new.out))
           (sym c.skip-in-loop-len.ensures.room) serves)
-          finds.2 c.skip-in-loop-len.ensures.held
+          finds.2 goes c.skip-in-loop-len.ensures.held
           (subst (λ x. ServedEnds (piece_served l.is_long c.args.prompt.now x l.world) (Ok c.in-Ok.has_failed)
           c.serve_line.new.world (g.K.Sink.contents c.find_line.new.out) (g.K.Sink.contents c.serve_line.new.out))
           line c.in-Ok.ensures.ends));

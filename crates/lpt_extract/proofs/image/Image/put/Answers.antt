@@ -1,9 +1,10 @@
 -- The image of the areas, and of one more.
-use Rattle.std.proofs.Common.{◌≡◌, ◌∙◌, ap, sym, ◌-◌, ◌++◌, ◌∷◌, [], length, max, drop, replicate, arith}
+use Rattle.std.proofs.Common.{◌≡◌, ◌∙◌, ap, sym, subst, ◌-◌, ◌++◌, ◌∷◌, [], length, max, drop, replicate, arith}
 use Rattle.lpt_memory.specs.declared.request.Area.{Area}
 use Rattle.lpt_memory.specs.Memories.{put_at}
 use Rattle.lpt_extract.specs.Areas.{end_of, extent}
-use Rattle.lpt_extract.specs.ImagesInside.{end_of_image, octets_of_image}
+use Rattle.lpt_extract.specs.CoversInside.{Covers}
+use Rattle.lpt_extract.specs.ImagesInside.{octets_of_image}
 use Rattle.lpt_extract.proofs.ImageLemmas.{extent-more, image-more}
 use Rattle.lpt_extract.proofs.image.Image.put.Goals as goal
 
@@ -11,11 +12,12 @@ use Rattle.lpt_extract.proofs.image.Image.put.Goals as goal
 pub returns-in_default : goal.returns-in_default
 returns-in_default c = λ areas h.
     let a : Area = record { address = c.args.address; octets = c.args.octets.now } in
-    let end : end_of_image c.reach.new.self ≡ extent (areas ++ a ∷ []) =
-    c.reach.ensures.end ∙ ap (λ e. max e (end_of a)) h.end_is ∙ sym (extent-more areas a) in
+    let covers = subst (λ n. Covers n (areas ++ a ∷ []) c.add.new.self) c.from.ensures
+    (c.in_ok-add.ensures.gaps areas a (omega arith) (omega arith)
+    (subst (λ n. Covers n areas c.args.self.now.cover) (sym c.from.ensures) h.covers)) in
     record {
-      end_is = end;
-      octets_are = λ fits. absurd (omega (arith, end, fits, c.in_default.ensures));
+      covers = covers;
+      octets_are = λ fits. absurd (omega (arith, covers.end_is, fits, c.in_default.ensures));
     }
 
 -- the area was put over it
@@ -25,19 +27,19 @@ returns c = λ areas h.
     let from = c.args.place.now.from in
     let fill = c.args.place.now.fill in
     let old = octets_of_image c.args.self.now in
-    let reached : end_of_image c.reach.new.self ≡ max (extent areas) (end_of a) =
-    c.reach.ensures.end ∙ ap (λ e. max e (end_of a)) h.end_is in
+    let covers = subst (λ n. Covers n (areas ++ a ∷ []) c.add.new.self) c.from.ensures
+    (c.in_ok-add.ensures.gaps areas a (omega arith) (omega arith)
+    (subst (λ n. Covers n areas c.args.self.now.cover) (sym c.from.ensures) h.covers)) in
     let more = extent-more areas a in
     let size : c.in-Some.size ≡ max (extent areas) (end_of a) - from =
-    c.in-Some.ensures.0 ∙ ap (λ e. e - from) reached in
+    c.in-Some.ensures.0 ∙ ap (λ e. e - from) (covers.end_is ∙ more) in
     record {
-      end_is = c.lay.ensures.end ∙ c.in_ok-grow.ensures.end ∙ reached ∙ sym more;
+      covers = subst (Covers from (areas ++ a ∷ [])) (sym (c.lay.ensures.cover ∙ c.in_ok-grow.ensures.cover)) covers;
       octets_are = λ fits.
           let was = h.octets_are (omega (arith, fits, more)) in
           c.lay.ensures.octets
           ∙ ap (λ o. put_at o (a.address - from) (drop (from - a.address) a.octets)) (
           c.in_ok-grow.ensures.octets
-          ∙ ap (λ o. o ++ replicate (c.in-Some.size - length o) fill) c.reach.ensures.octets
           ∙ ap (λ n. old ++ replicate (n - length old) fill) size
           )
           ∙ image-more from fill areas a old was;

@@ -1,12 +1,15 @@
-use Rattle.std.proofs.Common.{◌≡◌, ◌-◌, ℕ, List, length, if◌then◌else◌}
-use Rattle.lpt_stream.specs.Buffers.{held, is_ended, Goes}
+use Rattle.std.proofs.Common.{◌≡◌, ◌-◌, ℕ, List, length, take, true, false, if◌then◌else◌}
+use Rattle.lpt_stream.specs.Buffers.{held, is_ended, is_in_step, Goes, IsAsked}
+use Rattle.lpt_stream.specs.Pieces.{begins, lookahead}
 use Rattle.lpt_stream.proofs.buffer.PacketBuffer.find_piece.Given as goal
 
 -- what was read is held behind the rest
 abbrev pub invariant-loop-found : goal.invariant-loop-found
 invariant-loop-found g l = record {
   goes : (read : List ℕ) × Goes l.fn.self l.self (g.S.Source.remaining l.fn.source)
-      (g.S.Source.remaining l.source) read;
+      (g.S.Source.remaining l.source) read
+      × IsAsked (is_in_step l.fn.self) (held l.fn.self) read;
+  judged : l.is_judged ≡ true → begins (is_in_step l.self) (take lookahead (held l.self)) ≡ false;
   told : g.S.Source.failed l.source ≡ g.S.Source.failed l.fn.source;
 }
 

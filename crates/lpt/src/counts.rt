@@ -1,0 +1,32 @@
+//! How much of a stream is no packet.
+
+use crate::end::tell_place;
+use std::alloc::{AllocError, Global};
+
+/// Tells how many packets of a stream have a fault, and how many octets are part of none, where
+/// there are any.
+pub fn tell_no_packets(rt: &HostRuntime, damaged: u64, stray: u64) {
+    if damaged == 0 && stray == 0 {
+        return;
+    }
+    if let Ok(text) = no_packets_text(rt.alloc(), damaged, stray) {
+        tell_place(rt, text.as_str());
+    }
+}
+
+// Those that aren't 0 of both numbers, in words. The only error is out of memory.
+fn no_packets_text(alloc: Global, damaged: u64, stray: u64) -> Result<String, AllocError> {
+    let packets = if damaged == 1 { "packet" } else { "packets" };
+    let octets = if stray == 1 {
+        "octet that is"
+    } else {
+        "octets that are"
+    };
+    if stray == 0 {
+        return format!(in alloc; "{damaged} {packets} with a fault");
+    }
+    if damaged == 0 {
+        return format!(in alloc; "{stray} {octets} no packet");
+    }
+    format!(in alloc; "{damaged} {packets} with a fault, {stray} {octets} no packet")
+}

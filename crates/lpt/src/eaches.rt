@@ -1,0 +1,202 @@
+//! Every message of packets, each written into a file of its own.
+
+ghost use Rattle.lpt_files.specs.LptEvents.Configs.{IsConfig};
+
+use crate::end::{Failure, Status};
+use crate::input::{opened_packets, packets_end};
+use crate::joins::{tell, tell_missing, tell_skips, tell_unfit, word_of};
+use lpt_command_line::JoinWords;
+use lpt_each::{News, Taker, each_stream};
+use lpt_files::{Config, Name, Skips, ToolFault, Transaction};
+use std::alloc::AllocError;
+use std::collections::BTreeMap;
+use std::fs;
+
+/// A folder into which each message is written, and standard error, which is told of what never
+/// became whole.
+#[derive(Drop)]
+struct Folder<'a> {
+    rt: &'a HostRuntime,
+    config: &'a Config,
+    words: &'a JoinWords<'a>,
+    path: &'a str,
+    // How many messages of each name were written.
+    counts: BTreeMap<Name, u64>,
+    // Whether a part came, and whether parts never became whole.
+    came: bool,
+    lost: bool,
+    // Why a message couldn't be written.
+    failure: Option<Failure>,
+}
+
+impl Taker for Folder<'_> {
+    ghost use Rattle.std.specs.Prelude.{None};
+
+    ghost heard = { λ _. None };
+
+    fn take(&mut self, name: Name, news: &News) -> Result<(), ToolFault> {
+        self.came = true;
+        match news {
+            News::Given(message) => match self.write(name, message.as_slice()) {
+                Ok(()) => Ok(()),
+                Err(failure) => {
+                    self.failure = Some(failure);
+                    Err(ToolFault::Write)
+                }
+            },
+            lost => {
+                self.lost = true;
+                match self.tell(name, lost) {
+                    Ok(()) => Ok(()),
+                    Err(_) => Err(ToolFault::Memory),
+                }
+            }
+        }
+    }
+}
+
+impl Folder<'_> {
+    // Says what never became whole. The only error is out of memory.
+    fn tell(&self, name: Name, news: &News) -> Result<(), AllocError> {
+        match news {
+            News::Given(_) => Ok(()),
+            News::Dropped(came) => tell_missing(self.rt, self.config, self.words, name, came),
+            News::Unfit(misfit) => tell_unfit(self.rt, self.config, self.words, name, *misfit),
+        }
+    }
+
+    // Writes a message into a new file: all of it, or there is none of that name.
+    //
+    // Errors: `Write`, also where there is a file of its name; `Memory`.
+    fn write(&mut self, name: Name, message: &[u8]) -> Result<(), Failure> {
+        let number = match self.counts.get(&name) {
+            Some(count) => *count,
+            None => 0,
+        };
+        let path = match self.path_of(name, number) {
+            Ok(path) => path,
+            Err(_) => return Err(Failure::from(ToolFault::Memory)),
+        };
+        self.write_new(path.as_str(), message)?;
+        match self.counts.insert(name, number.saturating_add(1)) {
+            Ok(_) => Ok(()),
+            Err(_) => Err(Failure::from(ToolFault::Memory)),
+        }
+    }
+
+    // The path of this message of a name.
+    fn path_of(&self, name: Name, number: u64) -> Result<String, AllocError> {
+        let folder = self.path;
+        let direction = word_of(self.words.direction);
+        let source = name.source;
+        let id = name.id;
+        format!(in self.rt.alloc(); "{folder}/{direction}-{source}-{id}.{number}")
+    }
+
+    // Writes octets under another name, and gives them this one once all are there.
+    fn write_new(&self, path: &str, octets: &[u8]) -> Result<(), Failure> {
+        let rt = self.rt;
+        if fs::symlink_metadata(rt, path).is_ok() {
+            let place = format!(in rt.alloc(); "{path} is there already");
+            return Err(Failure::at(ToolFault::Write, place));
+        }
+        let part = match format!(in rt.alloc(); "{path}.part") {
+            Ok(part) => part,
+            Err(_) => return Err(Failure::from(ToolFault::Memory)),
+        };
+        let written = match fs::write(rt, part.as_str(), octets) {
+            Ok(()) => fs::rename(rt, part.as_str(), path),
+            Err(error) => Err(error),
+        };
+        match written {
+            Ok(()) => Ok(()),
+            Err(error) => {
+                let place = format!(in rt.alloc(); "{path}: {error}");
+                let _ = fs::remove_file(rt, part.as_str());
+                Err(Failure::at(ToolFault::Write, place))
+            }
+        }
+    }
+}
+
+/// Writes every message that packets carry, each into a file of its own in this folder, which is
+/// made where it isn't there.
+///
+/// Errors: `Read` where the packets can't be opened or read, or their capture is wrong; `Write`
+/// where the folder can't be made, or a message can't be written into a file that isn't there yet;
+/// `Memory`.
+pub fn join_each<'a>(
+    rt: &'a HostRuntime,
+    config: &'a Config,
+    words: &'a JoinWords<'a>,
+    path: &'a str,
+) -> Result<Status, Failure>
+    requires { IsConfig config.now }
+{
+    let mut source = opened_packets(rt, &words.files, words.span.from, words.span.to)?;
+    if let Err(error) = fs::create_dir_all(rt, path) {
+        let place = format!(in rt.alloc(); "{path}: {error}");
+        return Err(Failure::at(ToolFault::Write, place));
+    }
+    let mut folder = Folder {
+        rt,
+        config,
+        words,
+        path,
+        counts: BTreeMap::new(rt.alloc()),
+        came: false,
+        lost: false,
+        failure: None,
+    };
+    let transaction = Transaction {
+        direction: words.direction,
+        name: Name { source: 0, id: 0 },
+        apid: config.apid,
+        part_size: config.part_size,
+    };
+    let ended = each_stream(
+        rt.alloc(),
+        &transaction,
+        words.any,
+        &mut source,
+        &mut folder,
+    );
+    let failed = matches!(ended, Err(ToolFault::Read));
+    let failure = match packets_end(rt, &source, &words.files, failed) {
+        Some(failure) => Some(failure),
+        None => folder.failure.take(),
+    };
+    drop(source);
+    match (ended, failure) {
+        (_, Some(failure)) => Err(failure),
+        (Err(fault), None) => Err(Failure::from(fault)),
+        (Ok(skips), None) => match told(rt, config, words, folder.came, folder.lost, &skips) {
+            Ok(status) => Ok(status),
+            Err(_) => Err(Failure::from(ToolFault::Memory)),
+        },
+    }
+}
+
+// The status of a join whose stream was read to its end, after it was told where no part came, and
+// where not all is well, what was passed over. The only error is out of memory.
+fn told(
+    rt: &HostRuntime,
+    config: &Config,
+    words: &JoinWords<'_>,
+    came: bool,
+    lost: bool,
+    skips: &Skips,
+) -> Result<Status, AllocError>
+    requires { IsConfig config.now }
+{
+    if came && !lost {
+        return Ok(Status::Done);
+    }
+    if !came {
+        let direction = word_of(words.direction);
+        let text = format!(in rt.alloc(); "{direction}: no part of a message came");
+        tell(rt, text)?;
+    }
+    tell_skips(rt, config, words, None, skips)?;
+    Ok(Status::Refused)
+}

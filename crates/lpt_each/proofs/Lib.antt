@@ -1,0 +1,11 @@
+mod CameLemmas
+mod HeldsLemmas
+mod ReadLemmas
+mod RestrictLemmas
+mod SendLemmas
+mod SieveLemmas
+mod SoundLemmas
+mod SplitLemmas
+mod StepLemmas
+mod TellLemmas
+mod TurnLemmas

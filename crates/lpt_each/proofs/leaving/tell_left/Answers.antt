@@ -1,0 +1,15 @@
+-- What came of the name is told, where it isn't nothing.
+use Rattle.std.proofs.Common.{◌∙◌, sym, subst, List}
+use Rattle.lpt_join.specs.declared.came.Came.{Came}
+use Rattle.lpt_each.specs.News.{Event, Hears}
+use Rattle.lpt_each.specs.Helds.{AreCame}
+use Rattle.lpt_each.proofs.TellLemmas.{left-told}
+use Rattle.lpt_each.proofs.leaving.tell_left.Goals as goal
+
+pub returns-in-Ok-clause-told : goal.returns-in-Ok-clause-told
+returns-in-Ok-clause-told g c = λ t h k.
+    subst (λ (es : List Event). Hears (g.T.Taker.heard c.args.taker.now) (g.T.Taker.heard c.take.new.self) es)
+    (left-told c.args.name c.into_came.result h
+    (subst (λ (d : Came). AreCame d h.new) (sym c.into_came.ensures) k.came)
+    (sym k.new.none ∙ sym c.is_empty.ensures ∙ c.if-is_empty.false))
+    c.in-Ok.ensures.heard

@@ -1,0 +1,98 @@
+-- What is kept, as the code has it.
+use Rattle.std.specs.Prelude.{◌≡◌, ℕ, Bool, true, false, List, [], ◌∷◌, Option, Some, None, is_some}
+use Rattle.std.specs.BTreeMap.{get, IsOrdered}
+use Rattle.std.specs.FinMap as map
+use Rattle.lpt_join.specs.LptPacket.Names.{Name, name_cmp}
+use Rattle.lpt_join.specs.LptReception.Received.{Kept, Parts, no_parts, with_part}
+use Rattle.lpt_join.specs.declared.came.Came.{Came}
+use Rattle.lpt_join.specs.declared.joining.Joining.{Joining}
+use Rattle.lpt_join.specs.declared.joining.Joining.TheVariants as joining
+use Rattle.lpt_join.specs.declared.transaction.Transaction.{Transaction}
+use Rattle.lpt_join.specs.CameInside.{has, is_ended}
+use Rattle.lpt_join.specs.Gatherings.{state, IsJoiningOf}
+use Rattle.lpt_join.specs.Joins.{Missing}
+use Rattle.lpt_join.specs.Several.{of_name}
+use Rattle.lpt_each.specs.declared.held.Held as code
+use Rattle.lpt_each.specs.declared.helds.Helds as codes
+use Rattle.lpt_each.specs.declared.news.News as code_news
+use Rattle.lpt_each.specs.declared.news.News.TheVariants as said
+use Rattle.lpt_each.specs.declared.turn.Turn as code_turn
+use Rattle.lpt_each.specs.declared.turn.Turn.TheVariants as turned
+use Rattle.lpt_each.specs.Eaches.{Held, Turn, Waits, GivesUp, Gives, held, is_empty, nothing}
+use Rattle.lpt_each.specs.News.{Event, News, Given, Dropped, Unfit, dropped, has_end}
+
+-- ---- news
+
+-- what is told
+abbrev pub news_of : code_news.News → News
+news_of (said.Given m) = Given m
+news_of (said.Dropped c) = Dropped (has c) (is_ended c)
+news_of (said.Unfit e) = Unfit e
+
+-- news of a name, where there are
+abbrev pub events_of : Option (Name × code_news.News) → List Event
+events_of None = []
+events_of (Some e) = (e.0, news_of e.1) ∷ []
+
+-- ---- parts
+
+-- nothing is kept
+abbrev pub has_nothing : Joining → Bool
+has_nothing joining.Nothing = true
+has_nothing (joining.Missing f) = false
+has_nothing (joining.Complete m) = false
+has_nothing joining.BrokenOff = false
+
+-- these parts are kept
+pub record Keeps (t : Transaction) (j : Joining) (s : Parts) : Type 0 where
+  pub of : IsJoiningOf t j
+  pub parts : state j ≡ Missing s
+  pub none : has_nothing j ≡ is_empty s
+
+-- these came
+pub record AreCame (c : Came) (s : Parts) : Type 0 where
+  pub came : (n : ℕ) → has c n ≡ is_some (map.get s n)
+  pub ended : is_ended c ≡ has_end s
+
+-- it is this turn
+abbrev pub IsTurn : Transaction → Parts → ℕ × Kept → code_turn.Turn → Turn → Type 0
+IsTurn t s x (turned.Waits j) now = (r : Parts) × Keeps t j r × (now ≡ Waits r)
+IsTurn t s x turned.Broken now = now ≡ GivesUp (dropped s) (with_part no_parts x.0 x.1)
+IsTurn t s x (turned.Unfit e) now = now ≡ GivesUp (Unfit e) no_parts
+IsTurn t s x (turned.Gives m) now = now ≡ Gives m
+
+-- all parts are kept, where they are
+abbrev pub KeepsAll : Transaction → Option Joining → Option Parts → Type 0
+KeepsAll t None None = Unit {0}
+KeepsAll t None (Some s) = ⊥
+KeepsAll t (Some j) None = ⊥
+KeepsAll t (Some j) (Some s) = Keeps t j s
+
+-- it is this turn of all parts, where they are kept
+abbrev pub IsTurnOfAll :
+    Transaction → Option Parts → ℕ × Kept → Option code_turn.Turn → Option Turn → Type 0
+IsTurnOfAll t all x None None = Unit {0}
+IsTurnOfAll t all x None (Some now) = ⊥
+IsTurnOfAll t all x (Some turn) None = ⊥
+IsTurnOfAll t None x (Some turn) (Some now) = ⊥
+IsTurnOfAll t (Some s) x (Some turn) (Some now) = IsTurn t s x turn now
+
+-- ---- names
+
+-- this is kept of the name
+pub record Holds (t : Transaction) (g : code.Held) (h : Held) : Type 0 where
+  pub last : g.last ≡ h.last
+  pub all : KeepsAll t g.all h.all
+  pub new : Keeps t g.new h.new
+  pub came : AreCame g.came h.new
+
+-- this is kept of the name, or nothing where nothing came
+abbrev pub IsHeld : Transaction → Option code.Held → Held → Type 0
+IsHeld t None h = h ≡ nothing
+IsHeld t (Some g) h = Holds t g h
+
+-- of each name this is kept behind the packets
+pub record HoldsEach (t : Transaction) (any : Bool) (bs : List (List ℕ))
+    (g : codes.Helds) : Type 0 where
+  pub each : (n : Name) → IsHeld (of_name t n) (get name_cmp g.kept n) (held (of_name t n) any bs)
+  pub in_order : IsOrdered name_cmp g.kept

@@ -1,0 +1,78 @@
+-- Packets of messages one behind the other, and what is given out of any.
+use Rattle.std.specs.Prelude.{◌≡◌, ℕ, ◌≤◌, Bool, false, if◌then◌else◌, List, [], ◌∷◌, ◌++◌, filter, length, None, is_some}
+use Rattle.std.specs.List.{flat_map}
+use Rattle.lpt_join.specs.LptPacket.Names.{Name, same_name}
+use Rattle.lpt_join.specs.LptEvents.declared.config.Config.{Config}
+use Rattle.lpt_join.specs.LptSplit.Splits.{AreNumbers, split_of}
+use Rattle.lpt_join.specs.LptReception.LptPart.Splitting.{part_count}
+use Rattle.lpt_join.specs.LptReception.PartsOf.{IsMessage, kept_of}
+use Rattle.lpt_join.specs.declared.transaction.Transaction.{Transaction}
+use Rattle.lpt_join.specs.Laws.{AllBelong, AllCame, Carries, HasNumber, IsSending, IsThere, came}
+use Rattle.lpt_join.specs.Offers.{offered}
+use Rattle.lpt_join.specs.Several.{carried}
+use Rattle.lpt_each.specs.Eaches.{unfit}
+use Rattle.lpt_each.specs.News.{Event, News}
+
+-- each of these packets carries a part of the message, or no part of its name; each part of it is
+-- there, and it is whole with the last packet alone: it may be given out
+pub record IsSentBy (t : Transaction) (any : Bool) (m : List ℕ) (bs : List (List ℕ)) : Type 0 where
+  pub message : IsMessage m t.part_size
+  pub fit : unfit t any m ≡ None
+  pub front : List (List ℕ)
+  pub last : List ℕ
+  pub number : ℕ
+  pub are : bs ≡ front ++ last ∷ []
+  pub belong : AllBelong t m front
+  pub ends : Carries t m number last
+  pub first : came t number front ≡ false
+  pub all : AllCame t m bs
+
+-- the packets are those of these messages, one behind the other, and behind them others that carry
+-- no part of their name
+abbrev pub Sends : Transaction → (any : Bool) → List (List ℕ) → List (List ℕ) → Type 0
+Sends t any [] bs = carried t bs ≡ false
+Sends t any (m ∷ ms) bs =
+    (front : List (List ℕ)) × (rest : List (List ℕ))
+    × (bs ≡ front ++ rest) × IsSentBy t any m front × Sends t any ms rest
+
+-- a message each part of which stands among the packets, and which may be given out
+pub record IsGood (t : Transaction) (any : Bool) (bs : List (List ℕ)) (m : List ℕ) : Type 0 where
+  pub message : IsMessage m t.part_size
+  pub there : (n : ℕ) → 1 ≤ n → n ≤ part_count (length m) t.part_size
+      → IsThere t n (kept_of m t.part_size n) bs
+  pub fit : unfit t any m ≡ None
+
+-- the news of one name among those of all
+abbrev pub news_of_name : Name → List Event → List News
+news_of_name n es = flat_map (λ e. if same_name e.0 n then e.1 ∷ [] else []) es
+
+-- a message that is split: its parts of these numbers, in packets of sequence counts from this on
+pub record Split : Type 0 where
+  pub message : List ℕ
+  pub count : ℕ
+  pub numbers : List ℕ
+
+-- its packets
+abbrev pub packets_of : Transaction → Config → Split → List (List ℕ)
+packets_of t c s = split_of c t.direction t.name s.message s.count s.numbers
+
+-- each part of the message is sent, and not all before the last number; it may be given out
+pub record IsSplitWhole (t : Transaction) (any : Bool) (c : Config) (s : Split) : Type 0 where
+  pub sending : IsSending t c s.message
+  pub fit : unfit t any s.message ≡ None
+  pub count_fits : s.count ≤ 16383
+  pub front : List ℕ
+  pub number : ℕ
+  pub are : s.numbers ≡ front ++ number ∷ []
+  pub first : HasNumber number front → ⊥
+  pub numbers : AreNumbers (part_count (length s.message) t.part_size) s.numbers
+  pub each : (n : ℕ) → 1 ≤ n → n ≤ part_count (length s.message) t.part_size → HasNumber n s.numbers
+
+-- each of these is
+abbrev pub AllSplitWhole : Transaction → (any : Bool) → Config → List Split → Type 0
+AllSplitWhole t any c [] = Unit {0}
+AllSplitWhole t any c (s ∷ ss) = IsSplitWhole t any c s × AllSplitWhole t any c ss
+
+-- the packets that carry a part of the name
+abbrev pub carriers : Transaction → List (List ℕ) → List (List ℕ)
+carriers t bs = filter (λ b. is_some (offered t b)) bs

@@ -1,0 +1,5 @@
+pub mod Eaches
+pub mod Helds
+pub mod Laws
+pub mod News
+pub mod Streams

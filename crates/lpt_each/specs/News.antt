@@ -1,0 +1,32 @@
+-- What becomes of the parts of a name.
+use Rattle.std.specs.Prelude.{◌≡◌, ℕ, Bool, List, ◌++◌, Option, Some, None, is_some, ⊤}
+use Rattle.std.specs.List.{list_any}
+use Rattle.std.specs.FinMap as map
+use Rattle.lpt_join.specs.LptPacket.Names.{Name}
+use Rattle.lpt_join.specs.LptReception.Received.{Parts, is_last}
+use Rattle.lpt_join.specs.declared.messages.Misfit.{Misfit}
+
+-- A message became whole; parts were given up that weren't: which came, and whether a last part
+-- did; what parts were joined to is no packet of the direction.
+pub data News : Type 0 where
+  Given : List ℕ → News
+  Dropped : (came : ℕ → Bool) → (ended : Bool) → News
+  Unfit : Misfit → News
+
+-- whether a last part is among these
+abbrev pub has_end : Parts → Bool
+has_end s = list_any (λ e. is_last e.1) (map.entries s)
+
+-- what is told of parts that are given up
+abbrev pub dropped : Parts → News
+dropped s = Dropped (λ n. is_some (map.get s n)) (has_end s)
+
+-- news of a name
+abbrev pub Event : Type 0
+Event = Name × News
+
+-- what is known to have been told grows by these
+abbrev pub Hears : (old new : Option (List Event)) → List Event → Type 0
+Hears None new es = ⊤
+Hears (Some xs) None es = ⊥
+Hears (Some xs) (Some ys) es = ys ≡ xs ++ es

@@ -1,0 +1,220 @@
+//! What is kept of one name.
+
+ghost use Rattle.std.specs.Prelude.{◌≡◌, ℕ, ◌==◌, Bool, ◌||◌, Option, IfOk};
+ghost use Rattle.std.specs.Option.{option_map};
+ghost use Rattle.lpt_join.specs.LptReception.LptPart.Parts.{piece};
+ghost use Rattle.lpt_join.specs.LptReception.Received.{Kept, Parts, is_last, no_parts, with_part};
+ghost use Rattle.lpt_join.specs.declared.transaction.Transaction.{Transaction};
+ghost use Rattle.lpt_join.specs.CameInside.{has, is_ended};
+ghost use Rattle.lpt_join.specs.Offers.{part_of_piece};
+ghost use Rattle.lpt_each.specs.Eaches as each;
+ghost use Rattle.lpt_each.specs.Helds.{AreCame, Holds, IsTurnOfAll, Keeps, KeepsAll, has_nothing, news_of};
+
+use crate::News;
+use crate::turn::{Turn, alone, turn_with};
+use lpt_join::{Came, Joining, Octets, Part, Transaction, is_part_of};
+use std::alloc::{AllocError, Global};
+
+/// What is kept of one name. It takes no more memory than four of the longest messages.
+#[derive(Drop)]
+pub(crate) struct Held {
+    // The last whole message.
+    pub(crate) last: Option<Octets>,
+    // All parts that came behind it, as long as they may be parts of one message.
+    pub(crate) all: Option<Joining>,
+    // Those of them that aren't parts of it.
+    pub(crate) new: Joining,
+    // Which these are.
+    pub(crate) came: Came,
+}
+
+impl Held {
+    // Nothing came behind this message.
+    pub(crate) fn behind(alloc: Global, last: Option<Octets>) -> Held
+        ensures { (t : Transaction) → Holds t result (each.begun last no_parts) }
+    {
+        let all = match &last {
+            None => None,
+            Some(_) => Some(Joining::Nothing),
+        };
+        Held {
+            last,
+            all,
+            new: Joining::Nothing,
+            came: Came::new(alloc),
+        }
+    }
+
+    // Whether nothing is left of what came.
+    pub(crate) fn is_empty(&self) -> bool
+        ensures { result ≡ has_nothing self.now.new }
+    {
+        match &self.new {
+            Joining::Nothing => true,
+            _ => false,
+        }
+    }
+
+    // Which parts are left.
+    pub(crate) fn into_came(self) -> Came
+        ensures { result ≡ self.came }
+    {
+        self.came
+    }
+
+    // Takes a part of the name, and gives what is told of it. The only error is out of memory.
+    pub(crate) fn take(
+        self,
+        alloc: Global,
+        transaction: &Transaction,
+        any: bool,
+        part: &Part<'_>,
+    ) -> Result<(Held, Option<News>), AllocError>
+        requires held { (h : each.Held) × Holds transaction.now self h }
+        requires id { part.now.id ≡ transaction.now.name.id }
+        requires size { part.now.p ≡ transaction.now.part_size }
+        ensures held { (h : each.Held) → Holds transaction.now self h → IfOk result (λ r.
+            Holds transaction.now r.0
+            (each.step transaction.now any h (part_of_piece (piece part.now))).0) }
+        ensures told { (h : each.Held) → Holds transaction.now self h → IfOk result (λ r.
+            option_map news_of r.1
+            ≡ (each.step transaction.now any h (part_of_piece (piece part.now))).1) }
+    {
+        let Held {
+            last,
+            all,
+            new,
+            came,
+        } = self;
+        let old = is_old(&last, part);
+        let all = turn_of_all(alloc, transaction, any, all, part)?;
+        if old {
+            return after_all(alloc, last, new, came, all);
+        }
+        match turn_with(alloc, transaction, any, new, part)? {
+            Turn::Waits(new) => {
+                let came = with(came, part)?;
+                after_all(alloc, last, new, came, all)
+            }
+            Turn::Broken => {
+                let held = begin(alloc, transaction, last, part)?;
+                Ok((held, Some(News::Dropped(came))))
+            }
+            Turn::Unfit(misfit) => Ok((Held::behind(alloc, last), Some(News::Unfit(misfit)))),
+            Turn::Gives(message) => give(alloc, message),
+        }
+    }
+}
+
+// Whether it is a part of the last message.
+fn is_old(last: &Option<Octets>, part: &Part<'_>) -> bool
+    ensures { result ≡ each.is_old last.now part.now.p (part_of_piece (piece part.now)) }
+{
+    match last {
+        None => false,
+        Some(message) => is_part_of(message.as_slice(), part),
+    }
+}
+
+// Adds a part to all parts, where they are kept. The only error is out of memory.
+fn turn_of_all(
+    alloc: Global,
+    transaction: &Transaction,
+    any: bool,
+    all: Option<Joining>,
+    part: &Part<'_>,
+) -> Result<Option<Turn>, AllocError>
+    requires kept { (s : Option Parts) × KeepsAll transaction.now all s }
+    requires id { part.now.id ≡ transaction.now.name.id }
+    requires size { part.now.p ≡ transaction.now.part_size }
+    ensures { (s : Option Parts) → KeepsAll transaction.now all s → IfOk result (λ o.
+        IsTurnOfAll transaction.now s (part_of_piece (piece part.now)) o
+        (option_map (λ s. each.turn transaction.now any s (part_of_piece (piece part.now))) s)) }
+{
+    match all {
+        None => Ok(None),
+        Some(joining) => Ok(Some(turn_with(alloc, transaction, any, joining, part)?)),
+    }
+}
+
+// The parts that came, with this one. The only error is out of memory.
+fn with(came: Came, part: &Part<'_>) -> Result<Came, AllocError>
+    ensures came { IfOk result (λ c. (n : ℕ) → has c n ≡ ((part.now.number == n) || has came n)) }
+    ensures ended { IfOk result (λ c. is_ended c
+        ≡ (is_last (part_of_piece (piece part.now)).1 || is_ended came)) }
+{
+    let mut came = came;
+    came.add(part.number, part.kind)?;
+    Ok(came)
+}
+
+// This part alone came behind a message. The only error is out of memory.
+fn begin(
+    alloc: Global,
+    transaction: &Transaction,
+    last: Option<Octets>,
+    part: &Part<'_>,
+) -> Result<Held, AllocError>
+    requires id { part.now.id ≡ transaction.now.name.id }
+    requires size { part.now.p ≡ transaction.now.part_size }
+    ensures { IfOk result (λ g. Holds transaction.now g (each.begun last
+        (with_part no_parts part.now.number (part_of_piece (piece part.now)).1))) }
+{
+    let all = match &last {
+        None => None,
+        Some(_) => Some(alone(alloc, transaction, part)?),
+    };
+    let new = alone(alloc, transaction, part)?;
+    let came = with(Came::new(alloc), part)?;
+    Ok(Held {
+        last,
+        all,
+        new,
+        came,
+    })
+}
+
+// Gives a message out. The only error is out of memory.
+fn give(alloc: Global, message: Octets) -> Result<(Held, Option<News>), AllocError>
+    ensures held { (t : Transaction) → IfOk result (λ r. Holds t r.0 (each.given message).0) }
+    ensures told { IfOk result (λ r. option_map news_of r.1 ≡ (each.given message).1) }
+{
+    let last = message.copy()?;
+    Ok((Held::behind(alloc, Some(last)), Some(News::Given(message))))
+}
+
+// What is kept by what a part made of all, where it left these new ones. The only error is out of
+// memory.
+fn after_all(
+    alloc: Global,
+    last: Option<Octets>,
+    new: Joining,
+    came: Came,
+    all: Option<Turn>,
+) -> Result<(Held, Option<News>), AllocError>
+    ensures held { (t : Transaction) (any : Bool) (h : each.Held) (x : ℕ × Kept) (s : Parts)
+        → last ≡ h.last → Keeps t new s → AreCame came s
+        → IsTurnOfAll t h.all x all (each.all_turn t any h x)
+        → IfOk result (λ r. Holds t r.0 (each.after_all h s (each.all_turn t any h x)).0) }
+    ensures told { (t : Transaction) (any : Bool) (h : each.Held) (x : ℕ × Kept) (s : Parts)
+        → IsTurnOfAll t h.all x all (each.all_turn t any h x)
+        → IfOk result (λ r. option_map news_of r.1
+        ≡ (each.after_all h s (each.all_turn t any h x)).1) }
+{
+    let all = match all {
+        None => None,
+        Some(Turn::Waits(joining)) => Some(joining),
+        Some(Turn::Broken) => None,
+        Some(Turn::Unfit(_)) => None,
+        Some(Turn::Gives(message)) => return give(alloc, message),
+    };
+    Ok((
+        Held {
+            last,
+            all,
+            new,
+            came,
+        },
+        None,
+    ))
+}

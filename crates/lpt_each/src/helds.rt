@@ -1,0 +1,91 @@
+//! What is kept of each name.
+
+ghost use Rattle.std.specs.Prelude.{◌≡◌, ℕ, Bool, List, [], ◌∷◌, ◌++◌, false, Some, IfOk, OnOk};
+ghost use Rattle.std.specs.BTreeMap.{get, IsOrdered};
+ghost use Rattle.lpt_join.specs.LptPacket.Names.{Name, name_cmp, same_name};
+ghost use Rattle.lpt_join.specs.declared.transaction.Transaction.{Transaction};
+ghost use Rattle.lpt_join.specs.Offers.{piece_in};
+ghost use Rattle.lpt_join.specs.Several.{of_name};
+ghost use Rattle.lpt_each.specs.Eaches.{held};
+ghost use Rattle.lpt_each.specs.Helds.{events_of, Holds, HoldsEach};
+ghost use Rattle.lpt_each.specs.Streams.{told_by};
+
+use crate::News;
+use crate::held::Held;
+use lpt_join::{Name, Transaction, name_in, part_in};
+use std::alloc::{AllocError, Global};
+use std::collections::BTreeMap;
+
+/// What is kept of each name.
+#[derive(Drop)]
+pub(crate) struct Helds {
+    pub(crate) kept: BTreeMap<Name, Held>,
+}
+
+impl Helds {
+    // Nothing came.
+    pub(crate) fn new(alloc: Global) -> Helds
+        ensures { (t : Transaction) (any : Bool) → HoldsEach t any [] result }
+    {
+        Helds {
+            kept: BTreeMap::new(alloc),
+        }
+    }
+
+    // Takes a packet, and gives what it tells. The only error is out of memory.
+    pub(crate) fn take(
+        self,
+        alloc: Global,
+        transaction: &Transaction,
+        any: bool,
+        octets: &[u8],
+    ) -> Result<(Helds, Option<(Name, News)>), AllocError>
+        requires { (bs : List (List ℕ)) × HoldsEach transaction.now any bs self }
+        ensures held { (bs : List (List ℕ)) → HoldsEach transaction.now any bs self → IfOk result
+            (λ r. HoldsEach transaction.now any (bs ++ octets.now ∷ []) r.0) }
+        ensures told { (bs : List (List ℕ)) → HoldsEach transaction.now any bs self → IfOk result
+            (λ r. events_of r.1
+            ≡ told_by transaction.now any bs octets.now (piece_in transaction.now octets.now)) }
+    {
+        let Some(name) = name_in(octets, transaction) else {
+            return Ok((self, None));
+        };
+        let own = transaction.of_name(name);
+        let Some(part) = part_in(octets, &own) else {
+            return Ok((self, None));
+        };
+        let mut helds = self;
+        let held = helds.take_out(alloc, name);
+        let (held, news) = held.take(alloc, &own, any, &part)?;
+        helds.put(name, held)?;
+        match news {
+            None => Ok((helds, None)),
+            Some(news) => Ok((helds, Some((name, news)))),
+        }
+    }
+
+    // What is kept of a name, taken out.
+    fn take_out(&mut self, alloc: Global, name: Name) -> Held
+        ensures given { (t : Transaction) (any : Bool) (bs : List (List ℕ))
+            → HoldsEach t any bs self.old
+            → Holds (of_name t name) result (held (of_name t name) any bs) }
+        ensures others { (n : Name) → same_name name n ≡ false
+            → get name_cmp self.new.kept n ≡ get name_cmp self.old.kept n }
+    {
+        match self.kept.remove(&name) {
+            Some(held) => held,
+            None => Held::behind(alloc, None),
+        }
+    }
+
+    // Keeps this of a name. The only error is out of memory.
+    fn put(&mut self, name: Name, held: Held) -> Result<(), AllocError>
+        ensures kept { OnOk result (get name_cmp self.new.kept name ≡ Some held) }
+        ensures others { OnOk result ((n : Name) → same_name name n ≡ false
+            → get name_cmp self.new.kept n ≡ get name_cmp self.old.kept n) }
+        ensures in_order { IsOrdered name_cmp self.new.kept }
+    {
+        self.kept.insert(name, held)?;
+        Ok(())
+    }
+}

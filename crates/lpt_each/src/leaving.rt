@@ -1,0 +1,46 @@
+//! What is left of each name at the end of a stream.
+
+ghost use Rattle.std.specs.Prelude.{◌≡◌, ◌⊎◌, ℕ, Bool, List, IfErr, OnOk};
+ghost use Rattle.lpt_join.specs.declared.transaction.Transaction.{Transaction};
+ghost use Rattle.lpt_each.specs.Eaches as each;
+ghost use Rattle.lpt_each.specs.Helds.{Holds, HoldsEach};
+ghost use Rattle.lpt_each.specs.News.{Event, Hears};
+ghost use Rattle.lpt_each.specs.Streams.{Leaves, of};
+
+use crate::held::Held;
+use crate::helds::Helds;
+use crate::{News, Taker};
+use lpt_join::{Name, ToolFault};
+
+// Tells what is left of each name, in the order of names.
+pub(crate) fn leave<T: Taker>(helds: Helds, taker: &mut T) -> Result<(), ToolFault>
+    ensures told { (t : Transaction) (any : Bool) (bs : List (List ℕ)) → HoldsEach t any bs helds
+        → OnOk result ((es : List Event) × Leaves t any bs es
+        × Hears (T.heard taker.old) (T.heard taker.new) es) }
+    ensures fault { IfErr result (λ e. (e ≡ ToolFault.Write) ⊎ (e ≡ ToolFault.Memory)) }
+{
+    let mut kept = helds.kept;
+    while let Some((name, held)) = kept.pop_first() {
+        match tell_left(name, held, taker) {
+            Ok(()) => {}
+            Err(fault) => return Err(fault),
+        }
+    }
+    Ok(())
+}
+
+// Tells what is left of a name.
+fn tell_left<T: Taker>(name: Name, held: Held, taker: &mut T) -> Result<(), ToolFault>
+    ensures told { (t : Transaction) (h : each.Held) → Holds t held h → OnOk result
+        (Hears (T.heard taker.old) (T.heard taker.new) (of name (each.left h))) }
+    ensures fault { IfErr result (λ e. (e ≡ ToolFault.Write) ⊎ (e ≡ ToolFault.Memory)) }
+{
+    if held.is_empty() {
+        return Ok(());
+    }
+    let news = News::Dropped(held.into_came());
+    match taker.take(name, &news) {
+        Ok(()) => Ok(()),
+        Err(fault) => Err(fault),
+    }
+}

@@ -1,0 +1,23 @@
+//! The messages of a stream of packets, each of every name, in the order in which they become whole
+//! (ECSS-E-ST-70-41C, large packet transfer), and what never becomes whole.
+//!
+//! A name is used again: behind a whole message the next one begins. Parts of the last message that
+//! come again late do no harm, and a next message that has parts of the last one is joined too.
+//!
+//! The main types are `News`, and `Taker`, who is told of them. The first call is `each_stream`.
+#![tactic(auto)]
+
+mod each;
+mod held;
+mod helds;
+pub mod laws;
+mod leaving;
+mod news;
+mod turn;
+
+pub use each::each_stream;
+pub use lpt_join::{
+    Came, Config, Direction, Misfit, Name, Octets, PacketFault, Skips, Source, Told, ToolFault,
+    Transaction,
+};
+pub use news::{News, Taker};

@@ -1,0 +1,32 @@
+//! What is told of the parts of a name, and to whom.
+
+use lpt_join::{Came, Misfit, Name, Octets, ToolFault};
+
+/// What became of the parts of a name.
+#[derive(Drop)]
+pub enum News {
+    /// A message is whole.
+    Given(Octets),
+    /// Parts were given up that weren't whole: these came.
+    Dropped(Came),
+    /// What parts were joined to is no packet of the direction.
+    Unfit(Misfit),
+}
+
+/// Who is told what becomes of the parts of each name.
+pub trait Taker {
+    ghost use Rattle.std.specs.Prelude.{◌≡◌, ◌⊎◌, ◌∷◌, [], List, Option, IfErr, OnOk};
+    ghost use Rattle.lpt_each.specs.Helds.{news_of};
+    ghost use Rattle.lpt_each.specs.News.{Event, Hears};
+
+    // What was told so far, where that is known.
+    ghost heard: { Self → Option (List Event) };
+
+    /// Is told something more.
+    ///
+    /// Errors: `Write` where it couldn't be written; `Memory`.
+    fn take(&mut self, name: Name, news: &News) -> Result<(), ToolFault>
+        ensures heard { OnOk result (Hears (heard self.old) (heard self.new)
+            ((name, news_of news.now) ∷ [])) }
+        ensures fault { IfErr result (λ e. (e ≡ ToolFault.Write) ⊎ (e ≡ ToolFault.Memory)) };
+}

@@ -1,0 +1,86 @@
+//! How much of a stream wasn't taken.
+
+use crate::Notice;
+
+/// How much of a stream wasn't taken. Each number stays at 2^64 - 1 where it would be more.
+#[derive(Clone, Copy)]
+pub struct Tally {
+    /// Areas that were passed over since their checksum is wrong, and reports that aren't read.
+    pub passed: u64,
+    /// Reports of other memories.
+    pub memories: Others,
+    /// Dump reports of other application processes.
+    pub apids: Others,
+    /// Runs of octets that are no packets, each as long as its header says.
+    pub damaged: u64,
+    /// Octets that are part of no packet, nor of such a run.
+    pub stray: u64,
+}
+
+/// How many reports are of others than what is wanted.
+#[derive(Clone, Copy)]
+pub struct Others {
+    /// How many.
+    pub count: u64,
+    /// Of which one the first of them is.
+    pub first: Option<u16>,
+}
+
+impl Tally {
+    ghost use Rattle.std.specs.Prelude.{◌≡◌, ◌++◌, ◌∷◌, List, []};
+    ghost use Rattle.lpt_extract.specs.declared.notice.Notice.{Notice};
+    ghost use Rattle.lpt_extract.specs.Tallies.{IsTally};
+
+    // Of nothing.
+    pub(crate) fn new() -> Tally
+        ensures { IsTally [] result }
+    {
+        Tally {
+            passed: 0,
+            memories: Others::new(),
+            apids: Others::new(),
+            damaged: 0,
+            stray: 0,
+        }
+    }
+
+    // Counts what was told.
+    pub(crate) fn count(&mut self, notice: Notice)
+        ensures { (ns : List Notice) → IsTally ns self.old → IsTally (ns ++ notice ∷ []) self.new }
+    {
+        match notice {
+            Notice::Taken(_) => {}
+            Notice::WrongChecksum(_, _) => self.passed = self.passed.saturating_add(1),
+            Notice::Unread(_, _) => self.passed = self.passed.saturating_add(1),
+            Notice::OtherMemory(memory) => self.memories.add(u16::from(memory)),
+            Notice::OtherApid(apid) => self.apids.add(apid),
+            Notice::Damaged => self.damaged = self.damaged.saturating_add(1),
+            Notice::Stray => self.stray = self.stray.saturating_add(1),
+        }
+    }
+}
+
+impl Others {
+    ghost use Rattle.std.specs.Prelude.{◌≡◌, ℕ, ◌++◌, ◌∷◌, List, []};
+    ghost use Rattle.lpt_extract.specs.Tallies.{AreOthers};
+
+    // None.
+    fn new() -> Others
+        ensures { AreOthers [] result }
+    {
+        Others {
+            count: 0,
+            first: None,
+        }
+    }
+
+    // Counts one more.
+    fn add(&mut self, one: u16)
+        ensures { (xs : List ℕ) → AreOthers xs self.old → AreOthers (xs ++ one ∷ []) self.new }
+    {
+        self.count = self.count.saturating_add(1);
+        if self.first.is_none() {
+            self.first = Some(one);
+        }
+    }
+}

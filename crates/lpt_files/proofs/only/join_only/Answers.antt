@@ -1,0 +1,17 @@
+-- The only message is the one that was written.
+use Rattle.std.proofs.Common.{sym, subst}
+use Rattle.lpt_join.specs.Laws.{AllMadeOrNone, EachIsAmong}
+use Rattle.lpt_join.specs.Several.{of_name}
+use Rattle.lpt_join.proofs.EndLemmas.{packets_read}
+use Rattle.lpt_files.proofs.OnlyLemmas.{only_message}
+use Rattle.lpt_files.proofs.only.join_only.Goals as goal
+
+pub returns-in-Ok-write_only-clause-message : goal.returns-in-Ok-write_only-clause-message
+returns-in-Ok-write_only-clause-message g c = λ name config m stream packets is cut sending all each good.
+    let t = c.args.transaction.now in
+    let read = c.in-Ok.ensures.gathered in
+    let same = packets_read (g.S.Source.remaining c.args.source.now) _ _ read stream packets is cut in
+    only_message t name config m read.1 c.in-Ok.gathered.0 read.5.0 c.write_only.ensures.ordered sending
+    (subst (λ bs. AllMadeOrNone (of_name t name) config m bs) (sym same) all)
+    (subst (λ bs. EachIsAmong (of_name t name) config m bs) (sym same) each)
+    c.args.any c.in-Ok-write_only.end _ _ c.in-Ok-write_only.ensures.ends good

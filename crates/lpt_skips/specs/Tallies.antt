@@ -1,0 +1,56 @@
+-- How many pieces of a stream are passed over, and why.
+use Rattle.std.specs.Prelude.{ℕ, ◌+◌, ◌-◌, ◌^◌, min, List, [], ◌∷◌, Some, None}
+use Rattle.std.specs.Option.{option_or}
+use Rattle.lpt_stream.specs.Pieces.{Piece}
+use Rattle.lpt_skips.specs.declared.reading.Reading.{Reading}
+use Rattle.lpt_skips.specs.declared.skips.Skips.{Skips}
+use Rattle.lpt_skips.specs.declared.why.Why.{Why}
+use Rattle.lpt_skips.specs.declared.why.Why.TheVariants.{Taken, Damaged, Stray, OtherApid, OtherDirection, Unread, OtherName, NoPart}
+use Rattle.lpt_skips.specs.Skipping.{why}
+
+-- a count and so many more, up to the greatest of 64 bits
+abbrev pub raised : ℕ → ℕ → ℕ
+raised count more = min (count + more) (2 ^ 64 - 1)
+
+-- before any piece
+abbrev pub nothing_noted : Skips
+nothing_noted = record {
+  taken = 0;
+  of_others = 0;
+  apid = None;
+  turned = 0;
+  unread = 0;
+  part_size = None;
+  unnamed = 0;
+  name = None;
+  bare = 0;
+  damaged = 0;
+  stray = 0;
+}
+
+-- with one more that is passed over for this reason
+abbrev pub with_why : Skips → Why → Skips
+with_why s Taken = record s { taken = raised s.taken 1 }
+with_why s Damaged = record s { damaged = raised s.damaged 1 }
+with_why s (Stray octets) = record s { stray = raised s.stray octets }
+with_why s (OtherApid apid) =
+    record s { of_others = raised s.of_others 1; apid = option_or s.apid (Some apid) }
+with_why s OtherDirection = record s { turned = raised s.turned 1 }
+with_why s (Unread size) =
+    record s { unread = raised s.unread 1; part_size = option_or s.part_size size }
+with_why s (OtherName name) =
+    record s { unnamed = raised s.unnamed 1; name = option_or s.name (Some name) }
+with_why s NoPart = record s { bare = raised s.bare 1 }
+
+-- with this piece
+abbrev pub noted : Reading → Skips → Piece → Skips
+noted r s p = with_why s (why r p)
+
+-- with these pieces, one after the other
+abbrev pub noted_all : Reading → Skips → List Piece → Skips
+noted_all r s [] = s
+noted_all r s (p ∷ ps) = noted_all r (noted r s p) ps
+
+-- what is noted of these pieces
+abbrev pub skips_of : Reading → List Piece → Skips
+skips_of r ps = noted_all r nothing_noted ps

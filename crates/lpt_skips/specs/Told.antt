@@ -1,0 +1,84 @@
+-- What is told of the pieces that were passed over.
+use Rattle.std.specs.Prelude.{ℕ, ◌==◌, if◌then◌else◌, List, [], ◌∷◌, ◌++◌, codes, filter_map, Option, Some, None}
+use Rattle.std.specs.Fmt.{decimal}
+use Rattle.std.specs.Option.{option_map_or}
+use Rattle.lpt_events.specs.LptPacket.declared.direction.Direction.{Direction}
+use Rattle.lpt_events.specs.LptPacket.declared.direction.Direction.TheVariants.{Up, Down}
+use Rattle.lpt_events.specs.NameTexts.{name_text}
+use Rattle.lpt_skips.specs.declared.reading.Reading.{Reading}
+use Rattle.lpt_skips.specs.declared.skips.Skips.{Skips}
+use Rattle.lpt_skips.specs.declared.topic.Topic.{Topic}
+use Rattle.lpt_skips.specs.declared.topic.Topic.TheVariants.{OtherApid, OtherDirection, Unread, OtherName, NoPart, Damaged, Stray}
+
+-- the word of a direction
+abbrev pub direction_word : Direction → List ℕ
+direction_word Up = codes "up"
+direction_word Down = codes "down"
+
+-- how many there are of a topic
+abbrev pub count_of : Skips → Topic → ℕ
+count_of s OtherApid = s.of_others
+count_of s OtherDirection = s.turned
+count_of s Unread = s.unread
+count_of s OtherName = s.unnamed
+count_of s NoPart = s.bare
+count_of s Damaged = s.damaged
+count_of s Stray = s.stray
+
+-- what is said of one of a topic
+abbrev pub words_of_one : Topic → List ℕ
+words_of_one OtherApid = codes " packet of another APID was skipped, of APID "
+words_of_one OtherDirection = codes " packet of the other direction was skipped"
+words_of_one Unread = codes " part doesn't fit part_size = "
+words_of_one OtherName = codes " part of another message was skipped, of "
+words_of_one NoPart = codes " packet carries no part"
+words_of_one Damaged = codes " packet with a fault was skipped"
+words_of_one Stray = codes " octet is no packet"
+
+-- what is said of several
+abbrev pub words_of_many : Topic → List ℕ
+words_of_many OtherApid = codes " packets of another APID were skipped, the first of APID "
+words_of_many OtherDirection = codes " packets of the other direction were skipped"
+words_of_many Unread = codes " parts don't fit part_size = "
+words_of_many OtherName = codes " parts of other messages were skipped, the first of "
+words_of_many NoPart = codes " packets carry no part"
+words_of_many Damaged = codes " packets with a fault were skipped"
+words_of_many Stray = codes " octets are no packets"
+
+-- this part size, and behind it the one by which parts would be read, where one is known
+abbrev pub sizes_text : (p : ℕ) → Option ℕ → List ℕ
+sizes_text p None = decimal p
+sizes_text p (Some fitting) = decimal p ++ (codes ", but part_size = " ++ decimal fitting)
+
+-- the end of what is said: an APID; part sizes; a name, as it is written where this source is
+-- configured
+abbrev pub ending_of : Reading → (source : ℕ) → Skips → Topic → List ℕ
+ending_of r source s OtherApid = option_map_or (λ apid. decimal apid) s.apid []
+ending_of r source s OtherDirection = []
+ending_of r source s Unread = sizes_text r.part_size s.part_size
+ending_of r source s OtherName = option_map_or (λ name. name_text source name) s.name []
+ending_of r source s NoPart = []
+ending_of r source s Damaged = []
+ending_of r source s Stray = []
+
+-- a direction and a number
+abbrev pub opening : Direction → ℕ → List ℕ
+opening d n = direction_word d ++ (58 ∷ 32 ∷ decimal n)
+
+-- what is told of a topic
+abbrev pub line_text : Reading → (source : ℕ) → Skips → Topic → List ℕ
+line_text r source s t =
+    opening r.direction (count_of s t)
+    ++ ((if count_of s t == 1 then words_of_one t else words_of_many t) ++ ending_of r source s t)
+
+-- what is told of a topic, where there is something of it
+abbrev pub line_of : Reading → (source : ℕ) → Skips → Topic → Option (List ℕ)
+line_of r source s t = if count_of s t == 0 then None else Some (line_text r source s t)
+
+-- the topics, in the order in which they are told
+abbrev pub topics : List Topic
+topics = OtherApid ∷ OtherDirection ∷ Unread ∷ OtherName ∷ NoPart ∷ Damaged ∷ Stray ∷ []
+
+-- what is told, a line for each topic of which there is something
+abbrev pub lines_of : Reading → (source : ℕ) → Skips → List (List ℕ)
+lines_of r source s = filter_map (line_of r source s) topics

@@ -1,0 +1,159 @@
+//! What is told of the pieces that were passed over.
+
+ghost use Rattle.std.specs.Prelude.{◌≡◌, ◌==◌, map, IfOk, if◌then◌else◌};
+ghost use Rattle.std.specs.Option.{option_map};
+ghost use Rattle.std.specs.String.{string_bytes};
+ghost use Rattle.lpt_skips.specs.Told.{count_of, ending_of, line_of, lines_of, opening, sizes_text, words_of_many, words_of_one};
+
+use crate::topic::{TOPICS, Topic};
+use crate::{Direction, Reading, Skips};
+use lpt_events::name_word;
+use std::alloc::{AllocError, Global};
+
+impl Skips {
+    /// What is told of what this reading passed over, a line for each reason of which there is
+    /// something, where this source is configured. The only error is out of memory.
+    pub fn lines(
+        &self,
+        alloc: Global,
+        reading: &Reading,
+        source: u16,
+    ) -> Result<Vec<String>, AllocError>
+        ensures { IfOk result (λ v. map string_bytes v.items
+            ≡ lines_of reading.now source self.now) }
+    {
+        let mut lines = Vec::new(alloc);
+        for topic in TOPICS {
+            if let Some(line) = self.line(alloc, reading, source, topic)? {
+                lines.push(line)?;
+            }
+        }
+        Ok(lines)
+    }
+
+    // What is told of a topic, where there is something of it.
+    fn line(
+        &self,
+        alloc: Global,
+        reading: &Reading,
+        source: u16,
+        topic: Topic,
+    ) -> Result<Option<String>, AllocError>
+        ensures { IfOk result (λ t. option_map string_bytes t
+            ≡ line_of reading.now source self.now topic) }
+    {
+        let count = self.count_of(topic);
+        if count == 0 {
+            return Ok(None);
+        }
+        let mut line = opening(alloc, reading.direction, count)?;
+        line.push_str(words_of(topic, count))?;
+        line.push_str(self.ending(alloc, reading, source, topic)?.as_str())?;
+        Ok(Some(line))
+    }
+
+    // How many there are of a topic.
+    fn count_of(&self, topic: Topic) -> u64
+        ensures { result ≡ count_of self.now topic }
+    {
+        match topic {
+            Topic::OtherApid => self.of_others,
+            Topic::OtherDirection => self.turned,
+            Topic::Unread => self.unread,
+            Topic::OtherName => self.unnamed,
+            Topic::NoPart => self.bare,
+            Topic::Damaged => self.damaged,
+            Topic::Stray => self.stray,
+        }
+    }
+
+    // The end of what is said of a topic.
+    fn ending(
+        &self,
+        alloc: Global,
+        reading: &Reading,
+        source: u16,
+        topic: Topic,
+    ) -> Result<String, AllocError>
+        ensures { IfOk result (λ t. string_bytes t ≡ ending_of reading.now source self.now topic) }
+    {
+        match topic {
+            Topic::OtherApid => match self.apid {
+                Some(apid) => format!(in alloc; "{apid}"),
+                None => Ok(String::new(alloc)),
+            },
+            Topic::Unread => sizes_text(alloc, reading.part_size, self.part_size),
+            Topic::OtherName => match self.name {
+                Some(name) => {
+                    let word = name_word(source, name);
+                    format!(in alloc; "{word}")
+                }
+                None => Ok(String::new(alloc)),
+            },
+            Topic::OtherDirection | Topic::NoPart | Topic::Damaged | Topic::Stray => {
+                Ok(String::new(alloc))
+            }
+        }
+    }
+}
+
+// A part size, and behind it the one by which parts would be read, where one is known.
+fn sizes_text(alloc: Global, p: u32, fitting: Option<u32>) -> Result<String, AllocError>
+    ensures { IfOk result (λ t. string_bytes t ≡ sizes_text p fitting) }
+{
+    match fitting {
+        Some(fitting) => format!(in alloc; "{p}, but part_size = {fitting}"),
+        None => format!(in alloc; "{p}"),
+    }
+}
+
+// A direction and a number.
+fn opening(alloc: Global, direction: Direction, count: u64) -> Result<String, AllocError>
+    ensures { IfOk result (λ t. string_bytes t ≡ opening direction count) }
+{
+    match direction {
+        Direction::Up => format!(in alloc; "up: {count}"),
+        Direction::Down => format!(in alloc; "down: {count}"),
+    }
+}
+
+// What is said of so many of a topic.
+fn words_of(topic: Topic, count: u64) -> &'static str
+    ensures { result.now ≡ (if count == 1 then words_of_one topic else words_of_many topic) }
+{
+    if count == 1 {
+        words_of_one(topic)
+    } else {
+        words_of_many(topic)
+    }
+}
+
+// What is said of one.
+fn words_of_one(topic: Topic) -> &'static str
+    ensures { result.now ≡ words_of_one topic }
+{
+    match topic {
+        Topic::OtherApid => " packet of another APID was skipped, of APID ",
+        Topic::OtherDirection => " packet of the other direction was skipped",
+        Topic::Unread => " part doesn't fit part_size = ",
+        Topic::OtherName => " part of another message was skipped, of ",
+        Topic::NoPart => " packet carries no part",
+        Topic::Damaged => " packet with a fault was skipped",
+        Topic::Stray => " octet is no packet",
+    }
+}
+
+// What is said of several.
+fn words_of_many(topic: Topic) -> &'static str
+    ensures { result.now ≡ words_of_many topic }
+{
+    match topic {
+        Topic::OtherApid => " packets of another APID were skipped, the first of APID ",
+        Topic::OtherDirection => " packets of the other direction were skipped",
+        Topic::Unread => " parts don't fit part_size = ",
+        Topic::OtherName => " parts of other messages were skipped, the first of ",
+        Topic::NoPart => " packets carry no part",
+        Topic::Damaged => " packets with a fault were skipped",
+        Topic::Stray => " octets are no packets",
+    }
+}

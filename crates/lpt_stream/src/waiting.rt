@@ -1,0 +1,69 @@
+//! Whether what stands at the front of a stream depends on octets that may still come.
+
+ghost use Rattle.std.specs.Prelude.{◌≡◌, ◌+◌, ◌<◌, length, true, false};
+ghost use Rattle.lpt_packet.specs.Numbers.{word_at};
+ghost use Rattle.lpt_packet.specs.Sizes.{longest_packet};
+ghost use Rattle.lpt_stream.specs.Pieces.{begins, first_fits, flags_fit, is_open, may_begin, size_fits, waits};
+
+use crate::cutting::whole_length;
+
+// Whether it does, of octets with which no packet begins as they are.
+pub(crate) fn waits(bytes: &[u8], in_step: bool) -> bool
+    requires { begins in_step bytes.now ≡ false }
+    ensures waits { result ≡ waits in_step bytes.now }
+    ensures few { result ≡ true → length bytes.now < 131084 }
+{
+    match whole_length(bytes) {
+        Some(len) => in_step && is_open(&bytes[len..]),
+        None => in_step || may_begin(bytes),
+    }
+}
+
+// Whether a packet may begin with these octets, and not all of its octets have come.
+fn is_open(bytes: &[u8]) -> bool
+    ensures open { result ≡ is_open bytes.now }
+    ensures few { result ≡ true → length bytes.now < longest_packet }
+{
+    may_begin(bytes) && whole_length(bytes).is_none()
+}
+
+// Whether one may begin with these octets and others behind them: none of the words of a header that
+// have come is wrong.
+fn may_begin(bytes: &[u8]) -> bool
+    ensures { result ≡ may_begin bytes.now }
+{
+    first_fits(bytes) && flags_fit(bytes) && size_fits(bytes)
+}
+
+// Whether the first word is right: version 0, a secondary header, and no idle packet.
+fn first_fits(bytes: &[u8]) -> bool
+    ensures { result ≡ first_fits bytes.now }
+{
+    if bytes.len() < 2 {
+        return bytes.is_empty() || bytes[0] >> 5 == 0;
+    }
+    let first = word(bytes, 0);
+    first >> 13 == 0 && (first >> 11) & 1 == 1 && first & 0x07ff != 0x07ff
+}
+
+// Whether the second is: unsegmented.
+fn flags_fit(bytes: &[u8]) -> bool
+    ensures { result ≡ flags_fit bytes.now }
+{
+    bytes.len() < 4 || word(bytes, 2) >> 14 == 3
+}
+
+// Whether the third is: there is room for a checksum.
+fn size_fits(bytes: &[u8]) -> bool
+    ensures { result ≡ size_fits bytes.now }
+{
+    bytes.len() < 6 || word(bytes, 4) != 0
+}
+
+// The word at a place.
+fn word(bytes: &[u8], at: usize) -> u16
+    requires { at + 1 < length bytes.now }
+    ensures { result ≡ word_at bytes.now at }
+{
+    u16::from_be_bytes([bytes[at], bytes[at + 1]])
+}
