@@ -1,0 +1,99 @@
+-- No refusal has the number 0.
+use Rattle.std.proofs.Common.{◌≡◌, ap, sym, refl, ℕ, nat_lt, ◌==◌, Bool, true, false, if◌then◌else◌, List, length, Option, Some, None, arith}
+use Rattle.lpt_c_end.specs.Codes.{node_code, IsAnswer, answer, range}
+use Rattle.lpt_c_end.specs.Refusals.{open_refusal, part_refusal, plain_refusal, finish_refusal, expire_refusal, tick_refusal, read_refusal, execute_refusal, ground_refusal, memories_refusal, sending_refusal}
+use Rattle.lpt_c_pair.specs.Answers.{ZeroIsAlwaysDone}
+use Rattle.lpt_model.specs.LptEvents.FaultNames.{code_of}
+use Rattle.lpt_model.specs.LptEvents.declared.side.Side.{Side}
+use Rattle.lpt_model.specs.LptEvents.declared.side.Side.TheVariants.{Ground, Craft}
+use Rattle.lpt_model.specs.LptMemory.Memories.{Contents}
+use Rattle.lpt_model.specs.LptNode.Faults.{node_fault}
+use Rattle.lpt_model.specs.LptNode.Jobs.{refusal_claim, refusal_apply}
+use Rattle.lpt_model.specs.LptNode.Requests.{refusal_plain}
+use Rattle.lpt_model.specs.LptNode.Sending.{refusal_open, refusal_send, refusal_finish}
+use Rattle.lpt_model.specs.LptNode.Times.{refusal_tick, refusal_expire}
+use Rattle.lpt_model.specs.LptNode.declared.fault.NodeFault.{NodeFault}
+use Rattle.lpt_model.specs.LptNode.declared.fault.NodeFault.TheVariants.{InUse, Short, Long, TooMany, NotOpen, NoSuchPart, NothingDue, NoJob, NotReady, ClockEnd, Memory, PartRequest}
+
+-- ---- numbers
+
+not_zero : (f : NodeFault) → code_of (node_fault f) ≡ 0 → ⊥
+not_zero InUse e = omega arith
+not_zero Short e = omega arith
+not_zero Long e = omega arith
+not_zero TooMany e = omega arith
+not_zero NotOpen e = omega arith
+not_zero NoSuchPart e = omega arith
+not_zero NothingDue e = omega arith
+not_zero NoJob e = omega arith
+not_zero NotReady e = omega arith
+not_zero ClockEnd e = omega arith
+not_zero Memory e = omega arith
+not_zero PartRequest e = omega arith
+
+-- a refusal's number isn't 0
+abbrev IsNoZero : Option ℕ → Type 0
+IsNoZero r = r ≡ Some 0 → ⊥
+
+of_node : (o : Option NodeFault) → IsNoZero (node_code o)
+of_node None e = cc
+of_node (Some f) e = let zero_code : code_of (node_fault f) ≡ 0 = cc in not_zero f zero_code
+
+of_number : (n : ℕ) → (n ≡ 0 → ⊥) → IsNoZero (Some n)
+of_number n never e = let zero_number : n ≡ 0 = cc in never zero_number
+
+of_test : (b : Bool) (n : ℕ) (r : Option ℕ) → (n ≡ 0 → ⊥) → IsNoZero r
+    → IsNoZero (if b then Some n else r)
+of_test true n r never rest = of_number n never
+of_test false n r never rest = rest
+
+of_side : (s : Side) (r : Option ℕ) → IsNoZero r → IsNoZero (ground_refusal s r)
+of_side Ground r rest = rest
+of_side Craft r rest = of_number range (λ e. omega arith)
+
+of_memories : (ms : Option Contents) (r : Option ℕ) → IsNoZero r → IsNoZero (memories_refusal ms r)
+of_memories None r rest = of_number (code_of (node_fault NoJob)) (λ e. omega arith)
+of_memories (Some ms) r rest = rest
+
+of_sending : (r : Option ℕ) (packets : List (List ℕ)) → IsNoZero r
+    → IsNoZero (sending_refusal r packets)
+of_sending (Some n) packets rest = rest
+of_sending None packets rest = of_empty (length packets == 0) where
+  of_empty : (b : Bool) → IsNoZero (if b then None else Some 110)
+  of_empty true e = cc
+  of_empty false e = of_number 110 (λ k. omega arith) e
+
+-- ---- answers
+
+answered : (r : Option ℕ) → IsNoZero r → IsAnswer r 0 → r ≡ None
+answered None never a = refl
+answered (Some n) never a = absurd (never (ap (λ (k : ℕ). Some k) (sym a)))
+
+answered_by : (r : Option ℕ) → IsNoZero r → 0 ≡ answer r → r ≡ None
+answered_by None never a = refl
+answered_by (Some n) never a = absurd (never (ap (λ (k : ℕ). Some k) (sym a)))
+
+pub zero_is_done : ZeroIsAlwaysDone
+zero_is_done e = record {
+  opened = λ name m. answered (open_refusal name m e) (of_node
+      (refusal_open e.config e.node.at name (length m)));
+  part = λ name k. answered (part_refusal name k e) (of_node
+      (refusal_send e.config e.node.at name k));
+  plain = λ flags service subtype body.
+      answered (plain_refusal flags service subtype body e)
+      (of_test (nat_lt 15 flags) range (ground_refusal e.side (node_code
+      (refusal_plain e.config service subtype (length body))))
+      (λ z. omega arith)
+      (of_side e.side (node_code (refusal_plain e.config service subtype (length body)))
+      (of_node (refusal_plain e.config service subtype (length body)))));
+  finished = λ name. answered_by (finish_refusal name e) (of_node (refusal_finish e.node.at name));
+  expired = answered (expire_refusal e) (of_node (refusal_expire e.config e.node.at));
+  ticked = answered_by (tick_refusal e) (of_node (refusal_tick e.node.at));
+  read = answered (read_refusal e) (of_memories e.memories (node_code (refusal_claim e.node.at))
+      (of_node (refusal_claim e.node.at)));
+  executed =
+      answered (execute_refusal e)
+      (of_memories e.memories (sending_refusal (node_code (refusal_apply e.node.at)) e.outbox.items)
+      (of_sending (node_code (refusal_apply e.node.at)) e.outbox.items (of_node
+      (refusal_apply e.node.at))));
+}

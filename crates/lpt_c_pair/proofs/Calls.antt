@@ -1,0 +1,290 @@
+-- Each call of C is a move of two ends apart.
+use Rattle.std.proofs.Common.{◌≡◌, ◌∙◌, ap, sym, refl, nat_lt, [], ◌∷◌, length, Option, Some, None}
+use Rattle.lpt_apart.specs.Moves.{Pair, CanMove}
+use Rattle.lpt_c_end.specs.Changes.{IsFixed, read_by, execution_by}
+use Rattle.lpt_c_end.specs.Codes.{node_code, range, no_job}
+use Rattle.lpt_c_end.specs.Refusals.{ground_refusal, memories_refusal, sending_refusal}
+use Rattle.lpt_c_end.specs.Words.{direction_from as direction_by}
+use Rattle.lpt_c_end.specs.declared.end.End.{End}
+use Rattle.lpt_c_pair.specs.Pairs.{AreEndsOf, Call, Open, Part, Plain, Finish, Packet, Expire, Tick, Read, Execute, Retire, Restart, freeing, moves, after_all, CanAll, IsMoveOfGround, IsMoveOfCraft, CallsAreMoves}
+use Rattle.lpt_c_pair.proofs.Lemmas.{no_fault, not_refused, not_unsent, ground_becomes, craft_becomes, craft_fixed}
+use Rattle.lpt_model.specs.LptPacket.declared.direction.Direction.{Direction}
+use Rattle.lpt_model.specs.LptPacket.declared.direction.Direction.TheVariants.{Up, Down}
+use Rattle.lpt_model.specs.LptPacket.Names.{Name}
+use Rattle.lpt_model.specs.LptEvents.Arrivals.{arrival}
+use Rattle.lpt_model.specs.LptEvents.declared.config.Config.{Config}
+use Rattle.lpt_model.specs.LptEvents.declared.side.Side.{Side}
+use Rattle.lpt_model.specs.LptEvents.declared.side.Side.TheVariants.{Ground, Craft}
+use Rattle.lpt_model.specs.LptEvents.declared.worker.Worker.TheVariants.{W1}
+use Rattle.lpt_model.specs.LptMemory.Memories.{Contents}
+use Rattle.lpt_model.specs.LptMemory.Readings.{Job}
+use Rattle.lpt_model.specs.LptNode.Accepting.{accepted}
+use Rattle.lpt_model.specs.LptNode.Anew.{retired, restarted}
+use Rattle.lpt_model.specs.LptNode.Jobs.{refusal_claim, claimed, refusal_apply}
+use Rattle.lpt_model.specs.LptNode.Nodes.{NodeData}
+use Rattle.lpt_model.specs.LptNode.Requests.{refusal_plain, plain_made}
+use Rattle.lpt_model.specs.LptNode.Sending.{refusal_open, opened, refusal_send, sent, refusal_finish, closed}
+use Rattle.lpt_model.specs.LptNode.Times.{refusal_tick, ticked, refusal_expire, expired}
+use Rattle.lpt_model.specs.Tickets.{Tickets, ticket_of, with_ticket}
+
+module _ (c : Config) (p : Pair) (g k : End) (are : AreEndsOf c p g k) where
+  -- ---- ground
+
+  free_ground : (d : Direction) (name : Name) (new : End)
+      → CanMove c p (freeing Ground d name)
+      → IsFixed g new
+      → new.node.at ≡ retired g.side g.node.at d name
+      → CanAll c p (freeing Ground d name ∷ [])
+      × AreEndsOf c (after_all c p (freeing Ground d name ∷ [])) new k
+  free_ground Up name new can fixed node = (
+    (tt, can),
+    ground_becomes c p (after_all c p (freeing Ground Up name ∷ [])) g new k are fixed
+        (node ∙ (λ i. retired (are.ground.side i) (are.ground.node i) Up name)) refl refl refl,
+  )
+  free_ground Down name new can fixed node = (
+    (tt, can),
+    ground_becomes c p (after_all c p (freeing Ground Down name ∷ [])) g new k are fixed
+        (node ∙ (λ i. retired (are.ground.side i) (are.ground.node i) Down name)) refl refl refl,
+  )
+
+  on_ground : (call : Call) → IsMoveOfGround c p g k call
+  on_ground (Open name m) new done vow = (
+    (
+      tt,
+      (
+        vow,
+        sym (λ i. refusal_open (are.ground.config i) (are.ground.node i) name (length m))
+            ∙ no_fault (refusal_open g.config g.node.at name (length m)) done.0,
+      ),
+    ),
+    ground_becomes c p (after_all c p (moves Ground (Open name m))) g new k are done.1.fixed
+        (done.1.node ∙ ap (λ (n : NodeData). opened n name m) are.ground.node) refl refl refl,
+  )
+  on_ground (Part name n) new done vow = (
+    (
+      tt,
+      (
+        vow,
+        sym (λ i. refusal_send (are.ground.config i) (are.ground.node i) name n)
+            ∙ no_fault (refusal_send g.config g.node.at name n) done.0,
+      ),
+    ),
+    ground_becomes c p (after_all c p (moves Ground (Part name n))) g new k are done.1.fixed
+        (done.1.node
+        ∙ (λ i. (sent (are.ground.side i) (are.ground.config i) (are.ground.node i)
+        name n).0)) refl refl refl,
+  )
+  on_ground (Plain source flags service subtype body) new done vow =
+      let here : ground_refusal g.side (node_code (refusal_plain g.config service subtype
+      (length body))) ≡ None =
+      not_refused (nat_lt 15 flags) range (ground_refusal g.side (node_code
+      (refusal_plain g.config service subtype (length body)))) done.0 in
+      let none : node_code (refusal_plain g.config service subtype (length body)) ≡ None =
+      sym (ap (λ (s : Side). ground_refusal s (node_code (refusal_plain g.config service subtype
+      (length body)))) are.ground.side) ∙ here in (
+        (
+          tt,
+          (
+            vow,
+            sym (λ i. refusal_plain (are.ground.config i) service subtype (length body))
+                ∙ no_fault (refusal_plain g.config service subtype (length body)) none,
+          ),
+        ),
+        ground_becomes c p (after_all c p (moves Ground
+            (Plain source flags service subtype body))) g new k are done.1.fixed
+            (done.1.node
+            ∙ (λ i. (plain_made (are.ground.config i) (are.ground.node i)
+            source flags service subtype body).0)) refl refl refl,
+      )
+  on_ground (Finish name) new done vow = (
+    (
+      tt,
+      (
+        vow,
+        sym (λ i. refusal_finish (are.ground.node i) name)
+            ∙ no_fault (refusal_finish g.node.at name) done.0,
+      ),
+    ),
+    ground_becomes c p (after_all c p (moves Ground (Finish name))) g new k are done.1.fixed
+        (done.1.node ∙ ap (λ (n : NodeData). closed n name) are.ground.node) refl refl refl,
+  )
+  on_ground (Packet b) new done vow = (
+    (tt, vow),
+    ground_becomes c p (after_all c p (moves Ground (Packet b))) g new k are done.fixed
+        (done.node
+        ∙ (λ i. (accepted (are.ground.side i) (are.ground.config i) (are.ground.node i)
+        (arrival (are.ground.side i) (are.ground.config i).apid
+        (are.ground.config i).part_size b)).0)) refl refl refl,
+  )
+  on_ground Expire new done vow = (
+    (
+      tt,
+      sym (λ i. refusal_expire (are.ground.config i) (are.ground.node i))
+          ∙ no_fault (refusal_expire g.config g.node.at) done.0,
+    ),
+    ground_becomes c p (after_all c p (moves Ground (Expire))) g new k are done.1.fixed
+        (done.1.node
+        ∙ (λ i. (expired (are.ground.side i) (are.ground.config i) (are.ground.node i)).0))
+        refl refl refl,
+  )
+  on_ground Tick new done vow = (
+    (tt, sym (λ i. refusal_tick (are.ground.node i)) ∙ no_fault (refusal_tick g.node.at) done.0),
+    ground_becomes c p (after_all c p (moves Ground (Tick))) g new k are done.1.fixed
+        (done.1.node ∙ ap (λ (n : NodeData). ticked n) are.ground.node) refl refl refl,
+  )
+  on_ground Read new done vow =
+      absurd (let both : Some no_job ≡ None =
+      sym (ap (λ (ms : Option Contents). memories_refusal ms (node_code
+      (refusal_claim g.node.at))) are.ground.memories) ∙ done.0 in cc)
+  on_ground Execute new done vow =
+      absurd (let both : Some no_job ≡ None =
+      sym (ap (λ (ms : Option Contents). memories_refusal ms (sending_refusal (node_code
+      (refusal_apply g.node.at)) g.outbox.items)) are.ground.memories) ∙ done.0 in cc)
+  on_ground (Retire direction name) new done vow =
+      free_ground (direction_by direction) name new vow done.fixed done.node
+  on_ground Restart new done vow = (
+    (tt, tt),
+    ground_becomes c p (after_all c p (moves Ground (Restart))) g new k are done.fixed
+        (done.node ∙ ap (λ (n : NodeData). restarted n) are.ground.node) refl refl refl,
+  )
+
+  -- ---- the spacecraft
+
+  free_craft : (d : Direction) (name : Name) (new : End)
+      → CanMove c p (freeing Craft d name)
+      → IsFixed k new
+      → new.node.at ≡ retired k.side k.node.at d name
+      → CanAll c p (freeing Craft d name ∷ [])
+      × AreEndsOf c (after_all c p (freeing Craft d name ∷ [])) g new
+  free_craft Up name new can fixed node = (
+    (tt, can),
+    craft_fixed c p (after_all c p (freeing Craft Up name ∷ [])) g k new are fixed
+        (node ∙ (λ i. retired (are.craft.side i) (are.craft.node i) Up name)) refl refl refl,
+  )
+  free_craft Down name new can fixed node = (
+    (tt, can),
+    craft_fixed c p (after_all c p (freeing Craft Down name ∷ [])) g k new are fixed
+        (node ∙ (λ i. retired (are.craft.side i) (are.craft.node i) Down name)) refl refl refl,
+  )
+
+  on_craft : (call : Call) → IsMoveOfCraft c p g k call
+  on_craft (Open name m) new done vow = (
+    (
+      tt,
+      (
+        vow,
+        sym (λ i. refusal_open (are.craft.config i) (are.craft.node i) name (length m))
+            ∙ no_fault (refusal_open k.config k.node.at name (length m)) done.0,
+      ),
+    ),
+    craft_fixed c p (after_all c p (moves Craft (Open name m))) g k new are done.1.fixed
+        (done.1.node ∙ ap (λ (n : NodeData). opened n name m) are.craft.node) refl refl refl,
+  )
+  on_craft (Part name n) new done vow = (
+    (
+      tt,
+      (
+        vow,
+        sym (λ i. refusal_send (are.craft.config i) (are.craft.node i) name n)
+            ∙ no_fault (refusal_send k.config k.node.at name n) done.0,
+      ),
+    ),
+    craft_fixed c p (after_all c p (moves Craft (Part name n))) g k new are done.1.fixed
+        (done.1.node
+        ∙ (λ i. (sent (are.craft.side i) (are.craft.config i) (are.craft.node i) name n).0))
+        refl refl refl,
+  )
+  on_craft (Plain source flags service subtype body) new done vow =
+      let here : ground_refusal k.side (node_code (refusal_plain k.config service subtype
+      (length body))) ≡ None =
+      not_refused (nat_lt 15 flags) range (ground_refusal k.side (node_code
+      (refusal_plain k.config service subtype (length body)))) done.0 in
+      absurd (let both : Some range ≡ None =
+      sym (ap (λ (s : Side). ground_refusal s (node_code (refusal_plain k.config service subtype
+      (length body)))) are.craft.side) ∙ here in cc)
+  on_craft (Finish name) new done vow = (
+    (
+      tt,
+      (
+        vow,
+        sym (λ i. refusal_finish (are.craft.node i) name)
+            ∙ no_fault (refusal_finish k.node.at name) done.0,
+      ),
+    ),
+    craft_fixed c p (after_all c p (moves Craft (Finish name))) g k new are done.1.fixed
+        (done.1.node ∙ ap (λ (n : NodeData). closed n name) are.craft.node) refl refl refl,
+  )
+  on_craft (Packet b) new done vow = (
+    (tt, vow),
+    craft_fixed c p (after_all c p (moves Craft (Packet b))) g k new are done.fixed
+        (done.node
+        ∙ (λ i. (accepted (are.craft.side i) (are.craft.config i) (are.craft.node i) (arrival
+        (are.craft.side i) (are.craft.config i).apid (are.craft.config i).part_size b)).0))
+        refl refl refl,
+  )
+  on_craft Expire new done vow = (
+    (
+      tt,
+      sym (λ i. refusal_expire (are.craft.config i) (are.craft.node i))
+          ∙ no_fault (refusal_expire k.config k.node.at) done.0,
+    ),
+    craft_fixed c p (after_all c p (moves Craft (Expire))) g k new are done.1.fixed
+        (done.1.node
+        ∙ (λ i. (expired (are.craft.side i) (are.craft.config i) (are.craft.node i)).0))
+        refl refl refl,
+  )
+  on_craft Tick new done vow = (
+    (tt, sym (λ i. refusal_tick (are.craft.node i)) ∙ no_fault (refusal_tick k.node.at) done.0),
+    craft_fixed c p (after_all c p (moves Craft (Tick))) g k new are done.1.fixed
+        (done.1.node ∙ ap (λ (n : NodeData). ticked n) are.craft.node) refl refl refl,
+  )
+  on_craft Read new done vow =
+      let none : node_code (refusal_claim k.node.at) ≡ None =
+      sym (ap (λ (ms : Option Contents). memories_refusal ms (node_code
+      (refusal_claim k.node.at))) are.craft.memories) ∙ done.0 in
+      let t : Job = (claimed p.ends.on_craft).1 in (
+        (
+          (
+            tt,
+            (
+              ap (λ (ts : Tickets). ticket_of ts W1) are.tickets,
+              sym (λ i. refusal_claim (are.craft.node i)) ∙ no_fault (refusal_claim k.node.at) none,
+            ),
+          ),
+          refl,
+        ),
+        craft_becomes c p (after_all c p (moves Craft Read))
+            g k new are done.1.fixed.side done.1.fixed.config
+            (done.1.node
+            ∙ (λ i. read_by (are.craft.config i) (are.craft.memories i) (are.craft.node i)))
+            refl
+            (done.1.fixed.memories ∙ are.craft.memories)
+            (λ i. with_ticket (with_ticket (are.tickets i) W1 (Some t)) W1 None),
+      )
+  on_craft Execute new done vow =
+      let unsent : sending_refusal (node_code (refusal_apply k.node.at)) k.outbox.items ≡ None =
+      sym (ap (λ (ms : Option Contents). memories_refusal ms (sending_refusal (node_code
+      (refusal_apply k.node.at)) k.outbox.items)) are.craft.memories) ∙ done.0 in
+      let none : node_code (refusal_apply k.node.at) ≡ None =
+      not_unsent (node_code (refusal_apply k.node.at)) k.outbox.items unsent in (
+        (tt, sym (λ i. refusal_apply (are.craft.node i)) ∙ no_fault (refusal_apply k.node.at) none),
+        craft_becomes c p (after_all c p (moves Craft Execute))
+            g k new are done.1.side done.1.config
+            (done.1.node
+            ∙ (λ i. (execution_by (are.craft.config i) (are.craft.memories i)
+            (are.craft.node i)).0.0)) refl
+            (done.1.memories
+            ∙ (λ i. (execution_by (are.craft.config i) (are.craft.memories i)
+            (are.craft.node i)).1))
+            are.tickets,
+      )
+  on_craft (Retire direction name) new done vow =
+      free_craft (direction_by direction) name new vow done.fixed done.node
+  on_craft Restart new done vow = (
+    (tt, tt),
+    craft_fixed c p (after_all c p (moves Craft (Restart))) g k new are done.fixed
+        (done.node ∙ ap (λ (n : NodeData). restarted n) are.craft.node) refl refl refl,
+  )
+
+pub calls_are_moves : CallsAreMoves
+calls_are_moves c p g k are call = (on_ground c p g k are call, on_craft c p g k are call)

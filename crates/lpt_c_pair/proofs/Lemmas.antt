@@ -1,0 +1,99 @@
+-- Refusals that don't refuse, and ends that became others.
+use Rattle.std.proofs.Common.{◌≡◌, ◌∙◌, ap, sym, refl, ℕ, Bool, true, false, if◌then◌else◌, List, Option, Some, None}
+use Rattle.lpt_apart.specs.Moves.{Pair}
+use Rattle.lpt_c_end.specs.Changes.{IsFixed}
+use Rattle.lpt_c_end.specs.Codes.{node_code}
+use Rattle.lpt_c_end.specs.Refusals.{sending_refusal}
+use Rattle.lpt_c_end.specs.declared.end.End.{End}
+use Rattle.lpt_c_pair.specs.Pairs.{AreEndsOf}
+use Rattle.lpt_model.specs.LptEvents.declared.config.Config.{Config}
+use Rattle.lpt_model.specs.LptMemory.Memories.{Contents}
+use Rattle.lpt_model.specs.LptNode.declared.fault.NodeFault.{NodeFault}
+use Rattle.lpt_model.specs.Tickets.{no_tickets}
+
+-- ---- refusals
+
+-- a node that has no fault refuses nothing
+pub no_fault : (o : Option NodeFault) → node_code o ≡ None → o ≡ None
+no_fault None e = refl
+no_fault (Some fault) e = absurd cc
+
+-- a test that refuses doesn't hold where nothing is refused
+pub not_refused : (b : Bool) (code : ℕ) (o : Option ℕ)
+    → (if b then Some code else o) ≡ None
+    → o ≡ None
+not_refused true code o e = absurd cc
+not_refused false code o e = e
+
+-- where packets may wait, what isn't refused wasn't before
+pub not_unsent : (o : Option ℕ) (packets : List (List ℕ)) → sending_refusal o packets ≡ None
+    → o ≡ None
+not_unsent None packets e = refl
+not_unsent (Some code) packets e = absurd cc
+
+-- ---- ends
+
+-- ground's end became another
+pub ground_becomes : (c : Config) (p q : Pair) (g new k : End)
+    → AreEndsOf c p g k
+    → IsFixed g new
+    → new.node.at ≡ q.ends.on_ground
+    → q.ends.on_craft ≡ p.ends.on_craft
+    → q.ends.memories ≡ p.ends.memories
+    → q.ends.tickets ≡ p.ends.tickets
+    → AreEndsOf c q new k
+ground_becomes c p q g new k are fixed node craft memories tickets = record {
+  ground = record {
+    side = fixed.side ∙ are.ground.side;
+    config = fixed.config ∙ are.ground.config;
+    node = node;
+    memories = fixed.memories ∙ are.ground.memories;
+  };
+  craft = record {
+    side = are.craft.side;
+    config = are.craft.config;
+    node = are.craft.node ∙ sym craft;
+    memories = are.craft.memories ∙ ap (λ (ms : Contents). Some ms) (sym memories);
+  };
+  tickets = tickets ∙ are.tickets;
+}
+
+-- the spacecraft's end became another
+pub craft_becomes : (c : Config) (p q : Pair) (g k new : End)
+    → AreEndsOf c p g k
+    → new.side ≡ k.side
+    → new.config ≡ k.config
+    → new.node.at ≡ q.ends.on_craft
+    → q.ends.on_ground ≡ p.ends.on_ground
+    → new.memories ≡ Some q.ends.memories
+    → q.ends.tickets ≡ no_tickets
+    → AreEndsOf c q g new
+craft_becomes c p q g k new are side config node on_ground memories tickets = record {
+  ground = record {
+    side = are.ground.side;
+    config = are.ground.config;
+    node = are.ground.node ∙ sym on_ground;
+    memories = are.ground.memories;
+  };
+  craft = record {
+    side = side ∙ are.craft.side;
+    config = config ∙ are.craft.config;
+    node = node;
+    memories = memories;
+  };
+  tickets = tickets;
+}
+
+-- the spacecraft's end became another, with the same memories
+pub craft_fixed : (c : Config) (p q : Pair) (g k new : End)
+    → AreEndsOf c p g k
+    → IsFixed k new
+    → new.node.at ≡ q.ends.on_craft
+    → q.ends.on_ground ≡ p.ends.on_ground
+    → q.ends.memories ≡ p.ends.memories
+    → q.ends.tickets ≡ p.ends.tickets
+    → AreEndsOf c q g new
+craft_fixed c p q g k new are fixed node on_ground memories tickets =
+    craft_becomes c p q g k new are fixed.side fixed.config node on_ground
+    (fixed.memories ∙ are.craft.memories ∙ ap (λ (ms : Contents). Some ms) (sym memories))
+    (tickets ∙ are.tickets)

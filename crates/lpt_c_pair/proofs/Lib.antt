@@ -1,0 +1,4 @@
+pub mod Answering
+pub mod Calls
+pub mod Lemmas
+pub mod Running

@@ -1,0 +1,149 @@
+-- Two ends behind handles of C as two ends apart.
+use Rattle.std.specs.Prelude.{◌≡◌, ℕ, List, [], ◌∷◌, Option, Some, None, ⊤}
+use Rattle.lpt_apart.specs.Moves.{Pair, Move, Do, Free, moved, CanMove}
+use Rattle.lpt_apart.specs.Steps as step
+use Rattle.lpt_apart.specs.Steps.{MayCome}
+use Rattle.lpt_c_end.specs.Changes.{IsOpened, IsPartMade, IsPlainMade, IsFinished, IsDelivered, IsExpired, IsTicked, IsRead, IsExecuted, IsRetired, IsRestarted}
+use Rattle.lpt_c_end.specs.Refusals.{open_refusal, part_refusal, plain_refusal, finish_refusal, expire_refusal, tick_refusal, read_refusal, execute_refusal}
+use Rattle.lpt_c_end.specs.Words.{direction_from as direction_by}
+use Rattle.lpt_c_end.specs.declared.end.End.{End}
+use Rattle.lpt_model.specs.LptPacket.declared.direction.Direction.{Direction}
+use Rattle.lpt_model.specs.LptPacket.declared.direction.Direction.TheVariants.{Up, Down}
+use Rattle.lpt_model.specs.LptPacket.Names.{Name}
+use Rattle.lpt_model.specs.LptEvents.Events.{IsEvent}
+use Rattle.lpt_model.specs.LptEvents.Sides.{direction_to}
+use Rattle.lpt_model.specs.LptEvents.declared.config.Config.{Config}
+use Rattle.lpt_model.specs.LptEvents.declared.event.Event.TheVariants as event
+use Rattle.lpt_model.specs.LptEvents.declared.side.Side.{Side}
+use Rattle.lpt_model.specs.LptEvents.declared.side.Side.TheVariants.{Ground, Craft}
+use Rattle.lpt_model.specs.LptEvents.declared.worker.Worker.TheVariants.{W1}
+use Rattle.lpt_model.specs.LptMemory.Memories.{Contents}
+use Rattle.lpt_model.specs.LptNode.Nodes.{NodeData, direction_from}
+use Rattle.lpt_model.specs.Tickets.{no_tickets}
+
+-- ---- ends
+
+-- an end of this side and configuration has this node and these memories
+pub record IsEndOf (c : Config) (s : Side) (n : NodeData) (ms : Option Contents)
+    (e : End) : Type 0 where
+  pub side : e.side ≡ s
+  pub config : e.config ≡ c
+  pub node : e.node.at ≡ n
+  pub memories : e.memories ≡ ms
+
+-- two ends behind handles are those of two ends apart, none of whose workers has a job
+pub record AreEndsOf (c : Config) (p : Pair) (on_ground on_craft : End) : Type 0 where
+  pub ground : IsEndOf c Ground p.ends.on_ground None on_ground
+  pub craft : IsEndOf c Craft p.ends.on_craft (Some p.ends.memories) on_craft
+  pub tickets : p.ends.tickets ≡ no_tickets
+
+-- ---- calls
+
+-- a call of an end, as `include/lpt_end.h` has them; a name is freed in a direction, by its number
+pub data Call : Type 0 where
+  Open : Name → (message : List ℕ) → Call
+  Part : Name → (k : ℕ) → Call
+  Plain : (source flags service subtype : ℕ) → (body : List ℕ) → Call
+  Finish : Name → Call
+  Packet : (octets : List ℕ) → Call
+  Expire : Call
+  Tick : Call
+  Read : Call
+  Execute : Call
+  Retire : (direction : ℕ) → Name → Call
+  Restart : Call
+
+-- a call has answered 0: its end didn't refuse it, and became this
+abbrev pub IsDone : Call → End → End → Type 0
+IsDone (Open name m) e new = (open_refusal name m e ≡ None) × IsOpened name m e new
+IsDone (Part name k) e new = (part_refusal name k e ≡ None) × IsPartMade name k e new
+IsDone (Plain source flags service subtype body) e new =
+    (plain_refusal flags service subtype body e ≡ None)
+    × IsPlainMade source flags service subtype body e new
+IsDone (Finish name) e new = (finish_refusal name e ≡ None) × IsFinished name e new
+IsDone (Packet b) e new = IsDelivered b e new
+IsDone Expire e new = (expire_refusal e ≡ None) × IsExpired e new
+IsDone Tick e new = (tick_refusal e ≡ None) × IsTicked e new
+IsDone Read e new = (read_refusal e ≡ None) × IsRead e new
+IsDone Execute e new = (execute_refusal e ≡ None) × IsExecuted e new
+IsDone (Retire direction name) e new = IsRetired direction name e new
+IsDone Restart e new = IsRestarted e new
+
+-- ---- moves
+
+-- the move that frees a name of a direction at the end of a side: its sender's, or its receiver's
+abbrev pub freeing : Side → Direction → Name → Move
+freeing Ground Up name = Do (step.Retire Up name)
+freeing Ground Down name = Free Down name
+freeing Craft Up name = Free Up name
+freeing Craft Down name = Do (step.Retire Down name)
+
+-- the moves that a call of the end of a side makes, the newest first
+abbrev pub moves : Side → Call → List Move
+moves side (Open name m) = Do (step.Open (direction_from side) name m) ∷ []
+moves side (Part name k) = Do (step.Send (direction_from side) name k) ∷ []
+moves side (Plain source flags service subtype body) =
+    Do (step.Plain source flags service subtype body) ∷ []
+moves side (Finish name) = Do (step.Finish (direction_from side) name) ∷ []
+moves side (Packet b) = Do (step.Accept (direction_to side) b) ∷ []
+moves side Expire = Do (step.Expire side) ∷ []
+moves side Tick = Do (step.Tick side) ∷ []
+moves side Read = Do (step.Commit W1) ∷ Do (step.Claim W1) ∷ []
+moves side Execute = Do step.Apply ∷ []
+moves side (Retire direction name) = freeing side (direction_by direction) name ∷ []
+moves side Restart = Do (step.Restart side) ∷ []
+
+-- two ends apart after these moves
+abbrev pub after_all : Config → Pair → List Move → Pair
+after_all c p [] = p
+after_all c p (x ∷ xs) = moved c (after_all c p xs) x
+
+-- each of these moves can happen
+abbrev pub CanAll : Config → Pair → List Move → Type 0
+CanAll c p [] = ⊤
+CanAll c p (x ∷ xs) = CanAll c p xs × CanMove c (after_all c p xs) x
+
+-- ---- what the program promises
+
+-- A name's numbers and octets are of their types. Octets that are handed over were put out by the
+-- other end and may come still, or are no part and no request. A name is freed at its receiver
+-- where it is over, and at its sender after that.
+abbrev pub Promises : Config → Pair → Side → Call → Type 0
+Promises c p side (Open name m) = IsEvent (event.Open (direction_from side) name m)
+Promises c p side (Part name k) = IsEvent (event.Send (direction_from side) name k)
+Promises c p side (Plain source flags service subtype body) =
+    IsEvent (event.Plain source flags service subtype body)
+Promises c p side (Finish name) = IsEvent (event.Finish (direction_from side) name)
+Promises c p side (Packet b) = MayCome c p.ends (direction_to side) b
+Promises c p side Expire = ⊤
+Promises c p side Tick = ⊤
+Promises c p side Read = ⊤
+Promises c p side Execute = ⊤
+Promises c p side (Retire direction name) = CanMove c p (freeing side (direction_by direction) name)
+Promises c p side Restart = ⊤
+
+-- ---- the law
+
+-- the moves of a call of ground can happen, and its end is the one after them
+abbrev pub IsMoveOfGround : Config → Pair → End → End → Call → Type 0
+IsMoveOfGround c p g k call =
+    (new : End)
+    → IsDone call g new
+    → Promises c p Ground call
+    → CanAll c p (moves Ground call) × AreEndsOf c (after_all c p (moves Ground call)) new k
+
+-- the same of the spacecraft
+abbrev pub IsMoveOfCraft : Config → Pair → End → End → Call → Type 0
+IsMoveOfCraft c p g k call =
+    (new : End)
+    → IsDone call k new
+    → Promises c p Craft call
+    → CanAll c p (moves Craft call) × AreEndsOf c (after_all c p (moves Craft call)) g new
+
+-- whatever call of which end
+abbrev pub CallsAreMoves : Type 0
+CallsAreMoves =
+    (c : Config) (p : Pair) (g k : End)
+    → AreEndsOf c p g k
+    → (call : Call)
+    → IsMoveOfGround c p g k call × IsMoveOfCraft c p g k call

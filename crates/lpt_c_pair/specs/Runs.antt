@@ -1,0 +1,75 @@
+-- Runs of two ends behind handles, and what is promised of them.
+use Rattle.std.specs.Prelude.{ℕ, List, [], ◌∷◌, ⊤}
+use Rattle.lpt_apart.specs.Moves.{Pair, no_pair}
+use Rattle.lpt_apart.specs.Worlds.{IsPromised}
+use Rattle.lpt_c_end.specs.Changes.{IsNew}
+use Rattle.lpt_c_end.specs.Contents.{memories_told}
+use Rattle.lpt_c_end.specs.declared.end.End.{End}
+use Rattle.lpt_c_end.specs.declared.memories.LptMemory.{LptMemory}
+use Rattle.lpt_c_pair.specs.Pairs.{AreEndsOf, Call, IsDone, moves, after_all, Promises}
+use Rattle.lpt_model.specs.LptEvents.Configs.{IsConfig}
+use Rattle.lpt_model.specs.LptEvents.declared.config.Config.{Config}
+use Rattle.lpt_model.specs.LptEvents.declared.side.Side.{Side}
+use Rattle.lpt_model.specs.LptEvents.declared.side.Side.TheVariants.{Ground, Craft}
+use Rattle.lpt_model.specs.LptMemory.Memories.{Contents}
+
+-- a call of the end of a side that answered 0, and what that end became
+pub record Turn : Type 0 where
+  pub side : Side
+  pub call : Call
+  pub new : End
+
+-- two ends behind handles, and the ends apart that they are
+pub record Standing : Type 0 where
+  pub pair : Pair
+  pub on_ground : End
+  pub on_craft : End
+
+-- two new ends
+abbrev pub begun : Config → Contents → (on_ground on_craft : End) → Standing
+begun c first g k = record { pair = no_pair c first; on_ground = g; on_craft = k }
+
+-- the ends after a call of the end of this side
+abbrev pub turned_by : Config → Standing → Side → Call → End → Standing
+turned_by c s Ground call new = record {
+  pair = after_all c s.pair (moves Ground call);
+  on_ground = new;
+  on_craft = s.on_craft;
+}
+turned_by c s Craft call new = record {
+  pair = after_all c s.pair (moves Craft call);
+  on_ground = s.on_ground;
+  on_craft = new;
+}
+
+-- the call was of the end as it stood, and the program keeps what it promises of it
+abbrev pub CanTurnBy : Config → Standing → Side → Call → End → Type 0
+CanTurnBy c s Ground call new = IsDone call s.on_ground new × Promises c s.pair Ground call
+CanTurnBy c s Craft call new = IsDone call s.on_craft new × Promises c s.pair Craft call
+
+-- the ends after these calls, the newest of which stands first
+abbrev pub stood : Config → Standing → List Turn → Standing
+stood c s [] = s
+stood c s (t ∷ ts) = turned_by c (stood c s ts) t.side t.call t.new
+
+-- each call was made after those before it
+abbrev pub CanStand : Config → Standing → List Turn → Type 0
+CanStand c s [] = ⊤
+CanStand c s (t ∷ ts) = CanStand c s ts × CanTurnBy c (stood c s ts) t.side t.call t.new
+
+-- the ends are two ends apart, which keep the promise
+pub record KeepsThePromise (c : Config) (first : Contents) (s : Standing) : Type 0 where
+  pub ends : AreEndsOf c s.pair s.on_ground s.on_craft
+  pub promised : IsPromised c first s.pair.ends
+
+-- whatever calls were made of two ends that were new
+abbrev pub EndsOfCKeepThePromise : Type 0
+EndsOfCKeepThePromise =
+    (c : Config) (none : List LptMemory) (nothing : List ℕ) (ms : List LptMemory) (content : List ℕ)
+    (g k : End) (ts : List Turn)
+    → IsConfig c
+    → IsNew Ground c none nothing g
+    → IsNew Craft c ms content k
+    → CanStand c (begun c (memories_told content ms) g k) ts
+    → KeepsThePromise c (memories_told content ms)
+    (stood c (begun c (memories_told content ms) g k) ts)

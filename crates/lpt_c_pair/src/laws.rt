@@ -1,0 +1,26 @@
+//! What ties calls of C to two ends apart: functions with empty bodies.
+
+ghost use Rattle.lpt_c_pair.specs.Answers.{ZeroIsAlwaysDone};
+ghost use Rattle.lpt_c_pair.specs.Pairs.{CallsAreMoves};
+ghost use Rattle.lpt_c_pair.specs.Runs.{EndsOfCKeepThePromise};
+
+/// Where two ends behind handles are those of two ends apart, and one of them is called, answers 0,
+/// and the program keeps what it promises of that call, its moves can happen, and the ends are
+/// those of two ends apart after them.
+pub fn calls_are_moves()
+    ensures { CallsAreMoves }
+{}
+
+/// Take two new ends of one configuration, one of each side, and any list of calls of them that
+/// answered 0, the programs keeping what they promise. Then the ends are two ends apart. Each large
+/// message that was released is the one last opened under its name at the other end, and once; each
+/// plain request is one that ground asked; and the spacecraft's memories are their first content,
+/// changed by the executed requests in order of release.
+pub fn ends_of_c_keep_the_promise()
+    ensures { EndsOfCKeepThePromise }
+{}
+
+/// Where a call answers 0, its end didn't refuse it: no refusal has the number 0.
+pub fn zero_is_done()
+    ensures { ZeroIsAlwaysDone }
+{}
