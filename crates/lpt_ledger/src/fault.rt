@@ -5,19 +5,19 @@ ghost use Rattle.lpt_ledger.specs.FaultNames.{code_of, name_of};
 
 use thiserror::Error;
 
-/// Why an identifier's state can't be changed as asked.
+/// Why a name's state can't be changed as asked.
 #[derive(Clone, Copy, Debug, PartialEq, Eq, Error)]
 pub enum LedgerFault {
-    /// The identifier is to be taken and isn't free.
+    /// The name is to be taken and isn't free.
     #[error("the identifier is in use")]
     InUse,
-    /// The identifier is to be retired and is open.
+    /// The name is to be retired and is open.
     #[error("the identifier is still open")]
     StillOpen,
-    /// The identifier is to be closed and isn't open, or to be retired and is free.
+    /// The name is to be closed and isn't open, or to be retired and is free.
     #[error("the identifier isn't open")]
     NotOpen,
-    /// There is no memory for the identifier's place.
+    /// There is no memory for the name's place.
     #[error("want of memory")]
     Memory,
 }

@@ -152,7 +152,7 @@ impl Link {
     }
 
     /// Puts a packet on the link, which holds it from now on. The result is its number: how many
-    /// were put before. `tag` is the identifier of the transaction that it is a part of, or `None`.
+    /// were put before. `tag` is the name of the transaction that it is a part of, or `None`.
     ///
     /// It takes the room of one packet.
     /// Errors: `Memory`, with the octets. Then nothing has changed. With spare room, and with no tag

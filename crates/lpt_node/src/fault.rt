@@ -11,7 +11,7 @@ use thiserror::Error;
 /// The first reason, in the order in which they are tested.
 #[derive(Clone, Copy, Debug, PartialEq, Eq, Error)]
 pub enum NodeFault {
-    /// The identifier is in use.
+    /// The name is in use.
     InUse,
     /// The message isn't longer than a part.
     Short,

@@ -102,9 +102,9 @@ impl Receiver {
         self.table.due(now)
     }
 
-    /// Takes a part that came from this source, or to it, at this tick. A message that is whole is joined and its reception ended; at the
-    /// spacecraft it becomes a job. One that is broken off is ended with a report of it, where
-    /// reports have a head.
+    /// Takes a part that came from this source, or to it, at this tick. A message that is whole is
+    /// joined and its reception ended; at the spacecraft it becomes a job. One that is broken off is
+    /// ended with a report of it, where reports have a head.
     ///
     /// The only error is out of memory, and then nothing has changed.
     pub(crate) fn accept(

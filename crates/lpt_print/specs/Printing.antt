@@ -110,7 +110,7 @@ retired_text source d id = named_line source (codes "retired") d id
 abbrev pub restarted_text : Side → (boot : ℕ) → List ℕ
 restarted_text side boot = line_of (codes "restarted" ∷ side_text side ∷ decimal boot ∷ [])
 
--- a request was executed; the report of data that was opened has this identifier
+-- a request was executed; the report of data that was opened has this name
 abbrev pub applied_text : ℕ → Applied → List ℕ
 applied_text source (Done None) = line_of (codes "applied" ∷ codes "done" ∷ [])
 applied_text source (Done (Some id)) =

@@ -58,11 +58,11 @@ impl<J: Origin> Shared<J> {
     }
 
     /// The world. Its journal is legal, and what is promised of each world holds of it: each large
-    /// message that was released is byte for byte the one last opened under its name by the other node,
-    /// at most once per opening; the memories are their first content, changed by the executed requests
-    /// in order of release; what expired or was released is final; and no request is executed in another
-    /// boot than that of its release. It goes on from the world that the lock was opened with, where
-    /// one was named.
+    /// message that was released is byte for byte the one last opened under its name by the other
+    /// node, at most once per opening; the memories are their first content, changed by the executed
+    /// requests in order of release; what expired, was broken off or was released is final; and no
+    /// request is executed in another boot than that of its release. It goes on from the world that
+    /// the lock was opened with, where one was named.
     pub fn into_world(self) -> World
         ensures legal { IsLegal result }
         ensures promised { Promised result }

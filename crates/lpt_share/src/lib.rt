@@ -1,7 +1,7 @@
 //! A world that threads share: the lock round it, the seats' logs, and the run of ten seats.
-//! Packets are read and requests prepared while the lock is free. Threads send each other notices
-//! that there is work; a notice that leads to a refusal is dropped. After a run the logs are
-//! compared with the journal.
+//! Packets are read and requests prepared while the lock is free, but where a turn goes on with what
+//! it had begun. Threads send each other notices that there is work; a notice that leads to a
+//! refusal is dropped. After a run the logs are compared with the journal.
 //!
 //! The main types are `Shared`, `SeatLog`, `Gate` and `ShareFault`. The first calls are
 //! `run_threads` with a world, or `Shared::new` and `call`. Every call that takes the lock may

@@ -30,7 +30,8 @@ pub struct ShareEnd {
     pub fault: ShareFault,
     /// The world, which went on from the given one.
     pub world: World,
-    /// The logs of the seats that had a thread, in order of seat.
+    /// The logs of the seats that had a thread, in order of seat. Where memory was out or no thread
+    /// could be started, no clause speaks of them.
     pub logs: Vec<SeatLog>,
 }
 

@@ -3,8 +3,8 @@
 //! as a finite map from names to the parts that were kept and the tick of the last one.
 //!
 //! The main types are `Table` and `Offer`, what becomes of a part. The first calls are `Table::new`
-//! and `offer`. A reception that has become whole, or that a part has contradicted, comes out of
-//! the table; `settle` or `put_back` must follow, and neither takes memory.
+//! and `offer`. A reception that has become whole, or that a part has broken off, comes out of the
+//! table; `settle` or `put_back` must follow, and neither takes memory.
 #![tactic(auto)]
 
 mod entries;
