@@ -18,7 +18,8 @@ import subprocess
 import sys
 import tempfile
 
-KIT = pathlib.Path(shutil.which("rt") or "rt").resolve().parent.parent
+sys.dont_write_bytecode = True
+from crates import KIT, libraries, prover  # noqa: E402: it stands beside this file
 
 # In rt fmt's layout: a function's head, with its contract, ends where its body begins on a line of
 # its own.
@@ -26,16 +27,6 @@ EXPORT = re.compile(r"^pub fn (lpt_\w+)\((.*?)\)((?: -> \w+)?\n.*?)^\{$", re.M |
 GHOST_USE = re.compile(r"^ghost use .*;$", re.M)
 TYPE = re.compile(r"\bLpt\w+")
 PARAMETER = re.compile(r"(\w+): [^,]+")
-
-
-def lines(room):
-    """What each crate stands on, by crates.txt."""
-    found = {}
-    for line in (room / "crates.txt").read_text(encoding="utf-8").splitlines():
-        if line[:1].isalpha():
-            name, _, below = line.partition(":")
-            found[name.split()[0]] = below.split()
-    return found
 
 
 def module_of(crate, text):
@@ -68,7 +59,7 @@ def write_exports(sources, crate, to):
 def copy(top, room, *crates):
     """Copies crates, with all below them."""
     top, room = pathlib.Path(top), pathlib.Path(room)
-    known, found = lines(top), list(crates)
+    known, found = libraries(top), list(crates)
     for crate in found:
         found += [it for it in known[crate] if it in known and it not in found]
     for crate in found:
@@ -83,17 +74,8 @@ def copy(top, room, *crates):
 def build(room, crate, to):
     """Builds the archive."""
     room, to = pathlib.Path(room).resolve(), pathlib.Path(to).resolve()
-    known = lines(room)
     name = f"{crate}_exports"
-    words = [f"{KIT}/bin/rattle", "build", "--crate-name", name, "src/lib.rt"]
-    for it in ["std", crate, *known[crate]]:
-        own = room / "crates" / it / "out/rlib" if it in known else KIT / "rlibs"
-        words += ["--extern", f"{it}={own}/{it}.rlib"]
-    for folder in [KIT / "rlibs", *(room / "crates" / it / "out/rlib" for it in known)]:
-        if folder.is_dir():
-            words += ["-L", f"dependency={folder}"]
-    words += ["--antt-project", f"{KIT}/rattle/logic/antt-project.json"]
-    words += ["--logic-built", f"{KIT}/logic_built", "--links", f"{name}=", "--jobs", "1"]
+    words = prover("build", name, "src/lib.rt", [crate, *libraries(room)[crate]], room)
     words += ["--crate-type", "staticlib", "--toolchain", f"{KIT}/toolchain"]
     with tempfile.TemporaryDirectory(prefix="lpt-exports-") as folder:
         write_exports(room / "crates" / crate / "src", crate, pathlib.Path(folder))

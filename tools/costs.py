@@ -4,15 +4,17 @@ costs.py run KEPT NAME COMMAND..     runs the command, adds to the file KEPT wha
                                      with the command's status
 costs.py crates KEPT NAME COMMAND..  the same for a command that proves crates or tries their edits:
                                      also what each crate's proof, tests and must-fail edits cost
-costs.py table KEPT                  prints the file as tables, and the ratio of the whole to the
-                                     proof of the crate lpt_packet, which says more than seconds do
-                                     where the machine's speed varies
+costs.py table KEPT                  prints the file as tables, and the ratio of the whole to the mean
+                                     of the proofs of one crate that tools/yardstick.py has measured,
+                                     which says more than seconds do where the machine's speed varies
 
 A command's seconds are those that the system counted for it and for all that it started and waited
 for. Those of crates are seen in /proc, four times a second: a process of the prover has --crate-name
 among its words, --test where it proves tests, and works in a folder lpt-edit-* where it tries edits.
 The builds of a program count as its proof. What a process used after it was last seen is in the whole
 alone.
+
+The proofs of the yardstick are in no sum.
 
 A line of KEPT is a name, a kind and seconds, with tabs between. Nothing here changes what a command
 reads, writes or answers: where measuring fails, lines are missing, and that is told.
@@ -26,6 +28,7 @@ import sys
 
 SECONDS_BETWEEN = 0.25
 KINDS = ["proof", "tests", "edits"]
+WHOLE, YARDSTICK = "whole", "yardstick"
 MEASURE = "lpt_packet"
 TICKS = os.sysconf("SC_CLK_TCK")
 
@@ -134,11 +137,10 @@ def run(kept, name, command, watch):
         except Exception as error:  # pylint: disable=broad-except
             trouble = error
     used = resource.getrusage(resource.RUSAGE_CHILDREN)
-    lines = [(name, "whole", used.ru_utime + used.ru_stime)]
+    lines = [(name, WHOLE, used.ru_utime + used.ru_stime)]
     lines += watch.lines() if watch is not None else []
     try:
-        with open(kept, "a", encoding="utf-8") as file:
-            file.write("".join(f"{name}\t{kind}\t{seconds:.2f}\n" for name, kind, seconds in lines))
+        keep(kept, lines)
     except OSError as error:
         trouble = error
     if trouble is not None:
@@ -146,16 +148,30 @@ def run(kept, name, command, watch):
     return child.returncode if child.returncode >= 0 else 128 - child.returncode
 
 
-def table(kept):
-    """Prints what was kept."""
-    cost, crates, commands = {}, [], []
+def keep(kept, lines):
+    """Adds lines to the file of what was kept."""
+    with open(kept, "a", encoding="utf-8") as file:
+        file.write("".join(f"{name}\t{kind}\t{seconds:.2f}\n" for name, kind, seconds in lines))
+
+
+def read(kept):
+    """What was kept: the seconds of each name and kind, and those of the yardstick's proofs."""
+    cost, yardstick = {}, []
     with open(kept, encoding="utf-8") as file:
         for line in file:
             name, kind, seconds = line.rstrip("\n").split("\t")
-            cost[name, kind] = float(seconds)
-            names = commands if kind == "whole" else crates
-            if name not in names:
-                names.append(name)
+            if kind == YARDSTICK:
+                yardstick.append(float(seconds))
+            else:
+                cost[name, kind] = float(seconds)
+    return cost, yardstick
+
+
+def table(kept):
+    """Prints what was kept."""
+    cost, yardstick = read(kept)
+    commands = [name for name, kind in cost if kind == WHOLE]
+    crates = list(dict.fromkeys(name for name, kind in cost if kind != WHOLE))
     print("| Crate | Proof | Tests | Edits |\n|---|--:|--:|--:|")
     for crate in crates:
         print(f"| {crate} |", *(f"{cost.get((crate, kind), 0):.0f} |" for kind in KINDS))
@@ -163,14 +179,15 @@ def table(kept):
     print("| all |", *(f"{seconds:.0f} |" for seconds in sums))
     print("\n| Command | Whole |\n|---|--:|")
     for name in commands:
-        print(f"| {name} | {cost[name, 'whole']:.0f} |")
-    whole = sum(cost[name, "whole"] for name in commands)
+        print(f"| {name} | {cost[name, WHOLE]:.0f} |")
+    whole = sum(cost[name, WHOLE] for name in commands)
     print(f"| all | {whole:.0f} |\n")
-    measure = cost.get((MEASURE, "proof"))
-    if measure:
-        print(f"costs: the whole is {whole / measure:.1f} times the proof of {MEASURE}")
-    else:
-        print(f"costs: the proof of {MEASURE} wasn't seen, so there is no ratio")
+    if not yardstick:
+        print(f"costs: the proof of {MEASURE} wasn't measured, so there is no ratio")
+        return
+    mean, took = sum(yardstick) / len(yardstick), ", ".join(f"{it:.1f}" for it in yardstick)
+    print(f"costs: the proof of {MEASURE} takes {mean:.1f} s, the mean of {took}")
+    print(f"costs: the whole is {whole / mean:.1f} times that")
 
 
 def main(words):

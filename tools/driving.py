@@ -12,13 +12,13 @@ LONGEST_RUN_SECONDS = 60
 class Driver:
     """A script of tests/ by this name: it runs the program that was built, and counts its cases."""
 
-    def __init__(self, name):
+    def __init__(self, name, is_built=True):
         self.name = name
         self.passed = 0
         self.failed = 0
         environment = {**os.environ, "LPT_BUILD": "never"}
         words = [TOP / "lpt", "--version"]
-        if subprocess.run(words, env=environment, stdout=subprocess.DEVNULL).returncode != 0:
+        if is_built and subprocess.run(words, env=environment, stdout=subprocess.DEVNULL).returncode != 0:
             print(f"{name}: 0 passed, 1 failed")
             sys.exit(1)
 

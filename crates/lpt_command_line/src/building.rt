@@ -28,7 +28,7 @@ Statuses:
   2  the words, a line of the script, HEX or the configuration can't be read
   3  a file can't be read, the output can't be written, memory ran out, or threads failed
 
-docs/SCRIPT.md has the script language and the configuration, docs/lpt.1 is this as a page.";
+docs/SCRIPT.md has the script language and the configuration, man/lpt.1 is this as a page.";
 
 /// The program and its commands. The only error is out of memory.
 pub(crate) fn program<'a>(alloc: Global) -> Result<Command<'a>, AllocError> {

@@ -1,4 +1,4 @@
-# Completions of lpt for fish: `source docs/lpt.fish`.
+# Completions of lpt for fish: `source completions/lpt.fish`.
 
 # Whether the words begin with these commands.
 function __lpt_at

@@ -1,4 +1,4 @@
-# Completions of lpt for bash: `source docs/lpt.bash`.
+# Completions of lpt for bash: `source completions/lpt.bash`.
 
 _lpt() {
     local word=${COMP_WORDS[COMP_CWORD]} before=${COMP_WORDS[COMP_CWORD - 1]}

@@ -1,0 +1,1 @@
+"""Random and damaged input for the program, and what the model says of it: the parts of bench/hostile."""

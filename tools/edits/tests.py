@@ -1,0 +1,139 @@
+"""What is said of edits: one that changes nothing is not refused, alone or beside one that breaks what it
+calls or one of the same function, nor where a line says so, of this text or another, nor where it only takes
+a name from a proof. One that can't be tried costs the others of its run nothing. The edits are its own, of one
+small crate, whose libraries are built in the room. (tests/edits runs this.)
+"""
+
+from __future__ import annotations
+
+import pathlib
+import tempfile
+from dataclasses import dataclass
+from typing import Optional
+
+from crates import libraries, rlib
+
+from .crate import Crate
+from .mutant import Mutant
+from .report import Report
+from .trial import verdicts
+
+CRATE = "lpt_packet"
+REFUSED, LET_THROUGH = "refused, as it must be", "NOT REFUSED"
+
+
+@dataclass(frozen=True)
+class Row:
+    """An edit of a source, and how the reason of its verdict begins."""
+
+    name: str
+    source: str
+    old: str
+    new: str
+    reason: str
+    # Another line of its file, where MARK stands for the edit's own mark.
+    line: str = ""
+
+
+ROWS = [
+    Row("same_number", "checksum", "let mut register = 0xffff;", "let mut register = 65535;", LET_THROUGH),
+    Row("same_sum_in_a_copy", "checksum", "let mut register = 0xffff;", "let mut register = 65534 + 1;", LET_THROUGH),
+    Row("turned_in_a_copy", "checksum", "let mut register = 0xffff;", "let mut register = 0;", REFUSED),
+    Row("callee_of_it_broken", "checksum", "(register % 256) as u8", "(register % 255) as u8", REFUSED),
+    Row("same_bits", "reading", "second & 0x3fff", "second % 16384", LET_THROUGH, "goal: returns 00000000"),
+    Row("said_to_be_open", "reading", "bytes[at + 1]]", "bytes[1 + at]]", LET_THROUGH, "goal: returns MARK"),
+    Row(
+        "method_of_a_trait",
+        "octets",
+        "self.items.as_slice() == other.items.as_slice()",
+        "self.items.len() == other.items.len()",
+        REFUSED,
+    ),
+    Row("unknown_name", "octets", "Octets { items }", "Octets { items: nought }", "BAD EDIT: error[unknown-name]"),
+    Row(
+        "promise_turned",
+        "checksum",
+        "ensures { result ≡ checksum octets.now }",
+        "ensures { result ≡ checksum [] }",
+        "BAD EDIT: it changes what checksum::crc16 promises",
+    ),
+    Row(
+        "no_function",
+        "sizes",
+        "ERROR_CONTROL: usize = 2",
+        "ERROR_CONTROL: usize = 3",
+        "BAD EDIT: it turns no function",
+    ),
+]
+
+# None of this, told of the function a::b::f in the lines 1 to 9 of its file, is a refusal of it.
+TOLD = [
+    "fn a::b::f: not proved; it stands on `Rattle.a.proofs.b.g.Answers.returns`, which antt refuses",
+    "fn a::b::f: no proof: the borrow checker does not cover this function yet",
+    "fn a::b::f: no proof: a call of `g`, which has no proof",
+    "fn a::b::f: could not tell",
+    "note: src/b.rt:12:1: it is not proved that it holds (`returns`)\nfn a::b::f: not proved",
+    "./proofs/b/f/Answers.antt:1:9: error: `returns-then-gt`: it has no `returns-then-gt`\n"
+    "note: src/b.rt:3:1: it is not proved that it holds (`returns-then-ge`)\nfn a::b::f: not proved",
+]
+
+
+class Told:
+    """A mutant of the function a::b::f, of which one answer is written."""
+
+    functions: set[str] = {"a::b::f"}
+    noted: Optional[str] = None
+    copy = ""
+
+    def tried(self) -> set[str]:
+        """Its functions."""
+        return self.functions
+
+    def answers(self, name: str) -> str:
+        """The answers of its function."""
+        del name
+        return "pub returns-then-gt : goal.returns-then-gt"
+
+    def goal_aside(self, name: str) -> Optional[str]:
+        """No answer is put aside."""
+        del name
+
+    def put_aside(self, goals: list[tuple[str, str]]) -> bool:
+        """Nor can one be."""
+        del goals
+        return False
+
+
+def write(crate: Crate, row: Row, folder: pathlib.Path) -> None:
+    """Writes an edit's file."""
+    file = folder / f"{row.name}.edit"
+    text = f"file: src/{row.source}.rt\nold: {row.old}\nnew: {row.new}\n{row.line}\n"
+    file.write_text(text, encoding="utf-8")
+    if "MARK" in text:
+        file.write_text(text.replace("MARK", Mutant.of(crate, file).mark()), encoding="utf-8")
+
+
+def main(room: pathlib.Path) -> int:
+    """Tries the edits, and takes what is told."""
+    failed = 0
+    crate = Crate(room, CRATE, libraries(room))
+    if not rlib(room, CRATE).is_dir():
+        print(f"edits: no library of {CRATE} is built here (rt lib)\nedits: 0 passed, 1 failed")
+        return 1
+    with tempfile.TemporaryDirectory() as name:
+        folder = pathlib.Path(name)
+        for row in ROWS:
+            write(crate, row, folder)
+        said = dict(verdicts(crate, folder))
+    for row in ROWS:
+        verdict = said[f"{CRATE}/{row.name}.edit"]
+        if not verdict.reason.startswith(row.reason) or verdict.is_refused != (row.reason == REFUSED):
+            failed += 1
+            print(f"edits: {row.name}: not '{row.reason}', but: {verdict.reason}")
+    for told in TOLD:
+        report = Report(told.split("\n"), {"a::b::f": ("src/b.rt", range(1, 10))})
+        if report.verdict(Told(), False).is_refused:
+            failed += 1
+            print(f"edits: taken for a refusal: {told}")
+    print(f"edits: {len(ROWS) + len(TOLD) - failed} passed, {failed} failed")
+    return 1 if failed else 0

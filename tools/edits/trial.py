@@ -1,0 +1,63 @@
+"""Tries the edits of a crate, as many in one run of the prover as can be."""
+
+from __future__ import annotations
+
+import pathlib
+import tempfile
+
+from .copies import add_copy, can_be_copied, copy_name
+from .crate import Crate
+from .mutant import BadEdit, Mutant
+from .prover import Prover
+from .report import Verdict
+
+
+def verdicts(crate: Crate, folder: pathlib.Path, is_anew: bool = False) -> list[tuple[str, Verdict]]:
+    """Tries the edits of a crate that stand in a folder: the name of each, and the verdict on it."""
+    left, told = mutants_of(crate, folder)
+    for mutant in left if is_anew else []:
+        mutant.noted = None
+    prover = Prover(crate)
+    with tempfile.TemporaryDirectory(prefix="lpt-edits-") as kept:
+        while left:
+            mutants, texts = at_once(left)
+            report = prover.run(mutants, texts, kept)
+            for mutant in mutants:
+                verdict = report.verdict(mutant, len(mutants) > 1)
+                if verdict:
+                    if is_anew and verdict.is_refused:
+                        mutant.note()
+                    told.append((mutant.name, verdict))
+                    left.remove(mutant)
+    return told
+
+
+def mutants_of(crate: Crate, folder: pathlib.Path) -> tuple[list[Mutant], list[tuple[str, Verdict]]]:
+    """The mutants that the edits of a folder make, and the verdicts on those that can't be tried."""
+    mutants, told = [], []
+    for file in sorted(folder.iterdir()):
+        try:
+            mutants.append(Mutant.of(crate, file))
+        except (BadEdit, OSError, ValueError) as error:
+            told.append((f"{crate.name}/{file.name}", Verdict(False, f"BAD EDIT: {error}")))
+    return mutants, told
+
+
+def at_once(left: list[Mutant]) -> tuple[list[Mutant], dict[str, str]]:
+    """Those that one run can try, the first among them, and the texts of files with all of them. Where a
+    function is mutated by one of them, the next one mutates a copy of it."""
+    first, chosen, functions, texts = left[0], [], [], {}
+    for mutant in left[:1] if first.is_alone else left:
+        mutant.copy = ""
+        if mutant.is_alone != first.is_alone:
+            continue
+        before = max(functions.count(it) for it in mutant.functions)
+        if before and can_be_copied(mutant):
+            mutant.copy = copy_name(before + 1)
+        if mutant.copy or not before and mutant.apply(texts):
+            chosen.append(mutant)
+            functions += mutant.functions
+    for mutant in chosen:
+        if mutant.copy:
+            add_copy(mutant, texts)
+    return chosen, texts
