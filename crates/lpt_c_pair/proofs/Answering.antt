@@ -1,7 +1,7 @@
 -- No refusal has the number 0.
 use Rattle.std.proofs.Common.{◌≡◌, ap, sym, refl, ℕ, nat_lt, ◌==◌, Bool, true, false, if◌then◌else◌, List, length, Option, Some, None, arith}
-use Rattle.lpt_c_end.specs.Codes.{node_code, IsAnswer, answer, range}
-use Rattle.lpt_c_end.specs.Refusals.{open_refusal, part_refusal, plain_refusal, finish_refusal, expire_refusal, tick_refusal, read_refusal, execute_refusal, ground_refusal, memories_refusal, sending_refusal}
+use Rattle.lpt_c_end.specs.Codes.{node_code, IsAnswer, answer, range, nothing}
+use Rattle.lpt_c_end.specs.Refusals.{open_refusal, part_refusal, plain_refusal, finish_refusal, sent_refusal, expire_refusal, tick_refusal, read_refusal, execute_refusal, ground_refusal, memories_refusal, sending_refusal}
 use Rattle.lpt_c_pair.specs.Answers.{ZeroIsAlwaysDone}
 use Rattle.lpt_model.specs.LptEvents.FaultNames.{code_of}
 use Rattle.lpt_model.specs.LptEvents.declared.side.Side.{Side}
@@ -87,6 +87,9 @@ zero_is_done e = record {
       (of_side e.side (node_code (refusal_plain e.config service subtype (length body)))
       (of_node (refusal_plain e.config service subtype (length body)))));
   finished = λ name. answered_by (finish_refusal name e) (of_node (refusal_finish e.node.at name));
+  let_go =
+      answered_by (sent_refusal e)
+      (of_test (length e.outbox.items == 0) nothing None (λ z. omega arith) (λ z. cc));
   expired = answered (expire_refusal e) (of_node (refusal_expire e.config e.node.at));
   ticked = answered_by (tick_refusal e) (of_node (refusal_tick e.node.at));
   read = answered (read_refusal e) (of_memories e.memories (node_code (refusal_claim e.node.at))

@@ -1,17 +1,21 @@
 -- Each call of C is a move of two ends apart.
-use Rattle.std.proofs.Common.{◌≡◌, ◌∙◌, ap, sym, refl, nat_lt, [], ◌∷◌, length, Option, Some, None}
-use Rattle.lpt_apart.specs.Moves.{Pair, CanMove}
-use Rattle.lpt_c_end.specs.Changes.{IsFixed, read_by, execution_by}
+use Rattle.std.proofs.Common.{◌≡◌, ◌∙◌, ap, sym, subst, refl, ℕ, nat_lt, List, [], ◌∷◌, ◌++◌, length, Option, Some, None}
+use Rattle.lpt_apart.specs.Ends.{Ends, put_out}
+use Rattle.lpt_apart.specs.Moves.{Pair, CanMove, freed_by, retired_by}
+use Rattle.lpt_c_end.specs.Changes.{IsFixed, delivery, expiry, read_by, execution_by}
 use Rattle.lpt_c_end.specs.Codes.{node_code, range, no_job}
 use Rattle.lpt_c_end.specs.Refusals.{ground_refusal, memories_refusal, sending_refusal}
 use Rattle.lpt_c_end.specs.Words.{direction_from as direction_by}
 use Rattle.lpt_c_end.specs.declared.end.End.{End}
-use Rattle.lpt_c_pair.specs.Pairs.{AreEndsOf, Call, Open, Part, Plain, Finish, Packet, Expire, Tick, Read, Execute, Retire, Restart, freeing, moves, after_all, CanAll, IsMoveOfGround, IsMoveOfCraft, CallsAreMoves}
+use Rattle.lpt_c_pair.specs.Outboxes.{AllOnTheWay, NoneWaits}
+use Rattle.lpt_c_pair.specs.Pairs.{AreEndsOf, Call, Open, Part, Plain, Finish, LetGo, Packet, Expire, Tick, Read, Execute, Retire, Restart, freeing, moves, after_all, CanAll, IsMoveOfGround, IsMoveOfCraft, CallsAreMoves}
+use Rattle.lpt_c_pair.proofs.GroundReports.{none_of_delivery, none_of_expiry}
+use Rattle.lpt_c_pair.proofs.Waiting.{stays, beside, adds, replaces, lets_go, freed_other, freed_this, as_listed, none_more}
 use Rattle.lpt_c_pair.proofs.Lemmas.{no_fault, not_refused, not_unsent, ground_becomes, craft_becomes, craft_fixed}
 use Rattle.lpt_model.specs.LptPacket.declared.direction.Direction.{Direction}
 use Rattle.lpt_model.specs.LptPacket.declared.direction.Direction.TheVariants.{Up, Down}
 use Rattle.lpt_model.specs.LptPacket.Names.{Name}
-use Rattle.lpt_model.specs.LptEvents.Arrivals.{arrival}
+use Rattle.lpt_model.specs.LptEvents.Arrivals.{arrival, arrival_in}
 use Rattle.lpt_model.specs.LptEvents.declared.config.Config.{Config}
 use Rattle.lpt_model.specs.LptEvents.declared.side.Side.{Side}
 use Rattle.lpt_model.specs.LptEvents.declared.side.Side.TheVariants.{Ground, Craft}
@@ -20,31 +24,73 @@ use Rattle.lpt_model.specs.LptMemory.Memories.{Contents}
 use Rattle.lpt_model.specs.LptMemory.Readings.{Job}
 use Rattle.lpt_model.specs.LptNode.Accepting.{accepted}
 use Rattle.lpt_model.specs.LptNode.Anew.{retired, restarted}
-use Rattle.lpt_model.specs.LptNode.Jobs.{refusal_claim, claimed, refusal_apply}
+use Rattle.lpt_model.specs.LptNode.Jobs.{refusal_claim, claimed, refusal_apply, executed}
 use Rattle.lpt_model.specs.LptNode.Nodes.{NodeData}
 use Rattle.lpt_model.specs.LptNode.Requests.{refusal_plain, plain_made}
 use Rattle.lpt_model.specs.LptNode.Sending.{refusal_open, opened, refusal_send, sent, refusal_finish, closed}
 use Rattle.lpt_model.specs.LptNode.Times.{refusal_tick, ticked, refusal_expire, expired}
+use Rattle.lpt_model.specs.State.{as_list}
 use Rattle.lpt_model.specs.Tickets.{Tickets, ticket_of, with_ticket}
 
 module _ (c : Config) (p : Pair) (g k : End) (are : AreEndsOf c p g k) where
+  -- what waits where a call of ground puts nothing out
+  quiet_ground : (f : Ends) (new : List (List ℕ))
+      → f.on_the_way ≡ p.ends.on_the_way
+      → new ≡ g.outbox.items
+      → AllOnTheWay f Up new × AllOnTheWay f Down k.outbox.items
+  quiet_ground f new ways is = (
+    stays p.ends f Up g.outbox.items new ways is are.upwards,
+    stays p.ends f Down k.outbox.items k.outbox.items ways refl are.downwards,
+  )
+
+  -- the same where what is put out is of the spacecraft's direction
+  beside_stays : (f : Ends) (new bs : List (List ℕ))
+      → f.on_the_way ≡ put_out p.ends.on_the_way Down None bs
+      → new ≡ g.outbox.items
+      → AllOnTheWay f Up new × AllOnTheWay f Down k.outbox.items
+  beside_stays f new bs ways is = (
+    subst (λ (xs : List (List ℕ)). AllOnTheWay f Up xs) (sym is)
+        (beside p.ends f Up Down None g.outbox.items bs ways are.upwards),
+    beside p.ends f Down Down None k.outbox.items bs ways are.downwards,
+  )
+
+  -- the same of the spacecraft
+  quiet_craft : (f : Ends) (new : List (List ℕ))
+      → f.on_the_way ≡ p.ends.on_the_way
+      → new ≡ k.outbox.items
+      → AllOnTheWay f Up g.outbox.items × AllOnTheWay f Down new
+  quiet_craft f new ways is = (
+    stays p.ends f Up g.outbox.items g.outbox.items ways refl are.upwards,
+    stays p.ends f Down k.outbox.items new ways is are.downwards,
+  )
+
   -- ---- ground
 
   free_ground : (d : Direction) (name : Name) (new : End)
       → CanMove c p (freeing Ground d name)
+      → NoneWaits p.ends d name g k
       → IsFixed g new
       → new.node.at ≡ retired g.side g.node.at d name
+      → new.outbox.items ≡ g.outbox.items
       → CanAll c p (freeing Ground d name ∷ [])
       × AreEndsOf c (after_all c p (freeing Ground d name ∷ [])) new k
-  free_ground Up name new can fixed node = (
+  free_ground Up name new can none fixed node outbox = (
     (tt, can),
     ground_becomes c p (after_all c p (freeing Ground Up name ∷ [])) g new k are fixed
-        (node ∙ (λ i. retired (are.ground.side i) (are.ground.node i) Up name)) refl refl refl,
+        (node ∙ (λ i. retired (are.ground.side i) (are.ground.node i) Up name)) refl refl refl
+        (freed_this p.ends (retired_by p Up name).ends Up name g.outbox.items new.outbox.items
+        refl outbox none)
+        (freed_other p.ends (retired_by p Up name).ends Down Up name k.outbox.items k.outbox.items
+        refl refl refl are.downwards),
   )
-  free_ground Down name new can fixed node = (
+  free_ground Down name new can none fixed node outbox = (
     (tt, can),
     ground_becomes c p (after_all c p (freeing Ground Down name ∷ [])) g new k are fixed
-        (node ∙ (λ i. retired (are.ground.side i) (are.ground.node i) Down name)) refl refl refl,
+        (node ∙ (λ i. retired (are.ground.side i) (are.ground.node i) Down name)) refl refl refl
+        (freed_other p.ends (freed_by p Down name).ends Up Down name g.outbox.items
+        new.outbox.items refl refl outbox are.upwards)
+        (freed_this p.ends (freed_by p Down name).ends Down name k.outbox.items k.outbox.items
+        refl refl none),
   )
 
   on_ground : (call : Call) → IsMoveOfGround c p g k call
@@ -58,7 +104,11 @@ module _ (c : Config) (p : Pair) (g k : End) (are : AreEndsOf c p g k) where
       ),
     ),
     ground_becomes c p (after_all c p (moves Ground (Open name m))) g new k are done.1.fixed
-        (done.1.node ∙ ap (λ (n : NodeData). opened n name m) are.ground.node) refl refl refl,
+        (done.1.node ∙ ap (λ (n : NodeData). opened n name m) are.ground.node) refl refl refl
+        (quiet_ground (after_all c p (moves Ground (Open name m))).ends new.outbox.items refl
+        done.1.outbox).0
+        (quiet_ground (after_all c p (moves Ground (Open name m))).ends new.outbox.items refl
+        done.1.outbox).1,
   )
   on_ground (Part name n) new done vow = (
     (
@@ -72,7 +122,15 @@ module _ (c : Config) (p : Pair) (g k : End) (are : AreEndsOf c p g k) where
     ground_becomes c p (after_all c p (moves Ground (Part name n))) g new k are done.1.fixed
         (done.1.node
         ∙ (λ i. (sent (are.ground.side i) (are.ground.config i) (are.ground.node i)
-        name n).0)) refl refl refl,
+        name n).0)) refl refl refl
+        (adds p.ends (after_all c p (moves Ground (Part name n))).ends Up (Some name)
+        g.outbox.items new.outbox.items
+        ((sent Ground c p.ends.on_ground name n).1 ∷ []) refl
+        (done.1.outbox
+        ∙ (λ i. g.outbox.items ++ ((sent (are.ground.side i) (are.ground.config i)
+        (are.ground.node i) name n).1 ∷ []))) are.upwards)
+        (beside p.ends (after_all c p (moves Ground (Part name n))).ends Down Up (Some name)
+        k.outbox.items ((sent Ground c p.ends.on_ground name n).1 ∷ []) refl are.downwards),
   )
   on_ground (Plain source flags service subtype body) new done vow =
       let here : ground_refusal g.side (node_code (refusal_plain g.config service subtype
@@ -94,7 +152,18 @@ module _ (c : Config) (p : Pair) (g k : End) (are : AreEndsOf c p g k) where
             (Plain source flags service subtype body))) g new k are done.1.fixed
             (done.1.node
             ∙ (λ i. (plain_made (are.ground.config i) (are.ground.node i)
-            source flags service subtype body).0)) refl refl refl,
+            source flags service subtype body).0)) refl refl refl
+            (adds p.ends (after_all c p (moves Ground
+            (Plain source flags service subtype body))).ends Up None
+            g.outbox.items new.outbox.items
+            ((plain_made c p.ends.on_ground source flags service subtype body).1 ∷ []) refl
+            (done.1.outbox
+            ∙ (λ i. g.outbox.items ++ ((plain_made (are.ground.config i) (are.ground.node i)
+            source flags service subtype body).1 ∷ []))) are.upwards)
+            (beside p.ends (after_all c p (moves Ground
+            (Plain source flags service subtype body))).ends Down Up None k.outbox.items
+            ((plain_made c p.ends.on_ground source flags service subtype body).1 ∷ []) refl
+            are.downwards),
       )
   on_ground (Finish name) new done vow = (
     (
@@ -106,7 +175,17 @@ module _ (c : Config) (p : Pair) (g k : End) (are : AreEndsOf c p g k) where
       ),
     ),
     ground_becomes c p (after_all c p (moves Ground (Finish name))) g new k are done.1.fixed
-        (done.1.node ∙ ap (λ (n : NodeData). closed n name) are.ground.node) refl refl refl,
+        (done.1.node ∙ ap (λ (n : NodeData). closed n name) are.ground.node) refl refl refl
+        (quiet_ground (after_all c p (moves Ground (Finish name))).ends new.outbox.items refl
+        done.1.outbox).0
+        (quiet_ground (after_all c p (moves Ground (Finish name))).ends new.outbox.items refl
+        done.1.outbox).1,
+  )
+  on_ground LetGo new done vow = (
+    tt,
+    ground_becomes c p p g new k are done.1.fixed (done.1.node ∙ are.ground.node) refl refl refl
+        (lets_go p.ends Up g.outbox.items new.outbox.items done.1.outbox are.upwards)
+        are.downwards,
   )
   on_ground (Packet b) new done vow = (
     (tt, vow),
@@ -114,7 +193,21 @@ module _ (c : Config) (p : Pair) (g k : End) (are : AreEndsOf c p g k) where
         (done.node
         ∙ (λ i. (accepted (are.ground.side i) (are.ground.config i) (are.ground.node i)
         (arrival (are.ground.side i) (are.ground.config i).apid
-        (are.ground.config i).part_size b)).0)) refl refl refl,
+        (are.ground.config i).part_size b)).0)) refl refl refl
+        (beside_stays (after_all c p (moves Ground (Packet b))).ends new.outbox.items
+        (as_list (accepted Ground c p.ends.on_ground (arrival_in c Down b)).1.packet) refl
+        (none_more g.outbox.items new.outbox.items (delivery g b).1.packet
+        ((λ i. (accepted (are.ground.side i) (are.ground.config i) (are.ground.node i)
+        (arrival (are.ground.side i) (are.ground.config i).apid
+        (are.ground.config i).part_size b)).1.packet)
+        ∙ none_of_delivery c p.ends.on_ground (arrival_in c Down b)) done.outbox)).0
+        (beside_stays (after_all c p (moves Ground (Packet b))).ends new.outbox.items
+        (as_list (accepted Ground c p.ends.on_ground (arrival_in c Down b)).1.packet) refl
+        (none_more g.outbox.items new.outbox.items (delivery g b).1.packet
+        ((λ i. (accepted (are.ground.side i) (are.ground.config i) (are.ground.node i)
+        (arrival (are.ground.side i) (are.ground.config i).apid
+        (are.ground.config i).part_size b)).1.packet)
+        ∙ none_of_delivery c p.ends.on_ground (arrival_in c Down b)) done.outbox)).1,
   )
   on_ground Expire new done vow = (
     (
@@ -125,12 +218,26 @@ module _ (c : Config) (p : Pair) (g k : End) (are : AreEndsOf c p g k) where
     ground_becomes c p (after_all c p (moves Ground (Expire))) g new k are done.1.fixed
         (done.1.node
         ∙ (λ i. (expired (are.ground.side i) (are.ground.config i) (are.ground.node i)).0))
-        refl refl refl,
+        refl refl refl
+        (beside_stays (after_all c p (moves Ground Expire)).ends new.outbox.items
+        (as_list (expired Ground c p.ends.on_ground).1.packet) refl
+        (none_more g.outbox.items new.outbox.items (expiry g).1.packet
+        ((λ i. (expired (are.ground.side i) (are.ground.config i) (are.ground.node i)).1.packet)
+        ∙ none_of_expiry c p.ends.on_ground) done.1.outbox)).0
+        (beside_stays (after_all c p (moves Ground Expire)).ends new.outbox.items
+        (as_list (expired Ground c p.ends.on_ground).1.packet) refl
+        (none_more g.outbox.items new.outbox.items (expiry g).1.packet
+        ((λ i. (expired (are.ground.side i) (are.ground.config i) (are.ground.node i)).1.packet)
+        ∙ none_of_expiry c p.ends.on_ground) done.1.outbox)).1,
   )
   on_ground Tick new done vow = (
     (tt, sym (λ i. refusal_tick (are.ground.node i)) ∙ no_fault (refusal_tick g.node.at) done.0),
     ground_becomes c p (after_all c p (moves Ground (Tick))) g new k are done.1.fixed
-        (done.1.node ∙ ap (λ (n : NodeData). ticked n) are.ground.node) refl refl refl,
+        (done.1.node ∙ ap (λ (n : NodeData). ticked n) are.ground.node) refl refl refl
+        (quiet_ground (after_all c p (moves Ground Tick)).ends new.outbox.items refl
+        done.1.outbox).0
+        (quiet_ground (after_all c p (moves Ground Tick)).ends new.outbox.items refl
+        done.1.outbox).1,
   )
   on_ground Read new done vow =
       absurd (let both : Some no_job ≡ None =
@@ -141,30 +248,44 @@ module _ (c : Config) (p : Pair) (g k : End) (are : AreEndsOf c p g k) where
       sym (ap (λ (ms : Option Contents). memories_refusal ms (sending_refusal (node_code
       (refusal_apply g.node.at)) g.outbox.items)) are.ground.memories) ∙ done.0 in cc)
   on_ground (Retire direction name) new done vow =
-      free_ground (direction_by direction) name new vow done.fixed done.node
+      free_ground (direction_by direction) name new vow.0 vow.1 done.fixed done.node done.outbox
   on_ground Restart new done vow = (
     (tt, tt),
     ground_becomes c p (after_all c p (moves Ground (Restart))) g new k are done.fixed
-        (done.node ∙ ap (λ (n : NodeData). restarted n) are.ground.node) refl refl refl,
+        (done.node ∙ ap (λ (n : NodeData). restarted n) are.ground.node) refl refl refl
+        (quiet_ground (after_all c p (moves Ground Restart)).ends new.outbox.items refl
+        done.outbox).0
+        (quiet_ground (after_all c p (moves Ground Restart)).ends new.outbox.items refl
+        done.outbox).1,
   )
 
   -- ---- the spacecraft
 
   free_craft : (d : Direction) (name : Name) (new : End)
       → CanMove c p (freeing Craft d name)
+      → NoneWaits p.ends d name g k
       → IsFixed k new
       → new.node.at ≡ retired k.side k.node.at d name
+      → new.outbox.items ≡ k.outbox.items
       → CanAll c p (freeing Craft d name ∷ [])
       × AreEndsOf c (after_all c p (freeing Craft d name ∷ [])) g new
-  free_craft Up name new can fixed node = (
+  free_craft Up name new can none fixed node outbox = (
     (tt, can),
     craft_fixed c p (after_all c p (freeing Craft Up name ∷ [])) g k new are fixed
-        (node ∙ (λ i. retired (are.craft.side i) (are.craft.node i) Up name)) refl refl refl,
+        (node ∙ (λ i. retired (are.craft.side i) (are.craft.node i) Up name)) refl refl refl
+        (freed_this p.ends (freed_by p Up name).ends Up name g.outbox.items g.outbox.items
+        refl refl none)
+        (freed_other p.ends (freed_by p Up name).ends Down Up name k.outbox.items
+        new.outbox.items refl refl outbox are.downwards),
   )
-  free_craft Down name new can fixed node = (
+  free_craft Down name new can none fixed node outbox = (
     (tt, can),
     craft_fixed c p (after_all c p (freeing Craft Down name ∷ [])) g k new are fixed
-        (node ∙ (λ i. retired (are.craft.side i) (are.craft.node i) Down name)) refl refl refl,
+        (node ∙ (λ i. retired (are.craft.side i) (are.craft.node i) Down name)) refl refl refl
+        (freed_other p.ends (retired_by p Down name).ends Up Down name g.outbox.items
+        g.outbox.items refl refl refl are.upwards)
+        (freed_this p.ends (retired_by p Down name).ends Down name k.outbox.items
+        new.outbox.items refl outbox none),
   )
 
   on_craft : (call : Call) → IsMoveOfCraft c p g k call
@@ -178,7 +299,11 @@ module _ (c : Config) (p : Pair) (g k : End) (are : AreEndsOf c p g k) where
       ),
     ),
     craft_fixed c p (after_all c p (moves Craft (Open name m))) g k new are done.1.fixed
-        (done.1.node ∙ ap (λ (n : NodeData). opened n name m) are.craft.node) refl refl refl,
+        (done.1.node ∙ ap (λ (n : NodeData). opened n name m) are.craft.node) refl refl refl
+        (quiet_craft (after_all c p (moves Craft (Open name m))).ends new.outbox.items refl
+        done.1.outbox).0
+        (quiet_craft (after_all c p (moves Craft (Open name m))).ends new.outbox.items refl
+        done.1.outbox).1,
   )
   on_craft (Part name n) new done vow = (
     (
@@ -192,7 +317,15 @@ module _ (c : Config) (p : Pair) (g k : End) (are : AreEndsOf c p g k) where
     craft_fixed c p (after_all c p (moves Craft (Part name n))) g k new are done.1.fixed
         (done.1.node
         ∙ (λ i. (sent (are.craft.side i) (are.craft.config i) (are.craft.node i) name n).0))
-        refl refl refl,
+        refl refl refl
+        (beside p.ends (after_all c p (moves Craft (Part name n))).ends Up Down (Some name)
+        g.outbox.items ((sent Craft c p.ends.on_craft name n).1 ∷ []) refl are.upwards)
+        (adds p.ends (after_all c p (moves Craft (Part name n))).ends Down (Some name)
+        k.outbox.items new.outbox.items
+        ((sent Craft c p.ends.on_craft name n).1 ∷ []) refl
+        (done.1.outbox
+        ∙ (λ i. k.outbox.items ++ ((sent (are.craft.side i) (are.craft.config i)
+        (are.craft.node i) name n).1 ∷ []))) are.downwards),
   )
   on_craft (Plain source flags service subtype body) new done vow =
       let here : ground_refusal k.side (node_code (refusal_plain k.config service subtype
@@ -212,7 +345,17 @@ module _ (c : Config) (p : Pair) (g k : End) (are : AreEndsOf c p g k) where
       ),
     ),
     craft_fixed c p (after_all c p (moves Craft (Finish name))) g k new are done.1.fixed
-        (done.1.node ∙ ap (λ (n : NodeData). closed n name) are.craft.node) refl refl refl,
+        (done.1.node ∙ ap (λ (n : NodeData). closed n name) are.craft.node) refl refl refl
+        (quiet_craft (after_all c p (moves Craft (Finish name))).ends new.outbox.items refl
+        done.1.outbox).0
+        (quiet_craft (after_all c p (moves Craft (Finish name))).ends new.outbox.items refl
+        done.1.outbox).1,
+  )
+  on_craft LetGo new done vow = (
+    tt,
+    craft_fixed c p p g k new are done.1.fixed (done.1.node ∙ are.craft.node) refl refl refl
+        are.upwards
+        (lets_go p.ends Down k.outbox.items new.outbox.items done.1.outbox are.downwards),
   )
   on_craft (Packet b) new done vow = (
     (tt, vow),
@@ -220,7 +363,18 @@ module _ (c : Config) (p : Pair) (g k : End) (are : AreEndsOf c p g k) where
         (done.node
         ∙ (λ i. (accepted (are.craft.side i) (are.craft.config i) (are.craft.node i) (arrival
         (are.craft.side i) (are.craft.config i).apid (are.craft.config i).part_size b)).0))
-        refl refl refl,
+        refl refl refl
+        (beside p.ends (after_all c p (moves Craft (Packet b))).ends Up Down None
+        g.outbox.items (as_list (accepted Craft c p.ends.on_craft (arrival_in c Up b)).1.packet)
+        refl are.upwards)
+        (adds p.ends (after_all c p (moves Craft (Packet b))).ends Down None
+        k.outbox.items new.outbox.items
+        (as_list (accepted Craft c p.ends.on_craft (arrival_in c Up b)).1.packet) refl
+        (done.outbox
+        ∙ ap (λ (xs : List (List ℕ)). k.outbox.items ++ xs) (as_listed (delivery k b).1.packet)
+        ∙ (λ i. k.outbox.items ++ as_list (accepted (are.craft.side i) (are.craft.config i)
+        (are.craft.node i) (arrival (are.craft.side i) (are.craft.config i).apid
+        (are.craft.config i).part_size b)).1.packet)) are.downwards),
   )
   on_craft Expire new done vow = (
     (
@@ -231,12 +385,23 @@ module _ (c : Config) (p : Pair) (g k : End) (are : AreEndsOf c p g k) where
     craft_fixed c p (after_all c p (moves Craft (Expire))) g k new are done.1.fixed
         (done.1.node
         ∙ (λ i. (expired (are.craft.side i) (are.craft.config i) (are.craft.node i)).0))
-        refl refl refl,
+        refl refl refl
+        (beside p.ends (after_all c p (moves Craft Expire)).ends Up Down None
+        g.outbox.items (as_list (expired Craft c p.ends.on_craft).1.packet) refl are.upwards)
+        (adds p.ends (after_all c p (moves Craft Expire)).ends Down None
+        k.outbox.items new.outbox.items
+        (as_list (expired Craft c p.ends.on_craft).1.packet) refl
+        (done.1.outbox
+        ∙ ap (λ (xs : List (List ℕ)). k.outbox.items ++ xs) (as_listed (expiry k).1.packet)
+        ∙ (λ i. k.outbox.items ++ as_list (expired (are.craft.side i) (are.craft.config i)
+        (are.craft.node i)).1.packet)) are.downwards),
   )
   on_craft Tick new done vow = (
     (tt, sym (λ i. refusal_tick (are.craft.node i)) ∙ no_fault (refusal_tick k.node.at) done.0),
     craft_fixed c p (after_all c p (moves Craft (Tick))) g k new are done.1.fixed
-        (done.1.node ∙ ap (λ (n : NodeData). ticked n) are.craft.node) refl refl refl,
+        (done.1.node ∙ ap (λ (n : NodeData). ticked n) are.craft.node) refl refl refl
+        (quiet_craft (after_all c p (moves Craft Tick)).ends new.outbox.items refl done.1.outbox).0
+        (quiet_craft (after_all c p (moves Craft Tick)).ends new.outbox.items refl done.1.outbox).1,
   )
   on_craft Read new done vow =
       let none : node_code (refusal_claim k.node.at) ≡ None =
@@ -259,7 +424,11 @@ module _ (c : Config) (p : Pair) (g k : End) (are : AreEndsOf c p g k) where
             ∙ (λ i. read_by (are.craft.config i) (are.craft.memories i) (are.craft.node i)))
             refl
             (done.1.fixed.memories ∙ are.craft.memories)
-            (λ i. with_ticket (with_ticket (are.tickets i) W1 (Some t)) W1 None),
+            (λ i. with_ticket (with_ticket (are.tickets i) W1 (Some t)) W1 None)
+            (quiet_craft (after_all c p (moves Craft Read)).ends new.outbox.items refl
+            done.1.outbox).0
+            (quiet_craft (after_all c p (moves Craft Read)).ends new.outbox.items refl
+            done.1.outbox).1,
       )
   on_craft Execute new done vow =
       let unsent : sending_refusal (node_code (refusal_apply k.node.at)) k.outbox.items ≡ None =
@@ -276,14 +445,25 @@ module _ (c : Config) (p : Pair) (g k : End) (are : AreEndsOf c p g k) where
             (done.1.memories
             ∙ (λ i. (execution_by (are.craft.config i) (are.craft.memories i)
             (are.craft.node i)).1))
-            are.tickets,
+            are.tickets
+            (beside p.ends (after_all c p (moves Craft Execute)).ends Up Down None
+            g.outbox.items (executed c p.ends.on_craft p.ends.memories).0.1.packets refl
+            are.upwards)
+            (replaces p.ends (after_all c p (moves Craft Execute)).ends Down None
+            new.outbox.items (executed c p.ends.on_craft p.ends.memories).0.1.packets refl
+            (done.1.outbox
+            ∙ (λ i. (execution_by (are.craft.config i) (are.craft.memories i)
+            (are.craft.node i)).0.1.packets))),
       )
   on_craft (Retire direction name) new done vow =
-      free_craft (direction_by direction) name new vow done.fixed done.node
+      free_craft (direction_by direction) name new vow.0 vow.1 done.fixed done.node done.outbox
   on_craft Restart new done vow = (
     (tt, tt),
     craft_fixed c p (after_all c p (moves Craft (Restart))) g k new are done.fixed
-        (done.node ∙ ap (λ (n : NodeData). restarted n) are.craft.node) refl refl refl,
+        (done.node ∙ ap (λ (n : NodeData). restarted n) are.craft.node) refl refl refl
+        (quiet_craft (after_all c p (moves Craft Restart)).ends new.outbox.items refl done.outbox).0
+        (quiet_craft (after_all c p (moves Craft Restart)).ends new.outbox.items refl
+        done.outbox).1,
   )
 
 pub calls_are_moves : CallsAreMoves

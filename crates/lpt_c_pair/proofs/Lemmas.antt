@@ -5,7 +5,9 @@ use Rattle.lpt_c_end.specs.Changes.{IsFixed}
 use Rattle.lpt_c_end.specs.Codes.{node_code}
 use Rattle.lpt_c_end.specs.Refusals.{sending_refusal}
 use Rattle.lpt_c_end.specs.declared.end.End.{End}
+use Rattle.lpt_c_pair.specs.Outboxes.{AllOnTheWay}
 use Rattle.lpt_c_pair.specs.Pairs.{AreEndsOf}
+use Rattle.lpt_model.specs.LptPacket.declared.direction.Direction.TheVariants.{Up, Down}
 use Rattle.lpt_model.specs.LptEvents.declared.config.Config.{Config}
 use Rattle.lpt_model.specs.LptMemory.Memories.{Contents}
 use Rattle.lpt_model.specs.LptNode.declared.fault.NodeFault.{NodeFault}
@@ -41,8 +43,10 @@ pub ground_becomes : (c : Config) (p q : Pair) (g new k : End)
     → q.ends.on_craft ≡ p.ends.on_craft
     → q.ends.memories ≡ p.ends.memories
     → q.ends.tickets ≡ p.ends.tickets
+    → AllOnTheWay q.ends Up new.outbox.items
+    → AllOnTheWay q.ends Down k.outbox.items
     → AreEndsOf c q new k
-ground_becomes c p q g new k are fixed node craft memories tickets = record {
+ground_becomes c p q g new k are fixed node craft memories tickets up down = record {
   ground = record {
     side = fixed.side ∙ are.ground.side;
     config = fixed.config ∙ are.ground.config;
@@ -56,6 +60,8 @@ ground_becomes c p q g new k are fixed node craft memories tickets = record {
     memories = are.craft.memories ∙ ap (λ (ms : Contents). Some ms) (sym memories);
   };
   tickets = tickets ∙ are.tickets;
+  upwards = up;
+  downwards = down;
 }
 
 -- the spacecraft's end became another
@@ -67,8 +73,10 @@ pub craft_becomes : (c : Config) (p q : Pair) (g k new : End)
     → q.ends.on_ground ≡ p.ends.on_ground
     → new.memories ≡ Some q.ends.memories
     → q.ends.tickets ≡ no_tickets
+    → AllOnTheWay q.ends Up g.outbox.items
+    → AllOnTheWay q.ends Down new.outbox.items
     → AreEndsOf c q g new
-craft_becomes c p q g k new are side config node on_ground memories tickets = record {
+craft_becomes c p q g k new are side config node on_ground memories tickets up down = record {
   ground = record {
     side = are.ground.side;
     config = are.ground.config;
@@ -82,6 +90,8 @@ craft_becomes c p q g k new are side config node on_ground memories tickets = re
     memories = memories;
   };
   tickets = tickets;
+  upwards = up;
+  downwards = down;
 }
 
 -- the spacecraft's end became another, with the same memories
@@ -92,8 +102,10 @@ pub craft_fixed : (c : Config) (p q : Pair) (g k new : End)
     → q.ends.on_ground ≡ p.ends.on_ground
     → q.ends.memories ≡ p.ends.memories
     → q.ends.tickets ≡ p.ends.tickets
+    → AllOnTheWay q.ends Up g.outbox.items
+    → AllOnTheWay q.ends Down new.outbox.items
     → AreEndsOf c q g new
-craft_fixed c p q g k new are fixed node on_ground memories tickets =
+craft_fixed c p q g k new are fixed node on_ground memories tickets up down =
     craft_becomes c p q g k new are fixed.side fixed.config node on_ground
     (fixed.memories ∙ are.craft.memories ∙ ap (λ (ms : Contents). Some ms) (sym memories))
-    (tickets ∙ are.tickets)
+    (tickets ∙ are.tickets) up down

@@ -1,4 +1,6 @@
 pub mod Answering
 pub mod Calls
+pub mod GroundReports
 pub mod Lemmas
 pub mod Running
+pub mod Waiting

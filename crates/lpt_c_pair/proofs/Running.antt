@@ -1,5 +1,6 @@
 -- Two ends behind handles keep the promise, whatever calls are made of them.
 use Rattle.std.proofs.Common.{◌≡◌, ap, sym, subst, refl, ℕ, List, [], ◌∷◌, ◌++◌}
+use Rattle.lpt_apart.specs.Ends.{no_ends}
 use Rattle.lpt_apart.specs.Moves.{Pair, Move, moved, CanMove, came_to, CanMoveAll}
 use Rattle.lpt_apart.specs.Worlds.{IsPromised}
 use Rattle.lpt_apart.proofs.Moving.{ends_apart_keep_the_promise}
@@ -7,9 +8,11 @@ use Rattle.lpt_c_end.specs.Changes.{IsNew}
 use Rattle.lpt_c_end.specs.Contents.{memories_told}
 use Rattle.lpt_c_end.specs.declared.end.End.{End}
 use Rattle.lpt_c_end.specs.declared.memories.LptMemory.{LptMemory}
+use Rattle.lpt_c_pair.specs.Outboxes.{AllOnTheWay}
 use Rattle.lpt_c_pair.specs.Pairs.{AreEndsOf, Call, moves, after_all, CanAll}
 use Rattle.lpt_c_pair.specs.Runs.{Turn, Standing, begun, turned_by, CanTurnBy, stood, CanStand, EndsOfCKeepThePromise}
 use Rattle.lpt_c_pair.proofs.Calls.{calls_are_moves}
+use Rattle.lpt_model.specs.LptPacket.declared.direction.Direction.TheVariants.{Up, Down}
 use Rattle.lpt_model.specs.LptEvents.declared.config.Config.{Config}
 use Rattle.lpt_model.specs.LptEvents.declared.side.Side.{Side}
 use Rattle.lpt_model.specs.LptEvents.declared.side.Side.TheVariants.{Ground, Craft}
@@ -86,6 +89,12 @@ begins c none nothing ms content g k new_g new_k = record {
       memories = new_k.memories;
     };
     tickets = refl;
+    upwards =
+        subst (λ (xs : List (List ℕ)). AllOnTheWay (no_ends c (memories_told content ms)) Up xs)
+        (sym new_g.outbox) tt;
+    downwards =
+        subst (λ (xs : List (List ℕ)). AllOnTheWay (no_ends c (memories_told content ms)) Down xs)
+        (sym new_k.outbox) tt;
   };
 }
 

@@ -1,7 +1,7 @@
 -- A call that answers 0 was refused by nothing.
 use Rattle.std.specs.Prelude.{◌≡◌, ℕ, List, None}
 use Rattle.lpt_c_end.specs.Codes.{IsAnswer, answer}
-use Rattle.lpt_c_end.specs.Refusals.{open_refusal, part_refusal, plain_refusal, finish_refusal, expire_refusal, tick_refusal, read_refusal, execute_refusal}
+use Rattle.lpt_c_end.specs.Refusals.{open_refusal, part_refusal, plain_refusal, finish_refusal, sent_refusal, expire_refusal, tick_refusal, read_refusal, execute_refusal}
 use Rattle.lpt_c_end.specs.declared.end.End.{End}
 use Rattle.lpt_model.specs.LptPacket.Names.{Name}
 
@@ -15,7 +15,10 @@ pub record ZeroIsDone (e : End) : Type 0 where
   pub plain : (flags service subtype : ℕ) (body : List ℕ)
       → IsAnswer (plain_refusal flags service subtype body e) 0
       → plain_refusal flags service subtype body e ≡ None
-  pub finished : (name : Name) → 0 ≡ answer (finish_refusal name e) → finish_refusal name e ≡ None
+  pub finished : (name : Name)
+      → 0 ≡ answer (finish_refusal name e)
+      → finish_refusal name e ≡ None
+  pub let_go : 0 ≡ answer (sent_refusal e) → sent_refusal e ≡ None
   pub expired : IsAnswer (expire_refusal e) 0 → expire_refusal e ≡ None
   pub ticked : 0 ≡ answer (tick_refusal e) → tick_refusal e ≡ None
   pub read : IsAnswer (read_refusal e) 0 → read_refusal e ≡ None

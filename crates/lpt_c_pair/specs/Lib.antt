@@ -1,3 +1,4 @@
 pub mod Answers
+pub mod Outboxes
 pub mod Pairs
 pub mod Runs

@@ -3,10 +3,11 @@ use Rattle.std.specs.Prelude.{◌≡◌, ℕ, List, [], ◌∷◌, Option, Some,
 use Rattle.lpt_apart.specs.Moves.{Pair, Move, Do, Free, moved, CanMove}
 use Rattle.lpt_apart.specs.Steps as step
 use Rattle.lpt_apart.specs.Steps.{MayCome}
-use Rattle.lpt_c_end.specs.Changes.{IsOpened, IsPartMade, IsPlainMade, IsFinished, IsDelivered, IsExpired, IsTicked, IsRead, IsExecuted, IsRetired, IsRestarted}
-use Rattle.lpt_c_end.specs.Refusals.{open_refusal, part_refusal, plain_refusal, finish_refusal, expire_refusal, tick_refusal, read_refusal, execute_refusal}
+use Rattle.lpt_c_end.specs.Changes.{IsOpened, IsPartMade, IsPlainMade, IsFinished, IsLetGo, IsDelivered, IsExpired, IsTicked, IsRead, IsExecuted, IsRetired, IsRestarted}
+use Rattle.lpt_c_end.specs.Refusals.{open_refusal, part_refusal, plain_refusal, finish_refusal, sent_refusal, expire_refusal, tick_refusal, read_refusal, execute_refusal}
 use Rattle.lpt_c_end.specs.Words.{direction_from as direction_by}
 use Rattle.lpt_c_end.specs.declared.end.End.{End}
+use Rattle.lpt_c_pair.specs.Outboxes.{AllOnTheWay, NoneWaits}
 use Rattle.lpt_model.specs.LptPacket.declared.direction.Direction.{Direction}
 use Rattle.lpt_model.specs.LptPacket.declared.direction.Direction.TheVariants.{Up, Down}
 use Rattle.lpt_model.specs.LptPacket.Names.{Name}
@@ -31,11 +32,14 @@ pub record IsEndOf (c : Config) (s : Side) (n : NodeData) (ms : Option Contents)
   pub node : e.node.at ≡ n
   pub memories : e.memories ≡ ms
 
--- two ends behind handles are those of two ends apart, none of whose workers has a job
+-- two ends behind handles are those of two ends apart, none of whose workers has a job; what waits
+-- in their outboxes is on the way
 pub record AreEndsOf (c : Config) (p : Pair) (on_ground on_craft : End) : Type 0 where
   pub ground : IsEndOf c Ground p.ends.on_ground None on_ground
   pub craft : IsEndOf c Craft p.ends.on_craft (Some p.ends.memories) on_craft
   pub tickets : p.ends.tickets ≡ no_tickets
+  pub upwards : AllOnTheWay p.ends Up on_ground.outbox.items
+  pub downwards : AllOnTheWay p.ends Down on_craft.outbox.items
 
 -- ---- calls
 
@@ -45,6 +49,7 @@ pub data Call : Type 0 where
   Part : Name → (k : ℕ) → Call
   Plain : (source flags service subtype : ℕ) → (body : List ℕ) → Call
   Finish : Name → Call
+  LetGo : Call
   Packet : (octets : List ℕ) → Call
   Expire : Call
   Tick : Call
@@ -61,6 +66,7 @@ IsDone (Plain source flags service subtype body) e new =
     (plain_refusal flags service subtype body e ≡ None)
     × IsPlainMade source flags service subtype body e new
 IsDone (Finish name) e new = (finish_refusal name e ≡ None) × IsFinished name e new
+IsDone LetGo e new = (sent_refusal e ≡ None) × IsLetGo e new
 IsDone (Packet b) e new = IsDelivered b e new
 IsDone Expire e new = (expire_refusal e ≡ None) × IsExpired e new
 IsDone Tick e new = (tick_refusal e ≡ None) × IsTicked e new
@@ -85,6 +91,7 @@ moves side (Part name k) = Do (step.Send (direction_from side) name k) ∷ []
 moves side (Plain source flags service subtype body) =
     Do (step.Plain source flags service subtype body) ∷ []
 moves side (Finish name) = Do (step.Finish (direction_from side) name) ∷ []
+moves side LetGo = []
 moves side (Packet b) = Do (step.Accept (direction_to side) b) ∷ []
 moves side Expire = Do (step.Expire side) ∷ []
 moves side Tick = Do (step.Tick side) ∷ []
@@ -107,20 +114,23 @@ CanAll c p (x ∷ xs) = CanAll c p xs × CanMove c (after_all c p xs) x
 
 -- A name's numbers and octets are of their types. Octets that are handed over were put out by the
 -- other end and may come still, or are no part and no request. A name is freed at its receiver
--- where it is over, and at its sender after that.
-abbrev pub Promises : Config → Pair → Side → Call → Type 0
-Promises c p side (Open name m) = IsEvent (event.Open (direction_from side) name m)
-Promises c p side (Part name k) = IsEvent (event.Send (direction_from side) name k)
-Promises c p side (Plain source flags service subtype body) =
+-- where it is over, and at its sender after that, and none of its parts waits at its sender.
+abbrev pub Promises : Config → Pair → (on_ground on_craft : End) → Side → Call → Type 0
+Promises c p g k side (Open name m) = IsEvent (event.Open (direction_from side) name m)
+Promises c p g k side (Part name n) = IsEvent (event.Send (direction_from side) name n)
+Promises c p g k side (Plain source flags service subtype body) =
     IsEvent (event.Plain source flags service subtype body)
-Promises c p side (Finish name) = IsEvent (event.Finish (direction_from side) name)
-Promises c p side (Packet b) = MayCome c p.ends (direction_to side) b
-Promises c p side Expire = ⊤
-Promises c p side Tick = ⊤
-Promises c p side Read = ⊤
-Promises c p side Execute = ⊤
-Promises c p side (Retire direction name) = CanMove c p (freeing side (direction_by direction) name)
-Promises c p side Restart = ⊤
+Promises c p g k side (Finish name) = IsEvent (event.Finish (direction_from side) name)
+Promises c p g k side LetGo = ⊤
+Promises c p g k side (Packet b) = MayCome c p.ends (direction_to side) b
+Promises c p g k side Expire = ⊤
+Promises c p g k side Tick = ⊤
+Promises c p g k side Read = ⊤
+Promises c p g k side Execute = ⊤
+Promises c p g k side (Retire direction name) =
+    CanMove c p (freeing side (direction_by direction) name)
+    × NoneWaits p.ends (direction_by direction) name g k
+Promises c p g k side Restart = ⊤
 
 -- ---- the law
 
@@ -129,7 +139,7 @@ abbrev pub IsMoveOfGround : Config → Pair → End → End → Call → Type 0
 IsMoveOfGround c p g k call =
     (new : End)
     → IsDone call g new
-    → Promises c p Ground call
+    → Promises c p g k Ground call
     → CanAll c p (moves Ground call) × AreEndsOf c (after_all c p (moves Ground call)) new k
 
 -- the same of the spacecraft
@@ -137,7 +147,7 @@ abbrev pub IsMoveOfCraft : Config → Pair → End → End → Call → Type 0
 IsMoveOfCraft c p g k call =
     (new : End)
     → IsDone call k new
-    → Promises c p Craft call
+    → Promises c p g k Craft call
     → CanAll c p (moves Craft call) × AreEndsOf c (after_all c p (moves Craft call)) g new
 
 -- whatever call of which end

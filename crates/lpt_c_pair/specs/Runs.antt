@@ -44,8 +44,10 @@ turned_by c s Craft call new = record {
 
 -- the call was of the end as it stood, and the program keeps what it promises of it
 abbrev pub CanTurnBy : Config → Standing → Side → Call → End → Type 0
-CanTurnBy c s Ground call new = IsDone call s.on_ground new × Promises c s.pair Ground call
-CanTurnBy c s Craft call new = IsDone call s.on_craft new × Promises c s.pair Craft call
+CanTurnBy c s Ground call new =
+    IsDone call s.on_ground new × Promises c s.pair s.on_ground s.on_craft Ground call
+CanTurnBy c s Craft call new =
+    IsDone call s.on_craft new × Promises c s.pair s.on_ground s.on_craft Craft call
 
 -- the ends after these calls, the newest of which stands first
 abbrev pub stood : Config → Standing → List Turn → Standing

@@ -1,0 +1,63 @@
+-- Ground makes no reports of abortions.
+use Rattle.std.proofs.Common.{◌≡◌, ◌∙◌, ap, refl, ℕ, List, Option, Some, None}
+use Rattle.lpt_model.specs.LptPacket.Names.{Name}
+use Rattle.lpt_model.specs.LptEvents.Arrivals.{Arrival, NotRead, AnIdle, Foreign, ARequest, AReport, NoPart, APart, AnAbort}
+use Rattle.lpt_model.specs.LptEvents.NamedParts.{NamedPart}
+use Rattle.lpt_model.specs.LptEvents.declared.config.Config.{Config}
+use Rattle.lpt_model.specs.LptEvents.declared.side.Side.TheVariants.{Ground}
+use Rattle.lpt_model.specs.LptLedger.declared.state.State.{State}
+use Rattle.lpt_model.specs.LptLedger.declared.state.State.TheVariants.{Free, Open, Closed}
+use Rattle.lpt_model.specs.LptNode.Accepting.{accepted}
+use Rattle.lpt_model.specs.LptNode.Nodes.{NodeData}
+use Rattle.lpt_model.specs.LptNode.Receivers.{ReceiverState, received, received_from, after_offer, if_free, table_in, parts_with, kept_of}
+use Rattle.lpt_model.specs.LptNode.Receiving.{after_received, parted, receiver_of}
+use Rattle.lpt_model.specs.LptNode.Times.{expired, expired_of, due}
+use Rattle.lpt_model.specs.LptReception.Received.{Parts}
+use Rattle.lpt_model.specs.LptTable.Offering as offering
+use Rattle.lpt_model.specs.LptTable.Offering.{OfferKind, offered}
+use Rattle.lpt_model.specs.LptTable.Tables.{Entries, TableState}
+use Rattle.lpt_model.specs.LptLedger.States.{state_at}
+
+of_offer : (d : NodeData) (q : NamedPart) (r : ReceiverState) (parts : Parts) (o : OfferKind)
+    (es : Entries)
+    → (after_received Ground d q (after_offer None r q.name parts o es)).1.packet ≡ None
+of_offer d q r parts offering.Kept es = refl
+of_offer d q r parts offering.Again es = refl
+of_offer d q r parts offering.Gap es = refl
+of_offer d q r parts offering.NoRoom es = refl
+of_offer d q r parts offering.Whole es = refl
+of_offer d q r parts (offering.Conflict reason) es = refl
+
+of_free : (s : State) (d : NodeData) (q : NamedPart) (r : ReceiverState) (parts : Parts)
+    (o : OfferKind × TableState)
+    → (after_received Ground d q (if_free s r (received_from None r q.name parts o))).1.packet ≡
+    None
+of_free Free d q r parts o = of_offer d q r parts o.0 o.1.entries
+of_free Open d q r parts o = refl
+of_free Closed d q r parts o = refl
+
+of_part : (c : Config) (d : NodeData) (q : NamedPart) → (parted Ground c d q).1.packet ≡ None
+unfolding received
+of_part c d q =
+    let r : ReceiverState = receiver_of c d.receiving in
+    of_free (state_at r.ledger q.name) d q r (parts_with (table_in r) q)
+    (offered (table_in r) q.name q.number (kept_of q) d.clock)
+
+-- ground makes no report of what is delivered to it
+pub none_of_delivery : (c : Config) (d : NodeData) (a : Arrival)
+    → (accepted Ground c d a).1.packet ≡ None
+none_of_delivery c d NotRead = refl
+none_of_delivery c d AnIdle = refl
+none_of_delivery c d Foreign = refl
+none_of_delivery c d (ARequest b) = refl
+none_of_delivery c d (AReport service subtype) = refl
+none_of_delivery c d NoPart = refl
+none_of_delivery c d (AnAbort name reason) = refl
+none_of_delivery c d (APart q) = of_part c d q
+
+-- nor of a reception that it gives up
+pub none_of_expiry : (c : Config) (d : NodeData) → (expired Ground c d).1.packet ≡ None
+none_of_expiry c d = go (due c d) where
+  go : (o : Option Name) → (expired_of Ground c d o).1.packet ≡ None
+  go None = refl
+  go (Some name) = refl
