@@ -16,7 +16,7 @@ import sys
 
 TOP = pathlib.Path(__file__).resolve().parent.parent
 HEADLINE = "lpt_journal/specs/Headline"
-IMPORT = re.compile(r"use Rattle\.(\w+)\.specs\.([\w.]+)")
+IMPORT = re.compile(r"(?:pub )?use Rattle\.(\w+)\.specs\.([\w.]+)")
 GIVEN = re.compile(r"pub use Rattle\.(\w+)\.specs(?:\.([\w.]+))? as (\w+)")
 
 

@@ -1,31 +1,33 @@
 //! The picture of a script's run.
 
+use crate::configuration;
 use crate::end::{Failure, Status, tell_place};
 use crate::input::opened_script;
 use crate::recalled::{Kept, Script};
 use crate::streams::{finish, output};
 use crate::work::status_at_end;
+use lpt_chart::Choice;
+use lpt_chart_script::{Drawing, draw_script};
 use lpt_command_line::ChartWords;
-use lpt_drawing::{Choice, Drawing, draw_script};
-use lpt_tool::{Config, Memories, ToolFault, write_out};
+use lpt_text::{ToolFault, write_out};
 
-/// Runs a script on a new world of these memories, the one at this path or standard input for `-`,
-/// and writes the picture of what happened. Standard error is told where the run has fewer events
-/// than the choice of rows begins at.
+/// Runs a script on a new world, the one at this path or standard input for `-`, and writes the picture of
+/// what happened. The world is that of the configuration at its own path, if it has one. Standard error is
+/// told where the run has fewer events than the choice of rows begins at.
 ///
-/// Errors: `Line` at an unreadable line, after standard error was told why it is, `Read` where the
-/// script can't be opened or read: then the picture is of what happened before, and there is none
-/// where nothing did; `Write` where a write failed, `Memory`.
+/// Errors: `Config` where the configuration is refused; `Line` at an unreadable line, after standard error
+/// was told why it is, `Read` where the script can't be opened or read: then the picture is of what happened
+/// before, and there is none where nothing did; `Write` where a write failed, `Memory`.
 pub fn chart(
     rt: &HostRuntime,
-    config: Config,
-    memories: Memories,
+    config: Option<&str>,
     words: &ChartWords<'_>,
 ) -> Result<Status, Failure> {
     let choice = Choice {
         from: words.from,
         to: words.to,
     };
+    let (config, memories, _) = configuration::read(rt, config)?;
     let mut source = match opened_script(rt, words.script, Kept::Whole) {
         Ok(source) => source,
         Err(failure) => {

@@ -1,15 +1,17 @@
 //! The configuration, the first memories, and their file.
 
 ghost use Rattle.std.specs.Prelude.{IfOk};
-ghost use Rattle.lpt_files.specs.LptEvents.Configs.{IsConfig};
+ghost use Rattle.lpt_events.specs.Configs.{IsConfig};
 
 use crate::end::Failure;
 use crate::watched::Watched;
+use lpt_events::{Config, Turns};
+use lpt_memory::Memories;
 use lpt_settings::{read_config, why_refused};
-use lpt_tool::{Config, End, Memories, Told, ToolFault, Turns, read_text};
+use lpt_text::{End, FromStd, ToolFault, read_text};
 use std::alloc::{AllocError, Global};
 use std::fs::File;
-use std::io::Read;
+use std::io::{Read, Take};
 use std::str;
 
 /// The most octets that the file may have.
@@ -44,6 +46,21 @@ pub fn read(rt: &HostRuntime, path: Option<&str>) -> Result<(Config, Memories, T
     }
 }
 
+/// The same configuration alone.
+///
+/// Errors: as of `read`.
+pub fn alone(rt: &HostRuntime, path: Option<&str>) -> Result<Config, Failure>
+    ensures { IfOk result (λ c. IsConfig c) }
+{
+    match read(rt, path) {
+        Ok((config, memories, _)) => {
+            drop(memories);
+            Ok(config)
+        }
+        Err(failure) => Err(failure),
+    }
+}
+
 // Where the text of the file at this path is refused, and why.
 fn complaint(alloc: Global, path: &str, text: &str) -> Result<String, AllocError> {
     match why_refused(alloc, text)? {
@@ -63,8 +80,19 @@ fn read_file(rt: &HostRuntime, path: &str) -> Result<Vec<u8>, Failure> {
             return Err(Failure::at(ToolFault::Read, place));
         }
     };
-    let mut source = Told::new(Watched::new(file.take(LONGEST_FILE as u64 + 1)));
-    let (octets, end) = read_text(rt.alloc(), &mut source)?;
+    let mut source = FromStd::new(Watched::new(file.take(LONGEST_FILE as u64 + 1)));
+    let octets = read_octets(rt, path, &mut source);
+    drop(source);
+    octets
+}
+
+// The octets of the file at this path, which was opened.
+fn read_octets(
+    rt: &HostRuntime,
+    path: &str,
+    source: &mut FromStd<Watched<Take<File>>>,
+) -> Result<Vec<u8>, Failure> {
+    let (octets, end) = read_text(rt.alloc(), source)?;
     if octets.len() > LONGEST_FILE {
         let place = format!(in rt.alloc(); "{path}: more than {LONGEST_FILE} octets");
         return Err(Failure::at(ToolFault::Config, place));

@@ -1,16 +1,17 @@
 //! What octets are as a packet.
 
-ghost use Rattle.lpt_tool.specs.LptPart.Splitting.{IsPartSize};
+ghost use Rattle.lpt_part.specs.Splitting.{IsPartSize};
 
 use crate::end::{Failure, Status, tell_place};
-use crate::input::{STANDARD, opened, read_failure};
+use crate::input::{Incoming, STANDARD, opened, read_failure};
 use crate::streams::{finish, output};
 use crate::work::status_of;
-use lpt_files::{End, Octets, read_text};
-use lpt_tool::{
-    Config, Direction, Kind, Packet, PacketKind, Seen, ToolFault, part_kind, read_hex, read_packet,
-    read_part, read_tc, read_tm,
-};
+use lpt_events::{Config, part_kind};
+use lpt_packet::{Direction, Octets, Packet, PacketKind, Seen, read_packet};
+use lpt_part::{Kind, read_part};
+use lpt_pus::{read_tc, read_tm};
+use lpt_script_words::read_hex;
+use lpt_text::{End, ToolFault, read_text};
 use std::alloc::AllocError;
 
 /// How many octets of a part's body stand before the part's own.
@@ -72,11 +73,18 @@ pub fn decode(rt: &HostRuntime, config: Config, hex: &str) -> Result<Status, Fai
     let Some(octets) = given? else {
         return Ok(Status::Unreadable);
     };
+    decode_octets(rt, octets.as_slice(), config.part_size)
+}
+
+// Prints what octets are as a packet, for parts of `p` octets.
+fn decode_octets(rt: &HostRuntime, octets: &[u8], p: u32) -> Result<Status, Failure>
+    requires { IsPartSize p }
+{
     let mut out = output(rt)?;
-    let decoded = lpt_tool::decode(rt.alloc(), octets.as_slice(), config.part_size, &mut out);
+    let decoded = lpt_script::decode(rt.alloc(), octets, p, &mut out);
     finish(rt, out)?;
     let is_faulty = decoded?;
-    tell_size(rt, octets.as_slice(), config.part_size);
+    tell_size(rt, octets, p);
     Ok(status_of(is_faulty))
 }
 
@@ -85,19 +93,21 @@ pub fn decode(rt: &HostRuntime, config: Config, hex: &str) -> Result<Status, Fai
 // Errors: `Read` where it can't be read, or has more than 16,777,216 octets; `Memory`.
 fn standard_text(rt: &HostRuntime) -> Result<Vec<u8>, Failure> {
     let mut source = opened(rt, STANDARD)?;
-    let (text, end) = read_text(rt.alloc(), &mut source)?;
-    let failure = match end {
-        End::Whole => None,
-        End::Failed => Some(read_failure(rt, &source, STANDARD)),
+    let text = text_of(rt, &mut source);
+    drop(source);
+    text
+}
+
+// The same of a source that was opened.
+fn text_of(rt: &HostRuntime, source: &mut Incoming) -> Result<Vec<u8>, Failure> {
+    let (text, end) = read_text(rt.alloc(), source)?;
+    match end {
+        End::Whole => Ok(text),
+        End::Failed => Err(read_failure(rt, source, STANDARD)),
         End::TooLong => {
             let place = format!(in rt.alloc(); "standard input: more than 16777216 octets");
-            Some(Failure::at(ToolFault::Read, place))
+            Err(Failure::at(ToolFault::Read, place))
         }
-    };
-    drop(source);
-    match failure {
-        Some(failure) => Err(failure),
-        None => Ok(text),
     }
 }
 

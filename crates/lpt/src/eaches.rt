@@ -1,13 +1,17 @@
 //! Every message of packets, each written into a file of its own.
 
-ghost use Rattle.lpt_files.specs.LptEvents.Configs.{IsConfig};
+ghost use Rattle.lpt_events.specs.Configs.{IsConfig};
 
 use crate::end::{Failure, Status};
-use crate::input::{opened_packets, packets_end};
-use crate::joins::{tell, tell_missing, tell_skips, tell_unfit, word_of};
+use crate::input::{Packets, opened_packets, packets_end};
+use crate::joins::{tell, tell_missing, tell_skips, tell_unfit};
 use lpt_command_line::JoinWords;
 use lpt_each::{News, Taker, each_stream};
-use lpt_files::{Config, Name, Skips, ToolFault, Transaction};
+use lpt_events::Config;
+use lpt_join::Transaction;
+use lpt_packet::Name;
+use lpt_skips::Skips;
+use lpt_text::ToolFault;
 use std::alloc::AllocError;
 use std::collections::BTreeMap;
 use std::fs;
@@ -87,7 +91,7 @@ impl Folder<'_> {
     // The path of this message of a name.
     fn path_of(&self, name: Name, number: u64) -> Result<String, AllocError> {
         let folder = self.path;
-        let direction = word_of(self.words.direction);
+        let direction = self.words.direction.word();
         let source = name.source;
         let id = name.id;
         format!(in self.rt.alloc(); "{folder}/{direction}-{source}-{id}.{number}")
@@ -134,10 +138,27 @@ pub fn join_each<'a>(
     requires { IsConfig config.now }
 {
     let mut source = opened_packets(rt, &words.files, words.span.from, words.span.to)?;
-    if let Err(error) = fs::create_dir_all(rt, path) {
-        let place = format!(in rt.alloc(); "{path}: {error}");
-        return Err(Failure::at(ToolFault::Write, place));
-    }
+    let status = match fs::create_dir_all(rt, path) {
+        Ok(()) => write_each(rt, config, words, path, &mut source),
+        Err(error) => {
+            let place = format!(in rt.alloc(); "{path}: {error}");
+            Err(Failure::at(ToolFault::Write, place))
+        }
+    };
+    drop(source);
+    status
+}
+
+// The same of packets that were opened, into a folder that is there.
+fn write_each<'a>(
+    rt: &'a HostRuntime,
+    config: &'a Config,
+    words: &'a JoinWords<'a>,
+    path: &'a str,
+    source: &mut Packets,
+) -> Result<Status, Failure>
+    requires { IsConfig config.now }
+{
     let mut folder = Folder {
         rt,
         config,
@@ -154,26 +175,37 @@ pub fn join_each<'a>(
         apid: config.apid,
         part_size: config.part_size,
     };
-    let ended = each_stream(
-        rt.alloc(),
-        &transaction,
-        words.any,
-        &mut source,
-        &mut folder,
-    );
+    let ended = each_stream(rt.alloc(), &transaction, words.any, source, &mut folder);
     let failed = matches!(ended, Err(ToolFault::Read));
-    let failure = match packets_end(rt, &source, &words.files, failed) {
+    let failure = match packets_end(rt, source, &words.files, failed) {
         Some(failure) => Some(failure),
         None => folder.failure.take(),
     };
-    drop(source);
-    match (ended, failure) {
-        (_, Some(failure)) => Err(failure),
-        (Err(fault), None) => Err(Failure::from(fault)),
-        (Ok(skips), None) => match told(rt, config, words, folder.came, folder.lost, &skips) {
+    let (came, lost) = (folder.came, folder.lost);
+    drop(folder);
+    match failure {
+        Some(failure) => Err(failure),
+        None => status_of(rt, config, words, came, lost, ended),
+    }
+}
+
+// The status of a join that ended so.
+fn status_of(
+    rt: &HostRuntime,
+    config: &Config,
+    words: &JoinWords<'_>,
+    came: bool,
+    lost: bool,
+    ended: Result<Skips, ToolFault>,
+) -> Result<Status, Failure>
+    requires { IsConfig config.now }
+{
+    match ended {
+        Ok(skips) => match told(rt, config, words, came, lost, &skips) {
             Ok(status) => Ok(status),
             Err(_) => Err(Failure::from(ToolFault::Memory)),
         },
+        Err(fault) => Err(Failure::from(fault)),
     }
 }
 
@@ -193,7 +225,7 @@ fn told(
         return Ok(Status::Done);
     }
     if !came {
-        let direction = word_of(words.direction);
+        let direction = words.direction.word();
         let text = format!(in rt.alloc(); "{direction}: no part of a message came");
         tell(rt, text)?;
     }

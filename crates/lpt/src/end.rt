@@ -1,8 +1,8 @@
 //! How the program ends: its status, and what it reports about a fault.
 
 use clap::error::ErrorKind;
-use lpt_command_line::{Unasked, WordFault};
-use lpt_tool::ToolFault;
+use lpt_command_line::{NoCommand, WordFault};
+use lpt_text::ToolFault;
 use std::alloc::{AllocError, Global};
 use std::io;
 
@@ -109,11 +109,11 @@ fn named(rt: &impl Eprint, fault: ToolFault) -> Status {
 
 /// The status by which the program ends where its words ask for nothing that is to be done, after
 /// that was printed: a usage fault, or the help or the version that was asked for.
-pub fn explained<R: Print + Eprint>(rt: &R, alloc: Global, unasked: &Unasked<'_>) -> Status {
+pub fn explained<R: Print + Eprint>(rt: &R, alloc: Global, unasked: &NoCommand<'_>) -> Status {
     match unasked {
-        Unasked::Said(error) => said(rt, alloc, error),
-        Unasked::Fault(WordFault::Memory) => named(rt, ToolFault::Memory),
-        Unasked::Fault(fault) => match fault.text(alloc) {
+        NoCommand::Said(error) => said(rt, alloc, error),
+        NoCommand::Fault(WordFault::Memory) => named(rt, ToolFault::Memory),
+        NoCommand::Fault(fault) => match fault.text(alloc) {
             Ok(text) => {
                 let _ = rt.eprint("error: ");
                 let _ = rt.eprintln(text.as_str());

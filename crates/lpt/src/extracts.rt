@@ -2,14 +2,15 @@
 
 use crate::counts::tell_no_packets;
 use crate::end::{Failure, Status, tell_place};
-use crate::input::{opened_packets, packets_end};
-use crate::streams::{finish, output};
+use crate::input::{Packets, opened_packets, packets_end};
+use crate::streams::{finish, first_failure, output};
 use lpt_command_line::ExtractWords;
+use lpt_events::Config;
 use lpt_extract::{
     ExtractEnd, Extracted, Gap, Listener, Notice, Others, Place, Span, Tally, Wanted,
     extract_stream,
 };
-use lpt_files::{Config, ToolFault};
+use lpt_text::ToolFault;
 use std::alloc::{AllocError, Global};
 
 /// Standard error, which is told of each area, and of each report that isn't read.
@@ -48,17 +49,40 @@ pub fn extract(
         at,
     };
     let mut source = opened_packets(rt, &words.files, None, None)?;
+    let status = extract_packets(rt, &wanted, words, &mut source);
+    drop(source);
+    status
+}
+
+// The same of packets that were opened.
+fn extract_packets(
+    rt: &HostRuntime,
+    wanted: &Wanted,
+    words: &ExtractWords<'_>,
+    source: &mut Packets,
+) -> Result<Status, Failure> {
     let mut out = output(rt)?;
     let mut telling = Telling { rt };
-    let extracted = extract_stream(rt.alloc(), &wanted, &mut source, &mut out, &mut telling);
+    let extracted = extract_stream(rt.alloc(), wanted, source, &mut out, &mut telling);
     let failed = matches!(extracted, Err(ToolFault::Read));
-    let failure = packets_end(rt, &source, &words.files, failed);
-    drop(source);
-    finish(rt, out)?;
-    match (extracted, failure) {
-        (_, Some(failure)) => Err(failure),
-        (Ok(extracted), None) => extract_status(rt, &wanted, &extracted),
-        (Err(fault), None) => Err(Failure::from(fault)),
+    let failure = packets_end(rt, source, &words.files, failed);
+    let status = match first_failure(finish(rt, out), failure) {
+        Ok(()) => status_of(rt, wanted, &extracted),
+        Err(failure) => Err(failure),
+    };
+    drop(extracted);
+    status
+}
+
+// The status of an extraction that ended so.
+fn status_of(
+    rt: &HostRuntime,
+    wanted: &Wanted,
+    extracted: &Result<Extracted, ToolFault>,
+) -> Result<Status, Failure> {
+    match extracted {
+        Ok(extracted) => extract_status(rt, wanted, extracted),
+        Err(fault) => Err(Failure::from(*fault)),
     }
 }
 

@@ -1,12 +1,15 @@
 //! Messages split into packets, from a file or standard input to standard output.
 
-ghost use Rattle.lpt_files.specs.LptEvents.Configs.{IsConfig};
+ghost use Rattle.lpt_events.specs.Configs.{IsConfig};
 
 use crate::end::{Failure, Status, tell_place};
-use crate::input::{opened, read_failure};
-use crate::streams::{finish, output};
+use crate::input::{Incoming, opened, read_failure};
+use crate::streams::{finish, first_failure, output};
 use lpt_command_line::SplitWords;
-use lpt_files::{Config, Form, SplitEnd, ToolFault, Wanted, split_message};
+use lpt_events::Config;
+use lpt_files::{SplitEnd, Wanted, split_message};
+use lpt_split::Form;
+use lpt_text::ToolFault;
 use std::alloc::{AllocError, Global};
 
 /// Writes the packets of a message's parts.
@@ -17,18 +20,31 @@ pub fn split(rt: &HostRuntime, config: &Config, words: &SplitWords<'_>) -> Resul
 {
     let wanted = wanted(words, config.source);
     let mut source = opened(rt, words.file)?;
+    let status = split_from(rt, config, words, &wanted, &mut source);
+    drop(source);
+    status
+}
+
+// The same of a message that was opened.
+fn split_from(
+    rt: &HostRuntime,
+    config: &Config,
+    words: &SplitWords<'_>,
+    wanted: &Wanted<'_>,
+    source: &mut Incoming,
+) -> Result<Status, Failure>
+    requires { IsConfig config.now }
+{
     let mut out = output(rt)?;
-    let split = split_message(rt.alloc(), config, &wanted, &mut source, &mut out);
+    let split = split_message(rt.alloc(), config, wanted, source, &mut out);
     let failure = match split {
-        Err(ToolFault::Read) => Some(read_failure(rt, &source, words.file)),
+        Err(ToolFault::Read) => Some(read_failure(rt, source, words.file)),
         _ => None,
     };
-    drop(source);
-    finish(rt, out)?;
-    match (split, failure) {
-        (_, Some(failure)) => Err(failure),
-        (Ok(end), None) => Ok(split_status(rt, config, words, end)),
-        (Err(fault), None) => Err(Failure::from(fault)),
+    first_failure(finish(rt, out), failure)?;
+    match split {
+        Ok(end) => Ok(split_status(rt, config, words, end)),
+        Err(fault) => Err(Failure::from(fault)),
     }
 }
 

@@ -4,8 +4,8 @@ use crate::end::{Failure, tell_place};
 use crate::recalled::{Kept, Recalled, Script};
 use crate::watched::Watched;
 use lpt_capture::Captured;
-use lpt_files::{Told, ToolFault};
 use lpt_sources::{Chain, Span};
+use lpt_text::{FromStd, ToolFault};
 use std::fs::File;
 use std::io::{self, Read, StdinLock};
 
@@ -31,7 +31,7 @@ impl Read for Input {
 }
 
 /// Octets as they come from a file or standard input, which keeps why it failed.
-pub type Incoming = Told<Watched<Input>>;
+pub type Incoming = FromStd<Watched<Input>>;
 
 /// Octets of packets as they come, of files one behind the other, from one place up to another: of
 /// each file the records of a capture, or what is none as it is.
@@ -41,7 +41,7 @@ pub type Packets = Span<Chain<Captured<Incoming>>>;
 ///
 /// Errors: `Read` where it can't be opened.
 pub fn opened(rt: &HostRuntime, path: &str) -> Result<Incoming, Failure> {
-    Ok(Told::new(Watched::new(input_at(rt, path)?)))
+    Ok(FromStd::new(Watched::new(input_at(rt, path)?)))
 }
 
 /// The same of a script, of which so much is kept.
@@ -49,7 +49,7 @@ pub fn opened(rt: &HostRuntime, path: &str) -> Result<Incoming, Failure> {
 /// Errors: `Read` where it can't be opened.
 pub fn opened_script(rt: &HostRuntime, path: &str, kept: Kept) -> Result<Script, Failure> {
     let input = input_at(rt, path)?;
-    Ok(Told::new(Watched::new(Recalled::new(rt.alloc(), input, kept))))
+    Ok(FromStd::new(Watched::new(Recalled::new(rt.alloc(), input, kept))))
 }
 
 // The file at this path, or standard input for `-`.
@@ -77,15 +77,32 @@ pub fn opened_packets(
     to: Option<u64>,
 ) -> Result<Packets, Failure> {
     let mut sources = Vec::new(rt.alloc());
+    match open_each(rt, paths, &mut sources) {
+        Ok(()) => {
+            let before = from.unwrap_or(0);
+            let left = to.map(|to| to.saturating_sub(before));
+            Ok(Span::new(Chain::new(sources), before, left))
+        }
+        Err(failure) => {
+            drop(sources);
+            Err(failure)
+        }
+    }
+}
+
+// Opens the files at these paths.
+fn open_each(
+    rt: &HostRuntime,
+    paths: &[&str],
+    sources: &mut Vec<Captured<Incoming>>,
+) -> Result<(), Failure> {
     for path in paths {
         let source = Captured::new(opened(rt, path)?);
         if sources.push(source).is_err() {
             return Err(Failure::from(ToolFault::Memory));
         }
     }
-    let before = from.unwrap_or(0);
-    let left = to.map(|to| to.saturating_sub(before));
-    Ok(Span::new(Chain::new(sources), before, left))
+    Ok(())
 }
 
 /// What is read at this path, as messages name it.

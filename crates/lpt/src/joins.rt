@@ -1,16 +1,17 @@
 //! Messages joined of packets, from a file or standard input to standard output.
 
-ghost use Rattle.lpt_files.specs.LptEvents.Configs.{IsConfig};
+ghost use Rattle.lpt_events.specs.Configs.{IsConfig};
 
 use crate::end::{Failure, Status, tell_place};
 use crate::input::{Packets, opened_packets, packets_end};
-use crate::streams::{Output, finish, output};
+use crate::streams::{Output, finish, first_failure, output};
 use lpt_command_line::JoinWords;
-use lpt_files::{
-    Came, Config, Direction, Gatherings, JoinEnd, JoinReport, Joining, Misfit, Name, Reading,
-    Skips, ToolFault, Transaction, check_message, join_message, join_only, missing_list,
-};
-use lpt_tool::name_word;
+use lpt_events::{Config, name_word};
+use lpt_files::{JoinEnd, JoinReport, join_message, join_only, missing_list};
+use lpt_join::{Gatherings, Joining, Misfit, PartNumbers, Transaction, check_message};
+use lpt_packet::Name;
+use lpt_skips::{Reading, Skips};
+use lpt_text::ToolFault;
 use std::alloc::{AllocError, Global};
 
 /// What became of the packets of a file.
@@ -30,18 +31,47 @@ pub fn join(rt: &HostRuntime, config: &Config, words: &JoinWords<'_>) -> Result<
     requires { IsConfig config.now }
 {
     let mut source = opened_packets(rt, &words.files, words.span.from, words.span.to)?;
-    let mut out = output(rt)?;
-    let joined = join_packets(rt.alloc(), config, words, &mut source, &mut out);
-    let failed = matches!(joined, Err(ToolFault::Read));
-    let failure = packets_end(rt, &source, &words.files, failed);
+    let status = join_from(rt, config, words, &mut source);
     drop(source);
-    finish(rt, out)?;
-    match (joined, failure) {
-        (_, Some(failure)) => Err(failure),
-        (Ok(joined), None) => told(rt, config, words, &joined).map_err(|_| Failure::from(
-            ToolFault::Memory,
-        )),
-        (Err(fault), None) => Err(Failure::from(fault)),
+    status
+}
+
+// The same of packets that were opened.
+fn join_from(
+    rt: &HostRuntime,
+    config: &Config,
+    words: &JoinWords<'_>,
+    source: &mut Packets,
+) -> Result<Status, Failure>
+    requires { IsConfig config.now }
+{
+    let mut out = output(rt)?;
+    let joined = join_packets(rt.alloc(), config, words, source, &mut out);
+    let failed = matches!(joined, Err(ToolFault::Read));
+    let failure = packets_end(rt, source, &words.files, failed);
+    let status = match first_failure(finish(rt, out), failure) {
+        Ok(()) => status_of(rt, config, words, &joined),
+        Err(failure) => Err(failure),
+    };
+    drop(joined);
+    status
+}
+
+// The status of a join that ended so.
+fn status_of(
+    rt: &HostRuntime,
+    config: &Config,
+    words: &JoinWords<'_>,
+    joined: &Result<Joined, ToolFault>,
+) -> Result<Status, Failure>
+    requires { IsConfig config.now }
+{
+    match joined {
+        Ok(joined) => match told(rt, config, words, joined) {
+            Ok(status) => Ok(status),
+            Err(_) => Err(Failure::from(ToolFault::Memory)),
+        },
+        Err(fault) => Err(Failure::from(*fault)),
     }
 }
 
@@ -146,7 +176,7 @@ fn tell_each(
     words: &JoinWords<'_>,
     gatherings: &Gatherings,
 ) -> Result<(), AllocError> {
-    let direction = word_of(words.direction);
+    let direction = words.direction.word();
     if gatherings.kept.is_empty() {
         return tell(
             rt,
@@ -193,7 +223,7 @@ fn tell_end(
     words: &JoinWords<'_>,
     name: Name,
     end: JoinEnd,
-    came: &Came,
+    came: &PartNumbers,
     against: Option<u64>,
 ) -> Result<Status, AllocError> {
     match end {
@@ -251,7 +281,7 @@ pub fn tell_missing(
     config: &Config,
     words: &JoinWords<'_>,
     name: Name,
-    came: &Came,
+    came: &PartNumbers,
 ) -> Result<(), AllocError> {
     let list = missing_list(rt.alloc(), came)?;
     let text = format!(in rt.alloc(); "missing parts: {list}");
@@ -267,7 +297,7 @@ fn tell_of(
     text: Result<String, AllocError>,
 ) -> Result<(), AllocError> {
     let text = text?;
-    let direction = word_of(words.direction);
+    let direction = words.direction.word();
     let id = name_word(config.source, name);
     tell(rt, format!(in rt.alloc(); "{direction} {id}: {text}"))
 }
@@ -277,12 +307,4 @@ pub fn tell(rt: &HostRuntime, text: Result<String, AllocError>) -> Result<(), Al
     let text = text?;
     tell_place(rt, text.as_str());
     Ok(())
-}
-
-/// The word of a direction.
-pub fn word_of(direction: Direction) -> &'static str {
-    match direction {
-        Direction::Up => "up",
-        Direction::Down => "down",
-    }
 }

@@ -1,13 +1,14 @@
 //! Packets listed, from a file or standard input to standard output.
 
-ghost use Rattle.lpt_files.specs.LptEvents.Configs.{IsConfig};
+ghost use Rattle.lpt_events.specs.Configs.{IsConfig};
 
 use crate::end::{Failure, Status, tell_place};
-use crate::input::{opened_packets, packets_end};
-use crate::streams::{finish, output};
+use crate::input::{Packets, opened_packets, packets_end};
+use crate::streams::{finish, first_failure, output};
 use lpt_command_line::ListWords;
-use lpt_files::{Config, ToolFault};
+use lpt_events::Config;
 use lpt_list::{Form, ListEnd, Listed, Tally, list_stream};
+use lpt_text::ToolFault;
 
 /// Lists the packets of a stream.
 ///
@@ -16,20 +17,32 @@ use lpt_list::{Form, ListEnd, Listed, Tally, list_stream};
 pub fn list(rt: &HostRuntime, config: &Config, words: &ListWords<'_>) -> Result<Status, Failure>
     requires { IsConfig config.now }
 {
+    let mut source = opened_packets(rt, &words.files, words.span.from, words.span.to)?;
+    let status = list_packets(rt, config, words, &mut source);
+    drop(source);
+    status
+}
+
+// The same of packets that were opened.
+fn list_packets(
+    rt: &HostRuntime,
+    config: &Config,
+    words: &ListWords<'_>,
+    source: &mut Packets,
+) -> Result<Status, Failure>
+    requires { IsConfig config.now }
+{
     let form = if words.json { Form::Json } else { Form::Text };
     let (size, strict) = (config.part_size, words.strict);
     let from = words.span.from.unwrap_or(0);
-    let mut source = opened_packets(rt, &words.files, words.span.from, words.span.to)?;
     let mut out = output(rt)?;
-    let listed = list_stream(rt.alloc(), form, size, strict, from, &mut source, &mut out);
+    let listed = list_stream(rt.alloc(), form, size, strict, from, source, &mut out);
     let failed = matches!(listed, Err(ToolFault::Read));
-    let failure = packets_end(rt, &source, &words.files, failed);
-    drop(source);
-    finish(rt, out)?;
-    match (listed, failure) {
-        (_, Some(failure)) => Err(failure),
-        (Ok(listed), None) => Ok(list_status(rt, listed)),
-        (Err(fault), None) => Err(Failure::from(fault)),
+    let failure = packets_end(rt, source, &words.files, failed);
+    first_failure(finish(rt, out), failure)?;
+    match listed {
+        Ok(listed) => Ok(list_status(rt, listed)),
+        Err(fault) => Err(Failure::from(fault)),
     }
 }
 

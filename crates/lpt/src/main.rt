@@ -6,6 +6,8 @@
 //! crates below.
 #![tactic(auto)]
 
+ghost use Rattle.lpt_events.specs.Configs.{IsConfig};
+
 mod charting;
 mod configuration;
 mod counts;
@@ -25,15 +27,17 @@ mod streams;
 mod watched;
 mod work;
 
+use configuration::alone;
 use end::{Failure, Status};
 use input::STANDARD;
-use lpt_command_line::{Asked, Command, read_words};
-use lpt_tool::ToolFault;
+use lpt_command_line::{Command, CommandLine, JoinWords, read_words};
+use lpt_events::Config;
+use lpt_text::ToolFault;
 use std::process::ExitCode;
 use std::sync::Wait;
 use std::thread::Threads;
 use std::{env, io};
-use work::Way;
+use work::RunKind;
 
 fn main(rt: HostRuntime) -> ExitCode {
     let status = match given_words(&rt) {
@@ -71,29 +75,34 @@ fn serve<T: Threads + Wait + Sync>(rt: &HostRuntime, threads: &T, words: &[Strin
     }
 }
 
-// Reads the configuration, and does the command.
+// Does the command, under its configuration where it has one.
 fn done<T: Threads + Wait + Sync>(
     rt: &HostRuntime,
     threads: &T,
-    asked: &Asked<'_>,
+    asked: &CommandLine<'_>,
 ) -> Result<Status, Failure> {
-    let (config, memories, turns) = configuration::read(rt, asked.config)?;
+    let path = asked.config;
     match &asked.command {
-        Command::Run(script) => work::run(rt, threads, config, memories, Way::Run, script),
-        Command::Threads(script) => {
-            work::run(rt, threads, config, memories, Way::Threads(turns), script)
-        }
-        Command::Shell => work::run(rt, threads, config, memories, Way::Shell, STANDARD),
+        Command::Run(script) => work::run(rt, threads, path, RunKind::Run, script),
+        Command::Threads(script) => work::run(rt, threads, path, RunKind::Threads, script),
+        Command::Shell => work::run(rt, threads, path, RunKind::Shell, STANDARD),
+        Command::Chart(words) => charting::chart(rt, path, words),
         Command::Lint(script) => linting::lint(rt, script),
-        Command::Chart(words) => charting::chart(rt, config, memories, words),
-        Command::Decode(hex) => decoding::decode(rt, config, hex),
-        Command::List(words) => lists::list(rt, &config, words),
-        Command::Split(words) => files::split(rt, &config, words),
-        Command::Join(words) => match words.each {
-            Some(folder) => eaches::join_each(rt, &config, words, folder),
-            None => joins::join(rt, &config, words),
-        },
-        Command::Extract(words) => extracts::extract(rt, &config, words),
-        Command::Request(words) => requests::request(rt, &config, words),
+        Command::Decode(hex) => decoding::decode(rt, alone(rt, path)?, hex),
+        Command::List(words) => lists::list(rt, &alone(rt, path)?, words),
+        Command::Split(words) => files::split(rt, &alone(rt, path)?, words),
+        Command::Join(words) => joined(rt, &alone(rt, path)?, words),
+        Command::Extract(words) => extracts::extract(rt, &alone(rt, path)?, words),
+        Command::Request(words) => requests::request(rt, &alone(rt, path)?, words),
+    }
+}
+
+// Joins one message, or each into a folder.
+fn joined(rt: &HostRuntime, config: &Config, words: &JoinWords<'_>) -> Result<Status, Failure>
+    requires { IsConfig config.now }
+{
+    match words.each {
+        Some(folder) => eaches::join_each(rt, config, words, folder),
+        None => joins::join(rt, config, words),
     }
 }

@@ -2,8 +2,8 @@
 
 use crate::input::Input;
 use crate::watched::Watched;
-use lpt_files::Told;
-use lpt_tool::split_line;
+use lpt_script_words::split_line;
+use lpt_text::FromStd;
 use std::alloc::Global;
 use std::io::{self, Read};
 
@@ -11,7 +11,7 @@ use std::io::{self, Read};
 const LONGEST_LINE: usize = 140_000;
 
 /// The octets of a script as they come, which keeps why it failed, and the last lines.
-pub type Script = Told<Watched<Recalled>>;
+pub type Script = FromStd<Watched<Recalled>>;
 
 /// What is kept of a script.
 #[derive(Clone, Copy)]

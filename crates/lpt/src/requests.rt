@@ -1,13 +1,16 @@
 //! Requests to a memory, written to standard output.
 
-ghost use Rattle.lpt_files.specs.LptEvents.Configs.{IsConfig};
+ghost use Rattle.lpt_events.specs.Configs.{IsConfig};
 
 use crate::end::{Failure, Status, tell_place};
-use crate::input::{opened, read_failure};
+use crate::input::{Incoming, opened, read_failure};
 use crate::streams::{finish, output};
 use lpt_command_line::{RequestWords, What};
-use lpt_files::{Config, End, Octets, ToolFault, read_text, write_out};
-use lpt_requests::{Area, MemoryFault, Range, Request, write_request};
+use lpt_events::Config;
+use lpt_memory::{Area, MemoryFault};
+use lpt_packet::Octets;
+use lpt_requests::{Range, Request, write_request};
+use lpt_text::{End, ToolFault, read_text, write_out};
 use std::alloc::Global;
 
 /// Writes a request to a memory as a telecommand.
@@ -62,18 +65,33 @@ fn asked(rt: &HostRuntime, words: &RequestWords<'_>) -> Result<Request, Failure>
     match &words.what {
         What::Load(files) => {
             let mut areas = Vec::new(rt.alloc());
-            for (address, file) in files {
-                let octets = octets_of(rt, file)?;
-                let address = *address;
-                if areas.push(Area { address, octets }).is_err() {
-                    return Err(Failure::from(ToolFault::Memory));
+            match read_areas(rt, files, &mut areas) {
+                Ok(()) => Ok(Request::Load(memory, areas)),
+                Err(failure) => {
+                    drop(areas);
+                    Err(failure)
                 }
             }
-            Ok(Request::Load(memory, areas))
         }
         What::Dump(places) => Ok(Request::Dump(memory, ranges_of(rt.alloc(), places)?)),
         What::Check(places) => Ok(Request::Check(memory, ranges_of(rt.alloc(), places)?)),
     }
+}
+
+// The octets of these files, each with its address.
+fn read_areas(
+    rt: &HostRuntime,
+    files: &[(u32, &str)],
+    areas: &mut Vec<Area>,
+) -> Result<(), Failure> {
+    for (address, file) in files {
+        let octets = octets_of(rt, file)?;
+        let address = *address;
+        if areas.push(Area { address, octets }).is_err() {
+            return Err(Failure::from(ToolFault::Memory));
+        }
+    }
+    Ok(())
 }
 
 // The places of a dump or a check.
@@ -91,14 +109,16 @@ fn ranges_of(alloc: Global, places: &[(u32, u16)]) -> Result<Vec<Range>, ToolFau
 // The octets of a file, or of standard input.
 fn octets_of(rt: &HostRuntime, file: &str) -> Result<Octets, Failure> {
     let mut source = opened(rt, file)?;
-    let (octets, end) = read_text(rt.alloc(), &mut source)?;
-    let failure = match end {
-        End::Failed => Some(read_failure(rt, &source, file)),
-        _ => None,
-    };
+    let octets = octets_from(rt, file, &mut source);
     drop(source);
-    match failure {
-        Some(failure) => Err(failure),
-        None => Ok(Octets::from_vec(octets)),
+    octets
+}
+
+// The same of a file that was opened.
+fn octets_from(rt: &HostRuntime, file: &str, source: &mut Incoming) -> Result<Octets, Failure> {
+    let (octets, end) = read_text(rt.alloc(), source)?;
+    match end {
+        End::Failed => Err(read_failure(rt, source, file)),
+        _ => Ok(Octets::from_vec(octets)),
     }
 }

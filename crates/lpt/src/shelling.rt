@@ -2,8 +2,11 @@
 
 use crate::recalled::Script;
 use crate::streams::Output;
-use lpt_drawing::run_shell;
-use lpt_tool::{Config, Memories, ScriptEnd, ToolFault};
+use lpt_events::Config;
+use lpt_memory::Memories;
+use lpt_script::ScriptEnd;
+use lpt_script_shell::run_shell;
+use lpt_text::ToolFault;
 use std::io::IsTerminal;
 
 /// What a shell writes before each line, where standard input is a terminal.

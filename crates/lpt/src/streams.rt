@@ -2,19 +2,19 @@
 
 use crate::end::Failure;
 use crate::watched::Watched;
-use lpt_files::{Told, ToolFault, flush_out};
+use lpt_text::{FromStd, ToolFault, flush_out};
 use std::io;
 use std::io::{BufWriter, ErrorKind, Printer};
 
 /// Standard output, written when there is enough of it.
-pub type Output<'a> = Told<BufWriter<Watched<Printer<'a, HostRuntime>>>>;
+pub type Output<'a> = FromStd<BufWriter<Watched<Printer<'a, HostRuntime>>>>;
 
 /// Standard output.
 ///
 /// Errors: `Memory`.
 pub fn output(rt: &HostRuntime) -> Result<Output<'_>, ToolFault> {
     match BufWriter::new(rt.alloc(), Watched::new(io::writer(rt))) {
-        Ok(writer) => Ok(Told::new(writer)),
+        Ok(writer) => Ok(FromStd::new(writer)),
         Err(_) => Err(ToolFault::Memory),
     }
 }
@@ -34,6 +34,18 @@ pub fn finish(rt: &HostRuntime, mut out: Output<'_>) -> Result<(), Failure> {
     match failure {
         None => Ok(()),
         Some(failure) => Err(failure),
+    }
+}
+
+/// How it ends when the output was finished so and then this failed, if it did: the first of both.
+pub fn first_failure(finished: Result<(), Failure>, other: Option<Failure>) -> Result<(), Failure> {
+    match (finished, other) {
+        (Ok(()), Some(failure)) => Err(failure),
+        (finished, None) => finished,
+        (Err(failure), Some(other)) => {
+            drop(other);
+            Err(failure)
+        }
     }
 }
 

@@ -1,42 +1,46 @@
 //! Scripts run, with threads behind them and without.
 
+use crate::configuration;
 use crate::end::{Failure, Status, tell_place};
 use crate::input::{name_of, opened_script};
 use crate::linting::tell_unreadable;
 use crate::recalled::{Kept, Script};
 use crate::shelling::answer_lines;
 use crate::streams::{finish, output};
-use lpt_tool::{
-    Config, Memories, ScriptEnd, ThreadsEnd, ToolFault, Turns, run_script, run_threads_script,
-};
+use lpt_events::{Config, Turns};
+use lpt_memory::Memories;
+use lpt_script::{ScriptEnd, run_script};
+use lpt_text::ToolFault;
+use lpt_tool::{ThreadsEnd, run_threads_script};
 use std::io;
 use std::sync::Wait;
 use std::thread::Threads;
 
 /// What is done with the lines of a script.
 #[derive(Clone, Copy)]
-pub enum Way {
+pub enum RunKind {
     /// They are run, up to an unreadable one.
     Run,
-    /// They are run, and ten threads with these turns after their events.
-    Threads(Turns),
+    /// They are run, and ten threads after their events.
+    Threads,
     /// They are answered one by one.
     Shell,
 }
 
-/// Runs a script on a new world of these memories: the one at this path, or standard input for `-`.
+/// Runs a script on a new world: the one at this path, or standard input for `-`. The world is that of
+/// the configuration at its own path, if it has one.
 ///
-/// Errors: `Line` at an unreadable line, after standard error was told why it is; `Read` where the
-/// script can't be opened or read, `Write` where a write failed, `Memory`, `Threads` where the
-/// threads failed.
+/// Errors: `Config` where that is refused; `Line` at an unreadable line, after standard error was told
+/// why it is; `Read` where the script or the configuration can't be opened or read, `Write` where a
+/// write failed, `Memory`, `Threads` where the threads failed.
 pub fn run<T: Threads + Wait + Sync>(
     rt: &HostRuntime,
     threads: &T,
-    config: Config,
-    memories: Memories,
-    way: Way,
+    config: Option<&str>,
+    way: RunKind,
     script: &str,
 ) -> Result<Status, Failure> {
+    let (config, memories, turns) = configuration::read(rt, config)?;
     let mut source = match opened_script(rt, script, Kept::Last) {
         Ok(source) => source,
         Err(failure) => {
@@ -44,7 +48,7 @@ pub fn run<T: Threads + Wait + Sync>(
             return Err(failure);
         }
     };
-    let status = match lines_run(rt, threads, config, memories, way, &mut source) {
+    let status = match lines_run(rt, threads, config, memories, turns, way, &mut source) {
         Ok(ran) => status_at_end(rt, &source, script, ran),
         Err(failure) => Err(failure),
     };
@@ -59,7 +63,8 @@ fn lines_run<T: Threads + Wait + Sync>(
     threads: &T,
     config: Config,
     memories: Memories,
-    way: Way,
+    turns: Turns,
+    way: RunKind,
     source: &mut Script,
 ) -> Result<Result<ScriptEnd, ToolFault>, Failure> {
     let mut out = match output(rt) {
@@ -71,9 +76,9 @@ fn lines_run<T: Threads + Wait + Sync>(
     };
     let alloc = rt.alloc();
     let ran = match way {
-        Way::Run => run_script(alloc, config, memories, source, &mut out),
-        Way::Shell => answer_lines(rt, config, memories, source, &mut out),
-        Way::Threads(turns) => {
+        RunKind::Run => run_script(alloc, config, memories, source, &mut out),
+        RunKind::Shell => answer_lines(rt, config, memories, source, &mut out),
+        RunKind::Threads => {
             let ran = run_threads_script(alloc, threads, config, memories, turns, source, &mut out);
             told_full(rt, turns, ran)
         }

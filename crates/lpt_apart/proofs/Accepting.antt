@@ -2,30 +2,30 @@
 use Rattle.std.proofs.Common.{◌≡◌, ◌∙◌, ap, subst, refl, ℕ, true, false, ◌&&◌, if◌then◌else◌, inl, inr, List, ◌∷◌, length, Option, Some, None, is_some}
 use Rattle.std.specs.Option.{option_map, option_map_or}
 use Rattle.std.specs.Prelude.{slice_get}
-use Rattle.lpt_model.specs.LptPacket.declared.direction.Direction.{Direction}
-use Rattle.lpt_model.specs.LptPacket.declared.direction.Direction.TheVariants.{Up, Down}
-use Rattle.lpt_model.specs.LptMemory.Memories.{Contents}
-use Rattle.lpt_model.specs.LptEvents.Arrivals.{Arrival, NotRead, AnIdle, Foreign, ARequest, AReport, NoPart, APart, AnAbort, arrival_in}
-use Rattle.lpt_model.specs.LptEvents.Configs.{IsConfig}
-use Rattle.lpt_model.specs.LptEvents.Lanes.{lane_direction, same_direction}
-use Rattle.lpt_model.specs.LptEvents.declared.config.Config.{Config}
-use Rattle.lpt_model.specs.LptEvents.declared.event.Event.{Event}
-use Rattle.lpt_model.specs.LptEvents.declared.event.Event.TheVariants.{Take, Deliver}
-use Rattle.lpt_model.specs.LptEvents.declared.lane.Lane.{Lane}
-use Rattle.lpt_model.specs.LptEvents.declared.lane.Lane.TheVariants.{S1, S2, G1, G2}
-use Rattle.lpt_model.specs.LptEvents.declared.side.Side.TheVariants.{Ground, Craft}
-use Rattle.lpt_model.specs.LptLink.declared.fault.LinkFault.TheVariants.{NotHeld, HandFull, HandEmpty}
-use Rattle.lpt_model.specs.LptLink.declared.packet.LinkPacket.{LinkPacket}
-use Rattle.lpt_model.specs.LptLink.Links.{LinkData, hand_of, is_held_for, after_take, after_drop}
-use Rattle.lpt_model.specs.LptNode.Accepting.{accepted}
-use Rattle.lpt_model.specs.LptNode.declared.accepted.Accepted.{Accepted}
-use Rattle.lpt_model.specs.LptNode.Nodes.{NodeData}
+use Rattle.lpt_packet.specs.declared.direction.Direction.{Direction}
+use Rattle.lpt_packet.specs.declared.direction.Direction.TheVariants.{Up, Down}
+use Rattle.lpt_memory.specs.Memories.{Contents}
+use Rattle.lpt_events.specs.Arrivals.{Arrival, NotRead, AnIdle, Foreign, ARequest, AReport, NoPart, APart, AnAbort, arrival_in}
+use Rattle.lpt_events.specs.Configs.{IsConfig}
+use Rattle.lpt_events.specs.Lanes.{lane_direction, same_direction}
+use Rattle.lpt_events.specs.declared.config.Config.{Config}
+use Rattle.lpt_events.specs.declared.event.Event.{Event}
+use Rattle.lpt_events.specs.declared.event.Event.TheVariants.{Take, Deliver}
+use Rattle.lpt_events.specs.declared.lane.Lane.{Lane}
+use Rattle.lpt_events.specs.declared.lane.Lane.TheVariants.{S1, S2, G1, G2}
+use Rattle.lpt_events.specs.declared.side.Side.TheVariants.{Ground, Craft}
+use Rattle.lpt_link.specs.declared.fault.LinkFault.TheVariants.{NotHeld, HandFull, HandEmpty}
+use Rattle.lpt_link.specs.declared.packet.LinkPacket.{LinkPacket}
+use Rattle.lpt_link.specs.Links.{LinkData, hand_of, is_held_for, after_take, after_drop}
+use Rattle.lpt_node.specs.Accepting.{accepted}
+use Rattle.lpt_node.specs.declared.accepted.Accepted.{Accepted}
+use Rattle.lpt_node.specs.Nodes.{NodeData}
 use Rattle.lpt_model.specs.State.{State, link_fault, as_list, arrival_held, delivered_on}
 use Rattle.lpt_refinement.specs.Shows.{Shows}
 use Rattle.lpt_refinement.specs.Views.{views}
-use Rattle.lpt_refinement.specs.LptJournal.Journal.{History}
-use Rattle.lpt_refinement.specs.LptJournal.Legal.{Legal}
-use Rattle.lpt_refinement.specs.LptJournal.Replies.{recorded}
+use Rattle.lpt_journal.specs.Journal.{History}
+use Rattle.lpt_journal.specs.Legal.{Legal}
+use Rattle.lpt_journal.specs.Replies.{recorded}
 use Rattle.lpt_apart.specs.Ends.{PutOut}
 use Rattle.lpt_apart.specs.Facts.{Log}
 use Rattle.lpt_apart.specs.Steps.{is_harmless, CanHappen, with_release, accepted_on}
@@ -174,7 +174,7 @@ module _ (c : Config) (first : Contents) (s : State) (ways : List PutOut) (log :
   harmless_up (AReport service subtype) harmless = same
   harmless_up NoPart harmless = same
   harmless_up (APart q) harmless = absurd cc
-  harmless_up (AnAbort id reason) harmless = closed_down c first s ways log es good t id
+  harmless_up (AnAbort name reason) harmless = closed_down c first s ways log es good t name
 
   harmless_down : (a : Arrival)
       → is_harmless a ≡ true
@@ -186,7 +186,7 @@ module _ (c : Config) (first : Contents) (s : State) (ways : List PutOut) (log :
   harmless_down (AReport service subtype) harmless = same
   harmless_down NoPart harmless = same
   harmless_down (APart q) harmless = absurd cc
-  harmless_down (AnAbort id reason) harmless = closed_up c first s ways log es good t id
+  harmless_down (AnAbort name reason) harmless = closed_up c first s ways log es good t name
 
   -- what may come does
   pub accept : (d : Direction) (b : List ℕ)

@@ -1,44 +1,44 @@
 -- A plain request that is released is one that ground asked, in the log of every legal journal.
 use Rattle.std.proofs.Common.{◌≡◌, ◌∙◌, ap, sym, subst, refl, ℕ, zero, suc, false, inl, inr, List, [], ◌∷◌, length, map, Option, Some, None, arith}
 use Rattle.std.specs.Prelude.{slice_get, not, is_some, Contains}
-use Rattle.lpt_model.specs.LptPacket.declared.direction.Direction.{Direction}
-use Rattle.lpt_model.specs.LptPacket.declared.direction.Direction.TheVariants.{Up, Down}
-use Rattle.lpt_model.specs.LptPacket.Names.{Name}
-use Rattle.lpt_model.specs.LptMemory.Memories.{Contents}
-use Rattle.lpt_model.specs.LptPart.declared.reason.Reason.{Reason}
-use Rattle.lpt_model.specs.LptEvents.Arrivals.{NotRead, ARequest, part_name}
-use Rattle.lpt_model.specs.LptEvents.Configs.{IsConfig}
-use Rattle.lpt_model.specs.LptEvents.Lanes.{lane_direction}
-use Rattle.lpt_model.specs.LptEvents.Sides.{receiver_side, direction_to}
-use Rattle.lpt_model.specs.LptEvents.declared.config.Config.{Config}
-use Rattle.lpt_model.specs.LptEvents.declared.entry.Opening.{Opening}
-use Rattle.lpt_model.specs.LptEvents.declared.entry.Release.{Release}
-use Rattle.lpt_model.specs.LptEvents.declared.event.Event.{Event}
-use Rattle.lpt_model.specs.LptEvents.declared.event.Event.TheVariants.{Send, Plain, Damage, Deliver, Expire, Apply, Retire, Restart}
-use Rattle.lpt_model.specs.LptEvents.declared.fault.StepFault.TheVariants.{HandEmpty}
-use Rattle.lpt_model.specs.LptEvents.declared.lane.Lane.{Lane}
-use Rattle.lpt_model.specs.LptEvents.declared.outcome.Outcome.{Outcome}
-use Rattle.lpt_model.specs.LptEvents.declared.outcome.Outcome.TheVariants.{Broken}
-use Rattle.lpt_model.specs.LptEvents.declared.reply.Answer.{Answer}
-use Rattle.lpt_model.specs.LptEvents.declared.reply.Answer.TheVariants.{Delivered, Expired}
-use Rattle.lpt_model.specs.LptEvents.declared.side.Side.{Side}
-use Rattle.lpt_model.specs.LptEvents.declared.side.Side.TheVariants.{Ground, Craft}
-use Rattle.lpt_refinement.specs.LptJournal.Delivery.{outcome}
-use Rattle.lpt_refinement.specs.LptJournal.Due.{due}
-use Rattle.lpt_refinement.specs.LptJournal.Hands.{hand, arrival_of, in_hand}
-use Rattle.lpt_refinement.specs.LptJournal.Journal.{SentPacket, Recorded, History}
-use Rattle.lpt_refinement.specs.LptJournal.Legal.{Legal}
-use Rattle.lpt_refinement.specs.LptJournal.Link.{sent}
-use Rattle.lpt_refinement.specs.LptJournal.Receivers.{heard}
-use Rattle.lpt_refinement.specs.LptJournal.Releases.{released_by}
-use Rattle.lpt_refinement.specs.LptJournal.Replies.{abort_puts, outcome_puts, expiry_puts, puts, recorded, entry}
-use Rattle.lpt_refinement.proofs.LptJournal.Events.{only_element}
-use Rattle.lpt_refinement.proofs.LptJournal.DeliveredReleases.{plain_is}
-use Rattle.lpt_refinement.proofs.LptJournal.HeadlineLemmas.{every, owes}
-use Rattle.lpt_refinement.proofs.LptJournal.OctetLemmas.{request_is}
-use Rattle.lpt_refinement.proofs.LptJournal.Soundness.{in_hand_is}
-use Rattle.lpt_refinement.proofs.LptJournal.Steps.{IsPut}
-use Rattle.lpt_refinement.proofs.LptJournal.TestLemmas.{one_passes, IsOldOrNew, with_all_cases, no_place}
+use Rattle.lpt_packet.specs.declared.direction.Direction.{Direction}
+use Rattle.lpt_packet.specs.declared.direction.Direction.TheVariants.{Up, Down}
+use Rattle.lpt_packet.specs.Names.{Name}
+use Rattle.lpt_memory.specs.Memories.{Contents}
+use Rattle.lpt_part.specs.declared.reason.Reason.{Reason}
+use Rattle.lpt_events.specs.Arrivals.{NotRead, ARequest, part_name}
+use Rattle.lpt_events.specs.Configs.{IsConfig}
+use Rattle.lpt_events.specs.Lanes.{lane_direction}
+use Rattle.lpt_events.specs.Sides.{receiver_side, direction_to}
+use Rattle.lpt_events.specs.declared.config.Config.{Config}
+use Rattle.lpt_events.specs.declared.entry.Opening.{Opening}
+use Rattle.lpt_events.specs.declared.entry.Release.{Release}
+use Rattle.lpt_events.specs.declared.event.Event.{Event}
+use Rattle.lpt_events.specs.declared.event.Event.TheVariants.{Send, Plain, Damage, Deliver, Expire, Apply, Retire, Restart}
+use Rattle.lpt_events.specs.declared.fault.StepFault.TheVariants.{HandEmpty}
+use Rattle.lpt_events.specs.declared.lane.Lane.{Lane}
+use Rattle.lpt_events.specs.declared.outcome.Outcome.{Outcome}
+use Rattle.lpt_events.specs.declared.outcome.Outcome.TheVariants.{Broken}
+use Rattle.lpt_events.specs.declared.reply.Answer.{Answer}
+use Rattle.lpt_events.specs.declared.reply.Answer.TheVariants.{Delivered, Expired}
+use Rattle.lpt_events.specs.declared.side.Side.{Side}
+use Rattle.lpt_events.specs.declared.side.Side.TheVariants.{Ground, Craft}
+use Rattle.lpt_journal.specs.Delivery.{outcome}
+use Rattle.lpt_journal.specs.Due.{due}
+use Rattle.lpt_journal.specs.Hands.{hand, arrival_of, in_hand}
+use Rattle.lpt_journal.specs.Journal.{SentPacket, Recorded, History}
+use Rattle.lpt_journal.specs.Legal.{Legal}
+use Rattle.lpt_journal.specs.Link.{sent}
+use Rattle.lpt_journal.specs.Receivers.{heard}
+use Rattle.lpt_journal.specs.Releases.{released_by}
+use Rattle.lpt_journal.specs.Replies.{abort_puts, outcome_puts, expiry_puts, puts, recorded, entry}
+use Rattle.lpt_journal.proofs.Events.{only_element}
+use Rattle.lpt_journal.proofs.DeliveredReleases.{plain_is}
+use Rattle.lpt_journal.proofs.HeadlineLemmas.{every, owes}
+use Rattle.lpt_journal.proofs.OctetLemmas.{request_is}
+use Rattle.lpt_journal.proofs.Soundness.{in_hand_is}
+use Rattle.lpt_journal.proofs.Steps.{IsPut}
+use Rattle.lpt_journal.proofs.TestLemmas.{one_passes, IsOldOrNew, with_all_cases, no_place}
 use Rattle.lpt_apart.specs.Facts.{Fact, Asked, Log, with_abortion}
 use Rattle.lpt_apart.specs.Told.{with_openings, with_releases, with_ended, with_asked, with_event, told}
 
@@ -74,14 +74,14 @@ later_releases (r ∷ rs) log f had = later_releases rs _ f (later _ log f had)
 later_abortion : (d : Direction) (o : Outcome) (log : Log) (f : Fact)
     → Contains log f
     → Contains (with_abortion d o log) f
-later_abortion d (Broken id reason) log f had = later _ log f had
+later_abortion d (Broken name reason) log f had = later _ log f had
 later_abortion d o log f had = had
 
 later_ended : (e : Event) (a : Answer) (log : Log) (f : Fact)
     → Contains log f
     → Contains (with_ended e a log) f
 later_ended (Deliver l) (Delivered o) log f had = later_abortion (lane_direction l) o log f had
-later_ended (Expire side) (Expired d id) log f had = later _ log f had
+later_ended (Expire side) (Expired d name) log f had = later _ log f had
 later_ended e a log f had = had
 
 later_event : (e : Event) (ps : List SentPacket) (log : Log) (f : Fact)
@@ -89,7 +89,7 @@ later_event : (e : Event) (ps : List SentPacket) (log : Log) (f : Fact)
     → Contains (with_event e ps log) f
 later_event (Plain source flags service subtype body) ps log f had = later_asked ps log f had
 later_event Apply ps log f had = later _ log f had
-later_event (Retire d id) ps log f had = later _ log f had
+later_event (Retire d name) ps log f had = later _ log f had
 later_event (Restart side) ps log f had = later _ log f had
 later_event e ps log f had = had
 
@@ -125,12 +125,12 @@ up_from Up e = refl
 up_from Down e = absurd cc
 
 -- a report of an abortion goes down
-abort_down : (c : Config) (h : History) (side : Side) (id : Name) (why : Reason) (n : ℕ)
+abort_down : (c : Config) (h : History) (side : Side) (name : Name) (why : Reason) (n : ℕ)
     (p : SentPacket)
-    → slice_get (abort_puts c h side id why) n ≡ Some p
+    → slice_get (abort_puts c h side name why) n ≡ Some p
     → p.direction ≡ Down
-abort_down c h Ground id why n p f = absurd (no_place n p f)
-abort_down c h Craft id why n p f =
+abort_down c h Ground name why n p f = absurd (no_place n p f)
+abort_down c h Craft name why n p f =
     sym (ap (λ (x : SentPacket). x.direction) (only_element _ n p f))
 
 -- and so do the reports of an execution
@@ -151,8 +151,8 @@ module _ (c : Config) (first : Contents) (good : IsConfig c) where
       → p.direction ≡ Up
       → arrival_of c p ≡ ARequest b
       → Contains (with_event e (puts c first h e) log) (Asked p.octets)
-  asked_now (Send d id k) h log n p b put f up is =
-      absurd (let none : None ≡ Some id = sym (ap part_name is) ∙ put.name in cc)
+  asked_now (Send d name k) h log n p b put f up is =
+      absurd (let none : None ≡ Some name = sym (ap part_name is) ∙ put.name in cc)
   asked_now (Plain source flags service subtype body) h log n p b put f up is =
       asked_there (puts c first h (Plain source flags service subtype body)) log n p f
   asked_now (Damage d o) h log n p b put f up is =
@@ -161,16 +161,16 @@ module _ (c : Config) (first : Contents) (good : IsConfig c) where
     go : (o : Outcome)
         → slice_get (outcome_puts c h (receiver_side (lane_direction l)) o) n ≡ Some p
         → ⊥
-    go (Broken id why) k =
+    go (Broken name why) k =
         let down : Up ≡ Down =
-        sym up ∙ abort_down c h (receiver_side (lane_direction l)) id why n p k in
+        sym up ∙ abort_down c h (receiver_side (lane_direction l)) name why n p k in
         cc
     go o k = no_place n p k
   asked_now (Expire side) h log n p b put f up is =
       absurd (go (due c h (direction_to side)) f) where
         go : (o : Option Name) → slice_get (expiry_puts c h side o) n ≡ Some p → ⊥
         go None k = no_place n p k
-        go (Some id) k = let down : Up ≡ Down = sym up ∙ abort_down c h side id _ n p k in cc
+        go (Some name) k = let down : Up ≡ Down = sym up ∙ abort_down c h side name _ n p k in cc
   asked_now Apply h log n p b put f up is =
       absurd (let down : Up ≡ Down = sym up ∙ reports_down _ n p f in cc)
   asked_now e h log n p b put f up is = absurd (no_place n p f)

@@ -1,44 +1,41 @@
 -- Each fact is due, in the log of every legal journal: what is released was awaited or asked, what
 -- is aborted was awaited, and what is executed waits.
-use Rattle.std.proofs.Common.{◌≡◌, ◌∙◌, ap, sym, refl, ℕ, ◌<◌, ◌-◌, true, not, List, [], ◌∷◌, length, drop, Option, Some, None, is_some, arith}
+use Rattle.std.proofs.Common.{◌≡◌, ◌∙◌, ap, sym, refl, ℕ, ◌<◌, ◌-◌, not, List, [], ◌∷◌, length, drop, Option, Some, None, is_some, arith}
 use Rattle.std.specs.Prelude.{slice_get}
 use Rattle.std.proofs.lemmas.List.{length-map, length-drop}
 use Rattle.std.proofs.lemmas.Option.{slice_get_within}
-use Rattle.lpt_model.specs.LptPacket.declared.direction.Direction.{Direction}
-use Rattle.lpt_model.specs.LptPacket.Names.{Name}
-use Rattle.lpt_model.specs.LptMemory.Memories.{Contents}
-use Rattle.lpt_model.specs.LptEvents.Configs.{IsConfig}
-use Rattle.lpt_model.specs.LptEvents.declared.config.Config.{Config}
-use Rattle.lpt_model.specs.LptEvents.declared.entry.Opening.{Opening}
-use Rattle.lpt_model.specs.LptEvents.declared.entry.Release.{Release}
-use Rattle.lpt_model.specs.LptEvents.declared.event.Event.{Event}
-use Rattle.lpt_model.specs.LptEvents.declared.event.Event.TheVariants.{Plain, Deliver, Expire, Apply, Retire, Restart}
-use Rattle.lpt_model.specs.LptEvents.declared.fault.StepFault.TheVariants.{NoJob, NotReady}
-use Rattle.lpt_model.specs.LptEvents.declared.outcome.Outcome.TheVariants.{Broken}
-use Rattle.lpt_model.specs.LptEvents.declared.reply.Answer.{Answer}
-use Rattle.lpt_model.specs.LptEvents.declared.reply.Answer.TheVariants.{Delivered, Expired}
-use Rattle.lpt_refinement.specs.LptJournal.Abortions.{Abortion, abortion_at}
-use Rattle.lpt_refinement.specs.LptJournal.Due.{due}
-use Rattle.lpt_refinement.specs.LptJournal.Executions.{front_opens}
-use Rattle.lpt_refinement.specs.LptJournal.Jobs.{jobs, applied, front_job, is_committed}
-use Rattle.lpt_refinement.specs.LptJournal.Journal.{SentPacket, Recorded, History}
-use Rattle.lpt_refinement.specs.LptJournal.Legal.{Legal}
-use Rattle.lpt_refinement.specs.LptJournal.Releases.{released_by}
-use Rattle.lpt_refinement.specs.LptJournal.Replies.{answer, opens, recorded, entry}
-use Rattle.lpt_refinement.proofs.LptJournal.AbortionLemmas.{abortion_is_final}
-use Rattle.lpt_refinement.proofs.LptJournal.AbortionOwed.{owes_abortion}
-use Rattle.lpt_refinement.proofs.LptJournal.HeadlineLemmas.{every, owes_releases}
-use Rattle.lpt_refinement.proofs.LptJournal.Releasing.{OwesReleases}
-use Rattle.lpt_refinement.proofs.LptJournal.TestLemmas.{not_false, two_pass}
+use Rattle.lpt_packet.specs.declared.direction.Direction.{Direction}
+use Rattle.lpt_packet.specs.Names.{Name}
+use Rattle.lpt_memory.specs.Memories.{Contents}
+use Rattle.lpt_events.specs.Configs.{IsConfig}
+use Rattle.lpt_events.specs.declared.config.Config.{Config}
+use Rattle.lpt_events.specs.declared.entry.Opening.{Opening}
+use Rattle.lpt_events.specs.declared.entry.Release.{Release}
+use Rattle.lpt_events.specs.declared.event.Event.{Event}
+use Rattle.lpt_events.specs.declared.event.Event.TheVariants.{Plain, Deliver, Expire, Apply, Retire, Restart}
+use Rattle.lpt_events.specs.declared.fault.StepFault.TheVariants.{NoJob, NotReady}
+use Rattle.lpt_events.specs.declared.outcome.Outcome.TheVariants.{Broken}
+use Rattle.lpt_events.specs.declared.reply.Answer.{Answer}
+use Rattle.lpt_events.specs.declared.reply.Answer.TheVariants.{Delivered, Expired}
+use Rattle.lpt_journal.specs.Abortions.{Abortion, abortion_at}
+use Rattle.lpt_journal.specs.Due.{due}
+use Rattle.lpt_journal.specs.Executions.{front_opens}
+use Rattle.lpt_journal.specs.Jobs.{jobs, applied, front_job, is_committed}
+use Rattle.lpt_journal.specs.Journal.{SentPacket, Recorded, History}
+use Rattle.lpt_journal.specs.Legal.{Legal}
+use Rattle.lpt_journal.specs.Releases.{released_by}
+use Rattle.lpt_journal.specs.Replies.{answer, opens, recorded, entry}
+use Rattle.lpt_journal.proofs.AbortionLemmas.{abortion_is_final}
+use Rattle.lpt_journal.proofs.AbortionOwed.{owes_abortion}
+use Rattle.lpt_journal.proofs.HeadlineLemmas.{every, owes_releases}
+use Rattle.lpt_journal.proofs.Releasing.{OwesReleases}
+use Rattle.lpt_journal.proofs.TestLemmas.{two_pass}
 use Rattle.lpt_apart.specs.Facts.{Asked, Released, Aborted, Executed, Log, waiting, IsDue, AllDue}
 use Rattle.lpt_apart.specs.Told.{with_openings, with_releases, with_ended, with_asked, with_event, told}
 use Rattle.lpt_apart.proofs.Asking.{release_asked}
 use Rattle.lpt_apart.proofs.Awaiting.{awaited_releases, is_awaited}
 use Rattle.lpt_apart.proofs.Queues.{waiting_openings, waiting_told}
-
-some_is : {A : Type 0} (o : Option A) → is_some o ≡ true → (x : A) × (o ≡ Some x)
-some_is None e = absurd cc
-some_is (Some x) e = (x, refl)
+use Rattle.lpt_packet.proofs.BoolLemmas.{some_is, not_false}
 
 module _ (c : Config) (first : Contents) (good : IsConfig c) where
   asked_due : (ps : List SentPacket) (log : Log) → AllDue log → AllDue (with_asked ps log)
@@ -51,7 +48,7 @@ module _ (c : Config) (first : Contents) (good : IsConfig c) where
       → AllDue (with_event e ps log)
   event_due (Plain source flags service subtype body) ps log all waits = asked_due ps log all
   event_due Apply ps log all waits = (all, waits refl)
-  event_due (Retire d id) ps log all waits = (all, tt)
+  event_due (Retire d name) ps log all waits = (all, tt)
   event_due (Restart side) ps log all waits = (all, tt)
   event_due e ps log all waits = all
 
@@ -64,12 +61,12 @@ module _ (c : Config) (first : Contents) (good : IsConfig c) where
       → AllDue log
       → ((j : ℕ) (b : Abortion)
       → slice_get (abortion_at place e a) j ≡ Some b
-      → IsDue (Aborted b.direction b.id) log)
+      → IsDue (Aborted b.direction b.name) log)
       → AllDue (with_ended e a log)
-  ended_due place (Deliver l) (Delivered (Broken id why)) log all due = (all, due 0 _ refl)
+  ended_due place (Deliver l) (Delivered (Broken name why)) log all due = (all, due 0 _ refl)
   ended_due place (Deliver l) (Delivered o) log all due = all
   ended_due place (Deliver l) a log all due = all
-  ended_due place (Expire side) (Expired d id) log all due = (all, due 0 _ refl)
+  ended_due place (Expire side) (Expired d name) log all due = (all, due 0 _ refl)
   ended_due place (Expire side) a log all due = all
   ended_due place e a log all due = all
 
@@ -145,14 +142,14 @@ module _ (c : Config) (first : Contents) (good : IsConfig c) where
 
         abortion : (j : ℕ) (b : Abortion)
             → slice_get (abortion_at (length h) e x.reply.answer) j ≡ Some b
-            → IsDue (Aborted b.direction b.id) released
+            → IsDue (Aborted b.direction b.name) released
         abortion j b at =
             let p =
             owes_abortion c first h e (every c first es good legal.0).0
             (abortion_is_final c first es good legal.0).unheard legal.1.accepted j b at in
             ap is_some
-            (awaited_releases (released_by c x h) (told c h) b.direction b.id
+            (awaited_releases (released_by c x h) (told c h) b.direction b.name
             (λ k r f. absurd (p.releases_none k r f))
-            ∙ is_awaited c first good es legal.0 b.direction b.id p.ends_it.opening
+            ∙ is_awaited c first good es legal.0 b.direction b.name p.ends_it.opening
             p.ends_it.is_current
             p.ends_it.was_open)

@@ -2,35 +2,35 @@
 use Rattle.std.proofs.Common.{◌≡◌, ◌∙◌, ap, subst, refl, ℕ, true, List, [], ◌∷◌, length, Option, Some, None, is_some}
 use Rattle.std.specs.Option.{option_map}
 use Rattle.std.specs.Prelude.{IfSome, IsTrue}
-use Rattle.lpt_model.specs.LptPacket.declared.direction.Direction.{Direction}
-use Rattle.lpt_model.specs.LptPacket.declared.direction.Direction.TheVariants.{Up, Down}
-use Rattle.lpt_model.specs.LptPacket.Names.{Name}
-use Rattle.lpt_model.specs.LptMemory.Memories.{Contents}
-use Rattle.lpt_model.specs.LptMemory.Readings.{Job}
-use Rattle.lpt_model.specs.LptEvents.Configs.{IsConfig}
-use Rattle.lpt_model.specs.LptEvents.Events.{IsEvent}
-use Rattle.lpt_model.specs.LptEvents.Sides.{direction_to}
-use Rattle.lpt_model.specs.LptEvents.declared.config.Config.{Config}
-use Rattle.lpt_model.specs.LptEvents.declared.event.Event.{Event}
-use Rattle.lpt_model.specs.LptEvents.declared.event.Event.TheVariants.{Open, Send, Plain, Finish, Tick, Expire, Claim, Commit, Apply, Restart}
-use Rattle.lpt_model.specs.LptEvents.declared.lane.Lane.{Lane}
-use Rattle.lpt_model.specs.LptEvents.declared.side.Side.{Side}
-use Rattle.lpt_model.specs.LptEvents.declared.side.Side.TheVariants.{Ground, Craft}
-use Rattle.lpt_model.specs.LptEvents.declared.worker.Worker.{Worker}
-use Rattle.lpt_model.specs.LptJobs.Jobs.{Head, NoJob, NotReady, Ready, head_of, is_claimed}
-use Rattle.lpt_model.specs.LptLink.Links.{hand_of}
-use Rattle.lpt_model.specs.LptNode.Faults.{node_fault}
-use Rattle.lpt_model.specs.LptNode.Jobs.{FrontIsFor, refusal_apply_of, executed}
-use Rattle.lpt_model.specs.LptNode.Requests.{plain_made}
-use Rattle.lpt_model.specs.LptNode.Sending.{sent}
-use Rattle.lpt_model.specs.LptNode.Nodes.{NodeData}
-use Rattle.lpt_model.specs.LptNode.Times.{expired}
-use Rattle.lpt_model.specs.LptNode.declared.expired.Expired.{Expired as Ended}
+use Rattle.lpt_packet.specs.declared.direction.Direction.{Direction}
+use Rattle.lpt_packet.specs.declared.direction.Direction.TheVariants.{Up, Down}
+use Rattle.lpt_packet.specs.Names.{Name}
+use Rattle.lpt_memory.specs.Memories.{Contents}
+use Rattle.lpt_memory.specs.Readings.{Job}
+use Rattle.lpt_events.specs.Configs.{IsConfig}
+use Rattle.lpt_events.specs.Events.{IsEvent}
+use Rattle.lpt_events.specs.Sides.{direction_to}
+use Rattle.lpt_events.specs.declared.config.Config.{Config}
+use Rattle.lpt_events.specs.declared.event.Event.{Event}
+use Rattle.lpt_events.specs.declared.event.Event.TheVariants.{Open, Send, Plain, Finish, Tick, Expire, Claim, Commit, Apply, Restart}
+use Rattle.lpt_events.specs.declared.lane.Lane.{Lane}
+use Rattle.lpt_events.specs.declared.side.Side.{Side}
+use Rattle.lpt_events.specs.declared.side.Side.TheVariants.{Ground, Craft}
+use Rattle.lpt_events.specs.declared.worker.Worker.{Worker}
+use Rattle.lpt_jobs.specs.Jobs.{Head, NoJob, NotReady, Ready, head_of, is_claimed}
+use Rattle.lpt_link.specs.Links.{hand_of}
+use Rattle.lpt_node.specs.Faults.{node_fault}
+use Rattle.lpt_node.specs.Jobs.{FrontIsFor, refusal_apply_of, executed}
+use Rattle.lpt_node.specs.Requests.{plain_made}
+use Rattle.lpt_node.specs.Sending.{sent}
+use Rattle.lpt_node.specs.Nodes.{NodeData}
+use Rattle.lpt_node.specs.Times.{expired}
+use Rattle.lpt_node.specs.declared.expired.Expired.{Expired as Ended}
 use Rattle.lpt_model.specs.State.{State, after, as_list, committed_on, refusal_of, refusal_claim_by, refusal_commit_of}
 use Rattle.lpt_model.specs.Tickets.{ticket_of}
 use Rattle.lpt_refinement.specs.Shows.{Shows}
 use Rattle.lpt_refinement.specs.Views.{views}
-use Rattle.lpt_refinement.specs.LptJournal.Replies.{recorded}
+use Rattle.lpt_journal.specs.Replies.{recorded}
 use Rattle.lpt_apart.specs.Ends.{PutOut, put_out}
 use Rattle.lpt_apart.specs.Facts.{Opened, Asked, Aborted, Executed, Restarted, Log}
 use Rattle.lpt_apart.specs.Steps.{CanHappen, with_report}
@@ -73,31 +73,32 @@ module _ (c : Config) (first : Contents) (s : State) (ways : List PutOut) (log :
 
   -- ---- sending
 
-  pub open_step : (d : Direction) (id : Name) (m : List ℕ)
-      → CanHappen c (ends_of s ways log) (steps.Open d id m)
-      → Follows c first (steps.after c (ends_of s ways log) (steps.Open d id m))
-  open_step Up id m can =
-      once (Open Up id m) ways (Opened Up id m ∷ log) can.0 (ap (option_map node_fault) can.1)
+  pub open_step : (d : Direction) (name : Name) (m : List ℕ)
+      → CanHappen c (ends_of s ways log) (steps.Open d name m)
+      → Follows c first (steps.after c (ends_of s ways log) (steps.Open d name m))
+  open_step Up name m can =
+      once (Open Up name m) ways (Opened Up name m ∷ log) can.0 (ap (option_map node_fault) can.1)
       t.hands t.held
-      (ap (λ (l : Log). Opened Up id m ∷ l) t.tells)
-  open_step Down id m can =
-      once (Open Down id m) ways (Opened Down id m ∷ log) can.0 (ap (option_map node_fault) can.1)
+      (ap (λ (l : Log). Opened Up name m ∷ l) t.tells)
+  open_step Down name m can =
+      once (Open Down name m) ways (Opened Down name m ∷ log) can.0
+      (ap (option_map node_fault) can.1)
       t.hands t.held
-      (ap (λ (l : Log). Opened Down id m ∷ l) t.tells)
+      (ap (λ (l : Log). Opened Down name m ∷ l) t.tells)
 
-  pub send : (d : Direction) (id : Name) (k : ℕ)
-      → CanHappen c (ends_of s ways log) (steps.Send d id k)
-      → Follows c first (steps.after c (ends_of s ways log) (steps.Send d id k))
-  send Up id k can =
-      let b : List ℕ = (sent Ground c s.on_ground id k).1 in
-      once (Send Up id k) (put_out ways Up (Some id) (b ∷ [])) log can.0
+  pub send : (d : Direction) (name : Name) (k : ℕ)
+      → CanHappen c (ends_of s ways log) (steps.Send d name k)
+      → Follows c first (steps.after c (ends_of s ways log) (steps.Send d name k))
+  send Up name k can =
+      let b : List ℕ = (sent Ground c s.on_ground name k).1 in
+      once (Send Up name k) (put_out ways Up (Some name) (b ∷ [])) log can.0
       (ap (option_map node_fault) can.1) t.hands
-      (put_held s.link ways Up (Some id) (b ∷ []) t.held) t.tells
-  send Down id k can =
-      let b : List ℕ = (sent Craft c s.on_craft id k).1 in
-      once (Send Down id k) (put_out ways Down (Some id) (b ∷ [])) log can.0
+      (put_held s.link ways Up (Some name) (b ∷ []) t.held) t.tells
+  send Down name k can =
+      let b : List ℕ = (sent Craft c s.on_craft name k).1 in
+      once (Send Down name k) (put_out ways Down (Some name) (b ∷ [])) log can.0
       (ap (option_map node_fault) can.1) t.hands
-      (put_held s.link ways Down (Some id) (b ∷ []) t.held) t.tells
+      (put_held s.link ways Down (Some name) (b ∷ []) t.held) t.tells
 
   pub plain : (source flags service subtype : ℕ) (body : List ℕ)
       → CanHappen c (ends_of s ways log) (steps.Plain source flags service subtype body)
@@ -111,13 +112,14 @@ module _ (c : Config) (first : Contents) (s : State) (ways : List PutOut) (log :
       (put_held s.link ways Up None (b ∷ []) t.held)
       (plain_told c first s log es t.shown t.tells source flags service subtype body)
 
-  pub finish : (d : Direction) (id : Name)
-      → CanHappen c (ends_of s ways log) (steps.Finish d id)
-      → Follows c first (steps.after c (ends_of s ways log) (steps.Finish d id))
-  finish Up id can =
-      once (Finish Up id) ways log can.0 (ap (option_map node_fault) can.1) t.hands t.held t.tells
-  finish Down id can =
-      once (Finish Down id) ways log can.0 (ap (option_map node_fault) can.1) t.hands t.held t.tells
+  pub finish : (d : Direction) (name : Name)
+      → CanHappen c (ends_of s ways log) (steps.Finish d name)
+      → Follows c first (steps.after c (ends_of s ways log) (steps.Finish d name))
+  finish Up name can =
+      once (Finish Up name) ways log can.0 (ap (option_map node_fault) can.1) t.hands t.held t.tells
+  finish Down name can =
+      once (Finish Down name) ways log can.0 (ap (option_map node_fault) can.1) t.hands
+      t.held t.tells
 
   -- ---- time and restarts
 
@@ -137,7 +139,7 @@ module _ (c : Config) (first : Contents) (s : State) (ways : List PutOut) (log :
       let bs : List (List ℕ) = as_list x.1.packet in
       let free : refusal_of c s (Expire Ground) ≡ None = ap (option_map node_fault) can in
       once (Expire Ground) (put_out ways Down None bs)
-      (Aborted (direction_to Ground) x.1.id ∷ log) tt free
+      (Aborted (direction_to Ground) x.1.name ∷ log) tt free
       (λ l. put_hands s.link Down None bs l ∙ t.hands l)
       (put_held s.link ways Down None bs t.held)
       (expiry_told c first s log es t.shown t.tells Ground
@@ -147,7 +149,7 @@ module _ (c : Config) (first : Contents) (s : State) (ways : List PutOut) (log :
       let bs : List (List ℕ) = as_list x.1.packet in
       let free : refusal_of c s (Expire Craft) ≡ None = ap (option_map node_fault) can in
       once (Expire Craft) (put_out ways Down None bs)
-      (Aborted (direction_to Craft) x.1.id ∷ log) tt free
+      (Aborted (direction_to Craft) x.1.name ∷ log) tt free
       (λ l. put_hands s.link Down None bs l ∙ t.hands l)
       (put_held s.link ways Down None bs t.held)
       (expiry_told c first s log es t.shown t.tells Craft

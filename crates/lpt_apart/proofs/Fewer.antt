@@ -2,28 +2,28 @@
 -- comes.
 use Rattle.std.proofs.Common.{◌≡◌, ◌∙◌, ap, sym, subst, refl, ℕ, Bool, true, false, if◌then◌else◌, List, Option, Some, None}
 use Rattle.std.specs.FinMap as maps
-use Rattle.lpt_model.specs.LptPacket.Names.{Name, same_name}
-use Rattle.lpt_model.proofs.LptPacket.NameLemmas.{same_name-true}
-use Rattle.lpt_model.specs.LptEvents.Arrivals.{Arrival, NotRead, AnIdle, Foreign, ARequest, AReport, NoPart, APart, AnAbort}
-use Rattle.lpt_model.specs.LptEvents.NamedParts.{NamedPart}
-use Rattle.lpt_model.specs.LptEvents.declared.config.Config.{Config}
-use Rattle.lpt_model.specs.LptEvents.declared.side.Side.{Side}
-use Rattle.lpt_model.specs.LptPart.declared.reason.Reason.TheVariants as reason
-use Rattle.lpt_model.specs.LptLedger.Marks.{Marks, Shut}
-use Rattle.lpt_model.specs.LptLedger.States.{state_at}
-use Rattle.lpt_model.specs.LptLedger.declared.state.State.{State as Known}
-use Rattle.lpt_model.specs.LptLedger.declared.state.State.TheVariants as known
-use Rattle.lpt_model.specs.LptNode.declared.accepted.Accepted.{Accepted}
-use Rattle.lpt_model.specs.LptNode.Accepting.{accepted}
-use Rattle.lpt_model.specs.LptNode.Nodes.{Receiving, NodeData}
-use Rattle.lpt_model.specs.LptNode.Receivers.{table_in, abort_report, kept_of, parts_with, ended, received_from, if_free, received}
-use Rattle.lpt_model.specs.LptNode.Receiving.{receiver_of, with_receiver, after_received, abort_head, parted}
-use Rattle.lpt_model.specs.LptNode.Times.{expired_of}
-use Rattle.lpt_model.specs.LptReception.Received.{Parts}
-use Rattle.lpt_model.specs.LptTable.Offering.{OfferKind, parts_at, is_full, is_open, taken_out, with_entry, offered}
-use Rattle.lpt_model.specs.LptTable.Offering as offering
-use Rattle.lpt_model.specs.LptTable.Tables.{TableState}
-use Rattle.lpt_refinement.proofs.LptJournal.MapLemmas.{get_remove}
+use Rattle.lpt_packet.specs.Names.{Name, same_name}
+use Rattle.lpt_packet.proofs.NameLemmas.{same_name-true}
+use Rattle.lpt_events.specs.Arrivals.{Arrival, NotRead, AnIdle, Foreign, ARequest, AReport, NoPart, APart, AnAbort}
+use Rattle.lpt_events.specs.NamedParts.{NamedPart}
+use Rattle.lpt_events.specs.declared.config.Config.{Config}
+use Rattle.lpt_events.specs.declared.side.Side.{Side}
+use Rattle.lpt_part.specs.declared.reason.Reason.TheVariants as reason
+use Rattle.lpt_ledger.specs.Marks.{Marks, Shut}
+use Rattle.lpt_ledger.specs.States.{state_at}
+use Rattle.lpt_ledger.specs.declared.state.State.{State as Known}
+use Rattle.lpt_ledger.specs.declared.state.State.TheVariants as known
+use Rattle.lpt_node.specs.declared.accepted.Accepted.{Accepted}
+use Rattle.lpt_node.specs.Accepting.{accepted}
+use Rattle.lpt_node.specs.Nodes.{Receiving, NodeData}
+use Rattle.lpt_node.specs.Receivers.{table_in, abort_report, kept_of, parts_with, ended, received_from, if_free, received}
+use Rattle.lpt_node.specs.Receiving.{receiver_of, with_receiver, after_received, abort_head, parted}
+use Rattle.lpt_node.specs.Times.{expired_of}
+use Rattle.lpt_reception.specs.Received.{Parts}
+use Rattle.lpt_table.specs.Offering.{OfferKind, parts_at, is_full, is_open, taken_out, with_entry, offered}
+use Rattle.lpt_table.specs.Offering as offering
+use Rattle.lpt_table.specs.Tables.{TableState}
+use Rattle.lpt_journal.proofs.MapLemmas.{get_remove}
 use Rattle.lpt_apart.specs.Moves.{with_ledger, KnowsLess}
 use Rattle.lpt_apart.proofs.Lessening.{report_less, report_receiving, same_state, less_shut}
 use Rattle.lpt_apart.proofs.Offers.{marks_after, offer_less, offer_ledger, offer_entries, offered_other}
@@ -35,33 +35,33 @@ pub record IsLessAs {A : Type 0} (freed : Name → Bool) (n : NodeData)
   pub marks : Marks
   pub is : ◌≡◌ {A = NodeData × A} less (with_ledger marks whole.0, whole.1)
   pub knows : KnowsLess marks freed whole.0.receiving.ledger
-  pub unheard : (id : Name)
-      → freed id ≡ true
-      → maps.get n.receiving.entries id ≡ None
-      → maps.get whole.0.receiving.entries id ≡ None
+  pub unheard : (name : Name)
+      → freed name ≡ true
+      → maps.get n.receiving.entries name ≡ None
+      → maps.get whole.0.receiving.entries name ≡ None
 
 -- a freed name isn't one that isn't
-other_name : (freed : Name → Bool) (id i : Name)
-    → freed id ≡ false
+other_name : (freed : Name → Bool) (name i : Name)
+    → freed name ≡ false
     → freed i ≡ true
-    → same_name i id ≡ false
-other_name freed id i free gone = go (same_name i id) refl where
-  go : (b : Bool) → same_name i id ≡ b → b ≡ false
+    → same_name i name ≡ false
+other_name freed name i free gone = go (same_name i name) refl where
+  go : (b : Bool) → same_name i name ≡ b → b ≡ false
   go false e = refl
   go true e =
-      absurd (let both : true ≡ false = sym gone ∙ ap freed (same_name-true i id e) ∙ free in cc)
+      absurd (let both : true ≡ false = sym gone ∙ ap freed (same_name-true i name e) ∙ free in cc)
 
-knows_after : (less m : Marks) (freed : Name → Bool) (id : Name) (kind : OfferKind)
+knows_after : (less m : Marks) (freed : Name → Bool) (name : Name) (kind : OfferKind)
     → KnowsLess less freed m
-    → freed id ≡ false
-    → KnowsLess (marks_after kind less id) freed (marks_after kind m id)
-knows_after less m freed id offering.Kept knows free = knows
-knows_after less m freed id offering.Again knows free = knows
-knows_after less m freed id offering.Whole knows free = less_shut less m freed id knows free
-knows_after less m freed id (offering.Conflict why) knows free =
-    less_shut less m freed id knows free
-knows_after less m freed id offering.Gap knows free = less_shut less m freed id knows free
-knows_after less m freed id offering.NoRoom knows free = knows
+    → freed name ≡ false
+    → KnowsLess (marks_after kind less name) freed (marks_after kind m name)
+knows_after less m freed name offering.Kept knows free = knows
+knows_after less m freed name offering.Again knows free = knows
+knows_after less m freed name offering.Whole knows free = less_shut less m freed name knows free
+knows_after less m freed name (offering.Conflict why) knows free =
+    less_shut less m freed name knows free
+knows_after less m freed name offering.Gap knows free = less_shut less m freed name knows free
+knows_after less m freed name offering.NoRoom knows free = knows
 
 module _ (side : Side) (c : Config) (n : NodeData) (q : NamedPart) where
   -- what an offer of the part comes to
@@ -95,17 +95,18 @@ module _ (side : Side) (c : Config) (n : NodeData) (q : NamedPart) where
         (sym (offer_ledger side c n q (abort_head side c n q.name.source) all_parts offer.0
         offer.1.entries))
         (knows_after less n.receiving.ledger freed q.name offer.0 knows free);
-    unheard = λ id gone none.
-        let other : same_name id q.name ≡ false = other_name freed q.name id free gone in
+    unheard = λ name gone none.
+        let other : same_name name q.name ≡ false = other_name freed q.name name free gone in
         offer_entries side c n q (abort_head side c n q.name.source) all_parts offer.0
-        offer.1.entries id other none
-        (offered_other (table_in (receiver_of c n.receiving)) q.name q.number (kept_of q) n.clock id
+        offer.1.entries name other none
+        (offered_other (table_in (receiver_of c n.receiving)) q.name q.number
+        (kept_of q) n.clock name
         other none);
   }
   made_less less freed knows free known.Open =
-      record { marks = less; is = refl; knows = knows; unheard = λ id gone none. none }
+      record { marks = less; is = refl; knows = knows; unheard = λ name gone none. none }
   made_less less freed knows free known.Closed =
-      record { marks = less; is = refl; knows = knows; unheard = λ id gone none. none }
+      record { marks = less; is = refl; knows = knows; unheard = λ name gone none. none }
 
   -- that is what it makes of the part
   pub parted_is : (m : Marks) → parted side c (with_ledger m n) q ≡ made_of m (state_at m q.name)
@@ -132,47 +133,48 @@ pub accepted_less : (side : Side) (c : Config) (less : Marks) (n : NodeData) (a 
     → ((q : NamedPart) → a ≡ APart q → freed q.name ≡ false)
     → IsLessAs freed n (accepted side c (with_ledger less n) a) (accepted side c n a)
 accepted_less side c less n NotRead freed knows new =
-    record { marks = less; is = refl; knows = knows; unheard = λ id gone none. none }
+    record { marks = less; is = refl; knows = knows; unheard = λ name gone none. none }
 accepted_less side c less n AnIdle freed knows new =
-    record { marks = less; is = refl; knows = knows; unheard = λ id gone none. none }
+    record { marks = less; is = refl; knows = knows; unheard = λ name gone none. none }
 accepted_less side c less n Foreign freed knows new =
-    record { marks = less; is = refl; knows = knows; unheard = λ id gone none. none }
+    record { marks = less; is = refl; knows = knows; unheard = λ name gone none. none }
 accepted_less side c less n (ARequest b) freed knows new =
-    record { marks = less; is = refl; knows = knows; unheard = λ id gone none. none }
+    record { marks = less; is = refl; knows = knows; unheard = λ name gone none. none }
 accepted_less side c less n (AReport service subtype) freed knows new =
-    record { marks = less; is = refl; knows = knows; unheard = λ id gone none. none }
+    record { marks = less; is = refl; knows = knows; unheard = λ name gone none. none }
 accepted_less side c less n NoPart freed knows new =
-    record { marks = less; is = refl; knows = knows; unheard = λ id gone none. none }
+    record { marks = less; is = refl; knows = knows; unheard = λ name gone none. none }
 accepted_less side c less n (APart q) freed knows new =
     parted_less side c n q less freed knows (new q refl)
 accepted_less side c less n (AnAbort name why) freed knows new =
-    record { marks = less; is = refl; knows = knows; unheard = λ id gone none. none }
+    record { marks = less; is = refl; knows = knows; unheard = λ name gone none. none }
 
 -- a reception is given up whose name isn't freed
 pub expired_less : (side : Side) (c : Config) (less : Marks) (n : NodeData) (o : Option Name)
     (freed : Name → Bool)
     → KnowsLess less freed n.receiving.ledger
-    → ((id : Name) → o ≡ Some id → freed id ≡ false)
+    → ((name : Name) → o ≡ Some name → freed name ≡ false)
     → IsLessAs freed n (expired_of side c (with_ledger less n) o) (expired_of side c n o)
 expired_less side c less n None freed knows new =
-    record { marks = less; is = refl; knows = knows; unheard = λ id gone none. none }
-expired_less side c less n (Some id) freed knows new =
-    let free : freed id ≡ false = new id refl in
-    let packet : Option (List ℕ) = abort_report (abort_head side c n id.source) id reason.Expired in
-    let ended_node : NodeData = with_receiver n (ended (receiver_of c n.receiving) id) in
+    record { marks = less; is = refl; knows = knows; unheard = λ name gone none. none }
+expired_less side c less n (Some name) freed knows new =
+    let free : freed name ≡ false = new name refl in
+    let packet : Option (List ℕ) =
+    abort_report (abort_head side c n name.source) name reason.Expired in
+    let ended_node : NodeData = with_receiver n (ended (receiver_of c n.receiving) name) in
     record {
-      marks = maps.insert less id Shut;
+      marks = maps.insert less name Shut;
       is =
-          ap (λ (d : NodeData). (d, (expired_of side c n (Some id)).1))
-          (report_less (maps.insert less id Shut) ended_node packet);
+          ap (λ (d : NodeData). (d, (expired_of side c n (Some name)).1))
+          (report_less (maps.insert less name Shut) ended_node packet);
       knows =
-          subst (λ (m : Marks). KnowsLess (maps.insert less id Shut) freed m)
+          subst (λ (m : Marks). KnowsLess (maps.insert less name Shut) freed m)
           (sym (ap (λ (r : Receiving). r.ledger) (report_receiving ended_node packet)))
-          (less_shut less n.receiving.ledger freed id knows free);
+          (less_shut less n.receiving.ledger freed name knows free);
       unheard = λ i gone none.
           ap (λ (r : Receiving). maps.get r.entries i) (report_receiving ended_node packet)
-          ∙ get_remove n.receiving.entries id i
+          ∙ get_remove n.receiving.entries name i
           ∙ ap (λ (b : Bool). if b then None else maps.get n.receiving.entries i)
-          (other_name freed id i free gone)
+          (other_name freed name i free gone)
           ∙ none;
     }

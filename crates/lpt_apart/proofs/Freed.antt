@@ -1,16 +1,16 @@
 -- What holds of two ends of which receivers have freed some names, and what freeing one changes.
 use Rattle.std.proofs.Common.{◌≡◌, ◌∙◌, ap, sym, refl, Bool, true, false, not, ◌&&◌, ◌||◌, if◌then◌else◌, Option, None}
 use Rattle.std.specs.FinMap as maps
-use Rattle.lpt_model.specs.LptPacket.declared.direction.Direction.{Direction}
-use Rattle.lpt_model.specs.LptPacket.declared.direction.Direction.TheVariants.{Up, Down}
-use Rattle.lpt_model.specs.LptPacket.Names.{Name, same_name}
-use Rattle.lpt_model.proofs.LptPacket.NameLemmas.{same_name-true}
-use Rattle.lpt_model.specs.LptMemory.Memories.{Contents}
-use Rattle.lpt_model.specs.LptEvents.declared.config.Config.{Config}
-use Rattle.lpt_model.specs.LptLedger.Marks.{Mark, Marks}
-use Rattle.lpt_model.specs.LptNode.Nodes.{NodeData}
-use Rattle.lpt_refinement.proofs.LptJournal.MapLemmas.{get_remove}
-use Rattle.lpt_refinement.proofs.LptJournal.CountLemmas.{same_name-comm}
+use Rattle.lpt_packet.specs.declared.direction.Direction.{Direction}
+use Rattle.lpt_packet.specs.declared.direction.Direction.TheVariants.{Up, Down}
+use Rattle.lpt_packet.specs.Names.{Name, same_name}
+use Rattle.lpt_packet.proofs.NameLemmas.{same_name-true}
+use Rattle.lpt_memory.specs.Memories.{Contents}
+use Rattle.lpt_events.specs.declared.config.Config.{Config}
+use Rattle.lpt_ledger.specs.Marks.{Mark, Marks}
+use Rattle.lpt_node.specs.Nodes.{NodeData}
+use Rattle.lpt_journal.proofs.MapLemmas.{get_remove}
+use Rattle.lpt_journal.proofs.CountLemmas.{same_name-comm}
 use Rattle.lpt_apart.specs.Ends.{Ends, without}
 use Rattle.lpt_apart.specs.Moves.{with_ledgers, KnowsLess}
 use Rattle.lpt_apart.proofs.Links.{held_without}
@@ -20,7 +20,7 @@ use Rattle.lpt_apart.proofs.Ties.{Follows}
 
 -- no reception of these names is open
 abbrev pub AreUnheard : NodeData → (Name → Bool) → Type 0
-AreUnheard n freed = (id : Name) → freed id ≡ true → maps.get n.receiving.entries id ≡ None
+AreUnheard n freed = (name : Name) → freed name ≡ true → maps.get n.receiving.entries name ≡ None
 
 -- Two ends follow a world, and receivers that know these names know less by the freed ones, of
 -- which no reception is open.
@@ -44,13 +44,13 @@ pub record IsBut (c : Config) (first : Contents) (freed : Direction → Name →
 -- ---- what freeing changes
 
 -- a receiver has freed a name
-pub less_removed : (less m : Marks) (freed : Name → Bool) (id : Name)
+pub less_removed : (less m : Marks) (freed : Name → Bool) (name : Name)
     → KnowsLess less freed m
-    → KnowsLess (maps.remove less id) (λ q. (true && same_name id q) || freed q) m
-less_removed less m freed id knows q =
-    get_remove less id q
-    ∙ (λ i. if same_name-comm q id i then None else knows q i)
-    ∙ go (same_name id q) (freed q) where
+    → KnowsLess (maps.remove less name) (λ q. (true && same_name name q) || freed q) m
+less_removed less m freed name knows q =
+    get_remove less name q
+    ∙ (λ i. if same_name-comm q name i then None else knows q i)
+    ∙ go (same_name name q) (freed q) where
       go : (a b : Bool)
           → (if a then None else (if b then None else maps.get m q))
           ≡ (if ((true && a) || b) then None else maps.get m q)
@@ -58,48 +58,49 @@ less_removed less m freed id knows q =
       go false b = refl
 
 -- a sender has freed a name that its receiver had freed
-pub less_retired : (less m : Marks) (freed : Name → Bool) (id : Name)
-    → freed id ≡ true
+pub less_retired : (less m : Marks) (freed : Name → Bool) (name : Name)
+    → freed name ≡ true
     → KnowsLess less freed m
-    → KnowsLess less (λ q. not (true && same_name id q) && freed q) (maps.remove m id)
-less_retired less m freed id gone knows q =
+    → KnowsLess less (λ q. not (true && same_name name q) && freed q) (maps.remove m name)
+less_retired less m freed name gone knows q =
     knows q
-    ∙ go (same_name id q) refl
-    ∙ sym (ap (λ (o : Option Mark). if (not (true && same_name id q) && freed q) then None else o)
-    (get_remove m id q ∙ ap (λ (b : Bool). if b then None else maps.get m q) (same_name-comm q id)))
+    ∙ go (same_name name q) refl
+    ∙ sym (ap (λ (o : Option Mark). if (not (true && same_name name q) && freed q) then None else o)
+    (get_remove m name q
+    ∙ ap (λ (b : Bool). if b then None else maps.get m q) (same_name-comm q name)))
   where
     go : (a : Bool)
-        → same_name id q ≡ a
+        → same_name name q ≡ a
         → (if freed q then None else maps.get m q)
         ≡ (if (not (true && a) && freed q) then None else (if a then None else maps.get m q))
     go true e =
-        let same : freed q ≡ true = ap freed (sym (same_name-true id q e)) ∙ gone in
+        let same : freed q ≡ true = ap freed (sym (same_name-true name q e)) ∙ gone in
         ap (λ (b : Bool). if b then None else maps.get m q) same
     go false e = refl
 
 -- no reception of a freed name is open
-pub removed_unheard : (n : NodeData) (freed : Name → Bool) (id : Name)
+pub removed_unheard : (n : NodeData) (freed : Name → Bool) (name : Name)
     → AreUnheard n freed
-    → maps.get n.receiving.entries id ≡ None
-    → AreUnheard n (λ q. (true && same_name id q) || freed q)
-removed_unheard n freed id none here q gone = go (same_name id q) refl gone where
+    → maps.get n.receiving.entries name ≡ None
+    → AreUnheard n (λ q. (true && same_name name q) || freed q)
+removed_unheard n freed name none here q gone = go (same_name name q) refl gone where
   go : (a : Bool)
-      → same_name id q ≡ a
+      → same_name name q ≡ a
       → ((true && a) || freed q) ≡ true
       → maps.get n.receiving.entries q ≡ None
-  go true e gone = ap (λ (i : Name). maps.get n.receiving.entries i) (sym (same_name-true id q e))
+  go true e gone = ap (λ (i : Name). maps.get n.receiving.entries i) (sym (same_name-true name q e))
       ∙ here
   go false e gone = none q gone
 
 -- two ends of which a name's parts are handed over no more
 abbrev pub forgetting : Direction → Name → Ends → Ends
-forgetting d id e = record e { on_the_way = without d id e.on_the_way }
+forgetting d name e = record e { on_the_way = without d name e.on_the_way }
 
 -- they follow a world still
-pub forget : (c : Config) (first : Contents) (d : Direction) (id : Name) (e : Ends)
+pub forget : (c : Config) (first : Contents) (d : Direction) (name : Name) (e : Ends)
     → Follows c first e
-    → Follows c first (forgetting d id e)
-forget c first d id e f = record {
+    → Follows c first (forgetting d name e)
+forget c first d name e f = record {
   state = f.state;
   events = f.events;
   tied = record {
@@ -107,9 +108,9 @@ forget c first d id e f = record {
     shown = f.tied.shown;
     hands = f.tied.hands;
     held =
-        held_without f.state.link.packets f.state.link.packets d id e.on_the_way
+        held_without f.state.link.packets f.state.link.packets d name e.on_the_way
         (λ k p there other. there) f.tied.held;
     tells = f.tied.tells;
   };
-  is = ap (λ (y : Ends). record y { on_the_way = without d id e.on_the_way }) f.is;
+  is = ap (λ (y : Ends). record y { on_the_way = without d name e.on_the_way }) f.is;
 }

@@ -2,30 +2,30 @@
 -- these comes.
 use Rattle.std.proofs.Common.{◌≡◌, ◌∙◌, ap, sym, subst, refl, ℕ, Bool, true, false, inl, inr, List, Option, Some, None}
 use Rattle.std.specs.FinMap as maps
-use Rattle.lpt_model.specs.LptPacket.declared.direction.Direction.{Direction}
-use Rattle.lpt_model.specs.LptPacket.declared.direction.Direction.TheVariants.{Up, Down}
-use Rattle.lpt_model.specs.LptPacket.Names.{Name, name_cmp}
-use Rattle.lpt_model.specs.LptMemory.Memories.{Contents, sizes_of}
-use Rattle.lpt_model.specs.LptMemory.Readings.{Job}
-use Rattle.lpt_model.specs.LptEvents.Arrivals.{Arrival, APart, arrival_in}
-use Rattle.lpt_model.specs.LptEvents.Configs.{IsConfig}
-use Rattle.lpt_model.specs.LptEvents.NamedParts.{NamedPart}
-use Rattle.lpt_model.specs.LptEvents.declared.config.Config.{Config}
-use Rattle.lpt_model.specs.LptEvents.declared.side.Side.{Side}
-use Rattle.lpt_model.specs.LptEvents.declared.side.Side.TheVariants.{Ground, Craft}
-use Rattle.lpt_model.specs.LptEvents.declared.worker.Worker.{Worker}
-use Rattle.lpt_model.specs.LptJobs.Jobs.{head_of, unclaimed}
-use Rattle.lpt_model.specs.LptLedger.Marks.{Marks}
-use Rattle.lpt_model.specs.LptNode.declared.accepted.Accepted.{Accepted}
-use Rattle.lpt_model.specs.LptNode.declared.expired.Expired.{Expired}
-use Rattle.lpt_model.specs.LptNode.Jobs.{Execution}
-use Rattle.lpt_model.specs.LptNode.Nodes.{Receiving, NodeData, message_at}
-use Rattle.lpt_model.specs.LptNode.Receivers.{table_in}
-use Rattle.lpt_model.specs.LptNode.Receiving.{receiver_of}
-use Rattle.lpt_model.specs.LptNode.Times.{due}
-use Rattle.lpt_model.specs.LptTable.Deadlines.{IsDue}
-use Rattle.lpt_model.specs.LptTable.Tables.{TableEntry}
-use Rattle.lpt_model.proofs.LptTable.DueLemmas.{due_of_is}
+use Rattle.lpt_packet.specs.declared.direction.Direction.{Direction}
+use Rattle.lpt_packet.specs.declared.direction.Direction.TheVariants.{Up, Down}
+use Rattle.lpt_packet.specs.Names.{Name, name_cmp}
+use Rattle.lpt_memory.specs.Memories.{Contents, sizes_of}
+use Rattle.lpt_memory.specs.Readings.{Job}
+use Rattle.lpt_events.specs.Arrivals.{Arrival, APart, arrival_in}
+use Rattle.lpt_events.specs.Configs.{IsConfig}
+use Rattle.lpt_events.specs.NamedParts.{NamedPart}
+use Rattle.lpt_events.specs.declared.config.Config.{Config}
+use Rattle.lpt_events.specs.declared.side.Side.{Side}
+use Rattle.lpt_events.specs.declared.side.Side.TheVariants.{Ground, Craft}
+use Rattle.lpt_events.specs.declared.worker.Worker.{Worker}
+use Rattle.lpt_jobs.specs.Jobs.{head_of, unclaimed}
+use Rattle.lpt_ledger.specs.Marks.{Marks}
+use Rattle.lpt_node.specs.declared.accepted.Accepted.{Accepted}
+use Rattle.lpt_node.specs.declared.expired.Expired.{Expired}
+use Rattle.lpt_node.specs.Jobs.{Execution}
+use Rattle.lpt_node.specs.Nodes.{Receiving, NodeData, message_at}
+use Rattle.lpt_node.specs.Receivers.{table_in}
+use Rattle.lpt_node.specs.Receiving.{receiver_of}
+use Rattle.lpt_node.specs.Times.{due}
+use Rattle.lpt_table.specs.Deadlines.{IsDue}
+use Rattle.lpt_table.specs.Tables.{TableEntry}
+use Rattle.lpt_table.proofs.DueLemmas.{due_of_is}
 use Rattle.lpt_model.specs.Tickets.{ticket_of}
 use Rattle.lpt_apart.specs.Ends.{Ends}
 use Rattle.lpt_apart.specs.Steps.{Step, Open, Send, Plain, Finish, Accept, Tick, Expire, Claim, Commit, Apply, Retire, Restart, CanHappen, after, sent_on, accepted_on, expired_on, claimed_on, committed_on, executed_on}
@@ -59,25 +59,26 @@ module _ (c : Config) (first : Contents) (good : IsConfig c) (freed : Direction 
       follows = run_on c first good w x l.follows can;
       on_ground = subst (λ (r : Receiving). KnowsLess g (freed Down) r.ledger) (sym rg) l.on_ground;
       on_craft = subst (λ (r : Receiving). KnowsLess k (freed Up) r.ledger) (sym rk) l.on_craft;
-      no_down = λ id gone. ap (λ (r : Receiving). maps.get r.entries id) rg ∙ l.no_down id gone;
-      no_up = λ id gone. ap (λ (r : Receiving). maps.get r.entries id) rk ∙ l.no_up id gone;
+      no_down = λ name gone. ap (λ (r : Receiving). maps.get r.entries name) rg
+          ∙ l.no_down name gone;
+      no_up = λ name gone. ap (λ (r : Receiving). maps.get r.entries name) rk ∙ l.no_up name gone;
     };
     is = is;
   }
 
-  send : (d : Direction) (id : Name) (n : ℕ)
-      → CanHappen c ends (Send d id n)
-      → IsBut c first freed (after c ends (Send d id n))
-  send Up id n can =
-      quiet (Send Up id n) can
-      (ap (λ (x : NodeData × List ℕ). sent_on ends Up id x)
-      (sym (sent_less Ground c g w.on_ground id n (message_at w.on_ground id))))
-      (sent_receiving Ground c w.on_ground id n (message_at w.on_ground id)) refl
-  send Down id n can =
-      quiet (Send Down id n) can
-      (ap (λ (x : NodeData × List ℕ). sent_on ends Down id x)
-      (sym (sent_less Craft c k w.on_craft id n (message_at w.on_craft id))))
-      refl (sent_receiving Craft c w.on_craft id n (message_at w.on_craft id))
+  send : (d : Direction) (name : Name) (n : ℕ)
+      → CanHappen c ends (Send d name n)
+      → IsBut c first freed (after c ends (Send d name n))
+  send Up name n can =
+      quiet (Send Up name n) can
+      (ap (λ (x : NodeData × List ℕ). sent_on ends Up name x)
+      (sym (sent_less Ground c g w.on_ground name n (message_at w.on_ground name))))
+      (sent_receiving Ground c w.on_ground name n (message_at w.on_ground name)) refl
+  send Down name n can =
+      quiet (Send Down name n) can
+      (ap (λ (x : NodeData × List ℕ). sent_on ends Down name x)
+      (sym (sent_less Craft c k w.on_craft name n (message_at w.on_craft name))))
+      refl (sent_receiving Craft c w.on_craft name n (message_at w.on_craft name))
 
   claim : (v : Worker) → CanHappen c ends (Claim v) → IsBut c first freed (after c ends (Claim v))
   claim v can =
@@ -137,7 +138,7 @@ module _ (c : Config) (first : Contents) (good : IsConfig c) (freed : Direction 
       follows = run_on c first good w (Restart Ground) l.follows tt;
       on_ground = l.on_ground;
       on_craft = l.on_craft;
-      no_down = λ id gone. maps.get-empty name_cmp id;
+      no_down = λ name gone. maps.get-empty name_cmp name;
       no_up = l.no_up;
     };
     is = refl;
@@ -151,34 +152,34 @@ module _ (c : Config) (first : Contents) (good : IsConfig c) (freed : Direction 
       on_ground = l.on_ground;
       on_craft = l.on_craft;
       no_down = l.no_down;
-      no_up = λ id gone. maps.get-empty name_cmp id;
+      no_up = λ name gone. maps.get-empty name_cmp name;
     };
     is = refl;
   }
 
   -- a receiver gives up no reception of a freed name
   not_freed : (n : NodeData) (gone : Name → Bool)
-      → ((id : Name) → gone id ≡ true → maps.get n.receiving.entries id ≡ None)
-      → (id : Name)
-      → due c n ≡ Some id
-      → gone id ≡ false
-  not_freed n gone none id is = go (gone id) refl where
+      → ((name : Name) → gone name ≡ true → maps.get n.receiving.entries name ≡ None)
+      → (name : Name)
+      → due c n ≡ Some name
+      → gone name ≡ false
+  not_freed n gone none name is = go (gone name) refl where
     open_one : (o : Option Name)
         → IsDue (table_in (receiver_of c n.receiving)) n.clock o
-        → o ≡ Some id
-        → (x : TableEntry) × (maps.get n.receiving.entries id ≡ Some x)
+        → o ≡ Some name
+        → (x : TableEntry) × (maps.get n.receiving.entries name ≡ Some x)
     open_one None it e = absurd cc
     open_one (Some i) it e =
-        let same : i ≡ id = cc in
+        let same : i ≡ name = cc in
         (it.0, subst (λ (j : Name). maps.get n.receiving.entries j ≡ Some it.0) same it.1.present)
 
-    go : (b : Bool) → gone id ≡ b → b ≡ false
+    go : (b : Bool) → gone name ≡ b → b ≡ false
     go false e = refl
     go true e =
         let there = open_one (due c n) (due_of_is (table_in (receiver_of c n.receiving)) n.clock)
         is
         in
-        absurd (let both : None ≡ Some there.0 = sym (none id e) ∙ there.1 in cc)
+        absurd (let both : None ≡ Some there.0 = sym (none name e) ∙ there.1 in cc)
 
   expire : (side : Side)
       → CanHappen c ends (Expire side)
@@ -194,7 +195,7 @@ module _ (c : Config) (first : Contents) (good : IsConfig c) (freed : Direction 
           follows = run_on c first good w (Expire Ground) l.follows can;
           on_ground = x.knows;
           on_craft = l.on_craft;
-          no_down = λ id gone. x.unheard id gone (l.no_down id gone);
+          no_down = λ name gone. x.unheard name gone (l.no_down name gone);
           no_up = l.no_up;
         };
         is = ap (λ (y : NodeData × Expired). expired_on ends Ground y) (sym x.is);
@@ -211,7 +212,7 @@ module _ (c : Config) (first : Contents) (good : IsConfig c) (freed : Direction 
           on_ground = l.on_ground;
           on_craft = x.knows;
           no_down = l.no_down;
-          no_up = λ id gone. x.unheard id gone (l.no_up id gone);
+          no_up = λ name gone. x.unheard name gone (l.no_up name gone);
         };
         is = ap (λ (y : NodeData × Expired). expired_on ends Craft y) (sym x.is);
       }
@@ -253,7 +254,7 @@ module _ (c : Config) (first : Contents) (good : IsConfig c) (freed : Direction 
           on_ground = l.on_ground;
           on_craft = x.knows;
           no_down = l.no_down;
-          no_up = λ id gone. x.unheard id gone (l.no_up id gone);
+          no_up = λ name gone. x.unheard name gone (l.no_up name gone);
         };
         is = ap (λ (y : NodeData × Accepted). accepted_on ends Up y) (sym x.is);
       }
@@ -268,7 +269,7 @@ module _ (c : Config) (first : Contents) (good : IsConfig c) (freed : Direction 
           follows = run_on c first good w (Accept Down b) l.follows (may_come Down b can);
           on_ground = x.knows;
           on_craft = l.on_craft;
-          no_down = λ id gone. x.unheard id gone (l.no_down id gone);
+          no_down = λ name gone. x.unheard name gone (l.no_down name gone);
           no_up = l.no_up;
         };
         is = ap (λ (y : NodeData × Accepted). accepted_on ends Down y) (sym x.is);
@@ -279,18 +280,18 @@ module _ (c : Config) (first : Contents) (good : IsConfig c) (freed : Direction 
   -- what is handed over is no part of a freed name, and nothing is retired
   abbrev pub IsUsual : Step → Type 0
   IsUsual (Accept d b) = is_stale freed d (arrival_in c d b) ≡ false
-  IsUsual (Retire d id) = ⊥
+  IsUsual (Retire d name) = ⊥
   IsUsual x = Unit {0}
 
   -- two ends that know less do a step
   pub step : (x : Step) → CanHappen c ends x → IsUsual x → IsBut c first freed (after c ends x)
-  step (Open Up id m) can usual = quiet (Open Up id m) can refl refl refl
-  step (Open Down id m) can usual = quiet (Open Down id m) can refl refl refl
-  step (Send d id n) can usual = send d id n can
+  step (Open Up name m) can usual = quiet (Open Up name m) can refl refl refl
+  step (Open Down name m) can usual = quiet (Open Down name m) can refl refl refl
+  step (Send d name n) can usual = send d name n can
   step (Plain source flags service subtype body) can usual =
       quiet (Plain source flags service subtype body) can refl refl refl
-  step (Finish Up id) can usual = quiet (Finish Up id) can refl refl refl
-  step (Finish Down id) can usual = quiet (Finish Down id) can refl refl refl
+  step (Finish Up name) can usual = quiet (Finish Up name) can refl refl refl
+  step (Finish Down name) can usual = quiet (Finish Down name) can refl refl refl
   step (Accept d b) can usual = accept d b can usual
   step (Tick Ground) can usual = quiet (Tick Ground) can refl refl refl
   step (Tick Craft) can usual = quiet (Tick Craft) can refl refl refl
@@ -298,5 +299,5 @@ module _ (c : Config) (first : Contents) (good : IsConfig c) (freed : Direction 
   step (Claim v) can usual = claim v can
   step (Commit v) can usual = commit v can
   step Apply can usual = apply can
-  step (Retire d id) can usual = absurd usual
+  step (Retire d name) can usual = absurd usual
   step (Restart side) can usual = restart side can

@@ -2,18 +2,19 @@
 use Rattle.std.proofs.Common.{◌≡◌, ◌∙◌, ap, sym, subst, refl, ℕ, zero, suc, ◌==◌, Bool, true, false, not, ◌&&◌, ◌||◌, ◌⊎◌, inl, inr, if◌then◌else◌, List, [], ◌∷◌, Option, Some, None}
 use Rattle.std.specs.Option.{option_map, option_map_or, option_and_then, option_eq}
 use Rattle.std.specs.Prelude.{slice_get, cond}
-use Rattle.lpt_model.specs.LptPacket.declared.direction.Direction.{Direction}
-use Rattle.lpt_model.specs.LptPacket.Names.{Name, same_name}
-use Rattle.lpt_model.specs.LptEvents.Arrivals.{NotRead, arrival_in}
-use Rattle.lpt_model.specs.LptEvents.Lanes.{same_direction}
-use Rattle.lpt_model.specs.LptEvents.declared.config.Config.{Config}
-use Rattle.lpt_model.specs.LptEvents.declared.lane.Lane.{Lane}
-use Rattle.lpt_model.specs.LptEvents.declared.lane.Lane.TheVariants.{S1, S2, G1, G2}
-use Rattle.lpt_model.specs.LptLink.declared.packet.LinkPacket.{LinkPacket}
-use Rattle.lpt_model.specs.LptLink.Links.{LinkData, is_of, hand_of, hand_has, any_held, any_in_hand, holds, is_held, after_put, after_lose, after_take, after_drop}
+use Rattle.lpt_packet.specs.declared.direction.Direction.{Direction}
+use Rattle.lpt_packet.specs.Names.{Name, same_name}
+use Rattle.lpt_events.specs.Arrivals.{NotRead, arrival_in}
+use Rattle.lpt_events.specs.Lanes.{same_direction}
+use Rattle.lpt_events.specs.declared.config.Config.{Config}
+use Rattle.lpt_events.specs.declared.lane.Lane.{Lane}
+use Rattle.lpt_events.specs.declared.lane.Lane.TheVariants.{S1, S2, G1, G2}
+use Rattle.lpt_link.specs.declared.packet.LinkPacket.{LinkPacket}
+use Rattle.lpt_link.specs.Links.{LinkData, is_of, hand_of, hand_has, any_held, any_in_hand, holds, is_held, after_put, after_lose, after_take, after_drop}
 use Rattle.lpt_model.specs.State.{put_all}
-use Rattle.lpt_refinement.proofs.LptJournal.Events.{only_element}
-use Rattle.lpt_refinement.proofs.LptJournal.TestLemmas.{IsOldOrNew, with_all_cases, or_false_l, or_false_r}
+use Rattle.lpt_journal.proofs.Events.{only_element}
+use Rattle.lpt_journal.proofs.TestLemmas.{IsOldOrNew, with_all_cases}
+use Rattle.lpt_packet.proofs.BoolLemmas.{or_false_left, or_false_right}
 use Rattle.lpt_apart.specs.Ends.{PutOut, put_out, is_part, without}
 use Rattle.lpt_apart.proofs.Links.{unheld, get_lost}
 use Rattle.lpt_apart.proofs.Silence.{none_there}
@@ -174,68 +175,69 @@ had_dropped c v ways l all n p at (inr hand) =
 
 -- ---- retiring
 
-out_without : (d : Direction) (id : Name) (ways : List PutOut) (e : Direction) (tag : Option Name)
+out_without : (d : Direction) (name : Name) (ways : List PutOut) (e : Direction) (tag : Option Name)
     (b : List ℕ)
-    → (same_direction e d && option_eq same_name tag (Some id)) ≡ false
+    → (same_direction e d && option_eq same_name tag (Some name)) ≡ false
     → IsOut ways e tag b
-    → IsOut (without d id ways) e tag b
-out_without d id [] e tag b other out = out
-out_without d id (q ∷ qs) e tag b other out =
-    go (λ behind. out_without d id qs e tag b other behind) (is_part d id q) refl out where
-      go : (IsOut qs e tag b → IsOut (without d id qs) e tag b)
+    → IsOut (without d name ways) e tag b
+out_without d name [] e tag b other out = out
+out_without d name (q ∷ qs) e tag b other out =
+    go (λ behind. out_without d name qs e tag b other behind) (is_part d name q) refl out where
+      go : (IsOut qs e tag b → IsOut (without d name qs) e tag b)
           → (t : Bool)
-          → is_part d id q ≡ t
+          → is_part d name q ≡ t
           → IsOut (q ∷ qs) e tag b
-          → IsOut (cond (not t) (q ∷ without d id qs) (without d id qs)) e tag b
+          → IsOut (cond (not t) (q ∷ without d name qs) (without d name qs)) e tag b
       go rest true is (inl it) =
           absurd (let both : true ≡ false =
           sym is ∙ (λ i. same_direction (it.direction i) d
-          && option_eq same_name (it.part i) (Some id))
+          && option_eq same_name (it.part i) (Some name))
           ∙ other in cc)
       go rest true is (inr out) = rest out
       go rest false is (inl it) = inl it
       go rest false is (inr out) = inr (rest out)
 
-in_no_hand : (v : LinkData) (d : Direction) (id : Name) (l : Lane)
-    → any_in_hand v d id ≡ false
-    → hand_has v d id l ≡ false
-in_no_hand v d id l none = go l where
-  s2 : (hand_has v d id S2 || (hand_has v d id G1 || (hand_has v d id G2 || false))) ≡ false
-  s2 = or_false_r (hand_has v d id S1) _ none
+in_no_hand : (v : LinkData) (d : Direction) (name : Name) (l : Lane)
+    → any_in_hand v d name ≡ false
+    → hand_has v d name l ≡ false
+in_no_hand v d name l none = go l where
+  s2 : (hand_has v d name S2 || (hand_has v d name G1 || (hand_has v d name G2 || false))) ≡ false
+  s2 = or_false_right (hand_has v d name S1) _ none
 
-  g1 : (hand_has v d id G1 || (hand_has v d id G2 || false)) ≡ false
-  g1 = or_false_r (hand_has v d id S2) _ s2
+  g1 : (hand_has v d name G1 || (hand_has v d name G2 || false)) ≡ false
+  g1 = or_false_right (hand_has v d name S2) _ s2
 
-  go : (l : Lane) → hand_has v d id l ≡ false
-  go S1 = or_false_l (hand_has v d id S1) _ none
-  go S2 = or_false_l (hand_has v d id S2) _ s2
-  go G1 = or_false_l (hand_has v d id G1) _ g1
-  go G2 = or_false_l (hand_has v d id G2) _ (or_false_r (hand_has v d id G1) _ g1)
+  go : (l : Lane) → hand_has v d name l ≡ false
+  go S1 = or_false_left (hand_has v d name S1) _ none
+  go S2 = or_false_left (hand_has v d name S2) _ s2
+  go G1 = or_false_left (hand_has v d name G1) _ g1
+  go G2 = or_false_left (hand_has v d name G2) _ (or_false_right (hand_has v d name G1) _ g1)
 
 -- what is live is no part of a transaction of which the link and the lanes have none
-not_of : (v : LinkData) (d : Direction) (id : Name) (n : ℕ) (p : LinkPacket)
-    → holds v d id ≡ false
+not_of : (v : LinkData) (d : Direction) (name : Name) (n : ℕ) (p : LinkPacket)
+    → holds v d name ≡ false
     → slice_get v.packets n ≡ Some p
     → IsLive v n p
-    → is_of d id p ≡ false
-not_of v d id n p none at (inl held) =
-    (λ i. sym held i && is_of d id p)
-    ∙ none_there (λ p. p.held && is_of d id p) v.packets n p
-    (or_false_l (any_held v d id) (any_in_hand v d id) none) at
-not_of v d id n p none at (inr hand) =
-    ap (λ (o : Option LinkPacket). option_map_or (is_of d id) o false) (sym at)
-    ∙ ap (λ (o : Option ℕ). option_map_or (is_of d id) (option_and_then (slice_get v.packets) o)
+    → is_of d name p ≡ false
+not_of v d name n p none at (inl held) =
+    (λ i. sym held i && is_of d name p)
+    ∙ none_there (λ p. p.held && is_of d name p) v.packets n p
+    (or_false_left (any_held v d name) (any_in_hand v d name) none) at
+not_of v d name n p none at (inr hand) =
+    ap (λ (o : Option LinkPacket). option_map_or (is_of d name) o false) (sym at)
+    ∙ ap (λ (o : Option ℕ). option_map_or (is_of d name) (option_and_then (slice_get v.packets) o)
     false)
     (sym hand.1)
-    ∙ in_no_hand v d id hand.0 (or_false_r (any_held v d id) (any_in_hand v d id) none)
+    ∙ in_no_hand v d name hand.0 (or_false_right (any_held v d name) (any_in_hand v d name) none)
 
 -- where nothing is left of a transaction, all that is had is had without its parts
-pub had_retired : (c : Config) (v : LinkData) (ways : List PutOut) (d : Direction) (id : Name)
-    → holds v d id ≡ false
+pub had_retired : (c : Config) (v : LinkData) (ways : List PutOut) (d : Direction) (name : Name)
+    → holds v d name ≡ false
     → AllHad c v ways
-    → AllHad c v (without d id ways)
-had_retired c v ways d id none all n p at live = go (all n p at live) where
-  go : IsHad c ways p → IsHad c (without d id ways) p
+    → AllHad c v (without d name ways)
+had_retired c v ways d name none all n p at live = go (all n p at live) where
+  go : IsHad c ways p → IsHad c (without d name ways) p
   go (inl out) =
-      inl (out_without d id ways p.direction p.tag p.octets (not_of v d id n p none at live) out)
+      inl (out_without d name ways p.direction p.tag p.octets
+      (not_of v d name n p none at live) out)
   go (inr unread) = inr unread

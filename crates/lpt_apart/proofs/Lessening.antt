@@ -2,41 +2,40 @@
 -- where its receiver has freed some names.
 use Rattle.std.proofs.Common.{◌≡◌, ◌∙◌, ap, sym, refl, ℕ, Bool, true, false, ◌==◌, if◌then◌else◌, List, Option, Some, None}
 use Rattle.std.specs.FinMap as maps
-use Rattle.lpt_model.specs.LptPacket.Names.{Name, same_name}
-use Rattle.lpt_model.proofs.LptPacket.NameLemmas.{same_name-true}
-use Rattle.lpt_model.specs.LptMemory.Memories.{Contents, effect}
-use Rattle.lpt_model.specs.LptMemory.Readings.{Source, meant}
-use Rattle.lpt_model.specs.LptEvents.declared.config.Config.{Config}
-use Rattle.lpt_model.specs.LptEvents.declared.side.Side.{Side}
-use Rattle.lpt_model.specs.LptJobs.Jobs.{Head, NoJob, NotReady, Ready, after_commit}
-use Rattle.lpt_model.specs.LptLedger.Marks.{Mark, Marks, Shut}
-use Rattle.lpt_model.specs.LptLedger.States.{state_of, state_at}
-use Rattle.lpt_model.specs.LptExecution.declared.ending.Ending.{Ending}
-use Rattle.lpt_model.specs.LptExecution.declared.ending.Report.{Report}
-use Rattle.lpt_model.specs.LptExecution.Reporting.{message_reports, request_source, large_packets, opened_of}
-use Rattle.lpt_model.specs.LptLedger.LeastFree.{least_free_in}
-use Rattle.lpt_model.specs.LptNode.Jobs.{Execution, claimed_of, committed, ending_at, report_packets, executed_with, executed_of}
-use Rattle.lpt_model.specs.LptNode.Nodes.{NodeData}
-use Rattle.lpt_model.specs.LptNode.Receiving.{with_report}
-use Rattle.lpt_model.specs.LptNode.Sending.{sent_of}
-use Rattle.lpt_model.specs.LptMemory.Readings.{Job}
-use Rattle.lpt_refinement.proofs.LptJournal.MapLemmas.{get_insert}
+use Rattle.lpt_packet.specs.Names.{Name, same_name}
+use Rattle.lpt_packet.proofs.NameLemmas.{same_name-true}
+use Rattle.lpt_memory.specs.Memories.{Contents, effect}
+use Rattle.lpt_memory.specs.Readings.{Source, meant, Job}
+use Rattle.lpt_events.specs.declared.config.Config.{Config}
+use Rattle.lpt_events.specs.declared.side.Side.{Side}
+use Rattle.lpt_jobs.specs.Jobs.{Head, NoJob, NotReady, Ready, after_commit}
+use Rattle.lpt_ledger.specs.Marks.{Mark, Marks, Shut}
+use Rattle.lpt_ledger.specs.States.{state_of, state_at}
+use Rattle.lpt_execution.specs.declared.ending.Ending.{Ending}
+use Rattle.lpt_execution.specs.declared.ending.Report.{Report}
+use Rattle.lpt_execution.specs.Reporting.{message_reports, request_source, large_packets, opened_of}
+use Rattle.lpt_ledger.specs.LeastFree.{least_free_in}
+use Rattle.lpt_node.specs.Jobs.{Execution, claimed_of, committed, ending_at, report_packets, executed_with, executed_of}
+use Rattle.lpt_node.specs.Nodes.{NodeData}
+use Rattle.lpt_node.specs.Receiving.{with_report}
+use Rattle.lpt_node.specs.Sending.{sent_of}
+use Rattle.lpt_journal.proofs.MapLemmas.{get_insert}
 use Rattle.lpt_apart.specs.Moves.{with_ledger, KnowsLess}
 
 -- ---- what doesn't look at the names that a receiver knows
 
-pub sent_less : (side : Side) (c : Config) (m : Marks) (n : NodeData) (id : Name) (k : ℕ)
+pub sent_less : (side : Side) (c : Config) (m : Marks) (n : NodeData) (name : Name) (k : ℕ)
     (o : Option (List ℕ))
-    → ◌≡◌ {A = NodeData × List ℕ} (sent_of side c (with_ledger m n) id k o)
-    (with_ledger m (sent_of side c n id k o).0, (sent_of side c n id k o).1)
-sent_less side c m n id k None = refl
-sent_less side c m n id k (Some x) = refl
+    → ◌≡◌ {A = NodeData × List ℕ} (sent_of side c (with_ledger m n) name k o)
+    (with_ledger m (sent_of side c n name k o).0, (sent_of side c n name k o).1)
+sent_less side c m n name k None = refl
+sent_less side c m n name k (Some x) = refl
 
-pub sent_receiving : (side : Side) (c : Config) (n : NodeData) (id : Name) (k : ℕ)
+pub sent_receiving : (side : Side) (c : Config) (n : NodeData) (name : Name) (k : ℕ)
     (o : Option (List ℕ))
-    → (sent_of side c n id k o).0.receiving ≡ n.receiving
-sent_receiving side c n id k None = refl
-sent_receiving side c n id k (Some x) = refl
+    → (sent_of side c n name k o).0.receiving ≡ n.receiving
+sent_receiving side c n name k None = refl
+sent_receiving side c n name k (Some x) = refl
 
 pub claimed_less : (m : Marks) (n : NodeData) (o : Option (ℕ × List ℕ))
     → ◌≡◌ {A = NodeData × Job} (claimed_of (with_ledger m n) o)
@@ -137,27 +136,27 @@ report_ledger n None = refl
 report_ledger n (Some b) = refl
 
 -- a name that isn't freed is as the receiver knows it
-pub same_state : (less m : Marks) (freed : Name → Bool) (id : Name)
+pub same_state : (less m : Marks) (freed : Name → Bool) (name : Name)
     → KnowsLess less freed m
-    → freed id ≡ false
-    → state_at less id ≡ state_at m id
-same_state less m freed id knows free =
-    ap state_of (knows id ∙ ap (λ (b : Bool). if b then None else maps.get m id) free)
+    → freed name ≡ false
+    → state_at less name ≡ state_at m name
+same_state less m freed name knows free =
+    ap state_of (knows name ∙ ap (λ (b : Bool). if b then None else maps.get m name) free)
 
 -- the receiver closes a name that isn't freed
-pub less_shut : (less m : Marks) (freed : Name → Bool) (id : Name)
+pub less_shut : (less m : Marks) (freed : Name → Bool) (name : Name)
     → KnowsLess less freed m
-    → freed id ≡ false
-    → KnowsLess (maps.insert less id Shut) freed (maps.insert m id Shut)
-less_shut less m freed id knows free q =
-    get_insert less id Shut q
-    ∙ go (same_name q id) refl
-    ∙ sym (ap (λ (o : Option Mark). if freed q then None else o) (get_insert m id Shut q)) where
+    → freed name ≡ false
+    → KnowsLess (maps.insert less name Shut) freed (maps.insert m name Shut)
+less_shut less m freed name knows free q =
+    get_insert less name Shut q
+    ∙ go (same_name q name) refl
+    ∙ sym (ap (λ (o : Option Mark). if freed q then None else o) (get_insert m name Shut q)) where
       go : (b : Bool)
-          → same_name q id ≡ b
+          → same_name q name ≡ b
           → (if b then Some Shut else maps.get less q)
           ≡ (if freed q then None else (if b then Some Shut else maps.get m q))
       go true e =
-          let same : freed q ≡ false = ap freed (same_name-true q id e) ∙ free in
+          let same : freed q ≡ false = ap freed (same_name-true q name e) ∙ free in
           sym (ap (λ (t : Bool). if t then None else Some Shut) same)
       go false e = knows q

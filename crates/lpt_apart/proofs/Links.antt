@@ -1,16 +1,16 @@
 -- What may be handed over is held on the link: what is put stays held until it is lost.
-use Rattle.std.proofs.Common.{◌≡◌, ◌∙◌, ap, sym, subst, refl, ℕ, zero, suc, ◌==◌, Bool, true, false, ◌&&◌, if◌then◌else◌, List, [], ◌∷◌, ◌++◌, length, Option, Some, None, arith}
+use Rattle.std.proofs.Common.{◌≡◌, ◌∙◌, ap, sym, subst, refl, ℕ, zero, suc, ◌==◌, Bool, true, false, ◌&&◌, if◌then◌else◌, List, [], ◌∷◌, ◌++◌, length, Option, Some, None}
 use Rattle.std.specs.Option.{option_map, option_eq}
 use Rattle.std.specs.Prelude.{slice_get, not, cond}
-use Rattle.std.proofs.lemmas.Bool.Decides.{nat_tests}
-use Rattle.lpt_model.specs.LptPacket.declared.direction.Direction.{Direction}
-use Rattle.lpt_model.specs.LptPacket.Names.{Name, same_name}
-use Rattle.lpt_model.specs.LptEvents.Lanes.{same_direction}
-use Rattle.lpt_model.specs.LptEvents.declared.lane.Lane.{Lane}
-use Rattle.lpt_model.specs.LptLink.declared.packet.LinkPacket.{LinkPacket}
-use Rattle.lpt_model.specs.LptLink.Links.{LinkData, hand_of, is_of, after_put, with_lost}
+use Rattle.lpt_packet.specs.declared.direction.Direction.{Direction}
+use Rattle.lpt_packet.specs.Names.{Name, same_name}
+use Rattle.lpt_events.specs.Lanes.{same_direction}
+use Rattle.lpt_events.specs.declared.lane.Lane.{Lane}
+use Rattle.lpt_link.specs.declared.packet.LinkPacket.{LinkPacket}
+use Rattle.lpt_link.specs.Links.{LinkData, hand_of, is_of, after_put, with_lost}
 use Rattle.lpt_model.specs.State.{put_all}
 use Rattle.lpt_apart.specs.Ends.{PutOut, put_out, is_part, without}
+use Rattle.lpt_packet.proofs.BoolLemmas.{same_suc, suc_zero, zero_suc}
 
 -- ---- held
 
@@ -102,15 +102,6 @@ put_hands v d tag (b ∷ bs) l = put_hands (after_put v d tag b) d tag bs l
 abbrev pub unheld : LinkPacket → LinkPacket
 unheld p = record p { held = false }
 
-zero_suc : (n : ℕ) → (zero == suc n) ≡ false
-zero_suc n = grind (arith, nat_tests)
-
-suc_zero : (n : ℕ) → (suc n == zero) ≡ false
-suc_zero n = grind (arith, nat_tests)
-
-same_suc : (a b : ℕ) → (suc a == suc b) ≡ (a == b)
-same_suc a b = grind (arith, nat_tests)
-
 -- the packet of a number is lost, and the others are as they were
 pub get_lost : (xs : List LinkPacket) (n k : ℕ)
     → slice_get (with_lost xs n) k
@@ -129,39 +120,34 @@ get_lost (p ∷ xs) (suc n) (suc k) =
     ∙ sym (ap (λ t. if t then option_map unheld (slice_get xs k) else slice_get xs k)
     (same_suc k n))
 
-pub length_lost : (xs : List LinkPacket) (n : ℕ) → length (with_lost xs n) ≡ length xs
-length_lost [] n = refl
-length_lost (p ∷ xs) zero = refl
-length_lost (p ∷ xs) (suc n) = ap (λ k. suc k) (length_lost xs n)
-
 -- ---- retiring
 
 -- a packet that is held as one that was put out is a part where that is one
 pub of_as : (packets : List LinkPacket) (p : PutOut) (h : IsHeldAs packets p) (d : Direction)
-    (id : Name)
-    → is_of d id h.packet ≡ is_part d id p
-of_as packets p h d id i =
-    same_direction (h.direction i) d && option_eq same_name (h.tag i) (Some id)
+    (name : Name)
+    → is_of d name h.packet ≡ is_part d name p
+of_as packets p h d name i =
+    same_direction (h.direction i) d && option_eq same_name (h.tag i) (Some name)
 
 -- what was put out and is no part of a transaction is held still where no other packet was lost
-pub held_without : (old new : List LinkPacket) (d : Direction) (id : Name) (ps : List PutOut)
-    → ((k : ℕ) (p : LinkPacket) → slice_get old k ≡ Some p → is_of d id p ≡ false
+pub held_without : (old new : List LinkPacket) (d : Direction) (name : Name) (ps : List PutOut)
+    → ((k : ℕ) (p : LinkPacket) → slice_get old k ≡ Some p → is_of d name p ≡ false
     → slice_get new k ≡ Some p)
     → AllHeld old ps
-    → AllHeld new (without d id ps)
-held_without old new d id [] kept all = tt
-held_without old new d id (p ∷ ps) kept all =
-    go (is_part d id p) refl (held_without old new d id ps kept all.1) where
+    → AllHeld new (without d name ps)
+held_without old new d name [] kept all = tt
+held_without old new d name (p ∷ ps) kept all =
+    go (is_part d name p) refl (held_without old new d name ps kept all.1) where
       go : (t : Bool)
-          → is_part d id p ≡ t
-          → AllHeld new (without d id ps)
-          → AllHeld new (cond (not t) (p ∷ without d id ps) (without d id ps))
+          → is_part d name p ≡ t
+          → AllHeld new (without d name ps)
+          → AllHeld new (cond (not t) (p ∷ without d name ps) (without d name ps))
       go true e rest = rest
       go false e rest = (
         record {
           number = all.0.number;
           packet = all.0.packet;
-          there = kept all.0.number all.0.packet all.0.there (of_as old p all.0 d id ∙ e);
+          there = kept all.0.number all.0.packet all.0.there (of_as old p all.0 d name ∙ e);
           held = all.0.held;
           direction = all.0.direction;
           tag = all.0.tag;

@@ -1,13 +1,13 @@
 -- What a world's lists of openings and releases grew by is what the log says, and what it answers.
 use Rattle.std.proofs.Common.{◌≡◌, ◌∙◌, ap, sym, refl, ℕ, List, [], ◌∷◌, ◌++◌, Option, Some, None}
-use Rattle.lpt_model.specs.LptPacket.declared.direction.Direction.{Direction}
-use Rattle.lpt_model.specs.LptPacket.Names.{Name}
-use Rattle.lpt_model.specs.LptEvents.declared.entry.Opening.{Opening}
-use Rattle.lpt_model.specs.LptEvents.declared.entry.Release.{Release}
-use Rattle.lpt_model.specs.LptEvents.declared.outcome.Outcome.{Outcome}
-use Rattle.lpt_model.specs.LptEvents.declared.reply.Answer.{Answer}
+use Rattle.lpt_packet.specs.declared.direction.Direction.{Direction}
+use Rattle.lpt_packet.specs.Names.{Name}
+use Rattle.lpt_events.specs.declared.entry.Opening.{Opening}
+use Rattle.lpt_events.specs.declared.entry.Release.{Release}
+use Rattle.lpt_events.specs.declared.outcome.Outcome.{Outcome}
+use Rattle.lpt_events.specs.declared.reply.Answer.{Answer}
 use Rattle.lpt_model.specs.State.{add_opening, add_release, released_of, put_some}
-use Rattle.lpt_refinement.specs.LptJournal.Journal.{with_all}
+use Rattle.lpt_journal.specs.Journal.{with_all}
 use Rattle.lpt_refinement.proofs.LinkShown.{with_all-append}
 use Rattle.lpt_apart.specs.Facts.{Log}
 use Rattle.lpt_apart.specs.Steps.{with_release, with_report}

@@ -3,34 +3,36 @@ use Rattle.std.proofs.Common.{◌≡◌, ◌∙◌, ap, sym, refl, ℕ, zero, su
 use Rattle.std.specs.Option.{option_map, option_map_or}
 use Rattle.std.specs.Prelude.{slice_get}
 use Rattle.std.proofs.lemmas.Bool.Decides.{nat_tests}
-use Rattle.lpt_model.specs.LptPacket.declared.direction.Direction.{Direction}
-use Rattle.lpt_model.specs.LptPacket.Names.{Name}
-use Rattle.lpt_model.specs.LptMemory.Memories.{Contents}
-use Rattle.lpt_model.specs.LptEvents.Configs.{IsConfig}
-use Rattle.lpt_model.specs.LptEvents.declared.config.Config.{Config}
-use Rattle.lpt_model.specs.LptEvents.declared.event.Event.{Event}
-use Rattle.lpt_model.specs.LptEvents.declared.event.Event.TheVariants.{Lose}
-use Rattle.lpt_model.specs.LptEvents.declared.lane.Lane.{Lane}
-use Rattle.lpt_model.specs.LptLink.declared.fault.LinkFault.TheVariants.{NotHeld}
-use Rattle.lpt_model.specs.LptLink.declared.packet.LinkPacket.{LinkPacket}
-use Rattle.lpt_model.specs.LptLink.Links.{LinkData, is_of, is_held, hand_of, with_lost, after_lose}
+use Rattle.lpt_packet.specs.declared.direction.Direction.{Direction}
+use Rattle.lpt_packet.specs.Names.{Name}
+use Rattle.lpt_memory.specs.Memories.{Contents}
+use Rattle.lpt_events.specs.Configs.{IsConfig}
+use Rattle.lpt_events.specs.declared.config.Config.{Config}
+use Rattle.lpt_events.specs.declared.event.Event.{Event}
+use Rattle.lpt_events.specs.declared.event.Event.TheVariants.{Lose}
+use Rattle.lpt_events.specs.declared.lane.Lane.{Lane}
+use Rattle.lpt_link.specs.declared.fault.LinkFault.TheVariants.{NotHeld}
+use Rattle.lpt_link.specs.declared.packet.LinkPacket.{LinkPacket}
+use Rattle.lpt_link.specs.Links.{LinkData, is_of, is_held, hand_of, with_lost, after_lose}
 use Rattle.lpt_model.specs.State.{State, link_fault, refusal_of}
 use Rattle.lpt_refinement.specs.Shows.{Shows}
 use Rattle.lpt_refinement.specs.Views.{views}
-use Rattle.lpt_refinement.specs.LptJournal.Legal.{Legal}
-use Rattle.lpt_refinement.specs.LptJournal.Replies.{recorded}
+use Rattle.lpt_journal.specs.Legal.{Legal}
+use Rattle.lpt_journal.specs.Replies.{recorded}
 use Rattle.lpt_apart.specs.Told.{told}
-use Rattle.lpt_apart.proofs.Links.{unheld, get_lost, length_lost}
+use Rattle.lpt_apart.proofs.Links.{unheld, get_lost}
+use Rattle.lpt_link.proofs.PacketLists.{length-with_lost}
 use Rattle.lpt_apart.proofs.Ties.{longer}
+use Rattle.lpt_packet.proofs.Readings.{true_eq}
 
 -- whether a packet is a held part of a transaction
 abbrev pub is_held_part : Direction → Name → LinkPacket → Bool
-is_held_part d id p = p.held && is_of d id p
+is_held_part d name p = p.held && is_of d name p
 
 -- The held parts of a transaction below a number were lost after these events: the link is this,
 -- and no other packet has changed.
 pub record WereLost (c : Config) (first : Contents) (s : State) (es : List Event) (d : Direction)
-    (id : Name) (n : ℕ) : Type 0 where
+    (name : Name) (n : ℕ) : Type 0 where
   pub link : LinkData
   pub events : List Event
   pub legal : Legal c first events
@@ -38,29 +40,29 @@ pub record WereLost (c : Config) (first : Contents) (s : State) (es : List Event
   pub hands : (l : Lane) → hand_of link l ≡ hand_of s.link l
   pub clear : (k : ℕ)
       → k < n
-      → option_map_or (is_held_part d id) (slice_get link.packets k) false ≡ false
+      → option_map_or (is_held_part d name) (slice_get link.packets k) false ≡ false
   pub kept : (k : ℕ) (p : LinkPacket)
       → slice_get s.link.packets k ≡ Some p
-      → is_of d id p ≡ false
+      → is_of d name p ≡ false
       → slice_get link.packets k ≡ Some p
   pub many : length link.packets ≡ length s.link.packets
   pub tells : told c (recorded c first events) ≡ told c (recorded c first es)
 
 -- ---- one packet
 
-held_is : (d : Direction) (id : Name) (o : Option LinkPacket)
-    → option_map_or (is_held_part d id) o false ≡ true
+held_is : (d : Direction) (name : Name) (o : Option LinkPacket)
+    → option_map_or (is_held_part d name) o false ≡ true
     → option_map_or (λ p. p.held) o false ≡ true
-held_is d id None e = absurd cc
-held_is d id (Some p) e = left p.held (is_of d id p) e where
+held_is d name None e = absurd cc
+held_is d name (Some p) e = left p.held (is_of d name p) e where
   left : (a b : Bool) → (a && b) ≡ true → a ≡ true
   left true b e = refl
   left false b e = absurd cc
 
-unheld_fails : (d : Direction) (id : Name) (o : Option LinkPacket)
-    → option_map_or (is_held_part d id) (option_map unheld o) false ≡ false
-unheld_fails d id None = refl
-unheld_fails d id (Some p) = refl
+unheld_fails : (d : Direction) (name : Name) (o : Option LinkPacket)
+    → option_map_or (is_held_part d name) (option_map unheld o) false ≡ false
+unheld_fails d name None = refl
+unheld_fails d name (Some p) = refl
 
 and_false : (a b : Bool) → b ≡ false → (a && b) ≡ false
 and_false true b e = e
@@ -69,83 +71,82 @@ and_false false b e = refl
 below_or_at : (k n : ℕ) → k < suc n → (k == n) ≡ false → k < n
 below_or_at k n below e = grind (arith, nat_tests)
 
-is_at : (k n : ℕ) → (k == n) ≡ true → k ≡ n
-is_at k n e = grind (arith, nat_tests)
-
 -- no number below the next holds a part where none below this does and it was lost
-clear_on : (d : Direction) (id : Name) (ps : List LinkPacket) (n : ℕ)
-    → ((k : ℕ) → k < n → option_map_or (is_held_part d id) (slice_get ps k) false ≡ false)
+clear_on : (d : Direction) (name : Name) (ps : List LinkPacket) (n : ℕ)
+    → ((k : ℕ) → k < n → option_map_or (is_held_part d name) (slice_get ps k) false ≡ false)
     → (k : ℕ)
     → k < suc n
-    → option_map_or (is_held_part d id) (slice_get (with_lost ps n) k) false ≡ false
-clear_on d id ps n clear k below =
-    ap (λ (o : Option LinkPacket). option_map_or (is_held_part d id) o false) (get_lost ps n k)
+    → option_map_or (is_held_part d name) (slice_get (with_lost ps n) k) false ≡ false
+clear_on d name ps n clear k below =
+    ap (λ (o : Option LinkPacket). option_map_or (is_held_part d name) o false) (get_lost ps n k)
     ∙ go (k == n) refl where
       go : (t : Bool)
           → (k == n) ≡ t
-          → option_map_or (is_held_part d id)
+          → option_map_or (is_held_part d name)
           (if t then option_map unheld (slice_get ps k) else slice_get ps k) false
           ≡ false
-      go true e = unheld_fails d id (slice_get ps k)
+      go true e = unheld_fails d name (slice_get ps k)
       go false e = clear k (below_or_at k n below e)
 
 -- no number below the next holds a part where none below this does, and it holds none
-clear_at : (d : Direction) (id : Name) (ps : List LinkPacket) (n : ℕ)
-    → ((k : ℕ) → k < n → option_map_or (is_held_part d id) (slice_get ps k) false ≡ false)
-    → option_map_or (is_held_part d id) (slice_get ps n) false ≡ false
+clear_at : (d : Direction) (name : Name) (ps : List LinkPacket) (n : ℕ)
+    → ((k : ℕ) → k < n → option_map_or (is_held_part d name) (slice_get ps k) false ≡ false)
+    → option_map_or (is_held_part d name) (slice_get ps n) false ≡ false
     → (k : ℕ)
     → k < suc n
-    → option_map_or (is_held_part d id) (slice_get ps k) false ≡ false
-clear_at d id ps n clear none k below = go (k == n) refl where
-  go : (t : Bool) → (k == n) ≡ t → option_map_or (is_held_part d id) (slice_get ps k) false ≡ false
+    → option_map_or (is_held_part d name) (slice_get ps k) false ≡ false
+clear_at d name ps n clear none k below = go (k == n) refl where
+  go : (t : Bool) → (k == n) ≡ t
+      → option_map_or (is_held_part d name) (slice_get ps k) false ≡ false
   go true e =
-      ap (λ (j : ℕ). option_map_or (is_held_part d id) (slice_get ps j) false) (is_at k n e) ∙ none
+      ap (λ (j : ℕ). option_map_or (is_held_part d name) (slice_get ps j) false) (true_eq k n e) ∙ none
   go false e = clear k (below_or_at k n below e)
 
 -- a packet that is no part isn't the one that was lost
-kept_on : (d : Direction) (id : Name) (ps : List LinkPacket) (n : ℕ)
-    → option_map_or (is_held_part d id) (slice_get ps n) false ≡ true
+kept_on : (d : Direction) (name : Name) (ps : List LinkPacket) (n : ℕ)
+    → option_map_or (is_held_part d name) (slice_get ps n) false ≡ true
     → (k : ℕ) (p : LinkPacket)
     → slice_get ps k ≡ Some p
-    → is_of d id p ≡ false
+    → is_of d name p ≡ false
     → slice_get (with_lost ps n) k ≡ Some p
-kept_on d id ps n part k p there other = get_lost ps n k ∙ go (k == n) refl where
+kept_on d name ps n part k p there other = get_lost ps n k ∙ go (k == n) refl where
   go : (t : Bool)
       → (k == n) ≡ t
       → ◌≡◌ {A = Option LinkPacket}
       (if t then option_map unheld (slice_get ps k) else slice_get ps k) (Some p)
   go true e =
       let at : slice_get ps n ≡ Some p =
-      ap (λ (j : ℕ). slice_get ps j) (sym (is_at k n e)) ∙ there in
-      let yes : is_held_part d id p ≡ true =
-      sym (ap (λ (o : Option LinkPacket). option_map_or (is_held_part d id) o false) at) ∙ part in
-      let no : is_held_part d id p ≡ false = and_false p.held (is_of d id p) other in
+      ap (λ (j : ℕ). slice_get ps j) (sym (true_eq k n e)) ∙ there in
+      let yes : is_held_part d name p ≡ true =
+      sym (ap (λ (o : Option LinkPacket). option_map_or (is_held_part d name) o false) at) ∙ part in
+      let no : is_held_part d name p ≡ false = and_false p.held (is_of d name p) other in
       absurd (let both : true ≡ false = sym yes ∙ no in cc)
   go false e = there
 
 -- ---- all of them
 
 module _ (c : Config) (first : Contents) (good : IsConfig c) (s : State) (es : List Event)
-    (d : Direction) (id : Name) where
-  lose_next : (n : ℕ) → WereLost c first s es d id n → WereLost c first s es d id (suc n)
-  lose_next n had = go (option_map_or (is_held_part d id) (slice_get had.link.packets n) false) refl
+    (d : Direction) (name : Name) where
+  lose_next : (n : ℕ) → WereLost c first s es d name n → WereLost c first s es d name (suc n)
+  lose_next n had =
+      go (option_map_or (is_held_part d name) (slice_get had.link.packets n) false) refl
     where
       go : (t : Bool)
-          → option_map_or (is_held_part d id) (slice_get had.link.packets n) false ≡ t
-          → WereLost c first s es d id (suc n)
+          → option_map_or (is_held_part d name) (slice_get had.link.packets n) false ≡ t
+          → WereLost c first s es d name (suc n)
       go false e = record {
         link = had.link;
         events = had.events;
         legal = had.legal;
         shown = had.shown;
         hands = had.hands;
-        clear = clear_at d id had.link.packets n had.clear e;
+        clear = clear_at d name had.link.packets n had.clear e;
         kept = had.kept;
         many = had.many;
         tells = had.tells;
       }
       go true e =
-          let held : is_held had.link n ≡ true = held_is d id (slice_get had.link.packets n) e in
+          let held : is_held had.link n ≡ true = held_is d name (slice_get had.link.packets n) e in
           let free : refusal_of c (record s { link = had.link }) (Lose n) ≡ None =
           ap (λ (t : Bool). option_map link_fault (if t then None else Some NotHeld)) held in
           let more = longer c first (record s { link = had.link }) had.events (Lose n) good
@@ -157,11 +158,11 @@ module _ (c : Config) (first : Contents) (good : IsConfig c) (s : State) (es : L
             legal = more.legal;
             shown = more.shown;
             hands = had.hands;
-            clear = clear_on d id had.link.packets n had.clear;
-            kept = λ k p there other. kept_on d id had.link.packets n e k p
+            clear = clear_on d name had.link.packets n had.clear;
+            kept = λ k p there other. kept_on d name had.link.packets n e k p
                 (had.kept k p there other)
                 other;
-            many = length_lost had.link.packets n ∙ had.many;
+            many = length-with_lost had.link.packets n ∙ had.many;
             tells = had.tells;
           }
 
@@ -169,7 +170,7 @@ module _ (c : Config) (first : Contents) (good : IsConfig c) (s : State) (es : L
   pub lose_below : Legal c first es
       → Shows s (views c first (recorded c first es))
       → (n : ℕ)
-      → WereLost c first s es d id n
+      → WereLost c first s es d name n
   lose_below legal shown zero = record {
     link = s.link;
     events = es;

@@ -2,15 +2,15 @@
 -- promise.
 use Rattle.std.proofs.Common.{◌≡◌, ap, subst, refl, Bool, true, not, ◌&&◌, List, [], ◌∷◌, is_some}
 use Rattle.std.specs.FinMap as maps
-use Rattle.lpt_model.specs.LptPacket.declared.direction.Direction.{Direction}
-use Rattle.lpt_model.specs.LptPacket.declared.direction.Direction.TheVariants.{Up, Down}
-use Rattle.lpt_model.specs.LptPacket.Names.{Name, same_name}
-use Rattle.lpt_model.specs.LptMemory.Memories.{Contents}
-use Rattle.lpt_model.specs.LptEvents.Configs.{IsConfig}
-use Rattle.lpt_model.specs.LptEvents.declared.config.Config.{Config}
-use Rattle.lpt_model.specs.LptLedger.Marks.{Marks}
-use Rattle.lpt_refinement.proofs.LptJournal.TestLemmas.{and_r, none_is}
-use Rattle.lpt_refinement.specs.LptJournal.Jobs.{left_by}
+use Rattle.lpt_packet.specs.declared.direction.Direction.{Direction}
+use Rattle.lpt_packet.specs.declared.direction.Direction.TheVariants.{Up, Down}
+use Rattle.lpt_packet.specs.Names.{Name, same_name}
+use Rattle.lpt_memory.specs.Memories.{Contents}
+use Rattle.lpt_events.specs.Configs.{IsConfig}
+use Rattle.lpt_events.specs.declared.config.Config.{Config}
+use Rattle.lpt_ledger.specs.Marks.{Marks}
+use Rattle.lpt_packet.proofs.BoolLemmas.{and_right, none_is}
+use Rattle.lpt_journal.specs.Jobs.{left_by}
 use Rattle.lpt_apart.specs.Ends.{Ends, no_ends}
 use Rattle.lpt_apart.specs.Facts.{AllDue, executed as executed_in}
 use Rattle.lpt_apart.specs.Steps.{Accept, Retire, after}
@@ -31,80 +31,80 @@ module _ (c : Config) (first : Contents) (good : IsConfig c) (freed : Direction 
   pair = record { ends = with_ledgers g k w; freed = freed }
 
   -- the receiver frees a name
-  free : (d : Direction) (id : Name)
-      → CanMove c pair (Free d id)
-      → IsBut c first (moved c pair (Free d id)).freed
-      (moved c pair (Free d id)).ends
-  free Up id can = record {
-    whole = forgetting Up id w;
+  free : (d : Direction) (name : Name)
+      → CanMove c pair (Free d name)
+      → IsBut c first (moved c pair (Free d name)).freed
+      (moved c pair (Free d name)).ends
+  free Up name can = record {
+    whole = forgetting Up name w;
     on_ground = g;
-    on_craft = maps.remove k id;
+    on_craft = maps.remove k name;
     less = record {
-      follows = forget c first Up id w l.follows;
+      follows = forget c first Up name w l.follows;
       on_ground = l.on_ground;
-      on_craft = less_removed k w.on_craft.receiving.ledger (freed Up) id l.on_craft;
+      on_craft = less_removed k w.on_craft.receiving.ledger (freed Up) name l.on_craft;
       no_down = l.no_down;
-      no_up = removed_unheard w.on_craft (freed Up) id l.no_up
-          (none_is (maps.get w.on_craft.receiving.entries id) can.1.unheard);
+      no_up = removed_unheard w.on_craft (freed Up) name l.no_up
+          (none_is (maps.get w.on_craft.receiving.entries name) can.1.unheard);
     };
     is = refl;
   }
-  free Down id can = record {
-    whole = forgetting Down id w;
-    on_ground = maps.remove g id;
+  free Down name can = record {
+    whole = forgetting Down name w;
+    on_ground = maps.remove g name;
     on_craft = k;
     less = record {
-      follows = forget c first Down id w l.follows;
-      on_ground = less_removed g w.on_ground.receiving.ledger (freed Down) id l.on_ground;
+      follows = forget c first Down name w l.follows;
+      on_ground = less_removed g w.on_ground.receiving.ledger (freed Down) name l.on_ground;
       on_craft = l.on_craft;
-      no_down = removed_unheard w.on_ground (freed Down) id l.no_down
-          (none_is (maps.get w.on_ground.receiving.entries id) can.1.unheard);
+      no_down = removed_unheard w.on_ground (freed Down) name l.no_down
+          (none_is (maps.get w.on_ground.receiving.entries name) can.1.unheard);
       no_up = l.no_up;
     };
     is = refl;
   }
 
   -- the sender frees a name too
-  retire : (d : Direction) (id : Name)
-      → CanMove c pair (Do (Retire d id))
-      → IsBut c first (moved c pair (Do (Retire d id))).freed
-      (moved c pair (Do (Retire d id))).ends
-  retire Up id can = record {
-    whole = after c w (Retire Up id);
+  retire : (d : Direction) (name : Name)
+      → CanMove c pair (Do (Retire d name))
+      → IsBut c first (moved c pair (Do (Retire d name))).freed
+      (moved c pair (Do (Retire d name))).ends
+  retire Up name can = record {
+    whole = after c w (Retire Up name);
     on_ground = g;
     on_craft = k;
     less = record {
-      follows = run_on c first good w (Retire Up id) l.follows (
+      follows = run_on c first good w (Retire Up name) l.follows (
         can.0,
         record {
-          closed = silent.shut Up id can.1;
+          closed = silent.shut Up name can.1;
           unheard =
-              ap is_some (l.no_up id can.1);
+              ap is_some (l.no_up name can.1);
         },
       );
       on_ground = l.on_ground;
-      on_craft = less_retired k w.on_craft.receiving.ledger (freed Up) id can.1 l.on_craft;
+      on_craft = less_retired k w.on_craft.receiving.ledger (freed Up) name can.1 l.on_craft;
       no_down = l.no_down;
-      no_up = λ q gone. l.no_up q (and_r (not (true && same_name id q)) (freed Up q) gone);
+      no_up = λ q gone. l.no_up q (and_right (not (true && same_name name q)) (freed Up q) gone);
     };
     is = refl;
   }
-  retire Down id can = record {
-    whole = after c w (Retire Down id);
+  retire Down name can = record {
+    whole = after c w (Retire Down name);
     on_ground = g;
     on_craft = k;
     less = record {
-      follows = run_on c first good w (Retire Down id) l.follows (
+      follows = run_on c first good w (Retire Down name) l.follows (
         can.0,
         record {
-          closed = silent.shut Down id can.1;
+          closed = silent.shut Down name can.1;
           unheard =
-              ap is_some (l.no_down id can.1);
+              ap is_some (l.no_down name can.1);
         },
       );
-      on_ground = less_retired g w.on_ground.receiving.ledger (freed Down) id can.1 l.on_ground;
+      on_ground = less_retired g w.on_ground.receiving.ledger (freed Down) name can.1 l.on_ground;
       on_craft = l.on_craft;
-      no_down = λ q gone. l.no_down q (and_r (not (true && same_name id q)) (freed Down q) gone);
+      no_down = λ q gone. l.no_down q (and_right (not (true && same_name name q)) (freed Down q) gone);
       no_up = l.no_up;
     };
     is = refl;
@@ -116,9 +116,9 @@ module _ (c : Config) (first : Contents) (good : IsConfig c) (freed : Direction 
       step c first good freed w g k l (Accept d b) can
       (not_stale c first freed w d b good l.follows (silent_whole freed g k w silent)
       (may_come c first good freed w g k l d b can))
-  move (Do (Retire d id)) can = retire d id can
+  move (Do (Retire d name)) can = retire d name can
   move (Do x) can = step c first good freed w g k l x can tt
-  move (Free d id) can = free d id can
+  move (Free d name) can = free d name can
 
 -- Two ends are a world's but for freed names, and of those no part comes.
 record AreApart (c : Config) (first : Contents) (p : Pair) : Type 0 where
@@ -137,14 +137,14 @@ apart c first [] good can = record {
     on_craft = maps.empty;
     less = record {
       follows = begins c first;
-      on_ground = λ id. refl;
-      on_craft = λ id. refl;
-      no_down = λ id gone. absurd cc;
-      no_up = λ id gone. absurd cc;
+      on_ground = λ name. refl;
+      on_craft = λ name. refl;
+      no_down = λ name gone. absurd cc;
+      no_up = λ name gone. absurd cc;
     };
     is = refl;
   };
-  silent = record { shut = λ d id is. absurd cc; gone = λ d id is. refl };
+  silent = record { shut = λ d name is. absurd cc; gone = λ d name is. refl };
 }
 apart c first (x ∷ xs) good can =
     let p : Pair = came_to c first xs in

@@ -1,34 +1,35 @@
 -- Whatever a world does, two ends can do.
 use Rattle.std.proofs.Common.{◌≡◌, ◌∙◌, ap, sym, subst, refl, false, not, List, [], ◌∷◌, length, Option, Some, None, is_some}
 use Rattle.std.specs.FinMap as maps
-use Rattle.lpt_model.specs.LptPacket.declared.direction.Direction.{Direction}
-use Rattle.lpt_model.specs.LptPacket.declared.direction.Direction.TheVariants.{Up, Down}
-use Rattle.lpt_model.specs.LptPacket.Names.{Name}
-use Rattle.lpt_model.specs.LptMemory.Memories.{Contents}
-use Rattle.lpt_model.specs.LptMemory.Readings.{Job}
-use Rattle.lpt_model.specs.LptEvents.Configs.{IsConfig}
-use Rattle.lpt_model.specs.LptEvents.Sides.{direction_to}
-use Rattle.lpt_model.specs.LptEvents.declared.config.Config.{Config}
-use Rattle.lpt_model.specs.LptEvents.declared.event.Event.{Event}
-use Rattle.lpt_model.specs.LptEvents.declared.event.Event.TheVariants as event
-use Rattle.lpt_model.specs.LptEvents.declared.side.Side.{Side}
-use Rattle.lpt_model.specs.LptEvents.declared.side.Side.TheVariants.{Ground, Craft}
-use Rattle.lpt_model.specs.LptLedger.States.{state_at}
-use Rattle.lpt_model.specs.LptEvents.declared.worker.Worker.{Worker}
-use Rattle.lpt_model.specs.LptLink.Links.{holds}
-use Rattle.lpt_model.specs.LptNode.Faults.{node_fault}
-use Rattle.lpt_model.specs.LptNode.Jobs.{executed}
-use Rattle.lpt_model.specs.LptNode.Times.{expired}
+use Rattle.lpt_packet.specs.declared.direction.Direction.{Direction}
+use Rattle.lpt_packet.specs.declared.direction.Direction.TheVariants.{Up, Down}
+use Rattle.lpt_packet.specs.Names.{Name}
+use Rattle.lpt_memory.specs.Memories.{Contents}
+use Rattle.lpt_memory.specs.Readings.{Job}
+use Rattle.lpt_events.specs.Configs.{IsConfig}
+use Rattle.lpt_events.specs.Sides.{direction_to}
+use Rattle.lpt_events.specs.declared.config.Config.{Config}
+use Rattle.lpt_events.specs.declared.event.Event.{Event}
+use Rattle.lpt_events.specs.declared.event.Event.TheVariants as event
+use Rattle.lpt_events.specs.declared.side.Side.{Side}
+use Rattle.lpt_events.specs.declared.side.Side.TheVariants.{Ground, Craft}
+use Rattle.lpt_ledger.specs.States.{state_at}
+use Rattle.lpt_events.specs.declared.worker.Worker.{Worker}
+use Rattle.lpt_link.specs.Links.{holds}
+use Rattle.lpt_node.specs.Faults.{node_fault}
+use Rattle.lpt_node.specs.Jobs.{executed}
+use Rattle.lpt_node.specs.Times.{expired}
 use Rattle.lpt_model.specs.State.{State, no_state, after, as_list, is_gone, refusal_of, refusal_claim_by, committed_on}
 use Rattle.lpt_model.specs.Tickets.{ticket_of}
-use Rattle.lpt_refinement.specs.LptJournal.Legal.{Legal}
-use Rattle.lpt_refinement.specs.LptJournal.Replies.{recorded}
+use Rattle.lpt_journal.specs.Legal.{Legal}
+use Rattle.lpt_journal.specs.Replies.{recorded}
 use Rattle.lpt_refinement.proofs.Follows.{follows}
-use Rattle.lpt_refinement.proofs.LptJournal.TestLemmas.{and_l, and_r, not_true, no_place}
+use Rattle.lpt_journal.proofs.TestLemmas.{no_place}
+use Rattle.lpt_packet.proofs.BoolLemmas.{and_left, and_right, not_true}
 use Rattle.lpt_apart.specs.Ends.{PutOut, Ends, put_out, without}
 use Rattle.lpt_apart.specs.Facts.{Aborted, Executed, Retired, Restarted, Log}
 use Rattle.lpt_apart.specs.Plays.{step_of, with_step, steps_of, WorldsAreEnds}
-use Rattle.lpt_apart.specs.Steps.{Step, is_harmless, CanHappen, MayCome, with_release, with_report, accepted_on, reached, CanRun}
+use Rattle.lpt_apart.specs.Steps.{Step, with_report, reached, CanRun}
 use Rattle.lpt_apart.specs.Steps as steps
 use Rattle.lpt_apart.specs.Told.{told}
 use Rattle.lpt_apart.proofs.Leaving.{AllHad, had_put, had_lost, had_retired}
@@ -83,7 +84,7 @@ module _ (c : Config) (first : Contents) (s : State) (ways : List PutOut) (log :
       let x = expired Ground c s.on_ground in (
         unmapped node_fault _ (free (event.Expire Ground) legal),
         plays (event.Expire Ground) (put_out ways Down None (as_list x.1.packet))
-            (Aborted (direction_to Ground) x.1.id ∷ log) legal
+            (Aborted (direction_to Ground) x.1.name ∷ log) legal
             (had_put c s.link ways Down None (as_list x.1.packet) t.had)
             (expiry_told c first s log es t.shown t.tells Ground
             (more (event.Expire Ground) legal)),
@@ -92,7 +93,7 @@ module _ (c : Config) (first : Contents) (s : State) (ways : List PutOut) (log :
       let x = expired Craft c s.on_craft in (
         unmapped node_fault _ (free (event.Expire Craft) legal),
         plays (event.Expire Craft) (put_out ways Down None (as_list x.1.packet))
-            (Aborted (direction_to Craft) x.1.id ∷ log) legal
+            (Aborted (direction_to Craft) x.1.name ∷ log) legal
             (had_put c s.link ways Down None (as_list x.1.packet) t.had)
             (expiry_told c first s log es t.shown t.tells Craft (more (event.Expire Craft) legal)),
       )
@@ -146,42 +147,42 @@ module _ (c : Config) (first : Contents) (s : State) (ways : List PutOut) (log :
             (execution_told c first s log es t.shown t.tells (more event.Apply legal)),
       )
 
-  retires : (d : Direction) (id : Name) → GoesOn (event.Retire d id)
-  retires Up id legal =
+  retires : (d : Direction) (name : Name) → GoesOn (event.Retire d name)
+  retires Up name legal =
       let over =
-      retires_closed (state_at s.on_ground.sending.ledger id) (is_gone s Up id)
-      (free (event.Retire Up id) legal) in
-      let none : holds s.link Up id ≡ false =
-      not_true (holds s.link Up id)
-      (and_l (not (holds s.link Up id)) (not (is_some (maps.get s.on_craft.receiving.entries id)))
+      retires_closed (state_at s.on_ground.sending.ledger name) (is_gone s Up name)
+      (free (event.Retire Up name) legal) in
+      let none : holds s.link Up name ≡ false =
+      not_true (holds s.link Up name)
+      (and_left (not (holds s.link Up name)) (not (is_some (maps.get s.on_craft.receiving.entries name)))
       over.1) in
-      let unheard : is_some (maps.get s.on_craft.receiving.entries id) ≡ false =
-      not_true (is_some (maps.get s.on_craft.receiving.entries id))
-      (and_r (not (holds s.link Up id)) (not (is_some (maps.get s.on_craft.receiving.entries id)))
+      let unheard : is_some (maps.get s.on_craft.receiving.entries name) ≡ false =
+      not_true (is_some (maps.get s.on_craft.receiving.entries name))
+      (and_right (not (holds s.link Up name)) (not (is_some (maps.get s.on_craft.receiving.entries name)))
       over.1) in (
         (legal.1.in_range, record { closed = over.0; unheard = unheard }),
-        plays (event.Retire Up id) (without Up id ways) (Retired Up id ∷ log) legal
-            (had_retired c s.link ways Up id none t.had)
-            (ap (λ (l : Log). Retired Up id ∷ l) t.tells),
+        plays (event.Retire Up name) (without Up name ways) (Retired Up name ∷ log) legal
+            (had_retired c s.link ways Up name none t.had)
+            (ap (λ (l : Log). Retired Up name ∷ l) t.tells),
       )
-  retires Down id legal =
+  retires Down name legal =
       let over =
-      retires_closed (state_at s.on_craft.sending.ledger id) (is_gone s Down id)
-      (free (event.Retire Down id) legal) in
-      let none : holds s.link Down id ≡ false =
-      not_true (holds s.link Down id)
-      (and_l (not (holds s.link Down id))
-      (not (is_some (maps.get s.on_ground.receiving.entries id)))
+      retires_closed (state_at s.on_craft.sending.ledger name) (is_gone s Down name)
+      (free (event.Retire Down name) legal) in
+      let none : holds s.link Down name ≡ false =
+      not_true (holds s.link Down name)
+      (and_left (not (holds s.link Down name))
+      (not (is_some (maps.get s.on_ground.receiving.entries name)))
       over.1) in
-      let unheard : is_some (maps.get s.on_ground.receiving.entries id) ≡ false =
-      not_true (is_some (maps.get s.on_ground.receiving.entries id))
-      (and_r (not (holds s.link Down id))
-      (not (is_some (maps.get s.on_ground.receiving.entries id)))
+      let unheard : is_some (maps.get s.on_ground.receiving.entries name) ≡ false =
+      not_true (is_some (maps.get s.on_ground.receiving.entries name))
+      (and_right (not (holds s.link Down name))
+      (not (is_some (maps.get s.on_ground.receiving.entries name)))
       over.1) in (
         (legal.1.in_range, record { closed = over.0; unheard = unheard }),
-        plays (event.Retire Down id) (without Down id ways) (Retired Down id ∷ log) legal
-            (had_retired c s.link ways Down id none t.had)
-            (ap (λ (l : Log). Retired Down id ∷ l) t.tells),
+        plays (event.Retire Down name) (without Down name ways) (Retired Down name ∷ log) legal
+            (had_retired c s.link ways Down name none t.had)
+            (ap (λ (l : Log). Retired Down name ∷ l) t.tells),
       )
 
   restarts : (side : Side) → GoesOn (event.Restart side)
@@ -199,14 +200,14 @@ module _ (c : Config) (first : Contents) (s : State) (ways : List PutOut) (log :
   -- ---- all of them
 
   goes_on : (e : Event) → GoesOn e
-  goes_on (event.Open d id m) legal =
-      play.opens c first s ways log es good t d id m legal
-  goes_on (event.Send d id k) legal =
-      play.sends c first s ways log es good t d id k legal
+  goes_on (event.Open d name m) legal =
+      play.opens c first s ways log es good t d name m legal
+  goes_on (event.Send d name k) legal =
+      play.sends c first s ways log es good t d name k legal
   goes_on (event.Plain source flags service subtype body) legal =
       play.plain c first s ways log es good t source flags service subtype body legal
-  goes_on (event.Finish d id) legal =
-      play.finishes c first s ways log es good t d id legal
+  goes_on (event.Finish d name) legal =
+      play.finishes c first s ways log es good t d name legal
   goes_on (event.Lose n) legal =
       plays (event.Lose n) ways log legal (had_lost c s.link ways n t.had) t.tells
   goes_on (event.Damage d b) legal =
@@ -220,7 +221,7 @@ module _ (c : Config) (first : Contents) (s : State) (ways : List PutOut) (log :
   goes_on (event.Claim w) legal = claims w legal
   goes_on (event.Commit w) legal = commits w legal
   goes_on event.Apply legal = applies legal
-  goes_on (event.Retire d id) legal = retires d id legal
+  goes_on (event.Retire d name) legal = retires d name legal
   goes_on (event.Restart side) legal = restarts side legal
 
 -- two ends play a journal

@@ -1,39 +1,37 @@
 -- What is tied of two ends that play a world's journal, and what a world has that doesn't refuse an
 -- event.
-use Rattle.std.proofs.Common.{◌≡◌, ◌∙◌, ap, sym, refl, ℕ, Bool, true, false, ◌&&◌, if◌then◌else◌, List, [], map, Option, Some, None, is_some}
+use Rattle.std.proofs.Common.{◌≡◌, ◌∙◌, ap, sym, refl, ℕ, Bool, true, false, if◌then◌else◌, List, [], map, Option, Some, None, is_some}
 use Rattle.std.specs.Option.{option_map, option_map_or}
 use Rattle.std.specs.Prelude.{slice_get}
 use Rattle.std.proofs.lemmas.Option.{slice_get-map}
-use Rattle.lpt_model.specs.LptPacket.declared.direction.Direction.{Direction}
-use Rattle.lpt_model.specs.LptMemory.Memories.{Contents}
-use Rattle.lpt_model.specs.LptMemory.Readings.{Job}
-use Rattle.lpt_model.specs.LptEvents.Configs.{IsConfig}
-use Rattle.lpt_model.specs.LptEvents.Lanes.{lane_direction, same_direction}
-use Rattle.lpt_model.specs.LptEvents.declared.config.Config.{Config}
-use Rattle.lpt_model.specs.LptEvents.declared.event.Event.{Event}
-use Rattle.lpt_model.specs.LptEvents.declared.event.Event.TheVariants as event
-use Rattle.lpt_model.specs.LptEvents.declared.lane.Lane.{Lane}
-use Rattle.lpt_model.specs.LptLedger.declared.state.State.{State as Known}
-use Rattle.lpt_model.specs.LptLedger.declared.state.State.TheVariants as known
-use Rattle.lpt_model.specs.LptLink.declared.fault.LinkFault.{LinkFault}
-use Rattle.lpt_model.specs.LptLink.declared.fault.LinkFault.TheVariants.{NotHeld, HandFull, HandEmpty}
-use Rattle.lpt_model.specs.LptLink.declared.packet.LinkPacket.{LinkPacket}
-use Rattle.lpt_model.specs.LptLink.Links.{LinkData, hand_of, is_held, is_held_for}
-use Rattle.lpt_model.specs.LptNode.Nodes.{NodeData}
+use Rattle.lpt_memory.specs.Memories.{Contents}
+use Rattle.lpt_memory.specs.Readings.{Job}
+use Rattle.lpt_events.specs.Configs.{IsConfig}
+use Rattle.lpt_events.specs.Lanes.{lane_direction}
+use Rattle.lpt_events.specs.declared.config.Config.{Config}
+use Rattle.lpt_events.specs.declared.event.Event.{Event}
+use Rattle.lpt_events.specs.declared.event.Event.TheVariants as event
+use Rattle.lpt_events.specs.declared.lane.Lane.{Lane}
+use Rattle.lpt_ledger.specs.declared.state.State.{State as Known}
+use Rattle.lpt_ledger.specs.declared.state.State.TheVariants as known
+use Rattle.lpt_link.specs.declared.fault.LinkFault.{LinkFault}
+use Rattle.lpt_link.specs.declared.fault.LinkFault.TheVariants.{NotHeld, HandFull, HandEmpty}
+use Rattle.lpt_link.specs.declared.packet.LinkPacket.{LinkPacket}
+use Rattle.lpt_link.specs.Links.{hand_of}
+use Rattle.lpt_node.specs.Nodes.{NodeData}
 use Rattle.lpt_model.specs.State.{State, link_fault, refusal_of, refusal_claim_by, refusal_retire_by, refusal_commit_of}
 use Rattle.lpt_refinement.specs.Shows.{Shows, sent_packet}
 use Rattle.lpt_refinement.specs.Views.{views}
-use Rattle.lpt_refinement.specs.LptJournal.Hands.{hand}
-use Rattle.lpt_refinement.specs.LptJournal.Journal.{SentPacket, History}
-use Rattle.lpt_refinement.specs.LptJournal.Legal.{Legal}
-use Rattle.lpt_refinement.specs.LptJournal.Link.{sent as sent_so_far}
-use Rattle.lpt_refinement.specs.LptJournal.Replies.{recorded}
-use Rattle.lpt_refinement.proofs.LptJournal.HeadlineLemmas.{every}
-use Rattle.lpt_refinement.proofs.LptJournal.TestLemmas.{and_l}
+use Rattle.lpt_journal.specs.Hands.{hand}
+use Rattle.lpt_journal.specs.Journal.{SentPacket, History}
+use Rattle.lpt_journal.specs.Legal.{Legal}
+use Rattle.lpt_journal.specs.Link.{sent as sent_so_far}
+use Rattle.lpt_journal.specs.Replies.{recorded}
+use Rattle.lpt_journal.proofs.HeadlineLemmas.{every}
 use Rattle.lpt_apart.specs.Ends.{PutOut, Ends}
 use Rattle.lpt_apart.specs.Facts.{Log}
 use Rattle.lpt_apart.specs.Plays.{octets_held}
-use Rattle.lpt_apart.specs.Steps.{Step, is_harmless, CanHappen, MayCome, with_release, with_report, accepted_on, reached, CanRun}
+use Rattle.lpt_apart.specs.Steps.{Step, CanHappen}
 use Rattle.lpt_apart.specs.Steps as steps
 use Rattle.lpt_apart.specs.Told.{told}
 use Rattle.lpt_apart.proofs.Leaving.{AllHad}
@@ -97,15 +95,6 @@ pub takes_held : (a b : Bool)
 takes_held true b e = absurd cc
 takes_held false true e = refl
 takes_held false false e = absurd cc
-
--- and held
-pub held_is : (v : LinkData) (d : Direction) (n : ℕ) → is_held_for v d n ≡ true → is_held v n ≡ true
-held_is v d n = go (slice_get v.packets n) where
-  go : (o : Option LinkPacket)
-      → option_map_or (λ p. p.held && same_direction p.direction d) o false ≡ true
-      → option_map_or (λ p. p.held) o false ≡ true
-  go None e = absurd cc
-  go (Some p) e = and_l p.held (same_direction p.direction d) e
 
 in_a_hand : (o : Option ℕ)
     → ◌≡◌ {A = Option LinkFault} (if is_some o then None else Some HandEmpty) None

@@ -2,31 +2,31 @@
 use Rattle.std.proofs.Common.{◌≡◌, ◌∙◌, ap, sym, subst, refl, ℕ, true, inl, inr, List, [], ◌∷◌, length, Option, Some, None, is_some}
 use Rattle.std.specs.Option.{option_and_then}
 use Rattle.std.specs.Prelude.{slice_get}
-use Rattle.lpt_model.specs.LptPacket.declared.direction.Direction.{Direction}
-use Rattle.lpt_model.specs.LptPacket.declared.direction.Direction.TheVariants.{Up, Down}
-use Rattle.lpt_model.specs.LptPacket.Names.{Name}
-use Rattle.lpt_model.specs.LptMemory.Memories.{Contents}
-use Rattle.lpt_model.specs.LptEvents.Arrivals.{Arrival, NotRead, arrival_in}
-use Rattle.lpt_model.specs.LptEvents.Configs.{IsConfig}
-use Rattle.lpt_model.specs.LptEvents.Lanes.{lane_direction}
-use Rattle.lpt_model.specs.LptEvents.declared.config.Config.{Config}
-use Rattle.lpt_model.specs.LptEvents.declared.event.Event.{Event}
-use Rattle.lpt_model.specs.LptEvents.declared.event.Event.TheVariants as event
-use Rattle.lpt_model.specs.LptEvents.declared.lane.Lane.{Lane}
-use Rattle.lpt_model.specs.LptEvents.declared.lane.Lane.TheVariants.{S1, S2, G1, G2}
-use Rattle.lpt_model.specs.LptEvents.declared.side.Side.TheVariants.{Ground, Craft}
-use Rattle.lpt_model.specs.LptLink.Links.{hand_of, is_held_for, packet_in_hand, after_drop}
-use Rattle.lpt_model.specs.LptNode.Accepting.{accepted}
-use Rattle.lpt_model.specs.LptNode.Faults.{node_fault}
-use Rattle.lpt_model.specs.LptNode.Nodes.{NodeData}
-use Rattle.lpt_model.specs.LptNode.Requests.{plain_made}
-use Rattle.lpt_model.specs.LptNode.Sending.{sent}
-use Rattle.lpt_model.specs.LptNode.declared.accepted.Accepted.{Accepted}
+use Rattle.lpt_packet.specs.declared.direction.Direction.{Direction}
+use Rattle.lpt_packet.specs.declared.direction.Direction.TheVariants.{Up, Down}
+use Rattle.lpt_packet.specs.Names.{Name}
+use Rattle.lpt_memory.specs.Memories.{Contents}
+use Rattle.lpt_events.specs.Arrivals.{Arrival, NotRead, arrival_in}
+use Rattle.lpt_events.specs.Configs.{IsConfig}
+use Rattle.lpt_events.specs.Lanes.{lane_direction}
+use Rattle.lpt_events.specs.declared.config.Config.{Config}
+use Rattle.lpt_events.specs.declared.event.Event.{Event}
+use Rattle.lpt_events.specs.declared.event.Event.TheVariants as event
+use Rattle.lpt_events.specs.declared.lane.Lane.{Lane}
+use Rattle.lpt_events.specs.declared.lane.Lane.TheVariants.{S1, S2, G1, G2}
+use Rattle.lpt_events.specs.declared.side.Side.TheVariants.{Ground, Craft}
+use Rattle.lpt_link.specs.Links.{hand_of, is_held_for, packet_in_hand, after_drop}
+use Rattle.lpt_node.specs.Accepting.{accepted}
+use Rattle.lpt_node.specs.Faults.{node_fault}
+use Rattle.lpt_node.specs.Nodes.{NodeData}
+use Rattle.lpt_node.specs.Requests.{plain_made}
+use Rattle.lpt_node.specs.Sending.{sent}
+use Rattle.lpt_node.specs.declared.accepted.Accepted.{Accepted}
 use Rattle.lpt_model.specs.State.{State, after, as_list, link_fault, refusal_of, arrival_held, released_of}
-use Rattle.lpt_refinement.specs.LptJournal.Journal.{History}
-use Rattle.lpt_refinement.specs.LptJournal.Legal.{Legal}
-use Rattle.lpt_refinement.specs.LptJournal.Replies.{recorded}
-use Rattle.lpt_refinement.proofs.LptJournal.HeadlineLemmas.{every, owes}
+use Rattle.lpt_journal.specs.Journal.{History}
+use Rattle.lpt_journal.specs.Legal.{Legal}
+use Rattle.lpt_journal.specs.Replies.{recorded}
+use Rattle.lpt_journal.proofs.HeadlineLemmas.{every, owes}
 use Rattle.lpt_apart.specs.Ends.{PutOut, Ends, put_out}
 use Rattle.lpt_apart.specs.Facts.{Opened, Asked, Log, with_abortion}
 use Rattle.lpt_apart.specs.Plays.{octets_held, step_of}
@@ -35,7 +35,8 @@ use Rattle.lpt_apart.specs.Told.{told}
 use Rattle.lpt_apart.proofs.Leaving.{IsHad, AllHad, out_at, had_one, had_put, had_taken, had_dropped}
 use Rattle.lpt_apart.proofs.Telling.{plain_told, delivery_told}
 use Rattle.lpt_apart.proofs.Ties.{ends_of, IsLonger, longer, not_refused}
-use Rattle.lpt_apart.proofs.Players.{Plays, Goes, CanPlay, HasInHand, unmapped, takes_held, held_is, has_in_hand}
+use Rattle.lpt_apart.proofs.Players.{Plays, Goes, CanPlay, HasInHand, unmapped, takes_held, has_in_hand}
+use Rattle.lpt_link.proofs.HandLemmas.{taken_held}
 
 module _ (c : Config) (first : Contents) (s : State) (ways : List PutOut) (log : Log)
     (es : List Event) (good : IsConfig c) (t : CanPlay c first s ways log es) where
@@ -81,31 +82,31 @@ module _ (c : Config) (first : Contents) (s : State) (ways : List PutOut) (log :
   -- ---- sending
 
   -- a message is opened
-  pub opens : (d : Direction) (id : Name) (m : List ℕ) → GoesOn (event.Open d id m)
-  opens Up id m legal = (
-    (legal.1.in_range, unmapped node_fault _ (free (event.Open Up id m) legal)),
-    plays (event.Open Up id m) ways (Opened Up id m ∷ log) legal t.had
-        (ap (λ (l : Log). Opened Up id m ∷ l) t.tells),
+  pub opens : (d : Direction) (name : Name) (m : List ℕ) → GoesOn (event.Open d name m)
+  opens Up name m legal = (
+    (legal.1.in_range, unmapped node_fault _ (free (event.Open Up name m) legal)),
+    plays (event.Open Up name m) ways (Opened Up name m ∷ log) legal t.had
+        (ap (λ (l : Log). Opened Up name m ∷ l) t.tells),
   )
-  opens Down id m legal = (
-    (legal.1.in_range, unmapped node_fault _ (free (event.Open Down id m) legal)),
-    plays (event.Open Down id m) ways (Opened Down id m ∷ log) legal t.had
-        (ap (λ (l : Log). Opened Down id m ∷ l) t.tells),
+  opens Down name m legal = (
+    (legal.1.in_range, unmapped node_fault _ (free (event.Open Down name m) legal)),
+    plays (event.Open Down name m) ways (Opened Down name m ∷ log) legal t.had
+        (ap (λ (l : Log). Opened Down name m ∷ l) t.tells),
   )
 
   -- a part is sent
-  pub sends : (d : Direction) (id : Name) (k : ℕ) → GoesOn (event.Send d id k)
-  sends Up id k legal =
-      let bs : List (List ℕ) = (sent Ground c s.on_ground id k).1 ∷ [] in (
-        (legal.1.in_range, unmapped node_fault _ (free (event.Send Up id k) legal)),
-        plays (event.Send Up id k) (put_out ways Up (Some id) bs) log legal
-            (had_put c s.link ways Up (Some id) bs t.had) t.tells,
+  pub sends : (d : Direction) (name : Name) (k : ℕ) → GoesOn (event.Send d name k)
+  sends Up name k legal =
+      let bs : List (List ℕ) = (sent Ground c s.on_ground name k).1 ∷ [] in (
+        (legal.1.in_range, unmapped node_fault _ (free (event.Send Up name k) legal)),
+        plays (event.Send Up name k) (put_out ways Up (Some name) bs) log legal
+            (had_put c s.link ways Up (Some name) bs t.had) t.tells,
       )
-  sends Down id k legal =
-      let bs : List (List ℕ) = (sent Craft c s.on_craft id k).1 ∷ [] in (
-        (legal.1.in_range, unmapped node_fault _ (free (event.Send Down id k) legal)),
-        plays (event.Send Down id k) (put_out ways Down (Some id) bs) log legal
-            (had_put c s.link ways Down (Some id) bs t.had) t.tells,
+  sends Down name k legal =
+      let bs : List (List ℕ) = (sent Craft c s.on_craft name k).1 ∷ [] in (
+        (legal.1.in_range, unmapped node_fault _ (free (event.Send Down name k) legal)),
+        plays (event.Send Down name k) (put_out ways Down (Some name) bs) log legal
+            (had_put c s.link ways Down (Some name) bs t.had) t.tells,
       )
 
   -- a plain request is made
@@ -122,14 +123,14 @@ module _ (c : Config) (first : Contents) (s : State) (ways : List PutOut) (log :
       )
 
   -- a message is finished
-  pub finishes : (d : Direction) (id : Name) → GoesOn (event.Finish d id)
-  finishes Up id legal = (
-    (legal.1.in_range, unmapped node_fault _ (free (event.Finish Up id) legal)),
-    plays (event.Finish Up id) ways log legal t.had t.tells,
+  pub finishes : (d : Direction) (name : Name) → GoesOn (event.Finish d name)
+  finishes Up name legal = (
+    (legal.1.in_range, unmapped node_fault _ (free (event.Finish Up name) legal)),
+    plays (event.Finish Up name) ways log legal t.had t.tells,
   )
-  finishes Down id legal = (
-    (legal.1.in_range, unmapped node_fault _ (free (event.Finish Down id) legal)),
-    plays (event.Finish Down id) ways log legal t.had t.tells,
+  finishes Down name legal = (
+    (legal.1.in_range, unmapped node_fault _ (free (event.Finish Down name) legal)),
+    plays (event.Finish Down name) ways log legal t.had t.tells,
   )
 
   -- ---- the link
@@ -151,7 +152,7 @@ module _ (c : Config) (first : Contents) (s : State) (ways : List PutOut) (log :
       takes_held (is_some (hand_of s.link l)) (is_held_for s.link (lane_direction l) n)
       (unmapped link_fault _ (free (event.Take l n) legal)) in
       plays (event.Take l n) ways log legal
-      (had_taken c s.link ways l n (held_is s.link (lane_direction l) n held) t.had) t.tells
+      (had_taken c s.link ways l n (taken_held s.link (lane_direction l) n held) t.had) t.tells
 
   -- what is in a lane's hand may come
   comes : (l : Lane)

@@ -1,9 +1,9 @@
 -- Two ends apart keep the promise, since they are a world.
 use Rattle.std.proofs.Common.{◌∙◌, ap, sym, subst, ℕ, List}
-use Rattle.lpt_model.specs.LptMemory.Memories.{Contents}
-use Rattle.lpt_model.specs.LptEvents.Configs.{IsConfig}
-use Rattle.lpt_model.specs.LptEvents.declared.config.Config.{Config}
-use Rattle.lpt_refinement.specs.LptJournal.Jobs.{left_by}
+use Rattle.lpt_memory.specs.Memories.{Contents}
+use Rattle.lpt_events.specs.Configs.{IsConfig}
+use Rattle.lpt_events.specs.declared.config.Config.{Config}
+use Rattle.lpt_journal.specs.Jobs.{left_by}
 use Rattle.lpt_apart.specs.Ends.{Ends}
 use Rattle.lpt_apart.specs.Facts.{AllDue, executed, Log}
 use Rattle.lpt_apart.specs.Steps.{reached}

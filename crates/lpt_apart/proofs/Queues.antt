@@ -3,29 +3,29 @@ use Rattle.std.proofs.Common.{◌≡◌, ◌∙◌, ap, sym, refl, ℕ, zero, su
 use Rattle.std.specs.List.{filter}
 use Rattle.std.specs.Prelude.{slice_get, cond}
 use Rattle.std.proofs.lemmas.List.{append-nil, map-append, drop-drop, drop-map, drop-append-le}
-use Rattle.lpt_model.specs.LptMemory.Memories.{Contents}
-use Rattle.lpt_model.specs.LptEvents.declared.config.Config.{Config}
-use Rattle.lpt_model.specs.LptEvents.declared.entry.Opening.{Opening}
-use Rattle.lpt_model.specs.LptEvents.declared.entry.Release.{Release}
-use Rattle.lpt_model.specs.LptEvents.declared.event.Event.{Event}
-use Rattle.lpt_model.specs.LptEvents.declared.event.Event.TheVariants.{Deliver, Expire, Apply, Restart}
-use Rattle.lpt_model.specs.LptEvents.declared.outcome.Outcome.{Outcome}
-use Rattle.lpt_model.specs.LptEvents.declared.outcome.Outcome.TheVariants.{Broken}
-use Rattle.lpt_model.specs.LptEvents.declared.reply.Answer.{Answer}
-use Rattle.lpt_model.specs.LptEvents.declared.reply.Answer.TheVariants.{Expired}
-use Rattle.lpt_model.specs.LptEvents.declared.side.Side.{Side}
-use Rattle.lpt_model.specs.LptEvents.declared.side.Side.TheVariants.{Ground, Craft}
-use Rattle.lpt_model.specs.LptEvents.Lanes.{lane_direction}
-use Rattle.lpt_model.specs.LptPacket.declared.direction.Direction.{Direction}
-use Rattle.lpt_refinement.specs.LptJournal.Delivery.{outcome}
-use Rattle.lpt_refinement.specs.LptJournal.Executions.{front_opens}
-use Rattle.lpt_refinement.specs.LptJournal.Jobs.{went_up, jobs, applied, front_job, executed_now, executed as was_executed}
-use Rattle.lpt_refinement.specs.LptJournal.Journal.{History, with_all}
-use Rattle.lpt_refinement.specs.LptJournal.Legal.{Legal}
-use Rattle.lpt_refinement.specs.LptJournal.Releases.{released_by}
-use Rattle.lpt_refinement.specs.LptJournal.Replies.{answer, recorded, entry}
+use Rattle.lpt_memory.specs.Memories.{Contents}
+use Rattle.lpt_events.specs.declared.config.Config.{Config}
+use Rattle.lpt_events.specs.declared.entry.Opening.{Opening}
+use Rattle.lpt_events.specs.declared.entry.Release.{Release}
+use Rattle.lpt_events.specs.declared.event.Event.{Event}
+use Rattle.lpt_events.specs.declared.event.Event.TheVariants.{Deliver, Expire, Apply, Restart}
+use Rattle.lpt_events.specs.declared.outcome.Outcome.{Outcome}
+use Rattle.lpt_events.specs.declared.outcome.Outcome.TheVariants.{Broken}
+use Rattle.lpt_events.specs.declared.reply.Answer.{Answer}
+use Rattle.lpt_events.specs.declared.reply.Answer.TheVariants.{Expired}
+use Rattle.lpt_events.specs.declared.side.Side.{Side}
+use Rattle.lpt_events.specs.declared.side.Side.TheVariants.{Ground, Craft}
+use Rattle.lpt_events.specs.Lanes.{lane_direction}
+use Rattle.lpt_packet.specs.declared.direction.Direction.{Direction}
+use Rattle.lpt_journal.specs.Delivery.{outcome}
+use Rattle.lpt_journal.specs.Executions.{front_opens}
+use Rattle.lpt_journal.specs.Jobs.{went_up, jobs, applied, front_job, executed_now, executed as was_executed}
+use Rattle.lpt_journal.specs.Journal.{History, with_all}
+use Rattle.lpt_journal.specs.Legal.{Legal}
+use Rattle.lpt_journal.specs.Releases.{released_by}
+use Rattle.lpt_journal.specs.Replies.{answer, recorded, entry}
 use Rattle.lpt_refinement.proofs.LinkShown.{with_all-append}
-use Rattle.lpt_refinement.proofs.LptJournal.TicketSteps.{jobs_sound}
+use Rattle.lpt_journal.proofs.TicketSteps.{jobs_sound}
 use Rattle.lpt_apart.specs.Facts.{Released, Log, with_abortion, waiting, executed}
 use Rattle.lpt_apart.specs.Told.{with_openings, with_releases, with_ended, told}
 
@@ -68,22 +68,22 @@ executed_releases (r ∷ rs) log = executed_releases rs (Released r.of r.message
 
 waiting_abortion : (d : Direction) (o : Outcome) (log : Log)
     → waiting (with_abortion d o log) ≡ waiting log
-waiting_abortion d (Broken id why) log = refl
+waiting_abortion d (Broken name why) log = refl
 waiting_abortion d o log = refl
 
 executed_abortion : (d : Direction) (o : Outcome) (log : Log)
     → executed (with_abortion d o log) ≡ executed log
-executed_abortion d (Broken id why) log = refl
+executed_abortion d (Broken name why) log = refl
 executed_abortion d o log = refl
 
 waiting_expired : (side : Side) (a : Answer) (log : Log)
     → waiting (with_ended (Expire side) a log) ≡ waiting log
-waiting_expired side (Expired d id) log = refl
+waiting_expired side (Expired d name) log = refl
 waiting_expired side a log = refl
 
 executed_expired : (side : Side) (a : Answer) (log : Log)
     → executed (with_ended (Expire side) a log) ≡ executed log
-executed_expired side (Expired d id) log = refl
+executed_expired side (Expired d name) log = refl
 executed_expired side a log = refl
 
 -- ---- lists

@@ -4,24 +4,24 @@ use Rattle.std.specs.FinMap as maps
 use Rattle.std.specs.List.{list_any}
 use Rattle.std.specs.Option.{option_map_or, option_and_then}
 use Rattle.std.specs.Prelude.{slice_get}
-use Rattle.lpt_model.specs.LptPacket.declared.direction.Direction.{Direction}
-use Rattle.lpt_model.specs.LptPacket.Names.{Name}
-use Rattle.lpt_model.specs.LptMemory.Memories.{Contents}
-use Rattle.lpt_model.specs.LptEvents.Configs.{IsConfig}
-use Rattle.lpt_model.specs.LptEvents.Lanes.{lanes}
-use Rattle.lpt_model.specs.LptEvents.Sides.{sender_side, receiver_side}
-use Rattle.lpt_model.specs.LptEvents.declared.config.Config.{Config}
-use Rattle.lpt_model.specs.LptEvents.declared.event.Event.{Event}
-use Rattle.lpt_model.specs.LptEvents.declared.event.Event.TheVariants.{Retire}
-use Rattle.lpt_model.specs.LptEvents.declared.lane.Lane.{Lane}
-use Rattle.lpt_model.specs.LptEvents.declared.side.Side.{Side}
-use Rattle.lpt_model.specs.LptEvents.declared.side.Side.TheVariants.{Ground, Craft}
-use Rattle.lpt_model.specs.LptLedger.States.{state_at}
-use Rattle.lpt_model.specs.LptLedger.declared.state.State.TheVariants.{Closed}
-use Rattle.lpt_model.specs.LptLink.Links.{LinkData, is_of, hand_of, any_held, any_in_hand, holds}
-use Rattle.lpt_model.specs.LptNode.Nodes.{NodeData}
+use Rattle.lpt_packet.specs.declared.direction.Direction.{Direction}
+use Rattle.lpt_packet.specs.Names.{Name}
+use Rattle.lpt_memory.specs.Memories.{Contents}
+use Rattle.lpt_events.specs.Configs.{IsConfig}
+use Rattle.lpt_events.specs.Lanes.{lanes}
+use Rattle.lpt_events.specs.Sides.{sender_side, receiver_side}
+use Rattle.lpt_events.specs.declared.config.Config.{Config}
+use Rattle.lpt_events.specs.declared.event.Event.{Event}
+use Rattle.lpt_events.specs.declared.event.Event.TheVariants.{Retire}
+use Rattle.lpt_events.specs.declared.lane.Lane.{Lane}
+use Rattle.lpt_events.specs.declared.side.Side.{Side}
+use Rattle.lpt_events.specs.declared.side.Side.TheVariants.{Ground, Craft}
+use Rattle.lpt_ledger.specs.States.{state_at}
+use Rattle.lpt_ledger.specs.declared.state.State.TheVariants.{Closed}
+use Rattle.lpt_link.specs.Links.{LinkData, is_of, hand_of, any_held, any_in_hand, holds}
+use Rattle.lpt_node.specs.Nodes.{NodeData}
 use Rattle.lpt_model.specs.State.{State, after, end_of, is_gone, refusal_of, refusal_retire_by}
-use Rattle.lpt_refinement.specs.LptJournal.Replies.{recorded}
+use Rattle.lpt_journal.specs.Replies.{recorded}
 use Rattle.lpt_apart.specs.Ends.{PutOut, node_at}
 use Rattle.lpt_apart.specs.Facts.{Retired, Log}
 use Rattle.lpt_apart.specs.Steps.{CanHappen}
@@ -40,26 +40,27 @@ none_any test (x ∷ xs) all =
     none_any test xs (λ k below. all (suc k) (omega arith)) in
     (λ i. here i || there i)
 
-none_in_hand : (v : LinkData) (d : Direction) (id : Name)
+none_in_hand : (v : LinkData) (d : Direction) (name : Name)
     → ((l : Lane) → hand_of v l ≡ None)
-    → any_in_hand v d id ≡ false
-none_in_hand v d id hands i = list_any (λ l. at l i) lanes where
+    → any_in_hand v d name ≡ false
+none_in_hand v d name hands i = list_any (λ l. at l i) lanes where
   at : (l : Lane)
-      → option_map_or (is_of d id) (option_and_then (slice_get v.packets) (hand_of v l)) false
+      → option_map_or (is_of d name) (option_and_then (slice_get v.packets) (hand_of v l)) false
       ≡ false
-  at l = ap (λ (o : Option ℕ). option_map_or (is_of d id) (option_and_then (slice_get v.packets) o)
+  at l = ap (λ (o : Option ℕ). option_map_or (is_of d name)
+      (option_and_then (slice_get v.packets) o)
       false) (hands l)
 
 -- no packet that is held or in a hand is a part of the transaction
-none_held : (v : LinkData) (d : Direction) (id : Name) (n : ℕ)
+none_held : (v : LinkData) (d : Direction) (name : Name) (n : ℕ)
     → length v.packets ≡ n
-    → ((k : ℕ) → k < n → option_map_or (is_held_part d id) (slice_get v.packets k) false ≡ false)
+    → ((k : ℕ) → k < n → option_map_or (is_held_part d name) (slice_get v.packets k) false ≡ false)
     → ((l : Lane) → hand_of v l ≡ None)
-    → holds v d id ≡ false
-none_held v d id n many clear hands =
-    let held : any_held v d id ≡ false =
-    none_any (is_held_part d id) v.packets (λ k below. clear k (omega arith)) in
-    let taken : any_in_hand v d id ≡ false = none_in_hand v d id hands in
+    → holds v d name ≡ false
+none_held v d name n many clear hands =
+    let held : any_held v d name ≡ false =
+    none_any (is_held_part d name) v.packets (λ k below. clear k (omega arith)) in
+    let taken : any_in_hand v d name ≡ false = none_in_hand v d name hands in
     (λ i. held i || taken i)
 
 -- the node of a side is the world's
@@ -69,40 +70,43 @@ same_node s link ways log Ground = refl
 same_node s link ways log Craft = refl
 
 pub retire : (c : Config) (first : Contents) (s : State) (ways : List PutOut) (log : Log)
-    (es : List Event) (d : Direction) (id : Name)
+    (es : List Event) (d : Direction) (name : Name)
     → IsConfig c
     → IsTied c first s ways log es
-    → CanHappen c (ends_of s ways log) (steps.Retire d id)
-    → Follows c first (steps.after c (ends_of s ways log) (steps.Retire d id))
-retire c first s ways log es d id good t can =
+    → CanHappen c (ends_of s ways log) (steps.Retire d name)
+    → Follows c first (steps.after c (ends_of s ways log) (steps.Retire d name))
+retire c first s ways log es d name good t can =
     let n : ℕ = length s.link.packets in
-    let cut : WereLost c first s es d id n = lose_below c first good s es d id t.legal t.shown n in
+    let cut : WereLost c first s es d name n =
+    lose_below c first good s es d name t.legal t.shown n in
     let cut_state : State = record s { link = cut.link } in
     let hands : (l : Lane) → hand_of cut.link l ≡ None = λ l. cut.hands l ∙ t.hands l in
-    let held : holds cut.link d id ≡ false = none_held cut.link d id n cut.many cut.clear hands in
-    let heard : is_some (maps.get (end_of cut_state (receiver_side d)).receiving.entries id)
+    let held : holds cut.link d name ≡ false =
+    none_held cut.link d name n cut.many cut.clear hands in
+    let heard : is_some (maps.get (end_of cut_state (receiver_side d)).receiving.entries name)
     ≡ false =
-    ap (λ (x : NodeData). is_some (maps.get x.receiving.entries id))
+    ap (λ (x : NodeData). is_some (maps.get x.receiving.entries name))
     (same_node s cut.link ways log (receiver_side d))
     ∙ can.1.unheard in
-    let gone : is_gone cut_state d id ≡ true = (λ i. not (held i) && not (heard i)) in
-    let closed : state_at (end_of cut_state (sender_side d)).sending.ledger id ≡ Closed =
-    ap (λ (x : NodeData). state_at x.sending.ledger id)
+    let gone : is_gone cut_state d name ≡ true = (λ i. not (held i) && not (heard i)) in
+    let closed : state_at (end_of cut_state (sender_side d)).sending.ledger name ≡ Closed =
+    ap (λ (x : NodeData). state_at x.sending.ledger name)
     (same_node s cut.link ways log (sender_side d))
     ∙ can.1.closed in
-    let free : refusal_of c cut_state (Retire d id) ≡ None =
+    let free : refusal_of c cut_state (Retire d name) ≡ None =
     (λ i. refusal_retire_by (closed i) (gone i)) in
-    let more = longer c first cut_state cut.events (Retire d id) good cut.legal cut.shown can.0 free
+    let more = longer c first cut_state cut.events (Retire d name) good cut.legal
+    cut.shown can.0 free
     in
     record {
-      state = (after c (length (recorded c first cut.events)) cut_state (Retire d id)).0;
-      events = Retire d id ∷ cut.events;
+      state = (after c (length (recorded c first cut.events)) cut_state (Retire d name)).0;
+      events = Retire d name ∷ cut.events;
       tied = record {
         legal = more.legal;
         shown = more.shown;
         hands = hands;
-        held = held_without s.link.packets cut.link.packets d id ways cut.kept t.held;
-        tells = ap (λ (l : Log). Retired d id ∷ l) (cut.tells ∙ t.tells);
+        held = held_without s.link.packets cut.link.packets d name ways cut.kept t.held;
+        tells = ap (λ (l : Log). Retired d name ∷ l) (cut.tells ∙ t.tells);
       };
       is = refl;
     }

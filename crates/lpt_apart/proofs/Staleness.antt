@@ -5,27 +5,27 @@ use Rattle.std.specs.FinMap as maps
 use Rattle.std.specs.Option.{option_map, option_eq}
 use Rattle.std.specs.Prelude.{slice_get}
 use Rattle.std.proofs.lemmas.Option.{slice_get-map}
-use Rattle.lpt_model.specs.LptPacket.declared.direction.Direction.{Direction}
-use Rattle.lpt_model.specs.LptPacket.declared.direction.Direction.TheVariants.{Up, Down}
-use Rattle.lpt_model.specs.LptPacket.Names.{Name, same_name}
-use Rattle.lpt_model.proofs.LptPacket.NameLemmas.{same_name-refl}
-use Rattle.lpt_model.specs.LptMemory.Memories.{Contents}
-use Rattle.lpt_model.specs.LptEvents.Arrivals.{Arrival, APart, part_name, arrival_in}
-use Rattle.lpt_model.specs.LptEvents.Configs.{IsConfig}
-use Rattle.lpt_model.specs.LptEvents.NamedParts.{NamedPart}
-use Rattle.lpt_model.specs.LptEvents.Lanes.{same_direction}
-use Rattle.lpt_model.specs.LptEvents.declared.config.Config.{Config}
-use Rattle.lpt_model.specs.LptLedger.Marks.{Marks}
-use Rattle.lpt_model.specs.LptLedger.States.{state_of, state_at}
-use Rattle.lpt_model.specs.LptLedger.declared.state.State.TheVariants as known
-use Rattle.lpt_model.specs.LptLink.declared.packet.LinkPacket.{LinkPacket}
-use Rattle.lpt_model.specs.LptNode.Nodes.{Sending}
+use Rattle.lpt_packet.specs.declared.direction.Direction.{Direction}
+use Rattle.lpt_packet.specs.declared.direction.Direction.TheVariants.{Up, Down}
+use Rattle.lpt_packet.specs.Names.{Name, same_name}
+use Rattle.lpt_packet.proofs.NameLemmas.{same_name-refl}
+use Rattle.lpt_memory.specs.Memories.{Contents}
+use Rattle.lpt_events.specs.Arrivals.{Arrival, APart, part_name, arrival_in}
+use Rattle.lpt_events.specs.Configs.{IsConfig}
+use Rattle.lpt_events.specs.NamedParts.{NamedPart}
+use Rattle.lpt_events.specs.Lanes.{same_direction}
+use Rattle.lpt_events.specs.declared.config.Config.{Config}
+use Rattle.lpt_ledger.specs.Marks.{Marks}
+use Rattle.lpt_ledger.specs.States.{state_of, state_at}
+use Rattle.lpt_ledger.specs.declared.state.State.TheVariants as known
+use Rattle.lpt_link.specs.declared.packet.LinkPacket.{LinkPacket}
+use Rattle.lpt_node.specs.Nodes.{Sending}
 use Rattle.lpt_refinement.specs.Shows.{mark_of, message_of, sent_packet}
-use Rattle.lpt_refinement.specs.LptJournal.Hands.{arrival_of}
-use Rattle.lpt_refinement.specs.LptJournal.Journal.{SentPacket, History}
-use Rattle.lpt_refinement.specs.LptJournal.Replies.{recorded}
-use Rattle.lpt_refinement.specs.LptJournal.Senders.{Sender, FreeSender, OpenSender, ClosedSender, sender}
-use Rattle.lpt_refinement.proofs.LptJournal.HeadlineLemmas.{every}
+use Rattle.lpt_journal.specs.Hands.{arrival_of}
+use Rattle.lpt_journal.specs.Journal.{SentPacket, History}
+use Rattle.lpt_journal.specs.Replies.{recorded}
+use Rattle.lpt_journal.specs.Senders.{Sender, FreeSender, OpenSender, ClosedSender, sender}
+use Rattle.lpt_journal.proofs.HeadlineLemmas.{every}
 use Rattle.lpt_apart.specs.Ends.{Ends, is_part}
 use Rattle.lpt_apart.specs.Steps.{IsOnTheWay, is_harmless, MayCome}
 use Rattle.lpt_apart.proofs.Closing.{IsShut}
@@ -33,22 +33,18 @@ use Rattle.lpt_apart.proofs.Links.{IsHeldAs, held_at}
 use Rattle.lpt_apart.proofs.Ties.{ends_of, Follows}
 use Rattle.lpt_apart.specs.Moves.{with_ledgers}
 use Rattle.lpt_apart.proofs.Silence.{none_there, AreSilent, AreMute}
+use Rattle.lpt_events.proofs.LaneLemmas.{same_direction-refl}
 
--- a direction is the same as itself
-pub same_direction-refl : (d : Direction) → same_direction d d ≡ true
-same_direction-refl Up = refl
-same_direction-refl Down = refl
-
-mute_of : (x : Sending) (s : Sender) (id : Name)
-    → maps.get x.ledger id ≡ mark_of s
-    → maps.get x.messages id ≡ message_of s
-    → state_at x.ledger id ≡ known.Closed
-    → maps.get x.messages id ≡ None
-mute_of x FreeSender id mark message shut =
+mute_of : (x : Sending) (s : Sender) (name : Name)
+    → maps.get x.ledger name ≡ mark_of s
+    → maps.get x.messages name ≡ message_of s
+    → state_at x.ledger name ≡ known.Closed
+    → maps.get x.messages name ≡ None
+mute_of x FreeSender name mark message shut =
     absurd (let both : known.Free ≡ known.Closed = sym (ap state_of mark) ∙ shut in cc)
-mute_of x (OpenSender m) id mark message shut =
+mute_of x (OpenSender m) name mark message shut =
     absurd (let both : known.Open ≡ known.Closed = sym (ap state_of mark) ∙ shut in cc)
-mute_of x ClosedSender id mark message shut = message
+mute_of x ClosedSender name mark message shut = message
 
 -- no sender of theirs that is closed has a message
 pub are_mute : (c : Config) (first : Contents) (e : Ends) → Follows c first e → AreMute e
@@ -57,12 +53,14 @@ are_mute c first e f = subst (λ (y : Ends). AreMute y) f.is at where
   h = recorded c first f.events
 
   at : AreMute (ends_of f.state e.on_the_way e.log)
-  at Up id shut =
+  at Up name shut =
       let x = f.tied.shown.ground.sending in
-      mute_of f.state.on_ground.sending (sender h Up id) id (x.ledger id) (x.messages id) shut
-  at Down id shut =
+      mute_of f.state.on_ground.sending (sender h Up name) name (x.ledger name)
+      (x.messages name) shut
+  at Down name shut =
       let x = f.tied.shown.craft.sending in
-      mute_of f.state.on_craft.sending (sender h Down id) id (x.ledger id) (x.messages id) shut
+      mute_of f.state.on_craft.sending (sender h Down name) name (x.ledger name)
+      (x.messages name) shut
 
 -- what was put out is a part of the transaction that its octets name
 named : (c : Config) (first : Contents) (e : Ends) (d : Direction) (b : List ℕ)
@@ -136,11 +134,11 @@ pub silent_whole : (freed : Direction → Name → Bool) (g k : Marks) (w : Ends
     → AreSilent freed (with_ledgers g k w)
     → AreSilent freed w
 silent_whole freed g k w silent = record { shut = shut; gone = silent.gone } where
-  shut : (d : Direction) (id : Name) → freed d id ≡ true → IsShut w d id
-  shut Up id is = silent.shut Up id is
-  shut Down id is = silent.shut Down id is
+  shut : (d : Direction) (name : Name) → freed d name ≡ true → IsShut w d name
+  shut Up name is = silent.shut Up name is
+  shut Down name is = silent.shut Down name is
 
 -- and those whose receivers know less have no message where they are closed
 pub mute_less : (g k : Marks) (w : Ends) → AreMute w → AreMute (with_ledgers g k w)
-mute_less g k w mute Up id shut = mute Up id shut
-mute_less g k w mute Down id shut = mute Down id shut
+mute_less g k w mute Up name shut = mute Up name shut
+mute_less g k w mute Down name shut = mute Down name shut

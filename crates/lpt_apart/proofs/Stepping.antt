@@ -1,12 +1,12 @@
 -- Two ends follow a world, whatever steps they do.
 use Rattle.std.proofs.Common.{◌≡◌, ap, subst, refl, List, [], ◌∷◌, None}
-use Rattle.lpt_model.specs.LptMemory.Memories.{Contents}
-use Rattle.lpt_model.specs.LptEvents.Configs.{IsConfig}
-use Rattle.lpt_model.specs.LptEvents.declared.config.Config.{Config}
-use Rattle.lpt_model.specs.LptEvents.declared.event.Event.{Event}
-use Rattle.lpt_model.specs.LptEvents.declared.lane.Lane.{Lane}
-use Rattle.lpt_model.specs.LptEvents.declared.lane.Lane.TheVariants.{S1, S2, G1, G2}
-use Rattle.lpt_model.specs.LptLink.Links.{hand_of, empty_link}
+use Rattle.lpt_memory.specs.Memories.{Contents}
+use Rattle.lpt_events.specs.Configs.{IsConfig}
+use Rattle.lpt_events.specs.declared.config.Config.{Config}
+use Rattle.lpt_events.specs.declared.event.Event.{Event}
+use Rattle.lpt_events.specs.declared.lane.Lane.{Lane}
+use Rattle.lpt_events.specs.declared.lane.Lane.TheVariants.{S1, S2, G1, G2}
+use Rattle.lpt_link.specs.Links.{hand_of, empty_link}
 use Rattle.lpt_model.specs.State.{State, no_state}
 use Rattle.lpt_refinement.proofs.Follows.{follows}
 use Rattle.lpt_apart.specs.Ends.{PutOut, Ends, no_ends}
@@ -25,19 +25,22 @@ step : (c : Config) (first : Contents) (s : State) (ways : List PutOut) (log : L
     → IsTied c first s ways log es
     → CanHappen c (ends_of s ways log) x
     → Follows c first (after c (ends_of s ways log) x)
-step c first s ways log es (Open d id m) good t can =
-    open_step c first s ways log es good t d id m can
-step c first s ways log es (Send d id k) good t can = send c first s ways log es good t d id k can
+step c first s ways log es (Open d name m) good t can =
+    open_step c first s ways log es good t d name m can
+step c first s ways log es (Send d name k) good t can =
+    send c first s ways log es good t d name k can
 step c first s ways log es (Plain source flags service subtype body) good t can =
     plain c first s ways log es good t source flags service subtype body can
-step c first s ways log es (Finish d id) good t can = finish c first s ways log es good t d id can
+step c first s ways log es (Finish d name) good t can =
+    finish c first s ways log es good t d name can
 step c first s ways log es (Accept d b) good t can = accept c first s ways log es good t d b can
 step c first s ways log es (Tick side) good t can = tick c first s ways log es good t side can
 step c first s ways log es (Expire side) good t can = expire c first s ways log es good t side can
 step c first s ways log es (Claim w) good t can = claim c first s ways log es good t w can
 step c first s ways log es (Commit w) good t can = commit c first s ways log es good t w can
 step c first s ways log es Apply good t can = apply c first s ways log es good t can
-step c first s ways log es (Retire d id) good t can = retire c first s ways log es d id good t can
+step c first s ways log es (Retire d name) good t can =
+    retire c first s ways log es d name good t can
 step c first s ways log es (Restart side) good t can = restart c first s ways log es good t side can
 
 no_hand : (l : Lane) → hand_of empty_link l ≡ None

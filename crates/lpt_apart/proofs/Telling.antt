@@ -1,36 +1,36 @@
 -- What a journal tells with one event more is what the nodes of a world that shows it say.
 use Rattle.std.proofs.Common.{◌≡◌, ◌∙◌, ap, sym, ℕ, List, ◌∷◌, length}
-use Rattle.lpt_model.specs.LptMemory.Memories.{Contents}
-use Rattle.lpt_model.specs.LptEvents.Lanes.{lane_direction}
-use Rattle.lpt_model.specs.LptEvents.MadePackets.{tc_made}
-use Rattle.lpt_model.specs.LptEvents.Sides.{receiver_side, direction_to}
-use Rattle.lpt_model.specs.LptEvents.declared.config.Config.{Config}
-use Rattle.lpt_model.specs.LptEvents.declared.entry.Opening.{Opening}
-use Rattle.lpt_model.specs.LptEvents.declared.entry.Release.{Release}
-use Rattle.lpt_model.specs.LptEvents.declared.event.Event.{Event}
-use Rattle.lpt_model.specs.LptEvents.declared.event.Event.TheVariants.{Plain, Deliver, Expire, Apply}
-use Rattle.lpt_model.specs.LptEvents.declared.lane.Lane.{Lane}
-use Rattle.lpt_model.specs.LptEvents.declared.reply.Answer.{Answer}
-use Rattle.lpt_model.specs.LptEvents.declared.reply.Answer.TheVariants.{Delivered, Expired}
-use Rattle.lpt_model.specs.LptEvents.declared.reply.Reply.{Reply}
-use Rattle.lpt_model.specs.LptEvents.declared.side.Side.{Side}
-use Rattle.lpt_model.specs.LptLink.Links.{packet_in_hand}
-use Rattle.lpt_model.specs.LptNode.Accepting.{accepted}
-use Rattle.lpt_model.specs.LptNode.Jobs.{executed}
-use Rattle.lpt_model.specs.LptNode.Nodes.{NodeData}
-use Rattle.lpt_model.specs.LptNode.Requests.{plain_made}
-use Rattle.lpt_model.specs.LptNode.Times.{expired}
-use Rattle.lpt_model.specs.LptNode.declared.accepted.Accepted.{Accepted}
-use Rattle.lpt_model.specs.LptNode.declared.expired.Expired.{Expired as Ended}
+use Rattle.lpt_memory.specs.Memories.{Contents}
+use Rattle.lpt_events.specs.Lanes.{lane_direction}
+use Rattle.lpt_events.specs.MadePackets.{tc_made}
+use Rattle.lpt_events.specs.Sides.{receiver_side, direction_to}
+use Rattle.lpt_events.specs.declared.config.Config.{Config}
+use Rattle.lpt_events.specs.declared.entry.Opening.{Opening}
+use Rattle.lpt_events.specs.declared.entry.Release.{Release}
+use Rattle.lpt_events.specs.declared.event.Event.{Event}
+use Rattle.lpt_events.specs.declared.event.Event.TheVariants.{Plain, Deliver, Expire, Apply}
+use Rattle.lpt_events.specs.declared.lane.Lane.{Lane}
+use Rattle.lpt_events.specs.declared.reply.Answer.{Answer}
+use Rattle.lpt_events.specs.declared.reply.Answer.TheVariants.{Delivered, Expired}
+use Rattle.lpt_events.specs.declared.reply.Reply.{Reply}
+use Rattle.lpt_events.specs.declared.side.Side.{Side}
+use Rattle.lpt_link.specs.Links.{packet_in_hand}
+use Rattle.lpt_node.specs.Accepting.{accepted}
+use Rattle.lpt_node.specs.Jobs.{executed}
+use Rattle.lpt_node.specs.Nodes.{NodeData}
+use Rattle.lpt_node.specs.Requests.{plain_made}
+use Rattle.lpt_node.specs.Times.{expired}
+use Rattle.lpt_node.specs.declared.accepted.Accepted.{Accepted}
+use Rattle.lpt_node.specs.declared.expired.Expired.{Expired as Ended}
 use Rattle.lpt_model.specs.State.{State, end_of, as_list, arrival_held, add_release, add_opening, released_of}
 use Rattle.lpt_refinement.specs.Shows.{Shows}
 use Rattle.lpt_refinement.specs.Views.{views}
-use Rattle.lpt_refinement.specs.LptJournal.Delivery.{outcome}
-use Rattle.lpt_refinement.specs.LptJournal.Executions.{front_opens}
-use Rattle.lpt_refinement.specs.LptJournal.Journal.{History}
-use Rattle.lpt_refinement.specs.LptJournal.Releases.{released_by, releases}
-use Rattle.lpt_refinement.specs.LptJournal.Replies.{answer, recorded, entry}
-use Rattle.lpt_refinement.specs.LptJournal.Senders.{opened}
+use Rattle.lpt_journal.specs.Delivery.{outcome}
+use Rattle.lpt_journal.specs.Executions.{front_opens}
+use Rattle.lpt_journal.specs.Journal.{History}
+use Rattle.lpt_journal.specs.Releases.{released_by, releases}
+use Rattle.lpt_journal.specs.Replies.{answer, recorded, entry}
+use Rattle.lpt_journal.specs.Senders.{opened}
 use Rattle.lpt_apart.specs.Facts.{Asked, Aborted, Executed, Log, with_abortion}
 use Rattle.lpt_apart.specs.Steps.{with_release, with_report}
 use Rattle.lpt_apart.specs.Told.{with_releases, with_ended, told}
@@ -57,16 +57,16 @@ module _ (c : Config) (first : Contents) (s : State) (log : Log) (es : List Even
   pub expiry_told : (side : Side)
       → IsLonger c first s es (Expire side)
       → told c (recorded c first (Expire side ∷ es))
-      ≡ Aborted (direction_to side) (expired side c (end_of s side)).1.id ∷ log
+      ≡ Aborted (direction_to side) (expired side c (end_of s side)).1.name ∷ log
   expiry_told side more =
       let x : NodeData × Ended = expired side c (end_of s side) in
-      let answered : Expired (direction_to side) x.1.id ≡ answer c first h (Expire side) =
+      let answered : Expired (direction_to side) x.1.name ≡ answer c first h (Expire side) =
       sym
-      (put_some-answer (length s.link.packets) (Expired (direction_to side) x.1.id)
+      (put_some-answer (length s.link.packets) (Expired (direction_to side) x.1.name)
       (as_list x.1.packet))
       ∙ ap (λ (r : Reply). r.answer) more.answered in
       ap (λ (a : Answer). with_ended (Expire side) a (told c h)) (sym answered)
-      ∙ ap (λ (l : Log). Aborted (direction_to side) x.1.id ∷ l) tells
+      ∙ ap (λ (l : Log). Aborted (direction_to side) x.1.name ∷ l) tells
 
   -- the spacecraft has executed a request, and opened the report of data that it made, or none
   pub execution_told : IsLonger c first s es Apply

@@ -1,26 +1,26 @@
 -- Two ends are tied to a world that shows a legal journal, and each event leads on.
 use Rattle.std.proofs.Common.{◌≡◌, ◌∙◌, sym, ◌∷◌, List, length, None, arith}
 use Rattle.std.proofs.lemmas.List.{length-map}
-use Rattle.lpt_model.specs.LptMemory.Memories.{Contents}
-use Rattle.lpt_model.specs.LptEvents.Configs.{IsConfig}
-use Rattle.lpt_model.specs.LptEvents.Events.{IsEvent}
-use Rattle.lpt_model.specs.LptEvents.declared.config.Config.{Config}
-use Rattle.lpt_model.specs.LptEvents.declared.entry.Release.{Release}
-use Rattle.lpt_model.specs.LptEvents.declared.event.Event.{Event}
-use Rattle.lpt_model.specs.LptEvents.declared.lane.Lane.{Lane}
-use Rattle.lpt_model.specs.LptLink.Links.{hand_of}
+use Rattle.lpt_memory.specs.Memories.{Contents}
+use Rattle.lpt_events.specs.Configs.{IsConfig}
+use Rattle.lpt_events.specs.Events.{IsEvent}
+use Rattle.lpt_events.specs.declared.config.Config.{Config}
+use Rattle.lpt_events.specs.declared.entry.Release.{Release}
+use Rattle.lpt_events.specs.declared.event.Event.{Event}
+use Rattle.lpt_events.specs.declared.lane.Lane.{Lane}
+use Rattle.lpt_link.specs.Links.{hand_of}
 use Rattle.lpt_model.specs.State.{State, after, refusal_of, IsReady}
 use Rattle.lpt_refinement.specs.GoesOn.{Fits}
 use Rattle.lpt_refinement.specs.Shows.{Shows, JobsFit}
 use Rattle.lpt_refinement.specs.Views.{views, jobs_view}
-use Rattle.lpt_refinement.specs.LptJournal.Jobs.{jobs, ticket}
-use Rattle.lpt_refinement.specs.LptJournal.Journal.{History}
-use Rattle.lpt_refinement.specs.LptJournal.Legal.{Legal}
-use Rattle.lpt_refinement.specs.LptJournal.Refusals.{refusal}
-use Rattle.lpt_refinement.specs.LptJournal.Replies.{reply, recorded}
+use Rattle.lpt_journal.specs.Jobs.{jobs, ticket}
+use Rattle.lpt_journal.specs.Journal.{History}
+use Rattle.lpt_journal.specs.Legal.{Legal}
+use Rattle.lpt_journal.specs.Refusals.{refusal}
+use Rattle.lpt_journal.specs.Replies.{reply, recorded}
 use Rattle.lpt_refinement.proofs.Follows.{follows}
-use Rattle.lpt_refinement.proofs.LptJournal.HeadlineLemmas.{every}
-use Rattle.lpt_refinement.proofs.LptJournal.TicketSteps.{jobs_sound}
+use Rattle.lpt_journal.proofs.HeadlineLemmas.{every}
+use Rattle.lpt_journal.proofs.TicketSteps.{jobs_sound}
 use Rattle.lpt_apart.specs.Ends.{PutOut, Ends}
 use Rattle.lpt_apart.specs.Facts.{Log}
 use Rattle.lpt_apart.specs.Told.{told}

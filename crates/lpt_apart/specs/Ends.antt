@@ -2,14 +2,14 @@
 use Rattle.std.specs.Prelude.{ℕ, Bool, not, ◌&&◌, List, [], ◌∷◌, Option, Some}
 use Rattle.std.specs.List.{filter}
 use Rattle.std.specs.Option.{option_eq}
-use Rattle.lpt_model.specs.LptPacket.declared.direction.Direction.{Direction}
-use Rattle.lpt_model.specs.LptPacket.Names.{Name, same_name}
-use Rattle.lpt_model.specs.LptMemory.Memories.{Contents}
-use Rattle.lpt_model.specs.LptEvents.declared.config.Config.{Config}
-use Rattle.lpt_model.specs.LptEvents.declared.side.Side.{Side}
-use Rattle.lpt_model.specs.LptEvents.declared.side.Side.TheVariants.{Ground, Craft}
-use Rattle.lpt_model.specs.LptEvents.Lanes.{same_direction}
-use Rattle.lpt_model.specs.LptNode.Nodes.{NodeData, no_data}
+use Rattle.lpt_packet.specs.declared.direction.Direction.{Direction}
+use Rattle.lpt_packet.specs.Names.{Name, same_name}
+use Rattle.lpt_memory.specs.Memories.{Contents}
+use Rattle.lpt_events.specs.declared.config.Config.{Config}
+use Rattle.lpt_events.specs.declared.side.Side.{Side}
+use Rattle.lpt_events.specs.declared.side.Side.TheVariants.{Ground, Craft}
+use Rattle.lpt_events.specs.Lanes.{same_direction}
+use Rattle.lpt_node.specs.Nodes.{NodeData, no_data}
 use Rattle.lpt_model.specs.Tickets.{Tickets, no_tickets}
 use Rattle.lpt_apart.specs.Facts.{Log}
 
@@ -58,8 +58,8 @@ put_out ps d tag (b ∷ bs) =
 
 -- whether a packet is a part of this transaction
 abbrev pub is_part : Direction → Name → PutOut → Bool
-is_part d id p = same_direction p.direction d && option_eq same_name p.part_of (Some id)
+is_part d name p = same_direction p.direction d && option_eq same_name p.part_of (Some name)
 
 -- what may be handed over once this transaction's parts may not
 abbrev pub without : Direction → Name → List PutOut → List PutOut
-without d id ps = filter (λ p. not (is_part d id p)) ps
+without d name ps = filter (λ p. not (is_part d name p)) ps

@@ -1,13 +1,13 @@
 -- The log of two ends: what happened of which their promise speaks, and that promise.
 use Rattle.std.specs.Prelude.{◌≡◌, ℕ, ◌<◌, Bool, true, false, ◌&&◌, if◌then◌else◌, List, [], ◌∷◌, ◌++◌, length, take, drop, Option, Some, None, is_some, Contains, ⊤}
-use Rattle.lpt_model.specs.LptPacket.declared.direction.Direction.{Direction}
-use Rattle.lpt_model.specs.LptPacket.Names.{Name, same_name}
-use Rattle.lpt_model.specs.LptEvents.declared.outcome.Outcome.{Outcome}
-use Rattle.lpt_model.specs.LptEvents.declared.outcome.Outcome.TheVariants.{Broken}
-use Rattle.lpt_model.specs.LptEvents.declared.side.Side.{Side}
-use Rattle.lpt_model.specs.LptEvents.declared.side.Side.TheVariants.{Ground, Craft}
-use Rattle.lpt_model.specs.LptEvents.Lanes.{same_direction}
-use Rattle.lpt_refinement.specs.LptJournal.Jobs.{went_up}
+use Rattle.lpt_packet.specs.declared.direction.Direction.{Direction}
+use Rattle.lpt_packet.specs.Names.{Name, same_name}
+use Rattle.lpt_events.specs.declared.outcome.Outcome.{Outcome}
+use Rattle.lpt_events.specs.declared.outcome.Outcome.TheVariants.{Broken}
+use Rattle.lpt_events.specs.declared.side.Side.{Side}
+use Rattle.lpt_events.specs.declared.side.Side.TheVariants.{Ground, Craft}
+use Rattle.lpt_events.specs.Lanes.{same_direction}
+use Rattle.lpt_journal.specs.Jobs.{went_up}
 
 -- A message was opened; ground asked for something by a plain request, whose packet has these
 -- octets; a message was released, of a transaction, or of none where it was a plain request; a
@@ -28,35 +28,35 @@ Log = List Fact
 
 -- the log with the reception that a delivery with this outcome has broken off, where it has
 abbrev pub with_abortion : Direction → Outcome → Log → Log
-with_abortion d (Broken id reason) log = Aborted d id ∷ log
+with_abortion d (Broken name reason) log = Aborted d name ∷ log
 with_abortion d _ log = log
 
 -- ---- messages
 
 -- whether two transactions are the same
 abbrev pub is_same : Direction → Name → Direction → Name → Bool
-is_same e i d id = same_direction e d && same_name i id
+is_same e i d name = same_direction e d && same_name i name
 
 -- whether what was released is of this transaction
 abbrev pub is_of_it : Option (Direction × Name) → Direction → Name → Bool
-is_of_it None d id = false
-is_of_it (Some t) d id = is_same t.0 t.1 d id
+is_of_it None d name = false
+is_of_it (Some t) d name = is_same t.0 t.1 d name
 
 -- the awaited message of a transaction after a fact
 abbrev pub awaited_after : Fact → Direction → Name → Option (List ℕ) → Option (List ℕ)
-awaited_after (Opened e i m) d id before = if is_same e i d id then Some m else before
-awaited_after (Asked b) d id before = before
-awaited_after (Released of m) d id before = if is_of_it of d id then None else before
-awaited_after (Aborted e i) d id before = if is_same e i d id then None else before
-awaited_after Executed d id before = before
-awaited_after (Retired e i) d id before = if is_same e i d id then None else before
-awaited_after (Restarted side) d id before = before
+awaited_after (Opened e i m) d name before = if is_same e i d name then Some m else before
+awaited_after (Asked b) d name before = before
+awaited_after (Released of m) d name before = if is_of_it of d name then None else before
+awaited_after (Aborted e i) d name before = if is_same e i d name then None else before
+awaited_after Executed d name before = before
+awaited_after (Retired e i) d name before = if is_same e i d name then None else before
+awaited_after (Restarted side) d name before = before
 
 -- the message last opened under a name, where since then it was neither released nor retired, and
 -- its reception neither expired nor was broken off
 abbrev pub awaited : Log → Direction → Name → Option (List ℕ)
-awaited [] d id = None
-awaited (x ∷ log) d id = awaited_after x d id (awaited log d id)
+awaited [] d name = None
+awaited (x ∷ log) d name = awaited_after x d name (awaited log d name)
 
 -- ---- requests
 
@@ -99,7 +99,7 @@ executed (x ∷ log) = executed_after x (waiting log) (executed log)
 abbrev pub IsDue : Fact → Log → Type 0
 IsDue (Released None m) log = Contains log (Asked m)
 IsDue (Released (Some t) m) log = awaited log t.0 t.1 ≡ Some m
-IsDue (Aborted d id) log = is_some (awaited log d id) ≡ true
+IsDue (Aborted d name) log = is_some (awaited log d name) ≡ true
 IsDue Executed log = 0 < length (waiting log)
 IsDue _ log = ⊤
 

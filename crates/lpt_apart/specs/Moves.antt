@@ -4,18 +4,18 @@
 -- closed.
 use Rattle.std.specs.Prelude.{◌≡◌, Bool, true, false, not, ◌&&◌, ◌||◌, if◌then◌else◌, List, [], ◌∷◌, None, ⊤}
 use Rattle.std.specs.FinMap as maps
-use Rattle.lpt_model.specs.LptPacket.declared.direction.Direction.{Direction}
-use Rattle.lpt_model.specs.LptPacket.declared.direction.Direction.TheVariants.{Up, Down}
-use Rattle.lpt_model.specs.LptPacket.Names.{Name}
-use Rattle.lpt_model.specs.LptMemory.Memories.{Contents}
-use Rattle.lpt_model.specs.LptEvents.Configs.{IsConfig}
-use Rattle.lpt_model.specs.LptEvents.Events.{IsEvent}
-use Rattle.lpt_model.specs.LptEvents.Sides.{sender_side, receiver_side}
-use Rattle.lpt_model.specs.LptEvents.declared.config.Config.{Config}
-use Rattle.lpt_model.specs.LptEvents.declared.event.Event.TheVariants as event
-use Rattle.lpt_model.specs.LptLedger.Marks.{Marks}
-use Rattle.lpt_model.specs.LptNode.Anew.{retired}
-use Rattle.lpt_model.specs.LptNode.Nodes.{NodeData}
+use Rattle.lpt_packet.specs.declared.direction.Direction.{Direction}
+use Rattle.lpt_packet.specs.declared.direction.Direction.TheVariants.{Up, Down}
+use Rattle.lpt_packet.specs.Names.{Name}
+use Rattle.lpt_memory.specs.Memories.{Contents}
+use Rattle.lpt_events.specs.Configs.{IsConfig}
+use Rattle.lpt_events.specs.Events.{IsEvent}
+use Rattle.lpt_events.specs.Sides.{sender_side, receiver_side}
+use Rattle.lpt_events.specs.declared.config.Config.{Config}
+use Rattle.lpt_events.specs.declared.event.Event.TheVariants as event
+use Rattle.lpt_ledger.specs.Marks.{Marks}
+use Rattle.lpt_node.specs.Restarts.{retired}
+use Rattle.lpt_node.specs.Nodes.{NodeData}
 use Rattle.lpt_apart.specs.Ends.{Ends, no_ends, node_at, with_node, without}
 use Rattle.lpt_apart.specs.Facts.{Retired, is_same}
 use Rattle.lpt_apart.specs.Steps.{Step, Retire, IsOver, CanHappen, after}
@@ -30,7 +30,7 @@ pub record Pair : Type 0 where
 
 -- two new ends
 abbrev pub no_pair : Config → Contents → Pair
-no_pair c first = record { ends = no_ends c first; freed = λ d id. false }
+no_pair c first = record { ends = no_ends c first; freed = λ d name. false }
 
 -- a step, of which a retirement is the sender's alone; or the receiver of a direction frees a name
 pub data Move : Type 0 where
@@ -39,41 +39,41 @@ pub data Move : Type 0 where
 
 -- the receiver has freed a name; no part of it that was put out before may be handed over any more
 abbrev pub freed_by : Pair → Direction → Name → Pair
-freed_by p d id = record {
+freed_by p d name = record {
   ends =
       record (with_node p.ends (receiver_side d)
-      (retired (receiver_side d) (node_at p.ends (receiver_side d)) d id)) {
-        on_the_way = without d id p.ends.on_the_way;
+      (retired (receiver_side d) (node_at p.ends (receiver_side d)) d name)) {
+        on_the_way = without d name p.ends.on_the_way;
       };
-  freed = λ e i. is_same d id e i || p.freed e i;
+  freed = λ e i. is_same d name e i || p.freed e i;
 }
 
 -- the sender has freed a name too
 abbrev pub retired_by : Pair → Direction → Name → Pair
-retired_by p d id = record {
+retired_by p d name = record {
   ends =
       record (with_node p.ends (sender_side d)
-      (retired (sender_side d) (node_at p.ends (sender_side d)) d id)) {
-        on_the_way = without d id p.ends.on_the_way;
-        log = Retired d id ∷ p.ends.log;
+      (retired (sender_side d) (node_at p.ends (sender_side d)) d name)) {
+        on_the_way = without d name p.ends.on_the_way;
+        log = Retired d name ∷ p.ends.log;
       };
-  freed = λ e i. not (is_same d id e i) && p.freed e i;
+  freed = λ e i. not (is_same d name e i) && p.freed e i;
 }
 
 -- what a move makes of two ends
 abbrev pub moved : Config → Pair → Move → Pair
-moved c p (Do (Retire d id)) = retired_by p d id
+moved c p (Do (Retire d name)) = retired_by p d name
 moved c p (Do x) = record p { ends = after c p.ends x }
-moved c p (Free d id) = freed_by p d id
+moved c p (Free d name) = freed_by p d name
 
 -- ---- when a move can happen
 
 -- A step can happen as before, but a name is retired where its receiver has freed it. A receiver
 -- frees a name where it is over.
 abbrev pub CanMove : Config → Pair → Move → Type 0
-CanMove c p (Do (Retire d id)) = IsEvent (event.Retire d id) × (p.freed d id ≡ true)
+CanMove c p (Do (Retire d name)) = IsEvent (event.Retire d name) × (p.freed d name ≡ true)
 CanMove c p (Do x) = CanHappen c p.ends x
-CanMove c p (Free d id) = IsEvent (event.Retire d id) × IsOver p.ends d id
+CanMove c p (Free d name) = IsEvent (event.Retire d name) × IsOver p.ends d name
 
 -- two ends after these moves, the newest of which stands first
 abbrev pub came_to : Config → Contents → List Move → Pair
@@ -99,7 +99,7 @@ with_ledgers g k e =
 -- a receiver knows what another knows but for the freed names
 abbrev pub KnowsLess : Marks → (Name → Bool) → Marks → Type 0
 KnowsLess less freed m =
-    (id : Name) → maps.get less id ≡ (if freed id then None else maps.get m id)
+    (name : Name) → maps.get less name ≡ (if freed name then None else maps.get m name)
 
 -- two ends are a world's, but that their receivers have freed some names already
 pub record IsAWorldBut (c : Config) (first : Contents) (p : Pair) : Type 0 where

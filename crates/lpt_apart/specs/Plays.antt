@@ -1,19 +1,19 @@
 -- The steps of two ends that the events of a world are: so whatever a world does, two ends can do.
 use Rattle.std.specs.Prelude.{◌≡◌, ℕ, List, [], ◌∷◌, slice_get, Option, Some, None}
 use Rattle.std.specs.Option.{option_map_or}
-use Rattle.lpt_model.specs.LptMemory.Memories.{Contents}
-use Rattle.lpt_model.specs.LptEvents.Configs.{IsConfig}
-use Rattle.lpt_model.specs.LptEvents.Lanes.{lane_direction}
-use Rattle.lpt_model.specs.LptEvents.declared.config.Config.{Config}
-use Rattle.lpt_model.specs.LptEvents.declared.event.Event.{Event}
-use Rattle.lpt_model.specs.LptEvents.declared.event.Event.TheVariants as event
-use Rattle.lpt_model.specs.LptEvents.declared.lane.Lane.{Lane}
+use Rattle.lpt_memory.specs.Memories.{Contents}
+use Rattle.lpt_events.specs.Configs.{IsConfig}
+use Rattle.lpt_events.specs.Lanes.{lane_direction}
+use Rattle.lpt_events.specs.declared.config.Config.{Config}
+use Rattle.lpt_events.specs.declared.event.Event.{Event}
+use Rattle.lpt_events.specs.declared.event.Event.TheVariants as event
+use Rattle.lpt_events.specs.declared.lane.Lane.{Lane}
 use Rattle.lpt_model.specs.State.{State}
-use Rattle.lpt_refinement.specs.LptJournal.Hands.{hand}
-use Rattle.lpt_refinement.specs.LptJournal.Journal.{History}
-use Rattle.lpt_refinement.specs.LptJournal.Legal.{Legal}
-use Rattle.lpt_refinement.specs.LptJournal.Link.{sent}
-use Rattle.lpt_refinement.specs.LptJournal.Replies.{recorded}
+use Rattle.lpt_journal.specs.Hands.{hand}
+use Rattle.lpt_journal.specs.Journal.{History}
+use Rattle.lpt_journal.specs.Legal.{Legal}
+use Rattle.lpt_journal.specs.Link.{sent}
+use Rattle.lpt_journal.specs.Replies.{recorded}
 use Rattle.lpt_refinement.specs.Shows.{Shows}
 use Rattle.lpt_refinement.specs.Views.{views}
 use Rattle.lpt_apart.specs.Ends.{Ends}
@@ -31,11 +31,11 @@ octets_held h l =
 -- The step that an event is after this history: what a lane delivers is handed over. What the link
 -- does by itself is none.
 abbrev pub step_of : History → Event → Option Step
-step_of h (event.Open d id m) = Some (Open d id m)
-step_of h (event.Send d id k) = Some (Send d id k)
+step_of h (event.Open d name m) = Some (Open d name m)
+step_of h (event.Send d name k) = Some (Send d name k)
 step_of h (event.Plain source flags service subtype body) =
     Some (Plain source flags service subtype body)
-step_of h (event.Finish d id) = Some (Finish d id)
+step_of h (event.Finish d name) = Some (Finish d name)
 step_of h (event.Lose n) = None
 step_of h (event.Damage d b) = None
 step_of h (event.Take l n) = None
@@ -45,7 +45,7 @@ step_of h (event.Expire side) = Some (Expire side)
 step_of h (event.Claim w) = Some (Claim w)
 step_of h (event.Commit w) = Some (Commit w)
 step_of h event.Apply = Some Apply
-step_of h (event.Retire d id) = Some (Retire d id)
+step_of h (event.Retire d name) = Some (Retire d name)
 step_of h (event.Restart side) = Some (Restart side)
 
 -- steps with one more, or none
@@ -86,7 +86,7 @@ WorldsAreEnds =
 -- the moves that steps are: a name is freed at its receiver, and then at its sender
 abbrev pub moves_of : List Step → List Move
 moves_of [] = []
-moves_of (Retire d id ∷ xs) = Do (Retire d id) ∷ Free d id ∷ moves_of xs
+moves_of (Retire d name ∷ xs) = Do (Retire d name) ∷ Free d name ∷ moves_of xs
 moves_of (x ∷ xs) = Do x ∷ moves_of xs
 
 -- two ends can do the moves that steps are, and then have what they would have by the steps

@@ -4,30 +4,30 @@
 -- Only a retirement is of both.
 use Rattle.std.specs.Prelude.{◌≡◌, ℕ, Bool, true, false, ◌⊎◌, List, [], ◌∷◌, length, slice_get, Option, Some, None, is_some, ⊤}
 use Rattle.std.specs.FinMap as maps
-use Rattle.lpt_model.specs.LptPacket.declared.direction.Direction.{Direction}
-use Rattle.lpt_model.specs.LptPacket.declared.direction.Direction.TheVariants.{Up, Down}
-use Rattle.lpt_model.specs.LptPacket.Names.{Name}
-use Rattle.lpt_model.specs.LptMemory.Memories.{Contents, sizes_of}
-use Rattle.lpt_model.specs.LptMemory.Readings.{Job}
-use Rattle.lpt_model.specs.LptEvents.Arrivals.{Arrival, NotRead, AnIdle, Foreign, ARequest, AReport, NoPart, APart, AnAbort, arrival_in}
-use Rattle.lpt_model.specs.LptEvents.Events.{IsEvent}
-use Rattle.lpt_model.specs.LptEvents.Sides.{sender_side, receiver_side, direction_to}
-use Rattle.lpt_model.specs.LptEvents.declared.config.Config.{Config}
-use Rattle.lpt_model.specs.LptEvents.declared.event.Event.TheVariants as event
-use Rattle.lpt_model.specs.LptEvents.declared.side.Side.{Side}
-use Rattle.lpt_model.specs.LptEvents.declared.side.Side.TheVariants.{Ground, Craft}
-use Rattle.lpt_model.specs.LptEvents.declared.worker.Worker.{Worker}
-use Rattle.lpt_model.specs.LptLedger.States.{state_at}
-use Rattle.lpt_model.specs.LptLedger.declared.state.State.TheVariants.{Closed}
-use Rattle.lpt_model.specs.LptNode.declared.accepted.Accepted.{Accepted}
-use Rattle.lpt_model.specs.LptNode.declared.expired.Expired.{Expired}
-use Rattle.lpt_model.specs.LptNode.Accepting.{accepted}
-use Rattle.lpt_model.specs.LptNode.Anew.{retired, restarted}
-use Rattle.lpt_model.specs.LptNode.Jobs.{Execution, refusal_claim, claimed, committed, refusal_apply, executed}
-use Rattle.lpt_model.specs.LptNode.Nodes.{NodeData}
-use Rattle.lpt_model.specs.LptNode.Requests.{refusal_plain, plain_made}
-use Rattle.lpt_model.specs.LptNode.Sending.{refusal_open, opened, refusal_send, sent, refusal_finish, closed}
-use Rattle.lpt_model.specs.LptNode.Times.{refusal_tick, ticked, refusal_expire, expired}
+use Rattle.lpt_packet.specs.declared.direction.Direction.{Direction}
+use Rattle.lpt_packet.specs.declared.direction.Direction.TheVariants.{Up, Down}
+use Rattle.lpt_packet.specs.Names.{Name}
+use Rattle.lpt_memory.specs.Memories.{Contents, sizes_of}
+use Rattle.lpt_memory.specs.Readings.{Job}
+use Rattle.lpt_events.specs.Arrivals.{Arrival, NotRead, AnIdle, Foreign, ARequest, AReport, NoPart, APart, AnAbort, arrival_in}
+use Rattle.lpt_events.specs.Events.{IsEvent}
+use Rattle.lpt_events.specs.Sides.{sender_side, receiver_side, direction_to}
+use Rattle.lpt_events.specs.declared.config.Config.{Config}
+use Rattle.lpt_events.specs.declared.event.Event.TheVariants as event
+use Rattle.lpt_events.specs.declared.side.Side.{Side}
+use Rattle.lpt_events.specs.declared.side.Side.TheVariants.{Ground, Craft}
+use Rattle.lpt_events.specs.declared.worker.Worker.{Worker}
+use Rattle.lpt_ledger.specs.States.{state_at}
+use Rattle.lpt_ledger.specs.declared.state.State.TheVariants.{Closed}
+use Rattle.lpt_node.specs.declared.accepted.Accepted.{Accepted}
+use Rattle.lpt_node.specs.declared.expired.Expired.{Expired}
+use Rattle.lpt_node.specs.Accepting.{accepted}
+use Rattle.lpt_node.specs.Restarts.{retired, restarted}
+use Rattle.lpt_node.specs.Jobs.{Execution, refusal_claim, claimed, committed, refusal_apply, executed}
+use Rattle.lpt_node.specs.Nodes.{NodeData}
+use Rattle.lpt_node.specs.Requests.{refusal_plain, plain_made}
+use Rattle.lpt_node.specs.Sending.{refusal_open, opened, refusal_send, sent, refusal_finish, closed}
+use Rattle.lpt_node.specs.Times.{refusal_tick, ticked, refusal_expire, expired}
 use Rattle.lpt_model.specs.State.{as_list, released_of}
 use Rattle.lpt_model.specs.Tickets.{ticket_of, with_ticket}
 use Rattle.lpt_apart.specs.Ends.{PutOut, Ends, no_ends, node_at, with_node, put_out, without}
@@ -73,7 +73,7 @@ is_harmless (ARequest b) = false
 is_harmless (AReport service subtype) = true
 is_harmless NoPart = true
 is_harmless (APart q) = false
-is_harmless (AnAbort id reason) = true
+is_harmless (AnAbort name reason) = true
 
 -- the network may hand octets to the node that receives in this direction
 abbrev pub MayCome : Config → Ends → Direction → List ℕ → Type 0
@@ -82,37 +82,38 @@ MayCome c e d b = IsOnTheWay e d b ⊎ (is_harmless (arrival_in c d b) ≡ true)
 -- ---- when a step can happen
 
 -- a name can be retired: its sender is closed, and no reception of it is open
-pub record IsOver (e : Ends) (d : Direction) (id : Name) : Type 0 where
-  pub closed : state_at (node_at e (sender_side d)).sending.ledger id ≡ Closed
-  pub unheard : is_some (maps.get (node_at e (receiver_side d)).receiving.entries id) ≡ false
+pub record IsOver (e : Ends) (d : Direction) (name : Name) : Type 0 where
+  pub closed : state_at (node_at e (sender_side d)).sending.ledger name ≡ Closed
+  pub unheard : is_some (maps.get (node_at e (receiver_side d)).receiving.entries name) ≡ false
 
 -- a step can happen: its numbers are of their types, and the node doesn't refuse it
 abbrev pub CanHappen : Config → Ends → Step → Type 0
-CanHappen c e (Open d id m) =
-    IsEvent (event.Open d id m) × (refusal_open c (node_at e (sender_side d)) id (length m) ≡ None)
-CanHappen c e (Send d id k) =
-    IsEvent (event.Send d id k) × (refusal_send c (node_at e (sender_side d)) id k ≡ None)
+CanHappen c e (Open d name m) =
+    IsEvent (event.Open d name m)
+    × (refusal_open c (node_at e (sender_side d)) name (length m) ≡ None)
+CanHappen c e (Send d name k) =
+    IsEvent (event.Send d name k) × (refusal_send c (node_at e (sender_side d)) name k ≡ None)
 CanHappen c e (Plain source flags service subtype body) =
     IsEvent (event.Plain source flags service subtype body)
     × (refusal_plain c service subtype (length body) ≡ None)
-CanHappen c e (Finish d id) =
-    IsEvent (event.Finish d id) × (refusal_finish (node_at e (sender_side d)) id ≡ None)
+CanHappen c e (Finish d name) =
+    IsEvent (event.Finish d name) × (refusal_finish (node_at e (sender_side d)) name ≡ None)
 CanHappen c e (Accept d b) = MayCome c e d b
 CanHappen c e (Tick side) = refusal_tick (node_at e side) ≡ None
 CanHappen c e (Expire side) = refusal_expire c (node_at e side) ≡ None
 CanHappen c e (Claim w) = (ticket_of e.tickets w ≡ None) × (refusal_claim e.on_craft ≡ None)
 CanHappen c e (Commit w) = is_some (ticket_of e.tickets w) ≡ true
 CanHappen c e Apply = refusal_apply e.on_craft ≡ None
-CanHappen c e (Retire d id) = IsEvent (event.Retire d id) × IsOver e d id
+CanHappen c e (Retire d name) = IsEvent (event.Retire d name) × IsOver e d name
 CanHappen c e (Restart side) = ⊤
 
 -- ---- what a step does
 
 -- a part's packet is put out
 abbrev pub sent_on : Ends → Direction → Name → NodeData × List ℕ → Ends
-sent_on e d id x =
+sent_on e d name x =
     record (with_node e (sender_side d) x.0) {
-      on_the_way = put_out e.on_the_way d (Some id) (x.1 ∷ []);
+      on_the_way = put_out e.on_the_way d (Some name) (x.1 ∷ []);
     }
 
 -- a plain request's packet is put out
@@ -144,7 +145,7 @@ abbrev pub expired_on : Ends → Side → NodeData × Expired → Ends
 expired_on e side x =
     record (with_node e side x.0) {
       on_the_way = put_out e.on_the_way Down None (as_list x.1.packet);
-      log = Aborted (direction_to side) x.1.id ∷ e.log;
+      log = Aborted (direction_to side) x.1.name ∷ e.log;
     }
 
 -- a worker has a job
@@ -184,26 +185,26 @@ executed_on e x =
 -- both nodes have freed a name, and no part of it that was put out before may be handed over any
 -- more
 abbrev pub retired_on : Ends → Direction → Name → Ends
-retired_on e d id =
+retired_on e d name =
     record e {
-      on_ground = retired Ground e.on_ground d id;
-      on_craft = retired Craft e.on_craft d id;
-      on_the_way = without d id e.on_the_way;
-      log = Retired d id ∷ e.log;
+      on_ground = retired Ground e.on_ground d name;
+      on_craft = retired Craft e.on_craft d name;
+      on_the_way = without d name e.on_the_way;
+      log = Retired d name ∷ e.log;
     }
 
 -- what a step makes of two ends
 abbrev pub after : Config → Ends → Step → Ends
-after c e (Open d id m) =
-    record (with_node e (sender_side d) (opened (node_at e (sender_side d)) id m)) {
-      log = Opened d id m ∷ e.log;
+after c e (Open d name m) =
+    record (with_node e (sender_side d) (opened (node_at e (sender_side d)) name m)) {
+      log = Opened d name m ∷ e.log;
     }
-after c e (Send d id k) =
-    sent_on e d id (sent (sender_side d) c (node_at e (sender_side d)) id k)
+after c e (Send d name k) =
+    sent_on e d name (sent (sender_side d) c (node_at e (sender_side d)) name k)
 after c e (Plain source flags service subtype body) =
     requested_on e (plain_made c e.on_ground source flags service subtype body)
-after c e (Finish d id) =
-    with_node e (sender_side d) (closed (node_at e (sender_side d)) id)
+after c e (Finish d name) =
+    with_node e (sender_side d) (closed (node_at e (sender_side d)) name)
 after c e (Accept d b) =
     accepted_on e d
     (accepted (receiver_side d) c (node_at e (receiver_side d)) (arrival_in c d b))
@@ -212,7 +213,7 @@ after c e (Expire side) = expired_on e side (expired side c (node_at e side))
 after c e (Claim w) = claimed_on e w (claimed e.on_craft)
 after c e (Commit w) = committed_on c e w (ticket_of e.tickets w)
 after c e Apply = executed_on e (executed c e.on_craft e.memories)
-after c e (Retire d id) = retired_on e d id
+after c e (Retire d name) = retired_on e d name
 after c e (Restart side) =
     record (with_node e side (restarted (node_at e side))) { log = Restarted side ∷ e.log }
 

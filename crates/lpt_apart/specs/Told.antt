@@ -1,21 +1,21 @@
 -- The log that a journal tells.
 use Rattle.std.specs.Prelude.{List, [], ◌∷◌}
-use Rattle.lpt_model.specs.LptEvents.declared.config.Config.{Config}
-use Rattle.lpt_model.specs.LptEvents.declared.entry.Opening.{Opening}
-use Rattle.lpt_model.specs.LptEvents.declared.entry.Release.{Release}
-use Rattle.lpt_model.specs.LptEvents.declared.event.Event.{Event}
-use Rattle.lpt_model.specs.LptEvents.declared.event.Event.TheVariants.{Plain, Deliver, Expire, Apply, Retire, Restart}
-use Rattle.lpt_model.specs.LptEvents.declared.reply.Answer.{Answer}
-use Rattle.lpt_model.specs.LptEvents.declared.reply.Answer.TheVariants.{Delivered, Expired}
-use Rattle.lpt_model.specs.LptEvents.Lanes.{lane_direction}
-use Rattle.lpt_refinement.specs.LptJournal.Journal.{SentPacket, Recorded, History}
-use Rattle.lpt_refinement.specs.LptJournal.Releases.{released_by}
+use Rattle.lpt_events.specs.declared.config.Config.{Config}
+use Rattle.lpt_events.specs.declared.entry.Opening.{Opening}
+use Rattle.lpt_events.specs.declared.entry.Release.{Release}
+use Rattle.lpt_events.specs.declared.event.Event.{Event}
+use Rattle.lpt_events.specs.declared.event.Event.TheVariants.{Plain, Deliver, Expire, Apply, Retire, Restart}
+use Rattle.lpt_events.specs.declared.reply.Answer.{Answer}
+use Rattle.lpt_events.specs.declared.reply.Answer.TheVariants.{Delivered, Expired}
+use Rattle.lpt_events.specs.Lanes.{lane_direction}
+use Rattle.lpt_journal.specs.Journal.{SentPacket, Recorded, History}
+use Rattle.lpt_journal.specs.Releases.{released_by}
 use Rattle.lpt_apart.specs.Facts.{Opened, Asked, Released, Aborted, Executed, Retired, Restarted, Log, with_abortion}
 
 -- the log with these openings
 abbrev pub with_openings : List Opening → Log → Log
 with_openings [] log = log
-with_openings (o ∷ os) log = Opened o.direction o.id o.message ∷ with_openings os log
+with_openings (o ∷ os) log = Opened o.direction o.name o.message ∷ with_openings os log
 
 -- the log with these releases, the first of them first
 abbrev pub with_releases : List Release → Log → Log
@@ -25,7 +25,7 @@ with_releases (r ∷ rs) log = with_releases rs (Released r.of r.message ∷ log
 -- the log with the reception that an event's answer says expired or was broken off
 abbrev pub with_ended : Event → Answer → Log → Log
 with_ended (Deliver l) (Delivered o) log = with_abortion (lane_direction l) o log
-with_ended (Expire side) (Expired d id) log = Aborted d id ∷ log
+with_ended (Expire side) (Expired d name) log = Aborted d name ∷ log
 with_ended _ answer log = log
 
 -- the log with what was asked by these packets
@@ -37,7 +37,7 @@ with_asked (p ∷ ps) log = with_asked ps (Asked p.octets ∷ log)
 abbrev pub with_event : Event → List SentPacket → Log → Log
 with_event (Plain source flags service subtype body) puts log = with_asked puts log
 with_event Apply puts log = Executed ∷ log
-with_event (Retire d id) puts log = Retired d id ∷ log
+with_event (Retire d name) puts log = Retired d name ∷ log
 with_event (Restart side) puts log = Restarted side ∷ log
 with_event _ puts log = log
 

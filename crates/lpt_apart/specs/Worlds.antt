@@ -1,18 +1,18 @@
 -- Two ends apart are a world, and keep its promise.
 use Rattle.std.specs.Prelude.{◌≡◌, List, Some, IsTrue}
-use Rattle.lpt_model.specs.LptMemory.Memories.{Contents}
-use Rattle.lpt_model.specs.LptMemory.Readings.{Job}
-use Rattle.lpt_model.specs.LptEvents.Configs.{IsConfig}
-use Rattle.lpt_model.specs.LptEvents.declared.config.Config.{Config}
-use Rattle.lpt_model.specs.LptEvents.declared.event.Event.{Event}
-use Rattle.lpt_model.specs.LptEvents.declared.worker.Worker.{Worker}
-use Rattle.lpt_model.specs.LptJobs.Jobs.{head_of, is_claimed}
-use Rattle.lpt_model.specs.LptNode.Jobs.{FrontIsFor}
+use Rattle.lpt_memory.specs.Memories.{Contents}
+use Rattle.lpt_memory.specs.Readings.{Job}
+use Rattle.lpt_events.specs.Configs.{IsConfig}
+use Rattle.lpt_events.specs.declared.config.Config.{Config}
+use Rattle.lpt_events.specs.declared.event.Event.{Event}
+use Rattle.lpt_events.specs.declared.worker.Worker.{Worker}
+use Rattle.lpt_jobs.specs.Jobs.{head_of, is_claimed}
+use Rattle.lpt_node.specs.Jobs.{FrontIsFor}
 use Rattle.lpt_model.specs.State.{State}
 use Rattle.lpt_model.specs.Tickets.{ticket_of}
-use Rattle.lpt_refinement.specs.LptJournal.Jobs.{left_by}
-use Rattle.lpt_refinement.specs.LptJournal.Legal.{Legal}
-use Rattle.lpt_refinement.specs.LptJournal.Replies.{recorded}
+use Rattle.lpt_journal.specs.Jobs.{left_by}
+use Rattle.lpt_journal.specs.Legal.{Legal}
+use Rattle.lpt_journal.specs.Replies.{recorded}
 use Rattle.lpt_refinement.specs.Shows.{Shows}
 use Rattle.lpt_refinement.specs.Views.{views}
 use Rattle.lpt_apart.specs.Ends.{Ends}

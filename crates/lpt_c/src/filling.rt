@@ -1,12 +1,12 @@
 //! Writing to the front of a buffer of the caller's.
 
 ghost use Rattle.std.specs.Prelude.{◌≡◌, ◌+◌, ◌≤◌, ◌++◌, length, drop, Ok};
-ghost use Rattle.lpt_packet.specs.Packets.{fields_of, header_of, sealed, spelling};
+ghost use Rattle.lpt_packet.specs.Packets.{fields_of, sealed, spelling};
 ghost use Rattle.lpt_packet.specs.Sizes.{longest_field, longest_packet};
 ghost use Rattle.lpt_c.specs.Buffers.{code_for, left_by};
 
 use crate::codes::{DONE, ROOM};
-use lpt_packet::{ERROR_CONTROL, PRIMARY_HEADER, PacketKind, crc16};
+use lpt_packet::{ERROR_CONTROL, PRIMARY_HEADER, PacketKind, crc16, primary_header};
 
 // Writes a packet to the front of a buffer, where it has room. Its data field is given in two
 // pieces, one behind the other.
@@ -58,23 +58,6 @@ fn write_packet_into(
     let primary = primary_header(kind, apid, count, len);
     let (packet, _) = out.split_at_mut(PRIMARY_HEADER + len + ERROR_CONTROL);
     seal_into(&primary, header, body, packet);
-}
-
-// The primary header of a packet whose data field has so many octets.
-fn primary_header(kind: PacketKind, apid: u16, count: u16, len: usize) -> [u8; PRIMARY_HEADER]
-    requires apid { apid ≤ 2046 }
-    requires count { count ≤ 16383 }
-    requires len { len ≤ longest_field }
-    ensures { result ≡ header_of kind apid count len }
-{
-    let packet_type = match kind {
-        PacketKind::Tm => 0,
-        PacketKind::Tc => 0x1000,
-    };
-    let first = (packet_type + 0x0800 + apid).to_be_bytes();
-    let second = (0xc000 + count).to_be_bytes();
-    let third = (len as u16 + 1).to_be_bytes();
-    [first[0], first[1], second[0], second[1], third[0], third[1]]
 }
 
 // The pieces, one behind the other, and their checksum, into a buffer of just their length.

@@ -1,17 +1,16 @@
 //! Parts of large messages.
 
-ghost use Rattle.std.specs.Prelude.{◌≡◌, ◌+◌, ◌<◌, ◌≤◌, ◌++◌, length, Ok, IsTrue, Some};
-ghost use Rattle.lpt_packet.specs.Sizes.{longest_packet};
-ghost use Rattle.lpt_part.specs.Parts.{body_of, number_test, length_test};
+ghost use Rattle.std.specs.Prelude.{◌≡◌, ◌<◌, ◌≤◌, length, Ok, Some};
+ghost use Rattle.lpt_part.specs.Parts.{body_of};
 ghost use Rattle.lpt_part.specs.Splitting.{IsPartSize, kind_at, part_count, part_of};
 ghost use Rattle.lpt_c.specs.Buffers.{code_for, left_by, needed_by};
-ghost use Rattle.lpt_c.specs.Parts.{count_told, is_part_size, kind_in, kind_named, kind_number, kind_told, part_read, part_text, part_told, piece_of, slice_text};
+ghost use Rattle.lpt_c.specs.Parts.{count_told, kind_in, kind_named, kind_number, kind_told, part_read, part_text, part_told, piece_of, slice_text};
 ghost use Rattle.lpt_c.specs.Readings.{code_read, left_in};
 
 use crate::codes::{DONE, KIND_NUMBER, LONG, NO_SUCH_PART, PART_LENGTH, RANGE, SHORT, ZERO};
 use crate::filling::fill;
 use lpt_packet::LONGEST_PACKET;
-use lpt_part::{Kind, count, read_part, slice};
+use lpt_part::{Kind, count, length_fits, number_fits, read_part, slice};
 
 /// A part that was read.
 #[repr(C)]
@@ -211,28 +210,4 @@ fn number_of(kind: Kind) -> u32
         Kind::Middle => 2,
         Kind::Last => 3,
     }
-}
-
-// Whether a part of this kind may have this number.
-fn number_fits(kind: Kind, number: u16) -> bool
-    ensures { result ≡ number_test kind number }
-{
-    match kind {
-        Kind::First => number == 1,
-        Kind::Middle | Kind::Last => number >= 2,
-    }
-}
-
-// Whether a part of this kind and number may have so many octets.
-fn length_fits(kind: Kind, number: u16, len: usize, p: u32) -> bool
-    requires { IsPartSize p }
-    ensures { result ≡ length_test kind number len p }
-{
-    let p = p as usize;
-    let least = match kind {
-        Kind::First | Kind::Middle => p,
-        Kind::Last => 1,
-    };
-    let before = usize::from(number).saturating_sub(1) * p;
-    least <= len && len <= p && before + len <= LONGEST_PACKET
 }

@@ -1,30 +1,28 @@
 -- Each call leaves the readings of an end's jobs those for its memories.
-use Rattle.lpt_node.specs.LptPacket.Names.{Name}
+use Rattle.lpt_packet.specs.Names.{Name}
 use Rattle.std.proofs.Common.{◌≡◌, ◌∙◌, refl, sym, subst, ap, ℕ, ◌-◌, Bool, true, false, if◌then◌else◌, List, [], ◌∷◌, Option, Some, None, ◌==◌}
 use Rattle.std.specs.Prelude.{All, Result, Ok, Err, OnOk, OnErr}
 use Rattle.std.proofs.lemmas.List.Elements.{All-nil, All-head, All-push, All-set, All-drop}
-use Rattle.lpt_node.specs.LptEvents.Arrivals.{Arrival}
-use Rattle.lpt_node.specs.LptEvents.declared.config.Config.{Config}
-use Rattle.lpt_node.specs.LptEvents.declared.side.Side.{Side}
-use Rattle.lpt_node.specs.LptEvents.Lanes.{same_direction}
-use Rattle.lpt_node.specs.LptJobs.declared.job.Job.{Job}
-use Rattle.lpt_node.specs.LptJobs.declared.job.Job.TheVariants.{Waiting, Claimed, Committed}
-use Rattle.lpt_node.specs.LptJobs.Jobs.{head_of}
-use Rattle.lpt_node.specs.LptMemory.Meanings.{Sizes}
-use Rattle.lpt_node.specs.LptMemory.Ranges.{MeaningFits}
-use Rattle.lpt_node.specs.LptMemory.Memories.{Contents, sizes_of}
-use Rattle.lpt_node.specs.LptPacket.declared.direction.Direction.{Direction}
+use Rattle.lpt_events.specs.Arrivals.{Arrival}
+use Rattle.lpt_events.specs.declared.config.Config.{Config}
+use Rattle.lpt_events.specs.declared.side.Side.{Side}
+use Rattle.lpt_events.specs.Lanes.{same_direction}
+use Rattle.lpt_jobs.specs.declared.job.Job.{Job}
+use Rattle.lpt_jobs.specs.declared.job.Job.TheVariants.{Waiting, Claimed, Committed}
+use Rattle.lpt_jobs.specs.Jobs.{head_of, Head, NoJob, NotReady, Ready, after_commit, claimed_in, unclaimed}
+use Rattle.lpt_memory.specs.Meanings.{Sizes}
+use Rattle.lpt_memory.specs.Ranges.{MeaningFits}
+use Rattle.lpt_memory.specs.Memories.{Contents, sizes_of, effect}
+use Rattle.lpt_packet.specs.declared.direction.Direction.{Direction}
 use Rattle.lpt_node.specs.declared.accepted.Accepted.{Accepted}
 use Rattle.lpt_node.specs.declared.expired.Expired.{Expired}
 use Rattle.lpt_node.specs.Accepting.{accepted}
-use Rattle.lpt_node.specs.Anew.{retired, restarted}
+use Rattle.lpt_node.specs.Restarts.{retired, restarted}
 use Rattle.lpt_node.proofs.JobLemmas.{jobs_accepted}
-use Rattle.lpt_node.proofs.LptMemory.MeaningLemmas.{meaning-fits}
-use Rattle.lpt_node.proofs.LptMemory.PutLemmas.{sizes_of-effect}
-use Rattle.lpt_node.specs.LptMemory.Memories.{effect}
-use Rattle.lpt_node.specs.LptMemory.Readings.{Source, meant, Job as Ticket}
+use Rattle.lpt_memory.proofs.MeaningLemmas.{meaning-fits}
+use Rattle.lpt_memory.proofs.PutLemmas.{sizes_of-effect}
+use Rattle.lpt_memory.specs.Readings.{Source, meant, Job as Ticket}
 use Rattle.lpt_node.specs.Jobs.{FrontIsFor, IsReadFor, Execution, claimed, claimed_of, committed, executed, executed_of, with_opened}
-use Rattle.lpt_node.specs.LptJobs.Jobs.{Head, NoJob, NotReady, Ready, after_commit, claimed_in, unclaimed}
 use Rattle.lpt_node.specs.Nodes.{NodeData, NodeView, direction_from, message_at}
 use Rattle.lpt_node.specs.Receiving.{with_report}
 use Rattle.lpt_node.specs.Requests.{plain_made}
@@ -82,15 +80,15 @@ keeps_accepted side c d a apid sizes all =
     let P = IsReading apid sizes in
     jobs_accepted (All P) (λ js m these. All-push P js (Waiting m) these (waiting-reading apid sizes m)) side c d a all
 
-keeps_sent : (side : Side) (c : Config) (d : NodeData) (id : Name) (k : ℕ) (o : Option (List ℕ))
-    → Keeps d (sent_of side c d id k o).0
-keeps_sent side c d id k None = λ apid sizes all. all
-keeps_sent side c d id k (Some m) = λ apid sizes all. all
+keeps_sent : (side : Side) (c : Config) (d : NodeData) (name : Name) (k : ℕ) (o : Option (List ℕ))
+    → Keeps d (sent_of side c d name k o).0
+keeps_sent side c d name k None = λ apid sizes all. all
+keeps_sent side c d name k (Some m) = λ apid sizes all. all
 
 keeps_expired : (side : Side) (c : Config) (d : NodeData) (o : Option Name)
     → Keeps d (expired_of side c d o).0
 keeps_expired side c d None = λ apid sizes all. all
-keeps_expired side c d (Some id) = keeps_report _ _
+keeps_expired side c d (Some name) = keeps_report _ _
 
 -- ---- the same, of an end
 
@@ -139,28 +137,28 @@ pub ready_ticked : {A B : Type 0} (r : Result A B) (n new : NodeView) (ms : Opti
     → IsReady new ms
 ready_ticked r n new ms config ok err is = by_result r n new ms _ config ok err (λ apid sizes all. all) is
 
-pub ready_opened : {A B : Type 0} (r : Result A B) (n new : NodeView) (ms : Option Contents) (id : Name) (m : List ℕ)
+pub ready_opened : {A B : Type 0} (r : Result A B) (n new : NodeView) (ms : Option Contents) (name : Name) (m : List ℕ)
     → new.config ≡ n.config
-    → OnOk r (new.at ≡ opened n.at id m)
+    → OnOk r (new.at ≡ opened n.at name m)
     → OnErr r (new.at ≡ n.at)
     → IsReady n ms
     → IsReady new ms
-ready_opened r n new ms id m config ok err is = by_result r n new ms _ config ok err (λ apid sizes all. all) is
+ready_opened r n new ms name m config ok err is = by_result r n new ms _ config ok err (λ apid sizes all. all) is
 
-pub ready_closed : {A B : Type 0} (r : Result A B) (n new : NodeView) (ms : Option Contents) (id : Name)
+pub ready_closed : {A B : Type 0} (r : Result A B) (n new : NodeView) (ms : Option Contents) (name : Name)
     → new.config ≡ n.config
-    → OnOk r (new.at ≡ closed n.at id)
+    → OnOk r (new.at ≡ closed n.at name)
     → OnErr r (new.at ≡ n.at)
     → IsReady n ms
     → IsReady new ms
-ready_closed r n new ms id config ok err is = by_result r n new ms _ config ok err (λ apid sizes all. all) is
+ready_closed r n new ms name config ok err is = by_result r n new ms _ config ok err (λ apid sizes all. all) is
 
-pub ready_retired : (n new : NodeView) (ms : Option Contents) (side : Side) (way : Direction) (id : Name)
+pub ready_retired : (n new : NodeView) (ms : Option Contents) (side : Side) (way : Direction) (name : Name)
     → new.config ≡ n.config
-    → new.at ≡ retired side n.at way id
+    → new.at ≡ retired side n.at way name
     → IsReady n ms
     → IsReady new ms
-ready_retired n new ms side way id config at is =
+ready_retired n new ms side way name config at is =
     becomes n new ms _ config at
     (keeps_retired n.at _ _ (same_direction way (direction_from side)) (λ apid sizes all. all) (λ apid sizes all. all))
     is
@@ -180,14 +178,14 @@ pub ready_accepted : (n new : NodeView) (ms : Option Contents) (side : Side) (c 
 ready_accepted n new ms side c r a config is_so is =
     becomes n new ms _ config (ap (λ (x : NodeData × Accepted). x.0) is_so) (keeps_accepted side c n.at a) is
 
-pub ready_sent : (n new : NodeView) (ms : Option Contents) (side : Side) (c : Config) (o : List ℕ) (id : Name) (k : ℕ)
+pub ready_sent : (n new : NodeView) (ms : Option Contents) (side : Side) (c : Config) (o : List ℕ) (name : Name) (k : ℕ)
     → new.config ≡ n.config
-    → (new.at, o) ≡ sent side c n.at id k
+    → (new.at, o) ≡ sent side c n.at name k
     → IsReady n ms
     → IsReady new ms
-ready_sent n new ms side c o id k config is_so is =
+ready_sent n new ms side c o name k config is_so is =
     becomes n new ms _ config (ap (λ (x : NodeData × List ℕ). x.0) is_so)
-    (keeps_sent side c n.at id k (message_at n.at id)) is
+    (keeps_sent side c n.at name k (message_at n.at name)) is
 
 pub ready_plain : (n new : NodeView) (ms : Option Contents) (c : Config) (o : List ℕ)
     (source flags service subtype : ℕ) (body : List ℕ)

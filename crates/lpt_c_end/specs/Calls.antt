@@ -1,6 +1,6 @@
 -- What calls on a handle leave and report.
 use Rattle.std.specs.Prelude.{◌≡◌, ℕ, List, [], ◌∷◌, Option, Some, None, Ok, Err}
-use Rattle.lpt_node.specs.LptMemory.Memories.{Contents, content_of}
+use Rattle.lpt_memory.specs.Memories.{Contents, content_of}
 use Rattle.lpt_c_end.specs.Changes.{delivery, execution_of}
 use Rattle.lpt_c_end.specs.Codes.{empty, nothing}
 use Rattle.lpt_c_end.specs.Copies.{Text}

@@ -1,14 +1,14 @@
 -- What a call that isn't refused makes of an end.
 use Rattle.std.specs.Prelude.{◌≡◌, ℕ, List, [], ◌∷◌, ◌++◌, drop, Option, Some, None, option_to_list}
-use Rattle.lpt_node.specs.LptEvents.Arrivals.{arrival}
-use Rattle.lpt_node.specs.LptEvents.declared.config.Config.{Config}
-use Rattle.lpt_node.specs.LptEvents.declared.side.Side.{Side}
-use Rattle.lpt_node.specs.LptMemory.Memories.{Contents, sizes_of}
-use Rattle.lpt_node.specs.LptPacket.Names.{Name}
+use Rattle.lpt_events.specs.Arrivals.{arrival}
+use Rattle.lpt_events.specs.declared.config.Config.{Config}
+use Rattle.lpt_events.specs.declared.side.Side.{Side}
+use Rattle.lpt_memory.specs.Memories.{Contents, sizes_of}
+use Rattle.lpt_packet.specs.Names.{Name}
 use Rattle.lpt_node.specs.declared.accepted.Accepted.{Accepted}
 use Rattle.lpt_node.specs.declared.expired.Expired.{Expired}
 use Rattle.lpt_node.specs.Accepting.{accepted}
-use Rattle.lpt_node.specs.Anew.{retired, restarted}
+use Rattle.lpt_node.specs.Restarts.{retired, restarted}
 use Rattle.lpt_node.specs.Jobs.{Execution, claimed, committed, executed, not_executed}
 use Rattle.lpt_node.specs.Nodes.{NodeData, new_node}
 use Rattle.lpt_node.specs.Requests.{plain_made}

@@ -1,11 +1,11 @@
 -- The numbers that calls answer.
 use Rattle.std.specs.Prelude.{◌≡◌, ◌⊎◌, ℕ, Option, Some, None}
-use Rattle.lpt_node.specs.LptEvents.ConfigFaultNames as configured
-use Rattle.lpt_node.specs.LptEvents.FaultNames as step
-use Rattle.lpt_node.specs.LptEvents.declared.config_fault.ConfigFault.{ConfigFault}
-use Rattle.lpt_node.specs.LptEvents.declared.fault.StepFault.TheVariants as step_fault
-use Rattle.lpt_node.specs.LptMemory.FaultNames as of_memory
-use Rattle.lpt_node.specs.LptMemory.declared.fault.MemoryFault.TheVariants as memory_fault
+use Rattle.lpt_events.specs.ConfigFaultNames as configured
+use Rattle.lpt_events.specs.FaultNames as step
+use Rattle.lpt_events.specs.declared.config_fault.ConfigFault.{ConfigFault}
+use Rattle.lpt_events.specs.declared.fault.StepFault.TheVariants as step_fault
+use Rattle.lpt_memory.specs.FaultNames as of_memory
+use Rattle.lpt_memory.specs.declared.fault.MemoryFault.TheVariants as memory_fault
 use Rattle.lpt_node.specs.declared.fault.NodeFault.{NodeFault}
 use Rattle.lpt_node.specs.Faults.{node_fault}
 

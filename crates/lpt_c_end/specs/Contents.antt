@@ -1,10 +1,11 @@
 -- The memories that a new end of the spacecraft's begins with.
 use Rattle.std.specs.Prelude.{ℕ, ◌+◌, nat_le, Bool, true, ◌&&◌, List, [], ◌∷◌, length, map, take, drop, Option, Some, None}
-use Rattle.lpt_node.specs.LptEvents.declared.side.Side.{Side}
-use Rattle.lpt_node.specs.LptEvents.declared.side.Side.TheVariants.{Ground, Craft}
-use Rattle.lpt_node.specs.LptMemory.Meanings.{Sizes}
-use Rattle.lpt_node.specs.LptMemory.Memories.{Contents, are_distinct}
+use Rattle.lpt_events.specs.declared.side.Side.{Side}
+use Rattle.lpt_events.specs.declared.side.Side.TheVariants.{Ground, Craft}
+use Rattle.lpt_memory.specs.Meanings.{Sizes}
+use Rattle.lpt_memory.specs.Memories.{Contents, are_distinct}
 use Rattle.lpt_c_end.specs.declared.memories.LptMemory.{LptMemory}
+use Rattle.lpt_memory.specs.Limits.{memory_limit}
 
 -- the identifier and the size of one
 abbrev pub size_told : LptMemory → ℕ × ℕ
@@ -30,7 +31,7 @@ are_within len (m ∷ ms) = nat_le (m.at + m.len) len && are_within len ms
 
 -- whether there are 1 to 16, of distinct identifiers and of 1 to 1,048,576 octets each
 abbrev pub are_sizes : Sizes → Bool
-are_sizes ss = nat_le 1 (length ss) && nat_le (length ss) 16 && are_distinct ss
+are_sizes ss = nat_le 1 (length ss) && nat_le (length ss) memory_limit && are_distinct ss
 
 -- whether they can be memories, of a content of so many octets
 abbrev pub can_be : ℕ → List LptMemory → Bool

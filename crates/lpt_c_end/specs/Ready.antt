@@ -1,10 +1,10 @@
 -- That what was read of an end's jobs was read for its memories.
 use Rattle.std.specs.Prelude.{◌≡◌, ℕ, All, Option, Some}
-use Rattle.lpt_node.specs.LptJobs.declared.job.Job.{Job}
-use Rattle.lpt_node.specs.LptJobs.declared.job.Job.TheVariants.{Committed}
-use Rattle.lpt_node.specs.LptMemory.Meanings.{Sizes}
-use Rattle.lpt_node.specs.LptMemory.Memories.{Contents, sizes_of}
-use Rattle.lpt_node.specs.LptMemory.Readings.{Source}
+use Rattle.lpt_jobs.specs.declared.job.Job.{Job}
+use Rattle.lpt_jobs.specs.declared.job.Job.TheVariants.{Committed}
+use Rattle.lpt_memory.specs.Meanings.{Sizes}
+use Rattle.lpt_memory.specs.Memories.{Contents, sizes_of}
+use Rattle.lpt_memory.specs.Readings.{Source}
 use Rattle.lpt_node.specs.Nodes.{NodeView}
 
 -- a job's reading, where it has one, is for this APID and memories of these sizes

@@ -1,13 +1,13 @@
 -- Why a call on a handle is refused: the number of the first fault, out of memory aside.
 use Rattle.std.specs.Prelude.{ℕ, ◌==◌, nat_lt, ◌||◌, if◌then◌else◌, List, length, Option, Some, None}
-use Rattle.lpt_node.specs.LptEvents.Configs.{config_fault}
-use Rattle.lpt_node.specs.LptEvents.declared.config_fault.ConfigFault.{ConfigFault}
-use Rattle.lpt_node.specs.LptEvents.declared.side.Side.{Side}
-use Rattle.lpt_node.specs.LptEvents.declared.side.Side.TheVariants.{Ground, Craft}
-use Rattle.lpt_node.specs.LptJobs.Jobs.{numbered}
-use Rattle.lpt_node.specs.LptMemory.Memories.{Contents}
-use Rattle.lpt_node.specs.LptPacket.Names.{Name}
-use Rattle.lpt_node.specs.Anew.{may_retire}
+use Rattle.lpt_events.specs.Configs.{config_fault}
+use Rattle.lpt_events.specs.declared.config_fault.ConfigFault.{ConfigFault}
+use Rattle.lpt_events.specs.declared.side.Side.{Side}
+use Rattle.lpt_events.specs.declared.side.Side.TheVariants.{Ground, Craft}
+use Rattle.lpt_jobs.specs.Jobs.{numbered}
+use Rattle.lpt_memory.specs.Memories.{Contents}
+use Rattle.lpt_packet.specs.Names.{Name}
+use Rattle.lpt_node.specs.Restarts.{may_retire}
 use Rattle.lpt_node.specs.Requests.{refusal_plain}
 use Rattle.lpt_node.specs.Sending.{refusal_open, refusal_send, refusal_finish}
 use Rattle.lpt_node.specs.Times.{refusal_tick, refusal_expire}

@@ -1,21 +1,21 @@
 -- Sides, directions, names, configurations and outcomes as C writes and reads them.
 use Rattle.std.specs.Prelude.{ℕ, ◌==◌, if◌then◌else◌, Some, None}
-use Rattle.lpt_node.specs.LptEvents.declared.applied.Applied.{Applied}
-use Rattle.lpt_node.specs.LptEvents.declared.applied.Applied.TheVariants.{Done, Silent, Code}
-use Rattle.lpt_node.specs.LptEvents.declared.config.Config.{Config}
-use Rattle.lpt_node.specs.LptEvents.declared.outcome.Outcome.{Outcome}
-use Rattle.lpt_node.specs.LptEvents.declared.outcome.Outcome.TheVariants.{Kept, Again, Released, PlainReleased, ReportNoted, AbortNoted, Broken, Ignored}
-use Rattle.lpt_node.specs.LptEvents.declared.outcome.Why.{Why}
-use Rattle.lpt_node.specs.LptEvents.declared.outcome.Why.TheVariants.{Unreadable, Idle, ForeignApid, BadPart, Closed, NoRoom}
-use Rattle.lpt_node.specs.LptEvents.declared.side.Side.{Side}
-use Rattle.lpt_node.specs.LptEvents.declared.side.Side.TheVariants.{Ground, Craft}
-use Rattle.lpt_node.specs.LptPacket.declared.direction.Direction.{Direction}
-use Rattle.lpt_node.specs.LptPacket.declared.direction.Direction.TheVariants.{Up, Down}
-use Rattle.lpt_node.specs.LptPacket.Names.{Name, named_by, no_name}
-use Rattle.lpt_node.specs.LptPart.Aborts.{reason_code}
-use Rattle.lpt_node.specs.LptPart.declared.mode.Mode.{Mode}
-use Rattle.lpt_node.specs.LptPart.declared.mode.Mode.TheVariants.{Any, Strict}
-use Rattle.lpt_node.specs.LptPus.Codes.{number_of}
+use Rattle.lpt_events.specs.declared.applied.Applied.{Applied}
+use Rattle.lpt_events.specs.declared.applied.Applied.TheVariants.{Done, Silent, Code}
+use Rattle.lpt_events.specs.declared.config.Config.{Config}
+use Rattle.lpt_events.specs.declared.outcome.Outcome.{Outcome}
+use Rattle.lpt_events.specs.declared.outcome.Outcome.TheVariants.{Kept, Again, Released, PlainReleased, ReportNoted, AbortNoted, Broken, Ignored}
+use Rattle.lpt_events.specs.declared.outcome.Why.{Why}
+use Rattle.lpt_events.specs.declared.outcome.Why.TheVariants.{Unreadable, Idle, ForeignApid, BadPart, Closed, NoRoom}
+use Rattle.lpt_events.specs.declared.side.Side.{Side}
+use Rattle.lpt_events.specs.declared.side.Side.TheVariants.{Ground, Craft}
+use Rattle.lpt_packet.specs.declared.direction.Direction.{Direction}
+use Rattle.lpt_packet.specs.declared.direction.Direction.TheVariants.{Up, Down}
+use Rattle.lpt_packet.specs.Names.{Name, named_by, no_name}
+use Rattle.lpt_part.specs.Aborts.{reason_code}
+use Rattle.lpt_part.specs.declared.mode.Mode.{Mode}
+use Rattle.lpt_part.specs.declared.mode.Mode.TheVariants.{Any, Strict}
+use Rattle.lpt_pus.specs.Codes.{number_of}
 use Rattle.lpt_c_end.specs.declared.words.LptApplied.{LptApplied}
 use Rattle.lpt_c_end.specs.declared.words.LptConfig.{LptConfig}
 use Rattle.lpt_c_end.specs.declared.words.LptName.{LptName}

@@ -1,10 +1,13 @@
 //! What a handle holds.
 
 ghost use Rattle.std.specs.Prelude.{◌≡◌};
-ghost use Rattle.lpt_node.specs.LptEvents.Configs.{IsConfig};
+ghost use Rattle.lpt_events.specs.Configs.{IsConfig};
 ghost use Rattle.lpt_c_end.specs.Ready.{IsReady};
 
-use lpt_node::{Config, Memories, Node, Octets, Side};
+use lpt_events::{Config, Side};
+use lpt_memory::Memories;
+use lpt_node::Node;
+use lpt_packet::Octets;
 use std::collections::VecDeque;
 
 /// One end of the link: a node, the spacecraft's memories, the message that the last packet released,

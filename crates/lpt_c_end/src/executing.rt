@@ -13,7 +13,8 @@ use crate::copying::copy_out;
 use crate::end::End;
 use crate::handle::{LptEnd, put, take};
 use crate::words::{LptApplied, applied_words_of};
-use lpt_node::{Ask, Executed, Ticket, prepare};
+use lpt_memory::{Ticket, prepare};
+use lpt_node::{Ask, Executed};
 use std::alloc::Global;
 use std::collections::VecDeque;
 

@@ -5,8 +5,8 @@ ghost use Rattle.std.specs.Option.{option_map};
 ghost use Rattle.lpt_c_end.specs.declared.end.End.{End};
 ghost use Rattle.lpt_c_end.specs.HandleCodes.{coded_held};
 
+use crate::box_fields::BoxFields;
 use crate::end::End;
-use crate::parts::Parts;
 use std::alloc::Global;
 use std::marker::Model;
 
@@ -41,22 +41,22 @@ impl LptHeld {
         LptHeld { at, alloc }
     }
 
-    pub(crate) fn of(parts: Parts<End, Global>) -> LptHeld
+    pub(crate) fn of(parts: BoxFields<End, Global>) -> LptHeld
         ensures { result.value ≡ Some parts.value }
     {
-        let Parts { ptr, alloc } = parts;
+        let BoxFields { ptr, alloc } = parts;
         LptHeld {
             at: ptr as *mut u8,
             alloc,
         }
     }
 
-    pub(crate) fn into_parts(self) -> Parts<End, Global>
+    pub(crate) fn into_fields(self) -> BoxFields<End, Global>
         requires { is_some self.value ≡ true }
         ensures { self.value ≡ Some result.value }
     {
         let LptHeld { at, alloc } = self;
-        Parts {
+        BoxFields {
             ptr: at as *mut End,
             alloc,
         }
@@ -78,7 +78,7 @@ pub(crate) fn take(alloc: Global, end: &mut LptEnd) -> Option<Box<End, Global>>
     if !full {
         return None;
     }
-    Some(held.into_parts().into_box())
+    Some(held.into_fields().into_box())
 }
 
 // Puts an end into a handle.
@@ -87,6 +87,6 @@ pub(crate) fn put(end: &mut LptEnd, value: Box<End, Global>)
 {
     *end = LptEnd {
         full: true,
-        held: LptHeld::of(Parts::of(value)),
+        held: LptHeld::of(BoxFields::of(value)),
     };
 }

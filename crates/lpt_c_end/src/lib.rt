@@ -12,7 +12,7 @@
 //! is plain code above `take` and `put`.
 #![tactic(auto)]
 
-mod anew;
+mod box_fields;
 mod codes;
 mod copying;
 mod end;
@@ -21,13 +21,12 @@ mod handle;
 mod making;
 mod memories;
 mod outbox;
-mod parts;
 mod receiving;
 mod requesting;
 mod sending;
+mod upkeep;
 mod words;
 
-pub use anew::{lpt_end_restart, lpt_end_retire, lpt_end_tick};
 pub use executing::{lpt_end_execute, lpt_end_memory, lpt_end_read};
 pub use handle::{LptEnd, LptHeld};
 pub use making::{lpt_end_free, lpt_end_new};
@@ -35,4 +34,5 @@ pub use memories::LptMemory;
 pub use receiving::{lpt_end_expire, lpt_end_packet, lpt_end_released};
 pub use requesting::lpt_end_plain;
 pub use sending::{lpt_end_finish, lpt_end_open, lpt_end_outgoing, lpt_end_part, lpt_end_sent};
+pub use upkeep::{lpt_end_restart, lpt_end_retire, lpt_end_tick};
 pub use words::{LptApplied, LptConfig, LptName, LptOutcome};

@@ -1,7 +1,7 @@
 //! A new end, and its end.
 
 ghost use Rattle.std.specs.Prelude.{◌≡◌, [], ◌∷◌, None, IfOk, IfErr, IsTrue, OnOk};
-ghost use Rattle.lpt_node.specs.LptEvents.Configs.{IsConfig};
+ghost use Rattle.lpt_events.specs.Configs.{IsConfig};
 ghost use Rattle.lpt_c_end.specs.Calls.{IfHeld};
 ghost use Rattle.lpt_c_end.specs.Changes.{IsNew};
 ghost use Rattle.lpt_c_end.specs.Codes.{IsAnswer};
@@ -13,7 +13,8 @@ use crate::end::End;
 use crate::handle::{LptEnd, put, take};
 use crate::memories::{LptMemory, memories_for};
 use crate::words::{LptConfig, config_of, side_of};
-use lpt_node::{Config, Node, Side};
+use lpt_events::{Config, Side};
+use lpt_node::Node;
 use std::alloc::Global;
 use std::collections::VecDeque;
 

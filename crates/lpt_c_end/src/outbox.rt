@@ -8,7 +8,7 @@ ghost use Rattle.lpt_c_end.specs.Refusals.{sent_refusal};
 
 use crate::codes::{DONE, NOTHING};
 use crate::end::End;
-use lpt_node::Octets;
+use lpt_packet::Octets;
 use std::alloc::AllocError;
 use std::collections::VecDeque;
 

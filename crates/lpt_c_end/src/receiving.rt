@@ -1,7 +1,7 @@
 //! What comes to an end: packets, and the age of its receptions.
 
 ghost use Rattle.std.specs.Prelude.{◌≡◌, ◌+◌, ◌<◌, ◌^◌, IfOk, OnOk, OnErr};
-ghost use Rattle.lpt_node.specs.LptJobs.Jobs.{numbered};
+ghost use Rattle.lpt_jobs.specs.Jobs.{numbered};
 ghost use Rattle.lpt_c_end.specs.Calls.{IfBoth, IfHeld, IsTold, released_of};
 ghost use Rattle.lpt_c_end.specs.Changes.{IsDelivered, IsExpired, IsSame, delivery, expiry};
 ghost use Rattle.lpt_c_end.specs.Codes.{IsAnswer};
@@ -15,7 +15,8 @@ use crate::end::End;
 use crate::handle::{LptEnd, put, take};
 use crate::outbox::put_last;
 use crate::words::{LptName, LptOutcome, name_word_of, words_of};
-use lpt_node::{Accepted, Ask, Expired, Outcome};
+use lpt_events::Outcome;
+use lpt_node::{Accepted, Ask, Expired};
 use std::alloc::{AllocError, Global};
 
 /// Takes the octets of a packet that was delivered to this end, and says what became of them.
@@ -71,7 +72,7 @@ pub fn lpt_end_released(alloc: Global, end: &mut LptEnd, out: &mut [u8], needed:
 pub fn lpt_end_expire(alloc: Global, end: &mut LptEnd, name: &mut LptName) -> u32
     ensures code { IsAnswer (refusal_by expire_refusal end.old.held.value) result }
     ensures done { result ≡ 0 → IfBoth IsExpired end.old.held.value end.new.held.value }
-    ensures told { result ≡ 0 → IfHeld (λ e. name.new ≡ name_word (expiry e).1.id) end.old.held.value }
+    ensures told { result ≡ 0 → IfHeld (λ e. name.new ≡ name_word (expiry e).1.name) end.old.held.value }
     ensures refused { ¬ (result ≡ 0) → IfBoth IsSame end.old.held.value end.new.held.value }
     ensures untold { ¬ (result ≡ 0) → name.new ≡ name.old }
 {
@@ -129,7 +130,7 @@ impl End {
     fn expire(&mut self, name: &mut LptName) -> u32
         ensures code { IsAnswer (expire_refusal self.old) result }
         ensures done { result ≡ 0 → IsExpired self.old self.new }
-        ensures told { result ≡ 0 → name.new ≡ name_word (expiry self.old).1.id }
+        ensures told { result ≡ 0 → name.new ≡ name_word (expiry self.old).1.name }
         ensures refused { ¬ (result ≡ 0) → IsSame self.old self.new }
         ensures untold { ¬ (result ≡ 0) → name.new ≡ name.old }
     {
@@ -141,9 +142,12 @@ impl End {
         }
         match self.node.expire() {
             Ok(expired) => {
-                let Expired { id, packet } = expired;
+                let Expired {
+                    name: ended,
+                    packet,
+                } = expired;
                 put_last(&mut self.outbox, packet);
-                *name = name_word_of(id);
+                *name = name_word_of(ended);
                 DONE
             }
             Err(_) => MEMORY,

@@ -10,7 +10,9 @@ use crate::codes::{DONE, EMPTY, MEMORY, RANGE};
 use crate::end::End;
 use crate::handle::{LptEnd, put, take};
 use crate::outbox::put_last;
-use lpt_node::{AckFlags, Ask, Side};
+use lpt_events::Side;
+use lpt_node::Ask;
+use lpt_pus::AckFlags;
 use std::alloc::Global;
 
 /// Makes the packet of a plain request, of this source, these acknowledgement flags, service type,

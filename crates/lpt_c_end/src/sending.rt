@@ -14,7 +14,8 @@ use crate::end::End;
 use crate::handle::{LptEnd, put, take};
 use crate::outbox::put_last;
 use crate::words::{LptName, name_of};
-use lpt_node::{Ask, Name, Octets};
+use lpt_node::Ask;
+use lpt_packet::{Name, Octets};
 use std::alloc::Global;
 
 /// Takes a message to be sent under a free name. It is copied.

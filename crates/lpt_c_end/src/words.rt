@@ -3,7 +3,9 @@
 ghost use Rattle.std.specs.Prelude.{◌≡◌};
 ghost use Rattle.lpt_c_end.specs.Words.{applied_words, config_from, direction_from, mode_from, name_from, name_word, side_from, why_word, words};
 
-use lpt_node::{Applied, Config, Direction, Mode, Name, Outcome, Side, Why};
+use lpt_events::{Applied, Config, Outcome, Side, Why};
+use lpt_packet::{Direction, Name};
+use lpt_part::Mode;
 
 /// What names a transaction within a direction.
 #[repr(C)]

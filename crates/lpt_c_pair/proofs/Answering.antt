@@ -3,17 +3,17 @@ use Rattle.std.proofs.Common.{◌≡◌, ap, sym, refl, ℕ, nat_lt, ◌==◌, B
 use Rattle.lpt_c_end.specs.Codes.{node_code, IsAnswer, answer, range, nothing}
 use Rattle.lpt_c_end.specs.Refusals.{open_refusal, part_refusal, plain_refusal, finish_refusal, sent_refusal, expire_refusal, tick_refusal, read_refusal, execute_refusal, ground_refusal, memories_refusal, sending_refusal}
 use Rattle.lpt_c_pair.specs.Answers.{ZeroIsAlwaysDone}
-use Rattle.lpt_model.specs.LptEvents.FaultNames.{code_of}
-use Rattle.lpt_model.specs.LptEvents.declared.side.Side.{Side}
-use Rattle.lpt_model.specs.LptEvents.declared.side.Side.TheVariants.{Ground, Craft}
-use Rattle.lpt_model.specs.LptMemory.Memories.{Contents}
-use Rattle.lpt_model.specs.LptNode.Faults.{node_fault}
-use Rattle.lpt_model.specs.LptNode.Jobs.{refusal_claim, refusal_apply}
-use Rattle.lpt_model.specs.LptNode.Requests.{refusal_plain}
-use Rattle.lpt_model.specs.LptNode.Sending.{refusal_open, refusal_send, refusal_finish}
-use Rattle.lpt_model.specs.LptNode.Times.{refusal_tick, refusal_expire}
-use Rattle.lpt_model.specs.LptNode.declared.fault.NodeFault.{NodeFault}
-use Rattle.lpt_model.specs.LptNode.declared.fault.NodeFault.TheVariants.{InUse, Short, Long, TooMany, NotOpen, NoSuchPart, NothingDue, NoJob, NotReady, ClockEnd, Memory, PartRequest}
+use Rattle.lpt_events.specs.FaultNames.{code_of}
+use Rattle.lpt_events.specs.declared.side.Side.{Side}
+use Rattle.lpt_events.specs.declared.side.Side.TheVariants.{Ground, Craft}
+use Rattle.lpt_memory.specs.Memories.{Contents}
+use Rattle.lpt_node.specs.Faults.{node_fault}
+use Rattle.lpt_node.specs.Jobs.{refusal_claim, refusal_apply}
+use Rattle.lpt_node.specs.Requests.{refusal_plain}
+use Rattle.lpt_node.specs.Sending.{refusal_open, refusal_send, refusal_finish}
+use Rattle.lpt_node.specs.Times.{refusal_tick, refusal_expire}
+use Rattle.lpt_node.specs.declared.fault.NodeFault.{NodeFault}
+use Rattle.lpt_node.specs.declared.fault.NodeFault.TheVariants.{InUse, Short, Long, TooMany, NotOpen, NoSuchPart, NothingDue, NoJob, NotReady, ClockEnd, Memory, PartRequest}
 
 -- ---- numbers
 

@@ -12,23 +12,23 @@ use Rattle.lpt_c_pair.specs.Pairs.{AreEndsOf, Call, Open, Part, Plain, Finish, L
 use Rattle.lpt_c_pair.proofs.GroundReports.{none_of_delivery, none_of_expiry}
 use Rattle.lpt_c_pair.proofs.Waiting.{stays, beside, adds, replaces, lets_go, freed_other, freed_this, as_listed, none_more}
 use Rattle.lpt_c_pair.proofs.Lemmas.{no_fault, not_refused, not_unsent, ground_becomes, craft_becomes, craft_fixed}
-use Rattle.lpt_model.specs.LptPacket.declared.direction.Direction.{Direction}
-use Rattle.lpt_model.specs.LptPacket.declared.direction.Direction.TheVariants.{Up, Down}
-use Rattle.lpt_model.specs.LptPacket.Names.{Name}
-use Rattle.lpt_model.specs.LptEvents.Arrivals.{arrival, arrival_in}
-use Rattle.lpt_model.specs.LptEvents.declared.config.Config.{Config}
-use Rattle.lpt_model.specs.LptEvents.declared.side.Side.{Side}
-use Rattle.lpt_model.specs.LptEvents.declared.side.Side.TheVariants.{Ground, Craft}
-use Rattle.lpt_model.specs.LptEvents.declared.worker.Worker.TheVariants.{W1}
-use Rattle.lpt_model.specs.LptMemory.Memories.{Contents}
-use Rattle.lpt_model.specs.LptMemory.Readings.{Job}
-use Rattle.lpt_model.specs.LptNode.Accepting.{accepted}
-use Rattle.lpt_model.specs.LptNode.Anew.{retired, restarted}
-use Rattle.lpt_model.specs.LptNode.Jobs.{refusal_claim, claimed, refusal_apply, executed}
-use Rattle.lpt_model.specs.LptNode.Nodes.{NodeData}
-use Rattle.lpt_model.specs.LptNode.Requests.{refusal_plain, plain_made}
-use Rattle.lpt_model.specs.LptNode.Sending.{refusal_open, opened, refusal_send, sent, refusal_finish, closed}
-use Rattle.lpt_model.specs.LptNode.Times.{refusal_tick, ticked, refusal_expire, expired}
+use Rattle.lpt_packet.specs.declared.direction.Direction.{Direction}
+use Rattle.lpt_packet.specs.declared.direction.Direction.TheVariants.{Up, Down}
+use Rattle.lpt_packet.specs.Names.{Name}
+use Rattle.lpt_events.specs.Arrivals.{arrival, arrival_in}
+use Rattle.lpt_events.specs.declared.config.Config.{Config}
+use Rattle.lpt_events.specs.declared.side.Side.{Side}
+use Rattle.lpt_events.specs.declared.side.Side.TheVariants.{Ground, Craft}
+use Rattle.lpt_events.specs.declared.worker.Worker.TheVariants.{W1}
+use Rattle.lpt_memory.specs.Memories.{Contents}
+use Rattle.lpt_memory.specs.Readings.{Job}
+use Rattle.lpt_node.specs.Accepting.{accepted}
+use Rattle.lpt_node.specs.Restarts.{retired, restarted}
+use Rattle.lpt_node.specs.Jobs.{refusal_claim, claimed, refusal_apply, executed}
+use Rattle.lpt_node.specs.Nodes.{NodeData}
+use Rattle.lpt_node.specs.Requests.{refusal_plain, plain_made}
+use Rattle.lpt_node.specs.Sending.{refusal_open, opened, refusal_send, sent, refusal_finish, closed}
+use Rattle.lpt_node.specs.Times.{refusal_tick, ticked, refusal_expire, expired}
 use Rattle.lpt_model.specs.State.{as_list}
 use Rattle.lpt_model.specs.Tickets.{Tickets, ticket_of, with_ticket}
 

@@ -1,22 +1,22 @@
 -- Ground makes no reports of abortions.
 use Rattle.std.proofs.Common.{◌≡◌, ◌∙◌, ap, refl, ℕ, List, Option, Some, None}
-use Rattle.lpt_model.specs.LptPacket.Names.{Name}
-use Rattle.lpt_model.specs.LptEvents.Arrivals.{Arrival, NotRead, AnIdle, Foreign, ARequest, AReport, NoPart, APart, AnAbort}
-use Rattle.lpt_model.specs.LptEvents.NamedParts.{NamedPart}
-use Rattle.lpt_model.specs.LptEvents.declared.config.Config.{Config}
-use Rattle.lpt_model.specs.LptEvents.declared.side.Side.TheVariants.{Ground}
-use Rattle.lpt_model.specs.LptLedger.declared.state.State.{State}
-use Rattle.lpt_model.specs.LptLedger.declared.state.State.TheVariants.{Free, Open, Closed}
-use Rattle.lpt_model.specs.LptNode.Accepting.{accepted}
-use Rattle.lpt_model.specs.LptNode.Nodes.{NodeData}
-use Rattle.lpt_model.specs.LptNode.Receivers.{ReceiverState, received, received_from, after_offer, if_free, table_in, parts_with, kept_of}
-use Rattle.lpt_model.specs.LptNode.Receiving.{after_received, parted, receiver_of}
-use Rattle.lpt_model.specs.LptNode.Times.{expired, expired_of, due}
-use Rattle.lpt_model.specs.LptReception.Received.{Parts}
-use Rattle.lpt_model.specs.LptTable.Offering as offering
-use Rattle.lpt_model.specs.LptTable.Offering.{OfferKind, offered}
-use Rattle.lpt_model.specs.LptTable.Tables.{Entries, TableState}
-use Rattle.lpt_model.specs.LptLedger.States.{state_at}
+use Rattle.lpt_packet.specs.Names.{Name}
+use Rattle.lpt_events.specs.Arrivals.{Arrival, NotRead, AnIdle, Foreign, ARequest, AReport, NoPart, APart, AnAbort}
+use Rattle.lpt_events.specs.NamedParts.{NamedPart}
+use Rattle.lpt_events.specs.declared.config.Config.{Config}
+use Rattle.lpt_events.specs.declared.side.Side.TheVariants.{Ground}
+use Rattle.lpt_ledger.specs.declared.state.State.{State}
+use Rattle.lpt_ledger.specs.declared.state.State.TheVariants.{Free, Open, Closed}
+use Rattle.lpt_node.specs.Accepting.{accepted}
+use Rattle.lpt_node.specs.Nodes.{NodeData}
+use Rattle.lpt_node.specs.Receivers.{ReceiverState, received, received_from, after_offer, if_free, table_in, parts_with, kept_of}
+use Rattle.lpt_node.specs.Receiving.{after_received, parted, receiver_of}
+use Rattle.lpt_node.specs.Times.{expired, expired_of, due}
+use Rattle.lpt_reception.specs.Received.{Parts}
+use Rattle.lpt_table.specs.Offering as offering
+use Rattle.lpt_table.specs.Offering.{OfferKind, offered}
+use Rattle.lpt_table.specs.Tables.{Entries, TableState}
+use Rattle.lpt_ledger.specs.States.{state_at}
 
 of_offer : (d : NodeData) (q : NamedPart) (r : ReceiverState) (parts : Parts) (o : OfferKind)
     (es : Entries)

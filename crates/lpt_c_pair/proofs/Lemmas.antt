@@ -7,10 +7,10 @@ use Rattle.lpt_c_end.specs.Refusals.{sending_refusal}
 use Rattle.lpt_c_end.specs.declared.end.End.{End}
 use Rattle.lpt_c_pair.specs.Outboxes.{AllOnTheWay}
 use Rattle.lpt_c_pair.specs.Pairs.{AreEndsOf}
-use Rattle.lpt_model.specs.LptPacket.declared.direction.Direction.TheVariants.{Up, Down}
-use Rattle.lpt_model.specs.LptEvents.declared.config.Config.{Config}
-use Rattle.lpt_model.specs.LptMemory.Memories.{Contents}
-use Rattle.lpt_model.specs.LptNode.declared.fault.NodeFault.{NodeFault}
+use Rattle.lpt_packet.specs.declared.direction.Direction.TheVariants.{Up, Down}
+use Rattle.lpt_events.specs.declared.config.Config.{Config}
+use Rattle.lpt_memory.specs.Memories.{Contents}
+use Rattle.lpt_node.specs.declared.fault.NodeFault.{NodeFault}
 use Rattle.lpt_model.specs.Tickets.{no_tickets}
 
 -- ---- refusals

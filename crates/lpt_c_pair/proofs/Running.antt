@@ -12,12 +12,12 @@ use Rattle.lpt_c_pair.specs.Outboxes.{AllOnTheWay}
 use Rattle.lpt_c_pair.specs.Pairs.{AreEndsOf, Call, moves, after_all, CanAll}
 use Rattle.lpt_c_pair.specs.Runs.{Turn, Standing, begun, turned_by, CanTurnBy, stood, CanStand, EndsOfCKeepThePromise}
 use Rattle.lpt_c_pair.proofs.Calls.{calls_are_moves}
-use Rattle.lpt_model.specs.LptPacket.declared.direction.Direction.TheVariants.{Up, Down}
-use Rattle.lpt_model.specs.LptEvents.declared.config.Config.{Config}
-use Rattle.lpt_model.specs.LptEvents.declared.side.Side.{Side}
-use Rattle.lpt_model.specs.LptEvents.declared.side.Side.TheVariants.{Ground, Craft}
-use Rattle.lpt_model.specs.LptMemory.Memories.{Contents}
-use Rattle.lpt_model.specs.LptNode.Nodes.{NodeView}
+use Rattle.lpt_packet.specs.declared.direction.Direction.TheVariants.{Up, Down}
+use Rattle.lpt_events.specs.declared.config.Config.{Config}
+use Rattle.lpt_events.specs.declared.side.Side.{Side}
+use Rattle.lpt_events.specs.declared.side.Side.TheVariants.{Ground, Craft}
+use Rattle.lpt_memory.specs.Memories.{Contents}
+use Rattle.lpt_node.specs.Nodes.{NodeView}
 
 -- the ends stand where these moves lead
 record IsReached (c : Config) (first : Contents) (s : Standing) : Type 0 where

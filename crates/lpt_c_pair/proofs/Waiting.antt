@@ -5,9 +5,9 @@ use Rattle.std.specs.Prelude.{slice_get, cond, option_to_list, ⊤}
 use Rattle.lpt_apart.specs.Ends.{Ends, PutOut, put_out, is_part, without}
 use Rattle.lpt_apart.specs.Steps.{IsOnTheWay}
 use Rattle.lpt_c_pair.specs.Outboxes.{AllOnTheWay, IsOfAnother, NoneIsPart}
-use Rattle.lpt_model.specs.LptPacket.declared.direction.Direction.{Direction}
-use Rattle.lpt_model.specs.LptPacket.Names.{Name, same_name}
-use Rattle.lpt_model.specs.LptEvents.Lanes.{same_direction}
+use Rattle.lpt_packet.specs.declared.direction.Direction.{Direction}
+use Rattle.lpt_packet.specs.Names.{Name, same_name}
+use Rattle.lpt_events.specs.Lanes.{same_direction}
 use Rattle.lpt_model.specs.State.{as_list}
 
 -- ---- lists of what was put out

@@ -3,7 +3,7 @@ use Rattle.std.specs.Prelude.{◌≡◌, ℕ, List, None}
 use Rattle.lpt_c_end.specs.Codes.{IsAnswer, answer}
 use Rattle.lpt_c_end.specs.Refusals.{open_refusal, part_refusal, plain_refusal, finish_refusal, sent_refusal, expire_refusal, tick_refusal, read_refusal, execute_refusal}
 use Rattle.lpt_c_end.specs.declared.end.End.{End}
-use Rattle.lpt_model.specs.LptPacket.Names.{Name}
+use Rattle.lpt_packet.specs.Names.{Name}
 
 -- what the clauses `code` of the calls say of an answer of 0
 pub record ZeroIsDone (e : End) : Type 0 where

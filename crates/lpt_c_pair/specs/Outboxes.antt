@@ -3,9 +3,9 @@ use Rattle.std.specs.Prelude.{◌≡◌, ℕ, Bool, false, List, [], ◌∷◌, 
 use Rattle.lpt_apart.specs.Ends.{Ends, is_part}
 use Rattle.lpt_apart.specs.Steps.{IsOnTheWay}
 use Rattle.lpt_c_end.specs.declared.end.End.{End}
-use Rattle.lpt_model.specs.LptPacket.declared.direction.Direction.{Direction}
-use Rattle.lpt_model.specs.LptPacket.declared.direction.Direction.TheVariants.{Up, Down}
-use Rattle.lpt_model.specs.LptPacket.Names.{Name}
+use Rattle.lpt_packet.specs.declared.direction.Direction.{Direction}
+use Rattle.lpt_packet.specs.declared.direction.Direction.TheVariants.{Up, Down}
+use Rattle.lpt_packet.specs.Names.{Name}
 
 -- all these packets may be handed over in this direction still
 abbrev pub AllOnTheWay : Ends → Direction → List (List ℕ) → Type 0

@@ -8,18 +8,18 @@ use Rattle.lpt_c_end.specs.Refusals.{open_refusal, part_refusal, plain_refusal, 
 use Rattle.lpt_c_end.specs.Words.{direction_from as direction_by}
 use Rattle.lpt_c_end.specs.declared.end.End.{End}
 use Rattle.lpt_c_pair.specs.Outboxes.{AllOnTheWay, NoneWaits}
-use Rattle.lpt_model.specs.LptPacket.declared.direction.Direction.{Direction}
-use Rattle.lpt_model.specs.LptPacket.declared.direction.Direction.TheVariants.{Up, Down}
-use Rattle.lpt_model.specs.LptPacket.Names.{Name}
-use Rattle.lpt_model.specs.LptEvents.Events.{IsEvent}
-use Rattle.lpt_model.specs.LptEvents.Sides.{direction_to}
-use Rattle.lpt_model.specs.LptEvents.declared.config.Config.{Config}
-use Rattle.lpt_model.specs.LptEvents.declared.event.Event.TheVariants as event
-use Rattle.lpt_model.specs.LptEvents.declared.side.Side.{Side}
-use Rattle.lpt_model.specs.LptEvents.declared.side.Side.TheVariants.{Ground, Craft}
-use Rattle.lpt_model.specs.LptEvents.declared.worker.Worker.TheVariants.{W1}
-use Rattle.lpt_model.specs.LptMemory.Memories.{Contents}
-use Rattle.lpt_model.specs.LptNode.Nodes.{NodeData, direction_from}
+use Rattle.lpt_packet.specs.declared.direction.Direction.{Direction}
+use Rattle.lpt_packet.specs.declared.direction.Direction.TheVariants.{Up, Down}
+use Rattle.lpt_packet.specs.Names.{Name}
+use Rattle.lpt_events.specs.Events.{IsEvent}
+use Rattle.lpt_events.specs.Sides.{direction_to}
+use Rattle.lpt_events.specs.declared.config.Config.{Config}
+use Rattle.lpt_events.specs.declared.event.Event.TheVariants as event
+use Rattle.lpt_events.specs.declared.side.Side.{Side}
+use Rattle.lpt_events.specs.declared.side.Side.TheVariants.{Ground, Craft}
+use Rattle.lpt_events.specs.declared.worker.Worker.TheVariants.{W1}
+use Rattle.lpt_memory.specs.Memories.{Contents}
+use Rattle.lpt_node.specs.Nodes.{NodeData, direction_from}
 use Rattle.lpt_model.specs.Tickets.{no_tickets}
 
 -- ---- ends

@@ -1,33 +1,18 @@
 -- What is given of what is to be found, where the octets of a source may be unknown.
-use Rattle.std.proofs.Common.{◌≡◌, ◌∙◌, ap, sym, subst, refl, ℕ, ◌≤◌, ◌<◌, ◌-◌, List, [], ◌++◌, length, Option, Some, None}
+use Rattle.std.proofs.Common.{◌≡◌, ◌∙◌, ap, sym, subst, ℕ, ◌≤◌, ◌<◌, ◌-◌, List, [], ◌++◌, length, Option, Some, None}
 use Rattle.std.specs.Option.{option_map}
 use Rattle.std.specs.Io.KnownBytes.{Consumes, IsAtEnd, Keeps, prepend_known}
 use Rattle.lpt_capture.specs.declared.place.Place.{Place}
 use Rattle.lpt_capture.specs.declared.place.Place.TheVariants.{Front}
 use Rattle.lpt_capture.specs.Captured.{Finding, before, found_in, in_record}
-use Rattle.lpt_capture.specs.States.{Gives, IsDone, found_at, octets_of}
+use Rattle.lpt_capture.specs.States.{Gives, found_at}
 use Rattle.lpt_capture.proofs.CaptureLemmas.{record_given}
-
--- before nothing
-before-nil : (f : Finding) → before [] f ≡ f
-before-nil f = refl
-
-pub gives-nil : (o : Option Finding) → Gives o o []
-gives-nil None = tt
-gives-nil (Some f) = refl
 
 pub gives-trans : (a b c : Option Finding) → Gives a b [] → Gives b c [] → Gives a c []
 gives-trans None b c p q = tt
 gives-trans (Some f) None c p q = absurd p
 gives-trans (Some f) (Some g) None p q = absurd q
 gives-trans (Some f) (Some g) (Some h) p q = p ∙ q
-
--- what is given after nothing was
-pub gives-after : (a b c : Option Finding) (xs : List ℕ) → Gives a b [] → Gives b c xs → Gives a c xs
-gives-after None b c xs p q = tt
-gives-after (Some f) None c xs p q = absurd p
-gives-after (Some f) (Some g) None xs p q = absurd q
-gives-after (Some f) (Some g) (Some h) xs p q = p ∙ q
 
 -- octets that are read ahead change nothing
 pub gives-kept : (f : List ℕ → Finding) (a b : Option (List ℕ))
@@ -83,21 +68,3 @@ record-found f g at left others a b xs zs came within same front rest =
     (λ r. front (xs ++ r) ∙ record_given at left xs r others within ∙ ap (before xs) (sym (rest r))))
 
 -- ---- as a source
-
-pub consumes-given : (a b : Option Finding) (xs : List ℕ)
-    → Gives a b xs
-    → Consumes (option_map octets_of a) (option_map octets_of b) xs
-consumes-given None b xs h = tt
-consumes-given (Some f) None xs h = absurd h
-consumes-given (Some f) (Some g) xs h = ap octets_of h
-
-pub keeps-given : (a b : Option Finding)
-    → Gives a b []
-    → Keeps (option_map octets_of a) (option_map octets_of b)
-keeps-given None b h = tt
-keeps-given (Some f) None h = absurd h
-keeps-given (Some f) (Some g) h = sym (ap octets_of h)
-
-pub end-done : (b : Option Finding) → IsDone b → IsAtEnd (option_map octets_of b)
-end-done None h = tt
-end-done (Some f) h = h.0

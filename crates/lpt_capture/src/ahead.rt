@@ -2,7 +2,7 @@
 
 ghost use Rattle.std.specs.Prelude.{◌≤◌};
 
-use lpt_stream::Source;
+use lpt_text::Source;
 
 /// How many octets may be held.
 const ROOM: usize = 24;

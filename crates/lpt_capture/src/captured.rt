@@ -2,7 +2,7 @@
 
 ghost use Rattle.std.specs.Prelude.{◌≡◌, ◌<◌, ◌≤◌, ◌⊎◌, ℕ, List, [], true, false, Some, length, take, Option, MatchOption, IfSome, IfNone};
 ghost use Rattle.std.specs.Io.KnownBytes.{Consumes, IsAtEnd, Keeps};
-ghost use Rattle.lpt_stream.specs.LptText.Streams.{read_failed};
+ghost use Rattle.lpt_text.specs.Streams.{read_failed};
 ghost use Rattle.lpt_capture.specs.declared.place.Place.{Place};
 ghost use Rattle.lpt_capture.specs.Captured.{Finding, found_in, order_of};
 ghost use Rattle.lpt_capture.specs.States.{ahead_of, fault_at, found, found_at, front_size, has_failed, held, known, octets_left, place_of, source_of, Gives, IsBroken, IsSettled, Reads};
@@ -14,7 +14,7 @@ use crate::place::{
     FILE_HEADER, Place, RECORD_HEADER, Record, behind_file_header, behind_other,
     behind_record_header,
 };
-use lpt_stream::Source;
+use lpt_text::Source;
 
 /// How many octets show whether a file is a capture.
 const MAGIC: usize = 4;

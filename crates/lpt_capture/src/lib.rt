@@ -14,4 +14,3 @@ mod place;
 
 pub use captured::Captured;
 pub use fault::CaptureFault;
-pub use lpt_stream::Source;

@@ -2,7 +2,7 @@
 use Rattle.std.proofs.Common.{◌≡◌, ◌∙◌, ◌++◌, [], ◌∷◌, map, refl, ap, sym, append-nil, Option, Some, None, length}
 use Rattle.std.specs.Option.{option_map_or}
 use Rattle.std.proofs.lemmas.List.{map-append}
-use Rattle.lpt_events.specs.LptPacket.declared.direction.Direction.TheVariants.{Up}
+use Rattle.lpt_packet.specs.declared.direction.Direction.TheVariants.{Up}
 use Rattle.lpt_events.specs.Lanes.{lane_direction}
 use Rattle.lpt_events.specs.declared.event.Event.{Event}
 use Rattle.lpt_events.specs.declared.event.Event.TheVariants.{Open, Send, Plain, Finish, Lose, Damage, Take, Deliver, Tick, Expire, Claim, Commit, Apply, Retire, Restart}
@@ -16,10 +16,10 @@ use Rattle.lpt_chart.specs.declared.marks.Stage.TheVariants.{Claimed, Committed}
 use Rattle.lpt_chart.specs.declared.marks.Thing.TheVariants.{Sender}
 use Rattle.lpt_chart.specs.Answers.{applied_in, boot_in, claimed_in, clock_in, committed_in, expired_in, is_finished, is_lost, is_retired, is_taken, number_put, outcome_in, parts_opened, stale_in}
 use Rattle.lpt_chart.specs.Deliveries.{delivery_in, delivery_told, shown_by}
-use Rattle.lpt_chart.specs.Events.{delivered, drawn, executed, expired, finished, first_told, from_side, message_opened, open_at, packet_lost, packet_put, packet_taken, part_put, restarted, second_told, worked}
+use Rattle.lpt_chart.specs.Events.{delivered, drawn, executed, expired, finished, from_side, message_opened, numbers_told, open_at, packet_lost, packet_put, packet_taken, part_put, restarted, worked}
 use Rattle.lpt_chart.specs.Pictures.{Picture, flown, hand_in, landed, said, ticked}
 use Rattle.lpt_chart.specs.Tasks.{asked_from}
-use Rattle.lpt_chart.specs.Tracks.{parts_of, task_of}
+use Rattle.lpt_chart.specs.Tracks.{parts_in, stage_of, task_in}
 use Rattle.lpt_chart.proofs.FlightLemmas.{came_to-flights, executed-flights, expired-flights, finished-flights, landed-flights, landed-place, lost-flights, opened-flights, put-flights, restarted-flights, said-flights, so-flights, taken-flights, ticked-flights, told-flights, worked-flights}
 
 -- the flights are the same
@@ -45,7 +45,8 @@ landed_flown-flights p s l o =
 pub delivered-flights : (p : Picture) (l : Lane) (o : Outcome)
     → map shown_by (delivered p l o).flights ≡ map shown_by p.flights ++ delivery_told p.place l (Some o)
 delivered-flights p l o =
-    let s = say.Delivered l o (first_told p (lane_direction l) o) (second_told p (hand_in p.hands l) (lane_direction l) o) in
+    let told = numbers_told p (hand_in p.hands l) (lane_direction l) o in
+    let s = say.Delivered l o told.0 told.1 in
     ap (map shown_by) (came_to-flights (flown (landed p l s) l o) (hand_in p.hands l) (lane_direction l) o)
     ∙ landed_flown-flights p s l o
 
@@ -67,20 +68,20 @@ other-flights p e a same none =
 pub drawn-flights : (p : Picture) (e : Event) (a : Answer)
     → map shown_by (drawn p e a).flights ≡ map shown_by p.flights ++ delivery_in p.place e a
 drawn-flights p (Deliver l) a = deliver-flights p l (outcome_in a)
-drawn-flights p (Open d id m) a =
-    other-flights p (Open d id m) a
-    (told-flights (λ n. message_opened p d id m n) (parts_opened a) p p (λ n. opened-flights p d id m n) refl) refl
-drawn-flights p (Send d id k) a =
-    other-flights p (Send d id k) a
-    (told-flights (λ n. part_put p d id k n) (number_put a) p p
-    (λ n. put-flights p d n (Part id k (parts_of (open_at p (from_side d)) (Sender id))) (task_of (open_at p (from_side d)) (Sender id))) refl) refl
+drawn-flights p (Open d name m) a =
+    other-flights p (Open d name m) a
+    (told-flights (λ n. message_opened p d name m n) (parts_opened a) p p (λ n. opened-flights p d name m n) refl) refl
+drawn-flights p (Send d name k) a =
+    other-flights p (Send d name k) a
+    (told-flights (λ n. part_put p d name k n) (number_put a) p p
+    (λ n. put-flights p d n (Part name k (parts_in (stage_of (open_at p (from_side d)) (Sender name)))) (task_in (stage_of (open_at p (from_side d)) (Sender name)))) refl) refl
 drawn-flights p (Plain source flags service subtype body) a =
     other-flights p (Plain source flags service subtype body) a
     (told-flights (λ n. packet_put p Up n (Request service subtype) (Some (asked_from service subtype body 0))) (number_put a) p p
     (λ n. put-flights p Up n (Request service subtype) (Some (asked_from service subtype body 0))) refl) refl
-drawn-flights p (Finish d id) a =
-    other-flights p (Finish d id) a
-    (so-flights (is_finished a) (finished p d id) p (finished-flights p d id)) refl
+drawn-flights p (Finish d name) a =
+    other-flights p (Finish d name) a
+    (so-flights (is_finished a) (finished p d name) p (finished-flights p d name)) refl
 drawn-flights p (Lose n) a =
     other-flights p (Lose n) a
     (so-flights (is_lost a) (packet_lost p n) p (lost-flights p n)) refl
@@ -109,9 +110,9 @@ drawn-flights p (Commit w) a =
 drawn-flights p Apply a =
     other-flights p Apply a
     (told-flights (λ x. executed p x) (applied_in a) p p (λ x. executed-flights p x) refl) refl
-drawn-flights p (Retire d id) a =
-    other-flights p (Retire d id) a
-    (so-flights (is_retired a) (said p (say.Retired d id)) p (said-flights p (say.Retired d id))) refl
+drawn-flights p (Retire d name) a =
+    other-flights p (Retire d name) a
+    (so-flights (is_retired a) (said p (say.Retired d name)) p (said-flights p (say.Retired d name))) refl
 drawn-flights p (Restart side) a =
     other-flights p (Restart side) a
     (told-flights (λ boot. restarted p side boot) (boot_in a) p p (λ boot. restarted-flights p side boot) refl) refl

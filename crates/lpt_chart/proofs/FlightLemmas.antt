@@ -1,9 +1,9 @@
 -- What draws a flight, and what draws none.
 use Rattle.std.proofs.Common.{◌≡◌, ◌∙◌, ℕ, zero, suc, ◌-◌, ◌==◌, Bool, true, false, List, [], ◌∷◌, length, refl, Option, Some, None, if◌then◌else◌}
 use Rattle.std.specs.Option.{option_map_or}
-use Rattle.lpt_events.specs.LptPacket.declared.direction.Direction.{Direction}
-use Rattle.lpt_events.specs.LptPacket.declared.direction.Direction.TheVariants.{Up, Down}
-use Rattle.lpt_events.specs.LptPacket.Names.{Name}
+use Rattle.lpt_packet.specs.declared.direction.Direction.{Direction}
+use Rattle.lpt_packet.specs.declared.direction.Direction.TheVariants.{Up, Down}
+use Rattle.lpt_packet.specs.Names.{Name}
 use Rattle.lpt_events.specs.declared.applied.Applied.{Applied}
 use Rattle.lpt_events.specs.declared.applied.Applied.TheVariants.{Done, Silent, Code}
 use Rattle.lpt_events.specs.declared.lane.Lane.{Lane}
@@ -57,7 +57,7 @@ ticked-flights p side clock =
 pub executed-flights : (p : Picture) (a : Applied) → (executed p a).flights ≡ p.flights
 unfolding without_job tracked rowed
 executed-flights p (Done None) = refl
-executed-flights p (Done (Some id)) = refl
+executed-flights p (Done (Some name)) = refl
 executed-flights p Silent = refl
 executed-flights p (Code c) = refl
 
@@ -94,13 +94,13 @@ refused-flights (r ∷ rs) p = refused-flights rs (refusal_at p r.place) ∙ ref
 pub came_to-flights : (p : Picture) (held : Option Held) (d : Direction) (o : Outcome)
     → (came_to p held d o).flights ≡ p.flights
 unfolding came_to tracked with_job
-came_to-flights p held d (outcome.Kept id k) = refl
-came_to-flights p held Up (outcome.Released id len) = refl
-came_to-flights p held Down (outcome.Released id len) = refl
+came_to-flights p held d (outcome.Kept name k) = refl
+came_to-flights p held Up (outcome.Released name len) = refl
+came_to-flights p held Down (outcome.Released name len) = refl
 came_to-flights p held d (outcome.PlainReleased len) = refl
-came_to-flights p held d (outcome.AbortNoted id reason) = refl
-came_to-flights p held d (outcome.Broken id reason) = refl
-came_to-flights p held d (outcome.Again id k) = refl
+came_to-flights p held d (outcome.AbortNoted name reason) = refl
+came_to-flights p held d (outcome.Broken name reason) = refl
+came_to-flights p held d (outcome.Again name k) = refl
 came_to-flights p held d (outcome.ReportNoted service subtype) = refl
 came_to-flights p held d (outcome.Ignored why) = refl
 
@@ -120,10 +120,10 @@ so-flights true q p e = e
 so-flights false q p e = refl
 
 -- a message is opened
-pub opened-flights : (p : Picture) (d : Direction) (id : Name) (m : List ℕ) (n : ℕ)
-    → (message_opened p d id m n).flights ≡ p.flights
+pub opened-flights : (p : Picture) (d : Direction) (name : Name) (m : List ℕ) (n : ℕ)
+    → (message_opened p d name m n).flights ≡ p.flights
 unfolding rowed tracked
-opened-flights p d id m n = refl
+opened-flights p d name m n = refl
 
 -- a packet is put
 pub put-flights : (p : Picture) (d : Direction) (n : ℕ) (content : Content) (task : Option Task)
@@ -132,9 +132,9 @@ unfolding put rowed
 put-flights p d n content task = refl
 
 -- a sender is closed
-pub finished-flights : (p : Picture) (d : Direction) (id : Name) → (finished p d id).flights ≡ p.flights
+pub finished-flights : (p : Picture) (d : Direction) (name : Name) → (finished p d name).flights ≡ p.flights
 unfolding rowed tracked
-finished-flights p d id = refl
+finished-flights p d name = refl
 
 -- a packet is lost
 pub lost-flights : (p : Picture) (n : ℕ) → (packet_lost p n).flights ≡ p.flights
@@ -147,9 +147,9 @@ unfolding rowed taken
 taken-flights p l n = refl
 
 -- a reception expires
-pub expired-flights : (p : Picture) (d : Direction) (id : Name) → (expired p d id).flights ≡ p.flights
+pub expired-flights : (p : Picture) (d : Direction) (name : Name) → (expired p d name).flights ≡ p.flights
 unfolding rowed tracked
-expired-flights p d id = refl
+expired-flights p d name = refl
 
 -- a job comes to a stage
 pub worked-flights : (p : Picture) (s : Saying) (job : ℕ) (stage : Stage) → (worked p s job stage).flights ≡ p.flights

@@ -1,4 +1,3 @@
-pub mod DrawnTags
 pub mod EscapeLemmas
 pub mod EventFlights
 pub mod FlightLemmas

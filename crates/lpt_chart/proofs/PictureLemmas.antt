@@ -1,7 +1,7 @@
 -- What loops over entries, columns and own packets draw.
 use Rattle.std.proofs.Common.{◌≡◌, ◌∙◌, ℕ, ◌+◌, ◌<◌, ◌++◌, List, ◌∷◌, drop, take, length, ap, sym, append_assoc, add-one, Option, None, get_or, option_to_list}
 use Rattle.std.proofs.Math.Seq.{drop-cons}
-use Rattle.lpt_events.specs.LptPacket.declared.direction.Direction.TheVariants.{Down}
+use Rattle.lpt_packet.specs.declared.direction.Direction.TheVariants.{Down}
 use Rattle.lpt_events.specs.declared.entry.Entry.{Entry}
 use Rattle.lpt_events.specs.declared.side.Side.{Side}
 use Rattle.lpt_chart.specs.declared.marks.Bar.{Bar}

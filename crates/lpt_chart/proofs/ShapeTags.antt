@@ -1,15 +1,31 @@
--- Each '<' of a shape, a text or a group opens or closes an element.
+-- Each '<' of a picture opens or closes an element.
 use Rattle.std.proofs.Common.{refl, ℕ, List, [], ◌∷◌, ◌++◌, length, take}
-use Rattle.std.specs.Prelude.{codes, decimal, nat_lt}
-use Rattle.lpt_events.specs.LptPacket.declared.direction.Direction.TheVariants.{Up, Down}
+use Rattle.std.specs.Prelude.{◌-◌, ◌*◌, ◌+◌, codes, decimal, nat_lt}
+use Rattle.std.specs.List.{flat_map}
+use Rattle.lpt_packet.specs.declared.direction.Direction.TheVariants.{Up, Down}
+use Rattle.lpt_events.specs.declared.entry.Entry.{Entry}
+use Rattle.lpt_events.specs.declared.side.Side.TheVariants as side
 use Rattle.lpt_chart.proofs.TagLemmas.{Tagged, decimal-tagged, either, escaped-tagged, joined-tagged, tagged-append}
+use Rattle.lpt_chart.specs.declared.choice.Choice.{Choice}
+use Rattle.lpt_chart.specs.declared.refusal.Refusal.{Refusal}
 use Rattle.lpt_chart.specs.declared.shape.Shape.{Shape}
 use Rattle.lpt_chart.specs.declared.shape.Shape.TheVariants as shape
+use Rattle.lpt_chart.specs.declared.shape.Sign.{Sign}
+use Rattle.lpt_chart.specs.declared.shape.Sign.TheVariants as sign
 use Rattle.lpt_chart.specs.declared.style.Letters.{Letters}
-use Rattle.lpt_chart.specs.declared.style.Letters.TheVariants.{Title, Grey, Place, Small, Left, LeftQuiet, LeftStrong, Right, RightQuiet, RightStrong, Node, Bead, BeadWhite, Key}
+use Rattle.lpt_chart.specs.declared.style.Letters.TheVariants.{Title, Grey, Place, Small, Words, Node, Bead, BeadWhite, Key}
 use Rattle.lpt_chart.specs.declared.style.Style.{Style}
 use Rattle.lpt_chart.specs.declared.style.Style.TheVariants.{Paper, Ground, Ink, InkEdge, Life, Hair, Lane, Retiring, Way, WayAgain, WayNoise, InHand, Late, Cross, Filled, Hollow, Dashed, Ring, Noise, Light, JobWaits, JobHollow, JobFilled}
-use Rattle.lpt_chart.specs.Shapes.{box_text, corner_text, drawn_onto, end_text, escaped, group_end_onto, group_onto, letters_text, place_text, seen_text, shape_text, size_text, step_text, steps_text, style_text, widest, written_onto}
+use Rattle.lpt_chart.specs.declared.style.Weight.TheVariants.{Quiet, Plain, Strong}
+use Rattle.lpt_chart.specs.Charts.{chart_shapes, chart_text, picture_text}
+use Rattle.lpt_chart.specs.Choices.{frame_of}
+use Rattle.lpt_chart.specs.Events.{picture}
+use Rattle.lpt_chart.specs.Frames.{half, whole_high, y_of}
+use Rattle.lpt_chart.specs.Pictures.{Picture}
+use Rattle.lpt_chart.specs.Shapes.{bead_text, box_text, closing_text, end_text, escaped, group_text, letters_head, line_text, opening_text, part_text, place_text, said_text, seen_text, shape_text, sign_steps, sign_text, size_text, text_of, widest}
+use Rattle.lpt_chart.specs.Styles.{letters_text, style_text}
+use Rattle.lpt_chart.specs.Texts.{words_text}
+use Rattle.lpt_chart.specs.Words.{joined}
 
 -- ---- attributes
 
@@ -55,63 +71,44 @@ letters-tagged Title = refl
 letters-tagged Grey = refl
 letters-tagged Place = refl
 letters-tagged Small = refl
-letters-tagged Left = refl
-letters-tagged LeftQuiet = refl
-letters-tagged LeftStrong = refl
-letters-tagged Right = refl
-letters-tagged RightQuiet = refl
-letters-tagged RightStrong = refl
+letters-tagged (Words side.Ground Plain) = refl
+letters-tagged (Words side.Ground Quiet) = refl
+letters-tagged (Words side.Ground Strong) = refl
+letters-tagged (Words side.Craft Plain) = refl
+letters-tagged (Words side.Craft Quiet) = refl
+letters-tagged (Words side.Craft Strong) = refl
 letters-tagged Node = refl
 letters-tagged (Bead Up) = refl
 letters-tagged (Bead Down) = refl
 letters-tagged BeadWhite = refl
 letters-tagged Key = refl
 
-corner-tagged : (x y : ℕ) → Tagged (corner_text x y)
-unfolding corner_text
-corner-tagged x y =
-    joined-tagged (codes "x='" ∷ decimal x ∷ codes "' y='" ∷ decimal y ∷ codes "'" ∷ [])
-    (refl, (decimal-tagged x, (refl, (decimal-tagged y, (refl, refl)))))
+-- ---- elements
 
-pub size-tagged : (wide high : ℕ) → Tagged (size_text wide high)
-unfolding size_text
-size-tagged wide high =
-    joined-tagged (codes "width='" ∷ decimal wide ∷ codes "' height='" ∷ decimal high ∷ codes "'" ∷ [])
-    (refl, (decimal-tagged wide, (refl, (decimal-tagged high, (refl, refl)))))
-
-step-tagged : (x y : ℕ) → Tagged (step_text x y)
-unfolding step_text
-step-tagged x y =
-    joined-tagged (codes "L" ∷ decimal x ∷ codes " " ∷ decimal y ∷ [])
-    (refl, (decimal-tagged x, (refl, (decimal-tagged y, refl))))
-
--- ---- shapes
-
-steps-tagged : (x y : ℕ) (steps : List ℕ) (look : Style) → Tagged steps → Tagged (steps_text x y steps look)
-unfolding steps_text
-steps-tagged x y steps look p =
+line-tagged : (x0 y0 x1 y1 : ℕ) (look : Style) → Tagged (line_text x0 y0 x1 y1 look)
+unfolding line_text
+line-tagged x0 y0 x1 y1 look =
     joined-tagged
-    (codes "<path d='M" ∷ decimal x ∷ codes " " ∷ decimal y ∷ steps ∷ codes "' " ∷ style_text look ∷ end_text ∷ [])
-    (refl, (decimal-tagged x, (refl, (decimal-tagged y, (p, (refl, (style-tagged look, (refl, refl))))))))
-
-box-tagged : (x y wide high round : ℕ) (look : Style) → Tagged (box_text x y wide high round look)
-unfolding box_text
-box-tagged x y wide high round look =
-    joined-tagged
-    (codes "<rect " ∷ corner_text x y ∷ codes " " ∷ size_text wide high ∷ codes " rx='" ∷ decimal round ∷ codes "' "
-    ∷ style_text look ∷ end_text ∷ []) (
+    (codes "<path d='M" ∷ decimal x0 ∷ codes " " ∷ decimal y0 ∷ codes "L" ∷ decimal x1 ∷ codes " " ∷ decimal y1
+    ∷ codes "' " ∷ style_text look ∷ end_text ∷ []) (
       refl,
       (
-        corner-tagged x y,
+        decimal-tagged x0,
         (
           refl,
           (
-            size-tagged wide high,
+            decimal-tagged y0,
             (
               refl,
               (
-                decimal-tagged round,
-                (refl, (style-tagged look, (refl, refl))),
+                decimal-tagged x1,
+                (
+                  refl,
+                  (
+                    decimal-tagged y1,
+                    (refl, (style-tagged look, (refl, refl))),
+                  ),
+                ),
               ),
             ),
           ),
@@ -119,18 +116,100 @@ box-tagged x y wide high round look =
       ),
     )
 
-shape-tagged : (s : Shape) → Tagged (shape_text s)
-unfolding shape_text
-shape-tagged (shape.Line x0 y0 x1 y1 look) = steps-tagged x0 y0 (step_text x1 y1) look (step-tagged x1 y1)
-shape-tagged (shape.Box x y wide high round look) = box-tagged x y wide high round look
-shape-tagged (shape.HeadRight x y look) = steps-tagged x y (codes "l-7 -4v8z") look refl
-shape-tagged (shape.HeadLeft x y look) = steps-tagged x y (codes "l7 -4v8z") look refl
-shape-tagged (shape.Cross x y look) = steps-tagged x y (codes "m-5 -5l10 10m0 -10l-10 10") look refl
-shape-tagged (shape.Hourglass x y look) = steps-tagged x y (codes "m-5 -6h10l-10 12h10z") look refl
+size-tagged : (wide high : ℕ) → Tagged (size_text wide high)
+unfolding size_text
+size-tagged wide high =
+    joined-tagged (codes "width='" ∷ decimal wide ∷ codes "' height='" ∷ decimal high ∷ codes "'" ∷ [])
+    (refl, (decimal-tagged wide, (refl, (decimal-tagged high, (refl, refl)))))
 
-pub drawn : (out : List ℕ) (s : Shape) → Tagged out → Tagged (drawn_onto out s)
-unfolding drawn_onto
-drawn out s p = tagged-append out (shape_text s) p (shape-tagged s)
+box-tagged : (x y wide high round : ℕ) (look : Style) → Tagged (box_text x y wide high round look)
+unfolding box_text
+box-tagged x y wide high round look =
+    joined-tagged
+    (codes "<rect x='" ∷ decimal x ∷ codes "' y='" ∷ decimal y ∷ codes "' " ∷ size_text wide high ∷ codes " rx='"
+    ∷ decimal round ∷ codes "' " ∷ style_text look ∷ end_text ∷ []) (
+      refl,
+      (
+        decimal-tagged x,
+        (
+          refl,
+          (
+            decimal-tagged y,
+            (
+              refl,
+              (
+                size-tagged wide high,
+                (
+                  refl,
+                  (
+                    decimal-tagged round,
+                    (refl, (style-tagged look, (refl, refl))),
+                  ),
+                ),
+              ),
+            ),
+          ),
+        ),
+      ),
+    )
+
+steps-tagged : (s : Sign) → Tagged (sign_steps s)
+steps-tagged sign.HeadRight = refl
+steps-tagged sign.HeadLeft = refl
+steps-tagged sign.Cross = refl
+steps-tagged sign.Hourglass = refl
+
+sign-tagged : (x y : ℕ) (s : Sign) (look : Style) → Tagged (sign_text x y s look)
+unfolding sign_text
+sign-tagged x y s look =
+    joined-tagged
+    (codes "<path d='M" ∷ decimal x ∷ codes " " ∷ decimal y ∷ sign_steps s ∷ codes "' " ∷ style_text look ∷ end_text ∷ [])
+    (refl, (decimal-tagged x, (refl, (decimal-tagged y, (steps-tagged s, (refl, (style-tagged look, (refl, refl))))))))
+
+part-tagged : (y wide high top : ℕ) → Tagged (part_text y wide high top)
+unfolding part_text
+part-tagged y wide high top =
+    joined-tagged
+    (codes "<svg x='0' y='" ∷ decimal y ∷ codes "' " ∷ size_text wide high ∷ codes " viewBox='0 " ∷ decimal top
+    ∷ codes " " ∷ decimal wide ∷ codes " " ∷ decimal high ∷ codes "'>" ∷ (10 ∷ []) ∷ []) (
+      refl,
+      (
+        decimal-tagged y,
+        (
+          refl,
+          (
+            size-tagged wide high,
+            (
+              refl,
+              (
+                decimal-tagged top,
+                (
+                  refl,
+                  (
+                    decimal-tagged wide,
+                    (refl, (decimal-tagged high, (refl, (refl, refl)))),
+                  ),
+                ),
+              ),
+            ),
+          ),
+        ),
+      ),
+    )
+
+opening-tagged : (wide high : ℕ) (title : List ℕ) → Tagged (opening_text wide high title)
+unfolding opening_text
+opening-tagged wide high title =
+    let size = joined
+    (codes "<svg xmlns='http://www.w3.org/2000/svg' width='" ∷ decimal wide ∷ codes "' height='" ∷ decimal high
+    ∷ codes "'" ∷ letters_head ∷ []) in
+    tagged-append (size ++ escaped title) (codes "</title>" ++ 10 ∷ [])
+    (tagged-append size (escaped title)
+    (joined-tagged
+    (codes "<svg xmlns='http://www.w3.org/2000/svg' width='" ∷ decimal wide ∷ codes "' height='" ∷ decimal high
+    ∷ codes "'" ∷ letters_head ∷ [])
+    (refl, (decimal-tagged wide, (refl, (decimal-tagged high, (refl, (refl, refl)))))))
+    (escaped-tagged title)) refl
 
 -- ---- texts
 
@@ -149,24 +228,65 @@ place-tagged x y l =
     (codes "<text x='" ∷ decimal x ∷ codes "' y='" ∷ decimal y ∷ codes "' " ∷ letters_text l ∷ codes ">" ∷ [])
     (refl, (decimal-tagged x, (refl, (decimal-tagged y, (refl, (letters-tagged l, (refl, refl)))))))
 
-pub written : (out : List ℕ) (x y : ℕ) (l : Letters) (t : List ℕ) → Tagged out → Tagged (written_onto out x y l t)
-unfolding written_onto
-written out x y l t p =
-    let end = codes "</text>" ++ 10 ∷ [] in
-    let place = place_text x y l in
-    tagged-append (out ++ place ++ seen_text t) end
-    (tagged-append (out ++ place) (seen_text t) (tagged-append out place p (place-tagged x y l)) (seen-tagged t))
-    refl
+said-tagged : (x y : ℕ) (l : Letters) (t : List ℕ) → Tagged (said_text x y l t)
+unfolding said_text
+said-tagged x y l t =
+    tagged-append (place_text x y l ++ seen_text t) (codes "</text>" ++ 10 ∷ [])
+    (tagged-append (place_text x y l) (seen_text t) (place-tagged x y l) (seen-tagged t)) refl
 
--- ---- groups
+bead-tagged : (x at number round : ℕ) (look : Style) (l : Letters) → Tagged (bead_text x at number round look l)
+unfolding bead_text
+bead-tagged x at number round look l =
+    tagged-append (box_text (x - half number) (y_of at - 7) (2 * half number) 14 round look)
+    (said_text x (y_of at + 4) l (decimal number))
+    (box-tagged (x - half number) (y_of at - 7) (2 * half number) 14 round look)
+    (said-tagged x (y_of at + 4) l (decimal number))
 
-pub grouped : (out t : List ℕ) → Tagged out → Tagged (group_onto out t)
-unfolding group_onto
-grouped out t p =
-    let begin = codes "<g><title>" in
-    tagged-append (out ++ begin ++ escaped t) (codes "</title>")
-    (tagged-append (out ++ begin) (escaped t) (tagged-append out begin p refl) (escaped-tagged t)) refl
+group-tagged : (t : List ℕ) → Tagged (group_text t)
+unfolding group_text
+group-tagged t =
+    tagged-append (codes "<g><title>") (escaped t ++ codes "</title>") refl
+    (tagged-append (escaped t) (codes "</title>") (escaped-tagged t) refl)
 
-pub group_ended : (out : List ℕ) → Tagged out → Tagged (group_end_onto out)
-unfolding group_end_onto
-group_ended out p = tagged-append out (codes "</g>" ++ 10 ∷ []) p refl
+-- ---- shapes
+
+shape-tagged : (source : ℕ) (title : List ℕ) (refused : List Refusal) (s : Shape)
+    → Tagged (shape_text source title refused s)
+unfolding shape_text
+shape-tagged source title refused (shape.Line x0 y0 x1 y1 look) = line-tagged x0 y0 x1 y1 look
+shape-tagged source title refused (shape.Box x y wide high round look) = box-tagged x y wide high round look
+shape-tagged source title refused (shape.Sign x y s look) = sign-tagged x y s look
+shape-tagged source title refused (shape.Bead x at number round look l) = bead-tagged x at number round look l
+shape-tagged source title refused (shape.Text x y l words) = said-tagged x y l (words_text source title refused words)
+shape-tagged source title refused (shape.Group words) = group-tagged (words_text source title refused words)
+shape-tagged source title refused shape.GroupEnd = refl
+shape-tagged source title refused (shape.Part y wide high top) = part-tagged y wide high top
+shape-tagged source title refused shape.PartEnd = refl
+
+-- all of a list
+flat-tagged : (f : Shape → List ℕ) → ((s : Shape) → Tagged (f s)) → (shapes : List Shape) → Tagged (flat_map f shapes)
+flat-tagged f each [] = refl
+flat-tagged f each (s ∷ shapes) = tagged-append (f s) (flat_map f shapes) (each s) (flat-tagged f each shapes)
+
+pub shapes-tagged : (source : ℕ) (title : List ℕ) (refused : List Refusal) (shapes : List Shape)
+    → Tagged (text_of source title refused shapes)
+unfolding text_of
+shapes-tagged source title refused shapes =
+    flat-tagged (shape_text source title refused) (shape-tagged source title refused) shapes
+
+-- ---- a picture
+
+picture-tagged : (source events : ℕ) (c : Choice) (title : List ℕ) (refused : List Refusal) (p : Picture)
+    → Tagged (picture_text source events c title refused p)
+unfolding picture_text
+picture-tagged source events c title refused p =
+    let f = frame_of source c title refused p in
+    let head = opening_text f.wide (whole_high f) title in
+    let text = text_of source title refused (chart_shapes f events c title p) in
+    tagged-append (head ++ text) closing_text
+    (tagged-append head text (opening-tagged f.wide (whole_high f) title)
+    (shapes-tagged source title refused (chart_shapes f events c title p))) refl
+
+pub chart-tagged : (source : ℕ) (c : Choice) (title : List ℕ) (journal : List Entry) (refused : List Refusal)
+    → Tagged (chart_text source c title journal refused)
+chart-tagged source c title journal refused = picture-tagged source (length journal) c title refused (picture journal refused)

@@ -1,12 +1,12 @@
 -- Texts in which each '<' opens or closes an element, put together.
-use Rattle.std.proofs.Common.{◌≡◌, sym, refl, true≢false, ℕ, zero, suc, ◌/◌, ◌%◌, ◌<◌, Bool, true, false, not, ◌&&◌, ◌||◌, List, [], ◌∷◌, ◌++◌, Option, Some, None, mod-lt, arith}
+use Rattle.std.proofs.Common.{◌≡◌, sym, refl, true≢false, ℕ, zero, suc, ◌/◌, ◌%◌, ◌<◌, Bool, true, false, not, ◌&&◌, ◌||◌, List, [], ◌∷◌, ◌++◌, mod-lt, arith}
 use Rattle.std.proofs.lemmas.Bool.{and_from, or_left, or_right}
-use Rattle.std.specs.Prelude.{◌==◌, if◌then◌else◌, nat_le, fold, decimal}
+use Rattle.std.specs.Prelude.{◌==◌, if◌then◌else◌, nat_le, decimal}
 use Rattle.std.specs.List.{list_all}
-use Rattle.std.specs.Option.{option_map_or}
 use Rattle.std.specs.Fmt.{digit_glyph, digits_onto, digits}
 use Rattle.lpt_chart.proofs.EscapeLemmas.{escaped-plain}
-use Rattle.lpt_chart.specs.Shapes.{escaped, is_plain, joined}
+use Rattle.lpt_chart.specs.Shapes.{escaped, is_plain}
+use Rattle.lpt_chart.specs.Words.{joined}
 use Rattle.lpt_chart.specs.Tags.{begins, begins_one, is_tagged, tags}
 
 -- each '<' of a text opens or closes an element
@@ -112,23 +112,8 @@ pub decimal-tagged : (n : ℕ) → Tagged (decimal n)
 unfolding digits
 decimal-tagged n = plain-tagged (decimal n) (onto-plain 64 n [] refl)
 
--- ---- choices and lists
+-- ---- choices
 
 pub either : (b : Bool) (xs ys : List ℕ) → Tagged xs → Tagged ys → Tagged (if b then xs else ys)
 either true xs ys p q = p
 either false xs ys p q = q
-
-pub perhaps : (A : Type 0) (o : Option A) (f : A → List ℕ) (z : List ℕ)
-    → ((a : A) → Tagged (f a))
-    → Tagged z
-    → Tagged (option_map_or f o z)
-perhaps A None f z p q = q
-perhaps A (Some a) f z p q = p a
-
-pub folded : (A : Type 0) (g : List ℕ → A → List ℕ)
-    → ((out : List ℕ) (a : A) → Tagged out → Tagged (g out a))
-    → (xs : List A) (out : List ℕ)
-    → Tagged out
-    → Tagged (fold g out xs)
-folded A g p [] out q = q
-folded A g p (x ∷ xs) out q = folded _ g p xs _ (p out x q)

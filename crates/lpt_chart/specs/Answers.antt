@@ -1,7 +1,7 @@
 -- What an answer tells, where it is the answer of that event.
 use Rattle.std.specs.Prelude.{ℕ, Bool, true, false, Option, Some, None}
-use Rattle.lpt_events.specs.LptPacket.declared.direction.Direction.{Direction}
-use Rattle.lpt_events.specs.LptPacket.Names.{Name}
+use Rattle.lpt_packet.specs.declared.direction.Direction.{Direction}
+use Rattle.lpt_packet.specs.Names.{Name}
 use Rattle.lpt_events.specs.declared.applied.Applied.{Applied}
 use Rattle.lpt_events.specs.declared.outcome.Outcome.{Outcome}
 use Rattle.lpt_events.specs.declared.reply.Answer.{Answer}
@@ -44,7 +44,7 @@ clock_in _ = None
 
 -- the reception that has expired
 abbrev pub expired_in : Answer → Option (Direction × Name)
-expired_in (answer.Expired d id) = Some (d, id)
+expired_in (answer.Expired d name) = Some (d, name)
 expired_in _ = None
 
 -- the boot and the number of a job that was claimed

@@ -9,8 +9,7 @@ use Rattle.lpt_chart.specs.declared.marks.Row.{Row}
 use Rattle.lpt_chart.specs.declared.marks.Saying.{Saying}
 use Rattle.lpt_chart.specs.declared.refusal.Refusal.{Refusal}
 use Rattle.lpt_chart.specs.Pictures.{Picture}
-use Rattle.lpt_chart.specs.Refusals.{widest_refusal}
-use Rattle.lpt_chart.specs.Sayings.{saying_side, saying_words}
+use Rattle.lpt_chart.specs.Sayings.{row_words, saying_side}
 
 -- ---- which rows are drawn
 
@@ -60,9 +59,12 @@ title_front t = take (line_end t) t
 abbrev pub title_rest : List ℕ → List ℕ
 title_rest t = behind_space (drop (line_end t) t)
 
--- what follows two lines
-abbrev pub title_end : List ℕ → List ℕ
-title_end t = title_rest (title_rest t)
+-- the line with this index: two lines, and what follows them
+abbrev pub title_line : List ℕ → (line : ℕ) → List ℕ
+title_line t line =
+    if line == 0 then title_front t
+    else if line == 1 then title_front (title_rest t)
+    else title_rest (title_rest t)
 
 -- the room for the lines behind the first
 abbrev pub title_room : List ℕ → ℕ
@@ -84,18 +86,17 @@ same_side Craft Craft = true
 same_side _ _ = false
 
 -- how many letters a row has at a side
-unfoldable pub letters_at : (source : ℕ) → Side → Saying → ℕ
-letters_at source side saying =
-    if same_side side (saying_side saying) then min (length (saying_words source saying)) 60 else 0
+unfoldable pub letters_at : (source : ℕ) → List Refusal → Side → Saying → ℕ
+letters_at source refused side saying =
+    if same_side side (saying_side saying) then min (length (row_words source refused saying)) 60 else 0
 
 -- how many letters the widest row has at a side, 16 at least
-abbrev pub widest_at : (source : ℕ) → Side → List Row → ℕ
-widest_at source side rows = fold (λ n r. max n (letters_at source side r.saying)) 16 rows
+abbrev pub widest_at : (source : ℕ) → List Refusal → Side → List Row → ℕ
+widest_at source refused side rows = fold (λ n r. max n (letters_at source refused side r.saying)) 16 rows
 
 -- the frame of a picture by its widths: its columns have 12 pixels each
-unfoldable pub frame_with : (source : ℕ) → Choice → (title : List ℕ) → Picture → (left right : ℕ) → Frame
-frame_with source c title p left right = record {
-  source = source;
+unfoldable pub frame_with : Choice → (title : List ℕ) → Picture → (left right : ℕ) → Frame
+frame_with c title p left right = record {
   words = 60 + wide_of left;
   left = 60 + wide_of left + (46 + 12 * min (length p.ground) 64);
   right = 60 + wide_of left + (46 + 12 * min (length p.ground) 64) + (420 + 12 * min (length p.craft) 64);
@@ -112,5 +113,4 @@ frame_with source c title p left right = record {
 -- the frame of a picture
 abbrev pub frame_of : (source : ℕ) → Choice → (title : List ℕ) → List Refusal → Picture → Frame
 frame_of source c title refused p =
-    frame_with source c title p (widest_at source Ground p.rows)
-    (widest_refusal (widest_at source Craft p.rows) refused)
+    frame_with c title p (widest_at source refused Ground p.rows) (widest_at source refused Craft p.rows)

@@ -47,7 +47,7 @@ DrawsDeliveries journal refused = map shown_by (picture journal refused).flights
 
 -- whether an outcome is a release
 abbrev pub releases : Outcome → Bool
-releases (Released id len) = true
+releases (Released name len) = true
 releases (PlainReleased len) = true
 releases _ = false
 

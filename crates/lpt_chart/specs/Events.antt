@@ -1,9 +1,9 @@
 -- What each event draws, and the picture of a journal.
 use Rattle.std.specs.Prelude.{ℕ, ◌+◌, ◌-◌, ◌^◌, min, nat_lt, if◌then◌else◌, List, [], ◌∷◌, ◌++◌, length, take, drop, fold, position, slice_get, Option, Some, None, option_to_list}
 use Rattle.std.specs.Option.{option_map_or}
-use Rattle.lpt_events.specs.LptPacket.declared.direction.Direction.{Direction}
-use Rattle.lpt_events.specs.LptPacket.declared.direction.Direction.TheVariants.{Up, Down}
-use Rattle.lpt_events.specs.LptPacket.Names.{Name}
+use Rattle.lpt_packet.specs.declared.direction.Direction.{Direction}
+use Rattle.lpt_packet.specs.declared.direction.Direction.TheVariants.{Up, Down}
+use Rattle.lpt_packet.specs.Names.{Name}
 use Rattle.lpt_events.specs.Lanes.{lane_direction}
 use Rattle.lpt_events.specs.declared.applied.Applied.{Applied}
 use Rattle.lpt_events.specs.declared.applied.Applied.TheVariants.{Done, Silent, Code}
@@ -32,7 +32,7 @@ use Rattle.lpt_chart.specs.declared.refusal.Refusal.{Refusal}
 use Rattle.lpt_chart.specs.Answers.{applied_in, boot_in, claimed_in, clock_in, committed_in, expired_in, is_finished, is_lost, is_retired, is_taken, number_put, outcome_in, parts_opened, stale_in}
 use Rattle.lpt_chart.specs.Pictures.{Picture, at_side, blank, cleared, flown, hand_in, landed, lost, one_more, put, reported, said, taken, task_next, ticked, tracked, with_job, without_job}
 use Rattle.lpt_chart.specs.Tasks.{asked_from, asked_in}
-use Rattle.lpt_chart.specs.Tracks.{all_bars, kept_of, parts_of, task_of}
+use Rattle.lpt_chart.specs.Tracks.{all_bars, kept_in, parts_in, stage_of, task_in}
 
 -- the node that sends in a direction
 abbrev pub from_side : Direction → Side
@@ -50,7 +50,7 @@ direction_of sent = option_map_or (λ s. s.direction) sent Up
 
 -- of how many parts the message of a packet is
 abbrev pub parts_in_content : Content → ℕ
-parts_in_content (Part id k n) = n
+parts_in_content (Part name k n) = n
 parts_in_content (Request service subtype) = 0
 parts_in_content Report = 0
 parts_in_content (Noise octets) = 0
@@ -65,47 +65,30 @@ task_held held = option_map_or (λ h. option_map_or (λ s. s.task) h.sent None) 
 
 -- how many parts are kept with one more
 unfoldable pub kept_then : Picture → Direction → Name → ℕ
-kept_then p d id =
-    min (kept_of (at_side (to_side d) p.ground p.craft) (Reception id) + 1) (2 ^ 16 - 1)
+kept_then p d name =
+    min (kept_in (stage_of (at_side (to_side d) p.ground p.craft)
+    (Reception name)) + 1) (2 ^ 16 - 1)
 
--- the first number that is told of an outcome
-unfoldable pub first_told : Picture → Direction → Outcome → ℕ
-first_told p d (outcome.Kept id k) = kept_then p d id
-first_told p Up (outcome.Released id len) = p.boot
-first_told p Down (outcome.Released id len) = 0
-first_told p d (outcome.PlainReleased len) = p.boot
-first_told p d (outcome.Again id k) = 0
-first_told p d (outcome.ReportNoted service subtype) = 0
-first_told p d (outcome.AbortNoted id reason) = 0
-first_told p d (outcome.Broken id reason) = 0
-first_told p d (outcome.Ignored why) = 0
-
--- the second
-unfoldable pub second_told : Picture → Option Held → Direction → Outcome → ℕ
-second_told p held d (outcome.Kept id k) = parts_held held
-second_told p held Up (outcome.Released id len) = length p.tasks
-second_told p held Down (outcome.Released id len) = 0
-second_told p held d (outcome.PlainReleased len) = length p.tasks
-second_told p held d (outcome.Again id k) = 0
-second_told p held d (outcome.ReportNoted service subtype) = 0
-second_told p held d (outcome.AbortNoted id reason) = 0
-second_told p held d (outcome.Broken id reason) = 0
-second_told p held d (outcome.Ignored why) = 0
+-- the two numbers that are told of an outcome: of a kept part how many are kept and of how many, of
+-- a request that is released the boot and the number of its job
+unfoldable pub numbers_told : Picture → Option Held → Direction → Outcome → ℕ × ℕ
+numbers_told p held d (outcome.Kept name k) = (kept_then p d name, parts_held held)
+numbers_told p held d _ = (p.boot, length p.tasks)
 
 -- a large message is released: its reception ends, and at the spacecraft a job begins
 abbrev pub released_by : Picture → Option Task → Direction → Name → Picture
-released_by p task Up id = with_job (tracked p Craft (Reception id) None) task
-released_by p task Down id = tracked p Ground (Reception id) None
+released_by p task Up name = with_job (tracked p Craft (Reception name) None) task
+released_by p task Down name = tracked p Ground (Reception name) None
 
 -- what an outcome does to the tracks
 unfoldable pub came_to : Picture → Option Held → Direction → Outcome → Picture
-came_to p held d (outcome.Kept id k) =
-    tracked p (to_side d) (Reception id) (Some (Kept (kept_then p d id) (parts_held held)))
-came_to p held d (outcome.Released id len) = released_by p (task_held held) d id
+came_to p held d (outcome.Kept name k) =
+    tracked p (to_side d) (Reception name) (Some (Kept (kept_then p d name) (parts_held held)))
+came_to p held d (outcome.Released name len) = released_by p (task_held held) d name
 came_to p held d (outcome.PlainReleased len) = with_job p (task_held held)
-came_to p held d (outcome.AbortNoted id reason) = tracked p Ground (Sender id) None
-came_to p held d (outcome.Broken id reason) = tracked p (to_side d) (Reception id) None
-came_to p held d (outcome.Again id k) = p
+came_to p held d (outcome.AbortNoted name reason) = tracked p Ground (Sender name) None
+came_to p held d (outcome.Broken name reason) = tracked p (to_side d) (Reception name) None
+came_to p held d (outcome.Again name k) = p
 came_to p held d (outcome.ReportNoted service subtype) = p
 came_to p held d (outcome.Ignored why) = p
 
@@ -114,7 +97,8 @@ abbrev pub delivered : Picture → Lane → Outcome → Picture
 delivered p lane o =
     let d = lane_direction lane in
     let held = hand_in p.hands lane in
-    let saying = say.Delivered lane o (first_told p d o) (second_told p held d o) in
+    let told : ℕ × ℕ = numbers_told p held d o in
+    let saying = say.Delivered lane o told.0 told.1 in
     came_to (flown (landed p lane saying) lane o) held d o
 
 -- what this node has open
@@ -127,14 +111,14 @@ packet_put p d n content task = put (said p (say.Put d n content)) d content tas
 
 -- a part is put; of how many, and what its message asks for, is known of the open sender
 abbrev pub part_put : Picture → Direction → Name → (k n : ℕ) → Picture
-part_put p d id k n =
-    packet_put p d n (Part id k (parts_of (open_at p (from_side d)) (Sender id)))
-    (task_of (open_at p (from_side d)) (Sender id))
+part_put p d name k n =
+    packet_put p d n (Part name k (parts_in (stage_of (open_at p (from_side d)) (Sender name))))
+    (task_in (stage_of (open_at p (from_side d)) (Sender name)))
 
 -- a message is opened
 abbrev pub message_opened : Picture → Direction → Name → List ℕ → (parts : ℕ) → Picture
-message_opened p d id message parts =
-    tracked (said p (say.Opened d id (length message) parts)) (from_side d) (Sender id)
+message_opened p d name message parts =
+    tracked (said p (say.Opened d name (length message) parts)) (from_side d) (Sender name)
     (Some (Sending parts (asked_in d message)))
 
 -- a packet is lost
@@ -143,7 +127,7 @@ packet_lost p n = lost (said p (say.Lost (direction_of (slice_get p.sent n)) n))
 
 -- the sender of a report of data, where one was opened
 abbrev pub opened_by : Picture → Applied → Picture
-opened_by p (Done (Some id)) = tracked p Craft (Sender id) (Some (Sending 0 None))
+opened_by p (Done (Some name)) = tracked p Craft (Sender name) (Some (Sending 0 None))
 opened_by p (Done None) = p
 opened_by p Silent = p
 opened_by p (Code code) = p
@@ -154,10 +138,10 @@ executed p a = opened_by (without_job (said p (say.Applied p.boot p.applied (tas
 
 -- a reception has expired
 abbrev pub expired : Picture → Direction → Name → Picture
-expired p d id =
-    let columns = open_at p (to_side d) in
-    tracked (said p (say.Expired d id (kept_of columns (Reception id)) (parts_of columns (Reception id))))
-    (to_side d) (Reception id) None
+expired p d name =
+    let stage = stage_of (open_at p (to_side d)) (Reception name) in
+    tracked (said p (say.Expired d name (kept_in stage) (parts_in stage)))
+    (to_side d) (Reception name) None
 
 -- a node is restarted
 abbrev pub restarted : Picture → Side → (boot : ℕ) → Picture
@@ -167,7 +151,7 @@ restarted p Craft boot =
 
 -- a sender is closed
 abbrev pub finished : Picture → Direction → Name → Picture
-finished p d id = tracked (said p (say.Finished d id)) (from_side d) (Sender id) None
+finished p d name = tracked (said p (say.Finished d name)) (from_side d) (Sender name) None
 
 -- a lane takes a packet
 abbrev pub packet_taken : Picture → Lane → ℕ → Picture
@@ -179,11 +163,11 @@ worked p saying job stage = tracked (said p saying) Craft (Job job) (Some stage)
 
 -- what an accepted event draws by its answer; nothing for an answer that isn't the event's own
 abbrev pub drawn : Picture → Event → Answer → Picture
-drawn p (Open d id m) a = option_map_or (λ n. message_opened p d id m n) (parts_opened a) p
-drawn p (Send d id k) a = option_map_or (λ n. part_put p d id k n) (number_put a) p
+drawn p (Open d name m) a = option_map_or (λ n. message_opened p d name m n) (parts_opened a) p
+drawn p (Send d name k) a = option_map_or (λ n. part_put p d name k n) (number_put a) p
 drawn p (Plain source flags service subtype body) a =
     option_map_or (λ n. packet_put p Up n (Request service subtype) (Some (asked_from service subtype body 0))) (number_put a) p
-drawn p (Finish d id) a = if is_finished a then finished p d id else p
+drawn p (Finish d name) a = if is_finished a then finished p d name else p
 drawn p (Lose n) a = if is_lost a then packet_lost p n else p
 drawn p (Damage d b) a = option_map_or (λ n. packet_put p d n (Noise (length b)) None) (number_put a) p
 drawn p (Take l n) a = if is_taken a then packet_taken p l n else p
@@ -195,7 +179,7 @@ drawn p (Commit w) a =
     option_map_or (λ x. worked p (say.Committed w x.0 x.1) x.1 Committed) (committed_in a)
     (option_map_or (λ x. said p (say.Stale w x.0 x.1)) (stale_in a) p)
 drawn p Apply a = option_map_or (λ x. executed p x) (applied_in a) p
-drawn p (Retire d id) a = if is_retired a then said p (say.Retired d id) else p
+drawn p (Retire d name) a = if is_retired a then said p (say.Retired d name) else p
 drawn p (Restart side) a = option_map_or (λ boot. restarted p side boot) (boot_in a) p
 
 -- how many packets of its own an event puts
@@ -203,18 +187,7 @@ abbrev pub own_puts : Event → Option Puts → ℕ
 own_puts (Deliver l) puts = option_map_or (λ x. x.count) puts 0
 own_puts (Expire side) puts = option_map_or (λ x. x.count) puts 0
 own_puts Apply puts = option_map_or (λ x. x.count) puts 0
-own_puts (Open d id m) puts = 0
-own_puts (Send d id k) puts = 0
-own_puts (Plain source flags service subtype body) puts = 0
-own_puts (Finish d id) puts = 0
-own_puts (Lose n) puts = 0
-own_puts (Damage d b) puts = 0
-own_puts (Take l n) puts = 0
-own_puts (Tick side) puts = 0
-own_puts (Claim w) puts = 0
-own_puts (Commit w) puts = 0
-own_puts (Retire d id) puts = 0
-own_puts (Restart side) puts = 0
+own_puts _ puts = 0
 
 -- the picture after the entry of this place
 abbrev pub after : Picture → ℕ → Entry → Picture

@@ -6,14 +6,16 @@ pub mod Deliveries
 pub mod Events
 pub mod Flights
 pub mod Frames
+pub mod Keys
 pub mod Legends
 pub mod Pictures
-pub mod Refusals
 pub mod Rows
 pub mod Sayings
 pub mod Shapes
+pub mod Styles
 pub mod Tags
 pub mod Tasks
 pub mod Tellings
+pub mod Texts
 pub mod Tracks
 pub mod Words

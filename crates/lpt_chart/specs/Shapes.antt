@@ -1,116 +1,49 @@
--- The elements of a picture, and texts in them.
-use Rattle.std.specs.Prelude.{ℕ, nat_lt, nat_le, not, ◌==◌, ◌||◌, ◌&&◌, Bool, if◌then◌else◌, List, [], ◌∷◌, ◌++◌, length, take, codes, decimal}
+-- The text of shapes: each is an element, one behind the other.
+use Rattle.std.specs.Prelude.{ℕ, ◌+◌, ◌-◌, ◌*◌, nat_lt, nat_le, not, ◌==◌, ◌||◌, ◌&&◌, Bool, if◌then◌else◌, List, [], ◌∷◌, ◌++◌, length, take, codes, decimal}
 use Rattle.std.specs.List.{flat_map}
-use Rattle.lpt_events.specs.LptPacket.declared.direction.Direction.TheVariants.{Up, Down}
+use Rattle.lpt_chart.specs.declared.refusal.Refusal.{Refusal}
 use Rattle.lpt_chart.specs.declared.style.Letters.{Letters}
-use Rattle.lpt_chart.specs.declared.style.Letters.TheVariants.{Title, Grey, Place, Small, Left, LeftQuiet, LeftStrong, Right, RightQuiet, RightStrong, Node, Bead, BeadWhite, Key}
 use Rattle.lpt_chart.specs.declared.shape.Shape.{Shape}
 use Rattle.lpt_chart.specs.declared.shape.Shape.TheVariants as shape
+use Rattle.lpt_chart.specs.declared.shape.Sign.{Sign}
+use Rattle.lpt_chart.specs.declared.shape.Sign.TheVariants.{HeadRight, HeadLeft, Cross, Hourglass}
 use Rattle.lpt_chart.specs.declared.style.Style.{Style}
-use Rattle.lpt_chart.specs.declared.style.Style.TheVariants.{Paper, Ground, Ink, InkEdge, Life, Hair, Lane, Retiring, Way, WayAgain, WayNoise, InHand, Late, Cross, Filled, Hollow, Dashed, Ring, Noise, Light, JobWaits, JobHollow, JobFilled}
-
--- the attributes of a style
-unfoldable pub style_text : Style → List ℕ
-style_text Paper = codes "fill='#ffffff'"
-style_text Ground = codes "fill='#f6f6f6'"
-style_text Ink = codes "fill='#1a1a1a'"
-style_text InkEdge = codes "fill='#ffffff' stroke='#1a1a1a' stroke-width='2'"
-style_text Life = codes "stroke='#1a1a1a' stroke-width='2'"
-style_text Hair = codes "stroke='#cccccc'"
-style_text Lane = codes "stroke='#cccccc' stroke-dasharray='1 4'"
-style_text Retiring = codes "stroke='#1a1a1a' stroke-dasharray='2 6'"
-style_text (Way Up) = codes "stroke='#0b5fa5' stroke-width='2'"
-style_text (Way Down) = codes "stroke='#a84300' stroke-width='2'"
-style_text (WayAgain Up) = codes "stroke='#0b5fa5' stroke-width='2' stroke-dasharray='6 4'"
-style_text (WayAgain Down) = codes "stroke='#a84300' stroke-width='2' stroke-dasharray='6 4'"
-style_text (WayNoise Up) = codes "stroke='#0b5fa5' stroke-width='2' stroke-dasharray='2 3'"
-style_text (WayNoise Down) = codes "stroke='#a84300' stroke-width='2' stroke-dasharray='2 3'"
-style_text (InHand Up) = codes "stroke='#0b5fa5' stroke-width='5' stroke-linecap='round'"
-style_text (InHand Down) = codes "stroke='#a84300' stroke-width='5' stroke-linecap='round'"
-style_text Late = codes "stroke='#6b6b6b' stroke-width='2' stroke-dasharray='1 3'"
-style_text Cross = codes "stroke='#1a1a1a' stroke-width='3'"
-style_text (Filled Up) = codes "fill='#0b5fa5' stroke='#0b5fa5'"
-style_text (Filled Down) = codes "fill='#a84300' stroke='#a84300'"
-style_text (Hollow Up) = codes "fill='#ffffff' stroke='#0b5fa5'"
-style_text (Hollow Down) = codes "fill='#ffffff' stroke='#a84300'"
-style_text (Dashed Up) = codes "fill='#ffffff' stroke='#0b5fa5' stroke-dasharray='2 2'"
-style_text (Dashed Down) = codes "fill='#ffffff' stroke='#a84300' stroke-dasharray='2 2'"
-style_text (Ring Up) = codes "fill='#ffffff' stroke='#0b5fa5' stroke-width='2'"
-style_text (Ring Down) = codes "fill='#ffffff' stroke='#a84300' stroke-width='2'"
-style_text (Noise Up) = codes "fill='#ffffff' stroke='#0b5fa5' stroke-width='2' stroke-dasharray='2 2'"
-style_text (Noise Down) = codes "fill='#ffffff' stroke='#a84300' stroke-width='2' stroke-dasharray='2 2'"
-style_text (Light Up) = codes "fill='#8fbfe6'"
-style_text (Light Down) = codes "fill='#f0b184'"
-style_text JobWaits = codes "fill='#ffffff' stroke='#5b3a8e' stroke-dasharray='1 3'"
-style_text JobHollow = codes "fill='#ffffff' stroke='#5b3a8e'"
-style_text JobFilled = codes "fill='#5b3a8e' stroke='#5b3a8e'"
-
--- the attributes of letters
-unfoldable pub letters_text : Letters → List ℕ
-letters_text Title = codes "font-family='DejaVu Sans, Helvetica, Arial, sans-serif' font-size='17' font-weight='bold'"
-letters_text Grey = codes "fill='#555555'"
-letters_text Place = codes "fill='#6b6b6b' font-size='10' text-anchor='end'"
-letters_text Small = codes "fill='#555555' font-size='10' text-anchor='middle'"
-letters_text Left = codes "text-anchor='end'"
-letters_text LeftQuiet = codes "fill='#555555' text-anchor='end'"
-letters_text LeftStrong = codes "font-weight='bold' text-anchor='end'"
-letters_text Right = codes "text-anchor='start'"
-letters_text RightQuiet = codes "fill='#555555' text-anchor='start'"
-letters_text RightStrong = codes "font-weight='bold' text-anchor='start'"
-letters_text Node = codes "fill='#ffffff' font-weight='bold' text-anchor='middle'"
-letters_text (Bead Up) = codes "fill='#0b5fa5' font-size='10' text-anchor='middle'"
-letters_text (Bead Down) = codes "fill='#a84300' font-size='10' text-anchor='middle'"
-letters_text Key = codes "font-size='11' text-anchor='start'"
-letters_text BeadWhite = codes "fill='#ffffff' font-size='10' text-anchor='middle'"
-
--- ---- shapes
-
--- pieces of a text, one behind the other
-abbrev pub joined : List (List ℕ) → List ℕ
-joined [] = []
-joined (w ∷ []) = w
-joined (w ∷ v ∷ ws) = w ++ joined (v ∷ ws)
+use Rattle.lpt_chart.specs.Frames.{half, y_of}
+use Rattle.lpt_chart.specs.Styles.{letters_text, style_text}
+use Rattle.lpt_chart.specs.Texts.{words_text}
+use Rattle.lpt_chart.specs.Words.{joined}
 
 -- the end of an element
 abbrev pub end_text : List ℕ
 end_text = codes "/>" ++ 10 ∷ []
 
--- a path that begins at a point, and goes on by steps
-unfoldable pub steps_text : (x y : ℕ) → (steps : List ℕ) → Style → List ℕ
-steps_text x y steps style =
-    joined (codes "<path d='M" ∷ decimal x ∷ codes " " ∷ decimal y ∷ steps ∷ codes "' "
-    ∷ style_text style ∷ end_text ∷ [])
-
--- the attributes of a corner
-unfoldable pub corner_text : (x y : ℕ) → List ℕ
-corner_text x y = joined (codes "x='" ∷ decimal x ∷ codes "' y='" ∷ decimal y ∷ codes "'" ∷ [])
+-- a line
+unfoldable pub line_text : (x0 y0 x1 y1 : ℕ) → Style → List ℕ
+line_text x0 y0 x1 y1 look =
+    joined (codes "<path d='M" ∷ decimal x0 ∷ codes " " ∷ decimal y0 ∷ codes "L" ∷ decimal x1 ∷ codes " " ∷ decimal y1
+    ∷ codes "' " ∷ style_text look ∷ end_text ∷ [])
 
 -- the attributes of a size
 unfoldable pub size_text : (wide high : ℕ) → List ℕ
 size_text wide high = joined (codes "width='" ∷ decimal wide ∷ codes "' height='" ∷ decimal high ∷ codes "'" ∷ [])
 
--- a step to a point
-unfoldable pub step_text : (x y : ℕ) → List ℕ
-step_text x y = joined (codes "L" ∷ decimal x ∷ codes " " ∷ decimal y ∷ [])
-
 -- a box
 unfoldable pub box_text : (x y wide high round : ℕ) → Style → List ℕ
-box_text x y wide high round style =
-    joined (codes "<rect " ∷ corner_text x y ∷ codes " " ∷ size_text wide high ∷ codes " rx='"
-    ∷ decimal round ∷ codes "' " ∷ style_text style ∷ end_text ∷ [])
+box_text x y wide high round look =
+    joined (codes "<rect x='" ∷ decimal x ∷ codes "' y='" ∷ decimal y ∷ codes "' " ∷ size_text wide high ∷ codes " rx='"
+    ∷ decimal round ∷ codes "' " ∷ style_text look ∷ end_text ∷ [])
 
--- the element of a shape
-unfoldable pub shape_text : Shape → List ℕ
-shape_text (shape.Line x0 y0 x1 y1 style) = steps_text x0 y0 (step_text x1 y1) style
-shape_text (shape.Box x y wide high round style) = box_text x y wide high round style
-shape_text (shape.HeadRight x y style) = steps_text x y (codes "l-7 -4v8z") style
-shape_text (shape.HeadLeft x y style) = steps_text x y (codes "l7 -4v8z") style
-shape_text (shape.Cross x y style) = steps_text x y (codes "m-5 -5l10 10m0 -10l-10 10") style
-shape_text (shape.Hourglass x y style) = steps_text x y (codes "m-5 -6h10l-10 12h10z") style
+-- the steps of a sign, from its point on
+abbrev pub sign_steps : Sign → List ℕ
+sign_steps HeadRight = codes "l-7 -4v8z"
+sign_steps HeadLeft = codes "l7 -4v8z"
+sign_steps Cross = codes "m-5 -5l10 10m0 -10l-10 10"
+sign_steps Hourglass = codes "m-5 -6h10l-10 12h10z"
 
--- a text, with a shape behind it
-unfoldable pub drawn_onto : List ℕ → Shape → List ℕ
-drawn_onto out s = out ++ shape_text s
+-- a sign
+unfoldable pub sign_text : (x y : ℕ) → Sign → Style → List ℕ
+sign_text x y sign look =
+    joined (codes "<path d='M" ∷ decimal x ∷ codes " " ∷ decimal y ∷ sign_steps sign ∷ codes "' " ∷ style_text look ∷ end_text ∷ [])
 
 -- ---- texts
 
@@ -151,17 +84,59 @@ unfoldable pub place_text : (x y : ℕ) → Letters → List ℕ
 place_text x y letters =
     joined (codes "<text x='" ∷ decimal x ∷ codes "' y='" ∷ decimal y ∷ codes "' " ∷ letters_text letters ∷ codes ">" ∷ [])
 
--- a text, with words at a point behind it
-unfoldable pub written_onto : List ℕ → (x y : ℕ) → Letters → List ℕ → List ℕ
-written_onto out x y letters t =
-    out ++ place_text x y letters ++ seen_text t ++ (codes "</text>" ++ 10 ∷ [])
+-- a text at a point
+unfoldable pub said_text : (x y : ℕ) → Letters → List ℕ → List ℕ
+said_text x y letters t = place_text x y letters ++ seen_text t ++ (codes "</text>" ++ 10 ∷ [])
 
--- ---- groups
+-- a bead: a packet's number in a box
+unfoldable pub bead_text : (x at number round : ℕ) → Style → Letters → List ℕ
+bead_text x at number round look letters =
+    box_text (x - half number) (y_of at - 7) (2 * half number) 14 round look
+    ++ said_text x (y_of at + 4) letters (decimal number)
+
+-- ---- groups and parts
 
 -- the beginning of a group, with what it is for who points at it
-unfoldable pub group_onto : List ℕ → List ℕ → List ℕ
-group_onto out t = out ++ codes "<g><title>" ++ escaped t ++ codes "</title>"
+unfoldable pub group_text : List ℕ → List ℕ
+group_text t = codes "<g><title>" ++ escaped t ++ codes "</title>"
 
--- the end of a group
-unfoldable pub group_end_onto : List ℕ → List ℕ
-group_end_onto out = out ++ (codes "</g>" ++ 10 ∷ [])
+-- the beginning of a part that shows heights from one on, and nothing beyond them
+unfoldable pub part_text : (y wide high top : ℕ) → List ℕ
+part_text y wide high top =
+    joined (codes "<svg x='0' y='" ∷ decimal y ∷ codes "' " ∷ size_text wide high ∷ codes " viewBox='0 " ∷ decimal top
+    ∷ codes " " ∷ decimal wide ∷ codes " " ∷ decimal high ∷ codes "'>" ∷ (10 ∷ []) ∷ [])
+
+-- the end of a part
+abbrev pub closing_text : List ℕ
+closing_text = codes "</svg>" ++ 10 ∷ []
+
+-- the letters of a picture, and the beginning of its title
+abbrev pub letters_head : List ℕ
+letters_head =
+    codes " font-family='DejaVu Sans Mono, Menlo, Consolas, monospace' font-size='12' fill='#1a1a1a'>"
+    ++ 10 ∷ codes "<title>"
+
+-- the beginning of a picture: its size, its letters and its title
+unfoldable pub opening_text : (wide high : ℕ) → (title : List ℕ) → List ℕ
+opening_text wide high title =
+    joined (codes "<svg xmlns='http://www.w3.org/2000/svg' width='" ∷ decimal wide ∷ codes "' height='" ∷ decimal high
+    ∷ codes "'" ∷ letters_head ∷ [])
+    ++ escaped title ++ (codes "</title>" ++ 10 ∷ [])
+
+-- ---- shapes
+
+-- a shape, where this source is configured, in a picture of this title with these refused lines
+unfoldable pub shape_text : (source : ℕ) → (title : List ℕ) → List Refusal → Shape → List ℕ
+shape_text source title refused (shape.Line x0 y0 x1 y1 look) = line_text x0 y0 x1 y1 look
+shape_text source title refused (shape.Box x y wide high round look) = box_text x y wide high round look
+shape_text source title refused (shape.Sign x y sign look) = sign_text x y sign look
+shape_text source title refused (shape.Bead x at number round look letters) = bead_text x at number round look letters
+shape_text source title refused (shape.Text x y letters words) = said_text x y letters (words_text source title refused words)
+shape_text source title refused (shape.Group words) = group_text (words_text source title refused words)
+shape_text source title refused shape.GroupEnd = codes "</g>" ++ 10 ∷ []
+shape_text source title refused (shape.Part y wide high top) = part_text y wide high top
+shape_text source title refused shape.PartEnd = closing_text
+
+-- shapes, one behind the other
+unfoldable pub text_of : (source : ℕ) → (title : List ℕ) → List Refusal → List Shape → List ℕ
+text_of source title refused shapes = flat_map (shape_text source title refused) shapes

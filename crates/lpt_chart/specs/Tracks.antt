@@ -1,11 +1,11 @@
 -- What is open at a node, each in a column of its own.
-use Rattle.std.specs.Prelude.{ℕ, ◌+◌, nat_lt, ◌==◌, ◌&&◌, Bool, true, false, if◌then◌else◌, List, [], ◌∷◌, ◌++◌, length, position, slice_get, slice_set, Option, Some, None, is_none, option_to_list}
-use Rattle.std.specs.Option.{option_map, option_map_or}
-use Rattle.lpt_events.specs.LptPacket.Names.{same_name}
+use Rattle.std.specs.Prelude.{ℕ, ◌+◌, nat_lt, ◌==◌, Bool, false, if◌then◌else◌, List, [], ◌∷◌, ◌++◌, length, position, slice_get, slice_set, Option, Some, None, is_none, option_to_list}
+use Rattle.std.specs.Option.{option_map}
+use Rattle.lpt_packet.specs.Names.{same_name}
 use Rattle.lpt_events.specs.declared.side.Side.{Side}
 use Rattle.lpt_chart.specs.declared.marks.Bar.{Bar}
 use Rattle.lpt_chart.specs.declared.marks.Stage.{Stage}
-use Rattle.lpt_chart.specs.declared.marks.Stage.TheVariants.{Sending, Kept, Waits, Claimed, Committed}
+use Rattle.lpt_chart.specs.declared.marks.Stage.TheVariants.{Sending, Kept}
 use Rattle.lpt_chart.specs.declared.marks.Task.{Task}
 use Rattle.lpt_chart.specs.declared.marks.Thing.{Thing}
 use Rattle.lpt_chart.specs.declared.marks.Thing.TheVariants.{Sender, Reception, Job}
@@ -76,47 +76,25 @@ all_bars side here i [] = []
 all_bars side here i (track ∷ columns) =
     option_to_list (bar_up_to side here i track) ++ all_bars side here (i + 1) columns
 
--- the track that this column has, where there is one
-abbrev pub track_in : List (Option Track) → Option ℕ → Option Track
-track_in columns (Some i) = track_at (slice_get columns i)
-track_in columns None = None
+-- the stage of the track that this column has
+abbrev pub stage_in : List (Option Track) → Option ℕ → Option Stage
+stage_in columns (Some i) = option_map (λ t. t.stage) (track_at (slice_get columns i))
+stage_in columns None = None
 
--- this thing's track
-unfoldable pub track_of : List (Option Track) → Thing → Option Track
-track_of columns thing = track_in columns (column_of columns thing)
+-- the stage of this thing's track, where there is one
+unfoldable pub stage_of : List (Option Track) → Thing → Option Stage
+stage_of columns thing = stage_in columns (column_of columns thing)
 
--- how many parts were kept at a stage
-abbrev pub kept_in : Stage → ℕ
-kept_in (Kept k n) = k
-kept_in (Sending n task) = 0
-kept_in Waits = 0
-kept_in Claimed = 0
-kept_in Committed = 0
+-- how many parts were kept at a stage, of how many, and what the message of a sender asks for
+abbrev pub kept_in : Option Stage → ℕ
+kept_in (Some (Kept k n)) = k
+kept_in _ = 0
 
--- how many parts this thing's track has kept
-unfoldable pub kept_of : List (Option Track) → Thing → ℕ
-kept_of columns thing = option_map_or (λ t. kept_in t.stage) (track_of columns thing) 0
+abbrev pub parts_in : Option Stage → ℕ
+parts_in (Some (Kept k n)) = n
+parts_in (Some (Sending n task)) = n
+parts_in _ = 0
 
--- of how many parts it is at a stage
-abbrev pub parts_in : Stage → ℕ
-parts_in (Kept k n) = n
-parts_in (Sending n task) = n
-parts_in Waits = 0
-parts_in Claimed = 0
-parts_in Committed = 0
-
--- of how many parts the message of this track is
-unfoldable pub parts_of : List (Option Track) → Thing → ℕ
-parts_of columns thing = option_map_or (λ t. parts_in t.stage) (track_of columns thing) 0
-
--- what the message of a sender asks for
-abbrev pub task_in : Stage → Option Task
-task_in (Sending n task) = task
-task_in (Kept k n) = None
-task_in Waits = None
-task_in Claimed = None
-task_in Committed = None
-
--- what the message of this track asks for
-unfoldable pub task_of : List (Option Track) → Thing → Option Task
-task_of columns thing = option_map_or (λ t. task_in t.stage) (track_of columns thing) None
+abbrev pub task_in : Option Stage → Option Task
+task_in (Some (Sending n task)) = task
+task_in _ = None

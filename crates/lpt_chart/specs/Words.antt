@@ -1,15 +1,23 @@
 -- The words for what has few cases.
-use Rattle.std.specs.Prelude.{ℕ, ◌==◌, not, if◌then◌else◌, List, [], codes}
-use Rattle.lpt_events.specs.LptPacket.declared.direction.Direction.{Direction}
-use Rattle.lpt_events.specs.LptPacket.declared.direction.Direction.TheVariants.{Up, Down}
-use Rattle.lpt_events.specs.LptPart.declared.reason.Reason.{Reason}
-use Rattle.lpt_events.specs.LptPart.declared.reason.Reason.TheVariants.{Expired, Discontinuity, Conflict}
+use Rattle.std.specs.Prelude.{ℕ, ◌==◌, not, if◌then◌else◌, List, [], ◌∷◌, ◌++◌, codes}
+use Rattle.lpt_packet.specs.declared.direction.Direction.{Direction}
+use Rattle.lpt_packet.specs.declared.direction.Direction.TheVariants.{Up, Down}
+use Rattle.lpt_part.specs.declared.reason.Reason.{Reason}
+use Rattle.lpt_part.specs.declared.reason.Reason.TheVariants.{Expired, Discontinuity, Conflict}
 use Rattle.lpt_events.specs.declared.lane.Lane.{Lane}
 use Rattle.lpt_events.specs.declared.lane.Lane.TheVariants.{S1, S2, G1, G2}
 use Rattle.lpt_events.specs.declared.outcome.Why.{Why}
 use Rattle.lpt_events.specs.declared.outcome.Why.TheVariants.{Unreadable, Idle, ForeignApid, BadPart, Closed, NoRoom}
+use Rattle.lpt_events.specs.declared.side.Side.{Side}
+use Rattle.lpt_events.specs.declared.side.Side.TheVariants.{Ground, Craft}
 use Rattle.lpt_events.specs.declared.worker.Worker.{Worker}
 use Rattle.lpt_events.specs.declared.worker.Worker.TheVariants.{W1, W2}
+
+-- pieces of a text, one behind the other
+abbrev pub joined : List (List ℕ) → List ℕ
+joined [] = []
+joined (w ∷ []) = w
+joined (w ∷ v ∷ ws) = w ++ joined (v ∷ ws)
 
 -- what makes a word of more than one thing, behind it
 abbrev pub plural : (count : ℕ) → List ℕ
@@ -19,6 +27,11 @@ plural count = if count == 1 then [] else codes "s"
 abbrev pub direction_word : Direction → List ℕ
 direction_word Up = codes "up"
 direction_word Down = codes "down"
+
+-- a node's name
+abbrev pub node_word : Side → List ℕ
+node_word Ground = codes "ground"
+node_word Craft = codes "spacecraft"
 
 -- a lane's word
 abbrev pub lane_word : Lane → List ℕ

@@ -1,13 +1,14 @@
 //! What a delivery draws: its row, its flight, and what it does to what is open.
 
 ghost use Rattle.std.specs.Prelude.{◌≡◌, OnOk};
-ghost use Rattle.lpt_chart.specs.Events.{came_to, delivered, first_told, parts_held, parts_in_content, released_by, second_told, task_held, to_side};
+ghost use Rattle.lpt_chart.specs.Events.{came_to, delivered, numbers_told, parts_held, parts_in_content, released_by, task_held, to_side};
 ghost use Rattle.lpt_chart.specs.Pictures.{tracked};
 
 use crate::hands::in_hand;
 use crate::marks::{Content, Held, Saying, Stage, Task, Thing};
 use crate::picture::{Picture, to_side};
-use lpt_events::{Direction, Lane, Name, Outcome, Side};
+use lpt_events::{Lane, Outcome, Side};
+use lpt_packet::{Direction, Name};
 use std::alloc::AllocError;
 
 impl Picture {
@@ -17,40 +18,24 @@ impl Picture {
     {
         let direction = lane.direction();
         let held = in_hand(self.hands, lane);
-        let first = self.first_told(direction, outcome);
-        let second = self.second_told(held, direction, outcome);
+        let (first, second) = self.numbers_told(held, direction, outcome);
         self.land(lane, Saying::Delivered(lane, outcome, first, second))?;
         self.fly(lane, outcome)?;
         self.come_to(held, direction, outcome)
     }
 
-    // The first number that is shown of an outcome.
-    #[tactic(auto, unfolding(crate::specs::Events::first_told))]
-    fn first_told(&self, direction: Direction, outcome: Outcome) -> u64
-        ensures { result ≡ first_told self.now direction outcome }
+    // The two numbers that are shown of an outcome: of a kept part how many are kept and of how many,
+    // of a request that is released the boot and the number of its job.
+    #[tactic(auto, unfolding(crate::specs::Events::numbers_told))]
+    fn numbers_told(&self, held: Option<Held>, direction: Direction, outcome: Outcome) -> (u64, u64)
+        ensures { result ≡ numbers_told self.now held direction outcome }
     {
-        match (direction, outcome) {
-            (_, Outcome::Kept(id, _)) => u64::from(self.kept_then(direction, id)),
-            (Direction::Up, Outcome::Released(_, _)) => self.boot,
-            (Direction::Down, Outcome::Released(_, _)) => 0,
-            (_, Outcome::PlainReleased(_)) => self.boot,
-            (_, Outcome::Again(_, _) | Outcome::ReportNoted(_, _)) => 0,
-            (_, Outcome::AbortNoted(_, _) | Outcome::Broken(_, _) | Outcome::Ignored(_)) => 0,
-        }
-    }
-
-    // The second.
-    #[tactic(auto, unfolding(crate::specs::Events::second_told))]
-    fn second_told(&self, held: Option<Held>, direction: Direction, outcome: Outcome) -> u64
-        ensures { result ≡ second_told self.now held direction outcome }
-    {
-        match (direction, outcome) {
-            (_, Outcome::Kept(_, _)) => u64::from(parts_held(held)),
-            (Direction::Up, Outcome::Released(_, _)) => self.tasks.len() as u64,
-            (Direction::Down, Outcome::Released(_, _)) => 0,
-            (_, Outcome::PlainReleased(_)) => self.tasks.len() as u64,
-            (_, Outcome::Again(_, _) | Outcome::ReportNoted(_, _)) => 0,
-            (_, Outcome::AbortNoted(_, _) | Outcome::Broken(_, _) | Outcome::Ignored(_)) => 0,
+        match outcome {
+            Outcome::Kept(name, _) => {
+                let kept = self.kept_then(direction, name);
+                (u64::from(kept), u64::from(parts_held(held)))
+            }
+            _ => (self.boot, self.tasks.len() as u64),
         }
     }
 
@@ -65,14 +50,14 @@ impl Picture {
         ensures { OnOk result (self.new ≡ came_to self.old held direction outcome) }
     {
         match outcome {
-            Outcome::Kept(id, _) => {
-                let stage = Stage::Kept(self.kept_then(direction, id), parts_held(held));
-                self.receive(direction, id, Some(stage))
+            Outcome::Kept(name, _) => {
+                let stage = Stage::Kept(self.kept_then(direction, name), parts_held(held));
+                self.receive(direction, name, Some(stage))
             }
-            Outcome::Released(id, _) => self.release_message(task_held(held), direction, id),
+            Outcome::Released(name, _) => self.release_message(task_held(held), direction, name),
             Outcome::PlainReleased(_) => self.release(task_held(held)),
-            Outcome::AbortNoted(id, _) => { self.track(Side::Ground, Thing::Sender(id), None) }
-            Outcome::Broken(id, _) => self.receive(direction, id, None),
+            Outcome::AbortNoted(name, _) => { self.track(Side::Ground, Thing::Sender(name), None) }
+            Outcome::Broken(name, _) => self.receive(direction, name, None),
             Outcome::Again(_, _) | Outcome::ReportNoted(_, _) | Outcome::Ignored(_) => Ok(()),
         }
     }
@@ -81,12 +66,12 @@ impl Picture {
     pub(crate) fn receive(
         &mut self,
         direction: Direction,
-        id: Name,
+        name: Name,
         stage: Option<Stage>,
     ) -> Result<(), AllocError>
-        ensures { OnOk result (self.new ≡ tracked self.old (to_side direction) (Thing.Reception id) stage) }
+        ensures { OnOk result (self.new ≡ tracked self.old (to_side direction) (Thing.Reception name) stage) }
     {
-        self.track(to_side(direction), Thing::Reception(id), stage)
+        self.track(to_side(direction), Thing::Reception(name), stage)
     }
 
     // A large message is released that asks for this.
@@ -94,11 +79,11 @@ impl Picture {
         &mut self,
         task: Option<Task>,
         direction: Direction,
-        id: Name,
+        name: Name,
     ) -> Result<(), AllocError>
-        ensures { OnOk result (self.new ≡ released_by self.old task direction id) }
+        ensures { OnOk result (self.new ≡ released_by self.old task direction name) }
     {
-        self.receive(direction, id, None)?;
+        self.receive(direction, name, None)?;
         match direction {
             Direction::Up => self.release(task),
             Direction::Down => Ok(()),

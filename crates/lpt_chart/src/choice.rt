@@ -6,8 +6,8 @@ ghost use Rattle.lpt_chart.specs.Choices.{frame_of, frame_with, height_of, hidde
 use crate::frame::Frame;
 use crate::marks::{Row, Saying};
 use crate::picture::Picture;
-use crate::refusal::{Refusal, widest_refusal};
-use crate::saying::saying_words;
+use crate::refusal::Refusal;
+use crate::saying::row_words;
 use crate::telling::saying_side;
 use crate::title::title_room;
 use lpt_events::Side;
@@ -116,49 +116,53 @@ fn is_side(one: Side, other: Side) -> bool
 
 // How many letters a row has at a side.
 #[tactic(auto, unfolding(crate::specs::Choices::letters_at))]
-fn letters_at(alloc: Global, source: u16, side: Side, saying: Saying) -> Result<u32, AllocError>
-    ensures value { IfOk result (λ n. n ≡ letters_at source side saying) }
+fn letters_at(
+    alloc: Global,
+    source: u16,
+    refused: &[Refusal],
+    side: Side,
+    saying: Saying,
+) -> Result<u32, AllocError>
+    ensures value { IfOk result (λ n. n ≡ letters_at source refused.now side saying) }
     ensures small { IfOk result (λ n. n ≤ 60) }
 {
     if !is_side(side, saying_side(saying)) {
         return Ok(0);
     }
-    let words = saying_words(alloc, source, saying)?;
-    Ok(words.as_bytes().len().min(60) as u32)
+    let words = row_words(alloc, source, refused, saying)?;
+    Ok(words.len().min(60) as u32)
 }
 
 // How many letters the widest row has at a side, 16 at least.
-fn widest_at(alloc: Global, source: u16, side: Side, rows: &[Row]) -> Result<u32, AllocError>
-    ensures value { IfOk result (λ n. n ≡ widest_at source side rows.now) }
+fn widest_at(
+    alloc: Global,
+    source: u16,
+    refused: &[Refusal],
+    side: Side,
+    rows: &[Row],
+) -> Result<u32, AllocError>
+    ensures value { IfOk result (λ n. n ≡ widest_at source refused.now side rows.now) }
     ensures small { IfOk result (λ n. n ≤ 60) }
 {
     let mut widest = 16;
     for row in rows {
-        widest = widest.max(letters_at(alloc, source, side, row.saying)?);
+        widest = widest.max(letters_at(alloc, source, refused, side, row.saying)?);
     }
     Ok(widest)
 }
 
 // The frame of a picture by its widths.
 #[tactic(auto, unfolding(crate::specs::Choices::frame_with))]
-fn frame_with(
-    source: u16,
-    choice: Choice,
-    title: &[u8],
-    picture: &Picture,
-    left: u32,
-    right: u32,
-) -> Frame
+fn frame_with(choice: Choice, title: &[u8], picture: &Picture, left: u32, right: u32) -> Frame
     requires left { left ≤ 60 }
     requires right { right ≤ 60 }
-    ensures { result ≡ frame_with source choice title.now picture.now left right }
+    ensures { result ≡ frame_with choice title.now picture.now left right }
 {
     let words = 60 + wide_of(left);
     let ground = 46 + 12 * (picture.ground.len().min(64) as u32);
     let craft = 420 + 12 * (picture.craft.len().min(64) as u32);
     let room = title_room(title);
     Frame {
-        source,
         words,
         left: words + ground,
         right: words + ground + craft,
@@ -182,8 +186,8 @@ pub(crate) fn frame_of(
 ) -> Result<Frame, AllocError>
     ensures { IfOk result (λ f. f ≡ frame_of source choice title.now refused.now picture.now) }
 {
-    let left = widest_at(alloc, source, Side::Ground, picture.rows.as_slice())?;
-    let right = widest_at(alloc, source, Side::Craft, picture.rows.as_slice())?;
-    let right = widest_refusal(alloc, right, refused)?;
-    Ok(frame_with(source, choice, title, picture, left, right))
+    let rows = picture.rows.as_slice();
+    let left = widest_at(alloc, source, refused, Side::Ground, rows)?;
+    let right = widest_at(alloc, source, refused, Side::Craft, rows)?;
+    Ok(frame_with(choice, title, picture, left, right))
 }

@@ -7,8 +7,9 @@ use crate::marks::{Content, Saying, Sent, Stage, Task, Thing};
 use crate::picture::{Picture, from_side, to_side};
 use crate::refusal::Refusal;
 use crate::task::{asked_from, asked_in};
-use crate::tracks::{kept, parts, task};
-use lpt_events::{Answer, Applied, Direction, Entry, Event, Lane, Name, Puts, Side};
+use crate::tracks::{kept, parts, stage_of, task};
+use lpt_events::{Answer, Applied, Entry, Event, Lane, Puts, Side};
+use lpt_packet::{Direction, Name};
 use std::alloc::{AllocError, Global};
 
 /// What is drawn of a journal, with the lines that were refused.
@@ -100,18 +101,18 @@ impl Picture {
         ensures { OnOk result (self.new ≡ drawn self.old event.now answer) }
     {
         match (event, answer) {
-            (Event::Open(direction, id, message), Answer::Opened(parts)) => {
-                self.draw_opening(*direction, *id, message.as_slice(), parts)
+            (Event::Open(direction, name, message), Answer::Opened(parts)) => {
+                self.draw_opening(*direction, *name, message.as_slice(), parts)
             }
-            (Event::Send(direction, id, part), Answer::Put(number)) => {
-                self.put_part(*direction, *id, *part, number)
+            (Event::Send(direction, name, part), Answer::Put(number)) => {
+                self.put_part(*direction, *name, *part, number)
             }
             (Event::Plain(_, _, service, subtype, body), Answer::Put(number)) => {
                 let task = asked_from(*service, *subtype, body.as_slice(), 0);
                 let content = Content::Request(*service, *subtype);
                 self.put_packet(Direction::Up, number, content, Some(task))
             }
-            (Event::Finish(direction, id), Answer::Finished) => self.finish(*direction, *id),
+            (Event::Finish(direction, name), Answer::Finished) => self.finish(*direction, *name),
             (Event::Lose(number), Answer::Lost) => self.lose_packet(*number),
             (Event::Damage(direction, octets), Answer::Put(number)) => {
                 let noise = Content::Noise(octets.as_slice().len() as u64);
@@ -120,7 +121,7 @@ impl Picture {
             (Event::Take(lane, number), Answer::Took(_)) => self.take_packet(*lane, *number),
             (Event::Deliver(lane), Answer::Delivered(outcome)) => self.deliver(*lane, outcome),
             (Event::Tick(side), Answer::Clock(clock)) => self.tick(*side, clock),
-            (Event::Expire(_), Answer::Expired(direction, id)) => self.expire(direction, id),
+            (Event::Expire(_), Answer::Expired(direction, name)) => self.expire(direction, name),
             (Event::Claim(worker), Answer::Claimed(boot, job)) => {
                 self.work(Saying::Claimed(*worker, boot, job), job, Stage::Claimed)
             }
@@ -131,11 +132,11 @@ impl Picture {
                 self.say(Saying::Stale(*worker, boot, job))
             }
             (Event::Apply, Answer::Applied(applied)) => self.execute(applied),
-            (Event::Retire(direction, id), Answer::Retired) => {
-                self.say(Saying::Retired(*direction, *id))
+            (Event::Retire(direction, name), Answer::Retired) => {
+                self.say(Saying::Retired(*direction, *name))
             }
             (Event::Restart(side), Answer::Restarted(boot)) => self.restart(*side, boot),
-            // Each event by its name, so that a new one is missed here.
+            // Each event by its name: with a `_` the compiler wouldn't tell of a new one.
             (
                 Event::Open(_, _, _)
                 | Event::Send(_, _, _)
@@ -161,31 +162,31 @@ impl Picture {
     fn draw_opening(
         &mut self,
         direction: Direction,
-        id: Name,
+        name: Name,
         message: &[u8],
         parts: u16,
     ) -> Result<(), AllocError>
-        ensures { OnOk result (self.new ≡ message_opened self.old direction id message.now parts) }
+        ensures { OnOk result
+            (self.new ≡ message_opened self.old direction name message.now parts) }
     {
-        self.say(Saying::Opened(direction, id, message.len() as u64, parts))?;
+        self.say(Saying::Opened(direction, name, message.len() as u64, parts))?;
         let stage = Some(Stage::Sending(parts, asked_in(direction, message)));
-        self.track(from_side(direction), Thing::Sender(id), stage)
+        self.track(from_side(direction), Thing::Sender(name), stage)
     }
 
     // A part is put.
     fn put_part(
         &mut self,
         direction: Direction,
-        id: Name,
+        name: Name,
         part: u16,
         number: u64,
     ) -> Result<(), AllocError>
-        ensures { OnOk result (self.new ≡ part_put self.old direction id part number) }
+        ensures { OnOk result (self.new ≡ part_put self.old direction name part number) }
     {
-        let columns = self.columns(from_side(direction));
-        let parts = parts(columns, Thing::Sender(id));
-        let task = task(columns, Thing::Sender(id));
-        self.put_packet(direction, number, Content::Part(id, part, parts), task)
+        let stage = stage_of(self.columns(from_side(direction)), Thing::Sender(name));
+        let content = Content::Part(name, part, parts(stage));
+        self.put_packet(direction, number, content, task(stage))
     }
 
     // A packet is put.
@@ -203,11 +204,11 @@ impl Picture {
     }
 
     // A sender is closed.
-    fn finish(&mut self, direction: Direction, id: Name) -> Result<(), AllocError>
-        ensures { OnOk result (self.new ≡ finished self.old direction id) }
+    fn finish(&mut self, direction: Direction, name: Name) -> Result<(), AllocError>
+        ensures { OnOk result (self.new ≡ finished self.old direction name) }
     {
-        self.say(Saying::Finished(direction, id))?;
-        self.track(from_side(direction), Thing::Sender(id), None)
+        self.say(Saying::Finished(direction, name))?;
+        self.track(from_side(direction), Thing::Sender(name), None)
     }
 
     // A packet is lost.
@@ -229,14 +230,12 @@ impl Picture {
     }
 
     // A reception has expired.
-    fn expire(&mut self, direction: Direction, id: Name) -> Result<(), AllocError>
-        ensures { OnOk result (self.new ≡ expired self.old direction id) }
+    fn expire(&mut self, direction: Direction, name: Name) -> Result<(), AllocError>
+        ensures { OnOk result (self.new ≡ expired self.old direction name) }
     {
-        let columns = self.columns(to_side(direction));
-        let kept = kept(columns, Thing::Reception(id));
-        let parts = parts(columns, Thing::Reception(id));
-        self.say(Saying::Expired(direction, id, kept, parts))?;
-        self.receive(direction, id, None)
+        let stage = stage_of(self.columns(to_side(direction)), Thing::Reception(name));
+        self.say(Saying::Expired(direction, name, kept(stage), parts(stage)))?;
+        self.receive(direction, name, None)
     }
 
     // A job comes to a stage.
@@ -255,9 +254,9 @@ impl Picture {
         self.say(Saying::Applied(boot, job, self.task_next(), applied))?;
         self.apply()?;
         match applied {
-            Applied::Done(Some(id)) => {
+            Applied::Done(Some(name)) => {
                 let stage = Some(Stage::Sending(0, None));
-                self.track(Side::Craft, Thing::Sender(id), stage)
+                self.track(Side::Craft, Thing::Sender(name), stage)
             }
             Applied::Done(None) | Applied::Silent | Applied::Code(_) => Ok(()),
         }

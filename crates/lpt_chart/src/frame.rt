@@ -5,11 +5,9 @@ ghost use Rattle.lpt_chart.specs.Frames.{across_from, across_to, bar_x, foot_y, 
 
 use lpt_events::{Lane, Side};
 
-/// Where the columns of a picture stand, which heights are drawn, and how names are written.
+/// Where the columns of a picture stand, and which heights are drawn.
 #[derive(Clone, Copy)]
 pub struct Frame {
-    /// The configured source: a name of it is written without it.
-    pub source: u16,
     /// The right edge of the words at ground's side.
     pub words: u32,
     /// The middle of ground's line of life. The spacecraft's is 380 pixels right of it.

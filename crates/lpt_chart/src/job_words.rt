@@ -1,15 +1,14 @@
 //! The words of a job that was executed.
 
 ghost use Rattle.std.specs.Prelude.{◌≡◌, IfOk, string_bytes};
-ghost use Rattle.lpt_chart.specs.Sayings.{applied_words, area_words, change_words, done_words, ended_words, is_load, job_words, load_words, more_words, opening_words, refused_words, task_word};
+ghost use Rattle.lpt_chart.specs.Sayings.{applied_words, change_words, ended_words, is_load, load_words, more_words, task_word};
 
 use crate::marks::Task;
 use crate::words::{code_word, plural, request_word};
-use lpt_events::{Applied, Name, name_word};
+use lpt_events::{Applied, name_word};
 use std::alloc::{AllocError, Global};
 
 // What an executed request is called.
-#[tactic(auto, unfolding(crate::specs::Sayings::task_word))]
 fn task_word(task: Option<Task>) -> &'static str
     ensures { result.now ≡ task_word task }
 {
@@ -26,16 +25,6 @@ fn is_load(task: Task) -> bool
     task.service == 6 && task.subtype == 2
 }
 
-// What an executed load has changed: the memory, and its first area.
-#[tactic(auto, unfolding(crate::specs::Sayings::area_words))]
-fn area_words(alloc: Global, task: Task) -> Result<String, AllocError>
-    ensures { IfOk result (λ t. string_bytes t ≡ area_words task) }
-{
-    let (memory, address, octets) = (task.memory, task.address, task.octets);
-    let s = plural(u64::from(octets));
-    format!(in alloc; ", memory {memory} at {address}: {octets} octet{s}")
-}
-
 // How many areas more there are.
 #[tactic(auto, unfolding(crate::specs::Sayings::more_words))]
 fn more_words(alloc: Global, task: Task) -> Result<String, AllocError>
@@ -49,13 +38,14 @@ fn more_words(alloc: Global, task: Task) -> Result<String, AllocError>
     format!(in alloc; " and {more} area{s}")
 }
 
-// What a load has changed.
+// What a load has changed: the memory, its first area, and how many more.
 #[tactic(auto, unfolding(crate::specs::Sayings::load_words))]
 fn load_words(alloc: Global, task: Task) -> Result<String, AllocError>
     ensures { IfOk result (λ t. string_bytes t ≡ load_words task) }
 {
-    let (area, more) = (area_words(alloc, task)?, more_words(alloc, task)?);
-    format!(in alloc; "{area}{more}")
+    let (memory, address, octets) = (task.memory, task.address, task.octets);
+    let (s, more) = (plural(u64::from(octets)), more_words(alloc, task)?);
+    format!(in alloc; ", memory {memory} at {address}: {octets} octet{s}{more}")
 }
 
 // What an execution has changed.
@@ -64,51 +54,9 @@ fn change_words(alloc: Global, task: Option<Task>) -> Result<String, AllocError>
     ensures { IfOk result (λ t. string_bytes t ≡ change_words task) }
 {
     match task {
-        Some(task) => {
-            if is_load(task) {
-                load_words(alloc, task)
-            } else {
-                Ok(String::new(alloc))
-            }
-        }
-        None => Ok(String::new(alloc)),
+        Some(task) if is_load(task) => load_words(alloc, task),
+        _ => Ok(String::new(alloc)),
     }
-}
-
-// A job, and what it is.
-#[tactic(auto, unfolding(crate::specs::Sayings::job_words))]
-fn job_words(alloc: Global, boot: u64, job: u64, task: Option<Task>) -> Result<String, AllocError>
-    ensures { IfOk result (λ t. string_bytes t ≡ job_words boot job task) }
-{
-    let task = task_word(task);
-    format!(in alloc; "job {boot}.{job}{task}")
-}
-
-// A job that was done, and what it has changed.
-#[tactic(auto, unfolding(crate::specs::Sayings::done_words))]
-fn done_words(alloc: Global, task: Option<Task>) -> Result<String, AllocError>
-    ensures { IfOk result (λ t. string_bytes t ≡ done_words task) }
-{
-    let change = change_words(alloc, task)?;
-    format!(in alloc; ": done{change}")
-}
-
-// A job that was done, and opened a report's sender.
-#[tactic(auto, unfolding(crate::specs::Sayings::opening_words))]
-fn opening_words(alloc: Global, source: u16, id: Name) -> Result<String, AllocError>
-    ensures { IfOk result (λ t. string_bytes t ≡ opening_words source id) }
-{
-    let id = name_word(source, id);
-    format!(in alloc; ": done, opens down {id}")
-}
-
-// A job that was refused, and why.
-#[tactic(auto, unfolding(crate::specs::Sayings::refused_words))]
-fn refused_words(alloc: Global, code: u16) -> Result<String, AllocError>
-    ensures { IfOk result (λ t. string_bytes t ≡ refused_words code) }
-{
-    let word = code_word(code);
-    format!(in alloc; ": refused, {word}")
 }
 
 // What the execution of a job came to.
@@ -122,14 +70,23 @@ fn ended_words(
     ensures { IfOk result (λ t. string_bytes t ≡ ended_words source task applied) }
 {
     match applied {
-        Applied::Done(None) => done_words(alloc, task),
-        Applied::Done(Some(id)) => opening_words(alloc, source, id),
+        Applied::Done(None) => {
+            let change = change_words(alloc, task)?;
+            format!(in alloc; ": done{change}")
+        }
+        Applied::Done(Some(name)) => {
+            let name = name_word(source, name);
+            format!(in alloc; ": done, opens down {name}")
+        }
         Applied::Silent => String::from_str(alloc, ": no request, nothing done"),
-        Applied::Code(code) => refused_words(alloc, code.number()),
+        Applied::Code(code) => {
+            let word = code_word(code.number());
+            format!(in alloc; ": refused, {word}")
+        }
     }
 }
 
-// A job, and what its execution came to.
+// A job, what it is, and what its execution came to.
 #[tactic(auto, unfolding(crate::specs::Sayings::applied_words))]
 pub(crate) fn applied_words(
     alloc: Global,
@@ -141,7 +98,7 @@ pub(crate) fn applied_words(
 ) -> Result<String, AllocError>
     ensures { IfOk result (λ t. string_bytes t ≡ applied_words source boot job task applied) }
 {
-    let job = job_words(alloc, boot, job, task)?;
     let end = ended_words(alloc, source, task, applied)?;
-    format!(in alloc; "{job}{end}")
+    let task = task_word(task);
+    format!(in alloc; "job {boot}.{job}{task}{end}")
 }

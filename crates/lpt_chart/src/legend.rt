@@ -1,261 +1,227 @@
-//! The legend: each mark with its words, in three columns, in rows of its own heights.
+//! The legend: each mark with its words, in three columns.
 
-ghost use Rattle.std.specs.Prelude.{◌≡◌, fold, OnOk, string_bytes};
-ghost use Rattle.lpt_chart.specs.Legends.{key_onto, left_onto, legend_onto, middle_onto, right_onto, sample_onto};
+ghost use Rattle.std.specs.Prelude.{◌≡◌, ◌+◌, ◌++◌, ◌<◌, ◌^◌, OnOk};
+ghost use Rattle.std.specs.List.{flat_map};
+ghost use Rattle.lpt_chart.specs.Keys.{key_words};
+ghost use Rattle.lpt_chart.specs.Legends.{key_shapes, legend_shapes, sample_shapes};
 
-use crate::bar::draw_stage;
-use crate::flight::draw_released;
-use crate::frame::y_of;
-use crate::mark::{draw_bead, draw_crossed, draw_ring, draw_square};
+use crate::bar::add_stage;
+use crate::frame::{half, y_of};
+use crate::mark::{ring, square};
 use crate::marks::Stage;
-use crate::shape::{Shape, draw, write};
+use crate::shape::{Shape, Sign, Words};
 use crate::style::{Letters, Style};
-use lpt_events::{Direction, Side};
-use std::alloc::{AllocError, Global};
+use lpt_events::Side;
+use lpt_packet::Direction;
+use std::alloc::AllocError;
 
-/// What stands before words of the legend.
+/// What the legend explains.
 #[derive(Clone, Copy)]
-pub(crate) enum Sample {
-    /// A line.
-    Line(Style),
-    /// A bead with corners of this radius.
-    Bead(u8, Style),
-    /// The same in white letters.
-    White(u8, Style),
-    /// A square.
-    Square(Style),
-    /// A piece of a track.
-    Open(Stage),
-    /// The cross of a loss.
-    Cross,
-    /// The hourglass of an expiry.
-    Hourglass,
-    /// The bead of a release.
+pub enum Key {
+    /// A packet's way up.
+    Up,
+    /// A packet's way down.
+    Down,
+    /// The way of a packet that was taken before.
+    TakenAgain,
+    /// The way of what noise left.
+    Noise,
+    /// A packet in a lane's hand.
+    InHand,
+    /// The way of a packet that was lost after a lane had taken it.
+    LostLate,
+    /// A loss.
+    Lost,
+    /// A reception that has expired.
+    Expired,
+    /// A packet that was put.
+    Put,
+    /// A part that was kept.
+    Kept,
+    /// A part that was kept before, or a packet of which nothing was made.
+    Again,
+    /// A report that was noted.
+    Noted,
+    /// A release.
     Released,
-    /// The ring of a transaction that is free.
-    Ring,
-    /// The crossed ring of a refused line.
-    Crossed,
-    /// The stroke of a tick.
-    Stroke,
-    /// The double line of a restart.
-    Double,
+    /// A transaction that is free.
+    Retired,
+    /// A message that was opened, or a job without a request.
+    Opened,
+    /// A sender that was closed, or a job that was executed.
+    Finished,
+    /// An open sender.
+    Sender,
+    /// An open reception.
+    Reception,
+    /// A job that waits.
+    Waits,
+    /// A job that a worker has.
+    Claimed,
+    /// A job whose reading was handed in.
+    Committed,
+    /// A tick.
+    Tick,
+    /// A restart.
+    Restart,
+    /// A refused line.
+    Refused,
 }
 
-/// Packets on the link, each with its height, its sample and its words.
-static LEFT: [(u32, (Sample, &str)); 8] = [
-    (0, (Sample::Line(Style::Way(Direction::Up)), "packet up")),
-    (
-        2,
-        (Sample::Line(Style::Way(Direction::Down)), "packet down"),
-    ),
-    (
-        4,
-        (
-            Sample::Line(Style::WayAgain(Direction::Up)),
-            "taken once more",
-        ),
-    ),
-    (
-        6,
-        (
-            Sample::Line(Style::WayNoise(Direction::Up)),
-            "what noise left",
-        ),
-    ),
-    (
-        8,
-        (
-            Sample::Line(Style::InHand(Direction::Up)),
-            "in a lane's hand",
-        ),
-    ),
-    (10, (Sample::Line(Style::Late), "lost after a lane took it")),
-    (12, (Sample::Cross, "lost")),
-    (14, (Sample::Hourglass, "reception expired")),
+/// The keys, each with its left edge and its height.
+static KEYS: [(u16, u32, Key); 24] = [
+    (24, 0, Key::Up),
+    (24, 2, Key::Down),
+    (24, 4, Key::TakenAgain),
+    (24, 6, Key::Noise),
+    (24, 8, Key::InHand),
+    (24, 10, Key::LostLate),
+    (24, 12, Key::Lost),
+    (24, 14, Key::Expired),
+    (264, 0, Key::Put),
+    (264, 2, Key::Kept),
+    (264, 4, Key::Again),
+    (264, 6, Key::Noted),
+    (264, 8, Key::Released),
+    (264, 10, Key::Retired),
+    (264, 12, Key::Opened),
+    (264, 14, Key::Finished),
+    (524, 0, Key::Sender),
+    (524, 2, Key::Reception),
+    (524, 4, Key::Waits),
+    (524, 6, Key::Claimed),
+    (524, 8, Key::Committed),
+    (524, 10, Key::Tick),
+    (524, 12, Key::Restart),
+    (524, 14, Key::Refused),
 ];
 
-/// What becomes of them, and the ends of transactions.
-static MIDDLE: [(u32, (Sample, &str)); 8] = [
-    (
-        0,
-        (
-            Sample::Bead(7, Style::Hollow(Direction::Up)),
-            "packet 0 put on the link",
-        ),
-    ),
-    (
-        2,
-        (Sample::White(7, Style::Filled(Direction::Up)), "part kept"),
-    ),
-    (
-        4,
-        (
-            Sample::Bead(7, Style::Dashed(Direction::Up)),
-            "part was kept before, or ignored",
-        ),
-    ),
-    (
-        6,
-        (
-            Sample::White(0, Style::Filled(Direction::Down)),
-            "report noted",
-        ),
-    ),
-    (8, (Sample::Released, "message released")),
-    (10, (Sample::Ring, "identifier free at both ends")),
-    (
-        12,
-        (Sample::Square(Style::InkEdge), "message opened; no request"),
-    ),
-    (
-        14,
-        (Sample::Square(Style::Ink), "sender finished; job executed"),
-    ),
-];
-
-/// What is open, and the clocks and starts of nodes.
-static RIGHT: [(u32, (Sample, &str)); 8] = [
-    (0, (Sample::Open(Stage::Sending(0, None)), "open sender")),
-    (
-        2,
-        (
-            Sample::Open(Stage::Kept(1, 2)),
-            "open reception: kept of all parts",
-        ),
-    ),
-    (4, (Sample::Open(Stage::Waits), "job released, waits")),
-    (6, (Sample::Open(Stage::Claimed), "job claimed by a worker")),
-    (
-        8,
-        (
-            Sample::Open(Stage::Committed),
-            "reading of the job committed",
-        ),
-    ),
-    (10, (Sample::Stroke, "a clock goes on")),
-    (12, (Sample::Double, "node starts anew")),
-    (14, (Sample::Crossed, "line refused")),
-];
-
-// A sample.
-#[tactic(auto, unfolding(crate::specs::Legends::sample_onto))]
-fn draw_sample(
-    alloc: Global,
-    out: &mut String,
-    x: u16,
-    at: u32,
-    sample: Sample,
-) -> Result<(), AllocError>
-    ensures { OnOk result (string_bytes out.new ≡ sample_onto (string_bytes out.old) x at sample) }
+// What a sample stands for.
+pub(crate) fn key_words(key: Key) -> &'static str
+    ensures { result.now ≡ key_words key }
 {
-    let (x, y) = (u64::from(x), y_of(at));
+    match key {
+        Key::Up => "packet up",
+        Key::Down => "packet down",
+        Key::TakenAgain => "taken once more",
+        Key::Noise => "what noise left",
+        Key::InHand => "in a lane's hand",
+        Key::LostLate => "lost after a lane took it",
+        Key::Lost => "lost",
+        Key::Expired => "reception expired",
+        Key::Put => "packet 0 put on the link",
+        Key::Kept => "part kept",
+        Key::Again => "part was kept before, or ignored",
+        Key::Noted => "report noted",
+        Key::Released => "message released",
+        Key::Retired => "identifier free at both ends",
+        Key::Opened => "message opened; no request",
+        Key::Finished => "sender finished; job executed",
+        Key::Sender => "open sender",
+        Key::Reception => "open reception: kept of all parts",
+        Key::Waits => "job released, waits",
+        Key::Claimed => "job claimed by a worker",
+        Key::Committed => "reading of the job committed",
+        Key::Tick => "a clock goes on",
+        Key::Restart => "node starts anew",
+        Key::Refused => "line refused",
+    }
+}
+
+// The line of a sample.
+fn sample_line(left: u64, y: u64, style: Style) -> Shape
+    requires { left < 2 ^ 16 }
+    ensures { result ≡ Shape.Line (left + 4) y (left + 32) y style }
+{
+    Shape::Line(left + 4, y, left + 32, y, style)
+}
+
+// A sample, from a left edge on.
+#[tactic(auto, unfolding(crate::specs::Legends::sample_shapes))]
+fn add_sample(out: &mut Vec<Shape>, left: u16, at: u32, key: Key) -> Result<(), AllocError>
+    ensures { OnOk result (out.new.items ≡ out.old.items ++ sample_shapes left at key) }
+{
     let up = Direction::Up;
-    match sample {
-        Sample::Line(style) => draw(alloc, out, Shape::Line(x + 4, y, x + 32, y, style)),
-        Sample::Bead(round, style) => {
-            draw_bead(
-                alloc,
-                out,
-                x + 18,
-                at,
-                0,
-                u64::from(round),
-                style,
-                Letters::Bead(up),
-            )
+    let (filled, white) = (Style::Filled(up), Letters::BeadWhite);
+    let (left, y) = (u64::from(left), y_of(at));
+    let x = left + 18;
+    match key {
+        Key::Up => out.extend_from_slice(&[sample_line(left, y, Style::Way(up))]),
+        Key::Down => out.extend_from_slice(&[sample_line(left, y, Style::Way(Direction::Down))]),
+        Key::TakenAgain => out.extend_from_slice(&[sample_line(left, y, Style::WayAgain(up))]),
+        Key::Noise => out.extend_from_slice(&[sample_line(left, y, Style::WayNoise(up))]),
+        Key::InHand => out.extend_from_slice(&[sample_line(left, y, Style::InHand(up))]),
+        Key::LostLate => out.extend_from_slice(&[sample_line(left, y, Style::Late)]),
+        Key::Lost => out.extend_from_slice(&[Shape::Sign(x, y, Sign::Cross, Style::Cross)]),
+        Key::Expired => out.extend_from_slice(&[Shape::Sign(x, y, Sign::Hourglass, Style::Ink)]),
+        Key::Put => {
+            let (hollow, blue) = (Style::Hollow(up), Letters::Bead(up));
+            out.extend_from_slice(&[Shape::Bead(x, at, 0, 7, hollow, blue)])
         }
-        Sample::White(round, style) => {
-            draw_bead(
-                alloc,
-                out,
-                x + 18,
-                at,
-                0,
-                u64::from(round),
-                style,
-                Letters::BeadWhite,
-            )
+        Key::Kept => out.extend_from_slice(&[Shape::Bead(x, at, 0, 7, filled, white)]),
+        Key::Again => {
+            let (dashed, blue) = (Style::Dashed(up), Letters::Bead(up));
+            out.extend_from_slice(&[Shape::Bead(x, at, 0, 7, dashed, blue)])
         }
-        Sample::Square(style) => draw_square(alloc, out, x + 18, at, style),
-        Sample::Open(stage) => draw_stage(alloc, out, x + 14, y, 9, Side::Craft, stage),
-        Sample::Cross => draw(alloc, out, Shape::Cross(x + 18, y, Style::Cross)),
-        Sample::Hourglass => draw(alloc, out, Shape::Hourglass(x + 18, y, Style::Ink)),
-        Sample::Released => draw_released(alloc, out, x + 18, at, 0, up),
-        Sample::Ring => draw_ring(alloc, out, x + 18, at, Style::InkEdge),
-        Sample::Crossed => draw_crossed(alloc, out, x + 18, at),
-        Sample::Stroke => draw(alloc, out, Shape::Line(x + 13, y, x + 23, y, Style::Life)),
-        Sample::Double => draw(
-            alloc,
-            out,
-            Shape::Box(x + 4, y - 2, 28, 4, 0, Style::InkEdge),
-        ),
+        Key::Noted => {
+            let down = Style::Filled(Direction::Down);
+            out.extend_from_slice(&[Shape::Bead(x, at, 0, 0, down, white)])
+        }
+        Key::Released => {
+            let (half, style) = (half(0), Style::Ring(up));
+            let ring = Shape::Box(
+                x.saturating_sub(half + 3),
+                y - 10,
+                2 * half + 6,
+                20,
+                10,
+                style,
+            );
+            out.extend_from_slice(&[ring, Shape::Bead(x, at, 0, 7, filled, white)])
+        }
+        Key::Retired => out.extend_from_slice(&[ring(x, at)]),
+        Key::Opened => out.extend_from_slice(&[square(x, at, Style::InkEdge)]),
+        Key::Finished => out.extend_from_slice(&[square(x, at, Style::Ink)]),
+        Key::Sender => add_stage(out, left + 14, y, 9, Side::Craft, Stage::Sending(0, None)),
+        Key::Reception => add_stage(out, left + 14, y, 9, Side::Craft, Stage::Kept(1, 2)),
+        Key::Waits => add_stage(out, left + 14, y, 9, Side::Craft, Stage::Waits),
+        Key::Claimed => add_stage(out, left + 14, y, 9, Side::Craft, Stage::Claimed),
+        Key::Committed => add_stage(out, left + 14, y, 9, Side::Craft, Stage::Committed),
+        Key::Tick => out.extend_from_slice(&[Shape::Line(left + 13, y, left + 23, y, Style::Life)]),
+        Key::Restart => {
+            let y = y - 2;
+            out.extend_from_slice(&[Shape::Box(left + 4, y, 28, 4, 0, Style::InkEdge)])
+        }
+        Key::Refused => {
+            out.extend_from_slice(&[ring(x, at), Shape::Sign(x, y, Sign::Cross, Style::Life)])
+        }
     }
 }
 
 // A sample, and the words behind it.
-#[tactic(auto, unfolding(crate::specs::Legends::key_onto))]
-fn draw_key(
-    alloc: Global,
-    out: &mut String,
-    x: u16,
-    at: u32,
-    sample: Sample,
-    words: &str,
-) -> Result<(), AllocError>
-    ensures { OnOk result (string_bytes out.new ≡ key_onto (string_bytes out.old) x at sample words.now) }
+#[tactic(auto, unfolding(crate::specs::Legends::key_shapes))]
+fn add_key(out: &mut Vec<Shape>, left: u16, at: u32, key: Key) -> Result<(), AllocError>
+    ensures { OnOk result (out.new.items ≡ out.old.items ++ key_shapes left at key) }
 {
-    draw_sample(alloc, out, x, at, sample)?;
-    let (x, y) = (u64::from(x) + 40, y_of(at) + 4);
-    write(alloc, out, x, y, Letters::Key, words.as_bytes())
+    add_sample(out, left, at, key)?;
+    let (x, y) = (u64::from(left) + 40, y_of(at) + 4);
+    out.extend_from_slice(&[Shape::Text(x, y, Letters::Key, Words::Key(key))])
 }
 
-// A column.
-fn draw_column(
-    alloc: Global,
-    out: &mut String,
-    x: u16,
-    rows: &[(u32, (Sample, &str))],
-) -> Result<(), AllocError>
-    ensures { OnOk result (string_bytes out.new
-        ≡ fold (λ t row. key_onto t x row.0 row.1.0 row.1.1.now) (string_bytes out.old) rows.now) }
+// Samples, each at its place.
+fn add_keys(out: &mut Vec<Shape>, keys: &[(u16, u32, Key)]) -> Result<(), AllocError>
+    ensures { OnOk result (out.new.items
+        ≡ out.old.items ++ flat_map (λ k. key_shapes k.0 k.1 k.2) keys.now) }
 {
-    for row in rows {
-        draw_key(alloc, out, x, row.0, row.1.0, row.1.1)?;
+    for key in keys {
+        add_key(out, key.0, key.1, key.2)?;
     }
     Ok(())
 }
 
-// The first column.
-#[tactic(auto, unfolding(crate::specs::Legends::left_onto))]
-fn draw_left(alloc: Global, out: &mut String) -> Result<(), AllocError>
-    ensures { OnOk result (string_bytes out.new ≡ left_onto (string_bytes out.old)) }
+/// Adds the legend.
+pub(crate) fn add_legend(out: &mut Vec<Shape>) -> Result<(), AllocError>
+    ensures { OnOk result (out.new.items ≡ out.old.items ++ legend_shapes) }
 {
-    draw_column(alloc, out, 24, &LEFT)
-}
-
-// The second.
-#[tactic(auto, unfolding(crate::specs::Legends::middle_onto))]
-fn draw_middle(alloc: Global, out: &mut String) -> Result<(), AllocError>
-    ensures { OnOk result (string_bytes out.new ≡ middle_onto (string_bytes out.old)) }
-{
-    draw_column(alloc, out, 264, &MIDDLE)
-}
-
-// The third.
-#[tactic(auto, unfolding(crate::specs::Legends::right_onto))]
-fn draw_right(alloc: Global, out: &mut String) -> Result<(), AllocError>
-    ensures { OnOk result (string_bytes out.new ≡ right_onto (string_bytes out.old)) }
-{
-    draw_column(alloc, out, 524, &RIGHT)
-}
-
-// The legend.
-#[tactic(auto, unfolding(crate::specs::Legends::legend_onto))]
-pub(crate) fn draw_legend(alloc: Global, out: &mut String) -> Result<(), AllocError>
-    ensures { OnOk result (string_bytes out.new ≡ legend_onto (string_bytes out.old)) }
-{
-    draw_left(alloc, out)?;
-    draw_middle(alloc, out)?;
-    draw_right(alloc, out)
+    add_keys(out, &KEYS)
 }

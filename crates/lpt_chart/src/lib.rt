@@ -12,10 +12,10 @@ mod drawing;
 mod flight;
 mod frame;
 mod hands;
-mod head;
 mod job_words;
 mod last_row;
 pub mod laws;
+mod layout;
 mod legend;
 mod mark;
 mod marks;
@@ -31,17 +31,19 @@ mod style;
 mod svg;
 mod task;
 mod telling;
+mod text;
 mod title;
 mod tracks;
 mod words;
 
 pub use choice::Choice;
 pub use frame::Frame;
+pub use legend::Key;
 pub use marks::{
     Bar, Content, Flight, Hands, Held, Loss, Row, Saying, Sent, Stage, Task, Thing, Track,
 };
 pub use picture::Picture;
 pub use refusal::Refusal;
-pub use shape::Shape;
+pub use shape::{Shape, Sign, Words};
 pub use style::{Letters, Style, Weight};
 pub use svg::chart;

@@ -2,7 +2,8 @@
 //!
 //! Heights are counted in steps of 11 pixels from the top of the whole run; a row has two.
 
-use lpt_events::{Applied, Direction, Lane, Name, Outcome, Side, Worker};
+use lpt_events::{Applied, Lane, Outcome, Side, Worker};
+use lpt_packet::{Direction, Name};
 
 /// What a packet on the link is.
 #[derive(Clone, Copy)]

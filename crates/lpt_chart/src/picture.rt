@@ -11,7 +11,8 @@ use crate::marks::{
     Bar, Content, Flight, Hands, Held, Loss, Row, Saying, Sent, Stage, Task, Thing, Track,
 };
 use crate::pieces::{add_both, end_all, move_track};
-use lpt_events::{Direction, Lane, Outcome, Side};
+use lpt_events::{Lane, Outcome, Side};
+use lpt_packet::Direction;
 use std::alloc::{AllocError, Global};
 use std::marker::Model;
 
@@ -168,6 +169,7 @@ impl Picture {
     }
 
     // A track comes to a stage, or to its end.
+    #[tactic(auto, unfolding(crate::specs::Pictures::tracked))]
     pub(crate) fn track(
         &mut self,
         side: Side,
@@ -176,28 +178,11 @@ impl Picture {
     ) -> Result<(), AllocError>
         ensures { OnOk result (self.new ≡ tracked self.old side thing stage) }
     {
+        let bars = &mut self.bars;
         match side {
-            Side::Ground => self.track_ground(thing, stage),
-            Side::Craft => self.track_craft(thing, stage),
+            Side::Ground => move_track(bars, &mut self.ground, side, self.here, thing, stage),
+            Side::Craft => move_track(bars, &mut self.craft, side, self.here, thing, stage),
         }
-    }
-
-    // The same at ground.
-    #[tactic(auto, unfolding(crate::specs::Pictures::tracked))]
-    fn track_ground(&mut self, thing: Thing, stage: Option<Stage>) -> Result<(), AllocError>
-        ensures { OnOk result (self.new ≡ tracked self.old Side.Ground thing stage) }
-    {
-        let (bars, columns) = (&mut self.bars, &mut self.ground);
-        move_track(bars, columns, Side::Ground, self.here, thing, stage)
-    }
-
-    // The same at the spacecraft.
-    #[tactic(auto, unfolding(crate::specs::Pictures::tracked))]
-    fn track_craft(&mut self, thing: Thing, stage: Option<Stage>) -> Result<(), AllocError>
-        ensures { OnOk result (self.new ≡ tracked self.old Side.Craft thing stage) }
-    {
-        let (bars, columns) = (&mut self.bars, &mut self.craft);
-        move_track(bars, columns, Side::Craft, self.here, thing, stage)
     }
 
     // All tracks of a node end.

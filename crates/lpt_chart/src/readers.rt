@@ -5,8 +5,9 @@ ghost use Rattle.lpt_chart.specs.Events.{kept_then, open_at, to_side};
 
 use crate::marks::{Thing, Track};
 use crate::picture::{Picture, to_side};
-use crate::tracks::kept;
-use lpt_events::{Direction, Name, Side};
+use crate::tracks::{kept, stage_of};
+use lpt_events::Side;
+use lpt_packet::{Direction, Name};
 
 impl Picture {
     // What a node has open, in its columns.
@@ -21,10 +22,10 @@ impl Picture {
 
     // How many parts are kept with one more.
     #[tactic(auto, unfolding(crate::specs::Events::kept_then))]
-    pub(crate) fn kept_then(&self, direction: Direction, id: Name) -> u16
-        ensures { result ≡ kept_then self.now direction id }
+    pub(crate) fn kept_then(&self, direction: Direction, name: Name) -> u16
+        ensures { result ≡ kept_then self.now direction name }
     {
         let columns = self.columns(to_side(direction));
-        kept(columns, Thing::Reception(id)).saturating_add(1)
+        kept(stage_of(columns, Thing::Reception(name))).saturating_add(1)
     }
 }

@@ -1,13 +1,15 @@
 //! The words of a row.
 
 ghost use Rattle.std.specs.Prelude.{◌≡◌, IfOk, string_bytes};
-ghost use Rattle.lpt_chart.specs.Sayings.{expired_words, lost_words, named_words, opened_words, restarted_words, run_words, saying_words, stale_words, taken_words, ticks_words, work_words};
+ghost use Rattle.lpt_chart.specs.Sayings.{job_text, name_words, refusal_words, row_words, run_words, saying_words};
 
 use crate::job_words::applied_words;
 use crate::marks::Saying;
 use crate::packet_words::{content_words, delivered_words, of_words};
+use crate::refusal::Refusal;
 use crate::words::{direction_word, lane_word, worker_word};
-use lpt_events::{Direction, Lane, Name, Worker, name_word};
+use lpt_events::{Worker, name_word};
+use lpt_packet::{Direction, Name};
 use std::alloc::{AllocError, Global};
 
 // How many ticks in a row.
@@ -21,144 +23,106 @@ fn run_words(alloc: Global, run: u64) -> Result<String, AllocError>
     format!(in alloc; " ({run} ticks)")
 }
 
-// A clock, and after how many ticks it has its value.
-#[tactic(auto, unfolding(crate::specs::Sayings::ticks_words))]
-fn ticks_words(alloc: Global, clock: u32, run: u64) -> Result<String, AllocError>
-    ensures { IfOk result (λ t. string_bytes t ≡ ticks_words clock run) }
-{
-    let run = run_words(alloc, run)?;
-    format!(in alloc; "clock {clock}{run}")
-}
-
-// A reception that has expired: so many parts were kept.
-#[tactic(auto, unfolding(crate::specs::Sayings::expired_words))]
-fn expired_words(
+// A word and a transaction.
+#[tactic(auto, unfolding(crate::specs::Sayings::name_words))]
+fn name_words(
     alloc: Global,
     source: u16,
+    word: &str,
     direction: Direction,
-    id: Name,
-    kept: u16,
-    parts: u16,
+    name: Name,
 ) -> Result<String, AllocError>
-    ensures { IfOk result (λ t. string_bytes t ≡ expired_words source direction id kept parts) }
+    ensures { IfOk result (λ t. string_bytes t ≡ name_words source word.now direction name) }
 {
-    let way = direction_word(direction);
-    let of = of_words(alloc, u64::from(parts))?;
-    let id = name_word(source, id);
-    format!(in alloc; "expired {way} {id}: {kept}{of}")
+    let (way, name) = (direction_word(direction), name_word(source, name));
+    format!(in alloc; "{word} {way} {name}")
 }
 
 // What a worker does with a job.
-#[tactic(auto, unfolding(crate::specs::Sayings::work_words))]
-fn work_words(
+#[tactic(auto, unfolding(crate::specs::Sayings::job_text))]
+fn job_text(
     alloc: Global,
     worker: Worker,
     does: &str,
     boot: u64,
     job: u64,
+    end: &str,
 ) -> Result<String, AllocError>
-    ensures { IfOk result (λ t. string_bytes t ≡ work_words worker does.now boot job) }
+    ensures { IfOk result (λ t. string_bytes t ≡ job_text worker does.now boot job end.now) }
 {
     let worker = worker_word(worker);
-    format!(in alloc; "{worker} {does} job {boot}.{job}")
-}
-
-// What a worker hands in of a job that isn't there any more.
-#[tactic(auto, unfolding(crate::specs::Sayings::stale_words))]
-fn stale_words(alloc: Global, worker: Worker, boot: u64, job: u64) -> Result<String, AllocError>
-    ensures { IfOk result (λ t. string_bytes t ≡ stale_words worker boot job) }
-{
-    let worker = worker_word(worker);
-    format!(in alloc; "{worker} hands in job {boot}.{job}: stale")
-}
-
-// A word and a transaction.
-#[tactic(auto, unfolding(crate::specs::Sayings::named_words))]
-fn named_words(
-    alloc: Global,
-    source: u16,
-    word: &str,
-    direction: Direction,
-    id: Name,
-) -> Result<String, AllocError>
-    ensures { IfOk result (λ t. string_bytes t ≡ named_words source word.now direction id) }
-{
-    let way = direction_word(direction);
-    let id = name_word(source, id);
-    format!(in alloc; "{word} {way} {id}")
-}
-
-// A message that is opened.
-#[tactic(auto, unfolding(crate::specs::Sayings::opened_words))]
-fn opened_words(
-    alloc: Global,
-    source: u16,
-    direction: Direction,
-    id: Name,
-    octets: u64,
-    parts: u16,
-) -> Result<String, AllocError>
-    ensures { IfOk result (λ t. string_bytes t ≡ opened_words source direction id octets parts) }
-{
-    let way = direction_word(direction);
-    let id = name_word(source, id);
-    format!(in alloc; "open {way} {id}: {octets} octets, {parts} parts")
-}
-
-// A packet that is lost.
-#[tactic(auto, unfolding(crate::specs::Sayings::lost_words))]
-fn lost_words(alloc: Global, number: u64) -> Result<String, AllocError>
-    ensures { IfOk result (λ t. string_bytes t ≡ lost_words number) }
-{
-    format!(in alloc; "packet {number} is lost")
-}
-
-// A packet that a lane takes.
-#[tactic(auto, unfolding(crate::specs::Sayings::taken_words))]
-fn taken_words(alloc: Global, lane: Lane, number: u64) -> Result<String, AllocError>
-    ensures { IfOk result (λ t. string_bytes t ≡ taken_words lane number) }
-{
-    let lane = lane_word(lane);
-    format!(in alloc; "{lane} takes {number}")
-}
-
-// A node that restarts.
-#[tactic(auto, unfolding(crate::specs::Sayings::restarted_words))]
-fn restarted_words(alloc: Global, boot: u64) -> Result<String, AllocError>
-    ensures { IfOk result (λ t. string_bytes t ≡ restarted_words boot) }
-{
-    format!(in alloc; "starts anew: boot {boot}")
+    format!(in alloc; "{worker} {does} job {boot}.{job}{end}")
 }
 
 // What a row says. A refused line has words of its own.
 #[tactic(auto, unfolding(crate::specs::Sayings::saying_words))]
-pub(crate) fn saying_words(alloc: Global, source: u16, saying: Saying) -> Result<String, AllocError>
+fn saying_words(alloc: Global, source: u16, saying: Saying) -> Result<String, AllocError>
     ensures { IfOk result (λ t. string_bytes t ≡ saying_words source saying) }
 {
     match saying {
-        Saying::Opened(direction, id, octets, parts) => {
-            opened_words(alloc, source, direction, id, octets, parts)
+        Saying::Opened(direction, name, octets, parts) => {
+            let (way, name) = (direction_word(direction), name_word(source, name));
+            format!(in alloc; "open {way} {name}: {octets} octets, {parts} parts")
         }
         Saying::Put(direction, _, content) => content_words(alloc, source, direction, content),
-        Saying::Finished(direction, id) => named_words(alloc, source, "finished", direction, id),
-        Saying::Lost(_, number) => lost_words(alloc, number),
-        Saying::Taken(lane, number) => taken_words(alloc, lane, number),
-        Saying::Passed(_, _) => Ok(String::new(alloc)),
+        Saying::Finished(direction, name) => name_words(alloc, source, "finished", direction, name),
+        Saying::Lost(_, number) => format!(in alloc; "packet {number} is lost"),
+        Saying::Taken(lane, number) => {
+            let lane = lane_word(lane);
+            format!(in alloc; "{lane} takes {number}")
+        }
+        Saying::Passed(_, _) | Saying::Refused(_) => Ok(String::new(alloc)),
         Saying::Delivered(lane, outcome, first, second) => {
             delivered_words(alloc, source, lane.direction(), outcome, first, second)
         }
-        Saying::Ticked(_, clock, run) => ticks_words(alloc, clock, run),
-        Saying::Expired(direction, id, kept, parts) => {
-            expired_words(alloc, source, direction, id, kept, parts)
+        Saying::Ticked(_, clock, run) => {
+            let run = run_words(alloc, run)?;
+            format!(in alloc; "clock {clock}{run}")
         }
-        Saying::Claimed(worker, boot, job) => work_words(alloc, worker, "claims", boot, job),
-        Saying::Committed(worker, boot, job) => work_words(alloc, worker, "commits", boot, job),
-        Saying::Stale(worker, boot, job) => stale_words(alloc, worker, boot, job),
+        Saying::Expired(direction, name, kept, parts) => {
+            let of = of_words(alloc, u64::from(parts))?;
+            let (way, name) = (direction_word(direction), name_word(source, name));
+            format!(in alloc; "expired {way} {name}: {kept}{of}")
+        }
+        Saying::Claimed(worker, boot, job) => job_text(alloc, worker, "claims", boot, job, ""),
+        Saying::Committed(worker, boot, job) => job_text(alloc, worker, "commits", boot, job, ""),
+        Saying::Stale(worker, boot, job) => {
+            job_text(alloc, worker, "hands in", boot, job, ": stale")
+        }
         Saying::Applied(boot, job, task, applied) => {
             applied_words(alloc, source, boot, job, task, applied)
         }
-        Saying::Retired(direction, id) => named_words(alloc, source, "retired", direction, id),
-        Saying::Restarted(_, boot) => restarted_words(alloc, boot),
-        Saying::Refused(_) => Ok(String::new(alloc)),
+        Saying::Retired(direction, name) => name_words(alloc, source, "retired", direction, name),
+        Saying::Restarted(_, boot) => format!(in alloc; "starts anew: boot {boot}"),
+    }
+}
+
+// What is shown of a refused line: its fault, its number, and the line.
+#[tactic(auto, unfolding(crate::specs::Sayings::refusal_words))]
+fn refusal_words(alloc: Global, refusal: &Refusal) -> Result<Vec<u8>, AllocError>
+    ensures { IfOk result (λ t. t.items ≡ refusal_words refusal.now) }
+{
+    let (code, name, line) = (refusal.fault.code(), refusal.fault.name(), refusal.line);
+    let mut words = format!(in alloc; "refused {code} {name}, line {line}: ")?.into_bytes();
+    words.extend_from_slice(refusal.words.as_slice())?;
+    Ok(words)
+}
+
+/// What a row says, that of a refused line too.
+#[tactic(auto, unfolding(crate::specs::Sayings::row_words))]
+pub(crate) fn row_words(
+    alloc: Global,
+    source: u16,
+    refused: &[Refusal],
+    saying: Saying,
+) -> Result<Vec<u8>, AllocError>
+    ensures { IfOk result (λ t. t.items ≡ row_words source refused.now saying) }
+{
+    match saying {
+        Saying::Refused(index) => match refused.get(index as usize) {
+            Some(refusal) => refusal_words(alloc, refusal),
+            None => Ok(Vec::new(alloc)),
+        },
+        _ => Ok(saying_words(alloc, source, saying)?.into_bytes()),
     }
 }

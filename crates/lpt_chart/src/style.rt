@@ -1,9 +1,10 @@
 //! How shapes and letters look, as attributes of elements.
 
 ghost use Rattle.std.specs.Prelude.{◌≡◌};
-ghost use Rattle.lpt_chart.specs.Shapes.{letters_text, style_text};
+ghost use Rattle.lpt_chart.specs.Styles.{letters_text, style_text};
 
-use lpt_events::Direction;
+use lpt_events::Side;
+use lpt_packet::Direction;
 
 /// How a shape looks.
 #[derive(Clone, Copy)]
@@ -78,18 +79,8 @@ pub enum Letters {
     Place,
     /// Grey and small, round the point.
     Small,
-    /// Left of the point.
-    Left,
-    /// Left of the point, grey.
-    LeftQuiet,
-    /// Left of the point, bold.
-    LeftStrong,
-    /// Right of the point.
-    Right,
-    /// Right of the point, grey.
-    RightQuiet,
-    /// Right of the point, bold.
-    RightStrong,
+    /// Those of words at a node: left of the point at ground, right of it at the spacecraft.
+    Words(Side, Weight),
     /// White on black, bold, round the point.
     Node,
     /// Small, in the direction's colour, round the point.
@@ -101,7 +92,7 @@ pub enum Letters {
 }
 
 // The attributes of a style.
-#[tactic(auto, unfolding(crate::specs::Shapes::style_text))]
+#[tactic(auto, unfolding(crate::specs::Styles::style_text))]
 pub(crate) fn style_word(style: Style) -> &'static str
     ensures { result.now ≡ style_text style }
 {
@@ -161,7 +152,7 @@ pub(crate) fn style_word(style: Style) -> &'static str
 }
 
 // The attributes of letters.
-#[tactic(auto, unfolding(crate::specs::Shapes::letters_text))]
+#[tactic(auto, unfolding(crate::specs::Styles::letters_text))]
 pub(crate) fn letters_word(letters: Letters) -> &'static str
     ensures { result.now ≡ letters_text letters }
 {
@@ -172,12 +163,12 @@ pub(crate) fn letters_word(letters: Letters) -> &'static str
         Letters::Grey => "fill='#555555'",
         Letters::Place => "fill='#6b6b6b' font-size='10' text-anchor='end'",
         Letters::Small => "fill='#555555' font-size='10' text-anchor='middle'",
-        Letters::Left => "text-anchor='end'",
-        Letters::LeftQuiet => "fill='#555555' text-anchor='end'",
-        Letters::LeftStrong => "font-weight='bold' text-anchor='end'",
-        Letters::Right => "text-anchor='start'",
-        Letters::RightQuiet => "fill='#555555' text-anchor='start'",
-        Letters::RightStrong => "font-weight='bold' text-anchor='start'",
+        Letters::Words(Side::Ground, Weight::Plain) => "text-anchor='end'",
+        Letters::Words(Side::Ground, Weight::Quiet) => "fill='#555555' text-anchor='end'",
+        Letters::Words(Side::Ground, Weight::Strong) => "font-weight='bold' text-anchor='end'",
+        Letters::Words(Side::Craft, Weight::Plain) => "text-anchor='start'",
+        Letters::Words(Side::Craft, Weight::Quiet) => "fill='#555555' text-anchor='start'",
+        Letters::Words(Side::Craft, Weight::Strong) => "font-weight='bold' text-anchor='start'",
         Letters::Node => "fill='#ffffff' font-weight='bold' text-anchor='middle'",
         Letters::Bead(Direction::Up) => "fill='#0b5fa5' font-size='10' text-anchor='middle'",
         Letters::Bead(Direction::Down) => { "fill='#a84300' font-size='10' text-anchor='middle'" }

@@ -4,7 +4,7 @@ ghost use Rattle.std.specs.Prelude.{◌≡◌, ◌<◌};
 ghost use Rattle.lpt_chart.specs.Tasks.{asked_from, asked_in, octet_at, pair_at};
 
 use crate::marks::Task;
-use lpt_events::Direction;
+use lpt_packet::Direction;
 
 // The octet at a place, 0 where there is none.
 fn octet_at(octets: &[u8], at: u16) -> u8

@@ -2,11 +2,11 @@
 
 ghost use Rattle.std.specs.Prelude.{◌≡◌};
 ghost use Rattle.lpt_chart.specs.Sayings.{saying_side};
-ghost use Rattle.lpt_chart.specs.Tellings.{has_place, is_told, outcome_weight, side_letters, weight_of};
+ghost use Rattle.lpt_chart.specs.Tellings.{has_line, has_place, has_words, outcome_weight, weight_of};
 
 use crate::marks::{Content, Saying};
 use crate::picture::{from_side, to_side};
-use crate::style::{Letters, Weight};
+use crate::style::Weight;
 use lpt_events::{Outcome, Side};
 
 // The node at whose side the words stand.
@@ -73,25 +73,19 @@ pub(crate) fn weight(saying: Saying) -> Weight
     }
 }
 
-// The letters of words at a node's side.
-#[tactic(auto, unfolding(crate::specs::Tellings::side_letters))]
-pub(crate) fn side_letters(side: Side, weight: Weight) -> Letters
-    ensures { result ≡ side_letters side weight }
+// Whether a row has words. A take that is delivered right after has none.
+pub(crate) fn has_words(saying: Saying) -> bool
+    ensures { result ≡ has_words saying }
 {
-    match (side, weight) {
-        (Side::Ground, Weight::Quiet) => Letters::LeftQuiet,
-        (Side::Ground, Weight::Plain) => Letters::Left,
-        (Side::Ground, Weight::Strong) => Letters::LeftStrong,
-        (Side::Craft, Weight::Quiet) => Letters::RightQuiet,
-        (Side::Craft, Weight::Plain) => Letters::Right,
-        (Side::Craft, Weight::Strong) => Letters::RightStrong,
+    match saying {
+        Saying::Passed(_, _) => false,
+        _ => true,
     }
 }
 
-// Whether a row has words and a line to them. A take that is delivered right after has none, and a
-// refused line is of no node.
-pub(crate) fn is_told(saying: Saying) -> bool
-    ensures { result ≡ is_told saying }
+// Whether a row has a line to its words. A refused line is of no node.
+pub(crate) fn has_line(saying: Saying) -> bool
+    ensures { result ≡ has_line saying }
 {
     match saying {
         Saying::Passed(_, _) | Saying::Refused(_) => false,

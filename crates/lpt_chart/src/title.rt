@@ -1,7 +1,7 @@
 //! The lines of a title.
 
 ghost use Rattle.std.specs.Prelude.{◌≡◌, ◌≤◌, ◌==◌, length, position};
-ghost use Rattle.lpt_chart.specs.Choices.{behind_space, line_end, title_end, title_front, title_rest, title_room};
+ghost use Rattle.lpt_chart.specs.Choices.{behind_space, line_end, title_front, title_line, title_rest, title_room};
 
 // The first space behind the 46th letter, counted from there.
 fn space_behind(tail: &[u8]) -> Option<usize>
@@ -24,8 +24,8 @@ fn line_end(text: &[u8]) -> usize
     }
 }
 
-/// The first line of a text.
-pub(crate) fn title_front(text: &[u8]) -> &[u8]
+// The first line of a text.
+fn title_front(text: &[u8]) -> &[u8]
     ensures { result.now ≡ title_front text.now }
 {
     text.split_at(line_end(text)).0
@@ -41,18 +41,24 @@ fn behind_space(text: &[u8]) -> &[u8]
     }
 }
 
-/// What follows the first line, and the space that parts them.
-pub(crate) fn title_rest(text: &[u8]) -> &[u8]
+// What follows the first line, and the space that parts them.
+fn title_rest(text: &[u8]) -> &[u8]
     ensures { result.now ≡ title_rest text.now }
 {
     behind_space(text.split_at(line_end(text)).1)
 }
 
-/// What follows two lines.
-pub(crate) fn title_end(text: &[u8]) -> &[u8]
-    ensures { result.now ≡ title_end text.now }
+/// The line of a title with this index: two lines, and what follows them.
+pub(crate) fn title_line(text: &[u8], line: u8) -> &[u8]
+    ensures { result.now ≡ title_line text.now line }
 {
-    title_rest(title_rest(text))
+    if line == 0 {
+        title_front(text)
+    } else if line == 1 {
+        title_front(title_rest(text))
+    } else {
+        title_rest(title_rest(text))
+    }
 }
 
 /// The room for the lines behind the first.

@@ -1,7 +1,7 @@
 //! What is open at a node, each in a column of its own.
 
 ghost use Rattle.std.specs.Prelude.{◌≡◌, ◌<◌, length, slice_get, IfSome, OnOk};
-ghost use Rattle.lpt_chart.specs.Tracks.{bar_of, bar_up_to, begun, column_of, free_column, has_track, kept_in, kept_of, moved, parts_in, parts_of, same_thing, task_in, task_of, track_at, track_of};
+ghost use Rattle.lpt_chart.specs.Tracks.{bar_of, bar_up_to, begun, column_of, free_column, has_track, kept_in, moved, parts_in, same_thing, stage_of, task_in, track_at};
 
 use crate::marks::{Bar, Stage, Task, Thing, Track};
 use lpt_events::Side;
@@ -125,76 +125,46 @@ pub(crate) fn bring(
     }
 }
 
-// The track of this thing.
-#[tactic(auto, unfolding(crate::specs::Tracks::track_of))]
-fn found(columns: &[Option<Track>], thing: Thing) -> Option<Track>
-    ensures { result ≡ track_of columns.now thing }
+// The stage of the track of this thing, where there is one.
+#[tactic(auto, unfolding(crate::specs::Tracks::stage_of))]
+pub(crate) fn stage_of(columns: &[Option<Track>], thing: Thing) -> Option<Stage>
+    ensures { result ≡ stage_of columns.now thing }
 {
     match column(columns, thing) {
-        Some(at) => track_at(columns, at),
+        Some(at) => match track_at(columns, at) {
+            Some(track) => Some(track.stage),
+            None => None,
+        },
         None => None,
     }
 }
 
 // How many parts were kept at a stage.
-fn kept_by(stage: Stage) -> u16
+pub(crate) fn kept(stage: Option<Stage>) -> u16
     ensures { result ≡ kept_in stage }
 {
     match stage {
-        Stage::Kept(kept, _) => kept,
-        Stage::Sending(_, _) | Stage::Waits | Stage::Claimed | Stage::Committed => 0,
+        Some(Stage::Kept(kept, _)) => kept,
+        _ => 0,
     }
 }
 
-// How many parts the track of this thing has kept.
-#[tactic(auto, unfolding(crate::specs::Tracks::kept_of))]
-pub(crate) fn kept(columns: &[Option<Track>], thing: Thing) -> u16
-    ensures { result ≡ kept_of columns.now thing }
-{
-    match found(columns, thing) {
-        Some(track) => kept_by(track.stage),
-        None => 0,
-    }
-}
-
-// Of how many parts the message is at a stage.
-fn parts_by(stage: Stage) -> u16
+// Of how many parts the message is at a stage; 0 where that isn't known.
+pub(crate) fn parts(stage: Option<Stage>) -> u16
     ensures { result ≡ parts_in stage }
 {
     match stage {
-        Stage::Kept(_, parts) | Stage::Sending(parts, _) => parts,
-        Stage::Waits | Stage::Claimed | Stage::Committed => 0,
-    }
-}
-
-// Of how many parts the message of the track of this thing is; 0 where that isn't known.
-#[tactic(auto, unfolding(crate::specs::Tracks::parts_of))]
-pub(crate) fn parts(columns: &[Option<Track>], thing: Thing) -> u16
-    ensures { result ≡ parts_of columns.now thing }
-{
-    match found(columns, thing) {
-        Some(track) => parts_by(track.stage),
-        None => 0,
+        Some(Stage::Kept(_, parts) | Stage::Sending(parts, _)) => parts,
+        _ => 0,
     }
 }
 
 // What the message of a sender asks for.
-fn task_by(stage: Stage) -> Option<Task>
+pub(crate) fn task(stage: Option<Stage>) -> Option<Task>
     ensures { result ≡ task_in stage }
 {
     match stage {
-        Stage::Sending(_, task) => task,
-        Stage::Kept(_, _) | Stage::Waits | Stage::Claimed | Stage::Committed => None,
-    }
-}
-
-// What the message of the track of this thing asks for.
-#[tactic(auto, unfolding(crate::specs::Tracks::task_of))]
-pub(crate) fn task(columns: &[Option<Track>], thing: Thing) -> Option<Task>
-    ensures { result ≡ task_of columns.now thing }
-{
-    match found(columns, thing) {
-        Some(track) => task_by(track.stage),
-        None => None,
+        Some(Stage::Sending(_, task)) => task,
+        _ => None,
     }
 }

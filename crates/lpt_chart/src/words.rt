@@ -1,9 +1,11 @@
 //! The words for what has few cases.
 
 ghost use Rattle.std.specs.Prelude.{◌≡◌};
-ghost use Rattle.lpt_chart.specs.Words.{code_word, course_word, direction_word, lane_word, plural, reason_word, report_word, request_word, why_word, worker_word};
+ghost use Rattle.lpt_chart.specs.Words.{code_word, course_word, direction_word, lane_word, node_word, plural, reason_word, report_word, request_word, why_word, worker_word};
 
-use lpt_events::{Direction, Lane, Reason, Why, Worker};
+use lpt_events::{Lane, Side, Why, Worker};
+use lpt_packet::Direction;
+use lpt_part::Reason;
 
 // What makes a word of more than one thing, behind it.
 pub(crate) fn plural(count: u64) -> &'static str
@@ -19,6 +21,16 @@ pub(crate) fn direction_word(direction: Direction) -> &'static str
     match direction {
         Direction::Up => "up",
         Direction::Down => "down",
+    }
+}
+
+// A node's name.
+pub(crate) fn node_word(side: Side) -> &'static str
+    ensures { result.now ≡ node_word side }
+{
+    match side {
+        Side::Ground => "ground",
+        Side::Craft => "spacecraft",
     }
 }
 

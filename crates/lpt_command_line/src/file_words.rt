@@ -4,7 +4,7 @@ ghost use Rattle.std.specs.Prelude.{◌≤◌, IfSome};
 
 use crate::word_fault::WordFault;
 use clap::ArgMatches;
-use lpt_pus::{Direction, Name};
+use lpt_packet::{Direction, Name};
 use std::alloc::Global;
 
 /// The word for standard input.

@@ -1,16 +1,16 @@
 //! The command line of `lpt`: what its words ask for.
 //!
 //! The commands are rows of tables (`src/commands.rt`), by which clap reads the words and prints
-//! the help. The main type is `Asked`, and the first call `read_words`, which gives one, or why
+//! the help. The main type is `CommandLine`, and the first call `read_words`, which gives one, or why
 //! nothing is to be done.
 //!
-//! A new command is a row in `src/commands.rt`; a case of `Command` in `src/asked.rt`, with a line in
+//! A new command is a row in `src/commands.rt`; a case of `Command` in `src/command_line.rt`, with a line in
 //! `command_of`, which makes that case of the words that were read; and a line in `done` of
 //! `lpt/src/main.rt`, which does the work.
 #![tactic(auto)]
 
-mod asked;
 mod building;
+mod command_line;
 mod commands;
 mod extract_words;
 mod file_words;
@@ -18,9 +18,10 @@ mod request_words;
 mod row;
 mod word_fault;
 
-pub use asked::{Asked, ChartWords, Command, Unasked, read_words};
+pub use command_line::{ChartWords, Command, CommandLine, NoCommand, read_words};
 pub use extract_words::ExtractWords;
 pub use file_words::{GivenName, JoinWords, ListWords, Span, SplitWords};
-pub use lpt_pus::{AckFlags, Direction, Name};
+pub use lpt_packet::{Direction, Name};
+pub use lpt_pus::AckFlags;
 pub use request_words::{RequestWords, What};
 pub use word_fault::WordFault;

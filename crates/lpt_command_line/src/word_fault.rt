@@ -59,7 +59,7 @@ impl WordFault<'_> {
                 format!(in alloc; "'--from {from}' stands behind '--to {to}'")
             }
             WordFault::Twice => format!(in alloc; "'-' stands twice: standard input is read once"),
-            WordFault::Memory => format!(in alloc; "memory is wanting"),
+            WordFault::Memory => format!(in alloc; "out of memory"),
         }
     }
 }

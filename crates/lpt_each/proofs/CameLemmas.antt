@@ -4,14 +4,14 @@ use Rattle.std.specs.Prelude.{is_some}
 use Rattle.std.specs.FinMap as map
 use Rattle.std.proofs.lemmas.Bool.{and_parts}
 use Rattle.std.proofs.lemmas.Bool.Decides.{eqb_tells}
-use Rattle.lpt_join.proofs.LptPacket.EntryLemmas.{none_passes, passes_none, passes_some}
-use Rattle.lpt_join.specs.LptReception.LptPart.declared.kind.Kind.{Kind}
-use Rattle.lpt_join.specs.LptReception.LptPart.declared.kind.Kind.TheVariants.{First, Middle, Last}
-use Rattle.lpt_join.specs.LptReception.LptPart.Parts.{same_kind}
-use Rattle.lpt_join.specs.LptReception.LptPart.LptPacket.Numbers.{same_octets}
-use Rattle.lpt_join.specs.LptReception.Received.{Kept, Parts, no_parts, with_part, differs, is_last, is_overrun, is_whole, same_kept}
-use Rattle.lpt_join.specs.declared.came.Came.{Came}
-use Rattle.lpt_join.specs.CameInside.{has, is_ended}
+use Rattle.lpt_packet.proofs.EntryLemmas.{none_passes, passes_none, passes_some}
+use Rattle.lpt_part.specs.declared.kind.Kind.{Kind}
+use Rattle.lpt_part.specs.declared.kind.Kind.TheVariants.{First, Middle, Last}
+use Rattle.lpt_part.specs.Parts.{same_kind}
+use Rattle.lpt_packet.specs.Numbers.{same_octets}
+use Rattle.lpt_reception.specs.Received.{Kept, Parts, no_parts, with_part, differs, is_last, is_overrun, is_whole, same_kept}
+use Rattle.lpt_join.specs.declared.part_numbers.PartNumbers.{PartNumbers}
+use Rattle.lpt_join.specs.PartNumbersInside.{has, is_ended}
 use Rattle.lpt_join.specs.Joins.{Missing, Broken, kept_by, added}
 use Rattle.lpt_join.proofs.SetLemmas.{added_cases, get_more, get_none, get_other, get_same, not_none}
 use Rattle.lpt_each.specs.Helds.{AreCame}
@@ -99,7 +99,7 @@ same_missing : (a b : Parts) → Missing a ≡ Missing b → a ≡ b
 same_missing a b h = cc
 
 -- with a part that wasn't there
-pub came-put : (c d : Came) (s : Parts) (n : ℕ) (x : Kept)
+pub came-put : (c d : PartNumbers) (s : Parts) (n : ℕ) (x : Kept)
     → AreCame c s
     → map.get s n ≡ None
     → ((q : ℕ) → has d q ≡ ((n == q) || has c q))
@@ -110,7 +110,7 @@ came-put c d s n x h absent came ended = record {
   ended = ended ∙ ap (λ b. is_last x || b) h.ended ∙ sym (end_more s n x absent);
 }
 
-came-same : (c d : Came) (s : Parts) (n : ℕ) (x y : Kept)
+came-same : (c d : PartNumbers) (s : Parts) (n : ℕ) (x y : Kept)
     → AreCame c s
     → map.get s n ≡ Some y
     → differs (Some y) x ≡ false
@@ -123,7 +123,7 @@ came-same c d s n x y h at same came ended = record {
 }
 
 -- with any part that leaves parts missing
-pub came-added : (c d : Came) (s r : Parts) (n : ℕ) (x : Kept)
+pub came-added : (c d : PartNumbers) (s r : Parts) (n : ℕ) (x : Kept)
     → AreCame c s
     → added s n x ≡ Missing r
     → ((q : ℕ) → has d q ≡ ((n == q) || has c q))
@@ -150,7 +150,7 @@ came-added c d s r n x h is came ended =
           subst (AreCame d) (same_missing (with_part s n x) r e) (came-put c d s n x h at came ended)
 
 -- with a part alone
-pub came-alone : (c d : Came) (n : ℕ) (x : Kept)
+pub came-alone : (c d : PartNumbers) (n : ℕ) (x : Kept)
     → AreCame c no_parts
     → ((q : ℕ) → has d q ≡ ((n == q) || has c q))
     → is_ended d ≡ (is_last x || is_ended c)
@@ -158,7 +158,7 @@ pub came-alone : (c d : Came) (n : ℕ) (x : Kept)
 came-alone c d n x h came ended = came-put c d no_parts n x h (get_none n) came ended
 
 -- none
-pub came-none : (c : Came)
+pub came-none : (c : PartNumbers)
     → ((q : ℕ) → has c q ≡ false)
     → is_ended c ≡ false
     → AreCame c no_parts
@@ -170,7 +170,7 @@ came-none c none ended = record {
 }
 
 -- what is told of them
-pub dropped-told : (c : Came) (s : Parts)
+pub dropped-told : (c : PartNumbers) (s : Parts)
     → AreCame c s
     → ◌≡◌ {A = Option News} (Some (Dropped (has c) (is_ended c))) (Some (dropped s))
 dropped-told c s h = λ i. Some (Dropped (λ n. h.came n i) (h.ended i))

@@ -2,10 +2,10 @@
 use Rattle.std.proofs.Common.{◌≡◌, ◌∙◌, ap, sym, subst, refl, ℕ, Bool, true, false, List, [], ◌∷◌, ◌++◌, Option, Some, None}
 use Rattle.std.specs.Option.{option_map}
 use Rattle.std.specs.BTreeMap.{get, IsOrdered}
-use Rattle.lpt_join.specs.LptPacket.Names.{Name, name_cmp, same_name}
-use Rattle.lpt_join.proofs.LptPacket.NameLemmas.{same_name-true}
-use Rattle.lpt_join.specs.LptEvents.NamedParts.{NamedPart}
-use Rattle.lpt_join.specs.LptReception.Received.{Kept}
+use Rattle.lpt_packet.specs.Names.{Name, name_cmp, same_name}
+use Rattle.lpt_packet.proofs.NameLemmas.{same_name-true}
+use Rattle.lpt_events.specs.NamedParts.{NamedPart}
+use Rattle.lpt_reception.specs.Received.{Kept}
 use Rattle.lpt_join.specs.declared.transaction.Transaction.{Transaction}
 use Rattle.lpt_join.specs.Offers.{offered, piece_in}
 use Rattle.lpt_join.specs.Several.{of_name}

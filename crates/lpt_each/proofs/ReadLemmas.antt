@@ -1,9 +1,9 @@
 -- What is kept and told of the pieces of a stream.
 use Rattle.std.proofs.Common.{sym, subst, Bool, List, [], ◌∷◌, ◌++◌, ◌≡◌, Option, None}
-use Rattle.lpt_join.specs.LptStream.Pieces.{Piece, packet_before, packets_of}
-use Rattle.lpt_join.proofs.LptStream.CutLemmas.{packets-next}
-use Rattle.lpt_join.specs.LptSkips.declared.skips.Skips.{Skips}
-use Rattle.lpt_join.specs.LptSkips.Tallies.{nothing_noted, skips_of}
+use Rattle.lpt_stream.specs.Pieces.{Piece, packet_before, packets_of}
+use Rattle.lpt_stream.proofs.CutLemmas.{packets-next}
+use Rattle.lpt_skips.specs.declared.skips.Skips.{Skips}
+use Rattle.lpt_skips.specs.Tallies.{nothing_noted, skips_of}
 use Rattle.lpt_join.specs.Several.{reading_of}
 use Rattle.lpt_join.specs.declared.transaction.Transaction.{Transaction}
 use Rattle.lpt_each.specs.declared.helds.Helds.{Helds}

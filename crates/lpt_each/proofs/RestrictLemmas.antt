@@ -1,10 +1,10 @@
 -- What is told of all names, as far as it is told of one.
 use Rattle.std.proofs.Common.{◌≡◌, ◌∙◌, ap, sym, refl, ℕ, Bool, true, false, if◌then◌else◌, List, [], ◌∷◌, ◌++◌, Option, Some, None}
 use Rattle.std.proofs.lemmas.List.Concat.{flat_map-append}
-use Rattle.lpt_join.specs.LptPacket.Names.{Name, same_name}
-use Rattle.lpt_join.proofs.LptPacket.NameLemmas.{same_name-true, same_name-refl}
-use Rattle.lpt_join.specs.LptEvents.NamedParts.{NamedPart}
-use Rattle.lpt_join.specs.LptReception.Received.{Kept}
+use Rattle.lpt_packet.specs.Names.{Name, same_name}
+use Rattle.lpt_packet.proofs.NameLemmas.{same_name-true, same_name-refl}
+use Rattle.lpt_events.specs.NamedParts.{NamedPart}
+use Rattle.lpt_reception.specs.Received.{Kept}
 use Rattle.lpt_join.specs.declared.transaction.Transaction.{Transaction}
 use Rattle.lpt_join.specs.Offers.{offered, piece_in}
 use Rattle.lpt_join.specs.Several.{of_name}

@@ -2,9 +2,9 @@
 use Rattle.std.proofs.Common.{◌≡◌, ◌∙◌, ap, sym, subst, refl, inr, ℕ, ◌≤◌, Bool, true, false, if◌then◌else◌, List, [], ◌∷◌, ◌++◌, map, length, Option, Some, None, append-nil, append_assoc}
 use Rattle.std.specs.Option.{option_map}
 use Rattle.std.proofs.lemmas.Bool.{or_parts}
-use Rattle.lpt_join.specs.LptReception.LptPart.Splitting.{part_count}
-use Rattle.lpt_join.specs.LptReception.PartsOf.{kept_of}
-use Rattle.lpt_join.specs.LptReception.Received.{Kept, Parts, no_parts}
+use Rattle.lpt_part.specs.Splitting.{part_count}
+use Rattle.lpt_reception.specs.PartsOf.{kept_of}
+use Rattle.lpt_reception.specs.Received.{Kept, Parts, no_parts}
 use Rattle.lpt_join.specs.declared.transaction.Transaction.{Transaction}
 use Rattle.lpt_join.specs.Joins.{Joined, Missing, Complete, Broken, join_part, joined}
 use Rattle.lpt_join.specs.Laws.{AllBelong, AllCame, Belongs, came}

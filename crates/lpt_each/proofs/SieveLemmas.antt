@@ -3,10 +3,10 @@ use Rattle.std.proofs.Common.{◌≡◌, ◌∙◌, ap, sym, subst, refl, inl, i
 use Rattle.std.specs.Prelude.{is_some}
 use Rattle.std.specs.Option.{option_map}
 use Rattle.std.proofs.lemmas.Bool.{or_parts}
-use Rattle.lpt_join.proofs.LptPacket.Readings.{eq_true}
-use Rattle.lpt_join.specs.LptReception.LptPart.Splitting.{IsPartSize, part_count}
-use Rattle.lpt_join.specs.LptReception.PartsOf.{AllFit, IsMessage, IsSplit, kept_of}
-use Rattle.lpt_join.specs.LptReception.Received.{Kept, Parts, no_parts, is_overrun, is_whole, spelled}
+use Rattle.lpt_packet.proofs.Readings.{eq_true}
+use Rattle.lpt_part.specs.Splitting.{IsPartSize, part_count}
+use Rattle.lpt_reception.specs.PartsOf.{AllFit, IsMessage, IsSplit, kept_of}
+use Rattle.lpt_reception.specs.Received.{Kept, Parts, no_parts, is_overrun, is_whole, spelled}
 use Rattle.lpt_join.specs.declared.transaction.Transaction.{Transaction}
 use Rattle.lpt_join.specs.Joins.{Joined, Missing, Complete, Broken, joined}
 use Rattle.lpt_join.specs.Laws.{AllBelong, IsThere, came, is_part}

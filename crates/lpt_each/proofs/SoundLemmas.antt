@@ -1,11 +1,11 @@
 -- What is given out is a message each part of which stands among the packets.
 use Rattle.std.proofs.Common.{◌≡◌, subst, refl, ℕ, Bool, true, false, if◌then◌else◌, List, [], ◌∷◌, ◌++◌, length, Option, Some, None}
 use Rattle.std.specs.Option.{option_map}
-use Rattle.lpt_join.specs.LptReception.LptPart.PartRanges.{PartFits}
-use Rattle.lpt_join.specs.LptReception.LptPart.Splitting.{IsPartSize}
-use Rattle.lpt_join.specs.LptReception.PartsOf.{AllFit, IsMessage, IsSplit}
-use Rattle.lpt_join.specs.LptReception.Received.{Kept, Parts, no_parts, is_overrun, is_whole, spelled}
-use Rattle.lpt_join.proofs.LptReception.StartLemmas.{contradicts-none}
+use Rattle.lpt_part.specs.PartRanges.{PartFits}
+use Rattle.lpt_part.specs.Splitting.{IsPartSize}
+use Rattle.lpt_reception.specs.PartsOf.{AllFit, IsMessage, IsSplit}
+use Rattle.lpt_reception.specs.Received.{Kept, Parts, no_parts, is_overrun, is_whole, spelled}
+use Rattle.lpt_reception.proofs.StartLemmas.{contradicts-none}
 use Rattle.lpt_join.specs.declared.messages.Misfit.{Misfit}
 use Rattle.lpt_join.specs.declared.transaction.Transaction.{Transaction}
 use Rattle.lpt_join.specs.Joins.{Joined, Missing, Complete, Broken, added}

@@ -2,13 +2,13 @@
 use Rattle.std.proofs.Common.{◌≡◌, ◌∙◌, ap, sym, subst, refl, inl, inr, ℕ, ◌≤◌, Bool, false, ◌||◌, cond, List, [], ◌∷◌, ◌++◌, map, length, Option, Some, None, arith}
 use Rattle.std.specs.Prelude.{is_some}
 use Rattle.std.specs.List.{flat_map}
-use Rattle.lpt_join.proofs.LptPacket.Readings.{eq_false}
-use Rattle.lpt_join.specs.LptEvents.declared.config.Config.{Config}
-use Rattle.lpt_join.specs.LptEvents.MadePackets.{part_made, nth_part}
-use Rattle.lpt_join.specs.LptSplit.Splits.{AreNumbers, IsNumber, next_count, split_of}
-use Rattle.lpt_join.specs.LptReception.LptPart.Splitting.{part_count}
-use Rattle.lpt_join.specs.LptReception.PartsOf.{kept_of}
-use Rattle.lpt_join.specs.LptReception.Received.{Kept}
+use Rattle.lpt_packet.proofs.Readings.{eq_false}
+use Rattle.lpt_events.specs.declared.config.Config.{Config}
+use Rattle.lpt_events.specs.MadePackets.{part_made, nth_part}
+use Rattle.lpt_split.specs.Splits.{AreNumbers, IsNumber, next_count, split_of}
+use Rattle.lpt_part.specs.Splitting.{part_count}
+use Rattle.lpt_reception.specs.PartsOf.{kept_of}
+use Rattle.lpt_reception.specs.Received.{Kept}
 use Rattle.lpt_join.specs.declared.transaction.Transaction.{Transaction}
 use Rattle.lpt_join.specs.Laws.{HasNumber, IsSending, came, is_part}
 use Rattle.lpt_join.specs.Offers.{offered}

@@ -1,7 +1,7 @@
 -- What is kept and told, by what a part makes of the others.
 use Rattle.std.proofs.Common.{◌≡◌, ◌∙◌, ap, sym, ℕ, Bool, true, false, if◌then◌else◌, List, Option, Some, None}
 use Rattle.std.specs.Option.{option_map}
-use Rattle.lpt_join.specs.LptReception.Received.{Kept, Parts}
+use Rattle.lpt_reception.specs.Received.{Kept, Parts}
 use Rattle.lpt_join.specs.declared.joining.Joining.{Joining}
 use Rattle.lpt_join.specs.declared.transaction.Transaction.{Transaction}
 use Rattle.lpt_each.specs.Eaches.{Held, Turn, Waits, GivesUp, Gives, after, after_all, all_turn, begun, given, is_old, step, turn}

@@ -6,10 +6,10 @@ use Rattle.std.specs.BTreeMap.{BTreeMap, get, is_at, keys}
 use Rattle.std.specs.Map.{keys_of, lookup}
 use Rattle.std.specs.Ordering.{is_eq}
 use Rattle.std.proofs.lemmas.List.Concat.{flat_map-append}
-use Rattle.lpt_join.specs.LptPacket.Names.{Name, name_cmp, same_name}
-use Rattle.lpt_join.proofs.LptPacket.NameLemmas.{name_tied}
-use Rattle.lpt_join.specs.declared.came.Came.{Came}
-use Rattle.lpt_join.specs.CameInside.{has, is_ended}
+use Rattle.lpt_packet.specs.Names.{Name, name_cmp, same_name}
+use Rattle.lpt_packet.proofs.NameLemmas.{name_tied}
+use Rattle.lpt_join.specs.declared.part_numbers.PartNumbers.{PartNumbers}
+use Rattle.lpt_join.specs.PartNumbersInside.{has, is_ended}
 use Rattle.lpt_join.specs.declared.transaction.Transaction.{Transaction}
 use Rattle.lpt_join.specs.Several.{of_name}
 use Rattle.lpt_join.specs.Offers.{piece_in}
@@ -155,7 +155,7 @@ left-all t any bs g now heard hears each h none =
       among n some (Some k) is = key-there n g.kept.entries k is
 
 -- what is left of a name is told
-pub left-told : (n : Name) (c : Came) (h : Held)
+pub left-told : (n : Name) (c : PartNumbers) (h : Held)
     → AreCame c h.new
     → is_empty h.new ≡ false
     → ◌≡◌ {A = List Event} ((n, Dropped (has c) (is_ended c)) ∷ []) (of n (left h))

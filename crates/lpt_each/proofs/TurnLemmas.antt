@@ -3,8 +3,8 @@ use Rattle.std.proofs.Common.{◌≡◌, ◌≢◌, ◌∙◌, ap, sym, refl, �
 use Rattle.std.specs.Prelude.{is_some, ◌||◌}
 use Rattle.std.specs.FinMap as map
 use Rattle.std.specs.Ordering.{nat_cmp}
-use Rattle.lpt_join.proofs.LptPacket.Readings.{eq_true, true_eq}
-use Rattle.lpt_join.specs.LptReception.Received.{Kept, Parts, no_parts, with_part, contradicts, is_whole}
+use Rattle.lpt_packet.proofs.Readings.{eq_true, true_eq}
+use Rattle.lpt_reception.specs.Received.{Kept, Parts, no_parts, with_part, contradicts, is_whole}
 use Rattle.lpt_join.specs.declared.joining.Joining.{Joining}
 use Rattle.lpt_join.specs.declared.joining.Joining.TheVariants as joining
 use Rattle.lpt_join.specs.declared.messages.Misfit.{Misfit}

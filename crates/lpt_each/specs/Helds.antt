@@ -2,13 +2,13 @@
 use Rattle.std.specs.Prelude.{◌≡◌, ℕ, Bool, true, false, List, [], ◌∷◌, Option, Some, None, is_some}
 use Rattle.std.specs.BTreeMap.{get, IsOrdered}
 use Rattle.std.specs.FinMap as map
-use Rattle.lpt_join.specs.LptPacket.Names.{Name, name_cmp}
-use Rattle.lpt_join.specs.LptReception.Received.{Kept, Parts, no_parts, with_part}
-use Rattle.lpt_join.specs.declared.came.Came.{Came}
+use Rattle.lpt_packet.specs.Names.{Name, name_cmp}
+use Rattle.lpt_reception.specs.Received.{Kept, Parts, no_parts, with_part}
+use Rattle.lpt_join.specs.declared.part_numbers.PartNumbers.{PartNumbers}
 use Rattle.lpt_join.specs.declared.joining.Joining.{Joining}
 use Rattle.lpt_join.specs.declared.joining.Joining.TheVariants as joining
 use Rattle.lpt_join.specs.declared.transaction.Transaction.{Transaction}
-use Rattle.lpt_join.specs.CameInside.{has, is_ended}
+use Rattle.lpt_join.specs.PartNumbersInside.{has, is_ended}
 use Rattle.lpt_join.specs.Gatherings.{state, IsJoiningOf}
 use Rattle.lpt_join.specs.Joins.{Missing}
 use Rattle.lpt_join.specs.Several.{of_name}
@@ -50,7 +50,7 @@ pub record Keeps (t : Transaction) (j : Joining) (s : Parts) : Type 0 where
   pub none : has_nothing j ≡ is_empty s
 
 -- these came
-pub record AreCame (c : Came) (s : Parts) : Type 0 where
+pub record AreCame (c : PartNumbers) (s : Parts) : Type 0 where
   pub came : (n : ℕ) → has c n ≡ is_some (map.get s n)
   pub ended : is_ended c ≡ has_end s
 

@@ -1,11 +1,11 @@
 -- Packets of messages one behind the other, and what is given out of any.
 use Rattle.std.specs.Prelude.{◌≡◌, ℕ, ◌≤◌, Bool, false, if◌then◌else◌, List, [], ◌∷◌, ◌++◌, filter, length, None, is_some}
 use Rattle.std.specs.List.{flat_map}
-use Rattle.lpt_join.specs.LptPacket.Names.{Name, same_name}
-use Rattle.lpt_join.specs.LptEvents.declared.config.Config.{Config}
-use Rattle.lpt_join.specs.LptSplit.Splits.{AreNumbers, split_of}
-use Rattle.lpt_join.specs.LptReception.LptPart.Splitting.{part_count}
-use Rattle.lpt_join.specs.LptReception.PartsOf.{IsMessage, kept_of}
+use Rattle.lpt_packet.specs.Names.{Name, same_name}
+use Rattle.lpt_events.specs.declared.config.Config.{Config}
+use Rattle.lpt_split.specs.Splits.{AreNumbers, split_of}
+use Rattle.lpt_part.specs.Splitting.{part_count}
+use Rattle.lpt_reception.specs.PartsOf.{IsMessage, kept_of}
 use Rattle.lpt_join.specs.declared.transaction.Transaction.{Transaction}
 use Rattle.lpt_join.specs.Laws.{AllBelong, AllCame, Carries, HasNumber, IsSending, IsThere, came}
 use Rattle.lpt_join.specs.Offers.{offered}

@@ -2,8 +2,8 @@
 use Rattle.std.specs.Prelude.{◌≡◌, ℕ, Bool, List, ◌++◌, Option, Some, None, is_some, ⊤}
 use Rattle.std.specs.List.{list_any}
 use Rattle.std.specs.FinMap as map
-use Rattle.lpt_join.specs.LptPacket.Names.{Name}
-use Rattle.lpt_join.specs.LptReception.Received.{Parts, is_last}
+use Rattle.lpt_packet.specs.Names.{Name}
+use Rattle.lpt_reception.specs.Received.{Parts, is_last}
 use Rattle.lpt_join.specs.declared.messages.Misfit.{Misfit}
 
 -- A message became whole; parts were given up that weren't: which came, and whether a last part

@@ -2,8 +2,8 @@
 use Rattle.std.specs.Prelude.{◌≡◌, ◌≢◌, ℕ, Bool, true, List, [], ◌∷◌, ◌++◌, map, Option, Some, None}
 use Rattle.std.specs.List.{flat_map, list_any}
 use Rattle.std.specs.List.Sorted.{IsStrictlySortedBy}
-use Rattle.lpt_join.specs.LptPacket.Names.{Name, name_cmp, same_name}
-use Rattle.lpt_join.specs.LptEvents.NamedParts.{NamedPart}
+use Rattle.lpt_packet.specs.Names.{Name, name_cmp, same_name}
+use Rattle.lpt_events.specs.NamedParts.{NamedPart}
 use Rattle.lpt_join.specs.declared.transaction.Transaction.{Transaction}
 use Rattle.lpt_join.specs.Offers.{offered, piece_in}
 use Rattle.lpt_join.specs.Several.{of_name}

@@ -1,9 +1,9 @@
 //! The messages of a stream, each of every name, as its packets come.
 
 ghost use Rattle.std.specs.Prelude.{◌≡◌, ◌≢◌, ◌⊎◌, ◌∷◌, ◌++◌, ℕ, List, [], true, None, Err, IfErr, IfOk, IsErrOf, OnOk};
-ghost use Rattle.lpt_join.specs.LptStream.Pieces.{packet_before, packets_of};
-ghost use Rattle.lpt_join.specs.LptStream.Reads.{IsEndless};
-ghost use Rattle.lpt_join.specs.LptSkips.Tallies.{skips_of};
+ghost use Rattle.lpt_stream.specs.Pieces.{packet_before, packets_of};
+ghost use Rattle.lpt_stream.specs.Reads.{IsEndless};
+ghost use Rattle.lpt_skips.specs.Tallies.{skips_of};
 ghost use Rattle.lpt_join.specs.Reads.{ReadsPieces};
 ghost use Rattle.lpt_join.specs.Several.{reading_of};
 ghost use Rattle.lpt_join.specs.Offers.{piece_in};
@@ -15,7 +15,10 @@ ghost use Rattle.lpt_each.specs.Streams.{Leaves, Tells, events_from, told_by};
 use crate::Taker;
 use crate::helds::Helds;
 use crate::leaving::leave;
-use lpt_join::{PacketBuffer, PieceKind, Skips, Source, ToolFault, Transaction};
+use lpt_join::Transaction;
+use lpt_skips::Skips;
+use lpt_stream::{PacketBuffer, PieceKind};
+use lpt_text::{Source, ToolFault};
 use std::alloc::Global;
 
 /// Reads a stream of packets to its end, and tells the taker of each message of every name, of

@@ -2,17 +2,19 @@
 
 ghost use Rattle.std.specs.Prelude.{◌≡◌, ℕ, ◌==◌, Bool, ◌||◌, Option, IfOk};
 ghost use Rattle.std.specs.Option.{option_map};
-ghost use Rattle.lpt_join.specs.LptReception.LptPart.Parts.{piece};
-ghost use Rattle.lpt_join.specs.LptReception.Received.{Kept, Parts, is_last, no_parts, with_part};
+ghost use Rattle.lpt_part.specs.Parts.{piece};
+ghost use Rattle.lpt_reception.specs.Received.{Kept, Parts, is_last, no_parts, with_part};
 ghost use Rattle.lpt_join.specs.declared.transaction.Transaction.{Transaction};
-ghost use Rattle.lpt_join.specs.CameInside.{has, is_ended};
+ghost use Rattle.lpt_join.specs.PartNumbersInside.{has, is_ended};
 ghost use Rattle.lpt_join.specs.Offers.{part_of_piece};
 ghost use Rattle.lpt_each.specs.Eaches as each;
 ghost use Rattle.lpt_each.specs.Helds.{AreCame, Holds, IsTurnOfAll, Keeps, KeepsAll, has_nothing, news_of};
 
 use crate::News;
 use crate::turn::{Turn, alone, turn_with};
-use lpt_join::{Came, Joining, Octets, Part, Transaction, is_part_of};
+use lpt_join::{Joining, PartNumbers, Transaction, is_part_of};
+use lpt_packet::Octets;
+use lpt_part::Part;
 use std::alloc::{AllocError, Global};
 
 /// What is kept of one name. It takes no more memory than four of the longest messages.
@@ -25,7 +27,7 @@ pub(crate) struct Held {
     // Those of them that aren't parts of it.
     pub(crate) new: Joining,
     // Which these are.
-    pub(crate) came: Came,
+    pub(crate) came: PartNumbers,
 }
 
 impl Held {
@@ -41,7 +43,7 @@ impl Held {
             last,
             all,
             new: Joining::Nothing,
-            came: Came::new(alloc),
+            came: PartNumbers::new(alloc),
         }
     }
 
@@ -56,7 +58,7 @@ impl Held {
     }
 
     // Which parts are left.
-    pub(crate) fn into_came(self) -> Came
+    pub(crate) fn into_came(self) -> PartNumbers
         ensures { result ≡ self.came }
     {
         self.came
@@ -138,7 +140,7 @@ fn turn_of_all(
 }
 
 // The parts that came, with this one. The only error is out of memory.
-fn with(came: Came, part: &Part<'_>) -> Result<Came, AllocError>
+fn with(came: PartNumbers, part: &Part<'_>) -> Result<PartNumbers, AllocError>
     ensures came { IfOk result (λ c. (n : ℕ) → has c n ≡ ((part.now.number == n) || has came n)) }
     ensures ended { IfOk result (λ c. is_ended c
         ≡ (is_last (part_of_piece (piece part.now)).1 || is_ended came)) }
@@ -165,7 +167,7 @@ fn begin(
         Some(_) => Some(alone(alloc, transaction, part)?),
     };
     let new = alone(alloc, transaction, part)?;
-    let came = with(Came::new(alloc), part)?;
+    let came = with(PartNumbers::new(alloc), part)?;
     Ok(Held {
         last,
         all,
@@ -189,7 +191,7 @@ fn after_all(
     alloc: Global,
     last: Option<Octets>,
     new: Joining,
-    came: Came,
+    came: PartNumbers,
     all: Option<Turn>,
 ) -> Result<(Held, Option<News>), AllocError>
     ensures held { (t : Transaction) (any : Bool) (h : each.Held) (x : ℕ × Kept) (s : Parts)

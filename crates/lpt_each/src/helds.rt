@@ -2,7 +2,7 @@
 
 ghost use Rattle.std.specs.Prelude.{◌≡◌, ℕ, Bool, List, [], ◌∷◌, ◌++◌, false, Some, IfOk, OnOk};
 ghost use Rattle.std.specs.BTreeMap.{get, IsOrdered};
-ghost use Rattle.lpt_join.specs.LptPacket.Names.{Name, name_cmp, same_name};
+ghost use Rattle.lpt_packet.specs.Names.{Name, name_cmp, same_name};
 ghost use Rattle.lpt_join.specs.declared.transaction.Transaction.{Transaction};
 ghost use Rattle.lpt_join.specs.Offers.{piece_in};
 ghost use Rattle.lpt_join.specs.Several.{of_name};
@@ -12,7 +12,8 @@ ghost use Rattle.lpt_each.specs.Streams.{told_by};
 
 use crate::News;
 use crate::held::Held;
-use lpt_join::{Name, Transaction, name_in, part_in};
+use lpt_join::{Transaction, name_in, part_in};
+use lpt_packet::Name;
 use std::alloc::{AllocError, Global};
 use std::collections::BTreeMap;
 

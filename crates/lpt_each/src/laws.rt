@@ -3,8 +3,8 @@
 
 ghost use Rattle.std.specs.Prelude.{◌≡◌, ◌∷◌, ◌++◌, ℕ, Bool, List, map};
 ghost use Rattle.std.specs.List.{flat_map};
-ghost use Rattle.lpt_join.specs.LptEvents.declared.config.Config.{Config};
-ghost use Rattle.lpt_join.specs.LptPacket.Names.{Name};
+ghost use Rattle.lpt_events.specs.declared.config.Config.{Config};
+ghost use Rattle.lpt_packet.specs.Names.{Name};
 ghost use Rattle.lpt_join.specs.Several.{of_name};
 ghost use Rattle.lpt_join.specs.declared.transaction.Transaction.{Transaction};
 ghost use Rattle.lpt_each.specs.Eaches.{news, news_from, nothing};
@@ -12,7 +12,7 @@ ghost use Rattle.lpt_each.specs.Laws.{AllSplitWhole, IsGood, Sends, Split, carri
 ghost use Rattle.lpt_each.specs.News.{News, Given};
 ghost use Rattle.lpt_each.specs.Streams.{events};
 
-use lpt_join::whole_is_split;
+use lpt_reception::laws::whole_is_split;
 
 /// Each message that is given out is one each part of which stands among the packets, whatever
 /// these are, and a packet of its direction, where not any will do.

@@ -10,7 +10,8 @@ ghost use Rattle.lpt_each.specs.Streams.{Leaves, of};
 use crate::held::Held;
 use crate::helds::Helds;
 use crate::{News, Taker};
-use lpt_join::{Name, ToolFault};
+use lpt_packet::Name;
+use lpt_text::ToolFault;
 
 // Tells what is left of each name, in the order of names.
 pub(crate) fn leave<T: Taker>(helds: Helds, taker: &mut T) -> Result<(), ToolFault>

@@ -16,8 +16,8 @@ mod news;
 mod turn;
 
 pub use each::each_stream;
-pub use lpt_join::{
-    Came, Config, Direction, Misfit, Name, Octets, PacketFault, Skips, Source, Told, ToolFault,
-    Transaction,
-};
+pub use lpt_join::{Misfit, PartNumbers, Transaction};
+pub use lpt_packet::{Name, Octets};
+pub use lpt_skips::Skips;
+pub use lpt_text::{Source, ToolFault};
 pub use news::{News, Taker};

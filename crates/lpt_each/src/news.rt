@@ -1,6 +1,8 @@
 //! What is told of the parts of a name, and to whom.
 
-use lpt_join::{Came, Misfit, Name, Octets, ToolFault};
+use lpt_join::{Misfit, PartNumbers};
+use lpt_packet::{Name, Octets};
+use lpt_text::ToolFault;
 
 /// What became of the parts of a name.
 #[derive(Drop)]
@@ -8,7 +10,7 @@ pub enum News {
     /// A message is whole.
     Given(Octets),
     /// Parts were given up that weren't whole: these came.
-    Dropped(Came),
+    Dropped(PartNumbers),
     /// What parts were joined to is no packet of the direction.
     Unfit(Misfit),
 }

@@ -1,14 +1,17 @@
 //! What a further part makes of those that came before it.
 
 ghost use Rattle.std.specs.Prelude.{◌≡◌, ℕ, IfOk};
-ghost use Rattle.lpt_join.specs.LptReception.LptPart.Parts.{piece};
-ghost use Rattle.lpt_join.specs.LptReception.Received.{no_parts, with_part, Parts};
+ghost use Rattle.lpt_part.specs.Parts.{piece};
+ghost use Rattle.lpt_reception.specs.Received.{no_parts, with_part, Parts};
 ghost use Rattle.lpt_join.specs.Messages.{Finding};
 ghost use Rattle.lpt_join.specs.Offers.{part_of_piece};
 ghost use Rattle.lpt_each.specs.Eaches.{turn, unfit};
 ghost use Rattle.lpt_each.specs.Helds.{IsTurn, Keeps};
 
-use lpt_join::{Filling, Joining, Misfit, Octets, Part, Transaction, check_message};
+use lpt_join::{Joining, Misfit, Transaction, check_message};
+use lpt_packet::Octets;
+use lpt_part::Part;
+use lpt_reception::Filling;
 use std::alloc::{AllocError, Global};
 
 /// What a further part makes of those that came before it.

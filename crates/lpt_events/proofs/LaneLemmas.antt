@@ -1,7 +1,7 @@
 -- Directions and lanes that are the same are equal.
 use Rattle.std.proofs.Common.{◌≡◌, refl, Bool, true, false}
-use Rattle.lpt_pus.specs.LptPacket.declared.direction.Direction.{Direction}
-use Rattle.lpt_pus.specs.LptPacket.declared.direction.Direction.TheVariants.{Up, Down}
+use Rattle.lpt_packet.specs.declared.direction.Direction.{Direction}
+use Rattle.lpt_packet.specs.declared.direction.Direction.TheVariants.{Up, Down}
 use Rattle.lpt_events.specs.declared.lane.Lane.{Lane}
 use Rattle.lpt_events.specs.declared.lane.Lane.TheVariants.{S1, S2, G1, G2}
 use Rattle.lpt_events.specs.Lanes.{same_direction, same_lane}

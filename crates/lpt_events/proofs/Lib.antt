@@ -1,2 +1,2 @@
+pub mod ArrivalLemmas
 pub mod LaneLemmas
-pub use Rattle.lpt_pus.proofs.LptPacket as LptPacket

@@ -2,10 +2,10 @@
 use Rattle.std.specs.Prelude.{ℕ, ◌==◌, ◌&&◌, not, if◌then◌else◌, List, Option, Some, None}
 use Rattle.std.specs.Option.{option_map_or}
 use Rattle.std.specs.Result.{result_ok}
-use Rattle.lpt_pus.specs.LptPacket.declared.direction.Direction.{Direction}
-use Rattle.lpt_pus.specs.LptPacket.declared.direction.Direction.TheVariants.{Up, Down}
-use Rattle.lpt_pus.specs.LptPacket.Names.{Name, named_by}
-use Rattle.lpt_pus.specs.LptPacket.Packets.{Fields, Sight, IdlePacket, APacket, seen}
+use Rattle.lpt_packet.specs.declared.direction.Direction.{Direction}
+use Rattle.lpt_packet.specs.declared.direction.Direction.TheVariants.{Up, Down}
+use Rattle.lpt_packet.specs.Names.{Name, named_by}
+use Rattle.lpt_packet.specs.Packets.{Fields, Sight, IdlePacket, APacket, seen}
 use Rattle.lpt_pus.specs.Commands.{Command, tc_verdict}
 use Rattle.lpt_pus.specs.Telemetry.{Telemetry, tm_verdict}
 use Rattle.lpt_part.specs.declared.kind.Kind.{Kind}

@@ -1,6 +1,6 @@
 -- What the link's noise leaves of a packet, and why octets can't be that.
 use Rattle.std.specs.Prelude.{ℕ, nat_lt, Bool, if◌then◌else◌, List, length, Option, Some, None, is_some}
-use Rattle.lpt_pus.specs.LptPacket.Packets.{seen}
+use Rattle.lpt_packet.specs.Packets.{seen}
 use Rattle.lpt_events.specs.declared.config.Config.{Config}
 use Rattle.lpt_events.specs.LinkPackets.{longest_on_link}
 use Rattle.lpt_events.specs.declared.fault.StepFault.{StepFault}

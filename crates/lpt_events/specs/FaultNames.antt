@@ -1,4 +1,4 @@
--- The numbers and names of the faults of a world.
+-- The numbers, names and words of the faults of a world.
 use Rattle.std.specs.Prelude.{ℕ, List, codes}
 use Rattle.lpt_events.specs.declared.fault.StepFault.{StepFault}
 use Rattle.lpt_events.specs.declared.fault.StepFault.TheVariants.{InUse, Short, Long, TooMany, NotOpen, NoSuchPart, NotHeld, HandFull, HandEmpty, NothingDue, NoJob, NotReady, NotClear, LooksWhole, StillOpen, ClockEnd, NoSuchSeat, Memory, NotYours, PartRequest}
@@ -48,3 +48,26 @@ name_of NoSuchSeat = codes "NoSuchSeat"
 name_of Memory = codes "Memory"
 name_of NotYours = codes "NotYours"
 name_of PartRequest = codes "PartRequest"
+
+-- why the event is refused, in words
+abbrev pub text_of : StepFault → List ℕ
+text_of InUse = codes "the name isn't free: its message is open, or wasn't retired"
+text_of Short = codes "the message isn't longer than a part"
+text_of Long = codes "a message has 65,542 octets at most, and what is put whole 23 more than a part"
+text_of TooMany = codes "as many messages are open as the configuration allows"
+text_of NotOpen = codes "no such message is open"
+text_of NoSuchPart = codes "the message has no part of that number"
+text_of NotHeld = codes "the link holds no such packet in the lane's direction"
+text_of HandFull = codes "the lane has a packet in its hand, or the worker a job"
+text_of HandEmpty = codes "the lane has no packet in its hand, or the worker no job"
+text_of NothingDue = codes "no reception of the node has waited for the time-out"
+text_of NoJob = codes "no job waits"
+text_of NotReady = codes "the oldest job wasn't committed yet"
+text_of NotClear = codes "a part of the message is on the link or in a hand, or its receiver keeps one"
+text_of LooksWhole = codes "these octets are a packet, so noise can't have left them"
+text_of StillOpen = codes "the message's sender is open"
+text_of ClockEnd = codes "the clock is at its greatest value"
+text_of NoSuchSeat = codes "there is no such seat"
+text_of Memory = codes "out of memory"
+text_of NotYours = codes "what was read isn't what the lane or the worker has, or was read for another receiver"
+text_of PartRequest = codes "a telecommand of service 13, subtype 9, 10 or 11, carries a part"

@@ -1,7 +1,7 @@
 -- The lanes and their directions.
 use Rattle.std.specs.Prelude.{Bool, true, false, List, [], ◌∷◌}
-use Rattle.lpt_pus.specs.LptPacket.declared.direction.Direction.{Direction}
-use Rattle.lpt_pus.specs.LptPacket.declared.direction.Direction.TheVariants.{Up, Down}
+use Rattle.lpt_packet.specs.declared.direction.Direction.{Direction}
+use Rattle.lpt_packet.specs.declared.direction.Direction.TheVariants.{Up, Down}
 use Rattle.lpt_events.specs.declared.lane.Lane.{Lane}
 use Rattle.lpt_events.specs.declared.lane.Lane.TheVariants.{S1, S2, G1, G2}
 

@@ -1,15 +1,15 @@
 -- The packets that a node makes.
-use Rattle.std.specs.Prelude.{ℕ, List, length}
-use Rattle.lpt_pus.specs.LptPacket.declared.direction.Direction.{Direction}
-use Rattle.lpt_pus.specs.LptPacket.declared.direction.Direction.TheVariants.{Up, Down}
-use Rattle.lpt_pus.specs.LptPacket.Names.{Name}
-use Rattle.lpt_pus.specs.LptPacket.Packets.{spelling}
+use Rattle.std.specs.Prelude.{ℕ, List}
+use Rattle.lpt_packet.specs.declared.direction.Direction.{Direction}
+use Rattle.lpt_packet.specs.declared.direction.Direction.TheVariants.{Up, Down}
+use Rattle.lpt_packet.specs.Names.{Name}
+use Rattle.lpt_packet.specs.Packets.{spelling}
 use Rattle.lpt_pus.specs.Commands.{Command, packet_of}
 use Rattle.lpt_pus.specs.Telemetry.{Telemetry, tm_packet_of}
 use Rattle.lpt_part.specs.declared.reason.Reason.{Reason}
 use Rattle.lpt_part.specs.Aborts.{abort_body}
 use Rattle.lpt_part.specs.Parts.{Piece, body_of}
-use Rattle.lpt_part.specs.Splitting.{part_count, part_of, kind_at}
+pub use Rattle.lpt_part.specs.Parts.{nth_part}
 use Rattle.lpt_events.specs.declared.config.Config.{Config}
 use Rattle.lpt_events.specs.Arrivals.{part_subtype}
 use Rattle.lpt_events.specs.NamedParts.{NamedPart, named}
@@ -52,16 +52,6 @@ tc_made c peer count flags service subtype body =
 abbrev pub tm_made : Config → (peer count counter time service subtype : ℕ) → List ℕ → List ℕ
 tm_made c peer count counter time service subtype body =
     spelling (tm_packet_of (telemetry_made c peer count counter time service subtype body))
-
--- part k of a message, under its identifier
-abbrev pub nth_part : (p id : ℕ) → List ℕ → ℕ → Piece
-nth_part p id m k =
-    record {
-      id = id;
-      number = k;
-      kind = kind_at k (part_count (length m) p);
-      octets = part_of m p k;
-    }
 
 -- part k of a message, under its name
 abbrev pub nth_named : (p : ℕ) → Name → List ℕ → ℕ → NamedPart

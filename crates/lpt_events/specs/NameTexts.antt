@@ -1,6 +1,6 @@
 -- How the name of a transaction is written.
 use Rattle.std.specs.Prelude.{ℕ, ◌==◌, if◌then◌else◌, List, ◌∷◌, ◌++◌, decimal}
-use Rattle.lpt_pus.specs.LptPacket.Names.{Name}
+use Rattle.lpt_packet.specs.Names.{Name}
 
 -- a name: its identifier alone where it is of the configured source, which is the first argument
 abbrev pub name_text : (source : ℕ) → Name → List ℕ

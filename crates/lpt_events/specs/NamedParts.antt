@@ -1,6 +1,6 @@
 -- A part with the name of its transaction: a body has an identifier alone.
 use Rattle.std.specs.Prelude.{ℕ, List}
-use Rattle.lpt_pus.specs.LptPacket.Names.{Name, named_by}
+use Rattle.lpt_packet.specs.Names.{Name, named_by}
 use Rattle.lpt_part.specs.declared.kind.Kind.{Kind}
 use Rattle.lpt_part.specs.Parts.{Piece}
 

@@ -1,6 +1,6 @@
 -- Plain requests: the telecommands that ground makes besides the parts of messages.
 use Rattle.std.specs.Prelude.{ℕ, ◌+◌, nat_lt, Bool, is_some}
-use Rattle.lpt_pus.specs.LptPacket.declared.direction.Direction.TheVariants.{Up}
+use Rattle.lpt_packet.specs.declared.direction.Direction.TheVariants.{Up}
 use Rattle.lpt_events.specs.declared.config.Config.{Config}
 use Rattle.lpt_events.specs.Arrivals.{carried_kind}
 use Rattle.lpt_events.specs.LinkPackets.{longest_on_link}

@@ -1,7 +1,7 @@
 -- The two ends of the link, and which of them sends and receives in a direction.
-use Rattle.std.specs.Prelude.{Bool, true, false}
-use Rattle.lpt_pus.specs.LptPacket.declared.direction.Direction.{Direction}
-use Rattle.lpt_pus.specs.LptPacket.declared.direction.Direction.TheVariants.{Up, Down}
+use Rattle.std.specs.Prelude.{ℕ, Bool, true, false, List, codes}
+use Rattle.lpt_packet.specs.declared.direction.Direction.{Direction}
+use Rattle.lpt_packet.specs.declared.direction.Direction.TheVariants.{Up, Down}
 use Rattle.lpt_events.specs.declared.side.Side.{Side}
 use Rattle.lpt_events.specs.declared.side.Side.TheVariants.{Ground, Craft}
 
@@ -26,3 +26,8 @@ receiver_side Down = Ground
 abbrev pub direction_to : Side → Direction
 direction_to Ground = Down
 direction_to Craft = Up
+
+-- the word of a side
+abbrev pub side_word : Side → List ℕ
+side_word Ground = codes "ground"
+side_word Craft = codes "craft"

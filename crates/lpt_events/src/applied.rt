@@ -1,6 +1,7 @@
 //! What the execution of a request answers.
 
-use lpt_pus::{FailureCode, Name};
+use lpt_packet::Name;
+use lpt_pus::FailureCode;
 
 /// What became of the request that was executed.
 #[derive(Clone, Copy, Debug, PartialEq, Eq)]

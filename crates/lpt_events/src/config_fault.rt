@@ -24,7 +24,7 @@ pub enum ConfigFault {
     #[error("the limit of outgoing transactions isn't 1 to 64")]
     Outgoing,
     /// Out of memory.
-    #[error("want of memory")]
+    #[error("out of memory")]
     Memory,
 }
 

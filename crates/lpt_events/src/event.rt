@@ -1,11 +1,10 @@
 //! What can be asked of a world.
 
 ghost use Rattle.std.specs.Prelude.{◌≡◌, IfOk};
-ghost use Rattle.lpt_pus.specs.LptPacket.Names.{IsName};
-ghost use Rattle.lpt_events.specs.Events.{IsEvent};
 
 use crate::{Lane, Side, Worker};
-use lpt_pus::{AckFlags, Direction, Name, Octets};
+use lpt_packet::{Direction, Name, Octets};
+use lpt_pus::AckFlags;
 use std::alloc::AllocError;
 
 /// One event: what a call asks of the world. It is done whole, or refused.
@@ -60,12 +59,16 @@ impl Event {
         ensures { IfOk result (λ e. e ≡ self.now) }
     {
         Ok(match self {
-            Event::Open(direction, id, message) => Event::Open(*direction, *id, message.copy()?),
-            Event::Send(direction, id, part) => Event::Send(*direction, *id, *part),
+            Event::Open(direction, name, message) => Event::Open(
+                *direction,
+                *name,
+                message.copy()?,
+            ),
+            Event::Send(direction, name, part) => Event::Send(*direction, *name, *part),
             Event::Plain(source, flags, service, subtype, body) => {
                 Event::Plain(*source, *flags, *service, *subtype, body.copy()?)
             }
-            Event::Finish(direction, id) => Event::Finish(*direction, *id),
+            Event::Finish(direction, name) => Event::Finish(*direction, *name),
             Event::Lose(number) => Event::Lose(*number),
             Event::Damage(direction, octets) => Event::Damage(*direction, octets.copy()?),
             Event::Take(lane, number) => Event::Take(*lane, *number),
@@ -75,57 +78,8 @@ impl Event {
             Event::Claim(worker) => Event::Claim(*worker),
             Event::Commit(worker) => Event::Commit(*worker),
             Event::Apply => Event::Apply,
-            Event::Retire(direction, id) => Event::Retire(*direction, *id),
+            Event::Retire(direction, name) => Event::Retire(*direction, *name),
             Event::Restart(side) => Event::Restart(*side),
         })
     }
-
-    /// Says that the event's numbers and octets are in the ranges of their types. It does nothing.
-    pub fn in_range(&self)
-        ensures { IsEvent self.now }
-    {
-        match self {
-            Event::Open(_, id, message) => {
-                named(*id);
-                let _octets = message.as_slice();
-            }
-            Event::Send(_, id, k) => {
-                named(*id);
-                let _k = *k;
-            }
-            Event::Plain(source, flags, service, subtype, body) => {
-                let _source = *source;
-                let _flags = flags.bits();
-                let _service = *service;
-                let _subtype = *subtype;
-                let _octets = body.as_slice();
-            }
-            Event::Finish(_, id) => {
-                named(*id);
-            }
-            Event::Lose(_) => {}
-            Event::Damage(_, octets) => {
-                let _octets = octets.as_slice();
-            }
-            Event::Take(_, _) => {}
-            Event::Deliver(_) => {}
-            Event::Tick(_) => {}
-            Event::Expire(_) => {}
-            Event::Claim(_) => {}
-            Event::Commit(_) => {}
-            Event::Apply => {}
-            Event::Retire(_, id) => {
-                named(*id);
-            }
-            Event::Restart(_) => {}
-        }
-    }
-}
-
-// Says that a name's numbers are of their types. It does nothing.
-fn named(name: Name)
-    ensures { IsName name }
-{
-    let _source = name.source;
-    let _id = name.id;
 }

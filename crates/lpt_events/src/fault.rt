@@ -1,74 +1,55 @@
 //! Why a world refuses an event.
 
-ghost use Rattle.std.specs.Prelude.{◌≡◌};
-ghost use Rattle.lpt_events.specs.FaultNames.{code_of, name_of};
+ghost use Rattle.std.specs.Prelude.{◌≡◌, Some};
+ghost use Rattle.lpt_events.specs.FaultNames.{code_of, name_of, text_of};
 
-use thiserror::Error;
+use std::error::Error;
+use std::fmt;
 
 /// The first reason, in the order in which the event's reasons are tested.
-#[derive(Clone, Copy, Debug, PartialEq, Eq, Error)]
+#[derive(Clone, Copy, Debug, PartialEq, Eq)]
 pub enum StepFault {
-    /// The identifier is in use.
-    #[error("the identifier is in use")]
+    /// The name isn't free.
     InUse,
     /// The message isn't longer than a part.
-    #[error("the message isn't longer than a part")]
     Short,
     /// The message is longer than the longest packet, or a plain request's packet or what the link's
     /// noise left has more octets than the part size and 23.
-    #[error("too long")]
     Long,
     /// As many outgoing transactions of the node are open as the limit.
-    #[error("as many outgoing transactions are open as the limit")]
     TooMany,
     /// No such outgoing transaction is open.
-    #[error("no such outgoing transaction is open")]
     NotOpen,
     /// The message has no part of that number.
-    #[error("the message has no part of that number")]
     NoSuchPart,
     /// The link holds no such packet in the lane's direction.
-    #[error("the link holds no such packet in the lane's direction")]
     NotHeld,
     /// The lane has a packet in its hand already, or the worker a request.
-    #[error("the lane has a packet in its hand already, or the worker a request")]
     HandFull,
     /// The lane has no packet in its hand, or the worker no request.
-    #[error("the lane has no packet in its hand, or the worker no request")]
     HandEmpty,
     /// No reception is overdue.
-    #[error("no reception is overdue")]
     NothingDue,
     /// There is no request to claim, or none to execute.
-    #[error("there is no request to claim, or none to execute")]
     NoJob,
     /// No reading of the oldest request was handed in.
-    #[error("no reading of the oldest request was handed in")]
     NotReady,
     /// A part of the transaction is held or in a hand, or a reception of it is open.
-    #[error("a part of the transaction is on its way, or a reception of it is open")]
     NotClear,
     /// What the link's noise should leave is read as a packet.
-    #[error("the octets look like a whole packet")]
     LooksWhole,
     /// The transaction's sender is still open.
-    #[error("the transaction's sender is still open")]
     StillOpen,
     /// The clock is at its greatest value.
-    #[error("the clock is at its greatest value")]
     ClockEnd,
     /// There is no such seat.
-    #[error("there is no such seat")]
     NoSuchSeat,
     /// Out of memory.
-    #[error("want of memory")]
     Memory,
     /// What was read isn't what the lane has in its hand, or of the request that the worker has; or
     /// it was read for another receiver, APID, part size or shape of memories.
-    #[error("what was read isn't what the lane or the worker has")]
     NotYours,
     /// The service type and the message subtype are those of a part.
-    #[error("the service type and the message subtype are those of a part")]
     PartRequest,
 }
 
@@ -127,5 +108,51 @@ impl StepFault {
             StepFault::NotYours => "NotYours",
             StepFault::PartRequest => "PartRequest",
         }
+    }
+
+    /// Why the event is refused, in words.
+    pub fn text(self) -> &'static str
+        ensures { result.now ≡ text_of self }
+    {
+        match self {
+            StepFault::InUse => "the name isn't free: its message is open, or wasn't retired",
+            StepFault::Short => "the message isn't longer than a part",
+            StepFault::Long => {
+                "a message has 65,542 octets at most, and what is put whole 23 more than a part"
+            }
+            StepFault::TooMany => "as many messages are open as the configuration allows",
+            StepFault::NotOpen => "no such message is open",
+            StepFault::NoSuchPart => "the message has no part of that number",
+            StepFault::NotHeld => "the link holds no such packet in the lane's direction",
+            StepFault::HandFull => "the lane has a packet in its hand, or the worker a job",
+            StepFault::HandEmpty => "the lane has no packet in its hand, or the worker no job",
+            StepFault::NothingDue => "no reception of the node has waited for the time-out",
+            StepFault::NoJob => "no job waits",
+            StepFault::NotReady => "the oldest job wasn't committed yet",
+            StepFault::NotClear => {
+                "a part of the message is on the link or in a hand, or its receiver keeps one"
+            }
+            StepFault::LooksWhole => "these octets are a packet, so noise can't have left them",
+            StepFault::StillOpen => "the message's sender is open",
+            StepFault::ClockEnd => "the clock is at its greatest value",
+            StepFault::NoSuchSeat => "there is no such seat",
+            StepFault::Memory => "out of memory",
+            StepFault::NotYours => {
+                "what was read isn't what the lane or the worker has, or was read for another receiver"
+            }
+            StepFault::PartRequest => {
+                "a telecommand of service 13, subtype 9, 10 or 11, carries a part"
+            }
+        }
+    }
+}
+
+impl Error for StepFault {}
+
+impl fmt::Display for StepFault {
+    ghost output = { λ fault. Some (text_of fault) };
+
+    fn fmt<W: fmt::Write>(&self, f: &mut fmt::Formatter<W>) -> fmt::Result {
+        f.write_str(self.text())
     }
 }

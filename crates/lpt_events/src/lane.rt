@@ -5,7 +5,7 @@ ghost use Rattle.lpt_events.specs.Lanes.{lane_direction};
 ghost use Rattle.lpt_events.specs.Sides.{receiver_side};
 
 use crate::Side;
-use lpt_pus::Direction;
+use lpt_packet::Direction;
 
 /// A lane. Each direction has two, so that one can deliver while another holds a packet back.
 #[derive(Clone, Copy, Debug, PartialEq, Eq)]

@@ -14,6 +14,7 @@ mod entry;
 mod event;
 mod fault;
 mod lane;
+mod laws;
 mod link_packets;
 mod log;
 mod message_types;
@@ -29,20 +30,15 @@ mod worker;
 pub use applied::Applied;
 pub use config::Config;
 pub use config_fault::ConfigFault;
-pub use entry::{Entry, Opening, Release};
+pub use entry::{Entry, Opening, Release, is_opened};
 pub use event::Event;
 pub use fault::StepFault;
 pub use lane::Lane;
 pub use link_packets::longest_on_link;
 pub use log::{Call, SeatLog};
-pub use lpt_part::laws::parts_fit;
-pub use lpt_part::{
-    ABORT, Kind, Mode, Part, Reason, TRANSFER, abort_octets, count, read_abort, read_part, slice,
-};
-pub use lpt_pus::{
-    AckFlags, Direction, Name, Octets, Packet, PacketKind, Seen, TcHead, TmHead, read_packet,
-    read_tc, read_tm,
-};
+pub use lpt_packet::{Direction, Name, Octets};
+pub use lpt_part::{Kind, Mode, Reason, count};
+pub use lpt_pus::AckFlags;
 pub use message_types::part_kind;
 pub use naming::{NameWord, name_word};
 pub use outcome::{Outcome, Why};

@@ -3,8 +3,8 @@
 ghost use Rattle.std.specs.Prelude.{◌≡◌};
 ghost use Rattle.lpt_events.specs.Arrivals.{carried_kind};
 
+use lpt_packet::Direction;
 use lpt_part::{Kind, TRANSFER};
-use lpt_pus::Direction;
 
 /// The kind of part that a packet of this message type carries in this direction; none for other
 /// types (ECSS-E-ST-70-41C: service 13, subtypes 9 to 11 of requests and 1 to 3 of reports).

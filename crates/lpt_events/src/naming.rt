@@ -2,7 +2,7 @@
 
 ghost use Rattle.std.specs.Prelude.{◌≡◌};
 
-use lpt_pus::Name;
+use lpt_packet::Name;
 use std::fmt::{self, Display};
 
 /// The word of a name where this source is configured.

@@ -1,7 +1,10 @@
 //! What became of a delivered packet.
 
+ghost use Rattle.std.specs.Prelude.{◌≡◌};
+ghost use Rattle.lpt_events.specs.Whys.{why_name};
+
+use lpt_packet::Name;
 use lpt_part::Reason;
-use lpt_pus::Name;
 
 /// What a node made of a packet that was delivered to it.
 #[derive(Clone, Copy, Debug, PartialEq, Eq)]
@@ -39,4 +42,20 @@ pub enum Why {
     Closed,
     /// As many receptions are open as the limit, and none of this transaction.
     NoRoom,
+}
+
+impl Why {
+    /// The reason's name.
+    pub fn name(self) -> &'static str
+        ensures { result.now ≡ why_name self }
+    {
+        match self {
+            Why::Unreadable => "Unreadable",
+            Why::Idle => "Idle",
+            Why::ForeignApid => "ForeignApid",
+            Why::BadPart => "BadPart",
+            Why::Closed => "Closed",
+            Why::NoRoom => "NoRoom",
+        }
+    }
 }

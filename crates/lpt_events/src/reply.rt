@@ -1,7 +1,7 @@
 //! What an accepted event answers.
 
 use crate::{Applied, Outcome};
-use lpt_pus::{Direction, Name};
+use lpt_packet::{Direction, Name};
 
 /// What an event that was accepted gave.
 #[derive(Clone, Copy, Debug, PartialEq, Eq)]

@@ -1,9 +1,9 @@
 //! The two ends of the link, and which of them sends and receives in a direction.
 
 ghost use Rattle.std.specs.Prelude.{◌≡◌};
-ghost use Rattle.lpt_events.specs.Sides.{sender_side, receiver_side, direction_to};
+ghost use Rattle.lpt_events.specs.Sides.{sender_side, receiver_side, direction_to, side_word};
 
-use lpt_pus::Direction;
+use lpt_packet::Direction;
 
 /// Which end of the link a node is.
 #[derive(Clone, Copy, Debug, PartialEq, Eq)]
@@ -42,6 +42,16 @@ impl Side {
         match self {
             Side::Ground => Direction::Down,
             Side::Craft => Direction::Up,
+        }
+    }
+
+    /// The side's word.
+    pub fn word(self) -> &'static str
+        ensures { result.now ≡ side_word self }
+    {
+        match self {
+            Side::Ground => "ground",
+            Side::Craft => "craft",
         }
     }
 }

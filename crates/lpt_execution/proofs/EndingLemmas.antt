@@ -1,14 +1,14 @@
 -- How a request ends, by whether its reply is sent.
 use Rattle.std.proofs.Common.{◌≡◌, ◌≢◌, ◌∙◌, ap, sym, refl, ℕ, Bool, true, List, [], ◌∷◌, ◌++◌, length, map, Option, Some, None}
 use Rattle.std.specs.Option.{option_map_or}
-use Rattle.lpt_memory.specs.LptPus.declared.failure_code.FailureCode.{FailureCode}
+use Rattle.lpt_pus.specs.declared.failure_code.FailureCode.{FailureCode}
 use Rattle.lpt_memory.specs.declared.reply_kind.ReplyKind.{ReplyKind}
 use Rattle.lpt_memory.specs.declared.reply_kind.ReplyKind.TheVariants as kinds
 use Rattle.lpt_memory.specs.declared.effect.Effect.{Effect}
 use Rattle.lpt_memory.specs.declared.effect.Effect.TheVariants as effect
 use Rattle.lpt_memory.specs.Effects.{answer, dump_body, check_body, HasNoReply, length_replied}
-use Rattle.lpt_memory.specs.LptPus.Commands.{Command, command_in}
-use Rattle.lpt_memory.specs.LptPus.Numbers.{long_at}
+use Rattle.lpt_pus.specs.Commands.{Command, command_in}
+use Rattle.lpt_pus.specs.Numbers.{long_at}
 use Rattle.lpt_memory.specs.Meanings.{Meaning, Silent, Fault, Load, Dump, Check, command_meaning, meaning}
 use Rattle.lpt_memory.specs.Memories.{Contents}
 use Rattle.lpt_memory.specs.Readings.{Source, meant}

@@ -1,18 +1,18 @@
 -- The number of a request is that of the first four octets of its message.
-use Rattle.std.proofs.Common.{◌≡◌, ◌∙◌, true, ap, sym, refl, ℕ, ◌<◌, ◌^◌, List, [], ◌++◌, take, map, arith, Option, Some, None}
+use Rattle.std.proofs.Common.{◌≡◌, ◌∙◌, ap, sym, refl, ℕ, ◌<◌, ◌^◌, List, [], ◌++◌, take, map, arith, Option, Some, None}
 use Rattle.std.proofs.lemmas.List.{append-nil}
 use Rattle.std.specs.Option.{option_map_or}
-use Rattle.lpt_memory.specs.LptPacket.Numbers.{be}
-use Rattle.lpt_memory.specs.LptPacket.declared.packet.PacketKind.{PacketKind}
-use Rattle.lpt_memory.specs.LptPacket.declared.packet.PacketKind.TheVariants.{Tm, Tc}
-use Rattle.lpt_memory.specs.LptPacket.Packets.{Fields, fields_of, spelling, APacket}
-use Rattle.lpt_memory.proofs.LptPacket.SightLemmas.{seen_sight}
-use Rattle.lpt_memory.specs.LptPus.declared.failure_code.FailureCode.{FailureCode}
-use Rattle.lpt_memory.specs.LptPus.declared.tc_head.TcHead.{TcHead}
-use Rattle.lpt_memory.specs.LptPus.Codes.{number_of}
-use Rattle.lpt_memory.specs.LptPus.Commands.{Command, command, command_in, is_tc, packet_of}
-use Rattle.lpt_memory.specs.LptPus.Numbers.{long_at}
-use Rattle.lpt_memory.proofs.LptPus.CommandLemmas.{command_in-found, tc_verdict-ok}
+use Rattle.lpt_packet.specs.Numbers.{be}
+use Rattle.lpt_packet.specs.declared.packet.PacketKind.{PacketKind}
+use Rattle.lpt_packet.specs.declared.packet.PacketKind.TheVariants.{Tc}
+use Rattle.lpt_packet.specs.Packets.{Fields, fields_of, spelling, APacket}
+use Rattle.lpt_packet.proofs.SightLemmas.{seen_sight}
+use Rattle.lpt_pus.specs.declared.failure_code.FailureCode.{FailureCode}
+use Rattle.lpt_pus.specs.declared.tc_head.TcHead.{TcHead}
+use Rattle.lpt_pus.specs.Codes.{number_of}
+use Rattle.lpt_pus.specs.Commands.{Command, command, command_in, packet_of}
+use Rattle.lpt_pus.specs.Numbers.{long_at}
+use Rattle.lpt_pus.proofs.CommandLemmas.{command_in-found, tc_verdict-ok, is_tc-true}
 use Rattle.lpt_memory.specs.Readings.{IsHeadIn}
 use Rattle.lpt_verify.specs.Reports.{reports_before, reports_after}
 use Rattle.lpt_execution.specs.declared.ending.Ending.{Ending}
@@ -36,11 +36,6 @@ long_at-spelling f = refl
 long_at-be : (n : ℕ) → n < 2 ^ 32 → long_at (be n 4) 0 ≡ n
 long_at-be n fits = omega arith
 
--- only the type of a telecommand is one
-is_tc-Tc : (kind : PacketKind) → is_tc kind ≡ true → kind ≡ Tc
-is_tc-Tc Tc e = refl
-is_tc-Tc Tm e = absurd cc
-
 -- what the clause of a request's number says
 abbrev pub Numbers : TcHead → ℕ → Type 0
 Numbers h n = (body : List ℕ) → be n 4 ≡ take 4 (spelling (packet_of (command h body)))
@@ -54,7 +49,7 @@ take-read apid m h body read =
     let inside = command_in-found apid m (command h body) read in
     let f : Fields = inside.packet in
     let passed = tc_verdict-ok f (command h body) inside.is_command in
-    let kind : f.kind ≡ Tc = is_tc-Tc f.kind passed.0 in
+    let kind : f.kind ≡ Tc = is_tc-true f.kind passed.0 in
     let count : f.count ≡ h.count = ap (λ (c : Command). c.count) passed.3 in
     let at : f.apid ≡ h.apid = ap (λ (c : Command). c.apid) passed.3 in
     let same : f ≡ fields_of Tc h.apid h.count f.octets =

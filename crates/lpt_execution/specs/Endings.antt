@@ -1,7 +1,7 @@
 -- How the execution of a request ends.
 use Rattle.std.specs.Prelude.{ℕ, ◌+◌, nat_le, Bool, false, not, if◌then◌else◌, List, length, Option, Some, None, is_some}
-use Rattle.lpt_memory.specs.LptPus.declared.failure_code.FailureCode.{FailureCode}
-use Rattle.lpt_memory.specs.LptPus.declared.failure_code.FailureCode.TheVariants.{NoFreeIdentifier, TooManyOpen}
+use Rattle.lpt_pus.specs.declared.failure_code.FailureCode.{FailureCode}
+use Rattle.lpt_pus.specs.declared.failure_code.FailureCode.TheVariants.{NoFreeIdentifier, TooManyOpen}
 use Rattle.lpt_memory.specs.declared.reply_kind.ReplyKind.{ReplyKind}
 use Rattle.lpt_memory.specs.declared.reply_kind.ReplyKind.TheVariants as reply
 use Rattle.lpt_memory.specs.declared.effect.Effect.{Effect}

@@ -2,10 +2,10 @@
 use Rattle.std.specs.Prelude.{ℕ, ◌==◌, not, if◌then◌else◌, List, [], ◌∷◌, ◌++◌, length, map, Option, Some, None}
 use Rattle.std.specs.List.{filter}
 use Rattle.std.specs.Option.{option_map, option_map_or}
-use Rattle.lpt_memory.specs.LptPacket.Names.{Name}
-use Rattle.lpt_memory.specs.LptPus.Numbers.{long_at}
-use Rattle.lpt_memory.specs.LptPus.Codes.{number_of}
-use Rattle.lpt_memory.specs.LptPus.Commands.{command_in}
+use Rattle.lpt_packet.specs.Names.{Name}
+use Rattle.lpt_pus.specs.Numbers.{long_at}
+use Rattle.lpt_pus.specs.Codes.{number_of}
+use Rattle.lpt_pus.specs.Commands.{command_in}
 use Rattle.lpt_verify.specs.declared.report.EncodedReport.{EncodedReport}
 use Rattle.lpt_verify.specs.Reports.{reports_before, reports_after}
 use Rattle.lpt_events.specs.declared.applied.Applied.{Applied}
@@ -70,7 +70,7 @@ large_packets p made = map (λ x. x.1) (filter (λ x. not (is_small p (length x.
 -- what is opened under the least free name: of packets that are too long the first; there is one at
 -- most
 abbrev pub opened_of : Option Name → List (List ℕ) → Option (Name × List ℕ)
-opened_of (Some id) (b ∷ bs) = Some (id, b)
+opened_of (Some name) (b ∷ bs) = Some (name, b)
 opened_of _ _ = None
 
 -- what an execution answers that ended so, and opened this, or nothing

@@ -6,7 +6,7 @@ ghost use Rattle.lpt_execution.specs.Reporting.{applied_of, with_name};
 
 use crate::Ending;
 use lpt_events::Applied;
-use lpt_memory::{Name, Octets};
+use lpt_packet::{Name, Octets};
 
 impl Ending {
     /// What an execution answers that ended so and opened no message.
@@ -34,6 +34,6 @@ pub fn applied_with(applied: Applied, opened: &Option<(Name, Octets)>) -> Applie
         (Applied::Silent, _) => Applied::Silent,
         (Applied::Code(code), _) => Applied::Code(code),
         (Applied::Done(_), None) => Applied::Done(None),
-        (Applied::Done(_), Some((id, _))) => Applied::Done(Some(*id)),
+        (Applied::Done(_), Some((name, _))) => Applied::Done(Some(*name)),
     }
 }

@@ -1,7 +1,8 @@
 //! How an execution ends.
 
 use lpt_events::TelemetryKind;
-use lpt_memory::{FailureCode, Octets};
+use lpt_packet::Octets;
+use lpt_pus::FailureCode;
 
 /// A report to be sent: the kind of telemetry, and its body.
 #[derive(Drop, PartialEq, Eq)]

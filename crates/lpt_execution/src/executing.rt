@@ -9,9 +9,9 @@ ghost use Rattle.lpt_execution.specs.Ranges.{EndingFits};
 
 use crate::{Ending, Report};
 use lpt_events::{TelemetryKind, longest_on_link};
-use lpt_memory::{
-    ERROR_CONTROL, Effect, FailureCode, Memories, PRIMARY_HEADER, Reading, ReplyKind, TM_HEADER,
-};
+use lpt_memory::{Effect, Memories, Reading, ReplyKind};
+use lpt_packet::{ERROR_CONTROL, PRIMARY_HEADER};
+use lpt_pus::{FailureCode, TM_HEADER};
 use std::alloc::AllocError;
 
 // The octets that stand around the body of telemetry.

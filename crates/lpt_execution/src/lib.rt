@@ -16,16 +16,8 @@ mod reporting;
 pub use applied::applied_with;
 pub use ending::{Ending, Report};
 pub use executing::{ending_of, is_small, reply_fault};
-pub use lpt_events::{
-    ABORT, Answer, Applied, Call, Config, ConfigFault, Entry, Event, Kind, Lane, Mode, Opening,
-    Outcome, Part, Puts, Reason, Refused, Release, Reply, RunEnd, SeatLog, Side, StepFault,
-    TRANSFER, TelemetryKind, Turns, Why, Worker, abort_octets, count, longest_on_link, part_kind,
-    parts_fit, read_abort, read_part, slice,
-};
-pub use lpt_memory::{
-    AckFlags, Area, Direction, ERROR_CONTROL, FailureCode, LONGEST_PACKET, Memories, Name, Octets,
-    PRIMARY_HEADER, Packet, PacketKind, Prepared, Reading, Seen, Shape, TC_HEADER, TM_HEADER,
-    TcHead, Ticket, TmHead, bodies, crc16, lengths, prepare, read_packet, read_tc, read_tm,
-    seen_is_read, tc_octets, tc_pieces, tm_octets, tm_pieces, write_packet, write_tm,
-};
+pub use lpt_events::{Applied, Refused, TelemetryKind};
+pub use lpt_memory::{Memories, Reading};
+pub use lpt_packet::{Name, Octets};
+pub use lpt_pus::FailureCode;
 pub use reporting::{reports, request_source};

@@ -1,14 +1,15 @@
 //! The reports of an execution.
 
 ghost use Rattle.std.specs.Prelude.{◌≡◌, ◌≢◌, [], ◌++◌, map, option_map, IfOk, OnOk, OnErr, All};
-ghost use Rattle.lpt_memory.specs.LptPus.Codes.{number_of};
+ghost use Rattle.lpt_pus.specs.Codes.{number_of};
 ghost use Rattle.lpt_verify.specs.Reports.{reports_before, reports_after, all_reports};
 ghost use Rattle.lpt_execution.specs.Ranges.{EndingFits, ReportFits};
 ghost use Rattle.lpt_execution.specs.Reporting.{data_report, message_reports, request_source, verification, verification_kind};
 
 use crate::{Ending, Report};
 use lpt_events::TelemetryKind;
-use lpt_memory::{FailureCode, Reading, RequestId};
+use lpt_memory::Reading;
+use lpt_pus::{FailureCode, RequestId};
 use lpt_verify::{EncodedReport, Reports};
 use std::alloc::{AllocError, Global};
 

@@ -5,10 +5,10 @@ use Rattle.std.proofs.lemmas.List.{map-append, nil_from_length, take_more, take-
 use Rattle.std.proofs.lemmas.List.Elements.{filter-append}
 use Rattle.std.proofs.KnownBytes.{Appends-kept, Appends-nil, Appends-trans}
 use Rattle.std.specs.Io.KnownBytes.{Appends, Keeps}
-use Rattle.lpt_stream.specs.LptText.Streams.{AppendsPart}
+use Rattle.lpt_text.specs.Streams.{AppendsPart}
 use Rattle.lpt_stream.specs.Pieces.{Piece}
-use Rattle.lpt_stream.proofs.LptText.StreamLemmas.{part_after, part_of_front, part_of_nothing, part_whole}
-use Rattle.lpt_stream.specs.LptText.declared.fault.ToolFault.TheVariants as tool
+use Rattle.lpt_text.proofs.StreamLemmas.{part_after, part_of_front, part_of_nothing, part_whole}
+use Rattle.lpt_text.specs.declared.fault.ToolFault.TheVariants as tool
 use Rattle.lpt_memory.specs.declared.request.Area.{Area}
 use Rattle.lpt_memory.specs.Meanings.{area}
 use Rattle.lpt_extract.specs.declared.extracted.ExtractEnd.{ExtractEnd}

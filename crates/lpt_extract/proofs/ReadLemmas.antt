@@ -7,9 +7,9 @@ use Rattle.lpt_stream.specs.Buffers.{FindsPassing}
 use Rattle.lpt_stream.specs.declared.buffer.PacketBuffer.{PacketBuffer}
 use Rattle.lpt_stream.specs.Pieces.{Piece, Leads, packet_before, packets_of}
 use Rattle.lpt_stream.proofs.CutLemmas.{packets-next}
-use Rattle.lpt_stream.specs.LptText.declared.fault.ToolFault.{ToolFault}
-use Rattle.lpt_stream.specs.LptText.declared.fault.ToolFault.TheVariants as tool
-use Rattle.lpt_stream.specs.LptText.Streams.{AppendsPart}
+use Rattle.lpt_text.specs.declared.fault.ToolFault.{ToolFault}
+use Rattle.lpt_text.specs.declared.fault.ToolFault.TheVariants as tool
+use Rattle.lpt_text.specs.Streams.{AppendsPart}
 use Rattle.lpt_memory.specs.declared.request.Area.{Area}
 use Rattle.lpt_extract.specs.declared.holding.Holding.{Holding}
 use Rattle.lpt_extract.specs.declared.notice.Notice.{Notice}

@@ -1,9 +1,9 @@
 -- What octets are seen as, and the dump report in them.
 use Rattle.std.proofs.Common.{◌≡◌, ◌∙◌, ap, refl, ℕ, List, Some, None, Result, Ok, Err}
 use Rattle.std.specs.Result.{result_ok}
-use Rattle.lpt_memory.specs.LptPacket.declared.fault.PacketFault.{PacketFault}
-use Rattle.lpt_memory.specs.LptPacket.declared.packet.Seen.{Seen}
-use Rattle.lpt_memory.specs.LptPacket.Packets.{Fields, Sight, IdlePacket, APacket, seen, sight, verdict}
+use Rattle.lpt_packet.specs.declared.fault.PacketFault.{PacketFault}
+use Rattle.lpt_packet.specs.declared.packet.Seen.{Seen}
+use Rattle.lpt_packet.specs.Packets.{Fields, Sight, IdlePacket, APacket, seen, sight, verdict}
 use Rattle.lpt_extract.specs.Reports.{dump_in, dump_in_packet}
 
 -- what a reader saw is seen

@@ -2,9 +2,9 @@
 use Rattle.std.specs.Prelude.{◌≡◌, ◌<◌, ◌≤◌, ◌==◌, ◌+◌, ◌-◌, ◌&&◌, ◌||◌, not, ℕ, Bool, true, false, if◌then◌else◌, List, [], ◌∷◌, ◌++◌, length, map, filter, Option, Some, None}
 use Rattle.std.specs.List.{flat_map}
 use Rattle.std.specs.Io.KnownBytes.{Appends, Consumes, IsAtEnd}
-use Rattle.lpt_stream.specs.LptText.Streams.{AppendsPart}
-use Rattle.lpt_stream.specs.LptText.declared.fault.ToolFault.{ToolFault}
-use Rattle.lpt_stream.specs.LptText.declared.fault.ToolFault.TheVariants as tool
+use Rattle.lpt_text.specs.Streams.{AppendsPart}
+use Rattle.lpt_text.specs.declared.fault.ToolFault.{ToolFault}
+use Rattle.lpt_text.specs.declared.fault.ToolFault.TheVariants as tool
 use Rattle.lpt_stream.specs.declared.piece_kind.PieceKind.{PieceKind}
 use Rattle.lpt_stream.specs.declared.piece_kind.PieceKind.TheVariants.{Whole, Damaged, Stray}
 use Rattle.lpt_stream.specs.Pieces.{Piece, Cuts, Leads, packets_of}

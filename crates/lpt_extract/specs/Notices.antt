@@ -1,6 +1,6 @@
 -- What is told of a stream.
 use Rattle.std.specs.Prelude.{◌≡◌, ◌==◌, min, Bool, if◌then◌else◌, ℕ, List, ◌++◌, length, Option, Some, None, ⊤}
-use Rattle.lpt_memory.specs.LptPacket.Checksums.{checksum}
+use Rattle.lpt_packet.specs.Checksums.{checksum}
 use Rattle.lpt_memory.specs.Requests.{LoadArea}
 use Rattle.lpt_extract.specs.declared.notice.Notice.{Notice}
 use Rattle.lpt_extract.specs.declared.notice.Notice.TheVariants.{Taken, WrongChecksum}

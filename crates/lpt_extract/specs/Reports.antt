@@ -1,9 +1,9 @@
 -- The dump reports of the memory service, read.
 use Rattle.std.specs.Result.{result_ok}
 use Rattle.std.specs.Prelude.{ℕ, ◌==◌, ◌&&◌, if◌then◌else◌, List, length, Option, Some, None, option_and_then}
-use Rattle.lpt_memory.specs.LptPacket.Packets.{Fields, seen}
-use Rattle.lpt_memory.specs.LptPus.Messages.{in_packet}
-use Rattle.lpt_memory.specs.LptPus.Telemetry.{Telemetry, tm_verdict}
+use Rattle.lpt_packet.specs.Packets.{Fields, seen}
+use Rattle.lpt_pus.specs.Messages.{in_packet}
+use Rattle.lpt_pus.specs.Telemetry.{Telemetry, tm_verdict}
 use Rattle.lpt_memory.specs.declared.reply_kind.ReplyKind.TheVariants.{Dump}
 use Rattle.lpt_memory.specs.ReplyKinds.{subtype_of}
 use Rattle.lpt_memory.specs.Requests.{LoadArea, Request, front_load_area, request_in}

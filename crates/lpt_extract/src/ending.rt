@@ -1,14 +1,14 @@
 //! How an extraction ends.
 
 ghost use Rattle.std.specs.Prelude.{◌≡◌, List, true, IfErr, IfOk, IsOk, OnOk};
-ghost use Rattle.lpt_stream.specs.LptText.Streams.{AppendsPart};
+ghost use Rattle.lpt_text.specs.Streams.{AppendsPart};
 ghost use Rattle.lpt_memory.specs.declared.request.Area.{Area};
 ghost use Rattle.lpt_extract.specs.declared.notice.Notice.{Notice};
 ghost use Rattle.lpt_extract.specs.ExtractsInside.{is_unbroken_so_far, written_last, EndsAs, EndsBy, HasImage, Held};
 
 use crate::holding::Holding;
 use crate::{ExtractEnd, Extracted, Wanted};
-use lpt_stream::{Sink, ToolFault, flush_out, write_out};
+use lpt_text::{Sink, ToolFault, flush_out, write_out};
 
 // Ends an extraction once the stream was read: writes the image, where one is wanted, and passes on
 // what was written.

@@ -8,7 +8,8 @@ use crate::ending::end_extract;
 use crate::holding::Holding;
 use crate::taking::take_piece;
 use crate::{Extracted, Listener, Wanted};
-use lpt_stream::{PacketBuffer, Sink, Source, ToolFault};
+use lpt_stream::PacketBuffer;
+use lpt_text::{Sink, Source, ToolFault};
 use std::alloc::Global;
 
 /// Reads a stream of packets to its end, and writes what is wanted of the dump reports among them:

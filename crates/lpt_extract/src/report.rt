@@ -2,14 +2,16 @@
 
 ghost use Rattle.std.specs.Prelude.{◌≡◌, map, option_map, IfOk};
 ghost use Rattle.lpt_memory.specs.Fields.{all_areas};
-ghost use Rattle.lpt_memory.specs.LptPacket.Packets.{fields};
-ghost use Rattle.lpt_memory.specs.Requests.{front_head, front_load_area};
+ghost use Rattle.lpt_packet.specs.Packets.{fields};
+ghost use Rattle.lpt_memory.specs.Requests.{front_load_area};
 ghost use Rattle.lpt_extract.specs.Reports.{body_report, dump_in, dump_in_packet, report_in};
 ghost use Rattle.lpt_extract.specs.ReportsInside.{load_area, said};
 
-use crate::fields::{long, octet, part, word};
 use crate::seen_area::SeenArea;
-use lpt_memory::{Packet, Seen, read_packet, read_tm, seen_is_read};
+use lpt_memory::fields;
+use lpt_packet::laws::seen_is_read;
+use lpt_packet::{Packet, Seen, read_packet};
+use lpt_pus::read_tm;
 use std::alloc::{AllocError, Global};
 
 /// The service type of memory management.
@@ -81,26 +83,13 @@ fn dump_in_packet<'a>(packet: &Packet<'a>) -> Option<(u16, &'a [u8])>
 fn read_body<'a>(alloc: Global, body: &'a [u8]) -> Result<Report<'a>, AllocError>
     ensures { IfOk result (λ r. said r ≡ body_report body.now) }
 {
-    let Some((memory, count, rest)) = head(body) else {
+    let Some((memory, count, rest)) = fields::head(body) else {
         return Ok(Report::Unread(body.len()));
     };
     match read_areas(alloc, count, rest)? {
         Some(areas) => Ok(Report::Areas(memory, areas)),
         None => Ok(Report::Unread(body.len())),
     }
-}
-
-// The memory, the number of areas, and what is behind them.
-#[tactic(auto, unfolding(lpt_memory::specs::Requests::front_head))]
-fn head(body: &[u8]) -> Option<(u8, u8, &[u8])>
-    ensures { option_map (λ x. (x.0, x.1, x.2.now)) result ≡ front_head body.now }
-{
-    let (memory, rest) = octet(body)?;
-    let (count, rest) = octet(rest)?;
-    if count == 0 {
-        return None;
-    }
-    Some((memory, count, rest))
 }
 
 // So many areas, with nothing behind them. The only error is out of memory.
@@ -132,10 +121,10 @@ fn read_areas<'a>(
 fn read_area<'a>(octets: &'a [u8]) -> Option<(SeenArea<'a>, &'a [u8])>
     ensures { option_map (λ x. (load_area x.0, x.1.now)) result ≡ front_load_area octets.now }
 {
-    let (address, rest) = long(octets)?;
-    let (len, rest) = word(rest)?;
-    let (text, rest) = part(rest, len)?;
-    let (checksum, rest) = word(rest)?;
+    let (address, rest) = fields::long(octets)?;
+    let (len, rest) = fields::word(rest)?;
+    let (text, rest) = fields::octets(rest, len)?;
+    let (checksum, rest) = fields::word(rest)?;
     let area = SeenArea {
         address,
         octets: text,

@@ -2,7 +2,7 @@
 
 ghost use Rattle.std.specs.Prelude.{◌≡◌, ◌≢◌, ◌⊎◌, ◌∷◌, ◌++◌, List, [], true, Err, IfErr, IsErrOf, OnOk};
 ghost use Rattle.std.specs.Io.KnownBytes.{Appends};
-ghost use Rattle.lpt_stream.specs.LptText.Streams.{AppendsPart};
+ghost use Rattle.lpt_text.specs.Streams.{AppendsPart};
 ghost use Rattle.lpt_stream.specs.Pieces.{packet_before};
 ghost use Rattle.lpt_memory.specs.declared.request.Area.{Area};
 ghost use Rattle.lpt_memory.specs.Meanings.{area};
@@ -17,8 +17,9 @@ use crate::holding::Holding;
 use crate::report::{Report, read_report};
 use crate::seen_area::SeenArea;
 use crate::{Listener, Notice, Span, Wanted};
-use lpt_memory::crc16;
-use lpt_stream::{PieceKind, Sink, ToolFault, write_out};
+use lpt_packet::crc16;
+use lpt_stream::PieceKind;
+use lpt_text::{Sink, ToolFault, write_out};
 use std::alloc::Global;
 
 // Takes what a piece gives: a packet, or what is none and gives nothing.

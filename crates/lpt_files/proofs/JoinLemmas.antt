@@ -2,10 +2,10 @@
 use Rattle.std.proofs.Common.{◌≡◌, ◌⊎◌, ◌∙◌, ap, sym, subst, refl, inl, inr, Bool, true, false, ℕ, List, Option, Some, None}
 use Rattle.std.specs.Io.KnownBytes.{Appends}
 use Rattle.lpt_join.specs.Joins.{Joined, Complete, Missing as MissingParts, Broken}
-use Rattle.lpt_join.specs.LptReception.Received.{Parts}
+use Rattle.lpt_reception.specs.Received.{Parts}
 use Rattle.lpt_files.specs.declared.join_end.JoinEnd.{JoinEnd}
 use Rattle.lpt_files.specs.declared.join_end.JoinEnd.TheVariants.{Written, Unfit, Missing, BrokenOff}
-use Rattle.lpt_join.specs.LptPacket.declared.direction.Direction.{Direction}
+use Rattle.lpt_packet.specs.declared.direction.Direction.{Direction}
 use Rattle.lpt_join.specs.declared.messages.Misfit.{Misfit}
 use Rattle.lpt_join.specs.Messages.{IsFit}
 use Rattle.lpt_join.proofs.MessageLemmas.{fit_misfit}

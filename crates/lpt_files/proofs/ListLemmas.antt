@@ -1,8 +1,8 @@
 -- The parts that a list names, item by item.
-use Rattle.std.proofs.Common.{◌≡◌, ◌∙◌, ap, sym, refl, ℕ, zero, suc, ◌+◌, ◌-◌, ◌≤◌, List, [], ◌∷◌, ◌++◌, Option, Some, None, append_assoc, append-nil, arith}
+use Rattle.std.proofs.Common.{◌≡◌, ◌∙◌, ap, sym, refl, ℕ, zero, suc, ◌+◌, ◌-◌, ◌≤◌, List, [], ◌∷◌, ◌++◌, Option, Some, None, append_assoc, arith}
 use Rattle.std.specs.List.{slice_split}
 use native.Mathlib.Numerals.{unary_clauses}
-use Rattle.lpt_join.specs.LptSplit.Splits.{AreNumbers}
+use Rattle.lpt_split.specs.Splits.{AreNumbers}
 use Rattle.lpt_files.specs.Lists.{followed, is_comma, numbers_in, numbers_of, numbers_of_items, range_of, run}
 
 -- ---- runs
@@ -94,17 +94,5 @@ pub read-none : (last : ℕ) (left item : List ℕ) (items : List (List ℕ)) (x
     → None ≡ all
 read-none last left item items xs all was cut is =
     ap (λ o. behind xs (followed o (numbers_of_items last items))) is
-    ∙ sym (ap (λ items. behind xs (numbers_of_items last items)) cut)
-    ∙ was
-
--- the last item
-pub read-last : (last : ℕ) (left : List ℕ) (xs : List ℕ) (r : ℕ × ℕ) (all : Option (List ℕ))
-    → behind xs (numbers_of_items last (slice_split is_comma left)) ≡ all
-    → slice_split is_comma left ≡ left ∷ []
-    → Some r ≡ range_of last left
-    → Some (xs ++ numbers_in r) ≡ all
-read-last last left xs r all was cut is =
-    ap (λ ns. Some (xs ++ ns)) (sym (append-nil (numbers_in r)))
-    ∙ ap (λ o. behind xs (followed o (Some []))) is
     ∙ sym (ap (λ items. behind xs (numbers_of_items last items)) cut)
     ∙ was

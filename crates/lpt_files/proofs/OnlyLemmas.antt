@@ -7,10 +7,10 @@ use Rattle.std.specs.Map.{keys_of, lookup}
 use Rattle.std.specs.Io.KnownBytes.{Appends}
 use Rattle.std.proofs.lemmas.Map.Entries.{btree_map_get_place}
 use Rattle.std.proofs.lemmas.Map.Keys.{Less-from_sorted}
-use Rattle.lpt_join.specs.LptPacket.Names.{Name, name_cmp, no_name, same_name}
-use Rattle.lpt_join.proofs.LptPacket.NameLemmas.{name_cmp-same, name_cmp_total, same_name-true}
-use Rattle.lpt_join.specs.LptEvents.declared.config.Config.{Config}
-use Rattle.lpt_join.specs.LptStream.Pieces.{Piece, packets_of}
+use Rattle.lpt_packet.specs.Names.{Name, name_cmp, no_name, same_name}
+use Rattle.lpt_packet.proofs.NameLemmas.{name_cmp-same, name_cmp_total, same_name-true}
+use Rattle.lpt_events.specs.declared.config.Config.{Config}
+use Rattle.lpt_stream.specs.Pieces.{Piece, packets_of}
 use Rattle.lpt_join.specs.declared.gathering.Gathering.{Gathering}
 use Rattle.lpt_join.specs.declared.gatherings.Gatherings.{Gatherings}
 use Rattle.lpt_join.specs.declared.transaction.Transaction.{Transaction}

@@ -4,17 +4,17 @@ use Rattle.std.specs.Option.{option_map}
 use Rattle.std.specs.Io.KnownBytes.{Appends}
 use Rattle.lpt_join.specs.declared.messages.Misfit.{Misfit}
 use Rattle.lpt_join.specs.declared.transaction.Transaction.{Transaction}
-use Rattle.lpt_join.specs.CameInside.{has, is_ended}
+use Rattle.lpt_join.specs.PartNumbersInside.{has, is_ended}
 use Rattle.lpt_join.specs.Contradictions.{first_against, told_place}
 use Rattle.lpt_join.specs.Joins.{Joined, Complete, Missing as MissingParts, Broken, joined}
 use Rattle.lpt_join.specs.Laws.{came, ended}
-use Rattle.lpt_join.specs.LptPacket.declared.direction.Direction.{Direction}
-use Rattle.lpt_join.specs.LptStream.Pieces.{Piece, packets_of}
-use Rattle.lpt_join.specs.LptReception.Received.{Parts}
-use Rattle.lpt_join.specs.LptText.Streams.{AppendsPart}
-use Rattle.lpt_join.specs.LptText.declared.fault.ToolFault.{ToolFault}
-use Rattle.lpt_join.specs.LptText.declared.fault.ToolFault.TheVariants as tool
-use Rattle.lpt_join.specs.LptSkips.Tallies.{skips_of}
+use Rattle.lpt_packet.specs.declared.direction.Direction.{Direction}
+use Rattle.lpt_stream.specs.Pieces.{Piece, packets_of}
+use Rattle.lpt_reception.specs.Received.{Parts}
+use Rattle.lpt_text.specs.Streams.{AppendsPart}
+use Rattle.lpt_text.specs.declared.fault.ToolFault.{ToolFault}
+use Rattle.lpt_text.specs.declared.fault.ToolFault.TheVariants as tool
+use Rattle.lpt_skips.specs.Tallies.{skips_of}
 use Rattle.lpt_join.specs.Messages.{misfit, IsFit}
 use Rattle.lpt_join.specs.Reads.{ReadsPieces}
 use Rattle.lpt_join.specs.Several.{reading_of}

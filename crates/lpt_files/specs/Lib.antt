@@ -3,4 +3,3 @@ pub mod Lists
 pub mod MissingLists
 pub mod Only
 pub mod Splits
-pub use Rattle.lpt_join.specs.LptEvents as LptEvents

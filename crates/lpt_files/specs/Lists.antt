@@ -1,7 +1,7 @@
 -- Lists of parts, as a word spells them.
 use Rattle.std.specs.Prelude.{ℕ, zero, suc, ◌+◌, ◌-◌, ◌==◌, ◌&&◌, nat_le, Bool, if◌then◌else◌, List, [], ◌∷◌, ◌++◌, take, drop, position, Option, Some, None}
 use Rattle.std.specs.List.{slice_split}
-use Rattle.lpt_words.specs.Numbers.{number_of}
+use Rattle.lpt_script_words.specs.Numbers.{number_of}
 
 -- ---- an item
 

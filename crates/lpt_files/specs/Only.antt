@@ -4,14 +4,14 @@ use Rattle.lpt_join.specs.declared.gathering.Gathering.{Gathering}
 use Rattle.lpt_join.specs.declared.gatherings.Gatherings.{Gatherings}
 use Rattle.lpt_join.specs.declared.transaction.Transaction.{Transaction}
 use Rattle.lpt_join.specs.Gatherings.{state}
-use Rattle.lpt_join.specs.LptPacket.Names.{Name}
-use Rattle.lpt_join.specs.LptPacket.declared.direction.Direction.{Direction}
+use Rattle.lpt_packet.specs.Names.{Name}
+use Rattle.lpt_packet.specs.declared.direction.Direction.{Direction}
 use Rattle.lpt_join.specs.Reads.{ReadsPieces}
-use Rattle.lpt_join.specs.LptSkips.declared.skips.Skips.{Skips}
-use Rattle.lpt_join.specs.LptSkips.Tallies.{skips_of}
+use Rattle.lpt_skips.specs.declared.skips.Skips.{Skips}
+use Rattle.lpt_skips.specs.Tallies.{skips_of}
 use Rattle.lpt_join.specs.Several.{GivesEach, reading_of}
-use Rattle.lpt_join.specs.LptText.declared.fault.ToolFault.{ToolFault}
-use Rattle.lpt_join.specs.LptText.declared.fault.ToolFault.TheVariants as tool
+use Rattle.lpt_text.specs.declared.fault.ToolFault.{ToolFault}
+use Rattle.lpt_text.specs.declared.fault.ToolFault.TheVariants as tool
 use Rattle.lpt_files.specs.declared.join_end.JoinEnd.{JoinEnd}
 use Rattle.lpt_files.specs.Joins.{LeavesJoined, WritesJoined}
 

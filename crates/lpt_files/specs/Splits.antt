@@ -1,12 +1,12 @@
 -- How a message is split from one stream to another.
 use Rattle.std.specs.Prelude.{◌≡◌, ◌⊎◌, ℕ, ◌≤◌, ◌<◌, true, false, List, [], ◌∷◌, length, Option, Some, None}
 use Rattle.std.specs.Io.KnownBytes.{Appends, Consumes, IsAtEnd}
-use Rattle.lpt_join.specs.LptPart.Splitting.{part_count}
-use Rattle.lpt_join.specs.LptEvents.declared.config.Config.{Config}
-use Rattle.lpt_join.specs.LptSplit.Splits.{split_of, written_in}
-use Rattle.lpt_join.specs.LptText.Streams.{AppendsPart}
-use Rattle.lpt_join.specs.LptText.declared.fault.ToolFault.{ToolFault}
-use Rattle.lpt_join.specs.LptText.declared.fault.ToolFault.TheVariants as tool
+use Rattle.lpt_part.specs.Splitting.{part_count}
+use Rattle.lpt_events.specs.declared.config.Config.{Config}
+use Rattle.lpt_split.specs.Splits.{split_of, written_in}
+use Rattle.lpt_text.specs.Streams.{AppendsPart}
+use Rattle.lpt_text.specs.declared.fault.ToolFault.{ToolFault}
+use Rattle.lpt_text.specs.declared.fault.ToolFault.TheVariants as tool
 use Rattle.lpt_files.specs.declared.split_end.SplitEnd.{SplitEnd}
 use Rattle.lpt_files.specs.declared.split_end.SplitEnd.TheVariants.{Written, Short, Long, NoSuchPart}
 use Rattle.lpt_files.specs.declared.wanted.Wanted.{Wanted}

@@ -1,6 +1,7 @@
 //! How a join ends.
 
-use lpt_join::{Came, Misfit, Skips};
+use lpt_join::{Misfit, PartNumbers};
+use lpt_skips::Skips;
 
 /// How the join of a transaction ends whose stream was read to its end.
 #[derive(Clone, Copy, Debug, PartialEq, Eq)]
@@ -21,7 +22,7 @@ pub struct JoinReport {
     /// How it ended.
     pub end: JoinEnd,
     /// Which parts came.
-    pub came: Came,
+    pub came: PartNumbers,
     /// The place in the stream of the first packet whose part contradicts those before it: it broke the
     /// message off, or came once that was whole and is none of its parts. At most 2^64 - 1.
     pub against: Option<u64>,

@@ -2,21 +2,20 @@
 
 ghost use Rattle.std.specs.Prelude.{◌≡◌, ◌≢◌, ◌⊎◌, ℕ, List, true, false, Some, None, IfErr, IfOk, IsErrOf, OnOk, Err};
 ghost use Rattle.std.specs.Io.KnownBytes.{Appends};
-ghost use Rattle.lpt_join.specs.LptEvents.declared.config.Config.{Config};
-ghost use Rattle.lpt_join.specs.LptStream.Pieces.{Finds};
-ghost use Rattle.lpt_join.specs.LptText.Streams.{AppendsPart};
+ghost use Rattle.lpt_events.specs.declared.config.Config.{Config};
+ghost use Rattle.lpt_stream.specs.Pieces.{Finds};
+ghost use Rattle.lpt_text.specs.Streams.{AppendsPart};
 ghost use Rattle.lpt_join.specs.Joins.{Complete};
 ghost use Rattle.lpt_join.specs.Laws.{AllMadeOrOther, EachIsAmong, IsSending};
-ghost use Rattle.lpt_join.specs.LptStream.Reads.{IsEndless};
+ghost use Rattle.lpt_stream.specs.Reads.{IsEndless};
 ghost use Rattle.lpt_join.specs.Gatherings.{state};
 ghost use Rattle.lpt_join.specs.Messages.{IsFit};
 ghost use Rattle.lpt_files.specs.Joins.{JoinLeaves, JoinsTo, LeavesJoined, WritesFit, WritesJoined, unfit};
 
 use crate::{JoinEnd, JoinReport};
-use lpt_join::{
-    Direction, Gathering, Joining, Misfit, Sink, Source, ToolFault, Transaction, check_message,
-    join_stream, write_out,
-};
+use lpt_join::{Gathering, Joining, Misfit, Transaction, check_message, join_stream};
+use lpt_packet::Direction;
+use lpt_text::{Sink, Source, ToolFault, write_out};
 use std::alloc::Global;
 
 /// Reads a stream of packets to its end, and writes the message that the parts of this transaction

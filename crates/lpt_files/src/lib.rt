@@ -21,11 +21,12 @@ mod wanted;
 pub use join_end::{JoinEnd, JoinReport};
 pub use joining::join_message;
 pub use lists::read_parts;
-pub use lpt_join::{
-    Came, Config, Direction, End, Form, Gathering, Gatherings, Joining, Misfit, Name, Octets,
-    Reading, Sink, Skips, Source, Told, ToolFault, Transaction, check_message, flush_out,
-    read_text, write_out,
-};
+pub use lpt_events::Config;
+pub use lpt_join::{Gatherings, Misfit, PartNumbers, Transaction};
+pub use lpt_packet::{Direction, Name};
+pub use lpt_skips::Skips;
+pub use lpt_split::Form;
+pub use lpt_text::{Sink, Source, ToolFault};
 pub use only::join_only;
 pub use split_end::SplitEnd;
 pub use splitting::split_message;

@@ -6,10 +6,10 @@
 ghost use Rattle.std.specs.Prelude.{◌≡◌, ◌≤◌, ◌<◌, ◌==◌, ◌∷◌, ◌++◌, [], length, position, option_map, IfOk, IfSome, MatchOption, OnOk};
 ghost use Rattle.std.specs.List.{slice_split};
 ghost use Rattle.lpt_files.specs.Lists.{end_of, in_order, is_comma, numbers_in, numbers_of, range_of};
-ghost use Rattle.lpt_join.specs.LptSplit.Splits.{AreNumbers};
-ghost use Rattle.lpt_words.specs.Numbers.{number_of};
+ghost use Rattle.lpt_split.specs.Splits.{AreNumbers};
+ghost use Rattle.lpt_script_words.specs.Numbers.{number_of};
 
-use lpt_words::read_number;
+use lpt_script_words::read_number;
 use std::alloc::{AllocError, Global};
 
 /// The parts that a list names, of a message of `last` parts (at most 65,535), in its order and as

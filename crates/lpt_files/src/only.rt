@@ -3,23 +3,24 @@
 ghost use Rattle.std.specs.Prelude.{◌≡◌, ◌≢◌, ◌⊎◌, ◌∷◌, [], ℕ, List, true, false, Some, None, IfErr, IfOk, IfSome, IsErrOf, OnOk, Err};
 ghost use Rattle.std.specs.BTreeMap.{IsOrdered};
 ghost use Rattle.std.specs.Io.KnownBytes.{Appends};
-ghost use Rattle.lpt_join.specs.LptEvents.declared.config.Config.{Config};
-ghost use Rattle.lpt_join.specs.LptStream.Pieces.{Finds};
+ghost use Rattle.lpt_events.specs.declared.config.Config.{Config};
+ghost use Rattle.lpt_stream.specs.Pieces.{Finds};
 ghost use Rattle.lpt_join.specs.Laws.{AllMadeOrNone, EachIsAmong, IsSending};
 ghost use Rattle.lpt_join.specs.Messages.{IsFit};
 ghost use Rattle.lpt_join.specs.Several.{of_name};
 ghost use Rattle.lpt_join.specs.declared.gathering.Gathering.{Gathering};
-ghost use Rattle.lpt_join.specs.LptPacket.Names.{Name, name_cmp};
-ghost use Rattle.lpt_join.specs.LptText.Streams.{AppendsPart};
-ghost use Rattle.lpt_join.specs.LptStream.Reads.{IsEndless};
+ghost use Rattle.lpt_packet.specs.Names.{Name, name_cmp};
+ghost use Rattle.lpt_text.specs.Streams.{AppendsPart};
+ghost use Rattle.lpt_stream.specs.Reads.{IsEndless};
 ghost use Rattle.lpt_files.specs.Joins.{WritesFit};
 ghost use Rattle.lpt_files.specs.Only.{IsOnly, JoinsOnly, LeavesOnly, OnlyLeaves, WritesOnly};
 
 use crate::JoinEnd;
 use crate::joining::write_joined;
-use lpt_join::{
-    Direction, Gathering, Gatherings, Sink, Skips, Source, ToolFault, Transaction, gather_stream,
-};
+use lpt_join::{Gathering, Gatherings, Transaction, gather_stream};
+use lpt_packet::Direction;
+use lpt_skips::Skips;
+use lpt_text::{Sink, Source, ToolFault};
 use std::alloc::Global;
 
 /// Reads a stream of packets to its end, and writes the message of the only transaction of which

@@ -1,13 +1,15 @@
 //! A message split from one stream to another.
 
 ghost use Rattle.std.specs.Prelude.{◌≡◌, ◌≢◌, ◌⊎◌, IfErr, IfOk, IsErrOf, Err, true};
-ghost use Rattle.lpt_join.specs.LptEvents.Configs.{IsConfig};
+ghost use Rattle.lpt_events.specs.Configs.{IsConfig};
 ghost use Rattle.lpt_files.specs.Splits.{IsSplitFault, LeavesParts, SplitLeaves, SplitsTo, WritesParts};
 
 use crate::{SplitEnd, Wanted, read_parts};
-use lpt_join::{
-    Config, End, LONGEST_PACKET, Sink, Source, ToolFault, count, read_text, split, write_alone,
-};
+use lpt_events::Config;
+use lpt_packet::LONGEST_PACKET;
+use lpt_part::count;
+use lpt_split::{split, write_alone};
+use lpt_text::{End, Sink, Source, ToolFault, read_text};
 use std::alloc::Global;
 
 /// Reads a message to its end, and writes the packets of the parts that are wanted of it, in the form

@@ -2,18 +2,18 @@
 
 ghost use Rattle.std.specs.Prelude.{◌≡◌, ℕ, List, [], IfOk};
 ghost use Rattle.std.specs.String.{string_bytes};
-ghost use Rattle.lpt_join.specs.CameInside.{has, is_ended, IsHighest};
+ghost use Rattle.lpt_join.specs.PartNumbersInside.{has, is_ended, IsHighest};
 ghost use Rattle.lpt_join.specs.Missing.{AreGaps};
 ghost use Rattle.lpt_files.specs.MissingLists.{item_text, items_text, list_text, open_text, with_item};
 
-use lpt_join::{Came, missing};
+use lpt_join::{PartNumbers, missing};
 use std::alloc::{AllocError, Global};
 
 /// The parts that are missing, as a part list: `3,7-9`, and where the last part hasn't come, all
 /// behind the highest that came too, as `3,7-9,12-`. It is empty where none is missing.
 ///
 /// The only error is out of memory.
-pub fn missing_list(alloc: Global, came: &Came) -> Result<String, AllocError>
+pub fn missing_list(alloc: Global, came: &PartNumbers) -> Result<String, AllocError>
     ensures { IfOk result (λ text. (last : ℕ) × (gaps : List (ℕ × ℕ))
         × IsHighest (has came.now) last × AreGaps (has came.now) 1 last gaps
         × (string_bytes text ≡ list_text gaps last (is_ended came.now))) }

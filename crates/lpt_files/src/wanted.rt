@@ -2,7 +2,8 @@
 
 ghost use Rattle.std.specs.Prelude.{◌≤◌};
 
-use lpt_join::{Direction, Form, Name};
+use lpt_packet::{Direction, Name};
+use lpt_split::Form;
 
 /// Which packets of a message are wanted.
 #[derive(Clone, Copy, Debug)]

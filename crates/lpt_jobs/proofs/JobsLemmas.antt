@@ -1,5 +1,5 @@
 -- Jobs that change: which were claimed, and their order.
-use Rattle.std.proofs.Common.{◌≡◌, ◌≢◌, ◌∙◌, refl, sym, ap, subst, ℕ, zero, suc, ◌+◌, ◌-◌, ◌^◌, ◌<◌, ◌≤◌, Bool, true, false, cond, if◌then◌else◌, List, [], ◌∷◌, ◌++◌, length, get_or, set, take, None, IsSome, nat_lt, arith}
+use Rattle.std.proofs.Common.{◌≡◌, ◌≢◌, ◌∙◌, refl, sym, ap, subst, ℕ, zero, suc, ◌+◌, ◌-◌, ◌^◌, ◌<◌, ◌≤◌, Bool, true, false, cond, if◌then◌else◌, List, [], ◌∷◌, ◌++◌, length, get_or, set, None, IsSome, nat_lt, arith}
 use Rattle.std.specs.List.{slice_get}
 use Rattle.std.specs.Option.{option_map, option_map_or, option_and_then}
 use Rattle.std.proofs.lemmas.Bool.{cases_eq, false≢true}
@@ -7,10 +7,10 @@ use Rattle.std.proofs.lemmas.List.{get_or_append_left, get_or-set_same, get_or-s
 use Rattle.std.proofs.lemmas.List.Folds.{prefix_len-set, prefix_len-append}
 use Rattle.std.proofs.lemmas.List.Sums.{prefix_len_is, prefix_len_passes}
 use Rattle.std.proofs.Math.ListN.{get_or-append, length-append}
-use Rattle.std.proofs.Math.Seq.{get_or-append_seam, take-append_seam}
+use Rattle.std.proofs.Math.Seq.{get_or-append_seam}
 use Rattle.lpt_jobs.specs.declared.job.Job.{Job}
 use Rattle.lpt_jobs.specs.declared.job.Job.TheVariants.{Waiting, Claimed, Committed}
-use Rattle.lpt_jobs.specs.Jobs.{Jobs, claimed_in, was_claimed, message_in, oldest, unclaimed, is_out, is_claimed, after_push, AreInOrder}
+use Rattle.lpt_jobs.specs.Jobs.{Jobs, claimed_in, was_claimed, message_in, oldest, unclaimed, is_out, is_claimed, AreInOrder}
 use Rattle.lpt_jobs.specs.JobsInside.{IsKept}
 
 -- ---- a claim
@@ -240,19 +240,3 @@ kept-pop_back first jobs rest claimed j kept back is =
           ∙ all.order k d (omega (arith, claimed_in-push rest j is, past)) (omega (arith, more, lt));
       numbers = omega (arith, all.numbers, more);
     }
-
--- the jobs before a last one
-without_last : (js : List Job) (j : Job) → take (length (js ++ j ∷ []) - 1) (js ++ j ∷ []) ≡ js
-without_last js j =
-    let before : length (js ++ j ∷ []) - 1 ≡ length js
-    = let n = length-append js (j ∷ []) in omega arith in
-    ap (λ k. take k (js ++ j ∷ [])) before ∙ take-append_seam js (j ∷ [])
-
--- what was pushed onto queues that are the same then was pushed onto the same one
-pub after_push-same : (a b : Jobs) (m n : List ℕ) → after_push a m ≡ after_push b n → a ≡ b
-after_push-same a b m n same = λ i. record { first = (same i).first; jobs = rest i } where
-  rest : a.jobs ≡ b.jobs
-  rest =
-      sym (without_last a.jobs (Waiting m))
-      ∙ (λ i. take (length (same i).jobs - 1) (same i).jobs)
-      ∙ without_last b.jobs (Waiting n)

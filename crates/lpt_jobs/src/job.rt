@@ -1,6 +1,7 @@
 //! A job in the queue.
 
-use lpt_memory::{Octets, Reading};
+use lpt_memory::Reading;
+use lpt_packet::Octets;
 
 /// A released request that isn't executed yet, by how far it has come.
 #[derive(Drop)]

@@ -7,7 +7,8 @@ ghost use Rattle.lpt_jobs.specs.Jobs.{no_jobs, numbered, job_at, claimed_in, unc
 
 use crate::Front;
 use crate::job::Job;
-use lpt_memory::{Octets, Reading};
+use lpt_memory::Reading;
+use lpt_packet::Octets;
 use std::alloc::{AllocFailed, Global};
 use std::collections::VecDeque;
 use std::marker::Model;

@@ -5,9 +5,9 @@ use Rattle.std.specs.Prelude.{is_some}
 use Rattle.std.specs.FinMap as map
 use Rattle.std.proofs.lemmas.Bool.{and_parts, or_parts}
 use Rattle.std.proofs.lemmas.Bool.Decides.{nat_tests}
-use Rattle.lpt_pus.specs.LptPacket.Sizes.{longest_packet}
-use Rattle.lpt_reception.specs.LptPart.PartRanges.{PartFits}
-use Rattle.lpt_reception.specs.LptPart.Splitting.{IsPartSize, part_count}
+use Rattle.lpt_packet.specs.Sizes.{longest_packet}
+use Rattle.lpt_part.specs.PartRanges.{PartFits}
+use Rattle.lpt_part.specs.Splitting.{IsPartSize, part_count}
 use Rattle.lpt_reception.specs.PartsOf.{kept_of, AllFit, IsMessage, IsPartOf, IsPartsOf, IsSplit}
 use Rattle.lpt_reception.specs.Received.{Kept, Parts, no_parts, with_part, same_kept, differs, is_overrun, contradicts, is_whole, spelled}
 use Rattle.lpt_reception.proofs.MessageLemmas.{parts_agree, same_kept-refl, same_kept-true}

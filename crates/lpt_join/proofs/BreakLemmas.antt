@@ -2,9 +2,9 @@
 use Rattle.std.proofs.Common.{◌≡◌, refl, ℕ, Bool, true, false, Some, None, if◌then◌else◌}
 use Rattle.std.specs.Option.{is_some}
 use Rattle.std.specs.FinMap as map
-use Rattle.lpt_reception.specs.LptPart.declared.mode.Mode.TheVariants.{Any}
-use Rattle.lpt_reception.specs.LptPart.declared.reason.Reason.{Reason}
-use Rattle.lpt_reception.specs.LptPart.declared.reason.Reason.TheVariants.{Conflict}
+use Rattle.lpt_part.specs.declared.mode.Mode.TheVariants.{Any}
+use Rattle.lpt_part.specs.declared.reason.Reason.{Reason}
+use Rattle.lpt_part.specs.declared.reason.Reason.TheVariants.{Conflict}
 use Rattle.lpt_reception.specs.Received.{Kept, Parts, with_part, contradicts, break_reason, is_whole}
 use Rattle.lpt_join.specs.Joins.{Missing, Broken, kept_by, added}
 

@@ -1,9 +1,9 @@
 -- A packet that a burst has changed carries no part.
 use Rattle.std.proofs.Common.{◌≡◌, ℕ, List, Option, Some, None}
-use Rattle.lpt_pus.specs.LptPacket.Bursts.{DifferInBurst}
-use Rattle.lpt_pus.specs.LptPacket.Packets.{Fields, Sight, IdlePacket, APacket, IsPacket, seen}
-use Rattle.lpt_pus.proofs.LptPacket.Bursts.{burst_shows_in_packet}
-use Rattle.lpt_pus.proofs.LptPacket.SightLemmas.{seen_sight}
+use Rattle.lpt_packet.specs.Bursts.{DifferInBurst}
+use Rattle.lpt_packet.specs.Packets.{Fields, Sight, IdlePacket, APacket, IsPacket, seen}
+use Rattle.lpt_packet.proofs.Bursts.{burst_shows_in_packet}
+use Rattle.lpt_packet.proofs.SightLemmas.{seen_sight}
 use Rattle.lpt_join.specs.declared.transaction.Transaction.{Transaction}
 use Rattle.lpt_join.specs.Offers.{offered}
 use Rattle.lpt_join.proofs.OtherLemmas.{unread_carried, idle_carried}

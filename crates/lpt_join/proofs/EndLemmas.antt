@@ -1,7 +1,7 @@
 -- What a stream gives that was read to its end.
 use Rattle.std.proofs.Common.{◌≡◌, ◌∙◌, ap, sym, subst, ℕ, List, ◌++◌, Option, Some, None, append-nil}
 use Rattle.std.specs.Io.KnownBytes.{Consumes, IsAtEnd}
-use Rattle.lpt_split.specs.LptEvents.declared.config.Config.{Config}
+use Rattle.lpt_events.specs.declared.config.Config.{Config}
 use Rattle.lpt_stream.specs.Pieces.{Piece, Cuts, Finds, packets_of}
 use Rattle.lpt_stream.proofs.CutLemmas.{one_cut}
 use Rattle.lpt_join.specs.declared.gathering.Gathering.{Gathering}

@@ -1,30 +1,29 @@
 -- A part that a packet carries may be a part.
-use Rattle.std.proofs.Common.{◌≡◌, sym, subst, refl, ℕ, ◌-◌, ◌==◌, ◌&&◌, nat_lt, Bool, true, false, if◌then◌else◌, List, length, length-drop, Option, Some, None, Result, Ok, Err, arith}
+use Rattle.std.proofs.Common.{◌≡◌, sym, subst, refl, ℕ, ◌-◌, ◌==◌, ◌&&◌, nat_lt, Bool, true, false, if◌then◌else◌, List, length, length-drop, Option, Some, None, Result, Ok, Err}
 use Rattle.std.specs.Option.{option_map_or}
 use Rattle.std.specs.Result.{result_ok}
-use Rattle.std.proofs.lemmas.Bool.Decides.{nat_tests}
-use Rattle.std.proofs.lemmas.Grind.{common_steps}
-use Rattle.lpt_pus.specs.LptPacket.Numbers.{word_at}
-use Rattle.lpt_pus.specs.LptPacket.Packets.{Fields, Sight, IdlePacket, APacket, seen}
+use Rattle.lpt_packet.specs.Numbers.{word_at}
+use Rattle.lpt_packet.specs.Packets.{Fields, Sight, IdlePacket, APacket, seen}
 use Rattle.lpt_pus.specs.declared.fault.PusFault.{PusFault}
 use Rattle.lpt_pus.specs.Commands.{Command, tc_verdict}
 use Rattle.lpt_pus.specs.Telemetry.{Telemetry, tm_verdict}
-use Rattle.lpt_reception.specs.LptPart.declared.fault.PartFault.{PartFault}
-use Rattle.lpt_reception.specs.LptPart.declared.fault.PartFault.TheVariants.{ShortPart, Zero, KindNumber, PartLength}
-use Rattle.lpt_reception.specs.LptPart.declared.kind.Kind.{Kind}
-use Rattle.lpt_reception.specs.LptPart.declared.reason.Reason.{Reason}
-use Rattle.lpt_reception.specs.LptPart.Aborts.{abort_in}
-use Rattle.lpt_reception.specs.LptPart.PartRanges.{NumberFits, LengthFits, PartFits}
-use Rattle.lpt_reception.specs.LptPart.Parts.{Piece, number_test, length_test, piece_at, part_verdict, part_in}
-use Rattle.lpt_split.specs.LptEvents.declared.side.Side.{Side}
-use Rattle.lpt_split.specs.LptEvents.declared.side.Side.TheVariants.{Ground, Craft}
-use Rattle.lpt_pus.specs.LptPacket.declared.direction.Direction.TheVariants.{Up, Down}
-use Rattle.lpt_split.specs.LptEvents.Arrivals.{NotRead, Foreign, ARequest, AReport, NoPart, APart, AnAbort, carried_kind, part_arrival, abort_arrival, command_arrival, report_arrival, telemetry_arrival, packet_arrival, sight_arrival, arrival}
-use Rattle.lpt_split.specs.LptEvents.Sides.{receiver_side}
+use Rattle.lpt_part.specs.declared.fault.PartFault.{PartFault}
+use Rattle.lpt_part.specs.declared.fault.PartFault.TheVariants.{ShortPart, Zero, KindNumber, PartLength}
+use Rattle.lpt_part.specs.declared.kind.Kind.{Kind}
+use Rattle.lpt_part.specs.declared.reason.Reason.{Reason}
+use Rattle.lpt_part.specs.Aborts.{abort_in}
+use Rattle.lpt_part.specs.PartRanges.{LengthFits, PartFits}
+use Rattle.lpt_part.proofs.BodyLemmas.{number_test-true, length_test-true}
+use Rattle.lpt_part.specs.Parts.{Piece, number_test, length_test, piece_at, part_verdict, part_in}
+use Rattle.lpt_events.specs.declared.side.Side.{Side}
+use Rattle.lpt_events.specs.declared.side.Side.TheVariants.{Ground, Craft}
+use Rattle.lpt_packet.specs.declared.direction.Direction.TheVariants.{Up, Down}
+use Rattle.lpt_events.specs.Arrivals.{NotRead, Foreign, ARequest, AReport, NoPart, APart, AnAbort, carried_kind, part_arrival, abort_arrival, command_arrival, report_arrival, telemetry_arrival, packet_arrival, sight_arrival, arrival}
+use Rattle.lpt_events.specs.Sides.{receiver_side}
 use Rattle.lpt_reception.specs.Received.{Kept}
 use Rattle.lpt_join.specs.declared.transaction.Transaction.{Transaction}
-use Rattle.lpt_pus.specs.LptPacket.Names.{Name, named_by, same_name}
-use Rattle.lpt_split.specs.LptEvents.NamedParts.{NamedPart, bare, named}
+use Rattle.lpt_packet.specs.Names.{Name, named_by, same_name}
+use Rattle.lpt_events.specs.NamedParts.{NamedPart, bare, named}
 use Rattle.lpt_join.specs.Offers.{piece_of, piece_in, part_of_name, part_of_piece, offered}
 
 -- where it is a part, it fits
@@ -55,21 +54,15 @@ chain_fits p false false false len q h = tt
 chain_fits p false false true false q h = tt
 chain_fits p false false true true q h = h refl refl
 
-number_fits : (kind : Kind) (n : ℕ) → number_test kind n ≡ true → NumberFits kind n
-number_fits kind n h = grind (arith, nat_tests, common_steps)
-
-length_fits : (kind : Kind) (n len p : ℕ) → length_test kind n len p ≡ true → LengthFits kind n len p
-length_fits kind n len p h = grind (arith, nat_tests, common_steps)
-
 verdict_fits : (p : ℕ) (kind : Kind) (b : List ℕ) → Fits p (result_ok (part_verdict kind b p))
 unfolding part_verdict
 verdict_fits p kind b =
     chain_fits p (nat_lt (length b) 4) (word_at b 2 == 0) (number_test kind (word_at b 2))
     (length_test kind (word_at b 2) (length b - 4) p) (piece_at kind b)
     (λ number len. record {
-      number_fits = number_fits kind (word_at b 2) number;
+      number_fits = number_test-true kind (word_at b 2) number;
       length_fits = subst (λ l. LengthFits kind (word_at b 2) l p) (sym (length-drop 4 b))
-          (length_fits kind (word_at b 2) (length b - 4) p len);
+          (length_test-true kind (word_at b 2) (length b - 4) p len);
     })
 
 -- ---- the packet

@@ -14,7 +14,7 @@ use Rattle.lpt_stream.specs.Pieces.{Piece, packet_before, packets_of}
 use Rattle.lpt_stream.proofs.CutLemmas.{packets-next}
 use Rattle.lpt_join.specs.declared.gathering.Gathering.{Gathering}
 use Rattle.lpt_join.specs.declared.transaction.Transaction.{Transaction}
-use Rattle.lpt_join.specs.CameInside.{has, is_ended}
+use Rattle.lpt_join.specs.PartNumbersInside.{has, is_ended}
 use Rattle.lpt_join.specs.Contradictions.{offered_in, is_against, place_or, place_if, against_from, first_against, octets_in, told_place}
 use Rattle.lpt_join.specs.Gatherings.{state, IsJoiningOf, Gives}
 use Rattle.lpt_join.specs.Joins.{Joined, Missing, Complete, Broken, join_part, joined_from, joined}

@@ -1,11 +1,11 @@
 -- Where a message's last part came, the highest number that came is that of its last part.
 use Rattle.std.proofs.Common.{◌≡◌, ◌∙◌, ap, sym, subst, refl, inl, inr, ℕ, ◌≤◌, ◌==◌, ◌||◌, Bool, true, false, if◌then◌else◌, List, [], ◌∷◌, length, arith}
-use Rattle.lpt_pus.proofs.LptPacket.Readings.{true_eq}
-use Rattle.lpt_reception.specs.LptPart.declared.kind.Kind.TheVariants.{First, Middle, Last}
-use Rattle.lpt_reception.specs.LptPart.Parts.{same_kind}
-use Rattle.lpt_reception.specs.LptPart.Splitting.{part_count}
+use Rattle.lpt_packet.proofs.Readings.{true_eq}
+use Rattle.lpt_part.specs.declared.kind.Kind.TheVariants.{First, Middle, Last}
+use Rattle.lpt_part.specs.Parts.{same_kind}
+use Rattle.lpt_part.specs.Splitting.{part_count}
 use Rattle.lpt_join.specs.declared.transaction.Transaction.{Transaction}
-use Rattle.lpt_join.specs.CameInside.{IsHighest}
+use Rattle.lpt_join.specs.PartNumbersInside.{IsHighest}
 use Rattle.lpt_join.specs.Laws.{AllBelong, Belongs, came, ended, is_part, is_end}
 use Rattle.lpt_join.specs.Offers.{offered}
 

@@ -3,8 +3,8 @@ use Rattle.std.proofs.Common.{◌≡◌, ◌∙◌, ap, sym, subst, refl, inl, i
 use Rattle.std.specs.Prelude.{is_some}
 use Rattle.std.specs.FinMap as map
 use Rattle.std.proofs.lemmas.Bool.Decides.{eqb_tells}
-use Rattle.lpt_pus.proofs.LptPacket.Readings.{eq_true, eq_false}
-use Rattle.lpt_reception.specs.LptPart.Splitting.{IsPartSize, part_count}
+use Rattle.lpt_packet.proofs.Readings.{eq_true, eq_false}
+use Rattle.lpt_part.specs.Splitting.{IsPartSize, part_count}
 use Rattle.lpt_reception.specs.PartsOf.{kept_of, IsPartsOf, IsMessage}
 use Rattle.lpt_reception.specs.Received.{Kept, Parts, no_parts, with_part, is_whole}
 use Rattle.lpt_reception.proofs.MessageLemmas.{IsPartsOf-none, IsPartsOf-with_part, parts_agree, parts_spell}

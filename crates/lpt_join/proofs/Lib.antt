@@ -16,6 +16,3 @@ pub mod SetLemmas
 pub mod SeveralLemmas
 pub mod SoleLemmas
 pub mod ThereLemmas
-pub use Rattle.lpt_pus.proofs.LptPacket as LptPacket
-pub use Rattle.lpt_reception.proofs as LptReception
-pub use Rattle.lpt_stream.proofs as LptStream

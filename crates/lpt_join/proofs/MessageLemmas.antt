@@ -1,9 +1,9 @@
 -- A packet of its direction is a message.
 use Rattle.std.proofs.Common.{◌≡◌, ◌∙◌, ap, refl, List, ℕ, None}
-use Rattle.lpt_pus.specs.LptPacket.declared.direction.Direction.{Direction}
-use Rattle.lpt_pus.specs.LptPacket.declared.direction.Direction.TheVariants.{Up, Down}
-use Rattle.lpt_pus.specs.LptPacket.Packets.{APacket}
-use Rattle.lpt_pus.proofs.LptPacket.Found.{again}
+use Rattle.lpt_packet.specs.declared.direction.Direction.{Direction}
+use Rattle.lpt_packet.specs.declared.direction.Direction.TheVariants.{Up, Down}
+use Rattle.lpt_packet.specs.Packets.{APacket}
+use Rattle.lpt_packet.proofs.Found.{again}
 use Rattle.lpt_join.specs.Messages.{kind_to, kind_misfit, sight_misfit, misfit, IsFit}
 
 of_kind : (d : Direction) → kind_misfit d (kind_to d) ≡ None

@@ -1,9 +1,9 @@
 -- Octets that carry no part of a transaction.
 use Rattle.std.proofs.Common.{◌≡◌, ◌≢◌, ◌∙◌, ap, sym, refl, ℕ, Bool, true, false, if◌then◌else◌, List, Option, Some, None}
-use Rattle.lpt_pus.specs.LptPacket.Packets.{Fields, IdlePacket, APacket, seen}
-use Rattle.lpt_pus.proofs.LptPacket.NameLemmas.{same_name-true}
-use Rattle.lpt_pus.specs.LptPacket.Names.{Name, same_name}
-use Rattle.lpt_split.specs.LptEvents.NamedParts.{NamedPart, bare}
+use Rattle.lpt_packet.specs.Packets.{Fields, IdlePacket, APacket, seen}
+use Rattle.lpt_packet.proofs.NameLemmas.{same_name-true}
+use Rattle.lpt_packet.specs.Names.{Name, same_name}
+use Rattle.lpt_events.specs.NamedParts.{NamedPart, bare}
 use Rattle.lpt_join.specs.declared.transaction.Transaction.{Transaction}
 use Rattle.lpt_join.specs.Offers.{piece_in, part_of_name, part_of_piece, offered}
 use Rattle.lpt_join.proofs.ReadLemmas.{piece-seen, none-foreign}

@@ -1,12 +1,12 @@
 -- The part that octets carry, by what they are seen as.
 use Rattle.std.proofs.Common.{◌≡◌, ◌≢◌, ◌∙◌, ap, sym, ℕ, Bool, if◌then◌else◌, List, Option, Some, None, Result, Ok, Err}
 use Rattle.std.specs.Result.{result_ok}
-use Rattle.lpt_pus.specs.LptPacket.declared.fault.PacketFault.{PacketFault}
-use Rattle.lpt_pus.specs.LptPacket.declared.packet.Seen.{Seen}
-use Rattle.lpt_pus.specs.LptPacket.Packets.{Fields, Sight, IdlePacket, APacket, seen, sight, verdict}
-use Rattle.lpt_pus.proofs.LptPacket.Readings.{eq_true, eq_false}
-use Rattle.lpt_split.specs.LptEvents.Arrivals.{Foreign, packet_arrival, sight_arrival, arrival}
-use Rattle.lpt_split.specs.LptEvents.Sides.{receiver_side}
+use Rattle.lpt_packet.specs.declared.fault.PacketFault.{PacketFault}
+use Rattle.lpt_packet.specs.declared.packet.Seen.{Seen}
+use Rattle.lpt_packet.specs.Packets.{Fields, Sight, IdlePacket, APacket, seen, sight, verdict}
+use Rattle.lpt_packet.proofs.Readings.{eq_true, eq_false}
+use Rattle.lpt_events.specs.Arrivals.{Foreign, packet_arrival, sight_arrival, arrival}
+use Rattle.lpt_events.specs.Sides.{receiver_side}
 use Rattle.lpt_join.specs.declared.transaction.Transaction.{Transaction}
 use Rattle.lpt_join.specs.Offers.{piece_of, piece_in}
 

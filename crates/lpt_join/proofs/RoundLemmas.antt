@@ -1,16 +1,17 @@
 -- Packets that are split of a message are made of it.
 use Rattle.std.proofs.Common.{◌≡◌, ap, sym, subst, inl, inr, ℕ, ◌≤◌, List, [], ◌∷◌, length, arith}
-use Rattle.lpt_pus.specs.LptPacket.Packets.{Fields, IsPacket}
-use Rattle.lpt_reception.specs.LptPart.Splitting.{part_count}
-use Rattle.lpt_split.specs.LptEvents.declared.config.Config.{Config}
-use Rattle.lpt_split.specs.LptEvents.MadePackets.{part_made, nth_part}
+use Rattle.lpt_packet.specs.Packets.{Fields, IsPacket}
+use Rattle.lpt_part.specs.Splitting.{part_count}
+use Rattle.lpt_events.specs.declared.config.Config.{Config}
+use Rattle.lpt_events.specs.MadePackets.{part_made, nth_part}
 use Rattle.lpt_stream.specs.Streams.{IsStream}
 use Rattle.lpt_split.specs.Splits.{next_count, IsNumber, AreNumbers, split_of}
 use Rattle.lpt_join.specs.declared.transaction.Transaction.{Transaction}
 use Rattle.lpt_join.specs.Joins.{Complete, joined}
-use Rattle.lpt_join.specs.Laws.{AreCounts, IsMade, AllMadeOrOther, IsAmong, IsSending, HasNumber}
+use Rattle.lpt_join.specs.Laws.{IsMade, AllMadeOrOther, IsAmong, IsSending, HasNumber}
 use Rattle.lpt_join.proofs.MadeLemmas.{made_packet, nth_fits}
 use Rattle.lpt_join.proofs.SentLemmas.{sent_joined}
+use Rattle.lpt_events.specs.Counts.{AreCounts}
 
 abbrev IsSomePacket : List ℕ → Type 0
 IsSomePacket b = (f : Fields) × IsPacket b f

@@ -1,7 +1,7 @@
 -- Packets that are made of a message's parts, among others, are joined to the message.
 use Rattle.std.proofs.Common.{◌≡◌, ◌∙◌, ap, refl, inl, inr, ℕ, Bool, true, false, ◌||◌, List, [], ◌∷◌, Some}
-use Rattle.lpt_pus.proofs.LptPacket.Readings.{eq_true}
-use Rattle.lpt_split.specs.LptEvents.declared.config.Config.{Config}
+use Rattle.lpt_packet.proofs.Readings.{eq_true}
+use Rattle.lpt_events.specs.declared.config.Config.{Config}
 use Rattle.lpt_reception.specs.PartsOf.{kept_of}
 use Rattle.lpt_join.specs.declared.transaction.Transaction.{Transaction}
 use Rattle.lpt_join.specs.Joins.{Complete, joined}

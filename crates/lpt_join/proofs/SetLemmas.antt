@@ -7,11 +7,11 @@ use Rattle.std.specs.Ordering.{nat_cmp}
 use Rattle.std.specs.Cmp.{unsigned_tied, nat_cmp_total}
 use Rattle.std.proofs.lemmas.Bool.{eq-eqb, ne_eqb, and_from, and_parts}
 use Rattle.std.proofs.lemmas.Bool.Decides.{eqb_tells}
-use Rattle.lpt_pus.proofs.LptPacket.EntryLemmas.{none_passes}
-use Rattle.lpt_pus.proofs.LptPacket.Readings.{eq_true, eq_false}
-use Rattle.lpt_reception.specs.LptPart.declared.kind.Kind.TheVariants.{First, Middle, Last}
-use Rattle.lpt_reception.specs.LptPart.Splitting.{IsPartSize, part_count, kind_at}
-use Rattle.lpt_reception.proofs.LptPart.SplitLemmas.{part_count-two}
+use Rattle.lpt_packet.proofs.EntryLemmas.{none_passes}
+use Rattle.lpt_packet.proofs.Readings.{eq_true, eq_false}
+use Rattle.lpt_part.specs.declared.kind.Kind.TheVariants.{First, Middle, Last}
+use Rattle.lpt_part.specs.Splitting.{IsPartSize, part_count, kind_at}
+use Rattle.lpt_part.proofs.SplitLemmas.{part_count-two}
 use Rattle.lpt_reception.specs.PartsOf.{IsPartsOf, IsMessage}
 use Rattle.lpt_reception.specs.Received.{Kept, Parts, no_parts, with_part, is_last, is_overrun, has_all_to, is_whole}
 

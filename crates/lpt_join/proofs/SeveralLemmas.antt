@@ -2,9 +2,9 @@
 use Rattle.std.proofs.Common.{◌≡◌, ◌∙◌, ap, sym, subst, refl, inl, inr, ◌⊎◌, ℕ, ◌+◌, ◌≤◌, Bool, true, false, if◌then◌else◌, ◌||◌, List, [], ◌∷◌, ◌++◌, length, Option, Some, None, is_some, append-nil, append_assoc, arith}
 use Rattle.std.specs.Option.{option_map}
 use Rattle.std.proofs.lemmas.Bool.{or_parts}
-use Rattle.lpt_pus.specs.LptPacket.Names.{Name, same_name}
-use Rattle.lpt_pus.proofs.LptPacket.NameLemmas.{same_name-refl, same_name-true}
-use Rattle.lpt_split.specs.LptEvents.NamedParts.{NamedPart, bare}
+use Rattle.lpt_packet.specs.Names.{Name, same_name}
+use Rattle.lpt_packet.proofs.NameLemmas.{same_name-refl, same_name-true}
+use Rattle.lpt_events.specs.NamedParts.{NamedPart, bare}
 use Rattle.lpt_reception.specs.Received.{Kept}
 use Rattle.lpt_stream.specs.declared.piece_kind.PieceKind.{PieceKind}
 use Rattle.lpt_stream.specs.declared.piece_kind.PieceKind.TheVariants.{Whole, Damaged, Stray}

@@ -1,12 +1,12 @@
 -- Where packets carry parts of one message alone, they carry none of any other transaction.
 use Rattle.std.proofs.Common.{◌≡◌, ◌∙◌, ap, sym, refl, inl, inr, ℕ, Bool, true, false, ◌||◌, if◌then◌else◌, List, [], ◌∷◌, Option, Some, None, is_some}
 use Rattle.std.proofs.lemmas.Bool.{or_parts}
-use Rattle.lpt_pus.specs.LptPacket.Names.{Name, same_name}
-use Rattle.lpt_pus.proofs.LptPacket.NameLemmas.{same_name-true}
+use Rattle.lpt_packet.specs.Names.{Name, same_name}
+use Rattle.lpt_packet.proofs.NameLemmas.{same_name-true}
 use Rattle.lpt_reception.specs.PartsOf.{kept_of}
 use Rattle.lpt_reception.specs.Received.{Kept, no_parts}
-use Rattle.lpt_split.specs.LptEvents.declared.config.Config.{Config}
-use Rattle.lpt_split.specs.LptEvents.NamedParts.{NamedPart, bare}
+use Rattle.lpt_events.specs.declared.config.Config.{Config}
+use Rattle.lpt_events.specs.NamedParts.{NamedPart, bare}
 use Rattle.lpt_join.specs.declared.transaction.Transaction.{Transaction}
 use Rattle.lpt_join.specs.Joins.{Joined, Missing, Complete, join_part, joined_from, joined}
 use Rattle.lpt_join.specs.Laws.{AllMadeOrNone, AllMadeOrOther, EachIsAmong, IsMadeOrNone, IsMadeOrOther, IsSending}

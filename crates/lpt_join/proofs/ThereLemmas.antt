@@ -3,8 +3,8 @@ use Rattle.std.proofs.Common.{◌≡◌, sym, subst, refl, inl, inr, ℕ, ◌≤
 use Rattle.std.specs.Prelude.{is_some}
 use Rattle.std.specs.FinMap as map
 use Rattle.std.proofs.lemmas.Bool.{or_parts}
-use Rattle.lpt_reception.specs.LptPart.PartRanges.{PartFits}
-use Rattle.lpt_reception.specs.LptPart.Splitting.{IsPartSize, part_count}
+use Rattle.lpt_part.specs.PartRanges.{PartFits}
+use Rattle.lpt_part.specs.Splitting.{IsPartSize, part_count}
 use Rattle.lpt_reception.specs.PartsOf.{kept_of, AllFit, IsMessage, IsSplit}
 use Rattle.lpt_reception.specs.Received.{Kept, Parts, no_parts, with_part, differs, is_overrun, contradicts, is_whole, spelled}
 use Rattle.lpt_join.specs.declared.transaction.Transaction.{Transaction}

@@ -7,7 +7,7 @@ use Rattle.lpt_join.specs.declared.gathering.Gathering.{Gathering}
 use Rattle.lpt_join.specs.declared.joining.Joining.{Joining}
 use Rattle.lpt_join.specs.declared.joining.Joining.TheVariants as joining
 use Rattle.lpt_join.specs.declared.transaction.Transaction.{Transaction}
-use Rattle.lpt_join.specs.CameInside.{has, is_ended}
+use Rattle.lpt_join.specs.PartNumbersInside.{has, is_ended}
 use Rattle.lpt_join.specs.Contradictions.{first_against, told_place}
 use Rattle.lpt_join.specs.Joins.{Joined, Missing, Complete, Broken, joined}
 use Rattle.lpt_join.specs.Laws.{came, ended}

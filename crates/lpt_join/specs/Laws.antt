@@ -1,14 +1,15 @@
 -- The packets of a message among others.
-use Rattle.std.specs.Prelude.{◌≡◌, ℕ, ◌<◌, ◌≤◌, ◌^◌, ◌==◌, Bool, true, false, List, [], ◌∷◌, length, Option, Some, None, ◌⊎◌}
+use Rattle.std.specs.Prelude.{◌≡◌, ℕ, ◌<◌, ◌≤◌, ◌==◌, Bool, true, false, List, [], ◌∷◌, length, Option, Some, None, ◌⊎◌}
 use Rattle.std.specs.List.{list_any}
-use Rattle.lpt_reception.specs.LptPart.Splitting.{part_count}
-use Rattle.lpt_split.specs.LptEvents.declared.config.Config.{Config}
-use Rattle.lpt_split.specs.LptEvents.Configs.{IsConfig}
-use Rattle.lpt_split.specs.LptEvents.MadePackets.{part_made, nth_part}
+use Rattle.lpt_part.specs.Splitting.{part_count}
+use Rattle.lpt_events.specs.declared.config.Config.{Config}
+use Rattle.lpt_events.specs.Configs.{IsConfig}
+use Rattle.lpt_events.specs.MadePackets.{part_made, nth_part}
 use Rattle.lpt_reception.specs.PartsOf.{IsMessage, kept_of}
 use Rattle.lpt_reception.specs.Received.{Kept, is_last}
 use Rattle.lpt_join.specs.declared.transaction.Transaction.{Transaction}
 use Rattle.lpt_join.specs.Offers.{offered, piece_in}
+use Rattle.lpt_events.specs.Counts.{AreCounts}
 
 -- ---- packets that carry parts
 
@@ -68,12 +69,6 @@ pub record IsSending (t : Transaction) (c : Config) (m : List ℕ) : Type 0 wher
   pub source_fits : t.name.source < 65536
   pub id_fits : t.name.id < 65536
   pub message : IsMessage m t.part_size
-
--- sequence count, message type counter and time are in their ranges
-pub record AreCounts (count counter time : ℕ) : Type 0 where
-  pub count_fits : count ≤ 16383
-  pub counter_fits : counter < 65536
-  pub time_fits : time < 2 ^ 32
 
 -- the octets are a packet that is made of part n of the message, however it is counted
 pub record IsMade (t : Transaction) (c : Config) (m : List ℕ) (n : ℕ) (b : List ℕ) : Type 0 where

@@ -1,4 +1,4 @@
-pub mod CameInside
+pub mod PartNumbersInside
 pub mod Contradictions
 pub mod Gatherings
 pub mod Joins
@@ -9,11 +9,3 @@ pub mod Offers
 pub mod Reads
 pub mod Several
 pub mod SeveralInside
-pub use Rattle.lpt_pus.specs.LptPacket as LptPacket
-pub use Rattle.lpt_reception.specs.LptPart as LptPart
-pub use Rattle.lpt_reception.specs as LptReception
-pub use Rattle.lpt_skips.specs as LptSkips
-pub use Rattle.lpt_split.specs.LptEvents as LptEvents
-pub use Rattle.lpt_split.specs.LptText as LptText
-pub use Rattle.lpt_split.specs as LptSplit
-pub use Rattle.lpt_stream.specs as LptStream

@@ -1,13 +1,13 @@
 -- When octets are a message of a direction, and which parts are a message's.
 use Rattle.std.specs.Prelude.{◌≡◌, ℕ, Bool, ◌&&◌, nat_lt, nat_le, List, length, Option, Some, None, Result, Ok, Err}
-use Rattle.lpt_pus.specs.LptPacket.declared.direction.Direction.{Direction}
-use Rattle.lpt_pus.specs.LptPacket.declared.direction.Direction.TheVariants.{Up, Down}
-use Rattle.lpt_pus.specs.LptPacket.declared.fault.PacketFault.{PacketFault}
-use Rattle.lpt_pus.specs.LptPacket.declared.packet.PacketKind.{PacketKind}
-use Rattle.lpt_pus.specs.LptPacket.declared.packet.PacketKind.TheVariants.{Tm, Tc}
-use Rattle.lpt_pus.specs.LptPacket.Packets.{Fields, Sight, IdlePacket, APacket, IsPacket, verdict}
-use Rattle.lpt_pus.specs.LptPacket.Sizes.{longest_packet}
-use Rattle.lpt_reception.specs.LptPart.Splitting.{part_count}
+use Rattle.lpt_packet.specs.declared.direction.Direction.{Direction}
+use Rattle.lpt_packet.specs.declared.direction.Direction.TheVariants.{Up, Down}
+use Rattle.lpt_packet.specs.declared.fault.PacketFault.{PacketFault}
+use Rattle.lpt_packet.specs.declared.packet.PacketKind.{PacketKind}
+use Rattle.lpt_packet.specs.declared.packet.PacketKind.TheVariants.{Tm, Tc}
+use Rattle.lpt_packet.specs.Packets.{Fields, Sight, IdlePacket, APacket, IsPacket, verdict}
+use Rattle.lpt_packet.specs.Sizes.{longest_packet}
+use Rattle.lpt_part.specs.Splitting.{part_count}
 use Rattle.lpt_reception.specs.PartsOf.{kept_of}
 use Rattle.lpt_reception.specs.Received.{Kept, same_kept}
 use Rattle.lpt_join.specs.declared.messages.Misfit.{Misfit}

@@ -1,10 +1,10 @@
 -- The part of a transaction that a packet carries.
 use Rattle.std.specs.Prelude.{ℕ, if◌then◌else◌, List, Option, Some, None}
-use Rattle.lpt_pus.specs.LptPacket.Names.{Name, same_name}
-use Rattle.lpt_reception.specs.LptPart.Parts.{Piece}
-use Rattle.lpt_split.specs.LptEvents.Arrivals.{Arrival, APart, arrival}
-use Rattle.lpt_split.specs.LptEvents.NamedParts.{NamedPart, bare}
-use Rattle.lpt_split.specs.LptEvents.Sides.{receiver_side}
+use Rattle.lpt_packet.specs.Names.{Name, same_name}
+use Rattle.lpt_part.specs.Parts.{Piece}
+use Rattle.lpt_events.specs.Arrivals.{Arrival, APart, arrival}
+use Rattle.lpt_events.specs.NamedParts.{NamedPart, bare}
+use Rattle.lpt_events.specs.Sides.{receiver_side}
 use Rattle.lpt_reception.specs.Received.{Kept}
 use Rattle.lpt_join.specs.declared.transaction.Transaction.{Transaction}
 

@@ -1,15 +1,15 @@
 //! Which parts are missing.
 
 ghost use Rattle.std.specs.Prelude.{◌≡◌, ◌≤◌, ◌<◌, ◌+◌, ◌↔◌, true, not, None, IfOk, IfSome};
-ghost use Rattle.lpt_join.specs.CameInside.{has};
+ghost use Rattle.lpt_join.specs.PartNumbersInside.{has};
 ghost use Rattle.lpt_join.specs.Missing.{AreAll, IsGap, AreGaps};
 
-use crate::Came;
+use crate::PartNumbers;
 use std::alloc::{AllocError, Global};
 
 /// The numbers from 1 to `last` (at most 65,535) of which no part came: the first and the last of
 /// each run of them, in order. The only error is out of memory.
-pub fn missing(alloc: Global, came: &Came, last: u32) -> Result<Vec<(u32, u32)>, AllocError>
+pub fn missing(alloc: Global, came: &PartNumbers, last: u32) -> Result<Vec<(u32, u32)>, AllocError>
     requires { last ≤ 65535 }
     ensures { IfOk result (λ gaps. AreGaps (has came.now) 1 last gaps.items) }
 {
@@ -23,7 +23,7 @@ pub fn missing(alloc: Global, came: &Came, last: u32) -> Result<Vec<(u32, u32)>,
 }
 
 // The first run of missing numbers among those from `from` to `last`.
-fn gap_from(came: &Came, from: u32, last: u32) -> Option<(u32, u32)>
+fn gap_from(came: &PartNumbers, from: u32, last: u32) -> Option<(u32, u32)>
     requires last { last ≤ 65535 }
     requires from { from ≤ last + 1 }
     ensures gap { IfSome result (IsGap (has came.now) from last) }
@@ -39,7 +39,7 @@ fn gap_from(came: &Came, from: u32, last: u32) -> Option<(u32, u32)>
 
 // The first number from `from` on of which a part came, or didn't; one more than `last` where there
 // is none up to that.
-fn first_from(came: &Came, wanted: bool, from: u32, last: u32) -> u32
+fn first_from(came: &PartNumbers, wanted: bool, from: u32, last: u32) -> u32
     requires last { last ≤ 65535 }
     requires from { from ≤ last + 1 }
     ensures from { from ≤ result }

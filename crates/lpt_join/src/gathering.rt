@@ -6,7 +6,7 @@ ghost use Rattle.lpt_stream.specs.Pieces.{Piece};
 ghost use Rattle.lpt_join.specs.Contradictions.{octets_in, place_if, place_or, told_place};
 ghost use Rattle.lpt_join.specs.declared.transaction.Transaction.{Transaction};
 
-use crate::{Came, Joining, Transaction, part_in};
+use crate::{Joining, PartNumbers, Transaction, part_in};
 use lpt_stream::PieceKind;
 use std::alloc::{AllocError, Global};
 
@@ -19,7 +19,7 @@ pub struct Gathering {
     /// What the parts are joined to.
     pub joining: Joining,
     /// Which parts came.
-    pub came: Came,
+    pub came: PartNumbers,
     /// The place in the stream of the first packet whose part contradicts those before it: it broke the
     /// message off, or came once that was whole and is none of its parts.
     pub against: Option<u64>,
@@ -34,7 +34,7 @@ impl Gathering {
     {
         Gathering {
             joining: Joining::Nothing,
-            came: Came::new(alloc),
+            came: PartNumbers::new(alloc),
             against: None,
         }
     }

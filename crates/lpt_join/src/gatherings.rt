@@ -1,12 +1,12 @@
 //! What is kept of each transaction among a stream's packets.
 
 ghost use Rattle.std.specs.Prelude.{◌≡◌, ◌≤◌, ◌<◌, ◌+◌, ◌⊎◌, ℕ, List, [], ◌∷◌, ◌++◌, length, true, false, Some, None, IfOk, IfSome, OnOk, IfNone};
-ghost use Rattle.lpt_pus.specs.LptPacket.Names.{Name, same_name};
+ghost use Rattle.lpt_packet.specs.Names.{Name, same_name};
 ghost use Rattle.lpt_join.specs.declared.gathering.Gathering.{Gathering};
 ghost use Rattle.lpt_join.specs.declared.transaction.Transaction.{Transaction};
 
 use crate::{Gathering, Transaction, name_in};
-use lpt_pus::Name;
+use lpt_packet::Name;
 use lpt_stream::PieceKind;
 use std::alloc::{AllocError, Global};
 use std::collections::BTreeMap;

@@ -1,8 +1,8 @@
 //! What the parts that came are joined to.
 
 ghost use Rattle.std.specs.Prelude.{◌≡◌, ℕ, Some, IfOk};
-ghost use Rattle.lpt_reception.specs.LptPart.declared.mode.Mode.TheVariants.{Any};
-ghost use Rattle.lpt_reception.specs.LptPart.Parts.{piece};
+ghost use Rattle.lpt_part.specs.declared.mode.Mode.TheVariants.{Any};
+ghost use Rattle.lpt_part.specs.Parts.{piece};
 ghost use Rattle.lpt_reception.specs.Steps.{Answers};
 ghost use Rattle.lpt_reception.specs.Received.{Received, Kept, contradicts};
 ghost use Rattle.lpt_join.specs.declared.transaction.Transaction.{Transaction};
@@ -12,8 +12,9 @@ ghost use Rattle.lpt_join.specs.Offers.{part_of_piece};
 ghost use Rattle.lpt_join.specs.Gatherings.{state, IsJoiningOf};
 
 use crate::{Transaction, is_part_of};
-use lpt_pus::Octets;
-use lpt_reception::{Filling, Part, Step};
+use lpt_packet::Octets;
+use lpt_part::Part;
+use lpt_reception::{Filling, Step};
 use std::alloc::{AllocError, Global};
 
 /// What the parts of one transaction that came are joined to.

@@ -2,23 +2,24 @@
 
 ghost use Rattle.std.specs.Prelude.{◌≡◌, ◌≢◌, ◌<◌, ◌≤◌, ℕ, List, length, None, Some, is_some, true};
 ghost use Rattle.std.specs.FinMap as map;
-ghost use Rattle.lpt_pus.specs.LptPacket.Bursts.{DifferInBurst};
-ghost use Rattle.lpt_pus.specs.LptPacket.Packets.{Fields, IdlePacket, APacket, IsPacket, seen};
-ghost use Rattle.lpt_reception.specs.LptPart.Splitting.{part_count};
-ghost use Rattle.lpt_split.specs.LptEvents.declared.config.Config.{Config};
-ghost use Rattle.lpt_split.specs.LptEvents.MadePackets.{part_made, nth_part};
-ghost use Rattle.lpt_split.specs.LptEvents.NamedParts.{NamedPart};
+ghost use Rattle.lpt_packet.specs.Bursts.{DifferInBurst};
+ghost use Rattle.lpt_packet.specs.Packets.{Fields, IdlePacket, APacket, IsPacket, seen};
+ghost use Rattle.lpt_part.specs.Splitting.{part_count};
+ghost use Rattle.lpt_events.specs.declared.config.Config.{Config};
+ghost use Rattle.lpt_events.specs.MadePackets.{part_made, nth_part};
+ghost use Rattle.lpt_events.specs.NamedParts.{NamedPart};
 ghost use Rattle.lpt_reception.specs.PartsOf.{IsMessage, kept_of, IsPartsOf};
 ghost use Rattle.lpt_reception.specs.Received.{Parts};
 ghost use Rattle.lpt_stream.specs.Pieces.{Finds, Piece, packets_of};
 ghost use Rattle.lpt_stream.specs.Streams.{all_octets};
 ghost use Rattle.lpt_split.specs.Splits.{AreNumbers, split_of};
 ghost use Rattle.lpt_join.specs.declared.transaction.Transaction.{Transaction};
-ghost use Rattle.lpt_join.specs.CameInside.{IsHighest};
+ghost use Rattle.lpt_join.specs.PartNumbersInside.{IsHighest};
 ghost use Rattle.lpt_join.specs.Contradictions.{first_against};
 ghost use Rattle.lpt_join.specs.Joins.{Missing, Complete, joined};
-ghost use Rattle.lpt_join.specs.Laws.{AllBelong, AllCame, came, ended, AreCounts, IsSending, AllMadeOrOther, EachIsAmong, IsThere, HasNumber};
+ghost use Rattle.lpt_join.specs.Laws.{AllBelong, AllCame, came, ended, IsSending, AllMadeOrOther, EachIsAmong, IsThere, HasNumber};
 ghost use Rattle.lpt_join.specs.Offers.{offered, piece_in};
+ghost use Rattle.lpt_events.specs.Counts.{AreCounts};
 
 use lpt_reception::laws::whole_is_split;
 

@@ -6,34 +6,30 @@
 //! calls are `join_stream` for a whole stream, and `missing` for the numbers that haven't come.
 #![tactic(auto)]
 
-mod came;
 mod gaps;
 mod gathering;
 mod gatherings;
 mod joining;
 pub mod laws;
 mod messages;
+mod part_numbers;
 mod reading;
 mod several;
 mod stream;
 mod transaction;
 
-pub use came::Came;
 pub use gaps::missing;
 pub use gathering::Gathering;
 pub use gatherings::{Gatherings, TRANSACTION_LIMIT};
 pub use joining::Joining;
-pub use lpt_packet::PacketFault;
-pub use lpt_pus::{Direction, LONGEST_PACKET, Name, Octets};
-pub use lpt_reception::laws::whole_is_split;
-pub use lpt_reception::{Filling, Kind, Mode, Part};
+pub use lpt_packet::{Direction, Name, Octets, PacketFault};
+pub use lpt_part::{Kind, Part};
+pub use lpt_reception::Filling;
 pub use lpt_skips::{Reading, Skips};
-pub use lpt_split::{
-    Config, End, Form, Sink, Source, Told, ToolFault, count, flush_out, read_text, split,
-    write_alone, write_out,
-};
-pub use lpt_stream::{Found, PacketBuffer, PieceKind, packet_length, whole_length};
+pub use lpt_stream::PieceKind;
+pub use lpt_text::{Source, ToolFault};
 pub use messages::{Misfit, check_message, is_part_of};
+pub use part_numbers::PartNumbers;
 pub use reading::{name_in, part_in};
 pub use several::gather_stream;
 pub use stream::join_stream;

@@ -1,16 +1,14 @@
 //! What is a message: a packet of its direction, which has just its own parts.
 
 ghost use Rattle.std.specs.Prelude.{◌≡◌, ◌↔◌, IsOk};
-ghost use Rattle.lpt_reception.specs.LptPart.Parts.{piece, same_kind};
+ghost use Rattle.lpt_part.specs.Parts.{piece, same_kind};
 ghost use Rattle.lpt_reception.specs.Received.{same_kept};
 ghost use Rattle.lpt_reception.specs.Steps.{kept};
 ghost use Rattle.lpt_join.specs.Messages.{is_part_of, kind_misfit, misfit, Finding, IsFit};
 ghost use Rattle.lpt_join.specs.Offers.{part_of_piece};
 
-use lpt_packet::PacketFault;
-use lpt_pus::{Direction, LONGEST_PACKET, PacketKind, Seen, read_packet};
-use lpt_reception::{Kind, Part, count};
-use lpt_split::part_at;
+use lpt_packet::{Direction, LONGEST_PACKET, PacketFault, PacketKind, Seen, read_packet};
+use lpt_part::{Kind, Part, count, part_at};
 use thiserror::Error;
 
 /// Why octets are no message of a direction.

@@ -2,18 +2,20 @@
 
 ghost use Rattle.std.specs.Prelude.{◌≡◌, ℕ, List, IfSome};
 ghost use Rattle.std.specs.Option.{option_map};
-ghost use Rattle.lpt_pus.specs.LptPacket.Packets.{fields};
-ghost use Rattle.lpt_reception.specs.LptPart.Parts.{piece};
-ghost use Rattle.lpt_reception.specs.LptPart.Splitting.{IsPartSize};
-ghost use Rattle.lpt_split.specs.LptEvents.Arrivals.{packet_arrival};
-ghost use Rattle.lpt_split.specs.LptEvents.NamedParts.{NamedPart, named};
-ghost use Rattle.lpt_split.specs.LptEvents.declared.side.Side.TheVariants.{Ground, Craft};
+ghost use Rattle.lpt_packet.specs.Packets.{fields};
+ghost use Rattle.lpt_part.specs.Parts.{piece};
+ghost use Rattle.lpt_part.specs.Splitting.{IsPartSize};
+ghost use Rattle.lpt_events.specs.Arrivals.{packet_arrival};
+ghost use Rattle.lpt_events.specs.NamedParts.{NamedPart, named};
+ghost use Rattle.lpt_events.specs.declared.side.Side.TheVariants.{Ground, Craft};
 ghost use Rattle.lpt_join.specs.Offers.{piece_of, piece_in, part_of_piece, offered};
 
 use crate::Transaction;
-use lpt_pus::{Direction, Name, Packet, Seen, read_packet, read_tc, read_tm, seen_is_read};
-use lpt_reception::{Part, read_part};
-use lpt_split::part_kind;
+use lpt_events::part_kind;
+use lpt_packet::laws::seen_is_read;
+use lpt_packet::{Direction, Name, Packet, Seen, read_packet};
+use lpt_part::{Part, read_part};
+use lpt_pus::{read_tc, read_tm};
 
 /// The part of this transaction that octets carry; none where they are no packet, an idle one, one
 /// of another APID, type, service or transaction, or one whose part isn't read for this part size.

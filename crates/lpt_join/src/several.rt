@@ -8,8 +8,8 @@ ghost use Rattle.lpt_skips.specs.Tallies.{skips_of};
 
 use crate::{Gatherings, Transaction};
 use lpt_skips::Skips;
-use lpt_split::{Source, ToolFault};
 use lpt_stream::PacketBuffer;
+use lpt_text::{Source, ToolFault};
 use std::alloc::Global;
 
 /// Keeps what a stream's packets give of each transaction, of those that are read as this one is, up

@@ -2,7 +2,7 @@
 
 ghost use Rattle.std.specs.Prelude.{◌≡◌, ◌≢◌, ◌⊎◌, ◌≤◌, ℕ, List, length, true, Some, IfOk, IfErr, IsErrOf, OnOk, Err};
 ghost use Rattle.std.specs.Io.KnownBytes.{Consumes, IsAtEnd};
-ghost use Rattle.lpt_split.specs.LptEvents.declared.config.Config.{Config};
+ghost use Rattle.lpt_events.specs.declared.config.Config.{Config};
 ghost use Rattle.lpt_stream.specs.Pieces.{Finds};
 ghost use Rattle.lpt_join.specs.Gatherings.{state, Gives};
 ghost use Rattle.lpt_join.specs.Joins.{Complete};
@@ -14,8 +14,8 @@ ghost use Rattle.lpt_skips.specs.Tallies.{skips_of};
 
 use crate::{Gathering, Transaction};
 use lpt_skips::Skips;
-use lpt_split::{Source, ToolFault};
 use lpt_stream::PacketBuffer;
+use lpt_text::{Source, ToolFault};
 use std::alloc::Global;
 
 /// Joins the parts of a transaction that a stream's packets carry, up to the stream's end, and counts

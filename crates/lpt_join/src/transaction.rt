@@ -1,8 +1,8 @@
 //! A transaction of the link.
 
-ghost use Rattle.lpt_reception.specs.LptPart.Splitting.{IsPartSize};
+ghost use Rattle.lpt_part.specs.Splitting.{IsPartSize};
 
-use lpt_pus::{Direction, Name};
+use lpt_packet::{Direction, Name};
 use lpt_skips::Reading;
 
 /// Which transaction, and how its packets are read.

@@ -2,18 +2,18 @@
 use Rattle.std.proofs.Common.{◌≡◌, ◌∙◌, ap, sym, ℕ, ◌<◌, true, false, inl, inr, List, [], ◌∷◌, length, Some, arith}
 use Rattle.std.specs.List.{slice_get}
 use Rattle.std.specs.Option.{is_some}
-use Rattle.lpt_reception.specs.LptPacket.declared.direction.Direction.{Direction}
-use Rattle.lpt_reception.specs.LptPacket.Names.{Name}
-use Rattle.lpt_execution.specs.LptEvents.declared.config.Config.{Config}
-use Rattle.lpt_execution.specs.LptEvents.declared.event.Event.{Event}
-use Rattle.lpt_execution.specs.LptEvents.declared.entry.Opening.{Opening}
-use Rattle.lpt_execution.specs.LptEvents.declared.entry.Release.{Release}
+use Rattle.lpt_packet.specs.declared.direction.Direction.{Direction}
+use Rattle.lpt_packet.specs.Names.{Name}
+use Rattle.lpt_events.specs.declared.config.Config.{Config}
+use Rattle.lpt_events.specs.declared.event.Event.{Event}
+use Rattle.lpt_events.specs.declared.entry.Opening.{Opening}
+use Rattle.lpt_events.specs.declared.entry.Release.{Release}
 use Rattle.lpt_journal.specs.Abortions.{Abortion, abortion_at, abortions, opening_of_abortion, NoneIsReleased, NothingIsKept, ReleasedIsUnheard, AbortionIsFinal}
 use Rattle.lpt_journal.specs.Headline.{IsSameOpening}
 use Rattle.lpt_journal.specs.Journal.{Recorded, History}
 use Rattle.lpt_journal.specs.Receivers.{is_closed}
 use Rattle.lpt_journal.specs.Releases.{released_by, releases}
-use Rattle.lpt_execution.specs.LptEvents.Configs.{IsConfig}
+use Rattle.lpt_events.specs.Configs.{IsConfig}
 use Rattle.lpt_journal.specs.Replies.{entry, recorded}
 use Rattle.lpt_journal.specs.Legal.{Legal}
 use Rattle.lpt_journal.specs.Senders.{current}
@@ -23,7 +23,7 @@ use Rattle.lpt_journal.proofs.OnceLemmas.{past_closed, released_closed, clash, f
 use Rattle.lpt_journal.proofs.Releasing.{IsReleaseOf, OwesReleases, IsPast, ArePast, before_old, before_new, opening_is, is_large, closed_stays, was_current, new_past, old_past}
 use Rattle.lpt_journal.proofs.Steps.{IsSound, Owes}
 use Rattle.lpt_journal.proofs.TestLemmas.{no_place, IsOldOrNew, with_all_cases}
-use Rattle.lpt_execution.specs.LptMemory.Memories.{Contents}
+use Rattle.lpt_memory.specs.Memories.{Contents}
 use Rattle.lpt_journal.proofs.AbortionOwed.{transaction, as_release, IsAbortionOf, owes_abortion}
 
 -- ---- what holds of past abortions
@@ -38,9 +38,9 @@ record AreAborted (c : Config) (h : History) : Type 0 where
   closed : (j : ℕ) (e : Abortion) (o u : Opening)
       → slice_get (abortions h) j ≡ Some e
       → opening_of_abortion h e ≡ Some o
-      → current h e.direction e.id ≡ Some u
+      → current h e.direction e.name ≡ Some u
       → u.place ≡ o.place
-      → is_closed h e.direction e.id ≡ true
+      → is_closed h e.direction e.name ≡ true
   unreleased : NoneIsReleased c h
 
 module _ (c : Config) (h : History) (x : Recorded) (pays : Owes c h x) (sound : IsSound c h)
@@ -72,25 +72,25 @@ module _ (c : Config) (h : History) (x : Recorded) (pays : Owes c h x) (sound : 
   aborted_before j e o f is =
       let p = (gone.each j e f).1 in
       let old = before_old h x e.place (omega (arith, p.place_fits)) in
-      ap (λ g. current g e.direction e.id) (sym old) ∙ is
+      ap (λ g. current g e.direction e.name) (sym old) ∙ is
 
   aborted_now_of : (e : Abortion) (o : Opening)
       → e.place ≡ length h
       → opening_of_abortion (x ∷ h) e ≡ Some o
-      → current h e.direction e.id ≡ Some o
+      → current h e.direction e.name ≡ Some o
   aborted_now_of e o place is =
-      ap (λ g. current g e.direction e.id) (sym (before_new h x e.place place)) ∙ is
+      ap (λ g. current g e.direction e.name) (sym (before_new h x e.place place)) ∙ is
 
   closed_aborted : (j : ℕ) (e : Abortion) (o u : Opening)
       → slice_get (abortions (x ∷ h)) j ≡ Some e
       → opening_of_abortion (x ∷ h) e ≡ Some o
-      → current (x ∷ h) e.direction e.id ≡ Some u
+      → current (x ∷ h) e.direction e.name ≡ Some u
       → u.place ≡ o.place
-      → is_closed (x ∷ h) e.direction e.id ≡ true
+      → is_closed (x ∷ h) e.direction e.name ≡ true
   closed_aborted j e o u f was now at =
       go (with_all_cases (abortions h) (abortion_at (length h) x.event x.reply.answer) j e f) where
         go : IsOldOrNew (abortions h) (abortion_at (length h) x.event x.reply.answer) j e
-            → is_closed (x ∷ h) e.direction e.id ≡ true
+            → is_closed (x ∷ h) e.direction e.name ≡ true
         go (inl old) =
             let p = (gone.each j e old).1 in
             let first_is : opening_of_abortion h e ≡ Some o = aborted_before j e o old was in
@@ -99,8 +99,8 @@ module _ (c : Config) (h : History) (x : Recorded) (pays : Owes c h x) (sound : 
             let older : u.place < length h =
             let q : p.opening.place ≡ o.place =
             ap (λ (v : Opening). v.place) same in omega (arith, p.was_before) in
-            let w = was_current c h x e.direction e.id u pays now older in
-            closed_stays h x e.direction e.id (gone.closed j e o u old first_is w.0 at) w.1
+            let w = was_current c h x e.direction e.name u pays now older in
+            closed_stays h x e.direction e.name (gone.closed j e o u old first_is w.0 at) w.1
         go (inr fresh) = (ends_now fresh.0 e fresh.2).ends_it.is_ended
 
   -- a new release hasn't the opening of an old abortion: that transaction is closed
@@ -156,7 +156,7 @@ every_aborted : (c : Config) (first : Contents) (es : List Event)
     → IsConfig c
     → Legal c first es
     → AreAborted c (recorded c first es) × NothingIsKept c (recorded c first es)
-every_aborted c first [] good legal = (aborted_start c, λ d id e. absurd cc)
+every_aborted c first [] good legal = (aborted_start c, λ d name e. absurd cc)
 every_aborted c first (ev ∷ es) good legal =
     let h = recorded c first es in
     let had = every c first es good legal.0 in
@@ -173,9 +173,9 @@ unheard_again : (c : Config) (h : History)
     → ArePast c h
     → NothingIsKept c h
     → ReleasedIsUnheard c h
-unheard_again c h sound past none k r o u d id e is now same =
+unheard_again c h sound past none k r o u d name e is now same =
     let t = is_large h r o is in
-    none d id (released_closed c h k r t.0 (d, id) o u sound past e t.1
+    none d name (released_closed c h k r t.0 (d, name) o u sound past e t.1
     (sym (opening_is h r t.0 t.1) ∙ is) now same)
 
 -- an opening whose reception expired or was broken off is never released, and one that was released

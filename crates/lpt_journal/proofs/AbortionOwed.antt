@@ -2,33 +2,33 @@
 use Rattle.std.proofs.Common.{◌≡◌, ◌∙◌, ap, sym, subst, refl, ℕ, Bool, true, false, not, ◌&&◌, ◌||◌, List, [], ◌∷◌, length, Option, Some, None}
 use Rattle.std.specs.List.{slice_get}
 use Rattle.std.specs.Option.{is_some}
-use Rattle.lpt_reception.specs.LptPacket.declared.direction.Direction.{Direction}
-use Rattle.lpt_reception.specs.LptPacket.Names.{Name}
-use Rattle.lpt_reception.proofs.LptPacket.NameLemmas.{same_name-refl}
-use Rattle.lpt_execution.specs.LptEvents.declared.config.Config.{Config}
-use Rattle.lpt_execution.specs.LptEvents.declared.side.Side.{Side}
-use Rattle.lpt_execution.specs.LptEvents.declared.side.Side.TheVariants.{Ground, Craft}
-use Rattle.lpt_execution.specs.LptEvents.declared.event.Event.{Event}
-use Rattle.lpt_execution.specs.LptEvents.declared.event.Event.TheVariants.{Expire, Deliver, Commit}
-use Rattle.lpt_execution.specs.LptEvents.declared.outcome.Outcome.{Outcome}
-use Rattle.lpt_execution.specs.LptEvents.declared.outcome.Outcome.TheVariants.{Broken}
-use Rattle.lpt_execution.specs.LptEvents.declared.reply.Answer.TheVariants.{Delivered}
-use Rattle.lpt_execution.specs.LptEvents.Lanes.{lane_direction, same_direction}
-use Rattle.lpt_execution.proofs.LptEvents.LaneLemmas.{same_direction-refl}
+use Rattle.lpt_packet.specs.declared.direction.Direction.{Direction}
+use Rattle.lpt_packet.specs.Names.{Name}
+use Rattle.lpt_packet.proofs.NameLemmas.{same_name-refl}
+use Rattle.lpt_events.specs.declared.config.Config.{Config}
+use Rattle.lpt_events.specs.declared.side.Side.{Side}
+use Rattle.lpt_events.specs.declared.side.Side.TheVariants.{Ground, Craft}
+use Rattle.lpt_events.specs.declared.event.Event.{Event}
+use Rattle.lpt_events.specs.declared.event.Event.TheVariants.{Expire, Deliver, Commit}
+use Rattle.lpt_events.specs.declared.outcome.Outcome.{Outcome}
+use Rattle.lpt_events.specs.declared.outcome.Outcome.TheVariants.{Broken}
+use Rattle.lpt_events.specs.declared.reply.Answer.TheVariants.{Delivered}
+use Rattle.lpt_events.specs.Lanes.{lane_direction, same_direction}
+use Rattle.lpt_events.proofs.LaneLemmas.{same_direction-refl}
 use Rattle.lpt_journal.specs.Delivery.{outcome}
 use Rattle.lpt_journal.specs.Hands.{in_hand}
 use Rattle.lpt_journal.specs.Senders.{current}
 use Rattle.lpt_journal.proofs.HeadlineLemmas.{taken}
 use Rattle.lpt_journal.proofs.OutcomeLemmas.{TellsOf, judged_tells}
 use Rattle.lpt_journal.proofs.Soundness.{hand_current}
-use Rattle.lpt_execution.specs.LptEvents.declared.fault.StepFault.TheVariants.{NothingDue}
-use Rattle.lpt_execution.specs.LptEvents.declared.entry.Release.{Release}
+use Rattle.lpt_events.specs.declared.fault.StepFault.TheVariants.{NothingDue}
+use Rattle.lpt_events.specs.declared.entry.Release.{Release}
 use Rattle.lpt_journal.specs.Abortions.{Abortion, abortion_at, NothingIsKept}
-use Rattle.lpt_journal.specs.Due.{is_overdue, due}
-use Rattle.lpt_execution.specs.LptEvents.Sides.{same_side, receiver_side, direction_to}
+use Rattle.lpt_journal.specs.Due.{due}
+use Rattle.lpt_events.specs.Sides.{same_side, receiver_side, direction_to}
 use Rattle.lpt_journal.specs.Journal.{Recorded, History}
 use Rattle.lpt_journal.specs.Jobs.{boot, ticket}
-use Rattle.lpt_journal.specs.Receivers.{ends, heard, has_parts, last_tick, is_closed}
+use Rattle.lpt_journal.specs.Receivers.{ends, heard, has_parts, is_closed}
 use Rattle.lpt_journal.specs.Releases.{released_by, released_now}
 use Rattle.lpt_journal.specs.Replies.{expired_now, entry}
 use Rattle.lpt_journal.specs.Refusals.{refusal}
@@ -38,14 +38,15 @@ use Rattle.lpt_journal.proofs.DueLemmas.{due_open}
 use Rattle.lpt_journal.proofs.Events.{only_element}
 use Rattle.lpt_journal.proofs.Releasing.{IsReleaseOf}
 use Rattle.lpt_journal.proofs.Steps.{IsSound}
-use Rattle.lpt_execution.specs.LptMemory.Memories.{Contents}
-use Rattle.lpt_journal.proofs.TestLemmas.{and_r, not_false, one_passes, no_place}
+use Rattle.lpt_memory.specs.Memories.{Contents}
+use Rattle.lpt_journal.proofs.TestLemmas.{one_passes, no_place}
+use Rattle.lpt_packet.proofs.BoolLemmas.{not_false}
 
 -- ---- what an entry owes for an abortion
 
 -- the transaction of a reception that expired or was broken off
 abbrev pub transaction : Abortion → Direction × Name
-transaction e = (e.direction, e.id)
+transaction e = (e.direction, e.name)
 
 -- a release of this message in place of the abortion
 abbrev pub as_release : Abortion → List ℕ → Release
@@ -84,21 +85,21 @@ owes_abortion c first h (Expire side) sound none can j e f =
           → slice_get (abortion_at (length h) (Expire side) (expired_now (direction_to side) o)) j ≡ Some e
           → IsAbortionOf c h (entry c first h (Expire side)) e
       go None is t k = absurd cc
-      go (Some id) is t k =
-          let of : record { place = length h; direction = direction_to side; id = id } ≡ e =
+      go (Some name) is t k =
+          let of : record { place = length h; direction = direction_to side; name = name } ≡ e =
           only_element _ j e k in
-          let has = due_open c h (direction_to side) id is in
-          let opening = open_opening c h (direction_to side) id sound has in
-          let was : is_closed h (direction_to side) id ≡ false =
-          open_still (is_closed h (direction_to side) id)
-          (has_parts (heard c h (direction_to side) id)) (none (direction_to side) id) has in
-          let now : is_closed (entry c first h (Expire side) ∷ h) (direction_to side) id ≡ true =
+          let has = due_open c h (direction_to side) name is in
+          let opening = open_opening c h (direction_to side) name sound has in
+          let was : is_closed h (direction_to side) name ≡ false =
+          open_still (is_closed h (direction_to side) name)
+          (has_parts (heard c h (direction_to side) name)) (none (direction_to side) name) has in
+          let now : is_closed (entry c first h (Expire side) ∷ h) (direction_to side) name ≡ true =
           ap (λ (o : Option Name).
           (same_side side (receiver_side (direction_to side))
-          && ends (expired_now (direction_to side) o) id)
-          || is_closed h (direction_to side) id) is
-          ∙ (λ i. (receives_there side i && same_name-refl id i)
-          || is_closed h (direction_to side) id) in
+          && ends (expired_now (direction_to side) o) name)
+          || is_closed h (direction_to side) name) is
+          ∙ (λ i. (receives_there side i && same_name-refl name i)
+          || is_closed h (direction_to side) name) in
           subst (λ (y : Abortion). IsAbortionOf c h (entry c first h (Expire side)) y) of (record {
             place = refl;
             message = opening.0.message;
@@ -119,16 +120,16 @@ owes_abortion c first h (Deliver l) sound none can j e f = go (outcome c h l) re
       → outcome c h l ≡ o
       → slice_get (abortion_at (length h) (Deliver l) (Delivered o)) j ≡ Some e
       → IsAbortionOf c h (entry c first h (Deliver l)) e
-  go (Broken id reason) is k =
-      let of : record { place = length h; direction = d; id = id } ≡ e = only_element _ j e k in
+  go (Broken name reason) is k =
+      let of : record { place = length h; direction = d; name = name } ≡ e = only_element _ j e k in
       let t =
       subst (λ o. TellsOf c h d (in_hand c h l) o) is (judged_tells c h d (in_hand c h l)) in
       let n = taken c h l t.0 t.1 in
       let part = hand_current c h l n.0 t.0 sound n.1 t.1 in
-      let name : id ≡ t.0.name = t.2.same_id in
-      let now : is_closed (entry c first h (Deliver l) ∷ h) d id ≡ true =
-      ap (λ (o : Outcome). (same_direction d d && ends (Delivered o) id) || is_closed h d id) is
-      ∙ (λ i. (same_direction-refl d i && same_name-refl id i) || is_closed h d id) in
+      let named : name ≡ t.0.name = t.2.same_name in
+      let now : is_closed (entry c first h (Deliver l) ∷ h) d name ≡ true =
+      ap (λ (o : Outcome). (same_direction d d && ends (Delivered o) name) || is_closed h d name) is
+      ∙ (λ i. (same_direction-refl d i && same_name-refl name i) || is_closed h d name) in
       let nothing : released_by c (entry c first h (Deliver l)) h ≡ [] =
       ap (λ (o : Outcome). released_now (length h) d (Delivered o) (heard c h d) (in_hand c h l)) is in
       subst (λ (y : Abortion). IsAbortionOf c h (entry c first h (Deliver l)) y) of (record {
@@ -136,9 +137,9 @@ owes_abortion c first h (Deliver l) sound none can j e f = go (outcome c h l) re
         message = part.opening.message;
         ends_it = record {
           opening = part.opening;
-          is_current = ap (current h d) name ∙ part.is_current;
+          is_current = ap (current h d) named ∙ part.is_current;
           is_message = refl;
-          was_open = ap (is_closed h d) name ∙ t.2.was_open;
+          was_open = ap (is_closed h d) named ∙ t.2.was_open;
           is_ended = now;
         };
         releases_none = λ m r k. no_place m r (ap (λ rs. slice_get rs m) (sym nothing) ∙ k);

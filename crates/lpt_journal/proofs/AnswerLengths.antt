@@ -2,25 +2,25 @@
 -- are counted by an octet. And so does the source that its reports go to.
 use Rattle.std.proofs.Common.{◌≡◌, sym, subst, ℕ, ◌<◌, ◌==◌, nat_lt, Bool, true, false, if◌then◌else◌, refl, List, length, map, drop, ◌-◌, Option, Some, None, arith}
 use Rattle.std.specs.Option.{option_map_or}
-use Rattle.lpt_reception.specs.LptPacket.Numbers.{IsOctets}
-use Rattle.lpt_reception.specs.LptPacket.Packets.{Fields, spelling, APacket}
-use Rattle.lpt_reception.proofs.LptPacket.Codec.{octets_at}
-use Rattle.lpt_reception.proofs.LptPacket.OctetLists.{IsOctets-take, IsOctets-drop}
-use Rattle.lpt_reception.proofs.LptPacket.SightLemmas.{seen_sight}
-use Rattle.lpt_execution.specs.LptPus.declared.failure_code.FailureCode.{FailureCode}
-use Rattle.lpt_execution.specs.LptPus.declared.failure_code.FailureCode.TheVariants.{ReplyTooLong}
-use Rattle.lpt_execution.specs.LptPus.Commands.{Command, command_in}
-use Rattle.lpt_execution.proofs.LptPus.CommandLemmas.{command_in-found, body-tc_verdict, tc_verdict-found}
-use Rattle.lpt_execution.specs.LptMemory.Effects.{answer, AnswerFits}
-use Rattle.lpt_execution.specs.LptMemory.Meanings.{Meaning, Silent, Fault, Load, Dump, Check, Sizes, size_of, load_fault, range_fault, area, dump_length, unless, load_meaning, dump_meaning, check_meaning, in_memory, if_formed, body_meaning, command_meaning, meaning}
-use Rattle.lpt_execution.specs.LptMemory.Memories.{Contents, sizes_of}
-use Rattle.lpt_execution.specs.LptMemory.Ranges.{MeaningFits}
-use Rattle.lpt_execution.specs.LptMemory.Requests.{Request, front_load_area, front_range, request_in}
-use Rattle.lpt_execution.specs.LptMemory.Spellings.{range_text, RangeFits}
+use Rattle.lpt_packet.specs.Numbers.{IsOctets}
+use Rattle.lpt_packet.specs.Packets.{Fields, spelling, APacket}
+use Rattle.lpt_packet.proofs.Codec.{octets_at}
+use Rattle.lpt_packet.proofs.OctetLists.{IsOctets-take, IsOctets-drop}
+use Rattle.lpt_packet.proofs.SightLemmas.{seen_sight}
+use Rattle.lpt_pus.specs.declared.failure_code.FailureCode.{FailureCode}
+use Rattle.lpt_pus.specs.declared.failure_code.FailureCode.TheVariants.{ReplyTooLong}
+use Rattle.lpt_pus.specs.Commands.{Command, command_in}
+use Rattle.lpt_pus.proofs.CommandLemmas.{command_in-found, body-tc_verdict, tc_verdict-found}
+use Rattle.lpt_memory.specs.Effects.{answer, AnswerFits}
+use Rattle.lpt_memory.specs.Meanings.{Meaning, Silent, Fault, Load, Dump, Check, Sizes, size_of, load_fault, range_fault, area, dump_length, unless, load_meaning, dump_meaning, check_meaning, in_memory, if_formed, body_meaning, command_meaning, meaning}
+use Rattle.lpt_memory.specs.Memories.{Contents, sizes_of}
+use Rattle.lpt_memory.specs.Ranges.{MeaningFits}
+use Rattle.lpt_memory.specs.Requests.{Request, front_load_area, front_range, request_in}
+use Rattle.lpt_memory.specs.Spellings.{range_text, RangeFits}
 use Rattle.lpt_execution.specs.Reporting.{request_source}
-use Rattle.lpt_execution.proofs.LptMemory.AnswerLemmas.{length-dump_body, length-check_body}
-use Rattle.lpt_execution.proofs.LptMemory.BodyLemmas.{range_takes, body_takes}
-use Rattle.lpt_execution.proofs.LptMemory.MeaningLemmas.{meaning-fits}
+use Rattle.lpt_memory.proofs.AnswerLemmas.{length-dump_body, length-check_body}
+use Rattle.lpt_memory.proofs.BodyLemmas.{range_takes, body_takes}
+use Rattle.lpt_memory.proofs.MeaningLemmas.{meaning-fits}
 
 -- a check has no more ranges than an octet counts
 abbrev IsCounted : Meaning → Type 0

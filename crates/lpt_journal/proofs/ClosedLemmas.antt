@@ -4,25 +4,25 @@ use Rattle.std.specs.Option.{is_some}
 use Rattle.std.specs.FinMap as map
 use Rattle.std.specs.FinMap.{find}
 use Rattle.std.specs.Ordering.{nat_cmp}
-use Rattle.lpt_reception.specs.LptPacket.declared.direction.Direction.{Direction}
-use Rattle.lpt_reception.specs.LptPacket.Names.{Name, same_name}
-use Rattle.lpt_reception.proofs.LptPacket.NameLemmas.{same_name-true}
+use Rattle.lpt_packet.specs.declared.direction.Direction.{Direction}
+use Rattle.lpt_packet.specs.Names.{Name, same_name}
+use Rattle.lpt_packet.proofs.NameLemmas.{same_name-true}
 use Rattle.lpt_reception.specs.Received.{Kept as KeptPart, Parts, no_parts, contradicts, is_gap, is_whole, spelled}
-use Rattle.lpt_reception.proofs.LptPacket.EntryLemmas.{found_first}
-use Rattle.lpt_execution.proofs.LptEvents.LaneLemmas.{same_direction-true}
-use Rattle.lpt_execution.specs.LptEvents.NamedParts.{NamedPart}
-use Rattle.lpt_execution.specs.LptEvents.Lanes.{lane_direction, same_direction}
-use Rattle.lpt_execution.specs.LptEvents.declared.config.Config.{Config}
-use Rattle.lpt_execution.specs.LptEvents.declared.outcome.Outcome.{Outcome}
-use Rattle.lpt_execution.specs.LptEvents.declared.outcome.Outcome.TheVariants.{Kept, Released, Broken}
-use Rattle.lpt_execution.specs.LptEvents.Arrivals.{Arrival, APart}
-use Rattle.lpt_execution.specs.LptEvents.declared.event.Event.{Event}
-use Rattle.lpt_execution.specs.LptEvents.declared.event.Event.TheVariants.{Deliver, Expire, Retire, Restart}
-use Rattle.lpt_execution.specs.LptEvents.declared.reply.Answer.TheVariants.{Delivered}
-use Rattle.lpt_execution.specs.LptEvents.declared.entry.Opening.{Opening}
+use Rattle.lpt_packet.proofs.EntryLemmas.{found_first}
+use Rattle.lpt_events.proofs.LaneLemmas.{same_direction-true}
+use Rattle.lpt_events.specs.NamedParts.{NamedPart}
+use Rattle.lpt_events.specs.Lanes.{lane_direction, same_direction}
+use Rattle.lpt_events.specs.declared.config.Config.{Config}
+use Rattle.lpt_events.specs.declared.outcome.Outcome.{Outcome}
+use Rattle.lpt_events.specs.declared.outcome.Outcome.TheVariants.{Kept, Released, Broken}
+use Rattle.lpt_events.specs.Arrivals.{Arrival, APart}
+use Rattle.lpt_events.specs.declared.event.Event.{Event}
+use Rattle.lpt_events.specs.declared.event.Event.TheVariants.{Deliver, Expire, Retire, Restart}
+use Rattle.lpt_events.specs.declared.reply.Answer.TheVariants.{Delivered}
+use Rattle.lpt_events.specs.declared.entry.Opening.{Opening}
 use Rattle.lpt_journal.specs.Delivery.{judged, outcome}
 use Rattle.lpt_journal.specs.Abortions.{NothingIsKept}
-use Rattle.lpt_execution.specs.LptEvents.Sides.{same_side, receiver_side}
+use Rattle.lpt_events.specs.Sides.{same_side, receiver_side}
 use Rattle.lpt_journal.specs.Journal.{History}
 use Rattle.lpt_journal.specs.Hands.{in_hand}
 use Rattle.lpt_journal.specs.Receivers.{kept, with_piece, with_arrival, ends, heard_now, heard, has_parts, reception_count, is_closed}
@@ -30,9 +30,9 @@ use Rattle.lpt_journal.specs.Replies.{entry}
 use Rattle.lpt_journal.specs.Senders.{current}
 use Rattle.lpt_journal.proofs.CountLemmas.{none_open}
 use Rattle.lpt_journal.proofs.OutcomeLemmas.{chosen}
-use Rattle.lpt_execution.specs.LptMemory.Memories.{Contents}
+use Rattle.lpt_memory.specs.Memories.{Contents}
 use Rattle.lpt_journal.proofs.Steps.{IsSound}
-use Rattle.lpt_journal.proofs.TestLemmas.{and_r}
+use Rattle.lpt_packet.proofs.BoolLemmas.{and_right}
 
 -- ---- nothing is kept of a closed transaction
 
@@ -79,46 +79,47 @@ ended_or_not false over s was e = was e
 pub unheard_step : (c : Config) (first : Contents) (h : History) (e : Event)
     → NothingIsKept c h
     → NothingIsKept c (entry c first h e ∷ h)
-unheard_step c first h (Expire side) none d id over =
-    let t = same_side side (receiver_side d) && ends (entry c first h (Expire side)).reply.answer id in
-    ended_or_not t (is_closed h d id) (heard c h d id) (none d id) over
-unheard_step c first h (Deliver l) none d id over =
+unheard_step c first h (Expire side) none d name over =
+    let t = same_side side (receiver_side d) && ends (entry c first h (Expire side)).reply.answer name in
+    ended_or_not t (is_closed h d name) (heard c h d name) (none d name) over
+unheard_step c first h (Deliver l) none d name over =
     go (same_direction (lane_direction l) d) refl (outcome c h l) refl over where
       kept_part : (i : Name) (k : ℕ) (t : Bool)
-          → same_name i id ≡ t
+          → same_name i name ≡ t
           → is_closed h d i ≡ false
-          → is_closed h d id ≡ true
-          → has_parts (if t then with_arrival (in_hand c h l) (heard c h d id) else heard c h d id)
+          → is_closed h d name ≡ true
+          → has_parts (if t then with_arrival (in_hand c h l) (heard c h d name)
+          else heard c h d name)
           ≡ false
       kept_part i k true s opened over =
-          let same : is_closed h d i ≡ is_closed h d id =
-          ap (is_closed h d) (same_name-true i id s) in absurd cc
-      kept_part i k false s opened over = none d id over
+          let same : is_closed h d i ≡ is_closed h d name =
+          ap (is_closed h d) (same_name-true i name s) in absurd cc
+      kept_part i k false s opened over = none d name over
 
       go : (t : Bool)
           → same_direction (lane_direction l) d ≡ t
           → (o : Outcome)
           → outcome c h l ≡ o
-          → ((t && ends (Delivered o) id) || is_closed h d id) ≡ true
-          → has_parts (if t then heard_now (Delivered o) (in_hand c h l) id (heard c h d id)
-          else heard c h d id) ≡ false
-      go false way o is shut = none d id shut
+          → ((t && ends (Delivered o) name) || is_closed h d name) ≡ true
+          → has_parts (if t then heard_now (Delivered o) (in_hand c h l) name (heard c h d name)
+          else heard c h d name) ≡ false
+      go false way o is shut = none d name shut
       go true way (Kept i k) is shut =
           let there : lane_direction l ≡ d = same_direction-true (lane_direction l) d way in
           let opened : is_closed h d i ≡ false =
           ap (λ e. is_closed h e i) (sym there)
           ∙ judged_open c h (lane_direction l) (in_hand c h l) i k is in
-          kept_part i k (same_name i id) refl opened shut
+          kept_part i k (same_name i name) refl opened shut
       go true way (Released i len) is shut =
-          ended_or_not (same_name i id) (is_closed h d id) (heard c h d id) (none d id) shut
+          ended_or_not (same_name i name) (is_closed h d name) (heard c h d name) (none d name) shut
       go true way (Broken i reason) is shut =
-          ended_or_not (same_name i id) (is_closed h d id) (heard c h d id) (none d id) shut
-      go true way o is shut = none d id shut
-unheard_step c first h (Retire e i) none d id over =
-    none d id (and_r (not (same_direction e d && same_name i id)) (is_closed h d id) over)
-unheard_step c first h (Restart side) none d id over =
-    none_kept (same_side side (receiver_side d)) (heard c h d id) (none d id over)
-unheard_step c first h e none d id over = none d id over
+          ended_or_not (same_name i name) (is_closed h d name) (heard c h d name) (none d name) shut
+      go true way o is shut = none d name shut
+unheard_step c first h (Retire e i) none d name over =
+    none d name (and_right (not (same_direction e d && same_name i name)) (is_closed h d name) over)
+unheard_step c first h (Restart side) none d name over =
+    none_kept (same_side side (receiver_side d)) (heard c h d name) (none d name over)
+unheard_step c first h e none d name over = none d name over
 
 -- ---- what is kept is of an opening
 
@@ -137,11 +138,11 @@ some_part s has = go (map.entries s) refl where
       (x.0, x.1, map.get-entries s x.0 ∙ ap (find nat_cmp x.0) e ∙ found_first x.0 x xs refl)
 
 -- an open reception is of the transaction's last opening
-pub open_opening : (c : Config) (h : History) (d : Direction) (id : Name)
+pub open_opening : (c : Config) (h : History) (d : Direction) (name : Name)
     → IsSound c h
-    → has_parts (heard c h d id) ≡ true
-    → (o : Opening) × (current h d id ≡ Some o)
-open_opening c h d id sound has =
-    let it = some_part (heard c h d id) has in
-    let part = sound.heard d id it.0 it.1 it.2 in
+    → has_parts (heard c h d name) ≡ true
+    → (o : Opening) × (current h d name ≡ Some o)
+open_opening c h d name sound has =
+    let it = some_part (heard c h d name) has in
+    let part = sound.heard d name it.0 it.1 it.2 in
     (part.opening, part.is_current)

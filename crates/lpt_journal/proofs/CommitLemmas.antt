@@ -1,13 +1,13 @@
 -- What a commit answers, and which jobs are committed after it.
 use Rattle.std.proofs.Common.{◌≡◌, ◌∙◌, ap, refl, ℕ, ◌==◌, Bool, true, false, not, ◌&&◌, ◌||◌, if◌then◌else◌, ◌∷◌, Option, Some, None}
-use Rattle.lpt_execution.specs.LptMemory.Memories.{Contents}
-use Rattle.lpt_execution.specs.LptMemory.Readings.{Job}
-use Rattle.lpt_execution.specs.LptEvents.declared.config.Config.{Config}
-use Rattle.lpt_execution.specs.LptEvents.declared.event.Event.TheVariants.{Commit}
-use Rattle.lpt_execution.specs.LptEvents.declared.reply.Answer.{Answer}
-use Rattle.lpt_execution.specs.LptEvents.declared.reply.Answer.TheVariants.{Committed, Stale}
-use Rattle.lpt_execution.specs.LptEvents.declared.side.Side.TheVariants.{Craft}
-use Rattle.lpt_execution.specs.LptEvents.declared.worker.Worker.{Worker}
+use Rattle.lpt_memory.specs.Memories.{Contents}
+use Rattle.lpt_memory.specs.Readings.{Job}
+use Rattle.lpt_events.specs.declared.config.Config.{Config}
+use Rattle.lpt_events.specs.declared.event.Event.TheVariants.{Commit}
+use Rattle.lpt_events.specs.declared.reply.Answer.{Answer}
+use Rattle.lpt_events.specs.declared.reply.Answer.TheVariants.{Committed, Stale}
+use Rattle.lpt_events.specs.declared.side.Side.TheVariants.{Craft}
+use Rattle.lpt_events.specs.declared.worker.Worker.{Worker}
 use Rattle.lpt_journal.specs.Jobs.{boot, ticket, commits, is_committed}
 use Rattle.lpt_journal.specs.Journal.{History}
 use Rattle.lpt_journal.specs.Replies.{committed_now, entry}

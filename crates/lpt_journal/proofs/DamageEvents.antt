@@ -1,21 +1,22 @@
 -- What a damaged packet owes, and that it pays it.
 use Rattle.std.proofs.Common.{◌≡◌, ap, subst, refl, ℕ, false, List, ◌∷◌, None}
-use Rattle.lpt_reception.specs.LptPacket.declared.direction.Direction.{Direction}
-use Rattle.lpt_reception.specs.LptPacket.Packets.{seen}
-use Rattle.lpt_execution.specs.LptEvents.declared.config.Config.{Config}
-use Rattle.lpt_execution.specs.LptEvents.Arrivals.{NotRead, part_name, sight_arrival, arrival, arrival_in}
-use Rattle.lpt_execution.specs.LptEvents.Damages.{is_damage_long, looks_whole}
-use Rattle.lpt_execution.specs.LptEvents.Sides.{receiver_side}
-use Rattle.lpt_execution.specs.LptEvents.declared.event.Event.TheVariants.{Damage}
-use Rattle.lpt_execution.specs.LptEvents.declared.fault.StepFault.TheVariants.{Long, LooksWhole}
-use Rattle.lpt_execution.specs.LptMemory.Memories.{Contents}
+use Rattle.lpt_packet.specs.declared.direction.Direction.{Direction}
+use Rattle.lpt_packet.specs.Packets.{seen}
+use Rattle.lpt_events.specs.declared.config.Config.{Config}
+use Rattle.lpt_events.specs.Arrivals.{NotRead, part_name, sight_arrival, arrival, arrival_in}
+use Rattle.lpt_events.specs.Damages.{is_damage_long, looks_whole}
+use Rattle.lpt_events.specs.Sides.{receiver_side}
+use Rattle.lpt_events.specs.declared.event.Event.TheVariants.{Damage}
+use Rattle.lpt_events.specs.declared.fault.StepFault.TheVariants.{Long, LooksWhole}
+use Rattle.lpt_memory.specs.Memories.{Contents}
 use Rattle.lpt_journal.specs.Journal.{History}
 use Rattle.lpt_journal.specs.Replies.{entry}
 use Rattle.lpt_journal.specs.Refusals.{refusal}
 use Rattle.lpt_journal.proofs.CalmEvents.{calm_owes}
 use Rattle.lpt_journal.proofs.Events.{only_element}
 use Rattle.lpt_journal.proofs.Steps.{IsPut, IsSound, Owes}
-use Rattle.lpt_journal.proofs.TestLemmas.{none_is, two_pass}
+use Rattle.lpt_journal.proofs.TestLemmas.{two_pass}
+use Rattle.lpt_packet.proofs.BoolLemmas.{none_is}
 
 -- what is no packet isn't read at either node
 pub unread : (c : Config) (d : Direction) (b : List ℕ)

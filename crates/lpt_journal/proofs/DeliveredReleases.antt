@@ -1,39 +1,40 @@
 -- What a delivery releases is the message last opened under its name.
-use Rattle.std.proofs.Common.{◌≡◌, ◌∙◌, ap, sym, subst, refl, ℕ, zero, suc, Bool, true, false, ◌&&◌, ◌||◌, length, Some, None}
+use Rattle.std.proofs.Common.{◌≡◌, ◌∙◌, ap, sym, subst, refl, ℕ, zero, suc, true, false, ◌&&◌, length, Some, None}
 use Rattle.std.specs.List.{slice_get}
-use Rattle.lpt_reception.specs.LptPacket.declared.direction.Direction.{Direction}
-use Rattle.lpt_reception.specs.LptPacket.Names.{Name, same_name}
-use Rattle.lpt_reception.proofs.LptPacket.NameLemmas.{same_name-refl}
+use Rattle.lpt_packet.specs.declared.direction.Direction.{Direction}
+use Rattle.lpt_packet.specs.Names.{Name, same_name}
+use Rattle.lpt_packet.proofs.NameLemmas.{same_name-refl}
 use Rattle.lpt_reception.specs.Received.{Parts, with_part, is_whole, spelled}
 use Rattle.lpt_reception.specs.PartsOf.{IsPartsOf, kept_of}
 use Rattle.lpt_reception.proofs.MessageLemmas.{parts_spell, IsPartsOf-with_part}
-use Rattle.lpt_execution.specs.LptEvents.NamedParts.{NamedPart}
-use Rattle.lpt_execution.specs.LptEvents.declared.lane.Lane.{Lane}
-use Rattle.lpt_execution.specs.LptEvents.Lanes.{lane_direction, same_direction}
-use Rattle.lpt_execution.specs.LptEvents.declared.config.Config.{Config}
-use Rattle.lpt_execution.specs.LptEvents.declared.outcome.Outcome.{Outcome}
-use Rattle.lpt_execution.specs.LptEvents.declared.outcome.Outcome.TheVariants.{Released, PlainReleased}
-use Rattle.lpt_execution.specs.LptEvents.Arrivals.{Arrival, ARequest, APart}
-use Rattle.lpt_execution.specs.LptEvents.declared.event.Event.TheVariants.{Deliver}
-use Rattle.lpt_execution.specs.LptEvents.declared.reply.Answer.TheVariants.{Delivered}
-use Rattle.lpt_execution.specs.LptEvents.declared.entry.Opening.{Opening}
-use Rattle.lpt_execution.specs.LptEvents.declared.entry.Release.{Release}
+use Rattle.lpt_events.specs.NamedParts.{NamedPart}
+use Rattle.lpt_events.specs.declared.lane.Lane.{Lane}
+use Rattle.lpt_events.specs.Lanes.{lane_direction, same_direction}
+use Rattle.lpt_events.specs.declared.config.Config.{Config}
+use Rattle.lpt_events.specs.declared.outcome.Outcome.{Outcome}
+use Rattle.lpt_events.specs.declared.outcome.Outcome.TheVariants.{Released, PlainReleased}
+use Rattle.lpt_events.specs.Arrivals.{Arrival, ARequest, APart}
+use Rattle.lpt_events.specs.declared.event.Event.TheVariants.{Deliver}
+use Rattle.lpt_events.specs.declared.reply.Answer.TheVariants.{Delivered}
+use Rattle.lpt_events.specs.declared.entry.Opening.{Opening}
+use Rattle.lpt_events.specs.declared.entry.Release.{Release}
 use Rattle.lpt_journal.specs.Journal.{History}
 use Rattle.lpt_journal.specs.Hands.{hand, in_hand}
 use Rattle.lpt_journal.specs.Senders.{current}
 use Rattle.lpt_journal.specs.Receivers.{kept, with_piece, heard, ends, is_closed}
 use Rattle.lpt_journal.specs.Delivery.{outcome}
 use Rattle.lpt_journal.specs.Releases.{released_now}
-use Rattle.lpt_execution.specs.LptEvents.Configs.{IsConfig}
+use Rattle.lpt_events.specs.Configs.{IsConfig}
 use Rattle.lpt_journal.specs.Replies.{entry}
-use Rattle.lpt_execution.proofs.LptEvents.LaneLemmas.{same_direction-refl}
+use Rattle.lpt_events.proofs.LaneLemmas.{same_direction-refl}
 use Rattle.lpt_journal.proofs.TestLemmas.{no_place}
 use Rattle.lpt_journal.proofs.Steps.{IsSound}
 use Rattle.lpt_journal.proofs.Soundness.{hand_current}
 use Rattle.lpt_journal.proofs.Deliveries.{heard_parts}
 use Rattle.lpt_journal.proofs.OutcomeLemmas.{TellsOf, judged_tells}
-use Rattle.lpt_execution.specs.LptMemory.Memories.{Contents}
+use Rattle.lpt_memory.specs.Memories.{Contents}
 use Rattle.lpt_journal.proofs.Releasing.{OwesReleases}
+use Rattle.lpt_packet.proofs.BoolLemmas.{or_left}
 
 -- ---- the message
 
@@ -67,15 +68,15 @@ only_one : (place : ℕ) (d : Direction) (o : Outcome) (s : Name → Parts) (a :
     (r : Release)
     → slice_get (released_now place d (Delivered o) s a) k ≡ Some r
     → (k ≡ 0) × (r.place ≡ place)
-only_one place d (Released id len) s (APart q) zero r e = (
+only_one place d (Released name len) s (APart q) zero r e = (
   refl,
   let same : record {
     place = place;
-    of = Some (d, id);
-    message = spelled (with_piece (s id) q);
+    of = Some (d, name);
+    message = spelled (with_piece (s name) q);
   } ≡ r = cc in ap (λ (w : Release). w.place) (sym same),
 )
-only_one place d (Released id len) s (APart q) (suc k) r e = absurd (no_place k r e)
+only_one place d (Released name len) s (APart q) (suc k) r e = absurd (no_place k r e)
 only_one place d (PlainReleased len) s (ARequest b) zero r e = (
   refl,
   let same : record { place = place; of = None; message = b } ≡ r = cc in
@@ -90,15 +91,15 @@ pub plain_is : (place : ℕ) (d : Direction) (o : Outcome) (s : Name → Parts) 
     → slice_get (released_now place d (Delivered o) s a) k ≡ Some r
     → r.of ≡ None
     → a ≡ ARequest r.message
-plain_is place d (Released id len) s (APart q) zero r e none =
+plain_is place d (Released name len) s (APart q) zero r e none =
     absurd (let made : record {
       place = place;
-      of = Some (d, id);
-      message = spelled (with_piece (s id) q);
+      of = Some (d, name);
+      message = spelled (with_piece (s name) q);
     } ≡ r =
     cc in
-    let some : Some (d, id) ≡ r.of = ap (λ (w : Release). w.of) made in cc)
-plain_is place d (Released id len) s (APart q) (suc k) r e none = absurd (no_place k r e)
+    let some : Some (d, name) ≡ r.of = ap (λ (w : Release). w.of) made in cc)
+plain_is place d (Released name len) s (APart q) (suc k) r e none = absurd (no_place k r e)
 plain_is place d (PlainReleased len) s (ARequest b) zero r e none =
     let same : record { place = place; of = None; message = b } ≡ r = cc in
     ap (λ (w : Release). ARequest w.message) same
@@ -125,11 +126,11 @@ large_is : (c : Config) (h : History) (l : Lane) (n : ℕ)
     (heard c h (lane_direction l)) a) k ≡ Some r
     → r.of ≡ Some t
     → IsTold c h l o r t
-large_is c h l n good sound e (Released id len) (APart q) zero r t is tells f of =
+large_is c h l n good sound e (Released name len) (APart q) zero r t is tells f of =
     let d = lane_direction l in
     let of_it = tells.2 in
     let same : tells.0 ≡ q = let b : APart q ≡ APart tells.0 = tells.1 in cc in
-    let name : q.name ≡ id = ap (λ (w : NamedPart). w.name) (sym same) ∙ sym of_it.same_id in
+    let named : q.name ≡ name = ap (λ (w : NamedPart). w.name) (sym same) ∙ sym of_it.same_name in
     let all : is_whole (with_piece (heard c h d q.name) q) ≡ true =
     subst (λ (w : NamedPart). is_whole (with_piece (heard c h d w.name) w)
     ≡ true) same of_it.is_all in
@@ -138,26 +139,26 @@ large_is c h l n good sound e (Released id len) (APart q) zero r t is tells f of
     let it = spells c h l n q good sound e is all in
     let made : record {
       place = length h;
-      of = Some (d, id);
-      message = spelled (with_piece (heard c h d id) q);
+      of = Some (d, name);
+      message = spelled (with_piece (heard c h d name) q);
     } ≡ r =
     cc in
-    let whole : spelled (with_piece (heard c h d id) q) ≡ r.message =
+    let whole : spelled (with_piece (heard c h d name) q) ≡ r.message =
     ap (λ (w : Release). w.message) made in
-    let pair : (d, id) ≡ t =
-    let p : Some (d, id) ≡ Some t = ap (λ (w : Release). w.of) made ∙ of in cc in
+    let pair : (d, name) ≡ t =
+    let p : Some (d, name) ≡ Some t = ap (λ (w : Release). w.of) made ∙ of in cc in
     let way : d ≡ t.0 = ap (λ p. p.0) pair in
-    let its : id ≡ t.1 = ap (λ p. p.1) pair in
+    let its : name ≡ t.1 = ap (λ p. p.1) pair in
     record {
       opening = it.0;
-      is_current = (λ j. current h (sym way j) (sym (name ∙ its) j)) ∙ it.1;
-      is_message = sym whole ∙ ap (λ i. spelled (with_piece (heard c h d i) q)) (sym name) ∙ it.2;
-      was_open = (λ j. is_closed h (sym way j) (sym (name ∙ its) j)) ∙ fresh;
+      is_current = (λ j. current h (sym way j) (sym (named ∙ its) j)) ∙ it.1;
+      is_message = sym whole ∙ ap (λ i. spelled (with_piece (heard c h d i) q)) (sym named) ∙ it.2;
+      was_open = (λ j. is_closed h (sym way j) (sym (named ∙ its) j)) ∙ fresh;
       ends_it =
-          (λ j. (same_direction d (sym way j) && same_name id (sym its j)))
-          ∙ (λ j. same_direction-refl d j && same_name-refl id j);
+          (λ j. (same_direction d (sym way j) && same_name name (sym its j)))
+          ∙ (λ j. same_direction-refl d j && same_name-refl name j);
     }
-large_is c h l n good sound e (Released id len) (APart q) (suc k) r t is tells f of =
+large_is c h l n good sound e (Released name len) (APart q) (suc k) r t is tells f of =
     absurd (no_place k r f)
 large_is c h l n good sound e (PlainReleased len) (ARequest b) zero r t is tells f of =
     absurd (let made : record { place = length h; of = None; message = b } ≡ r = cc in
@@ -165,10 +166,6 @@ large_is c h l n good sound e (PlainReleased len) (ARequest b) zero r t is tells
 large_is c h l n good sound e (PlainReleased len) (ARequest b) (suc k) r t is tells f of =
     absurd (no_place k r f)
 large_is c h l n good sound e o a k r t is tells f of = absurd (no_place k r f)
-
-or_true_l : (a b : Bool) → a ≡ true → (a || b) ≡ true
-or_true_l true b h = refl
-or_true_l false b h = absurd cc
 
 -- a delivery pays what it owes for what it releases
 pub deliver_releases : (c : Config) (first : Contents) (h : History) (l : Lane) (n : ℕ)
@@ -192,7 +189,7 @@ deliver_releases c first h l n good sound e =
             is_message = it.is_message;
             was_open = it.was_open;
             is_ended =
-                or_true_l (same_direction d t.0 && ends (Delivered (outcome c h l)) t.1)
+                or_left (same_direction d t.0 && ends (Delivered (outcome c h l)) t.1)
                 (is_closed h t.0 t.1) it.ends_it;
           };
     }

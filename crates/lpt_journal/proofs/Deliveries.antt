@@ -1,31 +1,31 @@
 -- A delivery pays what it owes.
 use Rattle.std.proofs.Common.{◌≡◌, ◌∙◌, ap, sym, subst, refl, ℕ, ◌≤◌, Bool, true, false, inl, inr, ◌⊎◌, ◌∷◌, length, Option, Some, None, if◌then◌else◌}
 use Rattle.std.specs.List.{slice_get}
-use Rattle.lpt_reception.specs.LptPacket.declared.direction.Direction.{Direction}
-use Rattle.lpt_reception.specs.LptPacket.Names.{Name, same_name, IsName}
-use Rattle.lpt_reception.proofs.LptPacket.NameLemmas.{same_name-true}
-use Rattle.lpt_reception.specs.LptPart.declared.mode.Mode.{Mode}
-use Rattle.lpt_reception.specs.LptPart.declared.mode.Mode.TheVariants.{Any, Strict}
-use Rattle.lpt_reception.specs.LptPart.declared.reason.Reason.{Reason}
-use Rattle.lpt_reception.specs.LptPart.declared.reason.Reason.TheVariants.{Conflict, Discontinuity}
-use Rattle.lpt_reception.specs.LptPart.Splitting.{part_count}
+use Rattle.lpt_packet.specs.declared.direction.Direction.{Direction}
+use Rattle.lpt_packet.specs.Names.{Name, same_name, IsName}
+use Rattle.lpt_packet.proofs.NameLemmas.{same_name-true}
+use Rattle.lpt_part.specs.declared.mode.Mode.{Mode}
+use Rattle.lpt_part.specs.declared.mode.Mode.TheVariants.{Any, Strict}
+use Rattle.lpt_part.specs.declared.reason.Reason.{Reason}
+use Rattle.lpt_part.specs.declared.reason.Reason.TheVariants.{Conflict, Discontinuity}
+use Rattle.lpt_part.specs.Splitting.{part_count}
 use Rattle.lpt_reception.specs.Received.{Parts, no_parts, contradicts, is_gap}
 use Rattle.lpt_reception.specs.PartsOf.{IsPartOf, IsPartsOf, kept_of}
 use Rattle.lpt_reception.proofs.MessageLemmas.{parts_agree}
-use Rattle.lpt_execution.specs.LptEvents.NamedParts.{NamedPart}
-use Rattle.lpt_execution.specs.LptEvents.declared.lane.Lane.{Lane}
-use Rattle.lpt_execution.specs.LptEvents.Lanes.{lane_direction, same_direction, same_lane}
-use Rattle.lpt_execution.specs.LptEvents.declared.config.Config.{Config}
-use Rattle.lpt_execution.specs.LptEvents.declared.outcome.Outcome.{Outcome}
-use Rattle.lpt_execution.specs.LptEvents.declared.outcome.Outcome.TheVariants.{Kept, Released, Broken}
-use Rattle.lpt_execution.specs.LptEvents.declared.side.Side.{Side}
-use Rattle.lpt_execution.specs.LptEvents.declared.side.Side.TheVariants.{Ground, Craft}
-use Rattle.lpt_execution.specs.LptEvents.Arrivals.{Arrival, NotRead, AnIdle, Foreign, NoPart, APart}
-use Rattle.lpt_execution.specs.LptEvents.declared.event.Event.TheVariants.{Deliver}
-use Rattle.lpt_execution.specs.LptEvents.declared.reply.Answer.TheVariants.{Delivered}
-use Rattle.lpt_execution.specs.LptEvents.declared.entry.Opening.{Opening}
-use Rattle.lpt_execution.specs.LptEvents.Sides.{receiver_side}
-use Rattle.lpt_execution.specs.LptEvents.Configs.{IsConfig}
+use Rattle.lpt_events.specs.NamedParts.{NamedPart}
+use Rattle.lpt_events.specs.declared.lane.Lane.{Lane}
+use Rattle.lpt_events.specs.Lanes.{lane_direction, same_direction, same_lane}
+use Rattle.lpt_events.specs.declared.config.Config.{Config}
+use Rattle.lpt_events.specs.declared.outcome.Outcome.{Outcome}
+use Rattle.lpt_events.specs.declared.outcome.Outcome.TheVariants.{Kept, Released, Broken}
+use Rattle.lpt_events.specs.declared.side.Side.{Side}
+use Rattle.lpt_events.specs.declared.side.Side.TheVariants.{Ground, Craft}
+use Rattle.lpt_events.specs.Arrivals.{Arrival, NotRead, AnIdle, Foreign, NoPart, APart}
+use Rattle.lpt_events.specs.declared.event.Event.TheVariants.{Deliver}
+use Rattle.lpt_events.specs.declared.reply.Answer.TheVariants.{Delivered}
+use Rattle.lpt_events.specs.declared.entry.Opening.{Opening}
+use Rattle.lpt_events.specs.Sides.{receiver_side}
+use Rattle.lpt_events.specs.Configs.{IsConfig}
 use Rattle.lpt_journal.specs.Journal.{SentPacket, History}
 use Rattle.lpt_journal.specs.Link.{is_damaged}
 use Rattle.lpt_journal.specs.Hands.{hand, in_hand}
@@ -34,25 +34,25 @@ use Rattle.lpt_journal.specs.Receivers.{kept, with_arrival, heard_now, heard}
 use Rattle.lpt_journal.specs.Delivery.{judged, outcome}
 use Rattle.lpt_journal.specs.Replies.{outcome_puts, entry}
 use Rattle.lpt_journal.specs.Headline.{IsPartOfCurrent, kept_piece, IsSoundOutcome}
-use Rattle.lpt_execution.proofs.LptEvents.LaneLemmas.{same_direction-true}
+use Rattle.lpt_events.proofs.LaneLemmas.{same_direction-true}
 use Rattle.lpt_journal.proofs.TestLemmas.{no_place}
 use Rattle.lpt_journal.proofs.Steps.{IsAsPut, IsPut, IsSound, IsHeardNow, Owes}
 use Rattle.lpt_journal.proofs.OutcomeLemmas.{TellsOf, judged_tells}
-use Rattle.lpt_execution.specs.LptMemory.Memories.{Contents}
+use Rattle.lpt_memory.specs.Memories.{Contents}
 use Rattle.lpt_journal.proofs.ReportEvents.{report_put}
 use Rattle.lpt_journal.proofs.Soundness.{in_hand_is, hand_current}
 
 -- ---- parts of the current message agree
 
 -- what was heard of a transaction is parts of the message last opened under its name
-pub heard_parts : (c : Config) (h : History) (d : Direction) (id : Name) (o : Opening)
+pub heard_parts : (c : Config) (h : History) (d : Direction) (name : Name) (o : Opening)
     → IsSound c h
-    → current h d id ≡ Some o
-    → IsPartsOf o.message c.part_size (heard c h d id)
-heard_parts c h d id o sound e n x had = go (sound.heard d id n x had) where
-  go : IsPartOfCurrent c h d (kept_piece id n x) → IsPartOf o.message c.part_size n x
+    → current h d name ≡ Some o
+    → IsPartsOf o.message c.part_size (heard c h d name)
+heard_parts c h d name o sound e n x had = go (sound.heard d name n x had) where
+  go : IsPartOfCurrent c h d (kept_piece name n x) → IsPartOf o.message c.part_size n x
   go p =
-      let same : p.opening ≡ o = let now : current h d id ≡ Some p.opening = p.is_current in cc in
+      let same : p.opening ≡ o = let now : current h d name ≡ Some p.opening = p.is_current in cc in
       record {
         some = p.from_one;
         within =
@@ -132,7 +132,7 @@ delivery_sound c h l n sound e =
     let damaged = is_damaged h n in
     let known = no_stranger damaged a put in
     record {
-      only_gaps = λ id reason is.
+      only_gaps = λ name reason is.
           let t = subst (λ o. TellsOf c h d a o) is tells in
           gap_alone c.mode (heard c h d t.0.name) t.0.number
           (contradicts (heard c h d t.0.name) t.0.number (kept t.0)) reason
@@ -154,12 +154,12 @@ puts_outcome : (c : Config) (h g : History) (l : Lane) (side : Side) (o : Outcom
     (p : SentPacket)
     → IsConfig c
     → IsSound c h
-    → ((id : Name) (reason : Reason) → o ≡ Broken id reason → IsName id)
+    → ((name : Name) (reason : Reason) → o ≡ Broken name reason → IsName name)
     → slice_get (outcome_puts c h side o) k ≡ Some p
     → IsPut c g (Deliver l) p
-puts_outcome c h g l Ground (Broken id reason) k p good sound named e = absurd (no_place k p e)
-puts_outcome c h g l Craft (Broken id reason) k p good sound named e =
-    report_put c h g (Deliver l) id reason k p good sound (named id reason refl).source_fits refl refl e
+puts_outcome c h g l Ground (Broken name reason) k p good sound named e = absurd (no_place k p e)
+puts_outcome c h g l Craft (Broken name reason) k p good sound named e =
+    report_put c h g (Deliver l) name reason k p good sound (named name reason refl).source_fits refl refl e
 puts_outcome c h g l side o k p good sound named e = absurd (no_place k p e)
 
 taken_before : (k l : Lane) (before : Option ℕ) (n : ℕ)
@@ -170,24 +170,24 @@ taken_before k l before n = go (same_lane k l) where
   go true e = absurd cc
   go false e = e
 
-hears : (c : Config) (h : History) (l : Lane) (n : ℕ) (d : Direction) (id : Name) (o : Outcome)
+hears : (c : Config) (h : History) (l : Lane) (n : ℕ) (d : Direction) (name : Name) (o : Outcome)
     → hand h l ≡ Some n
     → TellsOf c h (lane_direction l) (in_hand c h l) o
-    → IsHeardNow c h d id
+    → IsHeardNow c h d name
     (if same_direction (lane_direction l) d
-    then heard_now (Delivered o) (in_hand c h l) id (heard c h d id) else heard c h d id)
-hears c h l n d id o e tells = go (same_direction (lane_direction l) d) refl o tells where
-  with_name : (b : Bool) → IsHeardNow c h d id (if b then no_parts else heard c h d id)
+    then heard_now (Delivered o) (in_hand c h l) name (heard c h d name) else heard c h d name)
+hears c h l n d name o e tells = go (same_direction (lane_direction l) d) refl o tells where
+  with_name : (b : Bool) → IsHeardNow c h d name (if b then no_parts else heard c h d name)
   with_name true = inr (inl refl)
   with_name false = inl refl
 
   with_part : (b : Bool) (i : Name) (q : NamedPart)
-      → same_name i id ≡ b
+      → same_name i name ≡ b
       → lane_direction l ≡ d
       → in_hand c h l ≡ APart q
       → i ≡ q.name
-      → IsHeardNow c h d id
-      (if b then with_arrival (in_hand c h l) (heard c h d id) else heard c h d id)
+      → IsHeardNow c h d name
+      (if b then with_arrival (in_hand c h l) (heard c h d name) else heard c h d name)
   with_part true i q t there is same = inr (inr (record {
     lane = l;
     number = n;
@@ -195,8 +195,8 @@ hears c h l n d id o e tells = go (same_direction (lane_direction l) d) refl o t
     goes_there = there;
     was_taken = e;
     arrives = is;
-    same_id = sym same ∙ same_name-true i id t;
-    is_added = ap (λ a. with_arrival a (heard c h d id)) is;
+    same_name = sym same ∙ same_name-true i name t;
+    is_added = ap (λ a. with_arrival a (heard c h d name)) is;
   }))
   with_part false i q t there is same = inl refl
 
@@ -204,28 +204,29 @@ hears c h l n d id o e tells = go (same_direction (lane_direction l) d) refl o t
       → same_direction (lane_direction l) d ≡ b
       → (o : Outcome)
       → TellsOf c h (lane_direction l) (in_hand c h l) o
-      → IsHeardNow c h d id (if b then heard_now (Delivered o) (in_hand c h l) id (heard c h d id)
-      else heard c h d id)
+      → IsHeardNow c h d name
+      (if b then heard_now (Delivered o) (in_hand c h l) name (heard c h d name)
+      else heard c h d name)
   go false b o tells = inl refl
   go true b (Kept i k) tells =
-      with_part (same_name i id) i tells.0 refl
+      with_part (same_name i name) i tells.0 refl
       (same_direction-true (lane_direction l) d b) tells.1 tells.2
-  go true b (Released i len) tells = with_name (same_name i id)
-  go true b (Broken i reason) tells = with_name (same_name i id)
+  go true b (Released i len) tells = with_name (same_name i name)
+  go true b (Broken i reason) tells = with_name (same_name i name)
   go true b o tells = inl refl
 
 -- what is broken off is a name
-broken_named : (c : Config) (h : History) (l : Lane) (n : ℕ) (id : Name) (reason : Reason)
+broken_named : (c : Config) (h : History) (l : Lane) (n : ℕ) (name : Name) (reason : Reason)
     → IsSound c h
     → hand h l ≡ Some n
-    → outcome c h l ≡ Broken id reason
-    → IsName id
-broken_named c h l n id reason sound e is =
+    → outcome c h l ≡ Broken name reason
+    → IsName name
+broken_named c h l n name reason sound e is =
     let d = lane_direction l in
     let t =
     subst (λ o. TellsOf c h d (in_hand c h l) o) is (judged_tells c h d (in_hand c h l)) in
     let part = hand_current c h l n t.0 sound e t.1 in
-    subst (λ q. IsName q) (sym t.2.same_id)
+    subst (λ q. IsName q) (sym t.2.same_name)
     (sound.openings d t.0.name part.opening part.is_current).is_name
 
 -- a delivery pays what it owes
@@ -235,15 +236,15 @@ pub deliver_owes : (c : Config) (first : Contents) (h : History) (l : Lane) (n :
     → hand h l ≡ Some n
     → Owes c h (entry c first h (Deliver l))
 deliver_owes c first h l n good sound e = record {
-  opens = λ d id o f. absurd cc;
-  retires = λ d id r. absurd cc;
+  opens = λ d name o f. absurd cc;
+  retires = λ d name r. absurd cc;
   puts =
       λ k p f. puts_outcome c h (entry c first h (Deliver l) ∷ h) l (receiver_side (lane_direction l))
       (outcome c h l) k p good sound
-      (λ id reason is. broken_named c h l n id reason sound e is) f;
+      (λ name reason is. broken_named c h l n name reason sound e is) f;
   takes = λ m k f. inl (taken_before l m (hand h m) k f);
   hears =
-      λ d id. hears c h l n d id (outcome c h l) e
+      λ d name. hears c h l n d name (outcome c h l) e
       (judged_tells c h (lane_direction l) (in_hand c h l));
   clocks = sound.clocks;
 }

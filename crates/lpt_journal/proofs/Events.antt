@@ -2,73 +2,75 @@
 use Rattle.std.proofs.Common.{◌≡◌, ◌∙◌, ap, sym, subst, refl, ℕ, zero, suc, ◌≤◌, nat_lt, nat_le, ◌==◌, cond, Bool, true, false, not, ◌&&◌, ◌||◌, ◌⊎◌, inl, inr, List, [], ◌∷◌, length, Option, Some, None, if◌then◌else◌, arith}
 use Rattle.std.specs.List.{slice_get, find}
 use Rattle.std.specs.Option.{is_some}
-use Rattle.lpt_reception.specs.LptPacket.declared.direction.Direction.{Direction}
-use Rattle.lpt_reception.specs.LptPacket.declared.direction.Direction.TheVariants.{Up, Down}
-use Rattle.lpt_reception.specs.LptPacket.Names.{Name, IsName}
-use Rattle.lpt_reception.specs.LptPart.Splitting.{part_count}
-use Rattle.lpt_reception.proofs.LptPart.SplitLemmas.{part_of-fits}
+use Rattle.lpt_packet.specs.declared.direction.Direction.{Direction}
+use Rattle.lpt_packet.specs.declared.direction.Direction.TheVariants.{Up, Down}
+use Rattle.lpt_packet.specs.Names.{Name, IsName}
+use Rattle.lpt_part.specs.Splitting.{part_count}
+use Rattle.lpt_part.proofs.SplitLemmas.{part_of-fits}
 use Rattle.lpt_reception.specs.PartsOf.{IsMessage}
-use Rattle.lpt_execution.specs.LptEvents.NamedParts.{NamedPart}
-use Rattle.lpt_execution.specs.LptEvents.declared.lane.Lane.{Lane}
-use Rattle.lpt_execution.specs.LptEvents.Lanes.{lane_direction, same_lane}
-use Rattle.lpt_execution.specs.LptEvents.declared.config.Config.{Config}
-use Rattle.lpt_execution.specs.LptEvents.declared.side.Side.TheVariants.{Craft}
-use Rattle.lpt_execution.specs.LptEvents.Arrivals.{APart, part_name, part_subtype}
-use Rattle.lpt_execution.specs.LptEvents.MadePackets.{nth_part, nth_named}
-use Rattle.lpt_execution.specs.LptEvents.declared.event.Event.TheVariants.{Open, Send, Take}
-use Rattle.lpt_execution.specs.LptEvents.declared.entry.Opening.{Opening}
-use Rattle.lpt_execution.specs.LptEvents.declared.fault.StepFault.TheVariants.{InUse, Short, Long, TooMany, NotOpen, NoSuchPart, NotHeld, HandFull}
+use Rattle.lpt_events.specs.NamedParts.{NamedPart}
+use Rattle.lpt_events.specs.declared.lane.Lane.{Lane}
+use Rattle.lpt_events.specs.Lanes.{lane_direction, same_lane}
+use Rattle.lpt_events.specs.declared.config.Config.{Config}
+use Rattle.lpt_events.specs.declared.side.Side.TheVariants.{Craft}
+use Rattle.lpt_events.specs.Arrivals.{APart, part_name, part_subtype}
+use Rattle.lpt_events.specs.MadePackets.{nth_part, nth_named}
+use Rattle.lpt_events.specs.declared.event.Event.TheVariants.{Open, Send, Take}
+use Rattle.lpt_events.specs.declared.entry.Opening.{Opening}
+use Rattle.lpt_events.specs.declared.fault.StepFault.TheVariants.{InUse, Short, Long, TooMany, NotOpen, NoSuchPart, NotHeld, HandFull}
 use Rattle.lpt_journal.specs.Journal.{SentPacket, History}
 use Rattle.lpt_journal.specs.Link.{is_held, goes}
 use Rattle.lpt_journal.specs.Hands.{hand, arrival_of}
 use Rattle.lpt_journal.specs.Senders.{is_opening_of, current, is_over, Sender, FreeSender, OpenSender, ClosedSender, sender_of, sender, is_free, is_open, open_count, count, type_counter}
 use Rattle.lpt_journal.specs.Receivers.{clock}
-use Rattle.lpt_execution.specs.LptEvents.Configs.{IsConfig}
+use Rattle.lpt_events.specs.Configs.{IsConfig}
 use Rattle.lpt_journal.specs.Replies.{part_packet, send_puts, entry}
 use Rattle.lpt_journal.specs.Refusals.{parts_open, refusal}
 use Rattle.lpt_journal.specs.Headline.{IsPartOfCurrent}
-use Rattle.lpt_reception.proofs.LptPacket.Readings.{not_lt}
-use Rattle.lpt_execution.proofs.LptEvents.LaneLemmas.{same_lane-true}
-use Rattle.lpt_journal.proofs.TestLemmas.{and_l, and_r, not_false, or_false_l, or_false_r, le_false, not_zero, two_pass, four_pass, no_place}
+use Rattle.lpt_packet.proofs.Readings.{not_lt}
+use Rattle.lpt_events.proofs.LaneLemmas.{same_lane-true}
+use Rattle.lpt_journal.proofs.TestLemmas.{le_false, not_zero, two_pass, four_pass, no_place}
+use Rattle.lpt_packet.proofs.BoolLemmas.{and_left, and_right, not_false, or_false_left, or_false_right}
 use Rattle.lpt_journal.proofs.CalmEvents.{calm_owes}
-use Rattle.lpt_journal.proofs.SentParts.{AreCounts, part_arrives}
-use Rattle.lpt_execution.specs.LptMemory.Memories.{Contents}
+use Rattle.lpt_memory.specs.Memories.{Contents}
 use Rattle.lpt_journal.proofs.Steps.{IsRead, IsPut, IsSound, IsTaken, Owes, opening_found}
+use Rattle.lpt_events.specs.Counts.{AreCounts}
+use Rattle.lpt_events.proofs.ArrivalLemmas.{part_arrives}
 
 -- ---- opening
 
 -- a free sender has no opening
-pub free_current : (h : History) (d : Direction) (id : Name)
-    → is_free (sender h d id) ≡ true
-    → current h d id ≡ None
-free_current h d id free = go (current h d id) (is_over h d id) refl free where
+pub free_current : (h : History) (d : Direction) (name : Name)
+    → is_free (sender h d name) ≡ true
+    → current h d name ≡ None
+free_current h d name free = go (current h d name) (is_over h d name) refl free where
   go : (o : Option Opening) (over : Bool)
-      → current h d id ≡ o
+      → current h d name ≡ o
       → is_free (sender_of o over) ≡ true
-      → current h d id ≡ None
+      → current h d name ≡ None
   go None over e t = e
   go (Some o) true e t = absurd cc
   go (Some o) false e t = absurd cc
 
 -- the one opening that is found
-pub only_opening : (d : Direction) (id : Name) (o u : Opening)
-    → find (is_opening_of d id) (o ∷ []) ≡ Some u
+pub only_opening : (d : Direction) (name : Name) (o u : Opening)
+    → find (is_opening_of d name) (o ∷ []) ≡ Some u
     → o ≡ u
-only_opening d id o u f = go (is_opening_of d id o) f where
+only_opening d name o u f = go (is_opening_of d name o) f where
   go : (b : Bool) → ◌≡◌ {A = Option Opening} (cond b (Some o) None) (Some u) → o ≡ u
   go true e = cc
   go false e = absurd cc
 
 -- an opening pays what it owes
-pub open_owes : (c : Config) (first : Contents) (h : History) (d : Direction) (id : Name) (m : List ℕ)
+pub open_owes : (c : Config) (first : Contents) (h : History) (d : Direction) (name : Name) (m : List ℕ)
     → IsSound c h
-    → IsName id
-    → refusal c h (Open d id m) ≡ None
-    → Owes c h (entry c first h (Open d id m))
-open_owes c first h d id m sound named accepted =
-    let o : Opening = record { place = length h; direction = d; id = id; message = m } in
+    → IsName name
+    → refusal c h (Open d name m) ≡ None
+    → Owes c h (entry c first h (Open d name m))
+open_owes c first h d name m sound named accepted =
+    let o : Opening = record { place = length h; direction = d; name = name; message = m } in
     let t =
-    four_pass (not (is_free (sender h d id))) (nat_le (length m) c.part_size)
+    four_pass (not (is_free (sender h d name))) (nat_le (length m) c.part_size)
     (nat_lt 65542 (length m))
     (nat_le c.outgoing (open_count h d)) InUse Short Long TooMany accepted in
     let splits : IsMessage m c.part_size =
@@ -76,18 +78,18 @@ open_owes c first h d id m sound named accepted =
       long = le_false (length m) c.part_size t.1;
       short = not_lt 65542 (length m) t.2;
     } in
-    let free : current h d id ≡ None =
-    free_current h d id (not_false (is_free (sender h d id)) t.0) in
+    let free : current h d name ≡ None =
+    free_current h d name (not_false (is_free (sender h d name)) t.0) in
     record {
       opens = λ e i u f.
           let found = opening_found e i (o ∷ []) u f in
           let same : o ≡ u = only_opening e i o u f in
           record {
             is_name =
-                subst (λ n. IsName n) (ap (λ (v : Opening). v.id) same ∙ found.1) named;
+                subst (λ n. IsName n) (ap (λ (v : Opening). v.name) same ∙ found.1) named;
             free =
                 (λ j. current h (sym found.0 j) (sym found.1 j))
-                ∙ ap (λ (v : Opening). current h v.direction v.id) (sym same) ∙ free;
+                ∙ ap (λ (v : Opening). current h v.direction v.name) (sym same) ∙ free;
             place = ap (λ (v : Opening). v.place) (sym same);
             splits = subst (λ (v : Opening). IsMessage v.message c.part_size) same splits;
           };
@@ -101,35 +103,35 @@ open_owes c first h d id m sound named accepted =
 -- ---- sending
 
 -- an open sender's message is that of the last opening
-pub open_current : (h : History) (d : Direction) (id : Name) (m : List ℕ) → sender h d id ≡ OpenSender m
-    → (o : Opening) × (current h d id ≡ Some o) × (o.message ≡ m)
-open_current h d id m e = go (current h d id) (is_over h d id) refl e where
-  go : (o : Option Opening) (over : Bool) → current h d id ≡ o → sender_of o over ≡ OpenSender m
-      → (o : Opening) × (current h d id ≡ Some o) × (o.message ≡ m)
+pub open_current : (h : History) (d : Direction) (name : Name) (m : List ℕ) → sender h d name ≡ OpenSender m
+    → (o : Opening) × (current h d name ≡ Some o) × (o.message ≡ m)
+open_current h d name m e = go (current h d name) (is_over h d name) refl e where
+  go : (o : Option Opening) (over : Bool) → current h d name ≡ o → sender_of o over ≡ OpenSender m
+      → (o : Opening) × (current h d name ≡ Some o) × (o.message ≡ m)
   go None over is t = absurd cc
   go (Some o) true is t = absurd cc
   go (Some o) false is t = (o, is, cc)
 
 -- the part's packet that is made now arrives as that part
-packet_arrives : (c : Config) (h : History) (d : Direction) (id : Name) (m : List ℕ) (k : ℕ)
+packet_arrives : (c : Config) (h : History) (d : Direction) (name : Name) (m : List ℕ) (k : ℕ)
     → IsConfig c
     → IsSound c h
     → IsMessage m c.part_size
-    → IsName id
+    → IsName name
     → 1 ≤ k
     → k ≤ part_count (length m) c.part_size
     → arrival_of c (record {
       direction = d;
-      octets = part_packet c h d id.source (nth_part c.part_size id.id m k);
-    }) ≡ APart (nth_named c.part_size id m k)
-packet_arrives c h Up id m k good sound splits i one last =
+      octets = part_packet c h d name.source (nth_part c.part_size name.id m k);
+    }) ≡ APart (nth_named c.part_size name m k)
+packet_arrives c h Up name m k good sound splits i one last =
     let counts : AreCounts (count h Up) 0 0 =
     record { count_fits = omega arith; counter_fits = omega arith; time_fits = omega arith } in
-    part_arrives c Up id.source (count h Up) 0 0 (nth_part c.part_size id.id m k) good counts
+    part_arrives c Up name.source (count h Up) 0 0 (nth_part c.part_size name.id m k) good counts
     i.source_fits i.id_fits
     (part_of-fits m c.part_size k good.part_size_fits splits.long splits.short one last)
-packet_arrives c h Down id m k good sound splits i one last =
-    let q = nth_part c.part_size id.id m k in
+packet_arrives c h Down name m k good sound splits i one last =
+    let q = nth_part c.part_size name.id m k in
     let counter = type_counter h 13 (part_subtype Down q.kind) in
     let counts : AreCounts (count h Down) counter (clock c h Craft) =
     record {
@@ -137,7 +139,7 @@ packet_arrives c h Down id m k good sound splits i one last =
       counter_fits = omega arith;
       time_fits = sound.clocks Craft;
     } in
-    part_arrives c Down id.source (count h Down) counter (clock c h Craft) q good counts i.source_fits
+    part_arrives c Down name.source (count h Down) counter (clock c h Craft) q good counts i.source_fits
     i.id_fits
     (part_of-fits m c.part_size k good.part_size_fits splits.long splits.short one last)
 
@@ -149,53 +151,53 @@ same_part : {q r : NamedPart} → APart q ≡ APart r → q ≡ r
 same_part e = cc
 
 -- sending a part pays what it owes
-pub send_owes : (c : Config) (first : Contents) (h : History) (d : Direction) (id : Name) (k : ℕ)
+pub send_owes : (c : Config) (first : Contents) (h : History) (d : Direction) (name : Name) (k : ℕ)
     → IsConfig c
     → IsSound c h
-    → IsName id
-    → refusal c h (Send d id k) ≡ None
-    → Owes c h (entry c first h (Send d id k))
-send_owes c first h d id k good sound i accepted =
+    → IsName name
+    → refusal c h (Send d name k) ≡ None
+    → Owes c h (entry c first h (Send d name k))
+send_owes c first h d name k good sound i accepted =
     let t =
-    two_pass (not (is_open (sender h d id)))
-    ((k == 0) || nat_lt (parts_open c (sender h d id)) k) NotOpen NoSuchPart accepted in
-    calm_owes c first h (Send d id k) refl sound (puts_part (sender h d id) refl t.0 t.1)
+    two_pass (not (is_open (sender h d name)))
+    ((k == 0) || nat_lt (parts_open c (sender h d name)) k) NotOpen NoSuchPart accepted in
+    calm_owes c first h (Send d name k) refl sound (puts_part (sender h d name) refl t.0 t.1)
   where
     puts_part : (s : Sender)
-        → sender h d id ≡ s
+        → sender h d name ≡ s
         → not (is_open s) ≡ false
         → ((k == 0) || nat_lt (parts_open c s) k) ≡ false
         → (n : ℕ) (p : SentPacket)
-        → slice_get (send_puts c h d id k s) n ≡ Some p
-        → IsPut c (entry c first h (Send d id k) ∷ h) (Send d id k) p
+        → slice_get (send_puts c h d name k s) n ≡ Some p
+        → IsPut c (entry c first h (Send d name k) ∷ h) (Send d name k) p
     puts_part FreeSender is t u n p f = absurd cc
     puts_part ClosedSender is t u n p f = absurd cc
     puts_part (OpenSender m) is t u n p f =
-        let o = open_current h d id m is in
+        let o = open_current h d name m is in
         let splits : IsMessage m c.part_size =
-        subst (λ b. IsMessage b c.part_size) o.2 (sound.openings d id o.0 o.1).splits in
+        subst (λ b. IsMessage b c.part_size) o.2 (sound.openings d name o.0 o.1).splits in
         let one : 1 ≤ k =
-        not_zero k (or_false_l (k == 0) (nat_lt (part_count (length m) c.part_size) k) u) in
+        not_zero k (or_false_left (k == 0) (nat_lt (part_count (length m) c.part_size) k) u) in
         let last : k ≤ part_count (length m) c.part_size =
         not_lt (part_count (length m) c.part_size) k
-        (or_false_r (k == 0) (nat_lt (part_count (length m) c.part_size) k) u) in
-        let now : IsPartOfCurrent c (entry c first h (Send d id k) ∷ h) d
-        (nth_named c.part_size id m k) =
+        (or_false_right (k == 0) (nat_lt (part_count (length m) c.part_size) k) u) in
+        let now : IsPartOfCurrent c (entry c first h (Send d name k) ∷ h) d
+        (nth_named c.part_size name m k) =
         record {
           opening = o.0;
           is_current = o.1;
           from_one = one;
           to_last = subst (λ b. k ≤ part_count (length b) c.part_size) (sym o.2) last;
-          is_part = ap (λ b. nth_named c.part_size id b k) (sym o.2);
+          is_part = ap (λ b. nth_named c.part_size name b k) (sym o.2);
         } in
-        let arrives = packet_arrives c h d id m k good sound splits i one last in
-        subst (λ x. IsPut c (entry c first h (Send d id k) ∷ h) (Send d id k) x)
+        let arrives = packet_arrives c h d name m k good sound splits i one last in
+        subst (λ x. IsPut c (entry c first h (Send d name k) ∷ h) (Send d name k) x)
         (only_element _ n p f)
         (record {
           sound = record {
             is_read = subst (λ a. IsRead a) (sym arrives) tt;
             part =
-                λ q e. subst (λ r. IsPartOfCurrent c (entry c first h (Send d id k) ∷ h) d r)
+                λ q e. subst (λ r. IsPartOfCurrent c (entry c first h (Send d name k) ∷ h) d r)
                 (same_part (sym arrives ∙ e)) now;
           };
           name = ap part_name arrives;
@@ -233,9 +235,9 @@ take_owes c first h l n sound accepted =
         let lane : l ≡ m = same_lane-true l m e in
         inr (record {
           was_held =
-              ap (is_held h) (sym at) ∙ and_l (is_held h n) (goes h (lane_direction l) n) there;
+              ap (is_held h) (sym at) ∙ and_left (is_held h n) (goes h (lane_direction l) n) there;
           goes_there =
               (λ j. goes h (lane_direction (sym lane j)) (sym at j))
-              ∙ and_r (is_held h n) (goes h (lane_direction l) n) there;
+              ∙ and_right (is_held h n) (goes h (lane_direction l) n) there;
         })
     in_hand_now m k false e f there = inl f

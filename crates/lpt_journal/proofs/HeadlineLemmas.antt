@@ -4,27 +4,27 @@ use Rattle.std.specs.List.{slice_get}
 use Rattle.std.specs.Option.{is_some, option_map_or}
 use Rattle.std.specs.FinMap as map
 use Rattle.std.specs.Ordering.{nat_cmp}
-use Rattle.lpt_reception.specs.LptPacket.declared.direction.Direction.{Direction}
-use Rattle.lpt_reception.specs.LptPacket.Names.{Name}
+use Rattle.lpt_packet.specs.declared.direction.Direction.{Direction}
+use Rattle.lpt_packet.specs.Names.{Name}
 use Rattle.lpt_reception.specs.Received.{no_parts}
-use Rattle.lpt_execution.specs.LptEvents.NamedParts.{NamedPart}
-use Rattle.lpt_execution.specs.LptEvents.declared.lane.Lane.{Lane}
-use Rattle.lpt_execution.specs.LptEvents.Lanes.{lane_direction}
-use Rattle.lpt_execution.specs.LptEvents.declared.config.Config.{Config}
-use Rattle.lpt_execution.specs.LptEvents.Arrivals.{NotRead, APart}
-use Rattle.lpt_execution.specs.LptEvents.declared.event.Event.{Event}
-use Rattle.lpt_execution.specs.LptEvents.declared.event.Event.TheVariants.{Open, Send, Plain, Damage, Take, Deliver, Tick, Expire, Commit, Apply, Retire, Restart}
-use Rattle.lpt_execution.specs.LptEvents.declared.fault.StepFault.TheVariants.{HandEmpty}
-use Rattle.lpt_execution.specs.LptEvents.declared.outcome.Outcome.{Outcome}
-use Rattle.lpt_execution.specs.LptEvents.declared.reply.Answer.TheVariants.{Delivered}
-use Rattle.lpt_execution.specs.LptEvents.Sides.{direction_to}
+use Rattle.lpt_events.specs.NamedParts.{NamedPart}
+use Rattle.lpt_events.specs.declared.lane.Lane.{Lane}
+use Rattle.lpt_events.specs.Lanes.{lane_direction}
+use Rattle.lpt_events.specs.declared.config.Config.{Config}
+use Rattle.lpt_events.specs.Arrivals.{NotRead, APart}
+use Rattle.lpt_events.specs.declared.event.Event.{Event}
+use Rattle.lpt_events.specs.declared.event.Event.TheVariants.{Open, Send, Plain, Damage, Take, Deliver, Tick, Expire, Commit, Apply, Retire, Restart}
+use Rattle.lpt_events.specs.declared.fault.StepFault.TheVariants.{HandEmpty}
+use Rattle.lpt_events.specs.declared.outcome.Outcome.{Outcome}
+use Rattle.lpt_events.specs.declared.reply.Answer.TheVariants.{Delivered}
+use Rattle.lpt_events.specs.Sides.{direction_to}
 use Rattle.lpt_journal.specs.Delivery.{outcome}
 use Rattle.lpt_journal.specs.Journal.{Recorded, History}
 use Rattle.lpt_journal.specs.Link.{is_damaged}
 use Rattle.lpt_journal.specs.Hands.{hand, arrival_at, in_hand}
 use Rattle.lpt_journal.specs.Jobs.{boot, applied, ticket, memories}
 use Rattle.lpt_journal.specs.Releases.{released_by}
-use Rattle.lpt_execution.specs.LptEvents.Configs.{IsConfig}
+use Rattle.lpt_events.specs.Configs.{IsConfig}
 use Rattle.lpt_journal.specs.Due.{due}
 use Rattle.lpt_journal.specs.Replies.{answer, expired_now, entry, recorded}
 use Rattle.lpt_journal.specs.Refusals.{refusal}
@@ -32,7 +32,7 @@ use Rattle.lpt_journal.specs.Legal.{IsEnabled, Legal}
 use Rattle.lpt_journal.proofs.JobLemmas.{memories_follow}
 use Rattle.lpt_journal.specs.Headline.{PartsAreCurrent, EachIsLastOpened, IsSoundOutcome, WasSoundDelivery, DeliveriesAreSound, DeliveriesWereSound, Headline}
 use Rattle.lpt_journal.proofs.TestLemmas.{one_passes, no_place}
-use Rattle.lpt_execution.specs.LptEvents.declared.side.Side.TheVariants.{Craft}
+use Rattle.lpt_events.specs.declared.side.Side.TheVariants.{Craft}
 use Rattle.lpt_journal.proofs.CalmEvents.{quiet_owes}
 use Rattle.lpt_journal.proofs.CommitLemmas.{commit_says}
 use Rattle.lpt_journal.proofs.RestartEvents.{restart_owes}
@@ -49,7 +49,7 @@ use Rattle.lpt_journal.proofs.TimeEvents.{tick_owes, expire_owes}
 use Rattle.lpt_journal.proofs.Deliveries.{delivery_sound, deliver_owes}
 use Rattle.lpt_journal.proofs.Releasing.{OwesReleases, ArePast, opening_is}
 use Rattle.lpt_journal.proofs.OnceLemmas.{past_step}
-use Rattle.lpt_execution.specs.LptMemory.Memories.{Contents}
+use Rattle.lpt_memory.specs.Memories.{Contents}
 use Rattle.lpt_journal.proofs.DeliveredReleases.{deliver_releases}
 
 -- ---- each event
@@ -78,9 +78,9 @@ pub owes : (c : Config) (first : Contents) (h : History) (e : Event)
     → AreUpOctets c h
     → IsEnabled c h e
     → Owes c h (entry c first h e)
-owes c first h (Open d id m) good sound up can =
-    open_owes c first h d id m sound can.in_range.0 can.accepted
-owes c first h (Send d id k) good sound up can = send_owes c first h d id k good sound can.in_range.0 can.accepted
+owes c first h (Open d name m) good sound up can =
+    open_owes c first h d name m sound can.in_range.0 can.accepted
+owes c first h (Send d name k) good sound up can = send_owes c first h d name k good sound can.in_range.0 can.accepted
 owes c first h (Plain source flags service subtype body) good sound up can =
     plain_owes c first h source flags service subtype body good sound can.in_range can.accepted
 owes c first h (Damage d b) good sound up can = damage_owes c first h d b sound can.accepted
@@ -94,7 +94,7 @@ owes c first h Apply good sound up can =
     (λ r e.
     let octets = up.requests (applied h) r e in
     (answer_fits c.apid (memories c first h) r.message octets, source_fits c.apid r.message octets))
-owes c first h (Retire d id) good sound up can = retire_owes c first h d id sound can.accepted
+owes c first h (Retire d name) good sound up can = retire_owes c first h d name sound can.accepted
 owes c first h (Restart side) good sound up can = restart_owes c first h side sound
 owes c first h e good sound up can = quiet_owes c first h e refl refl sound
 
@@ -121,13 +121,13 @@ owes_releases c first h e good sound can = quiet c h (entry c first h e) refl
 -- before anything has happened
 sound_start : (c : Config) → IsConfig c → IsSound c []
 sound_start c good = record {
-  openings = λ d id o e. absurd cc;
+  openings = λ d name o e. absurd cc;
   packets = λ n p e. absurd (no_place n p e);
   names = refl;
   held = λ n p q e f is. absurd (no_place n p f);
   hands = λ l n e. absurd cc;
   heard =
-      λ d id n x e. absurd (let none : map.get no_parts n ≡ None = map.get-empty nat_cmp n in cc);
+      λ d name n x e. absurd (let none : map.get no_parts n ≡ None = map.get-empty nat_cmp n in cc);
   clocks = λ side. good.clock_fits;
 }
 
@@ -217,7 +217,7 @@ delivered_sound c first h (Expire side) o sound can is =
   where
     none_delivered : (d : Option Name) → expired_now (direction_to side) d ≡ Delivered o → ⊥
     none_delivered None e = cc
-    none_delivered (Some id) e = cc
+    none_delivered (Some name) e = cc
 delivered_sound c first h (Commit w) o sound can is =
     absurd (commit_says (λ a. ¬ (a ≡ Delivered o)) (boot h Craft) (ticket c h w) (λ b n e. cc)
     (λ b n e. cc) is)

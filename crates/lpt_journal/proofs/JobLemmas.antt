@@ -4,12 +4,12 @@ use Rattle.std.specs.List.{slice_get, slice_index, filter, Contains}
 use Rattle.std.specs.List.Sorted.{IsStrictlyIncreasing}
 use Rattle.std.proofs.lemmas.List.Elements.{Contains-append_left, Contains-append_right, filter-append}
 use Rattle.std.proofs.lemmas.Option.{slice_get_within}
-use Rattle.lpt_execution.specs.LptMemory.Memories.{Contents}
-use Rattle.lpt_execution.specs.LptEvents.declared.config.Config.{Config}
-use Rattle.lpt_execution.specs.LptEvents.declared.event.Event.{Event}
-use Rattle.lpt_execution.specs.LptEvents.declared.event.Event.TheVariants.{Apply}
-use Rattle.lpt_execution.specs.LptEvents.declared.entry.Release.{Release}
-use Rattle.lpt_execution.specs.LptEvents.declared.side.Side.TheVariants.{Craft}
+use Rattle.lpt_memory.specs.Memories.{Contents}
+use Rattle.lpt_events.specs.declared.config.Config.{Config}
+use Rattle.lpt_events.specs.declared.event.Event.{Event}
+use Rattle.lpt_events.specs.declared.event.Event.TheVariants.{Apply}
+use Rattle.lpt_events.specs.declared.entry.Release.{Release}
+use Rattle.lpt_events.specs.declared.side.Side.TheVariants.{Craft}
 use Rattle.lpt_journal.specs.Headline.{EachWasReleased, MemoriesFollow}
 use Rattle.lpt_journal.specs.Journal.{Recorded, History, with_all}
 use Rattle.lpt_journal.specs.Jobs.{went_up, jobs, applied, applied_after, front_job, executed_by, executed}

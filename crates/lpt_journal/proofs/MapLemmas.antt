@@ -4,8 +4,8 @@ use Rattle.std.specs.List.{list_any}
 use Rattle.std.specs.FinMap as maps
 use Rattle.std.specs.FinMap.{FinMap}
 use Rattle.std.specs.declared.cmp.Ordering.{Ordering}
-use Rattle.lpt_reception.specs.LptPacket.Names.{Name, same_name, name_cmp}
-use Rattle.lpt_reception.proofs.LptPacket.NameLemmas.{same_name-refl, same_name-true, name_cmp_total, name_cmp-IsAntisymmetric, name_tied}
+use Rattle.lpt_packet.specs.Names.{Name, same_name, name_cmp}
+use Rattle.lpt_packet.proofs.NameLemmas.{same_name-refl, same_name-true, name_cmp_total, name_cmp-IsAntisymmetric, name_tied}
 use Rattle.lpt_journal.specs.Senders.{once}
 
 -- ---- at a name
@@ -42,14 +42,14 @@ len_without {X} m k h =
     omega arith
 
 -- a name that is among others already
-pub among : (id k : Name) (ks : List Name) → list_any (same_name k) ks ≡ true → (same_name id k || list_any (same_name id) ks) ≡ list_any (same_name id) ks
-among id k ks h = go (same_name id k) refl where
-  go : (t : Bool) → same_name id k ≡ t → (t || list_any (same_name id) ks) ≡ list_any (same_name id) ks
+pub among : (name k : Name) (ks : List Name) → list_any (same_name k) ks ≡ true → (same_name name k || list_any (same_name name) ks) ≡ list_any (same_name name) ks
+among name k ks h = go (same_name name k) refl where
+  go : (t : Bool) → same_name name k ≡ t → (t || list_any (same_name name) ks) ≡ list_any (same_name name) ks
   go false e = refl
-  go true e = let same : id ≡ k = same_name-true id k e in sym (ap (λ q. list_any (same_name q) ks) same ∙ h)
+  go true e = let same : name ≡ k = same_name-true name k e in sym (ap (λ q. list_any (same_name q) ks) same ∙ h)
 
 -- a map whose names are those of a list has as many as the list has, each once
-pub len_once : {X : Type 0} (m : FinMap name_cmp X) (ks : List Name) → ((id : Name) → is_some (maps.get m id) ≡ list_any (same_name id) ks) → maps.len m ≡ length (once ks)
+pub len_once : {X : Type 0} (m : FinMap name_cmp X) (ks : List Name) → ((name : Name) → is_some (maps.get m name) ≡ list_any (same_name name) ks) → maps.len m ≡ length (once ks)
 len_once {X} m [] h = go (maps.len m) refl where
   nothing : (o : Option X) → is_some o ≡ false → o ≡ None
   nothing None e = refl
@@ -58,14 +58,14 @@ len_once {X} m [] h = go (maps.len m) refl where
   go : (n : ℕ) → maps.len m ≡ n → maps.len m ≡ 0
   go n e = ap maps.len (maps.same_map name_cmp_total name_cmp-IsAntisymmetric m maps.empty (λ q. nothing (maps.get m q) (h q) ∙ sym (maps.get-empty name_cmp q))) ∙ maps.len-empty name_cmp X
 len_once {X} m (k ∷ ks) h = go (len_once m ks) (len_once (maps.remove m k) ks) (list_any (same_name k) ks) refl where
-  fewer : list_any (same_name k) ks ≡ false → (id : Name) (t : Bool) → same_name id k ≡ t → is_some (if t then None else maps.get m id) ≡ list_any (same_name id) ks
-  fewer e id true d = let same : id ≡ k = same_name-true id k d in sym (ap (λ q. list_any (same_name q) ks) same ∙ e)
-  fewer e id false d = h id ∙ ap (λ t. t || list_any (same_name id) ks) d
+  fewer : list_any (same_name k) ks ≡ false → (name : Name) (t : Bool) → same_name name k ≡ t → is_some (if t then None else maps.get m name) ≡ list_any (same_name name) ks
+  fewer e name true d = let same : name ≡ k = same_name-true name k d in sym (ap (λ q. list_any (same_name q) ks) same ∙ e)
+  fewer e name false d = h name ∙ ap (λ t. t || list_any (same_name name) ks) d
 
-  go : (((id : Name) → is_some (maps.get m id) ≡ list_any (same_name id) ks) → maps.len m ≡ length (once ks))
-      → (((id : Name) → is_some (maps.get (maps.remove m k) id) ≡ list_any (same_name id) ks) → maps.len (maps.remove m k) ≡ length (once ks))
+  go : (((name : Name) → is_some (maps.get m name) ≡ list_any (same_name name) ks) → maps.len m ≡ length (once ks))
+      → (((name : Name) → is_some (maps.get (maps.remove m k) name) ≡ list_any (same_name name) ks) → maps.len (maps.remove m k) ≡ length (once ks))
       → (t : Bool) → list_any (same_name k) ks ≡ t → maps.len m ≡ length (if t then once ks else k ∷ once ks)
-  go all others true e = all (λ id. h id ∙ among id k ks e)
+  go all others true e = all (λ name. h name ∙ among name k ks e)
   go all others false e =
       let there : is_some (maps.get m k) ≡ true = h k ∙ ap (λ t. t || list_any (same_name k) ks) (same_name-refl k) in
-      len_without m k there ∙ ap suc (others (λ id. ap is_some (get_remove m k id) ∙ fewer e id (same_name id k) refl))
+      len_without m k there ∙ ap suc (others (λ name. ap is_some (get_remove m k name) ∙ fewer e name (same_name name k) refl))

@@ -1,20 +1,20 @@
 -- What an entry releases and executes is one request, or none; and which jobs there are after it.
 use Rattle.std.proofs.Common.{◌≡◌, ◌∙◌, ap, sym, refl, ℕ, zero, suc, Bool, true, false, ◌⊎◌, inl, inr, if◌then◌else◌, List, [], ◌∷◌, length, Option, Some, None}
 use Rattle.std.specs.List.{slice_get, filter}
-use Rattle.lpt_reception.specs.LptPacket.declared.direction.Direction.{Direction}
-use Rattle.lpt_reception.specs.LptPacket.Names.{Name}
+use Rattle.lpt_packet.specs.declared.direction.Direction.{Direction}
+use Rattle.lpt_packet.specs.Names.{Name}
 use Rattle.lpt_reception.specs.Received.{Parts}
-use Rattle.lpt_execution.specs.LptEvents.declared.config.Config.{Config}
-use Rattle.lpt_execution.specs.LptEvents.declared.event.Event.{Event}
-use Rattle.lpt_execution.specs.LptEvents.declared.event.Event.TheVariants.{Apply, Deliver}
-use Rattle.lpt_execution.specs.LptEvents.declared.entry.Release.{Release}
-use Rattle.lpt_execution.specs.LptEvents.declared.lane.Lane.{Lane}
-use Rattle.lpt_execution.specs.LptEvents.Lanes.{lane_direction}
-use Rattle.lpt_execution.specs.LptEvents.declared.outcome.Outcome.TheVariants.{Released, PlainReleased}
-use Rattle.lpt_execution.specs.LptEvents.declared.reply.Answer.{Answer}
-use Rattle.lpt_execution.specs.LptEvents.declared.reply.Answer.TheVariants.{Delivered}
-use Rattle.lpt_execution.specs.LptEvents.Arrivals.{Arrival, ARequest, APart}
-use Rattle.lpt_execution.specs.LptEvents.declared.side.Side.TheVariants.{Craft}
+use Rattle.lpt_events.specs.declared.config.Config.{Config}
+use Rattle.lpt_events.specs.declared.event.Event.{Event}
+use Rattle.lpt_events.specs.declared.event.Event.TheVariants.{Apply, Deliver}
+use Rattle.lpt_events.specs.declared.entry.Release.{Release}
+use Rattle.lpt_events.specs.declared.lane.Lane.{Lane}
+use Rattle.lpt_events.specs.Lanes.{lane_direction}
+use Rattle.lpt_events.specs.declared.outcome.Outcome.TheVariants.{Released, PlainReleased}
+use Rattle.lpt_events.specs.declared.reply.Answer.{Answer}
+use Rattle.lpt_events.specs.declared.reply.Answer.TheVariants.{Delivered}
+use Rattle.lpt_events.specs.Arrivals.{Arrival, ARequest, APart}
+use Rattle.lpt_events.specs.declared.side.Side.TheVariants.{Craft}
 use Rattle.lpt_journal.specs.Journal.{Recorded, History, with_all}
 use Rattle.lpt_journal.specs.Jobs.{went_up, jobs, executed_now}
 use Rattle.lpt_journal.specs.Releases.{released_now, release_after, released_by}
@@ -29,7 +29,7 @@ IsOneOrNone place rs = (rs ≡ []) ⊎ ((r : Release) × (rs ≡ r ∷ []) × (r
 
 now_one : (place : ℕ) (d : Direction) (o : Answer) (s : Name → Parts) (a : Arrival)
     → IsOneOrNone place (released_now place d o s a)
-now_one place d (Delivered (Released id len)) s (APart q) = inr (_, refl, refl)
+now_one place d (Delivered (Released name len)) s (APart q) = inr (_, refl, refl)
 now_one place d (Delivered (PlainReleased len)) s (ARequest b) = inr (_, refl, refl)
 now_one place d o s a = inl refl
 

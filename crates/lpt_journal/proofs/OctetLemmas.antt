@@ -2,25 +2,25 @@
 use Rattle.std.proofs.Common.{◌≡◌, refl, ℕ, zero, suc, ◌+◌, ◌-◌, ◌*◌, ◌<◌, ◌==◌, ◌&&◌, Bool, true, false, if◌then◌else◌, List, [], ◌∷◌, ◌++◌, length, drop, Option, Some, None, arith}
 use Rattle.std.specs.Option.{option_map_or}
 use Rattle.std.specs.Result.{result_ok}
-use Rattle.lpt_reception.specs.LptPacket.declared.direction.Direction.TheVariants.{Up, Down}
-use Rattle.lpt_reception.specs.LptPacket.Checksums.{checksum}
-use Rattle.lpt_reception.specs.LptPacket.Names.{Name, named_by}
-use Rattle.lpt_reception.specs.LptPacket.Numbers.{be, IsOctets}
-use Rattle.lpt_reception.specs.LptPacket.Packets.{Fields, Sight, IdlePacket, APacket, packet_type, header, spelling, seen}
-use Rattle.lpt_reception.proofs.LptPacket.OctetLists.{IsOctets-take, IsOctets-drop}
-use Rattle.lpt_execution.specs.LptPus.Commands.{Command, packet_of, tc_field, tc_verdict}
-use Rattle.lpt_execution.specs.LptPus.Telemetry.{Telemetry, tm_verdict}
-use Rattle.lpt_reception.specs.LptPart.declared.kind.Kind.{Kind}
-use Rattle.lpt_reception.specs.LptPart.declared.kind.Kind.TheVariants.{First}
-use Rattle.lpt_reception.specs.LptPart.declared.reason.Reason.{Reason}
-use Rattle.lpt_reception.specs.LptPart.Aborts.{abort_in}
-use Rattle.lpt_reception.specs.LptPart.Parts.{Piece, part_in, body_of}
-use Rattle.lpt_execution.specs.LptEvents.NamedParts.{named}
-use Rattle.lpt_execution.specs.LptEvents.declared.config.Config.{Config}
-use Rattle.lpt_execution.specs.LptEvents.declared.side.Side.{Side}
-use Rattle.lpt_execution.specs.LptEvents.declared.side.Side.TheVariants.{Ground, Craft}
-use Rattle.lpt_execution.specs.LptEvents.Arrivals.{NotRead, Foreign, ARequest, AReport, NoPart, APart, AnAbort, carried_kind, part_arrival, abort_arrival, command_arrival, report_arrival, telemetry_arrival, packet_arrival, sight_arrival, arrival, part_subtype}
-use Rattle.lpt_execution.specs.LptEvents.MadePackets.{nth_part, command_made, tc_made, part_made}
+use Rattle.lpt_packet.specs.declared.direction.Direction.TheVariants.{Up, Down}
+use Rattle.lpt_packet.specs.Checksums.{checksum}
+use Rattle.lpt_packet.specs.Names.{Name, named_by}
+use Rattle.lpt_packet.specs.Numbers.{be, IsOctets}
+use Rattle.lpt_packet.specs.Packets.{Fields, Sight, IdlePacket, APacket, packet_type, header, spelling, seen}
+use Rattle.lpt_packet.proofs.OctetLists.{IsOctets-take, IsOctets-drop}
+use Rattle.lpt_pus.specs.Commands.{Command, packet_of, tc_field, tc_verdict}
+use Rattle.lpt_pus.specs.Telemetry.{Telemetry, tm_verdict}
+use Rattle.lpt_part.specs.declared.kind.Kind.{Kind}
+use Rattle.lpt_part.specs.declared.kind.Kind.TheVariants.{First}
+use Rattle.lpt_part.specs.declared.reason.Reason.{Reason}
+use Rattle.lpt_part.specs.Aborts.{abort_in}
+use Rattle.lpt_part.specs.Parts.{Piece, part_in, body_of}
+use Rattle.lpt_events.specs.NamedParts.{named}
+use Rattle.lpt_events.specs.declared.config.Config.{Config}
+use Rattle.lpt_events.specs.declared.side.Side.{Side}
+use Rattle.lpt_events.specs.declared.side.Side.TheVariants.{Ground, Craft}
+use Rattle.lpt_events.specs.Arrivals.{NotRead, Foreign, ARequest, AReport, NoPart, APart, AnAbort, carried_kind, part_arrival, abort_arrival, command_arrival, report_arrival, telemetry_arrival, packet_arrival, sight_arrival, arrival, part_subtype}
+use Rattle.lpt_events.specs.MadePackets.{nth_part, command_made, tc_made, part_made}
 
 -- ---- octets
 

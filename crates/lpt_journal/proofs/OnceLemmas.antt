@@ -1,11 +1,11 @@
 -- No two releases have the same opening.
 use Rattle.std.proofs.Common.{◌≡◌, ◌∙◌, ap, sym, ℕ, true, false, inl, inr, ◌∷◌, length, Some, arith}
 use Rattle.std.specs.List.{slice_get}
-use Rattle.lpt_reception.specs.LptPacket.declared.direction.Direction.{Direction}
-use Rattle.lpt_reception.specs.LptPacket.Names.{Name}
-use Rattle.lpt_execution.specs.LptEvents.declared.config.Config.{Config}
-use Rattle.lpt_execution.specs.LptEvents.declared.entry.Opening.{Opening}
-use Rattle.lpt_execution.specs.LptEvents.declared.entry.Release.{Release}
+use Rattle.lpt_packet.specs.declared.direction.Direction.{Direction}
+use Rattle.lpt_packet.specs.Names.{Name}
+use Rattle.lpt_events.specs.declared.config.Config.{Config}
+use Rattle.lpt_events.specs.declared.entry.Opening.{Opening}
+use Rattle.lpt_events.specs.declared.entry.Release.{Release}
 use Rattle.lpt_journal.specs.Journal.{Recorded, History}
 use Rattle.lpt_journal.specs.Senders.{current}
 use Rattle.lpt_journal.specs.Receivers.{is_closed}
@@ -13,7 +13,7 @@ use Rattle.lpt_journal.specs.Releases.{released_by, releases}
 use Rattle.lpt_journal.specs.Headline.{opening_of, IsSameOpening, AtMostOncePerOpening}
 use Rattle.lpt_journal.proofs.TestLemmas.{IsOldOrNew, with_all_cases}
 use Rattle.lpt_journal.proofs.Steps.{IsSound, Owes}
-use Rattle.lpt_execution.specs.LptMemory.Memories.{Contents}
+use Rattle.lpt_memory.specs.Memories.{Contents}
 use Rattle.lpt_journal.proofs.Releasing.{IsReleaseOf, OwesReleases, opening_then, IsPast, ArePast, before_old, before_new, opening_is, is_large, each_step, closed_step}
 
 -- ---- once per opening
@@ -37,7 +37,7 @@ past_closed c h r t v o u sound p was now same closed =
     sym p.same_direction ∙ ap (λ (w : Opening). w.direction) is ∙ same.same_direction
     ∙ known.same_direction in
     let i : t.1 ≡ v.1 =
-    sym p.same_id ∙ ap (λ (w : Opening). w.id) is ∙ same.same_id ∙ known.same_id in
+    sym p.same_name ∙ ap (λ (w : Opening). w.name) is ∙ same.same_name ∙ known.same_name in
     (λ j. is_closed h (sym d j) (sym i j)) ∙ closed ((λ j. current h (d j) (i j)) ∙ now)
 
 -- a transaction whose last opening was released is closed
@@ -76,7 +76,7 @@ pub flipped : (o u : Opening) → IsSameOpening o u → IsSameOpening u o
 flipped o u s =
     record {
       same_direction = sym s.same_direction;
-      same_id = sym s.same_id;
+      same_name = sym s.same_name;
       same_place = sym s.same_place;
     }
 

@@ -2,17 +2,17 @@
 use Rattle.std.proofs.Common.{◌≡◌, ◌⊎◌, inl, inr, refl, ℕ, nat_le, Bool, true, false, not, ◌&&◌, length, if◌then◌else◌}
 use Rattle.std.specs.Option.{is_some}
 use Rattle.std.specs.FinMap as map
-use Rattle.lpt_reception.specs.LptPacket.declared.direction.Direction.{Direction}
-use Rattle.lpt_reception.specs.LptPacket.Names.{Name}
-use Rattle.lpt_reception.specs.LptPart.declared.reason.Reason.{Reason}
-use Rattle.lpt_reception.specs.LptPart.declared.reason.Reason.TheVariants.{Conflict, Discontinuity}
+use Rattle.lpt_packet.specs.declared.direction.Direction.{Direction}
+use Rattle.lpt_packet.specs.Names.{Name}
+use Rattle.lpt_part.specs.declared.reason.Reason.{Reason}
+use Rattle.lpt_part.specs.declared.reason.Reason.TheVariants.{Conflict, Discontinuity}
 use Rattle.lpt_reception.specs.Received.{contradicts, is_gap, is_whole, spelled}
-use Rattle.lpt_execution.specs.LptEvents.NamedParts.{NamedPart}
-use Rattle.lpt_execution.specs.LptEvents.declared.config.Config.{Config}
-use Rattle.lpt_execution.specs.LptEvents.declared.outcome.Outcome.{Outcome}
-use Rattle.lpt_execution.specs.LptEvents.declared.outcome.Outcome.TheVariants.{Kept, Again, Released, Broken, Ignored}
-use Rattle.lpt_execution.specs.LptEvents.declared.outcome.Why.TheVariants.{Unreadable, Idle, ForeignApid, BadPart, Closed, NoRoom}
-use Rattle.lpt_execution.specs.LptEvents.Arrivals.{Arrival, NotRead, AnIdle, Foreign, ARequest, AReport, NoPart, APart, AnAbort}
+use Rattle.lpt_events.specs.NamedParts.{NamedPart}
+use Rattle.lpt_events.specs.declared.config.Config.{Config}
+use Rattle.lpt_events.specs.declared.outcome.Outcome.{Outcome}
+use Rattle.lpt_events.specs.declared.outcome.Outcome.TheVariants.{Kept, Again, Released, Broken, Ignored}
+use Rattle.lpt_events.specs.declared.outcome.Why.TheVariants.{Unreadable, Idle, ForeignApid, BadPart, Closed, NoRoom}
+use Rattle.lpt_events.specs.Arrivals.{Arrival, NotRead, AnIdle, Foreign, ARequest, AReport, NoPart, APart, AnAbort}
 use Rattle.lpt_journal.specs.Journal.{History}
 use Rattle.lpt_journal.specs.Receivers.{kept, with_piece, heard, has_parts, reception_count, is_closed}
 use Rattle.lpt_journal.specs.Delivery.{judged}
@@ -32,14 +32,14 @@ chosen closed full clash again gap whole q len =
 
 -- a part that was released: its transaction was not closed, and with it all parts are there
 pub record IsReleased (closed whole : Bool) (q : NamedPart) (i : Name) : Type 0 where
-  pub same_id : i ≡ q.name
+  pub same_name : i ≡ q.name
   pub was_open : closed ≡ false
   pub is_all : whole ≡ true
 
 -- a part that broke its reception off: its transaction was not closed, and it contradicted what was
 -- kept or wasn't the next one
 pub record IsBroken (closed clash gap : Bool) (q : NamedPart) (i : Name) (reason : Reason) : Type 0 where
-  pub same_id : i ≡ q.name
+  pub same_name : i ≡ q.name
   pub was_open : closed ≡ false
   pub why : ((clash ≡ true) × (reason ≡ Conflict)) ⊎ ((gap ≡ true) × (reason ≡ Discontinuity))
 
@@ -58,12 +58,12 @@ chosen_tells : (closed full clash again gap whole : Bool) (q : NamedPart) (len :
 chosen_tells true full clash again gap whole q len = tt
 chosen_tells false true clash again gap whole q len = tt
 chosen_tells false false true again gap whole q len =
-    record { same_id = refl; was_open = refl; why = inl (refl, refl) }
+    record { same_name = refl; was_open = refl; why = inl (refl, refl) }
 chosen_tells false false false true gap whole q len = tt
 chosen_tells false false false false true whole q len =
-    record { same_id = refl; was_open = refl; why = inr (refl, refl) }
+    record { same_name = refl; was_open = refl; why = inr (refl, refl) }
 chosen_tells false false false false false true q len =
-    record { same_id = refl; was_open = refl; is_all = refl }
+    record { same_name = refl; was_open = refl; is_all = refl }
 chosen_tells false false false false false false q len = refl
 
 -- what the outcome of what arrives tells of it
@@ -105,7 +105,7 @@ judged_tells c h d Foreign = refl
 judged_tells c h d (ARequest b) = tt
 judged_tells c h d (AReport service subtype) = tt
 judged_tells c h d NoPart = refl
-judged_tells c h d (AnAbort id reason) = tt
+judged_tells c h d (AnAbort name reason) = tt
 judged_tells c h d (APart q) =
     let s = heard c h d q.name in
     part_tells c h d q (judged c h d (APart q))

@@ -1,22 +1,22 @@
 -- What a plain request owes, and that it pays it.
 use Rattle.std.proofs.Common.{◌≡◌, ◌∙◌, ap, sym, subst, ℕ, refl, List, ◌∷◌, length, None, arith}
-use Rattle.lpt_reception.specs.LptPacket.declared.direction.Direction.TheVariants.{Up}
-use Rattle.lpt_execution.specs.LptEvents.declared.config.Config.{Config}
-use Rattle.lpt_execution.specs.LptEvents.Arrivals.{ARequest, APart, part_name}
-use Rattle.lpt_execution.specs.LptEvents.Configs.{IsConfig}
-use Rattle.lpt_execution.specs.LptEvents.Requests.{is_part_request, is_too_long}
-use Rattle.lpt_execution.specs.LptEvents.declared.event.Event.TheVariants.{Plain}
-use Rattle.lpt_execution.specs.LptEvents.declared.fault.StepFault.TheVariants.{PartRequest, Long}
+use Rattle.lpt_packet.specs.declared.direction.Direction.TheVariants.{Up}
+use Rattle.lpt_events.specs.declared.config.Config.{Config}
+use Rattle.lpt_events.specs.Arrivals.{ARequest, APart, part_name}
+use Rattle.lpt_events.specs.Configs.{IsConfig}
+use Rattle.lpt_events.specs.Requests.{is_part_request, is_too_long}
+use Rattle.lpt_events.specs.declared.event.Event.TheVariants.{Plain}
+use Rattle.lpt_events.specs.declared.fault.StepFault.TheVariants.{PartRequest, Long}
 use Rattle.lpt_journal.specs.Journal.{History}
 use Rattle.lpt_journal.specs.Replies.{plain_packet, entry}
-use Rattle.lpt_execution.specs.LptEvents.Events.{IsEvent}
+use Rattle.lpt_events.specs.Events.{IsEvent}
 use Rattle.lpt_journal.specs.Refusals.{refusal}
 use Rattle.lpt_journal.specs.Senders.{count}
 use Rattle.lpt_journal.proofs.CalmEvents.{calm_owes}
 use Rattle.lpt_journal.proofs.Events.{only_element}
 use Rattle.lpt_journal.proofs.SentParts.{plain_arrives}
 use Rattle.lpt_journal.proofs.Steps.{IsRead, IsPut, IsSound, Owes}
-use Rattle.lpt_execution.specs.LptMemory.Memories.{Contents}
+use Rattle.lpt_memory.specs.Memories.{Contents}
 use Rattle.lpt_journal.proofs.TestLemmas.{two_pass}
 
 -- a plain request pays what it owes: its packet is read, and is no part

@@ -3,13 +3,14 @@ use Rattle.std.proofs.Common.{◌≡◌, ◌∙◌, ap, sym, subst, refl, ℕ, z
 use Rattle.std.specs.List.{slice_get}
 use Rattle.std.proofs.lemmas.Bool.Decides.{nat_tests}
 use Rattle.std.proofs.lemmas.Option.{slice_get_within}
-use Rattle.lpt_execution.specs.LptEvents.declared.config.Config.{Config}
-use Rattle.lpt_execution.specs.LptEvents.Arrivals.{part_name}
-use Rattle.lpt_execution.specs.LptEvents.declared.event.Event.{Event}
+use Rattle.lpt_events.specs.declared.config.Config.{Config}
+use Rattle.lpt_events.specs.Arrivals.{part_name}
+use Rattle.lpt_events.specs.declared.event.Event.{Event}
 use Rattle.lpt_journal.specs.Journal.{SentPacket, Recorded, History, with_all}
 use Rattle.lpt_journal.specs.Link.{sent, tag_put, tags, damages, is_damaged}
 use Rattle.lpt_journal.specs.Hands.{arrival_of}
-use Rattle.lpt_journal.proofs.TestLemmas.{lt_true, map-with_all, IsOldOrNew, with_all_cases}
+use Rattle.lpt_journal.proofs.TestLemmas.{map-with_all, IsOldOrNew, with_all_cases}
+use Rattle.lpt_packet.proofs.BoolLemmas.{lt_true}
 use Rattle.lpt_journal.proofs.Steps.{IsAsPut, IsSoundPut, IsSound, Owes}
 
 -- whether a packet was damaged stays, and of a new one the entry says it

@@ -2,23 +2,24 @@
 use Rattle.std.proofs.Common.{◌≡◌, ◌∙◌, ap, sym, refl, ℕ, suc, ◌-◌, ◌<◌, ◌≤◌, Bool, true, false, not, ◌&&◌, inl, inr, ◌∷◌, length, drop, Option, Some, None, if◌then◌else◌, arith}
 use Rattle.std.specs.List.{slice_get, find}
 use Rattle.std.specs.Option.{option_or, option_and_then}
-use Rattle.lpt_reception.specs.LptPacket.declared.direction.Direction.{Direction}
-use Rattle.lpt_reception.specs.LptPacket.Names.{Name, same_name}
-use Rattle.lpt_execution.specs.LptEvents.Lanes.{lane_direction, same_direction}
-use Rattle.lpt_execution.specs.LptEvents.declared.config.Config.{Config}
-use Rattle.lpt_execution.specs.LptEvents.declared.event.Event.{Event}
-use Rattle.lpt_execution.specs.LptEvents.declared.event.Event.TheVariants.{Deliver, Expire, Retire}
-use Rattle.lpt_execution.specs.LptEvents.declared.reply.Answer.{Answer}
-use Rattle.lpt_execution.specs.LptEvents.declared.entry.Opening.{Opening}
-use Rattle.lpt_execution.specs.LptEvents.declared.entry.Release.{Release}
-use Rattle.lpt_execution.specs.LptEvents.Sides.{same_side, receiver_side}
+use Rattle.lpt_packet.specs.declared.direction.Direction.{Direction}
+use Rattle.lpt_packet.specs.Names.{Name, same_name}
+use Rattle.lpt_events.specs.Lanes.{lane_direction, same_direction}
+use Rattle.lpt_events.specs.declared.config.Config.{Config}
+use Rattle.lpt_events.specs.declared.event.Event.{Event}
+use Rattle.lpt_events.specs.declared.event.Event.TheVariants.{Deliver, Expire, Retire}
+use Rattle.lpt_events.specs.declared.reply.Answer.{Answer}
+use Rattle.lpt_events.specs.declared.entry.Opening.{Opening}
+use Rattle.lpt_events.specs.declared.entry.Release.{Release}
+use Rattle.lpt_events.specs.Sides.{same_side, receiver_side}
 use Rattle.lpt_journal.specs.Journal.{Recorded, History}
 use Rattle.lpt_journal.specs.Senders.{is_opening_of, retires, current}
 use Rattle.lpt_journal.specs.Receivers.{ends, closed_after, is_closed}
 use Rattle.lpt_journal.specs.Releases.{released_by, releases}
 use Rattle.lpt_journal.specs.Headline.{before, opening_of, AtMostOncePerOpening}
-use Rattle.lpt_journal.proofs.TestLemmas.{or_true_r, IsOldOrNew, with_all_cases}
-use Rattle.lpt_execution.specs.LptMemory.Memories.{Contents}
+use Rattle.lpt_journal.proofs.TestLemmas.{IsOldOrNew, with_all_cases}
+use Rattle.lpt_packet.proofs.BoolLemmas.{or_right}
+use Rattle.lpt_memory.specs.Memories.{Contents}
 use Rattle.lpt_journal.proofs.Steps.{IsSound, IsKnown, Owes}
 
 -- ---- what an entry owes for what it releases
@@ -55,7 +56,7 @@ pub record IsPast (h : History) (r : Release) (t : Direction × Name) : Type 0 w
   pub is_current : opening_then h r.place t ≡ Some opening
   pub is_message : r.message ≡ opening.message
   pub same_direction : opening.direction ≡ t.0
-  pub same_id : opening.id ≡ t.1
+  pub same_name : opening.name ≡ t.1
   pub was_before : opening.place < length h
 
 -- each large release is past, its transaction is closed until opened again, and openings differ
@@ -110,45 +111,46 @@ is_large h r o e = go r.of refl e where
 
 -- ---- ended receptions
 
-closed_after_stays : (e : Event) (a : Answer) (d : Direction) (id : Name)
-    → ¬ (retires e d id ≡ true)
-    → closed_after e a d id true ≡ true
-closed_after_stays (Deliver l) a d id stays =
-    or_true_r (same_direction (lane_direction l) d && ends a id) true refl
-closed_after_stays (Expire side) a d id stays =
-    or_true_r (same_side side (receiver_side d) && ends a id) true refl
-closed_after_stays (Retire e i) a d id stays = go (same_direction e d && same_name i id) stays where
-  go : (t : Bool) → ¬ (t ≡ true) → (not t && true) ≡ true
-  go true other = absurd (other refl)
-  go false other = refl
-closed_after_stays e a d id stays = refl
+closed_after_stays : (e : Event) (a : Answer) (d : Direction) (name : Name)
+    → ¬ (retires e d name ≡ true)
+    → closed_after e a d name true ≡ true
+closed_after_stays (Deliver l) a d name stays =
+    or_right (same_direction (lane_direction l) d && ends a name) true refl
+closed_after_stays (Expire side) a d name stays =
+    or_right (same_side side (receiver_side d) && ends a name) true refl
+closed_after_stays (Retire e i) a d name
+    stays = go (same_direction e d && same_name i name) stays where
+      go : (t : Bool) → ¬ (t ≡ true) → (not t && true) ≡ true
+      go true other = absurd (other refl)
+      go false other = refl
+closed_after_stays e a d name stays = refl
 
 -- a closed transaction stays closed while it isn't retired
-pub closed_stays : (h : History) (x : Recorded) (d : Direction) (id : Name)
-    → is_closed h d id ≡ true
-    → ¬ (retires x.event d id ≡ true)
-    → is_closed (x ∷ h) d id ≡ true
-closed_stays h x d id e stays =
-    ap (closed_after x.event x.reply.answer d id) e
-    ∙ closed_after_stays x.event x.reply.answer d id stays
+pub closed_stays : (h : History) (x : Recorded) (d : Direction) (name : Name)
+    → is_closed h d name ≡ true
+    → ¬ (retires x.event d name ≡ true)
+    → is_closed (x ∷ h) d name ≡ true
+closed_stays h x d name e stays =
+    ap (closed_after x.event x.reply.answer d name) e
+    ∙ closed_after_stays x.event x.reply.answer d name stays
 
 -- an opening that is the last one and not the newest was the last one before, and isn't retired
-pub was_current : (c : Config) (h : History) (x : Recorded) (d : Direction) (id : Name)
+pub was_current : (c : Config) (h : History) (x : Recorded) (d : Direction) (name : Name)
     (u : Opening)
     → Owes c h x
-    → current (x ∷ h) d id ≡ Some u
+    → current (x ∷ h) d name ≡ Some u
     → u.place < length h
-    → (current h d id ≡ Some u) × (¬ (retires x.event d id ≡ true))
-was_current c h x d id u owes e older =
-    go (retires x.event d id) (find (is_opening_of d id) x.opens) refl refl e where
+    → (current h d name ≡ Some u) × (¬ (retires x.event d name ≡ true))
+was_current c h x d name u owes e older =
+    go (retires x.event d name) (find (is_opening_of d name) x.opens) refl refl e where
       go : (b : Bool) (f : Option Opening)
-          → retires x.event d id ≡ b
-          → find (is_opening_of d id) x.opens ≡ f
-          → ◌≡◌ {A = Option Opening} (if b then None else option_or f (current h d id)) (Some u)
-          → (current h d id ≡ Some u) × (¬ (retires x.event d id ≡ true))
+          → retires x.event d name ≡ b
+          → find (is_opening_of d name) x.opens ≡ f
+          → ◌≡◌ {A = Option Opening} (if b then None else option_or f (current h d name)) (Some u)
+          → (current h d name ≡ Some u) × (¬ (retires x.event d name ≡ true))
       go true f r i k = absurd cc
       go false (Some v) r i k =
-          let place : v.place ≡ length h = (owes.opens d id v i).place in
+          let place : v.place ≡ length h = (owes.opens d name v i).place in
           let same : v ≡ u = cc in
           let at : u.place ≡ length h = ap (λ (w : Opening). w.place) (sym same) ∙ place in
           absurd (omega arith)
@@ -169,7 +171,7 @@ new_past c h x r t sound place of =
       is_current = ap (λ g. current g t.0 t.1) (before_new h x r.place place) ∙ of.is_current;
       is_message = of.is_message;
       same_direction = known.same_direction;
-      same_id = known.same_id;
+      same_name = known.same_name;
       was_before = omega (arith, known.place_fits);
     }
 
@@ -184,7 +186,7 @@ old_past h x r t p = record {
       ∙ p.is_current;
   is_message = p.is_message;
   same_direction = p.same_direction;
-  same_id = p.same_id;
+  same_name = p.same_name;
   was_before = omega (arith, p.was_before);
 }
 

@@ -1,36 +1,37 @@
 -- An abortion report that the spacecraft puts is read, and is no part, whatever event puts it.
 use Rattle.std.proofs.Common.{◌≡◌, ◌∙◌, ap, sym, subst, ℕ, Bool, false, Some, None, arith, ◌<◌}
 use Rattle.std.specs.List.{slice_get}
-use Rattle.lpt_reception.specs.LptPacket.declared.direction.Direction.TheVariants.{Down}
-use Rattle.lpt_reception.specs.LptPacket.Names.{Name}
-use Rattle.lpt_reception.specs.LptPart.Parts.{Piece}
-use Rattle.lpt_reception.specs.LptPart.declared.reason.Reason.{Reason}
-use Rattle.lpt_execution.specs.LptEvents.declared.config.Config.{Config}
-use Rattle.lpt_execution.specs.LptEvents.declared.event.Event.{Event}
-use Rattle.lpt_execution.specs.LptEvents.declared.side.Side.TheVariants.{Craft}
-use Rattle.lpt_execution.specs.LptEvents.Arrivals.{APart, AnAbort, part_name}
+use Rattle.lpt_packet.specs.declared.direction.Direction.TheVariants.{Down}
+use Rattle.lpt_packet.specs.Names.{Name}
+use Rattle.lpt_part.specs.Parts.{Piece}
+use Rattle.lpt_part.specs.declared.reason.Reason.{Reason}
+use Rattle.lpt_events.specs.declared.config.Config.{Config}
+use Rattle.lpt_events.specs.declared.event.Event.{Event}
+use Rattle.lpt_events.specs.declared.side.Side.TheVariants.{Craft}
+use Rattle.lpt_events.specs.Arrivals.{APart, AnAbort, part_name}
 use Rattle.lpt_journal.specs.Hands.{arrival_of}
 use Rattle.lpt_journal.specs.Journal.{History, SentPacket}
 use Rattle.lpt_journal.specs.Link.{tag_put, damages}
 use Rattle.lpt_journal.specs.Receivers.{clock}
-use Rattle.lpt_execution.specs.LptEvents.Configs.{IsConfig}
-use Rattle.lpt_execution.specs.LptEvents.MadePackets.{abort_made}
+use Rattle.lpt_events.specs.Configs.{IsConfig}
+use Rattle.lpt_events.specs.MadePackets.{abort_made}
 use Rattle.lpt_journal.specs.Replies.{abort_puts}
 use Rattle.lpt_journal.specs.Senders.{count, type_counter}
 use Rattle.lpt_journal.proofs.Events.{only_element}
-use Rattle.lpt_journal.proofs.SentParts.{AreCounts, abort_arrives}
+use Rattle.lpt_journal.proofs.SentParts.{abort_arrives}
 use Rattle.lpt_journal.proofs.Steps.{IsRead, IsSoundPut, IsSoundPacket, IsPut, IsSound}
+use Rattle.lpt_events.specs.Counts.{AreCounts}
 
-pub report_put : (c : Config) (h g : History) (e : Event) (id : Name) (reason : Reason) (k : ℕ)
+pub report_put : (c : Config) (h g : History) (e : Event) (name : Name) (reason : Reason) (k : ℕ)
     (p : SentPacket)
     → IsConfig c
     → IsSound c h
-    → id.source < 65536
+    → name.source < 65536
     → damages e ≡ false
     → tag_put e ≡ None
-    → slice_get (abort_puts c h Craft id reason) k ≡ Some p
+    → slice_get (abort_puts c h Craft name reason) k ≡ Some p
     → IsPut c g e p
-report_put c h g e id reason k p good sound from no_noise no_tag f =
+report_put c h g e name reason k p good sound from no_noise no_tag f =
     let counter = type_counter h 13 16 in
     let counts : AreCounts (count h Down) counter (clock c h Craft) =
     record {
@@ -38,10 +39,11 @@ report_put c h g e id reason k p good sound from no_noise no_tag f =
       counter_fits = omega arith;
       time_fits = sound.clocks Craft;
     } in
-    let it = abort_arrives c (count h Down) counter (clock c h Craft) id reason good counts from in
+    let it = abort_arrives c (count h Down) counter (clock c h Craft) name reason good
+    counts from in
     let made : SentPacket = record {
       direction = Down;
-      octets = abort_made c (count h Down) counter (clock c h Craft) id reason;
+      octets = abort_made c (count h Down) counter (clock c h Craft) name reason;
     } in
     let read : IsSoundPacket c g made = record {
       is_read = subst (λ a. IsRead a) (sym it.1) tt;

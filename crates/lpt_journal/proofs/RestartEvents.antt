@@ -1,10 +1,10 @@
 -- What the restart of a node owes, and that it pays it.
 use Rattle.std.proofs.Common.{inl}
-use Rattle.lpt_execution.specs.LptMemory.Memories.{Contents}
-use Rattle.lpt_execution.specs.LptEvents.Sides.{same_side, receiver_side}
-use Rattle.lpt_execution.specs.LptEvents.declared.config.Config.{Config}
-use Rattle.lpt_execution.specs.LptEvents.declared.event.Event.TheVariants.{Restart}
-use Rattle.lpt_execution.specs.LptEvents.declared.side.Side.{Side}
+use Rattle.lpt_memory.specs.Memories.{Contents}
+use Rattle.lpt_events.specs.Sides.{same_side, receiver_side}
+use Rattle.lpt_events.specs.declared.config.Config.{Config}
+use Rattle.lpt_events.specs.declared.event.Event.TheVariants.{Restart}
+use Rattle.lpt_events.specs.declared.side.Side.{Side}
 use Rattle.lpt_journal.specs.Journal.{History}
 use Rattle.lpt_journal.specs.Replies.{entry}
 use Rattle.lpt_journal.proofs.Steps.{IsSound, Owes, kept_or_none}
@@ -15,10 +15,10 @@ pub restart_owes : (c : Config) (first : Contents) (h : History) (side : Side)
     → IsSound c h
     → Owes c h (entry c first h (Restart side))
 restart_owes c first h side sound = record {
-  opens = λ d id o f. absurd cc;
-  retires = λ d id r. absurd cc;
+  opens = λ d name o f. absurd cc;
+  retires = λ d name r. absurd cc;
   puts = λ k p f. absurd (no_place k p f);
   takes = λ l n f. inl f;
-  hears = λ d id. kept_or_none c h d id (same_side side (receiver_side d));
+  hears = λ d name. kept_or_none c h d name (same_side side (receiver_side d));
   clocks = sound.clocks;
 }

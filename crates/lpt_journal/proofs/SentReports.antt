@@ -2,29 +2,29 @@
 use Rattle.std.proofs.Common.{◌≡◌, ◌∙◌, ap, refl, ℕ, ◌+◌, ◌^◌, ◌<◌, ◌≤◌, ◌==◌, nat_le, Bool, true, false, ◌&&◌, if◌then◌else◌, not, List, [], ◌∷◌, ◌++◌, length, map, Option, Some, None, arith}
 use Rattle.std.specs.List.{AllByRecursion}
 use Rattle.std.specs.Option.{option_map_or}
-use Rattle.lpt_reception.specs.LptPacket.declared.direction.Direction.TheVariants.{Down}
-use Rattle.lpt_execution.specs.LptPus.declared.failure_code.FailureCode.{FailureCode}
-use Rattle.lpt_execution.specs.LptPus.Codes.{number_of}
-use Rattle.lpt_execution.specs.LptPus.Commands.{Command, command_in}
-use Rattle.lpt_execution.specs.LptPus.Numbers.{long_at}
-use Rattle.lpt_execution.specs.LptPus.Telemetry.{TelemetryFits}
-use Rattle.lpt_execution.proofs.LptPus.TelemetryLemmas.{length-spelling_tm}
-use Rattle.lpt_reception.specs.LptPart.declared.kind.Kind.{Kind}
-use Rattle.lpt_reception.specs.LptPart.declared.kind.Kind.TheVariants.{First, Middle, Last}
-use Rattle.lpt_execution.specs.LptVerify.declared.report.EncodedReport.{EncodedReport}
-use Rattle.lpt_execution.specs.LptVerify.Reports.{success_if, asks, failure, accepted, started, completed, reports_before, reports_after}
-use Rattle.lpt_execution.specs.LptMemory.Effects.{AnswerFits}
-use Rattle.lpt_execution.specs.LptMemory.declared.reply_kind.ReplyKind.{ReplyKind}
-use Rattle.lpt_execution.specs.LptMemory.declared.reply_kind.ReplyKind.TheVariants as reply
-use Rattle.lpt_execution.specs.LptMemory.declared.effect.Effect.{Effect}
-use Rattle.lpt_execution.specs.LptMemory.declared.effect.Effect.TheVariants as effect
-use Rattle.lpt_execution.specs.LptEvents.declared.config.Config.{Config}
-use Rattle.lpt_execution.specs.LptEvents.declared.telemetry.TelemetryKind.{TelemetryKind}
-use Rattle.lpt_execution.specs.LptEvents.declared.telemetry.TelemetryKind.TheVariants.{Accepted, NotAccepted, Started, NotStarted, Completed}
-use Rattle.lpt_execution.specs.LptEvents.TelemetryKinds.{service_of, subtype_of}
-use Rattle.lpt_execution.specs.LptEvents.Arrivals.{AReport, part_subtype, carried_kind, report_arrival, part_arrival, abort_arrival, arrival_in}
-use Rattle.lpt_execution.specs.LptEvents.MadePackets.{telemetry_made, tm_made}
-use Rattle.lpt_execution.specs.LptEvents.Configs.{IsConfig}
+use Rattle.lpt_packet.specs.declared.direction.Direction.TheVariants.{Down}
+use Rattle.lpt_pus.specs.declared.failure_code.FailureCode.{FailureCode}
+use Rattle.lpt_pus.specs.Codes.{number_of}
+use Rattle.lpt_pus.specs.Commands.{Command, command_in}
+use Rattle.lpt_pus.specs.Numbers.{long_at}
+use Rattle.lpt_pus.specs.Telemetry.{TelemetryFits}
+use Rattle.lpt_pus.proofs.TelemetryLemmas.{length-spelling_tm}
+use Rattle.lpt_part.specs.declared.kind.Kind.{Kind}
+use Rattle.lpt_part.specs.declared.kind.Kind.TheVariants.{First, Middle, Last}
+use Rattle.lpt_verify.specs.declared.report.EncodedReport.{EncodedReport}
+use Rattle.lpt_verify.specs.Reports.{success_if, asks, failure, accepted, started, completed, reports_before, reports_after}
+use Rattle.lpt_memory.specs.Effects.{AnswerFits}
+use Rattle.lpt_memory.specs.declared.reply_kind.ReplyKind.{ReplyKind}
+use Rattle.lpt_memory.specs.declared.reply_kind.ReplyKind.TheVariants as reply
+use Rattle.lpt_memory.specs.declared.effect.Effect.{Effect}
+use Rattle.lpt_memory.specs.declared.effect.Effect.TheVariants as effect
+use Rattle.lpt_events.specs.declared.config.Config.{Config}
+use Rattle.lpt_events.specs.declared.telemetry.TelemetryKind.{TelemetryKind}
+use Rattle.lpt_events.specs.declared.telemetry.TelemetryKind.TheVariants.{Accepted, NotAccepted, Started, NotStarted, Completed}
+use Rattle.lpt_events.specs.TelemetryKinds.{service_of, subtype_of}
+use Rattle.lpt_events.specs.Arrivals.{AReport, part_subtype, carried_kind, report_arrival, part_arrival, abort_arrival, arrival_in}
+use Rattle.lpt_events.specs.MadePackets.{telemetry_made, tm_made}
+use Rattle.lpt_events.specs.Configs.{IsConfig}
 use Rattle.lpt_execution.specs.declared.ending.Ending.{Ending}
 use Rattle.lpt_execution.specs.declared.ending.Ending.TheVariants.{Silent, Refused, Carried}
 use Rattle.lpt_execution.specs.declared.ending.Report.{Report}
@@ -34,7 +34,8 @@ use Rattle.lpt_journal.specs.Journal.{with_all}
 use Rattle.lpt_journal.specs.Senders.{count_after, counter_after}
 use Rattle.lpt_journal.specs.Executions.{report_after}
 use Rattle.lpt_journal.specs.Executions as executions
-use Rattle.lpt_journal.proofs.SentParts.{AreCounts, telemetry_arrives}
+use Rattle.lpt_events.specs.Counts.{AreCounts}
+use Rattle.lpt_events.proofs.ArrivalLemmas.{telemetry_arrives}
 
 -- ---- a packet
 

@@ -6,64 +6,65 @@ use Rattle.std.specs.FinMap as maps
 use Rattle.std.specs.Ordering.{nat_cmp}
 use Rattle.std.specs.Cmp.{nat_cmp_total, unsigned_tied}
 use Rattle.std.proofs.lemmas.Option.{slice_get_within}
-use Rattle.lpt_reception.specs.LptPacket.declared.direction.Direction.{Direction}
-use Rattle.lpt_reception.specs.LptPacket.Names.{Name}
-use Rattle.lpt_reception.proofs.LptPacket.Readings.{true_eq}
+use Rattle.lpt_packet.specs.declared.direction.Direction.{Direction}
+use Rattle.lpt_packet.specs.Names.{Name}
+use Rattle.lpt_packet.proofs.Readings.{true_eq}
 use Rattle.lpt_reception.specs.Received.{Kept as KeptPart, Parts, no_parts}
-use Rattle.lpt_execution.specs.LptEvents.NamedParts.{NamedPart}
-use Rattle.lpt_execution.specs.LptEvents.declared.lane.Lane.{Lane}
-use Rattle.lpt_execution.specs.LptEvents.Lanes.{lane_direction, same_direction}
-use Rattle.lpt_execution.specs.LptEvents.declared.config.Config.{Config}
-use Rattle.lpt_execution.specs.LptEvents.Arrivals.{NotRead, APart, arrival_in}
-use Rattle.lpt_execution.specs.LptEvents.declared.entry.Opening.{Opening}
+use Rattle.lpt_events.specs.NamedParts.{NamedPart}
+use Rattle.lpt_events.specs.declared.lane.Lane.{Lane}
+use Rattle.lpt_events.specs.Lanes.{lane_direction, same_direction}
+use Rattle.lpt_events.specs.declared.config.Config.{Config}
+use Rattle.lpt_events.specs.Arrivals.{NotRead, APart, arrival_in}
+use Rattle.lpt_events.specs.declared.entry.Opening.{Opening}
 use Rattle.lpt_journal.specs.Journal.{SentPacket, Recorded, History}
 use Rattle.lpt_journal.specs.Link.{sent, loses, is_lost, damages, is_held, goes}
 use Rattle.lpt_journal.specs.Hands.{hand, arrival_of, arrival_at, in_hand}
 use Rattle.lpt_journal.specs.Senders.{is_opening_of, retires, current}
 use Rattle.lpt_journal.specs.Receivers.{kept, with_piece, heard}
 use Rattle.lpt_journal.specs.Headline.{IsPartOfCurrent, kept_piece}
-use Rattle.lpt_execution.proofs.LptEvents.LaneLemmas.{same_direction-true}
+use Rattle.lpt_events.proofs.LaneLemmas.{same_direction-true}
 use Rattle.lpt_journal.proofs.PutLemmas.{packets_step, names_step}
-use Rattle.lpt_journal.proofs.TestLemmas.{and_r, not_true, or_false_r, lt_true, get-with_all, IsOldOrNew, with_all_cases}
+use Rattle.lpt_journal.proofs.TestLemmas.{get-with_all, IsOldOrNew, with_all_cases}
+use Rattle.lpt_packet.proofs.BoolLemmas.{and_right, not_true, or_false_right, lt_true}
 use Rattle.lpt_journal.proofs.Steps.{IsKnown, IsSoundPut, IsInHand, IsSound, IsNew, IsTaken, IsKept, IsHeardNow, Owes, opening_found, part_stays}
 
 -- ---- openings
 
-later : (c : Config) (h : History) (x : Recorded) (d : Direction) (id : Name) (o : Opening)
-    → IsKnown c h d id o
-    → IsKnown c (x ∷ h) d id o
-later c h x d id o k =
+later : (c : Config) (h : History) (x : Recorded) (d : Direction) (name : Name) (o : Opening)
+    → IsKnown c h d name o
+    → IsKnown c (x ∷ h) d name o
+later c h x d name o k =
     record {
       same_direction = k.same_direction;
-      same_id = k.same_id;
+      same_name = k.same_name;
       is_name = k.is_name;
       place_fits = omega (arith, k.place_fits);
       splits = k.splits;
     }
 
 openings_step : (c : Config) (h : History) (x : Recorded) → Owes c h x → IsSound c h
-    → (d : Direction) (id : Name) (o : Opening)
-    → current (x ∷ h) d id ≡ Some o
-    → IsKnown c (x ∷ h) d id o
-openings_step c h x owes sound d id o e =
-    go (retires x.event d id) (find (is_opening_of d id) x.opens) refl e where
-      go : (r : Bool) (f : Option Opening) → find (is_opening_of d id) x.opens ≡ f
-          → ◌≡◌ {A = Option Opening} (if r then None else option_or f (current h d id)) (Some o)
-          → IsKnown c (x ∷ h) d id o
+    → (d : Direction) (name : Name) (o : Opening)
+    → current (x ∷ h) d name ≡ Some o
+    → IsKnown c (x ∷ h) d name o
+openings_step c h x owes sound d name o e =
+    go (retires x.event d name) (find (is_opening_of d name) x.opens) refl e where
+      go : (r : Bool) (f : Option Opening) → find (is_opening_of d name) x.opens ≡ f
+          → ◌≡◌ {A = Option Opening} (if r then None else option_or f (current h d name)) (Some o)
+          → IsKnown c (x ∷ h) d name o
       go true f i k = absurd cc
       go false (Some u) i k =
           let same : u ≡ o = cc in
-          let found : find (is_opening_of d id) x.opens ≡ Some o = i ∙ ap Some same in
-          let fresh : IsNew c h d id o = owes.opens d id o found in
-          let of = opening_found d id x.opens o found in
+          let found : find (is_opening_of d name) x.opens ≡ Some o = i ∙ ap Some same in
+          let fresh : IsNew c h d name o = owes.opens d name o found in
+          let of = opening_found d name x.opens o found in
           record {
             same_direction = of.0;
-            same_id = of.1;
+            same_name = of.1;
             is_name = fresh.is_name;
             place_fits = omega (arith, fresh.place);
             splits = fresh.splits;
           }
-      go false None i k = later c h x d id o (sound.openings d id o k)
+      go false None i k = later c h x d name o (sound.openings d name o k)
 
 -- ---- packets
 
@@ -75,9 +76,9 @@ pub held_before : (h : History) (x : Recorded) (n : ℕ) (p : SentPacket)
 held_before h x n p held there =
     let within : n < length (sent h) = slice_get_within (sent h) n p there in
     let kept_now : not (loses x.event n || is_lost h n) ≡ true =
-    and_r (nat_lt n (length (sent (x ∷ h)))) (not (is_lost (x ∷ h) n)) held in
+    and_right (nat_lt n (length (sent (x ∷ h)))) (not (is_lost (x ∷ h) n)) held in
     let kept_then : is_lost h n ≡ false =
-    or_false_r (loses x.event n) (is_lost h n)
+    or_false_right (loses x.event n) (is_lost h n)
     (not_true (loses x.event n || is_lost h n) kept_now) in
     λ i. lt_true n (length (sent h)) within i && not (kept_then i)
 
@@ -170,15 +171,15 @@ get-with_piece s q n =
     ∙ ap (λ b. if b then Some (kept q) else maps.get s n) (unsigned_tied n q.number)
 
 -- what a set with one part more has at a number is that part, or stood there
-pub with_piece_cases : (s : Parts) (q : NamedPart) (id : Name) (n : ℕ) (y : KeptPart)
-    → q.name ≡ id
+pub with_piece_cases : (s : Parts) (q : NamedPart) (name : Name) (n : ℕ) (y : KeptPart)
+    → q.name ≡ name
     → maps.get (with_piece s q) n ≡ Some y
-    → (q ≡ kept_piece id n y) ⊎ (maps.get s n ≡ Some y)
-with_piece_cases s q id n y i e = go (n == q.number) refl (sym (get-with_piece s q n) ∙ e) where
+    → (q ≡ kept_piece name n y) ⊎ (maps.get s n ≡ Some y)
+with_piece_cases s q name n y i e = go (n == q.number) refl (sym (get-with_piece s q n) ∙ e) where
   go : (b : Bool)
       → (n == q.number) ≡ b
       → ◌≡◌ {A = Option KeptPart} (if b then Some (kept q) else maps.get s n) (Some y)
-      → (q ≡ kept_piece id n y) ⊎ (maps.get s n ≡ Some y)
+      → (q ≡ kept_piece name n y) ⊎ (maps.get s n ≡ Some y)
   go true t k =
       let at : n ≡ q.number = true_eq n q.number t in
       let same : kept q ≡ y = cc in
@@ -186,15 +187,15 @@ with_piece_cases s q id n y i e = go (n == q.number) refl (sym (get-with_piece s
   go false t k = inr k
 
 heard_step : (c : Config) (h : History) (x : Recorded) → Owes c h x → IsSound c h
-    → (d : Direction) (id : Name) (n : ℕ) (y : KeptPart) → maps.get (heard c (x ∷ h) d id) n ≡ Some y
-    → IsPartOfCurrent c (x ∷ h) d (kept_piece id n y)
-heard_step c h x owes sound d id n y e = go (owes.hears d id) where
-  old : maps.get (heard c h d id) n ≡ Some y → IsPartOfCurrent c (x ∷ h) d (kept_piece id n y)
+    → (d : Direction) (name : Name) (n : ℕ) (y : KeptPart) → maps.get (heard c (x ∷ h) d name) n ≡ Some y
+    → IsPartOfCurrent c (x ∷ h) d (kept_piece name n y)
+heard_step c h x owes sound d name n y e = go (owes.hears d name) where
+  old : maps.get (heard c h d name) n ≡ Some y → IsPartOfCurrent c (x ∷ h) d (kept_piece name n y)
   old had =
-      part_stays c h x d (kept_piece id n y) owes (sound.heard d id n y had)
-      (λ r. let none : maps.get (heard c h d id) n ≡ None = (owes.retires d id r).heard n in cc)
+      part_stays c h x d (kept_piece name n y) owes (sound.heard d name n y had)
+      (λ r. let none : maps.get (heard c h d name) n ≡ None = (owes.retires d name r).heard n in cc)
 
-  part_kept : (k : IsKept c h d id (heard c (x ∷ h) d id)) → IsPartOfCurrent c (x ∷ h) d k.part
+  part_kept : (k : IsKept c h d name (heard c (x ∷ h) d name)) → IsPartOfCurrent c (x ∷ h) d k.part
   part_kept k =
       let had = sound.hands k.lane k.number k.was_taken in
       let now : IsPartOfCurrent c h d k.part =
@@ -206,19 +207,20 @@ heard_step c h x owes sound d id n y e = go (owes.hears d id) where
       (had.goes_there ∙ k.goes_there)
       (sym (in_hand_is c h k.lane k.number k.was_taken had) ∙ k.arrives) refl)
 
-  more : (k : IsKept c h d id (heard c (x ∷ h) d id))
-      → (k.part ≡ kept_piece id n y) ⊎ (maps.get (heard c h d id) n ≡ Some y)
-      → IsPartOfCurrent c (x ∷ h) d (kept_piece id n y)
+  more : (k : IsKept c h d name (heard c (x ∷ h) d name))
+      → (k.part ≡ kept_piece name n y) ⊎ (maps.get (heard c h d name) n ≡ Some y)
+      → IsPartOfCurrent c (x ∷ h) d (kept_piece name n y)
   more k (inl same) = subst (λ q. IsPartOfCurrent c (x ∷ h) d q) same (part_kept k)
   more k (inr had) = old had
 
-  go : IsHeardNow c h d id (heard c (x ∷ h) d id) → IsPartOfCurrent c (x ∷ h) d (kept_piece id n y)
+  go : IsHeardNow c h d name (heard c (x ∷ h) d name)
+      → IsPartOfCurrent c (x ∷ h) d (kept_piece name n y)
   go (inl same) = old (ap (λ s. maps.get s n) (sym same) ∙ e)
   go (inr (inl none)) =
       absurd (let was : maps.get no_parts n ≡ Some y = ap (λ s. maps.get s n) (sym none) ∙ e in
       let is : maps.get no_parts n ≡ None = maps.get-empty nat_cmp n in cc)
   go (inr (inr k)) =
-      more k (with_piece_cases (heard c h d id) k.part id n y k.same_id
+      more k (with_piece_cases (heard c h d name) k.part name n y k.same_name
       (ap (λ s. maps.get s n) (sym k.is_added) ∙ e))
 
 -- ---- all of it

@@ -1,66 +1,21 @@
 -- What tests tell, and what lists have at a place.
-use Rattle.std.proofs.Common.{◌≡◌, ◌∙◌, ap, sym, refl, ℕ, zero, suc, ◌+◌, ◌<◌, ◌≤◌, nat_lt, nat_le, ◌==◌, Bool, true, false, cond, if◌then◌else◌, not, ◌&&◌, ◌||◌, ◌⊎◌, inl, inr, List, [], ◌∷◌, ◌++◌, length, map, Option, Some, None, arith, zero-add}
+use Rattle.std.proofs.Common.{◌≡◌, ◌∙◌, ap, sym, refl, ℕ, zero, suc, ◌+◌, ◌<◌, ◌≤◌, nat_le, ◌==◌, Bool, true, false, cond, if◌then◌else◌, ◌⊎◌, inl, inr, List, [], ◌∷◌, ◌++◌, length, map, Option, Some, None, arith, zero-add}
 use Rattle.std.proofs.lemmas.Bool.Decides.{nat_tests}
 use Rattle.std.proofs.lemmas.List.{map-append}
 use Rattle.std.specs.List.{slice_get, find, filter}
-use Rattle.std.specs.Option.{is_some}
-use Rattle.lpt_execution.specs.LptEvents.declared.fault.StepFault.{StepFault}
+use Rattle.lpt_events.specs.declared.fault.StepFault.{StepFault}
 use Rattle.lpt_journal.specs.Journal.{with_all}
 use Rattle.lpt_journal.specs.Refusals.{first_fault}
 
 -- ---- tests
 
--- the first part of a test holds
-pub and_l : (a b : Bool) → (a && b) ≡ true → a ≡ true
-and_l true b h = refl
-and_l false b h = absurd cc
-
--- the second part of a test holds
-pub and_r : (a b : Bool) → (a && b) ≡ true → b ≡ true
-and_r true b h = h
-and_r false b h = absurd cc
-
--- what is not false is true
-pub not_false : (a : Bool) → not a ≡ false → a ≡ true
-not_false true h = refl
-not_false false h = absurd cc
-
--- what is not true is false
-pub not_true : (a : Bool) → not a ≡ true → a ≡ false
-not_true true h = absurd cc
-not_true false h = refl
-
--- where no alternative holds, the first doesn't
-pub or_false_l : (a b : Bool) → (a || b) ≡ false → a ≡ false
-or_false_l true b h = h
-or_false_l false b h = refl
-
--- where no alternative holds, the second doesn't
-pub or_false_r : (a b : Bool) → (a || b) ≡ false → b ≡ false
-or_false_r true b h = absurd cc
-or_false_r false b h = h
-
--- where the second alternative holds, one does
-pub or_true_r : (a b : Bool) → b ≡ true → (a || b) ≡ true
-or_true_r true b h = refl
-or_true_r false b h = h
-
 -- a test of numbers that fails
 pub le_false : (a b : ℕ) → nat_le a b ≡ false → b < a
 le_false a b h = grind (arith, nat_tests)
 
--- a test of numbers that holds
-pub lt_true : (a b : ℕ) → a < b → nat_lt a b ≡ true
-lt_true a b h = grind (arith, nat_tests)
-
 -- a number that isn't 0
 pub not_zero : (n : ℕ) → (n == 0) ≡ false → 1 ≤ n
 not_zero n h = grind (arith, nat_tests)
-
--- an option that has nothing is empty
-pub none_is : {A : Type 0} (o : Option A) → is_some o ≡ false → o ≡ None
-none_is None h = refl
-none_is (Some x) h = absurd cc
 
 -- ---- refusals
 

@@ -2,19 +2,19 @@
 use Rattle.std.proofs.Common.{◌≡◌, ◌∙◌, ap, sym, refl, ℕ, ◌+◌, ◌<◌, ◌≤◌, ◌==◌, Bool, true, false, not, ◌&&◌, ◌||◌, if◌then◌else◌, inl, inr, List, [], ◌∷◌, Option, Some, None, arith}
 use Rattle.std.proofs.lemmas.Bool.Decides.{eqb_tells}
 use Rattle.std.specs.Option.{is_some}
-use Rattle.lpt_execution.specs.LptMemory.Memories.{Contents}
-use Rattle.lpt_execution.specs.LptMemory.Readings.{Job}
-use Rattle.lpt_execution.specs.LptEvents.Workers.{same_worker}
-use Rattle.lpt_execution.specs.LptEvents.declared.config.Config.{Config}
-use Rattle.lpt_execution.specs.LptEvents.declared.event.Event.{Event}
-use Rattle.lpt_execution.specs.LptEvents.declared.event.Event.TheVariants.{Expire, Claim, Commit, Apply, Restart}
-use Rattle.lpt_execution.specs.LptEvents.declared.fault.StepFault.TheVariants.{HandEmpty, NoJob, NotReady}
-use Rattle.lpt_execution.specs.LptEvents.declared.side.Side.TheVariants.{Craft}
-use Rattle.lpt_execution.specs.LptEvents.declared.worker.Worker.{Worker}
-use Rattle.lpt_reception.specs.LptPacket.declared.direction.Direction.{Direction}
-use Rattle.lpt_reception.specs.LptPacket.Names.{Name}
-use Rattle.lpt_reception.proofs.LptPacket.Readings.{eq_false, true_eq}
-use Rattle.lpt_execution.specs.LptEvents.Sides.{direction_to}
+use Rattle.lpt_memory.specs.Memories.{Contents}
+use Rattle.lpt_memory.specs.Readings.{Job}
+use Rattle.lpt_events.specs.Workers.{same_worker}
+use Rattle.lpt_events.specs.declared.config.Config.{Config}
+use Rattle.lpt_events.specs.declared.event.Event.{Event}
+use Rattle.lpt_events.specs.declared.event.Event.TheVariants.{Expire, Claim, Commit, Apply, Restart}
+use Rattle.lpt_events.specs.declared.fault.StepFault.TheVariants.{HandEmpty, NoJob, NotReady}
+use Rattle.lpt_events.specs.declared.side.Side.TheVariants.{Craft}
+use Rattle.lpt_events.specs.declared.worker.Worker.{Worker}
+use Rattle.lpt_packet.specs.declared.direction.Direction.{Direction}
+use Rattle.lpt_packet.specs.Names.{Name}
+use Rattle.lpt_packet.proofs.Readings.{eq_false, true_eq}
+use Rattle.lpt_events.specs.Sides.{direction_to}
 use Rattle.lpt_journal.specs.Due.{due}
 use Rattle.lpt_journal.specs.Journal.{History}
 use Rattle.lpt_journal.specs.Jobs.{boot, claimed, applied, ticket, commits, is_committed, front_job}
@@ -25,7 +25,8 @@ use Rattle.lpt_journal.specs.Replies.{expired_now, entry, recorded}
 use Rattle.lpt_journal.proofs.ClaimLemmas.{claim_step}
 use Rattle.lpt_journal.proofs.CommitLemmas.{committed_then}
 use Rattle.lpt_journal.proofs.NewJobs.{came_up}
-use Rattle.lpt_journal.proofs.TestLemmas.{and_l, and_r, not_false, one_passes, two_pass}
+use Rattle.lpt_journal.proofs.TestLemmas.{one_passes, two_pass}
+use Rattle.lpt_packet.proofs.BoolLemmas.{and_left, and_right, not_false}
 use Rattle.lpt_journal.proofs.TicketLemmas.{IsOut, IsTicket, JobsAreSound, jobless_step}
 
 -- ---- commits
@@ -64,8 +65,8 @@ commit_step c first h w can sound =
         → n < claimed h
     was_claimed t had n true is e =
         let now : t.boot ≡ boot h Craft =
-        true_eq t.boot (boot h Craft) (and_l (t.boot == boot h Craft) (t.job == n) is) in
-        let same : t.job ≡ n = true_eq t.job n (and_r (t.boot == boot h Craft) (t.job == n) is) in
+        true_eq t.boot (boot h Craft) (and_left (t.boot == boot h Craft) (t.job == n) is) in
+        let same : t.job ≡ n = true_eq t.job n (and_right (t.boot == boot h Craft) (t.job == n) is) in
         omega (arith, ((sound.tickets w t had).out now).was_claimed)
     was_claimed t had n false is e = sound.committed n e
 
@@ -181,7 +182,7 @@ restart_step c first h sound = record {
 
 none_commits : (d : Direction) (o : Option Name) (n : ℕ) → commits (expired_now d o) n ≡ false
 none_commits d None n = refl
-none_commits d (Some id) n = refl
+none_commits d (Some name) n = refl
 
 -- it holds again after an event that isn't refused
 pub jobs_step : (c : Config) (first : Contents) (h : History) (e : Event)

@@ -2,22 +2,22 @@
 use Rattle.std.proofs.Common.{◌≡◌, ◌∙◌, ap, sym, subst, refl, ℕ, ◌+◌, ◌^◌, ◌<◌, ◌==◌, Bool, true, false, ◌&&◌, inl, ◌∷◌, Option, Some, None, if◌then◌else◌, arith}
 use Rattle.std.specs.List.{slice_get}
 use Rattle.std.proofs.lemmas.Bool.Decides.{nat_tests}
-use Rattle.lpt_reception.specs.LptPacket.declared.direction.Direction.{Direction}
-use Rattle.lpt_reception.specs.LptPacket.declared.direction.Direction.TheVariants.{Down}
-use Rattle.lpt_reception.specs.LptPacket.Names.{Name, IsName}
-use Rattle.lpt_reception.specs.LptPart.declared.reason.Reason.{Reason}
-use Rattle.lpt_reception.specs.LptPart.declared.reason.Reason.TheVariants.{Expired as TimedOut}
-use Rattle.lpt_execution.specs.LptEvents.declared.config.Config.{Config}
-use Rattle.lpt_execution.specs.LptEvents.declared.side.Side.{Side}
-use Rattle.lpt_execution.specs.LptEvents.declared.side.Side.TheVariants.{Ground, Craft}
-use Rattle.lpt_execution.specs.LptEvents.Arrivals.{APart, AnAbort, part_name}
-use Rattle.lpt_execution.specs.LptEvents.declared.event.Event.TheVariants.{Tick, Expire}
-use Rattle.lpt_execution.specs.LptEvents.declared.fault.StepFault.TheVariants.{ClockEnd}
+use Rattle.lpt_packet.specs.declared.direction.Direction.{Direction}
+use Rattle.lpt_packet.specs.declared.direction.Direction.TheVariants.{Down}
+use Rattle.lpt_packet.specs.Names.{Name, IsName}
+use Rattle.lpt_part.specs.declared.reason.Reason.{Reason}
+use Rattle.lpt_part.specs.declared.reason.Reason.TheVariants.{Expired as TimedOut}
+use Rattle.lpt_events.specs.declared.config.Config.{Config}
+use Rattle.lpt_events.specs.declared.side.Side.{Side}
+use Rattle.lpt_events.specs.declared.side.Side.TheVariants.{Ground, Craft}
+use Rattle.lpt_events.specs.Arrivals.{APart, AnAbort, part_name}
+use Rattle.lpt_events.specs.declared.event.Event.TheVariants.{Tick, Expire}
+use Rattle.lpt_events.specs.declared.fault.StepFault.TheVariants.{ClockEnd}
 use Rattle.lpt_journal.specs.Due.{due}
-use Rattle.lpt_execution.specs.LptEvents.Sides.{same_side, receiver_side, direction_to}
+use Rattle.lpt_events.specs.Sides.{same_side, receiver_side, direction_to}
 use Rattle.lpt_journal.specs.Journal.{History, SentPacket}
 use Rattle.lpt_journal.specs.Receivers.{ends, clock}
-use Rattle.lpt_execution.specs.LptEvents.Configs.{IsConfig}
+use Rattle.lpt_events.specs.Configs.{IsConfig}
 use Rattle.lpt_journal.specs.Replies.{abort_puts, expiry_puts, entry}
 use Rattle.lpt_journal.specs.Refusals.{refusal}
 use Rattle.lpt_journal.specs.Senders.{count, type_counter}
@@ -26,7 +26,7 @@ use Rattle.lpt_journal.proofs.DueLemmas.{due_open}
 use Rattle.lpt_journal.proofs.Events.{only_element}
 use Rattle.lpt_journal.proofs.ReportEvents.{report_put}
 use Rattle.lpt_journal.proofs.TestLemmas.{one_passes, no_place}
-use Rattle.lpt_execution.specs.LptMemory.Memories.{Contents}
+use Rattle.lpt_memory.specs.Memories.{Contents}
 use Rattle.lpt_journal.proofs.Steps.{IsRead, IsPut, IsSound, Owes, kept_or_none}
 
 -- ---- ticks
@@ -72,22 +72,22 @@ tick_owes c first h t sound accepted =
 puts_report : (c : Config) (h g : History) (side : Side) (o : Option Name) (k : ℕ) (p : SentPacket)
     → IsConfig c
     → IsSound c h
-    → ((id : Name) → o ≡ Some id → IsName id)
+    → ((name : Name) → o ≡ Some name → IsName name)
     → slice_get (expiry_puts c h side o) k ≡ Some p
     → IsPut c g (Expire side) p
 puts_report c h g side None k p good sound named f = absurd (no_place k p f)
-puts_report c h g Ground (Some id) k p good sound named f = absurd (no_place k p f)
-puts_report c h g Craft (Some id) k p good sound named f =
-    report_put c h g (Expire Craft) id TimedOut k p good sound (named id refl).source_fits refl refl f
+puts_report c h g Ground (Some name) k p good sound named f = absurd (no_place k p f)
+puts_report c h g Craft (Some name) k p good sound named f =
+    report_put c h g (Expire Craft) name TimedOut k p good sound (named name refl).source_fits refl refl f
 
 -- what is due is a name
-due_named : (c : Config) (h : History) (d : Direction) (id : Name)
+due_named : (c : Config) (h : History) (d : Direction) (name : Name)
     → IsSound c h
-    → due c h d ≡ Some id
-    → IsName id
-due_named c h d id sound e =
-    let o = open_opening c h d id sound (due_open c h d id e) in
-    (sound.openings d id o.0 o.1).is_name
+    → due c h d ≡ Some name
+    → IsName name
+due_named c h d name sound e =
+    let o = open_opening c h d name sound (due_open c h d name e) in
+    (sound.openings d name o.0 o.1).is_name
 
 -- the end of what is due pays what it owes
 pub expire_owes : (c : Config) (first : Contents) (h : History) (side : Side)
@@ -101,9 +101,9 @@ expire_owes c first h side good sound =
       retires = λ e j r. absurd cc;
       puts =
           λ k p f. puts_report c h (x ∷ h) side (due c h (direction_to side)) k p good sound
-          (λ id e. due_named c h (direction_to side) id sound e) f;
+          (λ name e. due_named c h (direction_to side) name sound e) f;
       takes = λ l n f. inl f;
-      hears = λ d id. kept_or_none c h d id
-          (same_side side (receiver_side d) && ends x.reply.answer id);
+      hears = λ d name. kept_or_none c h d name
+          (same_side side (receiver_side d) && ends x.reply.answer name);
       clocks = sound.clocks;
     }

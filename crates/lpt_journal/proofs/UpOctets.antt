@@ -2,26 +2,26 @@
 use Rattle.std.proofs.Common.{◌≡◌, ◌∙◌, ap, sym, subst, refl, ℕ, zero, suc, Bool, true, false, if◌then◌else◌, inl, inr, List, [], ◌∷◌, length, map, Option, Some, None}
 use Rattle.std.specs.List.{slice_get, find}
 use Rattle.std.specs.Option.{option_or}
-use Rattle.lpt_reception.specs.LptPacket.declared.direction.Direction.{Direction}
-use Rattle.lpt_reception.specs.LptPacket.declared.direction.Direction.TheVariants.{Up, Down}
-use Rattle.lpt_reception.specs.LptPacket.Names.{Name}
-use Rattle.lpt_reception.specs.LptPacket.Numbers.{IsOctets}
-use Rattle.lpt_reception.specs.LptPart.declared.reason.Reason.{Reason}
-use Rattle.lpt_execution.specs.LptMemory.Memories.{Contents}
-use Rattle.lpt_execution.specs.LptEvents.Lanes.{lane_direction}
-use Rattle.lpt_execution.proofs.LptEvents.LaneLemmas.{same_direction-true}
-use Rattle.lpt_execution.specs.LptEvents.Arrivals.{ARequest}
-use Rattle.lpt_execution.specs.LptEvents.Sides.{receiver_side, direction_to}
-use Rattle.lpt_execution.specs.LptEvents.declared.config.Config.{Config}
-use Rattle.lpt_execution.specs.LptEvents.declared.entry.Opening.{Opening}
-use Rattle.lpt_execution.specs.LptEvents.declared.entry.Release.{Release}
-use Rattle.lpt_execution.specs.LptEvents.declared.event.Event.{Event}
-use Rattle.lpt_execution.specs.LptEvents.declared.event.Event.TheVariants.{Open, Send, Plain, Damage, Deliver, Expire, Apply}
-use Rattle.lpt_execution.specs.LptEvents.declared.lane.Lane.{Lane}
-use Rattle.lpt_execution.specs.LptEvents.declared.outcome.Outcome.{Outcome}
-use Rattle.lpt_execution.specs.LptEvents.declared.outcome.Outcome.TheVariants.{Broken}
-use Rattle.lpt_execution.specs.LptEvents.declared.side.Side.{Side}
-use Rattle.lpt_execution.specs.LptEvents.declared.side.Side.TheVariants.{Ground, Craft}
+use Rattle.lpt_packet.specs.declared.direction.Direction.{Direction}
+use Rattle.lpt_packet.specs.declared.direction.Direction.TheVariants.{Up, Down}
+use Rattle.lpt_packet.specs.Names.{Name}
+use Rattle.lpt_packet.specs.Numbers.{IsOctets}
+use Rattle.lpt_part.specs.declared.reason.Reason.{Reason}
+use Rattle.lpt_memory.specs.Memories.{Contents}
+use Rattle.lpt_events.specs.Lanes.{lane_direction}
+use Rattle.lpt_events.proofs.LaneLemmas.{same_direction-true}
+use Rattle.lpt_events.specs.Arrivals.{ARequest}
+use Rattle.lpt_events.specs.Sides.{receiver_side, direction_to}
+use Rattle.lpt_events.specs.declared.config.Config.{Config}
+use Rattle.lpt_events.specs.declared.entry.Opening.{Opening}
+use Rattle.lpt_events.specs.declared.entry.Release.{Release}
+use Rattle.lpt_events.specs.declared.event.Event.{Event}
+use Rattle.lpt_events.specs.declared.event.Event.TheVariants.{Open, Send, Plain, Damage, Deliver, Expire, Apply}
+use Rattle.lpt_events.specs.declared.lane.Lane.{Lane}
+use Rattle.lpt_events.specs.declared.outcome.Outcome.{Outcome}
+use Rattle.lpt_events.specs.declared.outcome.Outcome.TheVariants.{Broken}
+use Rattle.lpt_events.specs.declared.side.Side.{Side}
+use Rattle.lpt_events.specs.declared.side.Side.TheVariants.{Ground, Craft}
 use Rattle.lpt_execution.specs.Reporting.{link_packets}
 use Rattle.lpt_journal.specs.Delivery.{outcome}
 use Rattle.lpt_journal.specs.Due.{due}
@@ -46,7 +46,7 @@ use Rattle.lpt_journal.proofs.TestLemmas.{passed, IsOldOrNew, with_all_cases, no
 
 -- what goes up is octets
 pub record AreUpOctets (c : Config) (h : History) : Type 0 where
-  pub openings : (id : Name) (o : Opening) → current h Up id ≡ Some o → IsOctets o.message
+  pub openings : (name : Name) (o : Opening) → current h Up name ≡ Some o → IsOctets o.message
   pub packets : (n : ℕ) (p : SentPacket)
       → slice_get (sent h) n ≡ Some p
       → p.direction ≡ Up
@@ -57,51 +57,51 @@ pub record AreUpOctets (c : Config) (h : History) : Type 0 where
 
 opened_octets : (c : Config) (first : Contents) (h : History) (e : Event)
     → IsEnabled c h e
-    → (id : Name) (o : Opening)
-    → find (is_opening_of Up id) (opens c first h e) ≡ Some o
+    → (name : Name) (o : Opening)
+    → find (is_opening_of Up name) (opens c first h e) ≡ Some o
     → IsOctets o.message
-opened_octets c first h (Open d i m) can id o f =
-    let same : record { place = length h; direction = d; id = i; message = m } ≡ o =
-    only_opening Up id _ o f in
+opened_octets c first h (Open d i m) can name o f =
+    let same : record { place = length h; direction = d; name = i; message = m } ≡ o =
+    only_opening Up name _ o f in
     subst (λ (u : Opening). IsOctets u.message) same can.in_range.1
-opened_octets c first h Apply can id o f = go (front_opened c first h) f where
+opened_octets c first h Apply can name o f = go (front_opened c first h) f where
   go : (x : Option (Name × List ℕ))
-      → find (is_opening_of Up id) (opened_down (length h) x) ≡ Some o
+      → find (is_opening_of Up name) (opened_down (length h) x) ≡ Some o
       → IsOctets o.message
   go None k = absurd cc
   go (Some x) k = absurd cc
-opened_octets c first h e can id o f = absurd cc
+opened_octets c first h e can name o f = absurd cc
 
 -- ---- packets
 
-send_octets : (c : Config) (h : History) (d : Direction) (id : Name) (k : ℕ)
+send_octets : (c : Config) (h : History) (d : Direction) (name : Name) (k : ℕ)
     → AreUpOctets c h
     → (s : Sender)
-    → sender h d id ≡ s
+    → sender h d name ≡ s
     → (n : ℕ) (p : SentPacket)
-    → slice_get (send_puts c h d id k s) n ≡ Some p
+    → slice_get (send_puts c h d name k s) n ≡ Some p
     → p.direction ≡ Up
     → IsOctets p.octets
-send_octets c h d id k had FreeSender is n p f up = absurd (no_place n p f)
-send_octets c h d id k had ClosedSender is n p f up = absurd (no_place n p f)
-send_octets c h Down id k had (OpenSender m) is n p f up =
+send_octets c h d name k had FreeSender is n p f up = absurd (no_place n p f)
+send_octets c h d name k had ClosedSender is n p f up = absurd (no_place n p f)
+send_octets c h Down name k had (OpenSender m) is n p f up =
     let same = only_element _ n p f in
     let down : Down ≡ p.direction = ap (λ (x : SentPacket). x.direction) same in
     absurd cc
-send_octets c h Up id k had (OpenSender m) is n p f up =
-    let o = open_current h Up id m is in
-    let message : IsOctets m = subst (λ b. IsOctets b) o.2 (had.openings id o.0 o.1) in
+send_octets c h Up name k had (OpenSender m) is n p f up =
+    let o = open_current h Up name m is in
+    let message : IsOctets m = subst (λ b. IsOctets b) o.2 (had.openings name o.0 o.1) in
     subst (λ (x : SentPacket). IsOctets x.octets) (only_element _ n p f)
-    (part_octets c id.source (count h Up) k id.id m message)
+    (part_octets c name.source (count h Up) k name.id m message)
 
 -- a report of an abortion goes down
-aborts_down : (c : Config) (h : History) (side : Side) (id : Name) (reason : Reason) (n : ℕ)
+aborts_down : (c : Config) (h : History) (side : Side) (name : Name) (reason : Reason) (n : ℕ)
     (p : SentPacket)
-    → slice_get (abort_puts c h side id reason) n ≡ Some p
+    → slice_get (abort_puts c h side name reason) n ≡ Some p
     → p.direction ≡ Up
     → ⊥
-aborts_down c h Ground id reason n p f up = no_place n p f
-aborts_down c h Craft id reason n p f up =
+aborts_down c h Ground name reason n p f up = no_place n p f
+aborts_down c h Craft name reason n p f up =
     let down : Down ≡ p.direction =
     ap (λ (x : SentPacket). x.direction) (only_element _ n p f) in cc
 
@@ -123,8 +123,8 @@ put_octets : (c : Config) (first : Contents) (h : History) (e : Event)
     → slice_get (puts c first h e) n ≡ Some p
     → p.direction ≡ Up
     → IsOctets p.octets
-put_octets c first h (Send d id k) can had n p f up =
-    send_octets c h d id k had (sender h d id) refl n p f up
+put_octets c first h (Send d name k) can had n p f up =
+    send_octets c h d name k had (sender h d name) refl n p f up
 put_octets c first h (Plain source flags service subtype body) can had n p f up =
     let fits = can.in_range in
     subst (λ (x : SentPacket). IsOctets x.octets) (only_element _ n p f)
@@ -135,15 +135,15 @@ put_octets c first h (Deliver l) can had n p f up = absurd (go (outcome c h l) f
   go : (o : Outcome)
       → slice_get (outcome_puts c h (receiver_side (lane_direction l)) o) n ≡ Some p
       → ⊥
-  go (Broken id reason) k =
-      aborts_down c h (receiver_side (lane_direction l)) id reason n p k up
+  go (Broken name reason) k =
+      aborts_down c h (receiver_side (lane_direction l)) name reason n p k up
   go o k = no_place n p k
 put_octets c first h (Expire side) can had n p f up =
     absurd (go (due c h (direction_to side)) f)
   where
     go : (o : Option Name) → slice_get (expiry_puts c h side o) n ≡ Some p → ⊥
     go None k = no_place n p k
-    go (Some id) k = aborts_down c h side id _ n p k up
+    go (Some name) k = aborts_down c h side name _ n p k up
 put_octets c first h Apply can had n p f up =
     absurd (reports_down (link_packets c.part_size (front_packets c first h)) n p f up)
 put_octets c first h e can had n p f up = absurd (no_place n p f)
@@ -206,20 +206,22 @@ pub up_octets_step : (c : Config) (first : Contents) (h : History) (e : Event)
     → AreUpOctets c h
     → AreUpOctets c (entry c first h e ∷ h)
 up_octets_step c first h e sound can owes full had = record {
-  openings = λ id o f. opening id o (retires e Up id) (find (is_opening_of Up id) x.opens) refl f;
+  openings = λ name o f. opening name o (retires e Up name)
+      (find (is_opening_of Up name) x.opens) refl f;
   packets = λ n p f up. packet n p up (with_all_cases (sent h) x.puts n p f);
   requests = λ k r f. request k r (job_cases c x h k r f).1;
 } where
   x : Recorded
   x = entry c first h e
 
-  opening : (id : Name) (o : Opening) (gone : Bool) (found : Option Opening)
-      → find (is_opening_of Up id) (opens c first h e) ≡ found
-      → ◌≡◌ {A = Option Opening} (if gone then None else option_or found (current h Up id)) (Some o)
+  opening : (name : Name) (o : Opening) (gone : Bool) (found : Option Opening)
+      → find (is_opening_of Up name) (opens c first h e) ≡ found
+      → ◌≡◌ {A = Option Opening}
+      (if gone then None else option_or found (current h Up name)) (Some o)
       → IsOctets o.message
-  opening id o true found is f = absurd cc
-  opening id o false None is f = had.openings id o f
-  opening id o false (Some u) is f = opened_octets c first h e can id o (is ∙ f)
+  opening name o true found is f = absurd cc
+  opening name o false None is f = had.openings name o f
+  opening name o false (Some u) is f = opened_octets c first h e can name o (is ∙ f)
 
   packet : (n : ℕ) (p : SentPacket)
       → p.direction ≡ Up
@@ -239,7 +241,7 @@ up_octets_step c first h e sound can owes full had = record {
 -- before anything has happened
 pub up_octets_start : (c : Config) → AreUpOctets c []
 up_octets_start c = record {
-  openings = λ id o e. absurd cc;
+  openings = λ name o e. absurd cc;
   packets = λ n p e up. absurd (no_place n p e);
   requests = λ k r e. absurd (no_place k r e);
 }

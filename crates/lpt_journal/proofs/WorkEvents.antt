@@ -3,22 +3,22 @@ use Rattle.std.proofs.Common.{◌≡◌, ◌∙◌, ap, sym, subst, refl, ℕ, z
 use Rattle.std.proofs.lemmas.Bool.Decides.{nat_tests}
 use Rattle.std.specs.List.{slice_get, find, filter, AllByRecursion}
 use Rattle.std.specs.Option.{is_some, option_map_or, option_map}
-use Rattle.lpt_reception.specs.LptPacket.declared.direction.Direction.{Direction}
-use Rattle.lpt_reception.specs.LptPacket.declared.direction.Direction.TheVariants.{Down}
-use Rattle.lpt_reception.specs.LptPacket.Names.{Name, IsName, named_by}
+use Rattle.lpt_packet.specs.declared.direction.Direction.{Direction}
+use Rattle.lpt_packet.specs.declared.direction.Direction.TheVariants.{Down}
+use Rattle.lpt_packet.specs.Names.{Name, IsName, named_by}
 use Rattle.lpt_reception.specs.PartsOf.{IsMessage}
 use Rattle.lpt_ledger.specs.LeastFree.{name_count, first_of_numbers}
 use Rattle.lpt_ledger.proofs.FirstLemmas.{IsFirst, IsFirst-first_of_numbers}
-use Rattle.lpt_execution.specs.LptMemory.Effects.{AnswerFits}
-use Rattle.lpt_execution.specs.LptMemory.Memories.{Contents}
-use Rattle.lpt_execution.specs.LptEvents.declared.config.Config.{Config}
-use Rattle.lpt_execution.specs.LptEvents.Arrivals.{AReport, APart, part_name}
-use Rattle.lpt_execution.specs.LptEvents.Configs.{IsConfig}
-use Rattle.lpt_execution.specs.LptEvents.TelemetryKinds.{service_of, subtype_of}
-use Rattle.lpt_execution.specs.LptEvents.declared.entry.Opening.{Opening}
-use Rattle.lpt_execution.specs.LptEvents.declared.entry.Release.{Release}
-use Rattle.lpt_execution.specs.LptEvents.declared.event.Event.TheVariants.{Apply}
-use Rattle.lpt_execution.specs.LptEvents.declared.side.Side.TheVariants.{Craft}
+use Rattle.lpt_memory.specs.Effects.{AnswerFits}
+use Rattle.lpt_memory.specs.Memories.{Contents}
+use Rattle.lpt_events.specs.declared.config.Config.{Config}
+use Rattle.lpt_events.specs.Arrivals.{AReport, APart, part_name}
+use Rattle.lpt_events.specs.Configs.{IsConfig}
+use Rattle.lpt_events.specs.TelemetryKinds.{service_of, subtype_of}
+use Rattle.lpt_events.specs.declared.entry.Opening.{Opening}
+use Rattle.lpt_events.specs.declared.entry.Release.{Release}
+use Rattle.lpt_events.specs.declared.event.Event.TheVariants.{Apply}
+use Rattle.lpt_events.specs.declared.side.Side.TheVariants.{Craft}
 use Rattle.lpt_execution.specs.Endings.{is_small}
 use Rattle.lpt_execution.specs.Reporting.{message_reports, request_source, link_packets, large_packets, opened_of}
 use Rattle.lpt_execution.specs.declared.ending.Report.{Report}
@@ -105,53 +105,53 @@ large_message c (x ∷ xs) b bs all e =
         subst (λ m. IsMessage m c.part_size) same (record { long = fits.0; short = fits.1 })
 
 -- the least free name is free
-least_is_free : (h : History) (d : Direction) (source : ℕ) (id : Name)
+least_is_free : (h : History) (d : Direction) (source : ℕ) (name : Name)
     → source < 65536
-    → least_free h d source ≡ Some id
-    → (is_free (sender h d id) ≡ true) × IsName id
-least_is_free h d source id fits e =
+    → least_free h d source ≡ Some name
+    → (is_free (sender h d name) ≡ true) × IsName name
+least_is_free h d source name fits e =
     go (first_of_numbers name_count 0 (λ i. is_free (sender h d (named_by source i))))
     (IsFirst-first_of_numbers name_count 0 (λ i. is_free (sender h d (named_by source i)))) e
   where
     go : (o : Option ℕ)
         → IsFirst name_count 0 (λ i. is_free (sender h d (named_by source i))) o
-        → option_map (named_by source) o ≡ Some id
-        → (is_free (sender h d id) ≡ true) × IsName id
+        → option_map (named_by source) o ≡ Some name
+        → (is_free (sender h d name) ≡ true) × IsName name
     go None first k = absurd cc
     go (Some i) first k =
-        let same : named_by source i ≡ id = cc in
+        let same : named_by source i ≡ name = cc in
         subst (λ n. (is_free (sender h d n) ≡ true) × IsName n) same
         (first.passes, record { source_fits = fits; id_fits = omega (arith, first.to) })
 
 opens_new : (c : Config) (h : History) (source : ℕ) (xs : List (Report × List ℕ))
     → source < 65536
     → AllByRecursion (IsReportMade c) xs
-    → (d : Direction) (id : Name) (o : Opening)
-    → find (is_opening_of d id)
+    → (d : Direction) (name : Name) (o : Opening)
+    → find (is_opening_of d name)
     (opened_down (length h) (opened_of (least_free h Down source) (large_packets c.part_size xs)))
     ≡ Some o
-    → IsNew c h d id o
-opens_new c h source xs from all d id o f =
+    → IsNew c h d name o
+opens_new c h source xs from all d name o f =
     go (least_free h Down source) (large_packets c.part_size xs) refl refl f
   where
     go : (i : Option Name) (bs : List (List ℕ))
         → least_free h Down source ≡ i
         → large_packets c.part_size xs ≡ bs
-        → find (is_opening_of d id) (opened_down (length h) (opened_of i bs)) ≡ Some o
-        → IsNew c h d id o
+        → find (is_opening_of d name) (opened_down (length h) (opened_of i bs)) ≡ Some o
+        → IsNew c h d name o
     go None bs free large k = absurd cc
     go (Some i) [] free large k = absurd cc
     go (Some i) (b ∷ bs) free large k =
         let u : Opening =
-        record { place = length h; direction = Down; id = i; message = b } in
-        let found = opening_found d id (u ∷ []) o k in
-        let same : u ≡ o = only_opening d id u o k in
+        record { place = length h; direction = Down; name = i; message = b } in
+        let found = opening_found d name (u ∷ []) o k in
+        let same : u ≡ o = only_opening d name u o k in
         let least = least_is_free h Down source i from free in
         record {
-          is_name = subst (λ n. IsName n) (ap (λ (v : Opening). v.id) same ∙ found.1) least.1;
+          is_name = subst (λ n. IsName n) (ap (λ (v : Opening). v.name) same ∙ found.1) least.1;
           free =
               (λ j. current h (sym found.0 j) (sym found.1 j))
-              ∙ ap (λ (v : Opening). current h v.direction v.id) (sym same)
+              ∙ ap (λ (v : Opening). current h v.direction v.name) (sym same)
               ∙ free_current h Down i least.0;
           place = ap (λ (v : Opening). v.place) (sym same);
           splits =

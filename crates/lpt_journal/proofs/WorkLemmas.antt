@@ -2,16 +2,16 @@
 use Rattle.std.proofs.Common.{◌≡◌, ◌∙◌, ap, sym, subst, refl, ℕ, zero, suc, ◌≤◌, ◌==◌, nat_lt, Bool, true, false, ◌&&◌, ◌||◌, if◌then◌else◌, List, [], ◌∷◌, length, Some, None, arith}
 use Rattle.std.specs.List.{slice_get}
 use Rattle.std.proofs.lemmas.Bool.Decides.{nat_tests}
-use Rattle.lpt_execution.specs.LptMemory.Memories.{Contents}
-use Rattle.lpt_execution.specs.LptMemory.Readings.{Job}
-use Rattle.lpt_execution.specs.LptEvents.Workers.{same_worker}
-use Rattle.lpt_execution.specs.LptEvents.declared.config.Config.{Config}
-use Rattle.lpt_execution.specs.LptEvents.declared.entry.Release.{Release}
-use Rattle.lpt_execution.specs.LptEvents.declared.event.Event.{Event}
-use Rattle.lpt_execution.specs.LptEvents.declared.event.Event.TheVariants.{Commit, Apply}
-use Rattle.lpt_execution.specs.LptEvents.declared.side.Side.TheVariants.{Craft}
-use Rattle.lpt_execution.specs.LptEvents.declared.worker.Worker.{Worker}
-use Rattle.lpt_execution.specs.LptEvents.declared.worker.Worker.TheVariants.{W1, W2}
+use Rattle.lpt_memory.specs.Memories.{Contents}
+use Rattle.lpt_memory.specs.Readings.{Job}
+use Rattle.lpt_events.specs.Workers.{same_worker}
+use Rattle.lpt_events.specs.declared.config.Config.{Config}
+use Rattle.lpt_events.specs.declared.entry.Release.{Release}
+use Rattle.lpt_events.specs.declared.event.Event.{Event}
+use Rattle.lpt_events.specs.declared.event.Event.TheVariants.{Commit, Apply}
+use Rattle.lpt_events.specs.declared.side.Side.TheVariants.{Craft}
+use Rattle.lpt_events.specs.declared.worker.Worker.{Worker}
+use Rattle.lpt_events.specs.declared.worker.Worker.TheVariants.{W1, W2}
 use Rattle.lpt_journal.specs.Jobs.{boot, applied, ticket, is_committed, front_job, executed_by}
 use Rattle.lpt_journal.specs.Journal.{Recorded, History}
 use Rattle.lpt_journal.specs.Legal.{Legal}
@@ -22,19 +22,16 @@ use Rattle.lpt_journal.specs.Work.{commit_answer, IsSameBut, IsCommit, CommitsAr
 use Rattle.lpt_journal.proofs.BootLemmas.{job_boot}
 use Rattle.lpt_journal.proofs.CommitLemmas.{commit_is, committed_then}
 use Rattle.lpt_journal.proofs.NewJobs.{new_executed}
-use Rattle.lpt_journal.proofs.TestLemmas.{not_true, no_place}
+use Rattle.lpt_journal.proofs.TestLemmas.{no_place}
 use Rattle.lpt_journal.proofs.TicketLemmas.{JobsAreSound, longer}
 use Rattle.lpt_journal.proofs.TicketSteps.{commits_one, ready_to_apply, jobs_sound}
+use Rattle.lpt_packet.proofs.BoolLemmas.{and_false, not_true}
 
 -- ---- commits
 
 same_worker-refl : (w : Worker) → same_worker w w ≡ true
 same_worker-refl W1 = refl
 same_worker-refl W2 = refl
-
-and_no : (b : Bool) → (b && false) ≡ false
-and_no true = refl
-and_no false = refl
 
 -- a packet that wasn't put was not damaged
 not_damaged : (h : History) (n : ℕ) → length (sent h) ≤ n → is_damaged h n ≡ false
@@ -45,7 +42,7 @@ not_damaged (x ∷ h) n late =
     let new : nat_lt n (length (sent (x ∷ h))) ≡ false = grind (arith, nat_tests, late) in
     ap (λ b. if b then is_damaged h n else damages x.event && nat_lt n (length (sent (x ∷ h)))) old
     ∙ ap (λ b. damages x.event && b) new
-    ∙ and_no (damages x.event)
+    ∙ and_false (damages x.event)
 
 -- what puts nothing damages nothing
 undamaged : (h : History) (n : ℕ)
@@ -82,13 +79,13 @@ stale_same c first h w t had earlier = record {
   damaged = undamaged h;
   hands = λ l. refl;
   opened = refl;
-  current = λ d id. refl;
-  senders = λ d id. refl;
+  current = λ d name. refl;
+  senders = λ d name. refl;
   made = λ d. refl;
-  heard = λ d id. refl;
+  heard = λ d name. refl;
   receptions = λ d. refl;
-  closed = λ d id. refl;
-  ticks = λ d id. refl;
+  closed = λ d name. refl;
+  ticks = λ d name. refl;
   clocks = λ side. refl;
   released = refl;
 }

@@ -1,22 +1,22 @@
 -- The receptions that expired or were broken off, and what holds of them in every legal journal.
 use Rattle.std.specs.Prelude.{◌≡◌, ℕ, true, false, List, [], ◌∷◌, length, slice_get, Option, Some, is_some}
-use Rattle.lpt_reception.specs.LptPacket.declared.direction.Direction.{Direction}
-use Rattle.lpt_reception.specs.LptPacket.Names.{Name}
-use Rattle.lpt_execution.specs.LptMemory.Memories.{Contents}
-use Rattle.lpt_execution.specs.LptEvents.declared.config.Config.{Config}
-use Rattle.lpt_execution.specs.LptEvents.declared.event.Event.{Event}
-use Rattle.lpt_execution.specs.LptEvents.declared.reply.Answer.{Answer}
-use Rattle.lpt_execution.specs.LptEvents.declared.event.Event.TheVariants.{Deliver}
-use Rattle.lpt_execution.specs.LptEvents.Lanes.{lane_direction}
-use Rattle.lpt_execution.specs.LptEvents.declared.outcome.Outcome.TheVariants.{Broken}
-use Rattle.lpt_execution.specs.LptEvents.declared.reply.Answer.TheVariants.{Delivered, Expired}
-use Rattle.lpt_execution.specs.LptEvents.declared.entry.Opening.{Opening}
-use Rattle.lpt_execution.specs.LptEvents.declared.entry.Release.{Release}
+use Rattle.lpt_packet.specs.declared.direction.Direction.{Direction}
+use Rattle.lpt_packet.specs.Names.{Name}
+use Rattle.lpt_memory.specs.Memories.{Contents}
+use Rattle.lpt_events.specs.declared.config.Config.{Config}
+use Rattle.lpt_events.specs.declared.event.Event.{Event}
+use Rattle.lpt_events.specs.declared.reply.Answer.{Answer}
+use Rattle.lpt_events.specs.declared.event.Event.TheVariants.{Deliver}
+use Rattle.lpt_events.specs.Lanes.{lane_direction}
+use Rattle.lpt_events.specs.declared.outcome.Outcome.TheVariants.{Broken}
+use Rattle.lpt_events.specs.declared.reply.Answer.TheVariants.{Delivered, Expired}
+use Rattle.lpt_events.specs.declared.entry.Opening.{Opening}
+use Rattle.lpt_events.specs.declared.entry.Release.{Release}
 use Rattle.lpt_journal.specs.Headline.{before, opening_of, IsSameOpening}
 use Rattle.lpt_journal.specs.Journal.{History, with_all}
 use Rattle.lpt_journal.specs.Receivers.{heard, has_parts, is_closed}
 use Rattle.lpt_journal.specs.Releases.{releases}
-use Rattle.lpt_execution.specs.LptEvents.Configs.{IsConfig}
+use Rattle.lpt_events.specs.Configs.{IsConfig}
 use Rattle.lpt_journal.specs.Replies.{recorded}
 use Rattle.lpt_journal.specs.Legal.{Legal}
 use Rattle.lpt_journal.specs.Senders.{current}
@@ -25,13 +25,13 @@ use Rattle.lpt_journal.specs.Senders.{current}
 pub record Abortion : Type 0 where
   pub place : ℕ
   pub direction : Direction
-  pub id : Name
+  pub name : Name
 
 -- the reception that expired or was broken off by an event at this place, where one was
 abbrev pub abortion_at : (place : ℕ) → Event → Answer → List Abortion
-abortion_at place (Deliver l) (Delivered (Broken id reason)) =
-    record { place = place; direction = lane_direction l; id = id } ∷ []
-abortion_at place e (Expired d id) = record { place = place; direction = d; id = id } ∷ []
+abortion_at place (Deliver l) (Delivered (Broken name reason)) =
+    record { place = place; direction = lane_direction l; name = name } ∷ []
+abortion_at place e (Expired d name) = record { place = place; direction = d; name = name } ∷ []
 abortion_at place _ _ = []
 
 -- all receptions that expired or were broken off, in order of place
@@ -41,7 +41,7 @@ abortions (x ∷ h) = with_all (abortions h) (abortion_at (length h) x.event x.r
 
 -- the opening that was the last one of the transaction when its reception ended so
 abbrev pub opening_of_abortion : History → Abortion → Option Opening
-opening_of_abortion h e = current (before e.place h) e.direction e.id
+opening_of_abortion h e = current (before e.place h) e.direction e.name
 
 -- each reception that expired or was broken off was of an opening
 abbrev pub EachHasOpening : History → Type 0
@@ -61,19 +61,19 @@ NoneIsReleased c h =
 -- of a transaction whose reception has ended nothing is kept
 abbrev pub NothingIsKept : Config → History → Type 0
 NothingIsKept c h =
-    (d : Direction) (id : Name)
-    → is_closed h d id ≡ true
-    → has_parts (heard c h d id) ≡ false
+    (d : Direction) (name : Name)
+    → is_closed h d name ≡ true
+    → has_parts (heard c h d name) ≡ false
 
 -- of a transaction whose last opening was released nothing is kept
 abbrev pub ReleasedIsUnheard : Config → History → Type 0
 ReleasedIsUnheard c h =
-    (k : ℕ) (r : Release) (o u : Opening) (d : Direction) (id : Name)
+    (k : ℕ) (r : Release) (o u : Opening) (d : Direction) (name : Name)
     → slice_get (releases c h) k ≡ Some r
     → opening_of h r ≡ Some o
-    → current h d id ≡ Some u
+    → current h d name ≡ Some u
     → IsSameOpening o u
-    → has_parts (heard c h d id) ≡ false
+    → has_parts (heard c h d name) ≡ false
 
 -- An opening whose reception expired or was broken off is never released, and one that was released
 -- is never heard again; of an ended reception nothing is kept.

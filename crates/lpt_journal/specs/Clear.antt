@@ -2,11 +2,11 @@
 use Rattle.std.specs.Prelude.{ℕ, zero, suc, Bool, false, not, ◌&&◌, ◌||◌, length, Some, slice_get}
 use Rattle.std.specs.List.{list_any}
 use Rattle.std.specs.Option.{option_map_or, option_eq}
-use Rattle.lpt_reception.specs.LptPacket.declared.direction.Direction.{Direction}
-use Rattle.lpt_reception.specs.LptPacket.Names.{Name, same_name}
-use Rattle.lpt_execution.specs.LptEvents.Arrivals.{part_name}
-use Rattle.lpt_execution.specs.LptEvents.Lanes.{lanes, same_direction}
-use Rattle.lpt_execution.specs.LptEvents.declared.config.Config.{Config}
+use Rattle.lpt_packet.specs.declared.direction.Direction.{Direction}
+use Rattle.lpt_packet.specs.Names.{Name, same_name}
+use Rattle.lpt_events.specs.Arrivals.{part_name}
+use Rattle.lpt_events.specs.Lanes.{lanes, same_direction}
+use Rattle.lpt_events.specs.declared.config.Config.{Config}
 use Rattle.lpt_journal.specs.Hands.{hand, arrival_of}
 use Rattle.lpt_journal.specs.Journal.{SentPacket, History}
 use Rattle.lpt_journal.specs.Link.{sent, is_held}
@@ -20,24 +20,25 @@ any_below test (suc n) = any_below test n || test n
 
 -- whether a packet is a part of this transaction to the node that receives it
 abbrev pub is_part_of : Config → Direction → Name → SentPacket → Bool
-is_part_of c d id p =
-    same_direction p.direction d && option_eq same_name (part_name (arrival_of c p)) (Some id)
+is_part_of c d name p =
+    same_direction p.direction d && option_eq same_name (part_name (arrival_of c p)) (Some name)
 
 -- whether the packet numbered n is
 abbrev pub is_part_at : Config → History → Direction → Name → ℕ → Bool
-is_part_at c h d id n = option_map_or (is_part_of c d id) (slice_get (sent h) n) false
+is_part_at c h d name n = option_map_or (is_part_of c d name) (slice_get (sent h) n) false
 
 -- whether a held packet is
 abbrev pub part_held : Config → History → Direction → Name → Bool
-part_held c h d id = any_below (λ n. is_held h n && is_part_at c h d id n) (length (sent h))
+part_held c h d name = any_below (λ n. is_held h n && is_part_at c h d name n) (length (sent h))
 
 -- whether a packet in a hand is
 abbrev pub part_in_hand : Config → History → Direction → Name → Bool
-part_in_hand c h d id = list_any (λ l. option_map_or (is_part_at c h d id) (hand h l) false) lanes
+part_in_hand c h d name =
+    list_any (λ l. option_map_or (is_part_at c h d name) (hand h l) false) lanes
 
 -- whether no part of it is held or in a hand, its receiver has no part of it, and its sender isn't open
 abbrev pub is_clear : Config → History → Direction → Name → Bool
-is_clear c h d id =
-    not (part_held c h d id || part_in_hand c h d id)
-    && not (has_parts (heard c h d id))
-    && not (is_open (sender h d id))
+is_clear c h d name =
+    not (part_held c h d name || part_in_hand c h d name)
+    && not (has_parts (heard c h d name))
+    && not (is_open (sender h d name))

@@ -1,18 +1,18 @@
 -- What becomes of a packet that is delivered: the first case that applies, in a fixed order.
 use Rattle.std.specs.Prelude.{ℕ, nat_le, Bool, not, ◌&&◌, if◌then◌else◌, length, is_some}
 use Rattle.std.specs.FinMap as map
-use Rattle.lpt_reception.specs.LptPacket.declared.direction.Direction.{Direction}
-use Rattle.lpt_reception.specs.LptPart.declared.mode.Mode.{Mode}
-use Rattle.lpt_reception.specs.LptPart.declared.reason.Reason.TheVariants.{Conflict, Discontinuity}
+use Rattle.lpt_packet.specs.declared.direction.Direction.{Direction}
+use Rattle.lpt_part.specs.declared.mode.Mode.{Mode}
+use Rattle.lpt_part.specs.declared.reason.Reason.TheVariants.{Conflict, Discontinuity}
 use Rattle.lpt_reception.specs.Received.{Parts, contradicts, is_gap, is_whole, spelled}
-use Rattle.lpt_execution.specs.LptEvents.NamedParts.{NamedPart}
-use Rattle.lpt_execution.specs.LptEvents.declared.lane.Lane.{Lane}
-use Rattle.lpt_execution.specs.LptEvents.Lanes.{lane_direction}
-use Rattle.lpt_execution.specs.LptEvents.declared.config.Config.{Config}
-use Rattle.lpt_execution.specs.LptEvents.declared.outcome.Outcome.{Outcome}
-use Rattle.lpt_execution.specs.LptEvents.declared.outcome.Outcome.TheVariants.{Kept, Again, Released, PlainReleased, ReportNoted, AbortNoted, Broken, Ignored}
-use Rattle.lpt_execution.specs.LptEvents.declared.outcome.Why.TheVariants.{Unreadable, Idle, ForeignApid, BadPart, Closed, NoRoom}
-use Rattle.lpt_execution.specs.LptEvents.Arrivals.{Arrival, NotRead, AnIdle, Foreign, ARequest, AReport, NoPart, APart, AnAbort}
+use Rattle.lpt_events.specs.NamedParts.{NamedPart}
+use Rattle.lpt_events.specs.declared.lane.Lane.{Lane}
+use Rattle.lpt_events.specs.Lanes.{lane_direction}
+use Rattle.lpt_events.specs.declared.config.Config.{Config}
+use Rattle.lpt_events.specs.declared.outcome.Outcome.{Outcome}
+use Rattle.lpt_events.specs.declared.outcome.Outcome.TheVariants.{Kept, Again, Released, PlainReleased, ReportNoted, AbortNoted, Broken, Ignored}
+use Rattle.lpt_events.specs.declared.outcome.Why.TheVariants.{Unreadable, Idle, ForeignApid, BadPart, Closed, NoRoom}
+use Rattle.lpt_events.specs.Arrivals.{Arrival, NotRead, AnIdle, Foreign, ARequest, AReport, NoPart, APart, AnAbort}
 use Rattle.lpt_journal.specs.Journal.{History}
 use Rattle.lpt_journal.specs.Hands.{in_hand}
 use Rattle.lpt_journal.specs.Receivers.{kept, with_piece, heard, has_parts, reception_count, is_closed}
@@ -42,7 +42,7 @@ judged c h d Foreign = Ignored ForeignApid
 judged c h d (ARequest b) = PlainReleased (length b)
 judged c h d (AReport service subtype) = ReportNoted service subtype
 judged c h d NoPart = Ignored BadPart
-judged c h d (AnAbort id reason) = AbortNoted id reason
+judged c h d (AnAbort name reason) = AbortNoted name reason
 judged c h d (APart q) =
     judged_part c.mode c.receptions (is_closed h d q.name) (reception_count c h d) (heard c h d q.name) q
 

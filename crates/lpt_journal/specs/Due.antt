@@ -1,31 +1,31 @@
 -- Which reception has waited too long for a part, and which of them is due first.
 use Rattle.std.specs.Prelude.{ℕ, ◌+◌, ◌==◌, nat_le, nat_lt, Bool, ◌&&◌, ◌||◌, if◌then◌else◌, List, [], ◌∷◌, Option, Some, None}
 use Rattle.std.specs.List.{filter}
-use Rattle.lpt_reception.specs.LptPacket.declared.direction.Direction.{Direction}
-use Rattle.lpt_reception.specs.LptPacket.Names.{Name, name_before}
-use Rattle.lpt_execution.specs.LptEvents.declared.config.Config.{Config}
-use Rattle.lpt_execution.specs.LptEvents.Sides.{receiver_side}
+use Rattle.lpt_packet.specs.declared.direction.Direction.{Direction}
+use Rattle.lpt_packet.specs.Names.{Name, name_before}
+use Rattle.lpt_events.specs.declared.config.Config.{Config}
+use Rattle.lpt_events.specs.Sides.{receiver_side}
 use Rattle.lpt_journal.specs.Journal.{History}
 use Rattle.lpt_journal.specs.Receivers.{open_names, clock, last_tick}
 
 -- whether the receiver took no part of the transaction for as long as the time-out
 abbrev pub is_overdue : Config → History → Direction → Name → Bool
-is_overdue c h d id = nat_le (last_tick c h d id + c.timeout) (clock c h (receiver_side d))
+is_overdue c h d name = nat_le (last_tick c h d name + c.timeout) (clock c h (receiver_side d))
 
 -- whether a name comes before another by their ticks, and of equal ticks by itself
 abbrev pub comes_first : (Name → ℕ) → Name → Name → Bool
-comes_first tick id other =
-    nat_lt (tick id) (tick other) || ((tick id == tick other) && name_before id other)
+comes_first tick name other =
+    nat_lt (tick name) (tick other) || ((tick name == tick other) && name_before name other)
 
 -- the one of two names that comes first, where there is another
 abbrev pub first_of_two : (Name → ℕ) → Name → Option Name → Option Name
-first_of_two tick id None = Some id
-first_of_two tick id (Some other) = if comes_first tick id other then Some id else Some other
+first_of_two tick name None = Some name
+first_of_two tick name (Some other) = if comes_first tick name other then Some name else Some other
 
 -- the first of these names by their ticks
 abbrev pub earliest : (Name → ℕ) → List Name → Option Name
 earliest tick [] = None
-earliest tick (id ∷ ids) = first_of_two tick id (earliest tick ids)
+earliest tick (name ∷ names) = first_of_two tick name (earliest tick names)
 
 -- the overdue reception with the least last tick, and of equal ones the least name
 abbrev pub due : Config → History → Direction → Option Name

@@ -1,18 +1,18 @@
 -- What the execution of the oldest request answers, puts and opens.
 use Rattle.std.specs.Prelude.{ℕ, nat_lt, List, [], ◌∷◌, length, map, Option, Some, None, is_some}
 use Rattle.std.specs.Option.{option_map_or}
-use Rattle.lpt_reception.specs.LptPacket.declared.direction.Direction.TheVariants.{Down}
-use Rattle.lpt_reception.specs.LptPacket.Names.{Name}
-use Rattle.lpt_execution.specs.LptMemory.declared.effect.Effect.{Effect}
-use Rattle.lpt_execution.specs.LptMemory.Effects.{answer}
-use Rattle.lpt_execution.specs.LptMemory.Meanings.{meaning}
-use Rattle.lpt_execution.specs.LptMemory.Memories.{Contents, sizes_of}
-use Rattle.lpt_execution.specs.LptEvents.TelemetryKinds.{service_of, subtype_of}
-use Rattle.lpt_execution.specs.LptEvents.MadePackets.{tm_made}
-use Rattle.lpt_execution.specs.LptEvents.declared.applied.Applied.{Applied}
-use Rattle.lpt_execution.specs.LptEvents.declared.config.Config.{Config}
-use Rattle.lpt_execution.specs.LptEvents.declared.entry.Opening.{Opening}
-use Rattle.lpt_execution.specs.LptEvents.declared.side.Side.TheVariants.{Craft}
+use Rattle.lpt_packet.specs.declared.direction.Direction.TheVariants.{Down}
+use Rattle.lpt_packet.specs.Names.{Name}
+use Rattle.lpt_memory.specs.declared.effect.Effect.{Effect}
+use Rattle.lpt_memory.specs.Effects.{answer}
+use Rattle.lpt_memory.specs.Meanings.{meaning}
+use Rattle.lpt_memory.specs.Memories.{Contents, sizes_of}
+use Rattle.lpt_events.specs.TelemetryKinds.{service_of, subtype_of}
+use Rattle.lpt_events.specs.MadePackets.{tm_made}
+use Rattle.lpt_events.specs.declared.applied.Applied.{Applied}
+use Rattle.lpt_events.specs.declared.config.Config.{Config}
+use Rattle.lpt_events.specs.declared.entry.Opening.{Opening}
+use Rattle.lpt_events.specs.declared.side.Side.TheVariants.{Craft}
 use Rattle.lpt_execution.specs.declared.ending.Ending.{Ending}
 use Rattle.lpt_execution.specs.declared.ending.Ending.TheVariants.{Silent}
 use Rattle.lpt_execution.specs.declared.ending.Report.{Report}
@@ -98,7 +98,7 @@ front_puts c first h =
 abbrev pub opened_down : (place : ℕ) → Option (Name × List ℕ) → List Opening
 opened_down place None = []
 opened_down place (Some x) =
-    record { place = place; direction = Down; id = x.0; message = x.1 } ∷ []
+    record { place = place; direction = Down; name = x.0; message = x.1 } ∷ []
 
 -- what it opens
 abbrev pub front_opens : Config → Contents → History → List Opening

@@ -1,13 +1,13 @@
 -- The lanes' hands, and what is in them.
 use Rattle.std.specs.Prelude.{ℕ, if◌then◌else◌, [], ◌∷◌, slice_get, Option, Some, None}
 use Rattle.std.specs.Option.{option_map_or}
-use Rattle.lpt_reception.specs.LptPacket.declared.direction.Direction.{Direction}
-use Rattle.lpt_execution.specs.LptEvents.declared.lane.Lane.{Lane}
-use Rattle.lpt_execution.specs.LptEvents.Lanes.{lane_direction, same_lane}
-use Rattle.lpt_execution.specs.LptEvents.declared.config.Config.{Config}
-use Rattle.lpt_execution.specs.LptEvents.Arrivals.{Arrival, NotRead, arrival_in}
-use Rattle.lpt_execution.specs.LptEvents.declared.event.Event.{Event}
-use Rattle.lpt_execution.specs.LptEvents.declared.event.Event.TheVariants.{Take, Deliver}
+use Rattle.lpt_packet.specs.declared.direction.Direction.{Direction}
+use Rattle.lpt_events.specs.declared.lane.Lane.{Lane}
+use Rattle.lpt_events.specs.Lanes.{lane_direction, same_lane}
+use Rattle.lpt_events.specs.declared.config.Config.{Config}
+use Rattle.lpt_events.specs.Arrivals.{Arrival, NotRead, arrival_in}
+use Rattle.lpt_events.specs.declared.event.Event.{Event}
+use Rattle.lpt_events.specs.declared.event.Event.TheVariants.{Take, Deliver}
 use Rattle.lpt_journal.specs.Journal.{SentPacket, History}
 use Rattle.lpt_journal.specs.Link.{sent}
 

@@ -4,29 +4,29 @@ use Rattle.std.specs.List.{filter}
 use Rattle.std.specs.List.Sorted.{IsStrictlyIncreasing}
 use Rattle.std.specs.Option.{option_and_then}
 use Rattle.std.specs.FinMap as map
-use Rattle.lpt_reception.specs.LptPacket.declared.direction.Direction.{Direction}
-use Rattle.lpt_reception.specs.LptPacket.Names.{Name}
-use Rattle.lpt_reception.specs.LptPart.declared.mode.Mode.{Mode}
-use Rattle.lpt_reception.specs.LptPart.declared.mode.Mode.TheVariants.{Strict}
-use Rattle.lpt_reception.specs.LptPart.declared.reason.Reason.{Reason}
-use Rattle.lpt_reception.specs.LptPart.declared.reason.Reason.TheVariants.{Discontinuity}
-use Rattle.lpt_reception.specs.LptPart.Splitting.{part_count}
-use Rattle.lpt_execution.specs.LptMemory.Memories.{Contents}
+use Rattle.lpt_packet.specs.declared.direction.Direction.{Direction}
+use Rattle.lpt_packet.specs.Names.{Name}
+use Rattle.lpt_part.specs.declared.mode.Mode.{Mode}
+use Rattle.lpt_part.specs.declared.mode.Mode.TheVariants.{Strict}
+use Rattle.lpt_part.specs.declared.reason.Reason.{Reason}
+use Rattle.lpt_part.specs.declared.reason.Reason.TheVariants.{Discontinuity}
+use Rattle.lpt_part.specs.Splitting.{part_count}
+use Rattle.lpt_memory.specs.Memories.{Contents}
 use Rattle.lpt_reception.specs.Received.{Kept as KeptPart}
-use Rattle.lpt_execution.specs.LptEvents.NamedParts.{NamedPart}
-use Rattle.lpt_execution.specs.LptEvents.declared.lane.Lane.{Lane}
-use Rattle.lpt_execution.specs.LptEvents.Lanes.{lane_direction}
-use Rattle.lpt_execution.specs.LptEvents.declared.config.Config.{Config}
-use Rattle.lpt_execution.specs.LptEvents.declared.outcome.Outcome.{Outcome}
-use Rattle.lpt_execution.specs.LptEvents.declared.outcome.Outcome.TheVariants.{Broken, Ignored}
-use Rattle.lpt_execution.specs.LptEvents.declared.outcome.Why.TheVariants.{Unreadable, Idle, ForeignApid, BadPart}
-use Rattle.lpt_execution.specs.LptEvents.Arrivals.{APart}
-use Rattle.lpt_execution.specs.LptEvents.MadePackets.{nth_named}
-use Rattle.lpt_execution.specs.LptEvents.declared.event.Event.{Event}
-use Rattle.lpt_execution.specs.LptEvents.declared.event.Event.TheVariants.{Deliver}
-use Rattle.lpt_execution.specs.LptEvents.declared.entry.Opening.{Opening}
-use Rattle.lpt_execution.specs.LptEvents.declared.entry.Release.{Release}
-use Rattle.lpt_execution.specs.LptEvents.declared.reply.Answer.TheVariants.{Delivered}
+use Rattle.lpt_events.specs.NamedParts.{NamedPart}
+use Rattle.lpt_events.specs.declared.lane.Lane.{Lane}
+use Rattle.lpt_events.specs.Lanes.{lane_direction}
+use Rattle.lpt_events.specs.declared.config.Config.{Config}
+use Rattle.lpt_events.specs.declared.outcome.Outcome.{Outcome}
+use Rattle.lpt_events.specs.declared.outcome.Outcome.TheVariants.{Broken, Ignored}
+use Rattle.lpt_events.specs.declared.outcome.Why.TheVariants.{Unreadable, Idle, ForeignApid, BadPart}
+use Rattle.lpt_events.specs.Arrivals.{APart}
+use Rattle.lpt_events.specs.MadePackets.{nth_named}
+use Rattle.lpt_events.specs.declared.event.Event.{Event}
+use Rattle.lpt_events.specs.declared.event.Event.TheVariants.{Deliver}
+use Rattle.lpt_events.specs.declared.entry.Opening.{Opening}
+use Rattle.lpt_events.specs.declared.entry.Release.{Release}
+use Rattle.lpt_events.specs.declared.reply.Answer.TheVariants.{Delivered}
 use Rattle.lpt_journal.specs.Journal.{SentPacket, Recorded, History}
 use Rattle.lpt_journal.specs.Link.{sent, is_damaged, is_held}
 use Rattle.lpt_journal.specs.Hands.{hand, arrival_of, in_hand}
@@ -35,7 +35,7 @@ use Rattle.lpt_journal.specs.Receivers.{heard}
 use Rattle.lpt_journal.specs.Delivery.{outcome}
 use Rattle.lpt_journal.specs.Releases.{releases}
 use Rattle.lpt_journal.specs.Jobs.{went_up, executed, left_by, memories}
-use Rattle.lpt_execution.specs.LptEvents.Configs.{IsConfig}
+use Rattle.lpt_events.specs.Configs.{IsConfig}
 use Rattle.lpt_journal.specs.Replies.{recorded}
 use Rattle.lpt_journal.specs.Legal.{Legal}
 
@@ -51,7 +51,7 @@ pub record IsPartOfCurrent (c : Config) (h : History) (d : Direction) (q : Named
 
 -- a kept part with its name and number
 abbrev pub kept_piece : Name → ℕ → KeptPart → NamedPart
-kept_piece id n x = record { name = id; number = n; kind = x.kind; octets = x.octets }
+kept_piece name n x = record { name = name; number = n; kind = x.kind; octets = x.octets }
 
 -- every part that is held, in a hand or heard is one of the message last opened under its name
 pub record PartsAreCurrent (c : Config) (h : History) : Type 0 where
@@ -63,9 +63,9 @@ pub record PartsAreCurrent (c : Config) (h : History) : Type 0 where
   pub hands : (l : Lane) (q : NamedPart)
       → in_hand c h l ≡ APart q
       → IsPartOfCurrent c h (lane_direction l) q
-  pub heard : (d : Direction) (id : Name) (n : ℕ) (x : KeptPart)
-      → map.get (heard c h d id) n ≡ Some x
-      → IsPartOfCurrent c h d (kept_piece id n x)
+  pub heard : (d : Direction) (name : Name) (n : ℕ) (x : KeptPart)
+      → map.get (heard c h d name) n ≡ Some x
+      → IsPartOfCurrent c h d (kept_piece name n x)
 
 -- ---- releases
 
@@ -95,7 +95,7 @@ EachIsLastOpened c h =
 -- two openings have one direction, one name and one place
 pub record IsSameOpening (o u : Opening) : Type 0 where
   pub same_direction : o.direction ≡ u.direction
-  pub same_id : o.id ≡ u.id
+  pub same_name : o.name ≡ u.name
   pub same_place : o.place ≡ u.place
 
 -- no two releases have the same opening
@@ -113,8 +113,8 @@ AtMostOncePerOpening c h =
 -- but where the packet was damaged: exactly then it isn't read. A part breaks its reception off in
 -- strict mode alone, and there only since it isn't the next one.
 pub record IsSoundOutcome (mode : Mode) (damaged : Bool) (o : Outcome) : Type 0 where
-  pub only_gaps : (id : Name) (reason : Reason)
-      → o ≡ Broken id reason
+  pub only_gaps : (name : Name) (reason : Reason)
+      → o ≡ Broken name reason
       → (mode ≡ Strict) × (reason ≡ Discontinuity)
   pub not_bad_part : ¬ (o ≡ Ignored BadPart)
   pub not_idle : ¬ (o ≡ Ignored Idle)

@@ -3,23 +3,23 @@
 use Rattle.std.specs.Prelude.{ℕ, ◌+◌, ◌==◌, Bool, true, false, ◌||◌, if◌then◌else◌, List, [], ◌∷◌, map, slice_get, Option, Some, None}
 use Rattle.std.specs.List.{filter}
 use Rattle.std.specs.Option.{option_map}
-use Rattle.lpt_reception.specs.LptPacket.declared.direction.Direction.{Direction}
-use Rattle.lpt_reception.specs.LptPacket.declared.direction.Direction.TheVariants.{Up}
-use Rattle.lpt_reception.specs.LptPacket.Names.{Name}
-use Rattle.lpt_execution.specs.LptMemory.Meanings.{meaning}
-use Rattle.lpt_execution.specs.LptMemory.Memories.{Contents, sizes_of, effect}
-use Rattle.lpt_execution.specs.LptMemory.Readings.{Job}
-use Rattle.lpt_execution.specs.LptEvents.Lanes.{same_direction}
-use Rattle.lpt_execution.specs.LptEvents.Workers.{same_worker}
-use Rattle.lpt_execution.specs.LptEvents.declared.config.Config.{Config}
-use Rattle.lpt_execution.specs.LptEvents.declared.entry.Release.{Release}
-use Rattle.lpt_execution.specs.LptEvents.declared.event.Event.{Event}
-use Rattle.lpt_execution.specs.LptEvents.declared.event.Event.TheVariants.{Claim, Commit, Apply}
-use Rattle.lpt_execution.specs.LptEvents.declared.reply.Answer.{Answer}
-use Rattle.lpt_execution.specs.LptEvents.declared.reply.Answer.TheVariants.{Committed}
-use Rattle.lpt_execution.specs.LptEvents.declared.side.Side.{Side}
-use Rattle.lpt_execution.specs.LptEvents.declared.side.Side.TheVariants.{Craft}
-use Rattle.lpt_execution.specs.LptEvents.declared.worker.Worker.{Worker}
+use Rattle.lpt_packet.specs.declared.direction.Direction.{Direction}
+use Rattle.lpt_packet.specs.declared.direction.Direction.TheVariants.{Up}
+use Rattle.lpt_packet.specs.Names.{Name}
+use Rattle.lpt_memory.specs.Meanings.{meaning}
+use Rattle.lpt_memory.specs.Memories.{Contents, sizes_of, effect}
+use Rattle.lpt_memory.specs.Readings.{Job}
+use Rattle.lpt_events.specs.Lanes.{same_direction}
+use Rattle.lpt_events.specs.Workers.{same_worker}
+use Rattle.lpt_events.specs.declared.config.Config.{Config}
+use Rattle.lpt_events.specs.declared.entry.Release.{Release}
+use Rattle.lpt_events.specs.declared.event.Event.{Event}
+use Rattle.lpt_events.specs.declared.event.Event.TheVariants.{Claim, Commit, Apply}
+use Rattle.lpt_events.specs.declared.reply.Answer.{Answer}
+use Rattle.lpt_events.specs.declared.reply.Answer.TheVariants.{Committed}
+use Rattle.lpt_events.specs.declared.side.Side.{Side}
+use Rattle.lpt_events.specs.declared.side.Side.TheVariants.{Craft}
+use Rattle.lpt_events.specs.declared.worker.Worker.{Worker}
 use Rattle.lpt_journal.specs.Journal.{Recorded, History, with_all}
 use Rattle.lpt_journal.specs.Releases.{released_by}
 use Rattle.lpt_journal.specs.Senders.{restarts}

@@ -2,10 +2,10 @@
 --
 -- A history has its newest event first. What is said of anything is a short recursion from there.
 use Rattle.std.specs.Prelude.{ℕ, List, [], ◌∷◌, ◌++◌}
-use Rattle.lpt_reception.specs.LptPacket.declared.direction.Direction.{Direction}
-use Rattle.lpt_execution.specs.LptEvents.declared.event.Event.{Event}
-use Rattle.lpt_execution.specs.LptEvents.declared.reply.Reply.{Reply}
-use Rattle.lpt_execution.specs.LptEvents.declared.entry.Opening.{Opening}
+use Rattle.lpt_packet.specs.declared.direction.Direction.{Direction}
+use Rattle.lpt_events.specs.declared.event.Event.{Event}
+use Rattle.lpt_events.specs.declared.reply.Reply.{Reply}
+use Rattle.lpt_events.specs.declared.entry.Opening.{Opening}
 
 -- a packet that was put on the link
 pub record SentPacket : Type 0 where

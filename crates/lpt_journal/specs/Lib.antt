@@ -15,10 +15,3 @@ pub mod Releases
 pub mod Replies
 pub mod Senders
 pub mod Work
-pub use Rattle.lpt_reception.specs.LptPacket as LptPacket
-pub use Rattle.lpt_execution.specs.LptPus as LptPus
-pub use Rattle.lpt_execution.specs.LptMemory as LptMemory
-pub use Rattle.lpt_reception.specs.LptPart as LptPart
-pub use Rattle.lpt_execution.specs.LptEvents as LptEvents
-pub use Rattle.lpt_reception.specs as LptReception
-pub use Rattle.lpt_ledger.specs as LptLedger

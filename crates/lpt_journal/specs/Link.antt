@@ -1,11 +1,11 @@
 -- The link: which packets were put on it, and which of them it holds.
 use Rattle.std.specs.Prelude.{ℕ, nat_lt, ◌==◌, Bool, true, false, not, ◌&&◌, ◌||◌, if◌then◌else◌, List, [], ◌∷◌, length, map, slice_get, Option, Some, None}
 use Rattle.std.specs.Option.{option_map_or}
-use Rattle.lpt_reception.specs.LptPacket.declared.direction.Direction.{Direction}
-use Rattle.lpt_reception.specs.LptPacket.Names.{Name}
-use Rattle.lpt_execution.specs.LptEvents.Lanes.{same_direction}
-use Rattle.lpt_execution.specs.LptEvents.declared.event.Event.{Event}
-use Rattle.lpt_execution.specs.LptEvents.declared.event.Event.TheVariants.{Send, Lose, Damage}
+use Rattle.lpt_packet.specs.declared.direction.Direction.{Direction}
+use Rattle.lpt_packet.specs.Names.{Name}
+use Rattle.lpt_events.specs.Lanes.{same_direction}
+use Rattle.lpt_events.specs.declared.event.Event.{Event}
+use Rattle.lpt_events.specs.declared.event.Event.TheVariants.{Send, Lose, Damage}
 use Rattle.lpt_journal.specs.Journal.{SentPacket, History, with_all}
 
 -- all packets put on the link, each at the place of its number
@@ -15,7 +15,7 @@ sent (x ∷ h) = with_all (sent h) x.puts
 
 -- the transaction of which an event puts a part; all else that is put is no part
 abbrev pub tag_put : Event → Option Name
-tag_put (Send d id k) = Some id
+tag_put (Send d name k) = Some name
 tag_put _ = None
 
 -- of each packet the transaction of which it was put as a part

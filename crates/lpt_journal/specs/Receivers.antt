@@ -2,21 +2,21 @@
 use Rattle.std.specs.Prelude.{ℕ, ◌+◌, Bool, false, not, ◌&&◌, ◌||◌, ◌==◌, if◌then◌else◌, List, [], ◌∷◌, length}
 use Rattle.std.specs.List.{filter}
 use Rattle.std.specs.FinMap as map
-use Rattle.lpt_reception.specs.LptPacket.declared.direction.Direction.{Direction}
-use Rattle.lpt_reception.specs.LptPacket.Names.{Name, same_name}
+use Rattle.lpt_packet.specs.declared.direction.Direction.{Direction}
+use Rattle.lpt_packet.specs.Names.{Name, same_name}
 use Rattle.lpt_reception.specs.Received.{Kept as KeptPart, Parts, no_parts, with_part}
-use Rattle.lpt_execution.specs.LptEvents.NamedParts.{NamedPart}
-use Rattle.lpt_execution.specs.LptEvents.declared.lane.Lane.{Lane}
-use Rattle.lpt_execution.specs.LptEvents.Lanes.{lane_direction, same_direction}
-use Rattle.lpt_execution.specs.LptEvents.declared.config.Config.{Config}
-use Rattle.lpt_execution.specs.LptEvents.declared.outcome.Outcome.TheVariants.{Kept, Again, Released, Broken}
-use Rattle.lpt_execution.specs.LptEvents.declared.side.Side.{Side}
-use Rattle.lpt_execution.specs.LptEvents.Arrivals.{Arrival, APart}
-use Rattle.lpt_execution.specs.LptEvents.declared.event.Event.{Event}
-use Rattle.lpt_execution.specs.LptEvents.declared.event.Event.TheVariants.{Deliver, Tick, Expire, Retire, Restart}
-use Rattle.lpt_execution.specs.LptEvents.declared.reply.Answer.{Answer}
-use Rattle.lpt_execution.specs.LptEvents.declared.reply.Answer.TheVariants.{Delivered, Expired}
-use Rattle.lpt_execution.specs.LptEvents.Sides.{same_side, receiver_side}
+use Rattle.lpt_events.specs.NamedParts.{NamedPart}
+use Rattle.lpt_events.specs.declared.lane.Lane.{Lane}
+use Rattle.lpt_events.specs.Lanes.{lane_direction, same_direction}
+use Rattle.lpt_events.specs.declared.config.Config.{Config}
+use Rattle.lpt_events.specs.declared.outcome.Outcome.TheVariants.{Kept, Again, Released, Broken}
+use Rattle.lpt_events.specs.declared.side.Side.{Side}
+use Rattle.lpt_events.specs.Arrivals.{Arrival, APart}
+use Rattle.lpt_events.specs.declared.event.Event.{Event}
+use Rattle.lpt_events.specs.declared.event.Event.TheVariants.{Deliver, Tick, Expire, Retire, Restart}
+use Rattle.lpt_events.specs.declared.reply.Answer.{Answer}
+use Rattle.lpt_events.specs.declared.reply.Answer.TheVariants.{Delivered, Expired}
+use Rattle.lpt_events.specs.Sides.{same_side, receiver_side}
 use Rattle.lpt_journal.specs.Journal.{History}
 use Rattle.lpt_journal.specs.Hands.{in_hand}
 use Rattle.lpt_journal.specs.Senders.{once}
@@ -38,35 +38,35 @@ with_arrival _ s = s
 
 -- what is kept of a name after a delivery: a part kept before adds nothing, an end leaves nothing
 abbrev pub heard_now : Answer → Arrival → Name → Parts → Parts
-heard_now (Delivered (Kept i k)) arrived id before =
-    if same_name i id then with_arrival arrived before else before
-heard_now (Delivered (Released i len)) arrived id before =
-    if same_name i id then no_parts else before
-heard_now (Delivered (Broken i reason)) arrived id before =
-    if same_name i id then no_parts else before
-heard_now _ arrived id before = before
+heard_now (Delivered (Kept i k)) arrived name before =
+    if same_name i name then with_arrival arrived before else before
+heard_now (Delivered (Released i len)) arrived name before =
+    if same_name i name then no_parts else before
+heard_now (Delivered (Broken i reason)) arrived name before =
+    if same_name i name then no_parts else before
+heard_now _ arrived name before = before
 
 -- whether an answer ends the reception of this name
 abbrev pub ends : Answer → Name → Bool
-ends (Delivered (Released i len)) id = same_name i id
-ends (Delivered (Broken i reason)) id = same_name i id
-ends (Expired d i) id = same_name i id
-ends _ id = false
+ends (Delivered (Released i len)) name = same_name i name
+ends (Delivered (Broken i reason)) name = same_name i name
+ends (Expired d i) name = same_name i name
+ends _ name = false
 
 -- what is kept of a transaction after an event; arrived says what is in each lane's hand
 abbrev pub heard_after : Event → Answer → (Lane → Arrival) → Direction → Name → Parts → Parts
-heard_after (Deliver l) answer arrived d id before =
-    if same_direction (lane_direction l) d then heard_now answer (arrived l) id before else before
-heard_after (Expire side) answer arrived d id before =
-    if same_side side (receiver_side d) && ends answer id then no_parts else before
-heard_after (Restart side) answer arrived d id before =
+heard_after (Deliver l) answer arrived d name before =
+    if same_direction (lane_direction l) d then heard_now answer (arrived l) name before else before
+heard_after (Expire side) answer arrived d name before =
+    if same_side side (receiver_side d) && ends answer name then no_parts else before
+heard_after (Restart side) answer arrived d name before =
     if same_side side (receiver_side d) then no_parts else before
-heard_after _ answer arrived d id before = before
+heard_after _ answer arrived d name before = before
 
 -- the parts that are kept of a transaction
 abbrev pub heard : Config → History → Direction → Name → Parts
-heard c [] d id = no_parts
-heard c (x ∷ h) d id = heard_after x.event x.reply.answer (in_hand c h) d id (heard c h d id)
+heard c [] d name = no_parts
+heard c (x ∷ h) d name = heard_after x.event x.reply.answer (in_hand c h) d name (heard c h d name)
 
 -- ---- open receptions, counted by name
 
@@ -92,7 +92,7 @@ heard_names (x ∷ h) d = names_after x.event x.reply.answer d (heard_names h d)
 
 -- the names with an open reception, each once
 abbrev pub open_names : Config → History → Direction → List Name
-open_names c h d = once (filter (λ id. has_parts (heard c h d id)) (heard_names h d))
+open_names c h d = once (filter (λ name. has_parts (heard c h d name)) (heard_names h d))
 
 -- how many receptions are open
 abbrev pub reception_count : Config → History → Direction → ℕ
@@ -102,17 +102,18 @@ reception_count c h d = length (open_names c h d)
 
 -- whether the receiver has the transaction closed after an event
 abbrev pub closed_after : Event → Answer → Direction → Name → Bool → Bool
-closed_after (Deliver l) answer d id before =
-    (same_direction (lane_direction l) d && ends answer id) || before
-closed_after (Expire side) answer d id before =
-    (same_side side (receiver_side d) && ends answer id) || before
-closed_after (Retire e i) answer d id before = not (same_direction e d && same_name i id) && before
-closed_after _ answer d id before = before
+closed_after (Deliver l) answer d name before =
+    (same_direction (lane_direction l) d && ends answer name) || before
+closed_after (Expire side) answer d name before =
+    (same_side side (receiver_side d) && ends answer name) || before
+closed_after (Retire e i) answer d name before =
+    not (same_direction e d && same_name i name) && before
+closed_after _ answer d name before = before
 
 -- whether a reception of the transaction has ended, and it was not retired after that
 abbrev pub is_closed : History → Direction → Name → Bool
-is_closed [] d id = false
-is_closed (x ∷ h) d id = closed_after x.event x.reply.answer d id (is_closed h d id)
+is_closed [] d name = false
+is_closed (x ∷ h) d name = closed_after x.event x.reply.answer d name (is_closed h d name)
 
 -- ---- time
 
@@ -128,18 +129,18 @@ clock c (x ∷ h) side = clock_after x.event side (clock c h side)
 
 -- whether an answer takes a part of this name
 abbrev pub takes : Answer → Name → Bool
-takes (Delivered (Kept i k)) id = same_name i id
-takes (Delivered (Again i k)) id = same_name i id
-takes _ id = false
+takes (Delivered (Kept i k)) name = same_name i name
+takes (Delivered (Again i k)) name = same_name i name
+takes _ name = false
 
 -- whether an event takes a part of the transaction
 abbrev pub takes_part : Event → Answer → Direction → Name → Bool
-takes_part (Deliver l) answer d id = same_direction (lane_direction l) d && takes answer id
-takes_part _ answer d id = false
+takes_part (Deliver l) answer d name = same_direction (lane_direction l) d && takes answer name
+takes_part _ answer d name = false
 
 -- the receiver's clock when it last took a part; 0 where it took none, and then none is open
 abbrev pub last_tick : Config → History → Direction → Name → ℕ
-last_tick c [] d id = 0
-last_tick c (x ∷ h) d id =
-    if takes_part x.event x.reply.answer d id then clock c h (receiver_side d)
-    else last_tick c h d id
+last_tick c [] d name = 0
+last_tick c (x ∷ h) d name =
+    if takes_part x.event x.reply.answer d name then clock c h (receiver_side d)
+    else last_tick c h d name

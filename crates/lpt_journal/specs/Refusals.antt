@@ -1,15 +1,15 @@
 -- Why an event is refused.
 use Rattle.std.specs.Prelude.{ℕ, nat_lt, nat_le, ◌==◌, Bool, not, ◌&&◌, ◌||◌, if◌then◌else◌, List, [], ◌∷◌, length, Option, Some, None, is_some}
-use Rattle.lpt_reception.specs.LptPart.Splitting.{part_count}
-use Rattle.lpt_execution.specs.LptEvents.Lanes.{lane_direction}
-use Rattle.lpt_execution.specs.LptEvents.declared.config.Config.{Config}
-use Rattle.lpt_execution.specs.LptEvents.Damages.{is_damage_long, looks_whole}
-use Rattle.lpt_execution.specs.LptEvents.Requests.{is_part_request, is_too_long}
-use Rattle.lpt_execution.specs.LptEvents.declared.event.Event.{Event}
-use Rattle.lpt_execution.specs.LptEvents.declared.event.Event.TheVariants.{Open, Send, Plain, Finish, Lose, Damage, Take, Deliver, Tick, Expire, Claim, Commit, Apply, Retire, Restart}
-use Rattle.lpt_execution.specs.LptEvents.declared.fault.StepFault.{StepFault}
-use Rattle.lpt_execution.specs.LptEvents.declared.fault.StepFault.TheVariants.{InUse, Short, Long, TooMany, NotOpen, NoSuchPart, NotHeld, HandFull, HandEmpty, NothingDue, NoJob, NotReady, NotClear, LooksWhole, StillOpen, ClockEnd, PartRequest}
-use Rattle.lpt_execution.specs.LptEvents.Sides.{direction_to}
+use Rattle.lpt_part.specs.Splitting.{part_count}
+use Rattle.lpt_events.specs.Lanes.{lane_direction}
+use Rattle.lpt_events.specs.declared.config.Config.{Config}
+use Rattle.lpt_events.specs.Damages.{is_damage_long, looks_whole}
+use Rattle.lpt_events.specs.Requests.{is_part_request, is_too_long}
+use Rattle.lpt_events.specs.declared.event.Event.{Event}
+use Rattle.lpt_events.specs.declared.event.Event.TheVariants.{Open, Send, Plain, Finish, Lose, Damage, Take, Deliver, Tick, Expire, Claim, Commit, Apply, Retire, Restart}
+use Rattle.lpt_events.specs.declared.fault.StepFault.{StepFault}
+use Rattle.lpt_events.specs.declared.fault.StepFault.TheVariants.{InUse, Short, Long, TooMany, NotOpen, NoSuchPart, NotHeld, HandFull, HandEmpty, NothingDue, NoJob, NotReady, NotClear, LooksWhole, StillOpen, ClockEnd, PartRequest}
+use Rattle.lpt_events.specs.Sides.{direction_to}
 use Rattle.lpt_journal.specs.Clear.{is_clear}
 use Rattle.lpt_journal.specs.Journal.{History}
 use Rattle.lpt_journal.specs.Jobs.{jobs, claimed, applied, ticket, is_committed, front_job}
@@ -17,8 +17,9 @@ use Rattle.lpt_journal.specs.Link.{is_held, goes}
 use Rattle.lpt_journal.specs.Hands.{hand}
 use Rattle.lpt_journal.specs.Senders.{Sender, OpenSender, sender, is_free, is_open, open_count}
 use Rattle.lpt_journal.specs.Receivers.{clock}
-use Rattle.lpt_reception.specs.LptPacket.Sizes.{longest_packet}
+use Rattle.lpt_packet.specs.Sizes.{longest_packet}
 use Rattle.lpt_journal.specs.Due.{due}
+use Rattle.lpt_events.specs.Counts.{greatest_clock}
 
 -- the first fault whose test holds
 abbrev pub first_fault : List (Bool × StepFault) → Option StepFault
@@ -32,25 +33,25 @@ parts_open c _ = 0
 
 -- the reasons for which an event is refused, each with its test, in the order of the tests
 abbrev pub reasons : Config → History → Event → List (Bool × StepFault)
-reasons c h (Open d id m) =
-    (not (is_free (sender h d id)), InUse)
+reasons c h (Open d name m) =
+    (not (is_free (sender h d name)), InUse)
     ∷ (nat_le (length m) c.part_size, Short)
     ∷ (nat_lt longest_packet (length m), Long)
     ∷ (nat_le c.outgoing (open_count h d), TooMany) ∷ []
-reasons c h (Send d id k) =
-    (not (is_open (sender h d id)), NotOpen)
-    ∷ ((k == 0) || nat_lt (parts_open c (sender h d id)) k, NoSuchPart) ∷ []
+reasons c h (Send d name k) =
+    (not (is_open (sender h d name)), NotOpen)
+    ∷ ((k == 0) || nat_lt (parts_open c (sender h d name)) k, NoSuchPart) ∷ []
 reasons c h (Plain source flags service subtype body) =
     (is_part_request service subtype, PartRequest)
     ∷ (is_too_long c (length body), Long) ∷ []
-reasons c h (Finish d id) = (not (is_open (sender h d id)), NotOpen) ∷ []
+reasons c h (Finish d name) = (not (is_open (sender h d name)), NotOpen) ∷ []
 reasons c h (Lose n) = (not (is_held h n), NotHeld) ∷ []
 reasons c h (Damage d b) = (is_damage_long c b, Long) ∷ (looks_whole b, LooksWhole) ∷ []
 reasons c h (Take l n) =
     (is_some (hand h l), HandFull)
     ∷ (not (is_held h n && goes h (lane_direction l) n), NotHeld) ∷ []
 reasons c h (Deliver l) = (not (is_some (hand h l)), HandEmpty) ∷ []
-reasons c h (Tick side) = (clock c h side == 4294967295, ClockEnd) ∷ []
+reasons c h (Tick side) = (clock c h side == greatest_clock, ClockEnd) ∷ []
 reasons c h (Expire side) = (not (is_some (due c h (direction_to side))), NothingDue) ∷ []
 reasons c h (Claim w) =
     (is_some (ticket c h w), HandFull) ∷ (nat_le (length (jobs c h)) (claimed h), NoJob) ∷ []
@@ -58,10 +59,10 @@ reasons c h (Commit w) = (not (is_some (ticket c h w)), HandEmpty) ∷ []
 reasons c h Apply =
     (not (is_some (front_job c h)), NoJob)
     ∷ (not (is_committed h (applied h)), NotReady) ∷ []
-reasons c h (Retire d id) =
-    (is_free (sender h d id), NotOpen)
-    ∷ (is_open (sender h d id), StillOpen)
-    ∷ (not (is_clear c h d id), NotClear) ∷ []
+reasons c h (Retire d name) =
+    (is_free (sender h d name), NotOpen)
+    ∷ (is_open (sender h d name), StillOpen)
+    ∷ (not (is_clear c h d name), NotClear) ∷ []
 reasons c h (Restart side) = []
 
 -- why an event is refused, where it is

@@ -1,26 +1,26 @@
 -- The messages that the nodes release.
 use Rattle.std.specs.Prelude.{ℕ, List, [], ◌∷◌, length, Some, None}
-use Rattle.lpt_reception.specs.LptPacket.declared.direction.Direction.{Direction}
-use Rattle.lpt_reception.specs.LptPacket.Names.{Name}
+use Rattle.lpt_packet.specs.declared.direction.Direction.{Direction}
+use Rattle.lpt_packet.specs.Names.{Name}
 use Rattle.lpt_reception.specs.Received.{Parts, spelled}
-use Rattle.lpt_execution.specs.LptEvents.declared.lane.Lane.{Lane}
-use Rattle.lpt_execution.specs.LptEvents.Lanes.{lane_direction}
-use Rattle.lpt_execution.specs.LptEvents.declared.config.Config.{Config}
-use Rattle.lpt_execution.specs.LptEvents.declared.outcome.Outcome.TheVariants.{Released, PlainReleased}
-use Rattle.lpt_execution.specs.LptEvents.Arrivals.{Arrival, ARequest, APart}
-use Rattle.lpt_execution.specs.LptEvents.declared.event.Event.{Event}
-use Rattle.lpt_execution.specs.LptEvents.declared.event.Event.TheVariants.{Deliver}
-use Rattle.lpt_execution.specs.LptEvents.declared.reply.Answer.{Answer}
-use Rattle.lpt_execution.specs.LptEvents.declared.reply.Answer.TheVariants.{Delivered}
-use Rattle.lpt_execution.specs.LptEvents.declared.entry.Release.{Release}
+use Rattle.lpt_events.specs.declared.lane.Lane.{Lane}
+use Rattle.lpt_events.specs.Lanes.{lane_direction}
+use Rattle.lpt_events.specs.declared.config.Config.{Config}
+use Rattle.lpt_events.specs.declared.outcome.Outcome.TheVariants.{Released, PlainReleased}
+use Rattle.lpt_events.specs.Arrivals.{Arrival, ARequest, APart}
+use Rattle.lpt_events.specs.declared.event.Event.{Event}
+use Rattle.lpt_events.specs.declared.event.Event.TheVariants.{Deliver}
+use Rattle.lpt_events.specs.declared.reply.Answer.{Answer}
+use Rattle.lpt_events.specs.declared.reply.Answer.TheVariants.{Delivered}
+use Rattle.lpt_events.specs.declared.entry.Release.{Release}
 use Rattle.lpt_journal.specs.Journal.{Recorded, History, with_all}
 use Rattle.lpt_journal.specs.Hands.{in_hand}
 use Rattle.lpt_journal.specs.Receivers.{with_piece, heard}
 
 -- what a delivery at this place releases: the message that the parts spell, or the telecommand
 abbrev pub released_now : (place : ℕ) → Direction → Answer → (Name → Parts) → Arrival → List Release
-released_now place d (Delivered (Released id len)) s (APart q) =
-    record { place = place; of = Some (d, id); message = spelled (with_piece (s id) q) } ∷ []
+released_now place d (Delivered (Released name len)) s (APart q) =
+    record { place = place; of = Some (d, name); message = spelled (with_piece (s name) q) } ∷ []
 released_now place d (Delivered (PlainReleased len)) s (ARequest b) =
     record { place = place; of = None; message = b } ∷ []
 released_now place d answer s arrived = []

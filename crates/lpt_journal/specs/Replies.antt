@@ -1,30 +1,30 @@
 -- What each event answers, puts and opens.
 use Rattle.std.specs.Prelude.{ℕ, ◌+◌, ◌==◌, if◌then◌else◌, List, [], ◌∷◌, length, Option, Some, None}
-use Rattle.lpt_reception.specs.LptPacket.declared.direction.Direction.{Direction}
-use Rattle.lpt_reception.specs.LptPacket.declared.direction.Direction.TheVariants.{Up, Down}
-use Rattle.lpt_reception.specs.LptPacket.Names.{Name, no_name}
-use Rattle.lpt_execution.specs.LptMemory.Memories.{Contents}
-use Rattle.lpt_execution.specs.LptMemory.Readings.{Job}
-use Rattle.lpt_reception.specs.LptPart.declared.reason.Reason.{Reason}
-use Rattle.lpt_reception.specs.LptPart.declared.reason.Reason.TheVariants as reason
-use Rattle.lpt_reception.specs.LptPart.Parts.{Piece}
-use Rattle.lpt_reception.specs.LptPart.Splitting.{part_count}
-use Rattle.lpt_execution.specs.LptEvents.Lanes.{lane_direction}
-use Rattle.lpt_execution.specs.LptEvents.declared.config.Config.{Config}
-use Rattle.lpt_execution.specs.LptEvents.declared.outcome.Outcome.{Outcome}
-use Rattle.lpt_execution.specs.LptEvents.declared.outcome.Outcome.TheVariants.{Broken}
-use Rattle.lpt_execution.specs.LptEvents.declared.side.Side.{Side}
-use Rattle.lpt_execution.specs.LptEvents.declared.side.Side.TheVariants.{Ground, Craft}
-use Rattle.lpt_execution.specs.LptEvents.Arrivals.{part_subtype}
-use Rattle.lpt_execution.specs.LptEvents.MadePackets.{nth_part, part_made, abort_made, tc_made}
-use Rattle.lpt_execution.specs.LptEvents.declared.event.Event.{Event}
-use Rattle.lpt_execution.specs.LptEvents.declared.event.Event.TheVariants.{Open, Send, Plain, Finish, Lose, Damage, Take, Deliver, Tick, Expire, Claim, Commit, Apply, Retire, Restart}
-use Rattle.lpt_execution.specs.LptEvents.declared.reply.Answer.{Answer}
-use Rattle.lpt_execution.specs.LptEvents.declared.reply.Answer.TheVariants.{Opened, Put, Finished, Lost, Took, Delivered, Clock, Expired, Claimed, Committed, Stale, Applied, Retired, Restarted}
-use Rattle.lpt_execution.specs.LptEvents.declared.reply.Puts.{Puts}
-use Rattle.lpt_execution.specs.LptEvents.declared.reply.Reply.{Reply}
-use Rattle.lpt_execution.specs.LptEvents.declared.entry.Opening.{Opening}
-use Rattle.lpt_execution.specs.LptEvents.Sides.{receiver_side, direction_to}
+use Rattle.lpt_packet.specs.declared.direction.Direction.{Direction}
+use Rattle.lpt_packet.specs.declared.direction.Direction.TheVariants.{Up, Down}
+use Rattle.lpt_packet.specs.Names.{Name, no_name}
+use Rattle.lpt_memory.specs.Memories.{Contents}
+use Rattle.lpt_memory.specs.Readings.{Job}
+use Rattle.lpt_part.specs.declared.reason.Reason.{Reason}
+use Rattle.lpt_part.specs.declared.reason.Reason.TheVariants as reason
+use Rattle.lpt_part.specs.Parts.{Piece}
+use Rattle.lpt_part.specs.Splitting.{part_count}
+use Rattle.lpt_events.specs.Lanes.{lane_direction}
+use Rattle.lpt_events.specs.declared.config.Config.{Config}
+use Rattle.lpt_events.specs.declared.outcome.Outcome.{Outcome}
+use Rattle.lpt_events.specs.declared.outcome.Outcome.TheVariants.{Broken}
+use Rattle.lpt_events.specs.declared.side.Side.{Side}
+use Rattle.lpt_events.specs.declared.side.Side.TheVariants.{Ground, Craft}
+use Rattle.lpt_events.specs.Arrivals.{part_subtype}
+use Rattle.lpt_events.specs.MadePackets.{nth_part, part_made, abort_made, tc_made}
+use Rattle.lpt_events.specs.declared.event.Event.{Event}
+use Rattle.lpt_events.specs.declared.event.Event.TheVariants.{Open, Send, Plain, Finish, Lose, Damage, Take, Deliver, Tick, Expire, Claim, Commit, Apply, Retire, Restart}
+use Rattle.lpt_events.specs.declared.reply.Answer.{Answer}
+use Rattle.lpt_events.specs.declared.reply.Answer.TheVariants.{Opened, Put, Finished, Lost, Took, Delivered, Clock, Expired, Claimed, Committed, Stale, Applied, Retired, Restarted}
+use Rattle.lpt_events.specs.declared.reply.Puts.{Puts}
+use Rattle.lpt_events.specs.declared.reply.Reply.{Reply}
+use Rattle.lpt_events.specs.declared.entry.Opening.{Opening}
+use Rattle.lpt_events.specs.Sides.{receiver_side, direction_to}
 use Rattle.lpt_journal.specs.Journal.{SentPacket, Recorded, History}
 use Rattle.lpt_journal.specs.Link.{sent}
 use Rattle.lpt_journal.specs.Senders.{Sender, FreeSender, OpenSender, ClosedSender, sender, count, type_counter}
@@ -37,7 +37,7 @@ use Rattle.lpt_journal.specs.Jobs.{boot, claimed, ticket}
 -- the end of the reception that is due; where none is, that is refused
 abbrev pub expired_now : Direction → Option Name → Answer
 expired_now d None = Expired d no_name
-expired_now d (Some id) = Expired d id
+expired_now d (Some name) = Expired d name
 
 -- the commit of this job in this boot: one of an earlier boot is stale; where a worker has none, that
 -- is refused
@@ -48,10 +48,10 @@ committed_now boot (Some t) =
 
 -- what is particular to the event in its reply
 abbrev pub answer : Config → Contents → History → Event → Answer
-answer c first h (Open d id m) = Opened (part_count (length m) c.part_size)
-answer c first h (Send d id k) = Put (length (sent h))
+answer c first h (Open d name m) = Opened (part_count (length m) c.part_size)
+answer c first h (Send d name k) = Put (length (sent h))
 answer c first h (Plain source flags service subtype body) = Put (length (sent h))
-answer c first h (Finish d id) = Finished
+answer c first h (Finish d name) = Finished
 answer c first h (Lose n) = Lost
 answer c first h (Damage d b) = Put (length (sent h))
 answer c first h (Take l n) = Took n
@@ -61,7 +61,7 @@ answer c first h (Expire side) = expired_now (direction_to side) (due c h (direc
 answer c first h (Claim w) = Claimed (boot h Craft) (claimed h)
 answer c first h (Commit w) = committed_now (boot h Craft) (ticket c h w)
 answer c first h Apply = Applied (front_applied c first h)
-answer c first h (Retire d id) = Retired
+answer c first h (Retire d name) = Retired
 answer c first h (Restart side) = Restarted (boot h side + 1)
 
 -- the octets of a part's packet that the sender makes now, of this source or to it
@@ -73,13 +73,13 @@ part_packet c h Down peer q =
 
 -- the packet of part k of an open message; of no other sender, and then sending is refused
 abbrev pub send_puts : Config → History → Direction → Name → ℕ → Sender → List SentPacket
-send_puts c h d id k (OpenSender m) =
+send_puts c h d name k (OpenSender m) =
     record {
       direction = d;
-      octets = part_packet c h d id.source (nth_part c.part_size id.id m k);
+      octets = part_packet c h d name.source (nth_part c.part_size name.id m k);
     } ∷ []
-send_puts c h d id k FreeSender = []
-send_puts c h d id k ClosedSender = []
+send_puts c h d name k FreeSender = []
+send_puts c h d name k ClosedSender = []
 
 -- the octets of a plain request's packet that ground makes now
 abbrev pub plain_packet : Config → History → (source flags service subtype : ℕ) → List ℕ → List ℕ
@@ -97,30 +97,30 @@ plain_puts c h source flags service subtype body =
 
 -- the abortion report that the spacecraft puts when it ends a reception so; ground puts none
 abbrev pub abort_puts : Config → History → Side → Name → Reason → List SentPacket
-abort_puts c h Ground id reason = []
-abort_puts c h Craft id reason =
+abort_puts c h Ground name reason = []
+abort_puts c h Craft name reason =
     record {
       direction = Down;
-      octets = abort_made c (count h Down) (type_counter h 13 16) (clock c h Craft) id reason;
+      octets = abort_made c (count h Down) (type_counter h 13 16) (clock c h Craft) name reason;
     } ∷ []
 
 -- what a delivery with this outcome puts
 abbrev pub outcome_puts : Config → History → Side → Outcome → List SentPacket
-outcome_puts c h side (Broken id reason) = abort_puts c h side id reason
+outcome_puts c h side (Broken name reason) = abort_puts c h side name reason
 outcome_puts c h side _ = []
 
 -- what the end of the reception that is due puts; where none is due, it is refused
 abbrev pub expiry_puts : Config → History → Side → Option Name → List SentPacket
 expiry_puts c h side None = []
-expiry_puts c h side (Some id) = abort_puts c h side id reason.Expired
+expiry_puts c h side (Some name) = abort_puts c h side name reason.Expired
 
 -- the packets that an event puts on the link
 abbrev pub puts : Config → Contents → History → Event → List SentPacket
-puts c first h (Open d id m) = []
-puts c first h (Send d id k) = send_puts c h d id k (sender h d id)
+puts c first h (Open d name m) = []
+puts c first h (Send d name k) = send_puts c h d name k (sender h d name)
 puts c first h (Plain source flags service subtype body) =
     plain_puts c h source flags service subtype body
-puts c first h (Finish d id) = []
+puts c first h (Finish d name) = []
 puts c first h (Lose n) = []
 puts c first h (Damage d b) = record { direction = d; octets = b } ∷ []
 puts c first h (Take l n) = []
@@ -130,15 +130,15 @@ puts c first h (Expire side) = expiry_puts c h side (due c h (direction_to side)
 puts c first h (Claim w) = []
 puts c first h (Commit w) = []
 puts c first h Apply = front_puts c first h
-puts c first h (Retire d id) = []
+puts c first h (Retire d name) = []
 puts c first h (Restart side) = []
 
 -- the transactions that an event opens
 abbrev pub opens : Config → Contents → History → Event → List Opening
-opens c first h (Open d id m) = record { place = length h; direction = d; id = id; message = m } ∷ []
-opens c first h (Send d id k) = []
+opens c first h (Open d name m) = record { place = length h; direction = d; name = name; message = m } ∷ []
+opens c first h (Send d name k) = []
 opens c first h (Plain source flags service subtype body) = []
-opens c first h (Finish d id) = []
+opens c first h (Finish d name) = []
 opens c first h (Lose n) = []
 opens c first h (Damage d b) = []
 opens c first h (Take l n) = []
@@ -148,7 +148,7 @@ opens c first h (Expire side) = []
 opens c first h (Claim w) = []
 opens c first h (Commit w) = []
 opens c first h Apply = front_opens c first h
-opens c first h (Retire d id) = []
+opens c first h (Retire d name) = []
 opens c first h (Restart side) = []
 
 -- how a reply tells of packets that were put, the first of which got this number

@@ -2,21 +2,23 @@
 use Rattle.std.specs.Prelude.{ℕ, ◌%◌, Bool, true, false, ◌&&◌, ◌||◌, if◌then◌else◌, List, [], ◌∷◌, length, take, drop, map, Option, Some, None}
 use Rattle.std.specs.List.{list_any, filter, find}
 use Rattle.std.specs.Option.{option_or, option_map}
-use Rattle.lpt_reception.specs.LptPacket.declared.direction.Direction.{Direction}
-use Rattle.lpt_reception.specs.LptPacket.declared.direction.Direction.TheVariants.{Up, Down}
-use Rattle.lpt_reception.specs.LptPacket.Names.{Name, same_name, named_by}
-use Rattle.lpt_reception.specs.LptPacket.Numbers.{same_octets}
+use Rattle.lpt_packet.specs.declared.direction.Direction.{Direction}
+use Rattle.lpt_packet.specs.declared.direction.Direction.TheVariants.{Up, Down}
+use Rattle.lpt_packet.specs.Names.{Name, same_name, named_by}
+use Rattle.lpt_packet.specs.Numbers.{same_octets}
 use Rattle.lpt_ledger.specs.LeastFree.{name_count, first_of_numbers}
-use Rattle.lpt_execution.specs.LptEvents.Lanes.{same_direction}
-use Rattle.lpt_execution.specs.LptEvents.declared.side.Side.{Side}
-use Rattle.lpt_execution.specs.LptEvents.declared.outcome.Outcome.TheVariants.{AbortNoted}
-use Rattle.lpt_execution.specs.LptEvents.declared.event.Event.{Event}
-use Rattle.lpt_execution.specs.LptEvents.declared.event.Event.TheVariants.{Open, Send, Plain, Finish, Lose, Damage, Take, Deliver, Tick, Expire, Claim, Commit, Apply, Retire, Restart}
-use Rattle.lpt_execution.specs.LptEvents.declared.reply.Answer.{Answer}
-use Rattle.lpt_execution.specs.LptEvents.declared.reply.Answer.TheVariants.{Delivered}
-use Rattle.lpt_execution.specs.LptEvents.declared.entry.Opening.{Opening}
-use Rattle.lpt_execution.specs.LptEvents.Sides.{same_side, sender_side}
+use Rattle.lpt_events.specs.Lanes.{same_direction}
+use Rattle.lpt_events.specs.declared.side.Side.{Side}
+use Rattle.lpt_events.specs.declared.outcome.Outcome.TheVariants.{AbortNoted}
+use Rattle.lpt_events.specs.declared.event.Event.{Event}
+use Rattle.lpt_events.specs.declared.event.Event.TheVariants.{Open, Send, Plain, Finish, Lose, Damage, Take, Deliver, Tick, Expire, Claim, Commit, Apply, Retire, Restart}
+use Rattle.lpt_events.specs.declared.reply.Answer.{Answer}
+use Rattle.lpt_events.specs.declared.reply.Answer.TheVariants.{Delivered}
+use Rattle.lpt_events.specs.declared.entry.Opening.{Opening}
+use Rattle.lpt_events.specs.Sides.{same_side, sender_side}
 use Rattle.lpt_journal.specs.Journal.{SentPacket, Recorded, History, with_all}
+use Rattle.lpt_events.specs.Counts.{sequence_counts, type_counters}
+pub use Rattle.lpt_events.specs.Openings.{is_opening_of}
 
 -- ---- openings
 
@@ -25,43 +27,39 @@ abbrev pub opened : History → List Opening
 opened [] = []
 opened (x ∷ h) = with_all (opened h) x.opens
 
--- whether an opening is of this transaction
-abbrev pub is_opening_of : Direction → Name → Opening → Bool
-is_opening_of d id o = same_direction o.direction d && same_name o.id id
-
 -- whether an event retires the transaction
 abbrev pub retires : Event → Direction → Name → Bool
-retires (Retire e i) d id = same_direction e d && same_name i id
-retires _ d id = false
+retires (Retire e i) d name = same_direction e d && same_name i name
+retires _ d name = false
 
 -- the last opening of the transaction, where it was not retired after that
 abbrev pub current : History → Direction → Name → Option Opening
-current [] d id = None
-current (x ∷ h) d id =
-    if retires x.event d id then None
-    else option_or (find (is_opening_of d id) x.opens) (current h d id)
+current [] d name = None
+current (x ∷ h) d name =
+    if retires x.event d name then None
+    else option_or (find (is_opening_of d name) x.opens) (current h d name)
 
 -- ---- the senders' states
 
 -- whether an answer notes an abortion report of this name
 abbrev pub notes_abort : Answer → Name → Bool
-notes_abort (Delivered (AbortNoted i reason)) id = same_name i id
-notes_abort _ id = false
+notes_abort (Delivered (AbortNoted i reason)) name = same_name i name
+notes_abort _ name = false
 
 -- whether an event closes the transaction's sender; an abortion report speaks of what goes up, and a
 -- node that is restarted closes all of its own
 abbrev pub closes : Event → Answer → Direction → Name → Bool
-closes (Deliver l) answer d id = same_direction Up d && notes_abort answer id
-closes (Finish e i) answer d id = same_direction e d && same_name i id
-closes (Restart side) answer d id = same_side side (sender_side d)
-closes _ answer d id = false
+closes (Deliver l) answer d name = same_direction Up d && notes_abort answer name
+closes (Finish e i) answer d name = same_direction e d && same_name i name
+closes (Restart side) answer d name = same_side side (sender_side d)
+closes _ answer d name = false
 
 -- whether something closed the sender after its last opening
 abbrev pub is_over : History → Direction → Name → Bool
-is_over [] d id = false
-is_over (x ∷ h) d id =
-    if list_any (is_opening_of d id) x.opens then false
-    else closes x.event x.reply.answer d id || is_over h d id
+is_over [] d name = false
+is_over (x ∷ h) d name =
+    if list_any (is_opening_of d name) x.opens then false
+    else closes x.event x.reply.answer d name || is_over h d name
 
 -- the state of a transaction at its sender; an open one has its message
 pub data Sender : Type 0 where
@@ -77,7 +75,7 @@ sender_of (Some o) false = OpenSender o.message
 
 -- the sender's state: free with no opening, closed where something closed it after that, else open
 abbrev pub sender : History → Direction → Name → Sender
-sender h d id = sender_of (current h d id) (is_over h d id)
+sender h d name = sender_of (current h d name) (is_over h d name)
 
 -- whether a sender is free
 abbrev pub is_free : Sender → Bool
@@ -94,15 +92,15 @@ is_open _ = false
 -- the names in a list, each once
 abbrev pub once : List Name → List Name
 once [] = []
-once (id ∷ ids) = if list_any (same_name id) ids then once ids else id ∷ once ids
+once (name ∷ names) = if list_any (same_name name) names then once names else name ∷ once names
 
 -- the names that were opened in this direction
 abbrev pub opened_names : History → Direction → List Name
-opened_names h d = map (λ o. o.id) (filter (λ o. same_direction o.direction d) (opened h))
+opened_names h d = map (λ o. o.name) (filter (λ o. same_direction o.direction d) (opened h))
 
 -- how many outgoing transactions are open
 abbrev pub open_count : History → Direction → ℕ
-open_count h d = length (once (filter (λ id. is_open (sender h d id)) (opened_names h d)))
+open_count h d = length (once (filter (λ name. is_open (sender h d name)) (opened_names h d)))
 
 -- the least name of a source whose transaction is free at its sender
 abbrev pub least_free : History → Direction → (source : ℕ) → Option Name
@@ -120,10 +118,10 @@ restarts _ side = false
 -- whether a node makes the packets of an event: an opened message brings its own octets, and no node
 -- makes what the link's noise leaves
 abbrev pub makes : Event → Bool
-makes (Open d id m) = false
-makes (Send d id k) = true
+makes (Open d name m) = false
+makes (Send d name k) = true
 makes (Plain source flags service subtype body) = true
-makes (Finish d id) = true
+makes (Finish d name) = true
 makes (Lose n) = true
 makes (Damage d b) = false
 makes (Take l n) = true
@@ -133,7 +131,7 @@ makes (Expire side) = true
 makes (Claim w) = true
 makes (Commit w) = true
 makes Apply = true
-makes (Retire d id) = true
+makes (Retire d name) = true
 makes (Restart side) = true
 
 -- the octets of the packets that go in this direction
@@ -156,7 +154,7 @@ made (x ∷ h) d = if restarts x.event (sender_side d) then [] else with_all (ma
 
 -- the sequence count of the next packet of a node that has made these: 14 bits
 abbrev pub count_after : List (List ℕ) → ℕ
-count_after packets = length packets % 16384
+count_after packets = length packets % sequence_counts
 
 -- the sequence count of the node's next packet
 abbrev pub count : History → Direction → ℕ
@@ -169,7 +167,7 @@ is_report service subtype b = same_octets (take 2 (drop 7 b)) (service ∷ subty
 -- the message type counter of the next telemetry of this service and message subtype, where these
 -- packets were made: 16 bits
 abbrev pub counter_after : List (List ℕ) → (service subtype : ℕ) → ℕ
-counter_after packets service subtype = length (filter (is_report service subtype) packets) % 65536
+counter_after packets service subtype = length (filter (is_report service subtype) packets) % type_counters
 
 -- the message type counter of the spacecraft's next telemetry of this service and message subtype
 abbrev pub type_counter : History → (service subtype : ℕ) → ℕ

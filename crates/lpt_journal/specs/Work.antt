@@ -1,21 +1,21 @@
 -- What holds of claims, commits and executions in every legal journal, whatever node is restarted.
 use Rattle.std.specs.Prelude.{◌≡◌, ℕ, suc, Bool, true, false, ◌||◌, if◌then◌else◌, List, [], ◌∷◌, drop, slice_get, Some, None}
-use Rattle.lpt_reception.specs.LptPacket.declared.direction.Direction.{Direction}
-use Rattle.lpt_reception.specs.LptPacket.Names.{Name}
-use Rattle.lpt_execution.specs.LptMemory.Memories.{Contents}
-use Rattle.lpt_execution.specs.LptMemory.Readings.{Job}
-use Rattle.lpt_execution.specs.LptEvents.Configs.{IsConfig}
-use Rattle.lpt_execution.specs.LptEvents.Workers.{same_worker}
-use Rattle.lpt_execution.specs.LptEvents.declared.config.Config.{Config}
-use Rattle.lpt_execution.specs.LptEvents.declared.entry.Release.{Release}
-use Rattle.lpt_execution.specs.LptEvents.declared.event.Event.{Event}
-use Rattle.lpt_execution.specs.LptEvents.declared.event.Event.TheVariants.{Claim, Commit}
-use Rattle.lpt_execution.specs.LptEvents.declared.lane.Lane.{Lane}
-use Rattle.lpt_execution.specs.LptEvents.declared.reply.Answer.{Answer}
-use Rattle.lpt_execution.specs.LptEvents.declared.reply.Answer.TheVariants.{Committed, Stale}
-use Rattle.lpt_execution.specs.LptEvents.declared.side.Side.{Side}
-use Rattle.lpt_execution.specs.LptEvents.declared.side.Side.TheVariants.{Craft}
-use Rattle.lpt_execution.specs.LptEvents.declared.worker.Worker.{Worker}
+use Rattle.lpt_packet.specs.declared.direction.Direction.{Direction}
+use Rattle.lpt_packet.specs.Names.{Name}
+use Rattle.lpt_memory.specs.Memories.{Contents}
+use Rattle.lpt_memory.specs.Readings.{Job}
+use Rattle.lpt_events.specs.Configs.{IsConfig}
+use Rattle.lpt_events.specs.Workers.{same_worker}
+use Rattle.lpt_events.specs.declared.config.Config.{Config}
+use Rattle.lpt_events.specs.declared.entry.Release.{Release}
+use Rattle.lpt_events.specs.declared.event.Event.{Event}
+use Rattle.lpt_events.specs.declared.event.Event.TheVariants.{Claim, Commit}
+use Rattle.lpt_events.specs.declared.lane.Lane.{Lane}
+use Rattle.lpt_events.specs.declared.reply.Answer.{Answer}
+use Rattle.lpt_events.specs.declared.reply.Answer.TheVariants.{Committed, Stale}
+use Rattle.lpt_events.specs.declared.side.Side.{Side}
+use Rattle.lpt_events.specs.declared.side.Side.TheVariants.{Craft}
+use Rattle.lpt_events.specs.declared.worker.Worker.{Worker}
 use Rattle.lpt_journal.specs.Hands.{hand}
 use Rattle.lpt_journal.specs.Headline.{before}
 use Rattle.lpt_journal.specs.Jobs.{boot, jobs, claimed, applied, ticket, is_committed, executed_by, executed, memories}
@@ -62,13 +62,13 @@ pub record IsSameBut (c : Config) (first : Contents) (w : Worker) (new old : His
   pub damaged : (n : ℕ) → is_damaged new n ≡ is_damaged old n
   pub hands : (l : Lane) → hand new l ≡ hand old l
   pub opened : opened new ≡ opened old
-  pub current : (d : Direction) (id : Name) → current new d id ≡ current old d id
-  pub senders : (d : Direction) (id : Name) → sender new d id ≡ sender old d id
+  pub current : (d : Direction) (name : Name) → current new d name ≡ current old d name
+  pub senders : (d : Direction) (name : Name) → sender new d name ≡ sender old d name
   pub made : (d : Direction) → made new d ≡ made old d
-  pub heard : (d : Direction) (id : Name) → heard c new d id ≡ heard c old d id
+  pub heard : (d : Direction) (name : Name) → heard c new d name ≡ heard c old d name
   pub receptions : (d : Direction) → open_names c new d ≡ open_names c old d
-  pub closed : (d : Direction) (id : Name) → is_closed new d id ≡ is_closed old d id
-  pub ticks : (d : Direction) (id : Name) → last_tick c new d id ≡ last_tick c old d id
+  pub closed : (d : Direction) (name : Name) → is_closed new d name ≡ is_closed old d name
+  pub ticks : (d : Direction) (name : Name) → last_tick c new d name ≡ last_tick c old d name
   pub clocks : (side : Side) → clock c new side ≡ clock c old side
   pub released : releases c new ≡ releases c old
 

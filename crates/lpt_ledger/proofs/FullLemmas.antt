@@ -1,5 +1,5 @@
 -- What the bits of full pages tell.
-use Rattle.std.proofs.Common.{◌≡◌, ◌≢◌, ◌∙◌, refl, sym, ap, rules, ℕ, ◌+◌, ◌*◌, ◌/◌, ◌%◌, ◌<◌, Bool, true, false, cond, List, [], Option, Some, None, is_some, unwrap_or, inl, inr, arith}
+use Rattle.std.proofs.Common.{◌≡◌, ◌≢◌, ◌∙◌, refl, sym, ap, rules, ℕ, ◌+◌, ◌*◌, ◌/◌, ◌%◌, ◌<◌, Bool, true, false, cond, List, Option, Some, None, is_some, unwrap_or, inl, inr, arith}
 use Rattle.std.proofs.lemmas.Bool.{cases_lt}
 use Rattle.std.proofs.lemmas.Bool.Decides.{eqb_tells}
 use Rattle.std.specs.BTreeMap.{is_at}
@@ -42,10 +42,6 @@ zero_word ws first q none =
     go : (o : Option ℕ) → is_some o ≡ false → unwrap_or o 0 ≡ 0
     go None h = refl
     go (Some w) h = absurd cc
-
--- no words tell nothing
-pub Tells-nil : Tells [] []
-Tells-nil q one = absurd (omega (arith, no_bit (q.id / 64 % 64), one))
 
 -- the same words tell the same
 pub Tells-words : (es : List (Name × Page)) (ws vs : List (Name × ℕ))

@@ -14,7 +14,7 @@ state_of (Some Shut) = Closed
 
 -- the state of a name
 abbrev pub state_at : Marks → Name → State
-state_at m id = state_of (map.get m id)
+state_at m name = state_of (map.get m name)
 
 -- whether it is free
 abbrev pub is_free : State → Bool

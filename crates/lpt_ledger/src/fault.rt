@@ -18,7 +18,7 @@ pub enum LedgerFault {
     #[error("the identifier isn't open")]
     NotOpen,
     /// There is no memory for the name's place.
-    #[error("want of memory")]
+    #[error("out of memory")]
     Memory,
 }
 

@@ -100,7 +100,7 @@ impl Ledger {
         ensures refused { IfErr result (RefusedBy (refusal_open (state_at self.old name))) }
         ensures err { OnErr result (self.new ≡ self.old) }
     {
-        self.take(name, State::Open)
+        self.occupy(name, State::Open)
     }
 
     /// Closes an open name. It takes no memory.
@@ -132,7 +132,7 @@ impl Ledger {
         ensures refused { IfErr result (RefusedBy (refusal_shut (state_at self.old name))) }
         ensures err { OnErr result (self.new ≡ self.old) }
     {
-        self.take(name, State::Closed)
+        self.occupy(name, State::Closed)
     }
 
     /// Frees a closed name. It takes no memory.
@@ -167,7 +167,7 @@ impl Ledger {
     }
 
     // Gives a free name this state, which isn't free.
-    fn take(&mut self, name: Name, state: State) -> Result<(), LedgerFault>
+    fn occupy(&mut self, name: Name, state: State) -> Result<(), LedgerFault>
         ensures enabled { OnOk result (state_at self.old name ≡ State.Free) }
         ensures ok { OnOk result (self.new ≡ with_state self.old name state) }
 

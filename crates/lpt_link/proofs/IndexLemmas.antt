@@ -6,9 +6,9 @@ use Rattle.std.proofs.lemmas.Bool.{and_from}
 use Rattle.std.proofs.lemmas.Bool.Decides.{nat_tests}
 use Rattle.std.proofs.lemmas.List.Sums.{sum_by-cons, count_by-le-length}
 use Rattle.lpt_events.proofs.LaneLemmas.{same_direction-refl}
-use Rattle.lpt_events.proofs.LptPacket.NameLemmas.{same_name-refl}
-use Rattle.lpt_events.specs.LptPacket.Names.{Name, same_name}
-use Rattle.lpt_events.specs.LptPacket.declared.direction.Direction.{Direction}
+use Rattle.lpt_packet.proofs.NameLemmas.{same_name-refl}
+use Rattle.lpt_packet.specs.Names.{Name, same_name}
+use Rattle.lpt_packet.specs.declared.direction.Direction.{Direction}
 use Rattle.lpt_events.specs.Lanes.{lanes, same_direction}
 use Rattle.lpt_link.specs.Links.{LinkData, is_of, hand_has, any_held, any_in_hand, holds}
 use Rattle.lpt_link.specs.Counts.{Counts, counts_in, found_in, one_of, count_of, HasPlace, IsOneMore}
@@ -37,20 +37,20 @@ either : (a b : Bool) (m n : ℕ)
 either a b m n g h = rw (g, h) (grind (arith, nat_tests))
 
 -- a link holds a transaction exactly where the number isn't 0
-pub holds_counted : (d : LinkData) (direction : Direction) (id : Name)
-    → holds d direction id ≡ nat_lt 0 (present_of d direction id)
-holds_counted d direction id =
-    either (any_held d direction id) (any_in_hand d direction id)
-    (held_of d direction id) (hands_of d direction id)
-    (any_counted (λ p. p.held && is_of direction id p) d.packets)
-    (any_counted (hand_has d direction id) lanes)
+pub holds_counted : (d : LinkData) (direction : Direction) (name : Name)
+    → holds d direction name ≡ nat_lt 0 (present_of d direction name)
+holds_counted d direction name =
+    either (any_held d direction name) (any_in_hand d direction name)
+    (held_of d direction name) (hands_of d direction name)
+    (any_counted (λ p. p.held && is_of direction name p) d.packets)
+    (any_counted (hand_has d direction name) lanes)
 
 -- there are no more than packets and hands
-pub present_few : (d : LinkData) (direction : Direction) (id : Name)
-    → present_of d direction id ≤ length d.packets + 4
-present_few d direction id =
-    let held = count_by-le-length (λ p. p.held && is_of direction id p) d.packets in
-    let hands = count_by-le-length (hand_has d direction id) lanes in
+pub present_few : (d : LinkData) (direction : Direction) (name : Name)
+    → present_of d direction name ≤ length d.packets + 4
+present_few d direction name =
+    let held = count_by-le-length (λ p. p.held && is_of direction name p) d.packets in
+    let hands = count_by-le-length (hand_has d direction name) lanes in
     omega (arith, held, hands)
 
 -- ---- the index
@@ -61,10 +61,10 @@ pub index_more : (goes : Direction) (tag : Option Name) (old new : Counts) (d af
     → IsOneMore goes tag old new
     → IsMoved goes tag d after
     → IsIndex new after
-index_more goes tag old new d after index more moved direction id =
-    more direction id
-    ∙ ap (λ (n : ℕ). n + one_of goes tag direction id) (index direction id)
-    ∙ sym (moved direction id)
+index_more goes tag old new d after index more moved direction name =
+    more direction name
+    ∙ ap (λ (n : ℕ). n + one_of goes tag direction name) (index direction name)
+    ∙ sym (moved direction name)
 
 equal_rest : (a b c d e : ℕ) → a ≡ b + e → a ≡ c → c ≡ d + e → b ≡ d
 equal_rest a b c d e p q r = omega arith
@@ -74,25 +74,26 @@ pub index_less : (goes : Direction) (tag : Option Name) (old new : Counts) (d af
     → IsOneMore goes tag new old
     → IsMoved goes tag after d
     → IsIndex new after
-index_less goes tag old new d after index more moved direction id =
-    equal_rest (count_of old direction id) (count_of new direction id) (present_of d direction id)
-    (present_of after direction id) (one_of goes tag direction id)
-    (more direction id) (index direction id) (moved direction id)
+index_less goes tag old new d after index more moved direction name =
+    equal_rest (count_of old direction name) (count_of new direction name)
+    (present_of d direction name)
+    (present_of after direction name) (one_of goes tag direction name)
+    (more direction name) (index direction name) (moved direction name)
 
 -- a number that there is, less what it is moved by
 pub index_room : (counts : Counts) (d after : LinkData)
-    (goes : Direction) (tag : Option Name) (id : Name)
+    (goes : Direction) (tag : Option Name) (name : Name)
     → IsIndex counts d
     → IsMoved goes tag after d
-    → one_of goes tag goes id ≤ count_of counts goes id
-index_room counts d after goes tag id index moved =
-    omega (arith, index goes id, moved goes id)
+    → one_of goes tag goes name ≤ count_of counts goes name
+index_room counts d after goes tag name index moved =
+    omega (arith, index goes name, moved goes name)
 
-one_itself : (goes : Direction) (id : Name) → one_of goes (Some id) goes id ≡ 1
-one_itself goes id =
+one_itself : (goes : Direction) (name : Name) → one_of goes (Some name) goes name ≡ 1
+one_itself goes name =
     ap (λ (b : Bool). cond b 1 0)
-    (and_from (same_direction goes goes) (same_name id id)
-    (same_direction-refl goes) (same_name-refl id))
+    (and_from (same_direction goes goes) (same_name name name)
+    (same_direction-refl goes) (same_name-refl name))
 
 placed : (o : Option ℕ) → 1 ≤ option_map_or (λ n. n) o 0 → is_some o ≡ true
 placed None h = absurd (omega (arith, h))
@@ -104,7 +105,7 @@ pub index_place : (counts : Counts) (d after : LinkData) (goes : Direction) (tag
     → IsMoved goes tag after d
     → IfSome tag (HasPlace counts goes)
 index_place counts d after goes None index moved = tt
-index_place counts d after goes (Some id) index moved =
-    let room = index_room counts d after goes (Some id) id index moved in
-    let one = one_itself goes id in
-    placed (found_in (counts_in counts goes) id) (omega (arith, room, one))
+index_place counts d after goes (Some name) index moved =
+    let room = index_room counts d after goes (Some name) name index moved in
+    let one = one_itself goes name in
+    placed (found_in (counts_in counts goes) name) (omega (arith, room, one))

@@ -3,29 +3,29 @@ use Rattle.std.specs.Prelude.{◌≡◌, ℕ, ◌+◌, ◌&&◌, cond, List, [],
 use Rattle.std.specs.BTreeMap.{is_at}
 use Rattle.std.specs.Map.{lookup}
 use Rattle.std.specs.Option.{option_eq, option_map_or}
-use Rattle.lpt_events.specs.LptPacket.Names.{Name, name_cmp, same_name}
-use Rattle.lpt_events.specs.LptPacket.declared.direction.Direction.{Direction}
-use Rattle.lpt_events.specs.LptPacket.declared.direction.Direction.TheVariants.{Up, Down}
+use Rattle.lpt_packet.specs.Names.{Name, name_cmp, same_name}
+use Rattle.lpt_packet.specs.declared.direction.Direction.{Direction}
+use Rattle.lpt_packet.specs.declared.direction.Direction.TheVariants.{Up, Down}
 use Rattle.lpt_events.specs.Lanes.{same_direction}
 
 -- ---- one direction
 
 -- the number under a name, where it has a place
 abbrev pub found_in : List (Name × ℕ) → Name → Option ℕ
-found_in es id = lookup (is_at (name_cmp id)) es
+found_in es name = lookup (is_at (name_cmp name)) es
 
 -- the number under a name, and 0 where it has no place
 abbrev pub number_in : List (Name × ℕ) → Name → ℕ
-number_in es id = option_map_or (λ n. n) (found_in es id) 0
+number_in es name = option_map_or (λ n. n) (found_in es name) 0
 
 -- the name has a place
 abbrev pub IsPlaced : List (Name × ℕ) → Name → Type 0
-IsPlaced es id = IsSome (found_in es id)
+IsPlaced es name = IsSome (found_in es name)
 
 -- the number of this name is one more, and the others are the same
 abbrev pub IsOneMoreAt : Name → List (Name × ℕ) → List (Name × ℕ) → Type 0
-IsOneMoreAt id old new =
-    (q : Name) → number_in new q ≡ number_in old q + cond (is_at (name_cmp id) q) 1 0
+IsOneMoreAt name old new =
+    (q : Name) → number_in new q ≡ number_in old q + cond (is_at (name_cmp name) q) 1 0
 
 -- ---- both
 
@@ -45,29 +45,31 @@ counts_in c Down = c.down
 
 -- the number of a transaction
 abbrev pub count_of : Counts → Direction → Name → ℕ
-count_of c direction id = number_in (counts_in c direction) id
+count_of c direction name = number_in (counts_in c direction) name
 
 -- the transaction has a place
 abbrev pub HasPlace : Counts → Direction → Name → Type 0
-HasPlace c direction id = IsPlaced (counts_in c direction) id
+HasPlace c direction name = IsPlaced (counts_in c direction) name
 
 -- each transaction that had a place has one
 abbrev pub KeepsPlaces : Counts → Counts → Type 0
 KeepsPlaces old new =
-    (direction : Direction) (id : Name) → HasPlace old direction id → HasPlace new direction id
+    (direction : Direction) (name : Name) → HasPlace old direction name
+    → HasPlace new direction name
 
 -- the numbers are the same
 abbrev pub SameCounts : Counts → Counts → Type 0
 SameCounts old new =
-    (direction : Direction) (id : Name) → count_of new direction id ≡ count_of old direction id
+    (direction : Direction) (name : Name) → count_of new direction name
+    ≡ count_of old direction name
 
 -- 1 where a tag is the transaction's, and else 0
 abbrev pub one_of : Direction → Option Name → Direction → Name → ℕ
-one_of goes tag direction id =
-    cond (same_direction goes direction && option_eq same_name tag (Some id)) 1 0
+one_of goes tag direction name =
+    cond (same_direction goes direction && option_eq same_name tag (Some name)) 1 0
 
 -- the number of the transaction with this tag is one more, and the others are the same
 abbrev pub IsOneMore : Direction → Option Name → Counts → Counts → Type 0
 IsOneMore goes tag old new =
-    (direction : Direction) (id : Name)
-    → count_of new direction id ≡ count_of old direction id + one_of goes tag direction id
+    (direction : Direction) (name : Name)
+    → count_of new direction name ≡ count_of old direction name + one_of goes tag direction name

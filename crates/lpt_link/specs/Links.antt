@@ -2,8 +2,8 @@
 use Rattle.std.specs.Prelude.{◌≡◌, ℕ, zero, suc, ◌<◌, Bool, true, false, ◌&&◌, ◌||◌, ◌⊎◌, if◌then◌else◌, List, [], ◌∷◌, ◌++◌, length, Option, Some, None, is_some, IfSome, slice_get}
 use Rattle.std.specs.List.{list_any}
 use Rattle.std.specs.Option.{option_map, option_map_or, option_and_then, option_eq}
-use Rattle.lpt_events.specs.LptPacket.declared.direction.Direction.{Direction}
-use Rattle.lpt_events.specs.LptPacket.Names.{Name, same_name}
+use Rattle.lpt_packet.specs.declared.direction.Direction.{Direction}
+use Rattle.lpt_packet.specs.Names.{Name, same_name}
 use Rattle.lpt_link.specs.declared.fault.LinkFault.{LinkFault}
 use Rattle.lpt_link.specs.declared.fault.LinkFault.TheVariants.{NotHeld, HandFull, HandEmpty}
 use Rattle.lpt_link.specs.declared.hands.Hands.{Hands}
@@ -34,7 +34,8 @@ empty_link = record { packets = []; hands = no_hands }
 
 -- whether the packet is a part of this transaction, by its direction and tag
 abbrev pub is_of : Direction → Name → LinkPacket → Bool
-is_of direction id p = same_direction p.direction direction && option_eq same_name p.tag (Some id)
+is_of direction name p =
+    same_direction p.direction direction && option_eq same_name p.tag (Some name)
 
 -- the octets of the packet numbered n, held or lost
 abbrev pub octets_at : LinkData → ℕ → Option (List ℕ)
@@ -60,19 +61,19 @@ packet_in_hand d lane = option_and_then (slice_get d.packets) (hand_of d lane)
 
 -- whether the packet in a lane's hand is a part of this transaction
 abbrev pub hand_has : LinkData → Direction → Name → Lane → Bool
-hand_has d direction id lane = option_map_or (is_of direction id) (packet_in_hand d lane) false
+hand_has d direction name lane = option_map_or (is_of direction name) (packet_in_hand d lane) false
 
 -- whether a held packet is a part of this transaction
 abbrev pub any_held : LinkData → Direction → Name → Bool
-any_held d direction id = list_any (λ p. p.held && is_of direction id p) d.packets
+any_held d direction name = list_any (λ p. p.held && is_of direction name p) d.packets
 
 -- whether a packet in some hand is
 abbrev pub any_in_hand : LinkData → Direction → Name → Bool
-any_in_hand d direction id = list_any (hand_has d direction id) lanes
+any_in_hand d direction name = list_any (hand_has d direction name) lanes
 
 -- whether a held packet, or one in a hand, is a part of this transaction
 abbrev pub holds : LinkData → Direction → Name → Bool
-holds d direction id = any_held d direction id || any_in_hand d direction id
+holds d direction name = any_held d direction name || any_in_hand d direction name
 
 -- ---- what the calls do
 
@@ -131,9 +132,9 @@ abbrev pub IsSound : LinkData → Type 0
 IsSound d = (lane : Lane) → IfSome (hand_of d lane) (IsNumberOf d (lane_direction lane))
 
 -- the packet numbered n is a part of this transaction, and it is held or in some lane's hand
-pub record IsPresent (d : LinkData) (direction : Direction) (id : Name) (n : ℕ) : Type 0 where
+pub record IsPresent (d : LinkData) (direction : Direction) (name : Name) (n : ℕ) : Type 0 where
   pub packet : LinkPacket
   pub numbered : slice_get d.packets n ≡ Some packet
   pub goes : packet.direction ≡ direction
-  pub tagged : packet.tag ≡ Some id
+  pub tagged : packet.tag ≡ Some name
   pub present : (packet.held ≡ true) ⊎ ((lane : Lane) × (hand_of d lane ≡ Some n))

@@ -18,7 +18,7 @@ pub enum LinkFault {
     #[error("the lane's hand is empty")]
     HandEmpty,
     /// There was no memory for one more packet.
-    #[error("no memory for one more packet")]
+    #[error("out of memory")]
     Memory,
 }
 

@@ -2,7 +2,7 @@
 
 ghost use Rattle.std.specs.Prelude.{◌≡◌};
 
-use crate::Lane;
+use lpt_events::Lane;
 
 /// What each lane has in its hand: the number of a packet, or nothing.
 #[derive(Clone, Copy)]

@@ -7,11 +7,12 @@ ghost use Rattle.lpt_events.specs.Lanes.{lane_direction};
 ghost use Rattle.lpt_link.specs.Counts.{HasPlace, KeepsPlaces};
 ghost use Rattle.lpt_link.specs.Links.{empty_link, octets_at, is_held, is_held_for, hand_of, holds, after_put, after_lose, after_take, after_drop, refusal_lose, refusal_take, refusal_drop, IsNumberOf};
 
+use crate::LinkFault;
 use crate::hands::Hands;
 use crate::packet::LinkPacket;
 use crate::tags::Tags;
-use crate::{Lane, LinkFault};
-use lpt_events::{Direction, Name, Octets};
+use lpt_events::Lane;
+use lpt_packet::{Direction, Name, Octets};
 use std::alloc::{AllocError, Global};
 use std::marker::Model;
 use thiserror::Error;
@@ -127,10 +128,10 @@ impl Link {
 
     /// Whether a held packet, or one in a hand, is a part of this transaction: it goes in this
     /// direction and was put with this tag. A packet in a hand counts even if it was lost since.
-    pub fn holds(&self, direction: Direction, id: Name) -> bool
-        ensures { result ≡ holds self.now.at direction id }
+    pub fn holds(&self, direction: Direction, name: Name) -> bool
+        ensures { result ≡ holds self.now.at direction name }
     {
-        self.tags.of(direction, id) > 0
+        self.tags.of(direction, name) > 0
     }
 
     /// Makes room for `n` packets more, and the place of a transaction, so that so many packets with
@@ -146,7 +147,7 @@ impl Link {
     {
         self.packets.reserve(n as usize)?;
         match tag {
-            Some((direction, id)) => self.place(direction, Some(id)),
+            Some((direction, name)) => self.place(direction, Some(name)),
             None => Ok(()),
         }
     }
@@ -245,7 +246,7 @@ impl Link {
         ensures places { KeepsPlaces self.old.places self.new.places }
     {
         match tag {
-            Some(id) => self.tags.make_place(direction, id),
+            Some(name) => self.tags.make_place(direction, name),
             None => Ok(()),
         }
     }

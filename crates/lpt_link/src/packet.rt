@@ -1,6 +1,6 @@
 //! A packet on the link.
 
-use lpt_events::{Direction, Name, Octets};
+use lpt_packet::{Direction, Name, Octets};
 
 /// A packet that was put on the link.
 #[derive(Drop)]

@@ -1,10 +1,10 @@
 //! How many held packets, and hands, are of each transaction.
 
 ghost use Rattle.std.specs.Prelude.{◌≡◌, ◌+◌, ◌<◌, ◌≤◌, ◌^◌, IfSome, IsOk, OnOk};
-ghost use Rattle.lpt_events.specs.LptPacket.Names.{Name};
+ghost use Rattle.lpt_packet.specs.Names.{Name};
 ghost use Rattle.lpt_link.specs.Counts.{no_counts, number_in, IsPlaced, IsOneMoreAt, count_of, one_of, HasPlace, KeepsPlaces, SameCounts, IsOneMore};
 
-use lpt_events::{Direction, Name};
+use lpt_packet::{Direction, Name};
 use std::alloc::{AllocError, Global};
 use std::collections::BTreeMap;
 use std::marker::Model;
@@ -37,109 +37,109 @@ impl Tags {
     }
 
     // The transaction's number.
-    pub(crate) fn of(&self, direction: Direction, id: Name) -> u64
-        ensures { result ≡ count_of self.now direction id }
+    pub(crate) fn of(&self, direction: Direction, name: Name) -> u64
+        ensures { result ≡ count_of self.now direction name }
     {
         match direction {
-            Direction::Up => number(&self.up, id),
-            Direction::Down => number(&self.down, id),
+            Direction::Up => number(&self.up, name),
+            Direction::Down => number(&self.down, name),
         }
     }
 
     // Makes the place of a transaction's number. The only error is out of memory, which comes only
     // where there is none. No number changes.
-    pub(crate) fn make_place(&mut self, direction: Direction, id: Name) -> Result<(), AllocError>
-        ensures place { OnOk result (HasPlace self.new direction id) }
-        ensures there { HasPlace self.old direction id → IsOk result }
+    pub(crate) fn make_place(&mut self, direction: Direction, name: Name) -> Result<(), AllocError>
+        ensures place { OnOk result (HasPlace self.new direction name) }
+        ensures there { HasPlace self.old direction name → IsOk result }
         ensures same { SameCounts self.old self.new }
         ensures places { KeepsPlaces self.old self.new }
     {
         match direction {
-            Direction::Up => place(&mut self.up, id),
-            Direction::Down => place(&mut self.down, id),
+            Direction::Up => place(&mut self.up, name),
+            Direction::Down => place(&mut self.down, name),
         }
     }
 
     // Adds one to the number of the transaction with this tag, if there is one.
     pub(crate) fn add(&mut self, direction: Direction, tag: Option<Name>)
         requires place { IfSome tag (HasPlace self.old direction) }
-        requires room { (id : Name) → count_of self.old direction id + 1 < 2 ^ 64 }
+        requires room { (name : Name) → count_of self.old direction name + 1 < 2 ^ 64 }
         ensures more { IsOneMore direction tag self.old self.new }
         ensures places { KeepsPlaces self.old self.new }
     {
-        if let Some(id) = tag {
+        if let Some(name) = tag {
             match direction {
-                Direction::Up => add_one(&mut self.up, id),
-                Direction::Down => add_one(&mut self.down, id),
+                Direction::Up => add_one(&mut self.up, name),
+                Direction::Down => add_one(&mut self.down, name),
             }
         }
     }
 
     // Takes one away from it, and with the last one its place.
     pub(crate) fn remove(&mut self, direction: Direction, tag: Option<Name>)
-        requires { (id : Name) → one_of direction tag direction id ≤ count_of self.old direction id }
+        requires { (name : Name) → one_of direction tag direction name ≤ count_of self.old direction name }
         ensures { IsOneMore direction tag self.new self.old }
     {
-        if let Some(id) = tag {
+        if let Some(name) = tag {
             match direction {
-                Direction::Up => take_one(&mut self.up, id),
-                Direction::Down => take_one(&mut self.down, id),
+                Direction::Up => take_one(&mut self.up, name),
+                Direction::Down => take_one(&mut self.down, name),
             }
         }
     }
 }
 
 // The number under a name.
-fn number(counts: &BTreeMap<Name, u64>, id: Name) -> u64
-    ensures { result ≡ number_in counts.now.entries id }
+fn number(counts: &BTreeMap<Name, u64>, name: Name) -> u64
+    ensures { result ≡ number_in counts.now.entries name }
 {
-    match counts.get(&id) {
+    match counts.get(&name) {
         None => 0,
         Some(number) => *number,
     }
 }
 
 // Makes the place of a name. The only error is out of memory, which comes only where there is none.
-fn place(counts: &mut BTreeMap<Name, u64>, id: Name) -> Result<(), AllocError>
-    ensures place { OnOk result (IsPlaced counts.new.entries id) }
-    ensures there { IsPlaced counts.old.entries id → IsOk result }
+fn place(counts: &mut BTreeMap<Name, u64>, name: Name) -> Result<(), AllocError>
+    ensures place { OnOk result (IsPlaced counts.new.entries name) }
+    ensures there { IsPlaced counts.old.entries name → IsOk result }
     ensures same { (q : Name) → number_in counts.new.entries q ≡ number_in counts.old.entries q }
     ensures places { (q : Name) → IsPlaced counts.old.entries q → IsPlaced counts.new.entries q }
 {
-    if counts.contains_key(&id) {
+    if counts.contains_key(&name) {
         return Ok(());
     }
-    match counts.insert(id, 0) {
+    match counts.insert(name, 0) {
         Ok(_) => Ok(()),
         Err(_) => Err(AllocError),
     }
 }
 
 // Adds one to the number of a name that has a place.
-fn add_one(counts: &mut BTreeMap<Name, u64>, id: Name)
-    requires place { IsPlaced counts.old.entries id }
-    requires room { number_in counts.old.entries id + 1 < 2 ^ 64 }
-    ensures more { IsOneMoreAt id counts.old.entries counts.new.entries }
+fn add_one(counts: &mut BTreeMap<Name, u64>, name: Name)
+    requires place { IsPlaced counts.old.entries name }
+    requires room { number_in counts.old.entries name + 1 < 2 ^ 64 }
+    ensures more { IsOneMoreAt name counts.old.entries counts.new.entries }
     ensures places { (q : Name) → IsPlaced counts.old.entries q → IsPlaced counts.new.entries q }
 {
-    let number = number(counts, id);
-    match counts.insert(id, number + 1) {
+    let number = number(counts, name);
+    match counts.insert(name, number + 1) {
         Ok(_) => {}
         Err(_) => unreachable!(),
     }
 }
 
 // Takes one away from the number of a name, and its place where none is left.
-fn take_one(counts: &mut BTreeMap<Name, u64>, id: Name)
-    requires { 1 ≤ number_in counts.old.entries id }
-    ensures { IsOneMoreAt id counts.new.entries counts.old.entries }
+fn take_one(counts: &mut BTreeMap<Name, u64>, name: Name)
+    requires { 1 ≤ number_in counts.old.entries name }
+    ensures { IsOneMoreAt name counts.new.entries counts.old.entries }
 {
-    let number = number(counts, id);
+    let number = number(counts, name);
     if number == 1 {
-        let _ = counts.remove(&id);
+        let _ = counts.remove(&name);
         return;
     }
-    match counts.insert(id, number - 1) {
+    match counts.insert(name, number - 1) {
         Ok(_) => {}
         Err(_) => unreachable!(),
     }

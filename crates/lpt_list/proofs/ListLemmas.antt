@@ -8,12 +8,12 @@ use Rattle.lpt_stream.specs.declared.found.Found.{Found}
 use Rattle.lpt_stream.specs.declared.piece_kind.PieceKind.{PieceKind}
 use Rattle.lpt_stream.specs.declared.piece_kind.PieceKind.TheVariants.{Whole as APacket, Damaged, Stray}
 use Rattle.lpt_stream.specs.Buffers.{held, is_in_step, is_ended, found_piece, Goes, IsInFront}
-use Rattle.lpt_stream.specs.LptText.declared.fault.ToolFault.{ToolFault}
-use Rattle.lpt_stream.specs.LptText.declared.fault.ToolFault.TheVariants as tool
-use Rattle.lpt_stream.specs.LptText.Streams.{AppendsPart}
+use Rattle.lpt_text.specs.declared.fault.ToolFault.{ToolFault}
+use Rattle.lpt_text.specs.declared.fault.ToolFault.TheVariants as tool
+use Rattle.lpt_text.specs.Streams.{AppendsPart}
 use Rattle.lpt_stream.specs.Pieces.{Piece, Leads, keeps_step, kind_in, lookahead, piece_at, size_in}
 use Rattle.lpt_stream.proofs.CutLemmas.{IsRead, read-none, read-more, read-next, read-end, read-leads, read-front}
-use Rattle.lpt_stream.proofs.LptText.StreamLemmas.{part_after}
+use Rattle.lpt_text.proofs.StreamLemmas.{part_after}
 use Rattle.lpt_list.specs.declared.list_end.ListEnd.{ListEnd}
 use Rattle.lpt_list.specs.declared.list_end.Listed.{Listed}
 use Rattle.lpt_list.specs.declared.list_end.Tally.{Tally}

@@ -3,27 +3,27 @@ use Rattle.std.specs.Prelude.{ℕ, ◌==◌, ◌&&◌, if◌then◌else◌, List
 use Rattle.std.specs.Option.{option_map_or}
 use Rattle.std.specs.Fmt.{decimal}
 use Rattle.hex.specs.Hex.{encode_lower}
-use Rattle.lpt_events.specs.LptPacket.declared.direction.Direction.TheVariants.{Up, Down}
-use Rattle.lpt_events.specs.LptPacket.declared.fault.PacketFault.{PacketFault}
-use Rattle.lpt_events.specs.LptPacket.declared.packet.PacketKind.{PacketKind}
-use Rattle.lpt_events.specs.LptPacket.declared.packet.PacketKind.TheVariants.{Tm, Tc}
-use Rattle.lpt_events.specs.LptPacket.FaultNames as of_packet
-use Rattle.lpt_events.specs.LptPacket.Numbers.{be}
-use Rattle.lpt_events.specs.LptPacket.Packets.{Fields, Sight, IdlePacket, APacket, verdict}
-use Rattle.lpt_events.specs.LptPus.declared.fault.PusFault.{PusFault}
-use Rattle.lpt_events.specs.LptPus.FaultNames as of_header
-use Rattle.lpt_events.specs.LptPus.Commands.{Command, tc_verdict}
-use Rattle.lpt_events.specs.LptPus.Telemetry.{Telemetry, tm_verdict}
+use Rattle.lpt_packet.specs.declared.direction.Direction.TheVariants.{Up, Down}
+use Rattle.lpt_packet.specs.declared.fault.PacketFault.{PacketFault}
+use Rattle.lpt_packet.specs.declared.packet.PacketKind.{PacketKind}
+use Rattle.lpt_packet.specs.declared.packet.PacketKind.TheVariants.{Tm, Tc}
+use Rattle.lpt_packet.specs.FaultNames as of_packet
+use Rattle.lpt_packet.specs.Numbers.{be}
+use Rattle.lpt_packet.specs.Packets.{Fields, Sight, IdlePacket, APacket, verdict}
+use Rattle.lpt_pus.specs.declared.fault.PusFault.{PusFault}
+use Rattle.lpt_pus.specs.FaultNames as of_header
+use Rattle.lpt_pus.specs.Commands.{Command, tc_verdict}
+use Rattle.lpt_pus.specs.Telemetry.{Telemetry, tm_verdict}
 use Rattle.lpt_verify.specs.declared.report.Report.{Report}
 use Rattle.lpt_verify.specs.Reading.{report_in}
-use Rattle.lpt_events.specs.LptPart.declared.kind.Kind.{Kind}
-use Rattle.lpt_events.specs.LptPart.declared.kind.Kind.TheVariants.{First, Middle, Last}
-use Rattle.lpt_events.specs.LptPart.declared.reason.Reason.{Reason}
-use Rattle.lpt_events.specs.LptPart.Aborts.{abort_in, reason_code}
-use Rattle.lpt_events.specs.LptPart.Parts.{Piece, part_in}
+use Rattle.lpt_part.specs.declared.kind.Kind.{Kind}
+use Rattle.lpt_part.specs.declared.reason.Reason.{Reason}
+use Rattle.lpt_part.specs.Aborts.{abort_in, reason_code}
+use Rattle.lpt_part.specs.Parts.{Piece, part_in}
 use Rattle.lpt_events.specs.Arrivals.{carried_kind}
 use Rattle.lpt_list.specs.declared.form.Form.{Form}
 use Rattle.lpt_list.specs.declared.form.Form.TheVariants.{Text, Json}
+use Rattle.lpt_part.specs.Kinds.{kind_word}
 
 -- ---- an item
 
@@ -95,16 +95,10 @@ tm_rest t =
 abbrev pub tm_items : Telemetry → List Item
 tm_items t = tm_front t ++ tm_rest t
 
--- which of its message's parts a part is
-abbrev pub kind_text : Kind → List ℕ
-kind_text First = codes "first"
-kind_text Middle = codes "middle"
-kind_text Last = codes "last"
-
 -- a part of a large message
 abbrev pub part_items : Piece → List Item
 part_items q =
-    Word (codes "part") (codes "part") (kind_text q.kind)
+    Word (codes "part") (codes "part") (kind_word q.kind)
     ∷ Number (codes "id") (codes "large_message_transaction_identifier") q.id
     ∷ Number (codes "number") (codes "part_sequence_number") q.number
     ∷ Number (codes "octets") (codes "part_octets") (length q.octets) ∷ []

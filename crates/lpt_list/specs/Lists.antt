@@ -4,7 +4,7 @@ use Rattle.std.specs.Fmt.{decimal}
 use Rattle.std.specs.Io.KnownBytes.{Appends, Consumes, IsAtEnd}
 use Rattle.lpt_stream.specs.declared.piece_kind.PieceKind.{PieceKind}
 use Rattle.lpt_stream.specs.declared.piece_kind.PieceKind.TheVariants.{Whole as APacket, Damaged, Stray}
-use Rattle.lpt_stream.specs.LptText.Streams.{AppendsPart}
+use Rattle.lpt_text.specs.Streams.{AppendsPart}
 use Rattle.lpt_stream.specs.Pieces.{Piece, Cuts, Leads, keeps_step}
 use Rattle.lpt_list.specs.declared.form.Form.{Form}
 use Rattle.lpt_list.specs.declared.form.Form.TheVariants.{Text, Json}

@@ -2,13 +2,14 @@
 
 ghost use Rattle.std.specs.Prelude.{◌≡◌, ◌++◌, [], IfOk};
 ghost use Rattle.std.specs.String.{string_bytes};
-ghost use Rattle.lpt_events.specs.LptPacket.Packets.{fields};
-ghost use Rattle.lpt_events.specs.LptPus.Commands.{command};
-ghost use Rattle.lpt_events.specs.LptPus.Telemetry.{telemetry};
+ghost use Rattle.lpt_packet.specs.Packets.{fields};
+ghost use Rattle.lpt_pus.specs.Commands.{command};
+ghost use Rattle.lpt_pus.specs.Telemetry.{telemetry};
 ghost use Rattle.lpt_list.specs.Items.{items_text, primary_items, tc_items, tm_front, tm_items, tm_rest, type_text};
 
 use crate::Form;
-use lpt_events::{Packet, PacketKind, TcHead, TmHead};
+use lpt_packet::{Packet, PacketKind};
+use lpt_pus::{TcHead, TmHead};
 use std::alloc::{AllocError, Global};
 
 // What the primary header says.

@@ -2,18 +2,18 @@
 
 ghost use Rattle.std.specs.Prelude.{◌≡◌, IfOk};
 ghost use Rattle.std.specs.String.{string_bytes};
-ghost use Rattle.lpt_events.specs.LptPacket.Packets.{fields};
-ghost use Rattle.lpt_events.specs.LptPus.Commands.{command, tc_verdict};
-ghost use Rattle.lpt_events.specs.LptPus.Telemetry.{telemetry, tm_verdict};
-ghost use Rattle.lpt_events.specs.LptPart.Splitting.{IsPartSize};
-ghost use Rattle.lpt_list.specs.Items.{abort_items, abort_said, code_items, fault_items, field_said, items_text, kind_text, packet_said, part_said, report_items, report_said, request_items, said, tc_carried, tc_said, tm_carried, tm_said, unread_items};
+ghost use Rattle.lpt_packet.specs.Packets.{fields};
+ghost use Rattle.lpt_pus.specs.Commands.{command, tc_verdict};
+ghost use Rattle.lpt_pus.specs.Telemetry.{telemetry, tm_verdict};
+ghost use Rattle.lpt_part.specs.Splitting.{IsPartSize};
+ghost use Rattle.lpt_list.specs.Items.{abort_items, abort_said, code_items, fault_items, field_said, items_text, packet_said, part_said, report_items, report_said, request_items, said, tc_carried, tc_said, tm_carried, tm_said, unread_items};
 
 use crate::Form;
 use crate::headers::{joined, primary, tc_head, tm_head};
-use lpt_events::{
-    ABORT, Direction, Kind, Packet, PacketKind, Reason, Seen, TRANSFER, TcHead, TmHead, part_kind,
-    read_abort, read_packet, read_part, read_tc, read_tm,
-};
+use lpt_events::part_kind;
+use lpt_packet::{Direction, Packet, PacketKind, Seen, read_packet};
+use lpt_part::{ABORT, Kind, Reason, TRANSFER, read_abort, read_part};
+use lpt_pus::{TcHead, TmHead, read_tc, read_tm};
 use lpt_verify::{Report, read_report};
 use std::alloc::{AllocError, Global};
 
@@ -154,7 +154,7 @@ fn part_said(
     let Ok(part) = read_part(kind, body, p) else {
         return unread(alloc, form);
     };
-    let kind = kind_word(part.kind);
+    let kind = part.kind.word();
     let id = part.id;
     let number = part.number;
     let octets = part.octets.len();
@@ -238,16 +238,5 @@ fn code_words(alloc: Global, form: Form, code: Option<u16>) -> Result<String, Al
         (_, None) => Ok(String::new(alloc)),
         (Form::Text, Some(code)) => format!(in alloc; " code {code}"),
         (Form::Json, Some(code)) => format!(in alloc; ",\"failure_code\":{code}"),
-    }
-}
-
-// A kind's word.
-fn kind_word(kind: Kind) -> &'static str
-    ensures { result.now ≡ kind_text kind }
-{
-    match kind {
-        Kind::First => "first",
-        Kind::Middle => "middle",
-        Kind::Last => "last",
     }
 }

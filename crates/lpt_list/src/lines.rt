@@ -2,7 +2,7 @@
 
 ghost use Rattle.std.specs.Prelude.{◌≡◌, ◌++◌, IfOk};
 ghost use Rattle.std.specs.String.{string_bytes};
-ghost use Rattle.lpt_events.specs.LptPart.Splitting.{IsPartSize};
+ghost use Rattle.lpt_part.specs.Splitting.{IsPartSize};
 ghost use Rattle.lpt_list.specs.declared.form.Form.TheVariants.{Json, Text};
 ghost use Rattle.lpt_list.specs.Items.{items_text};
 ghost use Rattle.lpt_list.specs.Lists.{closing, length_items, none_line, opening, piece_line};

@@ -3,15 +3,16 @@
 ghost use Rattle.std.specs.Prelude.{◌≡◌, ◌≢◌, ◌⊎◌, Err, IfErr, IfOk, IsOk, OnOk, false, true};
 ghost use Rattle.std.specs.Io.KnownBytes.{Appends};
 ghost use Rattle.std.specs.String.{string_bytes};
-ghost use Rattle.lpt_events.specs.LptPart.Splitting.{IsPartSize};
-ghost use Rattle.lpt_stream.specs.LptText.Streams.{AppendsPart};
+ghost use Rattle.lpt_part.specs.Splitting.{IsPartSize};
+ghost use Rattle.lpt_text.specs.Streams.{AppendsPart};
 ghost use Rattle.lpt_stream.specs.Pieces.{keeps_step};
 ghost use Rattle.lpt_list.specs.Lists.{line_for, IsTooLong, ListLeaves, ListsTo};
 
 use crate::lines::{print_none, print_piece};
 use crate::list_end::counted;
 use crate::{Form, ListEnd, Listed, Tally};
-use lpt_stream::{PacketBuffer, PieceKind, Sink, Source, ToolFault, flush_out, write_out};
+use lpt_stream::{PacketBuffer, PieceKind};
+use lpt_text::{Sink, Source, ToolFault, flush_out, write_out};
 use std::alloc::{AllocError, Global};
 
 /// So far a stream is listed: up to place 2^64 - 131,085.

@@ -4,8 +4,8 @@ use Rattle.std.specs.List.{flat_map}
 use Rattle.std.proofs.lemmas.List.{length-append, length-take, length-drop}
 use Rattle.std.proofs.lemmas.List.Concat.{flat_map-cons}
 use Rattle.std.proofs.lemmas.List.Sums.{sum_by-cons}
-use Rattle.lpt_pus.specs.LptPacket.Checksums.{checksum}
-use Rattle.lpt_pus.specs.LptPacket.Numbers.{be}
+use Rattle.lpt_packet.specs.Checksums.{checksum}
+use Rattle.lpt_packet.specs.Numbers.{be}
 use Rattle.lpt_memory.specs.declared.request.AreaRange.{AreaRange}
 use Rattle.lpt_memory.specs.declared.request.Plan.{Plan}
 use Rattle.lpt_memory.specs.declared.request.Plan.TheVariants as contents

@@ -3,7 +3,7 @@ use Rattle.std.proofs.Common.{◌≡◌, ◌∙◌, ap, sym, subst, refl, ℕ, z
 use Rattle.std.specs.List.{flat_map, AllByRecursion}
 use Rattle.std.proofs.lemmas.Bool.Decides.{nat_tests}
 use Rattle.std.proofs.lemmas.List.Concat.{flat_map-cons}
-use Rattle.lpt_pus.specs.LptPacket.Numbers.{be, IsOctets}
+use Rattle.lpt_packet.specs.Numbers.{be, IsOctets}
 use Rattle.lpt_memory.specs.declared.request.AreaRange.{AreaRange}
 use Rattle.lpt_memory.specs.Fields.{◌>>=◌, front_octet, front_word, front_long, front_octets, all_areas}
 use Rattle.lpt_memory.specs.Requests.{LoadArea, Request, front_load_area, front_range, front_head, request_in}

@@ -1,6 +1,6 @@
 -- What a body means, by its spelling.
 use Rattle.std.proofs.Common.{◌≡◌, ◌∙◌, ap, refl, ℕ, List, Option, Some, None}
-use Rattle.lpt_pus.specs.LptPacket.Numbers.{IsOctets}
+use Rattle.lpt_packet.specs.Numbers.{IsOctets}
 use Rattle.lpt_pus.specs.declared.failure_code.FailureCode.TheVariants.{MalformedBody, UnknownMemory}
 use Rattle.lpt_memory.specs.Requests.{Request, request_in}
 use Rattle.lpt_memory.specs.Spellings.{body_text, AreAreas}

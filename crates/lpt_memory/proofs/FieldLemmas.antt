@@ -3,9 +3,9 @@ use Rattle.std.proofs.Common.{◌≡◌, ◌∙◌, ap, sym, subst, refl, ℕ, s
 use Rattle.std.proofs.lemmas.Bool.{ltb-false, le-ltb}
 use Rattle.std.proofs.lemmas.Bool.Decides.{nat_tests}
 use Rattle.std.proofs.lemmas.List.{take_at, drop_at, take-append-drop, length-append, length-take}
-use Rattle.lpt_pus.specs.LptPacket.Numbers.{be, word_at, IsOctets}
-use Rattle.lpt_pus.proofs.LptPacket.Codec.{word_cells, word_of_be}
-use Rattle.lpt_pus.proofs.LptPacket.OctetLists.{IsOctets-drop}
+use Rattle.lpt_packet.specs.Numbers.{be, word_at, IsOctets}
+use Rattle.lpt_packet.proofs.Codec.{word_cells, word_of_be}
+use Rattle.lpt_packet.proofs.OctetLists.{IsOctets-drop}
 use Rattle.lpt_pus.specs.Numbers.{long_at}
 use Rattle.lpt_pus.proofs.LongLemmas.{be-long}
 use Rattle.lpt_memory.specs.Fields.{◌>>=◌, front_octet, front_word, front_long, front_octets}

@@ -9,5 +9,3 @@ pub mod MemoriesLemmas
 pub mod PlaceLemmas
 pub mod PutLemmas
 pub mod WritingLemmas
-pub use Rattle.lpt_pus.proofs.LptPacket as LptPacket
-pub use Rattle.lpt_pus.proofs as LptPus

@@ -1,9 +1,9 @@
 -- Where a body stands in its packet, and where areas stand in a body.
 use Rattle.std.proofs.Common.{◌≡◌, ◌∙◌, ap, sym, refl, ℕ, ◌+◌, ◌-◌, ◌≤◌, List, [], ◌∷◌, ◌++◌, length, take, drop, Some, arith}
 use Rattle.std.proofs.lemmas.List.{length-append, take_at, drop-drop}
-use Rattle.lpt_pus.specs.LptPacket.Checksums.{checksum}
-use Rattle.lpt_pus.specs.LptPacket.Numbers.{be}
-use Rattle.lpt_pus.specs.LptPacket.Packets.{Fields, header, spelling, IsPacket}
+use Rattle.lpt_packet.specs.Checksums.{checksum}
+use Rattle.lpt_packet.specs.Numbers.{be}
+use Rattle.lpt_packet.specs.Packets.{Fields, header, spelling, IsPacket}
 use Rattle.lpt_pus.specs.Commands.{Command, tc_field, IsCommand}
 use Rattle.lpt_pus.specs.Sizes.{tc_header}
 use Rattle.lpt_memory.specs.declared.request.StoredArea.{StoredArea}

@@ -12,7 +12,7 @@ use Rattle.lpt_memory.specs.Ranges.{AreasFit, MeaningFits}
 
 -- ---- one area
 
-length-put_at : (content : List ℕ) (at : ℕ) (octets : List ℕ)
+pub length-put_at : (content : List ℕ) (at : ℕ) (octets : List ℕ)
     → at + length octets ≤ length content
     → length (put_at content at octets) ≡ length content
 length-put_at content at octets fit =
@@ -87,7 +87,7 @@ outside content a i fit none =
     ]
 
 -- areas behind one that was put are within the memory that it was put over
-AreasFit-put_at : (content : List ℕ) (a : Area) (rest : List Area)
+pub AreasFit-put_at : (content : List ℕ) (a : Area) (rest : List Area)
     → AreasFit (length content) (a ∷ rest)
     → AreasFit (length (put_at content a.address a.octets)) rest
 AreasFit-put_at content a rest fit =
@@ -95,7 +95,7 @@ AreasFit-put_at content a rest fit =
 
 -- ---- areas one after the other
 
-length-put_all : (content : List ℕ) (areas : List Area)
+pub length-put_all : (content : List ℕ) (areas : List Area)
     → AreasFit (length content) areas
     → length (put_all content areas) ≡ length content
 length-put_all content [] fit = refl

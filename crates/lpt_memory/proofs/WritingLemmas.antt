@@ -7,9 +7,9 @@ use Rattle.std.proofs.lemmas.Grind.{common_steps}
 use Rattle.std.proofs.lemmas.List.{length-append, length-map}
 use Rattle.std.proofs.lemmas.List.Concat.{flat_map-cons}
 use Rattle.std.proofs.lemmas.List.Sums.{sum_by-cons}
-use Rattle.lpt_pus.specs.LptPacket.Checksums.{checksum}
-use Rattle.lpt_pus.specs.LptPacket.Numbers.{be}
-use Rattle.lpt_pus.proofs.LptPacket.Registers.{checksum-fits}
+use Rattle.lpt_packet.specs.Checksums.{checksum}
+use Rattle.lpt_packet.specs.Numbers.{be}
+use Rattle.lpt_packet.proofs.Registers.{checksum-fits}
 use Rattle.lpt_pus.specs.declared.failure_code.FailureCode.{FailureCode}
 use Rattle.lpt_pus.specs.Commands.{Command, command_in}
 use Rattle.lpt_memory.specs.declared.request.Area.{Area}

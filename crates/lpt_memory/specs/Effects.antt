@@ -1,8 +1,8 @@
 -- What a message is answered.
 use Rattle.std.specs.Prelude.{ℕ, ◌+◌, ◌*◌, ◌≤◌, List, [], ◌∷◌, ◌++◌, length, take, drop, sum_by, unwrap_or, Option, Some, None}
 use Rattle.std.specs.List.{flat_map}
-use Rattle.lpt_pus.specs.LptPacket.Numbers.{be}
-use Rattle.lpt_pus.specs.LptPacket.Checksums.{checksum}
+use Rattle.lpt_packet.specs.Numbers.{be}
+use Rattle.lpt_packet.specs.Checksums.{checksum}
 use Rattle.lpt_pus.specs.Codes.{number_of}
 use Rattle.lpt_memory.specs.declared.reply_kind.ReplyKind.TheVariants as kinds
 use Rattle.lpt_memory.specs.declared.request.AreaRange.{AreaRange}
@@ -10,6 +10,7 @@ use Rattle.lpt_memory.specs.declared.effect.Effect.{Effect}
 use Rattle.lpt_memory.specs.declared.effect.Effect.TheVariants as effects
 use Rattle.lpt_memory.specs.Meanings.{Meaning, Silent, Fault, Load, Dump, Check}
 use Rattle.lpt_memory.specs.Memories.{Contents, content_of}
+use Rattle.lpt_memory.specs.Limits.{area_header}
 
 -- the octets of a memory in a range
 abbrev pub octets_in : List ℕ → AreaRange → List ℕ
@@ -66,7 +67,7 @@ abbrev pub reply_length : Meaning → Option ℕ
 reply_length Silent = None
 reply_length (Fault code) = None
 reply_length (Load id areas) = None
-reply_length (Dump id ranges) = Some (2 + sum_by (λ r. 8 + r.len) ranges)
+reply_length (Dump id ranges) = Some (2 + sum_by (λ r. area_header + r.len) ranges)
 reply_length (Check id ranges) = Some (2 + 8 * length ranges)
 
 -- how many octets the reply has that was answered, where it is one

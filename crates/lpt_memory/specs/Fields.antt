@@ -1,7 +1,7 @@
 -- Fields at the front of octets: each is a value and the octets behind it, or nothing where there
 -- are too few.
 use Rattle.std.specs.Prelude.{ℕ, zero, suc, List, [], ◌∷◌, length, take, drop, slice_index, Option, Some, None, option_and_then, nat_lt, ◌==◌, if◌then◌else◌}
-use Rattle.lpt_pus.specs.LptPacket.Numbers.{word_at}
+use Rattle.lpt_packet.specs.Numbers.{word_at}
 use Rattle.lpt_pus.specs.Numbers.{long_at}
 
 infixl 10 ◌>>=◌

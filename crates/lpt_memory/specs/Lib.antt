@@ -1,6 +1,7 @@
 pub mod Effects
 pub mod FaultNames
 pub mod Fields
+pub mod Limits
 pub mod Meanings
 pub mod Memories
 pub mod MemoriesInside
@@ -11,5 +12,3 @@ pub mod ReplyKinds
 pub mod Requests
 pub mod Seen
 pub mod Spellings
-pub use Rattle.lpt_pus.specs.LptPacket as LptPacket
-pub use Rattle.lpt_pus.specs as LptPus

@@ -1,13 +1,14 @@
 -- What a message means for memories of these identifiers and sizes.
 use Rattle.std.specs.Prelude.{ℕ, ◌+◌, List, [], ◌∷◌, length, map, sum_by, Option, Some, None, nat_lt, ◌==◌, if◌then◌else◌}
-use Rattle.lpt_pus.specs.LptPacket.Checksums.{checksum}
+use Rattle.lpt_packet.specs.Checksums.{checksum}
 use Rattle.lpt_pus.specs.declared.failure_code.FailureCode.{FailureCode}
 use Rattle.lpt_pus.specs.declared.failure_code.FailureCode.TheVariants.{UnknownRequest, MalformedBody, UnknownMemory, OutOfRange, WrongChecksum, ReplyTooLong}
 use Rattle.lpt_pus.specs.Commands.{Command, command_in}
 use Rattle.lpt_memory.specs.declared.request.Area.{Area}
 use Rattle.lpt_memory.specs.declared.request.AreaRange.{AreaRange}
-use Rattle.lpt_pus.specs.LptPacket.Sizes.{longest_packet}
+use Rattle.lpt_packet.specs.Sizes.{longest_packet}
 use Rattle.lpt_memory.specs.Requests.{LoadArea, Request, front_load_area, front_range, request_in}
+use Rattle.lpt_memory.specs.Limits.{dump_head, area_header}
 
 -- no telecommand, one with a fault of this code, or a request
 pub data Meaning : Type 0 where
@@ -46,7 +47,7 @@ area a = record { address = a.address; octets = a.octets }
 
 -- the octets of the packet that answers a dump: 21, and in each area 8 and its octets
 abbrev pub dump_length : List AreaRange → ℕ
-dump_length ranges = 21 + sum_by (λ r. 8 + r.len) ranges
+dump_length ranges = dump_head + sum_by (λ r. area_header + r.len) ranges
 
 -- the fault of this code, or else this
 abbrev pub unless : Option FailureCode → Meaning → Meaning

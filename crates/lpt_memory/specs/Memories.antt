@@ -2,6 +2,7 @@
 use Rattle.std.specs.Prelude.{ℕ, ◌+◌, List, [], ◌∷◌, ◌++◌, length, take, drop, map, Bool, true, ◌&&◌, not, is_some, Option, Some, None, nat_le, ◌==◌, if◌then◌else◌}
 use Rattle.lpt_memory.specs.declared.request.Area.{Area}
 use Rattle.lpt_memory.specs.Meanings.{Meaning, Silent, Fault, Load, Dump, Check, Sizes, size_of}
+use Rattle.lpt_memory.specs.Limits.{memory_limit, size_limit}
 
 -- the identifier and the octets of each memory
 abbrev pub Contents : Type 0
@@ -24,11 +25,11 @@ sizes_of ms = map size ms
 abbrev pub are_distinct : Sizes → Bool
 are_distinct [] = true
 are_distinct (s ∷ ss) =
-    nat_le 1 s.1 && nat_le s.1 1048576 && not (is_some (size_of s.0 ss)) && are_distinct ss
+    nat_le 1 s.1 && nat_le s.1 size_limit && not (is_some (size_of s.0 ss)) && are_distinct ss
 
 -- whether these can be memories: 1 to 16, distinct, and each in its range
 abbrev pub are_memories : Contents → Bool
-are_memories ms = nat_le 1 (length ms) && nat_le (length ms) 16 && are_distinct (sizes_of ms)
+are_memories ms = nat_le 1 (length ms) && nat_le (length ms) memory_limit && are_distinct (sizes_of ms)
 
 -- octets put over those of a memory from an address on
 abbrev pub put_at : List ℕ → ℕ → List ℕ → List ℕ

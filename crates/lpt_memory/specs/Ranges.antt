@@ -3,7 +3,7 @@ use Rattle.std.specs.Prelude.{◌≡◌, ℕ, ◌+◌, ◌≤◌, List, [], ◌�
 use Rattle.lpt_pus.specs.Codes.{number_of}
 use Rattle.lpt_memory.specs.declared.request.Area.{Area}
 use Rattle.lpt_memory.specs.declared.request.AreaRange.{AreaRange}
-use Rattle.lpt_pus.specs.LptPacket.Sizes.{longest_packet}
+use Rattle.lpt_packet.specs.Sizes.{longest_packet}
 use Rattle.lpt_memory.specs.Meanings.{Meaning, Silent, Fault, Load, Dump, Check, Sizes, size_of, dump_length, meaning}
 
 -- areas end within a memory of this size

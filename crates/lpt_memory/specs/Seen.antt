@@ -1,6 +1,6 @@
 -- What the code's values stand for.
 use Rattle.std.specs.Prelude.{ℕ, ◌+◌, ◌-◌, ◌<◌, ◌≤◌, List, [], ◌∷◌, length, take, drop, map}
-use Rattle.lpt_pus.specs.LptPacket.Sizes.{primary_header, error_control}
+use Rattle.lpt_packet.specs.Sizes.{primary_header, error_control}
 use Rattle.lpt_pus.specs.Sizes.{tc_header}
 use Rattle.lpt_memory.specs.declared.request.Area.{Area}
 use Rattle.lpt_memory.specs.declared.request.StoredArea.{StoredArea}

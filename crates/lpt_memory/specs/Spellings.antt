@@ -1,14 +1,15 @@
 -- The one encoding of each body, and of a load's packet.
 use Rattle.std.specs.Prelude.{ℕ, ◌+◌, ◌<◌, ◌^◌, List, [], ◌∷◌, ◌++◌, length, map, sum_by, Bool, false, ◌||◌, ◌==◌, nat_lt, if◌then◌else◌, Option, Some, None}
 use Rattle.std.specs.List.{flat_map, AllByRecursion}
-use Rattle.lpt_pus.specs.LptPacket.Numbers.{be}
-use Rattle.lpt_pus.specs.LptPacket.Checksums.{checksum}
+use Rattle.lpt_packet.specs.Numbers.{be}
+use Rattle.lpt_packet.specs.Checksums.{checksum}
 use Rattle.lpt_memory.specs.declared.fault.MemoryFault.{MemoryFault}
 use Rattle.lpt_memory.specs.declared.fault.MemoryFault.TheVariants.{TooLong, BadArea}
 use Rattle.lpt_memory.specs.declared.request.Area.{Area}
 use Rattle.lpt_memory.specs.declared.request.AreaRange.{AreaRange}
-use Rattle.lpt_pus.specs.LptPacket.Sizes.{longest_packet}
+use Rattle.lpt_packet.specs.Sizes.{longest_packet}
 use Rattle.lpt_memory.specs.Requests.{LoadArea}
+use Rattle.lpt_memory.specs.Limits.{area_limit, load_head, area_header}
 
 -- start address 32 bits, length 16, so many octets, checksum 16
 abbrev pub load_area_text : LoadArea → List ℕ
@@ -49,7 +50,7 @@ load_text memory areas = body_text load_area_text memory (map stored areas)
 
 -- the octets of a load's packet: 15, and in each area 8 and its octets
 abbrev pub load_length : List Area → ℕ
-load_length areas = 15 + sum_by (λ a. 8 + length a.octets) areas
+load_length areas = load_head + sum_by (λ a. area_header + length a.octets) areas
 
 -- whether one of the areas has no octets
 abbrev pub any_empty : List Area → Bool
@@ -61,5 +62,5 @@ any_empty (a ∷ rest) = length a.octets == 0 || any_empty rest
 abbrev pub write_fault : List Area → Option MemoryFault
 write_fault areas =
     if nat_lt longest_packet (load_length areas) then Some TooLong
-    else if length areas == 0 || nat_lt 255 (length areas) || any_empty areas then Some BadArea
+    else if length areas == 0 || nat_lt area_limit (length areas) || any_empty areas then Some BadArea
     else None

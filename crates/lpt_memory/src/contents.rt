@@ -8,16 +8,11 @@ ghost use Rattle.lpt_memory.specs.Ranges.{AreasFit, LoadFits, ReadFits};
 ghost use Rattle.lpt_memory.specs.MemoriesInside.{same_sizes};
 ghost use Rattle.lpt_memory.specs.Seen.{areas_in, AreWithin};
 
+use crate::limits::{MEMORY_LIMIT, SIZE_LIMIT};
 use crate::reply;
 use crate::request::{AreaRange, StoredArea};
-use lpt_pus::Octets;
+use lpt_packet::Octets;
 use std::alloc::{AllocError, Global};
-
-/// The most memories.
-const MEMORY_LIMIT: usize = 16;
-
-/// The most octets of a memory.
-const SIZE_LIMIT: usize = 1048576;
 
 // Whether these can be memories.
 pub(crate) fn are_memories(memories: &[(u8, Octets)]) -> bool

@@ -1,7 +1,8 @@
 //! What applying a request came to.
 
 use crate::ReplyKind;
-use lpt_pus::{FailureCode, Octets};
+use lpt_packet::Octets;
+use lpt_pus::FailureCode;
 
 /// What applying a message to the memories came to.
 #[derive(Drop)]

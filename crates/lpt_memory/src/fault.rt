@@ -21,7 +21,7 @@ pub enum MemoryFault {
     #[error("no area, more than 255, or an empty one")]
     BadArea,
     /// Memory ran out.
-    #[error("memory ran out")]
+    #[error("out of memory")]
     Memory,
 }
 

@@ -4,7 +4,8 @@ ghost use Rattle.std.specs.Prelude.{◌≡◌, MatchResult};
 
 use crate::request::Plan;
 use crate::{Memories, Shape, meaning, reply};
-use lpt_pus::{Octets, TcHead};
+use lpt_packet::Octets;
+use lpt_pus::TcHead;
 use std::alloc::Global;
 use std::marker::Model;
 

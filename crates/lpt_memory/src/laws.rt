@@ -1,7 +1,8 @@
 //! What the definitions say of requests, proved of all of them: functions with empty bodies.
 
 ghost use Rattle.std.specs.Prelude.{◌≡◌, ◌≢◌, ℕ, ◌-◌, List, ◌∷◌, ◌++◌, length, slice_index, Some, None, map, nat_lt, if◌then◌else◌};
-ghost use Rattle.lpt_pus.specs.LptPacket.Numbers.{IsOctets};
+ghost use Rattle.lpt_packet.specs.Numbers.{IsOctets};
+ghost use Rattle.lpt_packet.specs.Sizes.{longest_packet};
 ghost use Rattle.lpt_pus.specs.declared.failure_code.FailureCode.TheVariants.{UnknownRequest, MalformedBody, UnknownMemory, ReplyTooLong};
 ghost use Rattle.lpt_pus.specs.Commands.{Command, command_in};
 ghost use Rattle.lpt_memory.specs.declared.request.AreaRange.{AreaRange};
@@ -16,7 +17,7 @@ ghost use Rattle.lpt_memory.specs.Meanings.{Sizes, Silent, Fault, Load, Dump, Ch
 /// What a message means, by what its octets are: nothing where they are no telecommand of this
 /// APID, an unknown request where its service and subtype are none that is known, else what its
 /// body means.
-pub fn message_meanings()
+pub fn meanings_follow_octets()
     ensures silent { (apid : ℕ) (sizes : Sizes) (message : List ℕ)
         → command_in apid message ≡ None → meaning apid sizes message ≡ Silent }
     ensures body { (apid : ℕ) (sizes : Sizes) (message : List ℕ) (c : Command)
@@ -30,7 +31,7 @@ pub fn message_meanings()
 {}
 
 /// The body of a load is read exactly where it is encoded so.
-pub fn load_bodies()
+pub fn load_bodies_are_read()
     ensures spelled { (memory : ℕ) (areas : List LoadArea) → AreAreas LoadAreaFits areas
         → request_in front_load_area (body_text load_area_text memory areas)
         ≡ Some (record { memory = memory; areas = areas }) }
@@ -40,7 +41,7 @@ pub fn load_bodies()
 {}
 
 /// The body of a dump or a check is read exactly where it is encoded so.
-pub fn range_bodies()
+pub fn range_bodies_are_read()
     ensures spelled { (memory : ℕ) (ranges : List AreaRange) → AreAreas RangeFits ranges
         → request_in front_range (body_text range_text memory ranges)
         ≡ Some (record { memory = memory; areas = ranges }) }
@@ -51,7 +52,7 @@ pub fn range_bodies()
 
 /// What a load means, by the encoding of its body: malformed where it has none; an unknown memory;
 /// else the first fault of its areas, or the load.
-pub fn load_meanings()
+pub fn load_meanings_follow_bodies()
     ensures malformed { (sizes : Sizes) (body : List ℕ) → IsOctets body
         → ((memory : ℕ) (areas : List LoadArea) → AreAreas LoadAreaFits areas
         → ¬ (body ≡ body_text load_area_text memory areas))
@@ -70,7 +71,7 @@ pub fn load_meanings()
 /// What a dump or a check means, by the encoding of its body: malformed where it has none; an
 /// unknown memory; else a range that isn't within it; then a dump whose answer is too long; else
 /// the dump or the check.
-pub fn range_meanings()
+pub fn range_meanings_follow_bodies()
     ensures malformed { (sizes : Sizes) (body : List ℕ) → IsOctets body
         → ((memory : ℕ) (ranges : List AreaRange) → AreAreas RangeFits ranges
         → ¬ (body ≡ body_text range_text memory ranges))
@@ -85,7 +86,7 @@ pub fn range_meanings()
         → size_of memory sizes ≡ Some size
         → body_meaning sizes 6 5 (body_text range_text memory ranges)
         ≡ unless (range_fault size ranges)
-        (if nat_lt 65542 (dump_length ranges) then Fault ReplyTooLong else Dump memory ranges) }
+        (if nat_lt longest_packet (dump_length ranges) then Fault ReplyTooLong else Dump memory ranges) }
     ensures check { (sizes : Sizes) (memory size : ℕ) (ranges : List AreaRange)
         → AreAreas RangeFits ranges
         → size_of memory sizes ≡ Some size

@@ -17,9 +17,10 @@
 mod contents;
 mod effect;
 mod fault;
-mod fields;
+pub mod fields;
 mod job;
 pub mod laws;
+mod limits;
 mod meaning;
 mod memories;
 mod reading;
@@ -32,13 +33,9 @@ mod writing;
 pub use effect::Effect;
 pub use fault::MemoryFault;
 pub use job::{Prepared, Reading, Ticket, prepare};
-pub use lpt_pus::laws::{bodies, lengths};
-pub use lpt_pus::{
-    AckFlags, Direction, ERROR_CONTROL, FailureCode, LONGEST_PACKET, Name, Octets, PRIMARY_HEADER,
-    Packet, PacketKind, PusFault, RequestId, Seen, TC_HEADER, TM_HEADER, TcHead, TmHead, crc16,
-    read_packet, read_tc, read_tm, seen_is_read, tc_octets, tc_pieces, tm_octets, tm_pieces,
-    write_packet, write_pieces, write_tc, write_tm,
-};
+pub use limits::{AREA_HEADER, AREA_LIMIT, AREA_ROOM, MEMORY_LIMIT, SIZE_LIMIT};
+pub use lpt_packet::{LONGEST_PACKET, Octets};
+pub use lpt_pus::{FailureCode, TcHead};
 pub use memories::Memories;
 pub use reply_kind::ReplyKind;
 pub use request::Area;

@@ -1,7 +1,7 @@
 //! What a message means for memories of known identifiers and sizes.
 
 ghost use Rattle.std.specs.Prelude.{◌≡◌, length, map, option_map, IfOk};
-ghost use Rattle.lpt_pus.specs.LptPacket.Numbers.{IsOctets};
+ghost use Rattle.lpt_packet.specs.Numbers.{IsOctets};
 ghost use Rattle.lpt_pus.specs.Commands.{command, command_in};
 ghost use Rattle.lpt_memory.specs.Requests.{front_load_area, front_range, request_in};
 ghost use Rattle.lpt_memory.specs.Seen.{body_of, load_area, AreWithin, seen, IsWithin, IsCounted};
@@ -10,10 +10,9 @@ ghost use Rattle.lpt_memory.specs.Meanings.{size_of, load_fault, range_fault, lo
 use crate::reading::{load_request, range_request};
 use crate::reply::dump_len;
 use crate::request::{AreaRange, Plan, StoredArea};
-use lpt_pus::{
-    ERROR_CONTROL, FailureCode, LONGEST_TM_BODY, PRIMARY_HEADER, Seen, TC_HEADER, TcHead, crc16,
-    read_packet, read_tc, seen_is_read,
-};
+use lpt_packet::laws::seen_is_read;
+use lpt_packet::{ERROR_CONTROL, PRIMARY_HEADER, Seen, crc16, read_packet};
+use lpt_pus::{FailureCode, LONGEST_TM_BODY, TC_HEADER, TcHead, read_tc};
 use std::alloc::{AllocError, Global};
 
 /// The octets of a telecommand's packet before its body.

@@ -4,7 +4,7 @@ ghost use Rattle.std.specs.Prelude.{◌≡◌};
 
 use crate::request::Plan;
 use crate::{Effect, MemoryFault, Reading, ReplyKind, Shape, contents};
-use lpt_pus::Octets;
+use lpt_packet::Octets;
 use std::alloc::{AllocError, Global};
 use std::marker::Model;
 

@@ -1,11 +1,11 @@
 //! Reading requests: the bodies of loads, dumps and checks, and what they mean.
 
 ghost use Rattle.std.specs.Prelude.{◌≡◌, ◌+◌, ◌<◌, ◌≤◌, length, drop, map, option_map, IfOk, IfSome};
-ghost use Rattle.lpt_memory.specs.Requests.{front_head, front_load_area, front_range, request_in};
+ghost use Rattle.lpt_memory.specs.Requests.{front_load_area, front_range, request_in};
 ghost use Rattle.lpt_memory.specs.Fields.{all_areas};
 ghost use Rattle.lpt_memory.specs.Seen.{load_area, AreWithin};
 
-use crate::fields::{long, octet, octets, word};
+use crate::fields::{head, long, octets, word};
 use crate::request::{AreaRange, StoredArea};
 use std::alloc::{AllocError, Global};
 
@@ -17,20 +17,6 @@ const AREA_HEAD: usize = 6;
 
 /// The octets of its checksum.
 const CHECKSUM: usize = 2;
-
-// The memory, the number of areas, and what is behind them.
-#[tactic(auto, unfolding(crate::specs::Requests::front_head))]
-fn head(body: &[u8]) -> Option<(u8, u8, &[u8])>
-    ensures value { option_map (λ x. (x.0, x.1, x.2.now)) result ≡ front_head body.now }
-    ensures behind { IfSome result (λ x. (2 ≤ length body.now) × (x.2.now ≡ drop 2 body.now)) }
-{
-    let (memory, rest) = octet(body)?;
-    let (count, rest) = octet(rest)?;
-    if count == 0 {
-        return None;
-    }
-    Some((memory, count, rest))
-}
 
 // The area of a load that stands at a place of the body, and the place behind it.
 #[tactic(auto, unfolding(crate::specs::Requests::front_load_area))]

@@ -7,15 +7,13 @@ ghost use Rattle.lpt_memory.specs.Meanings.{dump_length};
 ghost use Rattle.lpt_memory.specs.Ranges.{RangesFit};
 ghost use Rattle.lpt_memory.specs.Seen.{seen, IsCounted};
 
+use crate::limits::AREA_HEADER;
 use crate::request::{AreaRange, Plan};
-use lpt_pus::{Octets, crc16};
+use lpt_packet::{Octets, crc16};
 use std::alloc::{AllocError, Global};
 
 /// The octets of an answer's body, besides its areas.
 const BODY_HEAD: usize = 2;
-
-/// The octets of each area in it, besides those of the memory.
-const BODY_AREA: usize = 8;
 
 // How many octets the body that answers a dump has. Its packet has 19 more.
 pub(crate) fn dump_len(ranges: &[AreaRange]) -> usize
@@ -24,7 +22,7 @@ pub(crate) fn dump_len(ranges: &[AreaRange]) -> usize
 {
     let mut len = BODY_HEAD;
     for range in ranges {
-        len += BODY_AREA + usize::from(range.len);
+        len += AREA_HEADER + usize::from(range.len);
     }
     len
 }
@@ -34,7 +32,7 @@ fn check_len(ranges: &[AreaRange]) -> usize
     requires { length ranges.now < 256 }
     ensures { result ≡ 2 + 8 * length ranges.now }
 {
-    BODY_HEAD + BODY_AREA * ranges.len()
+    BODY_HEAD + AREA_HEADER * ranges.len()
 }
 
 // How many octets the body of the reply has, where there is one, whatever the message's body is.

@@ -3,7 +3,8 @@
 ghost use Rattle.std.specs.Prelude.{◌≡◌, ◌+◌, ◌≤◌, length};
 ghost use Rattle.lpt_memory.specs.Seen.{octets_at};
 
-use lpt_pus::{FailureCode, Octets};
+use lpt_packet::Octets;
+use lpt_pus::FailureCode;
 
 /// Octets, and the place in a memory that they go to.
 #[derive(Debug, Drop, PartialEq, Eq)]

@@ -2,36 +2,30 @@
 
 ghost use Rattle.std.specs.Prelude.{◌≡◌, ◌+◌, ◌<◌, ◌^◌, ◌++◌, length, nat_lt, None, Err, IfOk, IfErr, IfSome, IfNone, OnOk};
 ghost use Rattle.std.specs.List.{AllByRecursion};
-ghost use Rattle.lpt_pus.specs.LptPacket.Packets.{spelling};
+ghost use Rattle.lpt_packet.specs.Packets.{spelling};
+ghost use Rattle.lpt_packet.specs.Sizes.{longest_packet};
 ghost use Rattle.lpt_pus.specs.Commands.{command, packet_of};
 ghost use Rattle.lpt_memory.specs.declared.fault.MemoryFault.TheVariants.{Memory};
 ghost use Rattle.lpt_memory.specs.Ranges.{MeansLoad};
 ghost use Rattle.lpt_memory.specs.Spellings.{load_area_text, stored, load_text, load_length, any_empty, write_fault};
 
+use crate::limits::{AREA_HEADER, AREA_LIMIT, LOAD_HEAD};
 use crate::{Area, MemoryFault};
-use lpt_pus::laws::octets_read_again;
-use lpt_pus::{LONGEST_PACKET, Octets, TcHead, crc16, tc_octets};
+use lpt_packet::{LONGEST_PACKET, Octets, crc16};
+use lpt_pus::laws::octets_are_read_again;
+use lpt_pus::{TcHead, tc_octets};
 use std::alloc::{AllocError, Global};
 
-/// The octets of a load's packet, besides its areas.
-const LOAD_HEAD: usize = 15;
-
-/// The octets of its body, besides its areas.
+/// The octets of a load's body, besides its areas.
 const BODY_HEAD: usize = 2;
-
-/// The octets of each area in it, besides those of the memory.
-const LOAD_AREA: usize = 8;
-
-/// The most areas of a load.
-const AREA_LIMIT: usize = 255;
 
 // Whether the packet of a load would be too long.
 fn is_long(areas: &[Area]) -> bool
-    ensures { result ≡ nat_lt 65542 (load_length areas.now) }
+    ensures { result ≡ nat_lt longest_packet (load_length areas.now) }
 {
     let mut total = LOAD_HEAD;
     for area in areas {
-        total += LOAD_AREA + area.octets.as_slice().len();
+        total += AREA_HEADER + area.octets.as_slice().len();
         if total > LONGEST_PACKET {
             return true;
         }
@@ -74,7 +68,7 @@ fn body_len(areas: &[Area]) -> usize
 {
     let mut len = BODY_HEAD;
     for area in areas {
-        len += LOAD_AREA + area.octets.as_slice().len();
+        len += AREA_HEADER + area.octets.as_slice().len();
     }
     len
 }
@@ -108,7 +102,7 @@ fn load_packet(
         o ≡ spelling (packet_of (command head.now (load_text memory areas.now)))) }
     ensures means { IfOk result (λ o. MeansLoad head.now.apid o memory areas.now) }
 {
-    octets_read_again();
+    octets_are_read_again();
     // A field behind a reference is known to be in its range once it is read.
     let _source = head.source;
     let body = load_body(alloc, memory, areas)?;

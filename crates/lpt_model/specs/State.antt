@@ -3,50 +3,50 @@
 use Rattle.std.specs.Prelude.{◌≡◌, ℕ, Bool, true, false, not, ◌&&◌, List, [], ◌∷◌, ◌++◌, length, IfSome, IsTrue, Option, Some, None, is_some}
 use Rattle.std.specs.Option.{option_map, option_map_or}
 use Rattle.std.specs.FinMap as maps
-use Rattle.lpt_node.specs.LptPacket.declared.direction.Direction.{Direction}
-use Rattle.lpt_node.specs.LptPacket.declared.direction.Direction.TheVariants.{Up, Down}
-use Rattle.lpt_node.specs.LptPacket.Names.{Name}
-use Rattle.lpt_node.specs.LptPart.Splitting.{part_count}
+use Rattle.lpt_packet.specs.declared.direction.Direction.{Direction}
+use Rattle.lpt_packet.specs.declared.direction.Direction.TheVariants.{Up, Down}
+use Rattle.lpt_packet.specs.Names.{Name}
+use Rattle.lpt_part.specs.Splitting.{part_count}
 use Rattle.lpt_link.specs.declared.fault.LinkFault.{LinkFault}
 use Rattle.lpt_link.specs.declared.fault.LinkFault.TheVariants as link
-use Rattle.lpt_node.specs.LptEvents.declared.lane.Lane.{Lane}
+use Rattle.lpt_events.specs.declared.lane.Lane.{Lane}
 use Rattle.lpt_link.specs.declared.packet.LinkPacket.{LinkPacket}
-use Rattle.lpt_node.specs.LptEvents.Lanes.{lane_direction}
+use Rattle.lpt_events.specs.Lanes.{lane_direction}
 use Rattle.lpt_link.specs.Links.{LinkData, empty_link, after_put, after_lose, after_take as link_after_take, after_drop, holds, packet_in_hand, refusal_lose, refusal_take, refusal_drop}
 use Rattle.lpt_node.specs.declared.accepted.Accepted.{Accepted}
-use Rattle.lpt_node.specs.LptEvents.declared.config.Config.{Config}
+use Rattle.lpt_events.specs.declared.config.Config.{Config}
 use Rattle.lpt_node.specs.declared.expired.Expired.{Expired as Ended}
-use Rattle.lpt_node.specs.LptEvents.declared.outcome.Outcome.{Outcome}
-use Rattle.lpt_node.specs.LptEvents.declared.outcome.Outcome.TheVariants.{Released}
-use Rattle.lpt_node.specs.LptEvents.declared.side.Side.{Side}
-use Rattle.lpt_node.specs.LptEvents.declared.side.Side.TheVariants.{Ground, Craft}
-use Rattle.lpt_node.specs.LptLedger.declared.state.State.{State as Known}
-use Rattle.lpt_node.specs.LptLedger.declared.state.State.TheVariants as known
-use Rattle.lpt_node.specs.LptLedger.States.{state_at}
+use Rattle.lpt_events.specs.declared.outcome.Outcome.{Outcome}
+use Rattle.lpt_events.specs.declared.outcome.Outcome.TheVariants.{Released}
+use Rattle.lpt_events.specs.declared.side.Side.{Side}
+use Rattle.lpt_events.specs.declared.side.Side.TheVariants.{Ground, Craft}
+use Rattle.lpt_ledger.specs.declared.state.State.{State as Known}
+use Rattle.lpt_ledger.specs.declared.state.State.TheVariants as known
+use Rattle.lpt_ledger.specs.States.{state_at}
 use Rattle.lpt_node.specs.Accepting.{accepted}
-use Rattle.lpt_node.specs.Anew.{retired, restarted}
+use Rattle.lpt_node.specs.Restarts.{retired, restarted}
 use Rattle.lpt_node.specs.Faults.{node_fault}
-use Rattle.lpt_node.specs.LptEvents.Arrivals.{Arrival, NotRead, arrival_in}
-use Rattle.lpt_node.specs.LptEvents.declared.worker.Worker.{Worker}
-use Rattle.lpt_node.specs.LptMemory.Memories.{Contents, sizes_of}
-use Rattle.lpt_node.specs.LptMemory.Readings.{Job, Source}
-use Rattle.lpt_node.specs.LptJobs.Jobs.{head_of, is_claimed}
+use Rattle.lpt_events.specs.Arrivals.{Arrival, NotRead, arrival_in}
+use Rattle.lpt_events.specs.declared.worker.Worker.{Worker}
+use Rattle.lpt_memory.specs.Memories.{Contents, sizes_of}
+use Rattle.lpt_memory.specs.Readings.{Job, Source}
+use Rattle.lpt_jobs.specs.Jobs.{head_of, is_claimed}
 use Rattle.lpt_node.specs.Jobs.{Execution, FrontIsFor, refusal_claim, claimed, committed, refusal_apply, executed}
 use Rattle.lpt_node.specs.Nodes.{NodeData, no_data}
 use Rattle.lpt_node.specs.Requests.{refusal_plain, plain_made}
 use Rattle.lpt_node.specs.Sending.{refusal_open, refusal_send, refusal_finish, opened as node_opened, sent as node_sent, closed as node_closed}
 use Rattle.lpt_node.specs.Times.{refusal_tick, ticked, refusal_expire, expired}
-use Rattle.lpt_node.specs.LptEvents.declared.entry.Opening.{Opening}
-use Rattle.lpt_node.specs.LptEvents.declared.entry.Release.{Release}
-use Rattle.lpt_node.specs.LptEvents.declared.event.Event.{Event}
-use Rattle.lpt_node.specs.LptEvents.declared.event.Event.TheVariants.{Open, Send, Plain, Finish, Lose, Damage, Take, Deliver, Tick, Expire, Claim, Commit, Apply, Retire, Restart}
-use Rattle.lpt_node.specs.LptEvents.declared.fault.StepFault.{StepFault}
-use Rattle.lpt_node.specs.LptEvents.declared.fault.StepFault.TheVariants as step
-use Rattle.lpt_node.specs.LptEvents.declared.reply.Answer.{Answer}
-use Rattle.lpt_node.specs.LptEvents.declared.reply.Answer.TheVariants.{Opened, Put, Finished, Lost, Took, Delivered, Clock, Expired, Claimed, Committed, Stale, Applied, Retired, Restarted}
-use Rattle.lpt_node.specs.LptEvents.declared.reply.Reply.{Reply}
-use Rattle.lpt_node.specs.LptEvents.Damages.{refusal_damage}
-use Rattle.lpt_node.specs.LptEvents.Sides.{sender_side, receiver_side, direction_to}
+use Rattle.lpt_events.specs.declared.entry.Opening.{Opening}
+use Rattle.lpt_events.specs.declared.entry.Release.{Release}
+use Rattle.lpt_events.specs.declared.event.Event.{Event}
+use Rattle.lpt_events.specs.declared.event.Event.TheVariants.{Open, Send, Plain, Finish, Lose, Damage, Take, Deliver, Tick, Expire, Claim, Commit, Apply, Retire, Restart}
+use Rattle.lpt_events.specs.declared.fault.StepFault.{StepFault}
+use Rattle.lpt_events.specs.declared.fault.StepFault.TheVariants as step
+use Rattle.lpt_events.specs.declared.reply.Answer.{Answer}
+use Rattle.lpt_events.specs.declared.reply.Answer.TheVariants.{Opened, Put, Finished, Lost, Took, Delivered, Clock, Expired, Claimed, Committed, Stale, Applied, Retired, Restarted}
+use Rattle.lpt_events.specs.declared.reply.Reply.{Reply}
+use Rattle.lpt_events.specs.Damages.{refusal_damage}
+use Rattle.lpt_events.specs.Sides.{sender_side, receiver_side, direction_to}
 use Rattle.lpt_model.specs.Tickets.{Tickets, no_tickets, ticket_of, with_ticket}
 
 -- both ends, the link, the jobs that workers have, the memories, and what was opened and released
@@ -103,9 +103,9 @@ refusal_commit_of None = Some step.HandEmpty
 
 -- whether the link and the lanes have no part of a transaction, and no reception of it is open
 abbrev pub is_gone : State → Direction → Name → Bool
-is_gone s d id =
-    not (holds s.link d id)
-    && not (is_some (maps.get (end_of s (receiver_side d)).receiving.entries id))
+is_gone s d name =
+    not (holds s.link d name)
+    && not (is_some (maps.get (end_of s (receiver_side d)).receiving.entries name))
 
 -- why a transaction whose sender is known so isn't retired
 abbrev pub refusal_retire_by : Known → (gone : Bool) → Option StepFault
@@ -116,18 +116,19 @@ refusal_retire_by known.Closed true = None
 
 -- why a transaction isn't retired
 abbrev pub refusal_retire : State → Direction → Name → Option StepFault
-refusal_retire s d id =
-    refusal_retire_by (state_at (end_of s (sender_side d)).sending.ledger id) (is_gone s d id)
+refusal_retire s d name =
+    refusal_retire_by (state_at (end_of s (sender_side d)).sending.ledger name) (is_gone s d name)
 
 -- why an event is refused
 abbrev pub refusal_of : Config → State → Event → Option StepFault
-refusal_of c s (Open d id m) =
-    option_map node_fault (refusal_open c (end_of s (sender_side d)) id (length m))
-refusal_of c s (Send d id k) =
-    option_map node_fault (refusal_send c (end_of s (sender_side d)) id k)
+refusal_of c s (Open d name m) =
+    option_map node_fault (refusal_open c (end_of s (sender_side d)) name (length m))
+refusal_of c s (Send d name k) =
+    option_map node_fault (refusal_send c (end_of s (sender_side d)) name k)
 refusal_of c s (Plain source flags service subtype body) =
     option_map node_fault (refusal_plain c service subtype (length body))
-refusal_of c s (Finish d id) = option_map node_fault (refusal_finish (end_of s (sender_side d)) id)
+refusal_of c s (Finish d name) =
+    option_map node_fault (refusal_finish (end_of s (sender_side d)) name)
 refusal_of c s (Lose n) = option_map link_fault (refusal_lose s.link n)
 refusal_of c s (Damage d b) = refusal_damage c b
 refusal_of c s (Take l n) = option_map link_fault (refusal_take s.link l n)
@@ -137,7 +138,7 @@ refusal_of c s (Expire side) = option_map node_fault (refusal_expire c (end_of s
 refusal_of c s (Claim w) = refusal_claim_by s.on_craft (ticket_of s.tickets w)
 refusal_of c s (Commit w) = refusal_commit_of (ticket_of s.tickets w)
 refusal_of c s Apply = option_map node_fault (refusal_apply s.on_craft)
-refusal_of c s (Retire d id) = refusal_retire s d id
+refusal_of c s (Retire d name) = refusal_retire s d name
 refusal_of c s (Restart side) = None
 
 -- ---- replies
@@ -153,22 +154,23 @@ put_one n a = record { answer = a; puts = Some (record { first = n; count = 1 })
 -- ---- opening, sending and finishing
 
 abbrev pub after_open : Config → ℕ → State → Direction → Name → List ℕ → State × Reply
-after_open c place s d id m = (
-  record (with_end s (sender_side d) (node_opened (end_of s (sender_side d)) id m)) {
-    opened = s.opened ++ record { place = place; direction = d; id = id; message = m } ∷ [];
+after_open c place s d name m = (
+  record (with_end s (sender_side d) (node_opened (end_of s (sender_side d)) name m)) {
+    opened = s.opened ++ record { place = place; direction = d; name = name; message = m } ∷ [];
   },
   quiet (Opened (part_count (length m) c.part_size)),
 )
 
 -- a part's packet is put, and its sender is this
 abbrev pub sent_on : State → Direction → Name → NodeData × List ℕ → State × Reply
-sent_on s d id x = (
-  record (with_end s (sender_side d) x.0) { link = after_put s.link d (Some id) x.1 },
+sent_on s d name x = (
+  record (with_end s (sender_side d) x.0) { link = after_put s.link d (Some name) x.1 },
   put_one (length s.link.packets) (Put (length s.link.packets)),
 )
 
 abbrev pub after_send : Config → State → Direction → Name → ℕ → State × Reply
-after_send c s d id k = sent_on s d id (node_sent (sender_side d) c (end_of s (sender_side d)) id k)
+after_send c s d name k =
+    sent_on s d name (node_sent (sender_side d) c (end_of s (sender_side d)) name k)
 
 -- a plain request's packet is put, and ground is this
 abbrev pub requested_on : State → NodeData × List ℕ → State × Reply
@@ -183,8 +185,8 @@ after_plain c s source flags service subtype body =
 
 -- a sender is closed
 abbrev pub after_finish : State → Direction → Name → State × Reply
-after_finish s d id =
-    (with_end s (sender_side d) (node_closed (end_of s (sender_side d)) id), quiet Finished)
+after_finish s d name =
+    (with_end s (sender_side d) (node_closed (end_of s (sender_side d)) name), quiet Finished)
 
 -- ---- losing
 
@@ -228,7 +230,7 @@ put_some n a (b ∷ bs) =
 
 -- the transaction of a released message, by the outcome: a plain request has none
 abbrev pub released_of : Direction → Outcome → Option (Direction × Name)
-released_of d (Released id len) = Some (d, id)
+released_of d (Released name len) = Some (d, name)
 released_of d _ = None
 
 -- the releases with that of a delivery, where it released anything
@@ -272,7 +274,7 @@ after_tick s side =
 abbrev pub expired_on : State → Side → NodeData × Ended → State × Reply
 expired_on s side x = (
   record (with_end s side x.0) { link = put_report s.link x.1.packet },
-  put_some (length s.link.packets) (Expired (direction_to side) x.1.id) (as_list x.1.packet),
+  put_some (length s.link.packets) (Expired (direction_to side) x.1.name) (as_list x.1.packet),
 )
 
 abbrev pub after_expire : Config → State → Side → State × Reply
@@ -313,7 +315,7 @@ committed_on c s w (Some t) =
 abbrev pub add_opening : List Opening → ℕ → Option (Name × List ℕ) → List Opening
 add_opening os place None = os
 add_opening os place (Some x) =
-    os ++ record { place = place; direction = Down; id = x.0; message = x.1 } ∷ []
+    os ++ record { place = place; direction = Down; name = x.0; message = x.1 } ∷ []
 
 -- the spacecraft has executed a job, and answered; these are the memories after it
 abbrev pub executed_on : ℕ → State → (NodeData × Execution) × Contents → State × Reply
@@ -331,10 +333,10 @@ executed_on place s x = (
 
 -- both ends have freed a transaction
 abbrev pub after_retire : State → Direction → Name → State × Reply
-after_retire s d id = (
+after_retire s d name = (
   record s {
-    on_ground = retired Ground s.on_ground d id;
-    on_craft = retired Craft s.on_craft d id;
+    on_ground = retired Ground s.on_ground d name;
+    on_craft = retired Craft s.on_craft d name;
   },
   quiet Retired,
 )
@@ -357,11 +359,11 @@ IsReady c s e = Unit {0}
 
 -- what an event at this place makes of the state, and its reply
 abbrev pub after : Config → ℕ → State → Event → State × Reply
-after c place s (Open d id m) = after_open c place s d id m
-after c place s (Send d id k) = after_send c s d id k
+after c place s (Open d name m) = after_open c place s d name m
+after c place s (Send d name k) = after_send c s d name k
 after c place s (Plain source flags service subtype body) =
     after_plain c s source flags service subtype body
-after c place s (Finish d id) = after_finish s d id
+after c place s (Finish d name) = after_finish s d name
 after c place s (Lose n) = after_losing s n
 after c place s (Damage d b) = after_damage s d b
 after c place s (Take l n) = after_take s l n
@@ -371,5 +373,5 @@ after c place s (Expire side) = after_expire c s side
 after c place s (Claim w) = claimed_on s w (claimed s.on_craft)
 after c place s (Commit w) = committed_on c s w (ticket_of s.tickets w)
 after c place s Apply = executed_on place s (executed c s.on_craft s.memories)
-after c place s (Retire d id) = after_retire s d id
+after c place s (Retire d name) = after_retire s d name
 after c place s (Restart side) = after_restart s side

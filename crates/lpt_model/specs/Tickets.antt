@@ -1,8 +1,8 @@
 -- The jobs that the workers have.
 use Rattle.std.specs.Prelude.{Option, None}
-use Rattle.lpt_node.specs.LptMemory.Readings.{Job}
-use Rattle.lpt_node.specs.LptEvents.declared.worker.Worker.{Worker}
-use Rattle.lpt_node.specs.LptEvents.declared.worker.Worker.TheVariants.{W1, W2}
+use Rattle.lpt_memory.specs.Readings.{Job}
+use Rattle.lpt_events.specs.declared.worker.Worker.{Worker}
+use Rattle.lpt_events.specs.declared.worker.Worker.TheVariants.{W1, W2}
 
 -- the job that each worker has, with its message
 pub record Tickets : Type 0 where

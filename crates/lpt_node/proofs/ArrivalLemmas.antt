@@ -4,22 +4,20 @@ use Rattle.std.specs.Option.{option_map_or}
 use Rattle.std.specs.Result.{result_ok}
 use Rattle.std.proofs.lemmas.Bool.Decides.{nat_tests}
 use Rattle.std.proofs.lemmas.List.{length-take}
-use Rattle.lpt_execution.specs.LptPacket.declared.fault.PacketFault.{PacketFault}
-use Rattle.lpt_execution.specs.LptPacket.declared.direction.Direction.TheVariants.{Up, Down}
-use Rattle.lpt_execution.specs.LptPacket.declared.packet.Seen.{Seen}
-use Rattle.lpt_execution.specs.LptPacket.Numbers.{word_at, same_octets}
-use Rattle.lpt_execution.specs.LptPacket.Packets.{Fields, Sight, IdlePacket, APacket, fields_at, is_idle, is_packet, seen, sight, spelling, verdict}
-use Rattle.lpt_execution.specs.LptPus.declared.fault.PusFault.{PusFault}
-use Rattle.lpt_execution.specs.LptPus.Commands.{Command, IsCommand, tc_field, tc_verdict}
-use Rattle.lpt_execution.specs.LptPus.Telemetry.{Telemetry, IsTelemetry, tm_field, tm_verdict}
-use Rattle.lpt_execution.specs.LptPart.declared.kind.Kind.{Kind}
-use Rattle.lpt_execution.specs.LptPart.Splitting.{IsPartSize}
-use Rattle.lpt_node.specs.declared.found.Found.{Found}
-use Rattle.lpt_node.specs.declared.found.Found.TheVariants as found
-use Rattle.lpt_execution.specs.LptEvents.declared.side.Side.{Side}
-use Rattle.lpt_execution.specs.LptEvents.declared.side.Side.TheVariants.{Ground, Craft}
-use Rattle.lpt_execution.specs.LptEvents.Arrivals.{NotRead, Foreign, ARequest, AReport, part_arrival, abort_arrival, carried_kind, command_arrival, report_arrival, telemetry_arrival, packet_arrival, sight_arrival, arrival}
-use Rattle.lpt_node.specs.Found.{body_from, IsFound, IsFoundIn}
+use Rattle.lpt_packet.specs.declared.direction.Direction.TheVariants.{Up, Down}
+use Rattle.lpt_packet.specs.Numbers.{word_at, same_octets}
+use Rattle.lpt_packet.specs.Packets.{Fields, Sight, IdlePacket, APacket, fields_at, is_idle, is_packet, seen, spelling, verdict}
+use Rattle.lpt_pus.specs.declared.fault.PusFault.{PusFault}
+use Rattle.lpt_pus.specs.Commands.{Command, IsCommand, tc_field, tc_verdict}
+use Rattle.lpt_pus.specs.Telemetry.{Telemetry, IsTelemetry, tm_field, tm_verdict}
+use Rattle.lpt_part.specs.declared.kind.Kind.{Kind}
+use Rattle.lpt_part.specs.Splitting.{IsPartSize}
+use Rattle.lpt_node.specs.declared.arrival.Layout.{Layout}
+use Rattle.lpt_node.specs.declared.arrival.Layout.TheVariants as layout
+use Rattle.lpt_events.specs.declared.side.Side.{Side}
+use Rattle.lpt_events.specs.declared.side.Side.TheVariants.{Ground, Craft}
+use Rattle.lpt_events.specs.Arrivals.{NotRead, Foreign, ARequest, AReport, part_arrival, abort_arrival, carried_kind, command_arrival, report_arrival, telemetry_arrival, packet_arrival, sight_arrival, arrival}
+use Rattle.lpt_node.specs.Layouts.{body_from, IsLayout, IsLayoutIn}
 
 -- ---- what is seen
 
@@ -49,15 +47,6 @@ seen_packet b f e =
     = first_of (nat_le (length b) 65542) (nat_le (word_at b 0 % 2048) 2046) (same_octets b (spelling (fields_at b))) h
     in grind (arith, nat_tests))
     e
-
--- what a reader saw is seen
-pub seen-read : (b : List ℕ) (s t : Seen)
-    → seen b ≡ result_ok (verdict b)
-    → verdict b ≡ Ok (sight s)
-    → s ≡ t
-    → seen b ≡ Some (sight t)
-seen-read b s t law reads same =
-    law ∙ ap (λ (r : Result Sight PacketFault). result_ok r) reads ∙ ap (λ (s : Seen). Some (sight s)) same
 
 -- what arrives is what is seen
 pub arrival-seen : (side : Side) (apid p : ℕ) (b : List ℕ) (s : Option Sight)
@@ -101,7 +90,7 @@ pub uplink_part : (b : List ℕ) (f : Fields) (c : Command) (kind : Kind)
     → c.body ≡ drop 5 f.octets
     → Some kind ≡ carried_kind Up c.service c.subtype
     → seen b ≡ Some (APacket f)
-    → IsFoundIn Craft f b (found.Part kind c.source 5)
+    → IsLayoutIn Craft f b (layout.Part kind c.source 5)
 uplink_part b f c kind is verdict body carried e =
     let s = seen_packet b f e in
     record {
@@ -116,7 +105,7 @@ pub uplink_request : (b : List ℕ) (f : Fields) (c : Command)
     → tc_verdict f ≡ Ok c
     → None ≡ carried_kind Up c.service c.subtype
     → seen b ≡ Some (APacket f)
-    → IsFoundIn Craft f b found.Request
+    → IsLayoutIn Craft f b layout.Request
 uplink_request b f c verdict carried e =
     record {
       within = (seen_packet b f e).short;
@@ -133,7 +122,7 @@ pub downlink_part : (b : List ℕ) (f : Fields) (t : Telemetry) (kind : Kind)
     → t.body ≡ drop 11 f.octets
     → Some kind ≡ carried_kind Down t.service t.subtype
     → seen b ≡ Some (APacket f)
-    → IsFoundIn Ground f b (found.Part kind t.destination 11)
+    → IsLayoutIn Ground f b (layout.Part kind t.destination 11)
 downlink_part b f t kind is verdict body carried e =
     let s = seen_packet b f e in
     record {
@@ -152,7 +141,7 @@ pub downlink_abort : (b : List ℕ) (f : Fields) (t : Telemetry)
     → t.service ≡ 13
     → t.subtype ≡ 16
     → seen b ≡ Some (APacket f)
-    → IsFoundIn Ground f b (found.Abort t.destination 11)
+    → IsLayoutIn Ground f b (layout.Abort t.destination 11)
 downlink_abort b f t is verdict body carried service subtype e =
     let s = seen_packet b f e in
     let reports : ((t.service == 13) && (t.subtype == 16)) ≡ true = grind (arith, nat_tests) in
@@ -167,26 +156,26 @@ downlink_abort b f t is verdict body carried service subtype e =
 -- ---- what is found
 
 -- octets that are no packet
-pub found_unreadable : (side : Side) (apid p : ℕ) (b : List ℕ)
+pub layout_unreadable : (side : Side) (apid p : ℕ) (b : List ℕ)
     → seen b ≡ None
     → IsPartSize p
-    → IsFound side apid p b found.Unreadable
-found_unreadable side apid p b e size = record { part_size = size; within = tt; is = arrival-seen side apid p b None e }
+    → IsLayout side apid p b layout.Unreadable
+layout_unreadable side apid p b e size = record { part_size = size; within = tt; is = arrival-seen side apid p b None e }
 
 -- an idle packet
-pub found_idle : (side : Side) (apid p : ℕ) (b : List ℕ)
+pub layout_idle : (side : Side) (apid p : ℕ) (b : List ℕ)
     → seen b ≡ Some IdlePacket
     → IsPartSize p
-    → IsFound side apid p b found.Idle
-found_idle side apid p b e size = record { part_size = size; within = tt; is = arrival-seen side apid p b (Some IdlePacket) e }
+    → IsLayout side apid p b layout.Idle
+layout_idle side apid p b e size = record { part_size = size; within = tt; is = arrival-seen side apid p b (Some IdlePacket) e }
 
 -- a packet of another APID
-pub found_foreign : (side : Side) (apid p : ℕ) (b : List ℕ) (f : Fields)
+pub layout_foreign : (side : Side) (apid p : ℕ) (b : List ℕ) (f : Fields)
     → seen b ≡ Some (APacket f)
     → (f.apid ≡ apid → ⊥)
     → IsPartSize p
-    → IsFound side apid p b found.Foreign
-found_foreign side apid p b f e other size =
+    → IsLayout side apid p b layout.Foreign
+layout_foreign side apid p b f e other size =
     let differs : (f.apid == apid) ≡ false = grind (arith, nat_tests) in
     record {
       part_size = size;
@@ -196,13 +185,13 @@ found_foreign side apid p b f e other size =
     }
 
 -- a packet of the configured APID
-pub found_packet : (side : Side) (apid p : ℕ) (b : List ℕ) (f : Fields) (x : Found)
+pub layout_packet : (side : Side) (apid p : ℕ) (b : List ℕ) (f : Fields) (x : Layout)
     → seen b ≡ Some (APacket f)
     → f.apid ≡ apid
-    → IsFoundIn side f b x
+    → IsLayoutIn side f b x
     → IsPartSize p
-    → IsFound side apid p b x
-found_packet side apid p b f x e its is size =
+    → IsLayout side apid p b x
+layout_packet side apid p b f x e its is size =
     let same : (f.apid == apid) ≡ true = grind (arith, nat_tests) in
     record {
       part_size = size;

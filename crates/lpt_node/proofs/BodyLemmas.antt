@@ -1,9 +1,9 @@
 -- How long the bodies of parts and of abortion reports are.
 use Rattle.std.proofs.Common.{◌≡◌, ◌+◌, length, arith, length-append, ℕ}
-use Rattle.lpt_execution.specs.LptPacket.Names.{Name}
-use Rattle.lpt_execution.specs.LptPart.declared.reason.Reason.{Reason}
-use Rattle.lpt_execution.specs.LptPart.Aborts.{abort_body}
-use Rattle.lpt_execution.specs.LptPart.Parts.{Piece, body_of}
+use Rattle.lpt_packet.specs.Names.{Name}
+use Rattle.lpt_part.specs.declared.reason.Reason.{Reason}
+use Rattle.lpt_part.specs.Aborts.{abort_body}
+use Rattle.lpt_part.specs.Parts.{Piece, body_of}
 
 -- a part's body has four octets before the part's
 pub length-body_of : (q : Piece) → length (body_of q) ≡ length q.octets + 4

@@ -1,4 +1,4 @@
-pub mod AnewLemmas
+pub mod RestartLemmas
 pub mod ArrivalLemmas
 pub mod BodyLemmas
 pub mod ClaimLemmas
@@ -9,7 +9,3 @@ pub mod ReceiverLemmas
 pub mod SenderLemmas
 pub mod TiedLemmas
 pub mod ExecutionLemmas
-pub use Rattle.lpt_execution.proofs.LptPacket as LptPacket
-pub use Rattle.lpt_execution.proofs.LptMemory as LptMemory
-pub use Rattle.lpt_table.proofs as LptTable
-pub use Rattle.lpt_ledger.proofs as LptLedger

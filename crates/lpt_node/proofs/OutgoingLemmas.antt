@@ -2,16 +2,16 @@
 use Rattle.std.proofs.Common.{◌≡◌, ℕ, ◌+◌, ◌-◌, Bool, true, false, cond, if◌then◌else◌, List, [], length, Option, Some, None, is_some, sym, ap, subst, ◌∙◌, arith}
 use Rattle.std.specs.FinMap as map
 use Rattle.std.specs.Ordering.{eq_by_cmp}
-use Rattle.lpt_execution.proofs.LptPacket.NameLemmas.{name_cmp_total}
-use Rattle.lpt_execution.proofs.LptPacket.NamedLemmas.{value_of, get-by_name, Puts, get-put, by_name-insert, by_name-remove}
-use Rattle.lpt_execution.specs.LptPacket.Names.{Name, name_cmp}
+use Rattle.lpt_packet.proofs.NameLemmas.{name_cmp_total}
+use Rattle.lpt_packet.proofs.NamedLemmas.{value_of, get-by_name, Puts, get-put, by_name-insert, by_name-remove}
+use Rattle.lpt_packet.specs.Names.{Name, name_cmp}
 use Rattle.lpt_node.specs.Nodes.{MessageFits}
 use Rattle.lpt_node.specs.OutgoingInside.{messages_of, IsOutgoing}
 
 abbrev Entries : Type 0
 Entries = List (Name × List ℕ)
 
-module _ (es fs : Entries) (id : Name) where
+module _ (es fs : Entries) (name : Name) where
   module _ (p : ℕ) (k : IsOutgoing p es) where
     either : (b : Bool) (x r : Option (List ℕ)) (m : List ℕ)
         → (x ≡ Some m → MessageFits p (length m))
@@ -23,25 +23,25 @@ module _ (es fs : Entries) (id : Name) where
 
     fits : (x : Option (List ℕ))
         → ((m : List ℕ) → x ≡ Some m → MessageFits p (length m))
-        → Puts es fs id x
+        → Puts es fs name x
         → (q : Name) (m : List ℕ)
         → map.get (messages_of fs) q ≡ Some m
         → MessageFits p (length m)
     fits x f put q m h =
-        either (eq_by_cmp name_cmp q id) x (map.get (messages_of es) q) m (f m) (k.fits q m)
-        (sym (get-put es fs id x q put) ∙ h)
+        either (eq_by_cmp name_cmp q name) x (map.get (messages_of es) q) m (f m) (k.fits q m)
+        (sym (get-put es fs name x q put) ∙ h)
 
     -- what always holds of the entries holds with a message of a new name
     pub IsOutgoing-insert : (m : List ℕ) (old : Option (List ℕ))
         → MessageFits p (length m)
         → old ≡ None
-        → map.get (messages_of es) id ≡ None
+        → map.get (messages_of es) name ≡ None
         → length fs ≡ length es + (if is_some old then 0 else 1)
-        → Puts es fs id (Some m)
+        → Puts es fs name (Some m)
         → IsOutgoing p fs
     IsOutgoing-insert m old fit none absent len put = record {
-      counted = ap (λ m. map.len m) (by_name-insert es fs id m put)
-          ∙ map.len-insert name_cmp_total (messages_of es) id m
+      counted = ap (λ m. map.len m) (by_name-insert es fs name m put)
+          ∙ map.len-insert name_cmp_total (messages_of es) name m
           ∙ ap (λ (x : Option (List ℕ)).
           cond (is_some x) (map.len (messages_of es)) (map.len (messages_of es) + 1)) absent
           ∙ ap (λ (n : ℕ). n + 1) k.counted
@@ -52,16 +52,16 @@ module _ (es fs : Entries) (id : Name) where
 
     -- and without a name's message
     pub IsOutgoing-remove : (old : Option (List ℕ))
-        → old ≡ value_of es id
+        → old ≡ value_of es name
         → length fs + (if is_some old then 1 else 0) ≡ length es
-        → Puts es fs id None
+        → Puts es fs name None
         → IsOutgoing p fs
     IsOutgoing-remove old was len put = record {
-      counted = ap (λ m. map.len m) (by_name-remove es fs id put)
-          ∙ map.len-remove name_cmp_total (messages_of es) id
+      counted = ap (λ m. map.len m) (by_name-remove es fs name put)
+          ∙ map.len-remove name_cmp_total (messages_of es) name
           ∙ ap (λ (x : Option (List ℕ)).
           cond (is_some x) (map.len (messages_of es) - 1) (map.len (messages_of es)))
-          (get-by_name es id ∙ sym was)
+          (get-by_name es name ∙ sym was)
           ∙ ap (λ (n : ℕ). cond (is_some old) (n - 1) n) k.counted
           ∙ less (is_some old) len;
       fits = fits None (λ n h. absurd cc) put;
@@ -76,6 +76,6 @@ module _ (es fs : Entries) (id : Name) where
 pub IsOutgoing-nil : (p : ℕ) → IsOutgoing p []
 IsOutgoing-nil p = record {
   counted = map.len-empty name_cmp (List ℕ);
-  fits = λ id m h.
-      let never : None ≡ Some m = sym (map.get-empty name_cmp id) ∙ h in absurd cc;
+  fits = λ name m h.
+      let never : None ≡ Some m = sym (map.get-empty name_cmp name) ∙ h in absurd cc;
 }

@@ -2,23 +2,22 @@
 use Rattle.std.proofs.Common.{if◌then◌else◌, ◌≡◌, ◌∙◌, ap, sym, refl, ℕ, Bool, true, false, cond, Option, None, is_some, Result, Ok, Err}
 use Rattle.std.specs.FinMap as map
 use Rattle.std.specs.Result.{IfOk, OnOk, OnErr}
-use Rattle.lpt_execution.specs.LptPacket.Names.{Name}
-use Rattle.lpt_execution.specs.LptPart.declared.reason.Reason.{Reason}
-use Rattle.lpt_execution.specs.LptEvents.NamedParts.{NamedPart}
-use Rattle.lpt_execution.specs.LptPus.Telemetry.{Telemetry}
+use Rattle.lpt_part.specs.declared.reason.Reason.{Reason}
+use Rattle.lpt_events.specs.NamedParts.{NamedPart}
+use Rattle.lpt_pus.specs.Telemetry.{Telemetry}
 use Rattle.lpt_ledger.specs.declared.state.State.{State}
 use Rattle.lpt_ledger.specs.declared.state.State.TheVariants.{Free, Open, Closed}
 use Rattle.lpt_ledger.specs.Marks.{Marks, Shut}
 use Rattle.lpt_ledger.specs.States.{state_at, is_free}
-use Rattle.lpt_execution.specs.LptPart.declared.reason.Reason.TheVariants as reason
-use Rattle.lpt_table.specs.LptReception.Received.{Received, Ended, BrokenOff, all_of, is_whole, spelled}
+use Rattle.lpt_part.specs.declared.reason.Reason.TheVariants as reason
+use Rattle.lpt_reception.specs.Received.{Ended, BrokenOff, all_of, is_whole, spelled}
 use Rattle.lpt_table.specs.Offering as offering
-use Rattle.lpt_table.specs.Offering.{OfferKind, TakesOut, at_gap, is_open, offered, parts_at, put_back, received_at, taken_out, with_entry}
+use Rattle.lpt_table.specs.Offering.{OfferKind, TakesOut, at_gap, is_open, offered, parts_at, received_at, taken_out, with_entry}
 use Rattle.lpt_table.specs.declared.offer.Offer.TheVariants.{Memory}
 use Rattle.lpt_table.specs.Offers.{Offers}
 use Rattle.lpt_table.specs.Tables.{Entries, TableState}
-use Rattle.lpt_node.specs.declared.taken.Taken.{Taken}
-use Rattle.lpt_node.specs.declared.taken.Taken.TheVariants as taking
+use Rattle.lpt_node.specs.declared.receipt.Receipt.{Receipt}
+use Rattle.lpt_node.specs.declared.receipt.Receipt.TheVariants as receipt
 use Rattle.lpt_node.specs.Receivers.{ReceiverState, IsReceiver, abort_report, after_offer, ended, grows, if_free, kept_of, parts_with, received, received_from}
 use Rattle.lpt_node.proofs.MapLemmas.{remove-none}
 
@@ -37,7 +36,7 @@ not_free Closed other = refl
 -- a part whose name isn't free is left alone
 pub received-closed : (head : Option Telemetry) (r : ReceiverState) (q : NamedPart) (now : ℕ)
     → (state_at r.ledger q.name ≡ Free → ⊥)
-    → (r, taking.Closed) ≡ received head r q now
+    → (r, receipt.Closed) ≡ received head r q now
 unfolding received
 received-closed head r q now other =
     ap (λ (free : Bool). cond free
@@ -55,7 +54,7 @@ received-closed head r q now other =
       mode = r.mode;
       entries = r.entries;
       out = None;
-    }) q.name q.number (kept_of q) now)) (r, taking.Closed))
+    }) q.name q.number (kept_of q) now)) (r, receipt.Closed))
     (sym (not_free (state_at r.ledger q.name) other))
 
 module _ (head : Option Telemetry) (m : Marks) (old mid : TableState) (q : NamedPart) (now : ℕ)
@@ -87,33 +86,33 @@ module _ (head : Option Telemetry) (m : Marks) (old mid : TableState) (q : Named
   pub received-kept : (es : Entries)
       → offered old q.name q.number (kept_of q) now ≡ (offering.Kept, mid)
       → mid ≡ record old { entries = es }
-      → (view m mid, taking.Kept) ≡ received head seen q now
+      → (view m mid, receipt.Kept) ≡ received head seen q now
   received-kept es e new =
-      (λ i. (within es new i, taking.Kept)) ∙ received-offered offering.Kept e
+      (λ i. (within es new i, receipt.Kept)) ∙ received-offered offering.Kept e
 
   -- the part had been kept
   pub received-again : (es : Entries)
       → offered old q.name q.number (kept_of q) now ≡ (offering.Again, mid)
       → mid ≡ record old { entries = es }
-      → (view m mid, taking.Again) ≡ received head seen q now
+      → (view m mid, receipt.Again) ≡ received head seen q now
   received-again es e new =
-      (λ i. (within es new i, taking.Again)) ∙ received-offered offering.Again e
+      (λ i. (within es new i, receipt.Again)) ∙ received-offered offering.Again e
 
   -- there was no room
   pub received-no_room : offered old q.name q.number (kept_of q) now ≡ (offering.NoRoom, mid)
       → mid ≡ old
-      → (view m mid, taking.NoRoom) ≡ received head seen q now
+      → (view m mid, receipt.NoRoom) ≡ received head seen q now
   received-no_room e new =
-      ap (λ (t : TableState). (view m t, taking.NoRoom)) new ∙ received-offered offering.NoRoom e
+      ap (λ (t : TableState). (view m t, receipt.NoRoom)) new ∙ received-offered offering.NoRoom e
 
   -- there was a gap before a reception was open
-  pub received-gap : {E : Type 0} (r : Result Taken E) (after : Marks)
+  pub received-gap : {E : Type 0} (r : Result Receipt E) (after : Marks)
       → OnOk r (after ≡ map.insert m q.name Shut)
-      → IfOk r (λ t. t ≡ taking.Broken reason.Discontinuity (abort_report head q.name reason.Discontinuity))
+      → IfOk r (λ t. t ≡ receipt.Conflict reason.Discontinuity (abort_report head q.name reason.Discontinuity))
       → offered old q.name q.number (kept_of q) now ≡ (offering.Gap, mid)
       → is_open old q.name ≡ false
       → mid ≡ old
-      → IfOk r (λ t. ◌≡◌ {A = ReceiverState × Taken} (view after mid, t) (received head seen q now))
+      → IfOk r (λ t. ◌≡◌ {A = ReceiverState × Receipt} (view after mid, t) (received head seen q now))
   received-gap (Ok t) after a is e none new =
       (λ i. (
         record (view m (new i)) {
@@ -126,38 +125,38 @@ module _ (head : Option Telemetry) (m : Marks) (old mid : TableState) (q : Named
       ∙ received-offered offering.Gap e
   received-gap (Err x) after a is e none new = tt
 
-  module _ {E : Type 0} (r : Result Taken E) (after : Marks) (new : TableState)
+  module _ {E : Type 0} (r : Result Receipt E) (after : Marks) (new : TableState)
       (shut : OnOk r (after ≡ map.insert m q.name Shut))
       (settled : OnOk r (new ≡ record mid { out = None })) (out : TakesOut old mid q.name) where
     -- a whole message came out
     pub received-whole : (w : Ended)
-        → IfOk r (λ t. t ≡ taking.Whole (spelled (all_of w)))
+        → IfOk r (λ t. t ≡ receipt.Whole (spelled (all_of w)))
         → offered old q.name q.number (kept_of q) now ≡ (offering.Whole, mid)
         → w ≡ record { before = received_at old q.name; number = q.number; kept = kept_of q }
-        → IfOk r (λ t. ◌≡◌ {A = ReceiverState × Taken} (view after new, t) (received head seen q now))
+        → IfOk r (λ t. ◌≡◌ {A = ReceiverState × Receipt} (view after new, t) (received head seen q now))
     received-whole w answer e all = by_answer r shut settled answer where
-      by_answer : (r : Result Taken E)
+      by_answer : (r : Result Receipt E)
           → OnOk r (after ≡ map.insert m q.name Shut)
           → OnOk r (new ≡ record mid { out = None })
-          → IfOk r (λ t. t ≡ taking.Whole (spelled (all_of w)))
-          → IfOk r (λ t. ◌≡◌ {A = ReceiverState × Taken} (view after new, t) (received head seen q now))
+          → IfOk r (λ t. t ≡ receipt.Whole (spelled (all_of w)))
+          → IfOk r (λ t. ◌≡◌ {A = ReceiverState × Receipt} (view after new, t) (received head seen q now))
       by_answer (Ok t) a b is =
           (λ i. (view (a i) ((b ∙ ap (λ (t : TableState). record t { out = None }) out.now) i), is i))
-          ∙ ap (λ (w : Ended). (ended (view m old) q.name, taking.Whole (spelled (all_of w)))) all
+          ∙ ap (λ (w : Ended). (ended (view m old) q.name, receipt.Whole (spelled (all_of w)))) all
           ∙ received-offered offering.Whole e
       by_answer (Err x) a b is = tt
 
     -- a reception that was broken off came out
     pub received-broken : (b : BrokenOff)
-        → IfOk r (λ t. t ≡ taking.Broken b.reason (abort_report head q.name b.reason))
+        → IfOk r (λ t. t ≡ receipt.Conflict b.reason (abort_report head q.name b.reason))
         → offered old q.name q.number (kept_of q) now ≡ (offering.Conflict b.reason, mid)
-        → IfOk r (λ t. ◌≡◌ {A = ReceiverState × Taken} (view after new, t) (received head seen q now))
+        → IfOk r (λ t. ◌≡◌ {A = ReceiverState × Receipt} (view after new, t) (received head seen q now))
     received-broken b answer e = by_answer r shut settled answer where
-      by_answer : (r : Result Taken E)
+      by_answer : (r : Result Receipt E)
           → OnOk r (after ≡ map.insert m q.name Shut)
           → OnOk r (new ≡ record mid { out = None })
-          → IfOk r (λ t. t ≡ taking.Broken b.reason (abort_report head q.name b.reason))
-          → IfOk r (λ t. ◌≡◌ {A = ReceiverState × Taken} (view after new, t) (received head seen q now))
+          → IfOk r (λ t. t ≡ receipt.Conflict b.reason (abort_report head q.name b.reason))
+          → IfOk r (λ t. ◌≡◌ {A = ReceiverState × Receipt} (view after new, t) (received head seen q now))
       by_answer (Ok t) a s is =
           (λ i. (view (a i) ((s ∙ ap (λ (t : TableState). record t { out = None }) out.now) i), is i))
           ∙ received-offered (offering.Conflict b.reason) e
@@ -178,7 +177,7 @@ module _ (head : Option Telemetry) (m : Marks) (old mid : TableState) (q : Named
       → grows (after_offer head (view m old) q.name (parts_with old q) kind mid.entries).1
       ≡ grows (received head seen q now).1
   as_offered kind e =
-      ap (λ (x : ReceiverState × Taken). grows x.1)
+      ap (λ (x : ReceiverState × Receipt). grows x.1)
       (received-offered head m old mid q now seen is sound free kind e)
 
   -- a message is let out
@@ -222,20 +221,7 @@ module _ (head : Option Telemetry) (m : Marks) (old mid : TableState) (q : Named
   unfolding offered
   grows-kept h =
       let o = offered old q.name q.number (kept_of q) now in
-      sym (ap (λ (x : ReceiverState × Taken). grows x.1)
+      sym (ap (λ (x : ReceiverState × Receipt). grows x.1)
       (received-offered head m old o.1 q now seen is sound free o.0 refl))
       ∙ (λ i. grows_as (made (h.0 i) (h.1.0.new.agrees i) (is_some (h.1.0.new.absent i)) (h.1.0.in_order i) (is_whole (parts_with old q))))
       ∙ kept_or_whole (is_whole (parts_with old q))
-
--- what came out is put back
-pub put_back-same : {X E : Type 0} (r : Result X E) (m after : Marks) (old mid new : TableState)
-    (id : Name) (before : Received) (seen : ReceiverState)
-    → view m old ≡ seen
-    → OnErr r (after ≡ m)
-    → OnErr r (new ≡ put_back mid id before.parts)
-    → before ≡ received_at old id
-    → put_back mid id (parts_at old id) ≡ old
-    → OnErr r (view after new ≡ seen)
-put_back-same (Ok x) m after old mid new id before seen v a b is law = tt
-put_back-same (Err x) m after old mid new id before seen v a b is law =
-    (λ i. view (a i) ((b ∙ ap (λ (s : Received). put_back mid id s.parts) is ∙ law) i)) ∙ v

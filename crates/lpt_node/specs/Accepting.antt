@@ -1,15 +1,15 @@
 -- What an end does with a packet that is delivered to it.
 use Rattle.std.specs.Prelude.{◌≡◌, ◌+◌, ◌<◌, ◌^◌, Bool, true, false}
-use Rattle.lpt_execution.specs.LptEvents.declared.side.Side.{Side}
-use Rattle.lpt_execution.specs.LptEvents.declared.config.Config.{Config}
+use Rattle.lpt_events.specs.declared.side.Side.{Side}
+use Rattle.lpt_events.specs.declared.config.Config.{Config}
 use Rattle.lpt_node.specs.declared.accepted.Accepted.{Accepted}
-use Rattle.lpt_execution.specs.LptEvents.declared.outcome.Outcome.{Outcome}
-use Rattle.lpt_execution.specs.LptEvents.declared.outcome.Outcome.TheVariants as outcome
-use Rattle.lpt_execution.specs.LptEvents.declared.outcome.Why.TheVariants as why
-use Rattle.lpt_execution.specs.LptEvents.Arrivals.{Arrival, NotRead, AnIdle, Foreign, ARequest, AReport, NoPart, APart, AnAbort}
+use Rattle.lpt_events.specs.declared.outcome.Outcome.{Outcome}
+use Rattle.lpt_events.specs.declared.outcome.Outcome.TheVariants as outcome
+use Rattle.lpt_events.specs.declared.outcome.Why.TheVariants as why
+use Rattle.lpt_events.specs.Arrivals.{Arrival, NotRead, AnIdle, Foreign, ARequest, AReport, NoPart, APart, AnAbort}
 use Rattle.lpt_jobs.specs.Jobs.{numbered}
 use Rattle.lpt_node.specs.Nodes.{NodeData, NodeView}
-use Rattle.lpt_node.specs.Origins.{Origin}
+use Rattle.lpt_node.specs.ParsedViews.{ParsedView}
 use Rattle.lpt_node.specs.Sending.{closed}
 use Rattle.lpt_node.specs.Receiving.{noted, ignored, plain_released, with_job, parted}
 
@@ -21,11 +21,11 @@ accepted side c d Foreign = (d, ignored why.ForeignApid)
 accepted side c d (ARequest b) = (with_job side d b, plain_released b)
 accepted side c d (AReport service subtype) = (d, noted (outcome.ReportNoted service subtype))
 accepted side c d NoPart = (d, ignored why.BadPart)
-accepted side c d (AnAbort id reason) = (closed d id, noted (outcome.AbortNoted id reason))
+accepted side c d (AnAbort name reason) = (closed d name, noted (outcome.AbortNoted name reason))
 accepted side c d (APart q) = parted side c d q
 
 -- the packet was read for this end, and there is a number for one job more
-pub record IsFor (n : NodeView) (o : Origin) : Type 0 where
+pub record IsFor (n : NodeView) (o : ParsedView) : Type 0 where
   pub side : o.side ≡ n.side
   pub apid : o.apid ≡ n.config.apid
   pub p : o.p ≡ n.config.part_size
@@ -33,13 +33,13 @@ pub record IsFor (n : NodeView) (o : Origin) : Type 0 where
 
 -- whether memory is taken for an outcome: a part is kept, a message released, or a reception broken off
 abbrev pub takes_memory : Outcome → Bool
-takes_memory (outcome.Kept id number) = true
-takes_memory (outcome.Again id number) = false
-takes_memory (outcome.Released id len) = true
+takes_memory (outcome.Kept name number) = true
+takes_memory (outcome.Again name number) = false
+takes_memory (outcome.Released name len) = true
 takes_memory (outcome.PlainReleased len) = true
 takes_memory (outcome.ReportNoted service subtype) = false
-takes_memory (outcome.AbortNoted id reason) = false
-takes_memory (outcome.Broken id reason) = true
+takes_memory (outcome.AbortNoted name reason) = false
+takes_memory (outcome.Broken name reason) = true
 takes_memory (outcome.Ignored w) = false
 
 -- the same of an answer

@@ -1,6 +1,6 @@
 -- Why a call would be refused now.
 use Rattle.std.specs.Prelude.{Option}
-use Rattle.lpt_execution.specs.LptEvents.declared.config.Config.{Config}
+use Rattle.lpt_events.specs.declared.config.Config.{Config}
 use Rattle.lpt_node.specs.declared.ask.Ask.{Ask}
 use Rattle.lpt_node.specs.declared.ask.Ask.TheVariants.{Open, Send, Plain, Finish, Tick, Expire, Claim, Apply}
 use Rattle.lpt_node.specs.declared.fault.NodeFault.{NodeFault}
@@ -12,10 +12,10 @@ use Rattle.lpt_node.specs.Times.{refusal_tick, refusal_expire}
 
 -- the first reason why the call would be refused, out of memory aside
 abbrev pub refusal_of : Config → NodeData → Ask → Option NodeFault
-refusal_of c d (Open id len) = refusal_open c d id len
-refusal_of c d (Send id k) = refusal_send c d id k
+refusal_of c d (Open name len) = refusal_open c d name len
+refusal_of c d (Send name k) = refusal_send c d name k
 refusal_of c d (Plain service subtype len) = refusal_plain c service subtype len
-refusal_of c d (Finish id) = refusal_finish d id
+refusal_of c d (Finish name) = refusal_finish d name
 refusal_of c d Tick = refusal_tick d
 refusal_of c d Expire = refusal_expire c d
 refusal_of c d Claim = refusal_claim d

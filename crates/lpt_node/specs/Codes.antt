@@ -2,17 +2,17 @@
 use Rattle.std.specs.Prelude.{◌≡◌, ℕ, Bool, true, false, List, refl}
 use Rattle.std.specs.Coded.{Coded, code_by, coded×, coded_ℕ, coded_bool, coded_list}
 use Rattle.lpt_ledger.specs.Marks.{Marks, coded_marks}
-use Rattle.lpt_table.specs.LptReception.Codes.{coded_mode}
+use Rattle.lpt_reception.specs.Codes.{coded_mode}
 use Rattle.lpt_table.specs.Tables.{Entries, coded_entries}
-use Rattle.lpt_execution.specs.LptPart.declared.mode.Mode.{Mode}
-use Rattle.lpt_execution.specs.LptEvents.declared.side.Side.{Side}
-use Rattle.lpt_execution.specs.LptEvents.declared.side.Side.TheVariants.{Ground, Craft}
-use Rattle.lpt_execution.specs.LptEvents.declared.config.Config.{Config}
+use Rattle.lpt_part.specs.declared.mode.Mode.{Mode}
+use Rattle.lpt_events.specs.declared.side.Side.{Side}
+use Rattle.lpt_events.specs.declared.side.Side.TheVariants.{Ground, Craft}
+use Rattle.lpt_events.specs.declared.config.Config.{Config}
 use Rattle.lpt_jobs.specs.Codes.{coded_jobs}
 use Rattle.lpt_jobs.specs.Jobs.{Jobs}
 use Rattle.lpt_node.specs.Nodes.{Messages, Sending, Receiving, NodeData, NodeView, is_craft}
 use Rattle.lpt_node.specs.NodeInside.{coded_messages}
-use Rattle.lpt_node.specs.Origins.{Origin}
+use Rattle.lpt_node.specs.ParsedViews.{ParsedView}
 
 -- the side that is, or isn't, the spacecraft
 abbrev pub side_of : Bool → Side
@@ -80,8 +80,8 @@ coded_node =
     (λ v. (v.side, (v.config, v.at))) (λ q. record { side = q.0; config = q.1.0; at = q.1.1 }) (λ _. refl)
 
 -- the code of what a packet was read from
-abbrev pub coded_origin : Coded Origin
-coded_origin =
+abbrev pub coded_parsed : Coded ParsedView
+coded_parsed =
     code_by (List ℕ × (Side × (ℕ × ℕ))) (coded× (coded_list coded_ℕ) (coded× coded_side (coded× coded_ℕ coded_ℕ)))
     (λ o. (o.octets, (o.side, (o.apid, o.p))))
     (λ q. record { octets = q.0; side = q.1.0; apid = q.1.1.0; p = q.1.1.1 })

@@ -1,8 +1,8 @@
 -- What is made for an execution before anything is changed.
 use Rattle.std.specs.Prelude.{ℕ, List, []}
-use Rattle.lpt_execution.specs.LptMemory.Memories.{Contents}
-use Rattle.lpt_execution.specs.LptMemory.Readings.{Source}
-use Rattle.lpt_execution.specs.LptEvents.declared.config.Config.{Config}
+use Rattle.lpt_memory.specs.Memories.{Contents}
+use Rattle.lpt_memory.specs.Readings.{Source}
+use Rattle.lpt_events.specs.declared.config.Config.{Config}
 use Rattle.lpt_execution.specs.declared.ending.Report.{Report}
 use Rattle.lpt_execution.specs.Reporting.{message_reports, request_source}
 use Rattle.lpt_jobs.specs.Jobs.{Head, NoJob, NotReady, Ready}

@@ -1,6 +1,6 @@
 -- A node's faults, as a world tells them.
-use Rattle.lpt_execution.specs.LptEvents.declared.fault.StepFault.{StepFault}
-use Rattle.lpt_execution.specs.LptEvents.declared.fault.StepFault.TheVariants as step
+use Rattle.lpt_events.specs.declared.fault.StepFault.{StepFault}
+use Rattle.lpt_events.specs.declared.fault.StepFault.TheVariants as step
 use Rattle.lpt_node.specs.declared.fault.NodeFault.{NodeFault}
 use Rattle.lpt_node.specs.declared.fault.NodeFault.TheVariants as node
 

@@ -1,17 +1,17 @@
 -- What an end does with the requests that it has released: claims, commits and executions.
 use Rattle.std.specs.Prelude.{◌≡◌, ℕ, ◌==◌, nat_lt, Bool, true, false, if◌then◌else◌, List, [], ◌∷◌, Option, Some, None, is_some}
 use Rattle.std.specs.FinMap as map
-use Rattle.lpt_execution.specs.LptPacket.Names.{Name}
-use Rattle.lpt_execution.specs.LptMemory.Effects.{answer}
-use Rattle.lpt_execution.specs.LptMemory.Memories.{Contents, sizes_of, effect}
-use Rattle.lpt_execution.specs.LptMemory.Readings.{Source, Job as Ticket, meant}
+use Rattle.lpt_packet.specs.Names.{Name}
+use Rattle.lpt_memory.specs.Effects.{answer}
+use Rattle.lpt_memory.specs.Memories.{Contents, sizes_of, effect}
+use Rattle.lpt_memory.specs.Readings.{Source, Job as Ticket, meant}
 use Rattle.lpt_jobs.specs.Jobs.{Head, NoJob as NoHead, NotReady as HeadNotReady, Ready, head_of, unclaimed, after_claim, after_commit, without_front}
 use Rattle.lpt_ledger.specs.LeastFree.{least_free_in}
-use Rattle.lpt_execution.specs.LptEvents.declared.applied.Applied.{Applied}
-use Rattle.lpt_execution.specs.LptEvents.declared.applied.Applied.TheVariants.{Silent}
-use Rattle.lpt_execution.specs.LptEvents.declared.config.Config.{Config}
-use Rattle.lpt_execution.specs.LptEvents.TelemetryKinds.{service_of, subtype_of}
-use Rattle.lpt_execution.specs.LptEvents.MadePackets.{tm_made}
+use Rattle.lpt_events.specs.declared.applied.Applied.{Applied}
+use Rattle.lpt_events.specs.declared.applied.Applied.TheVariants.{Silent}
+use Rattle.lpt_events.specs.declared.config.Config.{Config}
+use Rattle.lpt_events.specs.TelemetryKinds.{service_of, subtype_of}
+use Rattle.lpt_events.specs.MadePackets.{tm_made}
 use Rattle.lpt_execution.specs.declared.ending.Ending.{Ending}
 use Rattle.lpt_execution.specs.declared.ending.Report.{Report}
 use Rattle.lpt_execution.specs.Endings.{ending}

@@ -2,11 +2,11 @@
 use Rattle.std.specs.Prelude.{◌≡◌, ℕ, is_some, refl}
 use Rattle.std.specs.Coded.{Coded, code_by, coded×, coded_ℕ, coded_list}
 use Rattle.std.specs.FinMap as map
-use Rattle.lpt_execution.specs.LptPacket.Names.{Name, coded_name}
+use Rattle.lpt_packet.specs.Names.{Name, coded_name}
 use Rattle.lpt_ledger.specs.Marks.{Marks}
 use Rattle.lpt_ledger.specs.States.{state_at}
-use Rattle.lpt_execution.specs.LptEvents.declared.config.Config.{Config}
-use Rattle.lpt_execution.specs.LptEvents.Configs.{IsConfig}
+use Rattle.lpt_events.specs.declared.config.Config.{Config}
+use Rattle.lpt_events.specs.Configs.{IsConfig}
 use Rattle.lpt_node.specs.Nodes.{Messages, is_open}
 use Rattle.lpt_node.specs.Receivers.{ReceiverState}
 
@@ -34,7 +34,7 @@ pub record IsConfigured (c : Config) (r : ReceiverState) : Type 0 where
 
 -- a message is kept exactly where the sender is open
 abbrev pub AreKept : Marks → Messages → Type 0
-AreKept m messages = (id : Name) → is_some (map.get messages id) ≡ is_open (state_at m id)
+AreKept m messages = (name : Name) → is_some (map.get messages name) ≡ is_open (state_at m name)
 
 -- what always holds of an end: its configuration is in range, receiver and open messages are for it,
 -- and the messages are those of the open senders

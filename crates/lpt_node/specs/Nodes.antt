@@ -1,18 +1,18 @@
 -- One end of the link as plain data.
 use Rattle.std.specs.Prelude.{ℕ, ◌<◌, ◌≤◌, Bool, true, false, List, Option}
 use Rattle.std.specs.FinMap as map
-use Rattle.lpt_execution.specs.LptPacket.declared.direction.Direction.{Direction}
-use Rattle.lpt_execution.specs.LptPacket.declared.direction.Direction.TheVariants.{Up, Down}
-use Rattle.lpt_execution.specs.LptPacket.Names.{Name, name_cmp}
+use Rattle.lpt_packet.specs.declared.direction.Direction.{Direction}
+use Rattle.lpt_packet.specs.declared.direction.Direction.TheVariants.{Up, Down}
+use Rattle.lpt_packet.specs.Names.{Name, name_cmp}
 use Rattle.lpt_ledger.specs.declared.state.State.{State}
 use Rattle.lpt_ledger.specs.declared.state.State.TheVariants.{Free, Open, Closed}
 use Rattle.lpt_ledger.specs.Marks.{Marks}
 use Rattle.lpt_table.specs.Tables.{Entries}
-use Rattle.lpt_execution.specs.LptEvents.declared.side.Side.{Side}
-use Rattle.lpt_execution.specs.LptEvents.declared.side.Side.TheVariants.{Ground, Craft}
-use Rattle.lpt_execution.specs.LptEvents.declared.config.Config.{Config}
+use Rattle.lpt_events.specs.declared.side.Side.{Side}
+use Rattle.lpt_events.specs.declared.side.Side.TheVariants.{Ground, Craft}
+use Rattle.lpt_events.specs.declared.config.Config.{Config}
 use Rattle.lpt_node.specs.Counting.{no_types}
-use Rattle.lpt_execution.specs.LptPacket.Sizes.{longest_packet}
+use Rattle.lpt_packet.specs.Sizes.{longest_packet}
 use Rattle.lpt_jobs.specs.Jobs.{Jobs, no_jobs}
 
 -- the messages of the open outgoing transactions, by their names
@@ -70,7 +70,7 @@ is_open Closed = false
 
 -- the message of an open outgoing transaction
 abbrev pub message_at : NodeData → Name → Option (List ℕ)
-message_at d id = map.get d.sending.messages id
+message_at d name = map.get d.sending.messages name
 
 -- an end at which nothing has happened
 abbrev pub no_data : Config → NodeData

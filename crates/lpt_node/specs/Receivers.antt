@@ -2,26 +2,26 @@
 use Rattle.std.specs.Prelude.{Bool, true, false, ◌≡◌, ℕ, ◌≤◌, if◌then◌else◌, List, length, Option, Some, None, refl}
 use Rattle.std.specs.Coded.{Coded, code_by, coded×, coded_ℕ}
 use Rattle.std.specs.FinMap as map
-use Rattle.lpt_execution.specs.LptPacket.Names.{Name}
-use Rattle.lpt_execution.specs.LptPacket.Packets.{spelling}
-use Rattle.lpt_execution.specs.LptPus.Telemetry.{Telemetry, tm_packet_of}
-use Rattle.lpt_execution.specs.LptPart.declared.reason.Reason.{Reason}
-use Rattle.lpt_execution.specs.LptEvents.NamedParts.{NamedPart}
-use Rattle.lpt_execution.specs.LptPart.Aborts.{abort_body}
+use Rattle.lpt_packet.specs.Names.{Name}
+use Rattle.lpt_packet.specs.Packets.{spelling}
+use Rattle.lpt_pus.specs.Telemetry.{Telemetry, tm_packet_of}
+use Rattle.lpt_part.specs.declared.reason.Reason.{Reason}
+use Rattle.lpt_events.specs.NamedParts.{NamedPart}
+use Rattle.lpt_part.specs.Aborts.{abort_body}
 use Rattle.lpt_ledger.specs.declared.state.State.{State}
 use Rattle.lpt_ledger.specs.declared.state.State.TheVariants.{Free, Open, Closed}
 use Rattle.lpt_ledger.specs.Marks.{Marks, Shut, coded_marks}
 use Rattle.lpt_ledger.specs.States.{state_at, is_free}
-use Rattle.lpt_execution.specs.LptPart.declared.mode.Mode.{Mode}
-use Rattle.lpt_table.specs.LptReception.Codes.{coded_mode}
-use Rattle.lpt_execution.specs.LptPart.declared.reason.Reason.TheVariants as reason
-use Rattle.lpt_table.specs.LptReception.Received.{Kept, Parts, with_part, spelled}
+use Rattle.lpt_part.specs.declared.mode.Mode.{Mode}
+use Rattle.lpt_reception.specs.Codes.{coded_mode}
+use Rattle.lpt_part.specs.declared.reason.Reason.TheVariants as reason
+use Rattle.lpt_reception.specs.Received.{Kept, Parts, with_part, spelled}
 use Rattle.lpt_table.specs.Tables.{Entries, TableEntry, TableState, coded_entries}
 use Rattle.lpt_table.specs.Offering.{OfferKind, parts_at, offered}
 use Rattle.lpt_table.specs.Offering as offering
-use Rattle.lpt_node.specs.declared.taken.Taken.{Taken}
-use Rattle.lpt_execution.specs.LptPacket.Sizes.{longest_packet}
-use Rattle.lpt_node.specs.declared.taken.Taken.TheVariants as taking
+use Rattle.lpt_node.specs.declared.receipt.Receipt.{Receipt}
+use Rattle.lpt_packet.specs.Sizes.{longest_packet}
+use Rattle.lpt_node.specs.declared.receipt.Receipt.TheVariants as receipt
 
 -- how many receptions may be open, the time-out in ticks, the part size, the state of each name,
 -- and the open receptions
@@ -55,7 +55,7 @@ IsTied Closed e = e ≡ None
 
 -- each name's state and reception are tied
 abbrev pub AllTied : Marks → Entries → Type 0
-AllTied m es = (id : Name) → IsTied (state_at m id) (map.get es id)
+AllTied m es = (name : Name) → IsTied (state_at m name) (map.get es name)
 
 -- what always holds of a receiver: no reception is out of the table, and all names are tied
 pub record IsReceiver (m : Marks) (t : TableState) : Type 0 where
@@ -66,12 +66,12 @@ pub record IsReceiver (m : Marks) (t : TableState) : Type 0 where
 
 -- the report that a reception was broken off, with this head
 abbrev pub abort_packet : Telemetry → Name → Reason → List ℕ
-abort_packet head id reason = spelling (tm_packet_of (record head { body = abort_body id.id reason }))
+abort_packet head name reason = spelling (tm_packet_of (record head { body = abort_body name.id reason }))
 
 -- the report that a reception was broken off, where reports have a head
 abbrev pub abort_report : Option Telemetry → Name → Reason → Option (List ℕ)
-abort_report None id reason = None
-abort_report (Some head) id reason = Some (abort_packet head id reason)
+abort_report None name reason = None
+abort_report (Some head) name reason = Some (abort_packet head name reason)
 
 -- ---- parts
 
@@ -85,8 +85,8 @@ parts_with t q = with_part (parts_at t q.name) q.number (kept_of q)
 
 -- a reception has ended: its name is closed, and nothing is kept under it
 abbrev pub ended : ReceiverState → Name → ReceiverState
-ended r id =
-    record r { ledger = map.insert r.ledger id Shut; entries = map.remove r.entries id }
+ended r name =
+    record r { ledger = map.insert r.ledger name Shut; entries = map.remove r.entries name }
 
 -- what an offer came to, and these receptions with it; the part's reception has these parts with
 -- it, and reports of abortions have this head, or none is made
@@ -96,15 +96,18 @@ abbrev pub after_offer : Option Telemetry
     → Parts
     → OfferKind
     → Entries
-    → ReceiverState × Taken
-after_offer head r id parts offering.Kept es = (record r { entries = es }, taking.Kept)
-after_offer head r id parts offering.Again es = (record r { entries = es }, taking.Again)
-after_offer head r id parts offering.Gap es =
-    (ended r id, taking.Broken reason.Discontinuity (abort_report head id reason.Discontinuity))
-after_offer head r id parts offering.NoRoom es = (r, taking.NoRoom)
-after_offer head r id parts offering.Whole es = (ended r id, taking.Whole (spelled parts))
-after_offer head r id parts (offering.Conflict reason) es =
-    (ended r id, taking.Broken reason (abort_report head id reason))
+    → ReceiverState × Receipt
+after_offer head r name parts offering.Kept es = (record r { entries = es }, receipt.Kept)
+after_offer head r name parts offering.Again es = (record r { entries = es }, receipt.Again)
+after_offer head r name parts offering.Gap es = (
+  ended r name,
+  receipt.Conflict reason.Discontinuity
+      (abort_report head name reason.Discontinuity),
+)
+after_offer head r name parts offering.NoRoom es = (r, receipt.NoRoom)
+after_offer head r name parts offering.Whole es = (ended r name, receipt.Whole (spelled parts))
+after_offer head r name parts (offering.Conflict reason) es =
+    (ended r name, receipt.Conflict reason (abort_report head name reason))
 
 -- the same, of both together
 abbrev pub received_from : Option Telemetry
@@ -112,15 +115,15 @@ abbrev pub received_from : Option Telemetry
     → Name
     → Parts
     → OfferKind × TableState
-    → ReceiverState × Taken
-received_from head r id parts o = after_offer head r id parts o.0 o.1.entries
+    → ReceiverState × Receipt
+received_from head r name parts o = after_offer head r name parts o.0 o.1.entries
 
 -- a part is taken where its name is free
-abbrev pub if_free : State → ReceiverState → ReceiverState × Taken → ReceiverState × Taken
-if_free s r x = if is_free s then x else (r, taking.Closed)
+abbrev pub if_free : State → ReceiverState → ReceiverState × Receipt → ReceiverState × Receipt
+if_free s r x = if is_free s then x else (r, receipt.Closed)
 
 -- what a receiver makes of a part at this tick
-unfoldable pub received : Option Telemetry → ReceiverState → NamedPart → ℕ → ReceiverState × Taken
+unfoldable pub received : Option Telemetry → ReceiverState → NamedPart → ℕ → ReceiverState × Receipt
 received head r q now =
     if_free (state_at r.ledger q.name) r
     (received_from head r q.name (parts_with (table_in r) q)
@@ -134,19 +137,19 @@ pub record IsSameReceiver (old new : ReceiverState) : Type 0 where
   pub mode : new.mode ≡ old.mode
 
 -- whether memory is taken for it: a part is kept, a message let out, or a reception broken off
-abbrev pub grows : Taken → Bool
-grows taking.Closed = false
-grows taking.Kept = true
-grows taking.Again = false
-grows taking.NoRoom = false
-grows (taking.Whole m) = true
-grows (taking.Broken reason packet) = true
+abbrev pub grows : Receipt → Bool
+grows receipt.Closed = false
+grows receipt.Kept = true
+grows receipt.Again = false
+grows receipt.NoRoom = false
+grows (receipt.Whole m) = true
+grows (receipt.Conflict reason packet) = true
 
 -- a message that was taken as whole is no longer than a packet
-abbrev pub IsShort : Taken → Type 0
-IsShort taking.Closed = Unit {0}
-IsShort taking.Kept = Unit {0}
-IsShort taking.Again = Unit {0}
-IsShort taking.NoRoom = Unit {0}
-IsShort (taking.Whole m) = length m ≤ longest_packet
-IsShort (taking.Broken reason packet) = Unit {0}
+abbrev pub IsShort : Receipt → Type 0
+IsShort receipt.Closed = Unit {0}
+IsShort receipt.Kept = Unit {0}
+IsShort receipt.Again = Unit {0}
+IsShort receipt.NoRoom = Unit {0}
+IsShort (receipt.Whole m) = length m ≤ longest_packet
+IsShort (receipt.Conflict reason packet) = Unit {0}

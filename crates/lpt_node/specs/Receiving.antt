@@ -1,21 +1,21 @@
 -- What an end does with a part that is delivered to it.
 use Rattle.std.specs.Prelude.{ℕ, List, [], length, Option, Some, None}
-use Rattle.lpt_execution.specs.LptPacket.Names.{Name}
-use Rattle.lpt_execution.specs.LptPus.Telemetry.{Telemetry}
-use Rattle.lpt_execution.specs.LptEvents.NamedParts.{NamedPart}
-use Rattle.lpt_execution.specs.LptEvents.declared.side.Side.{Side}
-use Rattle.lpt_execution.specs.LptEvents.declared.side.Side.TheVariants.{Ground, Craft}
-use Rattle.lpt_execution.specs.LptEvents.declared.config.Config.{Config}
-use Rattle.lpt_execution.specs.LptEvents.declared.outcome.Outcome.{Outcome}
-use Rattle.lpt_execution.specs.LptEvents.declared.outcome.Outcome.TheVariants as outcome
-use Rattle.lpt_execution.specs.LptEvents.declared.outcome.Why.{Why}
-use Rattle.lpt_execution.specs.LptEvents.declared.outcome.Why.TheVariants as why
+use Rattle.lpt_packet.specs.Names.{Name}
+use Rattle.lpt_pus.specs.Telemetry.{Telemetry}
+use Rattle.lpt_events.specs.NamedParts.{NamedPart}
+use Rattle.lpt_events.specs.declared.side.Side.{Side}
+use Rattle.lpt_events.specs.declared.side.Side.TheVariants.{Ground, Craft}
+use Rattle.lpt_events.specs.declared.config.Config.{Config}
+use Rattle.lpt_events.specs.declared.outcome.Outcome.{Outcome}
+use Rattle.lpt_events.specs.declared.outcome.Outcome.TheVariants as outcome
+use Rattle.lpt_events.specs.declared.outcome.Why.{Why}
+use Rattle.lpt_events.specs.declared.outcome.Why.TheVariants as why
 use Rattle.lpt_node.specs.declared.accepted.Accepted.{Accepted}
-use Rattle.lpt_node.specs.declared.taken.Taken.{Taken}
-use Rattle.lpt_node.specs.declared.taken.Taken.TheVariants as taking
-use Rattle.lpt_execution.specs.LptEvents.declared.telemetry.TelemetryKind.TheVariants.{Abort}
+use Rattle.lpt_node.specs.declared.receipt.Receipt.{Receipt}
+use Rattle.lpt_node.specs.declared.receipt.Receipt.TheVariants as receipt
+use Rattle.lpt_events.specs.declared.telemetry.TelemetryKind.TheVariants.{Abort}
 use Rattle.lpt_node.specs.Counting.{counter_of}
-use Rattle.lpt_execution.specs.LptEvents.MadePackets.{telemetry_made}
+use Rattle.lpt_events.specs.MadePackets.{telemetry_made}
 use Rattle.lpt_jobs.specs.Jobs.{Jobs, after_push}
 use Rattle.lpt_node.specs.Nodes.{Receiving, NodeData}
 use Rattle.lpt_node.specs.Receivers.{ReceiverState, received}
@@ -64,30 +64,30 @@ abbrev pub with_job : Side → NodeData → List ℕ → NodeData
 with_job side d m = record d { jobs = jobs_with side d.jobs m }
 
 -- the jobs, by what a receiver made of a part
-abbrev pub jobs_after : Side → Jobs → Taken → Jobs
-jobs_after side q taking.Closed = q
-jobs_after side q taking.Kept = q
-jobs_after side q taking.Again = q
-jobs_after side q taking.NoRoom = q
-jobs_after side q (taking.Whole m) = jobs_with side q m
-jobs_after side q (taking.Broken reason packet) = q
+abbrev pub jobs_after : Side → Jobs → Receipt → Jobs
+jobs_after side q receipt.Closed = q
+jobs_after side q receipt.Kept = q
+jobs_after side q receipt.Again = q
+jobs_after side q receipt.NoRoom = q
+jobs_after side q (receipt.Whole m) = jobs_with side q m
+jobs_after side q (receipt.Conflict reason packet) = q
 
 -- the end and its answer, by what its receiver made of a part
-abbrev pub after_taken : Side → NodeData → Name → ℕ → Taken → NodeData × Accepted
-after_taken side d id number taking.Closed = (d, ignored why.Closed)
-after_taken side d id number taking.Kept = (d, noted (outcome.Kept id number))
-after_taken side d id number taking.Again = (d, noted (outcome.Again id number))
-after_taken side d id number taking.NoRoom = (d, ignored why.NoRoom)
-after_taken side d id number (taking.Whole m) = (
+abbrev pub after_receipt : Side → NodeData → Name → ℕ → Receipt → NodeData × Accepted
+after_receipt side d name number receipt.Closed = (d, ignored why.Closed)
+after_receipt side d name number receipt.Kept = (d, noted (outcome.Kept name number))
+after_receipt side d name number receipt.Again = (d, noted (outcome.Again name number))
+after_receipt side d name number receipt.NoRoom = (d, ignored why.NoRoom)
+after_receipt side d name number (receipt.Whole m) = (
   with_job side d m,
-  record { outcome = outcome.Released id (length m); packet = None; released = Some m },
+  record { outcome = outcome.Released name (length m); packet = None; released = Some m },
 )
-after_taken side d id number (taking.Broken reason packet) =
-    (with_report d packet, record { outcome = outcome.Broken id reason; packet = packet; released = None })
+after_receipt side d name number (receipt.Conflict reason packet) =
+    (with_report d packet, record { outcome = outcome.Broken name reason; packet = packet; released = None })
 
 -- the same, with the receiver after it
-abbrev pub after_received : Side → NodeData → NamedPart → ReceiverState × Taken → NodeData × Accepted
-after_received side d q x = after_taken side (with_receiver d x.0) q.name q.number x.1
+abbrev pub after_received : Side → NodeData → NamedPart → ReceiverState × Receipt → NodeData × Accepted
+after_received side d q x = after_receipt side (with_receiver d x.0) q.name q.number x.1
 
 -- the head of the next report of an abortion to this destination, by the counts and the clock: the
 -- spacecraft makes it, and ground makes none

@@ -1,10 +1,10 @@
 -- What an end makes of plain requests, or why it makes none.
 use Rattle.std.specs.Prelude.{ℕ, if◌then◌else◌, List, Option, Some, None}
-use Rattle.lpt_execution.specs.LptEvents.declared.config.Config.{Config}
+use Rattle.lpt_events.specs.declared.config.Config.{Config}
 use Rattle.lpt_node.specs.declared.fault.NodeFault.{NodeFault}
 use Rattle.lpt_node.specs.declared.fault.NodeFault.TheVariants.{PartRequest, Long}
-use Rattle.lpt_execution.specs.LptEvents.MadePackets.{tc_made}
-use Rattle.lpt_execution.specs.LptEvents.Requests.{is_part_request, is_too_long}
+use Rattle.lpt_events.specs.MadePackets.{tc_made}
+use Rattle.lpt_events.specs.Requests.{is_part_request, is_too_long}
 use Rattle.lpt_node.specs.Nodes.{NodeData}
 use Rattle.lpt_node.specs.Sending.{counted}
 

@@ -1,25 +1,25 @@
 -- What an end does with the messages that it sends.
 use Rattle.std.specs.Prelude.{◌≡◌, ℕ, ◌==◌, ◌||◌, nat_le, nat_lt, if◌then◌else◌, List, [], length, Option, Some, None}
 use Rattle.std.specs.FinMap as map
-use Rattle.lpt_execution.specs.LptPacket.Names.{Name}
-use Rattle.lpt_execution.specs.LptPart.declared.kind.Kind.{Kind}
-use Rattle.lpt_execution.specs.LptPart.declared.kind.Kind.TheVariants.{First, Middle, Last}
-use Rattle.lpt_execution.specs.LptPart.Parts.{Piece}
-use Rattle.lpt_execution.specs.LptPart.Splitting.{part_count}
+use Rattle.lpt_packet.specs.Names.{Name}
+use Rattle.lpt_part.specs.declared.kind.Kind.{Kind}
+use Rattle.lpt_part.specs.declared.kind.Kind.TheVariants.{First, Middle, Last}
+use Rattle.lpt_part.specs.Parts.{Piece}
+use Rattle.lpt_part.specs.Splitting.{part_count}
 use Rattle.lpt_ledger.specs.declared.state.State.{State}
 use Rattle.lpt_ledger.specs.declared.state.State.TheVariants.{Free, Open, Closed}
 use Rattle.lpt_ledger.specs.Marks.{Opened, Shut}
 use Rattle.lpt_ledger.specs.States.{state_at}
-use Rattle.lpt_execution.specs.LptEvents.declared.side.Side.{Side}
-use Rattle.lpt_execution.specs.LptEvents.declared.side.Side.TheVariants.{Ground, Craft}
-use Rattle.lpt_execution.specs.LptEvents.declared.config.Config.{Config}
+use Rattle.lpt_events.specs.declared.side.Side.{Side}
+use Rattle.lpt_events.specs.declared.side.Side.TheVariants.{Ground, Craft}
+use Rattle.lpt_events.specs.declared.config.Config.{Config}
 use Rattle.lpt_node.specs.declared.fault.NodeFault.{NodeFault}
 use Rattle.lpt_node.specs.declared.fault.NodeFault.TheVariants.{InUse, Short, Long, TooMany, NotOpen, NoSuchPart, Memory}
-use Rattle.lpt_execution.specs.LptEvents.declared.telemetry.TelemetryKind.{TelemetryKind}
-use Rattle.lpt_execution.specs.LptEvents.declared.telemetry.TelemetryKind.TheVariants.{FirstPart, MiddlePart, LastPart}
+use Rattle.lpt_events.specs.declared.telemetry.TelemetryKind.{TelemetryKind}
+use Rattle.lpt_events.specs.declared.telemetry.TelemetryKind.TheVariants.{FirstPart, MiddlePart, LastPart}
 use Rattle.lpt_node.specs.Counting.{counter_of, next_count, next_types}
-use Rattle.lpt_execution.specs.LptEvents.MadePackets.{nth_part, part_made}
-use Rattle.lpt_execution.specs.LptPacket.Sizes.{longest_packet}
+use Rattle.lpt_events.specs.MadePackets.{nth_part, part_made}
+use Rattle.lpt_packet.specs.Sizes.{longest_packet}
 use Rattle.lpt_node.specs.Nodes.{Sending, NodeData, direction_from, message_at}
 
 -- why a message of this length isn't taken, under a name of this state, where n are open
@@ -34,15 +34,15 @@ refusal_open_in c Free n len =
 
 -- why a message of this length isn't taken under this name
 abbrev pub refusal_open : Config → NodeData → Name → ℕ → Option NodeFault
-refusal_open c d id len = refusal_open_in c (state_at d.sending.ledger id) (map.len d.sending.messages) len
+refusal_open c d name len = refusal_open_in c (state_at d.sending.ledger name) (map.len d.sending.messages) len
 
 -- a message is taken
 abbrev pub opened_in : Sending → Name → List ℕ → Sending
-opened_in s id m = record s { ledger = map.insert s.ledger id Opened; messages = map.insert s.messages id m }
+opened_in s name m = record s { ledger = map.insert s.ledger name Opened; messages = map.insert s.messages name m }
 
 -- the end with a message taken
 abbrev pub opened : NodeData → Name → List ℕ → NodeData
-opened d id m = record d { sending = opened_in d.sending id m }
+opened d name m = record d { sending = opened_in d.sending name m }
 
 -- why part k of a message, or of none, isn't sent
 abbrev pub refusal_send_of : Config → ℕ → Option (List ℕ) → Option NodeFault
@@ -52,7 +52,7 @@ refusal_send_of c k (Some m) =
 
 -- why part k of this name's message isn't sent
 abbrev pub refusal_send : Config → NodeData → Name → ℕ → Option NodeFault
-refusal_send c d id k = refusal_send_of c k (message_at d id)
+refusal_send c d name k = refusal_send_of c k (message_at d name)
 
 -- the telemetry that carries a part of this kind
 abbrev pub part_telemetry : Kind → TelemetryKind
@@ -101,12 +101,13 @@ sent_piece side c d peer q =
 
 -- part k of a message is sent; of none nothing is, where the call is refused
 abbrev pub sent_of : Side → Config → NodeData → Name → ℕ → Option (List ℕ) → NodeData × List ℕ
-sent_of side c d id k None = (d, [])
-sent_of side c d id k (Some m) = sent_piece side c d id.source (nth_part c.part_size id.id m k)
+sent_of side c d name k None = (d, [])
+sent_of side c d name k (Some m) =
+    sent_piece side c d name.source (nth_part c.part_size name.id m k)
 
 -- part k of this name's message is sent
 abbrev pub sent : Side → Config → NodeData → Name → ℕ → NodeData × List ℕ
-sent side c d id k = sent_of side c d id k (message_at d id)
+sent side c d name k = sent_of side c d name k (message_at d name)
 
 -- why a transaction of this state isn't finished
 abbrev pub refusal_finish_in : State → Option NodeFault
@@ -116,21 +117,21 @@ refusal_finish_in Closed = Some NotOpen
 
 -- why this name's transaction isn't finished
 abbrev pub refusal_finish : NodeData → Name → Option NodeFault
-refusal_finish d id = refusal_finish_in (state_at d.sending.ledger id)
+refusal_finish d name = refusal_finish_in (state_at d.sending.ledger name)
 
 -- a transaction is closed where its state is open, and its message let go
 abbrev pub closed_by : State → Sending → Name → Sending
-closed_by Open s id = record s { ledger = map.insert s.ledger id Shut; messages = map.remove s.messages id }
-closed_by Free s id = s
-closed_by Closed s id = s
+closed_by Open s name = record s { ledger = map.insert s.ledger name Shut; messages = map.remove s.messages name }
+closed_by Free s name = s
+closed_by Closed s name = s
 
 -- a transaction is closed where it is open
 abbrev pub closed_in : Sending → Name → Sending
-closed_in s id = closed_by (state_at s.ledger id) s id
+closed_in s name = closed_by (state_at s.ledger name) s name
 
 -- the end with an outgoing transaction closed
 abbrev pub closed : NodeData → Name → NodeData
-closed d id = record d { sending = closed_in d.sending id }
+closed d name = record d { sending = closed_in d.sending name }
 
 -- the fault of a call is why it was refused, or out of memory where nothing refuses it
 abbrev pub RefusedBy : Option NodeFault → NodeFault → Type 0

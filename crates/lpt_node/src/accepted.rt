@@ -1,7 +1,7 @@
 //! What a delivery answers.
 
-use crate::Outcome;
-use lpt_execution::Octets;
+use lpt_events::Outcome;
+use lpt_packet::Octets;
 
 /// What a node answers to a packet that was delivered to it.
 #[derive(Drop)]

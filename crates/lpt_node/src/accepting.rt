@@ -3,18 +3,20 @@
 ghost use Rattle.std.specs.Prelude.{◌≡◌, ◌+◌, ◌<◌, ◌^◌, length, true, IfOk, IfErr, OnOk, OnErr};
 ghost use Rattle.std.specs.Option.{option_map};
 ghost use Rattle.lpt_jobs.specs.Jobs.{numbered};
-ghost use Rattle.lpt_execution.specs.LptPart.Parts.{piece};
-ghost use Rattle.lpt_execution.specs.LptEvents.NamedParts.{named};
+ghost use Rattle.lpt_part.specs.Parts.{piece};
+ghost use Rattle.lpt_events.specs.NamedParts.{named};
 ghost use Rattle.lpt_node.specs.Accepting.{accepted, grows, IsFor};
-ghost use Rattle.lpt_node.specs.Found.{arrival_shown, IsShown};
-ghost use Rattle.lpt_node.specs.Origins.{arrival_at, arrival_from};
+ghost use Rattle.lpt_node.specs.Layouts.{arrival_shown, IsShown};
+ghost use Rattle.lpt_node.specs.ParsedViews.{arrival_at, arrival_from};
 ghost use Rattle.lpt_node.specs.Receiving.{ignored, noted, parted, plain_released, with_job, with_report};
 
-use crate::found::Sight;
-use crate::parsed::sight_in;
-use crate::taken::Taken;
-use crate::{Accepted, Node, Outcome, Parsed, Side, TelemetryKind, Why};
-use lpt_execution::{Name, Octets, Part};
+use crate::arrival::Arrival;
+use crate::parsed::arrival_in;
+use crate::receipt::Receipt;
+use crate::{Accepted, Node, Parsed};
+use lpt_events::{Outcome, Side, TelemetryKind, Why};
+use lpt_packet::{Name, Octets};
+use lpt_part::Part;
 use std::alloc::AllocError;
 
 impl Node {
@@ -39,12 +41,12 @@ impl Node {
         ensures back { IfErr result (λ p. p ≡ parsed) }
         ensures err { OnErr result (self.new.at ≡ self.old.at) }
     {
-        match parsed.sight() {
-            Sight::Request => match self.add_plain(parsed.octets()) {
+        match parsed.arrival() {
+            Arrival::Request => match self.add_plain(parsed.octets()) {
                 Ok(()) => Ok(plain_released(parsed.into_octets())),
                 Err(AllocError) => Err(parsed),
             },
-            sight => match self.accept_shown(&sight) {
+            arrival => match self.accept_shown(&arrival) {
                 Ok(accepted) => Ok(accepted),
                 Err(AllocError) => Err(parsed),
             },
@@ -69,39 +71,41 @@ impl Node {
             (grows (accepted self.old.side self.old.config self.old.at (arrival_at self.old octets.now)).1 ≡ true) }
         ensures err { OnErr result (self.new.at ≡ self.old.at) }
     {
-        match sight_in(octets, self.side, self.config.apid, self.config.part_size) {
-            Sight::Request => {
+        match arrival_in(octets, self.side, self.config.apid, self.config.part_size) {
+            Arrival::Request => {
                 let request = Octets::from_vec(Vec::from_slice(self.alloc, octets)?);
                 self.add_plain(&request)?;
                 Ok(plain_released(request))
             }
-            sight => self.accept_shown(&sight),
+            arrival => self.accept_shown(&arrival),
         }
     }
 
     // Takes what a packet shows that isn't a plain request.
-    fn accept_shown(&mut self, sight: &Sight<'_>) -> Result<Accepted, AllocError>
-        requires shown { IsShown self.old.config.part_size sight.now }
+    fn accept_shown(&mut self, arrival: &Arrival<'_>) -> Result<Accepted, AllocError>
+        requires shown { IsShown self.old.config.part_size arrival.now }
         requires numbers { numbered self.old.at.jobs + 1 < 2 ^ 64 }
         ensures ok { IfOk result (λ r. (self.new.at, r)
-            ≡ accepted self.old.side self.old.config self.old.at (arrival_shown sight.now)) }
+            ≡ accepted self.old.side self.old.config self.old.at (arrival_shown arrival.now)) }
 
         ensures side { self.new.side ≡ self.old.side }
         ensures config { self.new.config ≡ self.old.config }
 
         ensures memory { OnErr result
-            (grows (accepted self.old.side self.old.config self.old.at (arrival_shown sight.now)).1 ≡ true) }
+            (grows (accepted self.old.side self.old.config self.old.at (arrival_shown arrival.now)).1 ≡ true) }
         ensures err { OnErr result (self.new.at ≡ self.old.at) }
     {
-        match sight {
-            Sight::Unreadable => Ok(ignored(Why::Unreadable)),
-            Sight::Idle => Ok(ignored(Why::Idle)),
-            Sight::Foreign => Ok(ignored(Why::ForeignApid)),
-            Sight::Request => unreachable!(),
-            Sight::Report(service, subtype) => Ok(noted(Outcome::ReportNoted(*service, *subtype))),
-            Sight::BadPart => Ok(ignored(Why::BadPart)),
-            Sight::Part(source, part) => self.accept_part(*source, part),
-            Sight::Abort(name, reason) => {
+        match arrival {
+            Arrival::Unreadable => Ok(ignored(Why::Unreadable)),
+            Arrival::Idle => Ok(ignored(Why::Idle)),
+            Arrival::Foreign => Ok(ignored(Why::ForeignApid)),
+            Arrival::Request => unreachable!(),
+            Arrival::Report(service, subtype) => Ok(noted(Outcome::ReportNoted(
+                *service, *subtype,
+            ))),
+            Arrival::BadPart => Ok(ignored(Why::BadPart)),
+            Arrival::Part(source, part) => self.accept_part(*source, part),
+            Arrival::Abort(name, reason) => {
                 self.close(*name);
                 Ok(noted(Outcome::AbortNoted(*name, *reason)))
             }
@@ -150,16 +154,16 @@ impl Node {
             .receiver
             .accept(side, &mut self.jobs, head, source, part, clock)?
         {
-            Taken::Closed => Ok(ignored(Why::Closed)),
-            Taken::Kept => Ok(noted(Outcome::Kept(name, part.number))),
-            Taken::Again => Ok(noted(Outcome::Again(name, part.number))),
-            Taken::NoRoom => Ok(ignored(Why::NoRoom)),
-            Taken::Whole(message) => Ok(Accepted {
+            Receipt::Closed => Ok(ignored(Why::Closed)),
+            Receipt::Kept => Ok(noted(Outcome::Kept(name, part.number))),
+            Receipt::Again => Ok(noted(Outcome::Again(name, part.number))),
+            Receipt::NoRoom => Ok(ignored(Why::NoRoom)),
+            Receipt::Whole(message) => Ok(Accepted {
                 outcome: Outcome::Released(name, message.as_slice().len() as u32),
                 packet: None,
                 released: Some(message),
             }),
-            Taken::Broken(reason, packet) => {
+            Receipt::Conflict(reason, packet) => {
                 self.count_abort(packet.as_ref());
                 Ok(Accepted {
                     outcome: Outcome::Broken(name, reason),

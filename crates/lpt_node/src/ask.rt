@@ -1,6 +1,6 @@
 //! What a node can be asked to do.
 
-use lpt_execution::Name;
+use lpt_packet::Name;
 
 /// A call of a node, as far as its refusal depends on it.
 #[derive(Clone, Copy)]

@@ -9,9 +9,10 @@ ghost use Rattle.lpt_node.specs.Sending.{refusal_open, refusal_send, refusal_fin
 ghost use Rattle.lpt_node.specs.Times.{refusal_tick, refusal_expire};
 
 use crate::{Ask, Node, NodeFault};
-use lpt_execution::{LONGEST_PACKET, Name, count};
 use lpt_jobs::Front;
 use lpt_ledger::State;
+use lpt_packet::{LONGEST_PACKET, Name};
+use lpt_part::count;
 
 impl Node {
     /// The first reason why this call would be refused now, or `None` where only an allocation
@@ -20,10 +21,10 @@ impl Node {
         ensures { result ≡ refusal_of self.now.config self.now.at ask.now }
     {
         match *ask {
-            Ask::Open(id, length) => self.refusal_open(id, length),
-            Ask::Send(id, k) => self.refusal_send(id, k),
+            Ask::Open(name, length) => self.refusal_open(name, length),
+            Ask::Send(name, k) => self.refusal_send(name, k),
             Ask::Plain(service, subtype, length) => self.refusal_plain(service, subtype, length),
-            Ask::Finish(id) => self.refusal_finish(id),
+            Ask::Finish(name) => self.refusal_finish(name),
             Ask::Tick => self.refusal_tick(),
             Ask::Expire => self.refusal_expire(),
             Ask::Claim => self.refusal_claim(),
@@ -32,12 +33,12 @@ impl Node {
     }
 
     // Why a message of this length isn't opened under this name.
-    pub(crate) fn refusal_open(&self, id: Name, length: usize) -> Option<NodeFault>
-        ensures value { result ≡ refusal_open self.now.config self.now.at id length }
+    pub(crate) fn refusal_open(&self, name: Name, length: usize) -> Option<NodeFault>
+        ensures value { result ≡ refusal_open self.now.config self.now.at name length }
         ensures fits { IfNone result (MessageFits self.now.config.part_size length) }
-        ensures free { IfNone result (state_at self.now.at.sending.ledger id ≡ State.Free) }
+        ensures free { IfNone result (state_at self.now.at.sending.ledger name ≡ State.Free) }
     {
-        match self.senders.state(id) {
+        match self.senders.state(name) {
             State::Free => {}
             State::Open => return Some(NodeFault::InUse),
             State::Closed => return Some(NodeFault::InUse),
@@ -55,11 +56,11 @@ impl Node {
     }
 
     // Why part k of the message of this name isn't sent.
-    pub(crate) fn refusal_send(&self, id: Name, k: u16) -> Option<NodeFault>
-        ensures { result ≡ refusal_send self.now.config self.now.at id k }
+    pub(crate) fn refusal_send(&self, name: Name, k: u16) -> Option<NodeFault>
+        ensures { result ≡ refusal_send self.now.config self.now.at name k }
     {
         let p = self.config.part_size;
-        match self.outgoing.get(id) {
+        match self.outgoing.get(name) {
             None => Some(NodeFault::NotOpen),
             Some(message) => {
                 if k == 0 || u32::from(k) > count(message.len() as u32, p) {
@@ -72,10 +73,10 @@ impl Node {
     }
 
     // Why the outgoing transaction of this name isn't finished.
-    pub(crate) fn refusal_finish(&self, id: Name) -> Option<NodeFault>
-        ensures { result ≡ refusal_finish self.now.at id }
+    pub(crate) fn refusal_finish(&self, name: Name) -> Option<NodeFault>
+        ensures { result ≡ refusal_finish self.now.at name }
     {
-        match self.senders.state(id) {
+        match self.senders.state(name) {
             State::Open => None,
             State::Free => Some(NodeFault::NotOpen),
             State::Closed => Some(NodeFault::NotOpen),

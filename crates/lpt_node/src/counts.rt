@@ -3,7 +3,7 @@
 ghost use Rattle.std.specs.Prelude.{◌≡◌, ◌≤◌};
 ghost use Rattle.lpt_node.specs.Counting.{counter_of, next_count, next_types, no_types};
 
-use crate::TelemetryKind;
+use lpt_events::TelemetryKind;
 
 /// How many kinds of telemetry there are.
 const KINDS: usize = 11;

@@ -4,24 +4,27 @@
 ghost use Rattle.std.specs.Prelude.{◌≡◌, ◌+◌, ◌<◌, ◌^◌, [], None, IsSomeAnd, IfOk, OnOk, OnErr};
 ghost use Rattle.std.specs.FinMap as map;
 ghost use Rattle.std.specs.Option.{option_map};
-ghost use Rattle.lpt_execution.specs.LptPart.declared.reason.Reason.TheVariants as why;
-ghost use Rattle.lpt_execution.specs.LptPus.Telemetry.{telemetry, as_written};
+ghost use Rattle.lpt_part.specs.declared.reason.Reason.TheVariants as why;
+ghost use Rattle.lpt_pus.specs.Telemetry.{telemetry, as_written};
 ghost use Rattle.lpt_ledger.specs.Marks.{Shut};
 ghost use Rattle.lpt_ledger.specs.States.{state_at};
-ghost use Rattle.lpt_table.specs.LptReception.Received.{spelled, all_of};
+ghost use Rattle.lpt_reception.specs.Received.{spelled, all_of};
 ghost use Rattle.lpt_table.specs.Offering.{put_back};
 ghost use Rattle.lpt_jobs.specs.Jobs.{after_push, numbered};
-ghost use Rattle.lpt_node.specs.declared.taken.Taken.TheVariants as taking;
+ghost use Rattle.lpt_node.specs.declared.receipt.Receipt.TheVariants as receipt;
 ghost use Rattle.lpt_node.specs.Receivers.{abort_report, IsShort};
 ghost use Rattle.lpt_node.specs.Receiving.{jobs_with};
 
-use crate::Side;
 use crate::making::abort_report;
-use crate::taken::Taken;
-use lpt_execution::{Name, Octets, Reason, TmHead};
+use crate::receipt::Receipt;
+use lpt_events::Side;
 use lpt_jobs::JobQueue;
 use lpt_ledger::{Ledger, State};
-use lpt_table::{Broken, Table, Whole};
+use lpt_packet::{Name, Octets};
+use lpt_part::Reason;
+use lpt_pus::TmHead;
+use lpt_reception::{Broken, Whole};
+use lpt_table::Table;
 use std::alloc::{AllocError, Global};
 
 // Ends a reception of which all parts are there, with its message, which becomes a job at the
@@ -31,32 +34,32 @@ pub(crate) fn release(
     jobs: &mut JobQueue,
     ledger: &mut Ledger,
     table: &mut Table,
-    id: Name,
+    name: Name,
     whole: Whole,
-) -> Result<Taken, AllocError>
-    requires free { state_at ledger.old id ≡ State.Free }
-    requires out { IsSomeAnd table.old.out (λ o. o.0 ≡ id) }
-    requires id { whole.before.id ≡ id.id }
+) -> Result<Receipt, AllocError>
+    requires free { state_at ledger.old name ≡ State.Free }
+    requires out { IsSomeAnd table.old.out (λ o. o.0 ≡ name) }
+    requires id { whole.before.id ≡ name.id }
     requires p { whole.before.p ≡ table.old.p }
     requires numbers { numbered jobs.old + 1 < 2 ^ 64 }
-    ensures ok { IfOk result (λ t. t ≡ taking.Whole (spelled (all_of whole))) }
+    ensures ok { IfOk result (λ t. t ≡ receipt.Whole (spelled (all_of whole))) }
     ensures jobs { OnOk result (jobs.new ≡ jobs_with side jobs.old (spelled (all_of whole))) }
-    ensures shut { OnOk result (ledger.new ≡ map.insert ledger.old id Shut) }
+    ensures shut { OnOk result (ledger.new ≡ map.insert ledger.old name Shut) }
     ensures settled { OnOk result (table.new ≡ record table.old { out = None }) }
     ensures short { IfOk result IsShort }
 
     ensures unshut { OnErr result (ledger.new ≡ ledger.old) }
-    ensures back { OnErr result (table.new ≡ put_back table.old id whole.before.parts) }
+    ensures back { OnErr result (table.new ≡ put_back table.old name whole.before.parts) }
     ensures no_job { OnErr result (jobs.new ≡ jobs.old) }
 {
-    if close_whole(side, jobs, ledger, id, &whole).is_err() {
-        table.put_back(id, whole.back());
+    if close_whole(side, jobs, ledger, name, &whole).is_err() {
+        table.put_back(name, whole.back());
         return Err(AllocError);
     }
     match whole.release() {
         Ok(message) => {
-            table.settle(id);
-            Ok(Taken::Whole(message))
+            table.settle(name);
+            Ok(Receipt::Whole(message))
         }
         Err(_) => unreachable!(),
     }
@@ -68,22 +71,22 @@ fn close_whole(
     side: Side,
     jobs: &mut JobQueue,
     ledger: &mut Ledger,
-    id: Name,
+    name: Name,
     whole: &Whole,
 ) -> Result<(), AllocError>
-    requires free { state_at ledger.old id ≡ State.Free }
+    requires free { state_at ledger.old name ≡ State.Free }
     requires numbers { numbered jobs.old + 1 < 2 ^ 64 }
     ensures jobs { OnOk result (jobs.new ≡ jobs_with side jobs.old (spelled (all_of whole.now))) }
-    ensures shut { OnOk result (ledger.new ≡ map.insert ledger.old id Shut) }
+    ensures shut { OnOk result (ledger.new ≡ map.insert ledger.old name Shut) }
 
     ensures no_job { OnErr result (jobs.new ≡ jobs.old) }
     ensures unshut { OnErr result (ledger.new ≡ ledger.old) }
 {
     match side {
-        Side::Ground => shut(ledger, id),
+        Side::Ground => shut(ledger, name),
         Side::Craft => {
             add_whole(jobs, whole)?;
-            match shut(ledger, id) {
+            match shut(ledger, name) {
                 Ok(()) => Ok(()),
                 Err(AllocError) => {
                     drop(jobs.pop_back());
@@ -113,29 +116,29 @@ pub(crate) fn abort(
     ledger: &mut Ledger,
     table: &mut Table,
     head: Option<TmHead>,
-    id: Name,
+    name: Name,
     broken: Broken,
-) -> Result<Taken, AllocError>
-    requires free { state_at ledger.old id ≡ State.Free }
-    requires out { IsSomeAnd table.old.out (λ o. o.0 ≡ id) }
-    requires id { broken.before.id ≡ id.id }
+) -> Result<Receipt, AllocError>
+    requires free { state_at ledger.old name ≡ State.Free }
+    requires out { IsSomeAnd table.old.out (λ o. o.0 ≡ name) }
+    requires id { broken.before.id ≡ name.id }
     requires p { broken.before.p ≡ table.old.p }
-    ensures ok { IfOk result (λ t. t ≡ taking.Broken broken.reason
-        (abort_report (option_map (λ h. as_written (telemetry h [])) head) id broken.reason)) }
-    ensures shut { OnOk result (ledger.new ≡ map.insert ledger.old id Shut) }
+    ensures ok { IfOk result (λ t. t ≡ receipt.Conflict broken.reason
+        (abort_report (option_map (λ h. as_written (telemetry h [])) head) name broken.reason)) }
+    ensures shut { OnOk result (ledger.new ≡ map.insert ledger.old name Shut) }
     ensures settled { OnOk result (table.new ≡ record table.old { out = None }) }
 
     ensures unshut { OnErr result (ledger.new ≡ ledger.old) }
-    ensures back { OnErr result (table.new ≡ put_back table.old id broken.before.parts) }
+    ensures back { OnErr result (table.new ≡ put_back table.old name broken.before.parts) }
 {
-    match close_reported(alloc, ledger, head, id, broken.reason()) {
+    match close_reported(alloc, ledger, head, name, broken.reason()) {
         Ok(report) => {
             let reason = broken.abort();
-            table.settle(id);
-            Ok(Taken::Broken(reason, report))
+            table.settle(name);
+            Ok(Receipt::Conflict(reason, report))
         }
         Err(AllocError) => {
-            table.put_back(id, broken.back());
+            table.put_back(name, broken.back());
             Err(AllocError)
         }
     }
@@ -147,18 +150,19 @@ pub(crate) fn break_off(
     alloc: Global,
     ledger: &mut Ledger,
     head: Option<TmHead>,
-    id: Name,
-) -> Result<Taken, AllocError>
-    requires free { state_at ledger.old id ≡ State.Free }
-    ensures ok { IfOk result (λ t. t ≡ taking.Broken why.Discontinuity
-        (abort_report (option_map (λ h. as_written (telemetry h [])) head) id why.Discontinuity)) }
-    ensures shut { OnOk result (ledger.new ≡ map.insert ledger.old id Shut) }
+    name: Name,
+) -> Result<Receipt, AllocError>
+    requires free { state_at ledger.old name ≡ State.Free }
+    ensures ok { IfOk result (λ t. t ≡ receipt.Conflict why.Discontinuity
+        (abort_report (option_map (λ h. as_written (telemetry h [])) head) name
+        why.Discontinuity)) }
+    ensures shut { OnOk result (ledger.new ≡ map.insert ledger.old name Shut) }
     ensures short { IfOk result IsShort }
 
     ensures unshut { OnErr result (ledger.new ≡ ledger.old) }
 {
-    let report = close_reported(alloc, ledger, head, id, Reason::Discontinuity)?;
-    Ok(Taken::Broken(Reason::Discontinuity, report))
+    let report = close_reported(alloc, ledger, head, name, Reason::Discontinuity)?;
+    Ok(Receipt::Conflict(Reason::Discontinuity, report))
 }
 
 // Closes the name of a reception that ends without its message, with a report of it, where reports
@@ -167,28 +171,28 @@ pub(crate) fn close_reported(
     alloc: Global,
     ledger: &mut Ledger,
     head: Option<TmHead>,
-    id: Name,
+    name: Name,
     reason: Reason,
 ) -> Result<Option<Octets>, AllocError>
-    requires free { state_at ledger.old id ≡ State.Free }
+    requires free { state_at ledger.old name ≡ State.Free }
     ensures report { IfOk result (λ o. o
-        ≡ abort_report (option_map (λ h. as_written (telemetry h [])) head) id reason) }
-    ensures shut { OnOk result (ledger.new ≡ map.insert ledger.old id Shut) }
+        ≡ abort_report (option_map (λ h. as_written (telemetry h [])) head) name reason) }
+    ensures shut { OnOk result (ledger.new ≡ map.insert ledger.old name Shut) }
 
     ensures unshut { OnErr result (ledger.new ≡ ledger.old) }
 {
-    let report = abort_report(alloc, head, id, reason)?;
-    shut(ledger, id)?;
+    let report = abort_report(alloc, head, name, reason)?;
+    shut(ledger, name)?;
     Ok(report)
 }
 
 // Closes a free name. The only error is out of memory.
-fn shut(ledger: &mut Ledger, id: Name) -> Result<(), AllocError>
-    requires { state_at ledger.old id ≡ State.Free }
-    ensures ok { OnOk result (ledger.new ≡ map.insert ledger.old id Shut) }
+fn shut(ledger: &mut Ledger, name: Name) -> Result<(), AllocError>
+    requires { state_at ledger.old name ≡ State.Free }
+    ensures ok { OnOk result (ledger.new ≡ map.insert ledger.old name Shut) }
     ensures err { OnErr result (ledger.new ≡ ledger.old) }
 {
-    match ledger.shut(id) {
+    match ledger.shut(name) {
         Ok(()) => Ok(()),
         Err(_) => Err(AllocError),
     }

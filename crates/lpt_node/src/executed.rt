@@ -1,6 +1,7 @@
 //! What the execution of a job answers.
 
-use lpt_execution::{Applied, Name, Octets};
+use lpt_events::Applied;
+use lpt_packet::{Name, Octets};
 
 /// What a node answers when it has executed its oldest job.
 #[derive(Drop)]

@@ -2,7 +2,7 @@
 
 ghost use Rattle.std.specs.Prelude.{◌≡◌, ◌≢◌, [], ◌∷◌, ◌++◌, length, IfOk, OnOk, OnErr, All, None};
 ghost use Rattle.lpt_ledger.specs.LeastFree.{least_free_in};
-ghost use Rattle.lpt_execution.specs.LptMemory.Memories.{sizes_of};
+ghost use Rattle.lpt_memory.specs.Memories.{sizes_of};
 ghost use Rattle.lpt_execution.specs.Ranges.{ReportFits};
 ghost use Rattle.lpt_execution.specs.Reporting.{applied_of, large_packets, link_packets, opened_of};
 ghost use Rattle.lpt_node.specs.Executions.{made_at, reports_at, with_counts};
@@ -13,9 +13,10 @@ ghost use Rattle.lpt_node.specs.Sending.{counted_kind};
 use crate::Node;
 use crate::counts::Counts;
 use crate::sending::begin;
-use lpt_execution::{
-    Applied, Memories, Name, Octets, Reading, Report, ending_of, is_small, reports, request_source,
-};
+use lpt_events::Applied;
+use lpt_execution::{Report, ending_of, is_small, reports, request_source};
+use lpt_memory::{Memories, Reading};
+use lpt_packet::{Name, Octets};
 use std::alloc::AllocError;
 
 /// The packets of an execution's reports, and the counts after them.
@@ -141,14 +142,14 @@ impl Node {
         let Some(message) = messages.into_iter().next() else {
             return Ok(None);
         };
-        let Some(id) = self.senders.least_free(source) else {
+        let Some(name) = self.senders.least_free(source) else {
             return Ok(None);
         };
         let copy = message.copy()?;
-        match begin(&mut self.senders, &mut self.outgoing, id, message) {
+        match begin(&mut self.senders, &mut self.outgoing, name, message) {
             Ok(()) => {}
             Err(_) => return Err(AllocError),
         }
-        Ok(Some((id, copy)))
+        Ok(Some((name, copy)))
     }
 }

@@ -1,10 +1,10 @@
 //! Why a node refuses a call.
 
 ghost use Rattle.std.specs.Prelude.{◌≡◌};
-ghost use Rattle.lpt_execution.specs.LptEvents.FaultNames.{code_of, name_of};
+ghost use Rattle.lpt_events.specs.FaultNames.{code_of, name_of};
 ghost use Rattle.lpt_node.specs.Faults.{node_fault};
 
-use lpt_execution::StepFault;
+use lpt_events::StepFault;
 use std::fmt;
 use thiserror::Error;
 

@@ -9,7 +9,7 @@
 
 mod accepted;
 mod accepting;
-mod anew;
+mod arrival;
 mod ask;
 mod asking;
 mod counts;
@@ -18,15 +18,15 @@ mod executed;
 mod executing;
 mod expired;
 mod fault;
-mod found;
 mod making;
 mod node;
 mod outgoing;
 mod parsed;
+mod receipt;
 mod receiver;
 mod requesting;
+mod restart;
 mod sending;
-mod taken;
 mod timing;
 mod working;
 
@@ -35,13 +35,10 @@ pub use ask::Ask;
 pub use executed::Executed;
 pub use expired::Expired;
 pub use fault::NodeFault;
-pub use lpt_execution::{
-    AckFlags, Answer, Applied, Area, Call, Config, ConfigFault, Direction, Entry, Event,
-    FailureCode, LONGEST_PACKET, Lane, Memories, Mode, Name, Octets, Opening, Outcome, Packet,
-    PacketKind, Prepared, Puts, Reason, Refused, Release, Reply, RunEnd, SeatLog, Shape, Side,
-    StepFault, TelemetryKind, Ticket, TmHead, Turns, Why, Worker, count, crc16, longest_on_link,
-    prepare, read_packet, seen_is_read, write_packet, write_tm,
-};
+pub use lpt_events::{Applied, Config, Outcome, Side, StepFault};
 pub use lpt_ledger::State;
+pub use lpt_memory::{Memories, Ticket};
+pub use lpt_packet::{Direction, Name, Octets};
+pub use lpt_pus::AckFlags;
 pub use node::Node;
 pub use parsed::Parsed;

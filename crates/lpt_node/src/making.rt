@@ -2,13 +2,13 @@
 
 ghost use Rattle.std.specs.Prelude.{◌≡◌, ◌+◌, length, [], true, is_some, IfOk, OnOk, OnErr};
 ghost use Rattle.std.specs.Option.{option_map};
-ghost use Rattle.lpt_execution.specs.LptPart.Parts.{piece};
-ghost use Rattle.lpt_execution.specs.LptPus.Telemetry.{telemetry, as_written};
-ghost use Rattle.lpt_execution.specs.LptPacket.declared.direction.Direction.TheVariants.{Up};
-ghost use Rattle.lpt_execution.specs.LptEvents.Arrivals.{part_subtype};
-ghost use Rattle.lpt_execution.specs.LptEvents.TelemetryKinds.{service_of, subtype_of};
+ghost use Rattle.lpt_part.specs.Parts.{piece};
+ghost use Rattle.lpt_pus.specs.Telemetry.{telemetry, as_written};
+ghost use Rattle.lpt_packet.specs.declared.direction.Direction.TheVariants.{Up};
+ghost use Rattle.lpt_events.specs.Arrivals.{part_subtype};
+ghost use Rattle.lpt_events.specs.TelemetryKinds.{service_of, subtype_of};
 ghost use Rattle.lpt_node.specs.Counting.{counter_of, next_count};
-ghost use Rattle.lpt_execution.specs.LptEvents.MadePackets.{telemetry_made};
+ghost use Rattle.lpt_events.specs.MadePackets.{telemetry_made};
 ghost use Rattle.lpt_execution.specs.Ranges.{ReportFits};
 ghost use Rattle.lpt_node.specs.Executions.{with_counts};
 ghost use Rattle.lpt_node.specs.Jobs.{report_packet};
@@ -16,12 +16,14 @@ ghost use Rattle.lpt_node.specs.Sending.{counted_kind, part_packet_at, part_tele
 ghost use Rattle.lpt_node.specs.Receivers.{abort_report};
 ghost use Rattle.lpt_node.specs.Receiving.{abort_head_at};
 
+use crate::Node;
 use crate::counts::Counts;
-use crate::{Node, Side, TelemetryKind};
-use lpt_execution::{
-    Kind, Name, Octets, Part, Reason, Report, TRANSFER, TcHead, TmHead, abort_octets, lengths,
-    tc_pieces, tm_octets, tm_pieces,
-};
+use lpt_events::{Side, TelemetryKind};
+use lpt_execution::Report;
+use lpt_packet::{Name, Octets};
+use lpt_part::{Kind, Part, Reason, TRANSFER, abort_octets};
+use lpt_pus::laws::lengths_add_up;
+use lpt_pus::{TcHead, TmHead, tc_pieces, tm_octets, tm_pieces};
 use std::alloc::{AllocError, Global};
 
 impl Node {
@@ -71,7 +73,7 @@ impl Node {
         ensures counts { OnOk result (with_counts self.now.at.sending counts.new
             ≡ counted_kind (with_counts self.now.at.sending counts.old) report.now.kind) }
     {
-        lengths();
+        lengths_add_up();
         let head = self.head(counts, peer, report.kind);
         let packet = tm_octets(self.alloc, &head, report.body.as_slice())?;
         counts.step_kind(report.kind);
@@ -144,18 +146,18 @@ fn telemetry_of(kind: Kind) -> TelemetryKind
 pub(crate) fn abort_report(
     alloc: Global,
     head: Option<TmHead>,
-    id: Name,
+    name: Name,
     reason: Reason,
 ) -> Result<Option<Octets>, AllocError>
-    ensures report { IfOk result (λ o. o ≡ abort_report (option_map (λ h. as_written (telemetry h [])) head) id reason) }
+    ensures report { IfOk result (λ o. o ≡ abort_report (option_map (λ h. as_written (telemetry h [])) head) name reason) }
 
     // Memory is taken for a report alone.
-    ensures memory { OnErr result (is_some (abort_report (option_map (λ h. as_written (telemetry h [])) head) id reason) ≡ true) }
+    ensures memory { OnErr result (is_some (abort_report (option_map (λ h. as_written (telemetry h [])) head) name reason) ≡ true) }
 {
     match head {
         None => Ok(None),
         Some(head) => {
-            let body = abort_octets(id.id, reason);
+            let body = abort_octets(name.id, reason);
             Ok(Some(tm_octets(alloc, &head, &body)?))
         }
     }

@@ -3,16 +3,16 @@
 ghost use Rattle.std.specs.Prelude.{◌≡◌, IsTrue, IfOk, is_some};
 ghost use Rattle.std.specs.FinMap as map;
 ghost use Rattle.lpt_ledger.specs.States.{state_at};
-ghost use Rattle.lpt_execution.specs.LptEvents.Configs.{IsConfig};
+ghost use Rattle.lpt_events.specs.Configs.{IsConfig};
 ghost use Rattle.lpt_node.specs.Nodes.{new_node, is_open, message_at};
 
 use crate::counts::Counts;
 use crate::outgoing::Outgoing;
 use crate::receiver::Receiver;
-use crate::{Config, Side};
-use lpt_execution::Name;
+use lpt_events::{Config, Side};
 use lpt_jobs::JobQueue;
 use lpt_ledger::{Ledger, State};
+use lpt_packet::Name;
 use std::alloc::{AllocError, Global};
 use std::marker::Model;
 
@@ -104,22 +104,22 @@ impl Node {
     }
 
     /// The state of an outgoing transaction.
-    pub fn sender(&self, id: Name) -> State
-        ensures state { result ≡ state_at self.now.at.sending.ledger id }
+    pub fn sender(&self, name: Name) -> State
+        ensures state { result ≡ state_at self.now.at.sending.ledger name }
 
         // A message is kept exactly where the transaction is open.
-        ensures kept { is_some (message_at self.now.at id) ≡ is_open result }
+        ensures kept { is_some (message_at self.now.at name) ≡ is_open result }
     {
-        self.senders.state(id)
+        self.senders.state(name)
     }
 
     /// Whether a reception of this name is open.
-    pub fn is_open_reception(&self, id: Name) -> bool
-        ensures open { result ≡ is_some (map.get self.now.at.receiving.entries id) }
+    pub fn is_open_reception(&self, name: Name) -> bool
+        ensures open { result ≡ is_some (map.get self.now.at.receiving.entries name) }
 
         // The name of an open reception is free.
-        ensures free { IsTrue result → state_at self.now.at.receiving.ledger id ≡ State.Free }
+        ensures free { IsTrue result → state_at self.now.at.receiving.ledger name ≡ State.Free }
     {
-        self.receiver.is_open(id)
+        self.receiver.is_open(name)
     }
 }

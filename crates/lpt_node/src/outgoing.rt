@@ -5,7 +5,7 @@ ghost use Rattle.std.specs.Option.{option_map};
 ghost use Rattle.std.specs.FinMap as map;
 ghost use Rattle.lpt_node.specs.Nodes.{MessageFits};
 
-use lpt_execution::{Name, Octets};
+use lpt_packet::{Name, Octets};
 use std::alloc::Global;
 use std::collections::BTreeMap;
 use std::marker::Model;
@@ -51,28 +51,28 @@ impl Outgoing {
     }
 
     /// The message of a name, whose length is one that a message may have.
-    pub(crate) fn get(&self, id: Name) -> Option<&[u8]>
-        ensures message { option_map (λ m. m.now) result ≡ map.get self.now.messages id }
+    pub(crate) fn get(&self, name: Name) -> Option<&[u8]>
+        ensures message { option_map (λ m. m.now) result ≡ map.get self.now.messages name }
         ensures fits { IfSome result (λ m. MessageFits self.now.p (length m.now)) }
     {
-        match self.messages.get(&id) {
+        match self.messages.get(&name) {
             None => None,
             Some(message) => Some(message.as_slice()),
         }
     }
 
     /// Adds a message of a name that has none. Where there is no memory for it, it is handed back.
-    pub(crate) fn insert(&mut self, id: Name, message: Octets) -> Result<(), Octets>
+    pub(crate) fn insert(&mut self, name: Name, message: Octets) -> Result<(), Octets>
         requires fits { MessageFits self.old.p (length message) }
-        requires absent { map.get self.old.messages id ≡ None }
+        requires absent { map.get self.old.messages name ≡ None }
         ensures ok { OnOk result (self.new ≡ record self.old {
-          messages = map.insert self.old.messages id message;
+          messages = map.insert self.old.messages name message;
         }) }
 
         ensures back { IfErr result (λ m. m ≡ message) }
         ensures err { OnErr result (self.new ≡ self.old) }
     {
-        match self.messages.insert(id, message) {
+        match self.messages.insert(name, message) {
             Ok(_) => Ok(()),
             Err(refused) => {
                 let (_, message) = refused.value;
@@ -82,19 +82,19 @@ impl Outgoing {
     }
 
     /// Lets the message of a name go.
-    pub(crate) fn remove(&mut self, id: Name)
-        ensures { self.new ≡ record self.old { messages = map.remove self.old.messages id } }
+    pub(crate) fn remove(&mut self, name: Name)
+        ensures { self.new ≡ record self.old { messages = map.remove self.old.messages name } }
     {
-        let _ = self.messages.remove(&id);
+        let _ = self.messages.remove(&name);
     }
 
     /// Takes the message of a name out, which has one.
-    pub(crate) fn take(&mut self, id: Name) -> Octets
-        requires { is_some (map.get self.old.messages id) ≡ true }
-        ensures message { map.get self.old.messages id ≡ Some result }
-        ensures rest { self.new ≡ record self.old { messages = map.remove self.old.messages id } }
+    pub(crate) fn take(&mut self, name: Name) -> Octets
+        requires { is_some (map.get self.old.messages name) ≡ true }
+        ensures message { map.get self.old.messages name ≡ Some result }
+        ensures rest { self.new ≡ record self.old { messages = map.remove self.old.messages name } }
     {
-        match self.messages.remove(&id) {
+        match self.messages.remove(&name) {
             Some(message) => message,
             None => unreachable!(),
         }
@@ -103,15 +103,15 @@ impl Outgoing {
     /// Lets the message of the least name go, and answers that name. `None` where there is no
     /// message.
     pub(crate) fn pop_first(&mut self) -> Option<Name>
-        ensures rest { IfSome result (λ id.
-            self.new ≡ record self.old { messages = map.remove self.old.messages id }) }
-        ensures had { IfSome result (λ id. is_some (map.get self.old.messages id) ≡ true) }
+        ensures rest { IfSome result (λ name.
+            self.new ≡ record self.old { messages = map.remove self.old.messages name }) }
+        ensures had { IfSome result (λ name. is_some (map.get self.old.messages name) ≡ true) }
         ensures empty { IfNone result (self.old.messages ≡ map.empty) }
         ensures unchanged { IfNone result (self.new ≡ self.old) }
         ensures len { map.len self.new.messages + (if is_some result then 1 else 0)
             ≡ map.len self.old.messages }
     {
-        let (id, _) = self.messages.pop_first()?;
-        Some(id)
+        let (name, _) = self.messages.pop_first()?;
+        Some(name)
     }
 }

@@ -1,20 +1,21 @@
 //! A delivered packet, read before the node that it is for is looked at.
 
 ghost use Rattle.std.specs.Prelude.{◌≡◌, ◌↔◌, ◌+◌, ◌≤◌, ℕ, List, length, Some, IsTrue};
-ghost use Rattle.lpt_execution.specs.LptPacket.Numbers.{IsOctets};
-ghost use Rattle.lpt_execution.specs.LptPacket.Packets.{APacket, fields, seen};
-ghost use Rattle.lpt_execution.specs.LptPart.Splitting.{IsPartSize};
-ghost use Rattle.lpt_execution.specs.LptEvents.declared.side.Side.TheVariants.{Ground, Craft};
-ghost use Rattle.lpt_node.specs.Origins.{arrival_from};
-ghost use Rattle.lpt_execution.specs.LptEvents.Arrivals.{arrival};
-ghost use Rattle.lpt_node.specs.Found.{arrival_found, body_from, IsFound, IsFoundIn, IsWithin, Shows};
+ghost use Rattle.lpt_packet.specs.Numbers.{IsOctets};
+ghost use Rattle.lpt_packet.specs.Packets.{APacket, fields, seen};
+ghost use Rattle.lpt_part.specs.Splitting.{IsPartSize};
+ghost use Rattle.lpt_events.specs.declared.side.Side.TheVariants.{Ground, Craft};
+ghost use Rattle.lpt_node.specs.ParsedViews.{arrival_from};
+ghost use Rattle.lpt_events.specs.Arrivals.{arrival};
+ghost use Rattle.lpt_node.specs.Layouts.{arrival_by, body_from, IsLayout, IsLayoutIn, IsWithin, Shows};
 
-use crate::Side;
-use crate::found::{Found, Sight};
-use lpt_execution::{
-    ABORT, Direction, Name, Octets, Packet, Seen, TC_HEADER, TM_HEADER, TRANSFER, bodies,
-    part_kind, read_abort, read_packet, read_part, read_tc, read_tm, seen_is_read,
-};
+use crate::arrival::{Arrival, Layout};
+use lpt_events::{Side, part_kind};
+use lpt_packet::laws::seen_is_read;
+use lpt_packet::{Direction, Name, Octets, Packet, Seen, read_packet};
+use lpt_part::{ABORT, TRANSFER, read_abort, read_part};
+use lpt_pus::laws::bodies_stand_last;
+use lpt_pus::{TC_HEADER, TM_HEADER, read_tc, read_tm};
 use std::marker::Model;
 
 /// A delivered packet with what it is to an end of the link, so far as that depends on no state.
@@ -24,22 +25,22 @@ pub struct Parsed {
     side: Side,
     apid: u16,
     p: u32,
-    found: Found,
+    layout: Layout,
 }
 
 impl Model for Parsed {
-    ghost use Rattle.lpt_node.specs.Origins.{Origin};
-    ghost use Rattle.lpt_node.specs.Codes.{coded_origin};
+    ghost use Rattle.lpt_node.specs.ParsedViews.{ParsedView};
+    ghost use Rattle.lpt_node.specs.Codes.{coded_parsed};
 
-    ghost Value = { Origin };
+    ghost Value = { ParsedView };
 
-    ghost coded = { coded_origin };
+    ghost coded = { coded_parsed };
 
-    ghost use Rattle.lpt_node.specs.Found.{IsFound};
+    ghost use Rattle.lpt_node.specs.Layouts.{IsLayout};
 
     ghost view = { λ a. record { octets = a.octets; side = a.side; apid = a.apid; p = a.p } };
 
-    ghost invariant = { λ a. IsFound a.side a.apid a.p a.octets a.found };
+    ghost invariant = { λ a. IsLayout a.side a.apid a.p a.octets a.layout };
 }
 
 impl Parsed {
@@ -49,13 +50,13 @@ impl Parsed {
         requires { IsPartSize p }
         ensures { result ≡ record { octets = octets; side = side; apid = apid; p = p } }
     {
-        let found = found_in(octets.as_slice(), side, apid);
+        let layout = layout_in(octets.as_slice(), side, apid);
         Parsed {
             octets,
             side,
             apid,
             p,
-            found,
+            layout,
         }
     }
 
@@ -82,46 +83,46 @@ impl Parsed {
             side: _,
             apid: _,
             p: _,
-            found: _,
+            layout: _,
         } = self;
         octets
     }
 
     // What it shows.
-    pub(crate) fn sight(&self) -> Sight<'_>
+    pub(crate) fn arrival(&self) -> Arrival<'_>
         ensures { Shows self.now.p self.now.octets result (arrival_from self.now) }
     {
-        shown(self.found, self.octets.as_slice(), self.p)
+        shown(self.layout, self.octets.as_slice(), self.p)
     }
 }
 
 // What octets show that were delivered to this side, for packets of this APID and parts of `p` octets.
-pub(crate) fn sight_in(octets: &[u8], side: Side, apid: u16, p: u32) -> Sight<'_>
+pub(crate) fn arrival_in(octets: &[u8], side: Side, apid: u16, p: u32) -> Arrival<'_>
     requires { IsPartSize p }
     ensures { Shows p octets.now result (arrival side apid p octets.now) }
 {
-    shown(found_in(octets, side, apid), octets, p)
+    shown(layout_in(octets, side, apid), octets, p)
 }
 
 // What octets show in which this was found.
-fn shown(found: Found, octets: &[u8], p: u32) -> Sight<'_>
-    requires within { IsWithin octets.now found }
+fn shown(layout: Layout, octets: &[u8], p: u32) -> Arrival<'_>
+    requires within { IsWithin octets.now layout }
     requires part_size { IsPartSize p }
-    ensures { Shows p octets.now result (arrival_found p octets.now found) }
+    ensures { Shows p octets.now result (arrival_by p octets.now layout) }
 {
-    match found {
-        Found::Unreadable => Sight::Unreadable,
-        Found::Idle => Sight::Idle,
-        Found::Foreign => Sight::Foreign,
-        Found::Request => Sight::Request,
-        Found::Report(service, subtype) => Sight::Report(service, subtype),
-        Found::Part(kind, source, from) => match read_part(kind, body_from(octets, from), p) {
-            Ok(part) => Sight::Part(source, part),
-            Err(_) => Sight::BadPart,
+    match layout {
+        Layout::Unreadable => Arrival::Unreadable,
+        Layout::Idle => Arrival::Idle,
+        Layout::Foreign => Arrival::Foreign,
+        Layout::Request => Arrival::Request,
+        Layout::Report(service, subtype) => Arrival::Report(service, subtype),
+        Layout::Part(kind, source, from) => match read_part(kind, body_from(octets, from), p) {
+            Ok(part) => Arrival::Part(source, part),
+            Err(_) => Arrival::BadPart,
         },
-        Found::Abort(source, from) => match read_abort(body_from(octets, from)) {
-            Ok((id, reason)) => Sight::Abort(Name { source, id }, reason),
-            Err(_) => Sight::BadPart,
+        Layout::Abort(source, from) => match read_abort(body_from(octets, from)) {
+            Ok((id, reason)) => Arrival::Abort(Name { source, id }, reason),
+            Err(_) => Arrival::BadPart,
         },
     }
 }
@@ -136,57 +137,57 @@ fn body_from(octets: &[u8], from: usize) -> &[u8]
 }
 
 // What octets are to this side.
-fn found_in(octets: &[u8], side: Side, apid: u16) -> Found
+fn layout_in(octets: &[u8], side: Side, apid: u16) -> Layout
     requires { IsOctets octets.now }
-    ensures { (p : ℕ) → IsPartSize p → IsFound side apid p octets.now result }
+    ensures { (p : ℕ) → IsPartSize p → IsLayout side apid p octets.now result }
 {
     seen_is_read();
     match read_packet(octets) {
-        Err(_) => Found::Unreadable,
-        Ok(Seen::Idle) => Found::Idle,
+        Err(_) => Layout::Unreadable,
+        Ok(Seen::Idle) => Layout::Idle,
         Ok(Seen::Packet(packet)) => {
             if packet.apid != apid {
-                return Found::Foreign;
+                return Layout::Foreign;
             }
             match side {
-                Side::Craft => found_in_uplink(&packet),
-                Side::Ground => found_in_downlink(&packet),
+                Side::Craft => layout_in_uplink(&packet),
+                Side::Ground => layout_in_downlink(&packet),
             }
         }
     }
 }
 
 // What a packet of the configured APID is to the spacecraft.
-fn found_in_uplink(packet: &Packet<'_>) -> Found
+fn layout_in_uplink(packet: &Packet<'_>) -> Layout
     ensures { (b : List ℕ) → seen b ≡ Some (APacket (fields packet.now))
-        → IsFoundIn Craft (fields packet.now) b result }
+        → IsLayoutIn Craft (fields packet.now) b result }
 {
-    bodies();
+    bodies_stand_last();
     let Ok((head, _)) = read_tc(packet) else {
-        return Found::Unreadable;
+        return Layout::Unreadable;
     };
     match part_kind(Direction::Up, head.service, head.subtype) {
-        Some(kind) => Found::Part(kind, head.source, TC_HEADER),
-        None => Found::Request,
+        Some(kind) => Layout::Part(kind, head.source, TC_HEADER),
+        None => Layout::Request,
     }
 }
 
 // What a packet of the configured APID is on ground.
-fn found_in_downlink(packet: &Packet<'_>) -> Found
+fn layout_in_downlink(packet: &Packet<'_>) -> Layout
     ensures { (b : List ℕ) → seen b ≡ Some (APacket (fields packet.now))
-        → IsFoundIn Ground (fields packet.now) b result }
+        → IsLayoutIn Ground (fields packet.now) b result }
 {
-    bodies();
+    bodies_stand_last();
     let Ok((head, _)) = read_tm(packet) else {
-        return Found::Unreadable;
+        return Layout::Unreadable;
     };
     match part_kind(Direction::Down, head.service, head.subtype) {
-        Some(kind) => Found::Part(kind, head.destination, TM_HEADER),
+        Some(kind) => Layout::Part(kind, head.destination, TM_HEADER),
         None => {
             if head.service == TRANSFER && head.subtype == ABORT {
-                Found::Abort(head.destination, TM_HEADER)
+                Layout::Abort(head.destination, TM_HEADER)
             } else {
-                Found::Report(head.service, head.subtype)
+                Layout::Report(head.service, head.subtype)
             }
         }
     }

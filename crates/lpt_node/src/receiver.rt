@@ -3,10 +3,10 @@
 ghost use Rattle.std.specs.Prelude.{◌≡◌, ◌+◌, ◌<◌, ◌^◌, [], true, IsTrue, is_some, IfSome, IfOk, OnOk, OnErr};
 ghost use Rattle.std.specs.FinMap as map;
 ghost use Rattle.std.specs.Option.{option_map};
-ghost use Rattle.lpt_execution.specs.LptPart.declared.reason.Reason.TheVariants as why;
-ghost use Rattle.lpt_execution.specs.LptPart.Parts.{piece};
-ghost use Rattle.lpt_execution.specs.LptEvents.NamedParts.{named};
-ghost use Rattle.lpt_execution.specs.LptPus.Telemetry.{telemetry, as_written};
+ghost use Rattle.lpt_part.specs.declared.reason.Reason.TheVariants as why;
+ghost use Rattle.lpt_part.specs.Parts.{piece};
+ghost use Rattle.lpt_events.specs.NamedParts.{named};
+ghost use Rattle.lpt_pus.specs.Telemetry.{telemetry, as_written};
 ghost use Rattle.lpt_ledger.specs.States.{state_at};
 ghost use Rattle.lpt_table.specs.Deadlines.{due_of};
 ghost use Rattle.lpt_table.specs.Tables.{IsTableSize};
@@ -14,13 +14,15 @@ ghost use Rattle.lpt_jobs.specs.Jobs.{numbered};
 ghost use Rattle.lpt_node.specs.Receivers.{abort_report, ended, grows, received, table_in, IsSameReceiver, IsShort};
 ghost use Rattle.lpt_node.specs.Receiving.{jobs_after};
 
-use crate::Side;
-use crate::anew::free;
 use crate::ending::{abort, break_off, close_reported, release};
-use crate::taken::Taken;
-use lpt_execution::{Mode, Name, Octets, Part, Reason, TmHead};
+use crate::receipt::Receipt;
+use crate::restart::free;
+use lpt_events::Side;
 use lpt_jobs::JobQueue;
 use lpt_ledger::{Ledger, State};
+use lpt_packet::{Name, Octets};
+use lpt_part::{Mode, Part, Reason};
+use lpt_pus::TmHead;
 use lpt_table::laws::put_back_undoes;
 use lpt_table::{Offer, Table};
 use std::alloc::{AllocError, Global};
@@ -85,19 +87,19 @@ impl Receiver {
     }
 
     /// Whether a reception of this name is open.
-    pub(crate) fn is_open(&self, id: Name) -> bool
-        ensures open { result ≡ is_some (map.get self.now.entries id) }
+    pub(crate) fn is_open(&self, name: Name) -> bool
+        ensures open { result ≡ is_some (map.get self.now.entries name) }
 
         // The name of an open reception is free.
-        ensures free { IsTrue result → state_at self.now.ledger id ≡ State.Free }
+        ensures free { IsTrue result → state_at self.now.ledger name ≡ State.Free }
     {
-        self.table.is_open(id)
+        self.table.is_open(name)
     }
 
     /// The name of the reception that is due at this tick.
     pub(crate) fn due(&self, now: u32) -> Option<Name>
         ensures due { result ≡ due_of (table_in self.now) now }
-        ensures open { IfSome result (λ id. is_some (map.get self.now.entries id) ≡ true) }
+        ensures open { IfSome result (λ name. is_some (map.get self.now.entries name) ≡ true) }
     {
         self.table.due(now)
     }
@@ -115,7 +117,7 @@ impl Receiver {
         source: u16,
         part: &Part<'_>,
         now: u32,
-    ) -> Result<Taken, AllocError>
+    ) -> Result<Receipt, AllocError>
         requires p { part.now.p ≡ self.old.p }
         requires numbers { numbered jobs.old + 1 < 2 ^ 64 }
         ensures ok { IfOk result (λ t. (self.new, t)
@@ -136,13 +138,13 @@ impl Receiver {
             id: part.id,
         };
         if self.ledger.state(name) != State::Free {
-            return Ok(Taken::Closed);
+            return Ok(Receipt::Closed);
         }
         put_back_undoes();
         match self.table.offer(source, part, now) {
-            Offer::Kept => Ok(Taken::Kept),
-            Offer::Again => Ok(Taken::Again),
-            Offer::NoRoom => Ok(Taken::NoRoom),
+            Offer::Kept => Ok(Receipt::Kept),
+            Offer::Again => Ok(Receipt::Again),
+            Offer::NoRoom => Ok(Receipt::NoRoom),
             Offer::Memory => Err(AllocError),
             Offer::Whole(whole) => {
                 release(side, jobs, &mut self.ledger, &mut self.table, name, whole)
@@ -167,27 +169,27 @@ impl Receiver {
     pub(crate) fn expire(
         &mut self,
         head: Option<TmHead>,
-        id: Name,
+        name: Name,
     ) -> Result<Option<Octets>, AllocError>
-        requires { is_some (map.get self.old.entries id) ≡ true }
+        requires { is_some (map.get self.old.entries name) ≡ true }
         ensures report { IfOk result (λ o. o
-            ≡ abort_report (option_map (λ h. as_written (telemetry h [])) head) id why.Expired) }
-        ensures ended { OnOk result (self.new ≡ ended self.old id) }
+            ≡ abort_report (option_map (λ h. as_written (telemetry h [])) head) name why.Expired) }
+        ensures ended { OnOk result (self.new ≡ ended self.old name) }
 
         ensures same { IsSameReceiver self.old self.new }
 
         ensures err { OnErr result (self.new ≡ self.old) }
     {
-        let report = close_reported(self.alloc, &mut self.ledger, head, id, Reason::Expired)?;
-        self.table.expire(id);
+        let report = close_reported(self.alloc, &mut self.ledger, head, name, Reason::Expired)?;
+        self.table.expire(name);
         Ok(report)
     }
 
     /// Makes a name free.
-    pub(crate) fn retire(&mut self, id: Name)
-        ensures { self.new ≡ record self.old { ledger = map.remove self.old.ledger id } }
+    pub(crate) fn retire(&mut self, name: Name)
+        ensures { self.new ≡ record self.old { ledger = map.remove self.old.ledger name } }
     {
-        free(&mut self.ledger, id);
+        free(&mut self.ledger, name);
     }
 
     /// Drops all open receptions. What is closed stays so.

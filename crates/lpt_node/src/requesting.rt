@@ -1,15 +1,14 @@
 //! Plain requests: telecommands besides the parts of messages.
 
 ghost use Rattle.std.specs.Prelude.{◌≡◌, ◌+◌, ◌≤◌, length, None, IfOk, IfErr, IfNone, OnOk, OnErr};
-ghost use Rattle.lpt_execution.specs.LptEvents.declared.side.Side.TheVariants.{Ground};
+ghost use Rattle.lpt_events.specs.declared.side.Side.TheVariants.{Ground};
 ghost use Rattle.lpt_node.specs.Requests.{refusal_plain, plain_made};
 ghost use Rattle.lpt_node.specs.Sending.{RefusedBy};
 
 use crate::{Node, NodeFault};
-use lpt_execution::{
-    AckFlags, Direction, ERROR_CONTROL, Octets, PRIMARY_HEADER, TC_HEADER, TcHead, longest_on_link,
-    part_kind, tc_octets,
-};
+use lpt_events::{longest_on_link, part_kind};
+use lpt_packet::{Direction, ERROR_CONTROL, Octets, PRIMARY_HEADER};
+use lpt_pus::{AckFlags, TC_HEADER, TcHead, tc_octets};
 
 // The octets that stand around the body of a telecommand.
 const AROUND_A_BODY: usize = PRIMARY_HEADER + TC_HEADER + ERROR_CONTROL;

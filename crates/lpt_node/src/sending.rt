@@ -1,10 +1,7 @@
 //! Sending messages in parts.
 
-ghost use Rattle.std.specs.Prelude.{◌≡◌, ◌≤◌, length, None, Some, IfOk, IfErr, OnOk, OnErr};
+ghost use Rattle.std.specs.Prelude.{◌≡◌, length, None, Some, IfOk, IfErr, OnOk, OnErr};
 ghost use Rattle.std.specs.FinMap as map;
-ghost use Rattle.lpt_execution.specs.LptPart.Parts.{piece};
-ghost use Rattle.lpt_execution.specs.LptPart.Splitting.{IsPartSize, part_count};
-ghost use Rattle.lpt_execution.specs.LptEvents.MadePackets.{nth_part};
 ghost use Rattle.lpt_ledger.specs.Marks.{Opened};
 ghost use Rattle.lpt_ledger.specs.States.{state_at};
 ghost use Rattle.lpt_node.specs.Nodes.{MessageFits};
@@ -12,8 +9,9 @@ ghost use Rattle.lpt_node.specs.Sending.{refusal_open, opened, refusal_send, sen
 
 use crate::outgoing::Outgoing;
 use crate::{Node, NodeFault};
-use lpt_execution::{Kind, Name, Octets, Part, count, parts_fit, slice};
 use lpt_ledger::{Ledger, State};
+use lpt_packet::{Name, Octets};
+use lpt_part::part_at;
 
 impl Node {
     /// Takes a message to be sent under a free name.
@@ -21,22 +19,22 @@ impl Node {
     /// Errors, with the message handed back and nothing changed, the first that applies: `InUse`,
     /// the name isn't free; `Short`, the message isn't longer than a part; `Long`, it has more than
     /// 65,542 octets; `TooMany`, as many messages are open as the limit; `Memory`.
-    pub fn open(&mut self, id: Name, message: Octets) -> Result<(), (NodeFault, Octets)>
-        ensures enabled { OnOk result (refusal_open self.old.config self.old.at id (length message) ≡ None) }
-        ensures ok { OnOk result (self.new.at ≡ opened self.old.at id message) }
+    pub fn open(&mut self, name: Name, message: Octets) -> Result<(), (NodeFault, Octets)>
+        ensures enabled { OnOk result (refusal_open self.old.config self.old.at name (length message) ≡ None) }
+        ensures ok { OnOk result (self.new.at ≡ opened self.old.at name message) }
         ensures fits { OnOk result (MessageFits self.old.config.part_size (length message)) }
 
         ensures side { self.new.side ≡ self.old.side }
         ensures config { self.new.config ≡ self.old.config }
 
-        ensures refused { IfErr result (λ e. RefusedBy (refusal_open self.old.config self.old.at id (length message)) e.0) }
+        ensures refused { IfErr result (λ e. RefusedBy (refusal_open self.old.config self.old.at name (length message)) e.0) }
         ensures back { IfErr result (λ e. e.1 ≡ message) }
         ensures err { OnErr result (self.new.at ≡ self.old.at) }
     {
-        if let Some(fault) = self.refusal_open(id, message.as_slice().len()) {
+        if let Some(fault) = self.refusal_open(name, message.as_slice().len()) {
             return Err((fault, message));
         }
-        match begin(&mut self.senders, &mut self.outgoing, id, message) {
+        match begin(&mut self.senders, &mut self.outgoing, name, message) {
             Ok(()) => Ok(()),
             Err(message) => Err((NodeFault::Memory, message)),
         }
@@ -46,25 +44,25 @@ impl Node {
     ///
     /// Errors, with nothing changed, the first that applies: `NotOpen`, no message of this name is
     /// open; `NoSuchPart`, `k` is 0 or greater than the number of parts; `Memory`.
-    pub fn send_part(&mut self, id: Name, k: u16) -> Result<Octets, NodeFault>
-        ensures enabled { OnOk result (refusal_send self.old.config self.old.at id k ≡ None) }
-        ensures ok { IfOk result (λ o. (self.new.at, o) ≡ sent self.old.side self.old.config self.old.at id k) }
+    pub fn send_part(&mut self, name: Name, k: u16) -> Result<Octets, NodeFault>
+        ensures enabled { OnOk result (refusal_send self.old.config self.old.at name k ≡ None) }
+        ensures ok { IfOk result (λ o. (self.new.at, o) ≡ sent self.old.side self.old.config self.old.at name k) }
 
         ensures side { self.new.side ≡ self.old.side }
         ensures config { self.new.config ≡ self.old.config }
 
-        ensures refused { IfErr result (λ e. RefusedBy (refusal_send self.old.config self.old.at id k) e) }
+        ensures refused { IfErr result (λ e. RefusedBy (refusal_send self.old.config self.old.at name k) e) }
         ensures err { OnErr result (self.new.at ≡ self.old.at) }
     {
-        if let Some(fault) = self.refusal_send(id, k) {
+        if let Some(fault) = self.refusal_send(name, k) {
             return Err(fault);
         }
-        let Some(message) = self.outgoing.get(id) else {
+        let Some(message) = self.outgoing.get(name) else {
             unreachable!()
         };
-        let part = part_at(message, self.config.part_size, id.id, k);
+        let part = part_at(message, self.config.part_size, name.id, k);
         let mut counts = self.counts;
-        let Ok(packet) = self.part_packet(&mut counts, id.source, &part) else {
+        let Ok(packet) = self.part_packet(&mut counts, name.source, &part) else {
             return Err(NodeFault::Memory);
         };
         self.counts = counts;
@@ -74,31 +72,31 @@ impl Node {
     /// Closes an open outgoing transaction and lets its message go.
     ///
     /// Errors: `NotOpen` where none of this name is open. Nothing has changed then.
-    pub fn finish(&mut self, id: Name) -> Result<(), NodeFault>
-        ensures enabled { OnOk result (refusal_finish self.old.at id ≡ None) }
-        ensures ok { OnOk result (self.new.at ≡ closed self.old.at id) }
+    pub fn finish(&mut self, name: Name) -> Result<(), NodeFault>
+        ensures enabled { OnOk result (refusal_finish self.old.at name ≡ None) }
+        ensures ok { OnOk result (self.new.at ≡ closed self.old.at name) }
 
         ensures side { self.new.side ≡ self.old.side }
         ensures config { self.new.config ≡ self.old.config }
 
-        ensures refused { IfErr result (λ e. refusal_finish self.old.at id ≡ Some e) }
+        ensures refused { IfErr result (λ e. refusal_finish self.old.at name ≡ Some e) }
         ensures err { OnErr result (self.new.at ≡ self.old.at) }
     {
-        if let Some(fault) = self.refusal_finish(id) {
+        if let Some(fault) = self.refusal_finish(name) {
             return Err(fault);
         }
-        self.close(id);
+        self.close(name);
         Ok(())
     }
 
     // Closes an outgoing transaction where it is open.
-    pub(crate) fn close(&mut self, id: Name)
-        ensures at { self.new.at ≡ closed self.old.at id }
+    pub(crate) fn close(&mut self, name: Name)
+        ensures at { self.new.at ≡ closed self.old.at name }
         ensures side { self.new.side ≡ self.old.side }
         ensures config { self.new.config ≡ self.old.config }
     {
-        match self.senders.close(id) {
-            Ok(()) => self.outgoing.remove(id),
+        match self.senders.close(name) {
+            Ok(()) => self.outgoing.remove(name),
             Err(_) => {}
         }
     }
@@ -109,53 +107,24 @@ impl Node {
 pub(crate) fn begin(
     senders: &mut Ledger,
     outgoing: &mut Outgoing,
-    id: Name,
+    name: Name,
     message: Octets,
 ) -> Result<(), Octets>
-    requires free { state_at senders.old id ≡ State.Free }
+    requires free { state_at senders.old name ≡ State.Free }
     requires fits { MessageFits outgoing.old.p (length message) }
-    requires absent { map.get outgoing.old.messages id ≡ None }
-    ensures opened { OnOk result (senders.new ≡ map.insert senders.old id Opened) }
+    requires absent { map.get outgoing.old.messages name ≡ None }
+    ensures opened { OnOk result (senders.new ≡ map.insert senders.old name Opened) }
     ensures kept { OnOk result (outgoing.new ≡ record outgoing.old {
-      messages = map.insert outgoing.old.messages id message;
+      messages = map.insert outgoing.old.messages name message;
     }) }
 
     ensures back { IfErr result (λ m. m ≡ message) }
     ensures unopened { OnErr result (senders.new ≡ senders.old) }
     ensures unkept { OnErr result (outgoing.new ≡ outgoing.old) }
 {
-    outgoing.insert(id, message)?;
-    match senders.open(id) {
+    outgoing.insert(name, message)?;
+    match senders.open(name) {
         Ok(()) => Ok(()),
-        Err(_) => Err(outgoing.take(id)),
-    }
-}
-
-// Part k of a message that has as many.
-fn part_at(message: &[u8], p: u32, id: u16, k: u16) -> Part<'_>
-    requires part_size { IsPartSize p }
-    requires fits { MessageFits p (length message.now) }
-    requires some { 1 ≤ k }
-    requires within { k ≤ part_count (length message.now) p }
-    ensures { piece result ≡ nth_part p id message.now k }
-{
-    parts_fit();
-    let total = count(message.len() as u32, p);
-    let kind = if k == 1 {
-        Kind::First
-    } else if u32::from(k) == total {
-        Kind::Last
-    } else {
-        Kind::Middle
-    };
-    let Some(octets) = slice(message, p, u32::from(k)) else {
-        unreachable!();
-    };
-    Part {
-        id,
-        number: k,
-        kind,
-        octets,
-        p,
+        Err(_) => Err(outgoing.take(name)),
     }
 }

@@ -4,7 +4,8 @@ ghost use Rattle.std.specs.Prelude.{◌≡◌, None, Some, IfOk, IfErr, OnOk, On
 ghost use Rattle.lpt_node.specs.Sending.{RefusedBy};
 ghost use Rattle.lpt_node.specs.Times.{refusal_tick, ticked, refusal_expire, expired};
 
-use crate::{Expired, Node, NodeFault, TelemetryKind};
+use crate::{Expired, Node, NodeFault};
+use lpt_events::TelemetryKind;
 
 impl Node {
     /// Sets the clock one tick on.
@@ -43,18 +44,18 @@ impl Node {
         ensures refused { IfErr result (λ e. RefusedBy (refusal_expire self.old.config self.old.at) e) }
         ensures err { OnErr result (self.new.at ≡ self.old.at) }
     {
-        let Some(id) = self.receiver.due(self.clock) else {
+        let Some(name) = self.receiver.due(self.clock) else {
             return Err(NodeFault::NothingDue);
         };
         let mut counts = self.counts;
-        let head = self.abort_head(&counts, id.source);
-        let Ok(packet) = self.receiver.expire(head, id) else {
+        let head = self.abort_head(&counts, name.source);
+        let Ok(packet) = self.receiver.expire(head, name) else {
             return Err(NodeFault::Memory);
         };
         if packet.is_some() {
             counts.step_kind(TelemetryKind::Abort);
         }
         self.counts = counts;
-        Ok(Expired { id, packet })
+        Ok(Expired { name, packet })
     }
 }

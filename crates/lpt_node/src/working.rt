@@ -9,8 +9,10 @@ ghost use Rattle.lpt_node.specs.Sending.{RefusedBy};
 
 use crate::executing::Made;
 use crate::{Executed, Node, NodeFault};
-use lpt_execution::{Memories, Octets, Reading, Ticket, applied_with, request_source};
+use lpt_execution::{applied_with, request_source};
 use lpt_jobs::Front;
+use lpt_memory::{Memories, Reading, Ticket};
+use lpt_packet::Octets;
 
 impl Node {
     /// The number of this boot: how many times the node was restarted.

@@ -8,13 +8,9 @@ use Rattle.std.specs.FinMap.{nat_cmp-IsAntisymmetric}
 use Rattle.std.specs.FinMap.Entries.{find, put, by_order, below_all, is_sorted}
 use Rattle.std.proofs.lemmas.Bool.{or_parts}
 use Rattle.lpt_packet.proofs.KeyLemmas as keys
-use Rattle.lpt_packet.proofs.KeyLemmas.{first, second}
+use Rattle.lpt_packet.proofs.KeyLemmas.{first, second, both}
 
 -- ---- the order
-
-both : (a b : Bool) → T a → T b → T (a && b)
-both true b g h = h
-both false b g h = g
 
 less : (a b : ℕ) → T (is_lt (nat_cmp a b)) → a < b
 less a b h =

@@ -16,8 +16,13 @@ pub second : (a b : Bool) → T (a && b) → T b
 second true b h = h
 second false b h = absurd h
 
+-- each test, and so both
+pub both : (a b : Bool) → T a → T b → T (a && b)
+both true b g h = h
+both false b g h = g
+
 -- what is tested as less is less
-less : (r : Ordering) → T (is_lt r) → r ≡ Less
+pub less : (r : Ordering) → T (is_lt r) → r ≡ Less
 less Less h = refl
 less Equal h = absurd h
 less Greater h = absurd h

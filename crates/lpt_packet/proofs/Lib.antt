@@ -1,3 +1,4 @@
+pub mod BoolLemmas
 pub mod Bursts
 pub mod Codec
 pub mod EntryLemmas

@@ -27,28 +27,28 @@ module _ {X : Type 0} where
 
   -- the second entries have this under one name, or nothing, and under each other what the first have
   abbrev pub Puts : List (Name × X) → List (Name × X) → Name → Option X → Type 0
-  Puts es fs id x = (q : Name) → value_of fs q ≡ cond (is_at (name_cmp id) q) x (value_of es q)
+  Puts es fs name x = (q : Name) → value_of fs q ≡ cond (is_at (name_cmp name) q) x (value_of es q)
 
-  module _ (es fs : List (Name × X)) (id : Name) where
+  module _ (es fs : List (Name × X)) (name : Name) where
     -- so have their finite maps
     pub get-put : (x : Option X) (q : Name)
-        → Puts es fs id x
-        → map.get (by_name fs) q ≡ cond (eq_by_cmp name_cmp q id) x (map.get (by_name es) q)
+        → Puts es fs name x
+        → map.get (by_name fs) q ≡ cond (eq_by_cmp name_cmp q name) x (map.get (by_name es) q)
     get-put x q put =
         get-by_name fs q ∙ put q
-        ∙ ap (λ b. cond b x (value_of es q)) ((eq_by_cmp_equiv name_cmp_total).symm id q)
-        ∙ ap (cond (eq_by_cmp name_cmp q id) x) (sym (get-by_name es q))
+        ∙ ap (λ b. cond b x (value_of es q)) ((eq_by_cmp_equiv name_cmp_total).symm name q)
+        ∙ ap (cond (eq_by_cmp name_cmp q name) x) (sym (get-by_name es q))
 
     -- to put a value under a name is to insert it
     pub by_name-insert : (x : X)
-        → Puts es fs id (Some x)
-        → by_name fs ≡ map.insert (by_name es) id x
+        → Puts es fs name (Some x)
+        → by_name fs ≡ map.insert (by_name es) name x
     by_name-insert x put =
         map.same_map name_cmp_total name_cmp-IsAntisymmetric _ _ (λ q.
-        get-put (Some x) q put ∙ sym (map.get-insert name_cmp_total (by_name es) id x q))
+        get-put (Some x) q put ∙ sym (map.get-insert name_cmp_total (by_name es) name x q))
 
     -- and to put nothing is to remove the name
-    pub by_name-remove : Puts es fs id None → by_name fs ≡ map.remove (by_name es) id
+    pub by_name-remove : Puts es fs name None → by_name fs ≡ map.remove (by_name es) name
     by_name-remove put =
         map.same_map name_cmp_total name_cmp-IsAntisymmetric _ _ (λ q.
-        get-put None q put ∙ sym (map.get-remove name_cmp_total (by_name es) id q))
+        get-put None q put ∙ sym (map.get-remove name_cmp_total (by_name es) name q))

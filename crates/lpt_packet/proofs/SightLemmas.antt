@@ -3,10 +3,12 @@ use Rattle.std.proofs.Common.{◌≡◌, ◌≢◌, ◌∙◌, ap, sym, subst, �
 use Rattle.std.proofs.lemmas.List.{length-take}
 use Rattle.std.proofs.lemmas.Bool.Decides.{nat_tests}
 use Rattle.std.specs.Result.{result_ok}
-use Rattle.lpt_packet.specs.Packets.{Fields, spelling, IsPacket, IsIdle, Sight, IdlePacket, APacket, fields_at, verdict, seen, IsSight, is_idle, is_packet, packet_type}
+use Rattle.lpt_packet.specs.Packets.{Fields, spelling, IsPacket, IsIdle, Sight, IdlePacket, APacket, fields_at, verdict, seen, sight, IsSight, is_idle, is_packet, packet_type}
 use Rattle.lpt_packet.specs.Numbers.{word_at, IsOctets, same_octets}
 use Rattle.lpt_packet.specs.Ranges.{InRange}
 use Rattle.lpt_packet.specs.declared.fault.PacketFault.{PacketFault}
+use Rattle.lpt_packet.specs.declared.packet.Seen.{Seen}
+use Rattle.lpt_packet.proofs.BoolLemmas.{and_left, and_right, and_both, le_true, true_le}
 use Rattle.lpt_packet.proofs.Codec.{fields_at-spelling, length-spelling, word_at-0, packet_type_small}
 use Rattle.lpt_packet.proofs.Readings.{eq_true, true_eq}
 use Rattle.lpt_packet.proofs.Found.{found, again}
@@ -17,55 +19,38 @@ pub same_octets-refl : (b : List ℕ) → same_octets b b ≡ true
 same_octets-refl [] = refl
 same_octets-refl (x ∷ b) = grind (arith, nat_tests, same_octets-refl b)
 
-and_l : (a b : Bool) → (a && b) ≡ true → a ≡ true
-and_l true b h = refl
-and_l false b h = absurd cc
-
-and_r : (a b : Bool) → (a && b) ≡ true → b ≡ true
-and_r true b h = h
-and_r false b h = absurd cc
-
-and_i : (a b : Bool) → a ≡ true → b ≡ true → (a && b) ≡ true
-and_i a b p q = rw (p, q) refl
-
-not_true : (a : Bool) → (a ≡ true → ⊥) → a ≡ false
-not_true true h = absurd (h refl)
-not_true false h = refl
-
-le_true : (a b : ℕ) → a ≤ b → nat_le a b ≡ true
-le_true a b h = grind (arith, nat_tests)
-
-true_le : (a b : ℕ) → nat_le a b ≡ true → a ≤ b
-true_le a b h = grind (arith, nat_tests)
+isnt_true : (a : Bool) → (a ≡ true → ⊥) → a ≡ false
+isnt_true true h = absurd (h refl)
+isnt_true false h = refl
 
 pub same_octets-true : (b d : List ℕ) → same_octets b d ≡ true → b ≡ d
 same_octets-true [] [] h = refl
 same_octets-true [] (y ∷ d) h = absurd cc
 same_octets-true (x ∷ b) [] h = absurd cc
 same_octets-true (x ∷ b) (y ∷ d) h =
-    let head : x ≡ y = true_eq x y (and_l (x == y) (same_octets b d) h) in
-    let rest : b ≡ d = same_octets-true b d (and_r (x == y) (same_octets b d) h) in
+    let head : x ≡ y = true_eq x y (and_left (x == y) (same_octets b d) h) in
+    let rest : b ≡ d = same_octets-true b d (and_right (x == y) (same_octets b d) h) in
     cc
 
 -- ---- idle packets
 
 idle_true : (b : List ℕ) → IsIdle b → is_idle b ≡ true
 idle_true b h =
-    and_i _ (length b == 7 + word_at b 4)
-    (and_i _ (word_at b 0 % 2048 == 2047)
-    (and_i (nat_le 7 (length b)) (word_at b 0 / 8192 == 0) (le_true _ _ h.long) (eq_true _ _ h.version))
+    and_both _ (length b == 7 + word_at b 4)
+    (and_both _ (word_at b 0 % 2048 == 2047)
+    (and_both (nat_le 7 (length b)) (word_at b 0 / 8192 == 0) (le_true _ _ h.long) (eq_true _ _ h.version))
     (eq_true _ _ h.apid))
     (eq_true _ _ h.data_length)
 
 true_idle : (b : List ℕ) → is_idle b ≡ true → IsIdle b
 true_idle b h =
-    let three = and_l (nat_le 7 (length b) && (word_at b 0 / 8192 == 0) && (word_at b 0 % 2048 == 2047)) (length b == 7 + word_at b 4) h in
-    let two = and_l (nat_le 7 (length b) && (word_at b 0 / 8192 == 0)) (word_at b 0 % 2048 == 2047) three in
+    let three = and_left (nat_le 7 (length b) && (word_at b 0 / 8192 == 0) && (word_at b 0 % 2048 == 2047)) (length b == 7 + word_at b 4) h in
+    let two = and_left (nat_le 7 (length b) && (word_at b 0 / 8192 == 0)) (word_at b 0 % 2048 == 2047) three in
     record {
-      long = true_le _ _ (and_l (nat_le 7 (length b)) (word_at b 0 / 8192 == 0) two);
-      version = true_eq _ _ (and_r (nat_le 7 (length b)) (word_at b 0 / 8192 == 0) two);
-      apid = true_eq _ _ (and_r (nat_le 7 (length b) && (word_at b 0 / 8192 == 0)) (word_at b 0 % 2048 == 2047) three);
-      data_length = true_eq _ _ (and_r (nat_le 7 (length b) && (word_at b 0 / 8192 == 0) && (word_at b 0 % 2048 == 2047)) (length b == 7 + word_at b 4) h);
+      long = true_le _ _ (and_left (nat_le 7 (length b)) (word_at b 0 / 8192 == 0) two);
+      version = true_eq _ _ (and_right (nat_le 7 (length b)) (word_at b 0 / 8192 == 0) two);
+      apid = true_eq _ _ (and_right (nat_le 7 (length b) && (word_at b 0 / 8192 == 0)) (word_at b 0 % 2048 == 2047) three);
+      data_length = true_eq _ _ (and_right (nat_le 7 (length b) && (word_at b 0 / 8192 == 0) && (word_at b 0 % 2048 == 2047)) (length b == 7 + word_at b 4) h);
     }
 
 -- ---- packets
@@ -77,21 +62,21 @@ spelling_true f r =
     let small : packet_type f.kind < 2 = packet_type_small f.kind in
     let apid : nat_le (word_at b 0 % 2048) 2046 ≡ true = le_true _ _ (omega arith) in
     let size : nat_le (length b) 65542 ≡ true = le_true _ _ (omega (arith, length-spelling f)) in
-    and_i (nat_le (length b) 65542 && nat_le (word_at b 0 % 2048) 2046) (same_octets b (spelling (fields_at b)))
-    (and_i (nat_le (length b) 65542) (nat_le (word_at b 0 % 2048) 2046) size apid)
+    and_both (nat_le (length b) 65542 && nat_le (word_at b 0 % 2048) 2046) (same_octets b (spelling (fields_at b)))
+    (and_both (nat_le (length b) 65542) (nat_le (word_at b 0 % 2048) 2046) size apid)
     (ap (λ g. same_octets b (spelling g)) (fields_at-spelling f r) ∙ same_octets-refl b)
 
 true_packet : (b : List ℕ) → is_packet b ≡ true → IsPacket b (fields_at b)
 true_packet b h =
-    let sizes = and_l (nat_le (length b) 65542 && nat_le (word_at b 0 % 2048) 2046) (same_octets b (spelling (fields_at b))) h in
-    let size : length b ≤ 65542 = true_le _ _ (and_l (nat_le (length b) 65542) (nat_le (word_at b 0 % 2048) 2046) sizes) in
+    let sizes = and_left (nat_le (length b) 65542 && nat_le (word_at b 0 % 2048) 2046) (same_octets b (spelling (fields_at b))) h in
+    let size : length b ≤ 65542 = true_le _ _ (and_left (nat_le (length b) 65542) (nat_le (word_at b 0 % 2048) 2046) sizes) in
     record {
       ranges = record {
-        apid_fits = true_le _ _ (and_r (nat_le (length b) 65542) (nat_le (word_at b 0 % 2048) 2046) sizes);
+        apid_fits = true_le _ _ (and_right (nat_le (length b) 65542) (nat_le (word_at b 0 % 2048) 2046) sizes);
         count_fits = omega arith;
         field_fits = omega (arith, length-take (length b - 8) (drop 6 b));
       };
-      spelled = same_octets-true b (spelling (fields_at b)) (and_r (nat_le (length b) 65542 && nat_le (word_at b 0 % 2048) 2046) (same_octets b (spelling (fields_at b))) h);
+      spelled = same_octets-true b (spelling (fields_at b)) (and_right (nat_le (length b) 65542 && nat_le (word_at b 0 % 2048) 2046) (same_octets b (spelling (fields_at b))) h);
     }
 
 -- ---- what is seen
@@ -110,7 +95,7 @@ seen_again f r =
     let small : packet_type f.kind < 2 = packet_type_small f.kind in
     let apid : f.apid ≤ 2046 = r.apid_fits in
     let other : word_at (spelling f) 0 % 2048 ≢ 2047 = omega arith in
-    let busy : is_idle (spelling f) ≡ false = not_true _ (λ k. other (true_idle (spelling f) k).apid) in
+    let busy : is_idle (spelling f) ≡ false = isnt_true _ (λ k. other (true_idle (spelling f) k).apid) in
     let packet : is_packet (spelling f) ≡ true = spelling_true f r in
     seen_is (spelling f) ∙ (λ i. seen_by (busy i) (packet i) (fields_at-spelling f r i))
 
@@ -137,3 +122,12 @@ seen_verdict b o = go (verdict b) refl where
   go : (v : Result Sight PacketFault) → verdict b ≡ v → seen b ≡ result_ok v
   go (Ok s) h = sight_seen b s (found b s o h)
   go (Err e) h = none e h (seen b) refl
+
+-- what a reader saw is seen
+pub seen-read : (b : List ℕ) (s t : Seen)
+    → seen b ≡ result_ok (verdict b)
+    → verdict b ≡ Ok (sight s)
+    → s ≡ t
+    → seen b ≡ Some (sight t)
+seen-read b s t law reads same =
+    law ∙ ap (λ (r : Result Sight PacketFault). result_ok r) reads ∙ ap (λ (s : Seen). Some (sight s)) same

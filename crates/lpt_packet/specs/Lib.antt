@@ -1,5 +1,6 @@
 pub mod Bursts
 pub mod Checksums
+pub mod Directions
 pub mod FaultNames
 pub mod Names
 pub mod Numbers

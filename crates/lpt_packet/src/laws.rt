@@ -1,4 +1,5 @@
 //! What the definitions say of packets, proved of all lists of octets: functions with empty bodies.
+//! Where a law speaks of a value, its body reads the value and does nothing.
 
 ghost use Rattle.std.specs.Prelude.{◌≡◌, ◌<◌, ◌++◌, ◌↔◌, ℕ, List, [], Some, Ok};
 ghost use Rattle.std.specs.Result.{result_ok};
@@ -38,3 +39,10 @@ pub fn bursts_show()
     ensures checksum { (x y : List ℕ) → DifferInBurst x y → ¬ (checksum x ≡ checksum y) }
     ensures packet { (x y : List ℕ) (f g : Fields) → DifferInBurst x y → IsPacket x f → ¬ IsPacket y g }
 {}
+
+/// What a slice of octets holds are octets.
+pub(crate) fn slices_hold_octets(items: &[u8])
+    ensures { IsOctets items.now }
+{
+    let _items = items;
+}

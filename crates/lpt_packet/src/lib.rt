@@ -27,4 +27,4 @@ pub use octets::Octets;
 pub use packet::{Packet, PacketKind, Seen};
 pub use reading::read_packet;
 pub use sizes::{ERROR_CONTROL, LONGEST_FIELD, LONGEST_PACKET, PRIMARY_HEADER};
-pub use writing::{write_packet, write_pieces};
+pub use writing::{primary_header, write_packet, write_pieces};

@@ -3,6 +3,7 @@
 ghost use Rattle.std.specs.Prelude.{◌≡◌, ◌+◌, ◌≤◌, ◌++◌, length, take, drop, IfOk};
 ghost use Rattle.lpt_packet.specs.Numbers.{IsOctets};
 
+use crate::laws::slices_hold_octets;
 use std::alloc::AllocError;
 use std::marker::Model;
 
@@ -56,7 +57,7 @@ impl Octets {
         ensures octets { IsOctets self.now }
     {
         let items = self.items.as_slice();
-        are_octets(items);
+        slices_hold_octets(items);
         items
     }
 
@@ -76,11 +77,4 @@ impl Octets {
     {
         self.items[at..at + octets.len()].copy_from_slice(octets);
     }
-}
-
-// What a slice of octets holds are octets.
-fn are_octets(items: &[u8])
-    ensures { IsOctets items.now }
-{
-    let _ = items;
 }

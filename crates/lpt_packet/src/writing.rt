@@ -44,8 +44,8 @@ pub fn write_pieces(
     sealed_octets(alloc, &primary, header, front, rest)
 }
 
-// The primary header of a packet whose data field has so many octets.
-fn primary_header(kind: PacketKind, apid: u16, count: u16, len: usize) -> [u8; PRIMARY_HEADER]
+/// The primary header of a packet whose data field has so many octets.
+pub fn primary_header(kind: PacketKind, apid: u16, count: u16, len: usize) -> [u8; PRIMARY_HEADER]
     requires apid { apid ≤ 2046 }
     requires count { count ≤ 16383 }
     requires len { len ≤ longest_field }

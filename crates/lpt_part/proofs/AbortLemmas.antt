@@ -14,6 +14,11 @@ use Rattle.lpt_packet.proofs.Codec.{word_cells, word_of_be}
 
 -- ---- what was written
 
+-- a report's body has three octets
+pub length-abort_body : (id : ℕ) (reason : Reason) → length (abort_body id reason) ≡ 3
+unfolding abort_body
+length-abort_body id reason = refl
+
 -- a report's body is read as this report
 pub abort_verdict-abort_body : (id : ℕ) (reason : Reason)
     → id < 65536

@@ -19,11 +19,11 @@ use Rattle.lpt_packet.proofs.Codec.{word_cells}
 -- ---- the tests
 
 -- a number that passes its test fits
-number_test-true : (kind : Kind) (n : ℕ) → number_test kind n ≡ true → NumberFits kind n
+pub number_test-true : (kind : Kind) (n : ℕ) → number_test kind n ≡ true → NumberFits kind n
 number_test-true kind n h = grind (arith, nat_tests, common_steps)
 
 -- a length that passes its test fits
-length_test-true : (kind : Kind) (n len p : ℕ)
+pub length_test-true : (kind : Kind) (n len p : ℕ)
     → length_test kind n len p ≡ true
     → LengthFits kind n len p
 length_test-true kind n len p h = grind (arith, nat_tests, common_steps)

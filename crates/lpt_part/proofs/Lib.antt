@@ -4,4 +4,3 @@ pub mod KindLemmas
 pub mod ResultLemmas
 pub mod SplitLemmas
 mod StandardFacts
-pub use Rattle.lpt_packet.proofs as LptPacket

@@ -11,7 +11,7 @@ use Rattle.lpt_part.specs.Splitting.{IsPartSize, part_count, part_of, kind_at, p
 -- ---- how many parts
 
 -- one fewer, times p
-pred-mul : (n p : ℕ) → 1 ≤ n → (n - 1) * p + p ≡ n * p
+pub pred-mul : (n p : ℕ) → 1 ≤ n → (n - 1) * p + p ≡ n * p
 pred-mul zero p h = absurd (omega arith)
 pred-mul (suc n) p h = grind arith
 

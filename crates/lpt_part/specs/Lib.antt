@@ -1,7 +1,7 @@
 pub mod Aborts
 pub mod FaultNames
 pub mod Identifiers
+pub mod Kinds
 pub mod PartRanges
 pub mod Parts
 pub mod Splitting
-pub use Rattle.lpt_packet.specs as LptPacket

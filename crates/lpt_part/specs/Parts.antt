@@ -9,6 +9,7 @@ use Rattle.lpt_part.specs.declared.kind.Kind.TheVariants.{First, Middle, Last}
 use Rattle.lpt_part.specs.declared.fault.PartFault.{PartFault}
 use Rattle.lpt_part.specs.declared.fault.PartFault.TheVariants.{ShortPart, Zero, KindNumber, PartLength}
 use Rattle.lpt_part.specs.declared.part.Part.{Part}
+use Rattle.lpt_part.specs.Splitting.{kind_at, part_count, part_of}
 use Rattle.lpt_part.specs.PartRanges.{PartFits, least_number, greatest_number, least_length}
 
 -- a part, without where its octets lie in memory
@@ -21,6 +22,16 @@ pub record Piece : Type 0 where
 -- a part without its borrow
 abbrev pub piece : Part → Piece
 piece t = record { id = t.id; number = t.number; kind = t.kind; octets = t.octets.now }
+
+-- part k of a message, under its identifier
+abbrev pub nth_part : (p id : ℕ) → List ℕ → ℕ → Piece
+nth_part p id m k =
+    record {
+      id = id;
+      number = k;
+      kind = kind_at k (part_count (length m) p);
+      octets = part_of m p k;
+    }
 
 -- transaction identifier 16 bits, part sequence number 16 bits, the part's octets
 unfoldable pub body_of : Piece → List ℕ

@@ -1,5 +1,8 @@
 //! Which of its message's parts a part is.
 
+ghost use Rattle.std.specs.Prelude.{◌≡◌};
+ghost use Rattle.lpt_part.specs.Kinds.{kind_word};
+
 /// Which of its message's parts a part is. A message has at least two parts, so no part is both
 /// the first and the last.
 #[derive(Clone, Copy, Debug, PartialEq, Eq)]
@@ -10,4 +13,17 @@ pub enum Kind {
     Middle,
     /// The last part.
     Last,
+}
+
+impl Kind {
+    /// The kind's word.
+    pub fn word(self) -> &'static str
+        ensures { result.now ≡ kind_word self }
+    {
+        match self {
+            Kind::First => "first",
+            Kind::Middle => "middle",
+            Kind::Last => "last",
+        }
+    }
 }

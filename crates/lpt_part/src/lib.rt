@@ -12,6 +12,7 @@
 
 mod abort;
 mod fault;
+mod fitting;
 mod identifier;
 mod kind;
 pub mod laws;
@@ -25,13 +26,14 @@ mod writing;
 
 pub use abort::{abort_octets, read_abort, write_abort};
 pub use fault::PartFault;
+pub use fitting::{length_fits, number_fits};
 pub use identifier::TransactionId;
 pub use kind::Kind;
-pub use lpt_packet::{LONGEST_PACKET, Name, Octets};
+pub use lpt_packet::Octets;
 pub use message_types::{ABORT, TRANSFER};
 pub use mode::Mode;
 pub use part::Part;
 pub use reading::read_part;
 pub use reason::Reason;
-pub use splitting::{count, slice};
+pub use splitting::{count, part_at, slice};
 pub use writing::write_part;

@@ -1,12 +1,12 @@
 //! A part of a large message, as it is read and written.
 
-ghost use Rattle.std.specs.Prelude.{◌≡◌, ◌↔◌, ◌≤◌, length, IsSome, IfSome, IsTrue};
+ghost use Rattle.std.specs.Prelude.{◌≡◌, ◌↔◌, ◌≤◌, length, IsSome, IfSome};
 ghost use Rattle.lpt_packet.specs.Numbers.{IsOctets};
 ghost use Rattle.lpt_part.specs.Splitting.{IsPartSize};
-ghost use Rattle.lpt_part.specs.PartRanges.{NumberFits, LengthFits, PartFits};
+ghost use Rattle.lpt_part.specs.PartRanges.{PartFits};
 
+use crate::fitting::{length_fits, number_fits};
 use crate::{Kind, TransactionId};
-use lpt_packet::LONGEST_PACKET;
 
 /// A part of a large message. Its octets are borrowed, from the message or from the body that it
 /// was read from.
@@ -54,28 +54,4 @@ impl<'a> Part<'a> {
             p,
         })
     }
-}
-
-// Whether a part of this kind may have this number.
-pub(crate) fn number_fits(kind: Kind, number: u16) -> bool
-    ensures { IsTrue result ↔ NumberFits kind number }
-{
-    match kind {
-        Kind::First => number == 1,
-        Kind::Middle | Kind::Last => number >= 2,
-    }
-}
-
-// Whether a part of this kind and number may have so many octets.
-pub(crate) fn length_fits(kind: Kind, number: u16, len: usize, p: u32) -> bool
-    requires { IsPartSize p }
-    ensures { IsTrue result ↔ LengthFits kind number len p }
-{
-    let p = p as usize;
-    let least = match kind {
-        Kind::First | Kind::Middle => p,
-        Kind::Last => 1,
-    };
-    let before = usize::from(number).saturating_sub(1) * p;
-    least <= len && len <= p && before + len <= LONGEST_PACKET
 }

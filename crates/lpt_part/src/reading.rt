@@ -4,7 +4,7 @@ ghost use Rattle.std.specs.Prelude.{◌≡◌, Ok, IfOk};
 ghost use Rattle.lpt_part.specs.Splitting.{IsPartSize};
 ghost use Rattle.lpt_part.specs.Parts.{Piece, piece, IsPart, part_verdict, Gives};
 
-use crate::part::{length_fits, number_fits};
+use crate::fitting::{length_fits, number_fits};
 use crate::{Kind, Part, PartFault};
 
 /// Reads the body of a message that carries a part of this kind, for parts of `p` octets: the

@@ -106,7 +106,7 @@ tc_cells apid count (a ∷ b ∷ c ∷ d ∷ e ∷ body) o long version =
     let source : be (256 * d + e) 2 ≡ d ∷ e ∷ [] = word_cells d e (o 3) (o 4) in
     cc
 
-is_tc-true : (kind : PacketKind) → is_tc kind ≡ true → kind ≡ Tc
+pub is_tc-true : (kind : PacketKind) → is_tc kind ≡ true → kind ≡ Tc
 is_tc-true Tc e = refl
 is_tc-true Tm e = absurd cc
 

@@ -6,4 +6,3 @@ pub mod Numbers
 pub mod Ranges
 pub mod Sizes
 pub mod Telemetry
-pub use Rattle.lpt_packet.specs as LptPacket

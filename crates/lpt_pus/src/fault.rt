@@ -23,8 +23,8 @@ pub enum PusFault {
     /// The whole packet would have more than 65,542 octets.
     #[error("the packet would have more than 65,542 octets")]
     TooLong,
-    /// Memory ran out.
-    #[error("memory ran out")]
+    /// Out of memory.
+    #[error("out of memory")]
     Memory,
 }
 

@@ -23,11 +23,7 @@ mod writing;
 pub use ack_flags::AckFlags;
 pub use failure_code::FailureCode;
 pub use fault::PusFault;
-pub use lpt_packet::laws::seen_is_read;
-pub use lpt_packet::{
-    Direction, ERROR_CONTROL, LONGEST_PACKET, Name, Octets, PRIMARY_HEADER, Packet, PacketKind,
-    Seen, crc16, read_packet, write_packet, write_pieces,
-};
+pub use lpt_packet::{Octets, Packet};
 pub use reading::{read_tc, read_tm};
 pub use request::RequestId;
 pub use sizes::{LONGEST_TC_BODY, LONGEST_TM_BODY, TC_HEADER, TM_HEADER};

@@ -4,7 +4,7 @@ use Rattle.std.proofs.lemmas.Bool.Decides.{nat_tests}
 use Rattle.std.specs.FinMap as map
 use Rattle.std.specs.FinMap.Entries.{find, is_sorted}
 use Rattle.std.specs.Ordering.{nat_cmp}
-use Rattle.lpt_part.proofs.LptPacket.EntryLemmas.{found_first, found_cases, found_still, up_rest}
+use Rattle.lpt_packet.proofs.EntryLemmas.{found_first, found_cases, found_still, up_rest}
 use Rattle.lpt_reception.specs.Received.{Kept, no_parts, greatest_of, greatest}
 use Rattle.lpt_reception.proofs.SetLemmas.{get_none}
 use Rattle.lpt_reception.specs.Stored.{top, parts_in, IsShape}

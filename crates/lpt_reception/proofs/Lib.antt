@@ -10,7 +10,7 @@ mod NumberLemmas
 mod PairLemmas
 mod PlaceLemmas
 mod RunLemmas
-mod SetLemmas
+pub mod SetLemmas
 mod ShapeLemmas
 pub mod StartLemmas
 mod StoreLemmas
@@ -18,5 +18,3 @@ mod StoredLemmas
 mod TestLemmas
 mod WholeLemmas
 mod WholeStoreLemmas
-pub use Rattle.lpt_part.proofs.LptPacket as LptPacket
-pub use Rattle.lpt_part.proofs as LptPart

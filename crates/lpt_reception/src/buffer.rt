@@ -1,10 +1,10 @@
 //! The octets of a reception, in a buffer that never takes more memory than the longest message.
 
 ghost use Rattle.std.specs.Prelude.{◌≡◌, ◌+◌, ◌≤◌, [], length, take, vec_capacity, IfOk, OnOk, OnErr};
-ghost use Rattle.lpt_part.specs.LptPacket.Sizes.{longest_packet};
+ghost use Rattle.lpt_packet.specs.Sizes.{longest_packet};
 ghost use Rattle.lpt_reception.specs.Buffers.{padded, written, zeroed};
 
-use lpt_part::LONGEST_PACKET;
+use lpt_packet::LONGEST_PACKET;
 use std::alloc::{AllocError, Global};
 use std::marker::Model;
 use std::mem;
@@ -17,7 +17,7 @@ pub(crate) struct Buffer {
 
 impl Model for Buffer {
     ghost use Rattle.std.specs.Prelude.{ℕ, List, ◌≤◌, vec_capacity};
-    ghost use Rattle.lpt_part.specs.LptPacket.Sizes.{longest_packet};
+    ghost use Rattle.lpt_packet.specs.Sizes.{longest_packet};
 
     ghost Value = { List ℕ };
 

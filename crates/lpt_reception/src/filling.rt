@@ -5,10 +5,12 @@ ghost use Rattle.std.specs.FinMap as map;
 ghost use Rattle.lpt_part.specs.declared.mode.Mode.TheVariants as Mode;
 ghost use Rattle.lpt_reception.specs.PartsOf.{IsMessageOf};
 ghost use Rattle.lpt_reception.specs.Received.{no_parts, with_part, is_whole, spelled};
+ghost use Rattle.lpt_packet.specs.Sizes.{longest_packet};
 
-use crate::store::{Place, Store};
+use crate::store::{Standing, Store};
 use crate::{Broken, Step, Took, Whole};
-use lpt_part::{Mode, Octets, Part, Reason, TransactionId};
+use lpt_packet::Octets;
+use lpt_part::{Mode, Part, Reason, TransactionId};
 use std::alloc::{AllocError, Global};
 use std::marker::Model;
 
@@ -111,11 +113,10 @@ impl Filling {
         requires p { part.now.p ≡ self.old.p }
         ensures { Takes mode self.old part.now.number (kept part.now) result self.new }
     {
-        match self.store.place_of(mode, part) {
-            Place::Clash => return Took::Conflict(Reason::Conflict),
-            Place::Known => return Took::Again,
-            Place::Gap => return Took::Conflict(Reason::Discontinuity),
-            Place::New => {}
+        match self.store.standing_of(mode, part) {
+            Standing::Conflict(reason) => return Took::Conflict(reason),
+            Standing::Again => return Took::Again,
+            Standing::New => {}
         }
         let Ok(()) = self.store.add(part) else {
             return Took::NoMemory;
@@ -149,7 +150,7 @@ impl Filling {
     pub(crate) fn joined(&self) -> Result<Octets, AllocError>
         requires { is_whole self.now.parts ≡ true }
         ensures message { IfOk result (λ m. m ≡ spelled self.now.parts) }
-        ensures short { IfOk result (λ m. length m ≤ 65542) }
+        ensures short { IfOk result (λ m. length m ≤ longest_packet) }
         ensures split { IfOk result (IsMessageOf self.now.parts self.now.p) }
     {
         Ok(Octets::from_vec(self.store.octets.copy()?))
@@ -159,7 +160,7 @@ impl Filling {
     pub(crate) fn into_message(self) -> Octets
         requires { is_whole self.parts ≡ true }
         ensures message { result ≡ spelled self.parts }
-        ensures short { length result ≤ 65542 }
+        ensures short { length result ≤ longest_packet }
         ensures split { IsMessageOf self.parts self.p result }
     {
         let Filling { id: _, p: _, store } = self;

@@ -7,11 +7,11 @@ ghost use Rattle.lpt_part.specs.Splitting.{IsPartSize, kind_at};
 ghost use Rattle.lpt_reception.specs.Steps.{kept, IsNew};
 ghost use Rattle.lpt_reception.specs.Marks.{is_marked};
 ghost use Rattle.lpt_reception.specs.Received.{no_parts, with_part, same_kept, is_gap, is_last, is_whole};
-ghost use Rattle.lpt_reception.specs.Stored.{top, last_number, kept_at, stored, overruns, IsSound, IsPlace};
+ghost use Rattle.lpt_reception.specs.Stored.{top, last_number, kept_at, stored, overruns, IsSound, IsStanding};
 
 use crate::buffer::Buffer;
 use crate::marks::Marks;
-use lpt_part::{Kind, Mode, Part, count, slice};
+use lpt_part::{Kind, Mode, Part, Reason, count, slice};
 use std::alloc::{AllocError, Global};
 
 /// The parts that were kept.
@@ -29,14 +29,12 @@ pub(crate) struct Store {
 }
 
 /// What a part is to those that were kept.
-pub(crate) enum Place {
-    /// It contradicts them.
-    Clash,
+pub(crate) enum Standing {
+    /// It breaks the reception off, for this reason.
+    Conflict(Reason),
     /// It is one of them.
-    Known,
-    /// It is new, and in this mode not the next one.
-    Gap,
-    /// It is new.
+    Again,
+    /// It is new, and may be added.
     New,
 }
 
@@ -55,22 +53,22 @@ impl Store {
     }
 
     /// What a part is to those that were kept, in this mode.
-    pub(crate) fn place_of(&self, mode: Mode, part: &Part<'_>) -> Place
+    pub(crate) fn standing_of(&self, mode: Mode, part: &Part<'_>) -> Standing
         requires { IsSound part.now.p self.now }
-        ensures { IsPlace mode (stored part.now.p self.now) part.now.number (kept part.now) result }
+        ensures { IsStanding mode (stored part.now.p self.now) part.now.number (kept part.now) result }
     {
         if self.marks.has(part.number) {
             if self.holds(part) {
-                Place::Known
+                Standing::Again
             } else {
-                Place::Clash
+                Standing::Conflict(Reason::Conflict)
             }
         } else if self.is_overrun_by(part) {
-            Place::Clash
+            Standing::Conflict(Reason::Conflict)
         } else if self.is_gap(mode, part) {
-            Place::Gap
+            Standing::Conflict(Reason::Discontinuity)
         } else {
-            Place::New
+            Standing::New
         }
     }
 

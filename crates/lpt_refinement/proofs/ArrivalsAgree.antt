@@ -4,27 +4,27 @@ use Rattle.std.specs.Option.{option_map, option_map_or, option_and_then}
 use Rattle.std.specs.Prelude.{slice_get}
 use Rattle.std.proofs.lemmas.Option.{slice_get-map}
 use Rattle.std.specs.FinMap as maps
-use Rattle.lpt_model.specs.LptPacket.declared.direction.Direction.{Direction}
-use Rattle.lpt_model.specs.LptPacket.Names.{Name}
-use Rattle.lpt_model.specs.LptEvents.NamedParts.{NamedPart}
-use Rattle.lpt_model.specs.LptPus.Telemetry.{Telemetry}
-use Rattle.lpt_model.specs.LptLedger.States.{state_of}
-use Rattle.lpt_model.specs.LptEvents.declared.lane.Lane.{Lane}
-use Rattle.lpt_model.specs.LptLink.declared.packet.LinkPacket.{LinkPacket}
-use Rattle.lpt_model.specs.LptEvents.Lanes.{lane_direction}
-use Rattle.lpt_model.specs.LptEvents.Sides.{receiver_side}
-use Rattle.lpt_model.specs.LptLink.Links.{packet_in_hand}
-use Rattle.lpt_model.specs.LptNode.declared.accepted.Accepted.{Accepted}
-use Rattle.lpt_model.specs.LptEvents.declared.config.Config.{Config}
-use Rattle.lpt_model.specs.LptEvents.declared.side.Side.{Side}
-use Rattle.lpt_model.specs.LptEvents.Arrivals.{NotRead, arrival_in}
-use Rattle.lpt_model.specs.LptNode.Nodes.{NodeData}
-use Rattle.lpt_model.specs.LptNode.Receivers.{ReceiverState, table_in, received, received_from, if_free}
-use Rattle.lpt_model.specs.LptNode.Receiving.{after_received, receiver_of, abort_head, parted}
-use Rattle.lpt_model.specs.LptReception.Received.{Parts, contradicts, is_gap, is_whole}
-use Rattle.lpt_model.specs.LptPart.declared.reason.Reason.TheVariants as reason
-use Rattle.lpt_model.specs.LptTable.Offering.{OfferKind, Kept, Again, Whole, Conflict, Gap, NoRoom, offered, is_full, is_open, parts_at, taken_out, with_entry}
-use Rattle.lpt_model.specs.LptTable.Tables.{TableState}
+use Rattle.lpt_packet.specs.declared.direction.Direction.{Direction}
+use Rattle.lpt_packet.specs.Names.{Name}
+use Rattle.lpt_events.specs.NamedParts.{NamedPart}
+use Rattle.lpt_pus.specs.Telemetry.{Telemetry}
+use Rattle.lpt_ledger.specs.States.{state_of}
+use Rattle.lpt_events.specs.declared.lane.Lane.{Lane}
+use Rattle.lpt_link.specs.declared.packet.LinkPacket.{LinkPacket}
+use Rattle.lpt_events.specs.Lanes.{lane_direction}
+use Rattle.lpt_events.specs.Sides.{receiver_side}
+use Rattle.lpt_link.specs.Links.{packet_in_hand}
+use Rattle.lpt_node.specs.declared.accepted.Accepted.{Accepted}
+use Rattle.lpt_events.specs.declared.config.Config.{Config}
+use Rattle.lpt_events.specs.declared.side.Side.{Side}
+use Rattle.lpt_events.specs.Arrivals.{NotRead, arrival_in}
+use Rattle.lpt_node.specs.Nodes.{NodeData}
+use Rattle.lpt_node.specs.Receivers.{ReceiverState, table_in, received, received_from, if_free}
+use Rattle.lpt_node.specs.Receiving.{after_received, receiver_of, abort_head, parted}
+use Rattle.lpt_reception.specs.Received.{Parts, contradicts, is_gap, is_whole}
+use Rattle.lpt_part.specs.declared.reason.Reason.TheVariants as reason
+use Rattle.lpt_table.specs.Offering.{OfferKind, Kept, Again, Whole, Conflict, Gap, NoRoom, offered, is_full, is_open, parts_at, taken_out, with_entry}
+use Rattle.lpt_table.specs.Tables.{TableState}
 use Rattle.lpt_journal.specs.Journal.{History}
 use Rattle.lpt_journal.specs.Hands.{hand, arrival_at, in_hand}
 use Rattle.lpt_journal.specs.Receivers.{kept, with_piece, heard, has_parts, is_closed, reception_count}
@@ -32,7 +32,7 @@ use Rattle.lpt_refinement.specs.Shows.{Shows, ShowsReceiving, closed_mark, sent_
 use Rattle.lpt_model.specs.State.{State, arrival_held}
 use Rattle.lpt_refinement.specs.Views.{views, receiving_view}
 use Rattle.lpt_refinement.proofs.ReceivingShown.{full_shown, parts_shown}
-use Rattle.lpt_model.specs.LptMemory.Memories.{Contents}
+use Rattle.lpt_memory.specs.Memories.{Contents}
 
 -- ---- a part
 
@@ -43,13 +43,13 @@ abbrev made_of : (full contra again gap there whole : Bool)
     → (before with_it : Parts)
     → ℕ
     → OfferKind × TableState
-made_of full contra again gap there whole t id before with_it now =
+made_of full contra again gap there whole t name before with_it now =
     if full then (NoRoom, t)
-    else if contra then (Conflict reason.Conflict, taken_out t id)
-    else if again then (Again, with_entry t id before now)
-    else if gap then (if there then (Conflict reason.Discontinuity, taken_out t id) else (Gap, t))
-    else if whole then (Whole, taken_out t id)
-    else (Kept, with_entry t id with_it now)
+    else if contra then (Conflict reason.Conflict, taken_out t name)
+    else if again then (Again, with_entry t name before now)
+    else if gap then (if there then (Conflict reason.Discontinuity, taken_out t name) else (Gap, t))
+    else if whole then (Whole, taken_out t name)
+    else (Kept, with_entry t name with_it now)
 
 -- the end after a part, and its answer, by all tests
 abbrev pub delivery : Side

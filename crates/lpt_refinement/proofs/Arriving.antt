@@ -3,29 +3,29 @@ use Rattle.std.proofs.Common.{ℕ, ◌==◌, ◌&&◌, Bool, true, false, if◌t
 use Rattle.std.specs.Option.{option_map_or}
 use Rattle.std.specs.Prelude.{slice_get}
 use Rattle.std.specs.Result.{result_ok}
-use Rattle.lpt_model.specs.LptPacket.declared.direction.Direction.{Direction}
-use Rattle.lpt_model.specs.LptPacket.declared.direction.Direction.TheVariants.{Up, Down}
-use Rattle.lpt_model.specs.LptPacket.Names.{Name, named_by}
-use Rattle.lpt_model.specs.LptPacket.Packets.{Fields, Sight, IdlePacket, APacket, seen}
-use Rattle.lpt_model.specs.LptPus.Commands.{Command, tc_verdict}
-use Rattle.lpt_model.specs.LptPus.Telemetry.{Telemetry, tm_verdict}
-use Rattle.lpt_model.specs.LptPart.declared.kind.Kind.{Kind}
-use Rattle.lpt_model.specs.LptPart.declared.reason.Reason.{Reason}
-use Rattle.lpt_model.specs.LptPart.Aborts.{abort_in}
-use Rattle.lpt_model.specs.LptPart.Parts.{Piece, part_in}
-use Rattle.lpt_model.specs.LptEvents.NamedParts.{named}
-use Rattle.lpt_model.specs.LptEvents.declared.lane.Lane.{Lane}
-use Rattle.lpt_model.specs.LptEvents.Lanes.{lane_direction}
-use Rattle.lpt_model.specs.LptEvents.Sides.{receiver_side}
-use Rattle.lpt_model.specs.LptEvents.declared.config.Config.{Config}
-use Rattle.lpt_model.specs.LptEvents.Arrivals.{Arrival, NotRead, AnIdle, Foreign, ARequest, AReport, NoPart, APart, AnAbort, arrival, sight_arrival, packet_arrival, command_arrival, telemetry_arrival, report_arrival, carried_kind, part_arrival, arrival_in}
+use Rattle.lpt_packet.specs.declared.direction.Direction.{Direction}
+use Rattle.lpt_packet.specs.declared.direction.Direction.TheVariants.{Up, Down}
+use Rattle.lpt_packet.specs.Names.{Name, named_by}
+use Rattle.lpt_packet.specs.Packets.{Fields, Sight, IdlePacket, APacket, seen}
+use Rattle.lpt_pus.specs.Commands.{Command, tc_verdict}
+use Rattle.lpt_pus.specs.Telemetry.{Telemetry, tm_verdict}
+use Rattle.lpt_part.specs.declared.kind.Kind.{Kind}
+use Rattle.lpt_part.specs.declared.reason.Reason.{Reason}
+use Rattle.lpt_part.specs.Aborts.{abort_in}
+use Rattle.lpt_part.specs.Parts.{Piece, part_in}
+use Rattle.lpt_events.specs.NamedParts.{named}
+use Rattle.lpt_events.specs.declared.lane.Lane.{Lane}
+use Rattle.lpt_events.specs.Lanes.{lane_direction}
+use Rattle.lpt_events.specs.Sides.{receiver_side}
+use Rattle.lpt_events.specs.declared.config.Config.{Config}
+use Rattle.lpt_events.specs.Arrivals.{Arrival, NotRead, AnIdle, Foreign, ARequest, AReport, NoPart, APart, AnAbort, arrival, sight_arrival, packet_arrival, command_arrival, telemetry_arrival, report_arrival, carried_kind, part_arrival, arrival_in}
 use Rattle.lpt_journal.specs.Journal.{History, SentPacket}
 use Rattle.lpt_journal.specs.Link.{sent}
 use Rattle.lpt_journal.specs.Hands.{hand, in_hand, arrival_at}
 
 -- what may come in a direction
 abbrev pub MayCome : Direction → Arrival → Type 0
-MayCome Up (AnAbort id reason) = ⊥
+MayCome Up (AnAbort name reason) = ⊥
 MayCome Down (ARequest b) = ⊥
 MayCome d a = Unit {0}
 

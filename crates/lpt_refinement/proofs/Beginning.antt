@@ -1,26 +1,26 @@
 -- Where nothing has happened, the state shows the empty journal.
 use Rattle.std.proofs.Common.{arith, ◌&&◌, true, if◌then◌else◌, ◌≡◌, ◌∙◌, ap, sym, refl, ℕ, [], None, Some}
 use Rattle.std.specs.FinMap as maps
-use Rattle.lpt_model.specs.LptPacket.Names.{Name, name_cmp}
-use Rattle.lpt_model.specs.LptPacket.declared.direction.Direction.{Direction}
-use Rattle.lpt_model.specs.LptPacket.declared.direction.Direction.TheVariants.{Up, Down}
-use Rattle.lpt_model.proofs.LptPacket.Readings.{lt_false}
-use Rattle.lpt_model.specs.LptReception.Received.{no_parts}
-use Rattle.lpt_model.specs.LptEvents.declared.config.Config.{Config}
-use Rattle.lpt_model.specs.LptEvents.declared.lane.Lane.{Lane}
-use Rattle.lpt_model.specs.LptEvents.declared.lane.Lane.TheVariants.{S1}
-use Rattle.lpt_model.specs.LptEvents.declared.side.Side.{Side}
-use Rattle.lpt_model.specs.LptEvents.declared.side.Side.TheVariants.{Ground, Craft}
-use Rattle.lpt_model.specs.LptLink.Links.{empty_link, hand_of}
-use Rattle.lpt_model.specs.LptEvents.declared.telemetry.TelemetryKind.{TelemetryKind}
-use Rattle.lpt_model.specs.LptEvents.declared.telemetry.TelemetryKind.TheVariants.{Accepted}
-use Rattle.lpt_model.specs.LptNode.Counting.{counter_of, no_types}
-use Rattle.lpt_model.specs.LptNode.Nodes.{no_data}
-use Rattle.lpt_model.specs.LptTable.Tables.{Entries}
+use Rattle.lpt_packet.specs.Names.{Name, name_cmp}
+use Rattle.lpt_packet.specs.declared.direction.Direction.{Direction}
+use Rattle.lpt_packet.specs.declared.direction.Direction.TheVariants.{Up, Down}
+use Rattle.lpt_packet.proofs.Readings.{lt_false}
+use Rattle.lpt_reception.specs.Received.{no_parts}
+use Rattle.lpt_events.specs.declared.config.Config.{Config}
+use Rattle.lpt_events.specs.declared.lane.Lane.{Lane}
+use Rattle.lpt_events.specs.declared.lane.Lane.TheVariants.{S1}
+use Rattle.lpt_events.specs.declared.side.Side.{Side}
+use Rattle.lpt_events.specs.declared.side.Side.TheVariants.{Ground, Craft}
+use Rattle.lpt_link.specs.Links.{empty_link, hand_of}
+use Rattle.lpt_events.specs.declared.telemetry.TelemetryKind.{TelemetryKind}
+use Rattle.lpt_events.specs.declared.telemetry.TelemetryKind.TheVariants.{Accepted}
+use Rattle.lpt_node.specs.Counting.{counter_of, no_types}
+use Rattle.lpt_node.specs.Nodes.{no_data}
+use Rattle.lpt_table.specs.Tables.{Entries}
 use Rattle.lpt_journal.proofs.CountLemmas.{none_open}
-use Rattle.lpt_model.specs.LptEvents.declared.worker.Worker.{Worker}
-use Rattle.lpt_model.specs.LptEvents.declared.worker.Worker.TheVariants.{W1, W2}
-use Rattle.lpt_model.specs.LptMemory.Memories.{Contents}
+use Rattle.lpt_events.specs.declared.worker.Worker.{Worker}
+use Rattle.lpt_events.specs.declared.worker.Worker.TheVariants.{W1, W2}
+use Rattle.lpt_memory.specs.Memories.{Contents}
 use Rattle.lpt_refinement.specs.Shows.{Shows, ShowsSending, ShowsTypes, ShowsReceiving, entry_of}
 use Rattle.lpt_model.specs.Tickets.{no_tickets, ticket_of}
 use Rattle.lpt_model.specs.State.{no_state}
@@ -39,16 +39,16 @@ abbrev no_receptions : Entries
 no_receptions = maps.empty
 
 -- no reception is open
-pub no_entries : (id : Name) (last : ℕ) → maps.get no_receptions id ≡ entry_of no_parts last
-no_entries id last =
-    maps.get-empty name_cmp id
+pub no_entries : (name : Name) (last : ℕ) → maps.get no_receptions name ≡ entry_of no_parts last
+no_entries name last =
+    maps.get-empty name_cmp name
     ∙ sym (ap (λ t. if t then Some (record { parts = no_parts; last = last }) else None) none_open)
 
 no_sending : (c : Config) (side : Side) (d : Direction)
     → ShowsSending side (no_data c).sending (sending_view [] d)
 no_sending c side d = record {
-  ledger = λ id. maps.get-empty name_cmp id;
-  messages = λ id. maps.get-empty name_cmp id;
+  ledger = λ name. maps.get-empty name_cmp name;
+  messages = λ name. maps.get-empty name_cmp name;
   count = refl;
   types = no_reports side;
 }
@@ -56,8 +56,8 @@ no_sending c side d = record {
 no_receiving : (c : Config) (d : Direction)
     → ShowsReceiving (no_data c).receiving (receiving_view c [] d)
 no_receiving c d = record {
-  ledger = λ id. maps.get-empty name_cmp id;
-  entries = λ id. no_entries id 0;
+  ledger = λ name. maps.get-empty name_cmp name;
+  entries = λ name. no_entries name 0;
 }
 
 no_hand : (l : Lane) → hand_of empty_link l ≡ None

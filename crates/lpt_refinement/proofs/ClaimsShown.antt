@@ -4,19 +4,19 @@ use Rattle.std.specs.Prelude.{slice_get}
 use Rattle.std.specs.Option.{option_map}
 use Rattle.std.proofs.lemmas.List.{length-map}
 use Rattle.std.proofs.lemmas.Option.{slice_get-map}
-use Rattle.lpt_model.specs.LptEvents.declared.config.Config.{Config}
-use Rattle.lpt_model.specs.LptEvents.declared.entry.Release.{Release}
-use Rattle.lpt_model.specs.LptEvents.declared.event.Event.TheVariants.{Claim}
-use Rattle.lpt_model.specs.LptEvents.declared.fault.StepFault.TheVariants.{HandFull, NoJob}
-use Rattle.lpt_model.specs.LptEvents.declared.reply.Answer.TheVariants.{Claimed}
-use Rattle.lpt_model.specs.LptEvents.declared.side.Side.TheVariants.{Craft}
-use Rattle.lpt_model.specs.LptEvents.declared.worker.Worker.{Worker}
-use Rattle.lpt_model.specs.LptMemory.Memories.{Contents}
-use Rattle.lpt_model.specs.LptMemory.Readings.{Job as Ticket}
-use Rattle.lpt_model.specs.LptJobs.Jobs.{unclaimed}
-use Rattle.lpt_model.specs.LptNode.Faults.{node_fault}
-use Rattle.lpt_model.specs.LptNode.Jobs.{refusal_claim_of, claimed_of, claimed as node_claimed}
-use Rattle.lpt_model.specs.LptNode.Nodes.{NodeData}
+use Rattle.lpt_events.specs.declared.config.Config.{Config}
+use Rattle.lpt_events.specs.declared.entry.Release.{Release}
+use Rattle.lpt_events.specs.declared.event.Event.TheVariants.{Claim}
+use Rattle.lpt_events.specs.declared.fault.StepFault.TheVariants.{HandFull, NoJob}
+use Rattle.lpt_events.specs.declared.reply.Answer.TheVariants.{Claimed}
+use Rattle.lpt_events.specs.declared.side.Side.TheVariants.{Craft}
+use Rattle.lpt_events.specs.declared.worker.Worker.{Worker}
+use Rattle.lpt_memory.specs.Memories.{Contents}
+use Rattle.lpt_memory.specs.Readings.{Job as Ticket}
+use Rattle.lpt_jobs.specs.Jobs.{unclaimed}
+use Rattle.lpt_node.specs.Faults.{node_fault}
+use Rattle.lpt_node.specs.Jobs.{refusal_claim_of, claimed_of, claimed as node_claimed}
+use Rattle.lpt_node.specs.Nodes.{NodeData}
 use Rattle.lpt_journal.specs.Journal.{History}
 use Rattle.lpt_journal.specs.Jobs.{boot, jobs, claimed, job_given, ticket, is_committed}
 use Rattle.lpt_journal.specs.Refusals.{refusal, first_fault}
@@ -29,7 +29,8 @@ use Rattle.lpt_refinement.specs.Views.{views, jobs_view}
 use Rattle.lpt_refinement.proofs.Fields.{with_jobs, with_tickets}
 use Rattle.lpt_refinement.proofs.WorkersShown.{unclaimed_shown, claim_shown}
 use Rattle.lpt_refinement.proofs.QueueLemmas.{is_some-slice_get}
-use Rattle.lpt_refinement.proofs.TicketsShown.{is_some-map, ticket_set}
+use Rattle.lpt_refinement.proofs.TicketsShown.{ticket_set}
+use Rattle.lpt_packet.proofs.BoolLemmas.{some_is, is_some-map}
 
 -- what is refused, by the ticket and the job that waits
 claim_by : (d : NodeData) (t : Option Ticket)
@@ -71,11 +72,6 @@ claim_refused c first s h w k fits =
     (claim_of (unclaimed s.on_craft.jobs))
     ∙ (λ i. if is_some (k.tickets w i) then Some HandFull else first_fault ((none i, NoJob) ∷ []))
 
--- what is there
-there_is : {A : Type 0} (o : Option A) → is_some o ≡ true → (x : A) × (o ≡ Some x)
-there_is None e = absurd cc
-there_is (Some x) e = (x, refl)
-
 -- the job that is claimed next has no reading
 not_yet : (c : Config) (first : Contents) (h : History)
     → JobsFit (jobs_view c first h) (ticket c h)
@@ -95,7 +91,7 @@ claimed_job : (c : Config) (first : Contents) (s : State) (h : History) (w : Wor
     × (unclaimed s.on_craft.jobs ≡ Some (claimed h, r.message))
 claimed_job c first s h w k fits e =
     let free : nat_le (length (jobs c h)) (claimed h) ≡ false = (two_pass _ _ HandFull NoJob e).1 in
-    let found = there_is (slice_get (jobs c h) (claimed h))
+    let found = some_is (slice_get (jobs c h) (claimed h))
     (is_some-slice_get (jobs c h) (claimed h) ∙ ap not free) in (
       found.0,
       found.1,

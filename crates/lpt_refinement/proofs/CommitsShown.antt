@@ -1,24 +1,25 @@
 -- A worker hands its reading in: refusal, answer and the longer journal.
 use Rattle.std.proofs.Common.{◌≡◌, ◌∙◌, ap, sym, subst, refl, ℕ, ◌==◌, Bool, true, false, not, ◌||◌, if◌then◌else◌, IsTrue, IfSome, [], ◌∷◌, Option, Some, None, is_some}
-use Rattle.lpt_model.proofs.LptPacket.Readings.{true_eq}
-use Rattle.lpt_model.specs.LptEvents.declared.config.Config.{Config}
-use Rattle.lpt_model.specs.LptEvents.declared.event.Event.TheVariants.{Commit}
-use Rattle.lpt_model.specs.LptEvents.declared.fault.StepFault.TheVariants.{HandEmpty}
-use Rattle.lpt_model.specs.LptEvents.declared.reply.Answer.{Answer}
-use Rattle.lpt_model.specs.LptEvents.declared.reply.Answer.TheVariants.{Committed, Stale}
-use Rattle.lpt_model.specs.LptEvents.declared.side.Side.TheVariants.{Craft}
-use Rattle.lpt_model.specs.LptEvents.declared.worker.Worker.{Worker}
-use Rattle.lpt_model.specs.LptEvents.Workers.{same_worker}
-use Rattle.lpt_model.specs.LptMemory.Memories.{Contents, sizes_of}
-use Rattle.lpt_model.specs.LptMemory.Meanings.{Sizes}
-use Rattle.lpt_model.specs.LptMemory.Readings.{Job, Source}
-use Rattle.lpt_model.specs.LptJobs.Jobs.{is_claimed, after_commit}
-use Rattle.lpt_model.specs.LptNode.Nodes.{NodeData}
+use Rattle.lpt_packet.proofs.Readings.{true_eq}
+use Rattle.lpt_events.specs.declared.config.Config.{Config}
+use Rattle.lpt_events.specs.declared.event.Event.TheVariants.{Commit}
+use Rattle.lpt_events.specs.declared.fault.StepFault.TheVariants.{HandEmpty}
+use Rattle.lpt_events.specs.declared.reply.Answer.{Answer}
+use Rattle.lpt_events.specs.declared.reply.Answer.TheVariants.{Committed, Stale}
+use Rattle.lpt_events.specs.declared.side.Side.TheVariants.{Craft}
+use Rattle.lpt_events.specs.declared.worker.Worker.{Worker}
+use Rattle.lpt_events.specs.Workers.{same_worker}
+use Rattle.lpt_memory.specs.Memories.{Contents, sizes_of}
+use Rattle.lpt_memory.specs.Meanings.{Sizes}
+use Rattle.lpt_memory.specs.Readings.{Job, Source}
+use Rattle.lpt_jobs.specs.Jobs.{is_claimed, after_commit}
+use Rattle.lpt_node.specs.Nodes.{NodeData}
 use Rattle.lpt_journal.specs.Journal.{History}
 use Rattle.lpt_journal.specs.Jobs.{boot, ticket, is_committed, commits}
 use Rattle.lpt_journal.specs.Refusals.{refusal, first_fault}
 use Rattle.lpt_journal.specs.Replies.{entry, reply, committed_now}
-use Rattle.lpt_journal.proofs.TestLemmas.{not_false, one_passes}
+use Rattle.lpt_journal.proofs.TestLemmas.{one_passes}
+use Rattle.lpt_packet.proofs.BoolLemmas.{not_false}
 use Rattle.lpt_refinement.specs.Shows.{Shows, JobsFit}
 use Rattle.lpt_model.specs.State.{State, IsReady, refusal_of, refusal_commit_of, commit_told, handed_in, committed_on, read_for, quiet}
 use Rattle.lpt_model.specs.Tickets.{ticket_of}

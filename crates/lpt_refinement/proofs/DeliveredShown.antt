@@ -1,26 +1,26 @@
 -- What a lane had in its hand is delivered: the longer journal is shown.
 use Rattle.std.proofs.Common.{◌≡◌, ap, sym, subst, refl, nat_le, Bool, true, false, not, ◌&&◌, [], ◌∷◌, ◌++◌, length, Some, None, is_some}
 use Rattle.std.specs.FinMap as maps
-use Rattle.lpt_model.specs.LptPacket.declared.direction.Direction.{Direction}
-use Rattle.lpt_model.specs.LptPacket.declared.direction.Direction.TheVariants.{Up, Down}
-use Rattle.lpt_model.specs.LptEvents.NamedParts.{NamedPart}
-use Rattle.lpt_model.specs.LptPart.declared.reason.Reason.TheVariants.{Conflict, Discontinuity}
-use Rattle.lpt_model.specs.LptNode.Receivers.{table_in}
-use Rattle.lpt_model.specs.LptTable.Offering.{is_open}
-use Rattle.lpt_model.specs.LptEvents.declared.lane.Lane.{Lane}
-use Rattle.lpt_model.specs.LptEvents.declared.lane.Lane.TheVariants.{S1, S2, G1, G2}
-use Rattle.lpt_model.specs.LptEvents.Lanes.{lane_direction}
-use Rattle.lpt_model.specs.LptEvents.Sides.{receiver_side}
-use Rattle.lpt_model.specs.LptLink.Links.{after_drop}
-use Rattle.lpt_model.specs.LptNode.declared.accepted.Accepted.{Accepted}
-use Rattle.lpt_model.specs.LptEvents.declared.config.Config.{Config}
-use Rattle.lpt_model.specs.LptEvents.declared.side.Side.TheVariants.{Ground}
-use Rattle.lpt_model.specs.LptNode.Accepting.{accepted}
-use Rattle.lpt_model.specs.LptEvents.Arrivals.{Arrival, NotRead, AnIdle, Foreign, ARequest, AReport, NoPart, APart, AnAbort}
-use Rattle.lpt_model.specs.LptNode.Nodes.{NodeData}
-use Rattle.lpt_model.specs.LptNode.Receiving.{abort_head, receiver_of}
-use Rattle.lpt_model.specs.LptReception.Received.{contradicts, is_gap, is_whole, spelled}
-use Rattle.lpt_model.specs.LptEvents.declared.event.Event.TheVariants.{Deliver}
+use Rattle.lpt_packet.specs.declared.direction.Direction.{Direction}
+use Rattle.lpt_packet.specs.declared.direction.Direction.TheVariants.{Up, Down}
+use Rattle.lpt_events.specs.NamedParts.{NamedPart}
+use Rattle.lpt_part.specs.declared.reason.Reason.TheVariants.{Conflict, Discontinuity}
+use Rattle.lpt_node.specs.Receivers.{table_in}
+use Rattle.lpt_table.specs.Offering.{is_open}
+use Rattle.lpt_events.specs.declared.lane.Lane.{Lane}
+use Rattle.lpt_events.specs.declared.lane.Lane.TheVariants.{S1, S2, G1, G2}
+use Rattle.lpt_events.specs.Lanes.{lane_direction}
+use Rattle.lpt_events.specs.Sides.{receiver_side}
+use Rattle.lpt_link.specs.Links.{after_drop}
+use Rattle.lpt_node.specs.declared.accepted.Accepted.{Accepted}
+use Rattle.lpt_events.specs.declared.config.Config.{Config}
+use Rattle.lpt_events.specs.declared.side.Side.TheVariants.{Ground}
+use Rattle.lpt_node.specs.Accepting.{accepted}
+use Rattle.lpt_events.specs.Arrivals.{Arrival, NotRead, AnIdle, Foreign, ARequest, AReport, NoPart, APart, AnAbort}
+use Rattle.lpt_node.specs.Nodes.{NodeData}
+use Rattle.lpt_node.specs.Receiving.{abort_head, receiver_of}
+use Rattle.lpt_reception.specs.Received.{contradicts, is_gap, is_whole, spelled}
+use Rattle.lpt_events.specs.declared.event.Event.TheVariants.{Deliver}
 use Rattle.lpt_journal.specs.Delivery.{judged}
 use Rattle.lpt_journal.specs.Jobs.{jobs, ticket}
 use Rattle.lpt_journal.specs.Journal.{History}
@@ -38,7 +38,7 @@ use Rattle.lpt_refinement.proofs.Arriving.{MayCome, in_hand_comes}
 use Rattle.lpt_refinement.proofs.JobsShown.{with_release}
 use Rattle.lpt_refinement.proofs.ReceivingShown.{kept_shown, again_shown, ended_shown, some_parts}
 use Rattle.lpt_refinement.proofs.ReportShown.{report_shown}
-use Rattle.lpt_model.specs.LptMemory.Memories.{Contents}
+use Rattle.lpt_memory.specs.Memories.{Contents}
 use Rattle.lpt_refinement.proofs.OpenedShown.{closed_shown}
 use Rattle.lpt_refinement.proofs.DeliveredViews.{Hands, dropped_view, received_as, outcome_view, receives, release}
 
@@ -131,15 +131,15 @@ module _ (c : Config) (first : Contents) (h : History) (s : State) (hands : Hand
         let out = release (length h) None b in
         with_release (jobs c h) out refl fits.executed fits.claimed
         (receives Up k f (ap (λ rs. rs ++ out ∷ []) k.released))
-  any (AnAbort id reason) may = closes w may where
+  any (AnAbort name reason) may = closes w may where
     closes : (w : Direction)
-        → MayCome w (AnAbort id reason)
+        → MayCome w (AnAbort name reason)
         → Shows
         (received_as (length h) w s
-        (accepted (receiver_side w) c (end_of s (receiver_side w)) (AnAbort id reason)))
-        (outcome_view c first h w hands (AnAbort id reason) (judged c h w (AnAbort id reason)))
+        (accepted (receiver_side w) c (end_of s (receiver_side w)) (AnAbort name reason)))
+        (outcome_view c first h w hands (AnAbort name reason) (judged c h w (AnAbort name reason)))
     closes Up may = absurd may
-    closes Down may = with_sending Ground k (closed_shown h Up id k.ground.sending)
+    closes Down may = with_sending Ground k (closed_shown h Up name k.ground.sending)
   any (APart q) none =
       let parts = heard c h w q.name in
       subst (λ (x : NodeData × Accepted). Shows (received_as (length h) w s x)

@@ -1,19 +1,19 @@
 -- The view after a delivery: what its receiver, the link and the releases have.
 use Rattle.std.proofs.Common.{◌≡◌, ℕ, ◌||◌, if◌then◌else◌, List, length, map, Option, None}
 use Rattle.std.specs.List.{filter}
-use Rattle.lpt_model.specs.LptPacket.declared.direction.Direction.{Direction}
-use Rattle.lpt_model.specs.LptPacket.declared.direction.Direction.TheVariants.{Up, Down}
-use Rattle.lpt_model.specs.LptPacket.Names.{Name}
-use Rattle.lpt_model.specs.LptEvents.declared.lane.Lane.{Lane}
-use Rattle.lpt_model.specs.LptEvents.Sides.{receiver_side}
-use Rattle.lpt_model.specs.LptNode.declared.accepted.Accepted.{Accepted}
-use Rattle.lpt_model.specs.LptEvents.declared.config.Config.{Config}
-use Rattle.lpt_model.specs.LptEvents.declared.entry.Release.{Release}
-use Rattle.lpt_model.specs.LptEvents.declared.outcome.Outcome.{Outcome}
-use Rattle.lpt_model.specs.LptEvents.declared.side.Side.TheVariants.{Ground, Craft}
-use Rattle.lpt_model.specs.LptEvents.Arrivals.{Arrival}
-use Rattle.lpt_model.specs.LptNode.Nodes.{NodeData, Receiving}
-use Rattle.lpt_model.specs.LptEvents.declared.reply.Answer.TheVariants.{Delivered}
+use Rattle.lpt_packet.specs.declared.direction.Direction.{Direction}
+use Rattle.lpt_packet.specs.declared.direction.Direction.TheVariants.{Up, Down}
+use Rattle.lpt_packet.specs.Names.{Name}
+use Rattle.lpt_events.specs.declared.lane.Lane.{Lane}
+use Rattle.lpt_events.specs.Sides.{receiver_side}
+use Rattle.lpt_node.specs.declared.accepted.Accepted.{Accepted}
+use Rattle.lpt_events.specs.declared.config.Config.{Config}
+use Rattle.lpt_events.specs.declared.entry.Release.{Release}
+use Rattle.lpt_events.specs.declared.outcome.Outcome.{Outcome}
+use Rattle.lpt_events.specs.declared.side.Side.TheVariants.{Ground, Craft}
+use Rattle.lpt_events.specs.Arrivals.{Arrival}
+use Rattle.lpt_node.specs.Nodes.{NodeData, Receiving}
+use Rattle.lpt_events.specs.declared.reply.Answer.TheVariants.{Delivered}
 use Rattle.lpt_journal.specs.Jobs.{jobs, went_up}
 use Rattle.lpt_journal.specs.Journal.{History, SentPacket, with_all}
 use Rattle.lpt_journal.specs.Link.{sent, tags, is_lost}
@@ -25,7 +25,7 @@ use Rattle.lpt_model.specs.State.{State, end_of, with_end, put_report, add_relea
 use Rattle.lpt_refinement.specs.Shows.{Shows, ShowsReceiving}
 use Rattle.lpt_refinement.specs.Views.{Views, ReceivingView, views, jobs_view, view_of, with_view}
 use Rattle.lpt_refinement.proofs.Fields.{with_released, with_receiving}
-use Rattle.lpt_model.specs.LptMemory.Memories.{Contents}
+use Rattle.lpt_memory.specs.Memories.{Contents}
 
 -- ---- what is shown
 
@@ -36,10 +36,10 @@ Hands = Lane → Option ℕ
 -- what a direction's receiver has after an outcome
 abbrev pub received : Config → History → Direction → Outcome → Arrival → ReceivingView
 received c h w o a = record {
-  parts = λ id. heard_now (Delivered o) a id (heard c h w id);
-  closed = λ id. ends (Delivered o) id || is_closed h w id;
-  last = λ id.
-      if takes (Delivered o) id then clock c h (receiver_side w) else last_tick c h w id;
+  parts = λ name. heard_now (Delivered o) a name (heard c h w name);
+  closed = λ name. ends (Delivered o) name || is_closed h w name;
+  last = λ name.
+      if takes (Delivered o) name then clock c h (receiver_side w) else last_tick c h w name;
 }
 
 -- the view before a delivery, with an empty hand
@@ -56,8 +56,8 @@ noted c first h hands o ps =
     record v {
       ground = record v.ground {
         sending = record {
-          senders = λ id.
-              sender_of (current h Up id) (notes_abort (Delivered o) id || is_over h Up id);
+          senders = λ name.
+              sender_of (current h Up name) (notes_abort (Delivered o) name || is_over h Up name);
           made = with_all (made h Up) (octets_put ps Up);
         };
       };

@@ -1,18 +1,17 @@
 -- After an event that isn't refused, the longer journal is shown.
-use Rattle.std.proofs.Common.{◌≡◌, ap, sym, subst, refl, arith, ℕ, ◌+◌, ◌<◌, nat_lt, true, not, is_some, List, [], ◌∷◌, ◌++◌, length, Option, None}
-use Rattle.std.proofs.lemmas.Bool.Decides.{nat_tests}
-use Rattle.lpt_model.specs.LptPacket.declared.direction.Direction.{Direction}
-use Rattle.lpt_model.specs.LptPacket.declared.direction.Direction.TheVariants.{Up, Down}
-use Rattle.lpt_model.specs.LptPacket.Names.{Name}
-use Rattle.lpt_model.specs.LptEvents.declared.config.Config.{Config}
-use Rattle.lpt_model.specs.LptEvents.declared.entry.Opening.{Opening}
-use Rattle.lpt_model.specs.LptEvents.declared.event.Event.{Event}
-use Rattle.lpt_model.specs.LptEvents.declared.event.Event.TheVariants.{Open, Send, Plain, Finish, Lose, Damage, Take, Deliver, Tick, Expire, Claim, Commit, Apply, Retire, Restart}
-use Rattle.lpt_model.specs.LptEvents.declared.fault.StepFault.TheVariants.{NotOpen, NoSuchPart, NotHeld, NothingDue}
-use Rattle.lpt_model.specs.LptEvents.declared.side.Side.TheVariants.{Ground, Craft}
-use Rattle.lpt_model.specs.LptEvents.Sides.{direction_to}
-use Rattle.lpt_model.specs.LptNode.Times.{expired_of}
-use Rattle.lpt_model.specs.LptEvents.Configs.{IsConfig}
+use Rattle.std.proofs.Common.{◌≡◌, ap, sym, subst, refl, ℕ, ◌+◌, nat_lt, true, not, is_some, List, [], ◌∷◌, ◌++◌, length, Option, None}
+use Rattle.lpt_packet.specs.declared.direction.Direction.{Direction}
+use Rattle.lpt_packet.specs.declared.direction.Direction.TheVariants.{Up, Down}
+use Rattle.lpt_packet.specs.Names.{Name}
+use Rattle.lpt_events.specs.declared.config.Config.{Config}
+use Rattle.lpt_events.specs.declared.entry.Opening.{Opening}
+use Rattle.lpt_events.specs.declared.event.Event.{Event}
+use Rattle.lpt_events.specs.declared.event.Event.TheVariants.{Open, Send, Plain, Finish, Lose, Damage, Take, Deliver, Tick, Expire, Claim, Commit, Apply, Retire, Restart}
+use Rattle.lpt_events.specs.declared.fault.StepFault.TheVariants.{NotOpen, NoSuchPart, NotHeld, NothingDue}
+use Rattle.lpt_events.specs.declared.side.Side.TheVariants.{Ground, Craft}
+use Rattle.lpt_events.specs.Sides.{direction_to}
+use Rattle.lpt_node.specs.Times.{expired_of}
+use Rattle.lpt_events.specs.Configs.{IsConfig}
 use Rattle.lpt_journal.specs.Due.{due}
 use Rattle.lpt_journal.specs.Jobs.{ticket}
 use Rattle.lpt_journal.specs.Journal.{History}
@@ -20,7 +19,7 @@ use Rattle.lpt_journal.specs.Link.{sent, is_held, is_lost}
 use Rattle.lpt_journal.specs.Replies.{entry, reply}
 use Rattle.lpt_journal.specs.Refusals.{refusal}
 use Rattle.lpt_journal.specs.Senders.{sender, is_open, made}
-use Rattle.lpt_journal.proofs.TestLemmas.{and_l, not_false, one_passes, two_pass}
+use Rattle.lpt_journal.proofs.TestLemmas.{one_passes, two_pass}
 use Rattle.lpt_refinement.specs.Shows.{Shows, JobsFit}
 use Rattle.lpt_model.specs.State.{State, after, end_of, expired_on}
 use Rattle.lpt_refinement.specs.Views.{views, jobs_view}
@@ -32,18 +31,16 @@ use Rattle.lpt_refinement.proofs.CommitsShown.{committed_shown}
 use Rattle.lpt_refinement.proofs.ExpiredShown.{expired_shown, with_expiry}
 use Rattle.lpt_refinement.proofs.Fields.{with_sending, with_clock, with_link, with_opened, sending_at}
 use Rattle.lpt_refinement.proofs.LinkShown.{link_more, link_lost, link_taken}
-use Rattle.lpt_model.specs.LptMemory.Memories.{Contents}
+use Rattle.lpt_memory.specs.Memories.{Contents}
 use Rattle.lpt_refinement.proofs.OpenedShown.{opened_shown, closed_shown}
 use Rattle.lpt_refinement.proofs.RestartedShown.{restarted_shown}
 use Rattle.lpt_refinement.proofs.RetiredShown.{retired_shown}
 use Rattle.lpt_refinement.proofs.SendingShown.{sent_shown, plain_shown}
+use Rattle.lpt_packet.proofs.BoolLemmas.{true_lt, and_left, not_false}
 
 -- the opening of a message after a journal
 abbrev opening : History → Direction → Name → List ℕ → Opening
-opening h d id m = record { place = length h; direction = d; id = id; message = m }
-
-lt_is : (a b : ℕ) → nat_lt a b ≡ true → a < b
-lt_is a b e = grind (arith, nat_tests)
+opening h d name m = record { place = length h; direction = d; name = name; message = m }
 
 pub event_shown : (c : Config) (first : Contents) (s : State) (h : History) (e : Event)
     → IsConfig c
@@ -51,30 +48,30 @@ pub event_shown : (c : Config) (first : Contents) (s : State) (h : History) (e :
     → JobsFit (jobs_view c first h) (ticket c h)
     → refusal c h e ≡ None
     → Shows (after c (length h) s e).0 (views c first (entry c first h e ∷ h))
-event_shown c first s h (Open Up id m) in_range k fits e =
-    let o = opening h Up id m in
-    with_opened (with_sending Ground k (opened_shown h Up (made h Up) id o k.ground.sending))
+event_shown c first s h (Open Up name m) in_range k fits e =
+    let o = opening h Up name m in
+    with_opened (with_sending Ground k (opened_shown h Up (made h Up) name o k.ground.sending))
     (ap (λ os. os ++ o ∷ []) k.opened)
-event_shown c first s h (Open Down id m) in_range k fits e =
-    let o = opening h Down id m in
-    with_opened (with_sending Craft k (opened_shown h Down (made h Down) id o k.craft.sending))
+event_shown c first s h (Open Down name m) in_range k fits e =
+    let o = opening h Down name m in
+    with_opened (with_sending Craft k (opened_shown h Down (made h Down) name o k.craft.sending))
     (ap (λ os. os ++ o ∷ []) k.opened)
-event_shown c first s h (Send d id n) in_range k fits e =
-    sent_shown c first s h d id n (length (sent h)) (reply c first h (Send d id n)).puts
-    (sender h d id) _
-    (not_false (is_open (sender h d id)) (two_pass _ _ NotOpen NoSuchPart e).0)
-    ((sending_at c first h d k).messages id) k
+event_shown c first s h (Send d name n) in_range k fits e =
+    sent_shown c first s h d name n (length (sent h)) (reply c first h (Send d name n)).puts
+    (sender h d name) _
+    (not_false (is_open (sender h d name)) (two_pass _ _ NotOpen NoSuchPart e).0)
+    ((sending_at c first h d k).messages name) k
 event_shown c first s h (Plain source flags service subtype body) in_range k fits e =
     plain_shown c first s h source flags service subtype body k
-event_shown c first s h (Finish Up id) in_range k fits e =
-    with_sending Ground k (closed_shown h Up id k.ground.sending)
-event_shown c first s h (Finish Down id) in_range k fits e =
-    with_sending Craft k (closed_shown h Down id k.craft.sending)
+event_shown c first s h (Finish Up name) in_range k fits e =
+    with_sending Ground k (closed_shown h Up name k.ground.sending)
+event_shown c first s h (Finish Down name) in_range k fits e =
+    with_sending Craft k (closed_shown h Down name k.craft.sending)
 event_shown c first s h (Lose n) in_range k fits e =
     let held : is_held h n ≡ true = not_false (is_held h n) (one_passes _ NotHeld e) in
     let there : nat_lt n (length (sent h)) ≡ true =
-    and_l (nat_lt n (length (sent h))) (not (is_lost h n)) held in
-    with_link k (link_lost n (lt_is n (length (sent h)) there) k.link)
+    and_left (nat_lt n (length (sent h))) (not (is_lost h n)) held in
+    with_link k (link_lost n (true_lt n (length (sent h)) there) k.link)
 event_shown c first s h (Damage d b) in_range k fits e = with_link k (link_more d None b b refl k.link)
 event_shown c first s h (Take l n) in_range k fits e = with_link k (link_taken l n k.link)
 event_shown c first s h (Deliver l) in_range k fits e = delivered_shown c first s h l k fits
@@ -91,5 +88,5 @@ event_shown c first s h (Expire side) in_range k fits e =
 event_shown c first s h (Claim w) in_range k fits e = claimed_shown c first s h w k fits e
 event_shown c first s h (Commit w) in_range k fits e = committed_shown c first s h w k fits e
 event_shown c first s h Apply in_range k fits e = executed_shown c first s h in_range k fits e
-event_shown c first s h (Retire d id) in_range k fits e = retired_shown c first s h d id k e
+event_shown c first s h (Retire d name) in_range k fits e = retired_shown c first s h d name k e
 event_shown c first s h (Restart side) in_range k fits e = restarted_shown c first s h side k

@@ -3,22 +3,22 @@ use Rattle.std.proofs.Common.{◌≡◌, ◌∙◌, ap, sym, subst, refl, ℕ, n
 use Rattle.std.specs.List.{list_any, find}
 use Rattle.std.specs.Option.{option_map, option_or}
 use Rattle.std.proofs.lemmas.List.{length-map}
-use Rattle.lpt_model.specs.LptPacket.declared.direction.Direction.{Direction}
-use Rattle.lpt_model.specs.LptPacket.declared.direction.Direction.TheVariants.{Up, Down}
-use Rattle.lpt_model.specs.LptPacket.Names.{Name}
-use Rattle.lpt_model.specs.LptEvents.declared.config.Config.{Config}
-use Rattle.lpt_model.specs.LptEvents.declared.entry.Opening.{Opening}
-use Rattle.lpt_model.specs.LptEvents.declared.entry.Release.{Release}
-use Rattle.lpt_model.specs.LptEvents.declared.event.Event.TheVariants.{Apply}
-use Rattle.lpt_model.specs.LptEvents.declared.reply.Answer.{Answer}
-use Rattle.lpt_model.specs.LptEvents.declared.side.Side.TheVariants.{Ground, Craft}
-use Rattle.lpt_model.specs.LptEvents.Configs.{IsConfig}
-use Rattle.lpt_model.specs.LptExecution.Reporting.{request_source}
-use Rattle.lpt_model.specs.LptMemory.Memories.{Contents}
-use Rattle.lpt_model.specs.LptJobs.Jobs.{without_front}
-use Rattle.lpt_model.specs.LptNode.Jobs.{Execution, reported, executed, executed_of, with_opened as node_opened}
-use Rattle.lpt_model.specs.LptNode.Nodes.{NodeData, Sending}
-use Rattle.lpt_model.specs.LptNode.Sending.{opened_in}
+use Rattle.lpt_packet.specs.declared.direction.Direction.{Direction}
+use Rattle.lpt_packet.specs.declared.direction.Direction.TheVariants.{Up, Down}
+use Rattle.lpt_packet.specs.Names.{Name}
+use Rattle.lpt_events.specs.declared.config.Config.{Config}
+use Rattle.lpt_events.specs.declared.entry.Opening.{Opening}
+use Rattle.lpt_events.specs.declared.entry.Release.{Release}
+use Rattle.lpt_events.specs.declared.event.Event.TheVariants.{Apply}
+use Rattle.lpt_events.specs.declared.reply.Answer.{Answer}
+use Rattle.lpt_events.specs.declared.side.Side.TheVariants.{Ground, Craft}
+use Rattle.lpt_events.specs.Configs.{IsConfig}
+use Rattle.lpt_execution.specs.Reporting.{request_source}
+use Rattle.lpt_memory.specs.Memories.{Contents}
+use Rattle.lpt_jobs.specs.Jobs.{without_front}
+use Rattle.lpt_node.specs.Jobs.{Execution, reported, executed, executed_of, with_opened as node_opened}
+use Rattle.lpt_node.specs.Nodes.{NodeData, Sending}
+use Rattle.lpt_node.specs.Sending.{opened_in}
 use Rattle.lpt_journal.specs.Journal.{SentPacket, History, with_all}
 use Rattle.lpt_journal.specs.Jobs.{ticket, memories}
 use Rattle.lpt_journal.specs.Executions.{effect_of, opened_down}
@@ -138,7 +138,7 @@ craft_opens : {x : Sending} (h : History) (place : ℕ) (made : List (List ℕ))
 craft_opens h place made None k = k
 craft_opens h place made (Some m) k =
     opened_shown h Down made m.0
-    (record { place = place; direction = Down; id = m.0; message = m.1 }) k
+    (record { place = place; direction = Down; name = m.0; message = m.1 }) k
 
 -- the spacecraft has sent the reports
 craft_shown : (c : Config) (first : Contents) (s : State) (h : History) (m : List ℕ)
@@ -165,7 +165,7 @@ openings_shown : (os os' : List Opening) (place : ℕ) (o : Option (Name × List
     → add_opening os place o ≡ with_all os' (opened_down place o)
 openings_shown os os' place None e = e
 openings_shown os os' place (Some x) e =
-    ap (λ ps. ps ++ record { place = place; direction = Down; id = x.0; message = x.1 } ∷ []) e
+    ap (λ ps. ps ++ record { place = place; direction = Down; name = x.0; message = x.1 } ∷ []) e
 
 -- the state with this spacecraft, as the journal tells
 abbrev done : Config → Contents → State → History → Release → NodeData → State

@@ -3,30 +3,30 @@ use Rattle.std.proofs.Common.{◌≡◌, ◌∙◌, ap, sym, refl, ℕ, nat_lt, 
 use Rattle.std.specs.FinMap as maps
 use Rattle.std.specs.Option.{option_map_or, option_map}
 use Rattle.std.proofs.lemmas.List.{map-append}
-use Rattle.lpt_model.specs.LptPacket.declared.direction.Direction.TheVariants.{Down}
-use Rattle.lpt_model.specs.LptPacket.Names.{Name, named_by}
-use Rattle.lpt_model.specs.LptLedger.LeastFree.{least_free_in, first_of_numbers, name_count}
-use Rattle.lpt_model.specs.LptLedger.States.{state_of, is_free as is_free_mark}
-use Rattle.lpt_model.specs.LptEvents.declared.config.Config.{Config}
-use Rattle.lpt_model.specs.LptEvents.declared.entry.Release.{Release}
-use Rattle.lpt_model.specs.LptEvents.declared.event.Event.TheVariants.{Apply}
-use Rattle.lpt_model.specs.LptEvents.declared.reply.Answer.{Answer}
-use Rattle.lpt_model.specs.LptEvents.declared.reply.Answer.TheVariants.{Applied}
-use Rattle.lpt_model.specs.LptEvents.declared.side.Side.TheVariants.{Craft}
-use Rattle.lpt_model.specs.LptMemory.Effects.{answer}
-use Rattle.lpt_model.specs.LptMemory.Meanings.{meaning}
-use Rattle.lpt_model.specs.LptMemory.Memories.{Contents, sizes_of, effect}
-use Rattle.lpt_model.specs.LptMemory.Readings.{meant}
-use Rattle.lpt_model.proofs.LptMemory.MeaningLemmas.{meaning-fits}
-use Rattle.lpt_model.proofs.LptMemory.PutLemmas.{sizes_of-effect}
-use Rattle.lpt_model.specs.LptJobs.Jobs.{without_front}
-use Rattle.lpt_model.specs.LptExecution.declared.ending.Ending.{Ending}
-use Rattle.lpt_model.specs.LptExecution.declared.ending.Ending.TheVariants.{Silent}
-use Rattle.lpt_model.specs.LptExecution.declared.ending.Report.{Report}
-use Rattle.lpt_model.specs.LptExecution.Endings.{ending}
-use Rattle.lpt_model.specs.LptExecution.Reporting.{message_reports, request_source, link_packets, large_packets, opened_of, applied_of}
-use Rattle.lpt_model.specs.LptNode.Jobs.{Execution, ending_at, report_packets, reported, executed_ending, with_opened as node_opened}
-use Rattle.lpt_model.specs.LptNode.Nodes.{NodeData, Sending}
+use Rattle.lpt_packet.specs.declared.direction.Direction.TheVariants.{Down}
+use Rattle.lpt_packet.specs.Names.{Name, named_by}
+use Rattle.lpt_ledger.specs.LeastFree.{least_free_in, first_of_numbers, name_count}
+use Rattle.lpt_ledger.specs.States.{state_of, is_free as is_free_mark}
+use Rattle.lpt_events.specs.declared.config.Config.{Config}
+use Rattle.lpt_events.specs.declared.entry.Release.{Release}
+use Rattle.lpt_events.specs.declared.event.Event.TheVariants.{Apply}
+use Rattle.lpt_events.specs.declared.reply.Answer.{Answer}
+use Rattle.lpt_events.specs.declared.reply.Answer.TheVariants.{Applied}
+use Rattle.lpt_events.specs.declared.side.Side.TheVariants.{Craft}
+use Rattle.lpt_memory.specs.Effects.{answer}
+use Rattle.lpt_memory.specs.Meanings.{meaning}
+use Rattle.lpt_memory.specs.Memories.{Contents, sizes_of, effect}
+use Rattle.lpt_memory.specs.Readings.{meant}
+use Rattle.lpt_memory.proofs.MeaningLemmas.{meaning-fits}
+use Rattle.lpt_memory.proofs.PutLemmas.{sizes_of-effect}
+use Rattle.lpt_jobs.specs.Jobs.{without_front}
+use Rattle.lpt_execution.specs.declared.ending.Ending.{Ending}
+use Rattle.lpt_execution.specs.declared.ending.Ending.TheVariants.{Silent}
+use Rattle.lpt_execution.specs.declared.ending.Report.{Report}
+use Rattle.lpt_execution.specs.Endings.{ending}
+use Rattle.lpt_execution.specs.Reporting.{message_reports, request_source, link_packets, large_packets, opened_of, applied_of}
+use Rattle.lpt_node.specs.Jobs.{Execution, ending_at, report_packets, reported, executed_ending, with_opened as node_opened}
+use Rattle.lpt_node.specs.Nodes.{NodeData, Sending}
 use Rattle.lpt_journal.specs.Journal.{SentPacket, Recorded, History, with_all}
 use Rattle.lpt_journal.specs.Link.{sent}
 use Rattle.lpt_journal.specs.Jobs.{executed, executed_now, left_by, memories}
@@ -54,9 +54,9 @@ least_shown : {x : Sending} (h : History) (source : ℕ)
     → least_free_in x.ledger source ≡ least_free h Down source
 unfolding least_free_in
 least_shown {x = x} h source k =
-    let same : (id : Name)
-    → is_free_mark (state_of (maps.get x.ledger id)) ≡ is_free (sender h Down id) =
-    λ id. ap (λ m. is_free_mark (state_of m)) (k.ledger id) ∙ free_shown (sender h Down id) in
+    let same : (name : Name)
+    → is_free_mark (state_of (maps.get x.ledger name)) ≡ is_free (sender h Down name) =
+    λ name. ap (λ m. is_free_mark (state_of m)) (k.ledger name) ∙ free_shown (sender h Down name) in
     λ i. option_map (named_by source) (first_of_numbers name_count 0 (λ n. same (named_by source n) i))
 
 -- the execution ends as the journal tells

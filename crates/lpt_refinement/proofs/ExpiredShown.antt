@@ -1,14 +1,14 @@
 -- A reception is given up for its age: the longer journal is shown.
 use Rattle.std.proofs.Common.{◌≡◌, true, [], ◌∷◌, Option, Some, None, is_some}
-use Rattle.lpt_model.specs.LptPacket.Names.{Name}
-use Rattle.lpt_model.specs.LptPart.declared.reason.Reason.TheVariants as reason
-use Rattle.lpt_model.specs.LptEvents.declared.config.Config.{Config}
-use Rattle.lpt_model.specs.LptEvents.declared.event.Event.TheVariants.{Expire}
-use Rattle.lpt_model.specs.LptEvents.declared.reply.Puts.{Puts}
-use Rattle.lpt_model.specs.LptEvents.declared.side.Side.{Side}
-use Rattle.lpt_model.specs.LptEvents.declared.side.Side.TheVariants.{Ground, Craft}
-use Rattle.lpt_model.specs.LptEvents.Sides.{direction_to}
-use Rattle.lpt_model.specs.LptNode.Times.{expired_of}
+use Rattle.lpt_packet.specs.Names.{Name}
+use Rattle.lpt_part.specs.declared.reason.Reason.TheVariants as reason
+use Rattle.lpt_events.specs.declared.config.Config.{Config}
+use Rattle.lpt_events.specs.declared.event.Event.TheVariants.{Expire}
+use Rattle.lpt_events.specs.declared.reply.Puts.{Puts}
+use Rattle.lpt_events.specs.declared.side.Side.{Side}
+use Rattle.lpt_events.specs.declared.side.Side.TheVariants.{Ground, Craft}
+use Rattle.lpt_events.specs.Sides.{direction_to}
+use Rattle.lpt_node.specs.Times.{expired_of}
 use Rattle.lpt_journal.specs.Journal.{History}
 use Rattle.lpt_journal.specs.Replies.{expired_now, expiry_puts}
 use Rattle.lpt_refinement.specs.Shows.{Shows}
@@ -17,7 +17,7 @@ use Rattle.lpt_refinement.specs.Views.{views}
 use Rattle.lpt_refinement.proofs.Fields.{with_receiving}
 use Rattle.lpt_refinement.proofs.ReceivingShown.{ended_shown}
 use Rattle.lpt_refinement.proofs.ReportShown.{report_shown}
-use Rattle.lpt_model.specs.LptMemory.Memories.{Contents}
+use Rattle.lpt_memory.specs.Memories.{Contents}
 
 -- the journal with the end of a reception, or of none
 abbrev pub with_expiry : Config → History → Side → Option Name → Option Puts → History
@@ -36,7 +36,7 @@ pub expired_shown : (c : Config) (first : Contents) (s : State) (h : History) (s
     → Shows (expired_on s side (expired_of side c (end_of s side) o)).0
     (views c first (with_expiry c h side o p))
 expired_shown c first s h side p None some k = absurd cc
-expired_shown c first s h Ground p (Some id) some k =
-    with_receiving Ground k (ended_shown id k.ground.receiving)
-expired_shown c first s h Craft p (Some id) some k =
-    report_shown c id reason.Expired (with_receiving Craft k (ended_shown id k.craft.receiving))
+expired_shown c first s h Ground p (Some name) some k =
+    with_receiving Ground k (ended_shown name k.ground.receiving)
+expired_shown c first s h Craft p (Some name) some k =
+    report_shown c name reason.Expired (with_receiving Craft k (ended_shown name k.craft.receiving))

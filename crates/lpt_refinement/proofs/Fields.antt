@@ -1,19 +1,19 @@
 -- A state shows a view with one field changed where the state has that field changed as well.
 use Rattle.std.proofs.Common.{◌≡◌, ◌∙◌, refl, ℕ, List, Option}
-use Rattle.lpt_model.specs.LptPacket.declared.direction.Direction.{Direction}
-use Rattle.lpt_model.specs.LptPacket.declared.direction.Direction.TheVariants.{Up, Down}
-use Rattle.lpt_model.specs.LptEvents.declared.config.Config.{Config}
-use Rattle.lpt_model.specs.LptEvents.declared.entry.Opening.{Opening}
-use Rattle.lpt_model.specs.LptEvents.declared.entry.Release.{Release}
-use Rattle.lpt_model.specs.LptEvents.declared.side.Side.{Side}
-use Rattle.lpt_model.specs.LptEvents.declared.side.Side.TheVariants.{Ground, Craft}
-use Rattle.lpt_model.specs.LptEvents.Sides.{sender_side, receiver_side}
-use Rattle.lpt_model.specs.LptEvents.declared.worker.Worker.{Worker}
-use Rattle.lpt_model.specs.LptJobs.Jobs.{Jobs}
-use Rattle.lpt_model.specs.LptMemory.Memories.{Contents, sizes_of}
-use Rattle.lpt_model.specs.LptMemory.Readings.{Job as Ticket}
-use Rattle.lpt_model.specs.LptLink.Links.{LinkData}
-use Rattle.lpt_model.specs.LptNode.Nodes.{Sending, Receiving, NodeData}
+use Rattle.lpt_packet.specs.declared.direction.Direction.{Direction}
+use Rattle.lpt_packet.specs.declared.direction.Direction.TheVariants.{Up, Down}
+use Rattle.lpt_events.specs.declared.config.Config.{Config}
+use Rattle.lpt_events.specs.declared.entry.Opening.{Opening}
+use Rattle.lpt_events.specs.declared.entry.Release.{Release}
+use Rattle.lpt_events.specs.declared.side.Side.{Side}
+use Rattle.lpt_events.specs.declared.side.Side.TheVariants.{Ground, Craft}
+use Rattle.lpt_events.specs.Sides.{sender_side, receiver_side}
+use Rattle.lpt_events.specs.declared.worker.Worker.{Worker}
+use Rattle.lpt_jobs.specs.Jobs.{Jobs}
+use Rattle.lpt_memory.specs.Memories.{Contents}
+use Rattle.lpt_memory.specs.Readings.{Job as Ticket}
+use Rattle.lpt_link.specs.Links.{LinkData}
+use Rattle.lpt_node.specs.Nodes.{Sending, Receiving, NodeData}
 use Rattle.lpt_journal.specs.Journal.{History}
 use Rattle.lpt_journal.specs.Jobs.{boot}
 use Rattle.lpt_journal.specs.Receivers.{clock}
@@ -23,13 +23,6 @@ use Rattle.lpt_model.specs.Tickets.{Tickets, ticket_of}
 use Rattle.lpt_refinement.specs.Views.{Views, JobsView, EndView, LinkView, SendingView, ReceivingView, view_of, with_view, views, sending_view, receiving_view}
 
 -- ---- fields that are read
-
--- the end of a side is shown
-pub end_at : {s : State} {v : Views} (side : Side)
-    → Shows s v
-    → ShowsEnd side (end_of s side) (view_of v side)
-end_at Ground k = k.ground
-end_at Craft k = k.craft
 
 -- what is sent in a direction is shown at the end that sends in it
 pub sending_at : (c : Config) (first : Contents) {s : State} (h : History) (w : Direction)
@@ -107,24 +100,6 @@ with_released k f = record {
   sizes = k.sizes;
   opened = k.opened;
   released = f;
-}
-
--- the memories
-pub with_memories : {s : State} {v : Views} {ms ms' : Contents}
-    → Shows s v
-    → ms ≡ ms'
-    → sizes_of ms' ≡ sizes_of v.memories
-    → Shows (record s { memories = ms }) (record v { memories = ms' })
-with_memories k f same = record {
-  ground = k.ground;
-  craft = k.craft;
-  link = k.link;
-  jobs = k.jobs;
-  tickets = k.tickets;
-  memories = f;
-  sizes = same ∙ k.sizes;
-  opened = k.opened;
-  released = k.released;
 }
 
 -- ground's end

@@ -1,8 +1,8 @@
 -- What shows a journal refuses, answers and goes on as the journal says.
-use Rattle.lpt_model.specs.LptEvents.declared.config.Config.{Config}
-use Rattle.lpt_model.specs.LptEvents.declared.event.Event.{Event}
-use Rattle.lpt_model.specs.LptEvents.declared.event.Event.TheVariants.{Open, Send, Plain, Finish, Lose, Damage, Take, Deliver, Tick, Expire, Claim, Commit, Apply, Retire, Restart}
-use Rattle.lpt_model.specs.LptMemory.Memories.{Contents}
+use Rattle.lpt_events.specs.declared.config.Config.{Config}
+use Rattle.lpt_events.specs.declared.event.Event.{Event}
+use Rattle.lpt_events.specs.declared.event.Event.TheVariants.{Open, Send, Plain, Finish, Lose, Damage, Take, Deliver, Tick, Expire, Claim, Commit, Apply, Retire, Restart}
+use Rattle.lpt_memory.specs.Memories.{Contents}
 use Rattle.lpt_journal.specs.Journal.{History}
 use Rattle.lpt_journal.specs.Jobs.{ticket}
 use Rattle.lpt_refinement.specs.GoesOn.{FollowsJournal}
@@ -21,10 +21,10 @@ ready_shown : (c : Config) (first : Contents) (s : State) (h : History) (e : Eve
     → Shows s (views c first h)
     → JobsFit (jobs_view c first h) (ticket c h)
     → IsReady c s e
-ready_shown c first s h (Open d id m) k fits = tt
-ready_shown c first s h (Send d id n) k fits = tt
+ready_shown c first s h (Open d name m) k fits = tt
+ready_shown c first s h (Send d name n) k fits = tt
 ready_shown c first s h (Plain source flags service subtype body) k fits = tt
-ready_shown c first s h (Finish d id) k fits = tt
+ready_shown c first s h (Finish d name) k fits = tt
 ready_shown c first s h (Lose n) k fits = tt
 ready_shown c first s h (Damage d b) k fits = tt
 ready_shown c first s h (Take l n) k fits = tt
@@ -34,7 +34,7 @@ ready_shown c first s h (Expire side) k fits = tt
 ready_shown c first s h (Claim w) k fits = tt
 ready_shown c first s h (Commit w) k fits = commit_ready c first s h w k fits
 ready_shown c first s h Apply k fits = apply_ready c first s h k fits
-ready_shown c first s h (Retire d id) k fits = tt
+ready_shown c first s h (Retire d name) k fits = tt
 ready_shown c first s h (Restart side) k fits = tt
 
 pub follows : FollowsJournal

@@ -2,22 +2,23 @@
 use Rattle.std.proofs.Common.{◌≡◌, ◌∙◌, ap, sym, subst, refl, ℕ, nat_lt, Bool, true, false, not, List, [], ◌∷◌, Option, Some, None, is_some}
 use Rattle.std.specs.Option.{option_map}
 use Rattle.std.proofs.lemmas.Option.{slice_get-map}
-use Rattle.lpt_model.specs.LptEvents.declared.config.Config.{Config}
-use Rattle.lpt_model.specs.LptEvents.declared.entry.Release.{Release}
-use Rattle.lpt_model.specs.LptEvents.declared.event.Event.TheVariants.{Apply}
-use Rattle.lpt_model.specs.LptEvents.declared.fault.StepFault.TheVariants.{NoJob, NotReady}
-use Rattle.lpt_model.specs.LptMemory.Memories.{Contents, sizes_of}
-use Rattle.lpt_model.specs.LptMemory.Readings.{Source}
-use Rattle.lpt_model.specs.LptJobs.Jobs.{Head, NoJob as NoHead, NotReady as HeadNotReady, Ready, head_of}
-use Rattle.lpt_model.specs.LptNode.Faults.{node_fault}
-use Rattle.lpt_model.specs.LptNode.Jobs.{FrontIsFor, refusal_apply_of}
+use Rattle.lpt_events.specs.declared.config.Config.{Config}
+use Rattle.lpt_events.specs.declared.entry.Release.{Release}
+use Rattle.lpt_events.specs.declared.event.Event.TheVariants.{Apply}
+use Rattle.lpt_events.specs.declared.fault.StepFault.TheVariants.{NoJob, NotReady}
+use Rattle.lpt_memory.specs.Memories.{Contents, sizes_of}
+use Rattle.lpt_memory.specs.Readings.{Source}
+use Rattle.lpt_jobs.specs.Jobs.{Head, NoJob as NoHead, NotReady as HeadNotReady, Ready, head_of}
+use Rattle.lpt_node.specs.Faults.{node_fault}
+use Rattle.lpt_node.specs.Jobs.{FrontIsFor, refusal_apply_of}
 use Rattle.lpt_journal.specs.Journal.{History}
 use Rattle.lpt_journal.specs.Jobs.{jobs, applied, ticket, is_committed, front_job}
 use Rattle.lpt_journal.specs.Refusals.{refusal, first_fault}
 use Rattle.lpt_refinement.specs.Shows.{Shows, JobsFit, job_shown}
 use Rattle.lpt_model.specs.State.{State, IsReady, refusal_of}
 use Rattle.lpt_refinement.specs.Views.{views, jobs_view}
-use Rattle.lpt_refinement.proofs.JobsShown.{front_shown, job_is, lt_yes}
+use Rattle.lpt_refinement.proofs.JobsShown.{front_shown, job_is}
+use Rattle.lpt_packet.proofs.BoolLemmas.{lt_true}
 use Rattle.lpt_refinement.proofs.QueueLemmas.{head_from}
 
 -- ---- the front
@@ -61,7 +62,7 @@ head_shown c first s h k fits =
       go (Some r) true e =
           ap (λ a. head_from (λ q. a) (Some r.message))
           (job_is (jobs_view c first h) (applied h) r.message true true
-          (lt_yes (applied h) _ (fits.committed (applied h) e)) e)
+          (lt_true (applied h) _ (fits.committed (applied h) e)) e)
       go (Some r) false e = waiting r.message _ e refl
 
 refused_by : (c : Config) (first : Contents) (o : Option Release) (t : Bool)

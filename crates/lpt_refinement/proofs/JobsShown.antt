@@ -1,16 +1,16 @@
 -- The spacecraft's queue shows the journal's jobs: a release, and the job at the front.
-use Rattle.std.proofs.Common.{◌≡◌, ◌∙◌, ap, sym, subst, refl, ℕ, ◌+◌, ◌<◌, ◌≤◌, nat_lt, Bool, true, false, if◌then◌else◌, List, [], ◌∷◌, ◌++◌, length, map, drop, arith, length-drop}
+use Rattle.std.proofs.Common.{◌≡◌, ◌∙◌, ap, sym, subst, refl, ℕ, ◌+◌, ◌≤◌, nat_lt, Bool, true, false, if◌then◌else◌, List, [], ◌∷◌, ◌++◌, length, map, drop, arith, length-drop}
 use Rattle.std.specs.Prelude.{slice_get}
-use Rattle.std.proofs.lemmas.Bool.Decides.{nat_tests}
 use Rattle.std.proofs.lemmas.List.{drop-append-le, map-append}
-use Rattle.lpt_model.specs.LptEvents.declared.entry.Release.{Release}
-use Rattle.lpt_model.specs.LptJobs.declared.job.Job.TheVariants.{Waiting, Claimed, Committed}
-use Rattle.lpt_model.specs.LptJobs.Jobs.{Jobs, was_claimed, head_of, after_push, without_front}
+use Rattle.lpt_events.specs.declared.entry.Release.{Release}
+use Rattle.lpt_jobs.specs.declared.job.Job.TheVariants.{Waiting, Claimed, Committed}
+use Rattle.lpt_jobs.specs.Jobs.{Jobs, was_claimed, head_of, after_push, without_front}
 use Rattle.lpt_refinement.specs.Shows.{Shows, ShowsJobs, job_shown, jobs_from}
 use Rattle.lpt_model.specs.State.{State}
 use Rattle.lpt_refinement.specs.Views.{Views, JobsView}
 use Rattle.lpt_refinement.proofs.Fields.{with_jobs}
 use Rattle.lpt_refinement.proofs.QueueLemmas.{slice_get-drop, drop_one, jobs_from-append, drop-jobs_from, head_from, head_of-jobs_from}
+use Rattle.lpt_packet.proofs.Readings.{lt_false}
 
 -- ---- one job
 
@@ -41,12 +41,6 @@ job_is v i m t u e f =
     (if f j then Committed (record { apid = v.apid; sizes = v.sizes; message = m }) else Claimed)
     else Waiting m
 
-pub lt_yes : (a b : ℕ) → a < b → nat_lt a b ≡ true
-lt_yes a b e = grind (arith, nat_tests)
-
-pub lt_no : (a b : ℕ) → b ≤ a → nat_lt a b ≡ false
-lt_no a b e = grind (arith, nat_tests)
-
 -- ---- a release
 
 -- a message is released: its job is the last, and waits
@@ -72,7 +66,7 @@ push_shown {x = x} {v = v} m least most k = record {
   at = v.applied + length rest
 
   waits : nat_lt at v.claimed ≡ false
-  waits = lt_no at v.claimed (omega (arith, length-drop v.applied v.messages))
+  waits = lt_false at v.claimed (omega (arith, length-drop v.applied v.messages))
 
 -- the spacecraft releases a message, which is behind the released ones
 pub with_release : {s : State} {v : Views} (rs : List Release) (r : Release)

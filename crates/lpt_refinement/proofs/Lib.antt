@@ -30,4 +30,3 @@ pub mod RestartedShown
 pub mod RetiredShown
 pub mod SendingShown
 pub mod TicketsShown
-pub use Rattle.lpt_journal.proofs as LptJournal

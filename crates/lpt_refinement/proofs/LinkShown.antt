@@ -4,18 +4,19 @@ use Rattle.std.specs.Option.{option_map_or}
 use Rattle.std.specs.Prelude.{slice_get}
 use Rattle.std.proofs.lemmas.Bool.Decides.{nat_tests}
 use Rattle.std.proofs.lemmas.List.{append-nil, length-map, map-append}
-use Rattle.lpt_model.specs.LptPacket.declared.direction.Direction.{Direction}
-use Rattle.lpt_model.specs.LptPacket.Names.{Name}
-use Rattle.lpt_model.specs.LptEvents.declared.lane.Lane.{Lane}
-use Rattle.lpt_model.specs.LptEvents.declared.lane.Lane.TheVariants.{S1, S2, G1, G2}
-use Rattle.lpt_model.specs.LptLink.declared.packet.LinkPacket.{LinkPacket}
-use Rattle.lpt_model.specs.LptLink.Links.{LinkData, hand_of, with_lost, after_put, after_lose, after_take, after_drop}
-use Rattle.lpt_model.specs.LptEvents.declared.event.Event.TheVariants.{Take, Deliver}
+use Rattle.lpt_packet.specs.declared.direction.Direction.{Direction}
+use Rattle.lpt_packet.specs.Names.{Name}
+use Rattle.lpt_events.specs.declared.lane.Lane.{Lane}
+use Rattle.lpt_events.specs.declared.lane.Lane.TheVariants.{S1, S2, G1, G2}
+use Rattle.lpt_link.specs.declared.packet.LinkPacket.{LinkPacket}
+use Rattle.lpt_link.specs.Links.{LinkData, hand_of, with_lost, after_put, after_lose, after_take, after_drop}
+use Rattle.lpt_events.specs.declared.event.Event.TheVariants.{Take, Deliver}
 use Rattle.lpt_journal.specs.Journal.{SentPacket, with_all}
 use Rattle.lpt_journal.specs.Hands.{hand_after}
 use Rattle.lpt_refinement.specs.Shows.{ShowsLink, sent_packet}
 use Rattle.lpt_model.specs.State.{put_all}
 use Rattle.lpt_refinement.specs.Views.{LinkView}
+use Rattle.lpt_packet.proofs.BoolLemmas.{same_suc, suc_zero, zero_suc}
 
 -- ---- hands
 
@@ -68,9 +69,6 @@ pub as_many_packets : {x : LinkData} {y : LinkView}
     → ShowsLink x y
     → length x.packets ≡ length y.sent
 as_many_packets {x = x} k = sym (length-map x.packets sent_packet) ∙ ap length k.packets
-
-same_suc : (a b : ℕ) → (suc a == suc b) ≡ (a == b)
-same_suc a b = grind (arith, nat_tests)
 
 -- a list with one more at its end
 get_end : {A : Type 0} (xs : List A) (x : A) (n : ℕ)
@@ -155,12 +153,6 @@ tags-with_lost : (xs : List LinkPacket) (n : ℕ)
 tags-with_lost [] n = refl
 tags-with_lost (p ∷ xs) zero = refl
 tags-with_lost (p ∷ xs) (suc n) = ap (λ ts. p.tag ∷ ts) (tags-with_lost xs n)
-
-zero_suc : (n : ℕ) → (zero == suc n) ≡ false
-zero_suc n = grind (arith, nat_tests)
-
-suc_zero : (n : ℕ) → (suc n == zero) ≡ false
-suc_zero n = grind (arith, nat_tests)
 
 -- the lost packet is held no more, and the others as before
 held-with_lost : (xs : List LinkPacket) (n m : ℕ)

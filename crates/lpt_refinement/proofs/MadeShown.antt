@@ -2,19 +2,18 @@
 use Rattle.std.proofs.Common.{◌≡◌, ◌≢◌, ◌∙◌, ap, sym, refl, ℕ, ◌+◌, ◌%◌, ◌<◌, ◌==◌, Bool, true, false, ◌&&◌, if◌then◌else◌, List, [], ◌∷◌, ◌++◌, length, get_or, arith, length-append, get_or-set_same, get_or-set_other, length-set}
 use Rattle.std.specs.List.{filter}
 use Rattle.std.proofs.lemmas.List.Elements.{filter-append}
-use Rattle.lpt_model.proofs.LptPacket.Readings.{true_eq, false_eq}
-use Rattle.lpt_model.specs.LptPacket.Packets.{spelling}
-use Rattle.lpt_model.specs.LptPus.Telemetry.{tm_field}
-use Rattle.lpt_model.specs.LptEvents.declared.config.Config.{Config}
-use Rattle.lpt_model.specs.LptEvents.declared.side.Side.{Side}
-use Rattle.lpt_model.specs.LptEvents.declared.side.Side.TheVariants.{Ground, Craft}
-use Rattle.lpt_model.specs.LptEvents.declared.telemetry.TelemetryKind.{TelemetryKind}
-use Rattle.lpt_model.specs.LptEvents.declared.telemetry.TelemetryKind.TheVariants.{Accepted}
-use Rattle.lpt_model.specs.LptEvents.TelemetryKinds.{service_of, subtype_of, place_of}
-use Rattle.lpt_model.specs.LptNode.Counting.{next_count, next_types, counter_of}
-use Rattle.lpt_model.specs.LptNode.Nodes.{Sending}
-use Rattle.lpt_model.specs.LptNode.Sending.{counted, counted_kind}
-use Rattle.lpt_model.specs.LptEvents.MadePackets.{tm_made}
+use Rattle.lpt_packet.proofs.Readings.{true_eq, false_eq}
+use Rattle.lpt_packet.specs.Packets.{spelling}
+use Rattle.lpt_pus.specs.Telemetry.{tm_field}
+use Rattle.lpt_events.specs.declared.config.Config.{Config}
+use Rattle.lpt_events.specs.declared.side.Side.TheVariants.{Ground, Craft}
+use Rattle.lpt_events.specs.declared.telemetry.TelemetryKind.{TelemetryKind}
+use Rattle.lpt_events.specs.declared.telemetry.TelemetryKind.TheVariants.{Accepted}
+use Rattle.lpt_events.specs.TelemetryKinds.{service_of, subtype_of, place_of}
+use Rattle.lpt_node.specs.Counting.{next_count, next_types, counter_of}
+use Rattle.lpt_node.specs.Nodes.{Sending}
+use Rattle.lpt_node.specs.Sending.{counted, counted_kind}
+use Rattle.lpt_events.specs.MadePackets.{tm_made}
 use Rattle.lpt_journal.specs.Senders.{is_report}
 use Rattle.lpt_refinement.specs.Shows.{ShowsReports, ShowsSending}
 use Rattle.lpt_refinement.specs.Views.{SendingView}
@@ -28,12 +27,6 @@ count_more : (n : ℕ) (made : List (List ℕ)) (b : List ℕ)
 count_more n made b e =
     let more : length (made ++ b ∷ []) ≡ length made + 1 = length-append made (b ∷ []) in
     omega arith
-
--- the k-th of the packets to be made next has the count that is k on
-pub count_ahead : {side : Side} {x : Sending} {y : SendingView} (k : ℕ)
-    → ShowsSending side x y
-    → (x.count + k) % 16384 ≡ (length y.made + k) % 16384
-count_ahead k s = omega (arith, s.count)
 
 -- a telecommand was made
 pub command_made : {x : Sending} {y : SendingView} (b : List ℕ)

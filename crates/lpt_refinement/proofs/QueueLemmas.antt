@@ -3,8 +3,8 @@ use Rattle.std.proofs.Common.{◌≡◌, ◌≢◌, ◌∙◌, ap, sym, refl, �
 use Rattle.std.specs.Prelude.{slice_get}
 use Rattle.std.specs.Option.{option_map}
 use Rattle.std.proofs.lemmas.Bool.Decides.{nat_tests}
-use Rattle.lpt_model.specs.LptJobs.declared.job.Job.{Job}
-use Rattle.lpt_model.specs.LptJobs.Jobs.{Head, NoJob, claimed_in, was_claimed, head_of, head_by}
+use Rattle.lpt_jobs.specs.declared.job.Job.{Job}
+use Rattle.lpt_jobs.specs.Jobs.{Head, NoJob, claimed_in, was_claimed, head_of, head_by}
 use Rattle.lpt_refinement.specs.Shows.{jobs_from}
 
 -- ---- places

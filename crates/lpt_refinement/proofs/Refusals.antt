@@ -5,26 +5,26 @@ use Rattle.std.specs.List.{filter}
 use Rattle.std.specs.Prelude.{slice_get}
 use Rattle.std.proofs.lemmas.Option.{slice_get-map}
 use Rattle.std.specs.FinMap as maps
-use Rattle.lpt_model.specs.LptPacket.declared.direction.Direction.{Direction}
-use Rattle.lpt_model.specs.LptPacket.Names.{Name}
-use Rattle.lpt_model.specs.LptPart.Splitting.{part_count}
-use Rattle.lpt_model.specs.LptLedger.States.{state_of}
-use Rattle.lpt_model.specs.LptLink.declared.fault.LinkFault.TheVariants as link
-use Rattle.lpt_model.specs.LptLink.declared.packet.LinkPacket.{LinkPacket}
-use Rattle.lpt_model.specs.LptEvents.Lanes.{lane_direction, same_direction}
-use Rattle.lpt_model.specs.LptLink.Links.{is_held_for}
-use Rattle.lpt_model.specs.LptEvents.declared.config.Config.{Config}
-use Rattle.lpt_model.specs.LptEvents.declared.side.Side.{Side}
-use Rattle.lpt_model.specs.LptEvents.Sides.{direction_to}
-use Rattle.lpt_model.specs.LptNode.declared.fault.NodeFault.TheVariants as node
-use Rattle.lpt_model.specs.LptNode.Nodes.{Sending}
-use Rattle.lpt_model.specs.LptEvents.Damages.{is_damage_long, looks_whole}
-use Rattle.lpt_model.specs.LptEvents.Requests.{is_part_request, is_too_long}
-use Rattle.lpt_model.specs.LptNode.Sending.{refusal_open_in, refusal_send_of, refusal_finish_in}
-use Rattle.lpt_model.specs.LptNode.Times.{refusal_expire_of}
-use Rattle.lpt_model.specs.LptEvents.declared.event.Event.{Event}
-use Rattle.lpt_model.specs.LptEvents.declared.event.Event.TheVariants.{Open, Send, Plain, Finish, Lose, Damage, Take, Deliver, Tick, Expire, Claim, Commit, Apply, Retire, Restart}
-use Rattle.lpt_model.specs.LptEvents.declared.fault.StepFault.TheVariants.{InUse, Short, Long, TooMany, NotOpen, NoSuchPart, NotHeld, HandFull, HandEmpty, NothingDue, LooksWhole, ClockEnd, PartRequest}
+use Rattle.lpt_packet.specs.declared.direction.Direction.{Direction}
+use Rattle.lpt_packet.specs.Names.{Name}
+use Rattle.lpt_part.specs.Splitting.{part_count}
+use Rattle.lpt_ledger.specs.States.{state_of}
+use Rattle.lpt_link.specs.declared.fault.LinkFault.TheVariants as link
+use Rattle.lpt_link.specs.declared.packet.LinkPacket.{LinkPacket}
+use Rattle.lpt_events.specs.Lanes.{lane_direction, same_direction}
+use Rattle.lpt_link.specs.Links.{is_held_for}
+use Rattle.lpt_events.specs.declared.config.Config.{Config}
+use Rattle.lpt_events.specs.declared.side.Side.{Side}
+use Rattle.lpt_events.specs.Sides.{direction_to}
+use Rattle.lpt_node.specs.declared.fault.NodeFault.TheVariants as node
+use Rattle.lpt_node.specs.Nodes.{Sending}
+use Rattle.lpt_events.specs.Damages.{is_damage_long, looks_whole}
+use Rattle.lpt_events.specs.Requests.{is_part_request, is_too_long}
+use Rattle.lpt_node.specs.Sending.{refusal_open_in, refusal_send_of, refusal_finish_in}
+use Rattle.lpt_node.specs.Times.{refusal_expire_of}
+use Rattle.lpt_events.specs.declared.event.Event.{Event}
+use Rattle.lpt_events.specs.declared.event.Event.TheVariants.{Open, Send, Plain, Finish, Lose, Damage, Take, Deliver, Tick, Expire, Claim, Commit, Apply, Retire, Restart}
+use Rattle.lpt_events.specs.declared.fault.StepFault.TheVariants.{InUse, Short, Long, TooMany, NotOpen, NoSuchPart, NotHeld, HandFull, HandEmpty, NothingDue, LooksWhole, ClockEnd, PartRequest}
 use Rattle.lpt_journal.specs.Journal.{History}
 use Rattle.lpt_journal.specs.Link.{sent, is_held, goes}
 use Rattle.lpt_journal.specs.Hands.{hand}
@@ -32,7 +32,7 @@ use Rattle.lpt_journal.specs.Receivers.{clock}
 use Rattle.lpt_journal.specs.Due.{due}
 use Rattle.lpt_journal.specs.Refusals.{refusal, first_fault, parts_open}
 use Rattle.lpt_journal.specs.Senders.{Sender, FreeSender, OpenSender, ClosedSender, sender, is_free, is_open, open_count, opened_names}
-use Rattle.lpt_model.specs.LptNode.Faults.{node_fault}
+use Rattle.lpt_node.specs.Faults.{node_fault}
 use Rattle.lpt_refinement.specs.GoesOn.{Fits}
 use Rattle.lpt_model.specs.State.{State, link_fault, refusal_of}
 use Rattle.lpt_refinement.specs.Shows.{Shows, ShowsSending, mark_of, message_of, sent_packet}
@@ -45,7 +45,7 @@ use Rattle.lpt_refinement.proofs.FrontShown.{apply_refused}
 use Rattle.lpt_refinement.proofs.ClaimsShown.{claim_refused}
 use Rattle.lpt_refinement.proofs.CommitsShown.{commit_refused}
 use Rattle.lpt_refinement.proofs.RetiredShown.{retire_refused}
-use Rattle.lpt_model.specs.LptMemory.Memories.{Contents}
+use Rattle.lpt_memory.specs.Memories.{Contents}
 
 -- ---- opening
 
@@ -84,7 +84,8 @@ pub open_as_many : {side : Side} {x : Sending} (h : History) (d : Direction)
     → maps.len x.messages ≡ open_count h d
 open_as_many {x = x} h d k =
     len_once x.messages (filter (λ q. is_open (sender h d q)) (opened_names h d))
-    (λ id. ap is_some (k.messages id) ∙ is_some-message (sender h d id) ∙ sym (open_named h d id))
+    (λ name. ap is_some (k.messages name) ∙ is_some-message (sender h d name)
+    ∙ sym (open_named h d name))
 
 -- ---- sending and finishing
 
@@ -180,7 +181,7 @@ by_due : (o : Option Name)
     → option_map node_fault (refusal_expire_of o)
     ≡ first_fault ((not (is_some o), NothingDue) ∷ [])
 by_due None = refl
-by_due (Some id) = refl
+by_due (Some name) = refl
 
 -- ---- all events
 
@@ -189,20 +190,21 @@ pub refusal_shown : (c : Config) (first : Contents) (s : State) (h : History) (e
     → Shows s (views c first h)
     → Fits c first h
     → refusal_of c s e ≡ refusal c h e
-refusal_shown c first s h (Open d id m) k fits =
+refusal_shown c first s h (Open d name m) k fits =
     let own = sending_at c first h d k in
     (λ i. option_map node_fault
-    (refusal_open_in c (state_of (own.ledger id i)) (open_as_many h d own i) (length m)))
-    ∙ refuses_open c (sender h d id) (open_count h d) (length m)
-refusal_shown c first s h (Send d id n) k fits =
-    ap (λ o. option_map node_fault (refusal_send_of c n o)) ((sending_at c first h d k).messages id)
-    ∙ refuses_send c n (sender h d id)
+    (refusal_open_in c (state_of (own.ledger name i)) (open_as_many h d own i) (length m)))
+    ∙ refuses_open c (sender h d name) (open_count h d) (length m)
+refusal_shown c first s h (Send d name n) k fits =
+    ap (λ o. option_map node_fault (refusal_send_of c n o))
+    ((sending_at c first h d k).messages name)
+    ∙ refuses_send c n (sender h d name)
 refusal_shown c first s h (Plain source flags service subtype body) k fits =
     by_request (is_part_request service subtype) (is_too_long c (length body))
-refusal_shown c first s h (Finish d id) k fits =
+refusal_shown c first s h (Finish d name) k fits =
     ap (λ m. option_map node_fault (refusal_finish_in (state_of m)))
-    ((sending_at c first h d k).ledger id)
-    ∙ refuses_finish (sender h d id)
+    ((sending_at c first h d k).ledger name)
+    ∙ refuses_finish (sender h d name)
 refusal_shown c first s h (Lose n) k fits =
     (λ i. option_map link_fault (if k.link.held n i then None else Some link.NotHeld))
     ∙ by_mark (is_held h n)
@@ -228,5 +230,5 @@ refusal_shown c first s h (Expire side) k fits =
 refusal_shown c first s h (Claim w) k fits = claim_refused c first s h w k fits.jobs
 refusal_shown c first s h (Commit w) k fits = commit_refused c first s h w k
 refusal_shown c first s h Apply k fits = apply_refused c first s h k fits.jobs
-refusal_shown c first s h (Retire d id) k fits = retire_refused c first s h d id k fits
+refusal_shown c first s h (Retire d name) k fits = retire_refused c first s h d name k fits
 refusal_shown c first s h (Restart side) k fits = refl

@@ -1,34 +1,33 @@
 -- An event that isn't refused is answered as the journal says.
 use Rattle.std.proofs.Common.{◌≡◌, ◌∙◌, ap, refl, ℕ, ◌+◌, Bool, true, false, List, length, Option, Some, None, nat_le, not, ◌&&◌, is_some}
 use Rattle.std.specs.FinMap as maps
-use Rattle.lpt_model.specs.LptPacket.declared.direction.Direction.{Direction}
-use Rattle.lpt_model.specs.LptPacket.Names.{Name}
-use Rattle.lpt_model.specs.LptEvents.NamedParts.{NamedPart}
-use Rattle.lpt_model.specs.LptPart.declared.reason.Reason.{Reason}
-use Rattle.lpt_model.specs.LptPart.declared.reason.Reason.TheVariants as reason
-use Rattle.lpt_model.specs.LptNode.declared.accepted.Accepted.{Accepted}
-use Rattle.lpt_model.specs.LptEvents.declared.config.Config.{Config}
-use Rattle.lpt_model.specs.LptEvents.declared.side.Side.{Side}
-use Rattle.lpt_model.specs.LptEvents.declared.side.Side.TheVariants.{Ground, Craft}
-use Rattle.lpt_model.specs.LptEvents.declared.event.Event.{Event}
-use Rattle.lpt_model.specs.LptEvents.declared.event.Event.TheVariants.{Open, Send, Plain, Finish, Lose, Damage, Take, Deliver, Tick, Expire, Claim, Commit, Apply, Retire, Restart}
-use Rattle.lpt_model.specs.LptEvents.declared.fault.StepFault.TheVariants.{NotOpen, NoSuchPart}
-use Rattle.lpt_model.specs.LptEvents.declared.outcome.Outcome.{Outcome}
-use Rattle.lpt_model.specs.LptEvents.declared.outcome.Outcome.TheVariants.{Broken}
-use Rattle.lpt_model.specs.LptEvents.declared.reply.Answer.{Answer}
-use Rattle.lpt_model.specs.LptEvents.declared.reply.Answer.TheVariants.{Put, Delivered, Clock, Expired, Restarted}
-use Rattle.lpt_model.specs.LptEvents.declared.reply.Reply.{Reply}
-use Rattle.lpt_model.specs.LptEvents.Arrivals.{Arrival, NotRead, AnIdle, Foreign, ARequest, AReport, NoPart, APart, AnAbort}
-use Rattle.lpt_model.specs.LptEvents.Lanes.{lane_direction}
-use Rattle.lpt_model.specs.LptEvents.Sides.{receiver_side, direction_to}
-use Rattle.lpt_model.specs.LptNode.Accepting.{accepted}
-use Rattle.lpt_model.specs.LptNode.Nodes.{NodeData}
-use Rattle.lpt_model.specs.LptNode.Receivers.{ReceiverState, abort_report}
-use Rattle.lpt_model.specs.LptNode.Receiving.{abort_head, receiver_of}
-use Rattle.lpt_model.specs.LptNode.Times.{expired_of}
-use Rattle.lpt_model.specs.LptReception.Received.{Parts, contradicts, is_gap, is_whole, spelled}
-use Rattle.lpt_model.specs.LptNode.Receivers.{table_in}
-use Rattle.lpt_model.specs.LptTable.Offering.{is_open as is_there}
+use Rattle.lpt_packet.specs.declared.direction.Direction.{Direction}
+use Rattle.lpt_packet.specs.Names.{Name}
+use Rattle.lpt_events.specs.NamedParts.{NamedPart}
+use Rattle.lpt_part.specs.declared.reason.Reason.{Reason}
+use Rattle.lpt_part.specs.declared.reason.Reason.TheVariants as reason
+use Rattle.lpt_node.specs.declared.accepted.Accepted.{Accepted}
+use Rattle.lpt_events.specs.declared.config.Config.{Config}
+use Rattle.lpt_events.specs.declared.side.Side.{Side}
+use Rattle.lpt_events.specs.declared.side.Side.TheVariants.{Ground, Craft}
+use Rattle.lpt_events.specs.declared.event.Event.{Event}
+use Rattle.lpt_events.specs.declared.event.Event.TheVariants.{Open, Send, Plain, Finish, Lose, Damage, Take, Deliver, Tick, Expire, Claim, Commit, Apply, Retire, Restart}
+use Rattle.lpt_events.specs.declared.fault.StepFault.TheVariants.{NotOpen, NoSuchPart}
+use Rattle.lpt_events.specs.declared.outcome.Outcome.{Outcome}
+use Rattle.lpt_events.specs.declared.outcome.Outcome.TheVariants.{Broken}
+use Rattle.lpt_events.specs.declared.reply.Answer.{Answer}
+use Rattle.lpt_events.specs.declared.reply.Answer.TheVariants.{Put, Delivered, Clock, Expired, Restarted}
+use Rattle.lpt_events.specs.declared.reply.Reply.{Reply}
+use Rattle.lpt_events.specs.Arrivals.{Arrival, NotRead, AnIdle, Foreign, ARequest, AReport, NoPart, APart, AnAbort}
+use Rattle.lpt_events.specs.Lanes.{lane_direction}
+use Rattle.lpt_events.specs.Sides.{receiver_side, direction_to}
+use Rattle.lpt_node.specs.Accepting.{accepted}
+use Rattle.lpt_node.specs.Nodes.{NodeData}
+use Rattle.lpt_node.specs.Receivers.{ReceiverState, abort_report, table_in}
+use Rattle.lpt_node.specs.Receiving.{abort_head, receiver_of}
+use Rattle.lpt_node.specs.Times.{expired_of}
+use Rattle.lpt_reception.specs.Received.{Parts, contradicts, is_gap, is_whole, spelled}
+use Rattle.lpt_table.specs.Offering.{is_open as is_there}
 use Rattle.lpt_journal.specs.Delivery.{judged, outcome}
 use Rattle.lpt_journal.specs.Due.{due}
 use Rattle.lpt_journal.specs.Jobs.{ticket}
@@ -40,7 +39,8 @@ use Rattle.lpt_journal.specs.Replies.{expired_now, abort_puts, expiry_puts, outc
 use Rattle.lpt_journal.specs.Refusals.{refusal}
 use Rattle.lpt_journal.specs.Senders.{Sender, FreeSender, OpenSender, ClosedSender, sender, is_open}
 use Rattle.lpt_journal.proofs.OutcomeLemmas.{chosen}
-use Rattle.lpt_journal.proofs.TestLemmas.{not_false, two_pass}
+use Rattle.lpt_journal.proofs.TestLemmas.{two_pass}
+use Rattle.lpt_packet.proofs.BoolLemmas.{not_false}
 use Rattle.lpt_refinement.specs.Shows.{Shows, ShowsReceiving, JobsFit}
 use Rattle.lpt_model.specs.State.{State, after, end_of, as_list, put_some, expired_on, quiet, put_one}
 use Rattle.lpt_refinement.specs.Views.{views, jobs_view, receiving_view}
@@ -50,7 +50,7 @@ use Rattle.lpt_refinement.proofs.ExecutedShown.{executed_answer}
 use Rattle.lpt_refinement.proofs.ClaimsShown.{claimed_answer}
 use Rattle.lpt_refinement.proofs.CommitsShown.{committed_answer}
 use Rattle.lpt_refinement.proofs.Fields.{receiving_at, clock_at, boot_at}
-use Rattle.lpt_model.specs.LptMemory.Memories.{Contents}
+use Rattle.lpt_memory.specs.Memories.{Contents}
 use Rattle.lpt_refinement.proofs.LinkShown.{as_many_packets}
 
 -- a reply with this answer and these packets, the first of which got this number
@@ -59,20 +59,20 @@ reply_with n a ps = record { answer = a; puts = told n ps }
 
 -- the reply tells of the report that an end made, where it made one
 told_report : (c : Config) (h : History) (side : Side) (d : NodeData) (n : ℕ) (a : Answer)
-    (id : Name) (r : Reason)
-    → put_some n a (as_list (abort_report (abort_head side c d id.source) id r))
-    ≡ reply_with n a (abort_puts c h side id r)
-told_report c h Ground d n a id r = refl
-told_report c h Craft d n a id r = refl
+    (name : Name) (r : Reason)
+    → put_some n a (as_list (abort_report (abort_head side c d name.source) name r))
+    ≡ reply_with n a (abort_puts c h side name r)
+told_report c h Ground d n a name r = refl
+told_report c h Craft d n a name r = refl
 
 -- ---- sending
 
-reply_sent : (c : Config) (h : History) (d : Direction) (id : Name) (k n : ℕ) (y : Sender)
+reply_sent : (c : Config) (h : History) (d : Direction) (name : Name) (k n : ℕ) (y : Sender)
     → is_open y ≡ true
-    → put_one n (Put n) ≡ reply_with n (Put n) (send_puts c h d id k y)
-reply_sent c h d id k n FreeSender e = absurd cc
-reply_sent c h d id k n ClosedSender e = absurd cc
-reply_sent c h d id k n (OpenSender m) e = refl
+    → put_one n (Put n) ≡ reply_with n (Put n) (send_puts c h d name k y)
+reply_sent c h d name k n FreeSender e = absurd cc
+reply_sent c h d name k n ClosedSender e = absurd cc
+reply_sent c h d name k n (OpenSender m) e = refl
 
 -- ---- delivering
 
@@ -112,7 +112,7 @@ reply_delivered c h w d n own Foreign = refl
 reply_delivered c h w d n own NoPart = refl
 reply_delivered c h w d n own (AReport service subtype) = refl
 reply_delivered c h w d n own (ARequest b) = refl
-reply_delivered c h w d n own (AnAbort id r) = refl
+reply_delivered c h w d n own (AnAbort name r) = refl
 reply_delivered c h w d n own (APart q) =
     let s = heard c h w q.name in
     ap (reply_to n) (part_agrees c h w d q own)
@@ -126,12 +126,12 @@ reply_delivered c h w d n own (APart q) =
 
 -- the reply to the end of what is due
 reply_expired : (c : Config) (h : History) (side : Side) (d : NodeData) (n : ℕ) (o : Option Name)
-    → put_some n (Expired (direction_to side) (expired_of side c d o).1.id)
+    → put_some n (Expired (direction_to side) (expired_of side c d o).1.name)
     (as_list (expired_of side c d o).1.packet)
     ≡ reply_with n (expired_now (direction_to side) o) (expiry_puts c h side o)
 reply_expired c h side d n None = refl
-reply_expired c h side d n (Some id) =
-    told_report c h side d n (Expired (direction_to side) id) id reason.Expired
+reply_expired c h side d n (Some name) =
+    told_report c h side d n (Expired (direction_to side) name) name reason.Expired
 
 -- ---- all events
 
@@ -140,14 +140,14 @@ pub reply_shown : (c : Config) (first : Contents) (s : State) (h : History) (e :
     → JobsFit (jobs_view c first h) (ticket c h)
     → refusal c h e ≡ None
     → (after c (length h) s e).1 ≡ reply c first h e
-reply_shown c first s h (Open d id m) k fits e = refl
-reply_shown c first s h (Send d id n) k fits e =
+reply_shown c first s h (Open d name m) k fits e = refl
+reply_shown c first s h (Send d name n) k fits e =
     ap (λ j. put_one j (Put j)) (as_many_packets k.link)
-    ∙ reply_sent c h d id n (length (sent h)) (sender h d id)
-    (not_false (is_open (sender h d id)) (two_pass _ _ NotOpen NoSuchPart e).0)
+    ∙ reply_sent c h d name n (length (sent h)) (sender h d name)
+    (not_false (is_open (sender h d name)) (two_pass _ _ NotOpen NoSuchPart e).0)
 reply_shown c first s h (Plain source flags service subtype body) k fits e =
     ap (λ j. put_one j (Put j)) (as_many_packets k.link)
-reply_shown c first s h (Finish d id) k fits e = refl
+reply_shown c first s h (Finish d name) k fits e = refl
 reply_shown c first s h (Lose n) k fits e = refl
 reply_shown c first s h (Damage d b) k fits e =
     ap (λ j. put_one j (Put j)) (as_many_packets k.link)
@@ -171,6 +171,6 @@ reply_shown c first s h (Deliver l) k fits e =
 reply_shown c first s h (Claim w) k fits e = claimed_answer c first s h w k fits e
 reply_shown c first s h (Commit w) k fits e = committed_answer c first s h w k
 reply_shown c first s h Apply k fits e = executed_answer c first s h k fits e
-reply_shown c first s h (Retire d id) k fits e = refl
+reply_shown c first s h (Retire d name) k fits e = refl
 reply_shown c first s h (Restart side) k fits e =
     ap (λ n. quiet (Restarted (n + 1))) (boot_at c first h side k)

@@ -5,21 +5,21 @@ use Rattle.std.specs.Option.{option_map, option_map_or}
 use Rattle.std.proofs.lemmas.Bool.Decides.{nat_tests}
 use Rattle.std.proofs.lemmas.List.Elements.{filter-append}
 use Rattle.std.proofs.lemmas.List.{map-append}
-use Rattle.lpt_model.specs.LptPacket.Names.{Name}
-use Rattle.lpt_model.specs.LptPus.declared.failure_code.FailureCode.TheVariants.{NoFreeIdentifier, TooManyOpen}
-use Rattle.lpt_model.specs.LptPus.Codes.{number_of}
-use Rattle.lpt_model.specs.LptPus.Commands.{Command, command_in}
-use Rattle.lpt_model.specs.LptPus.Numbers.{long_at}
-use Rattle.lpt_model.specs.LptVerify.declared.report.EncodedReport.{EncodedReport}
-use Rattle.lpt_model.specs.LptVerify.Reports.{asks, success, failure, success_if, reports_before, accepted, started, completed}
-use Rattle.lpt_model.specs.LptMemory.declared.effect.Effect.{Effect}
-use Rattle.lpt_model.specs.LptMemory.declared.effect.Effect.TheVariants as effect
-use Rattle.lpt_model.specs.LptEvents.declared.config.Config.{Config}
-use Rattle.lpt_model.specs.LptExecution.declared.ending.Ending.{Ending}
-use Rattle.lpt_model.specs.LptExecution.declared.ending.Ending.TheVariants.{Silent, Refused, Carried}
-use Rattle.lpt_model.specs.LptExecution.declared.ending.Report.{Report}
-use Rattle.lpt_model.specs.LptExecution.Endings.{is_small, replied, reply_report, ending}
-use Rattle.lpt_model.specs.LptExecution.Reporting.{verification, data_report, reports_of, message_reports, large_packets, opened_of}
+use Rattle.lpt_packet.specs.Names.{Name}
+use Rattle.lpt_pus.specs.declared.failure_code.FailureCode.TheVariants.{NoFreeIdentifier, TooManyOpen}
+use Rattle.lpt_pus.specs.Codes.{number_of}
+use Rattle.lpt_pus.specs.Commands.{Command, command_in}
+use Rattle.lpt_pus.specs.Numbers.{long_at}
+use Rattle.lpt_verify.specs.declared.report.EncodedReport.{EncodedReport}
+use Rattle.lpt_verify.specs.Reports.{asks, success, failure, success_if, reports_before, accepted, started, completed}
+use Rattle.lpt_memory.specs.declared.effect.Effect.{Effect}
+use Rattle.lpt_memory.specs.declared.effect.Effect.TheVariants as effect
+use Rattle.lpt_events.specs.declared.config.Config.{Config}
+use Rattle.lpt_execution.specs.declared.ending.Ending.{Ending}
+use Rattle.lpt_execution.specs.declared.ending.Ending.TheVariants.{Silent, Refused, Carried}
+use Rattle.lpt_execution.specs.declared.ending.Report.{Report}
+use Rattle.lpt_execution.specs.Endings.{is_small, replied, reply_report, ending}
+use Rattle.lpt_execution.specs.Reporting.{verification, data_report, reports_of, message_reports, large_packets, opened_of}
 use Rattle.lpt_journal.specs.Executions.{report_after, reports_after}
 use Rattle.lpt_model.specs.State.{as_list}
 
@@ -167,12 +167,12 @@ module _ (p : ℕ) (fits : 4 ≤ p) where
       → AtMostOne (is_some free) (length bs)
       → as_list (option_map (λ x. x.1) (opened_of free bs)) ≡ bs
   opens_all None [] few = refl
-  opens_all (Some id) [] few = refl
+  opens_all (Some name) [] few = refl
   opens_all None (b ∷ bs) (inl none) = absurd (omega (arith, none))
   opens_all None (b ∷ bs) (inr one) = let f : false ≡ true = one.1 in absurd cc
-  opens_all (Some id) (b ∷ []) few = refl
-  opens_all (Some id) (b ∷ d ∷ bs) (inl none) = absurd (omega (arith, none))
-  opens_all (Some id) (b ∷ d ∷ bs) (inr one) = absurd (omega (arith, one.0))
+  opens_all (Some name) (b ∷ []) few = refl
+  opens_all (Some name) (b ∷ d ∷ bs) (inl none) = absurd (omega (arith, none))
+  opens_all (Some name) (b ∷ d ∷ bs) (inr one) = absurd (omega (arith, one.0))
 
   -- all packets that are too long are opened
   pub large_opened : (c : Config) (peer : ℕ) (ps : List (List ℕ)) (time apid : ℕ) (m : List ℕ)

@@ -2,17 +2,17 @@
 use Rattle.std.proofs.Common.{◌≡◌, ◌∙◌, ap, sym, subst, refl, ℕ, suc, ◌+◌, ◌%◌, Bool, true, false, not, if◌then◌else◌, List, [], ◌∷◌, ◌++◌, length, map, arith, length-append}
 use Rattle.std.specs.List.{filter}
 use Rattle.std.proofs.lemmas.List.Elements.{filter-append}
-use Rattle.lpt_model.specs.LptPacket.Names.{Name}
-use Rattle.lpt_model.specs.LptEvents.declared.config.Config.{Config}
-use Rattle.lpt_model.specs.LptEvents.declared.side.Side.TheVariants.{Craft}
-use Rattle.lpt_model.specs.LptEvents.MadePackets.{tm_made}
-use Rattle.lpt_model.specs.LptEvents.TelemetryKinds.{service_of, subtype_of}
-use Rattle.lpt_model.specs.LptExecution.declared.ending.Report.{Report}
-use Rattle.lpt_model.specs.LptExecution.Endings.{is_small}
-use Rattle.lpt_model.specs.LptExecution.Reporting.{link_packets, large_packets}
-use Rattle.lpt_model.specs.LptNode.Jobs.{report_packet, report_packets, reported}
-use Rattle.lpt_model.specs.LptNode.Nodes.{Sending}
-use Rattle.lpt_model.specs.LptNode.Sending.{counted_kind}
+use Rattle.lpt_packet.specs.Names.{Name}
+use Rattle.lpt_events.specs.declared.config.Config.{Config}
+use Rattle.lpt_events.specs.declared.side.Side.TheVariants.{Craft}
+use Rattle.lpt_events.specs.MadePackets.{tm_made}
+use Rattle.lpt_events.specs.TelemetryKinds.{service_of, subtype_of}
+use Rattle.lpt_execution.specs.declared.ending.Report.{Report}
+use Rattle.lpt_execution.specs.Endings.{is_small}
+use Rattle.lpt_execution.specs.Reporting.{link_packets, large_packets}
+use Rattle.lpt_node.specs.Jobs.{report_packet, report_packets, reported}
+use Rattle.lpt_node.specs.Nodes.{Sending}
+use Rattle.lpt_node.specs.Sending.{counted_kind}
 use Rattle.lpt_journal.specs.Journal.{with_all}
 use Rattle.lpt_journal.specs.Senders.{Sender}
 use Rattle.lpt_journal.specs.Executions.{report_after, reports_after}

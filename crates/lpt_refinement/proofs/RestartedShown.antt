@@ -1,26 +1,26 @@
 -- A node is restarted: the longer journal.
 use Rattle.std.proofs.Common.{◌≡◌, ◌∙◌, ap, refl, ℕ, ◌+◌, Bool, true, false, [], ◌∷◌, Option, Some, None}
 use Rattle.std.specs.FinMap as maps
-use Rattle.lpt_model.specs.LptPacket.declared.direction.Direction.{Direction}
-use Rattle.lpt_model.specs.LptPacket.declared.direction.Direction.TheVariants.{Up, Down}
-use Rattle.lpt_model.specs.LptPacket.Names.{name_cmp}
-use Rattle.lpt_model.specs.LptMemory.Memories.{Contents}
-use Rattle.lpt_model.specs.LptLedger.Marks.{shut_mark, all_closed}
-use Rattle.lpt_model.proofs.LptLedger.ClosingLemmas.{get-all_closed}
-use Rattle.lpt_model.specs.LptEvents.declared.config.Config.{Config}
-use Rattle.lpt_model.specs.LptEvents.declared.entry.Opening.{Opening}
-use Rattle.lpt_model.specs.LptEvents.declared.event.Event.TheVariants.{Restart}
-use Rattle.lpt_model.specs.LptEvents.declared.side.Side.{Side}
-use Rattle.lpt_model.specs.LptEvents.declared.side.Side.TheVariants.{Ground, Craft}
-use Rattle.lpt_model.specs.LptNode.Anew.{restarted}
-use Rattle.lpt_model.specs.LptNode.Counting.{no_types}
-use Rattle.lpt_model.specs.LptNode.Nodes.{NodeData, Sending, Receiving}
+use Rattle.lpt_packet.specs.declared.direction.Direction.{Direction}
+use Rattle.lpt_packet.specs.declared.direction.Direction.TheVariants.{Up, Down}
+use Rattle.lpt_packet.specs.Names.{name_cmp}
+use Rattle.lpt_memory.specs.Memories.{Contents}
+use Rattle.lpt_ledger.specs.Marks.{shut_mark, all_closed}
+use Rattle.lpt_ledger.proofs.ClosingLemmas.{get-all_closed}
+use Rattle.lpt_events.specs.declared.config.Config.{Config}
+use Rattle.lpt_events.specs.declared.entry.Opening.{Opening}
+use Rattle.lpt_events.specs.declared.event.Event.TheVariants.{Restart}
+use Rattle.lpt_events.specs.declared.side.Side.{Side}
+use Rattle.lpt_events.specs.declared.side.Side.TheVariants.{Ground, Craft}
+use Rattle.lpt_node.specs.Restarts.{restarted}
+use Rattle.lpt_node.specs.Counting.{no_types}
+use Rattle.lpt_node.specs.Nodes.{NodeData, Sending, Receiving}
 use Rattle.lpt_journal.specs.Jobs.{boot}
 use Rattle.lpt_journal.specs.Journal.{History}
 use Rattle.lpt_journal.specs.Receivers.{clock, is_closed, last_tick}
 use Rattle.lpt_journal.specs.Replies.{entry}
 use Rattle.lpt_journal.specs.Senders.{sender_of, current, is_over}
-use Rattle.lpt_model.specs.LptReception.Received.{no_parts}
+use Rattle.lpt_reception.specs.Received.{no_parts}
 use Rattle.lpt_refinement.specs.Shows.{Shows, ShowsEnd, ShowsSending, ShowsReceiving, mark_of, message_of}
 use Rattle.lpt_model.specs.State.{State, after_restart}
 use Rattle.lpt_refinement.specs.Views.{SendingView, ReceivingView, views, sending_view, receiving_view}
@@ -29,7 +29,7 @@ use Rattle.lpt_refinement.proofs.Fields.{with_ground, with_craft}
 
 -- what is sent in a direction once all senders are closed, and nothing is made
 abbrev shut_view : History → Direction → SendingView
-shut_view h d = record { senders = λ id. sender_of (current h d id) true; made = [] }
+shut_view h d = record { senders = λ name. sender_of (current h d name) true; made = [] }
 
 mark_shut : (o : Option Opening) (over : Bool)
     → shut_mark (mark_of (sender_of o over)) ≡ mark_of (sender_of o true)
@@ -48,11 +48,11 @@ shut_shown : {side : Side} {x : Sending} (h : History) (d : Direction)
     (record { ledger = all_closed x.ledger; messages = maps.empty; count = 0; types = no_types })
     (shut_view h d)
 shut_shown {side = side} {x = x} h d k = record {
-  ledger = λ id.
-      get-all_closed x.ledger id
-      ∙ ap shut_mark (k.ledger id)
-      ∙ mark_shut (current h d id) (is_over h d id);
-  messages = λ id. maps.get-empty name_cmp id ∙ no_message (current h d id);
+  ledger = λ name.
+      get-all_closed x.ledger name
+      ∙ ap shut_mark (k.ledger name)
+      ∙ mark_shut (current h d name) (is_over h d name);
+  messages = λ name. maps.get-empty name_cmp name ∙ no_message (current h d name);
   count = refl;
   types = no_reports side;
 }
@@ -60,13 +60,13 @@ shut_shown {side = side} {x = x} h d k = record {
 -- what is received in a direction once all receptions are dropped
 abbrev dropped_view : Config → History → Direction → ReceivingView
 dropped_view c h d =
-    record { parts = λ id. no_parts; closed = is_closed h d; last = last_tick c h d }
+    record { parts = λ name. no_parts; closed = is_closed h d; last = last_tick c h d }
 
 -- all receptions are dropped
 dropped_shown : {x : Receiving} (c : Config) (h : History) (d : Direction)
     → ShowsReceiving x (receiving_view c h d)
     → ShowsReceiving (record x { entries = maps.empty }) (dropped_view c h d)
-dropped_shown c h d k = record { ledger = k.ledger; entries = λ id. no_entries id (last_tick c h d id) }
+dropped_shown c h d k = record { ledger = k.ledger; entries = λ name. no_entries name (last_tick c h d name) }
 
 -- an end that is restarted, which sends in the first direction and receives in the other
 anew_shown : {side : Side} {x : NodeData} (c : Config) (h : History) (out back : Direction)

@@ -1,19 +1,19 @@
 -- A transaction is retired: refusal, and the longer journal.
 use Rattle.std.proofs.Common.{◌≡◌, ◌∙◌, ap, sym, refl, Bool, true, false, not, ◌&&◌, ◌||◌, if◌then◌else◌, [], ◌∷◌, Option, None}
 use Rattle.std.specs.FinMap as maps
-use Rattle.lpt_model.specs.LptPacket.declared.direction.Direction.{Direction}
-use Rattle.lpt_model.specs.LptPacket.declared.direction.Direction.TheVariants.{Up, Down}
-use Rattle.lpt_model.specs.LptPacket.Names.{Name, same_name}
-use Rattle.lpt_model.proofs.LptPacket.NameLemmas.{same_name-true}
-use Rattle.lpt_model.specs.LptMemory.Memories.{Contents}
-use Rattle.lpt_model.specs.LptLedger.States.{state_of}
-use Rattle.lpt_model.specs.LptEvents.declared.config.Config.{Config}
-use Rattle.lpt_model.specs.LptEvents.declared.entry.Opening.{Opening}
-use Rattle.lpt_model.specs.LptEvents.declared.event.Event.TheVariants.{Retire}
-use Rattle.lpt_model.specs.LptEvents.declared.fault.StepFault.TheVariants.{NotOpen, StillOpen, NotClear}
-use Rattle.lpt_model.specs.LptEvents.declared.side.Side.{Side}
-use Rattle.lpt_model.specs.LptEvents.declared.side.Side.TheVariants.{Ground, Craft}
-use Rattle.lpt_model.specs.LptNode.Nodes.{Sending, Receiving}
+use Rattle.lpt_packet.specs.declared.direction.Direction.{Direction}
+use Rattle.lpt_packet.specs.declared.direction.Direction.TheVariants.{Up, Down}
+use Rattle.lpt_packet.specs.Names.{Name, same_name}
+use Rattle.lpt_packet.proofs.NameLemmas.{same_name-true}
+use Rattle.lpt_memory.specs.Memories.{Contents}
+use Rattle.lpt_ledger.specs.States.{state_of}
+use Rattle.lpt_events.specs.declared.config.Config.{Config}
+use Rattle.lpt_events.specs.declared.entry.Opening.{Opening}
+use Rattle.lpt_events.specs.declared.event.Event.TheVariants.{Retire}
+use Rattle.lpt_events.specs.declared.fault.StepFault.TheVariants.{NotOpen, StillOpen, NotClear}
+use Rattle.lpt_events.specs.declared.side.Side.{Side}
+use Rattle.lpt_events.specs.declared.side.Side.TheVariants.{Ground, Craft}
+use Rattle.lpt_node.specs.Nodes.{Sending, Receiving}
 use Rattle.lpt_journal.specs.Clear.{part_held, part_in_hand}
 use Rattle.lpt_journal.specs.Journal.{History}
 use Rattle.lpt_journal.specs.Receivers.{heard, has_parts, is_closed, last_tick}
@@ -45,32 +45,32 @@ retire_by ClosedSender true receives = refl
 retire_by ClosedSender false true = refl
 retire_by ClosedSender false false = refl
 
-pub retire_refused : (c : Config) (first : Contents) (s : State) (h : History) (d : Direction) (id : Name)
+pub retire_refused : (c : Config) (first : Contents) (s : State) (h : History) (d : Direction) (name : Name)
     → Shows s (views c first h)
     → Fits c first h
-    → refusal_of c s (Retire d id) ≡ refusal c h (Retire d id)
-retire_refused c first s h d id k fits =
-    (λ i. refusal_retire_by (state_of ((sending_at c first h d k).ledger id i))
-    (not (holds_shown c first s h d id k fits.tags i)
-    && not (reception_shown c first s h d id k i)))
-    ∙ retire_by (sender h d id) (part_held c h d id || part_in_hand c h d id)
-    (has_parts (heard c h d id))
+    → refusal_of c s (Retire d name) ≡ refusal c h (Retire d name)
+retire_refused c first s h d name k fits =
+    (λ i. refusal_retire_by (state_of ((sending_at c first h d k).ledger name i))
+    (not (holds_shown c first s h d name k fits.tags i)
+    && not (reception_shown c first s h d name k i)))
+    ∙ retire_by (sender h d name) (part_held c h d name || part_in_hand c h d name)
+    (has_parts (heard c h d name))
 
 -- ---- the longer journal
 
 -- what is sent in a direction once a name is free
 abbrev freed_view : History → Direction → Name → SendingView
-freed_view h d id = record {
+freed_view h d name = record {
   senders = λ q.
-      sender_of (if same_name id q then None else current h d q) (is_over h d q);
+      sender_of (if same_name name q then None else current h d q) (is_over h d q);
   made = made h d;
 }
 
 -- what is received in a direction once a name is free
 abbrev forgotten_view : Config → History → Direction → Name → ReceivingView
-forgotten_view c h d id = record {
+forgotten_view c h d name = record {
   parts = heard c h d;
-  closed = λ q. not (same_name id q) && is_closed h d q;
+  closed = λ q. not (same_name name q) && is_closed h d q;
   last = last_tick c h d;
 }
 
@@ -86,27 +86,27 @@ no_message (OpenSender m) e = absurd cc
 no_message ClosedSender e = refl
 
 -- the name of a sender that isn't open is freed
-freed_shown : {side : Side} {x : Sending} (h : History) (d : Direction) (id : Name)
-    → is_open (sender h d id) ≡ false
+freed_shown : {side : Side} {x : Sending} (h : History) (d : Direction) (name : Name)
+    → is_open (sender h d name) ≡ false
     → ShowsSending side x (sending_view h d)
-    → ShowsSending side (record x { ledger = maps.remove x.ledger id }) (freed_view h d id)
-freed_shown {x = x} h d id ended k = record {
+    → ShowsSending side (record x { ledger = maps.remove x.ledger name }) (freed_view h d name)
+freed_shown {x = x} h d name ended k = record {
   ledger = λ q.
-      get_remove x.ledger id q
-      ∙ (λ i. if same_name-comm q id i then None else k.ledger q i)
-      ∙ mark_freed (same_name id q) (current h d q) (is_over h d q);
-  messages = λ q. k.messages q ∙ go q (same_name id q) refl;
+      get_remove x.ledger name q
+      ∙ (λ i. if same_name-comm q name i then None else k.ledger q i)
+      ∙ mark_freed (same_name name q) (current h d q) (is_over h d q);
+  messages = λ q. k.messages q ∙ go q (same_name name q) refl;
   count = k.count;
   types = k.types;
 } where
   go : (q : Name) (t : Bool)
-      → same_name id q ≡ t
+      → same_name name q ≡ t
       → message_of (sender h d q)
       ≡ message_of (sender_of (if t then None else current h d q) (is_over h d q))
   go q false e = refl
   go q true e =
-      ap (λ n. message_of (sender h d n)) (sym (same_name-true id q e))
-      ∙ no_message (sender h d id) ended
+      ap (λ n. message_of (sender h d n)) (sym (same_name-true name q e))
+      ∙ no_message (sender h d name) ended
 
 mark_forgotten : (t closed : Bool)
     → (if t then None else closed_mark closed) ≡ closed_mark (not t && closed)
@@ -114,28 +114,28 @@ mark_forgotten true closed = refl
 mark_forgotten false closed = refl
 
 -- the name of a reception that has ended is freed
-forgotten_shown : {x : Receiving} (c : Config) (h : History) (d : Direction) (id : Name)
+forgotten_shown : {x : Receiving} (c : Config) (h : History) (d : Direction) (name : Name)
     → ShowsReceiving x (receiving_view c h d)
-    → ShowsReceiving (record x { ledger = maps.remove x.ledger id }) (forgotten_view c h d id)
-forgotten_shown {x = x} c h d id k = record {
+    → ShowsReceiving (record x { ledger = maps.remove x.ledger name }) (forgotten_view c h d name)
+forgotten_shown {x = x} c h d name k = record {
   ledger = λ q.
-      get_remove x.ledger id q
-      ∙ (λ i. if same_name-comm q id i then None else k.ledger q i)
-      ∙ mark_forgotten (same_name id q) (is_closed h d q);
+      get_remove x.ledger name q
+      ∙ (λ i. if same_name-comm q name i then None else k.ledger q i)
+      ∙ mark_forgotten (same_name name q) (is_closed h d q);
   entries = k.entries;
 }
 
-pub retired_shown : (c : Config) (first : Contents) (s : State) (h : History) (d : Direction) (id : Name)
+pub retired_shown : (c : Config) (first : Contents) (s : State) (h : History) (d : Direction) (name : Name)
     → Shows s (views c first h)
-    → refusal c h (Retire d id) ≡ None
-    → Shows (after_retire s d id).0 (views c first (entry c first h (Retire d id) ∷ h))
-retired_shown c first s h Up id k e =
+    → refusal c h (Retire d name) ≡ None
+    → Shows (after_retire s d name).0 (views c first (entry c first h (Retire d name) ∷ h))
+retired_shown c first s h Up name k e =
     let ended = (three_pass _ _ _ NotOpen StillOpen NotClear e).1 in
     with_receiving Craft
-    (with_sending Ground k (freed_shown h Up id ended k.ground.sending))
-    (forgotten_shown c h Up id k.craft.receiving)
-retired_shown c first s h Down id k e =
+    (with_sending Ground k (freed_shown h Up name ended k.ground.sending))
+    (forgotten_shown c h Up name k.craft.receiving)
+retired_shown c first s h Down name k e =
     let ended = (three_pass _ _ _ NotOpen StillOpen NotClear e).1 in
     with_receiving Ground
-    (with_sending Craft k (freed_shown h Down id ended k.craft.sending))
-    (forgotten_shown c h Down id k.ground.receiving)
+    (with_sending Craft k (freed_shown h Down name ended k.craft.sending))
+    (forgotten_shown c h Down name k.ground.receiving)

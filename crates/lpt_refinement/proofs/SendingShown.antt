@@ -1,23 +1,23 @@
 -- A part, or a plain request, is sent: the journal that follows is shown.
 use Rattle.std.proofs.Common.{◌≡◌, ◌∙◌, ap, sym, subst, refl, ℕ, ◌==◌, true, ◌&&◌, List, [], ◌∷◌, ◌++◌, length, Option, Some, None}
-use Rattle.lpt_model.specs.LptPacket.declared.direction.Direction.{Direction}
-use Rattle.lpt_model.specs.LptPacket.declared.direction.Direction.TheVariants.{Up, Down}
-use Rattle.lpt_model.specs.LptPacket.Names.{Name}
-use Rattle.lpt_model.specs.LptPart.declared.kind.Kind.{Kind}
-use Rattle.lpt_model.specs.LptPart.declared.kind.Kind.TheVariants.{First, Middle, Last}
-use Rattle.lpt_model.specs.LptPart.Parts.{Piece, body_of}
-use Rattle.lpt_model.specs.LptPart.Splitting.{part_count, kind_at}
-use Rattle.lpt_model.specs.LptEvents.declared.config.Config.{Config}
-use Rattle.lpt_model.specs.LptEvents.declared.event.Event.TheVariants.{Send}
-use Rattle.lpt_model.specs.LptEvents.declared.reply.Answer.TheVariants.{Put}
-use Rattle.lpt_model.specs.LptEvents.declared.reply.Puts.{Puts}
-use Rattle.lpt_model.specs.LptEvents.declared.side.Side.TheVariants.{Ground, Craft}
-use Rattle.lpt_model.specs.LptEvents.Arrivals.{part_subtype}
-use Rattle.lpt_model.specs.LptEvents.MadePackets.{part_made, nth_part, tc_made}
-use Rattle.lpt_model.specs.LptEvents.Sides.{sender_side}
-use Rattle.lpt_model.specs.LptEvents.TelemetryKinds.{service_of, subtype_of}
-use Rattle.lpt_model.specs.LptNode.Counting.{counter_of}
-use Rattle.lpt_model.specs.LptNode.Sending.{sent_of, part_packet, part_telemetry}
+use Rattle.lpt_packet.specs.declared.direction.Direction.{Direction}
+use Rattle.lpt_packet.specs.declared.direction.Direction.TheVariants.{Up, Down}
+use Rattle.lpt_packet.specs.Names.{Name}
+use Rattle.lpt_part.specs.declared.kind.Kind.{Kind}
+use Rattle.lpt_part.specs.declared.kind.Kind.TheVariants.{First, Middle, Last}
+use Rattle.lpt_part.specs.Parts.{Piece, body_of}
+use Rattle.lpt_part.specs.Splitting.{part_count, kind_at}
+use Rattle.lpt_events.specs.declared.config.Config.{Config}
+use Rattle.lpt_events.specs.declared.event.Event.TheVariants.{Send}
+use Rattle.lpt_events.specs.declared.reply.Answer.TheVariants.{Put}
+use Rattle.lpt_events.specs.declared.reply.Puts.{Puts}
+use Rattle.lpt_events.specs.declared.side.Side.TheVariants.{Ground, Craft}
+use Rattle.lpt_events.specs.Arrivals.{part_subtype}
+use Rattle.lpt_events.specs.MadePackets.{part_made, nth_part, tc_made}
+use Rattle.lpt_events.specs.Sides.{sender_side}
+use Rattle.lpt_events.specs.TelemetryKinds.{service_of, subtype_of}
+use Rattle.lpt_node.specs.Counting.{counter_of}
+use Rattle.lpt_node.specs.Sending.{sent_of, part_packet, part_telemetry}
 use Rattle.lpt_journal.specs.Journal.{History}
 use Rattle.lpt_journal.specs.Replies.{send_puts, plain_packet, part_packet as journal_packet}
 use Rattle.lpt_journal.specs.Senders.{Sender, FreeSender, OpenSender, ClosedSender, is_open, made, type_counter}
@@ -27,7 +27,7 @@ use Rattle.lpt_refinement.specs.Views.{Views, views}
 use Rattle.lpt_refinement.proofs.Fields.{with_sending, with_link}
 use Rattle.lpt_refinement.proofs.LinkShown.{link_more}
 use Rattle.lpt_refinement.proofs.MadeShown.{command_made, report_made, is_report-made, IsReportOf}
-use Rattle.lpt_model.specs.LptMemory.Memories.{Contents}
+use Rattle.lpt_memory.specs.Memories.{Contents}
 
 -- ---- sending
 
@@ -53,53 +53,56 @@ is_report-part c peer n counter time q s t =
 
 -- a part is sent, as the history has it; its packet got this number
 abbrev sent_entry : Config → History → Direction → Name → ℕ → ℕ → Option Puts → Sender → History
-sent_entry c h w id n number r y = record {
-  event = Send w id n;
+sent_entry c h w name n number r y = record {
+  event = Send w name n;
   reply = record { answer = Put number; puts = r };
-  puts = send_puts c h w id n y;
+  puts = send_puts c h w name n y;
   opens = [];
 } ∷ h
 
 -- part n of an open message is sent
 part_sent : (c : Config) (first : Contents) (s : State) (h : History) (w : Direction)
-    (id : Name) (n : ℕ) (number : ℕ) (r : Option Puts) (m : List ℕ)
+    (name : Name) (n : ℕ) (number : ℕ) (r : Option Puts) (m : List ℕ)
     → Shows s (views c first h)
-    → Shows (sent_on s w id (sent_of (sender_side w) c (end_of s (sender_side w)) id n (Some m))).0
-    (views c first (sent_entry c h w id n number r (OpenSender m)))
-part_sent c first s h Up id n number r m k =
-    let q = nth_part c.part_size id.id m n in
-    let packet : part_packet Ground c s.on_ground id.source q ≡ journal_packet c h Up id.source q =
-    ap (λ j. part_made c Up id.source j 0 0 q) k.ground.sending.count in
+    → Shows (sent_on s w name
+    (sent_of (sender_side w) c (end_of s (sender_side w)) name n (Some m))).0
+    (views c first (sent_entry c h w name n number r (OpenSender m)))
+part_sent c first s h Up name n number r m k =
+    let q = nth_part c.part_size name.id m n in
+    let packet : part_packet Ground c s.on_ground name.source q
+    ≡ journal_packet c h Up name.source q =
+    ap (λ j. part_made c Up name.source j 0 0 q) k.ground.sending.count in
     with_link (with_sending Ground k (command_made _ k.ground.sending))
-    (link_more Up (Some id) _ _ packet k.link)
-part_sent c first s h Down id n number r m k =
-    let q = nth_part c.part_size id.id m n in
+    (link_more Up (Some name) _ _ packet k.link)
+part_sent c first s h Down name n number r m k =
+    let q = nth_part c.part_size name.id m n in
     let kind = kind_at n (part_count (length m) c.part_size) in
     let counter : counter_of s.on_craft.sending.types (part_telemetry kind)
     ≡ type_counter h 13 (part_subtype Down kind) =
     k.craft.sending.types.counter (part_telemetry kind) ∙ kind_counter h kind in
-    let packet : part_packet Craft c s.on_craft id.source q ≡ journal_packet c h Down id.source q =
-    λ i. part_made c Down id.source (k.craft.sending.count i) (counter i) (k.craft.clock i) q in
+    let packet : part_packet Craft c s.on_craft name.source q
+    ≡ journal_packet c h Down name.source q =
+    λ i. part_made c Down name.source (k.craft.sending.count i) (counter i) (k.craft.clock i) q in
     with_link
     (with_sending Craft k
     (report_made (part_telemetry kind) _ (is_report-part c _ _ _ _ q) k.craft.sending))
-    (link_more Down (Some id) _ _ packet k.link)
+    (link_more Down (Some name) _ _ packet k.link)
 
 -- what an open sender has is sent
 pub sent_shown : (c : Config) (first : Contents) (s : State) (h : History) (w : Direction)
-    (id : Name) (n : ℕ) (number : ℕ) (r : Option Puts) (y : Sender) (o : Option (List ℕ))
+    (name : Name) (n : ℕ) (number : ℕ) (r : Option Puts) (y : Sender) (o : Option (List ℕ))
     → is_open y ≡ true
     → o ≡ message_of y
     → Shows s (views c first h)
-    → Shows (sent_on s w id (sent_of (sender_side w) c (end_of s (sender_side w)) id n o)).0
-    (views c first (sent_entry c h w id n number r y))
-sent_shown c first s h w id n number r FreeSender o t e k = absurd cc
-sent_shown c first s h w id n number r ClosedSender o t e k = absurd cc
-sent_shown c first s h w id n number r (OpenSender m) o t e k =
+    → Shows (sent_on s w name (sent_of (sender_side w) c (end_of s (sender_side w)) name n o)).0
+    (views c first (sent_entry c h w name n number r y))
+sent_shown c first s h w name n number r FreeSender o t e k = absurd cc
+sent_shown c first s h w name n number r ClosedSender o t e k = absurd cc
+sent_shown c first s h w name n number r (OpenSender m) o t e k =
     subst (λ (x : Option (List ℕ)).
-    Shows (sent_on s w id (sent_of (sender_side w) c (end_of s (sender_side w)) id n x)).0
-    (views c first (sent_entry c h w id n number r (OpenSender m)))) (sym e)
-    (part_sent c first s h w id n number r m k)
+    Shows (sent_on s w name (sent_of (sender_side w) c (end_of s (sender_side w)) name n x)).0
+    (views c first (sent_entry c h w name n number r (OpenSender m)))) (sym e)
+    (part_sent c first s h w name n number r m k)
 
 -- a plain request is put: a view with its packet
 abbrev pub plain_view : Config

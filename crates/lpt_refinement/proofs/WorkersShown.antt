@@ -3,13 +3,15 @@ use Rattle.std.proofs.Common.{◌≡◌, ◌≢◌, ◌∙◌, ap, sym, refl, �
 use Rattle.std.specs.Prelude.{slice_get}
 use Rattle.std.specs.Option.{option_map, option_map_or, option_and_then}
 use Rattle.std.proofs.lemmas.Bool.Decides.{nat_tests}
-use Rattle.lpt_model.specs.LptJobs.declared.job.Job.{Job}
-use Rattle.lpt_model.specs.LptJobs.declared.job.Job.TheVariants.{Waiting, Claimed, Committed}
-use Rattle.lpt_model.specs.LptJobs.Jobs.{Jobs, claimed_in, is_out, is_claimed, message_in, unclaimed, after_claim, after_commit}
+use Rattle.lpt_jobs.specs.declared.job.Job.{Job}
+use Rattle.lpt_jobs.specs.declared.job.Job.TheVariants.{Claimed, Committed}
+use Rattle.lpt_jobs.specs.Jobs.{Jobs, claimed_in, is_out, is_claimed, message_in, unclaimed, after_claim, after_commit}
 use Rattle.lpt_refinement.specs.Shows.{ShowsJobs, IsOut, job_shown, jobs_from}
 use Rattle.lpt_refinement.specs.Views.{JobsView}
 use Rattle.lpt_refinement.proofs.QueueLemmas.{slice_get-drop, slice_get-jobs_from, set-jobs_from, claimed_in-jobs_from}
-use Rattle.lpt_refinement.proofs.JobsShown.{was_claimed-job_shown, job_is, lt_yes, lt_no}
+use Rattle.lpt_refinement.proofs.JobsShown.{was_claimed-job_shown, job_is}
+use Rattle.lpt_packet.proofs.Readings.{lt_false}
+use Rattle.lpt_packet.proofs.BoolLemmas.{lt_true}
 
 -- ---- a claim
 
@@ -53,7 +55,7 @@ unclaimed_shown {x = x} {v = v} least most k =
       n = claimed_in (jobs_from (job_shown v) v.applied (drop v.applied v.messages))
 
       past : nat_lt (v.applied + n) v.claimed ≡ false
-      past = lt_no (v.applied + n) v.claimed (let e = waiting_at v least most in omega arith)
+      past = lt_false (v.applied + n) v.claimed (let e = waiting_at v least most in omega arith)
 
       waits : (m : List ℕ) → message_in (job_shown v (v.applied + n) m) ≡ Some m
       waits m = ap message_in (job_is v (v.applied + n) m false _ past refl)
@@ -87,7 +89,7 @@ claim_shown {x = x} {v = v} least most free k = record {
       → slice_get (drop v.applied v.messages) n ≡ Some m
       → Claimed ≡ job_shown u v.claimed m
   new m e =
-      sym (job_is u v.claimed m true false (lt_yes v.claimed (v.claimed + 1) (omega arith)) free)
+      sym (job_is u v.claimed m true false (lt_true v.claimed (v.claimed + 1) (omega arith)) free)
 
 -- ---- a commit
 
@@ -130,7 +132,7 @@ commit_shown {x = x} {v = v} n m out there k = record {
       let found : ◌≡◌ {A = Option (List ℕ)} (Some m) (Some a) = sym there ∙ here in
       let is : m ≡ a = cc in
       ap (λ q. Committed (record { apid = v.apid; sizes = v.sizes; message = q })) is
-      ∙ sym (job_is u n a true true (lt_yes n v.claimed out.is_claimed)
+      ∙ sym (job_is u n a true true (lt_true n v.claimed out.is_claimed)
       (ap (λ t. t || v.committed n) self))
 
 -- a job that is out is claimed, and no reading of it committed
@@ -144,12 +146,12 @@ is_out_shown {x = x} {v = v} n m out there k =
     (if nat_lt n (k.first i) then None else slice_get (k.jobs i) (n - k.first i)) false)
     ∙ ap (λ t. option_map_or is_out
     (if t then None else slice_get queue (n - v.applied)) false)
-    (lt_no n v.applied out.not_executed)
+    (lt_false n v.applied out.not_executed)
     ∙ ap (λ o. option_map_or is_out o false)
     (slice_get-jobs_from (job_shown v) v.applied (drop v.applied v.messages) (n - v.applied) n at
     ∙ ap (option_map (job_shown v n))
     (slice_get-drop v.messages v.applied (n - v.applied) n at ∙ there))
-    ∙ ap is_out (job_is v n m true false (lt_yes n v.claimed out.is_claimed) out.not_committed)
+    ∙ ap is_out (job_is v n m true false (lt_true n v.claimed out.is_claimed) out.not_committed)
   where
     queue : List Job
     queue = jobs_from (job_shown v) v.applied (drop v.applied v.messages)

@@ -1,10 +1,10 @@
 -- What a state that shows a journal does: what the journal says.
 use Rattle.std.specs.Prelude.{◌≡◌, [], ◌∷◌, length, map, None}
-use Rattle.lpt_model.specs.LptEvents.Arrivals.{part_name}
-use Rattle.lpt_model.specs.LptEvents.declared.config.Config.{Config}
-use Rattle.lpt_model.specs.LptEvents.declared.event.Event.{Event}
-use Rattle.lpt_model.specs.LptEvents.Configs.{IsConfig}
-use Rattle.lpt_model.specs.LptMemory.Memories.{Contents}
+use Rattle.lpt_events.specs.Arrivals.{part_name}
+use Rattle.lpt_events.specs.declared.config.Config.{Config}
+use Rattle.lpt_events.specs.declared.event.Event.{Event}
+use Rattle.lpt_events.specs.Configs.{IsConfig}
+use Rattle.lpt_memory.specs.Memories.{Contents}
 use Rattle.lpt_journal.specs.Hands.{arrival_of}
 use Rattle.lpt_journal.specs.Journal.{History}
 use Rattle.lpt_journal.specs.Link.{sent, tags}

@@ -2,31 +2,32 @@
 use Rattle.std.specs.Prelude.{◌≡◌, ℕ, suc, ◌%◌, ◌<◌, ◌≤◌, nat_lt, Bool, true, false, not, ◌&&◌, if◌then◌else◌, List, [], ◌∷◌, length, map, drop, slice_get, Option, Some, None}
 use Rattle.std.specs.List.{filter}
 use Rattle.std.specs.FinMap as maps
-use Rattle.lpt_model.specs.LptPacket.Names.{Name}
-use Rattle.lpt_model.specs.LptLedger.Marks.{Mark, Opened, Shut}
-use Rattle.lpt_model.specs.LptEvents.declared.lane.Lane.{Lane}
-use Rattle.lpt_model.specs.LptEvents.declared.side.Side.{Side}
-use Rattle.lpt_model.specs.LptEvents.declared.side.Side.TheVariants.{Ground, Craft}
-use Rattle.lpt_model.specs.LptLink.declared.packet.LinkPacket.{LinkPacket}
-use Rattle.lpt_model.specs.LptLink.Links.{LinkData, is_held, hand_of}
-use Rattle.lpt_model.specs.LptEvents.declared.telemetry.TelemetryKind.{TelemetryKind}
-use Rattle.lpt_model.specs.LptEvents.TelemetryKinds.{service_of, subtype_of}
-use Rattle.lpt_model.specs.LptNode.Counting.{counter_of}
-use Rattle.lpt_model.specs.LptNode.Nodes.{Sending, Receiving, NodeData}
-use Rattle.lpt_model.specs.LptReception.Received.{Parts}
-use Rattle.lpt_model.specs.LptTable.Tables.{TableEntry}
-use Rattle.lpt_model.specs.LptEvents.declared.worker.Worker.{Worker}
-use Rattle.lpt_model.specs.LptMemory.Memories.{sizes_of}
-use Rattle.lpt_model.specs.LptMemory.Readings.{Job as Ticket}
-use Rattle.lpt_model.specs.LptJobs.declared.job.Job.{Job}
-use Rattle.lpt_model.specs.LptJobs.Jobs.{Jobs}
-use Rattle.lpt_model.specs.LptJobs.declared.job.Job.TheVariants.{Waiting, Claimed, Committed}
+use Rattle.lpt_packet.specs.Names.{Name}
+use Rattle.lpt_ledger.specs.Marks.{Mark, Opened, Shut}
+use Rattle.lpt_events.specs.declared.lane.Lane.{Lane}
+use Rattle.lpt_events.specs.declared.side.Side.{Side}
+use Rattle.lpt_events.specs.declared.side.Side.TheVariants.{Ground, Craft}
+use Rattle.lpt_link.specs.declared.packet.LinkPacket.{LinkPacket}
+use Rattle.lpt_link.specs.Links.{LinkData, is_held, hand_of}
+use Rattle.lpt_events.specs.declared.telemetry.TelemetryKind.{TelemetryKind}
+use Rattle.lpt_events.specs.TelemetryKinds.{service_of, subtype_of}
+use Rattle.lpt_node.specs.Counting.{counter_of}
+use Rattle.lpt_node.specs.Nodes.{Sending, Receiving, NodeData}
+use Rattle.lpt_reception.specs.Received.{Parts}
+use Rattle.lpt_table.specs.Tables.{TableEntry}
+use Rattle.lpt_events.specs.declared.worker.Worker.{Worker}
+use Rattle.lpt_memory.specs.Memories.{sizes_of}
+use Rattle.lpt_memory.specs.Readings.{Job as Ticket}
+use Rattle.lpt_jobs.specs.declared.job.Job.{Job}
+use Rattle.lpt_jobs.specs.Jobs.{Jobs}
+use Rattle.lpt_jobs.specs.declared.job.Job.TheVariants.{Waiting, Claimed, Committed}
 use Rattle.lpt_journal.specs.Journal.{SentPacket}
 use Rattle.lpt_journal.specs.Receivers.{has_parts}
 use Rattle.lpt_journal.specs.Senders.{Sender, FreeSender, OpenSender, ClosedSender, is_report}
 use Rattle.lpt_model.specs.State.{State}
 use Rattle.lpt_model.specs.Tickets.{ticket_of}
 use Rattle.lpt_refinement.specs.Views.{SendingView, ReceivingView, EndView, LinkView, JobsView, Views}
+use Rattle.lpt_events.specs.Counts.{sequence_counts, type_counters}
 
 -- ---- what a field shows
 
@@ -61,7 +62,7 @@ sent_packet p = record { direction = p.direction; octets = p.octets }
 pub record ShowsReports (types : List ℕ) (made : List (List ℕ)) : Type 0 where
   pub eleven : length types ≡ 11
   pub counter : (k : TelemetryKind)
-      → counter_of types k ≡ length (filter (is_report (service_of k) (subtype_of k)) made) % 65536
+      → counter_of types k ≡ length (filter (is_report (service_of k) (subtype_of k)) made) % type_counters
 
 -- the spacecraft's message type counters; ground makes no telemetry
 abbrev pub ShowsTypes : Side → List ℕ → List (List ℕ) → Type 0
@@ -69,14 +70,14 @@ ShowsTypes Ground types made = Unit {0}
 ShowsTypes Craft types made = ShowsReports types made
 
 pub record ShowsSending (side : Side) (x : Sending) (y : SendingView) : Type 0 where
-  pub ledger : (id : Name) → maps.get x.ledger id ≡ mark_of (y.senders id)
-  pub messages : (id : Name) → maps.get x.messages id ≡ message_of (y.senders id)
-  pub count : x.count ≡ length y.made % 16384
+  pub ledger : (name : Name) → maps.get x.ledger name ≡ mark_of (y.senders name)
+  pub messages : (name : Name) → maps.get x.messages name ≡ message_of (y.senders name)
+  pub count : x.count ≡ length y.made % sequence_counts
   pub types : ShowsTypes side x.types y.made
 
 pub record ShowsReceiving (x : Receiving) (y : ReceivingView) : Type 0 where
-  pub ledger : (id : Name) → maps.get x.ledger id ≡ closed_mark (y.closed id)
-  pub entries : (id : Name) → maps.get x.entries id ≡ entry_of (y.parts id) (y.last id)
+  pub ledger : (name : Name) → maps.get x.ledger name ≡ closed_mark (y.closed name)
+  pub entries : (name : Name) → maps.get x.entries name ≡ entry_of (y.parts name) (y.last name)
 
 pub record ShowsEnd (side : Side) (d : NodeData) (y : EndView) : Type 0 where
   pub sending : ShowsSending side d.sending y.sending

@@ -7,5 +7,3 @@
 #![tactic(auto)]
 
 pub mod laws;
-
-pub use lpt_journal::laws as journal_laws;

@@ -6,17 +6,17 @@ use Rattle.std.proofs.lemmas.Bool.Decides.{nat_tests}
 use Rattle.std.proofs.lemmas.Grind.{common_steps}
 use Rattle.std.proofs.lemmas.List.{length-append, length-map}
 use Rattle.std.proofs.lemmas.List.Concat.{flat_map-cons}
-use Rattle.lpt_memory.specs.LptPus.declared.failure_code.FailureCode.{FailureCode}
-use Rattle.lpt_memory.specs.LptPacket.Packets.{spelling}
-use Rattle.lpt_memory.specs.LptPus.Commands.{Command, CommandFits, command, command_in, packet_of}
-use Rattle.lpt_memory.specs.LptPus.declared.tc_head.TcHead.{TcHead}
-use Rattle.lpt_memory.proofs.LptPacket.SightLemmas.{seen_again}
-use Rattle.lpt_memory.proofs.LptPus.CommandLemmas.{command_in-spelling, InRange-packet_of}
+use Rattle.lpt_pus.specs.declared.failure_code.FailureCode.{FailureCode}
+use Rattle.lpt_packet.specs.Packets.{spelling}
+use Rattle.lpt_pus.specs.Commands.{Command, CommandFits, command, command_in, packet_of}
+use Rattle.lpt_pus.specs.declared.tc_head.TcHead.{TcHead}
+use Rattle.lpt_packet.proofs.SightLemmas.{seen_again}
+use Rattle.lpt_pus.proofs.CommandLemmas.{command_in-spelling, InRange-packet_of}
 use Rattle.lpt_memory.specs.declared.fault.MemoryFault.{MemoryFault}
 use Rattle.lpt_memory.specs.declared.request.AreaRange.{AreaRange}
 use Rattle.lpt_memory.specs.Requests.{Request, front_range, request_in}
 use Rattle.lpt_memory.specs.Meanings.{Meaning, Fault, Dump, Check, Sizes, size_of, range_fault as fault_in, dump_length, unless, dump_meaning, check_meaning, body_meaning, command_meaning, meaning}
-use Rattle.lpt_memory.specs.LptPus.declared.failure_code.FailureCode.TheVariants.{ReplyTooLong}
+use Rattle.lpt_pus.specs.declared.failure_code.FailureCode.TheVariants.{ReplyTooLong}
 use Rattle.lpt_memory.specs.Ranges.{RangesFit}
 use Rattle.lpt_memory.specs.Spellings.{body_text, range_text, AreAreas, RangeFits}
 use Rattle.lpt_memory.proofs.BodyLemmas.{range_again, body_again}

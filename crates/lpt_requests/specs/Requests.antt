@@ -1,7 +1,7 @@
 -- Requests to a memory, and what their packets mean.
 use Rattle.std.specs.Prelude.{◌≡◌, ℕ, ◌^◌, ◌<◌, ◌≤◌, ◌==◌, ◌||◌, nat_lt, Bool, false, if◌then◌else◌, List, [], ◌∷◌, length, map, Option, Some, None}
-use Rattle.lpt_memory.specs.LptPacket.Packets.{spelling}
-use Rattle.lpt_memory.specs.LptPus.Commands.{packet_of}
+use Rattle.lpt_packet.specs.Packets.{spelling}
+use Rattle.lpt_pus.specs.Commands.{packet_of}
 use Rattle.lpt_memory.specs.declared.fault.MemoryFault.{MemoryFault}
 use Rattle.lpt_memory.specs.declared.fault.MemoryFault.TheVariants.{BadArea}
 use Rattle.lpt_memory.specs.declared.request.AreaRange.{AreaRange}
@@ -11,6 +11,8 @@ use Rattle.lpt_memory.specs.Spellings.{body_text, load_text, range_text, write_f
 use Rattle.lpt_requests.specs.declared.request.Range.{Range}
 use Rattle.lpt_requests.specs.declared.request.Request.{Request}
 use Rattle.lpt_requests.specs.declared.request.Request.TheVariants.{Load, Dump, Check}
+use Rattle.lpt_memory.specs.Limits.{area_limit}
+use Rattle.lpt_packet.specs.Sizes.{longest_packet}
 
 -- ---- places
 
@@ -30,14 +32,14 @@ any_empty (r ∷ rest) = r.len == 0 || any_empty rest
 -- the fault of a dump or a check: no place, more than 255, or one without octets
 abbrev pub range_fault : List Range → Option MemoryFault
 range_fault ranges =
-    if length ranges == 0 || nat_lt 255 (length ranges) || any_empty ranges then Some BadArea
+    if length ranges == 0 || nat_lt area_limit (length ranges) || any_empty ranges then Some BadArea
     else None
 
 -- the octets mean that dump, in all memories that it is within, where its answer fits a packet
 abbrev pub MeansDump : ℕ → List ℕ → ℕ → List AreaRange → Type 0
 MeansDump apid octets id ranges =
     (sizes : Sizes) (size : ℕ) → size_of id sizes ≡ Some size → RangesFit size ranges
-    → dump_length ranges ≤ 65542 → meaning apid sizes octets ≡ DumpOf id ranges
+    → dump_length ranges ≤ longest_packet → meaning apid sizes octets ≡ DumpOf id ranges
 
 -- the octets mean that check, in all memories that it is within
 abbrev pub MeansCheck : ℕ → List ℕ → ℕ → List AreaRange → Type 0

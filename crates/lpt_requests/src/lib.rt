@@ -9,6 +9,8 @@ mod ranges;
 mod request;
 mod writing;
 
-pub use lpt_memory::{AckFlags, Area, MemoryFault, Octets, TcHead};
+pub use lpt_memory::{Area, MemoryFault};
+pub use lpt_packet::Octets;
+pub use lpt_pus::AckFlags;
 pub use request::{Range, Request};
 pub use writing::write_request;

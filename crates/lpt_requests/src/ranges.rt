@@ -2,17 +2,16 @@
 
 ghost use Rattle.std.specs.Prelude.{◌≡◌, ◌≤◌, ◌++◌, length, map, None, IfOk, OnOk};
 ghost use Rattle.std.specs.List.{AllByRecursion};
-ghost use Rattle.lpt_memory.specs.LptPacket.Packets.{spelling};
-ghost use Rattle.lpt_memory.specs.LptPus.Commands.{command, packet_of};
+ghost use Rattle.lpt_packet.specs.Packets.{spelling};
+ghost use Rattle.lpt_pus.specs.Commands.{command, packet_of};
 ghost use Rattle.lpt_memory.specs.Spellings.{body_text, range_text};
 ghost use Rattle.lpt_requests.specs.Requests.{any_empty, as_range, range_fault, IsInRange, MeansCheck, MeansDump};
 
 use crate::Range;
-use lpt_memory::{MemoryFault, Octets, TcHead, tc_octets};
+use lpt_memory::{AREA_LIMIT, MemoryFault};
+use lpt_packet::Octets;
+use lpt_pus::{TcHead, tc_octets};
 use std::alloc::{AllocError, Global};
-
-/// The most areas of a request.
-const AREA_LIMIT: usize = 255;
 
 /// The octets of the body of a request, besides its areas, and of each of these.
 const BODY_HEAD: usize = 2;

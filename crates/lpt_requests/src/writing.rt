@@ -1,15 +1,17 @@
 //! A request written as a telecommand.
 
 ghost use Rattle.std.specs.Prelude.{◌≡◌, ◌≤◌, Err, IfErr, IfNone, IfOk, IfSome, map};
-ghost use Rattle.lpt_memory.specs.LptPacket.Packets.{spelling};
-ghost use Rattle.lpt_memory.specs.LptPus.Commands.{command, packet_of};
+ghost use Rattle.lpt_packet.specs.Packets.{spelling};
+ghost use Rattle.lpt_pus.specs.Commands.{command, packet_of};
 ghost use Rattle.lpt_memory.specs.Spellings.{body_text, range_text};
 ghost use Rattle.lpt_memory.specs.declared.fault.MemoryFault.TheVariants.{Memory};
 ghost use Rattle.lpt_requests.specs.Requests.{as_range, range_fault, request_fault, request_packet, Means, MeansCheck, MeansDump};
 
 use crate::ranges::{ranges_fault, ranges_packet};
 use crate::{Range, Request};
-use lpt_memory::{AckFlags, MemoryFault, Octets, TcHead, write_load};
+use lpt_memory::{MemoryFault, write_load};
+use lpt_packet::Octets;
+use lpt_pus::{AckFlags, TcHead};
 use std::alloc::Global;
 
 /// The packet of a request to a memory: a telecommand of this APID (0 to 2046), source, sequence

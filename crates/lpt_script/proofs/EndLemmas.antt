@@ -7,17 +7,16 @@ use Rattle.std.proofs.Math.Seq.{take-suc}
 use Rattle.std.proofs.lemmas.List.{take-append-drop}
 use Rattle.std.proofs.KnownBytes.{Appends-trans}
 use Rattle.std.specs.Io.KnownBytes.{Appends}
-use Rattle.lpt_print.specs.Printing.{accepted_text, refused_text}
-use Rattle.lpt_words.specs.declared.grammar.Reading.TheVariants.{Unreadable}
+use Rattle.lpt_script_text.specs.Printing.{accepted_text, refused_text}
 use Rattle.lpt_text.specs.Streams.{AppendsPart}
 use Rattle.lpt_text.specs.declared.fault.ToolFault.{ToolFault}
 use Rattle.lpt_text.specs.declared.fault.ToolFault.TheVariants as tool
 use Rattle.lpt_script.specs.Ends.{TextEnds, LineEnds, LinesEnd, unrefused}
-use Rattle.lpt_script.specs.Scripts.{Ran, Script, unreadable, printed, answered, stepped, stepped_as, joined, unless_refused, and_then, line_ran}
-use Rattle.lpt_world.specs.LptEvents.declared.event.Event.{Event}
-use Rattle.lpt_world.specs.LptEvents.declared.fault.StepFault.{StepFault}
-use Rattle.lpt_world.specs.LptEvents.declared.fault.StepFault.TheVariants.{Memory}
-use Rattle.lpt_world.specs.Worlds.{Shown, refusal_at, with_entry, RefusedBy}
+use Rattle.lpt_script.specs.Scripts.{Ran, Script, printed, answered, stepped, stepped_as, joined, unless_refused, and_then}
+use Rattle.lpt_events.specs.declared.event.Event.{Event}
+use Rattle.lpt_events.specs.declared.fault.StepFault.{StepFault}
+use Rattle.lpt_events.specs.declared.fault.StepFault.TheVariants.{Memory}
+use Rattle.lpt_world.specs.Worlds.{Shown, refusal_at, RefusedBy}
 
 -- ---- printed texts
 
@@ -44,38 +43,7 @@ text_fault script tool.Config a b p = p
 text_fault script (tool.Line k) a b p = absurd p
 text_fault script (tool.Threads k) a b p = p
 
--- a line that is unreadable
-pub unreadable_ends : (n : ℕ) (w : Shown) (fault : ToolFault) (a b : Option (List ℕ))
-    → LinesEnd (unreadable n) (Err fault) a b
-    → LineEnds (line_ran Unreadable n w) (Err fault) w a b
-unreadable_ends n w tool.Write a b p = p
-unreadable_ends n w tool.Memory a b p = p
-unreadable_ends n w tool.Read a b p = p
-unreadable_ends n w tool.Config a b p = p
-unreadable_ends n w (tool.Line k) a b p = p
-unreadable_ends n w (tool.Threads k) a b p = p
-
 -- ---- events
-
--- an accepted event
-pub accepted_ends : (w v : Shown) (e : Event) (r : Result (Option StepFault) ToolFault) (a b : Option (List ℕ))
-    → refusal_at w 0 e ≡ None
-    → v ≡ with_entry w 0 e (answered w e)
-    → TextEnds (accepted_text w.config.source e (answered w e)) r a b
-    → IfOk r (λ refused. refused ≡ None)
-    → LineEnds (stepped w e) r v a b
-accepted_ends w v e r a b none next p not_refused =
-    subst (λ x. LineEnds (stepped_as w e x) r v a b) (sym none) (told r p not_refused)
-  where
-    told : (r : Result (Option StepFault) ToolFault) → TextEnds (accepted_text w.config.source e (answered w e)) r a b → IfOk r (λ refused. refused ≡ None)
-        → LineEnds (stepped_as w e None) r v a b
-    told (Ok f) p q = (refl, q, next, p)
-    told (Err tool.Write) p q = p
-    told (Err tool.Memory) p q = p
-    told (Err tool.Read) p q = p
-    told (Err tool.Config) p q = p
-    told (Err (tool.Line k)) p q = absurd p
-    told (Err (tool.Threads k)) p q = p
 
 -- the answer of a refused event: out of memory prints nothing
 pub refused_ends : (w v : Shown) (e : Event) (fault : StepFault) (r : Result (Option StepFault) ToolFault) (a b : Option (List ℕ))

@@ -1,24 +1,23 @@
 -- How a script's ending follows from those of its lines.
 use Rattle.std.proofs.Common.{◌≡◌, ℕ, ◌+◌, ◌<◌, List, [], ◌∷◌, ◌++◌, length, Option, None, Some, is_some, Result, Ok, Err, Bool, refl, sym, ap, ◌∙◌, subst, append_assoc, append-nil, arith}
 use Rattle.std.specs.Int.{from_bool}
-use Rattle.std.proofs.KnownBytes.{Appends-trans}
+use Rattle.std.proofs.KnownBytes.{Appends-trans, Appends-nil}
 use Rattle.std.specs.Io.KnownBytes.{Appends}
 use Rattle.std.proofs.lemmas.Bool.Decides.{nat_tests}
-use Rattle.std.proofs.KnownBytes.{Appends-nil}
 use Rattle.lpt_text.specs.Lines.{line_end}
 use Rattle.lpt_text.specs.Streams.{AppendsPart}
 use Rattle.lpt_text.specs.declared.fault.ToolFault.{ToolFault}
 use Rattle.lpt_text.specs.declared.fault.ToolFault.TheVariants as tool
 use Rattle.lpt_script.specs.Ends.{LineEnds, LinesEnd}
 use Rattle.lpt_script.specs.Scripts.{Ran, Script, behind, left_of, then_rest, lines_left, lines_ran, line_ran, says, says_now, shows_left}
-use Rattle.lpt_words.specs.declared.showing.Show.{Show}
+use Rattle.lpt_script_words.specs.declared.showing.Show.{Show}
 use Rattle.lpt_text.proofs.StreamLemmas.{part_after, part_of_front}
 use Rattle.lpt_script.specs.declared.end.ScriptEnd.{ScriptEnd}
-use Rattle.lpt_words.proofs.Pieces.{lines-nowhere}
-use Rattle.lpt_words.specs.Words.{lines}
-use Rattle.lpt_words.specs.declared.grammar.Reading.TheVariants.{Unreadable}
-use Rattle.lpt_words.specs.Grammar.{reading_of}
-use Rattle.lpt_world.specs.LptEvents.declared.fault.StepFault.{StepFault}
+use Rattle.lpt_script_words.proofs.Pieces.{lines-nowhere}
+use Rattle.lpt_script_words.specs.Words.{lines}
+use Rattle.lpt_script_words.specs.declared.grammar.Reading.TheVariants.{Unreadable}
+use Rattle.lpt_script_words.specs.Grammar.{reading_of}
+use Rattle.lpt_events.specs.declared.fault.StepFault.{StepFault}
 use Rattle.lpt_world.specs.Worlds.{Shown}
 
 -- a text before a text is their joined text

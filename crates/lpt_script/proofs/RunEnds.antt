@@ -12,9 +12,9 @@ use Rattle.lpt_script.proofs.LineLemmas.{Goes, line_fault, long_bad, rest_ends}
 use Rattle.lpt_script.proofs.RunLemmas.{Runs, goes_line, line_behind, line_ends}
 use Rattle.lpt_script.specs.Ends.{LineEnds, LinesEnd, LinesLeave, RunEnds}
 use Rattle.lpt_script.specs.Scripts.{Script, left_of, lines_left, lines_ran, line_ran, script_ran, says}
-use Rattle.lpt_words.specs.declared.showing.Show.{Show}
+use Rattle.lpt_script_words.specs.declared.showing.Show.{Show}
 use Rattle.lpt_script.specs.declared.end.ScriptEnd.{ScriptEnd}
-use Rattle.lpt_words.specs.Words.{ended_line, lines}
+use Rattle.lpt_script_words.specs.Words.{ended_line, lines}
 use Rattle.lpt_world.specs.Worlds.{Shown}
 
 -- a front part of what was read, run to a fault

@@ -13,11 +13,11 @@ use Rattle.lpt_text.specs.declared.lines.LineBuffer.{LineBuffer}
 use Rattle.lpt_script.proofs.LineLemmas.{Goes, line_first}
 use Rattle.lpt_script.specs.Ends.{LineEnds}
 use Rattle.lpt_script.specs.Scripts.{behind, lines_left, lines_ran, line_ran, script_ran, says, shows_left}
-use Rattle.lpt_words.specs.Grammar.{reading_of}
-use Rattle.lpt_words.specs.declared.showing.Show.{Show}
-use Rattle.lpt_words.proofs.Pieces.{lines-place}
-use Rattle.lpt_words.specs.Words.{ended_line, lines}
-use Rattle.lpt_world.specs.LptEvents.declared.fault.StepFault.{StepFault}
+use Rattle.lpt_script_words.specs.Grammar.{reading_of}
+use Rattle.lpt_script_words.specs.declared.showing.Show.{Show}
+use Rattle.lpt_script_words.proofs.Pieces.{lines-place}
+use Rattle.lpt_script_words.specs.Words.{ended_line, lines}
+use Rattle.lpt_events.specs.declared.fault.StepFault.{StepFault}
 use Rattle.lpt_world.specs.Worlds.{Shown}
 
 -- ---- the first of some lines

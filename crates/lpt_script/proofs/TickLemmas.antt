@@ -1,10 +1,10 @@
 -- Many ticks, one after another.
 use Rattle.std.proofs.Common.{◌≡◌, ℕ, zero, suc, ◌+◌, ◌<◌, inl, inr, Option, None, Some, refl, sym, ap, ◌∙◌, subst, is_some, cond, arith}
-use Rattle.lpt_world.specs.LptEvents.declared.side.Side.{Side}
+use Rattle.lpt_events.specs.declared.side.Side.{Side}
 use Rattle.lpt_script.specs.Ends.{IsTickRefused}
 use Rattle.lpt_script.specs.Scripts.{answered, stepped, ticked}
-use Rattle.lpt_world.specs.LptEvents.declared.event.Event.TheVariants.{Tick}
-use Rattle.lpt_world.specs.LptEvents.declared.fault.StepFault.{StepFault}
+use Rattle.lpt_events.specs.declared.event.Event.TheVariants.{Tick}
+use Rattle.lpt_events.specs.declared.fault.StepFault.{StepFault}
 use Rattle.lpt_world.specs.Worlds.{Shown, refusal_at, with_entry, RefusedBy}
 
 -- a tick that isn't the last and isn't refused prints nothing

@@ -1,19 +1,19 @@
 -- How lines and scripts end: what the answer says of what was read and written.
 use Rattle.std.specs.Prelude.{◌≡◌, ◌⊎◌, ℕ, Bool, true, false, List, Option, Some, None, Result, Ok, Err}
 use Rattle.std.specs.Io.KnownBytes.{Appends}
-use Rattle.lpt_world.specs.LptEvents.declared.side.Side.{Side}
-use Rattle.lpt_print.specs.Decoding.{decoding}
+use Rattle.lpt_events.specs.declared.side.Side.{Side}
+use Rattle.lpt_script_text.specs.Decoding.{decoding}
 use Rattle.lpt_text.specs.Reading.{IsWhole, IsFront, IsCutFront}
 use Rattle.lpt_text.specs.Streams.{AppendsPart}
 use Rattle.lpt_text.specs.declared.fault.ToolFault.{ToolFault}
 use Rattle.lpt_text.specs.declared.fault.ToolFault.TheVariants as tool
 use Rattle.lpt_script.specs.declared.end.ScriptEnd.{ScriptEnd}
 use Rattle.lpt_script.specs.Scripts.{Left, Ran, Script, lines_left, script_ran, stepped, ticked}
-use Rattle.lpt_words.specs.Words.{lines}
-use Rattle.lpt_words.specs.declared.showing.Show.{Show}
-use Rattle.lpt_world.specs.LptEvents.declared.event.Event.TheVariants.{Tick}
-use Rattle.lpt_world.specs.LptEvents.declared.fault.StepFault.{StepFault}
-use Rattle.lpt_world.specs.LptEvents.declared.fault.StepFault.TheVariants.{Memory}
+use Rattle.lpt_script_words.specs.Words.{lines}
+use Rattle.lpt_script_words.specs.declared.showing.Show.{Show}
+use Rattle.lpt_events.specs.declared.event.Event.TheVariants.{Tick}
+use Rattle.lpt_events.specs.declared.fault.StepFault.{StepFault}
+use Rattle.lpt_events.specs.declared.fault.StepFault.TheVariants.{Memory}
 use Rattle.lpt_world.specs.Worlds.{Shown, refusal_at}
 
 -- how the writing of a text ends

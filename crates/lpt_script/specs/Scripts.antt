@@ -1,32 +1,32 @@
 -- What the lines of a script do to a world, and what they print.
-use Rattle.std.specs.Prelude.{ℕ, zero, suc, ◌+◌, if◌then◌else◌, is_some, nat_le, Bool, true, false, ◌&&◌, List, [], ◌∷◌, ◌++◌, length, take, drop, slice_get, Option, Some, None}
+use Rattle.std.specs.Prelude.{ℕ, zero, suc, ◌+◌, if◌then◌else◌, is_some, nat_le, Bool, true, false, ◌&&◌, List, [], ◌∷◌, ◌++◌, length, take, drop, Option, Some, None}
 use Rattle.std.specs.Int.{from_bool}
-use Rattle.std.specs.Option.{option_map, option_and_then}
-use Rattle.lpt_world.specs.LptMemory.Memories.{content_of}
-use Rattle.lpt_world.specs.LptPacket.declared.direction.Direction.TheVariants.{Up}
-use Rattle.lpt_words.specs.Words.{lines}
-use Rattle.lpt_world.specs.LptEvents.declared.side.Side.{Side}
-use Rattle.lpt_print.specs.Printing.{accepted_text, refused_text, releases_text, packet_text, clear_text, memory_text, journal_text, unreadable_text}
-use Rattle.lpt_words.specs.declared.grammar.Command.{Command}
-use Rattle.lpt_words.specs.declared.grammar.Command.TheVariants as command
-use Rattle.lpt_words.specs.declared.grammar.Reading.{Reading}
-use Rattle.lpt_words.specs.declared.showing.Show.{Show}
-use Rattle.lpt_words.specs.declared.showing.Show.TheVariants as show
-use Rattle.lpt_words.specs.declared.grammar.Reading.TheVariants.{Skipped, Asks, Unreadable}
-use Rattle.lpt_words.specs.Grammar.{reading_of}
-use Rattle.lpt_words.specs.Loads.{load_packet}
-use Rattle.lpt_world.specs.LptEvents.declared.event.Event.{Event}
-use Rattle.lpt_world.specs.LptEvents.declared.event.Event.TheVariants.{Open, Take, Deliver, Tick, Claim, Commit, Apply}
-use Rattle.lpt_world.specs.LptEvents.declared.fault.StepFault.{StepFault}
-use Rattle.lpt_world.specs.LptEvents.declared.reply.Reply.{Reply}
-use Rattle.lpt_world.specs.LptEvents.declared.worker.Worker.TheVariants.{W1}
-use Rattle.lpt_world.specs.LptJournal.Clear.{is_clear}
-use Rattle.lpt_world.specs.LptJournal.Link.{sent}
-use Rattle.lpt_world.specs.LptJournal.Releases.{releases}
-use Rattle.lpt_world.specs.LptJournal.Replies.{reply}
+use Rattle.std.specs.Option.{option_and_then}
+use Rattle.lpt_memory.specs.Memories.{content_of}
+use Rattle.lpt_packet.specs.declared.direction.Direction.TheVariants.{Up}
+use Rattle.lpt_script_words.specs.Words.{lines}
+use Rattle.lpt_events.specs.declared.side.Side.{Side}
+use Rattle.lpt_script_text.specs.Printing.{accepted_text, refused_text, releases_text, packet_text, clear_text, memory_text, journal_text, unreadable_text}
+use Rattle.lpt_script_words.specs.declared.grammar.Command.{Command}
+use Rattle.lpt_script_words.specs.declared.grammar.Command.TheVariants as command
+use Rattle.lpt_script_words.specs.declared.grammar.Reading.{Reading}
+use Rattle.lpt_script_words.specs.declared.showing.Show.{Show}
+use Rattle.lpt_script_words.specs.declared.showing.Show.TheVariants as show
+use Rattle.lpt_script_words.specs.declared.grammar.Reading.TheVariants.{Skipped, Asks, Unreadable}
+use Rattle.lpt_script_words.specs.Grammar.{reading_of}
+use Rattle.lpt_script_words.specs.Loads.{load_packet}
+use Rattle.lpt_events.specs.declared.event.Event.{Event}
+use Rattle.lpt_events.specs.declared.event.Event.TheVariants.{Open, Take, Deliver, Tick, Claim, Commit, Apply}
+use Rattle.lpt_events.specs.declared.fault.StepFault.{StepFault}
+use Rattle.lpt_events.specs.declared.reply.Reply.{Reply}
+use Rattle.lpt_events.specs.declared.worker.Worker.TheVariants.{W1}
+use Rattle.lpt_journal.specs.Clear.{is_clear}
+use Rattle.lpt_journal.specs.Releases.{releases}
+use Rattle.lpt_journal.specs.Replies.{reply}
 use Rattle.lpt_script.specs.declared.shows.Shows.{Shows}
 use Rattle.lpt_script.specs.declared.shows.Shows.TheVariants as shows
 use Rattle.lpt_world.specs.Worlds.{Shown, history, memories_now, refusal_at, with_entry}
+use Rattle.lpt_world.specs.Outside.{octets_of}
 
 -- what a line leaves: the world after it, what it printed, why an event was refused, if one was, and its
 -- own number where it is unreadable
@@ -91,10 +91,6 @@ worked w =
     and_then (and_then (stepped w (Claim W1)) (λ after. stepped after (Commit W1)))
     (λ after. stepped after Apply)
 
--- the octets of the packet of this number, where so many were put
-abbrev pub packet_octets : Shown → ℕ → Option (List ℕ)
-packet_octets w n = option_map (λ p. p.octets) (slice_get (sent (history w)) n)
-
 -- so many octets from an address on, where they lie within the content
 abbrev pub octets_from : (address len : ℕ) → List ℕ → Option (List ℕ)
 octets_from address len content =
@@ -108,15 +104,15 @@ memory_octets w id address len =
 -- what is printed of a world where a line asks for this
 abbrev pub show_text : Show → Shown → List ℕ
 show_text show.Released w = releases_text w.config.source (releases w.config (history w))
-show_text (show.Packet n) w = packet_text n (packet_octets w n)
+show_text (show.Packet n) w = packet_text n (octets_of w n)
 show_text (show.Memory id address len) w = memory_text id address (memory_octets w id address len)
-show_text (show.Clear d id) w = clear_text (is_clear w.config (history w) d id)
+show_text (show.Clear d name) w = clear_text (is_clear w.config (history w) d name)
 show_text show.Journal w = journal_text (length w.journal)
 
 -- what a command does
 abbrev pub command_ran : Command → Shown → Ran
 command_ran (command.Event e) w = stepped w e
-command_ran (command.Load l) w = stepped w (Open Up l.id (load_packet w.config.apid l))
+command_ran (command.Load l) w = stepped w (Open Up l.name (load_packet w.config.apid l))
 command_ran (command.Pass l n) w = and_then (stepped w (Take l n)) (λ after. stepped after (Deliver l))
 command_ran (command.Tick side count) w = ticked count side w
 command_ran command.Work w = worked w

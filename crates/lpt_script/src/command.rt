@@ -1,7 +1,7 @@
 //! What a command does to a world and what it prints.
 
 ghost use Rattle.std.specs.Prelude.{◌≡◌, ◌≢◌, ◌<◌, ◌-◌, length, slice_get, IsErrOf, None, IfErr, IfOk, IfSome, OnOk, Err, true};
-ghost use Rattle.lpt_print.specs.Printing.{accepted_text};
+ghost use Rattle.lpt_script_text.specs.Printing.{accepted_text};
 ghost use Rattle.lpt_script.specs.Ends.{IsTickRefused, LineEnds, TextEnds, unrefused};
 ghost use Rattle.lpt_world.specs.Worlds.{RefusedBy, refusal_at, with_entry};
 ghost use Rattle.lpt_script.specs.Scripts.{and_then, answered, command_ran, stepped, ticked, worked};
@@ -9,10 +9,11 @@ ghost use Rattle.lpt_script.specs.Scripts.{and_then, answered, command_ran, step
 use crate::loading::run_load;
 use crate::printed::{put, put_refused};
 use crate::showing::run_show;
-use lpt_print::print_accepted;
+use lpt_events::{Entry, Event, Side, StepFault, Worker};
+use lpt_script_text::print_accepted;
+use lpt_script_words::Command;
 use lpt_text::{Sink, ToolFault};
-use lpt_words::Command;
-use lpt_world::{Entry, Event, Side, StepFault, Worker, World};
+use lpt_world::World;
 use std::alloc::Global;
 
 /// The seat of the session, for which scripts ask.

@@ -1,10 +1,10 @@
 //! Packets as a line or three of text.
 
 ghost use Rattle.std.specs.Prelude.{◌≡◌, ◌≢◌, IsErrOf, Err, true};
-ghost use Rattle.lpt_world.specs.LptPart.Splitting.{IsPartSize};
+ghost use Rattle.lpt_part.specs.Splitting.{IsPartSize};
 ghost use Rattle.lpt_script.specs.Ends.{DecodeEnds};
 
-use lpt_print::print_decoded;
+use lpt_script_text::print_decoded;
 use lpt_text::{Sink, ToolFault, write_out};
 use std::alloc::Global;
 

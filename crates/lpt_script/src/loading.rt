@@ -3,12 +3,14 @@
 ghost use Rattle.std.specs.Prelude.{◌≡◌, ◌≢◌, IsErrOf, Err, true};
 ghost use Rattle.lpt_script.specs.Ends.{LineEnds};
 ghost use Rattle.lpt_script.specs.Scripts.{stepped};
-ghost use Rattle.lpt_words.specs.Loads.{load_packet};
+ghost use Rattle.lpt_script_words.specs.Loads.{load_packet};
 
 use crate::command::run_event;
+use lpt_events::{Event, StepFault};
+use lpt_packet::Direction;
+use lpt_script_words::Load;
 use lpt_text::{Sink, ToolFault};
-use lpt_words::Load;
-use lpt_world::{Direction, Event, StepFault, World};
+use lpt_world::World;
 use std::alloc::Global;
 
 /// Opens the packet of a load upwards, with the configured APID and the source of its name, prints
@@ -19,7 +21,7 @@ pub(crate) fn run_load<K: Sink>(
     load: &Load,
     out: &mut K,
 ) -> Result<Option<StepFault>, ToolFault>
-    ensures ends { LineEnds (stepped world.old (Event.Open Direction.Up load.now.id
+    ensures ends { LineEnds (stepped world.old (Event.Open Direction.Up load.now.name
         (load_packet world.old.config.apid load.now)))
         result world.new (K.contents out.old) (K.contents out.new) }
     ensures cause { IsErrOf result ToolFault.Write → K.failed out.new ≡ true }
@@ -30,7 +32,7 @@ pub(crate) fn run_load<K: Sink>(
         Ok(packet) => run_event(
             alloc,
             world,
-            Event::Open(Direction::Up, load.id(), packet),
+            Event::Open(Direction::Up, load.name(), packet),
             out,
         ),
         Err(_) => Err(ToolFault::Memory),

@@ -1,12 +1,12 @@
 //! Texts on their way to the writer.
 
 ghost use Rattle.std.specs.Prelude.{◌≡◌, ◌≢◌, ◌⊎◌, ℕ, List, IfErr, IfOk, IsErrOf, Err, Some, string_bytes, true};
-ghost use Rattle.lpt_print.specs.Printing.{refused_text};
+ghost use Rattle.lpt_script_text.specs.Printing.{refused_text};
 ghost use Rattle.lpt_script.specs.Ends.{Grows, TextEnds};
 
-use lpt_print::print_refused;
+use lpt_events::StepFault;
+use lpt_script_text::print_refused;
 use lpt_text::{Sink, ToolFault, write_out};
-use lpt_world::StepFault;
 use std::alloc::{AllocError, Global};
 
 /// Writes a text, where it could be made.

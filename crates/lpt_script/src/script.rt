@@ -5,19 +5,21 @@ ghost use Rattle.std.specs.Int.{from_bool};
 ghost use Rattle.lpt_text.specs.Lines.{line_end};
 ghost use Rattle.lpt_script.specs.Ends.{LineEnds, LinesEnd, LinesLeave, RunEnds, ScriptEnds};
 ghost use Rattle.lpt_script.specs.Scripts.{is_later, kept_of, left_of, line_ran, lines_left, lines_ran, says, shows_left, unreadable};
-ghost use Rattle.lpt_words.specs.Grammar.{reading_of};
-ghost use Rattle.lpt_words.specs.Words.{lines};
-ghost use Rattle.lpt_world.specs.LptEvents.Configs.{config_fault};
+ghost use Rattle.lpt_script_words.specs.Grammar.{reading_of};
+ghost use Rattle.lpt_script_words.specs.Words.{lines};
+ghost use Rattle.lpt_events.specs.Configs.{config_fault};
 ghost use Rattle.lpt_world.specs.Worlds.{new_world};
 
 use crate::ScriptEnd;
 use crate::command::run_command;
 use crate::printed::put;
 use crate::shows::Shows;
-use lpt_print::print_unreadable;
+use lpt_events::{Config, ConfigFault, StepFault};
+use lpt_memory::Memories;
+use lpt_script_text::print_unreadable;
+use lpt_script_words::{Reading, ended, read_line};
 use lpt_text::{LineBuffer, Sink, Source, ToolFault, flush_out};
-use lpt_words::{Reading, ended, read_line};
-use lpt_world::{Config, ConfigFault, Memories, StepFault, World};
+use lpt_world::World;
 use std::alloc::Global;
 
 /// Runs a script from a reader on a new world of this configuration and these memories, and writes

@@ -2,19 +2,21 @@
 
 ghost use Rattle.std.specs.Prelude.{◌≡◌, ◌≢◌, IsErrOf, Err, true, option_map};
 ghost use Rattle.std.specs.List.{flat_map};
-ghost use Rattle.lpt_print.specs.Printing.{clear_text, memory_text, release_text, releases_text};
-ghost use Rattle.lpt_world.specs.LptJournal.Clear.{is_clear};
+ghost use Rattle.lpt_script_text.specs.Printing.{clear_text, memory_text, release_text, releases_text};
+ghost use Rattle.lpt_journal.specs.Clear.{is_clear};
 ghost use Rattle.lpt_world.specs.Worlds.{history};
 ghost use Rattle.lpt_script.specs.Ends.{TextEnds};
 ghost use Rattle.lpt_script.specs.Scripts.{memory_octets, octets_from, show_text};
 
 use crate::printed::put;
-use lpt_print::{
+use lpt_events::Release;
+use lpt_packet::{Direction, Name};
+use lpt_script_text::{
     print_clear, print_journal, print_memory, print_none, print_packet, print_release,
 };
+use lpt_script_words::Show;
 use lpt_text::{Sink, ToolFault};
-use lpt_words::Show;
-use lpt_world::{Direction, Name, Release, World};
+use lpt_world::World;
 use std::alloc::Global;
 
 /// Prints what a line asks for.
@@ -32,7 +34,7 @@ pub fn run_show<K: Sink>(
         Show::Released => { show_released(alloc, world.config().source, world.released(), out) }
         Show::Packet(number) => put(out, print_packet(alloc, number, world.packet(number))),
         Show::Memory(id, address, len) => show_memory(alloc, world, id, address, len, out),
-        Show::Clear(direction, id) => show_clear(alloc, world, direction, id, out),
+        Show::Clear(direction, name) => show_clear(alloc, world, direction, name, out),
         Show::Journal => put(out, print_journal(alloc, world.journal().len() as u64)),
     }
 }
@@ -62,14 +64,14 @@ fn show_clear<K: Sink>(
     alloc: Global,
     world: &World,
     direction: Direction,
-    id: Name,
+    name: Name,
     out: &mut K,
 ) -> Result<(), ToolFault>
-    ensures ends { TextEnds (clear_text (is_clear world.now.config (history world.now) direction id)) result (K.contents out.old) (K.contents out.new) }
+    ensures ends { TextEnds (clear_text (is_clear world.now.config (history world.now) direction name)) result (K.contents out.old) (K.contents out.new) }
     ensures cause { IsErrOf result ToolFault.Write → K.failed out.new ≡ true }
     ensures told { result ≢ Err ToolFault.Write → K.failed out.new ≡ K.failed out.old }
 {
-    put(out, print_clear(alloc, world.is_clear(direction, id)))
+    put(out, print_clear(alloc, world.is_clear(direction, name)))
 }
 
 // So many octets from an address on, where they lie within the content.

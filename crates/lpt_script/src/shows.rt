@@ -3,7 +3,7 @@
 ghost use Rattle.std.specs.Prelude.{◌≡◌, ◌++◌, [], Bool, IfOk};
 ghost use Rattle.lpt_script.specs.Scripts.{is_later, kept_of, now_done, shown_later};
 
-use lpt_words::{Command, Show};
+use lpt_script_words::{Command, Show};
 use std::alloc::{AllocError, Global};
 
 /// Whether what lines show is shown in their place, or kept for later.

@@ -15,6 +15,7 @@ use Rattle.toml.specs.Data.{Members}
 use Rattle.lpt_settings.specs.Keys.{has_only}
 use Rattle.lpt_settings.specs.Settings.{known_keys, numbers_of, settings_of}
 use Rattle.lpt_settings.proofs.MemoryLemmas.{length-each_memory}
+use Rattle.lpt_packet.proofs.BoolLemmas.{and_false}
 
 -- whether memories are described, in their ranges and with distinct identifiers
 abbrev pub distinct : Option Contents → Bool
@@ -35,15 +36,11 @@ some_if : (b : Bool) (ms : Contents) → is_some (if b then Some ms else None) �
 some_if true ms = refl
 some_if false ms = refl
 
-nothing : (b : Bool) → (b && false) ≡ false
-nothing true = refl
-nothing false = refl
-
 counted : (o : Option Contents) (n : ℕ) (b : Bool)
     → ((ms : Contents) → o ≡ Some ms → length ms ≡ n)
     → (nat_le 1 n && nat_le n 16) ≡ b
     → is_some (o >>= if_memories) ≡ (b && distinct o)
-counted None n b has is = sym (nothing b)
+counted None n b has is = sym (and_false b)
 counted (Some ms) n b has is =
     let same : length ms ≡ n = has ms refl in
     some_if (are_memories ms) ms
@@ -114,7 +111,7 @@ distinct_join : (m : Option (ℕ × List ℕ)) (id size fill : ℕ) (h : Bool) (
     → size ≤ 1048576
     → ((ms : Contents) → others ≡ Some ms → h ≡ is_some (size_of id (sizes_of ms)))
     → distinct (m >>= λ first. others >>= λ more. Some (first ∷ more)) ≡ (not h && distinct others)
-distinct_join m id size fill h None is least greatest held = rw is (sym (nothing (not h)))
+distinct_join m id size fill h None is least greatest held = rw is (sym (and_false (not h)))
 distinct_join m id size fill h (Some ms) is least greatest held =
     rw is (first_parts id size fill ms h least greatest (held ms refl))
 
@@ -131,20 +128,6 @@ distinct-next vs i d id size fill within is least greatest =
     ap (λ ds. distinct (each_memory ds)) (items_view-drop vs i d within)
     ∙ distinct_join (memory_of (view (get_or vs i d))) id size fill (has_id id more)
     (each_memory (items_view more)) is least greatest (has_id-held id more)
-
-none_join : (m : Option (ℕ × List ℕ)) (others : Option Contents)
-    → m ≡ None
-    → distinct (m >>= λ first. others >>= λ more. Some (first ∷ more)) ≡ false
-none_join m others is = rw is
-
--- where one isn't described, none are
-pub distinct-none : (vs : List Value) (i : ℕ) (d : Value)
-    → i < length vs
-    → memory_of (view (get_or vs i d)) ≡ None
-    → distinct (each_memory (items_view (drop i vs))) ≡ false
-distinct-none vs i d within is =
-    ap (λ ds. distinct (each_memory ds)) (items_view-drop vs i d within)
-    ∙ none_join (memory_of (view (get_or vs i d))) (each_memory (items_view (drop (i + 1) vs))) is
 
 -- with no more values, none comes twice
 pub distinct-end : (vs : List Value) (i : ℕ)

@@ -8,6 +8,7 @@ use Rattle.lpt_memory.specs.Fields.{◌>>=◌}
 use Rattle.lpt_memory.specs.Memories.{Contents, are_memories}
 use Rattle.lpt_settings.specs.Keys.{has_only}
 use Rattle.lpt_settings.specs.Numbers.{number_at}
+use Rattle.lpt_memory.specs.Limits.{size_limit}
 
 -- the keys that a memory's table has
 abbrev pub memory_keys : List (List ℕ)
@@ -18,7 +19,7 @@ abbrev pub memory_in : Members → Option (ℕ × List ℕ)
 memory_in members =
     if has_only memory_keys members then (do
       id ← number_at (codes "id") 0 255 None members
-      size ← number_at (codes "size") 1 1048576 None members
+      size ← number_at (codes "size") 1 size_limit None members
       fill ← number_at (codes "fill") 0 255 (Some 0) members
       Some (id, replicate size fill))
     else None

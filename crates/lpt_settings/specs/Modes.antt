@@ -2,8 +2,8 @@
 use Rattle.std.specs.Prelude.{ℕ, nat_eq, if◌then◌else◌, List, codes, Option, Some, None}
 use Rattle.std.specs.Cmp.Lexicographic.{pointwise}
 use Rattle.toml.specs.Data.{Data, string, Members, get_member}
-use Rattle.lpt_events.specs.LptPart.declared.mode.Mode.{Mode}
-use Rattle.lpt_events.specs.LptPart.declared.mode.Mode.TheVariants.{Any, Strict}
+use Rattle.lpt_part.specs.declared.mode.Mode.{Mode}
+use Rattle.lpt_part.specs.declared.mode.Mode.TheVariants.{Any, Strict}
 
 -- the mode of this name
 abbrev pub mode_of : List ℕ → Option Mode

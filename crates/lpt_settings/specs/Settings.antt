@@ -3,13 +3,14 @@ use Rattle.std.specs.Prelude.{ℕ, if◌then◌else◌, List, [], ◌∷◌, cod
 use Rattle.toml.specs.Data.{Members}
 use Rattle.lpt_memory.specs.Fields.{◌>>=◌}
 use Rattle.lpt_memory.specs.Memories.{Contents}
-use Rattle.lpt_events.specs.LptPart.declared.mode.Mode.TheVariants.{Any}
+use Rattle.lpt_part.specs.declared.mode.Mode.TheVariants.{Any}
 use Rattle.lpt_events.specs.declared.config.Config.{Config}
 use Rattle.lpt_events.specs.declared.turns.Turns.{Turns}
 use Rattle.lpt_settings.specs.Keys.{has_only}
 use Rattle.lpt_settings.specs.MemoryTables.{memories_of, default_memories}
 use Rattle.lpt_settings.specs.Modes.{mode_at}
 use Rattle.lpt_settings.specs.Numbers.{number_at}
+use Rattle.lpt_events.specs.Counts.{greatest_clock}
 
 -- the keys that there are
 abbrev pub known_keys : List (List ℕ)
@@ -26,7 +27,7 @@ config_of members = do
   timeout ← number_at (codes "timeout") 1 65535 (Some 10) members
   receptions ← number_at (codes "receptions") 1 64 (Some 8) members
   outgoing ← number_at (codes "outgoing") 1 64 (Some 8) members
-  clock ← number_at (codes "clock") 0 4294967295 (Some 0) members
+  clock ← number_at (codes "clock") 0 greatest_clock (Some 0) members
   mode ← mode_at members
   Some (record {
     apid = apid;

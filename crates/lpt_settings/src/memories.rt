@@ -4,16 +4,15 @@ ghost use Rattle.std.specs.Prelude.{◌≡◌, ◌≤◌, ◌&&◌, nat_le, repl
 ghost use Rattle.std.specs.Result.{result_ok};
 ghost use Rattle.toml.specs.View.{view, items_view, table_view};
 ghost use Rattle.lpt_settings.specs.MemoryTables.{memory_of, each_memory, if_memories, listed, default_memories, memories_of, is_id, has_id};
+ghost use Rattle.lpt_memory.specs.Limits.{memory_limit, size_limit};
 
 use crate::keys::{MEMORY_KEYS, has_only, unknown_key};
 use crate::numbers::number;
 use crate::wrong::{Reason, Wrong};
-use lpt_memory::{Memories, Octets};
+use lpt_memory::{MEMORY_LIMIT, Memories, SIZE_LIMIT};
+use lpt_packet::Octets;
 use std::alloc::{AllocError, Global};
 use toml::{Table, Value};
-
-/// The most memories that there can be.
-const MEMORIES: usize = 16;
 
 // A memory as a table describes it: so many octets of one value.
 #[derive(Clone, Copy)]
@@ -64,9 +63,9 @@ fn judge_values(values: &[Value]) -> Result<(), Wrong<'_>>
 
 // Whether there can be so many memories.
 fn is_count(len: usize) -> bool
-    ensures { result ≡ (nat_le 1 len && nat_le len 16) }
+    ensures { result ≡ (nat_le 1 len && nat_le len memory_limit) }
 {
-    (1..=MEMORIES).contains(&len)
+    (1..=MEMORY_LIMIT).contains(&len)
 }
 
 // Whether one of the values describes a memory of this identifier.
@@ -116,7 +115,7 @@ fn listed(alloc: Global, value: &Value) -> Result<Option<Memories>, AllocError>
         return Ok(None);
     };
     // Of too many memories none is filled.
-    if values.len() > MEMORIES {
+    if values.len() > MEMORY_LIMIT {
         return Ok(None);
     }
     let mut memories = Vec::with_capacity(alloc, values.len())?;
@@ -159,7 +158,7 @@ fn described(value: &Value) -> Result<Filled, Wrong<'_>>
     ensures value { option_map (λ m. (m.id, replicate m.size m.fill)) (result_ok result)
         ≡ memory_of (view value.now) }
     ensures least { IfOk result (λ m. 1 ≤ m.size) }
-    ensures greatest { IfOk result (λ m. m.size ≤ 1048576) }
+    ensures greatest { IfOk result (λ m. m.size ≤ size_limit) }
 {
     let Some(table) = value.as_table() else {
         return Err(Wrong::at("", Reason::NotTable));
@@ -168,7 +167,7 @@ fn described(value: &Value) -> Result<Filled, Wrong<'_>>
         return Err(Wrong::at(unknown_key(table, &MEMORY_KEYS), Reason::Unknown));
     }
     let id = number(table, "id", 0, 255, None)?;
-    let size = number(table, "size", 1, 1048576, None)?;
+    let size = number(table, "size", 1, SIZE_LIMIT as u32, None)?;
     let fill = number(table, "fill", 0, 255, Some(0))?;
     Ok(Filled {
         id: id as u8,

@@ -6,7 +6,7 @@ ghost use Rattle.toml.specs.View.{view, table_view};
 ghost use Rattle.lpt_settings.specs.Modes.{mode_of, mode_in, mode_at};
 
 use crate::wrong::{Reason, Wrong};
-use lpt_events::Mode;
+use lpt_part::Mode;
 use toml::{Table, Value};
 
 /// The mode at the key `mode` of the table; that of any order where the key is absent.

@@ -1,9 +1,9 @@
 -- What a function that is lent the locked world does to it.
 use Rattle.std.proofs.Common.{◌≡◌, ◌∙◌, refl, ap, subst, ℕ, ◌+◌, ◌≤◌, List, [], ◌∷◌, ◌++◌, length, Option, Some, None, Result, Ok, Err, IfOk, arith}
-use Rattle.lpt_audit.specs.LptEvents.declared.event.Event.{Event}
-use Rattle.lpt_audit.specs.LptEvents.declared.log.Call.{Call}
-use Rattle.lpt_audit.specs.LptEvents.declared.log.SeatLog.{SeatLog}
-use Rattle.lpt_audit.specs.LptWorld.Worlds.{Shown, refusal_at}
+use Rattle.lpt_events.specs.declared.event.Event.{Event}
+use Rattle.lpt_events.specs.declared.log.Call.{Call}
+use Rattle.lpt_events.specs.declared.log.SeatLog.{SeatLog}
+use Rattle.lpt_world.specs.Worlds.{Shown, refusal_at}
 use Rattle.lpt_share.specs.Calls.{IsLeft}
 use Rattle.lpt_share.specs.Doing.{DoesOne}
 use Rattle.lpt_share.specs.Entering.{IsLegal}

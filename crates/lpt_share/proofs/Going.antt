@@ -1,9 +1,9 @@
 -- A world that enters an event still goes on from the one that its lock was opened with.
 use Rattle.std.proofs.Common.{refl, List, [], ◌∷◌, ◌++◌, ℕ, Option, Some, None}
-use Rattle.lpt_audit.specs.LptEvents.declared.entry.Entry.{Entry}
-use Rattle.lpt_audit.specs.LptEvents.declared.event.Event.{Event}
-use Rattle.lpt_audit.specs.LptEvents.declared.reply.Reply.{Reply}
-use Rattle.lpt_audit.specs.LptWorld.Worlds.{Shown, with_entry}
+use Rattle.lpt_events.specs.declared.entry.Entry.{Entry}
+use Rattle.lpt_events.specs.declared.event.Event.{Event}
+use Rattle.lpt_events.specs.declared.reply.Reply.{Reply}
+use Rattle.lpt_world.specs.Worlds.{Shown, with_entry}
 use Rattle.lpt_share.specs.Origins.{Begins, Continues, GoesOn}
 
 pub Begins-append : (gs xs ys : List Entry) → Begins gs xs → Begins gs (xs ++ ys)

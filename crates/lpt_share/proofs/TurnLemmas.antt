@@ -1,10 +1,10 @@
 -- The calls that a turn adds, one call longer.
 use Rattle.std.proofs.Common.{◌≡◌, ◌∙◌, refl, sym, ap, subst, ℕ, ◌+◌, ◌≤◌, List, [], ◌∷◌, ◌++◌, length, Option, Some, None, Result, Ok, Err, IfOk, arith}
 use Rattle.std.proofs.lemmas.List.{append-nil, append_assoc, length-append}
-use Rattle.lpt_audit.specs.LptEvents.declared.event.Event.{Event}
+use Rattle.lpt_events.specs.declared.event.Event.{Event}
 use Rattle.lpt_share.specs.declared.fault.ShareFault.{ShareFault}
-use Rattle.lpt_audit.specs.LptEvents.declared.log.Call.{Call}
-use Rattle.lpt_audit.specs.LptEvents.declared.log.SeatLog.{SeatLog}
+use Rattle.lpt_events.specs.declared.log.Call.{Call}
+use Rattle.lpt_events.specs.declared.log.SeatLog.{SeatLog}
 use Rattle.lpt_share.specs.Calls.{IsCallFault, IsLeft, MayAnswer}
 use Rattle.lpt_share.specs.Turns.{Adds, AreDone, Begin, Follow, IsAsked}
 use Rattle.lpt_share.specs.declared.call.CallFault.{CallFault}

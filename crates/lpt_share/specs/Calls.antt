@@ -1,15 +1,15 @@
 -- What a call through the lock answers, and what the seat's log has then.
 use Rattle.std.specs.Prelude.{◌≡◌, ◌≤◌, ◌<◌, ◌+◌, ℕ, [], ◌∷◌, ◌++◌, length, None}
-use Rattle.lpt_audit.specs.LptEvents.declared.event.Event.{Event}
-use Rattle.lpt_audit.specs.LptEvents.declared.fault.StepFault.{StepFault}
-use Rattle.lpt_audit.specs.LptEvents.declared.reply.Reply.{Reply}
-use Rattle.lpt_audit.specs.LptJournal.Replies.{reply}
-use Rattle.lpt_audit.specs.LptWorld.Worlds.{Shown, RefusedBy, history, refusal_at}
+use Rattle.lpt_events.specs.declared.event.Event.{Event}
+use Rattle.lpt_events.specs.declared.fault.StepFault.{StepFault}
+use Rattle.lpt_events.specs.declared.reply.Reply.{Reply}
+use Rattle.lpt_journal.specs.Replies.{reply}
+use Rattle.lpt_world.specs.Worlds.{Shown, RefusedBy, history, refusal_at}
 use Rattle.lpt_share.specs.Entering.{IsLegal}
 use Rattle.lpt_share.specs.declared.call.CallFault.{CallFault}
 use Rattle.lpt_share.specs.declared.call.CallFault.TheVariants as calls
 use Rattle.lpt_share.specs.declared.call.Done.{Done}
-use Rattle.lpt_audit.specs.LptEvents.declared.log.SeatLog.{SeatLog}
+use Rattle.lpt_events.specs.declared.log.SeatLog.{SeatLog}
 
 -- after some legal journal of that length the seat's event can happen, with this reply
 abbrev pub MayAnswer : (place : ℕ) → (seat : ℕ) → Event → Reply → Type 0

@@ -1,9 +1,9 @@
 -- What a function that is lent the locked world does to it: one event, or nothing.
 use Rattle.std.specs.Prelude.{◌≡◌, ◌≤◌, ◌+◌, ℕ, [], ◌∷◌, ◌++◌, length, Option, Some, None, Result, Ok, Err}
-use Rattle.lpt_audit.specs.LptEvents.declared.event.Event.{Event}
-use Rattle.lpt_audit.specs.LptEvents.declared.log.SeatLog.{SeatLog}
-use Rattle.lpt_audit.specs.LptEvents.declared.reply.Reply.{Reply}
-use Rattle.lpt_audit.specs.LptWorld.Worlds.{Shown}
+use Rattle.lpt_events.specs.declared.event.Event.{Event}
+use Rattle.lpt_events.specs.declared.log.SeatLog.{SeatLog}
+use Rattle.lpt_events.specs.declared.reply.Reply.{Reply}
+use Rattle.lpt_world.specs.Worlds.{Shown}
 use Rattle.lpt_share.specs.Calls.{HasSameCalls, IsLeft}
 use Rattle.lpt_share.specs.Entering.{Enters}
 use Rattle.lpt_share.specs.declared.fault.ShareFault.{ShareFault}

@@ -1,11 +1,11 @@
 -- What a world is like under the lock, and what one event makes of it.
 use Rattle.std.specs.Prelude.{◌≡◌, ℕ, length, None}
-use Rattle.lpt_audit.specs.LptEvents.Configs.{IsConfig}
-use Rattle.lpt_audit.specs.LptEvents.declared.event.Event.{Event}
-use Rattle.lpt_audit.specs.LptEvents.declared.refused.Refused.{Refused}
-use Rattle.lpt_audit.specs.LptEvents.declared.reply.Reply.{Reply}
-use Rattle.lpt_audit.specs.LptJournal.Replies.{reply}
-use Rattle.lpt_audit.specs.LptWorld.Worlds.{Shown, IsTold, RefusedBy, history, refusal_at, with_entry}
+use Rattle.lpt_events.specs.Configs.{IsConfig}
+use Rattle.lpt_events.specs.declared.event.Event.{Event}
+use Rattle.lpt_events.specs.declared.refused.Refused.{Refused}
+use Rattle.lpt_events.specs.declared.reply.Reply.{Reply}
+use Rattle.lpt_journal.specs.Replies.{reply}
+use Rattle.lpt_world.specs.Worlds.{Shown, IsTold, RefusedBy, history, refusal_at, with_entry}
 
 -- the configuration is in its ranges, and each entry could happen after those before it and has the
 -- reply that it gave then

@@ -1,7 +1,7 @@
 -- Which world a lock was opened with.
 use Rattle.std.specs.Prelude.{◌≡◌, List, [], ◌∷◌, Option, Some, None, ⊤}
-use Rattle.lpt_audit.specs.LptEvents.declared.entry.Entry.{Entry}
-use Rattle.lpt_audit.specs.LptWorld.Worlds.{Shown}
+use Rattle.lpt_events.specs.declared.entry.Entry.{Entry}
+use Rattle.lpt_world.specs.Worlds.{Shown}
 
 -- a journal begins with another
 abbrev pub Begins : List Entry → List Entry → Type 0

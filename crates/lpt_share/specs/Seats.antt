@@ -1,18 +1,18 @@
 -- What each seat of a run does, whom it tells, and of what.
 use Rattle.std.specs.Prelude.{◌≡◌, ◌==◌, ◌&&◌, ◌||◌, ◌+◌, ℕ, Bool, true, false, not, if◌then◌else◌, List, [], ◌∷◌, is_some, ⊤}
 use Rattle.std.specs.List.Sorted.{IsPermutation, IsSorted}
-use Rattle.lpt_audit.specs.Kinds.{lane_seat, timer_seat, worker_seat, sender_seat}
-use Rattle.lpt_audit.specs.LptEvents.Lanes.{same_direction}
-use Rattle.lpt_audit.specs.LptEvents.declared.entry.Opening.{Opening}
-use Rattle.lpt_audit.specs.LptEvents.declared.outcome.Outcome.{Outcome}
-use Rattle.lpt_audit.specs.LptEvents.declared.outcome.Outcome.TheVariants.{Released, PlainReleased}
-use Rattle.lpt_audit.specs.LptEvents.declared.reply.Answer.{Answer}
-use Rattle.lpt_audit.specs.LptEvents.declared.reply.Answer.TheVariants.{Delivered}
-use Rattle.lpt_audit.specs.LptJournal.Senders.{opened, sender}
-use Rattle.lpt_audit.specs.LptPacket.Names.{Name, name_cmp}
-use Rattle.lpt_audit.specs.LptPacket.declared.direction.Direction.{Direction}
-use Rattle.lpt_audit.specs.LptWorld.LptNode.Nodes.{is_open}
-use Rattle.lpt_audit.specs.LptWorld.Worlds.{Shown, history, state_shown}
+use Rattle.lpt_share_audit.specs.Kinds.{lane_seat, timer_seat, worker_seat, sender_seat}
+use Rattle.lpt_events.specs.Lanes.{same_direction}
+use Rattle.lpt_events.specs.declared.entry.Opening.{Opening}
+use Rattle.lpt_events.specs.declared.outcome.Outcome.{Outcome}
+use Rattle.lpt_events.specs.declared.outcome.Outcome.TheVariants.{Released, PlainReleased}
+use Rattle.lpt_events.specs.declared.reply.Answer.{Answer}
+use Rattle.lpt_events.specs.declared.reply.Answer.TheVariants.{Delivered}
+use Rattle.lpt_journal.specs.Senders.{opened, sender}
+use Rattle.lpt_packet.specs.Names.{Name, name_cmp}
+use Rattle.lpt_packet.specs.declared.direction.Direction.{Direction}
+use Rattle.lpt_node.specs.Nodes.{is_open}
+use Rattle.lpt_world.specs.Worlds.{Shown, history, state_shown}
 use Rattle.lpt_share.specs.declared.notices.Outlets.{Outlets}
 use Rattle.lpt_share.specs.declared.task.Seat.{Seat}
 use Rattle.lpt_share.specs.declared.task.Task.{Task}
@@ -45,12 +45,13 @@ AreSeats n (seat ∷ seats) = IsSeat n seat × AreSeats (n + 1) seats
 
 -- whether an opening is of this direction, and its transaction is open
 abbrev pub is_open_in : Direction → Shown → Opening → Bool
-is_open_in d w o = same_direction o.direction d && is_open (state_shown (sender (history w) d o.id))
+is_open_in d w o =
+    same_direction o.direction d && is_open (state_shown (sender (history w) d o.name))
 
 -- the names of those openings, in order
 abbrev pub names_in : Direction → Shown → List Opening → List Name
 names_in d w [] = []
-names_in d w (o ∷ os) = if is_open_in d w o then o.id ∷ names_in d w os else names_in d w os
+names_in d w (o ∷ os) = if is_open_in d w o then o.name ∷ names_in d w os else names_in d w os
 
 -- the names of the transactions of a direction that are open, rising
 abbrev pub AreOpenNames : Direction → Shown → List Name → Type 0
@@ -58,7 +59,7 @@ AreOpenNames d w names = IsPermutation (names_in d w (opened (history w))) names
 
 -- whether an outcome is a release
 abbrev pub is_release : Outcome → Bool
-is_release (Released id n) = true
+is_release (Released name n) = true
 is_release (PlainReleased octets) = true
 is_release _ = false
 

@@ -1,11 +1,11 @@
 -- What a turn adds to its seat's log: calls of its own events, in their order, each of which was done.
 use Rattle.std.specs.Prelude.{◌≡◌, ◌≤◌, ◌+◌, ℕ, List, [], ◌∷◌, ◌++◌, Option, Some, None, Result, Ok, Err, ⊤}
-use Rattle.lpt_audit.specs.LptPacket.declared.direction.Direction.{Direction}
-use Rattle.lpt_audit.specs.LptPacket.Names.{Name}
-use Rattle.lpt_audit.specs.LptEvents.declared.event.Event.{Event}
-use Rattle.lpt_audit.specs.LptEvents.declared.event.Event.TheVariants.{Send, Finish, Expire, Apply}
-use Rattle.lpt_audit.specs.LptEvents.declared.fault.StepFault.{StepFault}
-use Rattle.lpt_audit.specs.LptEvents.declared.fault.StepFault.TheVariants as steps
+use Rattle.lpt_packet.specs.declared.direction.Direction.{Direction}
+use Rattle.lpt_packet.specs.Names.{Name}
+use Rattle.lpt_events.specs.declared.event.Event.{Event}
+use Rattle.lpt_events.specs.declared.event.Event.TheVariants.{Send, Finish, Expire, Apply}
+use Rattle.lpt_events.specs.declared.fault.StepFault.{StepFault}
+use Rattle.lpt_events.specs.declared.fault.StepFault.TheVariants as steps
 use Rattle.lpt_share.specs.Calls.{IsLeft, MayAnswer}
 use Rattle.lpt_share.specs.declared.call.CallFault.{CallFault}
 use Rattle.lpt_share.specs.declared.call.CallFault.TheVariants as calls
@@ -13,8 +13,8 @@ use Rattle.lpt_share.specs.declared.fault.ShareFault.{ShareFault}
 use Rattle.lpt_share.specs.declared.fault.ShareFault.TheVariants as shares
 use Rattle.lpt_share.specs.declared.turns.Again.{Again}
 use Rattle.lpt_share.specs.declared.turns.Again.TheVariants as agains
-use Rattle.lpt_audit.specs.LptEvents.declared.log.Call.{Call}
-use Rattle.lpt_audit.specs.LptEvents.declared.log.SeatLog.{SeatLog}
+use Rattle.lpt_events.specs.declared.log.Call.{Call}
+use Rattle.lpt_events.specs.declared.log.SeatLog.{SeatLog}
 
 -- the calls are of the first of these events, in this order
 abbrev pub Begin : List Event → List Call → Type 0
@@ -49,8 +49,8 @@ Adds P old new =
 
 -- what a sender's turn asks for: a part, or the end of the transaction
 abbrev pub sender_event : Direction → Name → Option ℕ → Event
-sender_event d id (Some k) = Send d id k
-sender_event d id None = Finish d id
+sender_event d name (Some k) = Send d name k
+sender_event d name None = Finish d name
 
 -- what is asked for again and again
 abbrev pub again_event : Again → Event

@@ -1,14 +1,14 @@
 -- When a run of threads is whole.
 use Rattle.std.specs.Prelude.{◌≡◌, ℕ, List, length, true}
-use Rattle.lpt_audit.specs.Agreeing.{Agree}
-use Rattle.lpt_audit.specs.Finished.{AreShort, IsFinishedIfShort}
-use Rattle.lpt_audit.specs.Kinds.{are_of_seats}
-use Rattle.lpt_audit.specs.LptEvents.declared.log.SeatLog.{SeatLog}
-use Rattle.lpt_audit.specs.LptEvents.declared.turns.Turns.{Turns}
-use Rattle.lpt_audit.specs.LptWorld.Worlds.{Promised, Shown}
-use Rattle.lpt_audit.specs.Runs.{IsInOrder}
-use Rattle.lpt_audit.specs.Settled.{IsSettled}
-use Rattle.lpt_audit.specs.declared.owed.Owed.{Owed}
+use Rattle.lpt_share_audit.specs.Agreeing.{Agree}
+use Rattle.lpt_share_audit.specs.Finished.{AreShort, IsFinishedIfShort}
+use Rattle.lpt_share_audit.specs.Kinds.{are_of_seats}
+use Rattle.lpt_events.specs.declared.log.SeatLog.{SeatLog}
+use Rattle.lpt_events.specs.declared.turns.Turns.{Turns}
+use Rattle.lpt_world.specs.Worlds.{Promised, Shown}
+use Rattle.lpt_share_audit.specs.Runs.{IsInOrder}
+use Rattle.lpt_share_audit.specs.Settled.{IsSettled}
+use Rattle.lpt_share_audit.specs.declared.owed.Owed.{Owed}
 use Rattle.lpt_share.specs.Entering.{IsLegal}
 use Rattle.lpt_share.specs.Origins.{Continues}
 

@@ -1,14 +1,14 @@
 //! The lock round a world, and calls through it.
 
 ghost use Rattle.std.specs.Prelude.{◌≡◌, ◌+◌, ◌≤◌, length, vec_len, vec_capacity, IfOk, IfErr};
-ghost use Rattle.lpt_audit.specs.LptWorld.Worlds.{Promised};
+ghost use Rattle.lpt_world.specs.Worlds.{Promised};
 ghost use Rattle.lpt_share.specs.Calls.{IsDone, IsCallFault};
 ghost use Rattle.lpt_share.specs.Entering.{Enters, IsLegal};
 ghost use Rattle.lpt_share.specs.Origins.{GoesOn};
 
-use crate::SeatLog;
 use crate::held::{Held, Origin};
-use lpt_audit::{Event, Refused, Reply, World};
+use lpt_events::{Event, Refused, Reply, SeatLog};
+use lpt_world::World;
 use std::marker::Brand;
 use std::sync::{Mutex, Wait};
 

@@ -14,7 +14,7 @@ pub enum ShareFault {
     #[error("the journal and the logs don't agree")]
     Torn,
     /// Out of memory.
-    #[error("want of memory")]
+    #[error("out of memory")]
     Memory,
     /// No thread could be started.
     #[error("no thread could be started")]

@@ -1,15 +1,18 @@
 //! The seats of a run at its beginning: who notifies whom, and the first notices.
 
 ghost use Rattle.std.specs.Prelude.{◌≡◌, ◌≤◌, true, None, is_some, vec_len, IfOk};
-ghost use Rattle.lpt_audit.specs.LptJournal.Senders.{opened, sender};
-ghost use Rattle.lpt_audit.specs.LptWorld.LptNode.Nodes.{is_open};
-ghost use Rattle.lpt_audit.specs.LptWorld.Worlds.{history, state_shown};
+ghost use Rattle.lpt_journal.specs.Senders.{opened, sender};
+ghost use Rattle.lpt_node.specs.Nodes.{is_open};
+ghost use Rattle.lpt_world.specs.Worlds.{history, state_shown};
 ghost use Rattle.lpt_share.specs.Seats.{is_task, names_in, AreOpenNames, AreOutlets, AreSeats, IsSeat};
 
 use crate::notices::{Outlets, send};
 use crate::task::{Seat, Task};
 use crossbeam_channel::{Receiver, Sender, unbounded};
-use lpt_audit::{Direction, Lane, Name, Side, State, Worker, World};
+use lpt_events::{Lane, Side, Worker};
+use lpt_ledger::State;
+use lpt_packet::{Direction, Name};
+use lpt_world::World;
 use std::alloc::{AllocError, Global};
 use std::sync::Wait;
 
@@ -113,8 +116,8 @@ fn tell_opened<R: Wait>(
     direction: Direction,
     to: &Sender<Name>,
 ) -> Result<(), AllocError> {
-    for id in &open_names(alloc, world, direction)? {
-        send(rt, to, *id)?;
+    for name in &open_names(alloc, world, direction)? {
+        send(rt, to, *name)?;
     }
     Ok(())
 }
@@ -136,8 +139,8 @@ fn names_in(alloc: Global, world: &World, direction: Direction) -> Result<Vec<Na
     let mut names = Vec::new(alloc);
     let mut rest = world.opened();
     while let Some((opening, later)) = rest.split_first() {
-        if opening.direction == direction && is_open(world, direction, opening.id) {
-            names.push(opening.id)?;
+        if opening.direction == direction && is_open(world, direction, opening.name) {
+            names.push(opening.name)?;
         }
         rest = later;
     }
@@ -145,10 +148,10 @@ fn names_in(alloc: Global, world: &World, direction: Direction) -> Result<Vec<Na
 }
 
 // Whether a transaction is open.
-fn is_open(world: &World, direction: Direction, id: Name) -> bool
-    ensures { result ≡ is_open (state_shown (sender (history world.now) direction id)) }
+fn is_open(world: &World, direction: Direction, name: Name) -> bool
+    ensures { result ≡ is_open (state_shown (sender (history world.now) direction name)) }
 {
-    match world.sender(direction, id) {
+    match world.sender(direction, name) {
         State::Open => true,
         State::Free | State::Closed => false,
     }

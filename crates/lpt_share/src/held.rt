@@ -1,19 +1,20 @@
 //! What stands under the lock: a world, of which the type says which world it began as.
 
 ghost use Rattle.std.specs.Prelude.{◌≡◌, ◌<◌, ◌+◌, ◌^◌, None, length, Some, IfOk, IfErr};
-ghost use Rattle.lpt_audit.specs.LptEvents.Configs.{IsConfig};
-ghost use Rattle.lpt_audit.specs.LptJournal.Jobs.{job_given};
-ghost use Rattle.lpt_audit.specs.LptMemory.Memories.{sizes_of};
-ghost use Rattle.lpt_audit.specs.LptWorld.Outside.{octets_of, IsOfHand, ReadRefusedBy};
-ghost use Rattle.lpt_audit.specs.LptWorld.Workers.{IsOfWorker};
-ghost use Rattle.lpt_audit.specs.LptWorld.Worlds.{history, refusal_at};
+ghost use Rattle.lpt_events.specs.Configs.{IsConfig};
+ghost use Rattle.lpt_journal.specs.Jobs.{job_given};
+ghost use Rattle.lpt_memory.specs.Memories.{sizes_of};
+ghost use Rattle.lpt_world.specs.Outside.{octets_of, IsOfHand, ReadRefusedBy};
+ghost use Rattle.lpt_world.specs.Workers.{IsOfWorker};
+ghost use Rattle.lpt_world.specs.Worlds.{history, refusal_at};
 ghost use Rattle.lpt_share.specs.Entering.{Enters, Refuses, IsLegal};
 ghost use Rattle.lpt_share.specs.Origins.{GoesOn};
 
-use lpt_audit::{
-    Config, Event, Lane, Octets, Parsed, Prepared, Refused, Reply, Shape, StepFault, Ticket,
-    Worker, World,
-};
+use lpt_events::{Config, Event, Lane, Refused, Reply, StepFault, Worker};
+use lpt_memory::{Prepared, Shape, Ticket};
+use lpt_node::Parsed;
+use lpt_packet::Octets;
+use lpt_world::World;
 use std::alloc::AllocError;
 use std::marker::{Brand, Model, PhantomData};
 
@@ -22,7 +23,7 @@ use std::marker::{Brand, Model, PhantomData};
 /// that one.
 pub trait Origin {
     ghost use Rattle.std.specs.Prelude.{Option};
-    ghost use Rattle.lpt_audit.specs.LptWorld.Worlds.{Shown};
+    ghost use Rattle.lpt_world.specs.Worlds.{Shown};
 
     ghost given: { Option Shown };
 }
@@ -41,7 +42,7 @@ pub struct Held<J: Origin> {
 }
 
 impl<J: Origin> Model for Held<J> {
-    ghost use Rattle.lpt_audit.specs.LptWorld.Worlds.{Shown};
+    ghost use Rattle.lpt_world.specs.Worlds.{Shown};
 
     ghost Value = { Shown };
 

@@ -1,15 +1,17 @@
 //! What is found when the threads of a run have ended.
 
 ghost use Rattle.std.specs.Prelude.{◌≡◌, ◌↔◌, ◌≤◌, Some, None, true, length, IfOk, IfErr, IsTrue};
-ghost use Rattle.lpt_audit.specs.Agreeing.{Agree};
-ghost use Rattle.lpt_audit.specs.Finished.{AreShort};
-ghost use Rattle.lpt_audit.specs.Kinds.{are_of_seats};
-ghost use Rattle.lpt_audit.specs.Runs.{IsInOrder};
-ghost use Rattle.lpt_audit.specs.Settled.{IsSettled};
+ghost use Rattle.lpt_share_audit.specs.Agreeing.{Agree};
+ghost use Rattle.lpt_share_audit.specs.Finished.{AreShort};
+ghost use Rattle.lpt_share_audit.specs.Kinds.{are_of_seats};
+ghost use Rattle.lpt_share_audit.specs.Runs.{IsInOrder};
+ghost use Rattle.lpt_share_audit.specs.Settled.{IsSettled};
 ghost use Rattle.lpt_share.specs.WholeRuns.{IsWholeRun};
 
-use crate::{SeatLog, ShareFault, Turns, agrees};
-use lpt_audit::{Owed, World, are_in_order, are_of_seats, are_short, is_settled};
+use crate::ShareFault;
+use lpt_events::{SeatLog, Turns};
+use lpt_share_audit::{Owed, agrees, are_in_order, are_of_seats, are_short, is_settled};
+use lpt_world::World;
 use std::alloc::{AllocError, Global};
 
 /// How the threads of a run ended: with these logs, and why not all were run to their end.

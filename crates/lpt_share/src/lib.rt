@@ -23,10 +23,10 @@ mod work;
 pub use call::{CallFault, Done, Shared};
 pub use fault::ShareFault;
 pub use held::Origin;
-pub use lpt_audit::{
-    AckFlags, Answer, Area, Call, Config, ConfigFault, Direction, Entry, Event, Lane, Memories,
-    Mode, Name, Octets, Outcome, Packet, PacketKind, Reason, Release, SeatLog, Side, StepFault,
-    TmHead, Turns, Why, Worker, World, agrees, write_packet, write_tm,
+pub use lpt_events::{
+    Answer, Config, Event, Lane, Outcome, SeatLog, Side, StepFault, Turns, Worker,
 };
+pub use lpt_packet::{Direction, Name, Octets};
+pub use lpt_world::World;
 pub use run::{ShareEnd, run_threads};
 pub use turns::{Gate, Point};

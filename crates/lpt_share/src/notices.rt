@@ -5,7 +5,8 @@ ghost use Rattle.std.specs.Prelude.{◌≡◌, None, vec_len, OnOk};
 ghost use Rattle.lpt_share.specs.Seats.{releases};
 
 use crossbeam_channel::{SendError, Sender};
-use lpt_audit::{Answer, Applied, Call, Name, Outcome, Reply, SeatLog};
+use lpt_events::{Answer, Applied, Call, Outcome, Reply, SeatLog};
+use lpt_packet::Name;
 use std::alloc::AllocError;
 use std::sync::Wait;
 
@@ -63,8 +64,8 @@ impl Outlets {
             }
         }
         if let Some(opened) = &self.opened {
-            if let Answer::Applied(Applied::Done(Some(id))) = call.reply.answer {
-                send(rt, opened, id)?;
+            if let Answer::Applied(Applied::Done(Some(name))) = call.reply.answer {
+                send(rt, opened, name)?;
             }
         }
         Ok(())

@@ -6,9 +6,10 @@ use crate::held::Origin;
 use crate::notices::Outlets;
 use crate::task::{Seat, Task};
 use crate::turns::Again;
-use crate::{Gate, Point, SeatLog, ShareFault, Shared, Turns};
+use crate::{Gate, Point, ShareFault, Shared};
 use crossbeam_channel::Receiver;
-use lpt_audit::{Direction, Event, Name, Side};
+use lpt_events::{Event, SeatLog, Side, Turns};
+use lpt_packet::{Direction, Name};
 use std::alloc::Global;
 use std::sync::Wait;
 
@@ -110,7 +111,7 @@ impl<'a, J: Origin, R: Wait, G: Gate> Pass<'a, J, R, G> {
                 None => return Ok(false),
             },
             Task::Sender(direction, notices) => match self.notice(log, notices) {
-                Some(id) => self.send_all(log, outlets, *direction, id),
+                Some(name) => self.send_all(log, outlets, *direction, name),
                 None => return Ok(false),
             },
         };
@@ -138,7 +139,7 @@ impl<'a, J: Origin, R: Wait, G: Gate> Pass<'a, J, R, G> {
         log: &mut SeatLog,
         outlets: &mut Outlets,
         direction: Direction,
-        id: Name,
+        name: Name,
     ) -> Result<u64, ShareFault> {
         for k in 1..=u16::MAX {
             if self.is_full(log) {
@@ -146,7 +147,7 @@ impl<'a, J: Origin, R: Wait, G: Gate> Pass<'a, J, R, G> {
             }
             let sent = self
                 .shared
-                .sender_turn(self.rt, log, direction, id, Some(k), self.gate)?;
+                .sender_turn(self.rt, log, direction, name, Some(k), self.gate)?;
             if sent == 0 {
                 break;
             }
@@ -156,7 +157,7 @@ impl<'a, J: Origin, R: Wait, G: Gate> Pass<'a, J, R, G> {
             return Ok(0);
         }
         self.shared
-            .sender_turn(self.rt, log, direction, id, None, self.gate)
+            .sender_turn(self.rt, log, direction, name, None, self.gate)
     }
 
     // The next notice; none where those that give it have ended, or the log has enough calls.

@@ -2,7 +2,8 @@
 
 use crate::notices::Outlets;
 use crossbeam_channel::Receiver;
-use lpt_audit::{Direction, Lane, Name, Side, Worker};
+use lpt_events::{Lane, Side, Worker};
+use lpt_packet::{Direction, Name};
 
 /// What a seat does, with the notices that it goes by.
 #[derive(Drop)]

@@ -2,13 +2,15 @@
 //! while the lock is free.
 
 ghost use Rattle.std.specs.Prelude.{◌≡◌, ◌+◌, [], ◌∷◌, None, vec_len, IfOk};
-ghost use Rattle.lpt_audit.specs.LptEvents.Lanes.{lane_direction};
-ghost use Rattle.lpt_audit.specs.LptEvents.Sides.{receiver_side};
+ghost use Rattle.lpt_events.specs.Lanes.{lane_direction};
+ghost use Rattle.lpt_events.specs.Sides.{receiver_side};
 ghost use Rattle.lpt_share.specs.Turns.{Adds, Begin, Follow, IsAsked, again_event, ended_by, failed_by, sender_event};
 
 use crate::held::Origin;
-use crate::{CallFault, SeatLog, ShareFault, Shared};
-use lpt_audit::{Direction, Event, Lane, Name, Parsed, Reply, Side, StepFault};
+use crate::{CallFault, ShareFault, Shared};
+use lpt_events::{Event, Lane, Reply, SeatLog, Side, StepFault};
+use lpt_node::Parsed;
+use lpt_packet::{Direction, Name};
 use std::sync::Wait;
 
 /// What a seat has just done. The lock is free.
@@ -121,16 +123,16 @@ impl<J: Origin> Shared<J> {
         rt: &R,
         log: &mut SeatLog,
         direction: Direction,
-        id: Name,
+        name: Name,
         k: Option<u16>,
         gate: &G,
     ) -> Result<u64, ShareFault>
-        ensures added { Adds (Begin (sender_event direction id k ∷ [])) log.old log.new }
+        ensures added { Adds (Begin (sender_event direction name k ∷ [])) log.old log.new }
         ensures count { IfOk result (λ n. vec_len log.new.calls ≡ vec_len log.old.calls + n) }
     {
         let (event, point) = match k {
-            Some(k) => (Event::Send(direction, id, k), Point::Sent),
-            None => (Event::Finish(direction, id), Point::Finished),
+            Some(k) => (Event::Send(direction, name, k), Point::Sent),
+            None => (Event::Finish(direction, name), Point::Finished),
         };
         let Some(_reply) = self.ask(rt, log, event, point, gate)? else {
             return Ok(0);

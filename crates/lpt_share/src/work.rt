@@ -1,21 +1,22 @@
 //! The calls of turns that have work outside the lock, and a worker's turn.
 
 ghost use Rattle.std.specs.Prelude.{◌≡◌, ◌+◌, ◌≤◌, ◌<◌, ◌^◌, [], ◌∷◌, length, vec_len, vec_capacity, Some, IfOk, IfErr, IfSome, Ok, Err};
-ghost use Rattle.lpt_audit.specs.LptEvents.Configs.{IsConfig};
-ghost use Rattle.lpt_audit.specs.LptJournal.Jobs.{job_given};
-ghost use Rattle.lpt_audit.specs.LptMemory.Memories.{sizes_of};
-ghost use Rattle.lpt_audit.specs.LptWorld.Outside.{octets_of};
-ghost use Rattle.lpt_audit.specs.LptWorld.Worlds.{history};
+ghost use Rattle.lpt_events.specs.Configs.{IsConfig};
+ghost use Rattle.lpt_journal.specs.Jobs.{job_given};
+ghost use Rattle.lpt_memory.specs.Memories.{sizes_of};
+ghost use Rattle.lpt_world.specs.Outside.{octets_of};
+ghost use Rattle.lpt_world.specs.Worlds.{history};
 ghost use Rattle.lpt_share.specs.Doing.{DoesOne};
 ghost use Rattle.lpt_share.specs.Entering.{IsLegal};
 ghost use Rattle.lpt_share.specs.Turns.{Adds, Follow, IsAsked};
 
 use crate::held::{Held, Origin};
 use crate::turns::{Again, ended};
-use crate::{Gate, Point, SeatLog, ShareFault, Shared};
-use lpt_audit::{
-    Config, Event, Lane, Octets, Parsed, Prepared, Reply, Shape, Ticket, Worker, prepare,
-};
+use crate::{Gate, Point, ShareFault, Shared};
+use lpt_events::{Config, Event, Lane, Reply, SeatLog, Worker};
+use lpt_memory::{Prepared, Shape, Ticket, prepare};
+use lpt_node::Parsed;
+use lpt_packet::Octets;
 use std::alloc::Global;
 use std::sync::Wait;
 

@@ -2,11 +2,11 @@
 
 use crate::names::{ID_5, ID_7, ID_9};
 use crate::scenes::{Asked, CONFIG, Free, MESSAGE, octets, world_after};
-use lpt_share::Direction::{Down, Up};
-use lpt_share::{
-    Answer, CallFault, Config, Done, Event, Lane, SeatLog, ShareFault, Shared, Side, StepFault,
-    Worker, World, agrees,
-};
+use lpt_events::{Answer, Config, Event, Lane, SeatLog, Side, StepFault, Worker};
+use lpt_packet::Direction::{Down, Up};
+use lpt_share::{CallFault, Done, ShareFault, Shared};
+use lpt_share_audit::agrees;
+use lpt_world::World;
 use std::alloc::Global;
 use std::process::Abort;
 use std::sync::Wait;
@@ -29,9 +29,9 @@ fn turns_are_noted(rt: HostRuntime) -> Result<(), Fail> {
     let mut log = SeatLog::new(alloc, 1, 3);
     take_turns(&rt, alloc, &shared, &mut log);
     let world = shared.into_world();
-    let came = are_noted(&rt, alloc, &world, log);
+    let noted = are_noted(&rt, alloc, &world, log);
     drop(world);
-    came
+    noted
 }
 
 // A turn of each kind, and how many calls of each were accepted.
@@ -62,35 +62,36 @@ fn calls_are_answered(rt: HostRuntime) -> Result<(), Fail> {
     let mut log = SeatLog::new(alloc, 5, 0);
     let mut other = SeatLog::new(alloc, 6, 6);
     let done = shared.call(&rt, &mut log, Event::Tick(Side::Craft));
-    assert!(rt; is_done(&done) && log.seen == 4);
-    assert!(rt; is_refused(&shared.call(&rt, &mut log, Event::Apply)));
-    assert!(rt; is_torn(&shared.call(&rt, &mut other, Event::Apply)));
+    assert!(rt; what_came(&done) == PartNumbers::Done(3, Answer::Clock(1)) && log.seen == 4);
+    let refused = shared.call(&rt, &mut log, Event::Apply);
+    let torn = shared.call(&rt, &mut other, Event::Apply);
+    assert!(rt; what_came(&refused) == PartNumbers::Refused(StepFault::NoJob, 4));
+    assert!(rt; what_came(&torn) == PartNumbers::Torn(4, false));
     assert!(rt; log.calls.len() == 1 && other.calls.is_empty());
     drop(shared);
     Ok(())
 }
 
-// Whether the clock went on to 1 at place 3.
-fn is_done(answer: &Result<Done, CallFault>) -> bool {
-    match answer {
-        Ok(done) => (done.place, done.reply.answer) == (3, Answer::Clock(1)),
-        Err(_) => false,
-    }
+/// What came of a call.
+#[derive(Clone, Copy, PartialEq, Eq)]
+enum PartNumbers {
+    /// It was done at this place, and answered so.
+    Done(u64, Answer),
+    /// It was refused behind so many entries.
+    Refused(StepFault, u64),
+    /// So many entries were too few, and whether it is the opening of message 7 that came back.
+    Torn(u64, bool),
+    Memory,
 }
 
-// Whether there was no job in a journal of four entries.
-fn is_refused(answer: &Result<Done, CallFault>) -> bool {
+fn what_came(answer: &Result<Done, CallFault>) -> PartNumbers {
     match answer {
-        Err(CallFault::Refused(refused)) => (refused.fault, refused.at) == (StepFault::NoJob, 4),
-        _ => false,
-    }
-}
-
-// Whether the journal had four entries, which were too few.
-fn is_torn(answer: &Result<Done, CallFault>) -> bool {
-    match answer {
-        Err(CallFault::Torn(length, _)) => *length == 4,
-        _ => false,
+        Ok(done) => PartNumbers::Done(done.place, done.reply.answer),
+        Err(CallFault::Refused(refused)) => PartNumbers::Refused(refused.fault, refused.at),
+        Err(CallFault::Torn(length, event)) => {
+            PartNumbers::Torn(*length, matches!(event, Event::Open(Up, ID_7, _)))
+        }
+        Err(CallFault::Memory(_)) => PartNumbers::Memory,
     }
 }
 
@@ -102,16 +103,16 @@ fn a_second_opening_is_refused(rt: HostRuntime) -> Result<(), Fail> {
     let shared = Shared::new(world_after(alloc, CONFIG, &[]).ok_or("no world")?);
     let mut log = SeatLog::new(alloc, 9, 0);
     let mut torn = SeatLog::new(alloc, 9, 1);
-    let before = length_of_torn(&open_seven(&rt, alloc, &shared, &mut torn));
-    let done = open_seven(&rt, alloc, &shared, &mut log);
-    let again = open_seven(&rt, alloc, &shared, &mut log);
-    assert!(rt; (before, place_of(&done)) == (Some(0), Some(0)));
-    assert!(rt; fault_of(&again) == Some((StepFault::InUse, 1)));
+    let before = what_came(&open_seven(&rt, alloc, &shared, &mut torn));
+    let done = what_came(&open_seven(&rt, alloc, &shared, &mut log));
+    let again = what_came(&open_seven(&rt, alloc, &shared, &mut log));
+    assert!(rt; before == PartNumbers::Torn(0, true) && done == OPENED);
+    assert!(rt; again == PartNumbers::Refused(StepFault::InUse, 1));
     assert!(rt; (log.seen, log.calls.len()) == (1, 1));
     let world = shared.into_world();
-    let came = is_logged_from_nought(&rt, alloc, &world, log);
+    let noted = is_logged_from_nought(&rt, alloc, &world, log);
     drop(world);
-    came
+    noted
 }
 
 // Opens nine octets upwards under identifier 7.
@@ -127,29 +128,8 @@ fn open_seven<R: Wait>(
     }
 }
 
-// The place at which a call was done.
-fn place_of(answer: &Result<Done, CallFault>) -> Option<u64> {
-    match answer {
-        Ok(done) => Some(done.place),
-        Err(_) => None,
-    }
-}
-
-// Why a call was refused, and behind how many entries.
-fn fault_of(answer: &Result<Done, CallFault>) -> Option<(StepFault, u64)> {
-    match answer {
-        Err(CallFault::Refused(refused)) => Some((refused.fault, refused.at)),
-        _ => None,
-    }
-}
-
-// How many entries a journal had that were too few, where the opening came back.
-fn length_of_torn(answer: &Result<Done, CallFault>) -> Option<u64> {
-    match answer {
-        Err(CallFault::Torn(length, Event::Open(Up, ID_7, _))) => Some(*length),
-        _ => None,
-    }
-}
+/// The opening of a message of two parts, the first of all events.
+const OPENED: PartNumbers = PartNumbers::Done(0, Answer::Opened(2));
 
 // The log agrees with the journal from its beginning on, and not from behind its one entry, nor from
 // behind that.
@@ -177,10 +157,10 @@ fn a_timer_ends_what_a_lane_began(rt: HostRuntime) -> Result<(), Fail> {
     };
     let shared = Shared::new(world_after(alloc, config, &[]).ok_or("no world")?);
     let (mut sender, mut timer) = (SeatLog::new(alloc, 9, 0), SeatLog::new(alloc, 5, 0));
-    let opened = place_of(&open_seven(&rt, alloc, &shared, &mut sender));
+    let opened = what_came(&open_seven(&rt, alloc, &shared, &mut sender));
     let sent = shared.sender_turn(&rt, &mut sender, Up, ID_7, Some(1), &Free);
     let lane = lane_begins(&rt, alloc, &shared);
-    assert!(rt; (opened, sent, lane) == (Some(0), Ok(1), Ok(2)));
+    assert!(rt; opened == OPENED && (sent, lane) == (Ok(1), Ok(2)));
     assert!(rt; ticks(&rt, &shared, &mut timer, 9) == 9);
     let turns = [0, 1].map(|_| shared.timer_turn(&rt, &mut timer, Side::Craft, &Free));
     assert!(rt; turns == [Ok(2), Ok(1)] && timer.calls.len() == 12);

@@ -2,8 +2,9 @@
 
 use crate::names::ID_5;
 use crate::scenes::{Asked, CONFIG, MESSAGE, world_after};
-use lpt_share::Direction::Up;
-use lpt_share::{Config, Event, Gate, Lane, Point, SeatLog, Shared, Side, Worker};
+use lpt_events::{Config, Event, Lane, SeatLog, Side, Worker};
+use lpt_packet::Direction::Up;
+use lpt_share::{Gate, Point, Shared};
 use std::alloc::Global;
 use std::process::Abort;
 use std::sync::Wait;

@@ -4,7 +4,8 @@
 
 use crate::runs::{TURNS, are_done, loads};
 use crate::scenes::{CONFIG, Free, world_after};
-use lpt_share::{Event, ShareEnd, Side, run_threads};
+use lpt_events::{Event, Side};
+use lpt_share::{ShareEnd, run_threads};
 use std::alloc::Global;
 use std::process::Abort;
 use std::sync::Wait;

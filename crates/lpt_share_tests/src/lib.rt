@@ -1,4 +1,5 @@
-//! Tests of the lock and of the run of threads: what no clause says, and each public call once.
+//! Tests of the lock, of the run of threads and of the tool above them: what no clause says and no script of
+//! tests/ sees.
 #![tactic(auto)]
 
 #[cfg(test)]
@@ -16,6 +17,12 @@ mod names;
 #[cfg(test)]
 mod origins;
 #[cfg(test)]
+mod outcomes;
+#[cfg(test)]
 mod runs;
 #[cfg(test)]
 mod scenes;
+#[cfg(test)]
+mod script_growths;
+#[cfg(test)]
+mod usual;

@@ -1,8 +1,10 @@
 //! The work of two seats overlaps: a gate holds one until the other has come.
 
 use crate::scenes::{Asked, run};
-use lpt_share::Lane::S1;
-use lpt_share::{Answer, Gate, Point, SeatLog, Turns, World};
+use lpt_events::Lane::S1;
+use lpt_events::{Answer, SeatLog, Turns};
+use lpt_share::{Gate, Point};
+use lpt_world::World;
 use std::process::Abort;
 use std::sync::atomic::AtomicBool;
 use std::sync::atomic::Ordering::SeqCst;

@@ -1,6 +1,6 @@
 //! The names of transactions: the configured source's, by their identifiers.
 
-use lpt_share::Name;
+use lpt_packet::Name;
 
 pub(crate) const ID_1: Name = Name { source: 1, id: 1 };
 
@@ -18,3 +18,10 @@ pub(crate) const ID_9: Name = Name { source: 1, id: 9 };
 
 /// An identifier of another source.
 pub(crate) const OTHER_1: Name = Name { source: 2, id: 1 };
+
+pub(crate) const ID_65535: Name = Name {
+    source: 1,
+    id: 65535,
+};
+
+pub(crate) const OTHER_7: Name = Name { source: 2, id: 7 };

@@ -5,8 +5,10 @@ ghost use Rattle.lpt_share.specs.Origins.{Continues};
 
 use crate::names::ID_5;
 use crate::scenes::{Asked, CONFIG, world_after};
-use lpt_share::Direction::Up;
-use lpt_share::{Event, Origin, SeatLog, Shared, Side, World};
+use lpt_events::{Event, SeatLog, Side};
+use lpt_packet::Direction::Up;
+use lpt_share::{Origin, Shared};
+use lpt_world::World;
 use std::alloc::Global;
 use std::marker::Brand;
 use std::sync::Wait;

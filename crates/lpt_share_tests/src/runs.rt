@@ -1,11 +1,12 @@
-//! Runs of ten threads.
+//! A run of ten threads: what is to be done, and that it is done.
 
-use crate::names::{ID_1, ID_2, ID_3, ID_4, ID_5, ID_9, OTHER_1};
-use crate::scenes::{Asked, Free, MESSAGE, run};
-use lpt_share::Direction::{self, Down, Up};
-use lpt_share::{Answer, Lane, Name, Outcome, SeatLog, Side, Turns, Why, Worker, World};
+use crate::names::{ID_1, ID_2, ID_3, ID_4, ID_9, OTHER_1};
+use crate::scenes::{Asked, MESSAGE};
+use lpt_events::{Answer, SeatLog, Turns};
+use lpt_packet::Direction::{self, Down, Up};
+use lpt_packet::Name;
+use lpt_world::World;
 use std::process::Abort;
-use std::test::Fail;
 
 /// Turns without an end, and twenty ticks.
 pub(crate) const TURNS: Turns = Turns {
@@ -47,15 +48,6 @@ pub(crate) fn loads() -> [Asked<'static>; 6] {
     ]
 }
 
-// All messages are released and all loads executed, and each timer has ticked.
-#[test]
-fn ten_seats_do_all_that_is_to_do(rt: HostRuntime) -> Result<(), Fail> {
-    let (world, logs) = run(rt.alloc(), &rt, &loads(), TURNS, &Free)?;
-    are_done(&rt, &world, logs.as_slice());
-    drop(world);
-    Ok(())
-}
-
 /// Asserts that all messages are released, all loads executed, and that each timer has ticked.
 pub(crate) fn are_done(rt: &impl Abort, world: &World, logs: &[SeatLog]) {
     let released = [
@@ -66,8 +58,8 @@ pub(crate) fn are_done(rt: &impl Abort, world: &World, logs: &[SeatLog]) {
         (Up, OTHER_1, 9),
         (Down, ID_9, 20),
     ];
-    for (direction, id, octets) in released {
-        assert!(rt; is_released(world, direction, id, octets), "{id:?}");
+    for (direction, name, octets) in released {
+        assert!(rt; is_released(world, direction, name, octets), "{name:?}");
     }
     assert!(rt; world.released().len() == 6 && executed(world) == 5);
     for (address, octet) in [(0, 0x11), (16, 0x22), (32, 0x33), (48, 0x44), (4, 0)] {
@@ -77,13 +69,13 @@ pub(crate) fn are_done(rt: &impl Abort, world: &World, logs: &[SeatLog]) {
 }
 
 // Whether a large message of so many octets was released under this name.
-fn is_released(world: &World, direction: Direction, id: Name, octets: usize) -> bool {
-    world.released().iter().any(|it| it.of == Some((direction, id))
+fn is_released(world: &World, direction: Direction, name: Name, octets: usize) -> bool {
+    world.released().iter().any(|it| it.of == Some((direction, name))
         && it.message.as_slice().len() == octets)
 }
 
-/// How many requests were executed.
-pub(crate) fn executed(world: &World) -> usize {
+// How many requests were executed.
+fn executed(world: &World) -> usize {
     world
         .journal()
         .iter()
@@ -105,49 +97,4 @@ fn ticks(logs: &[SeatLog], seat: u8) -> usize {
         Some(log) => log.calls.len(),
         None => 0,
     }
-}
-
-// A part and a damaged packet are on the link, a part is lost, a lane and a worker hold something,
-// and then the spacecraft restarts.
-fn losses() -> [Asked<'static>; 13] {
-    [
-        Asked::Open(Up, ID_5, &MESSAGE),
-        Asked::Send(Up, ID_5, 1),
-        Asked::Lose(0),
-        Asked::Open(Down, ID_9, &MESSAGE),
-        Asked::Send(Down, ID_9, 1),
-        Asked::Damage(Up, &[0x18, 0x64, 0xc0]),
-        Asked::Load,
-        Asked::Take(Lane::S1, 3),
-        Asked::Deliver(Lane::S1),
-        Asked::Claim(Worker::W1),
-        Asked::Take(Lane::S2, 2),
-        Asked::Send(Up, ID_5, 2),
-        Asked::Restart(Side::Craft),
-    ]
-}
-
-// What was lost is sent again, the hands are emptied, and the job of the old boot is stale; its packet
-// is still held, and is released once more.
-#[test]
-fn a_lossy_start_is_made_good(rt: HostRuntime) -> Result<(), Fail> {
-    let (world, logs) = run(rt.alloc(), &rt, &losses(), TURNS, &Free)?;
-    are_made_good(&rt, &world, logs.as_slice());
-    drop(world);
-    Ok(())
-}
-
-fn are_made_good(rt: &impl Abort, world: &World, logs: &[SeatLog]) {
-    let unreadable = Answer::Delivered(Outcome::Ignored(Why::Unreadable));
-    assert!(rt; first_answer(logs, 2) == Some(unreadable));
-    assert!(rt; first_answer(logs, 7) == Some(Answer::Stale(0, 0)));
-    assert!(rt; is_released(world, Up, ID_5, 20) && !is_released(world, Down, ID_9, 20));
-    assert!(rt; world.released().len() == 3 && executed(world) == 2);
-    assert!(rt; has_at(world, 16, [0xab, 0xcd, 0xef, 0x01]));
-}
-
-// What a seat was answered first.
-fn first_answer(logs: &[SeatLog], seat: u8) -> Option<Answer> {
-    let log = logs.iter().find(|log| log.seat == seat)?;
-    log.calls.first().map(|call| call.reply.answer)
 }

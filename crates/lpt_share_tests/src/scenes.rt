@@ -1,9 +1,12 @@
 //! Worlds for the tests, by what is asked of them before threads share them.
 
-use lpt_share::{
-    AckFlags, Config, Direction, Event, Gate, Lane, Memories, Mode, Name, Octets, Point, SeatLog,
-    Side, Turns, Worker, World, run_threads,
-};
+use lpt_events::{Config, Event, Lane, SeatLog, Turns};
+use lpt_memory::Memories;
+use lpt_packet::{Direction, Name, Octets};
+use lpt_part::Mode;
+use lpt_pus::AckFlags;
+use lpt_share::{Gate, Point, run_threads};
+use lpt_world::World;
 use std::alloc::{AllocError, Global};
 use std::sync::Wait;
 use std::test::Fail;
@@ -31,28 +34,16 @@ const LOAD: [u8; 14] = [
     0x01, 0x01, 0x00, 0x00, 0x00, 0x10, 0x00, 0x04, 0xab, 0xcd, 0xef, 0x01, 0x04, 0xa2,
 ];
 
-/// The body of a check or a dump of the first three octets of memory 1.
-const RANGE: [u8; 8] = [1, 1, 0, 0, 0, 0, 0, 3];
-
 /// An event of seat 0.
 #[derive(Clone, Copy)]
 pub(crate) enum Asked<'a> {
     Open(Direction, Name, &'a [u8]),
     Send(Direction, Name, u16),
-    Finish(Direction, Name),
     /// The load of abcdef01 to address 16, as a packet of its own.
     Load,
-    /// A check of three octets of memory 1, which asks for all reports.
-    Check,
-    /// A dump of the same octets, which asks for none.
-    Dump,
     Lose(u64),
-    Damage(Direction, &'a [u8]),
     Take(Lane, u64),
     Deliver(Lane),
-    Claim(Worker),
-    Commit(Worker),
-    Restart(Side),
 }
 
 /// A gate that nobody waits at.
@@ -81,19 +72,7 @@ pub(crate) fn run<R: Threads + Wait + Sync, G: Gate + Sync>(
     turns: Turns,
     gate: &G,
 ) -> Result<(World, Vec<SeatLog>), Fail> {
-    run_under(alloc, rt, CONFIG, asked, turns, gate)
-}
-
-/// The same under another configuration.
-pub(crate) fn run_under<R: Threads + Wait + Sync, G: Gate + Sync>(
-    alloc: Global,
-    rt: &R,
-    config: Config,
-    asked: &[Asked<'_>],
-    turns: Turns,
-    gate: &G,
-) -> Result<(World, Vec<SeatLog>), Fail> {
-    let world = world_after(alloc, config, asked).ok_or("no world")?;
+    let world = world_after(alloc, CONFIG, asked).ok_or("no world")?;
     match run_threads(alloc, rt, world, turns, gate) {
         Ok(done) => Ok(done),
         Err(end) => {
@@ -133,26 +112,23 @@ fn play(alloc: Global, world: &mut World, asked: &[Asked<'_>]) -> bool {
 // The event that is asked for.
 fn event(alloc: Global, asked: Asked<'_>) -> Result<Event, AllocError> {
     Ok(match asked {
-        Asked::Open(direction, id, message) => Event::Open(direction, id, octets(alloc, message)?),
-        Asked::Send(direction, id, part) => Event::Send(direction, id, part),
-        Asked::Finish(direction, id) => Event::Finish(direction, id),
-        Asked::Load => plain(alloc, 0, 2, &LOAD)?,
-        Asked::Check => plain(alloc, 15, 9, &RANGE)?,
-        Asked::Dump => plain(alloc, 0, 5, &RANGE)?,
+        Asked::Open(direction, name, message) => Event::Open(
+            direction,
+            name,
+            octets(alloc, message)?,
+        ),
+        Asked::Send(direction, name, part) => Event::Send(direction, name, part),
+        Asked::Load => plain(alloc)?,
         Asked::Lose(n) => Event::Lose(n),
-        Asked::Damage(direction, left) => Event::Damage(direction, octets(alloc, left)?),
         Asked::Take(lane, n) => Event::Take(lane, n),
         Asked::Deliver(lane) => Event::Deliver(lane),
-        Asked::Claim(worker) => Event::Claim(worker),
-        Asked::Commit(worker) => Event::Commit(worker),
-        Asked::Restart(side) => Event::Restart(side),
     })
 }
 
-// A request of the memory service as a packet of its own.
-fn plain(alloc: Global, flags: u8, subtype: u8, body: &[u8]) -> Result<Event, AllocError> {
-    let flags = AckFlags::new(flags).ok_or(AllocError)?;
-    Ok(Event::Plain(1, flags, 6, subtype, octets(alloc, body)?))
+// The load as a packet of its own, which asks for no reports.
+fn plain(alloc: Global) -> Result<Event, AllocError> {
+    let flags = AckFlags::new(0).ok_or(AllocError)?;
+    Ok(Event::Plain(1, flags, 6, 2, octets(alloc, &LOAD)?))
 }
 
 // A copy of these octets.

@@ -1,19 +1,19 @@
 -- Why a piece of a stream is none of the parts that are wanted.
 use Rattle.std.specs.Prelude.{ℕ, ◌-◌, ◌==◌, ◌&&◌, nat_le, if◌then◌else◌, List, length, Option, Some, None, is_some, Result, Ok, Err}
 use Rattle.std.specs.Option.{option_map_or}
-use Rattle.lpt_events.specs.LptPacket.declared.direction.Direction.{Direction}
-use Rattle.lpt_events.specs.LptPacket.declared.direction.Direction.TheVariants.{Up, Down}
-use Rattle.lpt_events.specs.LptPacket.declared.fault.PacketFault.{PacketFault}
-use Rattle.lpt_events.specs.LptPacket.declared.packet.PacketKind.{PacketKind}
-use Rattle.lpt_events.specs.LptPacket.declared.packet.PacketKind.TheVariants.{Tm, Tc}
-use Rattle.lpt_events.specs.LptPacket.Names.{Name, named_by, same_name}
-use Rattle.lpt_events.specs.LptPacket.Packets.{Fields, Sight, IdlePacket, APacket, verdict}
-use Rattle.lpt_events.specs.LptPus.declared.fault.PusFault.{PusFault}
-use Rattle.lpt_events.specs.LptPus.Commands.{Command, tc_verdict}
-use Rattle.lpt_events.specs.LptPus.Telemetry.{Telemetry, tm_verdict}
-use Rattle.lpt_events.specs.LptPart.declared.kind.Kind.{Kind}
-use Rattle.lpt_events.specs.LptPart.declared.kind.Kind.TheVariants.{First, Middle, Last}
-use Rattle.lpt_events.specs.LptPart.Parts.{part_in}
+use Rattle.lpt_packet.specs.declared.direction.Direction.{Direction}
+use Rattle.lpt_packet.specs.declared.direction.Direction.TheVariants.{Up, Down}
+use Rattle.lpt_packet.specs.declared.fault.PacketFault.{PacketFault}
+use Rattle.lpt_packet.specs.declared.packet.PacketKind.{PacketKind}
+use Rattle.lpt_packet.specs.declared.packet.PacketKind.TheVariants.{Tm, Tc}
+use Rattle.lpt_packet.specs.Names.{Name, named_by, same_name}
+use Rattle.lpt_packet.specs.Packets.{Fields, Sight, IdlePacket, APacket, verdict}
+use Rattle.lpt_pus.specs.declared.fault.PusFault.{PusFault}
+use Rattle.lpt_pus.specs.Commands.{Command, tc_verdict}
+use Rattle.lpt_pus.specs.Telemetry.{Telemetry, tm_verdict}
+use Rattle.lpt_part.specs.declared.kind.Kind.{Kind}
+use Rattle.lpt_part.specs.declared.kind.Kind.TheVariants.{First, Middle, Last}
+use Rattle.lpt_part.specs.Parts.{part_in}
 use Rattle.lpt_events.specs.Arrivals.{carried_kind}
 use Rattle.lpt_stream.specs.declared.piece_kind.PieceKind.{PieceKind}
 use Rattle.lpt_stream.specs.declared.piece_kind.PieceKind.TheVariants as piece

@@ -2,18 +2,13 @@
 use Rattle.std.specs.Prelude.{ℕ, ◌==◌, if◌then◌else◌, List, [], ◌∷◌, ◌++◌, codes, filter_map, Option, Some, None}
 use Rattle.std.specs.Fmt.{decimal}
 use Rattle.std.specs.Option.{option_map_or}
-use Rattle.lpt_events.specs.LptPacket.declared.direction.Direction.{Direction}
-use Rattle.lpt_events.specs.LptPacket.declared.direction.Direction.TheVariants.{Up, Down}
+use Rattle.lpt_packet.specs.declared.direction.Direction.{Direction}
+use Rattle.lpt_packet.specs.Directions.{direction_word}
 use Rattle.lpt_events.specs.NameTexts.{name_text}
 use Rattle.lpt_skips.specs.declared.reading.Reading.{Reading}
 use Rattle.lpt_skips.specs.declared.skips.Skips.{Skips}
 use Rattle.lpt_skips.specs.declared.topic.Topic.{Topic}
 use Rattle.lpt_skips.specs.declared.topic.Topic.TheVariants.{OtherApid, OtherDirection, Unread, OtherName, NoPart, Damaged, Stray}
-
--- the word of a direction
-abbrev pub direction_word : Direction → List ℕ
-direction_word Up = codes "up"
-direction_word Down = codes "down"
 
 -- how many there are of a topic
 abbrev pub count_of : Skips → Topic → ℕ

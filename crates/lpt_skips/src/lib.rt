@@ -11,7 +11,7 @@ mod sorting;
 mod topic;
 mod why;
 
-pub use lpt_events::{Direction, Name};
+pub use lpt_packet::{Direction, Name};
 pub use lpt_stream::PieceKind;
 pub use reading::Reading;
 pub use skips::Skips;

@@ -6,8 +6,9 @@ ghost use Rattle.std.specs.String.{string_bytes};
 ghost use Rattle.lpt_skips.specs.Told.{count_of, ending_of, line_of, lines_of, opening, sizes_text, words_of_many, words_of_one};
 
 use crate::topic::{TOPICS, Topic};
-use crate::{Direction, Reading, Skips};
+use crate::{Reading, Skips};
 use lpt_events::name_word;
+use lpt_packet::Direction;
 use std::alloc::{AllocError, Global};
 
 impl Skips {
@@ -111,10 +112,8 @@ fn sizes_text(alloc: Global, p: u32, fitting: Option<u32>) -> Result<String, All
 fn opening(alloc: Global, direction: Direction, count: u64) -> Result<String, AllocError>
     ensures { IfOk result (λ t. string_bytes t ≡ opening direction count) }
 {
-    match direction {
-        Direction::Up => format!(in alloc; "up: {count}"),
-        Direction::Down => format!(in alloc; "down: {count}"),
-    }
+    let direction = direction.word();
+    format!(in alloc; "{direction}: {count}")
 }
 
 // What is said of so many of a topic.

@@ -1,8 +1,8 @@
 //! How parts are read.
 
-ghost use Rattle.lpt_events.specs.LptPart.Splitting.{IsPartSize};
+ghost use Rattle.lpt_part.specs.Splitting.{IsPartSize};
 
-use lpt_events::{Direction, Name};
+use lpt_packet::{Direction, Name};
 
 /// Which parts are wanted, and how they are read.
 #[derive(Clone, Copy)]

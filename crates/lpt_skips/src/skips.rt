@@ -3,7 +3,9 @@
 ghost use Rattle.std.specs.Prelude.{◌≡◌};
 ghost use Rattle.lpt_skips.specs.Tallies.{nothing_noted, noted};
 
-use crate::{Name, PieceKind, Reading, Why};
+use crate::{Reading, Why};
+use lpt_packet::Name;
+use lpt_stream::PieceKind;
 
 /// How many pieces of a stream were passed over, and why. A count ends at 2^64 - 1.
 #[derive(Clone, Copy)]

@@ -1,17 +1,17 @@
 //! Why a piece of a stream is none of the parts that are wanted.
 
 ghost use Rattle.std.specs.Prelude.{◌≡◌};
-ghost use Rattle.lpt_events.specs.LptPacket.Packets.{fields};
-ghost use Rattle.lpt_events.specs.LptPacket.Names.{named_by};
-ghost use Rattle.lpt_events.specs.LptPus.Commands.{tc_verdict};
-ghost use Rattle.lpt_events.specs.LptPus.Telemetry.{tm_verdict};
+ghost use Rattle.lpt_packet.specs.Packets.{fields};
+ghost use Rattle.lpt_packet.specs.Names.{named_by};
+ghost use Rattle.lpt_pus.specs.Commands.{tc_verdict};
+ghost use Rattle.lpt_pus.specs.Telemetry.{tm_verdict};
 ghost use Rattle.lpt_skips.specs.Skipping.{fitting_size, why_of, why_typed, why_command, why_telemetry, why_body, why_name};
 
 use crate::{Reading, Why};
-use lpt_events::{
-    Direction, Kind, Name, Packet, PacketKind, Seen, part_kind, read_packet, read_part, read_tc,
-    read_tm,
-};
+use lpt_events::part_kind;
+use lpt_packet::{Direction, Name, Packet, PacketKind, Seen, read_packet};
+use lpt_part::{Kind, read_part};
+use lpt_pus::{read_tc, read_tm};
 use lpt_stream::PieceKind;
 
 /// How many octets of a part's body stand before the part's own.

@@ -1,6 +1,6 @@
 //! Why a piece of a stream is passed over.
 
-use lpt_events::Name;
+use lpt_packet::Name;
 
 /// Why a reader of parts passes over a piece of a stream.
 #[derive(Clone, Copy)]

@@ -8,5 +8,4 @@ mod chain;
 mod span;
 
 pub use chain::Chain;
-pub use lpt_text::Source;
 pub use span::Span;

@@ -4,8 +4,8 @@ use Rattle.std.proofs.KnownBytes.{Appends-trans}
 use Rattle.std.specs.Io.KnownBytes.{Appends}
 use Rattle.lpt_text.specs.Streams.{AppendsPart}
 use Rattle.lpt_text.proofs.StreamLemmas.{part_after, part_of_front, part_whole}
-use Rattle.lpt_pus.specs.LptPacket.Names.{Name}
-use Rattle.lpt_pus.specs.LptPacket.declared.direction.Direction.{Direction}
+use Rattle.lpt_packet.specs.Names.{Name}
+use Rattle.lpt_packet.specs.declared.direction.Direction.{Direction}
 use Rattle.lpt_events.specs.declared.config.Config.{Config}
 use Rattle.lpt_events.specs.MadePackets.{part_made, nth_part}
 use Rattle.lpt_stream.specs.Captures.{record_of}

@@ -1,4 +1,2 @@
 pub mod FormsInside
 pub mod Splits
-pub use Rattle.lpt_events.specs as LptEvents
-pub use Rattle.lpt_text.specs as LptText

@@ -1,17 +1,18 @@
 -- The packets of a message's parts.
 use Rattle.std.specs.Prelude.{ℕ, ◌+◌, ◌%◌, ◌≤◌, List, [], ◌∷◌}
 use Rattle.std.specs.List.{flat_map}
-use Rattle.lpt_pus.specs.LptPacket.Names.{Name}
-use Rattle.lpt_pus.specs.LptPacket.declared.direction.Direction.{Direction}
+use Rattle.lpt_packet.specs.Names.{Name}
+use Rattle.lpt_packet.specs.declared.direction.Direction.{Direction}
 use Rattle.lpt_events.specs.declared.config.Config.{Config}
 use Rattle.lpt_events.specs.MadePackets.{nth_part, part_made}
 use Rattle.lpt_stream.specs.Captures.{capture_of}
 use Rattle.lpt_split.specs.declared.form.Form.{Form}
 use Rattle.lpt_split.specs.declared.form.Form.TheVariants.{Plain, Capture}
+use Rattle.lpt_events.specs.Counts.{sequence_counts}
 
 -- the sequence count after this one
 abbrev pub next_count : ℕ → ℕ
-next_count count = (count + 1) % 16384
+next_count count = (count + 1) % sequence_counts
 
 -- it is the number of one of so many parts
 pub record IsNumber (parts n : ℕ) : Type 0 where

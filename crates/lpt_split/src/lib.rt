@@ -11,7 +11,8 @@ mod packet;
 mod splitting;
 
 pub use form::Form;
-pub use lpt_events::{Config, count, part_kind};
-pub use lpt_text::{End, Sink, Source, Told, ToolFault, flush_out, read_text, write_out};
-pub use packet::{part_at, part_packet};
+pub use lpt_events::Config;
+pub use lpt_part::count;
+pub use lpt_text::{Sink, ToolFault};
+pub use packet::part_packet;
 pub use splitting::{split, write_alone};

@@ -1,49 +1,17 @@
-//! A part of a message, and the packet that carries it.
+//! The packet that carries a part of a message.
 
-ghost use Rattle.std.specs.Prelude.{◌≡◌, ◌<◌, ◌≤◌, length, IfOk};
-ghost use Rattle.lpt_pus.specs.LptPacket.declared.direction.Direction.TheVariants.{Up, Down};
+ghost use Rattle.std.specs.Prelude.{◌≡◌, ◌≤◌, IfOk};
+ghost use Rattle.lpt_packet.specs.declared.direction.Direction.TheVariants.{Up, Down};
 ghost use Rattle.lpt_part.specs.Parts.{piece};
-ghost use Rattle.lpt_part.specs.Splitting.{IsPartSize, part_count};
 ghost use Rattle.lpt_events.specs.Arrivals.{part_subtype};
 ghost use Rattle.lpt_events.specs.Configs.{IsConfig};
-ghost use Rattle.lpt_events.specs.MadePackets.{nth_part, part_made};
-ghost use Rattle.lpt_split.specs.Splits.{IsNumber};
+ghost use Rattle.lpt_events.specs.MadePackets.{part_made};
 
 use lpt_events::Config;
-use lpt_part::laws::parts_fit;
-use lpt_part::{Kind, Part, TRANSFER, count, slice};
-use lpt_pus::{Direction, Octets, TcHead, TmHead, tc_pieces, tm_pieces};
+use lpt_packet::{Direction, Octets};
+use lpt_part::{Kind, Part, TRANSFER};
+use lpt_pus::{TcHead, TmHead, tc_pieces, tm_pieces};
 use std::alloc::{AllocError, Global};
-
-/// Part `k` of a message that has as many, for parts of `p` octets; parts are counted from 1.
-pub fn part_at(message: &[u8], p: u32, id: u16, k: u16) -> Part<'_>
-    requires part_size { IsPartSize p }
-    requires long { p < length message.now }
-    requires short { length message.now ≤ 65542 }
-    requires number { IsNumber (part_count (length message.now) p) k }
-    ensures part { piece result ≡ nth_part p id message.now k }
-    ensures size { result.p ≡ p }
-{
-    parts_fit();
-    let total = count(message.len() as u32, p);
-    let kind = if k == 1 {
-        Kind::First
-    } else if u32::from(k) == total {
-        Kind::Last
-    } else {
-        Kind::Middle
-    };
-    let Some(octets) = slice(message, p, u32::from(k)) else {
-        unreachable!();
-    };
-    Part {
-        id,
-        number: k,
-        kind,
-        octets,
-        p,
-    }
-}
 
 /// The packet that carries a part, of this sequence count (0 to 16,383), up as a telecommand of this
 /// source, and down as telemetry to it. Telemetry has message type counter 0 and the configuration's clock as its

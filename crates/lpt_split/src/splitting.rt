@@ -8,11 +8,13 @@ ghost use Rattle.lpt_stream.specs.Captures.{record_of};
 ghost use Rattle.lpt_text.specs.Streams.{AppendsPart};
 ghost use Rattle.lpt_split.specs.FormsInside.{front_in, packet_in, packets_in};
 ghost use Rattle.lpt_split.specs.Splits.{next_count, split_of, written_in, AreNumbers};
+ghost use Rattle.lpt_packet.specs.Sizes.{longest_packet};
 
 use crate::Form;
-use crate::packet::{part_at, part_packet};
+use crate::packet::part_packet;
 use lpt_events::Config;
-use lpt_pus::{Direction, Name};
+use lpt_packet::{Direction, Name};
+use lpt_part::part_at;
 use lpt_stream::{capture_header, record_header};
 use lpt_text::{Sink, ToolFault, write_out};
 use std::alloc::Global;
@@ -38,7 +40,7 @@ pub fn split<K: Sink>(
 ) -> Result<(), ToolFault>
     requires config { IsConfig config.now }
     requires long { config.now.part_size < length message.now }
-    requires short { length message.now ≤ 65542 }
+    requires short { length message.now ≤ longest_packet }
     requires numbers { AreNumbers (part_count (length message.now) config.now.part_size) numbers.now }
     requires first { first ≤ 16383 }
     ensures ok { OnOk result (Appends (K.contents out.old) (K.contents out.new) (written_in form
@@ -107,7 +109,7 @@ fn write_parts<K: Sink>(
 ) -> Result<(), ToolFault>
     requires config { IsConfig config.now }
     requires long { config.now.part_size < length message.now }
-    requires short { length message.now ≤ 65542 }
+    requires short { length message.now ≤ longest_packet }
     requires numbers { AreNumbers (part_count (length message.now) config.now.part_size) numbers.now }
     requires first { first ≤ 16383 }
     ensures ok { OnOk result (Appends (K.contents out.old) (K.contents out.new) (packets_in form

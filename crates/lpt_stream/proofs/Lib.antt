@@ -3,4 +3,3 @@ pub mod CutLemmas
 pub mod FoundLemmas
 pub mod PieceLemmas
 pub mod StreamLemmas
-pub use Rattle.lpt_text.proofs as LptText

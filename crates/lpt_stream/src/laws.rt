@@ -13,7 +13,7 @@ pub fn packets_are_cut()
 {}
 
 /// A stream is cut into pieces in one way.
-pub fn one_cut()
+pub fn streams_are_cut_one_way()
     ensures { (stream : List ℕ) (pieces others : List Piece)
         → Cuts stream pieces → Cuts stream others → pieces ≡ others }
 {}

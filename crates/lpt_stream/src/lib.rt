@@ -20,5 +20,5 @@ pub use buffer::PacketBuffer;
 pub use capture::{capture_header, record_header};
 pub use cutting::{packet_length, whole_length};
 pub use found::Found;
-pub use lpt_text::{Sink, Source, ToolFault, flush_out, write_out};
+pub use lpt_text::{Sink, Source, ToolFault};
 pub use piece_kind::PieceKind;

@@ -3,21 +3,21 @@ use Rattle.std.proofs.Common.{arith, ◌≡◌, ap, refl, ◌≤◌, ◌+◌, �
 use Rattle.std.proofs.lemmas.List.{length-append, length-map}
 use Rattle.std.specs.List.{filter}
 use Rattle.std.specs.Option.{option_map_or}
-use Rattle.lpt_model.specs.LptPus.Codes.{number_of}
-use Rattle.lpt_model.specs.LptPus.Commands.{Command, command_in}
-use Rattle.lpt_model.specs.LptPus.Numbers.{long_at}
-use Rattle.lpt_model.specs.LptMemory.Memories.{Contents}
-use Rattle.lpt_model.specs.LptVerify.Reports.{success_if, failure, asks, accepted as acceptance, started, completed}
-use Rattle.lpt_model.specs.LptEvents.declared.config.Config.{Config}
-use Rattle.lpt_model.specs.LptExecution.declared.ending.Ending.{Ending}
-use Rattle.lpt_model.specs.LptExecution.declared.ending.Ending.TheVariants.{Silent, Refused, Carried}
-use Rattle.lpt_model.specs.LptExecution.declared.ending.Report.{Report}
-use Rattle.lpt_model.specs.LptExecution.Endings.{is_small}
-use Rattle.lpt_model.specs.LptExecution.Reporting.{verification, data_report, reports_of, message_reports, request_source, link_packets}
-use Rattle.lpt_model.specs.LptJobs.Jobs.{Head, NoJob as NoHead, NotReady, Ready, head_of}
-use Rattle.lpt_model.specs.LptNode.Jobs.{report_packets, ending_at, executed_of, executed}
-use Rattle.lpt_model.specs.LptNode.Nodes.{Sending, NodeData}
-use Rattle.lpt_model.specs.LptNode.Sending.{counted_kind}
+use Rattle.lpt_pus.specs.Codes.{number_of}
+use Rattle.lpt_pus.specs.Commands.{Command, command_in}
+use Rattle.lpt_pus.specs.Numbers.{long_at}
+use Rattle.lpt_memory.specs.Memories.{Contents}
+use Rattle.lpt_verify.specs.Reports.{success_if, failure, asks, accepted as acceptance, started, completed}
+use Rattle.lpt_events.specs.declared.config.Config.{Config}
+use Rattle.lpt_execution.specs.declared.ending.Ending.{Ending}
+use Rattle.lpt_execution.specs.declared.ending.Ending.TheVariants.{Silent, Refused, Carried}
+use Rattle.lpt_execution.specs.declared.ending.Report.{Report}
+use Rattle.lpt_execution.specs.Endings.{is_small}
+use Rattle.lpt_execution.specs.Reporting.{verification, data_report, reports_of, message_reports, request_source, link_packets}
+use Rattle.lpt_jobs.specs.Jobs.{Head, NoJob as NoHead, NotReady, Ready, head_of}
+use Rattle.lpt_node.specs.Jobs.{report_packets, ending_at, executed_of, executed}
+use Rattle.lpt_node.specs.Nodes.{Sending, NodeData}
+use Rattle.lpt_node.specs.Sending.{counted_kind}
 
 -- a report that may be asked for is one at most
 one_if : (b : Bool) (request subtype : ℕ) → length (success_if b request subtype) ≤ 1

@@ -1,11 +1,11 @@
 -- What always holds of the system: each node is of its side, both have the configuration, and ground has no
 -- jobs.
 use Rattle.std.specs.Prelude.{◌≡◌}
-use Rattle.lpt_model.specs.LptEvents.declared.config.Config.{Config}
-use Rattle.lpt_model.specs.LptEvents.declared.side.Side.TheVariants.{Ground, Craft}
-use Rattle.lpt_model.specs.LptJobs.Jobs.{numbered}
-use Rattle.lpt_model.specs.LptNode.Nodes.{NodeView}
-use Rattle.lpt_model.specs.LptEvents.Configs.{IsConfig}
+use Rattle.lpt_events.specs.declared.config.Config.{Config}
+use Rattle.lpt_events.specs.declared.side.Side.TheVariants.{Ground, Craft}
+use Rattle.lpt_jobs.specs.Jobs.{numbered}
+use Rattle.lpt_node.specs.Nodes.{NodeView}
+use Rattle.lpt_events.specs.Configs.{IsConfig}
 
 pub record IsSound (c : Config) (on_ground on_craft : NodeView) : Type 0 where
   pub configured : IsConfig c

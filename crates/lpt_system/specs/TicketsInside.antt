@@ -1,6 +1,6 @@
 -- The workers' jobs as the machine has them.
 use Rattle.std.specs.Option.{option_map}
-use Rattle.lpt_model.specs.LptMemory.Readings.{Job}
+use Rattle.lpt_memory.specs.Readings.{Job}
 use Rattle.lpt_model.specs.Tickets.{Tickets}
 use Rattle.lpt_system.specs.declared.tickets.HeldJob.{HeldJob}
 use Rattle.lpt_system.specs.declared.tickets.Tickets.{Tickets as Held}

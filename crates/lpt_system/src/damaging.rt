@@ -1,14 +1,14 @@
 //! What the link's noise leaves of packets.
 
 ghost use Rattle.std.specs.Prelude.{◌≡◌, None, IfOk, OnErr};
-ghost use Rattle.lpt_model.specs.LptPacket.Numbers.{IsOctets};
-ghost use Rattle.lpt_model.specs.LptEvents.Damages.{looks_whole};
+ghost use Rattle.lpt_packet.specs.Numbers.{IsOctets};
+ghost use Rattle.lpt_events.specs.Damages.{looks_whole};
 ghost use Rattle.lpt_model.specs.State.{refusal_of, after};
 
 use crate::system::{System, put_one, put_reserved};
-use lpt_model::{
-    Answer, Direction, Event, Octets, Reply, StepFault, longest_on_link, read_packet, seen_is_read,
-};
+use lpt_events::{Answer, Event, Reply, StepFault, longest_on_link};
+use lpt_packet::laws::seen_is_read;
+use lpt_packet::{Direction, Octets, read_packet};
 use std::alloc::AllocError;
 
 impl System {

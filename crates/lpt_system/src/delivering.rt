@@ -2,20 +2,21 @@
 
 ghost use Rattle.std.specs.Prelude.{◌≡◌, ◌+◌, ◌<◌, ◌↔◌, ◌^◌, IfOk, IfErr, IsTrue, OnErr, length, vec_len, None, Some};
 ghost use Rattle.std.specs.Vec.{vec_capacity};
-ghost use Rattle.lpt_model.specs.LptEvents.Lanes.{lane_direction};
-ghost use Rattle.lpt_model.specs.LptEvents.Sides.{receiver_side};
-ghost use Rattle.lpt_model.specs.LptJobs.Jobs.{numbered};
-ghost use Rattle.lpt_model.specs.LptNode.Accepting.{accepted};
-ghost use Rattle.lpt_model.specs.LptNode.Origins.{arrival_from};
-ghost use Rattle.lpt_model.specs.LptLink.Links.{after_drop, packet_in_hand, refusal_drop};
+ghost use Rattle.lpt_events.specs.Lanes.{lane_direction};
+ghost use Rattle.lpt_events.specs.Sides.{receiver_side};
+ghost use Rattle.lpt_jobs.specs.Jobs.{numbered};
+ghost use Rattle.lpt_node.specs.Accepting.{accepted};
+ghost use Rattle.lpt_node.specs.ParsedViews.{arrival_from};
+ghost use Rattle.lpt_link.specs.Links.{after_drop, packet_in_hand, refusal_drop};
 ghost use Rattle.lpt_model.specs.State.{end_of, refusal_of, after, arrival_held, as_list, put_report, put_some, released_of, add_release, IsAccepted};
-ghost use Rattle.lpt_model.specs.LptEvents.declared.reply.Answer.{Answer};
+ghost use Rattle.lpt_events.specs.declared.reply.Answer.{Answer};
 ghost use Rattle.lpt_system.specs.Outside.{octets_held, IsReadOf};
 
 use crate::system::System;
-use lpt_model::{
-    Accepted, Answer, Direction, Event, Lane, Link, Name, Octets, Outcome, Parsed, Release, Reply,
-};
+use lpt_events::{Answer, Event, Lane, Outcome, Release, Reply};
+use lpt_link::Link;
+use lpt_node::{Accepted, Parsed};
+use lpt_packet::{Direction, Name, Octets};
 use std::alloc::AllocError;
 
 impl System {
@@ -176,7 +177,7 @@ fn transaction(direction: Direction, outcome: Outcome) -> Option<(Direction, Nam
     ensures { result ≡ released_of direction outcome }
 {
     match outcome {
-        Outcome::Released(id, _) => Some((direction, id)),
+        Outcome::Released(name, _) => Some((direction, name)),
         _ => None,
     }
 }

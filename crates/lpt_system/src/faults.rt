@@ -3,7 +3,8 @@
 ghost use Rattle.std.specs.Prelude.{◌≡◌};
 ghost use Rattle.lpt_model.specs.State.{link_fault};
 
-use lpt_model::{LinkFault, StepFault};
+use lpt_events::StepFault;
+use lpt_link::LinkFault;
 
 // The link's fault.
 pub(crate) fn of_link(fault: LinkFault) -> StepFault

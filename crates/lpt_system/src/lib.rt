@@ -5,22 +5,20 @@
 //! The first calls are `System::new`, `refusal`, and `apply` for an event that isn't refused.
 #![tactic(auto)]
 
-mod anew;
 mod damaging;
 mod delivering;
 mod faults;
 mod requesting;
+mod restart;
 mod system;
 mod tickets;
 mod timing;
 mod working;
 
-pub use lpt_model::{
-    Accepted, AckFlags, Answer, Applied, Area, Ask, Call, Config, ConfigFault, Direction, Entry,
-    Event, FailureCode, LONGEST_PACKET, Lane, Memories, Mode, Name, Node, NodeFault, Octets,
-    Opening, Outcome, Packet, PacketKind, Parsed, Prepared, Puts, Reason, Refused, Release, Reply,
-    RunEnd, SeatLog, Shape, Side, State, StepFault, Ticket, TmHead, Turns, Why, Worker, count,
-    crc16, prepare, write_packet, write_tm,
-};
+pub use lpt_events::{Config, Event, Lane, Opening, Release, Reply, Side, StepFault, Worker};
+pub use lpt_ledger::State;
+pub use lpt_memory::{Memories, Prepared};
+pub use lpt_node::{Node, Parsed};
+pub use lpt_packet::{Direction, Name, Octets};
 pub use system::System;
 pub use tickets::{HeldJob, Tickets};

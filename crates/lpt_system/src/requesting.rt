@@ -4,7 +4,9 @@ ghost use Rattle.std.specs.Prelude.{◌≡◌, None, IfOk, OnErr};
 ghost use Rattle.lpt_model.specs.State.{refusal_of, after};
 
 use crate::system::{System, put_one, put_reserved};
-use lpt_model::{AckFlags, Answer, Direction, Event, Octets, Reply};
+use lpt_events::{Answer, Event, Reply};
+use lpt_packet::{Direction, Octets};
+use lpt_pus::AckFlags;
 use std::alloc::AllocError;
 
 impl System {

@@ -3,22 +3,24 @@
 
 ghost use Rattle.std.specs.Prelude.{◌≡◌, ◌+◌, ◌<◌, ◌≤◌, ◌^◌, IfOk, IfSome, OnErr, None, Some, length};
 ghost use Rattle.std.specs.Option.{option_map};
-ghost use Rattle.lpt_model.specs.LptJobs.Jobs.{numbered};
-ghost use Rattle.lpt_model.specs.LptLink.Counts.{HasPlace};
-ghost use Rattle.lpt_model.specs.LptLink.Links.{after_put};
-ghost use Rattle.lpt_model.specs.LptNode.Asking.{refusal_of as node_refusal};
-ghost use Rattle.lpt_model.specs.LptNode.Faults.{node_fault};
-ghost use Rattle.lpt_model.specs.LptNode.Nodes.{new_node};
+ghost use Rattle.lpt_jobs.specs.Jobs.{numbered};
+ghost use Rattle.lpt_link.specs.Counts.{HasPlace};
+ghost use Rattle.lpt_link.specs.Links.{after_put};
+ghost use Rattle.lpt_node.specs.Asking.{refusal_of as node_refusal};
+ghost use Rattle.lpt_node.specs.Faults.{node_fault};
+ghost use Rattle.lpt_node.specs.Nodes.{new_node};
 ghost use Rattle.lpt_system.specs.SystemSound.{IsSound};
-ghost use Rattle.lpt_model.specs.LptEvents.Configs.{IsConfig};
+ghost use Rattle.lpt_events.specs.Configs.{IsConfig};
 ghost use Rattle.lpt_model.specs.State.{no_state, end_of, refusal_of, after, as_list, put_report, put_some, IsReady, quiet as quiet_reply, put_one as put_one_reply};
 
 use crate::faults::of_link;
 use crate::tickets::Tickets;
-use lpt_model::{
-    Answer, Ask, Config, Direction, Event, Lane, Link, Memories, Name, Node, NodeFault, Octets,
-    Opening, Puts, Release, Reply, Side, StepFault, count,
-};
+use lpt_events::{Answer, Config, Event, Lane, Opening, Puts, Release, Reply, Side, StepFault};
+use lpt_link::Link;
+use lpt_memory::Memories;
+use lpt_node::{Ask, Node, NodeFault};
+use lpt_packet::{Direction, Name, Octets};
+use lpt_part::count;
 use std::alloc::{AllocError, Global};
 
 /// Both ends, the link, the workers' tickets and the memories. It knows nothing of a journal.
@@ -64,16 +66,22 @@ impl System {
         ensures { result ≡ refusal_of self.now.config (state_of self.now) event.now }
     {
         match event {
-            Event::Open(direction, id, message) => {
-                let ask = Ask::Open(*id, message.as_slice().len());
+            Event::Open(direction, name, message) => {
+                let ask = Ask::Open(*name, message.as_slice().len());
                 self.ask(Side::sender(*direction), ask)
             }
-            Event::Send(direction, id, k) => self.ask(Side::sender(*direction), Ask::Send(*id, *k)),
+            Event::Send(direction, name, k) => self.ask(
+                Side::sender(*direction),
+                Ask::Send(*name, *k),
+            ),
             Event::Plain(_, _, service, subtype, body) => {
                 let ask = Ask::Plain(*service, *subtype, body.as_slice().len());
                 self.ask(Side::Ground, ask)
             }
-            Event::Finish(direction, id) => self.ask(Side::sender(*direction), Ask::Finish(*id)),
+            Event::Finish(direction, name) => self.ask(
+                Side::sender(*direction),
+                Ask::Finish(*name),
+            ),
             Event::Lose(n) => self.refusal_lose(*n),
             Event::Damage(direction, octets) => self.refusal_damage(*direction, octets),
             Event::Take(lane, n) => self.link.refusal_take(*lane, *n).map(of_link),
@@ -83,7 +91,7 @@ impl System {
             Event::Claim(worker) => self.refusal_claim(*worker),
             Event::Commit(worker) => self.refusal_commit(*worker),
             Event::Apply => self.ask(Side::Craft, Ask::Apply),
-            Event::Retire(direction, id) => self.refusal_retire(*direction, *id),
+            Event::Retire(direction, name) => self.refusal_retire(*direction, *name),
             Event::Restart(_) => None,
         }
     }
@@ -111,12 +119,12 @@ impl System {
         ensures config { self.new.config ≡ self.old.config }
     {
         match event {
-            Event::Open(direction, id, message) => self.open(place, *direction, *id, message),
-            Event::Send(direction, id, k) => self.send(*direction, *id, *k),
+            Event::Open(direction, name, message) => self.open(place, *direction, *name, message),
+            Event::Send(direction, name, k) => self.send(*direction, *name, *k),
             Event::Plain(source, flags, service, subtype, body) => {
                 self.plain(*source, *flags, *service, *subtype, body)
             }
-            Event::Finish(direction, id) => Ok(self.finish(*direction, *id)),
+            Event::Finish(direction, name) => Ok(self.finish(*direction, *name)),
             Event::Lose(n) => Ok(self.lose(*n)),
             Event::Damage(direction, octets) => self.damage(*direction, octets),
             Event::Take(lane, n) => Ok(self.take(*lane, *n)),
@@ -126,7 +134,7 @@ impl System {
             Event::Claim(worker) => Ok(self.claim(*worker)),
             Event::Commit(worker) => self.commit(*worker),
             Event::Apply => self.execute(place),
-            Event::Retire(direction, id) => Ok(self.retire(*direction, *id)),
+            Event::Retire(direction, name) => Ok(self.retire(*direction, *name)),
             Event::Restart(side) => Ok(self.restart(*side)),
         }
     }
@@ -136,12 +144,12 @@ impl System {
         &mut self,
         place: u64,
         direction: Direction,
-        id: Name,
+        name: Name,
         message: &Octets,
     ) -> Result<Reply, AllocError>
-        requires { refusal_of self.old.config (state_of self.old) (Event.Open direction id message.now) ≡ None }
+        requires { refusal_of self.old.config (state_of self.old) (Event.Open direction name message.now) ≡ None }
         ensures ok { IfOk result (λ r. (state_of self.new, r)
-            ≡ after self.old.config place (state_of self.old) (Event.Open direction id message.now)) }
+            ≡ after self.old.config place (state_of self.old) (Event.Open direction name message.now)) }
         ensures err { OnErr result (state_of self.new ≡ state_of self.old) }
         ensures config { self.new.config ≡ self.old.config }
     {
@@ -150,13 +158,13 @@ impl System {
         let opening = Opening {
             place,
             direction,
-            id,
+            name,
             message: message.copy()?,
         };
         let sent = message.copy()?;
         let taken = match direction {
-            Direction::Up => self.on_ground.open(id, sent),
-            Direction::Down => self.on_craft.open(id, sent),
+            Direction::Up => self.on_ground.open(name, sent),
+            Direction::Down => self.on_craft.open(name, sent),
         };
         match taken {
             Ok(()) => {
@@ -168,21 +176,21 @@ impl System {
     }
 
     // Puts a part on the link.
-    fn send(&mut self, direction: Direction, id: Name, k: u16) -> Result<Reply, AllocError>
-        requires { refusal_of self.old.config (state_of self.old) (Event.Send direction id k) ≡ None }
+    fn send(&mut self, direction: Direction, name: Name, k: u16) -> Result<Reply, AllocError>
+        requires { refusal_of self.old.config (state_of self.old) (Event.Send direction name k) ≡ None }
         ensures ok { IfOk result (λ r. (state_of self.new, r)
-            ≡ after self.old.config 0 (state_of self.old) (Event.Send direction id k)) }
+            ≡ after self.old.config 0 (state_of self.old) (Event.Send direction name k)) }
         ensures err { OnErr result (state_of self.new ≡ state_of self.old) }
         ensures config { self.new.config ≡ self.old.config }
     {
-        self.link.reserve(1, Some((direction, id)))?;
+        self.link.reserve(1, Some((direction, name)))?;
         let sent = match direction {
-            Direction::Up => self.on_ground.send_part(id, k),
-            Direction::Down => self.on_craft.send_part(id, k),
+            Direction::Up => self.on_ground.send_part(name, k),
+            Direction::Down => self.on_craft.send_part(name, k),
         };
         match sent {
             Ok(octets) => {
-                let n = put_reserved(&mut self.link, direction, Some(id), octets);
+                let n = put_reserved(&mut self.link, direction, Some(name), octets);
                 Ok(put_one(n, Answer::Put(n)))
             }
             Err(_) => Err(AllocError),
@@ -190,16 +198,16 @@ impl System {
     }
 
     // Closes an open sender.
-    fn finish(&mut self, direction: Direction, id: Name) -> Reply
-        requires { refusal_of self.old.config (state_of self.old) (Event.Finish direction id)
+    fn finish(&mut self, direction: Direction, name: Name) -> Reply
+        requires { refusal_of self.old.config (state_of self.old) (Event.Finish direction name)
             ≡ None }
         ensures ok { (state_of self.new, result)
-            ≡ after self.old.config 0 (state_of self.old) (Event.Finish direction id) }
+            ≡ after self.old.config 0 (state_of self.old) (Event.Finish direction name) }
         ensures config { self.new.config ≡ self.old.config }
     {
         let finished = match direction {
-            Direction::Up => self.on_ground.finish(id),
-            Direction::Down => self.on_craft.finish(id),
+            Direction::Up => self.on_ground.finish(name),
+            Direction::Down => self.on_craft.finish(name),
         };
         match finished {
             Ok(()) => quiet(Answer::Finished),

@@ -5,7 +5,8 @@ ghost use Rattle.std.specs.Option.{option_map};
 ghost use Rattle.lpt_model.specs.Tickets.{no_tickets, ticket_of, with_ticket};
 ghost use Rattle.lpt_system.specs.TicketsInside.{job_of, tickets_of};
 
-use lpt_model::{Octets, Worker};
+use lpt_events::Worker;
+use lpt_packet::Octets;
 
 /// A job that a worker has: its boot, its number in that boot, and its message.
 #[derive(Drop)]

@@ -4,7 +4,8 @@ ghost use Rattle.std.specs.Prelude.{◌≡◌, None, IfOk, OnErr};
 ghost use Rattle.lpt_model.specs.State.{end_of, refusal_of, after};
 
 use crate::system::{System, quiet};
-use lpt_model::{Answer, Event, Expired, Reply, Side};
+use lpt_events::{Answer, Event, Reply, Side};
+use lpt_node::Expired;
 use std::alloc::AllocError;
 
 impl System {
@@ -42,8 +43,8 @@ impl System {
             Side::Craft => self.on_craft.expire(),
         };
         match expired {
-            Ok(Expired { id, packet }) => {
-                Ok(self.report(Answer::Expired(side.receives(), id), packet))
+            Ok(Expired { name, packet }) => {
+                Ok(self.report(Answer::Expired(side.receives(), name), packet))
             }
             Err(_) => Err(AllocError),
         }

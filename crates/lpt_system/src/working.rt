@@ -2,19 +2,20 @@
 
 ghost use Rattle.std.specs.Prelude.{◌≡◌, ◌≤◌, Some, None, IfOk, OnErr, IsTrue, length, vec_len};
 ghost use Rattle.std.specs.Option.{option_map};
-ghost use Rattle.lpt_model.specs.LptPacket.declared.direction.Direction.TheVariants.{Down};
-ghost use Rattle.lpt_model.specs.LptJobs.Jobs.{is_claimed};
-ghost use Rattle.lpt_model.specs.LptNode.Jobs.{committed};
+ghost use Rattle.lpt_packet.specs.declared.direction.Direction.TheVariants.{Down};
+ghost use Rattle.lpt_jobs.specs.Jobs.{is_claimed};
+ghost use Rattle.lpt_node.specs.Jobs.{committed};
 ghost use Rattle.lpt_model.specs.State.{after, put_all, put_some, refusal_of, commit_told, IsReady, quiet as quiet_reply};
 ghost use Rattle.lpt_model.specs.Tickets.{ticket_of};
 ghost use Rattle.lpt_system.specs.Outside.{reading_for};
 
 use crate::system::{System, put_reserved, quiet};
 use crate::tickets::HeldJob;
-use lpt_model::{
-    Answer, Ask, Direction, Event, Executed, Link, Octets, Opening, Prepared, Puts, Reply, Side,
-    StepFault, Ticket, Worker, prepare,
-};
+use lpt_events::{Answer, Event, Opening, Puts, Reply, Side, StepFault, Worker};
+use lpt_link::Link;
+use lpt_memory::{Prepared, Ticket, prepare};
+use lpt_node::{Ask, Executed};
+use lpt_packet::{Direction, Octets};
 use std::alloc::AllocError;
 
 /// The most packets that one execution puts on the link.
@@ -145,11 +146,11 @@ impl System {
             packets,
             opened,
         } = executed;
-        if let Some((id, message)) = opened {
+        if let Some((name, message)) = opened {
             self.opened.push_reserved(Opening {
                 place,
                 direction: Direction::Down,
-                id,
+                name,
                 message,
             });
         }

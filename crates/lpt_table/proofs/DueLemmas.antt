@@ -5,9 +5,9 @@ use Rattle.std.specs.FinMap as map
 use Rattle.std.specs.FinMap.{get-entries, entries_sorted}
 use Rattle.std.specs.FinMap.Entries.{below_all, find, is_sorted}
 use Rattle.std.proofs.Common.{sym, ◌∙◌, ap, arith, inl, inr, ltb-true, ltb-false, leb-true, leb-false}
-use Rattle.lpt_reception.specs.LptPacket.Names.{Name, name_before, name_cmp}
-use Rattle.lpt_reception.proofs.LptPacket.KeyLemmas.{first, second, found_first, found_cases, found_above, found_still}
-use Rattle.lpt_reception.proofs.LptPacket.NameLemmas.{name_cmp_total, name_cmp-IsAntisymmetric, name_before-refl, name_before-less, neither_before}
+use Rattle.lpt_packet.specs.Names.{Name, name_before, name_cmp}
+use Rattle.lpt_packet.proofs.KeyLemmas.{first, second, found_first, found_cases, found_above, found_still}
+use Rattle.lpt_packet.proofs.NameLemmas.{name_cmp_total, name_cmp-IsAntisymmetric, name_before-refl, name_before-less, neither_before}
 use Rattle.lpt_table.specs.Deadlines.{IsDue, sooner, soonest, due_of}
 use Rattle.lpt_table.specs.Tables.{TableEntry, TableState}
 
@@ -127,7 +127,7 @@ soonest_is timeout now (e ∷ es) up =
 soonest_due : (t : TableState) (now : ℕ) (r : Option (Name × ℕ))
     → Soonest t.timeout now (map.entries t.entries) r
     → IsDue t now (option_map (λ b. b.0) r)
-soonest_due t now None h = λ id entry g. h id entry (sym (get-entries t.entries id) ∙ g)
+soonest_due t now None h = λ name entry g. h name entry (sym (get-entries t.entries name) ∙ g)
 soonest_due t now (Some b) h = (
   h.entry,
   record {

@@ -8,8 +8,8 @@ use Rattle.std.specs.Ordering.{eq_by_cmp}
 use Rattle.std.proofs.Common.{sym, ◌∙◌, ap, subst, arith}
 use Rattle.std.proofs.lemmas.List.{length-map}
 use Rattle.slab.specs.Slab.{Slab, get}
-use Rattle.lpt_reception.proofs.LptPacket.NameLemmas.{name_cmp_total, name_tied, same_name-refl, same_name-true}
-use Rattle.lpt_reception.specs.LptPacket.Names.{Name, name_cmp, same_name}
+use Rattle.lpt_packet.proofs.NameLemmas.{name_cmp_total, name_tied, same_name-refl, same_name-true}
+use Rattle.lpt_packet.specs.Names.{Name, name_cmp, same_name}
 use Rattle.lpt_reception.specs.Received.{Received}
 use Rattle.lpt_table.specs.declared.places.Place.{Place}
 use Rattle.lpt_table.specs.EntriesOf.{entry_at, parts_in, entries_of, map_of}
@@ -21,12 +21,12 @@ use Rattle.lpt_table.proofs.PlaceLemmas.{len-from_entries}
 -- ---- names and options
 
 -- equal names tie
-pub tied_equal : (q id : Name) → q ≡ id → eq_by_cmp name_cmp q id ≡ true
-tied_equal q id e = name_tied q id ∙ ap (λ (n : Name). same_name n id) e ∙ same_name-refl id
+pub tied_equal : (q name : Name) → q ≡ name → eq_by_cmp name_cmp q name ≡ true
+tied_equal q name e = name_tied q name ∙ ap (λ (n : Name). same_name n name) e ∙ same_name-refl name
 
 -- names tie where they are equal
-pub equal_tied : (q id : Name) → eq_by_cmp name_cmp q id ≡ true → q ≡ id
-equal_tied q id h = same_name-true q id (sym (name_tied q id) ∙ h)
+pub equal_tied : (q name : Name) → eq_by_cmp name_cmp q name ≡ true → q ≡ name
+equal_tied q name h = same_name-true q name (sym (name_tied q name) ∙ h)
 
 -- what stands in two options that are equal is equal
 pub inside : {X : Type 0} (x y : X) → Some x ≡ Some y → x ≡ y
@@ -36,7 +36,7 @@ inside x y e = cc
 
 -- a place under its name
 abbrev pub under_name : Place → Name × Place
-under_name x = (x.id, x)
+under_name x = (x.name, x)
 
 -- it has as many entries as there are places
 pub length-by_name : (xs : List Place) → length (by_name xs) ≡ length xs
@@ -47,7 +47,7 @@ find-entries_of : (s : Slab Received) (q : Name) (xs : List Place)
     → find name_cmp q (entries_of s xs) ≡ option_map (entry_at s) (find name_cmp q (by_name xs))
 find-entries_of s q [] = refl
 find-entries_of s q (x ∷ xs) =
-    elim (eq_by_cmp name_cmp q x.id) as (λ b.
+    elim (eq_by_cmp name_cmp q x.name) as (λ b.
     cond b (Some (entry_at s x)) (find name_cmp q (entries_of s xs))
     ≡ option_map (entry_at s) (cond b (Some x) (find name_cmp q (by_name xs)))) [
       | true ↦ refl
@@ -64,7 +64,7 @@ AreApart-entries_of : (s : Slab Received) (xs : List Place)
     → AreApart name_cmp (entries_of s xs)
 AreApart-entries_of s [] h = tt
 AreApart-entries_of s (x ∷ xs) h = (
-  find-entries_of s x.id xs ∙ ap (option_map (entry_at s)) h.0,
+  find-entries_of s x.name xs ∙ ap (option_map (entry_at s)) h.0,
   AreApart-entries_of s xs h.1,
 )
 
@@ -74,7 +74,7 @@ pub len-map_of : (s : Slab Received) (xs : List Place)
     → maps.len (map_of s xs) ≡ length xs
 len-map_of s xs h =
     len-from_entries name_cmp name_cmp_total (entries_of s xs) (AreApart-entries_of s xs h)
-    ∙ length-map xs (λ (x : Place). (x.id, entry_at s x))
+    ∙ length-map xs (λ (x : Place). (x.name, entry_at s x))
 
 -- receptions that stay where they are stay the same
 pub same_entries : (s t : Slab Received) (r : Option Place)

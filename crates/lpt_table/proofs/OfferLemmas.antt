@@ -4,12 +4,12 @@ use Rattle.std.specs.FinMap as map
 use Rattle.std.specs.FinMap.{get-insert}
 use Rattle.std.specs.Ordering.{is_eq}
 use Rattle.std.specs.Cmp.{nat_cmp_total, tied_itself}
-use Rattle.lpt_reception.proofs.LptPacket.NameLemmas.{name_cmp-IsAntisymmetric, name_cmp_total}
+use Rattle.lpt_packet.proofs.NameLemmas.{name_cmp-IsAntisymmetric, name_cmp_total}
 use Rattle.std.proofs.Common.{sym, ◌∙◌, ap, subst, inl, inr}
-use Rattle.lpt_reception.specs.LptPacket.Names.{Name}
-use Rattle.lpt_reception.specs.LptPart.declared.mode.Mode.{Mode}
-use Rattle.lpt_reception.specs.LptPart.declared.reason.Reason.{Reason}
-use Rattle.lpt_reception.specs.LptPart.declared.reason.Reason.TheVariants as reason
+use Rattle.lpt_packet.specs.Names.{Name}
+use Rattle.lpt_part.specs.declared.mode.Mode.{Mode}
+use Rattle.lpt_part.specs.declared.reason.Reason.{Reason}
+use Rattle.lpt_part.specs.declared.reason.Reason.TheVariants as reason
 use Rattle.lpt_reception.specs.declared.step.Took.{Took}
 use Rattle.lpt_reception.specs.declared.step.Took.TheVariants as took
 use Rattle.lpt_reception.specs.declared.step.Step.TheVariants as step
@@ -21,7 +21,7 @@ use Rattle.lpt_table.specs.declared.offer.Offer.{Offer}
 use Rattle.lpt_table.specs.declared.offer.Offer.TheVariants.{Kept, Again, Whole, Conflict, Gap, NoRoom, Memory}
 use Rattle.lpt_table.specs.EntryLists.{Listing, TakesIn, last_after}
 use Rattle.lpt_table.specs.Offering.{is_full, parts_of, parts_at, received_at, with_entry, TakesOut, put_back, offered}
-use Rattle.lpt_table.specs.Offers.{Offers, Its, kind_of}
+use Rattle.lpt_table.specs.Offers.{Offers, IsOfName, kind_of}
 use Rattle.lpt_table.specs.Tables.{TableEntry, TableState, Entries}
 use Rattle.lpt_table.proofs.MapLemmas.{insert-remove, insert-same, remove-insert, get-inserted, get-removed}
 use Rattle.lpt_table.proofs.ListingLemmas.{inside}
@@ -29,8 +29,8 @@ use Rattle.lpt_table.proofs.ListingLemmas.{inside}
 -- ---- the map after several changes
 
 -- nothing is under a name that was removed
-pub get-without : (m : Entries) (id : Name) → map.get (map.remove m id) id ≡ None
-get-without m id = get-removed name_cmp_total name_cmp-IsAntisymmetric m id
+pub get-without : (m : Entries) (name : Name) → map.get (map.remove m name) name ≡ None
+get-without m name = get-removed name_cmp_total name_cmp-IsAntisymmetric m name
 
 abbrev with_entries : TableState → Entries → TableState
 with_entries t m = record t { entries = m }
@@ -39,30 +39,32 @@ with_entries t m = record t { entries = m }
 abbrev entry : Parts → ℕ → TableEntry
 entry parts last = record { parts = parts; last = last }
 
-put_again : (t : TableState) (id : Name) (e : TableEntry)
-    → with_entries t (map.insert (map.remove t.entries id) id e)
-    ≡ with_entries t (map.insert t.entries id e)
-put_again t id e =
-    ap (with_entries t) (insert-remove name_cmp_total name_cmp-IsAntisymmetric t.entries id e)
+put_again : (t : TableState) (name : Name) (e : TableEntry)
+    → with_entries t (map.insert (map.remove t.entries name) name e)
+    ≡ with_entries t (map.insert t.entries name e)
+put_again t name e =
+    ap (with_entries t) (insert-remove name_cmp_total name_cmp-IsAntisymmetric t.entries name e)
 
 -- what is kept under a name is put under it again
-same_again : (t : TableState) (id : Name) (e : TableEntry)
-    → map.get t.entries id ≡ Some e
-    → with_entry t id (parts_at t id) e.last ≡ t
-same_again t id e was =
+same_again : (t : TableState) (name : Name) (e : TableEntry)
+    → map.get t.entries name ≡ Some e
+    → with_entry t name (parts_at t name) e.last ≡ t
+same_again t name e was =
     ap (with_entries t)
-    (insert-same name_cmp_total name_cmp-IsAntisymmetric t.entries id (entry (parts_at t id) e.last)
+    (insert-same name_cmp_total name_cmp-IsAntisymmetric t.entries name
+    (entry (parts_at t name) e.last)
     (was ∙ ap (λ s. Some (entry s e.last)) (ap parts_of (sym was))))
 
 -- a reception that is put back as it was leaves the table as it was
-pub put_back-takes_out : (old new : TableState) (id : Name)
+pub put_back-takes_out : (old new : TableState) (name : Name)
     → old.out ≡ None
-    → TakesOut old new id
-    → put_back new id (parts_at old id) ≡ old
-put_back-takes_out old new id settled h =
-    ap (λ (t : TableState). put_back t id (parts_at old id)) h.now
+    → TakesOut old new name
+    → put_back new name (parts_at old name) ≡ old
+put_back-takes_out old new name settled h =
+    ap (λ (t : TableState). put_back t name (parts_at old name)) h.now
     ∙ ap (λ (t : TableState). record t { out = None })
-    (put_again old id (entry (parts_at old id) h.entry.last) ∙ same_again old id h.entry h.was)
+    (put_again old name (entry (parts_at old name) h.entry.last)
+    ∙ same_again old name h.entry h.was)
     ∙ ap (λ o. record old { out = o }) (sym settled)
 
 -- ---- a reception that stays in its list
@@ -94,7 +96,7 @@ takes_keeps mode s new n x took.NoMemory h =
     (ap (λ (r : Received). r.id) h.1, ap (λ (r : Received). r.p) h.1)
 
 module _ (timeout : ℕ) (mode : Mode) (gone : Option (Name × ℕ)) (o w : Listing)
-    (id : Name) (n now : ℕ) (x : KeptPart) where
+    (name : Name) (n now : ℕ) (x : KeptPart) where
   abbrev old : TableState
   old = table timeout mode gone o
 
@@ -102,44 +104,46 @@ module _ (timeout : ℕ) (mode : Mode) (gone : Option (Name × ℕ)) (o w : List
   new = table timeout mode gone w
 
   abbrev received : Parts → Received
-  received parts = record { id = id.id; p = o.p; parts = parts }
+  received parts = record { id = name.id; p = o.p; parts = parts }
 
-  same : (e : TableEntry) → map.get o.entries id ≡ Some e → received e.parts ≡ received_at old id
-  same e was = λ i. record { id = id.id; p = o.p; parts = ap parts_of (sym was) i }
+  same : (e : TableEntry) → map.get o.entries name ≡ Some e → received e.parts
+      ≡ received_at old name
+  same e was = λ i. record { id = name.id; p = o.p; parts = ap parts_of (sym was) i }
 
-  not_full : (e : TableEntry) → map.get o.entries id ≡ Some e → is_full old id ≡ false
+  not_full : (e : TableEntry) → map.get o.entries name ≡ Some e → is_full old name ≡ false
   not_full e was = ap (λ r. not (is_some r) && nat_le o.limit (map.len o.entries)) was
 
   -- the list with this under the name
   abbrev with : Parts → ℕ → Listing
-  with parts last = record o { entries = map.insert o.entries id (entry parts last) }
+  with parts last = record o { entries = map.insert o.entries name (entry parts last) }
 
   became : (parts : Parts) (last : ℕ)
       → w ≡ with parts last
-      → new ≡ with_entry old id parts last
+      → new ≡ with_entry old name parts last
   became parts last is = ap (table timeout mode gone) is
 
-  pub offers_kept : TakesIn mode o w id n now x took.Kept → Offers old id n x now Kept new
+  pub offers_kept : TakesIn mode o w name n now x took.Kept → Offers old name n x now Kept new
   offers_kept h =
       let b = subst (λ (s : Received). Answers mode s n x (step.Filling (received h.parts)))
       (same h.entry h.was) h.takes
       in (
         not_full h.entry h.was,
         (b.0, b.1, refl),
-        became h.parts now h.becomes ∙ ap (λ (f : Received). with_entry old id f.parts now) b.2,
+        became h.parts now h.becomes ∙ ap (λ (f : Received). with_entry old name f.parts now) b.2,
       )
 
-  pub offers_again : TakesIn mode o w id n now x took.Again → Offers old id n x now Again new
+  pub offers_again : TakesIn mode o w name n now x took.Again → Offers old name n x now Again new
   offers_again h =
       let b = subst (λ (s : Received). Answers mode s n x (step.Again (received h.parts)))
       (same h.entry h.was) h.takes
       in (
         not_full h.entry h.was,
         (b.0, b.1, refl),
-        became h.parts now h.becomes ∙ ap (λ (f : Received). with_entry old id f.parts now) b.2,
+        became h.parts now h.becomes ∙ ap (λ (f : Received). with_entry old name f.parts now) b.2,
       )
 
-  pub offers_memory : TakesIn mode o w id n now x took.NoMemory → Offers old id n x now Memory new
+  pub offers_memory : TakesIn mode o w name n now x took.NoMemory
+      → Offers old name n x now Memory new
   offers_memory h =
       let b = subst (λ (s : Received). Answers mode s n x (step.NoMemory (received h.parts)))
       (same h.entry h.was) h.takes
@@ -147,33 +151,33 @@ module _ (timeout : ℕ) (mode : Mode) (gone : Option (Name × ℕ)) (o w : List
         not_full h.entry h.was,
         (b.0, refl),
         became h.parts h.entry.last h.becomes
-            ∙ ap (λ (f : Received). with_entry old id f.parts h.entry.last) b.1
-            ∙ same_again old id h.entry h.was,
+            ∙ ap (λ (f : Received). with_entry old name f.parts h.entry.last) b.1
+            ∙ same_again old name h.entry h.was,
       )
 
   -- it is still open
-  pub still_open : (t : Took) → TakesIn mode o w id n now x t → IsSome (map.get w.entries id)
+  pub still_open : (t : Took) → TakesIn mode o w name n now x t → IsSome (map.get w.entries name)
   still_open t h =
-      ap (λ (l : Listing). is_some (map.get l.entries id)) h.becomes
+      ap (λ (l : Listing). is_some (map.get l.entries name)) h.becomes
       ∙ ap is_some
-      (get-inserted name_cmp_total name_cmp-IsAntisymmetric o.entries id
+      (get-inserted name_cmp_total name_cmp-IsAntisymmetric o.entries name
       (entry h.parts (last_after t h.entry.last now)))
 
   -- ---- and is then taken out
 
   module _ (e : TableEntry) (parts : Parts)
-      (was : map.get o.entries id ≡ Some e) (is : w ≡ with parts e.last) where
-    found : map.get w.entries id ≡ Some (entry parts e.last)
+      (was : map.get o.entries name ≡ Some e) (is : w ≡ with parts e.last) where
+    found : map.get w.entries name ≡ Some (entry parts e.last)
     found =
-        ap (λ (l : Listing). map.get l.entries id) is
-        ∙ get-inserted name_cmp_total name_cmp-IsAntisymmetric o.entries id (entry parts e.last)
+        ap (λ (l : Listing). map.get l.entries name) is
+        ∙ get-inserted name_cmp_total name_cmp-IsAntisymmetric o.entries name (entry parts e.last)
 
-    left : map.remove w.entries id ≡ map.remove o.entries id
+    left : map.remove w.entries name ≡ map.remove o.entries name
     left =
-        ap (λ (l : Listing). map.remove l.entries id) is
-        ∙ remove-insert name_cmp_total name_cmp-IsAntisymmetric o.entries id (entry parts e.last)
+        ap (λ (l : Listing). map.remove l.entries name) is
+        ∙ remove-insert name_cmp_total name_cmp-IsAntisymmetric o.entries name (entry parts e.last)
 
-    takes_out : (g : TableState) → TakesOut new g id → TakesOut old g id
+    takes_out : (g : TableState) → TakesOut new g name → TakesOut old g name
     takes_out g out =
         let its : out.entry ≡ entry parts e.last = inside out.entry (entry parts e.last)
         (sym out.was ∙ found)
@@ -187,20 +191,20 @@ module _ (timeout : ℕ) (mode : Mode) (gone : Option (Name × ℕ)) (o w : List
             p = ap (λ (l : Listing). l.p) is i;
             mode = mode;
             entries = left i;
-            out = Some (id, ap (λ (y : TableEntry). y.last) its i);
+            out = Some (name, ap (λ (y : TableEntry). y.last) its i);
           };
         }
 
-    came_out : received_at new id ≡ received parts
+    came_out : received_at new name ≡ received parts
     came_out = λ i. record {
-      id = id.id;
+      id = name.id;
       p = ap (λ (l : Listing). l.p) is i;
       parts = ap parts_of found i;
     }
 
   -- a whole comes out with the part
-  module _ (h : TakesIn mode o w id n now x took.Whole) (f : Received)
-      (f_is : f ≡ received_at new id) where
+  module _ (h : TakesIn mode o w name n now x took.Whole) (f : Received)
+      (f_is : f ≡ received_at new name) where
     came : f ≡ record (received h.entry.parts) { parts = with_part h.entry.parts n x }
     came = f_is ∙ came_out h.entry h.parts h.was h.becomes ∙ h.takes.1
 
@@ -214,9 +218,9 @@ module _ (timeout : ℕ) (mode : Mode) (gone : Option (Name × ℕ)) (o w : List
         ∙ ap (λ r. cond (is_eq r) (Some x) (map.get h.entry.parts n)) (tied_itself nat_cmp_total n))
 
     pub offers_whole : (g : TableState) (v : Ended)
-        → TakesOut new g id
+        → TakesOut new g name
         → v ≡ ended_by f n
-        → Offers old id n x now (Whole v) g
+        → Offers old name n x now (Whole v) g
     offers_whole g v out v_is =
         let ends = v_is ∙ ended_with (received h.entry.parts) f n x came h.takes.0.0.new.absent in (
           not_full h.entry h.was,
@@ -226,12 +230,12 @@ module _ (timeout : ℕ) (mode : Mode) (gone : Option (Name × ℕ)) (o w : List
         )
 
   pub offers_conflict : (r : Reason)
-      → TakesIn mode o w id n now x (took.Conflict r)
+      → TakesIn mode o w name n now x (took.Conflict r)
       → (g : TableState) (f : Received) (v : BrokenOff)
-      → TakesOut new g id
-      → f ≡ received_at new id
+      → TakesOut new g name
+      → f ≡ received_at new name
       → v ≡ record { before = f; reason = r }
-      → Offers old id n x now (Conflict v) g
+      → Offers old name n x now (Conflict v) g
   offers_conflict r h g f v out f_is v_is =
       let came = f_is ∙ came_out h.entry h.parts h.was h.becomes in (
         not_full h.entry h.was,
@@ -260,9 +264,9 @@ break_cases false false false r e = absurd cc
 
 -- ---- what an answer says
 
-module _ (old new : TableState) (id : Name) (n now : ℕ) (x : KeptPart) where
+module _ (old new : TableState) (name : Name) (n now : ℕ) (x : KeptPart) where
   -- what comes out is of this name and part size
-  pub offers_its : (offer : Offer) → Offers old id n x now offer new → Its id old.p offer
+  pub offers_its : (offer : Offer) → Offers old name n x now offer new → IsOfName name old.p offer
   offers_its Kept h = tt
   offers_its Again h = tt
   offers_its (Whole v) h =
@@ -275,8 +279,8 @@ module _ (old new : TableState) (id : Name) (n now : ℕ) (x : KeptPart) where
 
   -- the answer and the table are what is computed, out of memory aside
   pub offers_offered : (offer : Offer)
-      → Offers old id n x now offer new
-      → IfSome (kind_of offer) (λ k. offered old id n x now ≡ (k, new))
+      → Offers old name n x now offer new
+      → IfSome (kind_of offer) (λ k. offered old name n x now ≡ (k, new))
   unfolding offered
   offers_offered Kept h =
       rw (h.0, h.1.0.new.agrees, h.1.0.new.absent, h.1.0.in_order, h.1.1, h.2)

@@ -6,14 +6,15 @@ use Rattle.std.specs.declared.cmp.Ordering.{Ordering}
 use Rattle.std.specs.declared.cmp.Ordering.TheVariants.{Less, Equal, Greater}
 use Rattle.std.specs.Ordering.{is_lt}
 use Rattle.std.proofs.Common.{arith}
-use Rattle.lpt_reception.specs.LptPacket.Names.{Name}
+use Rattle.lpt_packet.specs.Names.{Name}
 use Rattle.lpt_table.specs.declared.places.Place.{Place}
 use Rattle.lpt_table.specs.Places.{by_moment, rank, when_cmp}
-use Rattle.lpt_table.proofs.OrderLemmas.{less, front, back, when_cmp_total}
+use Rattle.lpt_table.proofs.OrderLemmas.{when_cmp_total}
+use Rattle.lpt_packet.proofs.KeyLemmas.{less, first, second}
 
 -- a last tick and a name beside those of a place
 abbrev pub beside : ℕ × Name → Place → Ordering
-beside m x = when_cmp m (x.last, x.id)
+beside m x = when_cmp m (x.last, x.name)
 
 -- before a place that is later, it belongs at that place or before
 pub rank-at-most : (m : ℕ × Name) (xs : List Place) (i : ℕ) (d : Place)
@@ -39,10 +40,10 @@ below_each : (m : ℕ × Name) (xs : List Place) (i : ℕ) (d : Place)
     → beside m (slice_index_or xs i d) ≡ Less
 below_each m [] i d in_it up = absurd (omega (arith, in_it))
 below_each m (x ∷ xs) zero d in_it up =
-    less (beside m x) (front (is_lt (beside m x)) (below_all when_cmp m (by_moment xs)) up)
+    less (beside m x) (first (is_lt (beside m x)) (below_all when_cmp m (by_moment xs)) up)
 below_each m (x ∷ xs) (suc i) d in_it up =
     below_each m xs i d (omega (arith, in_it))
-    (back (is_lt (beside m x)) (below_all when_cmp m (by_moment xs)) up)
+    (second (is_lt (beside m x)) (below_all when_cmp m (by_moment xs)) up)
 
 -- it belongs behind a place that is not later
 pub rank-beyond : (m : ℕ × Name) (xs : List Place) (i : ℕ) (d : Place)
@@ -60,19 +61,19 @@ rank-beyond m (x ∷ xs) zero d up in_it h =
     ] h
 rank-beyond m (x ∷ xs) (suc i) d up in_it h =
     let n = rank when_cmp m (by_moment xs) in
-    let below = below_all when_cmp (x.last, x.id) (by_moment xs) in
+    let below = below_all when_cmp (x.last, x.name) (by_moment xs) in
     let within : i < length xs = omega (arith, in_it) in
     let rest =
-    rank-beyond m xs i d (back below (is_sorted when_cmp (by_moment xs)) up) within h
+    rank-beyond m xs i d (second below (is_sorted when_cmp (by_moment xs)) up) within h
     in
     elim (beside m x) as (λ r. beside m x ≡ r → suc i < by_order r 0 (suc n) (suc n)) [
       | Less ↦ λ e.
           let y = slice_index_or xs i d in
           let later =
-          below_each (x.last, x.id) xs i d within
-          (front below (is_sorted when_cmp (by_moment xs)) up)
+          below_each (x.last, x.name) xs i d within
+          (first below (is_sorted when_cmp (by_moment xs)) up)
           in
-          absurd (h (when_cmp_total.trans m (x.last, x.id) (y.last, y.id) e later))
+          absurd (h (when_cmp_total.trans m (x.last, x.name) (y.last, y.name) e later))
       | Equal ↦ λ e. omega (arith, rest)
       | Greater ↦ λ e. omega (arith, rest)
     ] refl

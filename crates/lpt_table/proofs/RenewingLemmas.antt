@@ -9,8 +9,8 @@ use Rattle.std.proofs.lemmas.List.Edits.{length-remove}
 use Rattle.std.proofs.lemmas.List.Sums.{sum_by-set}
 use Rattle.slab.specs.Slab.{Slab, ContainsKey, get, slab_len, Updates, with_value}
 use Rattle.slab.proofs.SlabLemmas.{ContainsKey-within, Updates-set, Updates-with_value}
-use Rattle.lpt_reception.proofs.LptPacket.NameLemmas.{name_cmp-IsAntisymmetric, name_cmp_total}
-use Rattle.lpt_reception.specs.LptPacket.Names.{Name, name_cmp}
+use Rattle.lpt_packet.proofs.NameLemmas.{name_cmp-IsAntisymmetric, name_cmp_total}
+use Rattle.lpt_packet.specs.Names.{Name, name_cmp}
 use Rattle.lpt_reception.specs.Received.{Received}
 use Rattle.lpt_table.specs.declared.entries.Entry.{Entry}
 use Rattle.lpt_table.specs.declared.places.Place.{Place}
@@ -50,18 +50,18 @@ sorted-without xs at h =
 -- one that belongs at the end is written there
 pub renewed-last : (xs : List Place) (at : ℕ) (x : Place)
     → at + 1 ≡ length xs
-    → rank when_cmp (x.last, x.id) (by_moment (take at xs)) ≡ at
+    → rank when_cmp (x.last, x.name) (by_moment (take at xs)) ≡ at
     → slice_set xs at x ≡ renewed xs at x
 renewed-last xs at x last same =
     set-insert xs at x (omega (arith, last))
     ∙ ap (λ i. insert (remove xs at) i x)
-    (sym same ∙ ap (λ ys. rank when_cmp (x.last, x.id) (by_moment ys)) (sym (remove-last xs at last)))
+    (sym same ∙ ap (λ ys. rank when_cmp (x.last, x.name) (by_moment ys)) (sym (remove-last xs at last)))
 
 -- ---- a reception that changes
 
 module _ (limit p capacity : ℕ) (s : Slab Received) (xs : List Place)
-    (l : IsListed limit p capacity s xs) (id : Name) (at : ℕ)
-    (is : Some at ≡ spot name_cmp id (by_name xs)) (x : Place)
+    (l : IsListed limit p capacity s xs) (name : Name) (at : ℕ)
+    (is : Some at ≡ spot name_cmp name (by_name xs)) (x : Place)
     (q : x ≡ slice_index_or xs at x) (f : Received) (last : ℕ) where
   -- the slab without it
   abbrev gap : Slab Received
@@ -72,14 +72,14 @@ module _ (limit p capacity : ℕ) (s : Slab Received) (xs : List Place)
   after = with_value s x.key f
 
   abbrev e : Entry
-  e = record { id = id; filling = f; last = last }
+  e = record { name = name; filling = f; last = last }
 
   -- its place
   abbrev pub place : Place
-  place = record { last = last; id = id; key = x.key }
+  place = record { last = last; name = name; key = x.key }
 
   kept : ContainsKey s x.key
-  kept = found-kept limit p capacity s xs l id at is x q
+  kept = found-kept limit p capacity s xs l name at is x q
 
   out : Updates s gap x.key None
   out = Updates-set s gap x.key None (ContainsKey-within s x.key kept) refl
@@ -109,23 +109,23 @@ module _ (limit p capacity : ℕ) (s : Slab Received) (xs : List Place)
       in
       omega (arith, sums, there)
 
-  without : maps.remove (map_of s xs) id ≡ map_of gap (remove xs at)
-  without = sym (removed-map limit p capacity s xs l id at is x q gap out)
+  without : maps.remove (map_of s xs) name ≡ map_of gap (remove xs at)
+  without = sym (removed-map limit p capacity s xs l name at is x q gap out)
 
   rest : IsListed limit p capacity gap (remove xs at)
-  rest = removed-listed limit p capacity s xs l id at is x q gap out less refl
+  rest = removed-listed limit p capacity s xs l name at is x q gap out less refl
 
-  absent : maps.get (map_of gap (remove xs at)) id ≡ None
+  absent : maps.get (map_of gap (remove xs at)) name ≡ None
   absent =
-      ap (λ (m : Entries). maps.get m id) (sym without)
-      ∙ get-removed name_cmp_total name_cmp-IsAntisymmetric (map_of s xs) id
+      ap (λ (m : Entries). maps.get m name) (sym without)
+      ∙ get-removed name_cmp_total name_cmp-IsAntisymmetric (map_of s xs) name
 
   -- the map has the entry under its name
-  pub renewed-map : map_of after (renewed xs at place) ≡ maps.insert (map_of s xs) id (entry_in e)
+  pub renewed-map : map_of after (renewed xs at place) ≡ maps.insert (map_of s xs) name (entry_in e)
   renewed-map =
       placed-map limit p capacity gap (remove xs at) rest e absent after x.key back out.changed
-      ∙ ap (λ (m : Entries). maps.insert m id (entry_in e)) (sym without)
-      ∙ insert-remove name_cmp_total name_cmp-IsAntisymmetric (map_of s xs) id (entry_in e)
+      ∙ ap (λ (m : Entries). maps.insert m name (entry_in e)) (sym without)
+      ∙ insert-remove name_cmp_total name_cmp-IsAntisymmetric (map_of s xs) name (entry_in e)
 
   -- it has as many entries
   pub renewed-len : maps.len (map_of after (renewed xs at place)) ≡ maps.len (map_of s xs)
@@ -133,17 +133,17 @@ module _ (limit p capacity : ℕ) (s : Slab Received) (xs : List Place)
       omega (
         arith,
         placed-len limit p capacity gap (remove xs at) rest e absent after x.key back out.changed,
-        removed-len limit p capacity s xs l id at is x q gap out,
+        removed-len limit p capacity s xs l name at is x q gap out,
       )
 
   -- the list is sound with it
   pub renewed-listed : (more : ℕ)
-      → f.id ≡ id.id
+      → f.id ≡ name.id
       → f.p ≡ p
       → capacity ≤ more
       → IsListed limit p more after (renewed xs at place)
   renewed-listed more named of_size grown =
-      let within = found-within limit p capacity s xs l id at is in
+      let within = found-within limit p capacity s xs l name at is in
       placed-listed limit p capacity gap (remove xs at) rest e absent after x.key back out.changed
       more (record { of_size = of_size; named = named })
       (omega (arith, length-remove xs at within, l.within)) grown

@@ -11,8 +11,8 @@ use Rattle.std.proofs.Math.ListN.{get_or-map}
 use Rattle.std.proofs.lemmas.List.{map-append, take-map, drop-map}
 use Rattle.std.proofs.lemmas.List.Edits.{length-remove}
 use Rattle.slab.specs.Slab.{Slab, ContainsKey, get, slab_len, Updates}
-use Rattle.lpt_reception.proofs.LptPacket.NameLemmas.{name_cmp-IsAntisymmetric, name_cmp_total}
-use Rattle.lpt_reception.specs.LptPacket.Names.{Name, name_cmp}
+use Rattle.lpt_packet.proofs.NameLemmas.{name_cmp-IsAntisymmetric, name_cmp_total}
+use Rattle.lpt_packet.specs.Names.{Name, name_cmp}
 use Rattle.lpt_reception.specs.Received.{Received}
 use Rattle.lpt_table.specs.declared.entries.Entry.{Entry}
 use Rattle.lpt_table.specs.declared.places.Place.{Place}
@@ -38,48 +38,50 @@ by_moment_remove xs i = simp (map-append, take-map, drop-map)
 
 module _ (limit p capacity : ℕ) (s : Slab Received) (xs : List Place)
     (l : IsListed limit p capacity s xs) where
-  spots : (id : Name) → Spots name_cmp id (by_name xs) (spot name_cmp id (by_name xs))
-  spots id = Spots-spot name_cmp name_cmp_total id (by_name xs) l.apart
+  spots : (name : Name) → Spots name_cmp name (by_name xs) (spot name_cmp name (by_name xs))
+  spots name = Spots-spot name_cmp name_cmp_total name (by_name xs) l.apart
 
   -- a name has a place where the map has something under it
-  pub is_some-spot : (id : Name)
-      → is_some (spot name_cmp id (by_name xs)) ≡ is_some (maps.get (map_of s xs) id)
-  is_some-spot id =
-      is_some-Spots name_cmp id (by_name xs) (spot name_cmp id (by_name xs)) (spots id)
-      ∙ is_some-map (find name_cmp id (by_name xs)) ∙ ap is_some (sym (get-map_of s xs id)) where
+  pub is_some-spot : (name : Name)
+      → is_some (spot name_cmp name (by_name xs)) ≡ is_some (maps.get (map_of s xs) name)
+  is_some-spot name =
+      is_some-Spots name_cmp name (by_name xs) (spot name_cmp name (by_name xs)) (spots name)
+      ∙ is_some-map (find name_cmp name (by_name xs))
+      ∙ ap is_some (sym (get-map_of s xs name)) where
         is_some-map : (r : Option Place) → is_some r ≡ is_some (option_map (entry_at s) r)
         is_some-map None = refl
         is_some-map (Some x) = refl
 
   -- ---- a name that has no place
 
-  module _ (id : Name) (is : None ≡ spot name_cmp id (by_name xs)) where
+  module _ (name : Name) (is : None ≡ spot name_cmp name (by_name xs)) where
     -- the map has nothing under it
-    pub missed-none : maps.get (map_of s xs) id ≡ None
+    pub missed-none : maps.get (map_of s xs) name ≡ None
     missed-none =
-        get-map_of s xs id
-        ∙ ap (option_map (entry_at s)) (subst (Spots name_cmp id (by_name xs)) (sym is) (spots id))
+        get-map_of s xs name
+        ∙ ap (option_map (entry_at s))
+        (subst (Spots name_cmp name (by_name xs)) (sym is) (spots name))
 
     -- there is nothing to remove
-    pub missed-rest : maps.remove (map_of s xs) id ≡ map_of s xs
+    pub missed-rest : maps.remove (map_of s xs) name ≡ map_of s xs
     missed-rest =
-        remove-absent name_cmp_total name_cmp-IsAntisymmetric (map_of s xs) id missed-none
+        remove-absent name_cmp_total name_cmp-IsAntisymmetric (map_of s xs) name missed-none
 
   -- ---- a reception that is taken out
 
-  module _ (id : Name) (at : ℕ) (is : Some at ≡ spot name_cmp id (by_name xs)) where
-    here : IsSpot name_cmp id (by_name xs) at
-    here = subst (Spots name_cmp id (by_name xs)) (sym is) (spots id)
+  module _ (name : Name) (at : ℕ) (is : Some at ≡ spot name_cmp name (by_name xs)) where
+    here : IsSpot name_cmp name (by_name xs) at
+    here = subst (Spots name_cmp name (by_name xs)) (sym is) (spots name)
 
     -- the place is one of the list
     pub found-within : at < length xs
     found-within = omega (arith, here.within, length-by_name xs)
 
     find-removed : (q : Name) → find name_cmp q (by_name (remove xs at))
-        ≡ cond (eq_by_cmp name_cmp q id) None (find name_cmp q (by_name xs))
+        ≡ cond (eq_by_cmp name_cmp q name) None (find name_cmp q (by_name xs))
     find-removed q =
         ap (find name_cmp q) (by_name_remove xs at ∙ sym here.rest)
-        ∙ find-others name_cmp_total name_cmp-IsAntisymmetric id q (by_name xs)
+        ∙ find-others name_cmp_total name_cmp-IsAntisymmetric name q (by_name xs)
 
     removed-apart : AreApart name_cmp (by_name (remove xs at))
     removed-apart =
@@ -87,14 +89,14 @@ module _ (limit p capacity : ℕ) (s : Slab Received) (xs : List Place)
         (AreApart-where_key name_cmp _ (by_name xs) l.apart)
 
     module _ (x : Place) (q : x ≡ slice_index_or xs at x) where
-      found : find name_cmp id (by_name xs) ≡ Some x
+      found : find name_cmp name (by_name xs) ≡ Some x
       found =
-          here.value (x.id, x)
+          here.value (x.name, x)
           ∙ ap (λ (e : Name × Place). Some e.1)
           (get_or-map under_name xs at x ∙ ap under_name (sym q))
 
-      found-held : IsHeld s p id x
-      found-held = l.held id x found
+      found-held : IsHeld s p name x
+      found-held = l.held name x found
 
       -- its reception is kept there
       pub found-kept : ContainsKey s x.key
@@ -103,13 +105,13 @@ module _ (limit p capacity : ℕ) (s : Slab Received) (xs : List Place)
       -- it is what the map has under the name, of that name and of the part size
       pub found-entry : (f : Received) (e : Entry)
           → get s x.key ≡ Some f
-          → e ≡ record { id = id; filling = f; last = x.last }
-          → IsEntry (maps.get (map_of s xs) id) id p e
+          → e ≡ record { name = name; filling = f; last = x.last }
+          → IsEntry (maps.get (map_of s xs) name) name p e
       found-entry f e k is =
           let held = found-held in
           let same : held.filling ≡ f = inside held.filling f (sym held.kept ∙ k) in
-          subst (IsEntry (maps.get (map_of s xs) id) id p) (sym is) record {
-            found = get-map_of s xs id ∙ ap (option_map (entry_at s)) found
+          subst (IsEntry (maps.get (map_of s xs) name) name p) (sym is) record {
+            found = get-map_of s xs name ∙ ap (option_map (entry_at s)) found
                 ∙ ap (λ (o : Option Received).
                 Some (record { parts = parts_in o; last = x.last })) k;
             named = refl;
@@ -125,25 +127,25 @@ module _ (limit p capacity : ℕ) (s : Slab Received) (xs : List Place)
             → find name_cmp q (by_name (remove xs at)) ≡ Some y
             → (find name_cmp q (by_name xs) ≡ Some y) × (get t y.key ≡ get s y.key)
         others q y g =
-            let n = not_none (eq_by_cmp name_cmp q id) (find name_cmp q (by_name xs)) y
+            let n = not_none (eq_by_cmp name_cmp q name) (find name_cmp q (by_name xs)) y
             (sym (find-removed q) ∙ g)
             in
             let apart : y.key ≢ x.key = λ e.
             let never : true ≡ false =
-            sym (tied_equal q id (l.alone q id y x n.1 found e)) ∙ n.0 in cc
+            sym (tied_equal q name (l.alone q name y x n.1 found e)) ∙ n.0 in cc
             in
             (n.1, u.others y.key apart)
 
         -- the map is the one without the name
-        pub removed-map : map_of t (remove xs at) ≡ maps.remove (map_of s xs) id
+        pub removed-map : map_of t (remove xs at) ≡ maps.remove (map_of s xs) name
         removed-map =
             same_map name_cmp_total name_cmp-IsAntisymmetric _ _ (λ q.
             get-map_of t (remove xs at) q
             ∙ same_entries s t (find name_cmp q (by_name (remove xs at))) (λ y g. (others q y g).1)
             ∙ ap (option_map (entry_at s)) (find-removed q)
-            ∙ pushed (eq_by_cmp name_cmp q id) (find name_cmp q (by_name xs))
-            ∙ ap (cond (eq_by_cmp name_cmp q id) None) (sym (get-map_of s xs q))
-            ∙ sym (get-remove name_cmp_total (map_of s xs) id q)) where
+            ∙ pushed (eq_by_cmp name_cmp q name) (find name_cmp q (by_name xs))
+            ∙ ap (cond (eq_by_cmp name_cmp q name) None) (sym (get-map_of s xs q))
+            ∙ sym (get-remove name_cmp_total (map_of s xs) name q)) where
               pushed : (b : Bool) (r : Option Place)
                   → option_map (entry_at s) (cond b None r)
                   ≡ cond b None (option_map (entry_at s) r)

@@ -2,7 +2,7 @@
 use Rattle.std.specs.Prelude.{◌≡◌, ℕ, ◌+◌, ◌≤◌, false, nat_le, nat_lt, if◌then◌else◌, List, [], ◌∷◌, Option, Some, None}
 use Rattle.std.specs.Option.{option_map}
 use Rattle.std.specs.FinMap as map
-use Rattle.lpt_reception.specs.LptPacket.Names.{Name, name_before}
+use Rattle.lpt_packet.specs.Names.{Name, name_before}
 use Rattle.lpt_table.specs.Tables.{TableEntry, TableState}
 
 -- the reception took no part for as long as the time-out
@@ -10,19 +10,20 @@ abbrev pub IsOverdue : TableState → ℕ → TableEntry → Type 0
 IsOverdue t now e = e.last + t.timeout ≤ now
 
 -- the overdue reception with the least last tick, and of equal ones the least name
-pub record IsDueEntry (t : TableState) (now : ℕ) (id : Name) (entry : TableEntry) : Type 0 where
-  pub present : map.get t.entries id ≡ Some entry
+pub record IsDueEntry (t : TableState) (now : ℕ) (name : Name) (entry : TableEntry) : Type 0 where
+  pub present : map.get t.entries name ≡ Some entry
   pub overdue : IsOverdue t now entry
   pub oldest : (other : Name) (its : TableEntry)
       → map.get t.entries other ≡ Some its → IsOverdue t now its → entry.last ≤ its.last
   pub least : (other : Name) (its : TableEntry)
-      → map.get t.entries other ≡ Some its → its.last ≡ entry.last → name_before other id ≡ false
+      → map.get t.entries other ≡ Some its → its.last ≡ entry.last → name_before other name ≡ false
 
 -- the reception of this name is due, or none is overdue
 abbrev pub IsDue : TableState → ℕ → Option Name → Type 0
 IsDue t now None =
-    (id : Name) (entry : TableEntry) → map.get t.entries id ≡ Some entry → ¬ (IsOverdue t now entry)
-IsDue t now (Some id) = (entry : TableEntry) × IsDueEntry t now id entry
+    (name : Name) (entry : TableEntry) → map.get t.entries name ≡ Some entry
+    → ¬ (IsOverdue t now entry)
+IsDue t now (Some name) = (entry : TableEntry) × IsDueEntry t now name entry
 
 -- the name and last tick of a reception that is overdue
 abbrev pub if_overdue : ℕ → ℕ → Name × TableEntry → Option (Name × ℕ)

@@ -2,8 +2,8 @@
 use Rattle.std.specs.Prelude.{◌≡◌, ℕ, Option, Some, None, refl}
 use Rattle.std.specs.Coded.{Coded, code_by, coded×, coded_ℕ}
 use Rattle.std.specs.FinMap as maps
-use Rattle.lpt_reception.specs.LptPacket.Names.{Name}
-use Rattle.lpt_reception.specs.LptPart.declared.mode.Mode.{Mode}
+use Rattle.lpt_packet.specs.Names.{Name}
+use Rattle.lpt_part.specs.declared.mode.Mode.{Mode}
 use Rattle.lpt_reception.specs.Received.{Kept, Parts}
 use Rattle.lpt_reception.specs.Steps.{Takes}
 use Rattle.lpt_reception.specs.declared.step.Took.{Took}
@@ -43,14 +43,14 @@ last_after (took.Conflict r) last now = last
 last_after took.NoMemory last now = last
 
 -- the reception of a name takes part n in this mode, and stays in the list
-pub record TakesIn (mode : Mode) (old new : Listing) (id : Name) (n now : ℕ) (x : Kept) (t : Took)
+pub record TakesIn (mode : Mode) (old new : Listing) (name : Name) (n now : ℕ) (x : Kept) (t : Took)
     : Type 0 where
   pub entry : TableEntry
   pub parts : Parts
-  pub was : maps.get old.entries id ≡ Some entry
-  pub takes : Takes mode (record { id = id.id; p = old.p; parts = entry.parts }) n x t
-      (record { id = id.id; p = old.p; parts = parts })
+  pub was : maps.get old.entries name ≡ Some entry
+  pub takes : Takes mode (record { id = name.id; p = old.p; parts = entry.parts }) n x t
+      (record { id = name.id; p = old.p; parts = parts })
   pub becomes : new ≡ record old {
-    entries = maps.insert old.entries id
+    entries = maps.insert old.entries name
         (record { parts = parts; last = last_after t entry.last now });
   }

@@ -1,6 +1,6 @@
 -- What an offer of a part answers.
 use Rattle.std.specs.Prelude.{◌≡◌, ℕ, true, false, Option, Some, None}
-use Rattle.lpt_reception.specs.LptPacket.Names.{Name}
+use Rattle.lpt_packet.specs.Names.{Name}
 use Rattle.lpt_reception.specs.declared.step.Step.TheVariants as step
 use Rattle.lpt_reception.specs.Steps.{IsNew, Answers}
 use Rattle.lpt_reception.specs.Received.{Kept as KeptPart, with_part, is_gap}
@@ -15,44 +15,44 @@ use Rattle.lpt_table.specs.Offering.{OfferKind, is_full, is_open, parts_at, rece
 -- else as the reception answers; a part that is kept, or was kept, sets the last tick, and a reception
 -- that is whole or broken off is taken out
 abbrev pub Offers : TableState → Name → ℕ → KeptPart → ℕ → Offer → TableState → Type 0
-Offers old id n x now NoRoom new = (is_full old id ≡ true) × (new ≡ old)
-Offers old id n x now Kept new =
-    (is_full old id ≡ false)
-    × Answers old.mode (received_at old id) n x
-    (step.Filling (record (received_at old id) { parts = with_part (parts_at old id) n x }))
-    × (new ≡ with_entry old id (with_part (parts_at old id) n x) now)
-Offers old id n x now Again new =
-    (is_full old id ≡ false)
-    × Answers old.mode (received_at old id) n x (step.Again (received_at old id))
-    × (new ≡ with_entry old id (parts_at old id) now)
-Offers old id n x now (Whole w) new =
-    (is_full old id ≡ false)
-    × Answers old.mode (received_at old id) n x (step.Whole w)
-    × TakesOut old new id
-Offers old id n x now (Conflict b) new =
-    (is_full old id ≡ false)
-    × Answers old.mode (received_at old id) n x (step.Conflict b)
-    × TakesOut old new id
-Offers old id n x now Gap new =
-    (is_full old id ≡ false)
-    × (is_open old id ≡ false)
-    × IsNew (parts_at old id) n x
-    × (is_gap old.mode (parts_at old id) n ≡ true)
+Offers old name n x now NoRoom new = (is_full old name ≡ true) × (new ≡ old)
+Offers old name n x now Kept new =
+    (is_full old name ≡ false)
+    × Answers old.mode (received_at old name) n x
+    (step.Filling (record (received_at old name) { parts = with_part (parts_at old name) n x }))
+    × (new ≡ with_entry old name (with_part (parts_at old name) n x) now)
+Offers old name n x now Again new =
+    (is_full old name ≡ false)
+    × Answers old.mode (received_at old name) n x (step.Again (received_at old name))
+    × (new ≡ with_entry old name (parts_at old name) now)
+Offers old name n x now (Whole w) new =
+    (is_full old name ≡ false)
+    × Answers old.mode (received_at old name) n x (step.Whole w)
+    × TakesOut old new name
+Offers old name n x now (Conflict b) new =
+    (is_full old name ≡ false)
+    × Answers old.mode (received_at old name) n x (step.Conflict b)
+    × TakesOut old new name
+Offers old name n x now Gap new =
+    (is_full old name ≡ false)
+    × (is_open old name ≡ false)
+    × IsNew (parts_at old name) n x
+    × (is_gap old.mode (parts_at old name) n ≡ true)
     × (new ≡ old)
-Offers old id n x now Memory new =
-    (is_full old id ≡ false)
-    × Answers old.mode (received_at old id) n x (step.NoMemory (received_at old id))
+Offers old name n x now Memory new =
+    (is_full old name ≡ false)
+    × Answers old.mode (received_at old name) n x (step.NoMemory (received_at old name))
     × (new ≡ old)
 
 -- what comes out is of this name's identifier and part size
-abbrev pub Its : Name → ℕ → Offer → Type 0
-Its id p Kept = Unit {0}
-Its id p Again = Unit {0}
-Its id p (Whole w) = (w.before.id ≡ id.id) × (w.before.p ≡ p)
-Its id p (Conflict b) = (b.before.id ≡ id.id) × (b.before.p ≡ p)
-Its id p Gap = Unit {0}
-Its id p NoRoom = Unit {0}
-Its id p Memory = Unit {0}
+abbrev pub IsOfName : Name → ℕ → Offer → Type 0
+IsOfName name p Kept = Unit {0}
+IsOfName name p Again = Unit {0}
+IsOfName name p (Whole w) = (w.before.id ≡ name.id) × (w.before.p ≡ p)
+IsOfName name p (Conflict b) = (b.before.id ≡ name.id) × (b.before.p ≡ p)
+IsOfName name p Gap = Unit {0}
+IsOfName name p NoRoom = Unit {0}
+IsOfName name p Memory = Unit {0}
 
 -- what the offer came to, unless there was no memory
 abbrev pub kind_of : Offer → Option OfferKind

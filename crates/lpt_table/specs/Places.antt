@@ -6,16 +6,16 @@ use Rattle.std.specs.Option.{option_map}
 use Rattle.std.specs.Ordering.{nat_cmp, on, then_cmp}
 use Rattle.std.specs.declared.cmp.Ordering.{Ordering}
 use Rattle.std.specs.FinMap.Entries.{by_order, find}
-use Rattle.lpt_reception.specs.LptPacket.Names.{Name, name_cmp}
+use Rattle.lpt_packet.specs.Names.{Name, name_cmp}
 use Rattle.lpt_table.specs.declared.places.Place.{Place}
 
 -- the places under their names
 abbrev pub by_name : List Place → List (Name × Place)
-by_name xs = map (λ x. (x.id, x)) xs
+by_name xs = map (λ x. (x.name, x)) xs
 
 -- the places under their last ticks and names
 abbrev pub by_moment : List Place → List ((ℕ × Name) × ℕ)
-by_moment xs = map (λ x. ((x.last, x.id), x.key)) xs
+by_moment xs = map (λ x. ((x.last, x.name), x.key)) xs
 
 -- which of two last ticks is the earlier, and of equal ones which name is before the other
 abbrev pub when_cmp : ℕ × Name → ℕ × Name → Ordering
@@ -35,7 +35,7 @@ rank R k (e ∷ es) = by_order (R k e.0) 0 (suc (rank R k es)) (suc (rank R k es
 -- the places, with this one in place of the one at a place, where it belongs among the others
 abbrev pub renewed : List Place → ℕ → Place → List Place
 renewed xs at x =
-    insert (remove xs at) (rank when_cmp (x.last, x.id) (by_moment (remove xs at))) x
+    insert (remove xs at) (rank when_cmp (x.last, x.name) (by_moment (remove xs at))) x
 
 -- no key stands twice
 abbrev pub AreApart : {K X : Type 0} → (K → K → Ordering) → List (K × X) → Type 0
@@ -45,4 +45,4 @@ AreApart R (e ∷ es) = (find R e.0 es ≡ None) × AreApart R es
 -- the name at the first place, where the reception there is overdue
 abbrev pub first_overdue : ℕ → ℕ → List Place → Option Name
 first_overdue timeout now [] = None
-first_overdue timeout now (x ∷ xs) = if nat_le (x.last + timeout) now then Some x.id else None
+first_overdue timeout now (x ∷ xs) = if nat_le (x.last + timeout) now then Some x.name else None

@@ -2,9 +2,9 @@
 use Rattle.std.specs.Prelude.{ℕ, ◌≤◌, Option, None, refl}
 use Rattle.std.specs.Coded.{Coded, code_by, coded×, coded_ℕ, coded_option}
 use Rattle.std.specs.FinMap as map
-use Rattle.lpt_reception.specs.LptPacket.Names.{Name, name_cmp, coded_name}
-use Rattle.lpt_reception.specs.LptPart.Splitting.{IsPartSize}
-use Rattle.lpt_reception.specs.LptPart.declared.mode.Mode.{Mode}
+use Rattle.lpt_packet.specs.Names.{Name, name_cmp, coded_name}
+use Rattle.lpt_part.specs.Splitting.{IsPartSize}
+use Rattle.lpt_part.specs.declared.mode.Mode.{Mode}
 use Rattle.lpt_reception.specs.Codes.{coded_kept, coded_mode}
 use Rattle.lpt_reception.specs.Received.{Parts}
 

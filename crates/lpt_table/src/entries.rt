@@ -8,7 +8,9 @@ ghost use Rattle.lpt_table.specs.Deadlines.{soonest};
 ghost use Rattle.lpt_table.specs.EntryLists.{TakesIn, last_after};
 
 use crate::places::{Place, first_due, rank_of, renew, spot_of};
-use lpt_reception::{Filling, Mode, Name, Part, Took};
+use lpt_packet::Name;
+use lpt_part::{Mode, Part};
+use lpt_reception::{Filling, Took};
 use slab::Slab;
 use std::alloc::{AllocError, Global};
 use std::marker::Model;
@@ -16,7 +18,7 @@ use std::marker::Model;
 /// An open reception under its name, and the tick at which it last took a part.
 #[derive(Drop)]
 pub(crate) struct Entry {
-    pub(crate) id: Name,
+    pub(crate) name: Name,
     pub(crate) filling: Filling,
     pub(crate) last: u32,
 }
@@ -85,47 +87,53 @@ impl EntryList {
     }
 
     /// Whether a reception of this name is open.
-    pub(crate) fn contains(&self, id: Name) -> bool
-        ensures { result ≡ is_some (map.get self.now.entries id) }
+    pub(crate) fn contains(&self, name: Name) -> bool
+        ensures { result ≡ is_some (map.get self.now.entries name) }
     {
-        spot_of(&self.places, id).is_some()
+        spot_of(&self.places, name).is_some()
     }
 
     /// Lets the reception of this name, where one is open, take a part of it in this mode. It stays
     /// in the list; where it has the part and others are missing, its last tick is `now`.
-    pub(crate) fn offer(&mut self, mode: Mode, id: Name, part: &Part<'_>, now: u32) -> Option<Took>
+    pub(crate) fn offer(
+        &mut self,
+        mode: Mode,
+        name: Name,
+        part: &Part<'_>,
+        now: u32,
+    ) -> Option<Took>
         requires p { part.now.p ≡ self.old.p }
-        requires named { id.id ≡ part.now.id }
-        ensures none { IfNone result (map.get self.old.entries id ≡ None) }
+        requires named { name.id ≡ part.now.id }
+        ensures none { IfNone result (map.get self.old.entries name ≡ None) }
         ensures unchanged { IfNone result (self.new ≡ self.old) }
-        ensures took { IfSome result (TakesIn mode self.old self.new id part.now.number now
+        ensures took { IfSome result (TakesIn mode self.old self.new name part.now.number now
             (kept part.now)) }
         ensures len { map.len self.new.entries ≡ map.len self.old.entries }
     {
-        let at = spot_of(&self.places, id)?;
-        let Place { last, id: _, key } = self.places[at];
+        let at = spot_of(&self.places, name)?;
+        let Place { last, name: _, key } = self.places[at];
         let took = self.fillings[key].take(mode, part);
         let last = last_after(&took, last, now);
-        renew(&mut self.places, at, Place { last, id, key });
+        renew(&mut self.places, at, Place { last, name, key });
         Some(took)
     }
 
     /// Takes the reception of this name out of the list.
-    pub(crate) fn take(&mut self, id: Name) -> Option<Entry>
-        ensures rest { self.new ≡ record self.old { entries = map.remove self.old.entries id } }
-        ensures entry { MatchOption result (map.get self.old.entries id ≡ None)
-            (λ e. IsEntry (map.get self.old.entries id) id self.old.p e) }
+    pub(crate) fn take(&mut self, name: Name) -> Option<Entry>
+        ensures rest { self.new ≡ record self.old { entries = map.remove self.old.entries name } }
+        ensures entry { MatchOption result (map.get self.old.entries name ≡ None)
+            (λ e. IsEntry (map.get self.old.entries name) name self.old.p e) }
         ensures unchanged { IfNone result (self.new ≡ self.old) }
         ensures len { map.len self.new.entries + (if is_some result then 1 else 0)
             ≡ map.len self.old.entries }
     {
-        match spot_of(&self.places, id) {
+        match spot_of(&self.places, name) {
             None => None,
             Some(at) => {
                 let place = self.places.remove(at);
                 let filling = self.fillings.remove(place.key);
                 Some(Entry {
-                    id,
+                    name,
                     filling,
                     last: place.last,
                 })
@@ -137,17 +145,21 @@ impl EntryList {
     /// memory.
     pub(crate) fn put(&mut self, entry: Entry)
         requires room { map.len self.old.entries < self.old.limit }
-        requires absent { map.get self.old.entries entry.id ≡ None }
+        requires absent { map.get self.old.entries entry.name ≡ None }
         requires its { IsIts self.old.p entry }
         ensures value { self.new ≡ record self.old {
-          entries = map.insert self.old.entries entry.id (entry_in entry);
+          entries = map.insert self.old.entries entry.name (entry_in entry);
         } }
         ensures len { map.len self.new.entries ≡ map.len self.old.entries + 1 }
     {
-        let Entry { id, filling, last } = entry;
-        let at = rank_of(&self.places, last, id);
+        let Entry {
+            name,
+            filling,
+            last,
+        } = entry;
+        let at = rank_of(&self.places, last, name);
         let key = self.fillings.insert_reserved(filling);
-        match self.places.insert(at, Place { last, id, key }) {
+        match self.places.insert(at, Place { last, name, key }) {
             Ok(()) => {}
             Err(_) => unreachable!(),
         }

@@ -1,7 +1,7 @@
 //! What the definitions say of tables, proved of all of them: functions with empty bodies.
 
 ghost use Rattle.std.specs.Prelude.{◌≡◌, ℕ, Option, None};
-ghost use Rattle.lpt_reception.specs.LptPacket.Names.{Name};
+ghost use Rattle.lpt_packet.specs.Names.{Name};
 ghost use Rattle.lpt_table.specs.Deadlines.{IsDue, due_of};
 ghost use Rattle.lpt_table.specs.Offering.{TakesOut, put_back, parts_at};
 ghost use Rattle.lpt_table.specs.Tables.{TableState};
@@ -15,6 +15,6 @@ pub fn one_is_due()
 
 /// To put a reception back as it was when it was taken out undoes the taking out.
 pub fn put_back_undoes()
-    ensures { (old new : TableState) (id : Name) → old.out ≡ None → TakesOut old new id
-        → put_back new id (parts_at old id) ≡ old }
+    ensures { (old new : TableState) (name : Name) → old.out ≡ None → TakesOut old new name
+        → put_back new name (parts_at old name) ≡ old }
 {}

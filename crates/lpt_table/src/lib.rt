@@ -13,9 +13,7 @@ mod offer;
 mod places;
 mod table;
 
-pub use lpt_reception::{
-    Broken, Filling, Kind, Mode, Part, PartFault, Reason, Step, Whole, abort_octets, count,
-    read_abort, read_part, slice, write_abort, write_part,
-};
+pub use lpt_part::{Mode, Part};
+pub use lpt_reception::{Broken, Filling, Whole};
 pub use offer::Offer;
 pub use table::Table;

@@ -2,28 +2,28 @@
 
 ghost use Rattle.std.specs.Prelude.{◌≡◌, ◌<◌, ◌≤◌, T, length, vec_capacity};
 ghost use Rattle.std.specs.FinMap as map;
-ghost use Rattle.lpt_reception.specs.LptPacket.Names.{name_cmp};
+ghost use Rattle.lpt_packet.specs.Names.{name_cmp};
 ghost use Rattle.lpt_table.specs.Places.{AreApart, spot, rank, when_cmp, by_name, by_moment, first_overdue, renewed};
 
-use lpt_reception::Name;
+use lpt_packet::Name;
 use std::cmp::Ordering;
 
 /// Where an open reception is kept: the tick at which it last took a part, its name, and its key.
 #[derive(Clone, Copy)]
 pub(crate) struct Place {
     pub(crate) last: u32,
-    pub(crate) id: Name,
+    pub(crate) name: Name,
     pub(crate) key: usize,
 }
 
 // At which place a name stands, which stands but once. One that took a part just now is at the end,
 // so the search begins there.
-pub(crate) fn spot_of(places: &[Place], id: Name) -> Option<usize>
+pub(crate) fn spot_of(places: &[Place], name: Name) -> Option<usize>
     requires { AreApart name_cmp (by_name places.now) }
-    ensures { result ≡ spot name_cmp id (by_name places.now) }
+    ensures { result ≡ spot name_cmp name (by_name places.now) }
 {
     for at in (0..places.len()).rev() {
-        if places[at].id == id {
+        if places[at].name == name {
             return Some(at);
         }
     }
@@ -32,13 +32,13 @@ pub(crate) fn spot_of(places: &[Place], id: Name) -> Option<usize>
 
 // At which place one of this last tick and name belongs. One that took a part just now belongs at
 // the end, so the search begins there.
-pub(crate) fn rank_of(places: &[Place], last: u32, id: Name) -> usize
+pub(crate) fn rank_of(places: &[Place], last: u32, name: Name) -> usize
     requires { T (map.is_sorted when_cmp (by_moment places.now)) }
-    ensures { result ≡ rank when_cmp (last, id) (by_moment places.now) }
+    ensures { result ≡ rank when_cmp (last, name) (by_moment places.now) }
 {
     for at in (0..places.len()).rev() {
         let place = &places[at];
-        match last.cmp(&place.last).then(id.cmp(&place.id)) {
+        match last.cmp(&place.last).then(name.cmp(&place.name)) {
             Ordering::Less => {}
             Ordering::Equal => return at + 1,
             Ordering::Greater => return at + 1,
@@ -55,12 +55,12 @@ pub(crate) fn renew(places: &mut Vec<Place>, at: usize, place: Place)
     ensures places { places.new.items ≡ renewed places.old.items at place }
     ensures room { vec_capacity places.old ≤ vec_capacity places.new }
 {
-    if at + 1 == places.len() && rank_of(&places[..at], place.last, place.id) == at {
+    if at + 1 == places.len() && rank_of(&places[..at], place.last, place.name) == at {
         places[at] = place;
         return;
     }
     places.remove(at);
-    let to = rank_of(places, place.last, place.id);
+    let to = rank_of(places, place.last, place.name);
     match places.insert(to, place) {
         Ok(()) => {}
         Err(_) => unreachable!(),
@@ -75,7 +75,7 @@ pub(crate) fn first_due(places: &[Place], timeout: u32, now: u32) -> Option<Name
         [] => None,
         [first, ..] => {
             if u64::from(first.last) + u64::from(timeout) <= u64::from(now) {
-                Some(first.id)
+                Some(first.name)
             } else {
                 None
             }

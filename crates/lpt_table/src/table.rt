@@ -2,7 +2,7 @@
 
 ghost use Rattle.std.specs.Prelude.{◌≡◌, ◌<◌, IfOk, IfSome, IsSome, IsSomeAnd, None, Some};
 ghost use Rattle.std.specs.FinMap as map;
-ghost use Rattle.lpt_reception.specs.LptPacket.Names.{named_by};
+ghost use Rattle.lpt_packet.specs.Names.{named_by};
 ghost use Rattle.lpt_reception.specs.Steps.{kept};
 ghost use Rattle.lpt_reception.specs.Received.{is_gap, no_parts};
 ghost use Rattle.lpt_table.specs.Deadlines.{IsDue, due_of};
@@ -11,7 +11,9 @@ ghost use Rattle.lpt_table.specs.Tables.{IsTableSize, no_receptions};
 
 use crate::Offer;
 use crate::entries::{Entry, EntryList};
-use lpt_reception::{Filling, Mode, Name, Part, Took};
+use lpt_packet::Name;
+use lpt_part::{Mode, Part};
+use lpt_reception::{Filling, Took};
 use std::alloc::{AllocError, Global};
 use std::marker::Model;
 
@@ -57,7 +59,7 @@ impl Model for Table {
 
 impl Table {
     ghost use Rattle.lpt_reception.specs.Steps.{IsNew};
-    ghost use Rattle.lpt_table.specs.Offers.{Offers, Its, kind_of};
+    ghost use Rattle.lpt_table.specs.Offers.{Offers, IsOfName, kind_of};
 
     /// A table with places for `limit` receptions, 1 to 64, in which none is open. A reception is
     /// overdue when it took no part for `timeout` ticks, 1 to 65,535. Parts are of `p` octets, 4 to
@@ -96,7 +98,7 @@ impl Table {
             (kept part.now) now result self.new }
 
         // A reception that comes out may be put back.
-        ensures its { Its (named_by source part.now.id) self.old.p result }
+        ensures its { IsOfName (named_by source part.now.id) self.old.p result }
 
         // The same as a function, out of memory aside.
         ensures offered { IfSome (kind_of result) (λ k.
@@ -130,23 +132,23 @@ impl Table {
     }
 
     // Takes the reception of this name out, and remembers its last tick and keeps its place.
-    fn take_out(&mut self, id: Name) -> Filling
+    fn take_out(&mut self, name: Name) -> Filling
         requires settled { self.old.out ≡ None }
-        requires open { IsSome (map.get self.old.entries id) }
-        ensures out { TakesOut self.old self.new id }
-        ensures it { result ≡ received_at self.old id }
+        requires open { IsSome (map.get self.old.entries name) }
+        ensures out { TakesOut self.old self.new name }
+        ensures it { result ≡ received_at self.old name }
     {
         let Some(
             Entry {
-                id: _,
+                name: _,
                 filling,
                 last,
             },
-        ) = self.receptions.take(id)
+        ) = self.receptions.take(name)
         else {
             unreachable!()
         };
-        self.out = Some((id, last));
+        self.out = Some((name, last));
         filling
     }
 
@@ -186,46 +188,49 @@ impl Table {
     }
 
     // Keeps a reception, for which there is a place, under its name and a last tick.
-    fn keep(&mut self, id: Name, filling: Filling, last: u32)
+    fn keep(&mut self, name: Name, filling: Filling, last: u32)
         requires settled { self.old.out ≡ None }
-        requires absent { map.get self.old.entries id ≡ None }
+        requires absent { map.get self.old.entries name ≡ None }
         requires room { map.len self.old.entries < self.old.limit }
-        requires id { filling.id ≡ id.id }
+        requires id { filling.id ≡ name.id }
         requires p { filling.p ≡ self.old.p }
-        ensures { self.new ≡ with_entry self.old id filling.parts last }
+        ensures { self.new ≡ with_entry self.old name filling.parts last }
     {
-        self.receptions.put(Entry { id, filling, last });
+        self.receptions.put(Entry {
+            name,
+            filling,
+            last,
+        });
     }
 
-    /// Gives up the last tick and the place of the reception that is out, which is that of `id`. It
+    /// Gives up the last tick and the place of the reception that is out, that of `name`. It
     /// takes no memory.
-    pub fn settle(&mut self, id: Name)
-        requires out { IsSomeAnd self.old.out (λ o. o.0 ≡ id) }
+    pub fn settle(&mut self, name: Name)
+        requires out { IsSomeAnd self.old.out (λ o. o.0 ≡ name) }
         ensures { self.new ≡ record self.old { out = None } }
     {
-        let _ = id;
         self.out = None;
     }
 
-    /// Puts the reception that is out, which is that of `id`, back as `filling`, under its old last
+    /// Puts the reception that is out, that of `name`, back as `filling`, under its old last
     /// tick. It takes no memory.
-    pub fn put_back(&mut self, id: Name, filling: Filling)
-        requires out { IsSomeAnd self.old.out (λ o. o.0 ≡ id) }
-        requires id { filling.id ≡ id.id }
+    pub fn put_back(&mut self, name: Name, filling: Filling)
+        requires out { IsSomeAnd self.old.out (λ o. o.0 ≡ name) }
+        requires id { filling.id ≡ name.id }
         requires p { filling.p ≡ self.old.p }
-        ensures { self.new ≡ put_back self.old id filling.parts }
+        ensures { self.new ≡ put_back self.old name filling.parts }
     {
         if let Some((_, last)) = self.out.take() {
-            self.keep(id, filling, last);
+            self.keep(name, filling, last);
         }
     }
 
     /// Whether a reception of this name is open.
-    pub fn is_open(&self, id: Name) -> bool
+    pub fn is_open(&self, name: Name) -> bool
         requires settled { self.now.out ≡ None }
-        ensures { result ≡ is_open self.now id }
+        ensures { result ≡ is_open self.now name }
     {
-        self.receptions.contains(id)
+        self.receptions.contains(name)
     }
 
     /// How many receptions are open.
@@ -249,12 +254,13 @@ impl Table {
     }
 
     /// Removes the reception of this name, and says whether there was one.
-    pub fn expire(&mut self, id: Name) -> bool
+    pub fn expire(&mut self, name: Name) -> bool
         requires settled { self.old.out ≡ None }
-        ensures removed { self.new ≡ record self.old { entries = map.remove self.old.entries id } }
-        ensures was { result ≡ is_open self.old id }
+        ensures removed { self.new
+            ≡ record self.old { entries = map.remove self.old.entries name } }
+        ensures was { result ≡ is_open self.old name }
     {
-        self.receptions.take(id).is_some()
+        self.receptions.take(name).is_some()
     }
 
     /// Removes all receptions.

@@ -2,4 +2,4 @@ pub mod FaultNames
 pub mod Lines
 pub mod Reading
 pub mod Streams
-pub mod ToldInside
+pub mod FromStdInside

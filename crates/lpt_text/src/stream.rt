@@ -3,10 +3,10 @@
 ghost use Rattle.std.specs.Prelude.{◌≡◌, ◌≤◌, ◌<◌, ℕ, List, Bool, true, false, length, take, Option, MatchOption, IfSome, IfErr, IsTrue, OnOk};
 ghost use Rattle.std.specs.Io.KnownBytes.{Keeps, Appends, Consumes, IsAtEnd};
 ghost use Rattle.lpt_text.specs.Streams.{read_failed, write_failed, flush_failed, AppendsPart};
-ghost use Rattle.lpt_text.specs.ToldInside.{inner_of, has_failed};
+ghost use Rattle.lpt_text.specs.FromStdInside.{inner_of, has_failed};
 
 use crate::fault::ToolFault;
-use crate::passing::Passes;
+use crate::flushed::Flushed;
 use std::io;
 
 /// Where a text is read from.
@@ -60,18 +60,18 @@ pub trait Sink {
 
 /// A reader or a writer of std, with whether it has failed.
 #[derive(Drop)]
-pub struct Told<S> {
+pub struct FromStd<S> {
     inner: S,
     failed: bool,
 }
 
-impl<S> Told<S> {
+impl<S> FromStd<S> {
     /// A reader or a writer that has not failed yet.
     pub fn new(inner: S) -> Self
         ensures inner { inner_of result ≡ inner }
         ensures failed { has_failed result ≡ false }
     {
-        Told {
+        FromStd {
             inner,
             failed: false,
         }
@@ -88,12 +88,12 @@ impl<S> Told<S> {
     pub fn into_inner(self) -> S
         ensures { result ≡ inner_of self }
     {
-        let Told { inner, failed: _ } = self;
+        let FromStd { inner, failed: _ } = self;
         inner
     }
 }
 
-impl<R: io::Read> Source for Told<R> {
+impl<R: io::Read> Source for FromStd<R> {
     ghost remaining = { λ told. R.remaining (inner_of told) };
 
     ghost failed = { λ told. has_failed told };
@@ -109,7 +109,7 @@ impl<R: io::Read> Source for Told<R> {
     }
 }
 
-impl<W: Passes> Sink for Told<W> {
+impl<W: Flushed> Sink for FromStd<W> {
     ghost contents = { λ told. W.contents (inner_of told) };
 
     ghost passed = { λ told. W.passed (inner_of told) };

@@ -3,14 +3,14 @@ use Rattle.std.proofs.Common.{◌≡◌, ◌⊎◌, refl, inl, inr, ℕ, List, [
 use Rattle.std.proofs.KnownBytes.{Appends-kept, Appends-trans}
 use Rattle.std.specs.Io.KnownBytes.{Appends, Keeps}
 use Rattle.lpt_script.specs.Ends.{Grows, TextEnds}
-use Rattle.lpt_script.specs.LptPrint.Printing.{plain_count_text, applied_count_text}
-use Rattle.lpt_script.specs.LptText.declared.fault.ToolFault.{ToolFault}
-use Rattle.lpt_script.specs.LptText.declared.fault.ToolFault.TheVariants as tool
-use Rattle.lpt_share.specs.LptEvents.declared.entry.Entry.{Entry}
-use Rattle.lpt_share.specs.LptEvents.declared.entry.Release.{Release}
-use Rattle.lpt_share.specs.LptPacket.Names.{Name}
-use Rattle.lpt_share.specs.LptPacket.declared.direction.Direction.{Direction}
-use Rattle.lpt_share.specs.LptPacket.declared.direction.Direction.TheVariants.{Up, Down}
+use Rattle.lpt_script_text.specs.Printing.{plain_count_text, applied_count_text}
+use Rattle.lpt_text.specs.declared.fault.ToolFault.{ToolFault}
+use Rattle.lpt_text.specs.declared.fault.ToolFault.TheVariants as tool
+use Rattle.lpt_events.specs.declared.entry.Entry.{Entry}
+use Rattle.lpt_events.specs.declared.entry.Release.{Release}
+use Rattle.lpt_packet.specs.Names.{Name}
+use Rattle.lpt_packet.specs.declared.direction.Direction.{Direction}
+use Rattle.lpt_packet.specs.declared.direction.Direction.TheVariants.{Up, Down}
 use Rattle.lpt_tool.specs.Summary.{applied_count, large_of, large_text, plain_count, IsByName, IsSummary}
 
 -- ---- a text

@@ -5,21 +5,21 @@ use Rattle.std.specs.Io.KnownBytes.{Appends, Keeps}
 use Rattle.lpt_share.specs.FaultNames.{code_of}
 use Rattle.lpt_share.specs.declared.fault.ShareFault.{ShareFault}
 use Rattle.lpt_share.specs.declared.fault.ShareFault.TheVariants.{Torn, Memory, NoThread}
-use Rattle.lpt_script.specs.LptText.Streams.{AppendsPart}
-use Rattle.lpt_script.specs.LptText.declared.fault.ToolFault.{ToolFault}
-use Rattle.lpt_script.specs.LptText.declared.fault.ToolFault.TheVariants as tool
+use Rattle.lpt_text.specs.Streams.{AppendsPart}
+use Rattle.lpt_text.specs.declared.fault.ToolFault.{ToolFault}
+use Rattle.lpt_text.specs.declared.fault.ToolFault.TheVariants as tool
 use Rattle.lpt_script.specs.Ends.{Grows, LinesEnd, LinesLeave, RunEnds, TextEnds}
-use Rattle.lpt_script.specs.LptWords.declared.showing.Show.{Show}
+use Rattle.lpt_script_words.specs.declared.showing.Show.{Show}
 use Rattle.lpt_script.specs.Scripts.{Left, script_ran}
-use Rattle.lpt_share.specs.LptEvents.declared.turns.Turns.{Turns}
-use Rattle.lpt_share.specs.LptJournal.Releases.{releases}
+use Rattle.lpt_events.specs.declared.turns.Turns.{Turns}
+use Rattle.lpt_journal.specs.Releases.{releases}
 use Rattle.lpt_share.specs.WholeRuns.{IsRun}
 use Rattle.lpt_tool.specs.Ends.{shown_text, GoesOn, IsShownBehind, LinesAndMore, ThreadsEnds}
 use Rattle.lpt_tool.specs.Full.{full_seats}
 use Rattle.lpt_tool.specs.Summary.{IsSummary}
 use Rattle.lpt_tool.specs.declared.threads_end.ThreadsEnd.{ThreadsEnd}
 use Rattle.lpt_script.specs.declared.end.ScriptEnd.{ScriptEnd}
-use Rattle.lpt_share.specs.LptWorld.Worlds.{Shown, history}
+use Rattle.lpt_world.specs.Worlds.{Shown, history}
 
 -- ---- behind the text of lines
 

@@ -2,15 +2,15 @@
 use Rattle.std.specs.Prelude.{◌≡◌, ◌⊎◌, ◌≤◌, ◌++◌, ℕ, Bool, true, List, [], Option, None, Result, Ok, Err}
 use Rattle.std.specs.Io.KnownBytes.{Appends}
 use Rattle.std.specs.List.{flat_map}
-use Rattle.lpt_script.specs.LptText.Reading.{IsWhole}
-use Rattle.lpt_script.specs.LptText.declared.fault.ToolFault.{ToolFault}
-use Rattle.lpt_script.specs.LptText.declared.fault.ToolFault.TheVariants as tool
-use Rattle.lpt_script.specs.LptWords.declared.showing.Show.{Show}
+use Rattle.lpt_text.specs.Reading.{IsWhole}
+use Rattle.lpt_text.specs.declared.fault.ToolFault.{ToolFault}
+use Rattle.lpt_text.specs.declared.fault.ToolFault.TheVariants as tool
+use Rattle.lpt_script_words.specs.declared.showing.Show.{Show}
 use Rattle.lpt_script.specs.Ends.{Grows, RunEnds}
 use Rattle.lpt_script.specs.Scripts.{Left, Script, script_left, script_ran, show_text}
-use Rattle.lpt_share.specs.LptEvents.declared.turns.Turns.{Turns}
-use Rattle.lpt_share.specs.LptJournal.Releases.{releases}
-use Rattle.lpt_share.specs.LptWorld.Worlds.{Shown, history}
+use Rattle.lpt_events.specs.declared.turns.Turns.{Turns}
+use Rattle.lpt_journal.specs.Releases.{releases}
+use Rattle.lpt_world.specs.Worlds.{Shown, history}
 use Rattle.lpt_share.specs.WholeRuns.{IsRun}
 use Rattle.lpt_tool.specs.Full.{full_seats}
 use Rattle.lpt_tool.specs.Summary.{IsSummary}

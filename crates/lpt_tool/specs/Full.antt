@@ -1,6 +1,6 @@
 -- Which seats of a run of threads reached their limit.
 use Rattle.std.specs.Prelude.{◌+◌, ◌==◌, ℕ, nat_le, if◌then◌else◌, List, [], ◌∷◌}
-use Rattle.lpt_share.specs.LptEvents.declared.entry.Entry.{Entry}
+use Rattle.lpt_events.specs.declared.entry.Entry.{Entry}
 
 -- how many calls of a seat a journal has
 abbrev pub call_count : (seat : ℕ) → List Entry → ℕ

@@ -1,4 +1,3 @@
 pub mod Ends
 pub mod Full
 pub mod Summary
-pub use Rattle.lpt_share.specs.LptPart as LptPart

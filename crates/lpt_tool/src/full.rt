@@ -3,7 +3,7 @@
 ghost use Rattle.std.specs.Prelude.{◌≡◌, IfOk};
 ghost use Rattle.lpt_tool.specs.Full.{call_count, full_of, full_seats};
 
-use lpt_share::Entry;
+use lpt_events::Entry;
 use std::alloc::{AllocError, Global};
 
 /// The seats that have a thread.

@@ -2,12 +2,12 @@
 
 ghost use Rattle.std.specs.Prelude.{◌≡◌, ◌≢◌, ◌↔◌, ◌⊎◌, ◌++◌, ℕ, List, IfErr, IfOk, IsErrOf, IsOk, IsSome, OnOk, Err, true};
 ghost use Rattle.std.specs.Io.KnownBytes.{Appends};
-ghost use Rattle.lpt_share.specs.LptEvents.Configs.{config_fault};
+ghost use Rattle.lpt_events.specs.Configs.{config_fault};
 ghost use Rattle.lpt_script.specs.Ends.{Grows, TextEnds};
 ghost use Rattle.lpt_script.specs.Scripts.{left_of};
 ghost use Rattle.lpt_share.specs.FaultNames.{code_of};
-ghost use Rattle.lpt_share.specs.LptJournal.Releases.{releases};
-ghost use Rattle.lpt_share.specs.LptWorld.Worlds.{history, new_world};
+ghost use Rattle.lpt_journal.specs.Releases.{releases};
+ghost use Rattle.lpt_world.specs.Worlds.{history, new_world};
 ghost use Rattle.lpt_share.specs.WholeRuns.{IsRun};
 ghost use Rattle.lpt_tool.specs.Ends.{shown_text, GoesOn, IsOfThreads, ThreadsEnds};
 ghost use Rattle.lpt_tool.specs.Summary.{IsSummary};
@@ -15,10 +15,13 @@ ghost use Rattle.lpt_tool.specs.Summary.{IsSummary};
 use crate::full::full_seats;
 use crate::summary::put_summary;
 use crate::threads_end::ThreadsEnd;
-use lpt_script::{Show, Shows, Sink, Source, ToolFault, flush_out, run_lines, run_show};
-use lpt_share::{
-    Config, ConfigFault, Gate, Memories, Point, ShareFault, Turns, World, run_threads,
-};
+use lpt_events::{Config, ConfigFault, Turns};
+use lpt_memory::Memories;
+use lpt_script::{Shows, run_lines, run_show};
+use lpt_script_words::Show;
+use lpt_share::{Gate, Point, ShareFault, run_threads};
+use lpt_text::{Sink, Source, ToolFault, flush_out};
+use lpt_world::World;
 use std::alloc::Global;
 use std::sync::Wait;
 use std::thread::Threads;

@@ -3,8 +3,8 @@ use Rattle.std.proofs.Common.{◌≡◌, ◌∙◌, ap, sym, refl, subst, ℕ, �
 use Rattle.std.proofs.lemmas.Bool.Decides.{nat_tests}
 use Rattle.std.proofs.lemmas.Bool.{false_from_ne_true, eq-eqb}
 use Rattle.std.specs.Prelude.{◌↔◌}
-use Rattle.lpt_pus.specs.LptPacket.Numbers.{be, word_at, IsOctets}
-use Rattle.lpt_pus.proofs.LptPacket.Codec.{word_cells}
+use Rattle.lpt_packet.specs.Numbers.{be, word_at, IsOctets}
+use Rattle.lpt_packet.proofs.Codec.{word_cells}
 use Rattle.lpt_pus.specs.Numbers.{long_at}
 use Rattle.lpt_pus.proofs.LongLemmas.{be-long}
 use Rattle.lpt_verify.specs.declared.report.Report.{Report}

@@ -3,7 +3,7 @@ use Rattle.std.proofs.Common.{rules, IsTrue, nat_cmp, ℕ, if◌then◌else◌, 
 use Rattle.std.proofs.lemmas.List.Elements.{All-append, All-cons, All-nil}
 use Rattle.std.proofs.lemmas.Map.Keys.{IsStrictlyIncreasing-from_sorted}
 use Rattle.std.specs.List.Sorted.{IsStrictlyIncreasing, IsStrictlySortedBy}
-use Rattle.lpt_pus.specs.LptPacket.Numbers.{be}
+use Rattle.lpt_packet.specs.Numbers.{be}
 use Rattle.lpt_pus.specs.declared.request.RequestId.{RequestId}
 use Rattle.lpt_verify.specs.declared.report.EncodedReport.{EncodedReport}
 use Rattle.lpt_verify.specs.Reports.{asks, success, failure, success_if, all_reports}

@@ -1,6 +1,6 @@
 -- What a report's body says.
 use Rattle.std.specs.Prelude.{◌≡◌, ◌⊎◌, ℕ, ◌<◌, ◌^◌, Bool, if◌then◌else◌, List, ◌++◌, [], length, Option, Some, None, IfSome, ◌==◌, ◌&&◌, ◌||◌, IsTrue}
-use Rattle.lpt_pus.specs.LptPacket.Numbers.{be, word_at}
+use Rattle.lpt_packet.specs.Numbers.{be, word_at}
 use Rattle.lpt_pus.specs.Numbers.{long_at}
 use Rattle.lpt_pus.specs.declared.request.RequestId.{RequestId}
 use Rattle.lpt_verify.specs.declared.report.Report.{Report}

@@ -1,6 +1,6 @@
 -- The reports of a request: which are sent, and their bodies.
 use Rattle.std.specs.Prelude.{◌≡◌, ◌⊎◌, ℕ, ◌/◌, ◌%◌, ◌==◌, nat_le, Bool, if◌then◌else◌, List, [], ◌∷◌, ◌++◌, Option, Some, None}
-use Rattle.lpt_pus.specs.LptPacket.Numbers.{be}
+use Rattle.lpt_packet.specs.Numbers.{be}
 use Rattle.lpt_verify.specs.declared.report.EncodedReport.{EncodedReport}
 
 -- the flags that ask for a report of acceptance, of start and of completion of execution

@@ -3,7 +3,7 @@
 
 ghost use Rattle.std.specs.Prelude.{◌≡◌, ◌↔◌, ℕ, ◌<◌, ◌^◌, List, map, Option, Some, IfSome, All};
 ghost use Rattle.std.specs.List.Sorted.{IsStrictlyIncreasing};
-ghost use Rattle.lpt_pus.specs.LptPacket.Numbers.{IsOctets};
+ghost use Rattle.lpt_packet.specs.Numbers.{IsOctets};
 ghost use Rattle.lpt_pus.specs.declared.request.RequestId.{RequestId};
 ghost use Rattle.lpt_verify.specs.declared.report.Report.{Report};
 ghost use Rattle.lpt_verify.specs.Reports.{all_reports};

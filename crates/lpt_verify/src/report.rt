@@ -1,6 +1,7 @@
 //! Reports as they are read and as they are written.
 
-use lpt_pus::{Octets, RequestId};
+use lpt_packet::Octets;
+use lpt_pus::RequestId;
 
 /// What a report's body says.
 #[derive(Clone, Copy, Debug, PartialEq, Eq)]

@@ -5,7 +5,8 @@ ghost use Rattle.lpt_pus.specs.Codes.{number_of};
 ghost use Rattle.lpt_verify.specs.Reports.{IsFlag, asks, success, failure, reports_before, reports_after, all_reports};
 
 use crate::{EncodedReport, Reports};
-use lpt_pus::{FailureCode, Octets, RequestId};
+use lpt_packet::Octets;
+use lpt_pus::{FailureCode, RequestId};
 use std::alloc::{AllocError, Global};
 
 // The acknowledgement flags.

@@ -1,29 +1,29 @@
 -- The events and the jobs of a journal that is told.
 use Rattle.std.proofs.Common.{arith, ◌≡◌, ◌∙◌, ap, sym, subst, refl, ◌+◌, ◌≤◌, ℕ, suc, Bool, true, false, if◌then◌else◌, List, [], ◌∷◌, ◌++◌, length, map, reverse, drop, slice_get, Some}
 use Rattle.std.proofs.lemmas.List.{append-nil, append_assoc, reverse-append, length-append, length-reverse, length-map, length-drop, map-append}
-use Rattle.lpt_system.specs.LptMemory.Memories.{Contents}
-use Rattle.lpt_system.specs.LptJobs.declared.job.Job.{Job as QueuedJob}
-use Rattle.lpt_system.specs.LptJobs.Jobs.{numbered}
-use Rattle.lpt_system.specs.LptEvents.declared.config.Config.{Config}
-use Rattle.lpt_system.specs.LptEvents.declared.entry.Entry.{Entry}
-use Rattle.lpt_system.specs.LptEvents.declared.entry.Release.{Release}
-use Rattle.lpt_system.specs.LptEvents.Configs.{IsConfig}
-use Rattle.lpt_system.specs.LptEvents.declared.event.Event.{Event}
-use Rattle.lpt_system.specs.LptEvents.declared.side.Side.{Side}
-use Rattle.lpt_system.specs.LptEvents.declared.side.Side.TheVariants.{Ground, Craft}
-use Rattle.lpt_refinement.specs.LptJournal.Jobs.{jobs, ticket}
-use Rattle.lpt_refinement.specs.LptJournal.Journal.{History, with_all}
-use Rattle.lpt_refinement.specs.LptJournal.Legal.{Legal}
-use Rattle.lpt_refinement.specs.LptJournal.Releases.{released_by}
-use Rattle.lpt_refinement.specs.LptJournal.Replies.{recorded}
-use Rattle.lpt_refinement.specs.LptJournal.Senders.{restarts}
-use Rattle.lpt_refinement.proofs.LptJournal.BootLemmas.{boot_few}
-use Rattle.lpt_refinement.proofs.LptJournal.HeadlineLemmas.{every}
-use Rattle.lpt_refinement.proofs.LptJournal.NewJobs.{came_up, new_job}
-use Rattle.lpt_refinement.proofs.LptJournal.TicketSteps.{jobs_sound}
+use Rattle.lpt_memory.specs.Memories.{Contents}
+use Rattle.lpt_jobs.specs.declared.job.Job.{Job as QueuedJob}
+use Rattle.lpt_jobs.specs.Jobs.{numbered}
+use Rattle.lpt_events.specs.declared.config.Config.{Config}
+use Rattle.lpt_events.specs.declared.entry.Entry.{Entry}
+use Rattle.lpt_events.specs.declared.entry.Release.{Release}
+use Rattle.lpt_events.specs.Configs.{IsConfig}
+use Rattle.lpt_events.specs.declared.event.Event.{Event}
+use Rattle.lpt_events.specs.declared.side.Side.{Side}
+use Rattle.lpt_events.specs.declared.side.Side.TheVariants.{Ground, Craft}
+use Rattle.lpt_journal.specs.Jobs.{jobs, ticket}
+use Rattle.lpt_journal.specs.Journal.{History, with_all}
+use Rattle.lpt_journal.specs.Legal.{Legal}
+use Rattle.lpt_journal.specs.Releases.{released_by}
+use Rattle.lpt_journal.specs.Replies.{recorded}
+use Rattle.lpt_journal.specs.Senders.{restarts}
+use Rattle.lpt_journal.proofs.BootLemmas.{boot_few}
+use Rattle.lpt_journal.proofs.HeadlineLemmas.{every}
+use Rattle.lpt_journal.proofs.NewJobs.{came_up, new_job}
+use Rattle.lpt_journal.proofs.TicketSteps.{jobs_sound}
 use Rattle.lpt_refinement.specs.Shows.{Shows, JobsFit, jobs_from}
 use Rattle.lpt_refinement.specs.GoesOn.{Fits}
-use Rattle.lpt_system.specs.LptModel.State.{State, end_of}
+use Rattle.lpt_model.specs.State.{State, end_of}
 use Rattle.lpt_refinement.specs.Views.{jobs_view, views}
 use Rattle.lpt_world.specs.Worlds.{IsTold, events_of, history_of}
 

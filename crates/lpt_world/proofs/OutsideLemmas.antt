@@ -2,12 +2,12 @@
 use Rattle.std.proofs.Common.{◌≡◌, ◌∙◌, ap, subst, sym, refl, ℕ, List, Option, Some, None}
 use Rattle.std.specs.Option.{option_map, option_and_then}
 use Rattle.std.specs.Prelude.{slice_get}
-use Rattle.lpt_system.specs.LptEvents.declared.entry.Entry.{Entry}
-use Rattle.lpt_system.specs.LptEvents.declared.lane.Lane.{Lane}
-use Rattle.lpt_system.specs.LptLink.declared.packet.LinkPacket.{LinkPacket}
-use Rattle.lpt_system.specs.LptMemory.Memories.{Contents}
-use Rattle.lpt_refinement.specs.LptJournal.Hands.{hand}
-use Rattle.lpt_system.specs.LptNode.Origins.{Origin}
+use Rattle.lpt_events.specs.declared.entry.Entry.{Entry}
+use Rattle.lpt_events.specs.declared.lane.Lane.{Lane}
+use Rattle.lpt_link.specs.declared.packet.LinkPacket.{LinkPacket}
+use Rattle.lpt_memory.specs.Memories.{Contents}
+use Rattle.lpt_journal.specs.Hands.{hand}
+use Rattle.lpt_node.specs.ParsedViews.{ParsedView}
 use Rattle.lpt_system.specs.declared.system.System.{System}
 use Rattle.lpt_system.specs.Outside.{octets_held, IsReadOf}
 use Rattle.lpt_world.specs.Outside.{octets_of, octets_in_hand, IsOfHand}
@@ -33,7 +33,7 @@ octets_shown e first j l k =
       go (Some n) = packet_shown e first j n k
 
 -- what was read is what the link has in a lane's hand, where it is what the journal says
-pub read_of : (e : System) (first : Contents) (j : List Entry) (l : Lane) (o : Origin)
+pub read_of : (e : System) (first : Contents) (j : List Entry) (l : Lane) (o : ParsedView)
     → IsShown e first j
     → IsOfHand (world_of e first j) l o
     → IsReadOf e.config (octets_held e.link.at l) l o

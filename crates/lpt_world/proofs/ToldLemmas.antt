@@ -1,14 +1,14 @@
 -- A world that shows its journal keeps what holds of every legal journal.
 use Rattle.std.proofs.Common.{List}
-use Rattle.lpt_system.specs.LptMemory.Memories.{Contents}
+use Rattle.lpt_memory.specs.Memories.{Contents}
 use Rattle.lpt_system.specs.declared.system.System.{System}
-use Rattle.lpt_system.specs.LptEvents.declared.entry.Entry.{Entry}
-use Rattle.lpt_refinement.specs.LptJournal.Headline.{Holds}
+use Rattle.lpt_events.specs.declared.entry.Entry.{Entry}
+use Rattle.lpt_journal.specs.Headline.{Holds}
 use Rattle.lpt_world.specs.WorldInside.{IsShown}
 use Rattle.lpt_world.specs.Worlds.{Promised, events_of, history_of}
-use Rattle.lpt_refinement.proofs.LptJournal.AbortionLemmas.{abortion_is_final}
-use Rattle.lpt_refinement.proofs.LptJournal.HeadlineLemmas.{headline}
-use Rattle.lpt_refinement.proofs.LptJournal.WorkLemmas.{work_is_of_its_boot}
+use Rattle.lpt_journal.proofs.AbortionLemmas.{abortion_is_final}
+use Rattle.lpt_journal.proofs.HeadlineLemmas.{headline}
+use Rattle.lpt_journal.proofs.WorkLemmas.{work_is_of_its_boot}
 use Rattle.lpt_refinement.specs.GoesOn.{AreNamed}
 use Rattle.lpt_world.proofs.LegalLemmas.{fits}
 

@@ -4,19 +4,19 @@ use Rattle.std.proofs.Common.{arith, ◌≡◌, ◌∙◌, ap, refl, ℕ, ◌-�
 use Rattle.std.specs.Option.{option_map}
 use Rattle.std.proofs.lemmas.List.{length-drop, length-map}
 use Rattle.std.proofs.lemmas.Option.{slice_get-map}
-use Rattle.lpt_system.specs.LptMemory.Memories.{Contents}
-use Rattle.lpt_system.specs.LptMemory.Readings.{Job}
-use Rattle.lpt_system.specs.LptJobs.Jobs.{claimed_in, unclaimed}
-use Rattle.lpt_system.specs.LptEvents.declared.config.Config.{Config}
-use Rattle.lpt_system.specs.LptEvents.declared.entry.Release.{Release}
-use Rattle.lpt_system.specs.LptEvents.declared.side.Side.TheVariants.{Craft}
-use Rattle.lpt_system.specs.LptNode.Faults.{node_fault}
-use Rattle.lpt_system.specs.LptNode.Jobs.{refusal_claim_of}
-use Rattle.lpt_system.specs.LptNode.Nodes.{NodeData}
-use Rattle.lpt_refinement.specs.LptJournal.Journal.{History}
-use Rattle.lpt_refinement.specs.LptJournal.Jobs.{boot, jobs, claimed, applied, job_given, ticket}
+use Rattle.lpt_memory.specs.Memories.{Contents}
+use Rattle.lpt_memory.specs.Readings.{Job}
+use Rattle.lpt_jobs.specs.Jobs.{claimed_in, unclaimed}
+use Rattle.lpt_events.specs.declared.config.Config.{Config}
+use Rattle.lpt_events.specs.declared.entry.Release.{Release}
+use Rattle.lpt_events.specs.declared.side.Side.TheVariants.{Craft}
+use Rattle.lpt_node.specs.Faults.{node_fault}
+use Rattle.lpt_node.specs.Jobs.{refusal_claim_of}
+use Rattle.lpt_node.specs.Nodes.{NodeData}
+use Rattle.lpt_journal.specs.Journal.{History}
+use Rattle.lpt_journal.specs.Jobs.{boot, jobs, claimed, applied, job_given, ticket}
 use Rattle.lpt_refinement.specs.Shows.{Shows, JobsFit, job_shown}
-use Rattle.lpt_system.specs.LptModel.State.{State, refusal_claim_by}
+use Rattle.lpt_model.specs.State.{State, refusal_claim_by}
 use Rattle.lpt_refinement.specs.Views.{jobs_view, views}
 use Rattle.lpt_refinement.proofs.JobsShown.{was_claimed-job_shown}
 use Rattle.lpt_refinement.proofs.WorkersShown.{unclaimed_shown}

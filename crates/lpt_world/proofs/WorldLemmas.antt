@@ -4,27 +4,27 @@ use Rattle.std.specs.Option.{option_map}
 use Rattle.std.specs.Prelude.{slice_get}
 use Rattle.std.proofs.lemmas.Option.{slice_get-map}
 use Rattle.std.proofs.lemmas.List.{reverse-append, map-append}
-use Rattle.lpt_system.proofs.LptPacket.Readings.{lt_false}
-use Rattle.lpt_system.specs.LptLink.declared.packet.LinkPacket.{LinkPacket}
-use Rattle.lpt_system.specs.LptLink.Links.{octets_at}
-use Rattle.lpt_system.specs.LptMemory.Memories.{Contents}
-use Rattle.lpt_system.specs.LptEvents.declared.config.Config.{Config}
+use Rattle.lpt_packet.proofs.Readings.{lt_false}
+use Rattle.lpt_link.specs.declared.packet.LinkPacket.{LinkPacket}
+use Rattle.lpt_link.specs.Links.{octets_at}
+use Rattle.lpt_memory.specs.Memories.{Contents}
+use Rattle.lpt_events.specs.declared.config.Config.{Config}
 use Rattle.lpt_system.specs.declared.system.System.{System}
-use Rattle.lpt_system.specs.LptEvents.declared.entry.Entry.{Entry}
-use Rattle.lpt_system.specs.LptEvents.declared.event.Event.{Event}
-use Rattle.lpt_system.specs.LptEvents.Events.{IsEvent}
-use Rattle.lpt_system.specs.LptEvents.declared.fault.StepFault.{StepFault}
-use Rattle.lpt_system.specs.LptEvents.declared.fault.StepFault.TheVariants.{NoSuchSeat}
-use Rattle.lpt_system.specs.LptEvents.declared.reply.Reply.{Reply}
+use Rattle.lpt_events.specs.declared.entry.Entry.{Entry}
+use Rattle.lpt_events.specs.declared.event.Event.{Event}
+use Rattle.lpt_events.specs.Events.{IsEvent}
+use Rattle.lpt_events.specs.declared.fault.StepFault.{StepFault}
+use Rattle.lpt_events.specs.declared.fault.StepFault.TheVariants.{NoSuchSeat}
+use Rattle.lpt_events.specs.declared.reply.Reply.{Reply}
 use Rattle.lpt_system.specs.SystemInside.{state_of}
-use Rattle.lpt_refinement.specs.LptJournal.Journal.{Recorded, History, SentPacket}
-use Rattle.lpt_refinement.specs.LptJournal.Link.{sent}
-use Rattle.lpt_system.specs.LptEvents.Configs.{IsConfig}
-use Rattle.lpt_refinement.specs.LptJournal.Legal.{IsEnabled, Legal}
-use Rattle.lpt_refinement.specs.LptJournal.Refusals.{refusal}
-use Rattle.lpt_refinement.specs.LptJournal.Replies.{reply, entry, recorded}
+use Rattle.lpt_journal.specs.Journal.{Recorded, History, SentPacket}
+use Rattle.lpt_journal.specs.Link.{sent}
+use Rattle.lpt_events.specs.Configs.{IsConfig}
+use Rattle.lpt_journal.specs.Legal.{IsEnabled, Legal}
+use Rattle.lpt_journal.specs.Refusals.{refusal}
+use Rattle.lpt_journal.specs.Replies.{reply, entry, recorded}
 use Rattle.lpt_refinement.specs.Shows.{Shows, sent_packet}
-use Rattle.lpt_system.specs.LptModel.State.{State, no_state, after, refusal_of, IsReady}
+use Rattle.lpt_model.specs.State.{State, no_state, after, refusal_of, IsReady}
 use Rattle.lpt_refinement.specs.Views.{views}
 use Rattle.lpt_world.specs.WorldInside.{IsShown, IsWorld}
 use Rattle.lpt_world.specs.Worlds.{IsTold, events_of, history_of, refusal_at}

@@ -1,11 +1,11 @@
 -- What always holds of a world: its system shows its journal, and the journal is told.
 use Rattle.std.specs.Prelude.{List}
-use Rattle.lpt_system.specs.LptEvents.declared.config.Config.{Config}
+use Rattle.lpt_events.specs.declared.config.Config.{Config}
 use Rattle.lpt_system.specs.declared.system.System.{System}
-use Rattle.lpt_system.specs.LptEvents.declared.entry.Entry.{Entry}
+use Rattle.lpt_events.specs.declared.entry.Entry.{Entry}
 use Rattle.lpt_system.specs.SystemInside.{state_of}
-use Rattle.lpt_system.specs.LptEvents.Configs.{IsConfig}
-use Rattle.lpt_system.specs.LptMemory.Memories.{Contents}
+use Rattle.lpt_events.specs.Configs.{IsConfig}
+use Rattle.lpt_memory.specs.Memories.{Contents}
 use Rattle.lpt_refinement.specs.Shows.{Shows}
 use Rattle.lpt_refinement.specs.Views.{views}
 use Rattle.lpt_world.specs.Worlds.{IsTold, history_of}

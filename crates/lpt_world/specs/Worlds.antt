@@ -1,23 +1,23 @@
 -- A world as its readers show it: its configuration, the first content of its memories, and its journal.
 use Rattle.std.specs.Prelude.{◌≡◌, ℕ, nat_lt, if◌then◌else◌, List, [], ◌∷◌, ◌++◌, map, reverse, Option, Some, None}
-use Rattle.lpt_system.specs.LptLedger.declared.state.State.{State}
-use Rattle.lpt_system.specs.LptLedger.declared.state.State.TheVariants.{Free, Open, Closed}
-use Rattle.lpt_system.specs.LptMemory.Memories.{Contents}
-use Rattle.lpt_system.specs.LptEvents.declared.config.Config.{Config}
-use Rattle.lpt_system.specs.LptEvents.declared.entry.Entry.{Entry}
-use Rattle.lpt_system.specs.LptEvents.declared.event.Event.{Event}
-use Rattle.lpt_system.specs.LptEvents.declared.fault.StepFault.{StepFault}
-use Rattle.lpt_system.specs.LptEvents.declared.fault.StepFault.TheVariants.{NoSuchSeat, Memory}
-use Rattle.lpt_system.specs.LptEvents.declared.reply.Reply.{Reply}
-use Rattle.lpt_refinement.specs.LptJournal.Journal.{History}
-use Rattle.lpt_refinement.specs.LptJournal.Senders.{Sender, FreeSender, OpenSender, ClosedSender}
-use Rattle.lpt_refinement.specs.LptJournal.Jobs.{memories}
-use Rattle.lpt_refinement.specs.LptJournal.Abortions.{EndsAreFinal}
-use Rattle.lpt_refinement.specs.LptJournal.Headline.{Holds}
-use Rattle.lpt_refinement.specs.LptJournal.Legal.{Legal}
-use Rattle.lpt_refinement.specs.LptJournal.Work.{WorkKeepsItsBoot}
-use Rattle.lpt_refinement.specs.LptJournal.Replies.{recorded, reply}
-use Rattle.lpt_refinement.specs.LptJournal.Refusals.{refusal}
+use Rattle.lpt_ledger.specs.declared.state.State.{State}
+use Rattle.lpt_ledger.specs.declared.state.State.TheVariants.{Free, Open, Closed}
+use Rattle.lpt_memory.specs.Memories.{Contents}
+use Rattle.lpt_events.specs.declared.config.Config.{Config}
+use Rattle.lpt_events.specs.declared.entry.Entry.{Entry}
+use Rattle.lpt_events.specs.declared.event.Event.{Event}
+use Rattle.lpt_events.specs.declared.fault.StepFault.{StepFault}
+use Rattle.lpt_events.specs.declared.fault.StepFault.TheVariants.{NoSuchSeat, Memory}
+use Rattle.lpt_events.specs.declared.reply.Reply.{Reply}
+use Rattle.lpt_journal.specs.Journal.{History}
+use Rattle.lpt_journal.specs.Senders.{Sender, FreeSender, OpenSender, ClosedSender}
+use Rattle.lpt_journal.specs.Jobs.{memories}
+use Rattle.lpt_journal.specs.Abortions.{EndsAreFinal}
+use Rattle.lpt_journal.specs.Headline.{Holds}
+use Rattle.lpt_journal.specs.Legal.{Legal}
+use Rattle.lpt_journal.specs.Work.{WorkKeepsItsBoot}
+use Rattle.lpt_journal.specs.Replies.{recorded, reply}
+use Rattle.lpt_journal.specs.Refusals.{refusal}
 
 -- the configuration, the memories as they were first, and the journal with its oldest entry first
 pub record Shown : Type 0 where

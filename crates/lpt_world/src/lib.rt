@@ -7,16 +7,19 @@
 #![tactic(auto)]
 
 mod clearing;
+mod laws;
 mod outside;
 mod readers;
 mod world;
 
-pub use lpt_refinement::journal_laws as laws;
-pub use lpt_system::{
-    Accepted, AckFlags, Answer, Applied, Area, Ask, Call, Config, ConfigFault, Direction, Entry,
-    Event, FailureCode, LONGEST_PACKET, Lane, Memories, Mode, Name, Node, NodeFault, Octets,
-    Opening, Outcome, Packet, PacketKind, Parsed, Prepared, Puts, Reason, Refused, Release, Reply,
-    RunEnd, SeatLog, Shape, Side, State, StepFault, Ticket, TmHead, Turns, Why, Worker, count,
-    crc16, prepare, write_packet, write_tm,
+pub use lpt_events::{
+    Answer, Applied, Config, ConfigFault, Entry, Event, Lane, Opening, Outcome, Refused, Release,
+    Reply, RunEnd, Side, StepFault, Why, Worker,
 };
+pub use lpt_ledger::State;
+pub use lpt_memory::{Memories, Prepared, Shape, Ticket};
+pub use lpt_node::Parsed;
+pub use lpt_packet::{Direction, Name, Octets};
+pub use lpt_part::Reason;
+pub use lpt_pus::{AckFlags, FailureCode};
 pub use world::World;

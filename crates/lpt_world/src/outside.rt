@@ -2,14 +2,17 @@
 //! it is claimed, and what was read of them outside is delivered and committed.
 
 ghost use Rattle.std.specs.Prelude.{◌≡◌, length, Some, None, IfOk, IfErr, IsTrue, ◌↔◌};
-ghost use Rattle.lpt_refinement.specs.LptJournal.Jobs.{job_given};
-ghost use Rattle.lpt_refinement.specs.LptJournal.Replies.{reply};
+ghost use Rattle.lpt_journal.specs.Jobs.{job_given};
+ghost use Rattle.lpt_journal.specs.Replies.{reply};
 ghost use Rattle.lpt_world.specs.Outside.{octets_of, IsOfHand, ReadRefusedBy};
 ghost use Rattle.lpt_world.specs.Workers.{IsOfWorker};
 ghost use Rattle.lpt_world.specs.Worlds.{Promised, history, refusal_at, RefusedBy, with_entry};
 
-use crate::{Entry, Event, Refused, Reply, StepFault, World};
-use lpt_system::{Lane, Octets, Parsed, Prepared, Ticket, Worker};
+use crate::World;
+use lpt_events::{Entry, Event, Lane, Refused, Reply, StepFault, Worker};
+use lpt_memory::{Prepared, Ticket};
+use lpt_node::Parsed;
+use lpt_packet::Octets;
 use std::alloc::AllocError;
 
 impl World {
@@ -35,7 +38,7 @@ impl World {
         let event = Event::Take(lane, n);
         let at = self.journal.len() as u64;
         let taken = self.try_take(seat, lane, n);
-        self.keep_promise();
+        self.promise_is_kept();
         match taken {
             Ok(taken) => Ok(taken),
             Err(fault) => Err(Refused { fault, at, event }),
@@ -88,7 +91,7 @@ impl World {
         ensures unchanged { IfErr result (λ e. self.new ≡ self.old) }
     {
         let done = self.try_deliver(seat, lane, parsed);
-        self.keep_promise();
+        self.promise_is_kept();
         done
     }
 
@@ -150,7 +153,7 @@ impl World {
         let event = Event::Claim(worker);
         let at = self.journal.len() as u64;
         let claimed = self.try_claim(seat, worker);
-        self.keep_promise();
+        self.promise_is_kept();
         match claimed {
             Ok(claimed) => Ok(claimed),
             Err(fault) => Err(Refused { fault, at, event }),
@@ -207,7 +210,7 @@ impl World {
         ensures unchanged { IfErr result (λ e. self.new ≡ self.old) }
     {
         let done = self.try_commit(seat, worker, prepared);
-        self.keep_promise();
+        self.promise_is_kept();
         done
     }
 

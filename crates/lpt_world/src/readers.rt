@@ -2,19 +2,22 @@
 
 ghost use Rattle.std.specs.Prelude.{◌≡◌, ◌-◌, length, slice_get, IfOk};
 ghost use Rattle.std.specs.Option.{option_map, option_copied};
-ghost use Rattle.lpt_refinement.specs.LptJournal.Hands.{hand};
-ghost use Rattle.lpt_refinement.specs.LptJournal.Headline.{EachIsLastOpened, AtMostOncePerOpening, MemoriesFollow};
-ghost use Rattle.lpt_refinement.specs.LptJournal.Jobs.{jobs, claimed, applied, ticket};
-ghost use Rattle.lpt_refinement.specs.LptJournal.Link.{sent, is_held};
-ghost use Rattle.lpt_refinement.specs.LptJournal.Receivers.{clock};
-ghost use Rattle.lpt_refinement.specs.LptJournal.Releases.{releases};
-ghost use Rattle.lpt_refinement.specs.LptJournal.Senders.{opened, sender};
-ghost use Rattle.lpt_system.specs.LptMemory.Memories.{content_of, sizes_of};
-ghost use Rattle.lpt_system.specs.LptEvents.Configs.{IsConfig};
+ghost use Rattle.lpt_journal.specs.Hands.{hand};
+ghost use Rattle.lpt_journal.specs.Headline.{EachIsLastOpened, AtMostOncePerOpening, MemoriesFollow};
+ghost use Rattle.lpt_journal.specs.Jobs.{jobs, claimed, applied, ticket};
+ghost use Rattle.lpt_journal.specs.Link.{sent, is_held};
+ghost use Rattle.lpt_journal.specs.Receivers.{clock};
+ghost use Rattle.lpt_journal.specs.Releases.{releases};
+ghost use Rattle.lpt_journal.specs.Senders.{opened, sender};
+ghost use Rattle.lpt_memory.specs.Memories.{content_of, sizes_of};
+ghost use Rattle.lpt_events.specs.Configs.{IsConfig};
 ghost use Rattle.lpt_world.specs.Worlds.{IsTold, Promised, history, memories_now, state_shown};
 
-use crate::{Entry, Opening, Release, World};
-use lpt_system::{Config, Direction, Lane, Name, Shape, Side, State, Worker};
+use crate::World;
+use lpt_events::{Config, Entry, Lane, Opening, Release, Side, Worker};
+use lpt_ledger::State;
+use lpt_memory::Shape;
+use lpt_packet::{Direction, Name};
 use std::alloc::AllocError;
 
 impl World {
@@ -114,10 +117,10 @@ impl World {
     }
 
     /// The state of a transaction at the node that sends in this direction.
-    pub fn sender(&self, direction: Direction, id: Name) -> State
-        ensures { result ≡ state_shown (sender (history self.now) direction id) }
+    pub fn sender(&self, direction: Direction, name: Name) -> State
+        ensures { result ≡ state_shown (sender (history self.now) direction name) }
     {
-        self.system.sender(direction, id)
+        self.system.sender(direction, name)
     }
 
     /// The clock of a node, in ticks.

@@ -1,12 +1,13 @@
 //! The world: two nodes, the link between them, the memories, and the journal.
 
 ghost use Rattle.std.specs.Prelude.{◌≡◌, ◌≤◌, length, take, slice_get, None, IfOk, IfErr, IfSome};
-ghost use Rattle.lpt_system.specs.LptEvents.Configs.{config_fault, ConfigRefusedBy};
-ghost use Rattle.lpt_refinement.specs.LptJournal.Replies.{reply};
+ghost use Rattle.lpt_events.specs.Configs.{config_fault, ConfigRefusedBy};
+ghost use Rattle.lpt_journal.specs.Replies.{reply};
 ghost use Rattle.lpt_world.specs.Worlds.{Promised, new_world, history, refusal_at, RefusedBy, with_entry, entered, AllAccepted, IsFaultOf};
 
-use crate::{ConfigFault, Entry, Event, Refused, Reply, RunEnd, StepFault};
-use lpt_system::{Config, Memories, System};
+use lpt_events::{Config, ConfigFault, Entry, Event, Refused, Reply, RunEnd, StepFault};
+use lpt_memory::Memories;
+use lpt_system::System;
 use std::alloc::Global;
 use std::marker::Model;
 
@@ -59,7 +60,7 @@ impl World {
                     first: memories,
                     journal: Vec::new(alloc),
                 };
-                world.keep_promise();
+                world.promise_is_kept();
                 Ok(world)
             }
             Err(_) => Err(ConfigFault::Memory),
@@ -95,7 +96,7 @@ impl World {
                 }
             },
         };
-        self.keep_promise();
+        self.promise_is_kept();
         done
     }
 
@@ -111,7 +112,7 @@ impl World {
         if self.journal.reserve(1).is_err() {
             return Err(event);
         }
-        event.in_range();
+        event.numbers_are_in_range();
         let place = self.journal.len() as u64;
         match self.system.apply(place, &event) {
             Err(_) => Err(event),
@@ -133,25 +134,18 @@ impl World {
     {
         for (done, event) in events.iter().enumerate() {
             if let Some(fault) = self.step_copy(event) {
-                self.keep_promise();
+                self.promise_is_kept();
                 return RunEnd {
                     done: done as u64,
                     refused: Some(fault),
                 };
             }
         }
-        self.keep_promise();
+        self.promise_is_kept();
         RunEnd {
             done: events.len() as u64,
             refused: None,
         }
-    }
-
-    // What is promised holds of every world.
-    pub(crate) fn keep_promise(&self)
-        ensures { Promised self.now }
-    {
-        let _ = self.journal();
     }
 
     // Steps seat 0 through a copy of the event, and gives the fault where it is refused.

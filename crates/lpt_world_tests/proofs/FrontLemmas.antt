@@ -1,13 +1,13 @@
 -- What stands at the front once the first reading was committed.
 use Rattle.std.proofs.Common.{◌≡◌, sym, subst, ℕ, zero, suc, Bool, true, false, List, [], ◌∷◌, set, Some, ◌==◌, if◌then◌else◌}
-use Rattle.lpt_world.specs.LptJobs.declared.job.Job.{Job}
-use Rattle.lpt_world.specs.LptJobs.declared.job.Job.TheVariants.{Waiting, Claimed, Committed}
-use Rattle.lpt_world.specs.LptJobs.Jobs.{after_commit, head_by, head_of}
-use Rattle.lpt_world.specs.LptMemory.Memories.{Contents, sizes_of}
-use Rattle.lpt_world.specs.LptMemory.Readings.{Source}
-use Rattle.lpt_world.specs.LptNode.declared.fault.NodeFault.TheVariants.{NotReady}
-use Rattle.lpt_world.specs.LptNode.Jobs.{FrontIsFor, committed, refusal_apply, refusal_apply_of}
-use Rattle.lpt_world.specs.LptNode.Nodes.{NodeData}
+use Rattle.lpt_jobs.specs.declared.job.Job.{Job}
+use Rattle.lpt_jobs.specs.declared.job.Job.TheVariants.{Waiting, Claimed, Committed}
+use Rattle.lpt_jobs.specs.Jobs.{after_commit, head_by, head_of}
+use Rattle.lpt_memory.specs.Memories.{Contents, sizes_of}
+use Rattle.lpt_memory.specs.Readings.{Source}
+use Rattle.lpt_node.specs.declared.fault.NodeFault.TheVariants.{NotReady}
+use Rattle.lpt_node.specs.Jobs.{FrontIsFor, committed, refusal_apply, refusal_apply_of}
+use Rattle.lpt_node.specs.Nodes.{NodeData}
 
 module _ (r : Source) (apid : ℕ) (ms : Contents) (its : r.apid ≡ apid) (sizes : r.sizes ≡ sizes_of ms) where
   unread : (j : Job) → refusal_apply_of (head_by j) ≡ Some NotReady → FrontIsFor (head_by j) apid ms

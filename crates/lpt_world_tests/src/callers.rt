@@ -1,9 +1,10 @@
 //! A caller that proves something of its own of a world, by a law over legal journals.
 
-ghost use Rattle.lpt_world.specs.LptJournal.Headline.{EachIsLastOpened};
+ghost use Rattle.lpt_journal.specs.Headline.{EachIsLastOpened};
 ghost use Rattle.lpt_world.specs.Worlds.{history};
 
-use lpt_world::{World, laws};
+use lpt_journal::laws;
+use lpt_world::World;
 
 /// Says that each large message that a world released is the one last opened under its name: the law
 /// says it of legal journals, and the world that its journal is legal.

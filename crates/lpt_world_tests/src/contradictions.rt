@@ -5,9 +5,10 @@ use crate::names::ID_7;
 use crate::packets::{FIRST_DOWN, FIRST_UP, MIDDLE_DOWN, MIDDLE_UP};
 use crate::playing::{Packet, Play, Row, play_all};
 use crate::stations::PASS;
-use lpt_world::Outcome::{self, *};
-use lpt_world::Side::{self, Craft, Ground};
-use lpt_world::{Config, Mode, Reason, Why};
+use lpt_events::Outcome::{self, *};
+use lpt_events::Side::{self, Craft, Ground};
+use lpt_events::{Config, Why};
+use lpt_part::{Mode, Reason};
 
 const BROKEN: Outcome = Broken(ID_7, Reason::Conflict);
 

@@ -5,7 +5,9 @@ ghost use Rattle.std.specs.Prelude.{◌≡◌, IfOk};
 use crate::rows::ONE;
 use crate::stations::Station;
 use crate::walking::{memories_of, shape_of};
-use lpt_world::{Applied, Ask, Memories, NodeFault, Prepared, Shape, Ticket, prepare};
+use lpt_events::Applied;
+use lpt_memory::{Memories, Prepared, Shape, Ticket, prepare};
+use lpt_node::{Ask, NodeFault};
 use std::alloc::{AllocError, Global};
 
 /// What memory 1 has from address 15 on once it was loaded.

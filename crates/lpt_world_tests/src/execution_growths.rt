@@ -6,16 +6,17 @@ use crate::names::ID_0;
 use crate::packets::LOAD;
 use crate::rows::{CONFIG, Content, ONE, Path, Row, Shown};
 use crate::walking::walk;
-use lpt_world::Direction::Down;
-use lpt_world::Lane::S1;
-use lpt_world::Outcome::PlainReleased;
-use lpt_world::{Applied, State};
+use lpt_events::Applied;
+use lpt_events::Lane::S1;
+use lpt_events::Outcome::PlainReleased;
+use lpt_ledger::State;
+use lpt_packet::Direction::Down;
 
 /// The body of a dump of two octets of memory 1 from address 16 on, of which the report fits a packet.
 const DUMP: [u8; 8] = [1, 1, 0, 0, 0, 0x10, 0, 2];
 
 /// The body of a dump of one octet more, of which the report is opened as a message.
-pub(crate) const LARGE: [u8; 8] = [1, 1, 0, 0, 0, 0x10, 0, 3];
+const LARGE: [u8; 8] = [1, 1, 0, 0, 0, 0x10, 0, 3];
 
 /// TM\[6,6\] of count 0 at clock 0: the two octets ab cd.
 const DUMPED: [u8; 31] = [

@@ -6,9 +6,9 @@ use crate::names::ID_7;
 use crate::packets::{FIRST_UP, LAST_UP};
 use crate::rows::{CONFIG, Content, ONE, Path, Row, Shown};
 use crate::walking::walk;
-use lpt_world::Direction::Up;
-use lpt_world::Lane::S1;
-use lpt_world::Outcome;
+use lpt_events::Lane::S1;
+use lpt_events::Outcome;
+use lpt_packet::Direction::Up;
 
 /// The first path: a message is opened, its three parts are sent and delivered as 3, 1, 2.
 const FIRST_PATH: [Row; 15] = [

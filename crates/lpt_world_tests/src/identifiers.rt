@@ -2,9 +2,12 @@
 
 use crate::names::ID_7;
 use crate::rows::{Asked, CONFIG, Content, ONE, Path, Row, SEAT, Shown};
-use lpt_world::Direction::Up;
-use lpt_world::Lane::{G1, S1};
-use lpt_world::{Answer, Config, Name, Outcome, Reason, State, StepFault};
+use lpt_events::Lane::{G1, S1};
+use lpt_events::{Answer, Config, Outcome, StepFault};
+use lpt_ledger::State;
+use lpt_packet::Direction::Up;
+use lpt_packet::Name;
+use lpt_part::Reason;
 
 const OTHER_3: Name = Name { source: 2, id: 3 };
 

@@ -11,8 +11,6 @@
 #![tactic(auto)]
 
 #[cfg(test)]
-mod anew;
-#[cfg(test)]
 mod callers;
 #[cfg(test)]
 mod contradictions;
@@ -42,6 +40,8 @@ mod receiving;
 mod refusals;
 #[cfg(test)]
 mod renewal_growths;
+#[cfg(test)]
+mod restart;
 #[cfg(test)]
 mod rows;
 #[cfg(test)]

@@ -1,6 +1,6 @@
 //! The names of transactions: the configured source's, by their identifiers, and one of another.
 
-use lpt_world::Name;
+use lpt_packet::Name;
 
 pub(crate) const ID_0: Name = Name { source: 1, id: 0 };
 

@@ -5,12 +5,13 @@ use crate::names::ID_7;
 use crate::packets::{FIRST_UP, LAST_UP, LOAD, LOADING, LOADING_AGAIN};
 use crate::rows::{Asked, CONFIG, Content, ONE, Path, Read, Row, SEAT, Shown, Step, octets_of};
 use crate::walking::{shape_of, walk};
-use lpt_world::Direction::Up;
-use lpt_world::Lane::S1;
-use lpt_world::Worker::W1;
-use lpt_world::{
-    Answer, Config, Outcome, Parsed, Prepared, Side, StepFault, Ticket, World, prepare,
-};
+use lpt_events::Lane::S1;
+use lpt_events::Worker::W1;
+use lpt_events::{Answer, Config, Outcome, Side, StepFault};
+use lpt_memory::{Prepared, Ticket, prepare};
+use lpt_node::Parsed;
+use lpt_packet::Direction::Up;
+use lpt_world::World;
 use std::alloc::{AllocError, Global};
 
 /// Whether what is asked for outside a world comes as its step says; none where the step is no such

@@ -6,9 +6,9 @@ use crate::packets::LAST_OCTET;
 use crate::rows::{Asked, CONFIG, Content, ONE, Path, Row, SEAT, Shown};
 use crate::sources;
 use crate::walking::walk;
-use lpt_world::Direction::{Down, Up};
-use lpt_world::Lane::{G1, S1, S2};
-use lpt_world::{Config, Outcome, StepFault, Why};
+use lpt_events::Lane::{G1, S1, S2};
+use lpt_events::{Config, Outcome, StepFault, Why};
+use lpt_packet::Direction::{Down, Up};
 
 const RELEASED_ONCE: [Row; 18] = [
     Row::Opens(Up, ID_7, 20, 3),

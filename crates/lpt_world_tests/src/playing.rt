@@ -4,8 +4,12 @@ use crate::executing::{executes, is_too_late};
 use crate::names::ID_7;
 use crate::rows::{counting, octets_of};
 use crate::stations::Station;
-use lpt_world::Direction::Up;
-use lpt_world::{AckFlags, Ask, Config, Name, NodeFault, Octets, Outcome, Parsed, Side, State};
+use lpt_events::{Config, Outcome, Side};
+use lpt_ledger::State;
+use lpt_node::{Ask, NodeFault, Parsed};
+use lpt_packet::Direction::Up;
+use lpt_packet::{Name, Octets};
+use lpt_pus::AckFlags;
 use std::alloc::{AllocError, Global};
 use std::process::Abort;
 
@@ -92,10 +96,10 @@ fn goes(
 // Whether a row comes as it says.
 fn comes(alloc: Global, station: &mut Station, row: &Row) -> Result<bool, AllocError> {
     Ok(match *row {
-        Row::Opens(id, octets, fault) => station.opens(id, counting(alloc, octets)?) == fault,
-        Row::Sends(id, part, want) => sends(station, id, part, want),
+        Row::Opens(name, octets, fault) => station.opens(name, counting(alloc, octets)?) == fault,
+        Row::Sends(name, part, want) => sends(station, name, part, want),
         Row::Counts(part, at, first, last) => counts(station, part, at, first, last),
-        Row::Finishes(id) => station.node.finish(id).is_ok(),
+        Row::Finishes(name) => station.node.finish(name).is_ok(),
         Row::Requests(flags, service, subtype, body, want) => {
             requests(station, flags, service, subtype, body, want)
         }
@@ -103,20 +107,20 @@ fn comes(alloc: Global, station: &mut Station, row: &Row) -> Result<bool, AllocE
         Row::Ticks(clock) => station.node.tick().is_ok() && station.node.clock() == clock,
         Row::Expires(want) => expires(station, want),
         Row::Restarts(boot) => restarts(station, boot),
-        Row::Retires(id) => retires(station, id),
+        Row::Retires(name) => retires(station, name),
         Row::Executes => executes(alloc, station)?,
         Row::ComesTooLate(boot, job) => is_too_late(alloc, station, boot, job)?,
         Row::Refuses(ref ask, fault) => station.node.refusal(ask) == fault,
-        Row::Sender(id, state) => station.node.sender(id) == state,
-        Row::Receives(id, open) => station.node.is_open_reception(id) == open,
+        Row::Sender(name, state) => station.node.sender(name) == state,
+        Row::Receives(name, open) => station.node.is_open_reception(name) == open,
         Row::Clock(clock) => station.node.clock() == clock,
         Row::Jobs(boot, jobs) => station.node.boot() == boot && station.node.jobs() == jobs,
     })
 }
 
 // Sends a part.
-fn sends(station: &mut Station, id: Name, part: u16, want: Result<&[u8], NodeFault>) -> bool {
-    match station.node.send_part(id, part) {
+fn sends(station: &mut Station, name: Name, part: u16, want: Result<&[u8], NodeFault>) -> bool {
+    match station.node.send_part(name, part) {
         Ok(packet) => {
             let Config {
                 apid,
@@ -204,8 +208,10 @@ fn hears(
 // Whether a reception is open where its part is kept, and isn't where it has ended.
 fn is_kept(station: &Station, outcome: Outcome) -> bool {
     match outcome {
-        Outcome::Kept(id, _) | Outcome::Again(id, _) => station.node.is_open_reception(id),
-        Outcome::Released(id, _) | Outcome::Broken(id, _) => !station.node.is_open_reception(id),
+        Outcome::Kept(name, _) | Outcome::Again(name, _) => station.node.is_open_reception(name),
+        Outcome::Released(name, _) | Outcome::Broken(name, _) => !station
+            .node
+            .is_open_reception(name),
         _ => true,
     }
 }
@@ -222,7 +228,7 @@ fn is(octets: &Option<Octets>, wanted: Option<&[u8]>) -> bool {
 fn expires(station: &mut Station, want: Result<(Name, &[u8]), NodeFault>) -> bool {
     match station.node.expire() {
         Ok(expired) => match want {
-            Ok((id, report)) => expired.id == id && is(&expired.packet, Some(report)),
+            Ok((name, report)) => expired.name == name && is(&expired.packet, Some(report)),
             Err(_) => false,
         },
         Err(fault) => want == Err(fault),
@@ -238,10 +244,10 @@ fn restarts(station: &mut Station, boot: u64) -> bool {
 }
 
 // Retires a name of the way up where neither its sender nor a reception is open.
-fn retires(station: &mut Station, id: Name) -> bool {
-    if station.node.sender(id) == State::Open || station.node.is_open_reception(id) {
+fn retires(station: &mut Station, name: Name) -> bool {
+    if station.node.sender(name) == State::Open || station.node.is_open_reception(name) {
         return false;
     }
-    station.node.retire(Up, id);
+    station.node.retire(Up, name);
     true
 }

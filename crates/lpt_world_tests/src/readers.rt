@@ -3,9 +3,11 @@
 use crate::names::ID_7;
 use crate::rows::{CONFIG, Content, ONE, Path, Row, Shown};
 use crate::walking::walk;
-use lpt_world::Direction::{Down, Up};
-use lpt_world::Lane::{G1, S1};
-use lpt_world::{Side, State, laws};
+use lpt_events::Lane::{G1, S1};
+use lpt_events::Side;
+use lpt_journal::laws;
+use lpt_ledger::State;
+use lpt_packet::Direction::{Down, Up};
 
 /// The link, the hands and the ends.
 const SHOWN: [Row; 12] = [

@@ -4,9 +4,12 @@ use crate::names::{ID_7, ID_8, ID_9};
 use crate::packets::*;
 use crate::playing::{Packet, Play, Row, play_all};
 use crate::stations::PASS;
-use lpt_world::Outcome::{self, *};
-use lpt_world::Side::{self, Craft, Ground};
-use lpt_world::{Config, NodeFault, Reason, State, Why};
+use lpt_events::Outcome::{self, *};
+use lpt_events::Side::{self, Craft, Ground};
+use lpt_events::{Config, Why};
+use lpt_ledger::State;
+use lpt_node::NodeFault;
+use lpt_part::Reason;
 
 const FIRST: Packet = (&FIRST_UP, &FIRST_DOWN);
 

@@ -5,9 +5,10 @@ use crate::names::{ID_7, ID_8};
 use crate::packets::{FIRST_UP, FOREIGN, IDLE, REPORT};
 use crate::rows::{Asked, CONFIG, Content, ONE, Path, Row, SEAT, Shown};
 use crate::walking::{memories_of, walk};
-use lpt_world::Direction::{Down, Up};
-use lpt_world::Lane::{S1, S2};
-use lpt_world::{Answer, Config, ConfigFault, Outcome, StepFault, Why, World};
+use lpt_events::Lane::{S1, S2};
+use lpt_events::{Answer, Config, ConfigFault, Outcome, StepFault, Why};
+use lpt_packet::Direction::{Down, Up};
+use lpt_world::World;
 use std::alloc::{AllocError, Global};
 
 const MOSTLY_REFUSED: [Row; 20] = [

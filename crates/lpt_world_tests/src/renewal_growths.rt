@@ -7,9 +7,9 @@ use crate::names::ID_7;
 use crate::packets::{LOAD, LOADING};
 use crate::rows::{Asked, CONFIG, Content, ONE, Path, Row, SEAT, Shown};
 use crate::walking::walk;
-use lpt_world::Direction::Up;
-use lpt_world::Lane::{S1, S2};
-use lpt_world::{Answer, Outcome, StepFault, Why};
+use lpt_events::Lane::{S1, S2};
+use lpt_events::{Answer, Outcome, StepFault, Why};
+use lpt_packet::Direction::Up;
 
 /// TC\[13,11\] of count 4: the octet 8 alone as the last part, part 2, of transaction 7.
 const LAST_OCTET_LATER: [u8; 18] = [

@@ -1,10 +1,11 @@
 //! Rows of worlds: what is asked for, what comes of it, and what the world shows then.
 
-use lpt_world::Lane::{self, S1};
-use lpt_world::{
-    AckFlags, Answer, Applied, Config, Direction, Event, Mode, Name, Octets, Outcome, Side, State,
-    StepFault, Worker,
-};
+use lpt_events::Lane::{self, S1};
+use lpt_events::{Answer, Applied, Config, Event, Outcome, Side, StepFault, Worker};
+use lpt_ledger::State;
+use lpt_packet::{Direction, Name, Octets};
+use lpt_part::Mode;
+use lpt_pus::AckFlags;
 use std::alloc::{AllocError, Global};
 
 pub(crate) const CONFIG: Config = Config {
@@ -148,11 +149,15 @@ pub(crate) type Step = (u8, Asked, Result<Answer, StepFault>, u64);
 /// The step of a row that asks for something.
 pub(crate) fn step_of(row: &Row) -> Option<Step> {
     let (asked, answer, packets) = match *row {
-        Row::Opens(direction, id, octets, parts) => {
-            (Asked::Open(direction, id, octets), Answer::Opened(parts), 0)
+        Row::Opens(direction, name, octets, parts) => {
+            (
+                Asked::Open(direction, name, octets),
+                Answer::Opened(parts),
+                0,
+            )
         }
-        Row::Sends(direction, id, part, number) => {
-            (Asked::Send(direction, id, part), Answer::Put(number), 1)
+        Row::Sends(direction, name, part, number) => {
+            (Asked::Send(direction, name, part), Answer::Put(number), 1)
         }
         Row::Requests(flags, subtype, body, number) => {
             (
@@ -177,16 +182,20 @@ pub(crate) fn step_of(row: &Row) -> Option<Step> {
 /// The event that is asked for.
 pub(crate) fn event_of(alloc: Global, asked: Asked) -> Result<Event, AllocError> {
     Ok(match asked {
-        Asked::Open(direction, id, octets) => Event::Open(direction, id, counting(alloc, octets)?),
-        Asked::OpenOf(direction, id, octets) => {
-            Event::Open(direction, id, octets_of(alloc, octets)?)
+        Asked::Open(direction, name, octets) => Event::Open(
+            direction,
+            name,
+            counting(alloc, octets)?,
+        ),
+        Asked::OpenOf(direction, name, octets) => {
+            Event::Open(direction, name, octets_of(alloc, octets)?)
         }
-        Asked::Send(direction, id, part) => Event::Send(direction, id, part),
+        Asked::Send(direction, name, part) => Event::Send(direction, name, part),
         Asked::Plain(source, flags, subtype, body) => {
             let flags = AckFlags::new(flags).ok_or(AllocError)?;
             Event::Plain(source, flags, 6, subtype, octets_of(alloc, body)?)
         }
-        Asked::Finish(direction, id) => Event::Finish(direction, id),
+        Asked::Finish(direction, name) => Event::Finish(direction, name),
         Asked::Lose(number) => Event::Lose(number),
         Asked::Damage(direction, octets) => Event::Damage(direction, octets_of(alloc, octets)?),
         Asked::Take(lane, number) => Event::Take(lane, number),
@@ -196,7 +205,7 @@ pub(crate) fn event_of(alloc: Global, asked: Asked) -> Result<Event, AllocError>
         Asked::Claim | Asked::ClaimOut(_, _) => Event::Claim(Worker::W1),
         Asked::Commit | Asked::CommitRead(_) => Event::Commit(Worker::W1),
         Asked::Apply => Event::Apply,
-        Asked::Retire(direction, id) => Event::Retire(direction, id),
+        Asked::Retire(direction, name) => Event::Retire(direction, name),
         Asked::Restart => Event::Restart(Side::Craft),
         Asked::TakeOut(number, _) => Event::Take(S1, number),
         Asked::DeliverRead(_) => Event::Deliver(S1),

@@ -7,8 +7,9 @@ use crate::names::{ID_7, ID_8, ID_9};
 use crate::packets::*;
 use crate::playing::{Play, Row, play_all};
 use crate::stations::PASS;
-use lpt_world::Side::{Craft, Ground};
-use lpt_world::{Ask, Config, NodeFault};
+use lpt_events::Config;
+use lpt_events::Side::{Craft, Ground};
+use lpt_node::{Ask, NodeFault};
 
 static PLAYS: [Play; 7] = [
     Play {

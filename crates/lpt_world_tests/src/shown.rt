@@ -2,8 +2,10 @@
 
 use crate::names::{ID_0, ID_7};
 use crate::rows::{Content, Message, Row, Shown};
-use lpt_world::Direction::{self, Down, Up};
-use lpt_world::{Name, Octets, Side, Worker, World, crc16};
+use lpt_events::{Side, Worker};
+use lpt_packet::Direction::{self, Down, Up};
+use lpt_packet::{Name, Octets, crc16};
+use lpt_world::World;
 
 /// Whether a world shows what a row says.
 pub(crate) fn shows(world: &World, row: &Row) -> bool {
@@ -15,8 +17,8 @@ pub(crate) fn shows(world: &World, row: &Row) -> bool {
         Shown::Packet(number, octets) => world.packet(number) == octets,
         Shown::Held(number, held) => world.is_held(number) == held,
         Shown::Hand(lane, number) => world.hand(lane) == number,
-        Shown::Sender(direction, id, state) => world.sender(direction, id) == state,
-        Shown::Clear(direction, id, clear) => world.is_clear(direction, id) == clear,
+        Shown::Sender(direction, name, state) => world.sender(direction, name) == state,
+        Shown::Clear(direction, name, clear) => world.is_clear(direction, name) == clear,
         Shown::Clock(side, clock) => world.clock(side) == clock,
         Shown::Memory(address, octets) => stand_at(world.memory(1), address, octets),
         Shown::First(address, octets) => stand_at(world.first(1), address, octets),
@@ -75,7 +77,7 @@ pub(crate) fn has_opened(world: &World, wants: &[Message]) -> bool {
             let Some(it) = opened.next() else {
                 return false;
             };
-            let of = Some((it.direction, it.id));
+            let of = Some((it.direction, it.name));
             if !is_message(world, (it.place, of), &it.message, want) {
                 return false;
             }

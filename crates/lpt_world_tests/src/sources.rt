@@ -3,9 +3,10 @@
 
 use crate::names::{ID_0, ID_7, OF_5};
 use crate::rows::{Asked, CONFIG, Content, ONE, Path, Row, Shown};
-use lpt_world::Direction::{Down, Up};
-use lpt_world::Lane::S1;
-use lpt_world::{Answer, Applied, Outcome, State};
+use lpt_events::Lane::S1;
+use lpt_events::{Answer, Applied, Outcome};
+use lpt_ledger::State;
+use lpt_packet::Direction::{Down, Up};
 
 /// The body of a dump of three octets of memory 1 from address 16 on, of which the report is opened
 /// as a message.

@@ -1,9 +1,12 @@
 //! One end of the link, and for what its packets are read.
 
 ghost use Rattle.std.specs.Prelude.{◌≡◌};
-ghost use Rattle.lpt_world.specs.LptPart.Splitting.{IsPartSize};
+ghost use Rattle.lpt_part.specs.Splitting.{IsPartSize};
 
-use lpt_world::{Accepted, Config, Mode, Name, Node, Octets, Parsed, Side};
+use lpt_events::{Config, Side};
+use lpt_node::{Accepted, Node, Parsed};
+use lpt_packet::{Name, Octets};
+use lpt_part::Mode;
 use std::alloc::{AllocError, Global};
 use std::process::Abort;
 
@@ -47,8 +50,8 @@ impl Station {
     }
 
     /// Takes a message to be sent, and gives the fault's number, or 0 where it is taken.
-    pub(crate) fn opens(&mut self, id: Name, message: Octets) -> u16 {
-        match self.node.open(id, message) {
+    pub(crate) fn opens(&mut self, name: Name, message: Octets) -> u16 {
+        match self.node.open(name, message) {
             Ok(()) => 0,
             Err((fault, _)) => fault.code(),
         }

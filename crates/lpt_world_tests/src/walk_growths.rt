@@ -7,9 +7,11 @@ use crate::names::{ID_0, ID_7, ID_8, ID_9};
 use crate::packets::EXPIRED;
 use crate::rows::{Asked, CONFIG, Content, ONE, Path, Row, SEAT, Shown};
 use crate::walking::walk;
-use lpt_world::Direction::{Down, Up};
-use lpt_world::Lane::{G1, S1};
-use lpt_world::{Answer, Applied, Config, FailureCode, Mode, Outcome, Reason, StepFault, Why};
+use lpt_events::Lane::{G1, S1};
+use lpt_events::{Answer, Applied, Config, Outcome, StepFault, Why};
+use lpt_packet::Direction::{Down, Up};
+use lpt_part::{Mode, Reason};
+use lpt_pus::FailureCode;
 
 /// Bodies of requests: two areas of a load, of which the second has a wrong checksum; a load up to the
 /// end of the memory, and past it; a dump of two octets, and of three; a check of two.

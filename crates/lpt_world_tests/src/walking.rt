@@ -5,9 +5,9 @@ use crate::callers::is_last_opened;
 use crate::outside::comes_outside;
 use crate::rows::{Path, Row, Step, event_of, octets_of, step_of};
 use crate::shown::{has_opened, has_released, shows, sight_of};
-use lpt_world::{
-    ConfigFault, Entry, Event, Memories, Puts, Refused, Reply, Shape, StepFault, World,
-};
+use lpt_events::{ConfigFault, Entry, Event, Puts, Refused, Reply, StepFault};
+use lpt_memory::{Memories, Shape};
+use lpt_world::World;
 use std::alloc::{AllocError, Global};
 use std::process::Abort;
 

@@ -1,5 +1,5 @@
 -- The law is the lemma.
-use Rattle.lpt_chart.proofs.DrawnTags.{chart-tagged}
+use Rattle.lpt_chart.proofs.ShapeTags.{chart-tagged}
 use Rattle.lpt_chart.proofs.laws.each_element_is_known.Goals as goal
 
 pub returns : goal.returns

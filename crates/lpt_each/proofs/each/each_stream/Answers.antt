@@ -1,10 +1,10 @@
 -- Piece after piece, until none is left.
 use Rattle.std.proofs.Common.{◌≡◌, ◌∙◌, inr, ◌++◌, ◌∷◌, [], List, take, Option, None, Ok, Bool, true, false, ap, sym, subst, refl, arith}
 use Rattle.std.proofs.KnownBytes.{Consumes-nil, Consumes-trans}
-use Rattle.lpt_join.specs.LptStream.declared.found.Found.{Found}
-use Rattle.lpt_join.specs.LptStream.Buffers.{held, is_in_step, found_piece, FindsPiece}
-use Rattle.lpt_join.specs.LptStream.Pieces.{Piece, packet_before, packets_of}
-use Rattle.lpt_join.proofs.LptStream.CutLemmas.{read-none, read-more, read-next, read-end, read-leads}
+use Rattle.lpt_stream.specs.declared.found.Found.{Found}
+use Rattle.lpt_stream.specs.Buffers.{held, is_in_step, found_piece, FindsPiece}
+use Rattle.lpt_stream.specs.Pieces.{Piece, packet_before, packets_of}
+use Rattle.lpt_stream.proofs.CutLemmas.{read-none, read-more, read-next, read-end, read-leads}
 use Rattle.lpt_join.specs.Several.{reading_of}
 use Rattle.lpt_join.proofs.GatherLemmas.{noted-next}
 use Rattle.lpt_each.specs.Helds.{HoldsEach}

@@ -1,7 +1,7 @@
 use Rattle.std.proofs.Common.{◌≡◌, ℕ, List, true}
 use Rattle.std.specs.Io.KnownBytes.{Consumes, IsAtEnd}
-use Rattle.lpt_join.specs.LptStream.Buffers.{is_ended}
-use Rattle.lpt_join.proofs.LptStream.CutLemmas.{IsRead}
+use Rattle.lpt_stream.specs.Buffers.{is_ended}
+use Rattle.lpt_stream.proofs.CutLemmas.{IsRead}
 use Rattle.lpt_each.proofs.ReadLemmas.{Taken}
 use Rattle.lpt_each.proofs.each.each_stream.Given as goal
 

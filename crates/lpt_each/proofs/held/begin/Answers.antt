@@ -3,8 +3,8 @@ use Rattle.std.specs.Prelude.{Option}
 use Rattle.std.specs.Option.{option_map}
 use Rattle.lpt_join.specs.declared.joining.Joining.{Joining}
 use Rattle.lpt_each.specs.Helds.{KeepsAll}
-use Rattle.lpt_join.specs.LptReception.LptPart.Parts.{piece}
-use Rattle.lpt_join.specs.LptReception.Received.{no_parts, with_part}
+use Rattle.lpt_part.specs.Parts.{piece}
+use Rattle.lpt_reception.specs.Received.{no_parts, with_part}
 use Rattle.lpt_join.specs.Offers.{part_of_piece}
 use Rattle.lpt_each.proofs.CameLemmas.{came-none, came-alone}
 use Rattle.lpt_each.proofs.StepLemmas.{behind-none, behind-some}

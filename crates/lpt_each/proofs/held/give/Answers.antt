@@ -1,5 +1,5 @@
 use Rattle.std.proofs.Common.{subst, List, ℕ, Some}
-use Rattle.lpt_join.specs.LptReception.Received.{no_parts}
+use Rattle.lpt_reception.specs.Received.{no_parts}
 use Rattle.lpt_each.specs.Eaches.{begun}
 use Rattle.lpt_each.specs.Helds.{Holds}
 use Rattle.lpt_each.proofs.held.give.Goals as goal

@@ -1,6 +1,6 @@
 -- What came of the name is told, where it isn't nothing.
 use Rattle.std.proofs.Common.{◌∙◌, sym, subst, List}
-use Rattle.lpt_join.specs.declared.came.Came.{Came}
+use Rattle.lpt_join.specs.declared.part_numbers.PartNumbers.{PartNumbers}
 use Rattle.lpt_each.specs.News.{Event, Hears}
 use Rattle.lpt_each.specs.Helds.{AreCame}
 use Rattle.lpt_each.proofs.TellLemmas.{left-told}
@@ -10,6 +10,6 @@ pub returns-in-Ok-clause-told : goal.returns-in-Ok-clause-told
 returns-in-Ok-clause-told g c = λ t h k.
     subst (λ (es : List Event). Hears (g.T.Taker.heard c.args.taker.now) (g.T.Taker.heard c.take.new.self) es)
     (left-told c.args.name c.into_came.result h
-    (subst (λ (d : Came). AreCame d h.new) (sym c.into_came.ensures) k.came)
+    (subst (λ (d : PartNumbers). AreCame d h.new) (sym c.into_came.ensures) k.came)
     (sym k.new.none ∙ sym c.is_empty.ensures ∙ c.if-is_empty.false))
     c.in-Ok.ensures.heard

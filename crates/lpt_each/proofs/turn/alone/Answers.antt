@@ -1,6 +1,6 @@
 use Rattle.std.proofs.Common.{◌∙◌, ap, sym}
-use Rattle.lpt_join.specs.LptReception.LptPart.Parts.{piece}
-use Rattle.lpt_join.specs.LptReception.Received.{Received, no_parts}
+use Rattle.lpt_part.specs.Parts.{piece}
+use Rattle.lpt_reception.specs.Received.{Received, no_parts}
 use Rattle.lpt_join.specs.Joins.{Missing}
 use Rattle.lpt_join.specs.Offers.{part_of_piece}
 use Rattle.lpt_each.proofs.TurnLemmas.{empty-more}

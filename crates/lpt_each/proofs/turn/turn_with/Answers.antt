@@ -1,6 +1,6 @@
 -- By what the parts are joined to.
 use Rattle.std.proofs.Common.{◌∙◌, ap, sym, Some}
-use Rattle.lpt_join.specs.LptReception.LptPart.Parts.{piece}
+use Rattle.lpt_part.specs.Parts.{piece}
 use Rattle.lpt_join.specs.Gatherings.{state}
 use Rattle.lpt_join.specs.Joins.{Joined, join_part}
 use Rattle.lpt_join.specs.Offers.{part_of_piece}

@@ -7,10 +7,10 @@ use Rattle.lpt_stream.specs.declared.found.Found.{Found}
 use Rattle.lpt_stream.specs.Buffers.{held, is_in_step, found_piece, FindsPassing}
 use Rattle.lpt_stream.specs.Pieces.{Piece, keeps_step, packet_before, packets_of}
 use Rattle.lpt_stream.proofs.CutLemmas.{read-none, read-more, read-next, read-end, read-front, read-leads}
-use Rattle.lpt_stream.proofs.LptText.StreamLemmas.{part_whole}
-use Rattle.lpt_stream.specs.LptText.declared.fault.ToolFault.{ToolFault}
-use Rattle.lpt_stream.specs.LptText.declared.fault.ToolFault.TheVariants as tool
-use Rattle.lpt_stream.specs.LptText.Streams.{AppendsPart}
+use Rattle.lpt_text.proofs.StreamLemmas.{part_whole}
+use Rattle.lpt_text.specs.declared.fault.ToolFault.{ToolFault}
+use Rattle.lpt_text.specs.declared.fault.ToolFault.TheVariants as tool
+use Rattle.lpt_text.specs.Streams.{AppendsPart}
 use Rattle.lpt_memory.specs.declared.request.Area.{Area}
 use Rattle.lpt_extract.specs.Extracts.{areas_in, notices_at, notices_in, written_first, ExtractLeaves, ExtractsTo}
 use Rattle.lpt_extract.specs.ExtractsInside.{written_last, EndsAs, Held}

@@ -1,8 +1,8 @@
 -- What the reader saw is what the octets are.
 use Rattle.std.proofs.Common.{◌∙◌, arith}
-use Rattle.lpt_memory.specs.LptPacket.declared.packet.Seen.TheVariants as seen_as
-use Rattle.lpt_memory.specs.LptPacket.Numbers.{IsOctets}
-use Rattle.lpt_memory.specs.LptPacket.Packets.{fields}
+use Rattle.lpt_packet.specs.declared.packet.Seen.TheVariants as seen_as
+use Rattle.lpt_packet.specs.Numbers.{IsOctets}
+use Rattle.lpt_packet.specs.Packets.{fields}
 use Rattle.lpt_extract.proofs.SeenLemmas.{seen-read, seen-unread, dump-none, dump-idle, dump-packet}
 use Rattle.lpt_extract.proofs.report.dump_in.Goals as goal
 

@@ -2,7 +2,7 @@
 use Rattle.std.proofs.Common.{◌≡◌, ap, sym, subst, rules, true, false, List, ◌++◌, append-nil, ◌∙◌}
 use Rattle.std.specs.Prelude.{IfErr}
 use Rattle.lpt_memory.specs.declared.request.Area.{Area}
-use Rattle.lpt_stream.specs.LptText.Streams.{AppendsPart}
+use Rattle.lpt_text.specs.Streams.{AppendsPart}
 use Rattle.lpt_extract.specs.Extracts.{written_first}
 use Rattle.lpt_extract.specs.Notices.{is_whole}
 use Rattle.lpt_extract.specs.ReportsInside.{load_area}

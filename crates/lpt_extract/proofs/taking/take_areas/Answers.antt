@@ -2,7 +2,7 @@
 use Rattle.std.proofs.Common.{◌≡◌, ◌∙◌, ap, sym, subst, rules, arith, ◌+◌, ◌++◌, ◌∷◌, [], take, drop}
 use Rattle.std.proofs.lemmas.List.{take_all}
 use Rattle.std.specs.Io.KnownBytes.{Appends}
-use Rattle.lpt_stream.specs.LptText.Streams.{AppendsPart}
+use Rattle.lpt_text.specs.Streams.{AppendsPart}
 use Rattle.lpt_extract.specs.Extracts.{written_first}
 use Rattle.lpt_extract.specs.ExtractsInside.{given, told_of}
 use Rattle.lpt_extract.specs.Notices.{Hears}

@@ -2,7 +2,7 @@
 use Rattle.std.proofs.Common.{◌≡◌, ◌∙◌, ap, sym, subst, rules, true, false, List, ◌++◌}
 use Rattle.std.specs.Prelude.{IfErr}
 use Rattle.lpt_memory.specs.declared.request.Area.{Area}
-use Rattle.lpt_stream.specs.LptText.Streams.{AppendsPart}
+use Rattle.lpt_text.specs.Streams.{AppendsPart}
 use Rattle.lpt_extract.specs.Extracts.{is_of, areas_of, notices_of, written_first}
 use Rattle.lpt_extract.specs.ExtractsInside.{Held}
 use Rattle.lpt_extract.specs.Reports.{report_in}

@@ -2,7 +2,7 @@
 use Rattle.std.proofs.Common.{sym, subst, List, [], ◌++◌, append-nil}
 use Rattle.std.specs.Prelude.{IfErr}
 use Rattle.lpt_memory.specs.declared.request.Area.{Area}
-use Rattle.lpt_stream.specs.LptText.Streams.{AppendsPart}
+use Rattle.lpt_text.specs.Streams.{AppendsPart}
 use Rattle.lpt_stream.specs.Pieces.{packet_before}
 use Rattle.lpt_extract.specs.Extracts.{areas_in, areas_of, notices_at, written_first}
 use Rattle.lpt_extract.specs.ExtractsInside.{Held}

@@ -1,7 +1,7 @@
 -- Where no message is joined, the parts are those that are kept.
 use Rattle.std.proofs.Common.{ap, refl}
 use Rattle.lpt_join.specs.Gatherings.{state}
-use Rattle.lpt_join.specs.LptReception.Received.{no_parts}
+use Rattle.lpt_reception.specs.Received.{no_parts}
 use Rattle.lpt_files.proofs.joining.write_joined.Goals as goal
 
 pub returns-in-Nothing-clause-ends : goal.returns-in-Nothing-clause-ends

@@ -1,7 +1,7 @@
 -- The first item ends at the first comma, or it is all.
 use Rattle.std.proofs.Common.{sym, arith}
 use Rattle.std.proofs.lemmas.Grind.{common_steps}
-use Rattle.lpt_words.proofs.Pieces.{slice_split-nowhere, slice_split-place}
+use Rattle.lpt_script_words.proofs.Pieces.{slice_split-nowhere, slice_split-place}
 use Rattle.lpt_files.specs.Lists.{is_comma}
 use Rattle.lpt_files.proofs.lists.cut_item.Goals as goal
 

@@ -1,7 +1,7 @@
 -- Item after item.
 use Rattle.std.proofs.Common.{◌∙◌, ap, sym, subst, ℕ, List}
 use Rattle.std.specs.List.{slice_split}
-use Rattle.lpt_join.specs.LptSplit.Splits.{AreNumbers}
+use Rattle.lpt_split.specs.Splits.{AreNumbers}
 use Rattle.lpt_files.specs.Lists.{is_comma, numbers_in, numbers_of, numbers_of_items}
 use Rattle.lpt_files.proofs.ListLemmas.{behind, numbers-append, range-numbers, read-first, read-next}
 use Rattle.lpt_files.proofs.lists.read_parts.Goals as goal

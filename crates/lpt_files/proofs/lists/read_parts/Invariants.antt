@@ -1,6 +1,6 @@
 use Rattle.std.proofs.Common.{◌≡◌, length}
 use Rattle.std.specs.List.{slice_split}
-use Rattle.lpt_join.specs.LptSplit.Splits.{AreNumbers}
+use Rattle.lpt_split.specs.Splits.{AreNumbers}
 use Rattle.lpt_files.specs.Lists.{is_comma, numbers_of, numbers_of_items}
 use Rattle.lpt_files.proofs.ListLemmas.{behind}
 use Rattle.lpt_files.proofs.lists.read_parts.Given as goal

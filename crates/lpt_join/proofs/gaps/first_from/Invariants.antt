@@ -1,5 +1,5 @@
 use Rattle.std.proofs.Common.{◌-◌, ◌+◌, ◌≤◌, not}
-use Rattle.lpt_join.specs.CameInside.{has}
+use Rattle.lpt_join.specs.PartNumbersInside.{has}
 use Rattle.lpt_join.specs.Missing.{AreAll}
 use Rattle.lpt_join.proofs.gaps.first_from.Given as goal
 

@@ -1,6 +1,6 @@
 -- Where no gap comes, the gaps so far are all.
 use Rattle.std.proofs.Common.{subst, append-nil, List, [], ℕ}
-use Rattle.lpt_join.specs.CameInside.{has}
+use Rattle.lpt_join.specs.PartNumbersInside.{has}
 use Rattle.lpt_join.specs.Missing.{AreGaps}
 use Rattle.lpt_join.proofs.gaps.missing.Goals as goal
 

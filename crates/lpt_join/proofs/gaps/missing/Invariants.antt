@@ -1,5 +1,5 @@
 use Rattle.std.proofs.Common.{◌+◌, ◌≤◌, ◌-◌, ◌++◌, List, ℕ}
-use Rattle.lpt_join.specs.CameInside.{has}
+use Rattle.lpt_join.specs.PartNumbersInside.{has}
 use Rattle.lpt_join.specs.Missing.{AreGaps}
 use Rattle.lpt_join.proofs.gaps.missing.Given as goal
 

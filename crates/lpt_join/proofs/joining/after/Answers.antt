@@ -1,6 +1,6 @@
 -- A part that breaks a reception off contradicts what was kept.
 use Rattle.std.proofs.Common.{subst}
-use Rattle.lpt_reception.specs.LptPart.declared.mode.Mode.TheVariants.{Any}
+use Rattle.lpt_part.specs.declared.mode.Mode.TheVariants.{Any}
 use Rattle.lpt_reception.specs.declared.step.Step.{Step}
 use Rattle.lpt_reception.specs.Steps.{Answers}
 use Rattle.lpt_join.proofs.BreakLemmas.{added-broken}

@@ -1,11 +1,11 @@
 -- What the reader saw is what the octets are.
 use Rattle.std.proofs.Common.{◌∙◌, ap, sym, arith}
-use Rattle.lpt_pus.specs.LptPacket.declared.packet.Seen.TheVariants as seen_as
-use Rattle.lpt_pus.specs.LptPacket.Numbers.{IsOctets}
-use Rattle.lpt_pus.specs.LptPacket.Packets.{fields}
-use Rattle.lpt_split.specs.LptEvents.Arrivals.{packet_arrival}
-use Rattle.lpt_pus.specs.LptPacket.declared.direction.Direction.{Direction}
-use Rattle.lpt_split.specs.LptEvents.Sides.{receiver_side}
+use Rattle.lpt_packet.specs.declared.packet.Seen.TheVariants as seen_as
+use Rattle.lpt_packet.specs.Numbers.{IsOctets}
+use Rattle.lpt_packet.specs.Packets.{fields}
+use Rattle.lpt_events.specs.Arrivals.{packet_arrival}
+use Rattle.lpt_packet.specs.declared.direction.Direction.{Direction}
+use Rattle.lpt_events.specs.Sides.{receiver_side}
 use Rattle.lpt_join.specs.Offers.{piece_of}
 use Rattle.lpt_join.proofs.ReadLemmas.{none-unread, seen-read, none-idle, none-foreign, piece-packet}
 use Rattle.lpt_join.proofs.reading.any_part_in.Goals as goal

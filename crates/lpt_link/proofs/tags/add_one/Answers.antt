@@ -4,5 +4,5 @@ use Rattle.lpt_link.proofs.tags.add_one.Goals as goal
 
 pub returns-clause-places : goal.returns-clause-places
 returns-clause-places c =
-    places_more c.args.counts.now.entries c.insert.new.self.entries c.args.id _
+    places_more c.args.counts.now.entries c.insert.new.self.entries c.args.name _
     c.in-Ok.ensures.updates.0

@@ -1,7 +1,7 @@
 -- What is written is what the form says.
 use Rattle.std.proofs.Common.{◌≡◌, sym, subst, [], IfOk}
 use Rattle.std.specs.String.{string_bytes}
-use Rattle.lpt_events.specs.LptPus.Commands.{command}
+use Rattle.lpt_pus.specs.Commands.{command}
 use Rattle.lpt_list.specs.declared.form.Form.{Form}
 use Rattle.lpt_list.specs.Items.{items_text, tc_items}
 use Rattle.lpt_list.proofs.headers.tc_head.Goals as goal

@@ -1,7 +1,7 @@
 -- What is written is what the form says.
 use Rattle.std.proofs.Common.{◌≡◌, sym, subst, [], IfOk}
 use Rattle.std.specs.String.{string_bytes}
-use Rattle.lpt_events.specs.LptPus.Telemetry.{telemetry}
+use Rattle.lpt_pus.specs.Telemetry.{telemetry}
 use Rattle.lpt_list.specs.declared.form.Form.{Form}
 use Rattle.lpt_list.specs.Items.{items_text, tm_front}
 use Rattle.lpt_list.proofs.headers.tm_front.Goals as goal

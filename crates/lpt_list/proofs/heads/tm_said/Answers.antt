@@ -1,7 +1,7 @@
 -- The headers' items are written, and behind them those of what is carried.
 use Rattle.std.proofs.Common.{◌≡◌, ◌∙◌, ap, sym, subst, ◌++◌, List, ℕ, IfOk}
 use Rattle.std.specs.String.{string_bytes}
-use Rattle.lpt_events.specs.LptPus.Telemetry.{telemetry}
+use Rattle.lpt_pus.specs.Telemetry.{telemetry}
 use Rattle.lpt_list.specs.Items.{items_text, tm_carried, tm_items, tm_said}
 use Rattle.lpt_list.proofs.ItemLemmas.{items_append}
 use Rattle.lpt_list.proofs.heads.tm_said.Goals as goal

@@ -1,7 +1,7 @@
 -- Piece after piece, until none is left.
 use Rattle.std.proofs.Common.{◌∙◌, [], inl, inr, Option, Ok, take, subst, refl, arith}
 use Rattle.std.proofs.KnownBytes.{Consumes-nil, Keeps-refl}
-use Rattle.lpt_stream.specs.LptText.Streams.{AppendsPart}
+use Rattle.lpt_text.specs.Streams.{AppendsPart}
 use Rattle.std.specs.Io.KnownBytes.{Appends}
 use Rattle.lpt_stream.specs.declared.found.Found.{Found}
 use Rattle.lpt_stream.specs.Buffers.{FindsPiece}

@@ -1,7 +1,7 @@
 -- The body that was read is what stands at its place.
 use Rattle.std.proofs.Common.{◌≡◌, ◌∙◌, ap, subst, rules, List, ℕ, Some}
-use Rattle.lpt_pus.specs.LptPacket.declared.packet.Seen.{Seen}
-use Rattle.lpt_pus.specs.LptPacket.Packets.{fields, sight, IsSight}
+use Rattle.lpt_packet.specs.declared.packet.Seen.{Seen}
+use Rattle.lpt_packet.specs.Packets.{fields, sight, IsSight}
 use Rattle.lpt_pus.specs.Commands.{command, command_in}
 use Rattle.lpt_memory.specs.Seen.{body_of}
 use Rattle.lpt_memory.proofs.PlaceLemmas.{body_of-command}

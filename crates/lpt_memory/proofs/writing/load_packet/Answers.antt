@@ -1,7 +1,7 @@
 -- The body fits a packet, and its packet is read again as the load.
 use Rattle.std.proofs.Common.{◌≡◌, ◌∙◌, refl, ap, arith, ℕ, ◌<◌, List, length, Some}
 use Rattle.std.proofs.lemmas.Result.{IfOk-weaker}
-use Rattle.lpt_pus.specs.LptPacket.Packets.{spelling}
+use Rattle.lpt_packet.specs.Packets.{spelling}
 use Rattle.lpt_pus.specs.Commands.{Command, CommandFits, command, packet_of, command_in}
 use Rattle.lpt_memory.specs.Ranges.{MeansLoad}
 use Rattle.lpt_memory.specs.Spellings.{load_text}
@@ -40,7 +40,7 @@ returns-clause-means c =
     (λ o written sizes size known fit.
     let read : command_in h.apid o ≡ Some made = ap (command_in h.apid)
     (written ∙ ap (λ (b : List ℕ). spelling (packet_of (command h b))) body)
-    ∙ c.octets_read_again.ensures.command made in_range in
+    ∙ c.octets_are_read_again.ensures.command made in_range in
     load-meant made o c.args.memory areas sizes size c.requires.service c.requires.subtype refl
     read spelled known fit)
     c.tc_octets.ensures

@@ -1,7 +1,7 @@
 -- The checksum is that of the area's octets.
 use Rattle.std.proofs.Common.{◌≡◌, ◌∙◌, ap, arith}
 use Rattle.std.proofs.lemmas.Grind.{common_steps}
-use Rattle.lpt_pus.specs.LptPacket.Checksums.{checksum}
+use Rattle.lpt_packet.specs.Checksums.{checksum}
 use Rattle.lpt_memory.proofs.writing.push_area.Goals as goal
 
 pub returns-clause-pushed : goal.returns-clause-pushed

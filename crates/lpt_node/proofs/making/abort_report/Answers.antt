@@ -5,4 +5,4 @@ use Rattle.lpt_node.proofs.making.abort_report.Goals as goal
 
 pub tm_octets-requires : goal.tm_octets-requires
 tm_octets-requires c =
-    omega (arith, ap length c.abort_octets-body.ensures, length-abort_body c.args.id.id c.args.reason)
+    omega (arith, ap length c.abort_octets-body.ensures, length-abort_body c.args.name.id c.args.reason)

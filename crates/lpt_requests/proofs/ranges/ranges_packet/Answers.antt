@@ -2,8 +2,8 @@
 use Rattle.std.proofs.Common.{◌≡◌, ◌∙◌, ap, arith, ℕ, ◌<◌, List, length, map}
 use Rattle.std.proofs.lemmas.List.{length-map}
 use Rattle.std.proofs.lemmas.Result.{IfOk-weaker}
-use Rattle.lpt_memory.specs.LptPacket.Packets.{spelling}
-use Rattle.lpt_memory.specs.LptPus.Commands.{command, packet_of}
+use Rattle.lpt_packet.specs.Packets.{spelling}
+use Rattle.lpt_pus.specs.Commands.{command, packet_of}
 use Rattle.lpt_memory.specs.Spellings.{body_text, range_text}
 use Rattle.lpt_requests.specs.Requests.{as_range, MeansCheck, MeansDump}
 use Rattle.lpt_requests.proofs.RangeLemmas.{length-body, is_writable, dump-written, check-written, IsPacketOf}

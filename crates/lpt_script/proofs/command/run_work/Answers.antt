@@ -1,7 +1,7 @@
 use Rattle.std.proofs.Common.{rules, subst, refl, Ok, Err, Some}
 use Rattle.lpt_script.specs.Ends.{LineEnds}
-use Rattle.lpt_world.specs.LptEvents.declared.event.Event.TheVariants.{Claim, Commit, Apply}
-use Rattle.lpt_world.specs.LptEvents.declared.worker.Worker.TheVariants.{W1}
+use Rattle.lpt_events.specs.declared.event.Event.TheVariants.{Claim, Commit, Apply}
+use Rattle.lpt_events.specs.declared.worker.Worker.TheVariants.{W1}
 use Rattle.lpt_script.specs.Scripts.{stepped, and_then}
 use Rattle.lpt_script.proofs.EndLemmas.{then_ends, first_ends, good_events}
 use Rattle.lpt_script.proofs.command.run_work.Goals as goal

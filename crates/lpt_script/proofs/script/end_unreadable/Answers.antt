@@ -1,4 +1,4 @@
-use Rattle.lpt_print.specs.Printing.{unreadable_text}
+use Rattle.lpt_script_text.specs.Printing.{unreadable_text}
 use Rattle.lpt_script.specs.Scripts.{unreadable}
 use Rattle.lpt_script.proofs.EndLemmas.{text_fault}
 use Rattle.lpt_script.proofs.script.end_unreadable.Goals as goal

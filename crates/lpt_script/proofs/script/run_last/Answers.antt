@@ -1,5 +1,5 @@
 use Rattle.std.proofs.Common.{rules, ◌+◌, sym, subst, Ok}
-use Rattle.lpt_words.specs.Words.{lines}
+use Rattle.lpt_script_words.specs.Words.{lines}
 use Rattle.lpt_script.specs.Ends.{LinesEnd}
 use Rattle.lpt_script.specs.Scripts.{is_later, kept_of, lines_ran}
 use Rattle.lpt_script.proofs.LineLemmas.{last_done, last_fault, last_left}

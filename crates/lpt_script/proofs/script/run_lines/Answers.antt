@@ -7,8 +7,8 @@ use Rattle.lpt_script.proofs.RunEnds.{runs_cut, runs_end, runs_fault, runs_left}
 use Rattle.lpt_script.proofs.RunLemmas.{Runs, runs_line, runs_read, runs_start}
 use Rattle.lpt_script.specs.Ends.{LineEnds, LinesEnd}
 use Rattle.lpt_script.specs.Scripts.{is_later, kept_of, left_of, line_ran, lines_left, lines_ran, says, shows_left}
-use Rattle.lpt_words.specs.Grammar.{reading_of}
-use Rattle.lpt_words.specs.Words.{ended_line, lines}
+use Rattle.lpt_script_words.specs.Grammar.{reading_of}
+use Rattle.lpt_script_words.specs.Words.{ended_line, lines}
 use Rattle.lpt_script.proofs.script.run_lines.Goals as goal
 
 -- nothing was read

@@ -1,6 +1,6 @@
 use Rattle.std.proofs.Common.{rules}
 use Rattle.lpt_script.proofs.EndLemmas.{texts_next, texts_end}
-use Rattle.lpt_print.specs.Printing.{release_text}
+use Rattle.lpt_script_text.specs.Printing.{release_text}
 use Rattle.lpt_script.proofs.showing.put_releases.Goals as goal
 
 -- a release that could not be written

@@ -1,6 +1,6 @@
 use Rattle.std.proofs.Common.{◌≡◌, take}
 use Rattle.std.specs.Io.KnownBytes.{Appends}
-use Rattle.lpt_print.specs.Printing.{release_text}
+use Rattle.lpt_script_text.specs.Printing.{release_text}
 use Rattle.std.specs.List.{flat_map}
 use Rattle.lpt_script.proofs.showing.put_releases.Given as goal
 

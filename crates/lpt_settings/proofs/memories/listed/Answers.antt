@@ -7,8 +7,8 @@ use Rattle.lpt_settings.specs.MemoryTables.{memory_of, each_memory}
 use Rattle.lpt_settings.proofs.MemoryLemmas.{each_memory-many, each_memory-next, each_memory-none, each_memory-all, listed-read}
 use Rattle.lpt_settings.proofs.memories.listed.Goals as goal
 
-pub returns-then-len-gt-MEMORIES : goal.returns-then-len-gt-MEMORIES
-returns-then-len-gt-MEMORIES c =
+pub returns-then-len-gt-MEMORY_LIMIT : goal.returns-then-len-gt-MEMORY_LIMIT
+returns-then-len-gt-MEMORY_LIMIT c =
     let seen : Some (array_view c.in-Some.values.now) ≡ as_array (view c.args.value.now) =
     c.in-Some.ensures in
     let many : 16 < length c.in-Some.values.now.items = omega arith in

@@ -1,7 +1,7 @@
 -- What was found, with what the rest has, is all.
 use Rattle.std.proofs.Common.{◌≡◌, ◌++◌, length}
-use Rattle.lpt_audit.specs.LptJournal.Senders.{opened}
-use Rattle.lpt_audit.specs.LptWorld.Worlds.{history}
+use Rattle.lpt_journal.specs.Senders.{opened}
+use Rattle.lpt_world.specs.Worlds.{history}
 use Rattle.lpt_share.specs.Seats.{names_in}
 use Rattle.lpt_share.proofs.first.names_in.Given as goal
 

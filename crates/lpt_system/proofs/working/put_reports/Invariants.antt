@@ -1,6 +1,6 @@
 -- What is put so far, with what is left.
 use Rattle.std.proofs.Common.{◌≡◌, ◌≤◌, length, None}
-use Rattle.lpt_model.specs.LptPacket.declared.direction.Direction.TheVariants.{Down}
+use Rattle.lpt_packet.specs.declared.direction.Direction.TheVariants.{Down}
 use Rattle.lpt_model.specs.State.{put_all}
 use Rattle.lpt_system.proofs.working.put_reports.Given as goal
 

@@ -1,5 +1,5 @@
 use Rattle.std.proofs.Common.{◌≡◌, ◌∙◌, ◌+◌, ◌-◌, arith, sym, slice_index_or, Less}
-use Rattle.lpt_reception.specs.LptPacket.Names.{no_name}
+use Rattle.lpt_packet.specs.Names.{no_name}
 use Rattle.lpt_table.specs.declared.places.Place.{Place}
 use Rattle.lpt_table.specs.Places.{by_moment, rank, when_cmp}
 use Rattle.lpt_table.proofs.RankLemmas.{beside, rank-at-most, rank-beyond}
@@ -9,20 +9,20 @@ use Rattle.lpt_table.proofs.places.rank_of.Goals.{After-then}
 
 -- what a place is that isn't there
 abbrev none : Place
-none = record { last = 0; id = no_name; key = 0 }
+none = record { last = 0; name = no_name; key = 0 }
 
 -- the place was compared
 compared : (c : After-then)
     → c.then.result
-    ≡ beside (c.args.last, c.args.id) (slice_index_or c.args.places.now (c.loop-at.at - 1) none)
+    ≡ beside (c.args.last, c.args.name) (slice_index_or c.args.places.now (c.loop-at.at - 1) none)
 compared c = cc
 
 pub loop-at-init : goal.loop-at-init
-loop-at-init c = belongs-within c.args.last c.args.id c.args.places.now
+loop-at-init c = belongs-within c.args.last c.args.name c.args.places.now
 
 pub loop-at-preserved : goal.loop-at-preserved
 loop-at-preserved c =
-    rank-at-most (c.args.last, c.args.id) c.args.places.now (c.loop-at.at - 1) none
+    rank-at-most (c.args.last, c.args.name) c.args.places.now (c.loop-at.at - 1) none
     (omega (arith, c.loop-at.auto.at, c.loop-at-test.true))
     (sym (compared (goal.at.loop-at-preserved c).After-then) ∙ c.in-Less.is)
 
@@ -30,14 +30,14 @@ loop-at-preserved c =
 behind : (c : After-then)
     → (c.then.result ≡ Less → ⊥)
     → c.loop-at.at - 1 + 1
-    ≡ rank when_cmp (c.args.last, c.args.id) (by_moment c.args.places.now)
+    ≡ rank when_cmp (c.args.last, c.args.name) (by_moment c.args.places.now)
 behind c h =
     omega (
       arith,
       c.loop-at.auto.at,
       c.loop-at-test.true,
       c.loop-at.invariant,
-      rank-beyond (c.args.last, c.args.id) c.args.places.now (c.loop-at.at - 1) none
+      rank-beyond (c.args.last, c.args.name) c.args.places.now (c.loop-at.at - 1) none
           c.requires (omega (arith, c.loop-at.auto.at, c.loop-at-test.true))
           (λ e. h (compared c ∙ e)),
     )

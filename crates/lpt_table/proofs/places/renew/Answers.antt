@@ -33,7 +33,7 @@ returns-then-rank_of-at-clause-places c =
     )
     in
     renewed-last c.args.places.now.items c.args.at x last
-    (ap (λ ys. rank when_cmp (x.last, x.id) (by_moment (take c.args.at ys)))
+    (ap (λ ys. rank when_cmp (x.last, x.name) (by_moment (take c.args.at ys)))
     (sym c.deref.ensures.value)
     ∙ sym c.rank_of.ensures ∙ c.if-rank_of-at.true)
 
@@ -48,13 +48,13 @@ pub insert-requires : goal.insert-requires
 insert-requires c =
     let x = c.args.place in
     let place : c.rank_of-to.result
-    ≡ rank when_cmp (x.last, x.id) (by_moment c.remove.new.self.items) =
+    ≡ rank when_cmp (x.last, x.name) (by_moment c.remove.new.self.items) =
     c.rank_of-to.ensures
-    ∙ ap (λ ys. rank when_cmp (x.last, x.id) (by_moment ys)) c.deref-2.ensures.value
+    ∙ ap (λ ys. rank when_cmp (x.last, x.name) (by_moment ys)) c.deref-2.ensures.value
     in
     omega (
       arith,
       c.remove.new.self.ok,
       place,
-      belongs-within x.last x.id c.remove.new.self.items,
+      belongs-within x.last x.name c.remove.new.self.items,
     )

@@ -5,7 +5,7 @@ use Rattle.lpt_script.specs.Scripts.{is_later, kept_of, left_of}
 use Rattle.lpt_tool.specs.Ends.{GoesOn}
 use Rattle.lpt_script.proofs.RunEnds.{memory_ends}
 use Rattle.lpt_tool.proofs.ThreadLemmas.{lines_fault, lines_then}
-use Rattle.lpt_share.specs.LptWorld.Worlds.{new_world}
+use Rattle.lpt_world.specs.Worlds.{new_world}
 use Rattle.lpt_tool.proofs.threads.run_threads_script.Goals as goal
 
 -- the lines ended by a fault: the world is the new one, and its lines that show are kept

@@ -1,8 +1,8 @@
 use Rattle.std.proofs.Common.{List, ℕ, subst}
 use Rattle.std.specs.Io.KnownBytes.{Appends}
-use Rattle.lpt_share.specs.LptEvents.declared.entry.Entry.{Entry}
-use Rattle.lpt_share.specs.LptEvents.declared.entry.Release.{Release}
-use Rattle.lpt_share.specs.LptEvents.declared.config.Config.{Config}
+use Rattle.lpt_events.specs.declared.entry.Entry.{Entry}
+use Rattle.lpt_events.specs.declared.entry.Release.{Release}
+use Rattle.lpt_events.specs.declared.config.Config.{Config}
 use Rattle.lpt_tool.specs.Summary.{IsSummary}
 use Rattle.lpt_script.proofs.GrowthLemmas.{grows_on}
 use Rattle.lpt_script.specs.Scripts.{show_text}

@@ -1,7 +1,7 @@
 -- What stands at the places of a report is the report that is read. It is written out so that a
 -- wrong body is refused at once.
 use Rattle.std.proofs.Common.{◌≡◌, ◌∙◌, sym, Some, None, IsTrue, arith, rules}
-use Rattle.lpt_pus.specs.LptPacket.Numbers.{IsOctets, word_at}
+use Rattle.lpt_packet.specs.Numbers.{IsOctets, word_at}
 use Rattle.lpt_pus.specs.Numbers.{long_at}
 use Rattle.lpt_verify.specs.declared.report.Report.{Report}
 use Rattle.lpt_verify.specs.Reading.{is_success, is_failure}

@@ -1,7 +1,7 @@
 -- What was read of the jobs is still for the memories.
 use Rattle.std.proofs.Common.{◌∙◌, ap, sym}
-use Rattle.lpt_node.specs.LptEvents.declared.config.Config.{Config}
-use Rattle.lpt_node.specs.LptMemory.Readings.{ReadJob, Source}
+use Rattle.lpt_events.specs.declared.config.Config.{Config}
+use Rattle.lpt_memory.specs.Readings.{ReadJob, Source}
 use Rattle.lpt_c_end.proofs.ReadyLemmas.{ready_read}
 use Rattle.lpt_c_end.proofs.end.End.read.Goals as goal
 

@@ -3,7 +3,7 @@ use Rattle.std.specs.Prelude.{Option}
 use Rattle.std.specs.Option.{option_map}
 use Rattle.lpt_join.specs.declared.joining.Joining.{Joining}
 use Rattle.lpt_join.specs.declared.joining.Joining.TheVariants as joining
-use Rattle.lpt_join.specs.LptReception.Received.{no_parts}
+use Rattle.lpt_reception.specs.Received.{no_parts}
 use Rattle.lpt_each.proofs.CameLemmas.{came-none}
 use Rattle.lpt_each.proofs.StepLemmas.{behind-none, behind-some}
 use Rattle.lpt_each.proofs.TurnLemmas.{keeps-nothing}

@@ -2,8 +2,8 @@
 use Rattle.std.proofs.Common.{◌≡◌, ◌∙◌, ap, sym, subst, ℕ, List}
 use Rattle.std.specs.Prelude.{IfOk, Option}
 use Rattle.std.specs.Option.{option_map}
-use Rattle.lpt_join.specs.LptReception.LptPart.Parts.{piece}
-use Rattle.lpt_join.specs.LptReception.Received.{no_parts, with_part}
+use Rattle.lpt_part.specs.Parts.{piece}
+use Rattle.lpt_reception.specs.Received.{no_parts, with_part}
 use Rattle.lpt_join.specs.Offers.{part_of_piece}
 use Rattle.lpt_each.specs.declared.turn.Turn as code_turn
 use Rattle.lpt_each.specs.Eaches.{Held, begun, turn}

@@ -1,6 +1,6 @@
 -- By the name of which the packet carries a part.
 use Rattle.std.proofs.Common.{◌∙◌, ap, sym, subst}
-use Rattle.lpt_join.specs.LptReception.LptPart.Parts.{piece}
+use Rattle.lpt_part.specs.Parts.{piece}
 use Rattle.lpt_join.specs.Offers.{offered, part_of_piece}
 use Rattle.lpt_join.specs.declared.transaction.Transaction.{Transaction}
 use Rattle.lpt_join.specs.Several.{of_name}

@@ -8,6 +8,6 @@ pub returns : goal.returns
 returns c =
     let link = c.self.inside in
     let d : LinkData = record { packets = link.packets.items; hands = link.hands } in
-    ap (nat_lt 0) (c.of.ensures ∙ c.self.invariant.1 c.args.direction c.args.id)
-    ∙ sym (holds_counted d c.args.direction c.args.id)
-    ∙ ap (λ (v : LinkView). holds v.at c.args.direction c.args.id) c.self.view_is
+    ap (nat_lt 0) (c.of.ensures ∙ c.self.invariant.1 c.args.direction c.args.name)
+    ∙ sym (holds_counted d c.args.direction c.args.name)
+    ∙ ap (λ (v : LinkView). holds v.at c.args.direction c.args.name) c.self.view_is

@@ -9,14 +9,14 @@ use Rattle.lpt_link.proofs.IndexLemmas.{index_less, index_room}
 use Rattle.lpt_link.proofs.link.Link.lose.Goals as goal
 
 pub remove-requires : goal.remove-requires
-remove-requires c = λ id.
+remove-requires c = λ name.
     let link = c.self.inside in
     let d : LinkData = record { packets = link.packets.items; hands = link.hands } in
     let p : LinkPacket = c.index-packet.result.now in
     let held = ap (λ (v : LinkView). is_held v.at c.args.n) c.self.view_is
     ∙ sym c.is_held.ensures
     ∙ c.if-not-is_held.false in
-    index_room link.tags d (after_lose d c.args.n) p.direction p.tag id
+    index_room link.tags d (after_lose d c.args.n) p.direction p.tag name
     c.self.invariant.1
     (lose_counts d c.args.n p c.index-packet.ensures held)
 

@@ -13,11 +13,11 @@ add-requires-clause-place c =
     (sym c.self.view_is) c.requires
 
 pub add-requires-clause-room : goal.add-requires-clause-room
-add-requires-clause-room c = λ id.
+add-requires-clause-room c = λ name.
     let items = c.self.inside.packets in
     let d : LinkData = record { packets = items.items; hands = c.self.inside.hands } in
     let goes = c.args.direction in
-    omega (arith, items.ok, items.small, c.self.invariant.1 goes id, present_few d goes id)
+    omega (arith, items.ok, items.small, c.self.invariant.1 goes name, present_few d goes name)
 
 pub invariant_of-self : goal.invariant_of-self
 invariant_of-self c =

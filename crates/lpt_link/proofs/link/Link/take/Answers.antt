@@ -22,11 +22,11 @@ add-requires-clause-place c =
     (lose_counts d n p c.index-packet.ensures (taken_held d goes n held))
 
 pub add-requires-clause-room : goal.add-requires-clause-room
-add-requires-clause-room c = λ id.
+add-requires-clause-room c = λ name.
     let items = c.self.inside.packets in
     let d : LinkData = record { packets = items.items; hands = c.self.inside.hands } in
     let goes = c.index-packet.result.now.direction in
-    omega (arith, items.ok, items.small, c.self.invariant.1 goes id, present_few d goes id)
+    omega (arith, items.ok, items.small, c.self.invariant.1 goes name, present_few d goes name)
 
 pub invariant_of-self : goal.invariant_of-self
 invariant_of-self c =

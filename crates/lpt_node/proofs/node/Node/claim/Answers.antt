@@ -1,7 +1,7 @@
 -- A worker has the job that waited longest.
 use Rattle.std.proofs.Common.{ap, ◌∙◌, rules}
 use Rattle.lpt_jobs.specs.Jobs.{Jobs, is_claimed}
-use Rattle.lpt_execution.specs.LptMemory.Readings.{Job as Ticket}
+use Rattle.lpt_memory.specs.Readings.{Job as Ticket}
 use Rattle.lpt_node.proofs.ClaimLemmas.{is_claimed-claimed, one_waits}
 use Rattle.lpt_node.proofs.node.Node.claim.Goals as goal
 

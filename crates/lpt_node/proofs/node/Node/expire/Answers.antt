@@ -1,6 +1,6 @@
 -- The reception that is due is given up, and where none is the call is refused.
 use Rattle.std.proofs.Common.{◌≡◌, ◌∙◌, ap, sym, subst, refl, Option, None}
-use Rattle.lpt_execution.specs.LptPacket.Names.{Name}
+use Rattle.lpt_packet.specs.Names.{Name}
 use Rattle.lpt_table.specs.Deadlines.{due_of}
 use Rattle.lpt_node.specs.declared.fault.NodeFault.TheVariants.{NothingDue, Memory}
 use Rattle.lpt_node.specs.NodeInside.{IsConfigured}

@@ -1,7 +1,7 @@
 -- What a head says.
 use Rattle.std.proofs.Common.{[], ◌∙◌, ap}
-use Rattle.lpt_execution.specs.LptEvents.MadePackets.{telemetry_made}
-use Rattle.lpt_execution.specs.LptEvents.TelemetryKinds.{service_of, subtype_of}
+use Rattle.lpt_events.specs.MadePackets.{telemetry_made}
+use Rattle.lpt_events.specs.TelemetryKinds.{service_of, subtype_of}
 use Rattle.lpt_node.specs.Counting.{counter_of}
 use Rattle.lpt_node.specs.Nodes.{NodeView}
 use Rattle.lpt_node.proofs.node.Node.head.Goals as goal

@@ -1,6 +1,6 @@
 -- The body of a part is short.
 use Rattle.std.proofs.Common.{ap, length, arith, length-append}
-use Rattle.lpt_execution.specs.LptPart.Parts.{piece}
+use Rattle.lpt_part.specs.Parts.{piece}
 use Rattle.lpt_node.proofs.BodyLemmas.{length-body_of}
 use Rattle.lpt_node.proofs.node.Node.part_packet.Goals as goal
 

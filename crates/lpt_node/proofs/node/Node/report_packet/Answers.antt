@@ -1,7 +1,7 @@
 -- The head is written with the report's body.
 use Rattle.std.proofs.Common.{[], ◌∙◌, ap, List, ℕ}
-use Rattle.lpt_execution.specs.LptPacket.Packets.{spelling}
-use Rattle.lpt_execution.specs.LptPus.Telemetry.{Telemetry, telemetry, tm_packet_of}
+use Rattle.lpt_packet.specs.Packets.{spelling}
+use Rattle.lpt_pus.specs.Telemetry.{Telemetry, telemetry, tm_packet_of}
 use Rattle.lpt_node.proofs.node.Node.report_packet.Goals as goal
 
 pub returns-clause-packet : goal.returns-clause-packet

@@ -1,6 +1,6 @@
 -- Each part of the node is as after a restart.
 use Rattle.std.proofs.Common.{ap}
-use Rattle.lpt_node.specs.Anew.{restarted}
+use Rattle.lpt_node.specs.Restarts.{restarted}
 use Rattle.lpt_node.specs.NodeInside.{OpenMessages}
 use Rattle.lpt_node.specs.Nodes.{NodeView}
 use Rattle.lpt_node.specs.Receivers.{ReceiverState}

@@ -6,7 +6,7 @@ use Rattle.lpt_node.proofs.node.Node.retire.Goals as goal
 pub invariant_of-self : goal.invariant_of-self
 invariant_of-self c =
     sound-retired c.self.inside.config c.self.inside.senders c.free.new.ledger c.self.inside.receiver
-    c.self.inside.outgoing c.args.id
+    c.self.inside.outgoing c.args.name
     c.self.invariant
     c.free.ensures
     (search rules)

@@ -3,7 +3,7 @@ use Rattle.std.proofs.Common.{Some, ap, sym, subst, length, List, ℕ, ◌∙◌
 use Rattle.std.specs.FinMap as map
 use Rattle.lpt_node.specs.NodeInside.{OpenMessages}
 use Rattle.lpt_node.specs.Nodes.{MessageFits}
-use Rattle.lpt_execution.proofs.LptPacket.NamedLemmas.{get-by_name}
+use Rattle.lpt_packet.proofs.NamedLemmas.{get-by_name}
 use Rattle.lpt_node.proofs.outgoing.Outgoing.get.Goals as goal
 
 -- ---- the name has none
@@ -11,8 +11,8 @@ use Rattle.lpt_node.proofs.outgoing.Outgoing.get.Goals as goal
 pub returns-in-None-clause-message : goal.returns-in-None-clause-message
 returns-in-None-clause-message c =
     c.in-None.ensures.value
-    ∙ sym (get-by_name c.self.inside.messages.entries c.args.id)
-    ∙ ap (λ (o : OpenMessages). map.get o.messages c.args.id) c.self.view_is
+    ∙ sym (get-by_name c.self.inside.messages.entries c.args.name)
+    ∙ ap (λ (o : OpenMessages). map.get o.messages c.args.name) c.self.view_is
 
 -- ---- it has one
 
@@ -20,13 +20,13 @@ pub returns-in-Some-clause-message : goal.returns-in-Some-clause-message
 returns-in-Some-clause-message c =
     ap (λ (m : List ℕ). Some m) c.as_slice.ensures.same
     ∙ c.in-Some.ensures.value
-    ∙ sym (get-by_name c.self.inside.messages.entries c.args.id)
-    ∙ ap (λ (o : OpenMessages). map.get o.messages c.args.id) c.self.view_is
+    ∙ sym (get-by_name c.self.inside.messages.entries c.args.name)
+    ∙ ap (λ (o : OpenMessages). map.get o.messages c.args.name) c.self.view_is
 
 pub returns-in-Some-clause-fits : goal.returns-in-Some-clause-fits
 returns-in-Some-clause-fits c =
     subst (λ (p : ℕ). MessageFits p (length c.as_slice.result.now))
     (ap (λ (o : OpenMessages). o.p) c.self.view_is)
-    (c.self.invariant.fits c.args.id c.as_slice.result.now
-    (get-by_name c.self.inside.messages.entries c.args.id
+    (c.self.invariant.fits c.args.name c.as_slice.result.now
+    (get-by_name c.self.inside.messages.entries c.args.name
     ∙ sym (ap (λ (m : List ℕ). Some m) c.as_slice.ensures.same ∙ c.in-Some.ensures.value)))

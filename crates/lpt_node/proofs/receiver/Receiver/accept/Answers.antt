@@ -1,11 +1,11 @@
 -- What a receiver makes of a part, by what its table answered.
 use Rattle.std.proofs.Common.{[], ap, rules}
 use Rattle.std.specs.Option.{option_map}
-use Rattle.lpt_execution.specs.LptPacket.Names.{named_by}
-use Rattle.lpt_execution.specs.LptPart.Parts.{piece}
-use Rattle.lpt_execution.specs.LptEvents.NamedParts.{named}
-use Rattle.lpt_execution.specs.LptPus.Telemetry.{telemetry, as_written}
-use Rattle.lpt_table.specs.LptReception.Received.{Ended, BrokenOff}
+use Rattle.lpt_packet.specs.Names.{named_by}
+use Rattle.lpt_part.specs.Parts.{piece}
+use Rattle.lpt_events.specs.NamedParts.{named}
+use Rattle.lpt_pus.specs.Telemetry.{telemetry, as_written}
+use Rattle.lpt_reception.specs.Received.{Ended, BrokenOff}
 use Rattle.lpt_node.proofs.ReceiverLemmas.{received-closed, received-kept, received-again, received-no_room, received-whole, received-broken, received-gap, grows-gap, grows-kept, grows-whole, grows-broken}
 use Rattle.lpt_node.proofs.TiedLemmas.{sound-kept, sound-out, sound-gap}
 use Rattle.lpt_node.proofs.receiver.Receiver.accept.Goals as goal

@@ -12,7 +12,7 @@ invariant_of-self c =
 
 pub invariant_of-self-2 : goal.invariant_of-self-2
 invariant_of-self-2 c =
-    sound-expired c.self.inside.ledger c.close_reported.new.ledger c.self.inside.table c.expire.new.self c.args.id
+    sound-expired c.self.inside.ledger c.close_reported.new.ledger c.self.inside.table c.expire.new.self c.args.name
     c.self.invariant
     c.in_ok-report.ensures.shut
     c.expire.ensures.removed

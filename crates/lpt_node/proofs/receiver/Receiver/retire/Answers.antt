@@ -4,6 +4,6 @@ use Rattle.lpt_node.proofs.receiver.Receiver.retire.Goals as goal
 
 pub invariant_of-self : goal.invariant_of-self
 invariant_of-self c =
-    sound-retired c.self.inside.ledger c.free.new.ledger c.self.inside.table c.args.id
+    sound-retired c.self.inside.ledger c.free.new.ledger c.self.inside.table c.args.name
     c.self.invariant
     c.free.ensures

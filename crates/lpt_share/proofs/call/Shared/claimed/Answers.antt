@@ -1,5 +1,5 @@
 -- It was asked for after the log had its place.
-use Rattle.lpt_audit.specs.LptEvents.declared.event.Event.TheVariants.{Claim}
+use Rattle.lpt_events.specs.declared.event.Event.TheVariants.{Claim}
 use Rattle.lpt_share.proofs.DoingLemmas.{asked}
 use Rattle.lpt_share.proofs.call.Shared.claimed.Goals as goal
 

@@ -1,6 +1,6 @@
 -- The calls of the turn as far as it went.
 use Rattle.std.proofs.Common.{rules, [], ◌∷◌}
-use Rattle.lpt_audit.specs.LptEvents.declared.event.Event.TheVariants.{Tick, Expire}
+use Rattle.lpt_events.specs.declared.event.Event.TheVariants.{Tick, Expire}
 use Rattle.lpt_share.proofs.TurnLemmas.{stays, goes_on}
 use Rattle.lpt_share.proofs.call.Shared.timer_turn.Goals as goal
 

@@ -1,6 +1,6 @@
 -- The calls of the turn as far as it went, behind the claim.
 use Rattle.std.proofs.Common.{rules, [], ◌∷◌}
-use Rattle.lpt_audit.specs.LptEvents.declared.event.Event.TheVariants.{Commit, Apply}
+use Rattle.lpt_events.specs.declared.event.Event.TheVariants.{Commit, Apply}
 use Rattle.lpt_share.proofs.TurnLemmas.{stays, goes_on, itself}
 use Rattle.lpt_share.proofs.call.Shared.worked.Goals as goal
 

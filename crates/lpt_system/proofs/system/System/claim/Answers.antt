@@ -1,11 +1,11 @@
 -- The spacecraft has a job for the worker, since the claim isn't refused.
 use Rattle.std.proofs.Common.{◌≡◌, ◌∙◌, ap, sym, Option, Some, None}
 use Rattle.std.specs.Option.{option_map}
-use Rattle.lpt_model.specs.LptMemory.Readings.{Job}
-use Rattle.lpt_model.specs.LptNode.declared.fault.NodeFault.{NodeFault}
-use Rattle.lpt_model.specs.LptNode.Faults.{node_fault}
-use Rattle.lpt_model.specs.LptNode.Jobs.{refusal_claim}
-use Rattle.lpt_model.specs.LptNode.Nodes.{NodeData}
+use Rattle.lpt_memory.specs.Readings.{Job}
+use Rattle.lpt_node.specs.declared.fault.NodeFault.{NodeFault}
+use Rattle.lpt_node.specs.Faults.{node_fault}
+use Rattle.lpt_node.specs.Jobs.{refusal_claim}
+use Rattle.lpt_node.specs.Nodes.{NodeData}
 use Rattle.lpt_model.specs.State.{refusal_claim_by}
 use Rattle.lpt_model.specs.Tickets.{ticket_of}
 use Rattle.lpt_system.specs.SystemInside.{state_of}

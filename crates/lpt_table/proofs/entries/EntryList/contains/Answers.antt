@@ -1,4 +1,4 @@
-use Rattle.lpt_reception.specs.LptPacket.Names.{name_cmp}
+use Rattle.lpt_packet.specs.Names.{name_cmp}
 use Rattle.std.proofs.Common.{◌≡◌, ◌∙◌, ap}
 use Rattle.std.specs.Prelude.{is_some}
 use Rattle.std.specs.FinMap as map
@@ -12,7 +12,7 @@ use Rattle.lpt_table.proofs.entries.EntryList.contains.Goals as goal
 pub returns : goal.returns
 returns c =
     let xs = c.self.inside.places.items in
-    let is : c.is_some.result ≡ is_some (spot name_cmp c.args.id (by_name xs)) = cc in
+    let is : c.is_some.result ≡ is_some (spot name_cmp c.args.name (by_name xs)) = cc in
     is ∙ is_some-spot c.self.inside.limit c.self.inside.p (vec_capacity c.self.inside.places)
-    c.self.inside.fillings xs c.self.invariant c.args.id
-    ∙ ap (λ (l : Listing). is_some (map.get l.entries c.args.id)) c.self.view_is
+    c.self.inside.fillings xs c.self.invariant c.args.name
+    ∙ ap (λ (l : Listing). is_some (map.get l.entries c.args.name)) c.self.view_is

@@ -1,7 +1,7 @@
 use Rattle.std.proofs.Common.{◌∙◌, ap, ℕ}
 use Rattle.std.specs.FinMap as map
 use Rattle.std.specs.Option.{option_map}
-use Rattle.lpt_reception.specs.LptPacket.Names.{Name}
+use Rattle.lpt_packet.specs.Names.{Name}
 use Rattle.lpt_table.specs.Deadlines.{soonest}
 use Rattle.lpt_table.specs.EntryLists.{Listing}
 use Rattle.lpt_table.specs.Places.{first_overdue}

@@ -4,7 +4,7 @@ use Rattle.std.specs.Prelude.{IfNone}
 use Rattle.std.specs.FinMap as map
 use Rattle.std.specs.Vec.{vec_capacity}
 use Rattle.slab.specs.Slab.{with_value}
-use Rattle.lpt_reception.specs.LptPacket.Names.{name_cmp}
+use Rattle.lpt_packet.specs.Names.{name_cmp}
 use Rattle.lpt_reception.specs.Received.{Received}
 use Rattle.lpt_reception.specs.Steps.{kept, Takes}
 use Rattle.lpt_table.specs.declared.entries.Entry.{Entry}
@@ -23,15 +23,15 @@ use Rattle.lpt_table.proofs.entries.EntryList.offer.Goals.{After-index_mut}
 pub returns-in_err-at-clause-none : goal.returns-in_err-at-clause-none
 returns-in_err-at-clause-none c =
     let k = c.self.inside in
-    let none : None ≡ spot name_cmp c.args.id (by_name k.places.items) =
+    let none : None ≡ spot name_cmp c.args.name (by_name k.places.items) =
     c.in_err-at.ensures
-    ∙ ap (λ xs. spot name_cmp c.args.id (by_name xs)) c.deref.ensures.value
+    ∙ ap (λ xs. spot name_cmp c.args.name (by_name xs)) c.deref.ensures.value
     in
-    subst (λ r. IfNone r (map.get c.args.self.now.entries c.args.id ≡ None))
+    subst (λ r. IfNone r (map.get c.args.self.now.entries c.args.name ≡ None))
     (sym c.from_residual.ensures)
-    (ap (λ (l : Listing). map.get l.entries c.args.id) (sym c.self.view_is)
+    (ap (λ (l : Listing). map.get l.entries c.args.name) (sym c.self.view_is)
     ∙ missed-none k.limit k.p (vec_capacity k.places) k.fillings k.places.items c.self.invariant
-    c.args.id none)
+    c.args.name none)
 
 -- ---- it has one
 
@@ -39,45 +39,45 @@ pub index-requires : goal.index-requires
 index-requires c =
     let k = c.self.inside in
     let is = c.in_ok-at.ensures
-    ∙ ap (λ xs. spot name_cmp c.args.id (by_name xs)) c.deref.ensures.value
+    ∙ ap (λ xs. spot name_cmp c.args.name (by_name xs)) c.deref.ensures.value
     in
     omega (
       arith,
       k.places.ok,
       found-within k.limit k.p (vec_capacity k.places) k.fillings k.places.items c.self.invariant
-          c.args.id c.in_ok-at.at is,
+          c.args.name c.in_ok-at.at is,
     )
 
 pub index_mut-requires : goal.index_mut-requires
 index_mut-requires c =
     let k = c.self.inside in
     let is = c.in_ok-at.ensures
-    ∙ ap (λ xs. spot name_cmp c.args.id (by_name xs)) c.deref.ensures.value
+    ∙ ap (λ xs. spot name_cmp c.args.name (by_name xs)) c.deref.ensures.value
     in
     found-kept k.limit k.p (vec_capacity k.places) k.fillings k.places.items c.self.invariant
-    c.args.id c.in_ok-at.at is c.index.result.now c.index.ensures
+    c.args.name c.in_ok-at.at is c.index.result.now c.index.ensures
 
 spot_is : (c : After-index_mut)
-    → Some c.in_ok-at.at ≡ spot name_cmp c.args.id (by_name c.self.inside.places.items)
+    → Some c.in_ok-at.at ≡ spot name_cmp c.args.name (by_name c.self.inside.places.items)
 spot_is c =
     c.in_ok-at.ensures
-    ∙ ap (λ xs. spot name_cmp c.args.id (by_name xs)) c.deref.ensures.value
+    ∙ ap (λ xs. spot name_cmp c.args.name (by_name xs)) c.deref.ensures.value
 
 -- what is kept there
 abbrev found : After-index_mut → Entry
 found c = record {
-  id = c.args.id;
+  name = c.args.name;
   filling = c.index_mut.result.now;
   last = c.index.result.now.last;
 }
 
 is_entry : (c : After-index_mut)
-    → IsEntry (map.get (map_of c.self.inside.fillings c.self.inside.places.items) c.args.id)
-    c.args.id c.self.inside.p (found c)
+    → IsEntry (map.get (map_of c.self.inside.fillings c.self.inside.places.items) c.args.name)
+    c.args.name c.self.inside.p (found c)
 is_entry c =
     let k = c.self.inside in
     found-entry k.limit k.p (vec_capacity k.places) k.fillings k.places.items c.self.invariant
-    c.args.id c.in_ok-at.at (spot_is c) c.index.result.now c.index.ensures
+    c.args.name c.in_ok-at.at (spot_is c) c.index.result.now c.index.ensures
     c.index_mut.result.now (found c) c.index_mut.ensures.value refl
 
 pub take-took-requires-clause-id : goal.take-took-requires-clause-id
@@ -91,10 +91,10 @@ pub renew-requires-clause-within : goal.renew-requires-clause-within
 renew-requires-clause-within c =
     let k = c.self.inside in
     let is = c.in_ok-at.ensures
-    ∙ ap (λ xs. spot name_cmp c.args.id (by_name xs)) c.deref.ensures.value
+    ∙ ap (λ xs. spot name_cmp c.args.name (by_name xs)) c.deref.ensures.value
     in
     found-within k.limit k.p (vec_capacity k.places) k.fillings k.places.items c.self.invariant
-    c.args.id c.in_ok-at.at is
+    c.args.name c.in_ok-at.at is
 
 pub invariant_of-self : goal.invariant_of-self
 invariant_of-self c =
@@ -106,7 +106,7 @@ invariant_of-self c =
     in
     rw c.renew.ensures.places
     (renewed-listed k.limit k.p (vec_capacity k.places) k.fillings k.places.items c.self.invariant
-    c.args.id c.in_ok-at.at (spot_is d) c.index.result.now c.index.ensures
+    c.args.name c.in_ok-at.at (spot_is d) c.index.result.now c.index.ensures
     c.take-took.new.self c.last_after-last.result (vec_capacity c.renew.new.places)
     (keeps.0 ∙ e.its.named) (keeps.1 ∙ e.its.of_size) c.renew.ensures.room)
 
@@ -114,7 +114,7 @@ pub returns-clause-took : goal.returns-clause-took
 returns-clause-took c =
     let k = c.self.inside in
     let d = (goal.at.returns-clause-took c).After-index_mut in
-    let id = c.args.id in
+    let name = c.args.name in
     let f = c.index_mut.result.now in
     let g = c.take-took.new.self in
     let t = with_value k.fillings c.index.result.now.key g in
@@ -123,27 +123,27 @@ returns-clause-took c =
     c.args.part.now.number (kept c.args.part.now) c.take-took.result c.take-took.ensures
     in
     let size = ap (λ (l : Listing). l.p) c.self.view_is in
-    let was : f ≡ record { id = id.id; p = c.args.self.now.p; parts = f.parts } =
+    let was : f ≡ record { id = name.id; p = c.args.self.now.p; parts = f.parts } =
     λ i. record { id = e.its.named i; p = (e.its.of_size ∙ size) i; parts = f.parts } in
-    let becomes : g ≡ record { id = id.id; p = c.args.self.now.p; parts = g.parts } =
+    let becomes : g ≡ record { id = name.id; p = c.args.self.now.p; parts = g.parts } =
     λ i. record { id = (keeps.0 ∙ e.its.named) i; p = (keeps.1 ∙ e.its.of_size ∙ size) i; parts = g.parts } in
     record {
       entry = record { parts = f.parts; last = c.index.result.now.last };
       parts = g.parts;
-      was = ap (λ (l : Listing). map.get l.entries id) (sym c.self.view_is) ∙ e.found;
+      was = ap (λ (l : Listing). map.get l.entries name) (sym c.self.view_is) ∙ e.found;
       takes = subst (λ (r : Received). Takes c.args.mode r c.args.part.now.number
           (kept c.args.part.now) c.take-took.result
-          (record { id = id.id; p = c.args.self.now.p; parts = g.parts })) was
+          (record { id = name.id; p = c.args.self.now.p; parts = g.parts })) was
           (subst (λ (r : Received). Takes c.args.mode f c.args.part.now.number
           (kept c.args.part.now) c.take-took.result r) becomes c.take-took.ensures);
       becomes = changed k.limit k.p (map_of k.fillings k.places.items)
           (map_of t c.renew.new.places.items) c.args.self.now
-          (λ m. map.insert m id (record { parts = g.parts; last = last_after c.take-took.result c.index.result.now.last c.args.now })) c.self.view_is
+          (λ m. map.insert m name (record { parts = g.parts; last = last_after c.take-took.result c.index.result.now.last c.args.now })) c.self.view_is
           (ap (map_of t) c.renew.ensures.places
           ∙ renewed-map k.limit k.p (vec_capacity k.places) k.fillings k.places.items
-          c.self.invariant id c.in_ok-at.at (spot_is d) c.index.result.now
+          c.self.invariant name c.in_ok-at.at (spot_is d) c.index.result.now
           c.index.ensures g c.last_after-last.result
-          ∙ ap (λ last. map.insert (map_of k.fillings k.places.items) id
+          ∙ ap (λ last. map.insert (map_of k.fillings k.places.items) name
           (record { parts = g.parts; last = last })) c.last_after-last.ensures);
     }
 
@@ -154,6 +154,6 @@ returns-clause-len c =
     let t = with_value k.fillings c.index.result.now.key c.take-took.new.self in
     ap (λ xs. map.len (map_of t xs)) c.renew.ensures.places
     ∙ renewed-len k.limit k.p (vec_capacity k.places) k.fillings k.places.items
-    c.self.invariant c.args.id c.in_ok-at.at (spot_is d)
+    c.self.invariant c.args.name c.in_ok-at.at (spot_is d)
     c.index.result.now c.index.ensures c.take-took.new.self c.last_after-last.result
     ∙ ap (λ (l : Listing). map.len l.entries) c.self.view_is

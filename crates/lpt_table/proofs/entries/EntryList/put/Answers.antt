@@ -28,13 +28,14 @@ insert_reserved-key-requires c =
 pub insert-requires : goal.insert-requires
 insert-requires c =
     let place : c.rank_of-at.result
-    ≡ rank when_cmp (c.args.entry.last, c.args.entry.id) (by_moment c.self.inside.places.items) = cc
+    ≡ rank when_cmp (c.args.entry.last, c.args.entry.name)
+    (by_moment c.self.inside.places.items) = cc
     in
     omega (
       arith,
       c.self.inside.places.ok,
       place,
-      belongs-within c.args.entry.last c.args.entry.id c.self.inside.places.items,
+      belongs-within c.args.entry.last c.args.entry.name c.self.inside.places.items,
     )
 
 -- so the places need no memory
@@ -55,13 +56,13 @@ unreachable-requires c =
 -- ---- the reception is in the list
 
 absent : (c : In-Ok)
-    → map.get (map_of c.self.inside.fillings c.self.inside.places.items) c.args.entry.id ≡ None
+    → map.get (map_of c.self.inside.fillings c.self.inside.places.items) c.args.entry.name ≡ None
 absent c =
-    ap (λ (l : Listing). map.get l.entries c.args.entry.id) c.self.view_is ∙ c.requires.absent
+    ap (λ (l : Listing). map.get l.entries c.args.entry.name) c.self.view_is ∙ c.requires.absent
 
 place_is : (c : In-Ok)
     → c.rank_of-at.result
-    ≡ rank when_cmp (c.args.entry.last, c.args.entry.id) (by_moment c.self.inside.places.items)
+    ≡ rank when_cmp (c.args.entry.last, c.args.entry.name) (by_moment c.self.inside.places.items)
 place_is c = cc
 
 pub invariant_of-self : goal.invariant_of-self
@@ -84,7 +85,7 @@ returns-clause-value c =
     changed c.self.inside.limit c.self.inside.p
     (map_of c.self.inside.fillings c.self.inside.places.items)
     (map_of c.insert_reserved-key.new.self c.insert.new.self.items) c.args.self.now
-    (λ m. map.insert m c.args.entry.id (entry_in c.args.entry)) c.self.view_is
+    (λ m. map.insert m c.args.entry.name (entry_in c.args.entry)) c.self.view_is
     (rw (c.in-Ok.ensures.items, place_is c)
     (placed-map c.self.inside.limit c.self.inside.p (vec_capacity c.self.inside.places)
     c.self.inside.fillings c.self.inside.places.items c.self.invariant c.args.entry (absent c)

@@ -1,4 +1,4 @@
-use Rattle.lpt_reception.specs.LptPacket.Names.{Name, name_cmp}
+use Rattle.lpt_packet.specs.Names.{Name, name_cmp}
 use Rattle.std.proofs.Common.{◌∙◌, ap, subst, sym, arith, ◌+◌, ◌≤◌, ℕ, Option}
 use Rattle.std.specs.FinMap as map
 use Rattle.lpt_table.specs.EntryLists.{Listing, how_many_out, IsAway}

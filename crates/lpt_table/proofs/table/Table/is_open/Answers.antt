@@ -6,4 +6,4 @@ use Rattle.lpt_table.specs.Tables.{TableState}
 use Rattle.lpt_table.proofs.table.Table.is_open.Goals as goal
 
 pub returns : goal.returns
-returns c = c.contains.ensures ∙ ap (λ (t : TableState). is_open t c.args.id) c.self.view_is
+returns c = c.contains.ensures ∙ ap (λ (t : TableState). is_open t c.args.name) c.self.view_is

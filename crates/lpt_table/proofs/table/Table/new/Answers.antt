@@ -1,4 +1,4 @@
-use Rattle.lpt_reception.specs.LptPacket.Names.{name_cmp}
+use Rattle.lpt_packet.specs.Names.{name_cmp}
 use Rattle.std.proofs.Common.{◌∙◌, ap, arith}
 use Rattle.std.specs.FinMap as map
 use Rattle.lpt_table.specs.EntryLists.{Listing}

@@ -1,5 +1,5 @@
 -- What comes out, and what is computed, follow of the answer.
-use Rattle.lpt_reception.specs.LptPacket.Names.{named_by}
+use Rattle.lpt_packet.specs.Names.{named_by}
 use Rattle.lpt_reception.specs.Steps.{kept}
 use Rattle.lpt_table.proofs.OfferLemmas.{offers_its, offers_offered}
 use Rattle.lpt_table.proofs.table.Table.offer.Goals as goal

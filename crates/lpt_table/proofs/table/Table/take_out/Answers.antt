@@ -15,8 +15,8 @@ invariant_of-self c = (
     c.self.invariant.0,
     ap (λ (l : Listing). l.limit) c.take.ensures.rest,
   ),
-  ap (λ (l : Listing). map.get l.entries c.args.id) c.take.ensures.rest
-      ∙ get-without c.self.inside.receptions.entries c.args.id,
+  ap (λ (l : Listing). map.get l.entries c.args.name) c.take.ensures.rest
+      ∙ get-without c.self.inside.receptions.entries c.args.name,
 )
 
 pub returns-clause-out : goal.returns-clause-out
@@ -25,11 +25,11 @@ returns-clause-out c =
     let e = entry_in c.in-Some.field-0 in
     record {
       entry = e;
-      was = ap (λ (t : TableState). map.get t.entries c.args.id) (sym c.self.view_is)
+      was = ap (λ (t : TableState). map.get t.entries c.args.name) (sym c.self.view_is)
           ∙ c.in-Some.ensures.entry.found;
-      now = ap (table s.timeout s.mode (Some (c.args.id, e.last))) c.take.ensures.rest
+      now = ap (table s.timeout s.mode (Some (c.args.name, e.last))) c.take.ensures.rest
           ∙ ap (λ (t : TableState). record t {
-            entries = map.remove t.entries c.args.id;
-            out = Some (c.args.id, e.last);
+            entries = map.remove t.entries c.args.name;
+            out = Some (c.args.name, e.last);
           }) c.self.view_is;
     }

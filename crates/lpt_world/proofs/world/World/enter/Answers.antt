@@ -1,8 +1,8 @@
 -- An event that isn't refused is done, and the longer journal is shown.
 use Rattle.std.proofs.Common.{arith, ◌≡◌, ◌∙◌, ap, sym, length, None}
 use Rattle.lpt_system.specs.SystemInside.{state_of}
-use Rattle.lpt_refinement.specs.LptJournal.Replies.{reply}
-use Rattle.lpt_system.specs.LptModel.State.{refusal_of, after}
+use Rattle.lpt_journal.specs.Replies.{reply}
+use Rattle.lpt_model.specs.State.{refusal_of, after}
 use Rattle.lpt_world.specs.Worlds.{Shown, refusal_at, history}
 use Rattle.lpt_world.proofs.LegalLemmas.{numbered_few, boots_few}
 use Rattle.lpt_world.proofs.WorldLemmas.{free_shown, ready_shown, shown_push, reply_shown}
@@ -41,7 +41,7 @@ invariant_of-self-in-Ok c =
     (sym c.requires ∙ sym (ap (λ (w : Shown). refusal_at w c.args.seat c.args.event) c.self.view_is)) in
     let place : c.len-place.result ≡ length c.self.inside.journal.items = c.len-place.ensures ∙ c.reserve.new.self.ok.0 ∙ ap length c.reserve.ensures.items in
     rw c.push_reserved.ensures.items (rw c.reserve.ensures.items
-    (shown_push c.self.inside.system c.apply.new.self c.self.inside.first c.self.inside.journal.items _ c.self.invariant c.in_range.ensures free
+    (shown_push c.self.inside.system c.apply.new.self c.self.inside.first c.self.inside.journal.items _ c.self.invariant c.numbers_are_in_range.ensures free
     (c.in-Ok.ensures.ok ∙ ap (λ n. after c.self.inside.system.config n (state_of c.self.inside.system) c.args.event) place) c.in-Ok.ensures.config))
 
 pub returns-in-Ok-clause-reply : goal.returns-in-Ok-clause-reply

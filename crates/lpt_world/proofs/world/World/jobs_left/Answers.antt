@@ -1,6 +1,6 @@
 -- As many jobs wait as the journal says.
 use Rattle.std.proofs.Common.{◌∙◌, ap, ◌-◌, length}
-use Rattle.lpt_refinement.specs.LptJournal.Jobs.{jobs, claimed}
+use Rattle.lpt_journal.specs.Jobs.{jobs, claimed}
 use Rattle.lpt_system.specs.SystemInside.{state_of}
 use Rattle.lpt_world.specs.Worlds.{Shown, history, history_of}
 use Rattle.lpt_world.proofs.WaitingLemmas.{waiting_shown}

@@ -1,6 +1,6 @@
 -- As many jobs aren't executed as the journal says.
 use Rattle.std.proofs.Common.{◌∙◌, ap, ◌-◌, length}
-use Rattle.lpt_refinement.specs.LptJournal.Jobs.{jobs, applied}
+use Rattle.lpt_journal.specs.Jobs.{jobs, applied}
 use Rattle.lpt_system.specs.SystemInside.{state_of}
 use Rattle.lpt_world.specs.Worlds.{Shown, history, history_of}
 use Rattle.lpt_world.proofs.WaitingLemmas.{queued_shown}

@@ -1,7 +1,7 @@
 -- A memory is what the journal says, and what holds of all memories holds.
 use Rattle.std.proofs.Common.{◌∙◌, ap, subst}
-use Rattle.lpt_system.specs.LptMemory.Memories.{content_of}
-use Rattle.lpt_refinement.specs.LptJournal.Headline.{MemoriesFollow}
+use Rattle.lpt_memory.specs.Memories.{content_of}
+use Rattle.lpt_journal.specs.Headline.{MemoriesFollow}
 use Rattle.lpt_world.specs.Worlds.{Shown, history, memories_now}
 use Rattle.lpt_world.proofs.ToldLemmas.{shown_holds}
 use Rattle.lpt_world.proofs.world.World.memory.Goals as goal

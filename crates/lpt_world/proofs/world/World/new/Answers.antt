@@ -1,6 +1,6 @@
 -- A new world shows the empty journal.
 use Rattle.std.proofs.Common.{◌∙◌, ap, refl}
-use Rattle.lpt_system.specs.LptModel.State.{no_state}
+use Rattle.lpt_model.specs.State.{no_state}
 use Rattle.lpt_world.proofs.WorldLemmas.{shown_new}
 use Rattle.lpt_world.proofs.world.World.new.Goals as goal
 

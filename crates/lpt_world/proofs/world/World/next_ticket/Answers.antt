@@ -1,11 +1,11 @@
 -- The ticket is that of the job that the journal gives next.
 use Rattle.std.proofs.Common.{◌≡◌, ◌∙◌, ap, sym, Some}
 use Rattle.std.specs.Option.{option_map}
-use Rattle.lpt_system.specs.LptEvents.declared.event.Event.TheVariants.{Claim}
-use Rattle.lpt_system.specs.LptJobs.Jobs.{unclaimed}
-use Rattle.lpt_system.specs.LptModel.Tickets.{ticket_of}
+use Rattle.lpt_events.specs.declared.event.Event.TheVariants.{Claim}
+use Rattle.lpt_jobs.specs.Jobs.{unclaimed}
+use Rattle.lpt_model.specs.Tickets.{ticket_of}
 use Rattle.lpt_system.specs.SystemInside.{state_of}
-use Rattle.lpt_refinement.specs.LptJournal.Jobs.{job_given}
+use Rattle.lpt_journal.specs.Jobs.{job_given}
 use Rattle.lpt_world.specs.Worlds.{Shown, history, history_of, refusal_at}
 use Rattle.lpt_world.proofs.WaitingLemmas.{named, next_shown, not_none, one_waits}
 use Rattle.lpt_world.proofs.LegalLemmas.{jobs_fit}

@@ -2,7 +2,7 @@
 use Rattle.std.proofs.Common.{◌∙◌, ap}
 use Rattle.std.specs.Option.{option_map}
 use Rattle.std.specs.Prelude.{slice_get}
-use Rattle.lpt_refinement.specs.LptJournal.Link.{sent}
+use Rattle.lpt_journal.specs.Link.{sent}
 use Rattle.lpt_world.specs.Worlds.{Shown, history}
 use Rattle.lpt_world.proofs.WorldLemmas.{packet_shown}
 use Rattle.lpt_world.proofs.world.World.packet.Goals as goal

@@ -1,6 +1,6 @@
 -- What a world shows holds.
 use Rattle.std.proofs.Common.{subst}
-use Rattle.lpt_refinement.specs.LptJournal.Headline.{EachIsLastOpened, AtMostOncePerOpening}
+use Rattle.lpt_journal.specs.Headline.{EachIsLastOpened, AtMostOncePerOpening}
 use Rattle.lpt_world.specs.Worlds.{Shown, history}
 use Rattle.lpt_world.proofs.ToldLemmas.{shown_holds}
 use Rattle.lpt_world.proofs.world.World.released.Goals as goal

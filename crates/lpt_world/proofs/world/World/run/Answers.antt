@@ -1,6 +1,6 @@
 -- Each event that is accepted makes the run one longer.
 use Rattle.std.proofs.Common.{◌∙◌, sym, subst, refl, Option, Some}
-use Rattle.lpt_system.specs.LptEvents.declared.event.Event.{Event}
+use Rattle.lpt_events.specs.declared.event.Event.{Event}
 use Rattle.lpt_world.specs.Worlds.{Shown, IsFaultOf}
 use Rattle.lpt_world.proofs.RunLemmas.{run_on, run_all, got}
 use Rattle.lpt_world.proofs.world.World.run.Goals as goal

@@ -1,0 +1,121 @@
+-- The worked run, computed by the definitions.
+use Rattle.std.proofs.Common.{◌≡◌, ◌∙◌, ap, sym, subst, refl, List, [], ◌∷◌, ◌++◌, drop, take, reverse}
+use Rattle.lpt_packet.specs.declared.direction.Direction.TheVariants.{Up, Down}
+use Rattle.lpt_packet.specs.Checksums.{checksum, octets_in, shift_all}
+use Rattle.lpt_packet.specs.Packets.{seen, spelling}
+use Rattle.lpt_pus.specs.Commands.{tc_field, tc_verdict, command_in}
+use Rattle.lpt_pus.specs.Telemetry.{tm_field, tm_verdict}
+use Rattle.lpt_part.specs.Aborts.{abort_body, abort_verdict}
+use Rattle.lpt_part.specs.Parts.{body_of, part_verdict}
+use Rattle.lpt_part.specs.declared.reason.Reason.TheVariants.{Expired}
+use Rattle.lpt_memory.specs.Meanings.{body_meaning, meaning}
+use Rattle.lpt_memory.specs.Requests.{front_load_area, front_head, request_in}
+use Rattle.lpt_ledger.specs.LeastFree.{first_of_numbers}
+use Rattle.lpt_events.specs.Arrivals.{AnAbort, arrival, arrival_in}
+use Rattle.lpt_events.specs.declared.event.Event.{Event}
+use Rattle.lpt_events.specs.declared.event.Event.TheVariants.{Open, Send, Plain, Finish, Lose, Take, Deliver, Claim, Commit, Apply, Retire, Restart}
+use Rattle.lpt_events.specs.declared.lane.Lane.TheVariants.{S1}
+use Rattle.lpt_events.specs.declared.side.Side.TheVariants.{Craft}
+use Rattle.lpt_events.specs.declared.worker.Worker.TheVariants.{W1}
+use Rattle.lpt_journal.specs.Jobs.{memories}
+use Rattle.lpt_journal.specs.Replies.{recorded}
+use Rattle.lpt_apart.specs.Ends.{Ends}
+use Rattle.lpt_apart.specs.Moves.{Pair, Move, Do, came_to, CanMoveAll}
+use Rattle.lpt_apart.specs.Plays.{steps_of, moves_of}
+use Rattle.lpt_apart.specs.Steps as steps
+use Rattle.lpt_apart.specs.Told.{told}
+use Rattle.lpt_apart.proofs.Freely.{steps_are_moves}
+use Rattle.lpt_apart.proofs.Played.{worlds_are_ends}
+use Rattle.lpt_journal_examples.specs.Passes.{IsPass, usual, usual_memories, loaded_memories, load, m20, m9, own}
+use Rattle.lpt_journal_examples.proofs.LegalRows.{usual_pass}
+use Rattle.lpt_journal_examples.proofs.Listed.{recorded_is}
+use Rattle.lpt_apart_examples.specs.Runs.{forged, worked, worked_log}
+use Rattle.lpt_apart_examples.proofs.ListedSteps.{steps_is, told_of}
+use Rattle.lpt_apart_examples.proofs.Swapped.{swapped}
+
+-- ---- a world that does the same, but that the message is finished
+
+abbrev journal : List Event
+journal =
+    Plain 1 0 6 2 load ∷ Take S1 0 ∷ Deliver S1 ∷ Claim W1 ∷ Commit W1 ∷ Apply
+    ∷ Take S1 0 ∷ Deliver S1
+    ∷ Open Up (own 7) m20 ∷ Send Up (own 7) 1 ∷ Send Up (own 7) 2 ∷ Send Up (own 7) 3
+    ∷ Take S1 3 ∷ Deliver S1 ∷ Take S1 1 ∷ Deliver S1 ∷ Take S1 1 ∷ Deliver S1
+    ∷ Send Up (own 7) 2 ∷ Take S1 4 ∷ Deliver S1 ∷ Take S1 3 ∷ Deliver S1
+    ∷ Finish Up (own 7)
+    ∷ Lose 1 ∷ Lose 2 ∷ Lose 3 ∷ Lose 4 ∷ Retire Up (own 7)
+    ∷ Open Up (own 7) m9 ∷ Send Up (own 7) 1 ∷ Take S1 5 ∷ Deliver S1
+    ∷ Restart Craft
+    ∷ Send Up (own 7) 2 ∷ Take S1 6 ∷ Deliver S1 ∷ Take S1 5 ∷ Deliver S1 ∷ []
+
+-- none of its events is refused
+pub passes : IsPass usual journal
+unfolding seen spelling checksum octets_in shift_all tc_field tc_verdict command_in tm_field
+    tm_verdict body_of part_verdict first_of_numbers front_load_area front_head request_in
+    body_meaning meaning arrival
+passes = usual_pass journal refl
+
+-- what stands behind the forged report, and what before it
+abbrev behind : List Move
+behind = take 9 (reverse worked)
+
+abbrev before : List Move
+before = drop 10 (reverse worked)
+
+-- its moves are those of the run, but that the message is finished
+finished : moves_of (steps_of usual usual_memories (reverse journal))
+    ≡ behind ++ Do (steps.Finish Up (own 7)) ∷ before
+unfolding seen spelling checksum octets_in shift_all tc_field tc_verdict command_in tm_field
+    tm_verdict body_of part_verdict first_of_numbers front_load_area front_head request_in
+    body_meaning meaning arrival
+finished = ap moves_of (steps_is usual (reverse journal))
+
+-- its log is that of the run
+logged : told usual (recorded usual usual_memories (reverse journal)) ≡ reverse worked_log
+unfolding seen spelling checksum octets_in shift_all tc_field tc_verdict command_in tm_field
+    tm_verdict body_of part_verdict first_of_numbers front_load_area front_head request_in
+    body_meaning meaning arrival
+logged = told_of usual (reverse journal)
+
+-- the load's octets stand in the memory
+loaded : memories usual usual_memories (recorded usual usual_memories (reverse journal))
+    ≡ loaded_memories
+unfolding seen spelling checksum octets_in shift_all tc_field tc_verdict command_in tm_field
+    tm_verdict body_of part_verdict first_of_numbers front_load_area front_head request_in
+    body_meaning meaning arrival
+loaded = ap (memories usual usual_memories) (recorded_is usual (reverse journal))
+
+-- the forged octets read as a report of an abortion
+reads : arrival_in usual Down forged ≡ AnAbort (own 7) Expired
+unfolding seen spelling checksum octets_in shift_all tm_field tm_verdict abort_body abort_verdict
+    arrival
+reads = refl
+
+-- ---- the run
+
+-- the run can be, and comes to the ends of that world
+pub record IsRun : Type 0 where
+  pub can : CanMoveAll usual usual_memories (reverse worked)
+  pub log : (came_to usual usual_memories (reverse worked)).ends.log ≡ reverse worked_log
+  pub left : (came_to usual usual_memories (reverse worked)).ends.memories ≡ loaded_memories
+
+pub runs : IsRun
+runs =
+    let es : List Event = reverse journal in
+    let world = worlds_are_ends usual usual_memories es passes.configured passes.legal in
+    let moves = steps_are_moves usual usual_memories (steps_of usual usual_memories es) world.can in
+    let it =
+    swapped usual usual_memories behind before (own 7) forged Expired reads
+    (subst (λ (ms : List Move). CanMoveAll usual usual_memories ms) finished moves.can) in
+    let same : (came_to usual usual_memories (reverse worked)).ends
+    ≡ (came_to usual usual_memories (moves_of (steps_of usual usual_memories es))).ends =
+    ap (λ (p : Pair). p.ends) it.is
+    ∙ ap (λ (ms : List Move). (came_to usual usual_memories ms).ends) (sym finished) in
+    record {
+      can = it.can;
+      log =
+          ap (λ (e : Ends). e.log) (same ∙ moves.ends) ∙ sym world.are.log ∙ logged;
+      left =
+          ap (λ (e : Ends). e.memories) (same ∙ moves.ends) ∙ sym world.are.memories
+          ∙ world.are.shown.memories ∙ loaded;
+    }

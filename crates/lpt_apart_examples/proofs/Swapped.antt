@@ -1,0 +1,40 @@
+-- A report of an abortion that nobody made does to ground what it does to finish the message.
+use Rattle.std.proofs.Common.{◌≡◌, ap, sym, subst, ℕ, inr, List, [], ◌∷◌, ◌++◌}
+use Rattle.lpt_packet.specs.declared.direction.Direction.TheVariants.{Up, Down}
+use Rattle.lpt_packet.specs.Names.{Name}
+use Rattle.lpt_part.specs.declared.reason.Reason.{Reason}
+use Rattle.lpt_memory.specs.Memories.{Contents}
+use Rattle.lpt_events.specs.Arrivals.{Arrival, AnAbort, arrival_in}
+use Rattle.lpt_events.specs.declared.config.Config.{Config}
+use Rattle.lpt_events.specs.declared.side.Side.TheVariants.{Ground}
+use Rattle.lpt_node.specs.Accepting.{accepted}
+use Rattle.lpt_apart.specs.Moves.{Pair, Move, Do, moved, CanMove, came_to, CanMoveAll}
+use Rattle.lpt_apart.specs.Steps.{Finish, Accept, is_harmless, accepted_on}
+
+-- moves that can be done, and come to two ends
+pub record Come (c : Config) (first : Contents) (xs : List Move) (p : Pair) : Type 0 where
+  pub can : CanMoveAll c first xs
+  pub is : came_to c first xs ≡ p
+
+-- where a message is finished on ground, its abortion may be reported in place of that
+pub swapped : (c : Config) (first : Contents) (behind before : List Move) (name : Name) (b : List ℕ)
+    (why : Reason)
+    → arrival_in c Down b ≡ AnAbort name why
+    → CanMoveAll c first (behind ++ Do (Finish Up name) ∷ before)
+    → Come c first (behind ++ Do (Accept Down b) ∷ before)
+    (came_to c first (behind ++ Do (Finish Up name) ∷ before))
+swapped c first [] before name b why is can =
+    let p : Pair = came_to c first before in
+    record {
+      can = (can.0, inr (ap is_harmless is));
+      is =
+          ap (λ (a : Arrival). record p {
+            ends = accepted_on p.ends Down (accepted Ground c p.ends.on_ground a);
+          }) is;
+    }
+swapped c first (x ∷ behind) before name b why is can =
+    let rest = swapped c first behind before name b why is can.0 in
+    record {
+      can = (rest.can, subst (λ (p : Pair). CanMove c p x) (sym rest.is) can.1);
+      is = ap (λ (p : Pair). moved c p x) rest.is;
+    }

@@ -1,0 +1,20 @@
+//! A run of two ends apart, and what comes of it: a function with an empty body.
+
+ghost use Rattle.std.specs.Prelude.{◌≡◌, reverse};
+ghost use Rattle.lpt_events.specs.Configs.{IsConfig};
+ghost use Rattle.lpt_apart.specs.Moves.{came_to, CanMoveAll};
+ghost use Rattle.lpt_journal_examples.specs.Passes.{usual, usual_memories, loaded_memories};
+ghost use Rattle.lpt_apart_examples.specs.Runs.{worked, worked_log};
+
+/// Ground asks for a load, which is executed; its packet comes again, and is released again. A
+/// message comes up in three parts. One of them is lost and sent again; they are handed over in
+/// another order, one of them twice, and one again once all are there. A forged report of an
+/// abortion closes its sender. Its name is freed at the spacecraft and then on ground, and opened
+/// for a shorter message. The spacecraft is restarted behind its first part, which is handed over
+/// again after that, and the message is released.
+pub fn forged_and_reused_can_be()
+    ensures configured { IsConfig usual }
+    ensures can { CanMoveAll usual usual_memories (reverse worked) }
+    ensures log { (came_to usual usual_memories (reverse worked)).ends.log ≡ reverse worked_log }
+    ensures left { (came_to usual usual_memories (reverse worked)).ends.memories ≡ loaded_memories }
+{}

@@ -1,0 +1,134 @@
+//! The clock, names that are freed, and a restart.
+
+ghost use Rattle.std.specs.Prelude.{◌≡◌};
+ghost use Rattle.lpt_node.specs.Restarts.{may_retire};
+ghost use Rattle.lpt_c_end.specs.Calls.{IfBoth};
+ghost use Rattle.lpt_c_end.specs.Changes.{IsRestarted, IsRetired, IsSame, IsTicked};
+ghost use Rattle.lpt_c_end.specs.Codes.{answer};
+ghost use Rattle.lpt_c_end.specs.Refusals.{refusal_by, restart_refusal, retire_refusal, tick_refusal};
+ghost use Rattle.lpt_c_end.specs.Words.{name_from};
+
+use crate::codes::{DONE, EMPTY, NO_NUMBER, RANGE, STILL_OPEN};
+use crate::end::End;
+use crate::handle::{LptEnd, put, take};
+use crate::words::{LptName, direction_of, name_of};
+use lpt_events::Side;
+use lpt_ledger::State;
+use lpt_packet::{Direction, Name};
+use std::alloc::Global;
+
+/// Sets the clock one tick on.
+///
+/// 0; 106 where the handle is empty; 56 where the clock is at its greatest value: nothing has
+/// changed then.
+pub fn lpt_end_tick(alloc: Global, end: &mut LptEnd) -> u32
+    ensures code { result ≡ answer (refusal_by tick_refusal end.old.held.value) }
+    ensures done { result ≡ 0 → IfBoth IsTicked end.old.held.value end.new.held.value }
+    ensures refused { ¬ (result ≡ 0) → IfBoth IsSame end.old.held.value end.new.held.value }
+{
+    let Some(mut held) = take(alloc, end) else {
+        return EMPTY;
+    };
+    let code = held.tick();
+    put(end, held);
+    code
+}
+
+/// Makes the name of a transaction free at this end, so that it can be used again: up where
+/// `direction` is 0, down where it is 1. A name that is free stays so.
+///
+/// 0; 106 where the handle is empty; 102 where the direction is above 1; 55 where the end sends in
+/// this direction and a message of this name is open, or receives in it and a reception of this name
+/// is: nothing has changed then.
+pub fn lpt_end_retire(alloc: Global, end: &mut LptEnd, direction: u32, name: &LptName) -> u32
+    ensures code { result ≡ answer (refusal_by (retire_refusal direction (name_from name.now)) end.old.held.value) }
+    ensures done { result ≡ 0
+        → IfBoth (IsRetired direction (name_from name.now)) end.old.held.value end.new.held.value }
+    ensures refused { ¬ (result ≡ 0) → IfBoth IsSame end.old.held.value end.new.held.value }
+{
+    let Some(mut held) = take(alloc, end) else {
+        return EMPTY;
+    };
+    let code = held.retire(direction, name_of(name));
+    put(end, held);
+    code
+}
+
+/// Restarts the end: its open messages are closed and let go, its open receptions and its jobs
+/// dropped, and it counts from 0 again. It knows the names and the clock as before. What was released
+/// last, and the packets that are to be sent, stay.
+///
+/// 0; 106 where the handle is empty; 108 where no number is left for a start: nothing has changed
+/// then.
+pub fn lpt_end_restart(alloc: Global, end: &mut LptEnd) -> u32
+    ensures code { result ≡ answer (refusal_by restart_refusal end.old.held.value) }
+    ensures done { result ≡ 0 → IfBoth IsRestarted end.old.held.value end.new.held.value }
+    ensures refused { ¬ (result ≡ 0) → IfBoth IsSame end.old.held.value end.new.held.value }
+{
+    let Some(mut held) = take(alloc, end) else {
+        return EMPTY;
+    };
+    let code = held.restart();
+    put(end, held);
+    code
+}
+
+impl End {
+    // Sets the clock one tick on.
+    fn tick(&mut self) -> u32
+        ensures code { result ≡ answer (tick_refusal self.old) }
+        ensures done { result ≡ 0 → IsTicked self.old self.new }
+        ensures refused { ¬ (result ≡ 0) → IsSame self.old self.new }
+    {
+        match self.node.tick() {
+            Ok(()) => DONE,
+            Err(fault) => u32::from(fault.code()),
+        }
+    }
+
+    // Makes a name free at this end.
+    fn retire(&mut self, direction: u32, name: Name) -> u32
+        ensures code { result ≡ answer (retire_refusal direction name self.old) }
+        ensures done { result ≡ 0 → IsRetired direction name self.old self.new }
+        ensures refused { ¬ (result ≡ 0) → IsSame self.old self.new }
+    {
+        if direction > 1 {
+            return RANGE;
+        }
+        let direction = direction_of(direction);
+        if !self.may_retire(direction, name) {
+            return STILL_OPEN;
+        }
+        self.node.retire(direction, name);
+        DONE
+    }
+
+    // Whether a name may be freed at this end.
+    fn may_retire(&self, direction: Direction, name: Name) -> bool
+        ensures { result ≡ may_retire self.now.side self.now.node.at direction name }
+    {
+        let is_sender = match self.side {
+            Side::Ground => direction == Direction::Up,
+            Side::Craft => direction == Direction::Down,
+        };
+        if is_sender {
+            self.node.sender(name) != State::Open
+        } else {
+            !self.node.is_open_reception(name)
+        }
+    }
+
+    // Restarts the end.
+    #[tactic(auto, using(crate::proofs::ReadyLemmas::ready_restarted))]
+    fn restart(&mut self) -> u32
+        ensures code { result ≡ answer (restart_refusal self.old) }
+        ensures done { result ≡ 0 → IsRestarted self.old self.new }
+        ensures refused { ¬ (result ≡ 0) → IsSame self.old self.new }
+    {
+        if self.node.boot() == u64::MAX {
+            return NO_NUMBER;
+        }
+        self.node.restart();
+        DONE
+    }
+}

@@ -1,0 +1,261 @@
+//! All shapes of a picture, layer by layer.
+
+ghost use Rattle.std.specs.Prelude.{◌≡◌, ◌++◌, OnOk};
+ghost use Rattle.std.specs.List.{flat_map};
+ghost use Rattle.lpt_chart.specs.Bars.{bar_shapes};
+ghost use Rattle.lpt_chart.specs.Charts.{chart_shapes, counts, ends_shapes, foot_shapes, grounds_shapes, hands_shapes, head_shapes, hidden_shapes, lane_shapes, line_shapes, node_shapes, rest_shapes, title_shapes, window, window_shapes};
+ghost use Rattle.lpt_chart.specs.Flights.{flight_shapes, loss_shapes};
+ghost use Rattle.lpt_chart.specs.Rows.{base_shapes, row_shapes};
+
+use crate::bar::add_bar;
+use crate::choice::{Choice, hidden_above, hidden_below};
+use crate::flight::{add_flight, add_held, add_loss};
+use crate::frame::{Frame, foot_y, lane_x, legend_y, rows_high, side_x, top_of, whole_high};
+use crate::legend::add_legend;
+use crate::marks::{Bar, Flight, Loss, Row};
+use crate::picture::Picture;
+use crate::row::{add_base, add_row};
+use crate::shape::{Shape, Words};
+use crate::style::{Letters, Style};
+use crate::title::title_line;
+use lpt_events::{Lane, Side};
+use std::alloc::AllocError;
+
+// A line of the title, where there is one.
+fn add_line(out: &mut Vec<Shape>, title: &[u8], line: u8, y: u64) -> Result<(), AllocError>
+    ensures { OnOk result (out.new.items ≡ out.old.items ++ line_shapes title.now line y) }
+{
+    if title_line(title, line).is_empty() {
+        return Ok(());
+    }
+    out.extend_from_slice(&[Shape::Text(24, y, Letters::Title, Words::Title(line))])
+}
+
+// A title of up to three lines.
+#[tactic(auto, unfolding(crate::specs::Charts::title_shapes))]
+fn add_title(out: &mut Vec<Shape>, title: &[u8]) -> Result<(), AllocError>
+    ensures { OnOk result (out.new.items ≡ out.old.items ++ title_shapes title.now) }
+{
+    add_line(out, title, 0, 38)?;
+    add_line(out, title, 1, 62)?;
+    add_line(out, title, 2, 86)
+}
+
+// How much has happened.
+fn counts(events: u64, picture: &Picture) -> Words
+    ensures { result ≡ counts events picture.now }
+{
+    let packets = picture.sent.len() as u64;
+    let flights = picture.flights.len() as u64;
+    let losses = picture.losses.len() as u64;
+    Words::Counts(events, packets, flights, losses)
+}
+
+// That rows are left out, where some are.
+fn add_hidden(out: &mut Vec<Shape>, y: u64, choice: Choice, rows: &[Row]) -> Result<(), AllocError>
+    ensures { OnOk result (out.new.items ≡ out.old.items ++ hidden_shapes y choice rows.now) }
+{
+    let (above, below) = (
+        hidden_above(choice, rows) as u64,
+        hidden_below(choice, rows) as u64,
+    );
+    if above == 0 && below == 0 {
+        return Ok(());
+    }
+    out.extend_from_slice(&[Shape::Text(24, y, Letters::Grey, Words::Hidden(above, below))])
+}
+
+// What stands above the rows: the title, and how much has happened.
+#[tactic(auto, unfolding(crate::specs::Charts::head_shapes))]
+fn add_head(
+    out: &mut Vec<Shape>,
+    frame: Frame,
+    events: u64,
+    choice: Choice,
+    title: &[u8],
+    picture: &Picture,
+) -> Result<(), AllocError>
+    ensures { OnOk result (out.new.items ≡ out.old.items ++ head_shapes frame events choice title.now picture.now) }
+{
+    let (wide, high) = (u64::from(frame.wide), whole_high(frame));
+    out.extend_from_slice(&[Shape::Box(0, 0, wide, high, 0, Style::Paper)])?;
+    add_title(out, title)?;
+    let y = u64::from(frame.head);
+    let counts = counts(events, picture);
+    out.extend_from_slice(&[Shape::Text(24, y.saturating_sub(30), Letters::Grey, counts)])?;
+    add_hidden(out, y.saturating_sub(12), choice, picture.rows.as_slice())
+}
+
+// A node: its line of life, and its name above and below.
+#[tactic(auto, unfolding(crate::specs::Charts::node_shapes))]
+fn add_node(out: &mut Vec<Shape>, frame: Frame, side: Side) -> Result<(), AllocError>
+    ensures { OnOk result (out.new.items ≡ out.old.items ++ node_shapes frame side) }
+{
+    let (x, head, foot) = (side_x(frame, side), u64::from(frame.head), foot_y(frame));
+    let (left, name) = (x.saturating_sub(48), Words::Node(side));
+    out.extend_from_slice(&[
+        Shape::Line(x, head + 24, x, foot, Style::Life),
+        Shape::Box(left, head, 96, 24, 4, Style::Ink),
+        Shape::Text(x, head + 16, Letters::Node, name),
+        Shape::Box(left, foot, 96, 24, 4, Style::Ink),
+        Shape::Text(x, foot + 16, Letters::Node, name),
+    ])
+}
+
+// A lane: a dotted line, and its name above.
+#[tactic(auto, unfolding(crate::specs::Charts::lane_shapes))]
+fn add_lane(out: &mut Vec<Shape>, frame: Frame, lane: Lane) -> Result<(), AllocError>
+    ensures { OnOk result (out.new.items ≡ out.old.items ++ lane_shapes frame lane) }
+{
+    let (x, top) = (lane_x(frame, lane), u64::from(frame.window));
+    let name = u64::from(frame.head) + 32;
+    out.extend_from_slice(&[
+        Shape::Line(x, top, x, top + rows_high(frame), Style::Lane),
+        Shape::Text(x, name, Letters::Small, Words::Lane(lane)),
+    ])
+}
+
+// The lanes and the nodes.
+#[tactic(auto, unfolding(crate::specs::Charts::ends_shapes))]
+fn add_ends(out: &mut Vec<Shape>, frame: Frame) -> Result<(), AllocError>
+    ensures { OnOk result (out.new.items ≡ out.old.items ++ ends_shapes frame) }
+{
+    add_lane(out, frame, Lane::S1)?;
+    add_lane(out, frame, Lane::S2)?;
+    add_lane(out, frame, Lane::G1)?;
+    add_lane(out, frame, Lane::G2)?;
+    add_node(out, frame, Side::Ground)?;
+    add_node(out, frame, Side::Craft)
+}
+
+// The packets that hands have where the picture ends.
+#[tactic(auto, unfolding(crate::specs::Charts::hands_shapes))]
+fn add_hands(out: &mut Vec<Shape>, frame: Frame, picture: &Picture) -> Result<(), AllocError>
+    ensures { OnOk result (out.new.items ≡ out.old.items ++ hands_shapes frame picture.now) }
+{
+    let (hands, end) = (picture.hands, picture.next);
+    add_held(out, frame, Lane::S1, end, hands.s1)?;
+    add_held(out, frame, Lane::S2, end, hands.s2)?;
+    add_held(out, frame, Lane::G1, end, hands.g1)?;
+    add_held(out, frame, Lane::G2, end, hands.g2)
+}
+
+// The grounds of the rows.
+fn add_bases(out: &mut Vec<Shape>, frame: Frame, rows: &[Row]) -> Result<(), AllocError>
+    ensures { OnOk result (out.new.items ≡ out.old.items ++ flat_map (base_shapes frame) rows.now) }
+{
+    for row in rows {
+        add_base(out, frame, *row)?;
+    }
+    Ok(())
+}
+
+// The pieces of tracks.
+fn add_bars(out: &mut Vec<Shape>, frame: Frame, bars: &[Bar]) -> Result<(), AllocError>
+    ensures { OnOk result (out.new.items ≡ out.old.items ++ flat_map (bar_shapes frame) bars.now) }
+{
+    for bar in bars {
+        add_bar(out, frame, *bar)?;
+    }
+    Ok(())
+}
+
+// The losses.
+fn add_losses(out: &mut Vec<Shape>, frame: Frame, losses: &[Loss]) -> Result<(), AllocError>
+    ensures { OnOk result (out.new.items ≡ out.old.items ++ flat_map (loss_shapes frame) losses.now) }
+{
+    for loss in losses {
+        add_loss(out, frame, *loss)?;
+    }
+    Ok(())
+}
+
+// The deliveries.
+fn add_flights(out: &mut Vec<Shape>, frame: Frame, flights: &[Flight]) -> Result<(), AllocError>
+    ensures { OnOk result (out.new.items ≡ out.old.items ++ flat_map (flight_shapes frame) flights.now) }
+{
+    for flight in flights {
+        add_flight(out, frame, *flight)?;
+    }
+    Ok(())
+}
+
+// The rows.
+fn add_rows(out: &mut Vec<Shape>, frame: Frame, rows: &[Row]) -> Result<(), AllocError>
+    ensures { OnOk result (out.new.items ≡ out.old.items ++ flat_map (row_shapes frame) rows.now) }
+{
+    for row in rows {
+        add_row(out, frame, *row)?;
+    }
+    Ok(())
+}
+
+// The beginning of a part that shows the rows.
+fn window(frame: Frame) -> Shape
+    ensures { result ≡ window frame }
+{
+    let (y, wide) = (u64::from(frame.window), u64::from(frame.wide));
+    Shape::Part(y, wide, rows_high(frame), top_of(frame.top))
+}
+
+// All that is drawn of rows but their grounds: rows over deliveries over losses over tracks.
+#[tactic(auto, unfolding(crate::specs::Charts::window_shapes))]
+fn add_window(out: &mut Vec<Shape>, frame: Frame, picture: &Picture) -> Result<(), AllocError>
+    ensures { OnOk result (out.new.items ≡ out.old.items ++ window_shapes frame picture.now) }
+{
+    add_bars(out, frame, picture.bars.as_slice())?;
+    add_losses(out, frame, picture.losses.as_slice())?;
+    add_hands(out, frame, picture)?;
+    add_flights(out, frame, picture.flights.as_slice())?;
+    add_rows(out, frame, picture.rows.as_slice())
+}
+
+// The grounds of the rows, under all else.
+#[tactic(auto, unfolding(crate::specs::Charts::grounds_shapes))]
+fn add_grounds(out: &mut Vec<Shape>, frame: Frame, picture: &Picture) -> Result<(), AllocError>
+    ensures { OnOk result (out.new.items ≡ out.old.items ++ grounds_shapes frame picture.now) }
+{
+    out.extend_from_slice(&[window(frame)])?;
+    add_bases(out, frame, picture.rows.as_slice())?;
+    out.extend_from_slice(&[Shape::PartEnd])
+}
+
+// The rest of the rows.
+#[tactic(auto, unfolding(crate::specs::Charts::rest_shapes))]
+fn add_rest(out: &mut Vec<Shape>, frame: Frame, picture: &Picture) -> Result<(), AllocError>
+    ensures { OnOk result (out.new.items ≡ out.old.items ++ rest_shapes frame picture.now) }
+{
+    out.extend_from_slice(&[window(frame)])?;
+    add_window(out, frame, picture)?;
+    out.extend_from_slice(&[Shape::PartEnd])
+}
+
+// The legend, below the rows.
+#[tactic(auto, unfolding(crate::specs::Charts::foot_shapes))]
+fn add_foot(out: &mut Vec<Shape>, frame: Frame) -> Result<(), AllocError>
+    ensures { OnOk result (out.new.items ≡ out.old.items ++ foot_shapes frame) }
+{
+    let wide = u64::from(frame.wide);
+    out.extend_from_slice(&[Shape::Part(legend_y(frame), wide, 198, 0)])?;
+    add_legend(out)?;
+    out.extend_from_slice(&[Shape::PartEnd])
+}
+
+/// Adds all shapes of a picture.
+#[tactic(auto, unfolding(crate::specs::Charts::chart_shapes))]
+pub(crate) fn add_chart(
+    out: &mut Vec<Shape>,
+    frame: Frame,
+    events: u64,
+    choice: Choice,
+    title: &[u8],
+    picture: &Picture,
+) -> Result<(), AllocError>
+    ensures { OnOk result (out.new.items ≡ out.old.items ++ chart_shapes frame events choice title.now picture.now) }
+{
+    add_head(out, frame, events, choice, title, picture)?;
+    add_grounds(out, frame, picture)?;
+    add_ends(out, frame)?;
+    add_rest(out, frame, picture)?;
+    add_foot(out, frame)
+}

@@ -1,0 +1,104 @@
+-- What the run of a script leaves to be drawn, and its picture.
+use Rattle.std.specs.Prelude.{◌≡◌, ℕ, ◌+◌, Bool, true, false, List, [], ◌∷◌, ◌++◌, length, take, Option, Some, None, Result, Ok, Err, string_bytes}
+use Rattle.lpt_chart.specs.declared.choice.Choice.{Choice}
+use Rattle.lpt_chart.specs.declared.refusal.Refusal.{Refusal}
+use Rattle.lpt_chart.specs.Charts.{chart_text}
+use Rattle.lpt_text.specs.Reading.{ReadTo}
+use Rattle.lpt_text.specs.declared.fault.ToolFault.{ToolFault}
+use Rattle.lpt_text.specs.declared.fault.ToolFault.TheVariants as tool
+use Rattle.lpt_text.specs.declared.reading.End.{End}
+use Rattle.lpt_text.specs.declared.reading.End.TheVariants.{Whole, Failed, TooLong}
+use Rattle.lpt_script_words.specs.Grammar.{reading_of}
+use Rattle.lpt_script_words.specs.Words.{lines}
+use Rattle.lpt_events.specs.declared.fault.StepFault.{StepFault}
+use Rattle.lpt_world.specs.Worlds.{Shown}
+use Rattle.lpt_script.specs.Scripts.{Ran, line_ran, script_left, script_ran}
+use Rattle.lpt_script.specs.declared.end.ScriptEnd.{ScriptEnd}
+use Rattle.lpt_chart_script.specs.declared.drawing.Drawing.{Drawing}
+use Rattle.lpt_chart_script.specs.Fronts.{front_of}
+use Rattle.lpt_chart_script.specs.Titles.{title_of}
+
+-- what a run leaves to be drawn: the world, the lines that were refused, and the number of an unreadable
+-- line, which ended it
+pub record Run : Type 0 where
+  pub world : Shown
+  pub refused : List Refusal
+  pub bad : Option ℕ
+
+-- that a run left
+abbrev pub left_by : Shown → List Refusal → Option ℕ → Run
+left_by w refused bad = record { world = w; refused = refused; bad = bad }
+
+-- a line of this number that was refused for this reason, after so many entries; 200 octets of it are
+-- told at most
+abbrev pub refusals_at : (place n : ℕ) → List ℕ → Option StepFault → List Refusal
+refusals_at place n line None = []
+refusals_at place n line (Some fault) =
+    record { place = place; line = n; fault = fault; words = take 200 line } ∷ []
+
+-- what a line and the rest leave: the rest isn't run where the line is unreadable
+abbrev pub run_on : Ran → List Refusal → Run → (bad : Option ℕ) → Run
+run_on ran refused rest (Some n) = left_by ran.world refused (Some n)
+run_on ran refused rest None = rest
+
+-- what lines leave, from this world on, the first of which has this number, with so many refused before
+abbrev pub lines_run : List (List ℕ) → Shown → ℕ → List Refusal → Run
+lines_run [] w n refused = left_by w refused None
+lines_run (line ∷ more) w n refused =
+    let ran = line_ran (reading_of w.config.source line) n w in
+    run_on ran refused
+    (lines_run more ran.world (n + 1) (refused ++ refusals_at (length ran.world.journal) n line ran.refused)) ran.bad
+
+-- a line of this number was run: it could be read, and left this world and these refused lines, or not
+abbrev pub LineLeaves : Ran → ℕ → List ℕ → (good : Bool) → Shown → (before after : List Refusal) → Type 0
+LineLeaves ran n line true w before after =
+    (ran.bad ≡ None) × (w ≡ ran.world)
+    × (after ≡ before ++ refusals_at (length ran.world.journal) n line ran.refused)
+LineLeaves ran n line false w before after = (ran.bad ≡ Some n) × (w ≡ ran.world) × (after ≡ before)
+
+-- what a script leaves of a world
+abbrev pub text_run : Shown → List ℕ → Run
+text_run w text = lines_run (lines text) w 1 []
+
+-- What is left of a script here is what a run of it leaves that prints each line in its place: it ends at
+-- the same unreadable line or at none, refuses as many lines, and leaves the same world.
+pub record IsScriptRun (w : Shown) (text : List ℕ) : Type 0 where
+  pub bad : (script_ran false w text).bad ≡ (text_run w text).bad
+  pub refused : (script_ran false w text).refused ≡ length (text_run w text).refused
+  pub world : (text_run w text).bad ≡ None → (script_left false w text).world ≡ (text_run w text).world
+
+-- the refused lines that are drawn: all of them, or none
+abbrev pub drawn_refusals : (all : Bool) → List Refusal → List Refusal
+drawn_refusals true refused = refused
+drawn_refusals false refused = []
+
+-- the picture of what a script left
+abbrev pub run_text : Choice → (all : Bool) → (title : List ℕ) → Run → List ℕ
+run_text c all title run =
+    chart_text run.world.config.source c title run.world.journal (drawn_refusals all run.refused)
+
+-- how a script's run ended whose text was read to this end
+abbrev pub ended : End → ℕ → Result ScriptEnd ToolFault
+ended Whole n = Ok (record { refused = n })
+ended Failed n = Err tool.Read
+ended TooLong n = Err tool.Read
+
+-- the same; an unreadable line ends it before
+abbrev pub run_end : End → (refused : ℕ) → (bad : Option ℕ) → Result ScriptEnd ToolFault
+run_end end refused (Some n) = Err (tool.Line n)
+run_end end refused None = ended end refused
+
+-- the drawing of what these octets leave of a world, which were read to this end
+pub record IsDrawn (w : Shown) (c : Choice) (all : Bool) (end : End) (text : List ℕ) (d : Drawing) : Type 0 where
+  pub picture : string_bytes d.picture ≡ run_text c all (title_of text) (text_run w text)
+  pub ran : d.ran ≡ run_end end (length (text_run w text).refused) (text_run w text).bad
+  pub events : d.events ≡ length (text_run w text).world.journal
+
+-- the drawing of a text of which so much was read
+abbrev pub IsDrawing : Shown → Choice → (all : Bool) → End → List ℕ → Drawing → Type 0
+IsDrawing w c all end text d = IsDrawn w c all end (front_of end text) d
+
+-- a text was read, and it is the drawing of it
+abbrev pub Draws : Shown → Choice → (all : Bool) → Drawing → Option (List ℕ) → Option (List ℕ) → (before after : Bool) → Type 0
+Draws w c all d old new before after =
+    (end : End) × (text : List ℕ) × ReadTo end text old new before after × IsDrawing w c all end text d

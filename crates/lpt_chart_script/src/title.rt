@@ -1,0 +1,226 @@
+//! The title of a script's picture.
+
+ghost use Rattle.std.specs.Prelude.{◌≡◌, ◌++◌, fold, IfOk, OnOk};
+ghost use Rattle.lpt_chart_script.specs.Titles.{heading_after, is_over, is_gap, is_stop, leaves, letters_in, letters_of, no_heading, place_behind, place_in, title_of, title_or};
+ghost use Rattle.lpt_script_words.specs.Words.{is_filled};
+
+use std::alloc::{AllocError, Global};
+use std::marker::Model;
+
+/// Where in a line an octet stands.
+#[derive(Clone, Copy)]
+pub(crate) enum Place {
+    /// Before anything but spaces.
+    Start,
+    /// Behind a comment's mark.
+    Mark,
+    /// Among a comment's words.
+    Comment,
+    /// In a line that is no comment.
+    Other,
+}
+
+/// A title that is being read.
+#[derive(Drop)]
+pub(crate) struct Heading {
+    letters: Vec<u8>,
+    place: Place,
+    stop: bool,
+    over: bool,
+}
+
+impl Model for Heading {
+    ghost use Rattle.lpt_chart_script.specs.Titles.{Heading as Seen};
+
+    ghost Value = { Seen };
+
+    ghost view = { λ h. record { letters = h.letters.items; place = h.place; stop = h.stop; over = h.over } };
+}
+
+impl Heading {
+    // No title yet.
+    fn new(alloc: Global) -> Self
+        ensures { result ≡ no_heading }
+    {
+        Heading {
+            letters: Vec::new(alloc),
+            place: Place::Start,
+            stop: false,
+            over: false,
+        }
+    }
+
+    // Whether the title ends before this octet: behind a full stop, or at a line that is no comment.
+    fn is_over(&self, octet: u8) -> bool
+        ensures { result ≡ is_over self.now octet }
+    {
+        self.over
+            || (!self.letters.is_empty()
+                && ((self.stop && is_gap(octet)) || leaves(self.place, octet)))
+    }
+
+    // Reads an octet.
+    fn read(&mut self, octet: u8) -> Result<(), AllocError>
+        ensures { OnOk result (self.new ≡ heading_after self.old octet) }
+    {
+        if self.is_over(octet) {
+            self.over = true;
+            return Ok(());
+        }
+        let place = place_behind(self.place, octet);
+        let more = !self.letters.is_empty();
+        add_letters(&mut self.letters, self.place, place, more, octet)?;
+        self.stop = is_stop(place, self.stop, octet);
+        self.place = place;
+        Ok(())
+    }
+}
+
+// Where the octet behind this one stands, in the same line.
+fn place_in(place: Place, octet: u8) -> Place
+    ensures { result ≡ place_in place octet }
+{
+    match place {
+        Place::Start => {
+            if octet == b' ' {
+                Place::Start
+            } else if octet == b'#' {
+                Place::Mark
+            } else {
+                Place::Other
+            }
+        }
+        Place::Mark => {
+            if octet == b' ' || octet == b'#' {
+                Place::Mark
+            } else {
+                Place::Comment
+            }
+        }
+        Place::Comment | Place::Other => place,
+    }
+}
+
+// The same. A line feed ends the line.
+fn place_behind(place: Place, octet: u8) -> Place
+    ensures { result ≡ place_behind place octet }
+{
+    if octet == b'\n' {
+        Place::Start
+    } else {
+        place_in(place, octet)
+    }
+}
+
+// Whether a sentence ends at a full stop before this octet.
+fn is_gap(octet: u8) -> bool
+    ensures { result ≡ is_gap octet }
+{
+    octet == b' ' || octet == b'\n' || octet == b'\r'
+}
+
+// Whether a line with this octet at its front is no comment.
+fn leaves(place: Place, octet: u8) -> bool
+    ensures { result ≡ leaves place octet }
+{
+    match place {
+        Place::Start => octet != b' ' && octet != b'#',
+        Place::Mark | Place::Comment | Place::Other => false,
+    }
+}
+
+// Adds an octet of a comment's words.
+fn add_word(letters: &mut Vec<u8>, before: Place, more: bool, octet: u8) -> Result<(), AllocError>
+    ensures { OnOk result (letters.new.items ≡ letters.old.items ++ letters_in before more octet) }
+{
+    match before {
+        Place::Mark => {
+            if octet == b'\r' {
+                Ok(())
+            } else if more {
+                letters.extend_from_slice(&[b' ', octet])
+            } else {
+                letters.extend_from_slice(&[octet])
+            }
+        }
+        Place::Comment => {
+            if octet == b'\r' {
+                Ok(())
+            } else {
+                letters.extend_from_slice(&[octet])
+            }
+        }
+        Place::Start | Place::Other => Ok(()),
+    }
+}
+
+// The same, where the octet is one of them.
+fn add_letters(
+    letters: &mut Vec<u8>,
+    before: Place,
+    behind: Place,
+    more: bool,
+    octet: u8,
+) -> Result<(), AllocError>
+    ensures { OnOk result (letters.new.items ≡ letters.old.items ++ letters_of before behind more octet) }
+{
+    match behind {
+        Place::Comment => add_word(letters, before, more, octet),
+        Place::Start | Place::Mark | Place::Other => Ok(()),
+    }
+}
+
+// Whether an octet is a full stop among a comment's words.
+fn is_stop(place: Place, was: bool, octet: u8) -> bool
+    ensures { result ≡ is_stop place was octet }
+{
+    match place {
+        Place::Comment => { if octet == b'\r' { was } else { octet == b'.' } }
+        Place::Start | Place::Mark | Place::Other => was,
+    }
+}
+
+// A title, or what stands for one.
+fn title_or(letters: Vec<u8>) -> Result<Vec<u8>, AllocError>
+    ensures { IfOk result (λ t. t.items ≡ title_or letters.items) }
+{
+    let mut title = letters;
+    if title.is_empty() {
+        title.extend_from_slice(b"A run")?;
+    }
+    Ok(title)
+}
+
+// Reads the octets of a script.
+fn read_heading(heading: &mut Heading, text: &[u8]) -> Result<(), AllocError>
+    ensures { OnOk result (heading.new ≡ fold heading_after heading.old text.now) }
+{
+    for octet in text {
+        heading.read(*octet)?;
+    }
+    Ok(())
+}
+
+/// The first sentence of a script's first comment: its lines, without marks and joined by a space, up to
+/// the first full stop before a space or a line end. Without a comment it is `A run`. The only error is
+/// out of memory.
+pub fn title_of(alloc: Global, text: &[u8]) -> Result<Vec<u8>, AllocError>
+    ensures { IfOk result (λ t. t.items ≡ title_of text.now) }
+{
+    let mut heading = Heading::new(alloc);
+    match read_heading(&mut heading, text) {
+        Ok(()) => {
+            let Heading {
+                letters,
+                place: _,
+                stop: _,
+                over: _,
+            } = heading;
+            title_or(letters)
+        }
+        Err(error) => {
+            drop(heading);
+            Err(error)
+        }
+    }
+}

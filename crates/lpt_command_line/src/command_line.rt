@@ -1,0 +1,145 @@
+//! What the words of the command line ask for.
+
+use crate::building::program;
+use crate::extract_words::{ExtractWords, extract_words};
+use crate::file_words::{
+    JoinWords, ListWords, SplitWords, check_order, join_words, list_words, split_words,
+};
+use crate::request_words::{RequestWords, request_words};
+use crate::word_fault::WordFault;
+use clap::{ArgMatches, Error};
+use std::alloc::{AllocError, Global};
+
+/// What the words ask for.
+#[derive(Drop)]
+pub struct CommandLine<'a> {
+    /// What is to be done.
+    pub command: Command<'a>,
+    /// The path of the configuration, where one is given.
+    pub config: Option<&'a str>,
+}
+
+/// A command of the program.
+#[derive(Drop)]
+pub enum Command<'a> {
+    /// `run SCRIPT`: the script's path, or `-` for standard input.
+    Run(&'a str),
+    /// `threads SCRIPT`: the script's path, or `-` for standard input.
+    Threads(&'a str),
+    /// `shell`.
+    Shell,
+    /// `lint SCRIPT`: the script's path, or `-` for standard input.
+    Lint(&'a str),
+    /// `chart SCRIPT`.
+    Chart(ChartWords<'a>),
+    /// `decode HEX`: octets as hexadecimal digits.
+    Decode(&'a str),
+    /// `list [FILE]..`.
+    List(ListWords<'a>),
+    /// `split up|down ID [FILE]`.
+    Split(SplitWords<'a>),
+    /// `join up|down [FILE]..`.
+    Join(JoinWords<'a>),
+    /// `extract [FILE]..`.
+    Extract(ExtractWords<'a>),
+    /// `request load|dump|check MEMORY ..`.
+    Request(RequestWords<'a>),
+}
+
+/// What `chart` asks for.
+#[derive(Clone, Copy)]
+pub struct ChartWords<'a> {
+    /// The script's path, or `-` for standard input.
+    pub script: &'a str,
+    /// The first place of the journal that is drawn, where one is given.
+    pub from: Option<u64>,
+    /// The last place of the journal that is drawn, where one is given.
+    pub to: Option<u64>,
+    /// Whether the lines that were refused are drawn.
+    pub refused: bool,
+}
+
+/// Why the words ask for nothing that is to be done.
+#[derive(Drop)]
+pub enum NoCommand<'a> {
+    /// They are a mistake, or ask for the help or the version: what is to be printed.
+    Said(Error),
+    /// What is wrong with them.
+    Fault(WordFault<'a>),
+}
+
+impl From<AllocError> for NoCommand<'_> {
+    fn from(_: AllocError) -> Self {
+        NoCommand::Fault(WordFault::Memory)
+    }
+}
+
+/// Reads the words of the command line, the program's name first.
+///
+/// Errors: why they ask for nothing that is to be done, and out of memory.
+pub fn read_words<'a>(
+    alloc: Global,
+    words: &'a [String],
+) -> Result<CommandLine<'a>, NoCommand<'a>> {
+    match program(alloc)?.try_get_matches_from(words) {
+        Ok(matches) => asked_by(alloc, matches),
+        Err(error) => Err(NoCommand::Said(error)),
+    }
+}
+
+// What the words that were read ask for.
+fn asked_by<'a>(alloc: Global, matches: ArgMatches<'a>) -> Result<CommandLine<'a>, NoCommand<'a>> {
+    let asked = meant(alloc, &matches);
+    drop(matches);
+    match asked {
+        Ok(asked) => Ok(asked),
+        Err(fault) => Err(NoCommand::Fault(fault)),
+    }
+}
+
+fn meant<'a>(alloc: Global, matches: &ArgMatches<'a>) -> Result<CommandLine<'a>, WordFault<'a>> {
+    let (name, inner) = matches.subcommand().ok_or(WordFault::Missing)?;
+    let (config, command) = match inner.subcommand() {
+        None => (inner.get_str("config"), command_of(alloc, name, inner)?),
+        Some((name, inner)) => {
+            let request = request_words(alloc, name, inner)?;
+            (inner.get_str("config"), Some(Command::Request(request)))
+        }
+    };
+    let command = command.ok_or(WordFault::Missing)?;
+    Ok(CommandLine { command, config })
+}
+
+// What the words of a command of this name ask for, where none that is required is missing.
+fn command_of<'a>(
+    alloc: Global,
+    name: &str,
+    words: &ArgMatches<'a>,
+) -> Result<Option<Command<'a>>, WordFault<'a>> {
+    Ok(match name {
+        "run" => words.get_str("SCRIPT").map(Command::Run),
+        "threads" => words.get_str("SCRIPT").map(Command::Threads),
+        "shell" => Some(Command::Shell),
+        "lint" => words.get_str("SCRIPT").map(Command::Lint),
+        "chart" => Some(Command::Chart(chart_words(words)?)),
+        "list" => Some(Command::List(list_words(alloc, words)?)),
+        "split" => Some(Command::Split(split_words(words)?)),
+        "join" => Some(Command::Join(join_words(alloc, words)?)),
+        "extract" => Some(Command::Extract(extract_words(alloc, words)?)),
+        _ => words.get_str("HEX").map(Command::Decode),
+    })
+}
+
+// What the words of `chart` ask for.
+//
+// Errors: `Missing`, `Order`.
+fn chart_words<'a>(words: &ArgMatches<'a>) -> Result<ChartWords<'a>, WordFault<'a>> {
+    let chart = ChartWords {
+        script: words.get_str("SCRIPT").ok_or(WordFault::Missing)?,
+        from: words.get_one("from"),
+        to: words.get_one("to"),
+        refused: words.get_flag("refused"),
+    };
+    check_order(chart.from, chart.to)?;
+    Ok(chart)
+}

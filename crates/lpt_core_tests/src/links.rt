@@ -1,0 +1,176 @@
+//! Runs of a link whose answers are written out by hand.
+
+use lpt_events::Lane;
+use lpt_link::{Link, LinkFault};
+use lpt_packet::{Direction, Name, Octets};
+use std::alloc::Global;
+use std::process::Abort;
+use std::test::Fail;
+
+/// What a link is asked to do, or to tell.
+#[derive(Clone, Copy)]
+enum Call {
+    /// A packet of these octets: its number.
+    Put(Direction, Option<Name>, &'static [u8]),
+    Take(Lane, u64),
+    Lose(u64),
+    /// The number of the packet that was in the hand.
+    DropHand(Lane),
+    /// 1 where it is so.
+    Holds(Direction, Name),
+    /// 1 where it is so.
+    IsHeld(u64),
+    /// The number of the packet in the hand, or that it is empty.
+    Hand(Lane),
+    RefusalDrop(Lane),
+    /// 1 where a packet has these octets, or there is none.
+    IsPacket(u64, Option<&'static [u8]>),
+    /// How many packets there are.
+    Packets,
+    Reserve(u64, Option<(Direction, Name)>),
+}
+
+// Puts a packet of these octets. The answer is its number, or `Memory`.
+fn put(
+    alloc: Global,
+    link: &mut Link,
+    direction: Direction,
+    tag: Option<Name>,
+    octets: &[u8],
+) -> Result<u64, LinkFault> {
+    let Ok(octets) = Vec::from_slice(alloc, octets) else {
+        return Err(LinkFault::Memory);
+    };
+    match link.put(direction, tag, Octets::from_vec(octets)) {
+        Ok(number) => Ok(number),
+        Err(_) => Err(LinkFault::Memory),
+    }
+}
+
+// What a link answers: a number, 0 where there is nothing to tell, or a fault.
+fn answer(alloc: Global, link: &mut Link, call: Call) -> Result<u64, LinkFault> {
+    let done = match call {
+        Call::Put(direction, tag, octets) => return put(alloc, link, direction, tag, octets),
+        Call::DropHand(lane) => return link.drop_hand(lane),
+        Call::Holds(direction, name) => return Ok(u64::from(link.holds(direction, name))),
+        Call::IsHeld(n) => return Ok(u64::from(link.is_held(n))),
+        Call::Hand(lane) => return link.hand(lane).ok_or(LinkFault::HandEmpty),
+        Call::IsPacket(n, octets) => return Ok(u64::from(link.packet(n) == octets)),
+        Call::Packets => return Ok(link.packets()),
+        Call::Take(lane, n) => link.take(lane, n),
+        Call::Lose(n) => link.lose(n),
+        Call::RefusalDrop(lane) => match link.refusal_drop(lane) {
+            Some(fault) => Err(fault),
+            None => Ok(()),
+        },
+        Call::Reserve(room, tag) => match link.reserve(room, tag) {
+            Ok(()) => Ok(()),
+            Err(_) => Err(LinkFault::Memory),
+        },
+    };
+    match done {
+        Ok(()) => Ok(0),
+        Err(fault) => Err(fault),
+    }
+}
+
+const ZERO: Name = Name { source: 1, id: 0 };
+
+const SEVEN: Name = Name { source: 1, id: 7 };
+
+const EIGHT: Name = Name { source: 1, id: 8 };
+
+const NINE: Name = Name { source: 1, id: 9 };
+
+/// The same identifier of another source.
+const OTHER_SEVEN: Name = Name { source: 2, id: 7 };
+
+type Row = (Call, Result<u64, LinkFault>);
+
+// Each call answers what its row says.
+fn check_calls(rt: &impl Abort, alloc: Global, link: &mut Link, rows: &[Row]) {
+    for (at, (call, wanted)) in rows.iter().enumerate() {
+        let answer = answer(alloc, link, *call);
+        assert!(rt; answer == *wanted, "row {at}");
+    }
+}
+
+// The same of an empty link.
+fn check(rt: &impl Abort, alloc: Global, rows: &[Row]) -> Result<(), Fail> {
+    let mut link = Link::new(alloc)?;
+    check_calls(rt, alloc, &mut link, rows);
+    drop(link);
+    Ok(())
+}
+
+/// A packet of transaction 7, taken by both lanes and lost, is held until both hands are empty.
+static HANDS: [Row; 12] = [
+    (Call::Put(Direction::Up, Some(SEVEN), &[1, 2]), Ok(0)),
+    (Call::Take(Lane::S1, 0), Ok(0)),
+    (Call::Take(Lane::S2, 0), Ok(0)),
+    (Call::Lose(0), Ok(0)),
+    (Call::Holds(Direction::Down, SEVEN), Ok(0)),
+    (Call::Holds(Direction::Up, EIGHT), Ok(0)),
+    (Call::Holds(Direction::Up, OTHER_SEVEN), Ok(0)),
+    (Call::Holds(Direction::Up, SEVEN), Ok(1)),
+    (Call::DropHand(Lane::S1), Ok(0)),
+    (Call::Holds(Direction::Up, SEVEN), Ok(1)),
+    (Call::DropHand(Lane::S2), Ok(0)),
+    (Call::Holds(Direction::Up, SEVEN), Ok(0)),
+];
+
+/// Two packets go up, of the transactions 7 and 8, and one down, of the transaction 7.
+static LOSSES: [Row; 27] = [
+    (Call::Put(Direction::Up, Some(SEVEN), &[7]), Ok(0)),
+    (Call::Put(Direction::Up, Some(EIGHT), &[8]), Ok(1)),
+    (Call::Put(Direction::Down, Some(SEVEN), &[7]), Ok(2)),
+    // A lane takes what is held of its direction into an empty hand.
+    (Call::Take(Lane::S1, 2), Err(LinkFault::NotHeld)),
+    (Call::Take(Lane::S1, 3), Err(LinkFault::NotHeld)),
+    (Call::Take(Lane::S1, 1), Ok(0)),
+    (Call::Take(Lane::S1, 1), Err(LinkFault::HandFull)),
+    (Call::Take(Lane::S1, 2), Err(LinkFault::HandFull)),
+    (Call::Take(Lane::G1, 2), Ok(0)),
+    (Call::IsHeld(1), Ok(1)),
+    (Call::Hand(Lane::S1), Ok(1)),
+    (Call::Hand(Lane::S2), Err(LinkFault::HandEmpty)),
+    // A hand lets go once.
+    (Call::Lose(0), Ok(0)),
+    (Call::Take(Lane::S2, 0), Err(LinkFault::NotHeld)),
+    (Call::DropHand(Lane::G1), Ok(2)),
+    (Call::RefusalDrop(Lane::G1), Err(LinkFault::HandEmpty)),
+    (Call::DropHand(Lane::G1), Err(LinkFault::HandEmpty)),
+    // A lost packet's octets stay.
+    (Call::Lose(1), Ok(0)),
+    (Call::Lose(1), Err(LinkFault::NotHeld)),
+    (Call::Lose(3), Err(LinkFault::NotHeld)),
+    (Call::IsHeld(0), Ok(0)),
+    (Call::IsHeld(1), Ok(0)),
+    (Call::IsHeld(2), Ok(1)),
+    (Call::IsHeld(3), Ok(0)),
+    (Call::IsPacket(1, Some(&[8])), Ok(1)),
+    (Call::IsPacket(3, None), Ok(1)),
+    (Call::Packets, Ok(3)),
+];
+
+/// Packets of no transaction and of one are put into reserved room. A place that was made holds
+/// nothing, and is made again where its last packet was lost.
+static ROOM: [Row; 10] = [
+    (Call::Reserve(40, None), Ok(0)),
+    (Call::Put(Direction::Down, None, &[]), Ok(0)),
+    (Call::Holds(Direction::Down, ZERO), Ok(0)),
+    (Call::Reserve(2, Some((Direction::Up, NINE))), Ok(0)),
+    (Call::Holds(Direction::Up, NINE), Ok(0)),
+    (Call::Put(Direction::Up, Some(NINE), &[9]), Ok(1)),
+    (Call::Reserve(0, Some((Direction::Up, NINE))), Ok(0)),
+    (Call::Holds(Direction::Up, NINE), Ok(1)),
+    (Call::Lose(1), Ok(0)),
+    (Call::Put(Direction::Up, Some(NINE), &[9]), Ok(2)),
+];
+
+#[test]
+fn holds_what_is_put_until_it_is_lost_and_out_of_each_hand(rt: HostRuntime) -> Result<(), Fail> {
+    check(&rt, rt.alloc(), &HANDS)?;
+    check(&rt, rt.alloc(), &LOSSES)?;
+    check(&rt, rt.alloc(), &ROOM)
+}

@@ -1,0 +1,267 @@
+//! Worked rows: what comes of parts that are offered under a limit and a time-out.
+
+ghost use Rattle.std.specs.Prelude.{◌≡◌, None, IsSomeAnd};
+
+use lpt_packet::Name;
+use lpt_part::{Kind, Mode, Part, Reason};
+use lpt_reception::{Broken, Whole};
+use lpt_table::{Offer, Table};
+use std::alloc::Global;
+use std::process::Abort;
+use std::test::Fail;
+
+/// The source of all parts.
+const SOURCE: u16 = 1;
+
+const ZEROS: [u8; 4] = [0, 0, 0, 0];
+
+const ONES: [u8; 4] = [1, 1, 1, 1];
+
+/// What came of a part. What came out of the table was settled, or put back.
+#[derive(Clone, Copy, PartialEq, Eq)]
+enum Expected {
+    Kept,
+    Again,
+    Released(usize),
+    BrokenOff(Reason),
+    Gap,
+    PutBack,
+    NoRoom,
+    Memory,
+    NoPart,
+}
+
+/// What is asked of a table, or what it shows.
+#[derive(Clone, Copy)]
+enum Row {
+    /// A part is offered: its identifier, number, kind and octets, the tick, and what is to come of it.
+    Offers(u16, u16, Kind, [u8; 4], u32, Expected),
+    /// Which reception is due at a tick, if one is.
+    Due(u32, Option<u16>),
+    /// A reception is given up, if there is one.
+    Expires(u16, bool),
+    /// How many receptions are open.
+    Open(usize),
+    /// Whether a reception is open.
+    IsOpen(u16, bool),
+    /// All receptions are given up.
+    Clears,
+}
+
+// The name of this identifier of the source.
+fn named(id: u16) -> Name
+    ensures { result ≡ record { source = 1; id = id } }
+{
+    Name { source: SOURCE, id }
+}
+
+// Gives up a reception that came out whole, or puts it back, also where there is no memory.
+fn end(table: &mut Table, name: Name, whole: Whole, puts_back: bool) -> Expected
+    requires out { IsSomeAnd table.old.out (λ o. o.0 ≡ name) }
+    requires id { whole.before.id ≡ name.id }
+    requires p { whole.before.p ≡ table.old.p }
+    ensures p { table.new.p ≡ table.old.p }
+    ensures settled { table.new.out ≡ None }
+{
+    if puts_back {
+        table.put_back(name, whole.back());
+        return Expected::PutBack;
+    }
+    match whole.release() {
+        Ok(message) => {
+            table.settle(name);
+            Expected::Released(message.as_slice().len())
+        }
+        Err(whole) => {
+            table.put_back(name, whole.back());
+            Expected::Memory
+        }
+    }
+}
+
+// Gives up a reception that came out broken, or puts it back.
+fn break_off(table: &mut Table, name: Name, broken: Broken, puts_back: bool) -> Expected
+    requires out { IsSomeAnd table.old.out (λ o. o.0 ≡ name) }
+    requires id { broken.before.id ≡ name.id }
+    requires p { broken.before.p ≡ table.old.p }
+    ensures p { table.new.p ≡ table.old.p }
+    ensures settled { table.new.out ≡ None }
+{
+    if puts_back {
+        table.put_back(name, broken.back());
+        return Expected::PutBack;
+    }
+    table.settle(name);
+    Expected::BrokenOff(broken.abort())
+}
+
+// Offers a part, and settles what comes out, or puts it back.
+fn offer(table: &mut Table, part: &Part<'_>, now: u32, puts_back: bool) -> Expected
+    requires size { part.now.p ≡ table.old.p }
+    requires settled { table.old.out ≡ None }
+    ensures p { table.new.p ≡ table.old.p }
+    ensures settled { table.new.out ≡ None }
+{
+    let name = named(part.id);
+    match table.offer(SOURCE, part, now) {
+        Offer::Kept => Expected::Kept,
+        Offer::Again => Expected::Again,
+        Offer::NoRoom => Expected::NoRoom,
+        Offer::Gap => Expected::Gap,
+        Offer::Memory => Expected::Memory,
+        Offer::Conflict(broken) => break_off(table, name, broken, puts_back),
+        Offer::Whole(whole) => end(table, name, whole, puts_back),
+    }
+}
+
+// Whether a row comes as it says.
+fn comes(table: &mut Table, row: &Row) -> bool
+    requires p { table.old.p ≡ 4 }
+    requires settled { table.old.out ≡ None }
+    ensures p { table.new.p ≡ 4 }
+    ensures settled { table.new.out ≡ None }
+{
+    match row {
+        Row::Offers(id, number, kind, octets, now, want) => {
+            let came = match Part::new(*id, *number, *kind, octets, 4) {
+                Some(part) => offer(table, &part, *now, *want == Expected::PutBack),
+                None => Expected::NoPart,
+            };
+            came == *want
+        }
+        Row::Due(now, want) => table.due(*now) == want.map(named),
+        Row::Expires(id, want) => table.expire(named(*id)) == *want,
+        Row::Open(count) => table.len() == *count,
+        Row::IsOpen(id, want) => table.is_open(named(*id)) == *want,
+        Row::Clears => {
+            table.clear_all();
+            true
+        }
+    }
+}
+
+// Each row comes as it says.
+fn check_rows(rt: &impl Abort, table: &mut Table, rows: &[Row])
+    requires p { table.old.p ≡ 4 }
+    requires settled { table.old.out ≡ None }
+{
+    let mut at = 0u32;
+    for row in rows {
+        let right = comes(table, row);
+        assert!(rt; right, "row {at}");
+        at = at.saturating_add(1);
+    }
+}
+
+// The same of a new table of so many receptions, whose time-out is 10 ticks.
+fn check(rt: &impl Abort, alloc: Global, limit: u32, mode: Mode, rows: &[Row]) -> Result<(), Fail> {
+    assert!(rt; 1 <= limit && limit <= 64);
+    let mut table = Table::new(alloc, limit, 10, 4, mode)?;
+    check_rows(rt, &mut table, rows);
+    drop(table);
+    Ok(())
+}
+
+/// One reception at a time, of which a whole or a broken one makes room.
+static ROOM: [Row; 9] = [
+    Row::Offers(7, 1, Kind::First, ZEROS, 0, Expected::Kept),
+    Row::Offers(8, 1, Kind::First, ZEROS, 0, Expected::NoRoom),
+    Row::Offers(7, 2, Kind::Last, ONES, 0, Expected::Released(8)),
+    Row::Offers(8, 1, Kind::First, ZEROS, 0, Expected::Kept),
+    Row::Offers(
+        8,
+        1,
+        Kind::First,
+        ONES,
+        1,
+        Expected::BrokenOff(Reason::Conflict),
+    ),
+    Row::Offers(9, 1, Kind::First, ZEROS, 2, Expected::Kept),
+    Row::Open(1),
+    Row::IsOpen(9, true),
+    Row::IsOpen(8, false),
+];
+
+/// Where parts are taken in order, a part that is neither kept nor the next one breaks off.
+static IN_ORDER: [Row; 11] = [
+    Row::Offers(7, 2, Kind::Last, ONES, 0, Expected::Gap),
+    Row::Offers(7, 1, Kind::First, ZEROS, 0, Expected::Kept),
+    Row::Offers(8, 2, Kind::Last, ONES, 0, Expected::NoRoom),
+    Row::Offers(7, 2, Kind::Middle, ONES, 1, Expected::Kept),
+    Row::Offers(7, 1, Kind::First, ZEROS, 2, Expected::Again),
+    Row::Offers(
+        7,
+        4,
+        Kind::Last,
+        ONES,
+        3,
+        Expected::BrokenOff(Reason::Discontinuity),
+    ),
+    Row::Offers(8, 1, Kind::First, ZEROS, 4, Expected::Kept),
+    Row::Offers(
+        8,
+        1,
+        Kind::First,
+        ONES,
+        5,
+        Expected::BrokenOff(Reason::Conflict),
+    ),
+    Row::Offers(9, 1, Kind::First, ZEROS, 6, Expected::Kept),
+    Row::Offers(9, 2, Kind::Last, ONES, 7, Expected::Released(8)),
+    Row::Open(0),
+];
+
+/// The oldest overdue reception is due, and of two that are as old the one of the least name. A table
+/// that is cleared has no reception.
+static DUE: [Row; 17] = [
+    Row::Offers(9, 1, Kind::First, ZEROS, 0, Expected::Kept),
+    Row::Offers(3, 1, Kind::First, ZEROS, 0, Expected::Kept),
+    Row::Offers(1, 1, Kind::First, ZEROS, 4, Expected::Kept),
+    Row::Due(9, None),
+    Row::Due(10, Some(3)),
+    Row::Due(14, Some(3)),
+    Row::Expires(3, true),
+    Row::Expires(3, false),
+    Row::Due(9, None),
+    Row::Due(10, Some(9)),
+    Row::Due(14, Some(9)),
+    Row::Expires(9, true),
+    Row::Due(13, None),
+    Row::Due(14, Some(1)),
+    Row::Clears,
+    Row::Open(0),
+    Row::Due(14, None),
+];
+
+/// A part that comes again renews the last tick, and what is put back keeps it.
+static RENEWED: [Row; 8] = [
+    Row::Offers(7, 1, Kind::First, ZEROS, 0, Expected::Kept),
+    Row::Offers(7, 1, Kind::First, ZEROS, 5, Expected::Again),
+    Row::Due(14, None),
+    Row::Due(15, Some(7)),
+    Row::Offers(7, 2, Kind::Last, ONES, 9, Expected::PutBack),
+    Row::Due(14, None),
+    Row::Due(15, Some(7)),
+    Row::Offers(7, 2, Kind::Last, ONES, 9, Expected::Released(8)),
+];
+
+/// A part that comes again puts its reception behind the others.
+static BEHIND: [Row; 8] = [
+    Row::Offers(9, 1, Kind::First, ZEROS, 0, Expected::Kept),
+    Row::Offers(3, 1, Kind::First, ZEROS, 0, Expected::Kept),
+    Row::Offers(3, 1, Kind::First, ZEROS, 2, Expected::Again),
+    Row::Due(10, Some(9)),
+    Row::Due(12, Some(9)),
+    Row::Expires(9, true),
+    Row::Due(11, None),
+    Row::Due(12, Some(3)),
+];
+
+#[test]
+fn parts_are_kept_under_a_limit_and_a_time_out(rt: HostRuntime) -> Result<(), Fail> {
+    check(&rt, rt.alloc(), 1, Mode::Any, &ROOM)?;
+    check(&rt, rt.alloc(), 1, Mode::Strict, &IN_ORDER)?;
+    check(&rt, rt.alloc(), 3, Mode::Any, &DUE)?;
+    check(&rt, rt.alloc(), 1, Mode::Any, &RENEWED)?;
+    check(&rt, rt.alloc(), 2, Mode::Any, &BEHIND)
+}

@@ -1,3 +1,0 @@
-pub mod FrontLemmas
-pub mod RunLemmas
-pub mod SameLemmas

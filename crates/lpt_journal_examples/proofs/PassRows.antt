@@ -1,0 +1,91 @@
+-- The passes of messages: none of their events is refused, and what comes of them.
+use Rattle.std.proofs.Common.{◌≡◌, ap, refl, [], ◌∷◌, map, reverse, Some}
+use Rattle.std.specs.List.{slice_get}
+use Rattle.lpt_packet.specs.declared.direction.Direction.TheVariants.{Up, Down}
+use Rattle.lpt_packet.specs.Checksums.{checksum, octets_in, shift_all}
+use Rattle.lpt_packet.specs.Packets.{seen, spelling}
+use Rattle.lpt_pus.specs.Commands.{tc_field, tc_verdict}
+use Rattle.lpt_pus.specs.Telemetry.{tm_field, tm_verdict}
+use Rattle.lpt_part.specs.Parts.{body_of, part_verdict}
+use Rattle.lpt_part.specs.Aborts.{abort_verdict}
+use Rattle.lpt_events.specs.Arrivals.{arrival}
+use Rattle.lpt_events.specs.declared.outcome.Outcome.TheVariants.{Ignored}
+use Rattle.lpt_events.specs.declared.outcome.Why.TheVariants.{Unreadable}
+use Rattle.lpt_events.specs.declared.reply.Answer.TheVariants.{Delivered}
+use Rattle.lpt_journal.specs.Abortions.{abortions}
+use Rattle.lpt_journal.specs.Releases.{releases}
+use Rattle.lpt_journal_examples.proofs.LegalRows.{usual_pass, impatient_pass}
+use Rattle.lpt_journal_examples.proofs.Listed.{recorded_is}
+use Rattle.lpt_journal_examples.proofs.ListedReleases.{releases_passed}
+use Rattle.lpt_journal_examples.specs.Passes.{IsPass, passed, answers, usual, impatient, m9, m20, out_of_order, both_ways, noisy, two_expire, own, other}
+
+-- ---- three parts that come in another order
+
+pub out_of_order-pass : IsPass usual out_of_order
+unfolding seen spelling checksum octets_in shift_all tc_field tc_verdict body_of part_verdict
+    arrival
+out_of_order-pass = usual_pass out_of_order refl
+
+pub out_of_order-released : releases usual (passed usual out_of_order)
+    ≡ record { place = 9; of = Some (Up, own 7); message = m20 } ∷ []
+unfolding seen spelling checksum octets_in shift_all tc_field tc_verdict body_of part_verdict
+    arrival
+out_of_order-released = releases_passed usual out_of_order
+
+-- ---- one name in both directions
+
+pub both_ways-pass : IsPass usual both_ways
+unfolding seen spelling checksum octets_in shift_all tc_field tc_verdict tm_field tm_verdict body_of
+    part_verdict abort_verdict arrival
+both_ways-pass = usual_pass both_ways refl
+
+pub both_ways-released : releases usual (passed usual both_ways)
+    ≡ record { place = 14; of = Some (Down, own 7); message = m9 }
+    ∷ record { place = 16; of = Some (Up, own 7); message = m20 } ∷ []
+unfolding seen spelling checksum octets_in shift_all tc_field tc_verdict tm_field tm_verdict body_of
+    part_verdict abort_verdict arrival
+both_ways-released = releases_passed usual both_ways
+
+-- ---- what the link's noise leaves
+
+pub noisy-pass : IsPass usual noisy
+unfolding seen spelling checksum octets_in shift_all tc_field tc_verdict tm_field tm_verdict body_of
+    part_verdict abort_verdict arrival
+noisy-pass = usual_pass noisy refl
+
+pub noisy-up : slice_get (answers usual noisy) 6 ≡ Some (Delivered (Ignored Unreadable))
+unfolding seen spelling checksum octets_in shift_all tc_field tc_verdict tm_field tm_verdict body_of
+    part_verdict abort_verdict arrival
+noisy-up =
+    ap (λ h. slice_get (reverse (map (λ x. x.reply.answer) h)) 6) (recorded_is usual (reverse noisy))
+
+pub noisy-down : slice_get (answers usual noisy) 10 ≡ Some (Delivered (Ignored Unreadable))
+unfolding seen spelling checksum octets_in shift_all tc_field tc_verdict tm_field tm_verdict body_of
+    part_verdict abort_verdict arrival
+noisy-down =
+    ap (λ h. slice_get (reverse (map (λ x. x.reply.answer) h)) 10) (recorded_is usual (reverse noisy))
+
+pub noisy-released : releases usual (passed usual noisy)
+    ≡ record { place = 12; of = Some (Up, own 7); message = m9 } ∷ []
+unfolding seen spelling checksum octets_in shift_all tc_field tc_verdict tm_field tm_verdict body_of
+    part_verdict abort_verdict arrival
+noisy-released = releases_passed usual noisy
+
+-- ---- two receptions that expire
+
+pub two_expire-pass : IsPass impatient two_expire
+unfolding seen spelling checksum octets_in shift_all tc_field tc_verdict body_of part_verdict
+    arrival
+two_expire-pass = impatient_pass two_expire refl
+
+pub two_expire-expired : abortions (passed impatient two_expire)
+    ≡ record { place = 9; direction = Up; name = own 9 }
+    ∷ record { place = 10; direction = Up; name = other 3 } ∷ []
+unfolding seen spelling checksum octets_in shift_all tc_field tc_verdict body_of part_verdict
+    arrival
+two_expire-expired = ap abortions (recorded_is impatient (reverse two_expire))
+
+pub two_expire-released : releases impatient (passed impatient two_expire) ≡ []
+unfolding seen spelling checksum octets_in shift_all tc_field tc_verdict body_of part_verdict
+    arrival
+two_expire-released = releases_passed impatient two_expire

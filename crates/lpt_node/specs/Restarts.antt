@@ -1,0 +1,47 @@
+-- What an end does when a transaction is retired, and when it is restarted.
+use Rattle.std.specs.Prelude.{◌+◌, Bool, not, if◌then◌else◌, is_some}
+use Rattle.std.specs.FinMap as map
+use Rattle.lpt_packet.specs.declared.direction.Direction.{Direction}
+use Rattle.lpt_packet.specs.Names.{Name}
+use Rattle.lpt_jobs.specs.Jobs.{no_jobs}
+use Rattle.lpt_ledger.specs.Marks.{all_closed}
+use Rattle.lpt_ledger.specs.States.{state_at}
+use Rattle.lpt_events.specs.Lanes.{same_direction}
+use Rattle.lpt_events.specs.declared.side.Side.{Side}
+use Rattle.lpt_node.specs.Counting.{no_types}
+use Rattle.lpt_node.specs.Nodes.{NodeData, direction_from, is_open}
+
+-- ---- retirement
+
+-- whether an end may free a name: in the direction in which it sends its sender isn't open, in the
+-- other it has no open reception
+abbrev pub may_retire : Side → NodeData → Direction → Name → Bool
+may_retire side d way name =
+    if same_direction way (direction_from side) then not (is_open (state_at d.sending.ledger name))
+    else not (is_some (map.get d.receiving.entries name))
+
+-- an end has freed a name: in the direction in which it sends its sender's, in the other its
+-- receiver's
+abbrev pub retired : Side → NodeData → Direction → Name → NodeData
+retired side d way name =
+    if same_direction way (direction_from side) then
+    record d { sending = record d.sending { ledger = map.remove d.sending.ledger name } }
+    else record d { receiving = record d.receiving { ledger = map.remove d.receiving.ledger name } }
+
+-- ---- a restart
+
+-- an end was restarted: it has closed its open senders and dropped its open receptions and its
+-- jobs, and counts from 0 again; it knows the names and the clock as before
+abbrev pub restarted : NodeData → NodeData
+restarted d = record {
+  sending = record {
+    ledger = all_closed d.sending.ledger;
+    messages = map.empty;
+    count = 0;
+    types = no_types;
+  };
+  receiving = record d.receiving { entries = map.empty };
+  clock = d.clock;
+  boot = d.boot + 1;
+  jobs = no_jobs;
+}

@@ -1,8 +1,0 @@
-use Rattle.std.proofs.Common.{◌≡◌, ◌*◌, ◌++◌, take, drop}
-use Rattle.hex.specs.Hex.{encode_lower}
-use Rattle.lpt_print.proofs.words.write_digits.Given as goal
-
--- the digits so far, and those of the octets that are left
-abbrev pub invariant-octets : goal.invariant-octets
-invariant-octets l =
-    take (2 * l.i) l.digits ++ encode_lower (drop l.i l.octets) ≡ encode_lower l.octets

@@ -1,0 +1,21 @@
+//! The audit of a run of threads: whether the seats' logs agree with the journal, and whether
+//! nothing is left to do: each held packet taken, each job executed, each clock at its ticks, each
+//! transaction sent and finished.
+//!
+//! The main types are `SeatLog`, a seat's calls, and `Owed`, a transaction that was open. The first
+//! calls are `agrees`, `open_transactions` and `is_settled`.
+#![tactic(auto)]
+
+mod agree;
+mod finish;
+mod kinds;
+mod owed;
+mod same;
+mod settled;
+
+pub use agree::agrees;
+pub use kinds::are_of_seats;
+pub use lpt_events::{Entry, SeatLog, Side};
+pub use lpt_world::World;
+pub use owed::{Owed, open_transactions};
+pub use settled::{are_in_order, are_short, is_settled};

@@ -1,6 +1,0 @@
--- The pass is computed.
-use Rattle.lpt_worked.proofs.JobRows.{executed_load-pass, executed_load-left, executed_load-reported}
-use Rattle.lpt_worked.proofs.laws.executed_load_is_legal.Goals as goal
-
-pub returns : goal.returns
-returns c = record { pass = executed_load-pass; left = executed_load-left; reported = executed_load-reported }

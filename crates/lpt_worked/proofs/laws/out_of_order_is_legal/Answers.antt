@@ -1,6 +1,0 @@
--- The pass is computed.
-use Rattle.lpt_worked.proofs.PassRows.{out_of_order-pass, out_of_order-released}
-use Rattle.lpt_worked.proofs.laws.out_of_order_is_legal.Goals as goal
-
-pub returns : goal.returns
-returns c = record { pass = out_of_order-pass; released = out_of_order-released }
