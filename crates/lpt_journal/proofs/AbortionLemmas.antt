@@ -32,9 +32,10 @@ use Rattle.lpt_journal.proofs.AbortionOwed.{transaction, as_release, IsAbortionO
 abbrev IsPastAbortion : History → Abortion → Type 0
 IsPastAbortion h e = (m : List ℕ) × IsPast h (as_release e m) (transaction e)
 
--- each abortion is past, its transaction is closed until opened again, and its opening isn't released
-record AreAborted (c : Config) (h : History) : Type 0 where
-  each : (j : ℕ) (e : Abortion) → slice_get (abortions h) j ≡ Some e → IsPastAbortion h e
+-- each abortion is past, its transaction is closed until opened again, and its opening isn't
+-- released
+pub record AreAborted (c : Config) (h : History) : Type 0 where
+  pub each : (j : ℕ) (e : Abortion) → slice_get (abortions h) j ≡ Some e → IsPastAbortion h e
   closed : (j : ℕ) (e : Abortion) (o u : Opening)
       → slice_get (abortions h) j ≡ Some e
       → opening_of_abortion h e ≡ Some o
@@ -152,7 +153,8 @@ aborted_start c = record {
   unreleased = λ j k e r o u f g is_o is_u same. no_place j e f;
 }
 
-every_aborted : (c : Config) (first : Contents) (es : List Event)
+-- so it is in every legal journal
+pub every_aborted : (c : Config) (first : Contents) (es : List Event)
     → IsConfig c
     → Legal c first es
     → AreAborted c (recorded c first es) × NothingIsKept c (recorded c first es)

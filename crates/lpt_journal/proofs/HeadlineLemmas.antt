@@ -44,6 +44,7 @@ use Rattle.lpt_journal.proofs.DamageEvents.{damage_owes}
 use Rattle.lpt_journal.proofs.PlainEvents.{plain_owes}
 use Rattle.lpt_journal.proofs.WorkEvents.{apply_owes}
 use Rattle.lpt_journal.proofs.UpOctets.{AreUpOctets, up_octets_start, up_octets_step}
+use Rattle.lpt_journal.proofs.AskedLemmas.{AreAsked, asked_start, asked_step, each_of_ground}
 use Rattle.lpt_journal.proofs.AnswerLengths.{answer_fits, source_fits}
 use Rattle.lpt_journal.proofs.TimeEvents.{tick_owes, expire_owes}
 use Rattle.lpt_journal.proofs.Deliveries.{delivery_sound, deliver_owes}
@@ -80,7 +81,8 @@ pub owes : (c : Config) (first : Contents) (h : History) (e : Event)
     → Owes c h (entry c first h e)
 owes c first h (Open d name m) good sound up can =
     open_owes c first h d name m sound can.in_range.0 can.accepted
-owes c first h (Send d name k) good sound up can = send_owes c first h d name k good sound can.in_range.0 can.accepted
+owes c first h (Send d name k) good sound up can =
+    send_owes c first h d name k good sound can.in_range.0 can.accepted
 owes c first h (Plain source flags service subtype body) good sound up can =
     plain_owes c first h source flags service subtype body good sound can.in_range can.accepted
 owes c first h (Damage d b) good sound up can = damage_owes c first h d b sound can.accepted
@@ -138,13 +140,15 @@ past_start c = record {
   once = λ j k r s o u e f is_o is_u same. absurd (no_place j r e);
 }
 
--- the history of every legal journal is sound, and so are its releases; what goes up is octets
+-- the history of every legal journal is sound, and so are its releases; what goes up is octets, and
+-- each request on its way is ground's
 pub every : (c : Config) (first : Contents) (es : List Event)
     → IsConfig c
     → Legal c first es
     → IsSound c (recorded c first es) × ArePast c (recorded c first es)
-    × AreUpOctets c (recorded c first es)
-every c first [] good legal = (sound_start c good, past_start c, up_octets_start c)
+    × AreUpOctets c (recorded c first es) × AreAsked c (recorded c first es)
+every c first [] good legal =
+    (sound_start c good, past_start c, up_octets_start c, asked_start c)
 every c first (e ∷ es) good legal =
     let h = recorded c first es in
     let had = every c first es good legal.0 in
@@ -153,6 +157,7 @@ every c first (e ∷ es) good legal =
       sound_step c h (entry c first h e) pays had.0,
       past_step c first h (entry c first h e) pays had.0 frees had.1,
       up_octets_step c first h e had.0 legal.1 frees (full c h e legal.1.accepted) had.2,
+      asked_step c first h e had.0 pays frees (full c h e legal.1.accepted) had.3,
     )
 
 -- ---- the main theorem
@@ -242,11 +247,15 @@ pub headline : Headline
 headline c first es good legal =
     let h = recorded c first es in
     let all = every c first es good legal in
+    let last = each_last c h all.1 in
+    let memories = memories_follow c first h in
     record {
       parts = parts_current c h all.0;
-      messages = each_last c h all.1;
+      messages = last;
       once = all.1.once;
+      asked = all.3.released;
+      of_ground = each_of_ground c h last all.3.released memories.released;
       deliveries = deliveries c h all.0;
       delivered = each_delivered c first es good legal;
-      memories = memories_follow c first h;
+      memories = memories;
     }

@@ -1,8 +1,10 @@
 pub mod AbortionLemmas
 pub mod AbortionOwed
 pub mod AnswerLengths
+pub mod AskedLemmas
 pub mod BootLemmas
 pub mod CalmEvents
+pub mod CameLemmas
 pub mod ClaimLemmas
 pub mod ClosedLemmas
 pub mod CommitLemmas
@@ -11,6 +13,7 @@ pub mod DamageEvents
 pub mod DeliveredReleases
 pub mod Deliveries
 pub mod DueLemmas
+pub mod EndedLemmas
 pub mod Events
 pub mod HeadlineLemmas
 pub mod JobLemmas
@@ -36,3 +39,4 @@ pub mod TimeEvents
 pub mod UpOctets
 pub mod WorkEvents
 pub mod WorkLemmas
+pub mod WholeLemmas

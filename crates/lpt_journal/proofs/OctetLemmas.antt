@@ -4,7 +4,7 @@ use Rattle.std.specs.Option.{option_map_or}
 use Rattle.std.specs.Result.{result_ok}
 use Rattle.lpt_packet.specs.declared.direction.Direction.TheVariants.{Up, Down}
 use Rattle.lpt_packet.specs.Checksums.{checksum}
-use Rattle.lpt_packet.specs.Names.{Name, named_by}
+use Rattle.lpt_packet.specs.Names.{named_by}
 use Rattle.lpt_packet.specs.Numbers.{be, IsOctets}
 use Rattle.lpt_packet.specs.Packets.{Fields, Sight, IdlePacket, APacket, packet_type, header, spelling, seen}
 use Rattle.lpt_packet.proofs.OctetLists.{IsOctets-take, IsOctets-drop}
@@ -110,7 +110,8 @@ part_is_none p source body kind r = go (part_in p kind body) where
 
 abort_is_none : (source : ℕ) (body r : List ℕ) → abort_arrival source body ≡ ARequest r → ⊥
 abort_is_none source body r = go (abort_in body) where
-  go : (o : Option (ℕ × Reason)) → option_map_or (λ a. AnAbort (named_by source a.0) a.1) o NoPart ≡ ARequest r → ⊥
+  go : (o : Option (ℕ × Reason)) → option_map_or (λ a. AnAbort (named_by source a.0) a.1) o NoPart
+      ≡ ARequest r → ⊥
   go None e = cc
   go (Some a) e = cc
 
@@ -134,7 +135,8 @@ command_is : (p : ℕ) (b : List ℕ) (c : Command) (r : List ℕ)
     → command_arrival p b c ≡ ARequest r
     → b ≡ r
 command_is p b c r = go (carried_kind Up c.service c.subtype) where
-  go : (o : Option Kind) → option_map_or (part_arrival p c.source c.body) o (ARequest b) ≡ ARequest r → b ≡ r
+  go : (o : Option Kind) → option_map_or (part_arrival p c.source c.body) o (ARequest b)
+      ≡ ARequest r → b ≡ r
   go None e = cc
   go (Some kind) e = absurd (part_is_none p c.source c.body kind r e)
 

@@ -1,15 +1,13 @@
 -- An abortion report that the spacecraft puts is read, and is no part, whatever event puts it.
-use Rattle.std.proofs.Common.{◌≡◌, ◌∙◌, ap, sym, subst, ℕ, Bool, false, Some, None, arith, ◌<◌}
+use Rattle.std.proofs.Common.{◌≡◌, ◌∙◌, ap, sym, subst, ℕ, false, Some, None, arith, ◌<◌}
 use Rattle.std.specs.List.{slice_get}
 use Rattle.lpt_packet.specs.declared.direction.Direction.TheVariants.{Down}
 use Rattle.lpt_packet.specs.Names.{Name}
-use Rattle.lpt_part.specs.Parts.{Piece}
 use Rattle.lpt_part.specs.declared.reason.Reason.{Reason}
 use Rattle.lpt_events.specs.declared.config.Config.{Config}
 use Rattle.lpt_events.specs.declared.event.Event.{Event}
 use Rattle.lpt_events.specs.declared.side.Side.TheVariants.{Craft}
 use Rattle.lpt_events.specs.Arrivals.{APart, AnAbort, part_name}
-use Rattle.lpt_journal.specs.Hands.{arrival_of}
 use Rattle.lpt_journal.specs.Journal.{History, SentPacket}
 use Rattle.lpt_journal.specs.Link.{tag_put, damages}
 use Rattle.lpt_journal.specs.Receivers.{clock}

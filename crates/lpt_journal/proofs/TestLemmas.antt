@@ -1,8 +1,8 @@
 -- What tests tell, and what lists have at a place.
-use Rattle.std.proofs.Common.{◌≡◌, ◌∙◌, ap, sym, refl, ℕ, zero, suc, ◌+◌, ◌<◌, ◌≤◌, nat_le, ◌==◌, Bool, true, false, cond, if◌then◌else◌, ◌⊎◌, inl, inr, List, [], ◌∷◌, ◌++◌, length, map, Option, Some, None, arith, zero-add}
+use Rattle.std.proofs.Common.{◌≡◌, ◌∙◌, ap, sym, refl, ℕ, zero, suc, ◌+◌, ◌<◌, ◌≤◌, nat_le, ◌==◌, Bool, true, false, ◌||◌, cond, if◌then◌else◌, ◌⊎◌, inl, inr, List, [], ◌∷◌, ◌++◌, length, map, Option, Some, None, arith, zero-add}
 use Rattle.std.proofs.lemmas.Bool.Decides.{nat_tests}
 use Rattle.std.proofs.lemmas.List.{map-append}
-use Rattle.std.specs.List.{slice_get, find, filter}
+use Rattle.std.specs.List.{slice_get, find, filter, Contains}
 use Rattle.lpt_events.specs.declared.fault.StepFault.{StepFault}
 use Rattle.lpt_journal.specs.Journal.{with_all}
 use Rattle.lpt_journal.specs.Refusals.{first_fault}
@@ -16,6 +16,11 @@ le_false a b h = grind (arith, nat_tests)
 -- a number that isn't 0
 pub not_zero : (n : ℕ) → (n == 0) ≡ false → 1 ≤ n
 not_zero n h = grind (arith, nat_tests)
+
+-- one of two tests holds where either does
+pub either : (a b : Bool) → (a || b) ≡ true → (a ≡ true) ⊎ (b ≡ true)
+either true b e = inl refl
+either false b e = inr e
 
 -- ---- refusals
 
@@ -53,6 +58,10 @@ four_pass false false false false f g i j h = (refl, refl, refl, refl)
 
 -- ---- lists
 
+-- an empty list has nothing
+pub no_place : {A : Type 0} (k : ℕ) (y : A) → slice_get [] k ≡ Some y → ⊥
+no_place k y h = cc
+
 -- what is found passes the test
 pub find_passes : {A : Type 0} (test : A → Bool) (xs : List A) (y : A)
     → find test xs ≡ Some y
@@ -74,6 +83,18 @@ get-with_all {A = A} xs (z ∷ ys) n y h = go xs n h where
   go [] n h = absurd cc
   go (x ∷ xs) zero h = h
   go (x ∷ xs) (suc n) h = go xs n h
+
+-- a new element stands behind the old ones
+pub get-behind : {A : Type 0} (xs ys : List A) (k : ℕ) (y : A)
+    → slice_get ys k ≡ Some y
+    → slice_get (with_all xs ys) (length xs + k) ≡ Some y
+get-behind xs [] k y h = absurd (no_place k y h)
+get-behind {A = A} xs (z ∷ ys) k y h = go xs where
+  go : (xs : List A) → slice_get (xs ++ z ∷ ys) (length xs + k) ≡ Some y
+  go [] = ap (slice_get (z ∷ ys)) (zero-add k) ∙ h
+  go (x ∷ xs) =
+      let more : suc (length xs) + k ≡ suc (length xs + k) = omega arith in
+      ap (slice_get (x ∷ xs ++ z ∷ ys)) more ∙ go xs
 
 -- a function of each element of the longer list
 pub map-with_all : {A B : Type 0} (f : A → B) (xs ys : List A)
@@ -105,9 +126,14 @@ with_all_cases {A = A} xs (z ∷ ys) n y h = go xs n h where
   go (x ∷ xs) zero h = inl h
   go (x ∷ xs) (suc n) h = one_more x xs (z ∷ ys) n y (go xs n h)
 
--- an empty list has nothing
-pub no_place : {A : Type 0} (k : ℕ) (y : A) → slice_get [] k ≡ Some y → ⊥
-no_place k y h = cc
+-- what a list contains stands at a place
+pub place_in : {A : Type 0} (xs : List A) (y : A)
+    → Contains xs y
+    → (k : ℕ) × (slice_get xs k ≡ Some y)
+place_in [] y (k, within, is) = absurd (omega arith)
+place_in (x ∷ xs) y (zero, within, is) = (0, ap Some is)
+place_in (x ∷ xs) y (suc k, within, is) =
+    let rest = place_in xs y (k, (omega arith), is) in (suc rest.0, rest.1)
 
 -- an element that passes a test is one of the list
 pub passed : {A : Type 0} (p : A → Bool) (xs : List A) (k : ℕ) (y : A)

@@ -1,16 +1,13 @@
 -- What ticks and expiry owe, and that they pay it.
-use Rattle.std.proofs.Common.{◌≡◌, ◌∙◌, ap, sym, subst, refl, ℕ, ◌+◌, ◌^◌, ◌<◌, ◌==◌, Bool, true, false, ◌&&◌, inl, ◌∷◌, Option, Some, None, if◌then◌else◌, arith}
+use Rattle.std.proofs.Common.{◌≡◌, ◌∙◌, ap, sym, refl, ℕ, ◌+◌, ◌^◌, ◌<◌, ◌==◌, Bool, true, false, ◌&&◌, inl, ◌∷◌, Option, Some, None, if◌then◌else◌, arith}
 use Rattle.std.specs.List.{slice_get}
 use Rattle.std.proofs.lemmas.Bool.Decides.{nat_tests}
 use Rattle.lpt_packet.specs.declared.direction.Direction.{Direction}
-use Rattle.lpt_packet.specs.declared.direction.Direction.TheVariants.{Down}
 use Rattle.lpt_packet.specs.Names.{Name, IsName}
-use Rattle.lpt_part.specs.declared.reason.Reason.{Reason}
 use Rattle.lpt_part.specs.declared.reason.Reason.TheVariants.{Expired as TimedOut}
 use Rattle.lpt_events.specs.declared.config.Config.{Config}
 use Rattle.lpt_events.specs.declared.side.Side.{Side}
 use Rattle.lpt_events.specs.declared.side.Side.TheVariants.{Ground, Craft}
-use Rattle.lpt_events.specs.Arrivals.{APart, AnAbort, part_name}
 use Rattle.lpt_events.specs.declared.event.Event.TheVariants.{Tick, Expire}
 use Rattle.lpt_events.specs.declared.fault.StepFault.TheVariants.{ClockEnd}
 use Rattle.lpt_journal.specs.Due.{due}
@@ -18,16 +15,14 @@ use Rattle.lpt_events.specs.Sides.{same_side, receiver_side, direction_to}
 use Rattle.lpt_journal.specs.Journal.{History, SentPacket}
 use Rattle.lpt_journal.specs.Receivers.{ends, clock}
 use Rattle.lpt_events.specs.Configs.{IsConfig}
-use Rattle.lpt_journal.specs.Replies.{abort_puts, expiry_puts, entry}
+use Rattle.lpt_journal.specs.Replies.{expiry_puts, entry}
 use Rattle.lpt_journal.specs.Refusals.{refusal}
-use Rattle.lpt_journal.specs.Senders.{count, type_counter}
 use Rattle.lpt_journal.proofs.ClosedLemmas.{open_opening}
 use Rattle.lpt_journal.proofs.DueLemmas.{due_open}
-use Rattle.lpt_journal.proofs.Events.{only_element}
 use Rattle.lpt_journal.proofs.ReportEvents.{report_put}
 use Rattle.lpt_journal.proofs.TestLemmas.{one_passes, no_place}
 use Rattle.lpt_memory.specs.Memories.{Contents}
-use Rattle.lpt_journal.proofs.Steps.{IsRead, IsPut, IsSound, Owes, kept_or_none}
+use Rattle.lpt_journal.proofs.Steps.{IsPut, IsSound, Owes, kept_or_none}
 
 -- ---- ticks
 
@@ -78,7 +73,8 @@ puts_report : (c : Config) (h g : History) (side : Side) (o : Option Name) (k : 
 puts_report c h g side None k p good sound named f = absurd (no_place k p f)
 puts_report c h g Ground (Some name) k p good sound named f = absurd (no_place k p f)
 puts_report c h g Craft (Some name) k p good sound named f =
-    report_put c h g (Expire Craft) name TimedOut k p good sound (named name refl).source_fits refl refl f
+    report_put c h g (Expire Craft) name TimedOut k p good sound
+    (named name refl).source_fits refl refl f
 
 -- what is due is a name
 due_named : (c : Config) (h : History) (d : Direction) (name : Name)

@@ -116,6 +116,36 @@ reports_down (b ∷ bs) zero p f up =
     let down : Down ≡ p.direction = ap (λ (x : SentPacket). x.direction) same in cc
 reports_down (b ∷ bs) (suc n) p f up = reports_down bs n p f up
 
+-- whether an event can put what goes up
+abbrev pub asks_up : Event → Bool
+asks_up (Send d name k) = true
+asks_up (Plain source flags service subtype body) = true
+asks_up (Damage d b) = true
+asks_up _ = false
+
+-- what goes up was put by a sending, a plain request or the link's noise
+pub put_up : (c : Config) (first : Contents) (h : History) (e : Event) (n : ℕ) (p : SentPacket)
+    → slice_get (puts c first h e) n ≡ Some p
+    → p.direction ≡ Up
+    → asks_up e ≡ true
+put_up c first h (Send d name k) n p f up = refl
+put_up c first h (Plain source flags service subtype body) n p f up = refl
+put_up c first h (Damage d b) n p f up = refl
+put_up c first h (Deliver l) n p f up = absurd (go (outcome c h l) f) where
+  go : (o : Outcome)
+      → slice_get (outcome_puts c h (receiver_side (lane_direction l)) o) n ≡ Some p
+      → ⊥
+  go (Broken name reason) k =
+      aborts_down c h (receiver_side (lane_direction l)) name reason n p k up
+  go o k = no_place n p k
+put_up c first h (Expire side) n p f up = absurd (go (due c h (direction_to side)) f) where
+  go : (o : Option Name) → slice_get (expiry_puts c h side o) n ≡ Some p → ⊥
+  go None k = no_place n p k
+  go (Some name) k = aborts_down c h side name _ n p k up
+put_up c first h Apply n p f up =
+    absurd (reports_down (link_packets c.part_size (front_packets c first h)) n p f up)
+put_up c first h e n p f up = absurd (no_place n p f)
+
 put_octets : (c : Config) (first : Contents) (h : History) (e : Event)
     → IsEnabled c h e
     → AreUpOctets c h
@@ -131,26 +161,12 @@ put_octets c first h (Plain source flags service subtype body) can had n p f up 
     (made_octets c source (count h Up) flags service subtype body fits.1 fits.2 fits.3 fits.4)
 put_octets c first h (Damage d b) can had n p f up =
     subst (λ (x : SentPacket). IsOctets x.octets) (only_element _ n p f) can.in_range
-put_octets c first h (Deliver l) can had n p f up = absurd (go (outcome c h l) f) where
-  go : (o : Outcome)
-      → slice_get (outcome_puts c h (receiver_side (lane_direction l)) o) n ≡ Some p
-      → ⊥
-  go (Broken name reason) k =
-      aborts_down c h (receiver_side (lane_direction l)) name reason n p k up
-  go o k = no_place n p k
-put_octets c first h (Expire side) can had n p f up =
-    absurd (go (due c h (direction_to side)) f)
-  where
-    go : (o : Option Name) → slice_get (expiry_puts c h side o) n ≡ Some p → ⊥
-    go None k = no_place n p k
-    go (Some name) k = aborts_down c h side name _ n p k up
-put_octets c first h Apply can had n p f up =
-    absurd (reports_down (link_packets c.part_size (front_packets c first h)) n p f up)
-put_octets c first h e can had n p f up = absurd (no_place n p f)
+put_octets c first h e can had n p f up = absurd (let t = put_up c first h e n p f up in cc)
 
 -- ---- requests
 
-up_from : (d : Direction) → receiver_side d ≡ Craft → d ≡ Up
+-- what the spacecraft receives goes up
+pub up_from : (d : Direction) → receiver_side d ≡ Craft → d ≡ Up
 up_from Up e = refl
 up_from Down e = absurd cc
 

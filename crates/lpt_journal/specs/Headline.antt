@@ -1,5 +1,5 @@
 -- What holds of every legal journal.
-use Rattle.std.specs.Prelude.{◌≡◌, ◌↔◌, ℕ, suc, ◌-◌, ◌<◌, ◌≤◌, Bool, true, List, length, drop, map, slice_get, Option, Some, is_some, Contains}
+use Rattle.std.specs.Prelude.{◌≡◌, ◌↔◌, ℕ, suc, ◌-◌, ◌<◌, ◌≤◌, Bool, true, List, length, drop, map, slice_get, Option, Some, None, is_some, Contains}
 use Rattle.std.specs.List.{filter}
 use Rattle.std.specs.List.Sorted.{IsStrictlyIncreasing}
 use Rattle.std.specs.Option.{option_and_then}
@@ -23,7 +23,7 @@ use Rattle.lpt_events.specs.declared.outcome.Why.TheVariants.{Unreadable, Idle, 
 use Rattle.lpt_events.specs.Arrivals.{APart}
 use Rattle.lpt_events.specs.MadePackets.{nth_named}
 use Rattle.lpt_events.specs.declared.event.Event.{Event}
-use Rattle.lpt_events.specs.declared.event.Event.TheVariants.{Deliver}
+use Rattle.lpt_events.specs.declared.event.Event.TheVariants.{Plain, Deliver}
 use Rattle.lpt_events.specs.declared.entry.Opening.{Opening}
 use Rattle.lpt_events.specs.declared.entry.Release.{Release}
 use Rattle.lpt_events.specs.declared.reply.Answer.TheVariants.{Delivered}
@@ -36,7 +36,7 @@ use Rattle.lpt_journal.specs.Delivery.{outcome}
 use Rattle.lpt_journal.specs.Releases.{releases}
 use Rattle.lpt_journal.specs.Jobs.{went_up, executed, left_by, memories}
 use Rattle.lpt_events.specs.Configs.{IsConfig}
-use Rattle.lpt_journal.specs.Replies.{recorded}
+use Rattle.lpt_journal.specs.Replies.{plain_packet, recorded}
 use Rattle.lpt_journal.specs.Legal.{Legal}
 
 -- ---- parts
@@ -107,6 +107,41 @@ AtMostOncePerOpening c h =
     → IsSameOpening o u
     → j ≡ k
 
+-- ---- requests
+
+-- Ground asked for a plain request, and these octets are the packet that it made of it. Behind an
+-- entry stands the history before it.
+pub record WasAsked (c : Config) (h : History) (packet : List ℕ) : Type 0 where
+  pub number : ℕ
+  pub entry : Recorded
+  pub is_there : slice_get h number ≡ Some entry
+  pub source : ℕ
+  pub flags : ℕ
+  pub service : ℕ
+  pub subtype : ℕ
+  pub body : List ℕ
+  pub asks : entry.event ≡ Plain source flags service subtype body
+  pub is_packet : packet ≡ plain_packet c (drop (suc number) h) source flags service subtype body
+
+-- each plain request that was released is the packet of one that ground had asked for
+abbrev pub EachWasAsked : Config → History → Type 0
+EachWasAsked c h =
+    (k : ℕ) (r : Release)
+    → slice_get (releases c h) k ≡ Some r
+    → r.of ≡ None
+    → WasAsked c (before r.place h) r.message
+
+-- A request is ground's: it came up, and is a plain one that ground had asked for, or the message
+-- last opened upwards under its name.
+pub record IsOfGround (c : Config) (h : History) (r : Release) : Type 0 where
+  pub came_up : went_up r.of ≡ true
+  pub plain : r.of ≡ None → WasAsked c (before r.place h) r.message
+  pub large : is_some r.of ≡ true → IsLastOpened h r
+
+-- each request that was executed is ground's
+abbrev pub EachIsOfGround : Config → History → Type 0
+EachIsOfGround c h = (k : ℕ) (r : Release) → slice_get (executed c h) k ≡ Some r → IsOfGround c h r
+
 -- ---- deliveries
 
 -- What was delivered is read as a part that contradicts nothing, or as a message that is no part,
@@ -153,8 +188,8 @@ EachWasReleased c h =
     → slice_get (executed c h) k ≡ Some r
     → Contains (filter (λ x. went_up x.of) (releases c h)) r
 
--- The requests were executed in order of release, none of them twice: their places rise from each to
--- the next. The memories are what they leave of the first content, one after the other.
+-- The requests were executed in order of release, none of them twice: their places rise from each
+-- to the next. The memories are what they leave of the first content, one after the other.
 pub record MemoriesFollow (c : Config) (first : Contents) (h : History) : Type 0 where
   pub released : EachWasReleased c h
   pub in_order : IsStrictlyIncreasing (map (λ r. r.place) (executed c h))
@@ -163,12 +198,16 @@ pub record MemoriesFollow (c : Config) (first : Contents) (h : History) : Type 0
 -- ---- the main theorem
 
 -- Every part on its way or heard is of the message last opened under its name. Each large message
--- that was released is the one last opened under its name, and that once. Deliveries are and were
--- sound. The memories are their first content, changed by the executed requests in order of release.
+-- that was released is the one last opened under its name, and that once; each plain request that
+-- was released is one that ground had asked for. So nothing is executed that ground didn't send.
+-- Deliveries are and were sound. The memories are their first content, changed by the executed
+-- requests in order of release.
 pub record Holds (c : Config) (first : Contents) (h : History) : Type 0 where
   pub parts : PartsAreCurrent c h
   pub messages : EachIsLastOpened c h
   pub once : AtMostOncePerOpening c h
+  pub asked : EachWasAsked c h
+  pub of_ground : EachIsOfGround c h
   pub deliveries : DeliveriesAreSound c h
   pub delivered : DeliveriesWereSound c.mode h
   pub memories : MemoriesFollow c first h

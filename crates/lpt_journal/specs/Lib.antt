@@ -14,4 +14,5 @@ pub mod Refusals
 pub mod Releases
 pub mod Replies
 pub mod Senders
+pub mod Whole
 pub mod Work

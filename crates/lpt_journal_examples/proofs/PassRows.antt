@@ -1,5 +1,5 @@
 -- The passes of messages: none of their events is refused, and what comes of them.
-use Rattle.std.proofs.Common.{◌≡◌, ap, refl, [], ◌∷◌, map, reverse, Some}
+use Rattle.std.proofs.Common.{◌≡◌, ap, refl, true, [], ◌∷◌, map, reverse, Some}
 use Rattle.std.specs.List.{slice_get}
 use Rattle.lpt_packet.specs.declared.direction.Direction.TheVariants.{Up, Down}
 use Rattle.lpt_packet.specs.Checksums.{checksum, octets_in, shift_all}
@@ -14,6 +14,7 @@ use Rattle.lpt_events.specs.declared.outcome.Why.TheVariants.{Unreadable}
 use Rattle.lpt_events.specs.declared.reply.Answer.TheVariants.{Delivered}
 use Rattle.lpt_journal.specs.Abortions.{abortions}
 use Rattle.lpt_journal.specs.Releases.{releases}
+use Rattle.lpt_journal.specs.Whole.{came}
 use Rattle.lpt_journal_examples.proofs.LegalRows.{usual_pass, impatient_pass}
 use Rattle.lpt_journal_examples.proofs.Listed.{recorded_is}
 use Rattle.lpt_journal_examples.proofs.ListedReleases.{releases_passed}
@@ -31,6 +32,14 @@ pub out_of_order-released : releases usual (passed usual out_of_order)
 unfolding seen spelling checksum octets_in shift_all tc_field tc_verdict body_of part_verdict
     arrival
 out_of_order-released = releases_passed usual out_of_order
+
+pub out_of_order-came : map (came usual (passed usual out_of_order) Up (own 7)) (1 ∷ 2 ∷ 3 ∷ [])
+    ≡ true ∷ true ∷ true ∷ []
+unfolding seen spelling checksum octets_in shift_all tc_field tc_verdict body_of part_verdict
+    arrival
+out_of_order-came =
+    ap (λ h. map (came usual h Up (own 7)) (1 ∷ 2 ∷ 3 ∷ []))
+    (recorded_is usual (reverse out_of_order))
 
 -- ---- one name in both directions
 
@@ -57,13 +66,15 @@ pub noisy-up : slice_get (answers usual noisy) 6 ≡ Some (Delivered (Ignored Un
 unfolding seen spelling checksum octets_in shift_all tc_field tc_verdict tm_field tm_verdict body_of
     part_verdict abort_verdict arrival
 noisy-up =
-    ap (λ h. slice_get (reverse (map (λ x. x.reply.answer) h)) 6) (recorded_is usual (reverse noisy))
+    ap (λ h. slice_get (reverse (map (λ x. x.reply.answer) h)) 6)
+    (recorded_is usual (reverse noisy))
 
 pub noisy-down : slice_get (answers usual noisy) 10 ≡ Some (Delivered (Ignored Unreadable))
 unfolding seen spelling checksum octets_in shift_all tc_field tc_verdict tm_field tm_verdict body_of
     part_verdict abort_verdict arrival
 noisy-down =
-    ap (λ h. slice_get (reverse (map (λ x. x.reply.answer) h)) 10) (recorded_is usual (reverse noisy))
+    ap (λ h. slice_get (reverse (map (λ x. x.reply.answer) h)) 10)
+    (recorded_is usual (reverse noisy))
 
 pub noisy-released : releases usual (passed usual noisy)
     ≡ record { place = 12; of = Some (Up, own 7); message = m9 } ∷ []

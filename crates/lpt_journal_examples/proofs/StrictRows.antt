@@ -1,5 +1,5 @@
 -- Worked passes where parts are taken in the order of their numbers, computed by the definitions.
-use Rattle.std.proofs.Common.{◌≡◌, ap, refl, [], ◌∷◌, map, reverse, Some}
+use Rattle.std.proofs.Common.{◌≡◌, ap, refl, true, [], ◌∷◌, map, reverse, Some}
 use Rattle.std.specs.List.{slice_get}
 use Rattle.lpt_packet.specs.declared.direction.Direction.TheVariants.{Up}
 use Rattle.lpt_packet.specs.Checksums.{checksum, octets_in, shift_all}
@@ -14,6 +14,7 @@ use Rattle.lpt_events.specs.Arrivals.{arrival}
 use Rattle.lpt_events.specs.declared.reply.Answer.TheVariants.{Delivered}
 use Rattle.lpt_journal.specs.Abortions.{abortions}
 use Rattle.lpt_journal.specs.Releases.{releases}
+use Rattle.lpt_journal.specs.Whole.{came}
 use Rattle.lpt_journal_examples.proofs.LegalRows.{strict_pass}
 use Rattle.lpt_journal_examples.proofs.Listed.{recorded_is}
 use Rattle.lpt_journal_examples.proofs.ListedReleases.{releases_passed}
@@ -31,14 +32,16 @@ pub second_part_missing-broken : slice_get (answers strict second_part_missing) 
 unfolding seen spelling checksum octets_in shift_all tc_field tc_verdict tm_field tm_verdict body_of
     part_verdict abort_body abort_verdict arrival
 second_part_missing-broken =
-    ap (λ h. slice_get (reverse (map (λ x. x.reply.answer) h)) 7) (recorded_is strict (reverse second_part_missing))
+    ap (λ h. slice_get (reverse (map (λ x. x.reply.answer) h)) 7)
+    (recorded_is strict (reverse second_part_missing))
 
 pub second_part_missing-noted : slice_get (answers strict second_part_missing) 11
     ≡ Some (Delivered (AbortNoted (own 7) Discontinuity))
 unfolding seen spelling checksum octets_in shift_all tc_field tc_verdict tm_field tm_verdict body_of
     part_verdict abort_body abort_verdict arrival
 second_part_missing-noted =
-    ap (λ h. slice_get (reverse (map (λ x. x.reply.answer) h)) 11) (recorded_is strict (reverse second_part_missing))
+    ap (λ h. slice_get (reverse (map (λ x. x.reply.answer) h)) 11)
+    (recorded_is strict (reverse second_part_missing))
 
 pub second_part_missing-aborted : abortions (passed strict second_part_missing)
     ≡ record { place = 7; direction = Up; name = own 7 } ∷ []
@@ -63,7 +66,8 @@ pub out_of_order-broken : slice_get (answers strict out_of_order) 5
 unfolding seen spelling checksum octets_in shift_all tc_field tc_verdict tm_field tm_verdict body_of
     part_verdict abort_body abort_verdict arrival
 out_of_order-broken =
-    ap (λ h. slice_get (reverse (map (λ x. x.reply.answer) h)) 5) (recorded_is strict (reverse out_of_order))
+    ap (λ h. slice_get (reverse (map (λ x. x.reply.answer) h)) 5)
+    (recorded_is strict (reverse out_of_order))
 
 pub out_of_order-aborted : abortions (passed strict out_of_order)
     ≡ record { place = 5; direction = Up; name = own 7 } ∷ []
@@ -88,3 +92,11 @@ pub in_order-released : releases strict (passed strict in_order)
 unfolding seen spelling checksum octets_in shift_all tc_field tc_verdict tm_field tm_verdict body_of
     part_verdict abort_body abort_verdict arrival
 in_order-released = releases_passed strict in_order
+
+pub in_order-came : map (came strict (passed strict in_order) Up (own 7)) (1 ∷ 2 ∷ 3 ∷ [])
+    ≡ true ∷ true ∷ true ∷ []
+unfolding seen spelling checksum octets_in shift_all tc_field tc_verdict tm_field tm_verdict body_of
+    part_verdict abort_body abort_verdict arrival
+in_order-came =
+    ap (λ h. map (came strict h Up (own 7)) (1 ∷ 2 ∷ 3 ∷ []))
+    (recorded_is strict (reverse in_order))

@@ -1,7 +1,7 @@
 //! Passes that are legal journals of a configuration, and what comes of them: functions with empty
 //! bodies.
 
-ghost use Rattle.std.specs.Prelude.{◌≡◌, [], ◌∷◌, map, slice_get, Some, None};
+ghost use Rattle.std.specs.Prelude.{◌≡◌, true, [], ◌∷◌, map, slice_get, Some, None};
 ghost use Rattle.lpt_events.specs.declared.applied.Applied.TheVariants.{Done};
 ghost use Rattle.lpt_events.specs.declared.outcome.Outcome.TheVariants.{ReportNoted, AbortNoted, Broken, Ignored};
 ghost use Rattle.lpt_events.specs.declared.outcome.Why.TheVariants.{Unreadable};
@@ -11,11 +11,14 @@ ghost use Rattle.lpt_part.specs.declared.reason.Reason.TheVariants.{Discontinuit
 ghost use Rattle.lpt_journal.specs.Abortions.{abortions};
 ghost use Rattle.lpt_journal.specs.Jobs.{executed, memories};
 ghost use Rattle.lpt_journal.specs.Releases.{releases};
+ghost use Rattle.lpt_journal.specs.Whole.{came};
 ghost use Rattle.lpt_journal_examples.specs.Passes.{IsPass, passed, answers, usual, strict, impatient, m9, m20, out_of_order, second_part_missing, in_order, both_ways, noisy, two_expire, executed_load, two_loads, dump_packet, report_packet, large_report, renewed, load_packet, usual_memories, loaded_memories, cleared_memories, own, other};
 
-/// A message of three parts is delivered with its last part first, and released.
+/// A message of three parts is delivered with its last part first, and released: each of them came.
 pub fn out_of_order_is_legal()
     ensures pass { IsPass usual out_of_order }
+    ensures came { map (came usual (passed usual out_of_order) Up (own 7)) (1 ∷ 2 ∷ 3 ∷ [])
+        ≡ true ∷ true ∷ true ∷ [] }
     ensures released { releases usual (passed usual out_of_order)
         ≡ record { place = 9; of = Some (Up, own 7); message = m20 } ∷ [] }
 {}
@@ -38,8 +41,8 @@ pub fn noisy_is_legal()
         ≡ record { place = 12; of = Some (Up, own 7); message = m9 } ∷ [] }
 {}
 
-/// Where parts are taken in the order of their numbers, the third one breaks a reception off that has
-/// the first one alone. Ground notes the report of it, and nothing is released.
+/// Where parts are taken in the order of their numbers, the third one breaks a reception off that
+/// has the first one alone. Ground notes the report of it, and nothing is released.
 pub fn second_part_missing_is_legal()
     ensures pass { IsPass strict second_part_missing }
     ensures broken { slice_get (answers strict second_part_missing) 7
@@ -51,8 +54,8 @@ pub fn second_part_missing_is_legal()
     ensures released { releases strict (passed strict second_part_missing) ≡ [] }
 {}
 
-/// Where parts are taken in the order of their numbers, the last one breaks a reception off before it
-/// is open, and nothing is released.
+/// Where parts are taken in the order of their numbers, the last one breaks a reception off before
+/// it is open, and nothing is released.
 pub fn last_part_first_is_legal()
     ensures pass { IsPass strict out_of_order }
     ensures broken { slice_get (answers strict out_of_order) 5
@@ -62,9 +65,11 @@ pub fn last_part_first_is_legal()
     ensures released { releases strict (passed strict out_of_order) ≡ [] }
 {}
 
-/// Parts in order, the first one twice: the message is released.
+/// Parts in order, the first one twice: each of them came, and the message is released.
 pub fn in_order_is_legal()
     ensures pass { IsPass strict in_order }
+    ensures came { map (came strict (passed strict in_order) Up (own 7)) (1 ∷ 2 ∷ 3 ∷ [])
+        ≡ true ∷ true ∷ true ∷ [] }
     ensures released { releases strict (passed strict in_order)
         ≡ record { place = 11; of = Some (Up, own 7); message = m20 } ∷ [] }
 {}
@@ -84,11 +89,12 @@ pub fn two_expire_is_legal()
 pub fn executed_load_is_legal()
     ensures pass { IsPass usual executed_load }
     ensures left { memories usual usual_memories (passed usual executed_load) ≡ loaded_memories }
-    ensures reported { slice_get (answers usual executed_load) 11 ≡ Some (Delivered (ReportNoted 1 7)) }
+    ensures reported { slice_get (answers usual executed_load) 11
+        ≡ Some (Delivered (ReportNoted 1 7)) }
 {}
 
-/// Of two loads the second one's reading is handed in first. They are executed in the order in which
-/// they were released: the second one's octets stand over the first one's.
+/// Of two loads the second one's reading is handed in first. They are executed in the order in
+/// which they were released: the second one's octets stand over the first one's.
 pub fn two_loads_is_legal()
     ensures pass { IsPass usual two_loads }
     ensures in_order { map (λ r. r.place) (executed usual (passed usual two_loads)) ≡ 3 ∷ 5 ∷ [] }
@@ -99,7 +105,8 @@ pub fn two_loads_is_legal()
 /// parts and is released on ground.
 pub fn large_report_is_legal()
     ensures pass { IsPass usual large_report }
-    ensures opened { slice_get (answers usual large_report) 5 ≡ Some (Applied (Done (Some (own 0)))) }
+    ensures opened { slice_get (answers usual large_report) 5
+        ≡ Some (Applied (Done (Some (own 0)))) }
     ensures released { releases usual (passed usual large_report)
         ≡ record { place = 2; of = None; message = dump_packet }
         ∷ record { place = 17; of = Some (Down, own 0); message = report_packet } ∷ [] }

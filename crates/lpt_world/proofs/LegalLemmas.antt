@@ -1,6 +1,6 @@
 -- The events and the jobs of a journal that is told.
-use Rattle.std.proofs.Common.{arith, ◌≡◌, ◌∙◌, ap, sym, subst, refl, ◌+◌, ◌≤◌, ℕ, suc, Bool, true, false, if◌then◌else◌, List, [], ◌∷◌, ◌++◌, length, map, reverse, drop, slice_get, Some}
-use Rattle.std.proofs.lemmas.List.{append-nil, append_assoc, reverse-append, length-append, length-reverse, length-map, length-drop, map-append}
+use Rattle.std.proofs.Common.{arith, ◌≡◌, ◌∙◌, ap, refl, ◌+◌, ◌≤◌, ℕ, suc, Bool, true, false, if◌then◌else◌, List, [], ◌∷◌, ◌++◌, length, map, reverse, drop, slice_get, Some}
+use Rattle.std.proofs.lemmas.List.{reverse-append, length-append, length-reverse, length-map, length-drop, map-append}
 use Rattle.lpt_memory.specs.Memories.{Contents}
 use Rattle.lpt_jobs.specs.declared.job.Job.{Job as QueuedJob}
 use Rattle.lpt_jobs.specs.Jobs.{numbered}
@@ -13,7 +13,6 @@ use Rattle.lpt_events.specs.declared.side.Side.{Side}
 use Rattle.lpt_events.specs.declared.side.Side.TheVariants.{Ground, Craft}
 use Rattle.lpt_journal.specs.Jobs.{jobs, ticket}
 use Rattle.lpt_journal.specs.Journal.{History, with_all}
-use Rattle.lpt_journal.specs.Legal.{Legal}
 use Rattle.lpt_journal.specs.Releases.{released_by}
 use Rattle.lpt_journal.specs.Replies.{recorded}
 use Rattle.lpt_journal.specs.Senders.{restarts}
@@ -40,12 +39,14 @@ events_of-push j x =
     ap reverse (map-append (λ (y : Entry). y.event) j (x ∷ []))
     ∙ reverse-append (events j) (x.event ∷ [])
 
-length-recorded : (c : Config) (first : Contents) (es : List Event) → length (recorded c first es) ≡ length es
+length-recorded : (c : Config) (first : Contents) (es : List Event) → length (recorded c first es)
+    ≡ length es
 length-recorded c first [] = refl
 length-recorded c first (e ∷ es) = ap (λ n. suc n) (length-recorded c first es)
 
 -- a history has as many events as its journal has entries
-pub length-history_of : (c : Config) (first : Contents) (j : List Entry) → length (history_of c first j) ≡ length j
+pub length-history_of : (c : Config) (first : Contents) (j : List Entry)
+    → length (history_of c first j) ≡ length j
 length-history_of c first j =
     length-recorded c first (events_of j)
     ∙ length-reverse (events j)
@@ -62,7 +63,8 @@ jobs_fit c first j told =
     let sound = jobs_sound c first (events_of j) told.legal in
     record {
       executed = sound.applied_fits;
-      claimed = omega (arith, sound.claimed_fits, length-map (jobs c h) (λ (r : Release). r.message));
+      claimed =
+          omega (arith, sound.claimed_fits, length-map (jobs c h) (λ (r : Release). r.message));
       committed = sound.committed;
       held = λ w t is same.
           let out = (sound.tickets w t is).out same in
@@ -137,7 +139,8 @@ numbered_few c first s j told shows =
       arith,
       shows.jobs.first,
       ap length shows.jobs.jobs,
-      length-jobs_from (Rattle.lpt_refinement.specs.Shows.job_shown v) v.applied (drop v.applied v.messages),
+      length-jobs_from (Rattle.lpt_refinement.specs.Shows.job_shown v) v.applied
+          (drop v.applied v.messages),
       length-drop v.applied v.messages,
       fit.executed,
       fit.claimed,

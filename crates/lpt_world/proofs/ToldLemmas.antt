@@ -8,6 +8,7 @@ use Rattle.lpt_world.specs.WorldInside.{IsShown}
 use Rattle.lpt_world.specs.Worlds.{Promised, events_of, history_of}
 use Rattle.lpt_journal.proofs.AbortionLemmas.{abortion_is_final}
 use Rattle.lpt_journal.proofs.HeadlineLemmas.{headline}
+use Rattle.lpt_journal.proofs.WholeLemmas.{nothing_is_withheld}
 use Rattle.lpt_journal.proofs.WorkLemmas.{work_is_of_its_boot}
 use Rattle.lpt_refinement.specs.GoesOn.{AreNamed}
 use Rattle.lpt_world.proofs.LegalLemmas.{fits}
@@ -27,6 +28,7 @@ shown_promised e first j k =
     record {
       headline = shown_holds e first j k;
       final = abortion_is_final e.config first (events_of j) k.configured legal;
+      whole = nothing_is_withheld e.config first (events_of j) k.configured legal;
       work = work_is_of_its_boot e.config first (events_of j) k.configured legal;
     }
 

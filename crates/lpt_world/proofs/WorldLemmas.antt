@@ -27,7 +27,7 @@ use Rattle.lpt_refinement.specs.Shows.{Shows, sent_packet}
 use Rattle.lpt_model.specs.State.{State, no_state, after, refusal_of, IsReady}
 use Rattle.lpt_refinement.specs.Views.{views}
 use Rattle.lpt_world.specs.WorldInside.{IsShown, IsWorld}
-use Rattle.lpt_world.specs.Worlds.{IsTold, events_of, history_of, refusal_at}
+use Rattle.lpt_world.specs.Worlds.{IsTold, history_of, refusal_at}
 use Rattle.lpt_refinement.proofs.Follows.{follows}
 use Rattle.lpt_world.proofs.LegalLemmas.{events_of-push, length-history_of, fits}
 
@@ -64,7 +64,8 @@ accepted_shown : (e : System) (first : Contents) (j : List Entry) (ev : Event)
     → refusal_of e.config (state_of e) ev ≡ None
     → refusal e.config (history_of e.config first j) ev ≡ None
 accepted_shown e first j ev k free =
-    sym (follows.refuses e.config first (state_of e) (history_of e.config first j) ev k.shows (fits e.config first j k.configured k.told)) ∙ free
+    sym (follows.refuses e.config first (state_of e) (history_of e.config first j) ev k.shows
+    (fits e.config first j k.configured k.told)) ∙ free
 
 -- the reply of the system is the journal's
 pub reply_shown : (e e' : System) (first : Contents) (j : List Entry) (ev : Event) (r : Reply)
@@ -74,7 +75,8 @@ pub reply_shown : (e e' : System) (first : Contents) (j : List Entry) (ev : Even
     → r ≡ reply e.config first (history_of e.config first j) ev
 reply_shown e e' first j ev r k free done =
     let c = e.config in
-    let goes = follows.goes_on c first (state_of e) (history_of c first j) ev k.configured k.shows (fits c first j k.configured k.told) (accepted_shown e first j ev k free) in
+    let goes = follows.goes_on c first (state_of e) (history_of c first j) ev k.configured k.shows
+    (fits c first j k.configured k.told) (accepted_shown e first j ev k free) in
     ap (λ (y : State × Reply). y.1) done
     ∙ ap (λ n. (after c n (state_of e) ev).1) (sym (length-history_of c first j))
     ∙ goes.answered
@@ -84,14 +86,16 @@ pub shown_push : (e e' : System) (first : Contents) (j : List Entry) (x : Entry)
     → IsShown e first j
     → IsEvent x.event
     → refusal_of e.config (state_of e) x.event ≡ None
-    → ◌≡◌ {A = State × Reply} (state_of e', x.reply) (after e.config (length j) (state_of e) x.event)
+    → ◌≡◌ {A = State
+    × Reply} (state_of e', x.reply) (after e.config (length j) (state_of e) x.event)
     → e'.config ≡ e.config
     → IsShown e' first (j ++ x ∷ [])
 shown_push e e' first j x k ranged free done same =
     let c = e.config in
     let h : History = history_of c first j in
     let accepted : refusal c h x.event ≡ None = accepted_shown e first j x.event k free in
-    let goes = follows.goes_on c first (state_of e) h x.event k.configured k.shows (fits c first j k.configured k.told) accepted in
+    let goes = follows.goes_on c first (state_of e) h x.event k.configured k.shows
+    (fits c first j k.configured k.told) accepted in
     let state : (after c (length h) (state_of e) x.event).0 ≡ state_of e' =
     ap (λ n. (after c n (state_of e) x.event).0) (length-history_of c first j)
     ∙ sym (ap (λ (y : State × Reply). y.0) done) in
@@ -99,7 +103,8 @@ shown_push e e' first j x k ranged free done same =
     ap (recorded c first) (events_of-push j x) in
     let shows : Shows (state_of e') (views c first (history_of c first (j ++ x ∷ []))) =
     subst (λ (g : History). Shows (state_of e') (views c first g)) (sym longer)
-    (subst (λ (s : State). Shows s (views c first (entry c first h x.event ∷ h))) state goes.shown) in
+    (subst (λ (s : State). Shows s (views c first (entry c first h x.event ∷ h))) state goes.shown)
+    in
     let told : IsTold c first (j ++ x ∷ []) =
     told_push c first j x k.told (record { in_range = ranged; accepted = accepted })
     (reply_shown e e' first j x.event x.reply k free done) in
@@ -142,7 +147,8 @@ pub refusal_at_shown : (e : System) (first : Contents) (j : List Entry) (seat : 
 refusal_at_shown e first j seat ev k h =
     let past = history_of e.config first j in
     let there : nat_lt 10 seat ≡ false = lt_false 10 seat h in
-    follows.refuses e.config first (state_of e) past ev k.shows (fits e.config first j k.configured k.told)
+    follows.refuses e.config first (state_of e) past ev k.shows
+    (fits e.config first j k.configured k.told)
     ∙ sym (ap (λ t. if t then Some NoSuchSeat else refusal e.config past ev) there)
 
 -- what the world doesn't refuse the system doesn't
@@ -151,7 +157,8 @@ pub free_shown : (e : System) (first : Contents) (j : List Entry) (seat : ℕ) (
     → None ≡ refusal_at (record { config = e.config; first = first; journal = j }) seat ev
     → refusal_of e.config (state_of e) ev ≡ None
 free_shown e first j seat ev k h =
-    follows.refuses e.config first (state_of e) (history_of e.config first j) ev k.shows (fits e.config first j k.configured k.told)
+    follows.refuses e.config first (state_of e) (history_of e.config first j) ev k.shows
+    (fits e.config first j k.configured k.told)
     ∙ go (nat_lt 10 seat) (refusal e.config (history_of e.config first j) ev) h where
       go : (t : Bool) (r : Option StepFault) → None ≡ (if t then Some NoSuchSeat else r) → r ≡ None
       go true r f = absurd cc
@@ -166,6 +173,12 @@ pub shown_new : (e : System) (c : Config) (first : Contents)
     → IsConfig c
     → IsShown e first []
 shown_new e c first same state configured =
-    let shows = subst (λ (s : State). Shows s (views c first [])) (sym state) (follows.begins c first) in
+    let shows = subst (λ (s : State). Shows s (views c first [])) (sym state)
+    (follows.begins c first) in
     subst (λ (d : Config). IsWorld d first e []) (sym same)
-    (record { configured = configured; shows = shows; told = record { legal = tt; replies = refl } })
+    (record {
+      configured = configured;
+      shows = shows;
+      told =
+          record { legal = tt; replies = refl };
+    })

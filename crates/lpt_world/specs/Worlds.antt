@@ -1,4 +1,5 @@
--- A world as its readers show it: its configuration, the first content of its memories, and its journal.
+-- A world as its readers show it: its configuration, the first content of its memories, and its
+-- journal.
 use Rattle.std.specs.Prelude.{◌≡◌, ℕ, nat_lt, if◌then◌else◌, List, [], ◌∷◌, ◌++◌, map, reverse, Option, Some, None}
 use Rattle.lpt_ledger.specs.declared.state.State.{State}
 use Rattle.lpt_ledger.specs.declared.state.State.TheVariants.{Free, Open, Closed}
@@ -15,6 +16,7 @@ use Rattle.lpt_journal.specs.Jobs.{memories}
 use Rattle.lpt_journal.specs.Abortions.{EndsAreFinal}
 use Rattle.lpt_journal.specs.Headline.{Holds}
 use Rattle.lpt_journal.specs.Legal.{Legal}
+use Rattle.lpt_journal.specs.Whole.{WholeIsReleased}
 use Rattle.lpt_journal.specs.Work.{WorkKeepsItsBoot}
 use Rattle.lpt_journal.specs.Replies.{recorded, reply}
 use Rattle.lpt_journal.specs.Refusals.{refusal}
@@ -50,11 +52,13 @@ pub record IsTold (c : Config) (first : Contents) (j : List Entry) : Type 0 wher
   pub legal : Legal c first (events_of j)
   pub replies : map (λ x. x.reply) j ≡ reverse (map (λ x. x.reply) (history_of c first j))
 
--- What is promised of a world, whatever the link did and the nodes were asked: the headline; that what
--- expired, was broken off or was released is final; and that no job is done outside the boot of its release.
+-- What is promised of a world, whatever the link did and the nodes were asked: the headline; that
+-- what expired, was broken off or was released is final; that nothing that came whole is withheld;
+-- and that no job is done outside the boot of its release.
 pub record Promised (w : Shown) : Type 0 where
   pub headline : Holds w.config w.first (history w)
   pub final : EndsAreFinal w.config (history w)
+  pub whole : WholeIsReleased w.config (history w)
   pub work : WorkKeepsItsBoot w.config w.first (history w)
 
 -- a sender's state, without its message
@@ -74,20 +78,23 @@ RefusedBy None fault = fault ≡ Memory
 
 -- the world with an entry behind its journal
 abbrev pub with_entry : Shown → ℕ → Event → Reply → Shown
-with_entry w seat e r = record w { journal = w.journal ++ record { seat = seat; event = e; reply = r } ∷ [] }
+with_entry w seat e r =
+    record w { journal = w.journal ++ record { seat = seat; event = e; reply = r } ∷ [] }
 
 -- ---- runs
 
 -- the world after these events of one seat, each of which was accepted
 abbrev pub entered : Shown → ℕ → List Event → Shown
 entered w seat [] = w
-entered w seat (e ∷ es) = entered (with_entry w seat e (reply w.config w.first (history w) e)) seat es
+entered w seat (e ∷ es) =
+    entered (with_entry w seat e (reply w.config w.first (history w) e)) seat es
 
 -- each of these events is accepted after those before it
 abbrev pub AllAccepted : Shown → ℕ → List Event → Type 0
 AllAccepted w seat [] = Unit {0}
 AllAccepted w seat (e ∷ es) =
-    (refusal_at w seat e ≡ None) × AllAccepted (with_entry w seat e (reply w.config w.first (history w) e)) seat es
+    (refusal_at w seat e ≡ None)
+    × AllAccepted (with_entry w seat e (reply w.config w.first (history w) e)) seat es
 
 -- the fault of the event, if there is one
 abbrev pub IsFaultOf : Shown → ℕ → Option Event → StepFault → Type 0

@@ -3,12 +3,13 @@
 ghost use Rattle.std.specs.Prelude.{◌≡◌, ◌-◌, length, slice_get, IfOk};
 ghost use Rattle.std.specs.Option.{option_map, option_copied};
 ghost use Rattle.lpt_journal.specs.Hands.{hand};
-ghost use Rattle.lpt_journal.specs.Headline.{EachIsLastOpened, AtMostOncePerOpening, MemoriesFollow};
+ghost use Rattle.lpt_journal.specs.Headline.{EachIsLastOpened, AtMostOncePerOpening, EachWasAsked, EachIsOfGround, MemoriesFollow};
 ghost use Rattle.lpt_journal.specs.Jobs.{jobs, claimed, applied, ticket};
 ghost use Rattle.lpt_journal.specs.Link.{sent, is_held};
 ghost use Rattle.lpt_journal.specs.Receivers.{clock};
 ghost use Rattle.lpt_journal.specs.Releases.{releases};
 ghost use Rattle.lpt_journal.specs.Senders.{opened, sender};
+ghost use Rattle.lpt_journal.specs.Whole.{WholeIsReleased};
 ghost use Rattle.lpt_memory.specs.Memories.{content_of, sizes_of};
 ghost use Rattle.lpt_events.specs.Configs.{IsConfig};
 ghost use Rattle.lpt_world.specs.Worlds.{IsTold, Promised, history, memories_now, state_shown};
@@ -24,9 +25,10 @@ impl World {
     /// All accepted events, the oldest first. Each could happen after those before it, and has the
     /// reply that it gives then. Each large message released under a name is byte for byte the one
     /// last opened under it by the other node, at most once per opening. The memories are their
-    /// first content, changed by the executed requests in order of release, each of which was
-    /// released by the spacecraft and executed once. What expired or was broken off is never released,
-    /// and what was released never heard again. No request is executed in another boot than that of its release.
+    /// first content, changed by the executed requests in order of release, each of which was sent
+    /// by ground, released by the spacecraft and executed once. What expired or was broken off is
+    /// never released, what came whole else is, and what was released is never heard again. No
+    /// request is executed in another boot than that of its release.
     pub fn journal(&self) -> &[Entry]
         ensures shown { result.now ≡ self.now.journal }
         ensures told { IsTold self.now.config self.now.first self.now.journal }
@@ -45,11 +47,18 @@ impl World {
     }
 
     /// All releases, in order of place. Each large message is byte for byte the one last opened
-    /// under its name by the other node, at most once per opening.
+    /// under its name by the other node, at most once per opening. Each plain request is the packet
+    /// of one that ground had asked for.
+    ///
+    /// None that came whole is withheld: what was last opened under a name is among them if each of
+    /// its parts was delivered since then, and since its receiver was last restarted, while there
+    /// was room; but where its reception expired or was broken off.
     pub fn released(&self) -> &[Release]
         ensures all { result.now ≡ releases self.now.config (history self.now) }
         ensures last_opened { EachIsLastOpened self.now.config (history self.now) }
         ensures once { AtMostOncePerOpening self.now.config (history self.now) }
+        ensures asked { EachWasAsked self.now.config (history self.now) }
+        ensures none_withheld { WholeIsReleased self.now.config (history self.now) }
     {
         self.system.released.as_slice()
     }
@@ -57,16 +66,20 @@ impl World {
     /// The octets of the packet of this number, whether the link still holds it or not; none where
     /// fewer packets were put.
     pub fn packet(&self, n: u64) -> Option<&[u8]>
-        ensures { option_copied result ≡ option_map (λ p. p.octets) (slice_get (sent (history self.now)) n) }
+        ensures { option_copied result
+            ≡ option_map (λ p. p.octets) (slice_get (sent (history self.now)) n) }
     {
         self.system.link.packet(n)
     }
 
-    /// The octets of a memory now: its first content, changed by the requests that were executed, in
-    /// the order in which the spacecraft released them. None where there is no such memory.
+    /// The octets of a memory now: its first content, changed by the requests that were executed,
+    /// in the order in which the spacecraft released them. Each of these is a plain one that ground
+    /// had asked for, or the message last opened upwards under its name. None where there is no
+    /// such memory.
     pub fn memory(&self, id: u8) -> Option<&[u8]>
         ensures content { option_map (λ x. x.now) result ≡ content_of id (memories_now self.now) }
         ensures follow { MemoriesFollow self.now.config self.now.first (history self.now) }
+        ensures of_ground { EachIsOfGround self.now.config (history self.now) }
     {
         self.system.memories.content(id)
     }
@@ -132,24 +145,27 @@ impl World {
 
     /// The boot and the number of the job that a worker has claimed and not committed.
     pub fn ticket(&self, worker: Worker) -> Option<(u64, u64)>
-        ensures { result ≡ option_map (λ t. (t.boot, t.job)) (ticket self.now.config (history self.now) worker) }
+        ensures { result
+            ≡ option_map (λ t. (t.boot, t.job)) (ticket self.now.config (history self.now) worker) }
     {
         let held = self.system.tickets.get(worker)?;
         Some((held.boot, held.job))
     }
 
-    /// How many jobs of the spacecraft's present boot wait for a worker: each was released, and none
-    /// has claimed it.
+    /// How many jobs of the spacecraft's present boot wait for a worker: each was released, and
+    /// none has claimed it.
     pub fn jobs_left(&self) -> u64
-        ensures { result ≡ length (jobs self.now.config (history self.now)) - claimed (history self.now) }
+        ensures { result
+            ≡ length (jobs self.now.config (history self.now)) - claimed (history self.now) }
     {
         self.system.on_craft.waiting()
     }
 
-    /// How many jobs of the spacecraft's present boot aren't executed yet, claimed and committed ones
-    /// among them.
+    /// How many jobs of the spacecraft's present boot aren't executed yet, claimed and committed
+    /// ones among them.
     pub fn jobs_queued(&self) -> u64
-        ensures { result ≡ length (jobs self.now.config (history self.now)) - applied (history self.now) }
+        ensures { result
+            ≡ length (jobs self.now.config (history self.now)) - applied (history self.now) }
     {
         self.system.on_craft.queued()
     }
