@@ -6,12 +6,13 @@ use Rattle.std.specs.FinMap.{get, entries, find, get-entries, get-from_entries}
 use Rattle.std.specs.Int.{bit_at}
 use Rattle.std.specs.Option.{option_map}
 use Rattle.std.specs.Ordering.{eq_by_cmp}
+use Rattle.lpt_packet.proofs.BoolLemmas.{is_some-map}
 use Rattle.lpt_packet.proofs.NameLemmas.{name_cmp_total}
 use Rattle.lpt_packet.specs.Names.{Name, name_cmp}
 use Rattle.lpt_ledger.specs.declared.page.Page.{Page}
 use Rattle.lpt_ledger.specs.Marks.{Mark, Opened, Shut, Marks, shut_mark, all_closed}
 use Rattle.lpt_ledger.specs.States.{state_of, state_at, closed_state}
-use Rattle.lpt_ledger.specs.LedgerInside.{closed_page, mark_at, mark_by_bits, mark_on, marks, page_first, page_in, page_mark, Tells}
+use Rattle.lpt_ledger.specs.LedgerInside.{closed_page, mark_at, mark_by_bits, mark_on, marks, page_first, page_in, page_mark, IsKept}
 use Rattle.lpt_ledger.proofs.MarksLemmas.{get-marks, same_marks}
 
 -- ---- all at once
@@ -53,23 +54,26 @@ state_at-all_closed m q = ap state_of (get-all_closed m q) ∙ state_of-shut_mar
 
 -- a page of which no name is open has the marks that are shut
 closed_mark : (g : Page) (b : ℕ) → page_mark (closed_page g) b ≡ shut_mark (page_mark g b)
-closed_mark g b = ap (λ (n : ℕ). mark_by_bits (bit_at g.taken b == 1) (n == 1)) (no_bit b) ∙ go (bit_at g.taken b == 1) (bit_at g.opened b == 1) where
-  no_bit : (b : ℕ) → bit_at 0 b ≡ 0
-  no_bit b = search rules
+closed_mark g b = ap (λ (n : ℕ). mark_by_bits (bit_at g.taken b == 1) (n == 1)) (no_bit b)
+    ∙ go (bit_at g.taken b == 1) (bit_at g.opened b == 1) where
+      no_bit : (b : ℕ) → bit_at 0 b ≡ 0
+      no_bit b = search rules
 
-  go : (t o : Bool) → mark_by_bits t false ≡ shut_mark (mark_by_bits t o)
-  go false o = refl
-  go true true = refl
-  go true false = refl
+      go : (t o : Bool) → mark_by_bits t false ≡ shut_mark (mark_by_bits t o)
+      go false o = refl
+      go true true = refl
+      go true false = refl
 
 -- pages of which no name is open
 abbrev pub all_pages : List (Name × Page) → List (Name × Page)
 all_pages es = mapped (λ (e : Name × Page). (e.0, closed_page e.1)) es
 
 -- the mark of each name is shut
-mark_at-closed : (es : List (Name × Page)) (q : Name) → mark_at (all_pages es) q ≡ shut_mark (mark_at es q)
+mark_at-closed : (es : List (Name × Page)) (q : Name) → mark_at (all_pages es) q
+    ≡ shut_mark (mark_at es q)
 mark_at-closed es q =
-    ap (λ o. mark_on o (q.id % 64)) (lookup-map_values closed_page (is_at (name_cmp (page_first q))) es)
+    ap (λ o. mark_on o (q.id % 64))
+    (lookup-map_values closed_page (is_at (name_cmp (page_first q))) es)
     ∙ go (page_in es (page_first q)) (q.id % 64)
   where
     go : (o : Option Page) (b : ℕ) → mark_on (option_map closed_page o) b ≡ shut_mark (mark_on o b)
@@ -85,9 +89,15 @@ marks-closed es =
     ∙ ap shut_mark (sym (get-marks es q))
     ∙ sym (get-all_closed (marks es) q))
 
--- and frees none
-pub Tells-closed : (es : List (Name × Page)) (ws : List (Name × ℕ)) → Tells es ws → Tells (all_pages es) ws
-Tells-closed es ws tells q one = ap is_some (mark_at-closed es q) ∙ go (mark_at es q) ∙ tells q one where
+-- and frees none, and moves no page
+pub IsKept-closed : (es : List (Name × Page)) (ws : List (Name × ℕ)) → IsKept es ws
+    → IsKept (all_pages es) ws
+IsKept-closed es ws kept = record {
+  tells = λ q one. ap is_some (mark_at-closed es q) ∙ go (mark_at es q) ∙ kept.tells q one;
+  paged = λ q some.
+      kept.paged q (sym (ap is_some (lookup-map_values closed_page (is_at (name_cmp q)) es)
+      ∙ is_some-map closed_page (page_in es q)) ∙ some);
+} where
   go : (o : Option Mark) → is_some (shut_mark o) ≡ is_some o
   go None = refl
   go (Some x) = refl

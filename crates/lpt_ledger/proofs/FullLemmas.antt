@@ -1,5 +1,5 @@
 -- What the bits of full pages tell.
-use Rattle.std.proofs.Common.{◌≡◌, ◌≢◌, ◌∙◌, refl, sym, ap, rules, ℕ, ◌+◌, ◌*◌, ◌/◌, ◌%◌, ◌<◌, Bool, true, false, cond, List, Option, Some, None, is_some, unwrap_or, inl, inr, arith}
+use Rattle.std.proofs.Common.{◌≡◌, ◌≢◌, ◌∙◌, refl, sym, ap, rules, ℕ, ◌+◌, ◌*◌, ◌/◌, ◌%◌, ◌<◌, Bool, true, false, cond, List, [], Option, Some, None, is_some, unwrap_or, inl, inr, arith}
 use Rattle.std.proofs.lemmas.Bool.{cases_lt}
 use Rattle.std.proofs.lemmas.Bool.Decides.{eqb_tells}
 use Rattle.std.specs.BTreeMap.{is_at}
@@ -10,7 +10,7 @@ use Rattle.lpt_packet.proofs.NameLemmas.{name_cmp-IsAntisymmetric, name_cmp_tota
 use Rattle.lpt_packet.specs.Names.{Name, name_cmp, named_by}
 use Rattle.lpt_ledger.specs.declared.page.Page.{Page}
 use Rattle.lpt_ledger.specs.Bits.{bit_for}
-use Rattle.lpt_ledger.specs.LedgerInside.{full_bit, mark_at, mark_on, page_first, page_in, page_mark, Tells, word_first, word_in}
+use Rattle.lpt_ledger.specs.LedgerInside.{full_bit, mark_at, mark_on, page_first, page_in, page_mark, IsKept, Tells, word_first, word_in}
 use Rattle.lpt_ledger.proofs.FirstLemmas.{AreTaken}
 
 -- in 0 no bit is set
@@ -77,10 +77,13 @@ page_bit ws q name same =
 
 module _ (ws vs : List (Name × ℕ)) (name : Name) (word : ℕ) (is_full : Bool)
     (bit : bit_at word (name.id / 64 % 64) ≡ bit_for is_full)
-    (rest : (i : ℕ) → i < 64 → i ≢ name.id / 64 % 64 → bit_at word i ≡ bit_at (word_in ws (word_first name)) i)
-    (put : (q : Name) → word_in vs q ≡ cond (is_at (name_cmp (word_first name)) q) word (word_in ws q)) where
+    (rest : (i : ℕ) → i < 64 → i ≢ name.id / 64 % 64 → bit_at word i
+    ≡ bit_at (word_in ws (word_first name)) i)
+    (put : (q : Name) → word_in vs q
+    ≡ cond (is_at (name_cmp (word_first name)) q) word (word_in ws q)) where
   -- those of one word and one bit are of one page
-  one_page : (q : Name) → word_first name ≡ word_first q → q.id / 64 % 64 ≡ name.id / 64 % 64 → page_first q ≡ page_first name
+  one_page : (q : Name) → word_first name ≡ word_first q → q.id / 64 % 64 ≡ name.id / 64 % 64
+      → page_first q ≡ page_first name
   one_page q words bits =
       let firsts : name.id / 4096 * 4096 ≡ q.id / 4096 * 4096 = ap (λ (x : Name). x.id) words in
       let ids : q.id / 64 * 64 ≡ name.id / 64 * 64 = omega (arith, firsts, bits) in
@@ -94,7 +97,8 @@ module _ (ws vs : List (Name × ℕ)) (name : Name) (word : ℕ) (is_full : Bool
   -- the bit of the page is set only where it is full
   pub bit-this : (q : Name) → page_first q ≡ page_first name → full_bit vs q ≡ 1 → is_full ≡ true
   bit-this q same one =
-      elim (keys.same_or_not name_cmp_total name_cmp-IsAntisymmetric (word_first name) (word_first q)) [
+      elim (keys.same_or_not name_cmp_total name_cmp-IsAntisymmetric (word_first name)
+      (word_first q)) [
         | inl t ↦
             let is : word_in vs (word_first q) ≡ word =
             put (word_first q) ∙ ap (λ b. cond b word (word_in ws (word_first q))) t.0 in
@@ -107,7 +111,8 @@ module _ (ws vs : List (Name × ℕ)) (name : Name) (word : ℕ) (is_full : Bool
   -- the bits of the others stay
   pub bit-others : (q : Name) → page_first q ≢ page_first name → full_bit vs q ≡ full_bit ws q
   bit-others q other =
-      elim (keys.same_or_not name_cmp_total name_cmp-IsAntisymmetric (word_first name) (word_first q)) [
+      elim (keys.same_or_not name_cmp_total name_cmp-IsAntisymmetric (word_first name)
+      (word_first q)) [
         | inl t ↦
             ap (λ (w : ℕ). bit_at w (q.id / 64 % 64))
             (put (word_first q) ∙ ap (λ b. cond b word (word_in ws (word_first q))) t.0)
@@ -133,7 +138,8 @@ was_free before page place others free full = elim (eqb_tells free.0 place) [
       sym (ap is_some (others free.0 free.1 t.1 ∙ free.2)) ∙ full free.0 free.1 in absurd cc
 ]
 
-module _ (es fs : List (Name × Page)) (ws vs : List (Name × ℕ)) (name : Name) (page : Page) (is_full : Bool)
+module _ (es fs : List (Name × Page)) (ws vs : List (Name
+    × ℕ)) (name : Name) (page : Page) (is_full : Bool)
     (tells : Tells es ws)
     (put : (q : Name) (b : ℕ) → mark_on (page_in fs q) b
     ≡ cond (is_at (name_cmp (page_first name)) q) (page_mark page b) (mark_on (page_in es q) b))
@@ -143,7 +149,8 @@ module _ (es fs : List (Name × Page)) (ws vs : List (Name × ℕ)) (name : Name
   pub Tells-put : Tells fs vs
   Tells-put q one =
       ap is_some (put (page_first q) (q.id % 64))
-      ∙ elim (keys.same_or_not name_cmp_total name_cmp-IsAntisymmetric (page_first name) (page_first q)) [
+      ∙ elim (keys.same_or_not name_cmp_total name_cmp-IsAntisymmetric (page_first name)
+      (page_first q)) [
         | inl t ↦
             ap (λ b. is_some (cond b (page_mark page (q.id % 64)) (mark_at es q))) t.0
             ∙ full (this q (sym t.1) one) (q.id % 64) (omega arith)
@@ -154,7 +161,8 @@ module _ (es fs : List (Name × Page)) (ws vs : List (Name × ℕ)) (name : Name
 
 -- ---- what is passed over is taken
 
-module _ (es : List (Name × Page)) (ws : List (Name × ℕ)) (source number : ℕ) (tells : Tells es ws) where
+module _ (es : List (Name × Page)) (ws : List (Name
+    × ℕ)) (source number : ℕ) (tells : Tells es ws) where
   -- a page whose bit is set
   pub told_page : (bit : ℕ)
       → bit < 64
@@ -166,7 +174,8 @@ module _ (es : List (Name × Page)) (ws : List (Name × ℕ)) (source number : �
     | inr high ↦
         let first : i / 4096 * 4096 ≡ number * 4096 = omega (arith, below, high, within) in
         let at : i / 64 % 64 ≡ bit = omega (arith, below, high, within) in
-        tells (named_by source i) ((λ k. bit_at (word_in ws (named_by source (first k))) (at k)) ∙ one)
+        tells (named_by source i) ((λ k. bit_at (word_in ws (named_by source (first k))) (at k))
+        ∙ one)
   ]
 
   -- the pages of a word in which each bit is set
@@ -181,3 +190,19 @@ module _ (es : List (Name × Page)) (ws : List (Name × ℕ)) (source number : �
         (ap (λ (n : ℕ). bit_at (word_in ws (named_by source n)) (i / 64 % 64)) first
         ∙ ones (i / 64 % 64) (omega arith))
   ]
+
+-- no pages and no words are as they are to be
+pub IsKept-none : (es : List (Name × Page)) (ws : List (Name × ℕ)) → es ≡ [] → ws ≡ []
+    → IsKept es ws
+IsKept-none es ws no_pages no_words = record {
+  tells = λ q one.
+      let clear : full_bit ws q ≡ 0 =
+      none_set ws q
+      (ap (λ (x : List (Name × ℕ)). is_some (lookup (is_at (name_cmp (word_first q))) x))
+      no_words) in
+      absurd (omega (arith, one, clear));
+  paged = λ q some.
+      let none : true ≡ false = sym some
+      ∙ ap (λ (x : List (Name × Page)). is_some (page_in x q)) no_pages in
+      absurd cc;
+}

@@ -1,4 +1,8 @@
+pub mod AscendLemmas
 pub mod ClosingLemmas
 pub mod FirstLemmas
-mod FullLemmas
-mod MarksLemmas
+pub mod FullLemmas
+pub mod MarksLemmas
+pub mod PagedLemmas
+pub mod RisingLemmas
+pub mod RunsLemmas

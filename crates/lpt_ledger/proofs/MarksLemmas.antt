@@ -40,13 +40,16 @@ unfolding names_from
 among_here zero k i first rest q is from to = absurd (omega (arith, from, to))
 among_here (suc n) k i first rest q is from to = elim (eqb_tells i k) [
   | inl t ↦ inl (is ∙ ap (λ (j : ℕ). named_by first.source (first.id + j)) t.1)
-  | inr t ↦ inr (among_here n (suc k) i first rest q is (omega (arith, from, t.1)) (omega (arith, to)))
+  | inr t ↦ inr
+      (among_here n (suc k) i first rest q is (omega (arith, from, t.1)) (omega (arith, to)))
 ]
 
 -- a name stands on its page
-on_page : (q first : Name) → page_first q ≡ first → q ≡ named_by first.source (first.id + q.id % 64)
+pub on_page : (q first : Name) → page_first q ≡ first → q
+    ≡ named_by first.source (first.id + q.id % 64)
 on_page q first e =
-    (λ i. record { source = q.source; id = parts q.id i }) ∙ ap (λ (x : Name). named_by x.source (x.id + q.id % 64)) e
+    (λ i. record { source = q.source; id = parts q.id i })
+    ∙ ap (λ (x : Name). named_by x.source (x.id + q.id % 64)) e
   where
     parts : (n : ℕ) → n ≡ n / 64 * 64 + n % 64
     parts n = omega arith
@@ -58,7 +61,8 @@ among_pages : (es : List (Name × Page)) (q : Name) (g : Page)
 among_pages [] q g h = absurd cc
 among_pages (e ∷ es) q g h =
     elim (keys.same_or_not name_cmp_total name_cmp-IsAntisymmetric (page_first q) e.0) [
-      | inl w ↦ among_here 64 0 (q.id % 64) e.0 (names_on es) q (on_page q e.0 w.1) (omega arith) (omega arith)
+      | inl w ↦ among_here 64 0 (q.id % 64) e.0 (names_on es) q (on_page q e.0 w.1) (omega arith)
+          (omega arith)
       | inr w ↦
           among_behind 64 0 e.0 (names_on es) q
           (among_pages es q g
@@ -87,7 +91,8 @@ find-marks_over mark q (n ∷ ns) h =
         → find name_cmp q (marked n o (marks_over ns mark)) ≡ mark q
     here later tied same None e = later (inr (ap mark same ∙ e))
     here later tied same (Some x) e =
-        ap (λ b. cond b (Some x) (find name_cmp q (marks_over ns mark))) tied ∙ sym e ∙ ap mark (sym same)
+        ap (λ b. cond b (Some x) (find name_cmp q (marks_over ns mark))) tied ∙ sym e
+        ∙ ap mark (sym same)
 
     there : eq_by_cmp name_cmp q n ≡ false
         → (o : Option Mark)
@@ -151,47 +156,51 @@ one_place q n e same =
 
 module _ (es fs : List (Name × Page)) (name : Name) (s : State) (page : Page)
     (this : page_mark page (name.id % 64) ≡ mark_of s)
-    (others : (b : ℕ) → b < 64 → b ≢ name.id % 64 → page_mark page b ≡ mark_on (page_in es (page_first name)) b)
+    (others : (b : ℕ) → b < 64 → b ≢ name.id % 64 → page_mark page b
+    ≡ mark_on (page_in es (page_first name)) b)
     (put : (q : Name) (b : ℕ) → mark_on (page_in fs q) b
-    ≡ cond (is_at (name_cmp (page_first name)) q) (page_mark page b) (mark_on (page_in es q) b)) where
-  on_this : (q : Name)
-      → page_first name ≡ page_first q
-      → page_mark page (q.id % 64) ≡ cond (eq_by_cmp name_cmp q name) (mark_of s) (mark_at es q)
-  on_this q e = elim (keys.same_or_not name_cmp_total name_cmp-IsAntisymmetric q name) [
-    | inl u ↦
-        ap (λ (x : Name). page_mark page (x.id % 64)) u.1
-        ∙ this
-        ∙ sym (ap (λ b. cond b (mark_of s) (mark_at es q)) u.0)
-    | inr u ↦
-        others (q.id % 64) (omega arith) (λ same. u.1 (one_place q name e same))
-        ∙ ap (λ (x : Name). mark_on (page_in es x) (q.id % 64)) e
-        ∙ sym (ap (λ b. cond b (mark_of s) (mark_at es q)) u.0)
-  ]
+    ≡ cond (is_at (name_cmp (page_first name)) q) (page_mark page b) (mark_on (page_in es q) b))
+  where
+    on_this : (q : Name)
+        → page_first name ≡ page_first q
+        → page_mark page (q.id % 64) ≡ cond (eq_by_cmp name_cmp q name) (mark_of s) (mark_at es q)
+    on_this q e = elim (keys.same_or_not name_cmp_total name_cmp-IsAntisymmetric q name) [
+      | inl u ↦
+          ap (λ (x : Name). page_mark page (x.id % 64)) u.1
+          ∙ this
+          ∙ sym (ap (λ b. cond b (mark_of s) (mark_at es q)) u.0)
+      | inr u ↦
+          others (q.id % 64) (omega arith) (λ same. u.1 (one_place q name e same))
+          ∙ ap (λ (x : Name). mark_on (page_in es x) (q.id % 64)) e
+          ∙ sym (ap (λ b. cond b (mark_of s) (mark_at es q)) u.0)
+    ]
 
-  on_another : (q : Name)
-      → page_first name ≢ page_first q
-      → mark_at es q ≡ cond (eq_by_cmp name_cmp q name) (mark_of s) (mark_at es q)
-  on_another q other = elim (keys.same_or_not name_cmp_total name_cmp-IsAntisymmetric q name) [
-    | inl u ↦ absurd (other (ap page_first (sym u.1)))
-    | inr u ↦ sym (ap (λ b. cond b (mark_of s) (mark_at es q)) u.0)
-  ]
+    on_another : (q : Name)
+        → page_first name ≢ page_first q
+        → mark_at es q ≡ cond (eq_by_cmp name_cmp q name) (mark_of s) (mark_at es q)
+    on_another q other = elim (keys.same_or_not name_cmp_total name_cmp-IsAntisymmetric q name) [
+      | inl u ↦ absurd (other (ap page_first (sym u.1)))
+      | inr u ↦ sym (ap (λ b. cond b (mark_of s) (mark_at es q)) u.0)
+    ]
 
-  mark_at-put : (q : Name) → mark_at fs q ≡ cond (eq_by_cmp name_cmp q name) (mark_of s) (mark_at es q)
-  mark_at-put q =
-      put (page_first q) (q.id % 64)
-      ∙ elim (keys.same_or_not name_cmp_total name_cmp-IsAntisymmetric (page_first name) (page_first q)) [
-        | inl t ↦
-            ap (λ b. cond b (page_mark page (q.id % 64)) (mark_at es q)) t.0
-            ∙ on_this q t.1
-        | inr t ↦
-            ap (λ b. cond b (page_mark page (q.id % 64)) (mark_at es q)) t.0
-            ∙ on_another q t.1
-      ]
+    mark_at-put : (q : Name) → mark_at fs q
+        ≡ cond (eq_by_cmp name_cmp q name) (mark_of s) (mark_at es q)
+    mark_at-put q =
+        put (page_first q) (q.id % 64)
+        ∙ elim (keys.same_or_not name_cmp_total name_cmp-IsAntisymmetric (page_first name)
+        (page_first q)) [
+          | inl t ↦
+              ap (λ b. cond b (page_mark page (q.id % 64)) (mark_at es q)) t.0
+              ∙ on_this q t.1
+          | inr t ↦
+              ap (λ b. cond b (page_mark page (q.id % 64)) (mark_at es q)) t.0
+              ∙ on_another q t.1
+        ]
 
-  -- to put the page with a name's state is to set its mark
-  pub marks-put : marks fs ≡ with_state (marks es) name s
-  marks-put = same_marks (marks fs) (with_state (marks es) name s) (λ q.
-      get-marks fs q
-      ∙ mark_at-put q
-      ∙ ap (cond (eq_by_cmp name_cmp q name) (mark_of s)) (sym (get-marks es q))
-      ∙ sym (get-with_state (marks es) name s q))
+    -- to put the page with a name's state is to set its mark
+    pub marks-put : marks fs ≡ with_state (marks es) name s
+    marks-put = same_marks (marks fs) (with_state (marks es) name s) (λ q.
+        get-marks fs q
+        ∙ mark_at-put q
+        ∙ ap (cond (eq_by_cmp name_cmp q name) (mark_of s)) (sym (get-marks es q))
+        ∙ sym (get-with_state (marks es) name s q))

@@ -96,6 +96,15 @@ word_first name = named_by name.source (name.id / 4096 * 4096)
 abbrev pub full_bit : List (Name × ℕ) → Name → ℕ
 full_bit ws name = bit_at (word_in ws (word_first name)) (name.id / 64 % 64)
 
+-- each page stands under its first name
+abbrev pub ArePaged : List (Name × Page) → Type 0
+ArePaged es = (q : Name) → is_some (page_in es q) ≡ true → page_first q ≡ q
+
 -- a page has its bit set only where none of its names is free
 abbrev pub Tells : List (Name × Page) → List (Name × ℕ) → Type 0
 Tells es ws = (q : Name) → full_bit ws q ≡ 1 → is_some (mark_at es q) ≡ true
+
+-- what always holds of a ledger's pages and bits
+pub record IsKept (es : List (Name × Page)) (ws : List (Name × ℕ)) : Type 0 where
+  pub tells : Tells es ws
+  pub paged : ArePaged es

@@ -4,4 +4,6 @@ pub mod LeastFree
 pub mod LedgerInside
 pub mod Marks
 pub mod Refusals
+pub mod Runs
+pub mod RunsInside
 pub mod States

@@ -1,6 +1,6 @@
 //! The ledger of the names of one end.
 
-ghost use Rattle.std.specs.Prelude.{◌≡◌, ◌≢◌, ℕ, ◌<◌, true, None, Some, cond, is_some, IfOk, IfErr, IfSome, IfNone, OnOk, OnErr};
+ghost use Rattle.std.specs.Prelude.{◌≡◌, ◌≢◌, ℕ, ◌<◌, true, false, None, Some, cond, is_some, IfOk, IfErr, IfSome, IfNone, OnOk, OnErr};
 ghost use Rattle.std.specs.BTreeMap.{is_at};
 ghost use Rattle.std.specs.FinMap as map;
 ghost use Rattle.lpt_packet.specs.Names.{name_cmp};
@@ -27,14 +27,14 @@ const WORDS: u16 = 16;
 pub struct Ledger {
     // The pages of the names that aren't free, by their first names. A page has a place in memory
     // where one of its names isn't free.
-    pages: BTreeMap<Name, Page>,
+    pub(crate) pages: BTreeMap<Name, Page>,
     // A bit for each page, which is set only where none of its names is free.
     full: Words,
 }
 
 impl Model for Ledger {
     ghost use Rattle.lpt_ledger.specs.Marks.{Marks, coded_marks};
-    ghost use Rattle.lpt_ledger.specs.LedgerInside.{marks, Tells};
+    ghost use Rattle.lpt_ledger.specs.LedgerInside.{marks, IsKept};
 
     ghost Value = { Marks };
 
@@ -42,7 +42,7 @@ impl Model for Ledger {
 
     ghost view = { λ a. marks a.pages.entries };
 
-    ghost invariant = { λ a. Tells a.pages.entries a.full.entries };
+    ghost invariant = { λ a. IsKept a.pages.entries a.full.entries };
 }
 
 impl Ledger {
@@ -196,7 +196,7 @@ impl Ledger {
 
     // Sets the state of a name. The only error is out of memory, which comes for a free one
     // alone.
-    fn set(&mut self, name: Name, state: State) -> Result<(), AllocError>
+    pub(crate) fn set(&mut self, name: Name, state: State) -> Result<(), AllocError>
         ensures ok { OnOk result (self.new ≡ with_state self.old name state) }
         ensures free { OnErr result (state_at self.old name ≡ State.Free) }
         ensures err { OnErr result (self.new ≡ self.old) }
@@ -225,8 +225,11 @@ fn page_of(pages: &BTreeMap<Name, Page>, first: Name) -> Page
 // of memory, which comes only where there was no page.
 fn put_page(pages: &mut BTreeMap<Name, Page>, first: Name, page: Page) -> Result<(), AllocError>
     ensures ok { OnOk result ((q : Name) (b : ℕ) → mark_on (page_in pages.new.entries q) b
-        ≡ cond (is_at (name_cmp first) q) (page_mark page b) (mark_on (page_in pages.old.entries q) b)) }
+        ≡ cond (is_at (name_cmp first) q) (page_mark page b)
+        (mark_on (page_in pages.old.entries q) b)) }
     ensures none { OnErr result (page_in pages.old.entries first ≡ None) }
+    ensures others { (q : Name) → is_at (name_cmp first) q ≡ false
+        → page_in pages.new.entries q ≡ page_in pages.old.entries q }
     ensures err { OnErr result (pages.new.entries ≡ pages.old.entries) }
 {
     if page.is_empty() {

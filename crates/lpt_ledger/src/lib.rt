@@ -3,7 +3,8 @@
 //!
 //! The main type is `Ledger`, which keeps the `State` of each name, and takes memory for those that
 //! aren't free alone. The first calls are `Ledger::new` and `open`; `state` and
-//! `least_free` look, and a refused call answers a `LedgerFault` and changes nothing.
+//! `least_free` look, and a refused call answers a `LedgerFault` and changes nothing. `runs` lists
+//! the names in use, and `shut_run` closes such a list again.
 #![tactic(auto)]
 
 mod bits;
@@ -12,8 +13,11 @@ mod full;
 pub mod laws;
 mod ledger;
 mod page;
+mod run;
+mod runs;
 mod state;
 
 pub use fault::LedgerFault;
 pub use ledger::Ledger;
+pub use run::Run;
 pub use state::State;

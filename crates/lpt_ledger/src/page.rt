@@ -45,6 +45,14 @@ impl Page {
         }
     }
 
+    /// Whether the name at a place isn't free.
+    pub(crate) fn is_taken(self, place: u32) -> bool
+        requires { place < 64 }
+        ensures { result ≡ is_some (page_mark self place) }
+    {
+        has_bit(self.taken, place)
+    }
+
     /// The page once the name at a place has this state.
     pub(crate) fn with(self, place: u32, state: State) -> Page
         requires { place < 64 }

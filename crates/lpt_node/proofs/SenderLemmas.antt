@@ -13,13 +13,15 @@ use Rattle.lpt_events.specs.declared.config.Config.{Config}
 use Rattle.lpt_events.specs.Configs.{IsConfig}
 use Rattle.lpt_node.specs.NodeInside.{OpenMessages, AreKept, IsConfigured, IsSound}
 use Rattle.lpt_node.specs.Receivers.{ReceiverState}
+use Rattle.lpt_node.specs.Restarts.{NoneOpen}
 use Rattle.lpt_node.proofs.MapLemmas.{get_insert, get_remove}
 
 -- what is under a name in both maps, where it is this
 abbrev Tied : Option Mark → Option (List ℕ) → Type 0
 Tied x m = is_some m ≡ is_open (state_of x)
 
-either : (b : Bool) (x y : Option Mark) (m n : Option (List ℕ)) → Tied x m → Tied y n → Tied (cond b x y) (cond b m n)
+either : (b : Bool) (x y : Option Mark) (m n : Option (List ℕ)) → Tied x m → Tied y n
+    → Tied (cond b x y) (cond b m n)
 either true x y m n a b = a
 either false x y m n a b = b
 
@@ -28,8 +30,11 @@ pub kept-opened : (m : Marks) (ms : Messages) (name : Name) (x : List ℕ)
     → AreKept m ms
     → AreKept (map.insert m name Opened) (map.insert ms name x)
 kept-opened m ms name x all q =
-    subst (λ o. is_some (map.get (map.insert ms name x) q) ≡ is_open (state_of o)) (sym (get_insert m name Opened q))
-    (subst (λ n. is_some n ≡ is_open (state_of (cond (same_name q name) (Some Opened) (map.get m q)))) (sym (get_insert ms name x q))
+    subst (λ o. is_some (map.get (map.insert ms name x) q)
+    ≡ is_open (state_of o)) (sym (get_insert m name Opened q))
+    (subst (λ n. is_some n
+    ≡ is_open (state_of (cond (same_name q name) (Some Opened) (map.get m q))))
+    (sym (get_insert ms name x q))
     (either (same_name q name) (Some Opened) (map.get m q) (Some x) (map.get ms q) refl (all q)))
 
 -- a sender was closed, and its message let go
@@ -37,8 +42,11 @@ pub kept-closed : (m : Marks) (ms : Messages) (name : Name)
     → AreKept m ms
     → AreKept (map.insert m name Shut) (map.remove ms name)
 kept-closed m ms name all q =
-    subst (λ o. is_some (map.get (map.remove ms name) q) ≡ is_open (state_of o)) (sym (get_insert m name Shut q))
-    (subst (λ n. is_some n ≡ is_open (state_of (cond (same_name q name) (Some Shut) (map.get m q)))) (sym (get_remove ms name q))
+    subst (λ o. is_some (map.get (map.remove ms name) q)
+    ≡ is_open (state_of o)) (sym (get_insert m name Shut q))
+    (subst (λ n. is_some n
+    ≡ is_open (state_of (cond (same_name q name) (Some Shut) (map.get m q))))
+    (sym (get_remove ms name q))
     (either (same_name q name) (Some Shut) (map.get m q) None (map.get ms q) refl (all q)))
 
 -- a name was made free that isn't open
@@ -63,19 +71,11 @@ kept-retired m ms name all other q =
         ∙ not_open (state_at m name) other
     go false apart = refl
 
--- nothing was opened
-pub kept-none : AreKept map.empty map.empty
-kept-none q =
-    subst (λ o. is_some (map.get nothing q) ≡ is_open (state_of o)) (sym (map.get-empty name_cmp q))
-    (ap is_some (map.get-empty name_cmp q))
-  where
-    nothing : Messages
-    nothing = map.empty
-
 -- ---- what always holds of an end
 
 -- a message was opened
-pub sound-opened : (c : Config) (m after : Marks) (r : ReceiverState) (o new : OpenMessages) (name : Name) (x : List ℕ)
+pub sound-opened : (c : Config) (m after : Marks) (r : ReceiverState) (o new : OpenMessages)
+    (name : Name) (x : List ℕ)
     → IsSound c m r o
     → after ≡ map.insert m name Opened
     → new ≡ record o { messages = map.insert o.messages name x }
@@ -85,7 +85,8 @@ sound-opened c m after r o new name x s a b = record {
   receiver = s.receiver;
   messages = ap (λ (o : OpenMessages). o.p) b ∙ s.messages;
   kept = subst (λ (n : OpenMessages). AreKept after n.messages) (sym b)
-      (subst (λ (m : Marks). AreKept m (map.insert o.messages name x)) (sym a) (kept-opened m o.messages name x s.kept));
+      (subst (λ (m : Marks). AreKept m (map.insert o.messages name x)) (sym a)
+      (kept-opened m o.messages name x s.kept));
 }
 
 -- a message was opened, or handed back
@@ -103,7 +104,8 @@ sound-begun (Err y) c m after r o new name x s a b d e =
     (subst (λ (n : Marks). IsSound c n r o) (sym d) s)
 
 -- a sender was closed
-pub sound-closed : (c : Config) (m after : Marks) (r : ReceiverState) (o new : OpenMessages) (name : Name)
+pub sound-closed : (c : Config) (m after : Marks) (r : ReceiverState) (o new : OpenMessages)
+    (name : Name)
     → IsSound c m r o
     → after ≡ map.insert m name Shut
     → new ≡ record o { messages = map.remove o.messages name }
@@ -113,11 +115,13 @@ sound-closed c m after r o new name s a b = record {
   receiver = s.receiver;
   messages = ap (λ (o : OpenMessages). o.p) b ∙ s.messages;
   kept = subst (λ (n : OpenMessages). AreKept after n.messages) (sym b)
-      (subst (λ (m : Marks). AreKept m (map.remove o.messages name)) (sym a) (kept-closed m o.messages name s.kept));
+      (subst (λ (m : Marks). AreKept m (map.remove o.messages name)) (sym a)
+      (kept-closed m o.messages name s.kept));
 }
 
 -- a name was made free
-pub sound-retired : (c : Config) (m after : Marks) (r : ReceiverState) (o : OpenMessages) (name : Name)
+pub sound-retired : (c : Config) (m after : Marks) (r : ReceiverState) (o : OpenMessages)
+    (name : Name)
     → IsSound c m r o
     → after ≡ map.remove m name
     → state_at m name ≢ Open
@@ -130,17 +134,23 @@ sound-retired c m after r o name s is other = record {
       (kept-retired m o.messages name s.kept other);
 }
 
--- nothing has happened
+-- no name is open in an empty ledger
+pub none_open_new : (m : Marks) → m ≡ map.empty → NoneOpen m
+none_open_new m is =
+    subst NoneOpen (sym is)
+    (λ q. ap (λ (o : Option Mark). is_open (state_of o)) (map.get-empty name_cmp q))
+
+-- no sender is open, and no message is kept
 pub sound-new : (c : Config) (m : Marks) (r : ReceiverState) (o : OpenMessages)
     → IsConfig c
     → IsConfigured c r
-    → m ≡ map.empty
+    → NoneOpen m
     → o ≡ record { p = c.part_size; messages = map.empty }
     → IsSound c m r o
-sound-new c m r o configured receiver a b = record {
+sound-new c m r o configured receiver closed is = record {
   configured = configured;
   receiver = receiver;
-  messages = ap (λ (o : OpenMessages). o.p) b;
-  kept = subst (λ (n : OpenMessages). AreKept m n.messages) (sym b)
-      (subst (λ (m : Marks). AreKept m map.empty) (sym a) kept-none);
+  messages = ap (λ (o : OpenMessages). o.p) is;
+  kept = subst (λ (n : OpenMessages). AreKept m n.messages) (sym is)
+      (λ q. ap is_some (map.get-empty name_cmp q) ∙ sym (closed q));
 }

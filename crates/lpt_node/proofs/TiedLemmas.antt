@@ -13,7 +13,9 @@ use Rattle.lpt_reception.specs.Received.{Received}
 use Rattle.lpt_table.specs.Offering.{TakesOut, is_open, parts_at, put_back, received_at}
 use Rattle.lpt_table.specs.Tables.{Entries, TableEntry, TableState, no_receptions}
 use Rattle.lpt_node.proofs.MapLemmas.{get_insert, get_remove, remove-none}
+use Rattle.lpt_node.specs.Nodes.{is_open as is_open_name}
 use Rattle.lpt_node.specs.Receivers.{IsTied, AllTied, IsReceiver}
+use Rattle.lpt_node.specs.Restarts.{NoneOpen}
 
 -- ---- names stay tied
 
@@ -28,7 +30,8 @@ tied-insert m es name e free all q =
           → same_name q name ≡ b
           → IsTied (state_at m q) (cond b (Some e) (map.get es q))
       go true same =
-          subst (λ s. IsTied s (Some e)) (sym (ap (state_at m) (same_name-true q name same) ∙ free)) tt
+          subst (λ s. IsTied s (Some e)) (sym (ap (state_at m) (same_name-true q name same)
+          ∙ free)) tt
       go false other = all q
 
 -- a reception has ended
@@ -73,10 +76,12 @@ sound-out (Ok x) m after old mid new name before sound out a b c d is law =
     let table : new ≡ record old { entries = map.remove old.entries name; out = None } =
     b ∙ ap (λ (t : TableState). record t { out = None }) out.now in
     subst (λ (t : TableState). IsReceiver after t) (sym table)
-    (subst (λ (m : Marks). IsReceiver m (record old { entries = map.remove old.entries name; out = None }))
+    (subst (λ (m : Marks).
+    IsReceiver m (record old { entries = map.remove old.entries name; out = None }))
     (sym a) (record { settled = refl; tied = tied-ended m old.entries name sound.tied }))
 sound-out (Err x) m after old mid new name before sound out a b c d is law =
-    subst (λ (t : TableState). IsReceiver after t) (sym (d ∙ ap (λ (s : Received). put_back mid name s.parts) is ∙ law))
+    subst (λ (t : TableState). IsReceiver after t) (sym (d
+    ∙ ap (λ (s : Received). put_back mid name s.parts) is ∙ law))
     (subst (λ (m : Marks). IsReceiver m old) (sym c) sound)
 
 -- a gap was found before a reception was open
@@ -150,17 +155,29 @@ sound-cleared m old new sound is =
     go Open e tied = tied
     go Closed e tied = refl
 
--- nothing has happened
+-- no reception is open, and no name
 pub sound-new : (limit timeout p : ℕ) (mode : Mode) (m : Marks) (t : TableState)
-    → m ≡ map.empty
+    → NoneOpen m
     → t ≡ no_receptions limit timeout p mode
     → IsReceiver m t
-sound-new limit timeout p mode m t a b =
-    subst (λ (t : TableState). IsReceiver m t) (sym b)
-    (subst (λ (m : Marks). IsReceiver m (no_receptions limit timeout p mode)) (sym a)
-    (record { settled = refl; tied = λ q. nothing q }))
+sound-new limit timeout p mode m t closed is =
+    subst (λ (t : TableState). IsReceiver m t) (sym is)
+    (record {
+      settled = refl;
+      tied = λ q.
+          subst (IsTied (state_at m q)) (sym (map.get-empty name_cmp q))
+          (go (state_at m q) (closed q));
+    })
   where
-    nothing : (q : Name) → IsTied (state_at map.empty q) (map.get (no_receptions limit timeout p mode).entries q)
-    nothing q =
-        subst (λ o. IsTied (state_of o) (map.get (no_receptions limit timeout p mode).entries q))
-        (sym (map.get-empty name_cmp q)) tt
+    go : (s : State) → is_open_name s ≡ false → IsTied s None
+    go Free h = tt
+    go Open h = absurd cc
+    go Closed h = refl
+
+-- no name is open
+pub never_open : (m : Marks) (es : Entries) → AllTied m es → NoneOpen m
+never_open m es tied q = go (state_at m q) (map.get es q) (tied q) where
+  go : (s : State) (e : Option TableEntry) → IsTied s e → is_open_name s ≡ false
+  go Free e h = refl
+  go Open e h = absurd h
+  go Closed e h = refl

@@ -1,15 +1,31 @@
--- What an end does when a transaction is retired, and when it is restarted.
-use Rattle.std.specs.Prelude.{◌+◌, Bool, not, if◌then◌else◌, is_some}
+-- The state of a name at an end, what the end does when a transaction is retired, and when it is
+-- restarted.
+use Rattle.std.specs.Prelude.{◌≡◌, ℕ, ◌+◌, Bool, false, not, if◌then◌else◌, is_some}
 use Rattle.std.specs.FinMap as map
 use Rattle.lpt_packet.specs.declared.direction.Direction.{Direction}
 use Rattle.lpt_packet.specs.Names.{Name}
 use Rattle.lpt_jobs.specs.Jobs.{no_jobs}
-use Rattle.lpt_ledger.specs.Marks.{all_closed}
+use Rattle.lpt_ledger.specs.declared.state.State.{State}
+use Rattle.lpt_ledger.specs.declared.state.State.TheVariants.{Open}
+use Rattle.lpt_ledger.specs.Marks.{Marks, all_closed}
 use Rattle.lpt_ledger.specs.States.{state_at}
 use Rattle.lpt_events.specs.Lanes.{same_direction}
 use Rattle.lpt_events.specs.declared.side.Side.{Side}
 use Rattle.lpt_node.specs.Counting.{no_types}
-use Rattle.lpt_node.specs.Nodes.{NodeData, direction_from, is_open}
+use Rattle.lpt_node.specs.Nodes.{NodeData, Receiving, direction_from, is_open}
+
+-- ---- the state of a name
+
+-- the state of a name at its receiver: open where a reception of it is
+abbrev pub received_state : Receiving → Name → State
+received_state r name = if is_some (map.get r.entries name) then Open else state_at r.ledger name
+
+-- the state of a name at an end: in the direction in which it sends its sender's, in the other its
+-- receiver's
+abbrev pub name_state : Side → NodeData → Direction → Name → State
+name_state side d way name =
+    if same_direction way (direction_from side) then state_at d.sending.ledger name
+    else received_state d.receiving name
 
 -- ---- retirement
 
@@ -43,5 +59,19 @@ restarted d = record {
   receiving = record d.receiving { entries = map.empty };
   clock = d.clock;
   boot = d.boot + 1;
+  jobs = no_jobs;
+}
+
+-- no name is open
+abbrev pub NoneOpen : Marks → Type 0
+NoneOpen m = (name : Name) → is_open (state_at m name) ≡ false
+
+-- an end with this boot and clock at which nothing is open, and that knows these names
+abbrev pub resumed : (boot clock : ℕ) → (sent received : Marks) → NodeData
+resumed boot clock sent received = record {
+  sending = record { ledger = sent; messages = map.empty; count = 0; types = no_types };
+  receiving = record { ledger = received; entries = map.empty };
+  clock = clock;
+  boot = boot;
   jobs = no_jobs;
 }

@@ -5,6 +5,7 @@ ghost use Rattle.std.specs.FinMap as map;
 ghost use Rattle.lpt_ledger.specs.States.{state_at};
 ghost use Rattle.lpt_events.specs.Configs.{IsConfig};
 ghost use Rattle.lpt_node.specs.Nodes.{new_node, is_open, message_at};
+ghost use Rattle.lpt_node.specs.Restarts.{resumed, NoneOpen};
 
 use crate::counts::Counts;
 use crate::outgoing::Outgoing;
@@ -74,6 +75,31 @@ impl Node {
         requires { IsConfig config.now }
         ensures { IfOk result (λ n. n ≡ new_node side config.now) }
     {
+        let senders = Ledger::new(alloc);
+        let receivers = Ledger::new(alloc);
+        Node::resume(alloc, side, config, 0, config.clock, senders, receivers)
+    }
+
+    /// An end with this boot and clock that knows these names, of which none is open, as a restart
+    /// leaves one. The only error is out of memory.
+    pub fn resume(
+        alloc: Global,
+        side: Side,
+        config: &Config,
+        boot: u64,
+        clock: u32,
+        senders: Ledger,
+        receivers: Ledger,
+    ) -> Result<Node, AllocError>
+        requires config { IsConfig config.now }
+        requires senders { NoneOpen senders }
+        requires receivers { NoneOpen receivers }
+        ensures { IfOk result (λ n. n ≡ record {
+          side = side;
+          config = config.now;
+          at = resumed boot clock senders receivers;
+        }) }
+    {
         let Config {
             part_size,
             timeout,
@@ -81,19 +107,49 @@ impl Node {
             mode,
             ..
         } = *config;
-        let receiver = Receiver::new(alloc, receptions, timeout, part_size, mode)?;
+        let receiver = Receiver::new(alloc, receivers, receptions, timeout, part_size, mode)?;
         Ok(Node {
             alloc,
             side,
             config: *config,
-            senders: Ledger::new(alloc),
+            senders,
             outgoing: Outgoing::new(alloc, part_size),
             counts: Counts::new(),
             receiver,
-            clock: config.clock,
-            boot: 0,
+            clock,
+            boot,
             jobs: JobQueue::new(alloc),
         })
+    }
+
+    /// Which end it is.
+    pub fn side(&self) -> Side
+        ensures { result ≡ self.now.side }
+    {
+        self.side
+    }
+
+    /// The configuration.
+    pub fn config(&self) -> &Config
+        ensures config { result.now ≡ self.now.config }
+        ensures in_range { IsConfig result.now }
+    {
+        &self.config
+    }
+
+    /// The names of outgoing transactions.
+    pub fn senders(&self) -> &Ledger
+        ensures { result.now ≡ self.now.at.sending.ledger }
+    {
+        &self.senders
+    }
+
+    /// The names of incoming transactions, closed where a reception has ended, and never open.
+    pub fn receivers(&self) -> &Ledger
+        ensures names { result.now ≡ self.now.at.receiving.ledger }
+        ensures none_open { NoneOpen result.now }
+    {
+        self.receiver.ledger()
     }
 
     /// The clock, in ticks.

@@ -1,6 +1,6 @@
 //! What receives at one end: the state of each name, and the open receptions.
 
-ghost use Rattle.std.specs.Prelude.{◌≡◌, ◌+◌, ◌<◌, ◌^◌, [], true, IsTrue, is_some, IfSome, IfOk, OnOk, OnErr};
+ghost use Rattle.std.specs.Prelude.{◌≡◌, ◌+◌, ◌<◌, ◌^◌, [], true, if◌then◌else◌, IsTrue, is_some, IfSome, IfOk, OnOk, OnErr};
 ghost use Rattle.std.specs.FinMap as map;
 ghost use Rattle.std.specs.Option.{option_map};
 ghost use Rattle.lpt_part.specs.declared.reason.Reason.TheVariants as why;
@@ -13,6 +13,7 @@ ghost use Rattle.lpt_table.specs.Tables.{IsTableSize};
 ghost use Rattle.lpt_jobs.specs.Jobs.{numbered};
 ghost use Rattle.lpt_node.specs.Receivers.{abort_report, ended, grows, received, table_in, IsSameReceiver, IsShort};
 ghost use Rattle.lpt_node.specs.Receiving.{jobs_after};
+ghost use Rattle.lpt_node.specs.Restarts.{NoneOpen};
 
 use crate::ending::{abort, break_off, close_reported, release};
 use crate::receipt::Receipt;
@@ -60,30 +61,41 @@ impl Model for Receiver {
 }
 
 impl Receiver {
-    /// A receiver with places for `limit` receptions, of which none is open. The only error is out
-    /// of memory.
+    /// A receiver that knows these names, with places for `limit` receptions, of which none is
+    /// open. The only error is out of memory.
     pub(crate) fn new(
         alloc: Global,
+        ledger: Ledger,
         limit: u32,
         timeout: u32,
         p: u32,
         mode: Mode,
     ) -> Result<Receiver, AllocError>
-        requires { IsTableSize limit timeout p }
+        requires sizes { IsTableSize limit timeout p }
+        requires closed { NoneOpen ledger }
         ensures { IfOk result (λ r. r ≡ record {
           limit = limit;
           timeout = timeout;
           p = p;
           mode = mode;
-          ledger = map.empty;
+          ledger = ledger;
           entries = map.empty;
         }) }
     {
+        let table = Table::new(alloc, limit, timeout, p, mode)?;
         Ok(Receiver {
             alloc,
-            ledger: Ledger::new(alloc),
-            table: Table::new(alloc, limit, timeout, p, mode)?,
+            ledger,
+            table,
         })
+    }
+
+    /// The names, closed where a reception has ended, and never open.
+    pub(crate) fn ledger(&self) -> &Ledger
+        ensures names { result.now ≡ self.now.ledger }
+        ensures none_open { NoneOpen result.now }
+    {
+        &self.ledger
     }
 
     /// Whether a reception of this name is open.
@@ -96,6 +108,18 @@ impl Receiver {
         self.table.is_open(name)
     }
 
+    /// The state of a name, which is open while a reception is.
+    pub(crate) fn state(&self, name: Name) -> State
+        ensures { result ≡ if is_some (map.get self.now.entries name) then State.Open
+            else state_at self.now.ledger name }
+    {
+        if self.table.is_open(name) {
+            State::Open
+        } else {
+            self.ledger.state(name)
+        }
+    }
+
     /// The name of the reception that is due at this tick.
     pub(crate) fn due(&self, now: u32) -> Option<Name>
         ensures due { result ≡ due_of (table_in self.now) now }
@@ -105,8 +129,8 @@ impl Receiver {
     }
 
     /// Takes a part that came from this source, or to it, at this tick. A message that is whole is
-    /// joined and its reception ended; at the spacecraft it becomes a job. One that is broken off is
-    /// ended with a report of it, where reports have a head.
+    /// joined and its reception ended; at the spacecraft it becomes a job. One that is broken off
+    /// is ended with a report of it, where reports have a head.
     ///
     /// The only error is out of memory, and then nothing has changed.
     pub(crate) fn accept(
@@ -121,7 +145,8 @@ impl Receiver {
         requires p { part.now.p ≡ self.old.p }
         requires numbers { numbered jobs.old + 1 < 2 ^ 64 }
         ensures ok { IfOk result (λ t. (self.new, t)
-            ≡ received (option_map (λ h. as_written (telemetry h [])) head) self.old (named source (piece part.now)) now) }
+            ≡ received (option_map (λ h. as_written (telemetry h [])) head) self.old
+            (named source (piece part.now)) now) }
         ensures jobs { IfOk result (λ t. jobs.new ≡ jobs_after side jobs.old t) }
         ensures short { IfOk result IsShort }
 
@@ -129,7 +154,8 @@ impl Receiver {
 
         // Memory runs out only where some is taken.
         ensures memory { OnErr result
-            (grows (received (option_map (λ h. as_written (telemetry h [])) head) self.old (named source (piece part.now)) now).1 ≡ true) }
+            (grows (received (option_map (λ h. as_written (telemetry h [])) head) self.old
+            (named source (piece part.now)) now).1 ≡ true) }
         ensures err { OnErr result (self.new ≡ self.old) }
         ensures no_job { OnErr result (jobs.new ≡ jobs.old) }
     {

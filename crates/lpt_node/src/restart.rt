@@ -1,11 +1,11 @@
-//! Retirement of a transaction's name, and a restart of the node.
+//! The state of a transaction's name, its retirement, and a restart of the node.
 
 ghost use Rattle.std.specs.Prelude.{◌≡◌, ◌≢◌, ◌+◌, ◌<◌, ◌^◌, IsTrue};
 ghost use Rattle.std.specs.FinMap as map;
 ghost use Rattle.lpt_ledger.specs.Marks.{all_closed};
 ghost use Rattle.lpt_ledger.specs.States.{state_at};
 ghost use Rattle.lpt_events.specs.Lanes.{same_direction};
-ghost use Rattle.lpt_node.specs.Restarts.{may_retire, retired, restarted};
+ghost use Rattle.lpt_node.specs.Restarts.{may_retire, name_state, retired, restarted};
 ghost use Rattle.lpt_node.specs.NodeInside.{AreKept};
 ghost use Rattle.lpt_node.specs.Nodes.{direction_from};
 
@@ -18,6 +18,18 @@ use lpt_ledger::{Ledger, LedgerFault, State};
 use lpt_packet::{Direction, Name};
 
 impl Node {
+    /// The state of a transaction's name at this end: in the direction in which the node sends, its
+    /// sender's; in the other, its receiver's, which is open while a reception is.
+    pub fn state(&self, direction: Direction, name: Name) -> State
+        ensures { result ≡ name_state self.now.side self.now.at direction name }
+    {
+        if is_sender(self.side, direction) {
+            self.senders.state(name)
+        } else {
+            self.receiver.state(name)
+        }
+    }
+
     /// Makes the name of a transaction free at this end, so that it can be used again: in the
     /// direction in which the node sends, its sender's, which must not be open; in the other, its
     /// receiver's, of which no reception may be open. A name that is free stays so.

@@ -4,8 +4,8 @@ use Rattle.std.proofs.lemmas.Map.Made.{map_same_pairs}
 use Rattle.lpt_packet.specs.Names.{Name}
 use Rattle.lpt_ledger.specs.declared.page.Page.{Page}
 use Rattle.lpt_ledger.specs.Marks.{Marks, all_closed}
-use Rattle.lpt_ledger.specs.LedgerInside.{closed_page, marks, Tells}
-use Rattle.lpt_ledger.proofs.ClosingLemmas.{all_pages, marks-closed, Tells-closed}
+use Rattle.lpt_ledger.specs.LedgerInside.{closed_page, marks, IsKept}
+use Rattle.lpt_ledger.proofs.ClosingLemmas.{all_pages, marks-closed, IsKept-closed}
 use Rattle.lpt_ledger.proofs.ledger.Ledger.close_all.Goals as goal
 use Rattle.lpt_ledger.proofs.ledger.Ledger.close_all.Goals.{After-retain}
 
@@ -19,8 +19,8 @@ returns c =
     ∙ marks-closed c.self.inside.pages.entries
     ∙ ap (λ (m : Marks). all_closed m) c.self.view_is
 
--- no page has got a free name
+-- no page has got a free name, and each stands where it did
 pub invariant_of-self : goal.invariant_of-self
 invariant_of-self c =
-    subst (λ (es : List (Name × Page)). Tells es c.self.inside.full.entries) (sym (each c))
-    (Tells-closed c.self.inside.pages.entries c.self.inside.full.entries c.self.invariant)
+    subst (λ (es : List (Name × Page)). IsKept es c.self.inside.full.entries) (sym (each c))
+    (IsKept-closed c.self.inside.pages.entries c.self.inside.full.entries c.self.invariant)

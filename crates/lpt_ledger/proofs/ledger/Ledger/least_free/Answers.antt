@@ -21,9 +21,11 @@ begins number bit = omega arith
 
 pub loop-number-preserved-then-word : goal.loop-number-preserved-then-word
 loop-number-preserved-then-word c =
-    told_word c.self.inside.pages.entries c.self.inside.full.entries c.args.source c.loop-number.number
-    c.self.invariant c.loop-number.invariant (λ i within.
-    ap (λ (w : ℕ). bit_at w i) (sym c.word_of-word.ensures ∙ c.if-word.true) ∙ bit_at_ones 64 i within)
+    told_word c.self.inside.pages.entries c.self.inside.full.entries c.args.source
+    c.loop-number.number
+    c.self.invariant.tells c.loop-number.invariant (λ i within.
+    ap (λ (w : ℕ). bit_at w i) (sym c.word_of-word.ensures ∙ c.if-word.true)
+    ∙ bit_at_ones 64 i within)
 
 pub loop-number-preserved : goal.loop-number-preserved
 loop-number-preserved c = λ i below.
@@ -32,22 +34,27 @@ loop-number-preserved c = λ i below.
 pub loop-bit-preserved-then-has_bit : goal.loop-bit-preserved-then-has_bit
 loop-bit-preserved-then-has_bit c =
     let one : bit_at c.word_of-word.result c.loop-bit.bit ≡ 1 = search rules in
-    told_page c.self.inside.pages.entries c.self.inside.full.entries c.args.source c.loop-number.number
-    c.self.invariant c.loop-bit.bit c.loop-bit-test.true c.loop-bit.invariant
+    told_page c.self.inside.pages.entries c.self.inside.full.entries c.args.source
+    c.loop-number.number
+    c.self.invariant.tells c.loop-bit.bit c.loop-bit-test.true c.loop-bit.invariant
     (ap (λ (w : ℕ). bit_at w c.loop-bit.bit) (sym c.word_of-word.ensures) ∙ one)
 
 pub loop-bit-preserved : goal.loop-bit-preserved
 loop-bit-preserved c = λ i below.
-    page_taken c.self.inside.pages.entries c.args.source (c.loop-number.number * 64 + c.loop-bit.bit)
+    page_taken c.self.inside.pages.entries c.args.source
+    (c.loop-number.number * 64 + c.loop-bit.bit)
     c.loop-bit.invariant
-    (subst (λ (p : ℕ). (k : ℕ) → k < 64 → is_some (mark_on (page_in c.self.inside.pages.entries (named_by c.args.source p)) k) ≡ true)
+    (subst (λ (p : ℕ). (k : ℕ) → k < 64
+    → is_some (mark_on (page_in c.self.inside.pages.entries (named_by c.args.source p)) k)
+    ≡ true)
     (begins c.loop-number.number c.loop-bit.bit) c.in_default.ensures.none)
     i (omega (arith, below))
 
 -- ---- a page has one
 
 is_first : (c : goal.In-Some)
-    → Tested c.args.self.now c.args.source (Some (c.loop-number.number * 4096 + c.loop-bit.bit * 64 + c.in-Some.place))
+    → Tested c.args.self.now c.args.source
+    (Some (c.loop-number.number * 4096 + c.loop-bit.bit * 64 + c.in-Some.place))
 is_first c =
     let at = c.loop-number.number * 64 + c.loop-bit.bit in
     subst (λ (p : ℕ). Tested c.args.self.now c.args.source (Some (p + c.in-Some.place)))
@@ -56,9 +63,12 @@ is_first c =
     c.self.view_is
     (first_in_page c.self.inside.pages.entries c.args.source at c.loop-bit.invariant
     c.in-Some.place (omega arith) c.in-Some.ensures.within
-    (ap (λ (p : ℕ). mark_on (page_in c.self.inside.pages.entries (named_by c.args.source p)) c.in-Some.place)
+    (ap (λ (p : ℕ).
+    mark_on (page_in c.self.inside.pages.entries (named_by c.args.source p)) c.in-Some.place)
     (sym (begins c.loop-number.number c.loop-bit.bit)) ∙ c.in-Some.ensures.free)
-    (subst (λ (p : ℕ). (k : ℕ) → k < c.in-Some.place → is_some (mark_on (page_in c.self.inside.pages.entries (named_by c.args.source p)) k) ≡ true)
+    (subst (λ (p : ℕ). (k : ℕ) → k < c.in-Some.place
+    → is_some (mark_on (page_in c.self.inside.pages.entries (named_by c.args.source p)) k)
+    ≡ true)
     (begins c.loop-number.number c.loop-bit.bit) c.in-Some.ensures.first)))
 
 pub returns-in-Some-clause-least : goal.returns-in-Some-clause-least

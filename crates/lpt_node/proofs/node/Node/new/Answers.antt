@@ -1,12 +1,25 @@
--- No sender is open, and no message kept.
-use Rattle.std.proofs.Common.{rules}
-use Rattle.lpt_node.proofs.SenderLemmas.{sound-new}
+-- In a new ledger no name is open.
+use Rattle.std.proofs.Common.{◌≡◌, subst}
+use Rattle.std.specs.FinMap as map
+use Rattle.std.specs.Prelude.{IfOk}
+use Rattle.lpt_ledger.specs.Marks.{Marks}
+use Rattle.lpt_node.specs.Nodes.{NodeView}
+use Rattle.lpt_node.specs.Restarts.{resumed}
+use Rattle.lpt_node.proofs.SenderLemmas.{none_open_new}
 use Rattle.lpt_node.proofs.node.Node.new.Goals as goal
 
-pub invariant_of-result : goal.invariant_of-result
-invariant_of-result c =
-    sound-new c.args.config.now c.new-2.result c.in_ok-receiver.receiver c.new-3.result
-    c.requires
-    (search rules)
-    c.new-2.ensures
-    c.new-3.ensures
+pub resume-requires-clause-senders : goal.resume-requires-clause-senders
+resume-requires-clause-senders c = none_open_new c.new-senders.result c.new-senders.ensures
+
+pub resume-requires-clause-receivers : goal.resume-requires-clause-receivers
+resume-requires-clause-receivers c = none_open_new c.new-receivers.result c.new-receivers.ensures
+
+pub returns : goal.returns
+returns c =
+    let Made : Marks → Marks → Type 0 = λ s r. IfOk c.resume.result (λ (n : NodeView). n ≡ record {
+      side = c.args.side;
+      config = c.args.config.now;
+      at = resumed 0 c.args.config.now.clock s r;
+    }) in
+    subst (λ (r : Marks). Made map.empty r) c.new-receivers.ensures
+    (subst (λ (s : Marks). Made s c.new-receivers.result) c.new-senders.ensures c.resume.ensures)

@@ -1,0 +1,5 @@
+mod LawLemmas
+mod NumberLemmas
+mod ReadingLemmas
+mod RunLemmas
+mod SpellingLemmas

@@ -1,0 +1,4 @@
+pub mod Found
+pub mod Lastings
+pub mod Spellings
+pub mod Verdicts

@@ -1,0 +1,27 @@
+//! Worked states: their octets were made outside.
+
+ghost use Rattle.std.specs.Prelude.{◌≡◌, Ok, Err};
+ghost use Rattle.lpt_events.specs.declared.side.Side.TheVariants.{Ground, Craft};
+ghost use Rattle.lpt_ledger.specs.Runs.{names_in, runs_of_names};
+ghost use Rattle.lpt_part.specs.declared.mode.Mode.TheVariants.{Strict};
+ghost use Rattle.lpt_state.specs.declared.fault.StateFault.TheVariants as fault;
+ghost use Rattle.lpt_state.specs.Spellings.{spelling};
+ghost use Rattle.lpt_state.specs.Verdicts.{verdict};
+ghost use Rattle.lpt_state_tests.specs.Worked.{config, mixed, mixed_octets, names_sent};
+
+/// A worked state has these octets, and they are read as it, at an end of its side and its
+/// configuration, whatever the first clock.
+pub fn worked_state()
+    ensures spelled { spelling Ground config mixed ≡ mixed_octets }
+    ensures read { verdict Ground config mixed_octets ≡ Ok mixed }
+    ensures clock { verdict Ground (record config { clock = 9 }) mixed_octets ≡ Ok mixed }
+    ensures side { verdict Craft config mixed_octets ≡ Err fault.Side }
+    ensures config { verdict Ground (record config { mode = Strict }) mixed_octets
+        ≡ Err fault.Config }
+{}
+
+/// Worked names have these runs, and the runs those names.
+pub fn worked_names()
+    ensures runs { runs_of_names names_sent ≡ mixed.sent }
+    ensures names { names_in mixed.sent ≡ names_sent }
+{}
