@@ -2,6 +2,7 @@ pub mod Aborts
 pub mod Accepting
 pub mod Asking
 pub mod Awaiting
+pub mod Clocks
 pub mod Closing
 pub mod Dues
 pub mod Events

@@ -1,3 +1,4 @@
+pub mod Clocks
 pub mod Ends
 pub mod Facts
 pub mod Moves

@@ -1,5 +1,6 @@
 //! What is proved of two ends apart: functions with empty bodies.
 
+ghost use Rattle.lpt_apart.specs.Clocks.{EndsWithClocksKeepThePromise};
 ghost use Rattle.lpt_apart.specs.Moves.{EndsApartAreAWorld, EndsApartKeepThePromise};
 ghost use Rattle.lpt_apart.specs.Plays.{WorldsAreEnds, StepsAreMoves};
 ghost use Rattle.lpt_apart.specs.Worlds.{EndsAreAWorld, EndsKeepThePromise};
@@ -29,6 +30,12 @@ pub fn ends_apart_are_a_world()
 /// Such ends keep the promise too.
 pub fn ends_apart_keep_the_promise()
     ensures { EndsApartKeepThePromise }
+{}
+
+/// So do such ends whose clocks begin at numbers of their own. All else of their configurations is
+/// the same.
+pub fn ends_with_clocks_keep_the_promise()
+    ensures { EndsWithClocksKeepThePromise }
 {}
 
 /// Whatever a world does, two ends can do: each legal journal is steps of them, where what a lane

@@ -1,21 +1,23 @@
 -- Each call of C is a move of two ends apart.
 use Rattle.std.proofs.Common.{◌≡◌, ◌∙◌, ap, sym, subst, refl, ℕ, nat_lt, List, [], ◌∷◌, ◌++◌, length, Option, Some, None}
+use Rattle.lpt_apart.specs.Clocks.{after_all, CanAll}
 use Rattle.lpt_apart.specs.Ends.{Ends, put_out}
 use Rattle.lpt_apart.specs.Moves.{Pair, CanMove, freed_by, retired_by}
-use Rattle.lpt_c_end.specs.Changes.{IsFixed, delivery, expiry, read_by, execution_by}
+use Rattle.lpt_c_end.specs.Changes.{IsFixed, delivery, expiry}
 use Rattle.lpt_c_end.specs.Codes.{node_code, range, no_job}
 use Rattle.lpt_c_end.specs.Refusals.{ground_refusal, memories_refusal, sending_refusal}
 use Rattle.lpt_c_end.specs.Words.{direction_from as direction_by}
 use Rattle.lpt_c_end.specs.declared.end.End.{End}
 use Rattle.lpt_c_pair.specs.Outboxes.{AllOnTheWay, NoneWaits}
-use Rattle.lpt_c_pair.specs.Pairs.{AreEndsOf, Call, Open, Part, Plain, Finish, LetGo, Packet, Expire, Tick, Read, Execute, Retire, Restart, freeing, moves, after_all, CanAll, IsMoveOfGround, IsMoveOfCraft, CallsAreMoves}
+use Rattle.lpt_c_pair.specs.Pairs.{AreEndsOf, Call, Open, Part, Plain, Finish, LetGo, Packet, Expire, Tick, Read, Execute, Retire, Restart, freeing, moves, IsMoveOfGround, IsMoveOfCraft, CallsAreMoves}
+use Rattle.lpt_c_pair.proofs.Clockless.{refuses_open, refuses_send, sends, refuses_plain, asks, takes, refuses_expire, expires, reads, executes}
 use Rattle.lpt_c_pair.proofs.GroundReports.{none_of_delivery, none_of_expiry}
 use Rattle.lpt_c_pair.proofs.Waiting.{stays, beside, adds, replaces, lets_go, freed_other, freed_this, as_listed, none_more}
 use Rattle.lpt_c_pair.proofs.Lemmas.{no_fault, not_refused, not_unsent, ground_becomes, craft_becomes, craft_fixed}
 use Rattle.lpt_packet.specs.declared.direction.Direction.{Direction}
 use Rattle.lpt_packet.specs.declared.direction.Direction.TheVariants.{Up, Down}
 use Rattle.lpt_packet.specs.Names.{Name}
-use Rattle.lpt_events.specs.Arrivals.{arrival, arrival_in}
+use Rattle.lpt_events.specs.Arrivals.{arrival_in}
 use Rattle.lpt_events.specs.declared.config.Config.{Config}
 use Rattle.lpt_events.specs.declared.side.Side.{Side}
 use Rattle.lpt_events.specs.declared.side.Side.TheVariants.{Ground, Craft}
@@ -23,8 +25,10 @@ use Rattle.lpt_events.specs.declared.worker.Worker.TheVariants.{W1}
 use Rattle.lpt_memory.specs.Memories.{Contents}
 use Rattle.lpt_memory.specs.Readings.{Job}
 use Rattle.lpt_node.specs.Accepting.{accepted}
+use Rattle.lpt_node.specs.declared.accepted.Accepted.{Accepted}
+use Rattle.lpt_node.specs.declared.expired.Expired.{Expired}
 use Rattle.lpt_node.specs.Restarts.{retired, restarted}
-use Rattle.lpt_node.specs.Jobs.{refusal_claim, claimed, refusal_apply, executed}
+use Rattle.lpt_node.specs.Jobs.{Execution, refusal_claim, claimed, refusal_apply, executed}
 use Rattle.lpt_node.specs.Nodes.{NodeData}
 use Rattle.lpt_node.specs.Requests.{refusal_plain, plain_made}
 use Rattle.lpt_node.specs.Sending.{refusal_open, opened, refusal_send, sent, refusal_finish, closed}
@@ -99,7 +103,7 @@ module _ (c : Config) (p : Pair) (g k : End) (are : AreEndsOf c p g k) where
       tt,
       (
         vow,
-        sym (λ i. refusal_open (are.ground.config i) (are.ground.node i) name (length m))
+        sym (refuses_open are.ground name (length m))
             ∙ no_fault (refusal_open g.config g.node.at name (length m)) done.0,
       ),
     ),
@@ -115,20 +119,19 @@ module _ (c : Config) (p : Pair) (g k : End) (are : AreEndsOf c p g k) where
       tt,
       (
         vow,
-        sym (λ i. refusal_send (are.ground.config i) (are.ground.node i) name n)
+        sym (refuses_send are.ground name n)
             ∙ no_fault (refusal_send g.config g.node.at name n) done.0,
       ),
     ),
     ground_becomes c p (after_all c p (moves Ground (Part name n))) g new k are done.1.fixed
         (done.1.node
-        ∙ (λ i. (sent (are.ground.side i) (are.ground.config i) (are.ground.node i)
-        name n).0)) refl refl refl
+        ∙ ap (λ (x : NodeData × List ℕ). x.0) (sends are.ground name n)) refl refl refl
         (adds p.ends (after_all c p (moves Ground (Part name n))).ends Up (Some name)
         g.outbox.items new.outbox.items
         ((sent Ground c p.ends.on_ground name n).1 ∷ []) refl
         (done.1.outbox
-        ∙ (λ i. g.outbox.items ++ ((sent (are.ground.side i) (are.ground.config i)
-        (are.ground.node i) name n).1 ∷ []))) are.upwards)
+        ∙ ap (λ (x : NodeData × List ℕ). g.outbox.items ++ (x.1 ∷ []))
+        (sends are.ground name n)) are.upwards)
         (beside p.ends (after_all c p (moves Ground (Part name n))).ends Down Up (Some name)
         k.outbox.items ((sent Ground c p.ends.on_ground name n).1 ∷ []) refl are.downwards),
   )
@@ -144,22 +147,22 @@ module _ (c : Config) (p : Pair) (g k : End) (are : AreEndsOf c p g k) where
           tt,
           (
             vow,
-            sym (λ i. refusal_plain (are.ground.config i) service subtype (length body))
+            sym (refuses_plain are.ground service subtype (length body))
                 ∙ no_fault (refusal_plain g.config service subtype (length body)) none,
           ),
         ),
         ground_becomes c p (after_all c p (moves Ground
             (Plain source flags service subtype body))) g new k are done.1.fixed
             (done.1.node
-            ∙ (λ i. (plain_made (are.ground.config i) (are.ground.node i)
-            source flags service subtype body).0)) refl refl refl
+            ∙ ap (λ (x : NodeData × List ℕ). x.0)
+            (asks are.ground source flags service subtype body)) refl refl refl
             (adds p.ends (after_all c p (moves Ground
             (Plain source flags service subtype body))).ends Up None
             g.outbox.items new.outbox.items
             ((plain_made c p.ends.on_ground source flags service subtype body).1 ∷ []) refl
             (done.1.outbox
-            ∙ (λ i. g.outbox.items ++ ((plain_made (are.ground.config i) (are.ground.node i)
-            source flags service subtype body).1 ∷ []))) are.upwards)
+            ∙ ap (λ (x : NodeData × List ℕ). g.outbox.items ++ (x.1 ∷ []))
+            (asks are.ground source flags service subtype body)) are.upwards)
             (beside p.ends (after_all c p (moves Ground
             (Plain source flags service subtype body))).ends Down Up None k.outbox.items
             ((plain_made c p.ends.on_ground source flags service subtype body).1 ∷ []) refl
@@ -191,43 +194,37 @@ module _ (c : Config) (p : Pair) (g k : End) (are : AreEndsOf c p g k) where
     (tt, vow),
     ground_becomes c p (after_all c p (moves Ground (Packet b))) g new k are done.fixed
         (done.node
-        ∙ (λ i. (accepted (are.ground.side i) (are.ground.config i) (are.ground.node i)
-        (arrival (are.ground.side i) (are.ground.config i).apid
-        (are.ground.config i).part_size b)).0)) refl refl refl
+        ∙ ap (λ (x : NodeData × Accepted). x.0) (takes are.ground b)) refl refl refl
         (beside_stays (after_all c p (moves Ground (Packet b))).ends new.outbox.items
         (as_list (accepted Ground c p.ends.on_ground (arrival_in c Down b)).1.packet) refl
         (none_more g.outbox.items new.outbox.items (delivery g b).1.packet
-        ((λ i. (accepted (are.ground.side i) (are.ground.config i) (are.ground.node i)
-        (arrival (are.ground.side i) (are.ground.config i).apid
-        (are.ground.config i).part_size b)).1.packet)
+        (ap (λ (x : NodeData × Accepted). x.1.packet) (takes are.ground b)
         ∙ none_of_delivery c p.ends.on_ground (arrival_in c Down b)) done.outbox)).0
         (beside_stays (after_all c p (moves Ground (Packet b))).ends new.outbox.items
         (as_list (accepted Ground c p.ends.on_ground (arrival_in c Down b)).1.packet) refl
         (none_more g.outbox.items new.outbox.items (delivery g b).1.packet
-        ((λ i. (accepted (are.ground.side i) (are.ground.config i) (are.ground.node i)
-        (arrival (are.ground.side i) (are.ground.config i).apid
-        (are.ground.config i).part_size b)).1.packet)
+        (ap (λ (x : NodeData × Accepted). x.1.packet) (takes are.ground b)
         ∙ none_of_delivery c p.ends.on_ground (arrival_in c Down b)) done.outbox)).1,
   )
   on_ground Expire new done vow = (
     (
       tt,
-      sym (λ i. refusal_expire (are.ground.config i) (are.ground.node i))
+      sym (refuses_expire are.ground)
           ∙ no_fault (refusal_expire g.config g.node.at) done.0,
     ),
     ground_becomes c p (after_all c p (moves Ground (Expire))) g new k are done.1.fixed
         (done.1.node
-        ∙ (λ i. (expired (are.ground.side i) (are.ground.config i) (are.ground.node i)).0))
+        ∙ ap (λ (x : NodeData × Expired). x.0) (expires are.ground))
         refl refl refl
         (beside_stays (after_all c p (moves Ground Expire)).ends new.outbox.items
         (as_list (expired Ground c p.ends.on_ground).1.packet) refl
         (none_more g.outbox.items new.outbox.items (expiry g).1.packet
-        ((λ i. (expired (are.ground.side i) (are.ground.config i) (are.ground.node i)).1.packet)
+        (ap (λ (x : NodeData × Expired). x.1.packet) (expires are.ground)
         ∙ none_of_expiry c p.ends.on_ground) done.1.outbox)).0
         (beside_stays (after_all c p (moves Ground Expire)).ends new.outbox.items
         (as_list (expired Ground c p.ends.on_ground).1.packet) refl
         (none_more g.outbox.items new.outbox.items (expiry g).1.packet
-        ((λ i. (expired (are.ground.side i) (are.ground.config i) (are.ground.node i)).1.packet)
+        (ap (λ (x : NodeData × Expired). x.1.packet) (expires are.ground)
         ∙ none_of_expiry c p.ends.on_ground) done.1.outbox)).1,
   )
   on_ground Tick new done vow = (
@@ -294,7 +291,7 @@ module _ (c : Config) (p : Pair) (g k : End) (are : AreEndsOf c p g k) where
       tt,
       (
         vow,
-        sym (λ i. refusal_open (are.craft.config i) (are.craft.node i) name (length m))
+        sym (refuses_open are.craft name (length m))
             ∙ no_fault (refusal_open k.config k.node.at name (length m)) done.0,
       ),
     ),
@@ -310,13 +307,13 @@ module _ (c : Config) (p : Pair) (g k : End) (are : AreEndsOf c p g k) where
       tt,
       (
         vow,
-        sym (λ i. refusal_send (are.craft.config i) (are.craft.node i) name n)
+        sym (refuses_send are.craft name n)
             ∙ no_fault (refusal_send k.config k.node.at name n) done.0,
       ),
     ),
     craft_fixed c p (after_all c p (moves Craft (Part name n))) g k new are done.1.fixed
         (done.1.node
-        ∙ (λ i. (sent (are.craft.side i) (are.craft.config i) (are.craft.node i) name n).0))
+        ∙ ap (λ (x : NodeData × List ℕ). x.0) (sends are.craft name n))
         refl refl refl
         (beside p.ends (after_all c p (moves Craft (Part name n))).ends Up Down (Some name)
         g.outbox.items ((sent Craft c p.ends.on_craft name n).1 ∷ []) refl are.upwards)
@@ -324,8 +321,8 @@ module _ (c : Config) (p : Pair) (g k : End) (are : AreEndsOf c p g k) where
         k.outbox.items new.outbox.items
         ((sent Craft c p.ends.on_craft name n).1 ∷ []) refl
         (done.1.outbox
-        ∙ (λ i. k.outbox.items ++ ((sent (are.craft.side i) (are.craft.config i)
-        (are.craft.node i) name n).1 ∷ []))) are.downwards),
+        ∙ ap (λ (x : NodeData × List ℕ). k.outbox.items ++ (x.1 ∷ []))
+        (sends are.craft name n)) are.downwards),
   )
   on_craft (Plain source flags service subtype body) new done vow =
       let here : ground_refusal k.side (node_code (refusal_plain k.config service subtype
@@ -361,8 +358,7 @@ module _ (c : Config) (p : Pair) (g k : End) (are : AreEndsOf c p g k) where
     (tt, vow),
     craft_fixed c p (after_all c p (moves Craft (Packet b))) g k new are done.fixed
         (done.node
-        ∙ (λ i. (accepted (are.craft.side i) (are.craft.config i) (are.craft.node i) (arrival
-        (are.craft.side i) (are.craft.config i).apid (are.craft.config i).part_size b)).0))
+        ∙ ap (λ (x : NodeData × Accepted). x.0) (takes are.craft b))
         refl refl refl
         (beside p.ends (after_all c p (moves Craft (Packet b))).ends Up Down None
         g.outbox.items (as_list (accepted Craft c p.ends.on_craft (arrival_in c Up b)).1.packet)
@@ -372,19 +368,18 @@ module _ (c : Config) (p : Pair) (g k : End) (are : AreEndsOf c p g k) where
         (as_list (accepted Craft c p.ends.on_craft (arrival_in c Up b)).1.packet) refl
         (done.outbox
         ∙ ap (λ (xs : List (List ℕ)). k.outbox.items ++ xs) (as_listed (delivery k b).1.packet)
-        ∙ (λ i. k.outbox.items ++ as_list (accepted (are.craft.side i) (are.craft.config i)
-        (are.craft.node i) (arrival (are.craft.side i) (are.craft.config i).apid
-        (are.craft.config i).part_size b)).1.packet)) are.downwards),
+        ∙ ap (λ (x : NodeData × Accepted). k.outbox.items ++ as_list x.1.packet)
+        (takes are.craft b)) are.downwards),
   )
   on_craft Expire new done vow = (
     (
       tt,
-      sym (λ i. refusal_expire (are.craft.config i) (are.craft.node i))
+      sym (refuses_expire are.craft)
           ∙ no_fault (refusal_expire k.config k.node.at) done.0,
     ),
     craft_fixed c p (after_all c p (moves Craft (Expire))) g k new are done.1.fixed
         (done.1.node
-        ∙ (λ i. (expired (are.craft.side i) (are.craft.config i) (are.craft.node i)).0))
+        ∙ ap (λ (x : NodeData × Expired). x.0) (expires are.craft))
         refl refl refl
         (beside p.ends (after_all c p (moves Craft Expire)).ends Up Down None
         g.outbox.items (as_list (expired Craft c p.ends.on_craft).1.packet) refl are.upwards)
@@ -393,8 +388,8 @@ module _ (c : Config) (p : Pair) (g k : End) (are : AreEndsOf c p g k) where
         (as_list (expired Craft c p.ends.on_craft).1.packet) refl
         (done.1.outbox
         ∙ ap (λ (xs : List (List ℕ)). k.outbox.items ++ xs) (as_listed (expiry k).1.packet)
-        ∙ (λ i. k.outbox.items ++ as_list (expired (are.craft.side i) (are.craft.config i)
-        (are.craft.node i)).1.packet)) are.downwards),
+        ∙ ap (λ (x : NodeData × Expired). k.outbox.items ++ as_list x.1.packet)
+        (expires are.craft)) are.downwards),
   )
   on_craft Tick new done vow = (
     (tt, sym (λ i. refusal_tick (are.craft.node i)) ∙ no_fault (refusal_tick k.node.at) done.0),
@@ -413,7 +408,8 @@ module _ (c : Config) (p : Pair) (g k : End) (are : AreEndsOf c p g k) where
             tt,
             (
               ap (λ (ts : Tickets). ticket_of ts W1) are.tickets,
-              sym (λ i. refusal_claim (are.craft.node i)) ∙ no_fault (refusal_claim k.node.at) none,
+              sym (λ i. refusal_claim (are.craft.node i))
+                  ∙ no_fault (refusal_claim k.node.at) none,
             ),
           ),
           refl,
@@ -421,7 +417,7 @@ module _ (c : Config) (p : Pair) (g k : End) (are : AreEndsOf c p g k) where
         craft_becomes c p (after_all c p (moves Craft Read))
             g k new are done.1.fixed.side done.1.fixed.config
             (done.1.node
-            ∙ (λ i. read_by (are.craft.config i) (are.craft.memories i) (are.craft.node i)))
+            ∙ reads are.craft)
             refl
             (done.1.fixed.memories ∙ are.craft.memories)
             (λ i. with_ticket (with_ticket (are.tickets i) W1 (Some t)) W1 None)
@@ -436,15 +432,18 @@ module _ (c : Config) (p : Pair) (g k : End) (are : AreEndsOf c p g k) where
       (refusal_apply k.node.at)) k.outbox.items)) are.craft.memories) ∙ done.0 in
       let none : node_code (refusal_apply k.node.at) ≡ None =
       not_unsent (node_code (refusal_apply k.node.at)) k.outbox.items unsent in (
-        (tt, sym (λ i. refusal_apply (are.craft.node i)) ∙ no_fault (refusal_apply k.node.at) none),
+        (
+          tt,
+          sym (λ i. refusal_apply (are.craft.node i)) ∙ no_fault (refusal_apply k.node.at) none,
+        ),
         craft_becomes c p (after_all c p (moves Craft Execute))
             g k new are done.1.side done.1.config
             (done.1.node
-            ∙ (λ i. (execution_by (are.craft.config i) (are.craft.memories i)
-            (are.craft.node i)).0.0)) refl
+            ∙ ap (λ (x : (NodeData × Execution) × Option Contents). x.0.0)
+            (executes are.craft)) refl
             (done.1.memories
-            ∙ (λ i. (execution_by (are.craft.config i) (are.craft.memories i)
-            (are.craft.node i)).1))
+            ∙ ap (λ (x : (NodeData × Execution) × Option Contents). x.1)
+            (executes are.craft))
             are.tickets
             (beside p.ends (after_all c p (moves Craft Execute)).ends Up Down None
             g.outbox.items (executed c p.ends.on_craft p.ends.memories).0.1.packets refl
@@ -452,8 +451,8 @@ module _ (c : Config) (p : Pair) (g k : End) (are : AreEndsOf c p g k) where
             (replaces p.ends (after_all c p (moves Craft Execute)).ends Down None
             new.outbox.items (executed c p.ends.on_craft p.ends.memories).0.1.packets refl
             (done.1.outbox
-            ∙ (λ i. (execution_by (are.craft.config i) (are.craft.memories i)
-            (are.craft.node i)).0.1.packets))),
+            ∙ ap (λ (x : (NodeData × Execution) × Option Contents). x.0.1.packets)
+            (executes are.craft))),
       )
   on_craft (Retire direction name) new done vow =
       free_craft (direction_by direction) name new vow.0 vow.1 done.fixed done.node done.outbox

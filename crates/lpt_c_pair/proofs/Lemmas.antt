@@ -49,12 +49,14 @@ pub ground_becomes : (c : Config) (p q : Pair) (g new k : End)
 ground_becomes c p q g new k are fixed node craft memories tickets up down = record {
   ground = record {
     side = fixed.side ∙ are.ground.side;
+    ticks = are.ground.ticks;
     config = fixed.config ∙ are.ground.config;
     node = node;
     memories = fixed.memories ∙ are.ground.memories;
   };
   craft = record {
     side = are.craft.side;
+    ticks = are.craft.ticks;
     config = are.craft.config;
     node = are.craft.node ∙ sym craft;
     memories = are.craft.memories ∙ ap (λ (ms : Contents). Some ms) (sym memories);
@@ -79,12 +81,14 @@ pub craft_becomes : (c : Config) (p q : Pair) (g k new : End)
 craft_becomes c p q g k new are side config node on_ground memories tickets up down = record {
   ground = record {
     side = are.ground.side;
+    ticks = are.ground.ticks;
     config = are.ground.config;
     node = are.ground.node ∙ sym on_ground;
     memories = are.ground.memories;
   };
   craft = record {
     side = side ∙ are.craft.side;
+    ticks = are.craft.ticks;
     config = config ∙ are.craft.config;
     node = node;
     memories = memories;

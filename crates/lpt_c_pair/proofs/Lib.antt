@@ -1,5 +1,6 @@
 pub mod Answering
 pub mod Calls
+pub mod Clockless
 pub mod GroundReports
 pub mod Lemmas
 pub mod Running

@@ -3,8 +3,7 @@ use Rattle.std.proofs.Common.{◌≡◌, ◌∙◌, ap, sym, subst, refl, ℕ, z
 use Rattle.std.specs.Option.{option_eq}
 use Rattle.std.specs.Prelude.{slice_get, cond, option_to_list, ⊤}
 use Rattle.lpt_apart.specs.Ends.{Ends, PutOut, put_out, is_part, without}
-use Rattle.lpt_apart.specs.Steps.{IsOnTheWay}
-use Rattle.lpt_c_pair.specs.Outboxes.{AllOnTheWay, IsOfAnother, NoneIsPart}
+use Rattle.lpt_c_pair.specs.Outboxes.{AllOnTheWay, NoneIsPart}
 use Rattle.lpt_packet.specs.declared.direction.Direction.{Direction}
 use Rattle.lpt_packet.specs.Names.{Name, same_name}
 use Rattle.lpt_events.specs.Lanes.{same_direction}

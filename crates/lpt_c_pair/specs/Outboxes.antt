@@ -1,5 +1,5 @@
 -- What waits in an end's outbox, until the program has copied it and lets it go.
-use Rattle.std.specs.Prelude.{◌≡◌, ℕ, Bool, false, List, [], ◌∷◌, ⊤}
+use Rattle.std.specs.Prelude.{◌≡◌, ℕ, false, List, [], ◌∷◌, ⊤}
 use Rattle.lpt_apart.specs.Ends.{Ends, is_part}
 use Rattle.lpt_apart.specs.Steps.{IsOnTheWay}
 use Rattle.lpt_c_end.specs.declared.end.End.{End}

@@ -1,6 +1,7 @@
 -- Two ends behind handles of C as two ends apart.
 use Rattle.std.specs.Prelude.{◌≡◌, ℕ, List, [], ◌∷◌, Option, Some, None, ⊤}
-use Rattle.lpt_apart.specs.Moves.{Pair, Move, Do, Free, moved, CanMove}
+use Rattle.lpt_apart.specs.Clocks.{later, after_all, CanAll}
+use Rattle.lpt_apart.specs.Moves.{Pair, Move, Do, Free, CanMove}
 use Rattle.lpt_apart.specs.Steps as step
 use Rattle.lpt_apart.specs.Steps.{MayCome}
 use Rattle.lpt_c_end.specs.Changes.{IsOpened, IsPartMade, IsPlainMade, IsFinished, IsLetGo, IsDelivered, IsExpired, IsTicked, IsRead, IsExecuted, IsRetired, IsRestarted}
@@ -24,11 +25,13 @@ use Rattle.lpt_model.specs.Tickets.{no_tickets}
 
 -- ---- ends
 
--- an end of this side and configuration has this node and these memories
+-- an end of this side has this node and these memories, and its configuration is this but for the
+-- clock that it began with
 pub record IsEndOf (c : Config) (s : Side) (n : NodeData) (ms : Option Contents)
     (e : End) : Type 0 where
   pub side : e.side ≡ s
-  pub config : e.config ≡ c
+  pub ticks : ℕ
+  pub config : e.config ≡ later ticks c
   pub node : e.node.at ≡ n
   pub memories : e.memories ≡ ms
 
@@ -99,16 +102,6 @@ moves side Read = Do (step.Commit W1) ∷ Do (step.Claim W1) ∷ []
 moves side Execute = Do step.Apply ∷ []
 moves side (Retire direction name) = freeing side (direction_by direction) name ∷ []
 moves side Restart = Do (step.Restart side) ∷ []
-
--- two ends apart after these moves
-abbrev pub after_all : Config → Pair → List Move → Pair
-after_all c p [] = p
-after_all c p (x ∷ xs) = moved c (after_all c p xs) x
-
--- each of these moves can happen
-abbrev pub CanAll : Config → Pair → List Move → Type 0
-CanAll c p [] = ⊤
-CanAll c p (x ∷ xs) = CanAll c p xs × CanMove c (after_all c p xs) x
 
 -- ---- what the program promises
 

@@ -1,12 +1,13 @@
 -- Runs of two ends behind handles, and what is promised of them.
 use Rattle.std.specs.Prelude.{ℕ, List, [], ◌∷◌, ⊤}
-use Rattle.lpt_apart.specs.Moves.{Pair, no_pair}
+use Rattle.lpt_apart.specs.Clocks.{later, no_pair_later, after_all}
+use Rattle.lpt_apart.specs.Moves.{Pair}
 use Rattle.lpt_apart.specs.Worlds.{IsPromised}
 use Rattle.lpt_c_end.specs.Changes.{IsNew}
 use Rattle.lpt_c_end.specs.Contents.{memories_told}
 use Rattle.lpt_c_end.specs.declared.end.End.{End}
 use Rattle.lpt_c_end.specs.declared.memories.LptMemory.{LptMemory}
-use Rattle.lpt_c_pair.specs.Pairs.{AreEndsOf, Call, IsDone, moves, after_all, Promises}
+use Rattle.lpt_c_pair.specs.Pairs.{AreEndsOf, Call, IsDone, moves, Promises}
 use Rattle.lpt_events.specs.Configs.{IsConfig}
 use Rattle.lpt_events.specs.declared.config.Config.{Config}
 use Rattle.lpt_events.specs.declared.side.Side.{Side}
@@ -25,9 +26,11 @@ pub record Standing : Type 0 where
   pub on_ground : End
   pub on_craft : End
 
--- two new ends
-abbrev pub begun : Config → Contents → (on_ground on_craft : End) → Standing
-begun c first g k = record { pair = no_pair c first; on_ground = g; on_craft = k }
+-- two new ends, whose clocks begin so many ticks later
+abbrev pub begun : Config → Contents → (ticks_ground ticks_craft : ℕ)
+    → (on_ground on_craft : End)
+    → Standing
+begun c first a b g k = record { pair = no_pair_later c first a b; on_ground = g; on_craft = k }
 
 -- the ends after a call of the end of this side
 abbrev pub turned_by : Config → Standing → Side → Call → End → Standing
@@ -64,14 +67,16 @@ pub record KeepsThePromise (c : Config) (first : Contents) (s : Standing) : Type
   pub ends : AreEndsOf c s.pair s.on_ground s.on_craft
   pub promised : IsPromised c first s.pair.ends
 
--- whatever calls were made of two ends that were new
+-- whatever calls were made of two ends that were new, each with a clock of its own
 abbrev pub EndsOfCKeepThePromise : Type 0
 EndsOfCKeepThePromise =
-    (c : Config) (none : List LptMemory) (nothing : List ℕ) (ms : List LptMemory) (content : List ℕ)
+    (c : Config) (a b : ℕ)
+    (none : List LptMemory) (nothing : List ℕ) (ms : List LptMemory) (content : List ℕ)
     (g k : End) (ts : List Turn)
-    → IsConfig c
-    → IsNew Ground c none nothing g
-    → IsNew Craft c ms content k
-    → CanStand c (begun c (memories_told content ms) g k) ts
+    → IsConfig (later a c)
+    → IsConfig (later b c)
+    → IsNew Ground (later a c) none nothing g
+    → IsNew Craft (later b c) ms content k
+    → CanStand c (begun c (memories_told content ms) a b g k) ts
     → KeepsThePromise c (memories_told content ms)
-    (stood c (begun c (memories_told content ms) g k) ts)
+    (stood c (begun c (memories_told content ms) a b g k) ts)

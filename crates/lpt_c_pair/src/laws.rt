@@ -11,8 +11,9 @@ pub fn calls_are_moves()
     ensures { CallsAreMoves }
 {}
 
-/// Take two new ends of one configuration, one of each side, and any list of calls of them that
-/// answered 0, the programs keeping what they promise. Then the ends are two ends apart. Each large
+/// Take two new ends, one of each side, of one configuration but for the clocks that they begin
+/// with, and any list of calls of them that answered 0, the programs keeping what they promise.
+/// Then the ends are two ends apart. Each large
 /// message that was released is the one last opened under its name at the other end, and once; each
 /// plain request is one that ground asked; and the spacecraft's memories are their first content,
 /// changed by the executed requests in order of release.

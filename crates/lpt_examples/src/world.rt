@@ -1,11 +1,15 @@
 //! Calling `lpt_world`: a message on its way up, and what is promised of those that came.
 
-ghost use Rattle.std.specs.Prelude.{◌≡◌, true, length, slice_get, is_some, None, IfOk, IfErr, IfSome, OnErr};
+ghost use Rattle.std.specs.Prelude.{◌≡◌, ◌≤◌, ℕ, true, length, slice_get, is_some, Some, None, IfOk, IfErr, IfSome, OnErr};
 ghost use Rattle.std.specs.Option.{option_copied};
 ghost use Rattle.lpt_packet.specs.declared.direction.Direction.TheVariants.{Up};
+ghost use Rattle.lpt_events.specs.declared.entry.Opening.{Opening};
 ghost use Rattle.lpt_events.specs.declared.event.Event.TheVariants.{Open};
-ghost use Rattle.lpt_journal.specs.Headline.{IsLastOpened};
+ghost use Rattle.lpt_journal.specs.Headline.{before, IsLastOpened, WasAsked};
 ghost use Rattle.lpt_journal.specs.Releases.{releases};
+ghost use Rattle.lpt_journal.specs.Senders.{current};
+ghost use Rattle.lpt_journal.specs.Whole.{came, WasReleased, WasAborted};
+ghost use Rattle.lpt_part.specs.Splitting.{part_count};
 ghost use Rattle.lpt_world.specs.Worlds.{Promised, history, refusal_at, RefusedBy};
 
 use lpt_events::{Answer, Event, Release, StepFault};
@@ -35,10 +39,30 @@ pub fn open_up(world: &mut World, name: Name, message: Octets) -> Result<u16, St
 
 /// The message that was released as the one of this number, from 0.
 ///
-/// A large one is byte for byte that which the other node opened last under its name.
+/// A large one is byte for byte that which the other node opened last under its name; a plain
+/// request is the packet of one that ground had asked for.
 pub fn release(world: &World, number: usize) -> Option<&Release>
-    ensures found { option_copied result ≡ slice_get (releases world.now.config (history world.now)) number }
-    ensures as_opened { IfSome result (λ r. is_some r.now.of ≡ true → IsLastOpened (history world.now) r.now) }
+    ensures found { option_copied result
+        ≡ slice_get (releases world.now.config (history world.now)) number }
+    ensures as_opened { IfSome result (λ r. is_some r.now.of ≡ true
+        → IsLastOpened (history world.now) r.now) }
+    ensures as_asked { IfSome result (λ r. r.now.of ≡ None
+        → WasAsked world.now.config (before r.now.place (history world.now)) r.now.message) }
 {
     world.released().get(number)
+}
+
+/// All that was released. Each message is among it that was opened last under a name, each part of
+/// which was delivered since then and since its receiver was last restarted, while there was room;
+/// but where its reception expired or was broken off.
+pub fn releases_of(world: &World) -> &[Release]
+    ensures all { result.now ≡ releases world.now.config (history world.now) }
+    ensures whole { (d : Direction) (name : Name) (o : Opening)
+        → current (history world.now) d name ≡ Some o
+        → ((k : ℕ) → 1 ≤ k → k ≤ part_count (length o.message) world.now.config.part_size
+        → came world.now.config (history world.now) d name k ≡ true)
+        → ¬ (WasAborted (history world.now) o)
+        → WasReleased world.now.config (history world.now) o }
+{
+    world.released()
 }

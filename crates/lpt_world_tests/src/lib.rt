@@ -1,17 +1,20 @@
 //! Tests of nodes and worlds: worked rows, what no clause says, and growths of memory that fail.
 //!
-//! Most tests are rows in statics: `walking` goes paths of rows through new worlds, where a growth may
-//! fail, and `playing` plays rows to lone nodes. So a case costs nothing but its row.
+//! Most tests are rows in statics: `walking` goes paths of rows through new worlds, where a growth
+//! may fail, and `playing` plays rows to lone nodes. So a case costs nothing but its row.
 //!
-//! They stand in a crate of their own, so that the libraries are proved without them. A function that
-//! makes a node or a world makes one fallible call with it, its last, and then hands it to `drop`; what
-//! else can fail is done before, or by a function that borrows it. Each way out of a function drops what
-//! it owns, which is proved each time, field by field; what goes to `drop` is proved once for its type.
-//! Rows stand in statics: those of a table in a function are proved one by one.
+//! They stand in a crate of their own, so that the libraries are proved without them. A function
+//! that makes a node or a world makes one fallible call with it, its last, and then hands it to
+//! `drop`; what else can fail is done before, or by a function that borrows it. Each way out of a
+//! function drops what it owns, which is proved each time, field by field; what goes to `drop` is
+//! proved once for its type. Rows stand in statics: those of a table in a function are proved one
+//! by one.
 #![tactic(auto)]
 
 #[cfg(test)]
 mod callers;
+#[cfg(test)]
+mod carrying;
 #[cfg(test)]
 mod contradictions;
 #[cfg(test)]

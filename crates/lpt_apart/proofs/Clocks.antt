@@ -1,0 +1,159 @@
+-- Two ends whose clocks begin later are two ends that have ticked, and keep the promise.
+use Rattle.std.proofs.Common.{◌≡◌, ◌∙◌, ap, sym, subst, refl, ℕ, zero, suc, ◌+◌, ◌<◌, ◌^◌, ◌==◌, Bool, false, if◌then◌else◌, List, [], ◌∷◌, Some, None, arith}
+use Rattle.std.proofs.lemmas.Bool.Decides.{nat_tests}
+use Rattle.lpt_memory.specs.Memories.{Contents}
+use Rattle.lpt_events.specs.Configs.{IsConfig}
+use Rattle.lpt_events.specs.Counts.{greatest_clock}
+use Rattle.lpt_events.specs.declared.config.Config.{Config}
+use Rattle.lpt_events.specs.declared.side.Side.TheVariants.{Ground, Craft}
+use Rattle.lpt_node.specs.declared.fault.NodeFault.TheVariants.{ClockEnd}
+use Rattle.lpt_node.specs.Nodes.{no_data}
+use Rattle.lpt_apart.specs.Clocks.{later, no_pair_later, after_all, CanAll, EndsWithClocksKeepThePromise}
+use Rattle.lpt_apart.specs.Ends.{no_ends}
+use Rattle.lpt_apart.specs.Moves.{Pair, Move, Do, no_pair, moved, CanMove, came_to, CanMoveAll}
+use Rattle.lpt_apart.specs.Steps.{Tick}
+use Rattle.lpt_apart.specs.Worlds.{IsPromised}
+use Rattle.lpt_apart.proofs.Moving.{ends_apart_keep_the_promise}
+
+-- two new ends with these clocks
+abbrev at_clocks : Config → Contents → (on_ground on_craft : ℕ) → Pair
+at_clocks c first x y =
+    record (no_pair c first) {
+      ends =
+          record (no_ends c first) {
+            on_ground = record (no_data c) { clock = x };
+            on_craft = record (no_data c) { clock = y };
+          };
+    }
+
+-- moves lead from two new ends to these
+pub record IsReached (c : Config) (first : Contents) (p : Pair) : Type 0 where
+  pub all : List Move
+  pub can : CanMoveAll c first all
+  pub is : came_to c first all ≡ p
+
+-- ---- ticks
+
+-- a number below the greatest isn't it
+not_greatest : (n : ℕ) → n + 1 < 2 ^ 32 → (n == greatest_clock) ≡ false
+not_greatest n below = grind (arith, nat_tests)
+
+module _ (c : Config) (first : Contents) where
+  -- ground ticks
+  tick_ground : (x y : ℕ)
+      → x + 1 < 2 ^ 32
+      → IsReached c first (at_clocks c first x y)
+      → IsReached c first (at_clocks c first (x + 1) y)
+  tick_ground x y below r = record {
+    all = Do (Tick Ground) ∷ r.all;
+    can = (
+      r.can,
+      subst (λ (p : Pair). CanMove c p (Do (Tick Ground))) (sym r.is)
+          (ap (λ (b : Bool). if b then Some ClockEnd else None) (not_greatest x below)),
+    );
+    is = ap (λ (p : Pair). moved c p (Do (Tick Ground))) r.is;
+  }
+
+  -- the spacecraft ticks
+  tick_craft : (x y : ℕ)
+      → y + 1 < 2 ^ 32
+      → IsReached c first (at_clocks c first x y)
+      → IsReached c first (at_clocks c first x (y + 1))
+  tick_craft x y below r = record {
+    all = Do (Tick Craft) ∷ r.all;
+    can = (
+      r.can,
+      subst (λ (p : Pair). CanMove c p (Do (Tick Craft))) (sym r.is)
+          (ap (λ (b : Bool). if b then Some ClockEnd else None) (not_greatest y below)),
+    );
+    is = ap (λ (p : Pair). moved c p (Do (Tick Craft))) r.is;
+  }
+
+  -- the same ends
+  same : (x y g k : ℕ)
+      → x ≡ g + c.clock
+      → y ≡ k + c.clock
+      → IsReached c first (at_clocks c first x y)
+      → IsReached c first (no_pair_later c first g k)
+  same x y g k ground craft r = record {
+    all = r.all;
+    can = r.can;
+    is = r.is ∙ (λ i. at_clocks c first (ground i) (craft i));
+  }
+
+  ground_later : (g : ℕ)
+      → g + c.clock < 2 ^ 32
+      → IsReached c first (no_pair_later c first g 0)
+  ground_later zero fits =
+      same c.clock c.clock 0 0 (omega arith) (omega arith) (record {
+        all = [];
+        can = tt;
+        is = refl;
+      })
+  ground_later (suc g) fits =
+      same ((g + c.clock) + 1) (0 + c.clock) (suc g) 0 (omega arith) refl
+      (tick_ground (g + c.clock) (0 + c.clock) (omega (arith, fits))
+      (ground_later g (omega (arith, fits))))
+
+  both_later : (g k : ℕ)
+      → g + c.clock < 2 ^ 32
+      → k + c.clock < 2 ^ 32
+      → IsReached c first (no_pair_later c first g k)
+  both_later g zero fits_g fits_k = ground_later g fits_g
+  both_later g (suc k) fits_g fits_k =
+      same (g + c.clock) ((k + c.clock) + 1) g (suc k) refl (omega arith)
+      (tick_craft (g + c.clock) (k + c.clock) (omega (arith, fits_k))
+      (both_later g k fits_g (omega (arith, fits_k))))
+
+  -- moves behind others
+  pub joined : (p : Pair) (xs : List Move)
+      → IsReached c first p
+      → CanAll c p xs
+      → IsReached c first (after_all c p xs)
+  joined p [] r can = r
+  joined p (x ∷ xs) r can =
+      let rest : IsReached c first (after_all c p xs) = joined p xs r can.0 in
+      record {
+        all = x ∷ rest.all;
+        can = (rest.can, subst (λ (q : Pair). CanMove c q x) (sym rest.is) can.1);
+        is = ap (λ (q : Pair). moved c q x) rest.is;
+      }
+
+-- ---- the promise
+
+-- the configuration whose clock begins before is one, too
+earlier : (c : Config) (g : ℕ) → IsConfig (later g c) → IsConfig c
+earlier c g good = record {
+  apid_fits = good.apid_fits;
+  source_fits = good.source_fits;
+  part_size_fits = good.part_size_fits;
+  some_timeout = good.some_timeout;
+  timeout_fits = good.timeout_fits;
+  some_receptions = good.some_receptions;
+  receptions_fit = good.receptions_fit;
+  some_outgoing = good.some_outgoing;
+  outgoing_fits = good.outgoing_fits;
+  clock_fits = omega (arith, good.clock_fits);
+}
+
+-- two new ends with clocks of their own are reached
+pub begun_later : (c : Config) (first : Contents) (g k : ℕ)
+    → IsConfig (later g c)
+    → IsConfig (later k c)
+    → IsReached c first (no_pair_later c first g k)
+begun_later c first g k good_g good_k =
+    both_later c first g k good_g.clock_fits good_k.clock_fits
+
+-- two ends that were reached keep the promise
+pub reached_keep : (c : Config) (first : Contents) (g : ℕ) (p : Pair)
+    → IsConfig (later g c)
+    → IsReached c first p
+    → IsPromised c first p.ends
+reached_keep c first g p good r =
+    subst (λ (q : Pair). IsPromised c first q.ends) r.is
+    (ends_apart_keep_the_promise c first r.all (earlier c g good) r.can)
+
+pub ends_with_clocks_keep_the_promise : EndsWithClocksKeepThePromise
+ends_with_clocks_keep_the_promise c first g k xs good_g good_k can =
+    reached_keep c first g (after_all c (no_pair_later c first g k) xs) good_g
+    (joined c first (no_pair_later c first g k) xs (begun_later c first g k good_g good_k) can)

@@ -1,0 +1,45 @@
+-- Two ends apart, each with a clock of its own.
+--
+-- All else of their configurations is the same.
+use Rattle.std.specs.Prelude.{ℕ, ◌+◌, List, [], ◌∷◌, ⊤}
+use Rattle.lpt_memory.specs.Memories.{Contents}
+use Rattle.lpt_events.specs.Configs.{IsConfig}
+use Rattle.lpt_events.specs.declared.config.Config.{Config}
+use Rattle.lpt_node.specs.Nodes.{no_data}
+use Rattle.lpt_apart.specs.Ends.{no_ends}
+use Rattle.lpt_apart.specs.Moves.{Pair, Move, no_pair, moved, CanMove}
+use Rattle.lpt_apart.specs.Worlds.{IsPromised}
+
+-- a configuration whose clock begins so many ticks later
+abbrev pub later : (ticks : ℕ) → Config → Config
+later ticks c = record c { clock = ticks + c.clock }
+
+-- two new ends, whose clocks begin so many ticks later
+abbrev pub no_pair_later : Config → Contents → (on_ground on_craft : ℕ) → Pair
+no_pair_later c first g k =
+    record (no_pair c first) {
+      ends =
+          record (no_ends c first) {
+            on_ground = no_data (later g c);
+            on_craft = no_data (later k c);
+          };
+    }
+
+-- two ends after these moves, the newest of which stands first
+abbrev pub after_all : Config → Pair → List Move → Pair
+after_all c p [] = p
+after_all c p (x ∷ xs) = moved c (after_all c p xs) x
+
+-- each of these moves can happen after those before it
+abbrev pub CanAll : Config → Pair → List Move → Type 0
+CanAll c p [] = ⊤
+CanAll c p (x ∷ xs) = CanAll c p xs × CanMove c (after_all c p xs) x
+
+-- whatever two ends did whose clocks began so many ticks later, they keep the promise
+abbrev pub EndsWithClocksKeepThePromise : Type 0
+EndsWithClocksKeepThePromise =
+    (c : Config) (first : Contents) (g k : ℕ) (xs : List Move)
+    → IsConfig (later g c)
+    → IsConfig (later k c)
+    → CanAll c (no_pair_later c first g k) xs
+    → IsPromised c first (after_all c (no_pair_later c first g k) xs).ends
