@@ -25,88 +25,283 @@
 extern "C" {
 #endif
 
-/* What calls answer: done, the faults of docs/FORMATS.md, and five numbers of this library
-   alone. */
-enum {
+/* ---- the version ---- */
+
+/* The header's version: 1,000,000 for the major number, 1,000 for the minor one, 1 for the
+   patch. */
+#define LPT_VERSION_STRING "0.1.0"
+#define LPT_VERSION_NUMBER 1000
+
+/* Results that must be looked at. */
+#if defined(__GNUC__)
+#define LPT_MUST_USE __attribute__((warn_unused_result))
+#else
+#define LPT_MUST_USE
+#endif
+
+/* What is said of a structure's layout is so, or nothing compiles. */
+#define LPT_LAYOUT(structure, octets, alignment)                                                   \
+    struct lpt_aligned_##structure {                                                               \
+        char before;                                                                               \
+        structure it;                                                                              \
+    };                                                                                             \
+    LPT_HOLDS(structure##_size, sizeof(structure) == (octets));                                    \
+    LPT_HOLDS(structure##_alignment, offsetof(struct lpt_aligned_##structure, it) == (alignment))
+#define LPT_FIELD(structure, field, at)                                                            \
+    LPT_HOLDS(structure##_##field, offsetof(structure, field) == (at))
+#define LPT_HOLDS(name, condition) typedef char lpt_holds_##name[(condition) ? 1 : -1]
+
+#if !defined(__x86_64__) || !defined(__LP64__)
+#error "The libraries are for x86-64 with 64-bit pointers"
+#endif
+
+/* The archive's version, as LPT_VERSION_NUMBER is the header's. */
+uint32_t lpt_version(void);
+
+/* ---- what calls answer ---- */
+
+/* Done, the faults of docs/FORMATS.md, and numbers of the libraries alone, from 101 on. A call
+   answers one as a uint32_t. */
+enum LptFault {
     LPT_DONE = 0,
 
     /* Octets that are no packet, in the order in which they are tested. */
-    LPT_SHORT = 1,
-    LPT_VERSION = 2,
-    LPT_LENGTH = 3,
-    LPT_SEGMENTED = 4,
-    LPT_NO_SECONDARY = 5,
-    LPT_CHECKSUM = 6,
+    LPT_E_SHORT = 1,
+    LPT_E_VERSION = 2,
+    LPT_E_LENGTH = 3,
+    LPT_E_SEGMENTED = 4,
+    LPT_E_NO_SECONDARY = 5,
+    LPT_E_CHECKSUM = 6,
 
     /* A packet that isn't the message that is read, in the order 12, 13, 11. */
-    LPT_PUS_VERSION = 11,
-    LPT_WRONG_TYPE = 12,
-    LPT_SHORT_HEADER = 13,
+    LPT_E_PUS_VERSION = 11,
+    LPT_E_WRONG_TYPE = 12,
+    LPT_E_SHORT_HEADER = 13,
     /* The packet to be written would have more than 65,542 octets. */
-    LPT_TOO_LONG = 14,
+    LPT_E_TOO_LONG = 14,
 
     /* A body that is no part, in the order in which they are tested. */
-    LPT_SHORT_PART = 20,
-    LPT_ZERO = 21,
-    LPT_KIND_NUMBER = 22,
-    LPT_PART_LENGTH = 23,
+    LPT_E_SHORT_PART = 20,
+    LPT_E_ZERO_NUMBER = 21,
+    LPT_E_KIND_NUMBER = 22,
+    LPT_E_PART_LENGTH = 23,
     /* A body that is no abortion report. */
-    LPT_ABORT_BODY = 24,
+    LPT_E_ABORT_BODY = 24,
 
-    /* A message that isn't longer than a part, or has more than 65,542 octets, or no such part. */
-    LPT_SHORT_MESSAGE = 42,
-    LPT_LONG_MESSAGE = 43,
-    LPT_NO_SUCH_PART = 46,
+    /* Of an end: not 1 to 16 memories of 1 to 1,048,576 octets each, as lpt_end_new says. */
+    LPT_E_MEMORIES = 25,
+
+    /* Of an end: the transaction's name isn't free. */
+    LPT_E_IN_USE = 41,
+    /* A message that isn't longer than a part; or one of more than 65,542 octets, or a plain
+       request that is longer than the link takes. */
+    LPT_E_SHORT_MESSAGE = 42,
+    LPT_E_LONG_MESSAGE = 43,
+    /* Of an end: as many messages are open as the limit; no message of this name is open. */
+    LPT_E_TOO_MANY = 44,
+    LPT_E_NOT_OPEN = 45,
+    /* The message has no part of that number. */
+    LPT_E_NO_SUCH_PART = 46,
+    /* Of an end: no reception is due; no request is to be read, or executed; the oldest wasn't
+       read; the transaction is open; the clock is at its greatest value. */
+    LPT_E_NOTHING_DUE = 50,
+    LPT_E_NO_JOB = 51,
+    LPT_E_NOT_READ = 52,
+    LPT_E_STILL_OPEN = 55,
+    LPT_E_CLOCK_END = 56,
+    /* Of an end: an allocation was refused. */
+    LPT_E_ALLOCATION = 58,
+    /* Of an end: the types of a request are those of a part. */
+    LPT_E_PART_REQUEST = 60,
+
+    /* The first value of an end's configuration that is out of its range. */
+    LPT_E_CONFIG_APID = 71,
+    LPT_E_CONFIG_PART_SIZE = 72,
+    LPT_E_CONFIG_TIMEOUT = 73,
+    LPT_E_CONFIG_RECEPTIONS = 74,
+    LPT_E_CONFIG_OUTGOING = 75,
 
     /* The octets are an idle packet. */
-    LPT_IDLE = 101,
+    LPT_E_IDLE = 101,
     /* A number is out of the range that the call's comment gives. */
-    LPT_RANGE = 102,
+    LPT_E_RANGE = 102,
     /* The buffer is too short: it is as it was, and `needed` says how many octets it takes. */
-    LPT_ROOM = 103,
+    LPT_E_ROOM = 103,
     /* The octets don't say it yet: more of the stream is needed. */
-    LPT_MORE = 104,
+    LPT_E_MORE = 104,
     /* The body is no verification report. */
-    LPT_NO_REPORT = 105
+    LPT_E_NO_REPORT = 105,
+    /* The handle holds no end; it holds one already. */
+    LPT_E_EMPTY = 106,
+    LPT_E_FULL = 107,
+    /* Of an end: no number is left for a job, or for a restart. */
+    LPT_E_NO_NUMBER = 108,
+    /* Of an end: there is nothing to copy, or to let go. */
+    LPT_E_NOTHING = 109,
+    /* Of an end: packets are to be sent first. */
+    LPT_E_UNSENT = 110
 };
 
-/* The kinds of packets, and of parts. */
-enum { LPT_TM = 0, LPT_TC = 1 };
-enum { LPT_FIRST = 1, LPT_INTERMEDIATE = 2, LPT_LAST = 3 };
+/* The name of what a call answered, as docs/C.md has it; "unknown" of another number. */
+static inline const char *lpt_fault_name(uint32_t fault) {
+    switch (fault) {
+    case LPT_DONE:
+        return "done";
+    case LPT_E_SHORT:
+        return "short";
+    case LPT_E_VERSION:
+        return "version";
+    case LPT_E_LENGTH:
+        return "length";
+    case LPT_E_SEGMENTED:
+        return "segmented";
+    case LPT_E_NO_SECONDARY:
+        return "no secondary";
+    case LPT_E_CHECKSUM:
+        return "checksum";
+    case LPT_E_PUS_VERSION:
+        return "pus version";
+    case LPT_E_WRONG_TYPE:
+        return "wrong type";
+    case LPT_E_SHORT_HEADER:
+        return "short header";
+    case LPT_E_TOO_LONG:
+        return "too long";
+    case LPT_E_SHORT_PART:
+        return "short part";
+    case LPT_E_ZERO_NUMBER:
+        return "zero number";
+    case LPT_E_KIND_NUMBER:
+        return "kind number";
+    case LPT_E_PART_LENGTH:
+        return "part length";
+    case LPT_E_ABORT_BODY:
+        return "abort body";
+    case LPT_E_MEMORIES:
+        return "memories";
+    case LPT_E_IN_USE:
+        return "in use";
+    case LPT_E_SHORT_MESSAGE:
+        return "short message";
+    case LPT_E_LONG_MESSAGE:
+        return "long message";
+    case LPT_E_TOO_MANY:
+        return "too many";
+    case LPT_E_NOT_OPEN:
+        return "not open";
+    case LPT_E_NO_SUCH_PART:
+        return "no such part";
+    case LPT_E_NOTHING_DUE:
+        return "nothing due";
+    case LPT_E_NO_JOB:
+        return "no job";
+    case LPT_E_NOT_READ:
+        return "not read";
+    case LPT_E_STILL_OPEN:
+        return "still open";
+    case LPT_E_CLOCK_END:
+        return "clock end";
+    case LPT_E_ALLOCATION:
+        return "allocation";
+    case LPT_E_PART_REQUEST:
+        return "part request";
+    case LPT_E_CONFIG_APID:
+        return "config apid";
+    case LPT_E_CONFIG_PART_SIZE:
+        return "config part size";
+    case LPT_E_CONFIG_TIMEOUT:
+        return "config timeout";
+    case LPT_E_CONFIG_RECEPTIONS:
+        return "config receptions";
+    case LPT_E_CONFIG_OUTGOING:
+        return "config outgoing";
+    case LPT_E_IDLE:
+        return "idle";
+    case LPT_E_RANGE:
+        return "range";
+    case LPT_E_ROOM:
+        return "room";
+    case LPT_E_MORE:
+        return "more";
+    case LPT_E_NO_REPORT:
+        return "no report";
+    case LPT_E_EMPTY:
+        return "empty";
+    case LPT_E_FULL:
+        return "full";
+    case LPT_E_NO_NUMBER:
+        return "no number";
+    case LPT_E_NOTHING:
+        return "nothing";
+    case LPT_E_UNSENT:
+        return "unsent";
+    default:
+        return "unknown";
+    }
+}
+
+/* ---- kinds ---- */
+
+/* The kinds of packets. */
+enum LptPacketKind { LPT_PACKET_TM = 0, LPT_PACKET_TC = 1 };
+
+/* The kinds of parts. */
+enum LptPartKind { LPT_PART_FIRST = 1, LPT_PART_INTERMEDIATE = 2, LPT_PART_LAST = 3 };
+
+/* Why a reception was aborted: no part came for as long as the time-out; in strict mode a part came
+   that isn't the next; a part contradicts another. */
+enum LptReason { LPT_REASON_EXPIRED = 1, LPT_REASON_DISCONTINUITY = 2, LPT_REASON_CONFLICT = 3 };
+
+/* Why a request wasn't accepted, the first two; why its execution didn't start, the others. */
+enum LptFailure {
+    LPT_FAILURE_UNKNOWN_TYPE = 1,
+    LPT_FAILURE_BODY = 2,
+    LPT_FAILURE_UNKNOWN_MEMORY = 3,
+    LPT_FAILURE_OUT_OF_RANGE = 4,
+    LPT_FAILURE_CHECKSUM = 5,
+    LPT_FAILURE_REPLY_TOO_LONG = 6,
+    LPT_FAILURE_NO_IDENTIFIER = 7,
+    LPT_FAILURE_TOO_MANY_OPEN = 8
+};
 
 /* The longest packet, and the longest message that is sent in parts, in octets. */
-enum { LPT_LONGEST = 65542 };
+enum { LPT_LONGEST_PACKET = 65542 };
 
 /* ---- packets ---- */
 
 /* The packet error control over these octets. */
+LPT_MUST_USE
 uint16_t lpt_crc16(const uint8_t *octets, size_t octets_len);
 
 /*
  * Says how many octets the packet has that begins a stream, by the first six of them. LPT_DONE of
- * a packet, LPT_IDLE of an idle one, which may be skipped: *length is written then, 7 to 65,542.
- * LPT_MORE where there are too few octets yet to know, LPT_VERSION where no packet begins so.
+ * a packet, LPT_E_IDLE of an idle one, which may be skipped: *length is written then, 7 to 65,542.
+ * LPT_E_MORE where there are too few octets yet to know, LPT_E_VERSION where no packet begins so.
  */
+LPT_MUST_USE
 uint32_t lpt_packet_length(const uint8_t *octets, size_t octets_len, size_t *length);
 
 /* A packet that was read: what stands at octets[at], len octets long, is its data field. */
 typedef struct LptPacket {
-    uint32_t kind;  /* LPT_TM or LPT_TC */
+    uint32_t kind;  /* LPT_PACKET_TM or LPT_PACKET_TC */
     uint16_t apid;  /* 0 to 2046 */
     uint16_t count; /* the sequence count, 0 to 16,383 */
     size_t at;
     size_t len;
 } LptPacket;
 
-/* Reads octets as a packet: LPT_DONE, LPT_IDLE, or LPT_SHORT to LPT_CHECKSUM, the first that
+/* Reads octets as a packet: LPT_DONE, LPT_E_IDLE, or LPT_E_SHORT to LPT_E_CHECKSUM, the first that
    applies. *out is written at LPT_DONE. */
+LPT_MUST_USE
 uint32_t lpt_read_packet(const uint8_t *octets, size_t octets_len, LptPacket *out);
 
 /*
  * Writes a packet to the front of a buffer, and leaves the rest of it as it was.
- * LPT_DONE; LPT_RANGE for another kind, an APID above 2046 or a count above 16,383; LPT_TOO_LONG;
- * LPT_ROOM. At LPT_DONE and LPT_ROOM *needed is the packet's length, 8 more than the field's.
+ * LPT_DONE; LPT_E_RANGE for another kind, an APID above 2046 or a count above 16,383;
+ * LPT_E_TOO_LONG; LPT_E_ROOM. At LPT_DONE and LPT_E_ROOM *needed is the packet's length, 8 more
+ * than the field's.
  */
+LPT_MUST_USE
 uint32_t lpt_write_packet(uint32_t kind, uint16_t apid, uint16_t count, const uint8_t *field,
                           size_t field_len, uint8_t *out, size_t out_len, size_t *needed);
 
@@ -129,21 +324,24 @@ typedef struct LptTc {
     size_t len;
 } LptTc;
 
-/* Reads the octets of a whole packet as a telecommand: as lpt_read_packet, and then LPT_WRONG_TYPE,
-   LPT_SHORT_HEADER or LPT_PUS_VERSION. *out is written at LPT_DONE. */
+/* Reads the octets of a whole packet as a telecommand: as lpt_read_packet, and then
+   LPT_E_WRONG_TYPE, LPT_E_SHORT_HEADER or LPT_E_PUS_VERSION. *out is written at LPT_DONE. */
+LPT_MUST_USE
 uint32_t lpt_read_tc(const uint8_t *octets, size_t octets_len, LptTc *out);
 
 /*
  * Writes a telecommand's whole packet to the front of a buffer, and leaves the rest of it as it
- * was. LPT_DONE; LPT_RANGE for an APID above 2046, a count above 16,383 or flags above 15;
- * LPT_TOO_LONG; LPT_ROOM. At LPT_DONE and LPT_ROOM *needed is the packet's length, 13 more than the
- * body's.
+ * was. LPT_DONE; LPT_E_RANGE for an APID above 2046, a count above 16,383 or flags above 15;
+ * LPT_E_TOO_LONG; LPT_E_ROOM. At LPT_DONE and LPT_E_ROOM *needed is the packet's length, 13 more
+ * than the body's.
  */
+LPT_MUST_USE
 uint32_t lpt_write_tc(const LptTcHead *head, const uint8_t *body, size_t body_len, uint8_t *out,
                       size_t out_len, size_t *needed);
 
 /* Gives the request ID of a telecommand of this head: the first four octets of its packet.
-   LPT_DONE, and *id is written; LPT_RANGE as lpt_write_tc. */
+   LPT_DONE, and *id is written; LPT_E_RANGE as lpt_write_tc. */
+LPT_MUST_USE
 uint32_t lpt_request_id(const LptTcHead *head, uint32_t *id);
 
 /* What telemetry's headers say. */
@@ -166,54 +364,63 @@ typedef struct LptTm {
 } LptTm;
 
 /* Reads the octets of a whole packet as telemetry, as lpt_read_tc. */
+LPT_MUST_USE
 uint32_t lpt_read_tm(const uint8_t *octets, size_t octets_len, LptTm *out);
 
 /*
  * Writes telemetry's whole packet to the front of a buffer, its status as 0 whatever the head's is,
- * and leaves the rest of the buffer as it was. LPT_DONE; LPT_RANGE for an APID above 2046, a count
- * above 16,383 or a status above 15; LPT_TOO_LONG; LPT_ROOM. At LPT_DONE and LPT_ROOM *needed is
- * the packet's length, 19 more than the body's.
+ * and leaves the rest of the buffer as it was. LPT_DONE; LPT_E_RANGE for an APID above 2046, a
+ * count above 16,383 or a status above 15; LPT_E_TOO_LONG; LPT_E_ROOM. At LPT_DONE and LPT_E_ROOM
+ * *needed is the packet's length, 19 more than the body's.
  */
+LPT_MUST_USE
 uint32_t lpt_write_tm(const LptTmHead *head, const uint8_t *body, size_t body_len, uint8_t *out,
                       size_t out_len, size_t *needed);
 
-/* ---- parts of large messages: p is the part size, 4 to 1,024 octets ---- */
+/* ---- parts of large messages ---- */
 
-/* How many parts of p octets a message of len octets has; 0 for another p. */
-uint32_t lpt_part_count(uint32_t len, uint32_t p);
+/* How many parts of this size a message has; 0 where the size isn't 4 to 1,024 octets, or the
+   message has more than 65,542. */
+LPT_MUST_USE
+uint32_t lpt_part_count(size_t message_len, uint32_t part_size);
 
 /*
- * Writes the body of the message that carries part k of a message, from 1, to the front of a
- * buffer, and leaves the rest of it as it was. LPT_DONE; LPT_RANGE for another p;
- * LPT_SHORT_MESSAGE; LPT_LONG_MESSAGE; LPT_NO_SUCH_PART; LPT_ROOM. At LPT_DONE and LPT_ROOM *needed
- * is the body's length, and *kind the part's kind: the message's subtype is 8 + *kind in a
- * telecommand, and *kind in telemetry.
+ * Writes the body of the message that carries the part of this number, from 1, of a message, to the
+ * front of a buffer, and leaves the rest of it as it was. LPT_DONE; LPT_E_RANGE for a part size
+ * that isn't 4 to 1,024 octets; LPT_E_SHORT_MESSAGE; LPT_E_LONG_MESSAGE; LPT_E_NO_SUCH_PART;
+ * LPT_E_ROOM. At LPT_DONE and LPT_E_ROOM *needed is the body's length, and *kind the part's kind:
+ * the message's subtype is 8 + *kind in a telecommand, and *kind in telemetry.
  */
-uint32_t lpt_slice_part(const uint8_t *message, size_t message_len, uint32_t p, uint16_t id,
-                        uint16_t k, uint32_t *kind, uint8_t *out, size_t out_len, size_t *needed);
+LPT_MUST_USE
+uint32_t lpt_slice_part(const uint8_t *message, size_t message_len, uint32_t part_size, uint16_t id,
+                        uint16_t number, uint32_t *kind, uint8_t *out, size_t out_len,
+                        size_t *needed);
 
 /* A part that was read: what stands at body[at], len octets long, are its octets. */
 typedef struct LptPart {
     uint16_t id;     /* the transaction identifier */
     uint16_t number; /* from 1 */
-    uint32_t kind;   /* LPT_FIRST, LPT_INTERMEDIATE or LPT_LAST */
+    uint32_t kind;   /* LPT_PART_FIRST, LPT_PART_INTERMEDIATE or LPT_PART_LAST */
     size_t at;
     size_t len;
 } LptPart;
 
-/* Reads a message's body as a part of this kind: LPT_DONE; LPT_RANGE for another kind or p; or
-   LPT_SHORT_PART to LPT_PART_LENGTH, the first that applies. *out is written at LPT_DONE. */
-uint32_t lpt_read_part(uint32_t kind, const uint8_t *body, size_t body_len, uint32_t p,
+/* Reads a message's body as a part of this kind: LPT_DONE; LPT_E_RANGE for another kind or part
+   size; or LPT_E_SHORT_PART to LPT_E_PART_LENGTH, the first that applies. *out is written at
+   LPT_DONE. */
+LPT_MUST_USE
+uint32_t lpt_read_part(uint32_t kind, const uint8_t *body, size_t body_len, uint32_t part_size,
                        LptPart *out);
 
 /*
  * Writes the body of a message that carries a part to the front of a buffer, and leaves the rest of
- * it as it was. LPT_DONE; LPT_RANGE for another kind or p; LPT_ZERO, LPT_KIND_NUMBER or
- * LPT_PART_LENGTH, where there is no such part; LPT_ROOM. At LPT_DONE and LPT_ROOM *needed is the
- * body's length.
+ * it as it was. LPT_DONE; LPT_E_RANGE for another kind or part size; LPT_E_ZERO_NUMBER,
+ * LPT_E_KIND_NUMBER or LPT_E_PART_LENGTH, where there is no such part; LPT_E_ROOM. At LPT_DONE and
+ * LPT_E_ROOM *needed is the body's length.
  */
+LPT_MUST_USE
 uint32_t lpt_write_part(uint32_t kind, uint16_t id, uint16_t number, const uint8_t *octets,
-                        size_t octets_len, uint32_t p, uint8_t *out, size_t out_len,
+                        size_t octets_len, uint32_t part_size, uint8_t *out, size_t out_len,
                         size_t *needed);
 
 /* What an abortion report says: of which transaction, and why: 1 expired, 2 discontinuity, 3
@@ -224,12 +431,14 @@ typedef struct LptAbort {
 } LptAbort;
 
 /* Reads a message's body as an abortion report: LPT_DONE, and *out is written; or
-   LPT_ABORT_BODY. */
+   LPT_E_ABORT_BODY. */
+LPT_MUST_USE
 uint32_t lpt_read_abort(const uint8_t *body, size_t body_len, LptAbort *out);
 
 /* Writes the body of an abortion report to the front of a buffer, and leaves the rest of it as
-   it was: LPT_DONE; LPT_RANGE for another reason; LPT_ROOM. At LPT_DONE and LPT_ROOM *needed is
-   3. */
+   it was: LPT_DONE; LPT_E_RANGE for another reason; LPT_E_ROOM. At LPT_DONE and LPT_E_ROOM
+   *needed is 3. */
+LPT_MUST_USE
 uint32_t lpt_write_abort(uint16_t id, uint16_t reason, uint8_t *out, size_t out_len,
                          size_t *needed);
 
@@ -243,17 +452,72 @@ typedef struct LptReport {
 } LptReport;
 
 /* Reads a message's body as the report of this subtype: 1, 3, 7 of success, 2, 4 of failure.
-   LPT_DONE, and *out is written; or LPT_NO_REPORT. */
+   LPT_DONE, and *out is written; or LPT_E_NO_REPORT. */
+LPT_MUST_USE
 uint32_t lpt_read_report(uint8_t subtype, const uint8_t *body, size_t body_len, LptReport *out);
 
 /*
  * Writes the body of the report of this subtype to the front of a buffer, and leaves the rest of it
- * as it was: 1, 3 or 7 with code 0, 2 or 4 with a code of 1 to 8. LPT_DONE; LPT_RANGE for others;
- * LPT_ROOM. At LPT_DONE and LPT_ROOM *needed is the body's length, 4 of a success and 6 of a
+ * as it was: 1, 3 or 7 with code 0, 2 or 4 with a code of 1 to 8. LPT_DONE; LPT_E_RANGE for others;
+ * LPT_E_ROOM. At LPT_DONE and LPT_E_ROOM *needed is the body's length, 4 of a success and 6 of a
  * failure.
  */
+LPT_MUST_USE
 uint32_t lpt_write_report(uint8_t subtype, uint32_t request, uint16_t code, uint8_t *out,
                           size_t out_len, size_t *needed);
+
+/* ---- what is so of the structures in the archive: size, alignment, offsets ---- */
+
+LPT_LAYOUT(LptPacket, 24, 8);
+LPT_FIELD(LptPacket, kind, 0);
+LPT_FIELD(LptPacket, apid, 4);
+LPT_FIELD(LptPacket, count, 6);
+LPT_FIELD(LptPacket, at, 8);
+LPT_FIELD(LptPacket, len, 16);
+
+LPT_LAYOUT(LptTcHead, 10, 2);
+LPT_FIELD(LptTcHead, apid, 0);
+LPT_FIELD(LptTcHead, count, 2);
+LPT_FIELD(LptTcHead, flags, 4);
+LPT_FIELD(LptTcHead, service, 5);
+LPT_FIELD(LptTcHead, subtype, 6);
+LPT_FIELD(LptTcHead, source, 8);
+
+LPT_LAYOUT(LptTc, 32, 8);
+LPT_FIELD(LptTc, head, 0);
+LPT_FIELD(LptTc, at, 16);
+LPT_FIELD(LptTc, len, 24);
+
+LPT_LAYOUT(LptTmHead, 16, 4);
+LPT_FIELD(LptTmHead, apid, 0);
+LPT_FIELD(LptTmHead, count, 2);
+LPT_FIELD(LptTmHead, status, 4);
+LPT_FIELD(LptTmHead, service, 5);
+LPT_FIELD(LptTmHead, subtype, 6);
+LPT_FIELD(LptTmHead, counter, 8);
+LPT_FIELD(LptTmHead, destination, 10);
+LPT_FIELD(LptTmHead, time, 12);
+
+LPT_LAYOUT(LptTm, 32, 8);
+LPT_FIELD(LptTm, head, 0);
+LPT_FIELD(LptTm, at, 16);
+LPT_FIELD(LptTm, len, 24);
+
+LPT_LAYOUT(LptPart, 24, 8);
+LPT_FIELD(LptPart, id, 0);
+LPT_FIELD(LptPart, number, 2);
+LPT_FIELD(LptPart, kind, 4);
+LPT_FIELD(LptPart, at, 8);
+LPT_FIELD(LptPart, len, 16);
+
+LPT_LAYOUT(LptAbort, 4, 2);
+LPT_FIELD(LptAbort, id, 0);
+LPT_FIELD(LptAbort, reason, 2);
+
+LPT_LAYOUT(LptReport, 8, 4);
+LPT_FIELD(LptReport, request, 0);
+LPT_FIELD(LptReport, failed, 4);
+LPT_FIELD(LptReport, code, 6);
 
 #ifdef __cplusplus
 }

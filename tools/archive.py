@@ -1,9 +1,10 @@
-"""Builds a library for C over what the kit has proved of its crate.
+"""Builds the libraries for C over what the kit has proved of their crates.
 
-    archive.py build ROOM CRATE TO     writes the archive of this crate's exports; ROOM is a copy of
-                                       the repository in which `rt ci` has run
-    archive.py copy TOP ROOM CRATE..   copies these crates into such a room, with those below them and
-                                       without must-fail edits
+    archive.py copy TOP ROOM      copies the crates of the libraries into a room in which `rt ci` is to
+                                  run, with those below them and without must-fail edits
+    archive.py build ROOM TOP     writes TOP/build: for each library the archive of its crate's
+                                  exports, a shared library of it, and files for pkg-config; ROOM is
+                                  such a room, or a copy of the repository in which `rt ci` has run
 
 `rt ci` keeps no archive of a static library, so it would be proved a second time to have one. So the
 crates for C are plain libraries, which `rt ci` keeps. The static library is written here: for each
@@ -11,15 +12,42 @@ crates for C are plain libraries, which `rt ci` keeps. The static library is wri
 calls that one. That it meets this contract is proved as the archive is built.
 """
 
+from __future__ import annotations
+
+import fcntl
+import hashlib
+import os
 import pathlib
 import re
 import shutil
 import subprocess
 import sys
 import tempfile
+from concurrent.futures import ThreadPoolExecutor
+from typing import NamedTuple
 
 sys.dont_write_bytecode = True
 from crates import KIT, libraries, prover  # noqa: E402: it stands beside this file
+
+
+class Library(NamedTuple):
+    """A library: its crate, its name, what it is, the library that its header takes types from, and
+    what is compiled into a shared one."""
+
+    crate: str
+    name: str
+    description: str
+    requires: str
+    sources: list[str]
+
+
+LIBRARIES = [
+    Library("lpt_c", "lpt", "Space packets, PUS headers and large packet transfer, proved", "", []),
+    Library(
+        "lpt_c_end", "lpt_end", "One end of a link of large packet transfer, proved", "lpt",
+        ["examples/c/memory/heap.c"],
+    ),
+]
 
 # In rt fmt's layout: a function's head, with its contract, ends where its body begins on a line of
 # its own.
@@ -56,12 +84,17 @@ def write_exports(sources, crate, to):
     (to / "src/lib.rt").write_text("\n".join([*root, ""]), encoding="utf-8")
 
 
-def copy(top, room, *crates):
-    """Copies crates, with all below them."""
-    top, room = pathlib.Path(top), pathlib.Path(room)
-    known, found = libraries(top), list(crates)
+def with_below(top: pathlib.Path) -> list[str]:
+    """The crates of the libraries, with all below them."""
+    known, found = libraries(top), [it.crate for it in LIBRARIES]
     for crate in found:
         found += [it for it in known[crate] if it in known and it not in found]
+    return found
+
+
+def copy(top: pathlib.Path, room: pathlib.Path) -> None:
+    """Copies the crates of the libraries."""
+    found = with_below(top)
     for crate in found:
         unread = shutil.ignore_patterns("out", "must-fail")
         shutil.copytree(top / "crates" / crate, room / "crates" / crate, ignore=unread)
@@ -71,16 +104,96 @@ def copy(top, room, *crates):
     shutil.copy(top / "HANDLES", room)
 
 
-def build(room, crate, to):
-    """Builds the archive."""
-    room, to = pathlib.Path(room).resolve(), pathlib.Path(to).resolve()
-    name = f"{crate}_exports"
-    words = prover("build", name, "src/lib.rt", [crate, *libraries(room)[crate]], room)
-    words += ["--crate-type", "staticlib", "--toolchain", f"{KIT}/toolchain"]
+def archive(room: pathlib.Path, library: Library, to: pathlib.Path) -> None:
+    """Builds a library's archive."""
+    name = f"{library.crate}_exports"
+    listed = [library.crate, *libraries(room)[library.crate]]
+    words = prover("build", name, "src/lib.rt", listed, room)
+    words += ["--crate-type", "staticlib", "--toolchain", f"{KIT}/toolchain", "-o", str(to)]
     with tempfile.TemporaryDirectory(prefix="lpt-exports-") as folder:
-        write_exports(room / "crates" / crate / "src", crate, pathlib.Path(folder))
-        return subprocess.run([*words, "-o", to], cwd=folder, check=False).returncode
+        write_exports(room / "crates" / library.crate / "src", library.crate, pathlib.Path(folder))
+        subprocess.run(words, cwd=folder, check=True)
+
+
+def declared(header: pathlib.Path) -> list[str]:
+    """The functions of a library that its header declares."""
+    text = re.sub(r"/\*.*?\*/", " ", header.read_text(encoding="utf-8"), flags=re.S)
+    return sorted(set(re.findall(r"\b(lpt_\w+)\([^()]*\);", text)))
+
+
+def shared(top: pathlib.Path, library: Library, folder: pathlib.Path) -> None:
+    """Links the shared library of an archive in a folder: it exports what the header declares alone, and
+    its code can't be written to, nor its stack or what the loader has filled in be executed or changed."""
+    header, name = top / f"include/{library.name}.h", f"lib{library.name}.so.0"
+    script = folder / f"{name}.exports"
+    script.write_text(f"{{ global: {' '.join(f'{it};' for it in declared(header))} local: *; }};\n")
+    words = [os.environ.get("CC", "cc"), "-shared", "-O2", "-fPIC", "-fvisibility=hidden", f"-I{top}/include"]
+    words += [str(top / it) for it in library.sources]
+    words += ["-Wl,--whole-archive", str(folder / f"lib{library.name}.a"), "-Wl,--no-whole-archive"]
+    words += [f"-Wl,-soname,{name}", f"-Wl,--version-script={script}", "-Wl,--no-undefined-version"]
+    words += [f"-Wl,-z,{it}" for it in ("defs", "text", "relro", "now", "noexecstack")]
+    subprocess.run([*words, "-Wl,--gc-sections", "-o", str(folder / name)], check=True)
+    script.unlink()
+
+
+def package(top: pathlib.Path, library: Library, folder: pathlib.Path) -> None:
+    """Writes a library's files for pkg-config: of its archive, and of the shared one."""
+    version = (top / "docs/help/version").read_text(encoding="utf-8").strip()
+    for suffix, file in (("", f"-l{library.name}"), ("_shared", f"-l:lib{library.name}.so.0")):
+        lines = [
+            f"prefix={top}", "", f"Name: {library.name}{suffix}", f"Description: {library.description}",
+            f"Version: {version}", f"Requires: {library.requires and library.requires + suffix}",
+            "Cflags: -I${prefix}/include", f"Libs: -L${{prefix}}/build {file}", "",
+        ]
+        (folder / f"{library.name}{suffix}.pc").write_text("\n".join(lines), encoding="utf-8")
+
+
+def sums(top: pathlib.Path) -> str:
+    """A checksum of all that the libraries are made of."""
+    places = [top / "include", top / "examples/c/memory", top / "docs/help/version"]
+    places += [top / "crates" / it / part for it in with_below(top) for part in ("src", "specs")]
+    files = [it for place in places for it in (place, *place.rglob("*")) if it.is_file()]
+    found = (f"{it.relative_to(top)} {hashlib.sha256(it.read_bytes()).hexdigest()}\n" for it in sorted(files))
+    return hashlib.sha256("".join(found).encode()).hexdigest() + "\n"
+
+
+def build(room: pathlib.Path, top: pathlib.Path) -> None:
+    """Writes the libraries, and behind them the checksum of what they are made of."""
+    to = top / "build"
+    to.mkdir(exist_ok=True)
+    with tempfile.TemporaryDirectory(dir=to, prefix="room.") as name:
+        folder = pathlib.Path(name)
+        (folder / "sums").write_text(sums(top), encoding="utf-8")
+        with ThreadPoolExecutor() as pool:
+            list(pool.map(lambda it: archive(room, it, folder / f"lib{it.name}.a"), LIBRARIES))
+        for library in LIBRARIES:
+            shared(top, library, folder)
+            package(top, library, folder)
+        for file in sorted(folder.iterdir(), key=lambda it: it.name == "sums"):
+            file.replace(to / file.name)
+
+
+def is_built(top: pathlib.Path) -> bool:
+    """Whether the libraries are there, of what they would be made of now."""
+    made = top / "build/sums"
+    return made.is_file() and made.read_text(encoding="utf-8") == sums(top)
+
+
+def built(top: pathlib.Path) -> pathlib.Path:
+    """The folder of the libraries, which are built first where they aren't there: over what ./check has
+    proved in this copy of the repository, or by ./build-c."""
+    below = top / "crates/lpt_packet/out/rlib"
+    (top / "build").mkdir(exist_ok=True)
+    with open(top / "build/lock", "w", encoding="utf-8") as lock:
+        fcntl.flock(lock, fcntl.LOCK_EX)
+        if not is_built(top):
+            is_room = (below / "lpt_packet.rlib").is_dir() and not (below / "stamp").exists()
+            words = [sys.executable, __file__, "build", str(top), str(top)] if is_room else [str(top / "build-c")]
+            subprocess.run(words, stdout=subprocess.PIPE, stderr=subprocess.STDOUT, check=True)
+    return top / "build"
 
 
 if __name__ == "__main__":
-    sys.exit({"build": build, "copy": copy}[sys.argv[1]](*sys.argv[2:]))
+    VERBS = {"build": build, "copy": copy, "is_built": is_built}
+    answer = VERBS[sys.argv[1]](*(pathlib.Path(it).resolve() for it in sys.argv[2:]))
+    sys.exit(answer is False)

@@ -41,25 +41,25 @@ uint16_t plain_crc16(const uint8_t *b, size_t len) {
 
 uint32_t plain_read_packet(const uint8_t *b, size_t len, LptPacket *out) {
     if (len < 7) {
-        return LPT_SHORT;
+        return LPT_E_SHORT;
     }
     if (b[0] >> 5) {
-        return LPT_VERSION;
+        return LPT_E_VERSION;
     }
     if (len != 7 + (size_t)((b[4] << 8) | b[5])) {
-        return LPT_LENGTH;
+        return LPT_E_LENGTH;
     }
     if ((b[0] & 7) == 7 && b[1] == 255) {
-        return LPT_IDLE;
+        return LPT_E_IDLE;
     }
     if (b[2] >> 6 != 3) {
-        return LPT_SEGMENTED;
+        return LPT_E_SEGMENTED;
     }
     if (!(b[0] & 8)) {
-        return LPT_NO_SECONDARY;
+        return LPT_E_NO_SECONDARY;
     }
     if (len < 8 || plain_crc16(b, len - 2) != ((b[len - 2] << 8) | b[len - 1])) {
-        return LPT_CHECKSUM;
+        return LPT_E_CHECKSUM;
     }
     out->kind = (b[0] >> 4) & 1;
     out->apid = (uint16_t)(((b[0] & 7) << 8) | b[1]);
@@ -73,14 +73,14 @@ uint32_t plain_write_packet(uint32_t kind, uint16_t apid, uint16_t count, const 
                             size_t field_len, uint8_t *out, size_t out_len, size_t *needed) {
     uint16_t sum;
     if (kind > 1 || apid > 2046 || count > 16383) {
-        return LPT_RANGE;
+        return LPT_E_RANGE;
     }
     if (field_len > 65534) {
-        return LPT_TOO_LONG;
+        return LPT_E_TOO_LONG;
     }
     *needed = field_len + 8;
     if (out_len < field_len + 8) {
-        return LPT_ROOM;
+        return LPT_E_ROOM;
     }
     out[0] = (uint8_t)((kind << 4) | 8 | (apid >> 8));
     out[1] = (uint8_t)apid;
@@ -135,7 +135,7 @@ void plain_end_free(PlainEnd *end) {
 }
 
 void plain_end_retire(PlainEnd *end, uint16_t id) {
-    end->is_closed[id / 8] &= (uint8_t)~(1u << (id % 8));
+    end->is_closed[id / 8] &= (uint8_t) ~(1u << (id % 8));
 }
 
 const uint8_t *plain_end_released(const PlainEnd *end, size_t *len) {
@@ -226,7 +226,7 @@ uint32_t plain_end_packet(PlainEnd *end, const uint8_t *octets, size_t len) {
     size_t n;
     free(end->released);
     end->released = NULL;
-    if (plain_read_packet(octets, len, &packet) != LPT_DONE || packet.kind != LPT_TM ||
+    if (plain_read_packet(octets, len, &packet) != LPT_DONE || packet.kind != LPT_PACKET_TM ||
         packet.len < 11 || octets[6] >> 4 != 2 || packet.apid != end->apid) {
         return IGNORED;
     }
@@ -239,13 +239,13 @@ uint32_t plain_end_packet(PlainEnd *end, const uint8_t *octets, size_t len) {
     id = (uint16_t)((b[0] << 8) | b[1]);
     number = (uint32_t)((b[2] << 8) | b[3]);
     n -= 4;
-    if (number == 0 || number > PARTS || (kind == LPT_FIRST) != (number == 1) || n > end->p ||
-        (kind != LPT_LAST && n != end->p) || (size_t)(number - 1) * end->p + n > 65542) {
+    if (number == 0 || number > PARTS || (kind == LPT_PART_FIRST) != (number == 1) || n > end->p ||
+        (kind != LPT_PART_LAST && n != end->p) || (size_t)(number - 1) * end->p + n > 65542) {
         return IGNORED;
     }
     if (end->is_closed[id / 8] & (1u << (id % 8))) {
         return IGNORED;
     }
     it = find(end, id);
-    return it ? keep(end, it, number, kind == LPT_LAST, b + 4, n) : IGNORED;
+    return it ? keep(end, it, number, kind == LPT_PART_LAST, b + 4, n) : IGNORED;
 }

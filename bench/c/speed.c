@@ -33,9 +33,7 @@ static double now(void) {
     return (double)t.tv_sec + 1e-9 * (double)t.tv_nsec;
 }
 
-static void wants(int is_right) {
-    is_wrong |= !is_right;
-}
+static void wants(int is_right) { is_wrong |= !is_right; }
 
 /* ---- the work, by the library and by plain C ---- */
 
@@ -73,7 +71,7 @@ static void write_proved(void) {
     size_t needed;
     int i;
     for (i = 0; i < TURNS; i++) {
-        sink += lpt_write_packet(LPT_TC, 100, 7, message, FIELD, written, PACKET, &needed);
+        sink += lpt_write_packet(LPT_PACKET_TC, 100, 7, message, FIELD, written, PACKET, &needed);
     }
 }
 
@@ -81,7 +79,7 @@ static void write_plain(void) {
     size_t needed;
     int i;
     for (i = 0; i < TURNS; i++) {
-        sink += plain_write_packet(LPT_TC, 100, 7, message, FIELD, written, PACKET, &needed);
+        sink += plain_write_packet(LPT_PACKET_TC, 100, 7, message, FIELD, written, PACKET, &needed);
     }
 }
 
@@ -106,12 +104,12 @@ static void split(uint32_t p) {
 
 /* Ground joins the message again and again, whose name is freed each time. */
 static void join_proved(void) {
-    LptConfig config = {100, 0, 10, 4, 4, 0, LPT_ANY};
+    LptConfig config = {100, 0, 10, 4, 4, 0, LPT_MODE_ANY};
     static const LptName name = {1, 5};
     LptEnd end = LPT_END_EMPTY;
     int i;
     config.part_size = part_size;
-    wants(lpt_end_new(&end, LPT_GROUND, &config, no_memory, 0, message, 0) == LPT_DONE);
+    wants(lpt_end_new(&end, LPT_SIDE_GROUND, &config, no_memory, 0, message, 0) == LPT_DONE);
     for (i = 0; i < JOINS; i++) {
         LptOutcome said = {0, {0, 0}, 0, 0};
         size_t at = 0, k;
@@ -119,8 +117,8 @@ static void join_proved(void) {
             wants(lpt_end_packet(&end, packets + at, lens[k], &said) == LPT_DONE);
             at += lens[k];
         }
-        wants(said.kind == LPT_RELEASED && said.first == LONG);
-        wants(lpt_end_retire(&end, LPT_DOWN, &name) == LPT_DONE);
+        wants(said.kind == LPT_OUTCOME_RELEASED && said.first == LONG);
+        wants(lpt_end_retire(&end, LPT_DIRECTION_DOWN, &name) == LPT_DONE);
     }
     lpt_end_free(&end);
 }
@@ -136,7 +134,7 @@ static void join_plain(void) {
             at += lens[k];
         }
         plain_end_released(end, &len);
-        wants(said == LPT_RELEASED && len == LONG);
+        wants(said == LPT_OUTCOME_RELEASED && len == LONG);
         plain_end_retire(end, 5);
     }
     plain_end_free(end);
@@ -182,8 +180,10 @@ int main(int argc, char **argv) {
     for (i = 0; i < LONG; i++) {
         message[i] = (uint8_t)(i * 7 + (i >> 8));
     }
-    wants(lpt_write_packet(LPT_TC, 100, 7, message, FIELD, packet, PACKET, &len) == LPT_DONE);
-    wants(plain_write_packet(LPT_TC, 100, 7, message, FIELD, written, PACKET, &len) == LPT_DONE);
+    wants(lpt_write_packet(LPT_PACKET_TC, 100, 7, message, FIELD, packet, PACKET, &len) ==
+          LPT_DONE);
+    wants(plain_write_packet(LPT_PACKET_TC, 100, 7, message, FIELD, written, PACKET, &len) ==
+          LPT_DONE);
     wants(memcmp(packet, written, PACKET) == 0 && len == PACKET);
     printf("| Work | Proved, MB/s | Plain C, MB/s | Time to plain C's |\n|---|--:|--:|--:|\n");
     row("`lpt_crc16`, 1,024 octets", TURNS * 1024.0, rounds, crc16_proved, crc16_plain);

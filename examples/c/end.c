@@ -30,19 +30,19 @@ static uint32_t carry(LptEnd *from, LptEnd *to, uint16_t k, LptOutcome *outcome)
 }
 
 int main(void) {
-    static const LptConfig config = {100, PART_SIZE, 10, 4, 4, 0, LPT_ANY};
+    static const LptConfig config = {100, PART_SIZE, 10, 4, 4, 0, LPT_MODE_ANY};
     static const LptMemory memories[] = {{1, 0, 1024}};
     static uint8_t message[MESSAGE], received[MESSAGE], content[1024];
     LptEnd ground = LPT_END_EMPTY, spacecraft = LPT_END_EMPTY;
     LptOutcome outcome = {0, {0, 0}, 0, 0};
     size_t len = 0, i;
     uint16_t k, parts = (uint16_t)lpt_part_count(MESSAGE, PART_SIZE);
-    uint32_t fault = lpt_end_new(&ground, LPT_GROUND, &config, memories, 0, content, 0);
+    uint32_t fault = lpt_end_new(&ground, LPT_SIDE_GROUND, &config, memories, 0, content, 0);
     for (i = 0; i < MESSAGE; i++) {
         message[i] = (uint8_t)(i % 251);
     }
     if (fault == LPT_DONE) {
-        fault = lpt_end_new(&spacecraft, LPT_SPACECRAFT, &config, memories, 1, content,
+        fault = lpt_end_new(&spacecraft, LPT_SIDE_SPACECRAFT, &config, memories, 1, content,
                             sizeof content);
     }
     if (fault == LPT_DONE) {
@@ -53,11 +53,12 @@ int main(void) {
             fault = carry(&ground, &spacecraft, k, &outcome);
         }
     }
-    printf("%u parts, the last %s\n", parts, outcome.kind == LPT_KEPT ? "kept" : "not kept");
+    printf("%u parts, the last %s\n", parts,
+           outcome.kind == LPT_OUTCOME_KEPT ? "kept" : "not kept");
     if (fault == LPT_DONE) {
         fault = carry(&ground, &spacecraft, 3, &outcome);
     }
-    if (fault == LPT_DONE && outcome.kind == LPT_RELEASED) {
+    if (fault == LPT_DONE && outcome.kind == LPT_OUTCOME_RELEASED) {
         fault = lpt_end_released(&spacecraft, received, sizeof received, &len);
         for (i = 0; i < MESSAGE && received[i] == message[i]; i++) {
         }

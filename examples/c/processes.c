@@ -35,16 +35,16 @@ static uint8_t image[OCTETS];
 /* Each process has its own of these: its end and its ends of the pipes, how many packets of each
    outcome came, how many names both ends have freed, and of which an 'R' is owed. */
 static LptEnd end = LPT_END_EMPTY;
-static uint32_t side = LPT_GROUND;
+static uint32_t side = LPT_SIDE_GROUND;
 static int in = -1, out = -1;
-static unsigned seen[LPT_IGNORED + 1], freed;
+static unsigned seen[LPT_OUTCOME_IGNORED + 1], freed;
 static LptName owed;
 static bool is_owed;
 
 /* Ends the process where something isn't so. The other then reads the end of its pipe. */
 static void must(bool is_so, const char *what) {
     if (!is_so) {
-        fprintf(stderr, "%s: %s\n", side == LPT_GROUND ? "ground" : "spacecraft", what);
+        fprintf(stderr, "%s: %s\n", side == LPT_SIDE_GROUND ? "ground" : "spacecraft", what);
         exit(EXIT_FAILURE);
     }
 }
@@ -54,7 +54,8 @@ static void must(bool is_so, const char *what) {
 static void take_line(const uint8_t *line) {
     LptName name = {0, 0};
     bool is_receiver = line[0] == 'F';
-    uint32_t direction = (side == LPT_GROUND) != is_receiver ? LPT_UP : LPT_DOWN;
+    uint32_t direction =
+        (side == LPT_SIDE_GROUND) != is_receiver ? LPT_DIRECTION_UP : LPT_DIRECTION_DOWN;
     memcpy(&name, line + 1, sizeof name);
     must(lpt_end_retire(&end, direction, &name) == LPT_DONE, "a name isn't freed");
     if (is_receiver) {
@@ -83,7 +84,7 @@ static void print(const uint8_t *packet, size_t len) {
 
 /* Takes a packet or a line. */
 static void take(const uint8_t *octets, size_t len) {
-    static uint8_t message[LPT_LONGEST];
+    static uint8_t message[LPT_LONGEST_PACKET];
     LptOutcome outcome = {0, {0, 0}, 0, 0};
     if (octets[0] == 'F' || octets[0] == 'R') {
         take_line(octets);
@@ -91,9 +92,9 @@ static void take(const uint8_t *octets, size_t len) {
     }
     must(lpt_end_packet(&end, octets, len, &outcome) == LPT_DONE, "a packet isn't taken");
     seen[outcome.kind]++;
-    if (outcome.kind == LPT_REPORT_NOTED) {
+    if (outcome.kind == LPT_OUTCOME_REPORT_NOTED) {
         print(octets, len);
-    } else if (outcome.kind == LPT_RELEASED && side == LPT_GROUND) {
+    } else if (outcome.kind == LPT_OUTCOME_RELEASED && side == LPT_SIDE_GROUND) {
         must(lpt_end_released(&end, message, sizeof message, &len) == LPT_DONE, "no message");
         print(message, len);
     }
@@ -105,7 +106,8 @@ static size_t whole(const uint8_t *octets, size_t len) {
     uint32_t said = LPT_DONE;
     if (len > 0 && octets[0] != 'F' && octets[0] != 'R') {
         said = lpt_packet_length(octets, len, &length);
-        must(said == LPT_MORE || (said == LPT_DONE && length <= LONGEST), "no packet begins here");
+        must(said == LPT_E_MORE || (said == LPT_DONE && length <= LONGEST),
+             "no packet begins here");
     }
     return said == LPT_DONE && length <= len ? length : 0;
 }
@@ -118,7 +120,7 @@ static void receive(void) {
     ssize_t n = read(in, came + came_len, sizeof came - came_len);
     must(n >= 0 || errno == EAGAIN, "a pipe isn't read");
     if (n == 0) {
-        must(side == LPT_SPACECRAFT && came_len == 0, "the other process has ended");
+        must(side == LPT_SIDE_SPACECRAFT && came_len == 0, "the other process has ended");
         must(close(in) == 0, "a pipe isn't closed");
         in = -1;
     }
@@ -182,7 +184,7 @@ static void flush(uint16_t k) {
         carry(k, packet, len);
         must(lpt_end_sent(&end) == LPT_DONE, "nothing is to be sent");
     }
-    must(fault == LPT_NOTHING, "a packet is too long");
+    must(fault == LPT_E_NOTHING, "a packet is too long");
 }
 
 /* Sends an open message, the lost part once more, and closes it. */
@@ -192,7 +194,7 @@ static void send_message(const LptName *name) {
     for (k = 1; (fault = lpt_end_part(&end, name, k)) == LPT_DONE; k++) {
         flush(k);
     }
-    must(fault == LPT_NO_SUCH_PART, "a part isn't made");
+    must(fault == LPT_E_NO_SUCH_PART, "a part isn't made");
     must(lpt_end_part(&end, name, LOST) == LPT_DONE, "a part isn't made again");
     flush(0);
     must(lpt_end_finish(&end, name) == LPT_DONE, "a message isn't closed");
@@ -202,13 +204,13 @@ static void send_message(const LptName *name) {
 static bool serve(void) {
     LptApplied applied = {0, {0, 0}, 0};
     uint32_t fault = lpt_end_read(&end);
-    must(fault == LPT_DONE || fault == LPT_NO_JOB, "a request isn't read");
+    must(fault == LPT_DONE || fault == LPT_E_NO_JOB, "a request isn't read");
     if (fault == LPT_DONE) {
         flush(0);
         must(lpt_end_execute(&end, &applied) == LPT_DONE, "a request isn't executed");
         flush(0);
     }
-    if (applied.kind == LPT_OPENED) {
+    if (applied.kind == LPT_APPLIED_OPENED) {
         send_message(&applied.name);
         tell('F', &applied.name);
     }
@@ -239,7 +241,7 @@ static void load(uint32_t len, uint16_t count) {
     static uint8_t body[8 + OCTETS + 2], request[sizeof body + 13];
     LptTcHead head = {APID, count, 1 + 8, 6, 2, SOURCE};
     size_t at = put_area(body, len), request_len = 0;
-    unsigned reports = seen[LPT_REPORT_NOTED] + 2;
+    unsigned reports = seen[LPT_OUTCOME_REPORT_NOTED] + 2;
     memcpy(body + at, image, len);
     at += len;
     body[at++] = (uint8_t)(lpt_crc16(image, len) >> 8);
@@ -248,7 +250,7 @@ static void load(uint32_t len, uint16_t count) {
              lpt_end_open(&end, &load_name, request, request_len) == LPT_DONE,
          "a load isn't opened");
     send_message(&load_name);
-    while (seen[LPT_REPORT_NOTED] < reports) {
+    while (seen[LPT_OUTCOME_REPORT_NOTED] < reports) {
         work();
     }
 }
@@ -259,7 +261,7 @@ static void ground(void) {
     must(lpt_end_plain(&end, SOURCE, 1 + 8, 6, 5, body, put_area(body, OCTETS)) == LPT_DONE,
          "a dump isn't asked for");
     flush(0);
-    while (seen[LPT_RELEASED] < 1) {
+    while (seen[LPT_OUTCOME_RELEASED] < 1) {
         work();
     }
     tell('F', &load_name);
@@ -272,10 +274,10 @@ static void ground(void) {
 
 /* Makes this process's end, runs it, and says what it has seen. */
 static void run(uint32_t which, const int *reads, const int *writes) {
-    static const LptConfig config = {APID, PART_SIZE, 10, 4, 4, 0, LPT_ANY};
+    static const LptConfig config = {APID, PART_SIZE, 10, 4, 4, 0, LPT_MODE_ANY};
     static const LptMemory memory = {MEMORY, 0, SIZE};
     static const uint8_t content[SIZE] = {0};
-    size_t memories = which == LPT_SPACECRAFT;
+    size_t memories = which == LPT_SIDE_SPACECRAFT;
     side = which;
     in = reads[0];
     out = writes[1];
@@ -283,15 +285,15 @@ static void run(uint32_t which, const int *reads, const int *writes) {
     must(fcntl(in, F_SETFL, O_NONBLOCK) == 0 && fcntl(out, F_SETFL, O_NONBLOCK) == 0, "it blocks");
     must(lpt_end_new(&end, side, &config, &memory, memories, content, memories * SIZE) == LPT_DONE,
          "no end is made");
-    if (side == LPT_GROUND) {
+    if (side == LPT_SIDE_GROUND) {
         ground();
     }
-    while (side == LPT_SPACECRAFT && in >= 0) {
+    while (side == LPT_SIDE_SPACECRAFT && in >= 0) {
         work();
     }
     printf("%s: %u parts kept, %u again; %u messages and %u plain requests released\n",
-           side == LPT_GROUND ? "ground" : "spacecraft", seen[LPT_KEPT], seen[LPT_AGAIN],
-           seen[LPT_RELEASED], seen[LPT_PLAIN_RELEASED]);
+           side == LPT_SIDE_GROUND ? "ground" : "spacecraft", seen[LPT_OUTCOME_KEPT],
+           seen[LPT_OUTCOME_AGAIN], seen[LPT_OUTCOME_RELEASED], seen[LPT_OUTCOME_PLAIN_RELEASED]);
     lpt_end_free(&end);
     must(fflush(stdout) == 0 && close(out) == 0, "a pipe isn't closed");
 }
@@ -307,9 +309,9 @@ int main(void) {
     child = fork();
     must(child >= 0, "no process");
     if (child == 0) {
-        run(LPT_SPACECRAFT, up, down);
+        run(LPT_SIDE_SPACECRAFT, up, down);
     } else {
-        run(LPT_GROUND, down, up);
+        run(LPT_SIDE_GROUND, down, up);
         must(waitpid(child, &status, 0) == child && status == 0, "the spacecraft has failed");
     }
     return 0;

@@ -47,7 +47,7 @@ static void print_report(const uint8_t *packet, size_t len) {
 
 /* What the message says that ground has joined: a dump report. */
 static void print_dump(void) {
-    static uint8_t message[LPT_LONGEST];
+    static uint8_t message[LPT_LONGEST_PACKET];
     LptTm tm = {{0, 0, 0, 0, 0, 0, 0, 0}, 0, 0};
     size_t len = 0;
     if (lpt_end_released(&ground, message, sizeof message, &len) == LPT_DONE &&
@@ -66,12 +66,14 @@ static void send_down(void) {
         if (lpt_end_packet(&ground, packet, len, &outcome) != LPT_DONE) {
             return; /* memory ran out: the packet still waits */
         }
-        if (outcome.kind == LPT_REPORT_NOTED) {
+        if (outcome.kind == LPT_OUTCOME_REPORT_NOTED) {
             print_report(packet, len);
-        } else if (outcome.kind == LPT_RELEASED) {
+        } else if (outcome.kind == LPT_OUTCOME_RELEASED) {
             print_dump();
         }
-        lpt_end_sent(&spacecraft);
+        if (lpt_end_sent(&spacecraft) != LPT_DONE) {
+            return;
+        }
     }
 }
 
@@ -84,11 +86,13 @@ static void serve(void) {
     send_down(); /* nothing is executed while a packet waits */
     while (lpt_end_execute(&spacecraft, &applied) == LPT_DONE) {
         send_down();
-        if (applied.kind == LPT_OPENED) {
+        if (applied.kind == LPT_APPLIED_OPENED) {
             for (k = 1; lpt_end_part(&spacecraft, &applied.name, k) == LPT_DONE; k++) {
                 send_down();
             }
-            lpt_end_finish(&spacecraft, &applied.name);
+            if (lpt_end_finish(&spacecraft, &applied.name) != LPT_DONE) {
+                return;
+            }
         }
     }
 }
@@ -102,8 +106,10 @@ static void send_up(void) {
         if (lpt_end_packet(&spacecraft, packet, len, &outcome) != LPT_DONE) {
             return;
         }
-        lpt_end_sent(&ground);
-        if (outcome.kind == LPT_RELEASED || outcome.kind == LPT_PLAIN_RELEASED) {
+        if (lpt_end_sent(&ground) != LPT_DONE) {
+            return;
+        }
+        if (outcome.kind == LPT_OUTCOME_RELEASED || outcome.kind == LPT_OUTCOME_PLAIN_RELEASED) {
             serve();
         }
     }
@@ -129,7 +135,7 @@ static uint32_t load(void) {
             send_up();
         }
     }
-    return fault == LPT_NO_SUCH_PART ? lpt_end_finish(&ground, &load_name) : fault;
+    return fault == LPT_E_NO_SUCH_PART ? lpt_end_finish(&ground, &load_name) : fault;
 }
 
 /* Asks for the same octets, by a plain request. */
@@ -141,16 +147,16 @@ static uint32_t dump(void) {
 }
 
 int main(void) {
-    static const LptConfig config = {APID, PART_SIZE, 10, 4, 4, 0, LPT_ANY};
+    static const LptConfig config = {APID, PART_SIZE, 10, 4, 4, 0, LPT_MODE_ANY};
     static const LptMemory memories[] = {{MEMORY, 0, SIZE}};
     static const uint8_t content[SIZE] = {0};
-    uint32_t fault = lpt_end_new(&ground, LPT_GROUND, &config, memories, 0, content, 0);
+    uint32_t fault = lpt_end_new(&ground, LPT_SIDE_GROUND, &config, memories, 0, content, 0);
     size_t i;
     for (i = 0; i < OCTETS; i++) {
         image[i] = (uint8_t)(i * 7 + 3);
     }
     if (fault == LPT_DONE) {
-        fault = lpt_end_new(&spacecraft, LPT_SPACECRAFT, &config, memories, 1, content, SIZE);
+        fault = lpt_end_new(&spacecraft, LPT_SIDE_SPACECRAFT, &config, memories, 1, content, SIZE);
     }
     if (fault == LPT_DONE) {
         fault = load();

@@ -81,15 +81,15 @@ int main(void) {
 
     while (at < len) {
         uint32_t said = lpt_packet_length(stream + at, len - at, &packet);
-        if (said == LPT_VERSION) {
+        if (said == LPT_E_VERSION) {
             printf("octet %u: no packet begins here, and nothing more is read\n", (unsigned)at);
             break;
         }
-        if (said == LPT_MORE || packet > len - at) {
+        if (said == LPT_E_MORE || packet > len - at) {
             printf("octet %u: the packet hasn't come whole\n", (unsigned)at);
             break;
         }
-        if (said == LPT_IDLE) {
+        if (said == LPT_E_IDLE) {
             printf("idle: %u octets\n", (unsigned)packet);
         } else {
             receive(stream + at, packet);

@@ -65,7 +65,7 @@ static int holds(const uint8_t *out, size_t len, const void *octets, size_t octe
             uint8_t *out = buffer(out_len);                                                        \
             uint32_t said = (CALL);                                                                \
             int fits = out_len >= text_len;                                                        \
-            EXPECT(said == (uint32_t)(fits ? LPT_DONE : LPT_ROOM));                                \
+            EXPECT(said == (uint32_t)(fits ? LPT_DONE : LPT_E_ROOM));                              \
             EXPECT(needed == text_len);                                                            \
             EXPECT(holds(out, out_len, (TEXT), fits ? text_len : 0));                              \
             free(out);                                                                             \
@@ -126,12 +126,13 @@ static void lengths(void) {
     size_t len, length;
     for (len = 0; len <= sizeof FIRST; len++) {
         length = 99999;
-        EXPECT(lpt_packet_length(FIRST, len, &length) == (uint32_t)(len < 6 ? LPT_MORE : LPT_DONE));
+        EXPECT(lpt_packet_length(FIRST, len, &length) ==
+               (uint32_t)(len < 6 ? LPT_E_MORE : LPT_DONE));
         EXPECT(length == (len < 6 ? 99999 : sizeof FIRST));
     }
     length = 99999;
-    EXPECT(lpt_packet_length(IDLE, 6, &length) == LPT_IDLE && length == sizeof IDLE);
-    EXPECT(lpt_packet_length(other, 1, &length) == LPT_VERSION && length == sizeof IDLE);
+    EXPECT(lpt_packet_length(IDLE, 6, &length) == LPT_E_IDLE && length == sizeof IDLE);
+    EXPECT(lpt_packet_length(other, 1, &length) == LPT_E_VERSION && length == sizeof IDLE);
 }
 
 /* Reads octets of which some are changed: each pair in `changes` is a place and what stands
@@ -156,30 +157,35 @@ static void packets(void) {
     size_t needed = 0;
 
     EXPECT(lpt_read_packet(FIRST, sizeof FIRST, &packet) == LPT_DONE);
-    EXPECT(packet.kind == LPT_TC && packet.apid == 100 && packet.count == 0);
+    EXPECT(packet.kind == LPT_PACKET_TC && packet.apid == 100 && packet.count == 0);
     EXPECT(packet.at == 6 && packet.len == sizeof FIRST - 8);
-    EXPECT(lpt_read_packet(ABORTED, sizeof ABORTED, &packet) == LPT_DONE && packet.kind == LPT_TM);
-    EXPECT(read_changed(IDLE, sizeof IDLE, 0, 0x07) == LPT_IDLE);
-    EXPECT(read_changed(FIRST, 3, 0, 0x18) == LPT_SHORT);
-    EXPECT(read_changed(FIRST, sizeof FIRST, 0, 0x38) == LPT_VERSION);
-    EXPECT(read_changed(FIRST, sizeof FIRST - 1, 0, 0x18) == LPT_LENGTH);
-    EXPECT(read_changed(FIRST, sizeof FIRST, 2, 0x40) == LPT_SEGMENTED);
-    EXPECT(read_changed(FIRST, sizeof FIRST, 0, 0x10) == LPT_NO_SECONDARY);
-    EXPECT(read_changed(FIRST, sizeof FIRST, sizeof FIRST - 1, 0x0c) == LPT_CHECKSUM);
+    EXPECT(lpt_read_packet(ABORTED, sizeof ABORTED, &packet) == LPT_DONE &&
+           packet.kind == LPT_PACKET_TM);
+    EXPECT(read_changed(IDLE, sizeof IDLE, 0, 0x07) == LPT_E_IDLE);
+    EXPECT(read_changed(FIRST, 3, 0, 0x18) == LPT_E_SHORT);
+    EXPECT(read_changed(FIRST, sizeof FIRST, 0, 0x38) == LPT_E_VERSION);
+    EXPECT(read_changed(FIRST, sizeof FIRST - 1, 0, 0x18) == LPT_E_LENGTH);
+    EXPECT(read_changed(FIRST, sizeof FIRST, 2, 0x40) == LPT_E_SEGMENTED);
+    EXPECT(read_changed(FIRST, sizeof FIRST, 0, 0x10) == LPT_E_NO_SECONDARY);
+    EXPECT(read_changed(FIRST, sizeof FIRST, sizeof FIRST - 1, 0x0c) == LPT_E_CHECKSUM);
 
-    WRITES(lpt_write_packet(LPT_TC, 42, 7, field, 4, out, out_len, &needed), whole, sizeof whole);
-    WRITES(lpt_write_packet(LPT_TC, 100, 0, FIRST + 6, sizeof FIRST - 8, out, out_len, &needed),
-           FIRST, sizeof FIRST);
-    REFUSES(lpt_write_packet(2, 42, 7, field, 4, out, out_len, &needed), LPT_RANGE);
-    REFUSES(lpt_write_packet(LPT_TM, 2047, 7, field, 4, out, out_len, &needed), LPT_RANGE);
-    REFUSES(lpt_write_packet(LPT_TM, 42, 16384, field, 4, out, out_len, &needed), LPT_RANGE);
-    REFUSES(lpt_write_packet(LPT_TM, 42, 7, long_field, 65535, out, out_len, &needed),
-            LPT_TOO_LONG);
+    WRITES(lpt_write_packet(LPT_PACKET_TC, 42, 7, field, 4, out, out_len, &needed), whole,
+           sizeof whole);
+    WRITES(
+        lpt_write_packet(LPT_PACKET_TC, 100, 0, FIRST + 6, sizeof FIRST - 8, out, out_len, &needed),
+        FIRST, sizeof FIRST);
+    REFUSES(lpt_write_packet(2, 42, 7, field, 4, out, out_len, &needed), LPT_E_RANGE);
+    REFUSES(lpt_write_packet(LPT_PACKET_TM, 2047, 7, field, 4, out, out_len, &needed), LPT_E_RANGE);
+    REFUSES(lpt_write_packet(LPT_PACKET_TM, 42, 16384, field, 4, out, out_len, &needed),
+            LPT_E_RANGE);
+    REFUSES(lpt_write_packet(LPT_PACKET_TM, 42, 7, long_field, 65535, out, out_len, &needed),
+            LPT_E_TOO_LONG);
 
-    EXPECT(lpt_write_packet(LPT_TM, 42, 7, long_field, 65534, longest, 65542, &needed) == LPT_DONE);
-    EXPECT(needed == LPT_LONGEST && lpt_read_packet(longest, needed, &packet) == LPT_DONE);
+    EXPECT(lpt_write_packet(LPT_PACKET_TM, 42, 7, long_field, 65534, longest, 65542, &needed) ==
+           LPT_DONE);
+    EXPECT(needed == LPT_LONGEST_PACKET && lpt_read_packet(longest, needed, &packet) == LPT_DONE);
     EXPECT(packet.len == 65534 && memcmp(longest + packet.at, long_field, packet.len) == 0);
-    EXPECT(lpt_write_packet(LPT_TM, 42, 7, field, 0, longest, 65542, &needed) == LPT_DONE &&
+    EXPECT(lpt_write_packet(LPT_PACKET_TM, 42, 7, field, 0, longest, 65542, &needed) == LPT_DONE &&
            needed == 8);
     EXPECT(lpt_read_packet(longest, 8, &packet) == LPT_DONE && packet.len == 0);
     free(long_field);
@@ -211,11 +217,11 @@ static void commands(void) {
     EXPECT(tc.head.subtype == 9 && tc.head.source == 1 && tc.at == 11 &&
            tc.len == sizeof FIRST - 13);
     tc.len = 7;
-    EXPECT(lpt_read_tc(ABORTED, sizeof ABORTED, &tc) == LPT_WRONG_TYPE && tc.len == 7);
-    EXPECT(lpt_read_tc(IDLE, sizeof IDLE, &tc) == LPT_IDLE && tc.len == 7);
-    EXPECT(lpt_read_tc(FIRST, 5, &tc) == LPT_SHORT && tc.len == 7);
-    EXPECT(read_field(LPT_TC, other_version, 4, 1) == LPT_SHORT_HEADER);
-    EXPECT(read_field(LPT_TC, other_version, 5, 1) == LPT_PUS_VERSION);
+    EXPECT(lpt_read_tc(ABORTED, sizeof ABORTED, &tc) == LPT_E_WRONG_TYPE && tc.len == 7);
+    EXPECT(lpt_read_tc(IDLE, sizeof IDLE, &tc) == LPT_E_IDLE && tc.len == 7);
+    EXPECT(lpt_read_tc(FIRST, 5, &tc) == LPT_E_SHORT && tc.len == 7);
+    EXPECT(read_field(LPT_PACKET_TC, other_version, 4, 1) == LPT_E_SHORT_HEADER);
+    EXPECT(read_field(LPT_PACKET_TC, other_version, 5, 1) == LPT_E_PUS_VERSION);
 
     WRITES(lpt_write_tc(&head, FIRST + 11, sizeof FIRST - 13, out, out_len, &needed), FIRST,
            sizeof FIRST);
@@ -225,16 +231,16 @@ static void commands(void) {
     WRITES(lpt_write_tc(&head, LAST + 11, sizeof LAST - 13, out, out_len, &needed), LAST,
            sizeof LAST);
     EXPECT(lpt_request_id(&head, &id) == LPT_DONE && id == 0x1864c002);
-    REFUSES(lpt_write_tc(&head, long_body, 65530, out, out_len, &needed), LPT_TOO_LONG);
+    REFUSES(lpt_write_tc(&head, long_body, 65530, out, out_len, &needed), LPT_E_TOO_LONG);
     head.flags = 16;
-    REFUSES(lpt_write_tc(&head, FIRST, 4, out, out_len, &needed), LPT_RANGE);
+    REFUSES(lpt_write_tc(&head, FIRST, 4, out, out_len, &needed), LPT_E_RANGE);
     head.flags = 15;
     head.count = 16384;
-    REFUSES(lpt_write_tc(&head, FIRST, 4, out, out_len, &needed), LPT_RANGE);
-    EXPECT(lpt_request_id(&head, &id) == LPT_RANGE && id == 0x1864c002);
+    REFUSES(lpt_write_tc(&head, FIRST, 4, out, out_len, &needed), LPT_E_RANGE);
+    EXPECT(lpt_request_id(&head, &id) == LPT_E_RANGE && id == 0x1864c002);
     head.count = 16383;
     head.apid = 2047;
-    REFUSES(lpt_write_tc(&head, FIRST, 4, out, out_len, &needed), LPT_RANGE);
+    REFUSES(lpt_write_tc(&head, FIRST, 4, out, out_len, &needed), LPT_E_RANGE);
     free(long_body);
 }
 
@@ -250,22 +256,22 @@ static void telemetry(void) {
     EXPECT(tm.head.subtype == 16 && tm.head.counter == 0 && tm.head.destination == 1);
     EXPECT(tm.head.time == 19 && tm.at == 17 && tm.len == 3);
     EXPECT(lpt_read_tm(DUMPED, sizeof DUMPED, &tm) == LPT_DONE && tm.len == 12);
-    EXPECT(lpt_read_tm(FIRST, sizeof FIRST, &tm) == LPT_WRONG_TYPE && tm.len == 12);
-    EXPECT(lpt_read_tm(IDLE, sizeof IDLE, &tm) == LPT_IDLE && tm.len == 12);
-    EXPECT(read_field(LPT_TM, other_version, 10, 0) == LPT_SHORT_HEADER);
-    EXPECT(read_field(LPT_TM, other_version, 11, 0) == LPT_PUS_VERSION);
+    EXPECT(lpt_read_tm(FIRST, sizeof FIRST, &tm) == LPT_E_WRONG_TYPE && tm.len == 12);
+    EXPECT(lpt_read_tm(IDLE, sizeof IDLE, &tm) == LPT_E_IDLE && tm.len == 12);
+    EXPECT(read_field(LPT_PACKET_TM, other_version, 10, 0) == LPT_E_SHORT_HEADER);
+    EXPECT(read_field(LPT_PACKET_TM, other_version, 11, 0) == LPT_E_PUS_VERSION);
 
     /* The status is written as 0. */
     WRITES(lpt_write_tm(&head, ABORTED + 17, 3, out, out_len, &needed), ABORTED, sizeof ABORTED);
-    REFUSES(lpt_write_tm(&head, long_body, 65524, out, out_len, &needed), LPT_TOO_LONG);
+    REFUSES(lpt_write_tm(&head, long_body, 65524, out, out_len, &needed), LPT_E_TOO_LONG);
     head.status = 16;
-    REFUSES(lpt_write_tm(&head, FIRST, 4, out, out_len, &needed), LPT_RANGE);
+    REFUSES(lpt_write_tm(&head, FIRST, 4, out, out_len, &needed), LPT_E_RANGE);
     head.status = 15;
     head.count = 16384;
-    REFUSES(lpt_write_tm(&head, FIRST, 4, out, out_len, &needed), LPT_RANGE);
+    REFUSES(lpt_write_tm(&head, FIRST, 4, out, out_len, &needed), LPT_E_RANGE);
     head.count = 16383;
     head.apid = 2047;
-    REFUSES(lpt_write_tm(&head, FIRST, 4, out, out_len, &needed), LPT_RANGE);
+    REFUSES(lpt_write_tm(&head, FIRST, 4, out, out_len, &needed), LPT_E_RANGE);
     free(long_body);
 }
 
@@ -281,50 +287,61 @@ static void parts(void) {
     EXPECT(lpt_part_count(20, 8) == 3 && lpt_part_count(16, 8) == 2 && lpt_part_count(9, 8) == 2);
     EXPECT(lpt_part_count(65542, 4) == 16386 && lpt_part_count(65542, 1024) == 65);
     EXPECT(lpt_part_count(20, 3) == 0 && lpt_part_count(20, 1025) == 0 &&
-           lpt_part_count(0, 8) == 0);
+           lpt_part_count(0, 8) == 0 && lpt_part_count(65543, 8) == 0);
 
     WRITES(lpt_slice_part(message, 20, 8, 7, 1, &kind, out, out_len, &needed), FIRST + 11, 12);
-    EXPECT(kind == LPT_FIRST);
+    EXPECT(kind == LPT_PART_FIRST);
     WRITES(lpt_slice_part(message, 20, 8, 7, 3, &kind, out, out_len, &needed), LAST + 11, 8);
-    EXPECT(kind == LPT_LAST);
+    EXPECT(kind == LPT_PART_LAST);
     EXPECT(lpt_slice_part(message, 20, 8, 7, 2, &kind, long_message, 12, &needed) == LPT_DONE);
-    EXPECT(kind == LPT_INTERMEDIATE && needed == 12 &&
+    EXPECT(kind == LPT_PART_INTERMEDIATE && needed == 12 &&
            memcmp(long_message + 4, message + 8, 8) == 0);
     kind = 9;
-    REFUSES(lpt_slice_part(message, 20, 3, 7, 1, &kind, out, out_len, &needed), LPT_RANGE);
-    REFUSES(lpt_slice_part(message, 20, 1025, 7, 1, &kind, out, out_len, &needed), LPT_RANGE);
-    REFUSES(lpt_slice_part(message, 8, 8, 7, 1, &kind, out, out_len, &needed), LPT_SHORT_MESSAGE);
+    REFUSES(lpt_slice_part(message, 20, 3, 7, 1, &kind, out, out_len, &needed), LPT_E_RANGE);
+    REFUSES(lpt_slice_part(message, 20, 1025, 7, 1, &kind, out, out_len, &needed), LPT_E_RANGE);
+    REFUSES(lpt_slice_part(message, 8, 8, 7, 1, &kind, out, out_len, &needed), LPT_E_SHORT_MESSAGE);
     REFUSES(lpt_slice_part(long_message, 65543, 8, 7, 1, &kind, out, out_len, &needed),
-            LPT_LONG_MESSAGE);
-    REFUSES(lpt_slice_part(message, 20, 8, 7, 0, &kind, out, out_len, &needed), LPT_NO_SUCH_PART);
-    REFUSES(lpt_slice_part(message, 20, 8, 7, 4, &kind, out, out_len, &needed), LPT_NO_SUCH_PART);
+            LPT_E_LONG_MESSAGE);
+    REFUSES(lpt_slice_part(message, 20, 8, 7, 0, &kind, out, out_len, &needed), LPT_E_NO_SUCH_PART);
+    REFUSES(lpt_slice_part(message, 20, 8, 7, 4, &kind, out, out_len, &needed), LPT_E_NO_SUCH_PART);
     EXPECT(kind == 9);
 
-    EXPECT(lpt_read_part(LPT_FIRST, FIRST + 11, 12, 8, &part) == LPT_DONE);
-    EXPECT(part.id == 7 && part.number == 1 && part.kind == LPT_FIRST && part.at == 4 &&
+    EXPECT(lpt_read_part(LPT_PART_FIRST, FIRST + 11, 12, 8, &part) == LPT_DONE);
+    EXPECT(part.id == 7 && part.number == 1 && part.kind == LPT_PART_FIRST && part.at == 4 &&
            part.len == 8);
-    EXPECT(lpt_read_part(LPT_LAST, LAST + 11, 8, 8, &part) == LPT_DONE);
-    EXPECT(part.id == 7 && part.number == 3 && part.kind == LPT_LAST && part.len == 4);
+    EXPECT(lpt_read_part(LPT_PART_LAST, LAST + 11, 8, 8, &part) == LPT_DONE);
+    EXPECT(part.id == 7 && part.number == 3 && part.kind == LPT_PART_LAST && part.len == 4);
     part.len = 7;
-    EXPECT(lpt_read_part(0, FIRST + 11, 12, 8, &part) == LPT_RANGE && part.len == 7);
-    EXPECT(lpt_read_part(4, FIRST + 11, 12, 8, &part) == LPT_RANGE && part.len == 7);
-    EXPECT(lpt_read_part(LPT_FIRST, FIRST + 11, 12, 3, &part) == LPT_RANGE && part.len == 7);
-    EXPECT(lpt_read_part(LPT_FIRST, FIRST + 11, 3, 8, &part) == LPT_SHORT_PART && part.len == 7);
-    EXPECT(lpt_read_part(LPT_LAST, zero, 5, 8, &part) == LPT_ZERO && part.len == 7);
-    EXPECT(lpt_read_part(LPT_FIRST, LAST + 11, 8, 8, &part) == LPT_KIND_NUMBER && part.len == 7);
-    EXPECT(lpt_read_part(LPT_FIRST, FIRST + 11, 11, 8, &part) == LPT_PART_LENGTH && part.len == 7);
+    EXPECT(lpt_read_part(0, FIRST + 11, 12, 8, &part) == LPT_E_RANGE && part.len == 7);
+    EXPECT(lpt_read_part(4, FIRST + 11, 12, 8, &part) == LPT_E_RANGE && part.len == 7);
+    EXPECT(lpt_read_part(LPT_PART_FIRST, FIRST + 11, 12, 3, &part) == LPT_E_RANGE && part.len == 7);
+    EXPECT(lpt_read_part(LPT_PART_FIRST, FIRST + 11, 3, 8, &part) == LPT_E_SHORT_PART &&
+           part.len == 7);
+    EXPECT(lpt_read_part(LPT_PART_LAST, zero, 5, 8, &part) == LPT_E_ZERO_NUMBER && part.len == 7);
+    EXPECT(lpt_read_part(LPT_PART_FIRST, LAST + 11, 8, 8, &part) == LPT_E_KIND_NUMBER &&
+           part.len == 7);
+    EXPECT(lpt_read_part(LPT_PART_FIRST, FIRST + 11, 11, 8, &part) == LPT_E_PART_LENGTH &&
+           part.len == 7);
 
-    WRITES(lpt_write_part(LPT_FIRST, 7, 1, message, 8, 8, out, out_len, &needed), FIRST + 11, 12);
-    WRITES(lpt_write_part(LPT_LAST, 7, 3, message + 16, 4, 8, out, out_len, &needed), LAST + 11, 8);
-    REFUSES(lpt_write_part(0, 7, 1, message, 8, 8, out, out_len, &needed), LPT_RANGE);
-    REFUSES(lpt_write_part(LPT_FIRST, 7, 1, message, 8, 2000, out, out_len, &needed), LPT_RANGE);
-    REFUSES(lpt_write_part(LPT_LAST, 7, 0, message, 8, 8, out, out_len, &needed), LPT_ZERO);
-    REFUSES(lpt_write_part(LPT_FIRST, 7, 2, message, 8, 8, out, out_len, &needed), LPT_KIND_NUMBER);
-    REFUSES(lpt_write_part(LPT_LAST, 7, 1, message, 8, 8, out, out_len, &needed), LPT_KIND_NUMBER);
-    REFUSES(lpt_write_part(LPT_FIRST, 7, 1, message, 7, 8, out, out_len, &needed), LPT_PART_LENGTH);
-    REFUSES(lpt_write_part(LPT_LAST, 7, 2, message, 0, 8, out, out_len, &needed), LPT_PART_LENGTH);
-    REFUSES(lpt_write_part(LPT_LAST, 7, 65535, message, 8, 8, out, out_len, &needed),
-            LPT_PART_LENGTH);
+    WRITES(lpt_write_part(LPT_PART_FIRST, 7, 1, message, 8, 8, out, out_len, &needed), FIRST + 11,
+           12);
+    WRITES(lpt_write_part(LPT_PART_LAST, 7, 3, message + 16, 4, 8, out, out_len, &needed),
+           LAST + 11, 8);
+    REFUSES(lpt_write_part(0, 7, 1, message, 8, 8, out, out_len, &needed), LPT_E_RANGE);
+    REFUSES(lpt_write_part(LPT_PART_FIRST, 7, 1, message, 8, 2000, out, out_len, &needed),
+            LPT_E_RANGE);
+    REFUSES(lpt_write_part(LPT_PART_LAST, 7, 0, message, 8, 8, out, out_len, &needed),
+            LPT_E_ZERO_NUMBER);
+    REFUSES(lpt_write_part(LPT_PART_FIRST, 7, 2, message, 8, 8, out, out_len, &needed),
+            LPT_E_KIND_NUMBER);
+    REFUSES(lpt_write_part(LPT_PART_LAST, 7, 1, message, 8, 8, out, out_len, &needed),
+            LPT_E_KIND_NUMBER);
+    REFUSES(lpt_write_part(LPT_PART_FIRST, 7, 1, message, 7, 8, out, out_len, &needed),
+            LPT_E_PART_LENGTH);
+    REFUSES(lpt_write_part(LPT_PART_LAST, 7, 2, message, 0, 8, out, out_len, &needed),
+            LPT_E_PART_LENGTH);
+    REFUSES(lpt_write_part(LPT_PART_LAST, 7, 65535, message, 8, 8, out, out_len, &needed),
+            LPT_E_PART_LENGTH);
     free(long_message);
 }
 
@@ -333,12 +350,12 @@ static void aborts(void) {
     static const uint8_t other[] = {0, 7, 4};
     EXPECT(lpt_read_abort(ABORTED + 17, 3, &aborted) == LPT_DONE && aborted.id == 7 &&
            aborted.reason == 1);
-    EXPECT(lpt_read_abort(ABORTED + 17, 2, &aborted) == LPT_ABORT_BODY && aborted.id == 7);
-    EXPECT(lpt_read_abort(ABORTED + 17, 4, &aborted) == LPT_ABORT_BODY && aborted.id == 7);
-    EXPECT(lpt_read_abort(other, 3, &aborted) == LPT_ABORT_BODY && aborted.reason == 1);
+    EXPECT(lpt_read_abort(ABORTED + 17, 2, &aborted) == LPT_E_ABORT_BODY && aborted.id == 7);
+    EXPECT(lpt_read_abort(ABORTED + 17, 4, &aborted) == LPT_E_ABORT_BODY && aborted.id == 7);
+    EXPECT(lpt_read_abort(other, 3, &aborted) == LPT_E_ABORT_BODY && aborted.reason == 1);
     WRITES(lpt_write_abort(7, 1, out, out_len, &needed), ABORTED + 17, 3);
-    REFUSES(lpt_write_abort(7, 0, out, out_len, &needed), LPT_RANGE);
-    REFUSES(lpt_write_abort(7, 4, out, out_len, &needed), LPT_RANGE);
+    REFUSES(lpt_write_abort(7, 0, out, out_len, &needed), LPT_E_RANGE);
+    REFUSES(lpt_write_abort(7, 4, out, out_len, &needed), LPT_E_RANGE);
 }
 
 static void reports(void) {
@@ -348,15 +365,15 @@ static void reports(void) {
     EXPECT(report.request == 0x1864c000 && report.failed == 0 && report.code == 0);
     EXPECT(lpt_read_report(4, refused, 6, &report) == LPT_DONE);
     EXPECT(report.request == 0x1864c000 && report.failed == 1 && report.code == 5);
-    EXPECT(lpt_read_report(4, refused, 4, &report) == LPT_NO_REPORT && report.code == 5);
-    EXPECT(lpt_read_report(1, refused, 6, &report) == LPT_NO_REPORT && report.code == 5);
-    EXPECT(lpt_read_report(5, refused, 4, &report) == LPT_NO_REPORT && report.code == 5);
+    EXPECT(lpt_read_report(4, refused, 4, &report) == LPT_E_NO_REPORT && report.code == 5);
+    EXPECT(lpt_read_report(1, refused, 6, &report) == LPT_E_NO_REPORT && report.code == 5);
+    EXPECT(lpt_read_report(5, refused, 4, &report) == LPT_E_NO_REPORT && report.code == 5);
     WRITES(lpt_write_report(1, 0x1864c000, 0, out, out_len, &needed), ACCEPTED + 17, 4);
     WRITES(lpt_write_report(4, 0x1864c000, 5, out, out_len, &needed), refused, 6);
-    REFUSES(lpt_write_report(1, 0x1864c000, 5, out, out_len, &needed), LPT_RANGE);
-    REFUSES(lpt_write_report(2, 0x1864c000, 0, out, out_len, &needed), LPT_RANGE);
-    REFUSES(lpt_write_report(4, 0x1864c000, 9, out, out_len, &needed), LPT_RANGE);
-    REFUSES(lpt_write_report(8, 0x1864c000, 0, out, out_len, &needed), LPT_RANGE);
+    REFUSES(lpt_write_report(1, 0x1864c000, 5, out, out_len, &needed), LPT_E_RANGE);
+    REFUSES(lpt_write_report(2, 0x1864c000, 0, out, out_len, &needed), LPT_E_RANGE);
+    REFUSES(lpt_write_report(4, 0x1864c000, 9, out, out_len, &needed), LPT_E_RANGE);
+    REFUSES(lpt_write_report(8, 0x1864c000, 0, out, out_len, &needed), LPT_E_RANGE);
 }
 
 int main(void) {

@@ -49,7 +49,7 @@ enum { P = 8, ROOM = 70000 };
 /* Two transactions of one identifier and two sources; and what is told where there is none. */
 static const LptName NAME = {1, 7}, OTHER = {2, 7}, NONE = {0, 0};
 
-static const LptConfig CONFIG = {100, P, 19, 2, 2, 0, LPT_ANY};
+static const LptConfig CONFIG = {100, P, 19, 2, 2, 0, LPT_MODE_ANY};
 static const uint8_t MEMORY[16] = {0};
 static const LptMemory MEMORIES[] = {{1, 0, sizeof MEMORY}};
 
@@ -63,9 +63,7 @@ static const LptName *named(uint16_t id) {
     return &name;
 }
 
-static int same(LptName a, const LptName *b) {
-    return a.source == b->source && a.id == b->id;
-}
+static int same(LptName a, const LptName *b) { return a.source == b->source && a.id == b->id; }
 
 /* What a call told. */
 static int told(LptOutcome said, uint32_t kind, const LptName *name, uint32_t first,
@@ -119,37 +117,44 @@ static LptOutcome command(LptEnd *end, LptTcHead head, const uint8_t *body, size
 static void first_path(void) {
     LptEnd ground = LPT_END_EMPTY, craft = LPT_END_EMPTY;
     size_t len = 99;
-    make(&ground, LPT_GROUND, &CONFIG);
-    make(&craft, LPT_SPACECRAFT, &CONFIG);
+    uint32_t state = 9;
+    make(&ground, LPT_SIDE_GROUND, &CONFIG);
+    make(&craft, LPT_SIDE_SPACECRAFT, &CONFIG);
     DONE(lpt_end_open(&ground, &NAME, message, 20));
     DONE(lpt_end_part(&ground, &NAME, 1));
-    EXPECT(lpt_end_outgoing(&ground, packet, 24, &len) == LPT_ROOM && len == sizeof FIRST);
+    EXPECT(lpt_end_outgoing(&ground, packet, 24, &len) == LPT_E_ROOM && len == sizeof FIRST);
     EXPECT(take_packet(&ground) && packet_is(FIRST, sizeof FIRST));
-    EXPECT(told(taken(&craft, packet, packet_len), LPT_KEPT, &NAME, 1, 0));
-    EXPECT(told(taken(&craft, packet, packet_len), LPT_AGAIN, &NAME, 1, 0));
-    EXPECT(told(carry(&ground, &craft, &NAME, 2), LPT_KEPT, &NAME, 2, 0));
-    EXPECT(lpt_end_released(&craft, got, sizeof got, &len) == LPT_NOTHING);
-    EXPECT(told(carry(&ground, &craft, &NAME, 3), LPT_RELEASED, &NAME, 20, 0));
+    EXPECT(told(taken(&craft, packet, packet_len), LPT_OUTCOME_KEPT, &NAME, 1, 0));
+    EXPECT(told(taken(&craft, packet, packet_len), LPT_OUTCOME_AGAIN, &NAME, 1, 0));
+    EXPECT(told(carry(&ground, &craft, &NAME, 2), LPT_OUTCOME_KEPT, &NAME, 2, 0));
+    EXPECT(lpt_end_released(&craft, got, sizeof got, &len) == LPT_E_NOTHING);
+    EXPECT(told(carry(&ground, &craft, &NAME, 3), LPT_OUTCOME_RELEASED, &NAME, 20, 0));
     EXPECT(packet_is(LAST, sizeof LAST));
     len = 99;
     memset(got, 0xee, sizeof got);
-    EXPECT(lpt_end_released(&craft, got, 19, &len) == LPT_ROOM && len == 20 && got[0] == 0xee);
+    EXPECT(lpt_end_released(&craft, got, 19, &len) == LPT_E_ROOM && len == 20 && got[0] == 0xee);
     DONE(lpt_end_released(&craft, got, 21, &len));
     EXPECT(len == 20 && memcmp(got, message, 20) == 0 && got[20] == 0xee);
-    EXPECT(told(taken(&craft, packet, packet_len), LPT_IGNORED, &NONE, LPT_CLOSED, 0));
-    EXPECT(lpt_end_released(&craft, got, sizeof got, &len) == LPT_NOTHING);
-    EXPECT(lpt_end_outgoing(&craft, got, sizeof got, &len) == LPT_NOTHING && len == 20);
+    EXPECT(told(taken(&craft, packet, packet_len), LPT_OUTCOME_IGNORED, &NONE, LPT_WHY_CLOSED, 0));
+    EXPECT(lpt_end_released(&craft, got, sizeof got, &len) == LPT_E_NOTHING);
+    EXPECT(lpt_end_outgoing(&craft, got, sizeof got, &len) == LPT_E_NOTHING && len == 20);
 
-    EXPECT(lpt_end_retire(&ground, LPT_UP, &NAME) == LPT_STILL_OPEN);
+    EXPECT(lpt_end_retire(&ground, LPT_DIRECTION_UP, &NAME) == LPT_E_STILL_OPEN);
+    EXPECT(lpt_end_name(&ground, LPT_DIRECTION_UP, &NAME, &state) == LPT_DONE &&
+           state == LPT_NAME_OPEN);
     DONE(lpt_end_finish(&ground, &NAME));
-    EXPECT(lpt_end_open(&ground, &NAME, message, 20) == LPT_IN_USE);
-    DONE(lpt_end_retire(&ground, LPT_UP, &NAME));
-    DONE(lpt_end_retire(&craft, LPT_UP, &NAME));
-    DONE(lpt_end_retire(&craft, LPT_DOWN, &NAME));
+    EXPECT(lpt_end_open(&ground, &NAME, message, 20) == LPT_E_IN_USE);
+    EXPECT(lpt_end_name(&craft, LPT_DIRECTION_UP, &NAME, &state) == LPT_DONE &&
+           state == LPT_NAME_CLOSED);
+    EXPECT(lpt_end_name(&ground, LPT_DIRECTION_DOWN, &NAME, &state) == LPT_DONE &&
+           state == LPT_NAME_FREE);
+    DONE(lpt_end_retire(&ground, LPT_DIRECTION_UP, &NAME));
+    DONE(lpt_end_retire(&craft, LPT_DIRECTION_UP, &NAME));
+    DONE(lpt_end_retire(&craft, LPT_DIRECTION_DOWN, &NAME));
     DONE(lpt_end_open(&ground, &NAME, message, 9));
-    EXPECT(told(carry(&ground, &craft, &NAME, 2), LPT_KEPT, &NAME, 2, 0));
-    EXPECT(lpt_end_retire(&craft, LPT_UP, &NAME) == LPT_STILL_OPEN);
-    EXPECT(told(carry(&ground, &craft, &NAME, 1), LPT_RELEASED, &NAME, 9, 0));
+    EXPECT(told(carry(&ground, &craft, &NAME, 2), LPT_OUTCOME_KEPT, &NAME, 2, 0));
+    EXPECT(lpt_end_retire(&craft, LPT_DIRECTION_UP, &NAME) == LPT_E_STILL_OPEN);
+    EXPECT(told(carry(&ground, &craft, &NAME, 1), LPT_OUTCOME_RELEASED, &NAME, 9, 0));
     lpt_end_free(&ground);
     lpt_end_free(&craft);
 }
@@ -159,21 +164,21 @@ static void lost_part(void) {
     LptEnd ground = LPT_END_EMPTY, craft = LPT_END_EMPTY;
     LptName name = NONE;
     unsigned tick;
-    make(&ground, LPT_GROUND, &CONFIG);
-    make(&craft, LPT_SPACECRAFT, &CONFIG);
+    make(&ground, LPT_SIDE_GROUND, &CONFIG);
+    make(&craft, LPT_SIDE_SPACECRAFT, &CONFIG);
     DONE(lpt_end_open(&ground, &NAME, message, 20));
-    EXPECT(told(carry(&ground, &craft, &NAME, 1), LPT_KEPT, &NAME, 1, 0));
-    EXPECT(told(carry(&ground, &craft, &NAME, 3), LPT_KEPT, &NAME, 3, 0));
+    EXPECT(told(carry(&ground, &craft, &NAME, 1), LPT_OUTCOME_KEPT, &NAME, 1, 0));
+    EXPECT(told(carry(&ground, &craft, &NAME, 3), LPT_OUTCOME_KEPT, &NAME, 3, 0));
     for (tick = 0; tick < 19; tick++) {
-        EXPECT(lpt_end_expire(&craft, &name) == LPT_NOTHING_DUE && same(name, &NONE));
+        EXPECT(lpt_end_expire(&craft, &name) == LPT_E_NOTHING_DUE && same(name, &NONE));
         DONE(lpt_end_tick(&craft));
     }
     EXPECT(lpt_end_expire(&craft, &name) == LPT_DONE && same(name, &NAME));
     EXPECT(take_packet(&craft) && packet_is(ABORTED, sizeof ABORTED));
-    EXPECT(told(taken(&ground, ABORTED, sizeof ABORTED), LPT_ABORT_NOTED, &NAME, 1, 0));
-    EXPECT(lpt_end_part(&ground, &NAME, 2) == LPT_NOT_OPEN);
-    EXPECT(lpt_end_finish(&ground, &NAME) == LPT_NOT_OPEN);
-    EXPECT(lpt_end_sent(&craft) == LPT_NOTHING);
+    EXPECT(told(taken(&ground, ABORTED, sizeof ABORTED), LPT_OUTCOME_ABORT_NOTED, &NAME, 1, 0));
+    EXPECT(lpt_end_part(&ground, &NAME, 2) == LPT_E_NOT_OPEN);
+    EXPECT(lpt_end_finish(&ground, &NAME) == LPT_E_NOT_OPEN);
+    EXPECT(lpt_end_sent(&craft) == LPT_E_NOTHING);
     lpt_end_free(&ground);
     lpt_end_free(&craft);
 }
@@ -185,26 +190,26 @@ static void two_sources(void) {
     LptName name = NONE;
     size_t len = 0;
     unsigned tick;
-    make(&ground, LPT_GROUND, &CONFIG);
-    make(&craft, LPT_SPACECRAFT, &CONFIG);
+    make(&ground, LPT_SIDE_GROUND, &CONFIG);
+    make(&craft, LPT_SIDE_SPACECRAFT, &CONFIG);
     DONE(lpt_end_open(&ground, &NAME, message, 20));
     DONE(lpt_end_open(&ground, &OTHER, message, 9));
-    EXPECT(lpt_end_open(&ground, &OTHER, message, 9) == LPT_IN_USE);
-    EXPECT(told(carry(&ground, &craft, &NAME, 1), LPT_KEPT, &NAME, 1, 0));
-    EXPECT(told(carry(&ground, &craft, &OTHER, 1), LPT_KEPT, &OTHER, 1, 0));
+    EXPECT(lpt_end_open(&ground, &OTHER, message, 9) == LPT_E_IN_USE);
+    EXPECT(told(carry(&ground, &craft, &NAME, 1), LPT_OUTCOME_KEPT, &NAME, 1, 0));
+    EXPECT(told(carry(&ground, &craft, &OTHER, 1), LPT_OUTCOME_KEPT, &OTHER, 1, 0));
     EXPECT(packet_is(FIRST_OF_OTHER, sizeof FIRST_OF_OTHER));
-    EXPECT(told(carry(&ground, &craft, &OTHER, 2), LPT_RELEASED, &OTHER, 9, 0));
+    EXPECT(told(carry(&ground, &craft, &OTHER, 2), LPT_OUTCOME_RELEASED, &OTHER, 9, 0));
     DONE(lpt_end_released(&craft, got, sizeof got, &len));
     EXPECT(len == 9 && memcmp(got, message, 9) == 0);
-    EXPECT(told(carry(&ground, &craft, &OTHER, 2), LPT_IGNORED, &NONE, LPT_CLOSED, 0));
+    EXPECT(told(carry(&ground, &craft, &OTHER, 2), LPT_OUTCOME_IGNORED, &NONE, LPT_WHY_CLOSED, 0));
 
     DONE(lpt_end_finish(&ground, &OTHER));
-    DONE(lpt_end_retire(&ground, LPT_UP, &OTHER));
-    DONE(lpt_end_retire(&craft, LPT_UP, &OTHER));
-    EXPECT(lpt_end_retire(&ground, LPT_UP, &NAME) == LPT_STILL_OPEN);
-    EXPECT(lpt_end_retire(&craft, LPT_UP, &NAME) == LPT_STILL_OPEN);
+    DONE(lpt_end_retire(&ground, LPT_DIRECTION_UP, &OTHER));
+    DONE(lpt_end_retire(&craft, LPT_DIRECTION_UP, &OTHER));
+    EXPECT(lpt_end_retire(&ground, LPT_DIRECTION_UP, &NAME) == LPT_E_STILL_OPEN);
+    EXPECT(lpt_end_retire(&craft, LPT_DIRECTION_UP, &NAME) == LPT_E_STILL_OPEN);
     DONE(lpt_end_open(&ground, &OTHER, message, 20));
-    EXPECT(told(carry(&ground, &craft, &OTHER, 3), LPT_KEPT, &OTHER, 3, 0));
+    EXPECT(told(carry(&ground, &craft, &OTHER, 3), LPT_OUTCOME_KEPT, &OTHER, 3, 0));
 
     for (tick = 0; tick < 19; tick++) {
         DONE(lpt_end_tick(&craft));
@@ -213,8 +218,8 @@ static void two_sources(void) {
     EXPECT(lpt_end_expire(&craft, &name) == LPT_DONE && same(name, &OTHER));
     EXPECT(take_packet(&craft) && packet_is(ABORTED, sizeof ABORTED));
     EXPECT(take_packet(&craft) && packet_is(OTHER_ABORTED, sizeof OTHER_ABORTED));
-    EXPECT(told(taken(&ground, packet, packet_len), LPT_ABORT_NOTED, &OTHER, 1, 0));
-    EXPECT(lpt_end_part(&ground, &OTHER, 1) == LPT_NOT_OPEN);
+    EXPECT(told(taken(&ground, packet, packet_len), LPT_OUTCOME_ABORT_NOTED, &OTHER, 1, 0));
+    EXPECT(lpt_end_part(&ground, &OTHER, 1) == LPT_E_NOT_OPEN);
     DONE(lpt_end_part(&ground, &NAME, 2));
     lpt_end_free(&ground);
     lpt_end_free(&craft);
@@ -226,27 +231,27 @@ static void broken(void) {
     LptEnd ground = LPT_END_EMPTY, craft = LPT_END_EMPTY;
     LptEnd twin = LPT_END_EMPTY, other = LPT_END_EMPTY;
     static uint8_t another[20];
-    make(&ground, LPT_GROUND, &CONFIG);
-    make(&craft, LPT_SPACECRAFT, &CONFIG);
-    make(&twin, LPT_GROUND, &CONFIG);
+    make(&ground, LPT_SIDE_GROUND, &CONFIG);
+    make(&craft, LPT_SIDE_SPACECRAFT, &CONFIG);
+    make(&twin, LPT_SIDE_GROUND, &CONFIG);
     DONE(lpt_end_open(&ground, &NAME, message, 20));
     DONE(lpt_end_open(&ground, named(8), message, 20));
     DONE(lpt_end_open(&twin, &NAME, another, 20));
     DONE(lpt_end_open(&twin, named(8), another, 20));
-    EXPECT(told(carry(&ground, &craft, &NAME, 1), LPT_KEPT, &NAME, 1, 0));
-    EXPECT(told(carry(&ground, &craft, named(8), 3), LPT_KEPT, named(8), 3, 0));
-    EXPECT(told(carry(&twin, &craft, &NAME, 1), LPT_BROKEN, &NAME, 3, 0));
-    EXPECT(told(carry(&twin, &craft, named(8), 3), LPT_BROKEN, named(8), 3, 0));
+    EXPECT(told(carry(&ground, &craft, &NAME, 1), LPT_OUTCOME_KEPT, &NAME, 1, 0));
+    EXPECT(told(carry(&ground, &craft, named(8), 3), LPT_OUTCOME_KEPT, named(8), 3, 0));
+    EXPECT(told(carry(&twin, &craft, &NAME, 1), LPT_OUTCOME_BROKEN, &NAME, 3, 0));
+    EXPECT(told(carry(&twin, &craft, named(8), 3), LPT_OUTCOME_BROKEN, named(8), 3, 0));
     EXPECT(take_packet(&craft));
-    EXPECT(told(taken(&ground, packet, packet_len), LPT_ABORT_NOTED, &NAME, 3, 0));
+    EXPECT(told(taken(&ground, packet, packet_len), LPT_OUTCOME_ABORT_NOTED, &NAME, 3, 0));
     EXPECT(take_packet(&craft));
-    EXPECT(told(taken(&ground, packet, packet_len), LPT_ABORT_NOTED, named(8), 3, 0));
+    EXPECT(told(taken(&ground, packet, packet_len), LPT_OUTCOME_ABORT_NOTED, named(8), 3, 0));
     EXPECT(!take_packet(&craft));
 
-    strict.mode = LPT_STRICT;
-    make(&other, LPT_SPACECRAFT, &strict);
-    EXPECT(told(carry(&twin, &other, &NAME, 1), LPT_KEPT, &NAME, 1, 0));
-    EXPECT(told(carry(&twin, &other, &NAME, 3), LPT_BROKEN, &NAME, 2, 0));
+    strict.mode = LPT_MODE_STRICT;
+    make(&other, LPT_SIDE_SPACECRAFT, &strict);
+    EXPECT(told(carry(&twin, &other, &NAME, 1), LPT_OUTCOME_KEPT, &NAME, 1, 0));
+    EXPECT(told(carry(&twin, &other, &NAME, 3), LPT_OUTCOME_BROKEN, &NAME, 2, 0));
     lpt_end_free(&ground);
     lpt_end_free(&craft);
     lpt_end_free(&twin);
@@ -260,28 +265,30 @@ static void other_packets(void) {
     LptEnd ground = LPT_END_EMPTY, craft = LPT_END_EMPTY;
     uint8_t body[12] = {0, 1, 0, 1, 1, 2, 3, 4, 5, 6, 7, 8};
     size_t len = 0;
-    make(&ground, LPT_GROUND, &CONFIG);
-    make(&craft, LPT_SPACECRAFT, &CONFIG);
-    EXPECT(told(command(&craft, head, body, 3), LPT_PLAIN_RELEASED, &NONE, 16, 0));
+    make(&ground, LPT_SIDE_GROUND, &CONFIG);
+    make(&craft, LPT_SIDE_SPACECRAFT, &CONFIG);
+    EXPECT(told(command(&craft, head, body, 3), LPT_OUTCOME_PLAIN_RELEASED, &NONE, 16, 0));
     DONE(lpt_end_released(&craft, got, sizeof got, &len));
     EXPECT(len == packet_len && memcmp(got, packet, len) == 0);
-    EXPECT(told(taken(&ground, packet, packet_len), LPT_IGNORED, &NONE, LPT_UNREADABLE, 0));
+    EXPECT(told(taken(&ground, packet, packet_len), LPT_OUTCOME_IGNORED, &NONE, LPT_WHY_UNREADABLE,
+                0));
     DONE(lpt_write_tm(&report, body, 4, packet, sizeof packet, &packet_len));
-    EXPECT(told(taken(&ground, packet, packet_len), LPT_REPORT_NOTED, &NONE, 1, 7));
-    EXPECT(told(taken(&craft, packet, 5), LPT_IGNORED, &NONE, LPT_UNREADABLE, 0));
-    EXPECT(told(taken(&craft, packet, 0), LPT_IGNORED, &NONE, LPT_UNREADABLE, 0));
-    EXPECT(told(taken(&craft, IDLE, sizeof IDLE), LPT_IGNORED, &NONE, LPT_WAS_IDLE, 0));
+    EXPECT(told(taken(&ground, packet, packet_len), LPT_OUTCOME_REPORT_NOTED, &NONE, 1, 7));
+    EXPECT(told(taken(&craft, packet, 5), LPT_OUTCOME_IGNORED, &NONE, LPT_WHY_UNREADABLE, 0));
+    EXPECT(told(taken(&craft, packet, 0), LPT_OUTCOME_IGNORED, &NONE, LPT_WHY_UNREADABLE, 0));
+    EXPECT(told(taken(&craft, IDLE, sizeof IDLE), LPT_OUTCOME_IGNORED, &NONE, LPT_WHY_IDLE, 0));
     head.apid = 101;
-    EXPECT(told(command(&craft, head, body, 3), LPT_IGNORED, &NONE, LPT_FOREIGN_APID, 0));
+    EXPECT(
+        told(command(&craft, head, body, 3), LPT_OUTCOME_IGNORED, &NONE, LPT_WHY_FOREIGN_APID, 0));
     head.apid = 100;
     head.service = 13;
     head.subtype = 9;
-    EXPECT(told(command(&craft, head, body, 11), LPT_IGNORED, &NONE, LPT_BAD_PART, 0));
-    EXPECT(told(command(&craft, head, body, 12), LPT_KEPT, named(1), 1, 0));
+    EXPECT(told(command(&craft, head, body, 11), LPT_OUTCOME_IGNORED, &NONE, LPT_WHY_BAD_PART, 0));
+    EXPECT(told(command(&craft, head, body, 12), LPT_OUTCOME_KEPT, named(1), 1, 0));
     body[1] = 2;
-    EXPECT(told(command(&craft, head, body, 12), LPT_KEPT, named(2), 1, 0));
+    EXPECT(told(command(&craft, head, body, 12), LPT_OUTCOME_KEPT, named(2), 1, 0));
     body[1] = 3;
-    EXPECT(told(command(&craft, head, body, 12), LPT_IGNORED, &NONE, LPT_NO_ROOM, 0));
+    EXPECT(told(command(&craft, head, body, 12), LPT_OUTCOME_IGNORED, &NONE, LPT_WHY_NO_ROOM, 0));
     lpt_end_free(&ground);
     lpt_end_free(&craft);
 }
@@ -300,32 +307,34 @@ static void executed(void) {
     unsigned subtype;
     load[11] = (uint8_t)(sum >> 8);
     load[12] = (uint8_t)sum;
-    make(&craft, LPT_SPACECRAFT, &CONFIG);
-    make(&ground, LPT_GROUND, &CONFIG);
-    EXPECT(lpt_end_read(&ground) == LPT_NO_JOB && lpt_end_read(&craft) == LPT_NO_JOB);
-    EXPECT(lpt_end_execute(&ground, &applied) == LPT_NO_JOB);
-    EXPECT(lpt_end_execute(&craft, &applied) == LPT_NO_JOB && applied.kind == 9);
-    EXPECT(told(command(&craft, head, load, sizeof load), LPT_PLAIN_RELEASED, &NONE, 26, 0));
-    EXPECT(lpt_end_execute(&craft, &applied) == LPT_NOT_READ && applied.kind == 9);
+    make(&craft, LPT_SIDE_SPACECRAFT, &CONFIG);
+    make(&ground, LPT_SIDE_GROUND, &CONFIG);
+    EXPECT(lpt_end_read(&ground) == LPT_E_NO_JOB && lpt_end_read(&craft) == LPT_E_NO_JOB);
+    EXPECT(lpt_end_execute(&ground, &applied) == LPT_E_NO_JOB);
+    EXPECT(lpt_end_execute(&craft, &applied) == LPT_E_NO_JOB && applied.kind == 9);
+    EXPECT(
+        told(command(&craft, head, load, sizeof load), LPT_OUTCOME_PLAIN_RELEASED, &NONE, 26, 0));
+    EXPECT(lpt_end_execute(&craft, &applied) == LPT_E_NOT_READ && applied.kind == 9);
     DONE(lpt_end_read(&craft));
-    EXPECT(lpt_end_read(&craft) == LPT_NO_JOB);
+    EXPECT(lpt_end_read(&craft) == LPT_E_NO_JOB);
     DONE(lpt_end_execute(&craft, &applied));
-    EXPECT(applied.kind == LPT_CARRIED_OUT && applied.value == 0);
-    EXPECT(lpt_end_memory(&craft, 2, got, sizeof got, &len) == LPT_NOTHING);
-    EXPECT(lpt_end_memory(&ground, 1, got, sizeof got, &len) == LPT_NOTHING);
+    EXPECT(applied.kind == LPT_APPLIED_CARRIED_OUT && applied.value == 0);
+    EXPECT(lpt_end_memory(&craft, 2, got, sizeof got, &len) == LPT_E_NOTHING);
+    EXPECT(lpt_end_memory(&ground, 1, got, sizeof got, &len) == LPT_E_NOTHING);
     DONE(lpt_end_memory(&craft, 1, got, sizeof got, &len));
     EXPECT(len == sizeof MEMORY && got[1] == 0 && got[2] == 7 && got[4] == 9 && got[5] == 0);
     head.subtype = 5;
-    EXPECT(told(command(&craft, head, dump, sizeof dump), LPT_PLAIN_RELEASED, &NONE, 21, 0));
+    EXPECT(
+        told(command(&craft, head, dump, sizeof dump), LPT_OUTCOME_PLAIN_RELEASED, &NONE, 21, 0));
     DONE(lpt_end_read(&craft));
-    EXPECT(lpt_end_execute(&craft, &applied) == LPT_UNSENT);
+    EXPECT(lpt_end_execute(&craft, &applied) == LPT_E_UNSENT);
     for (subtype = 1; subtype < 8; subtype = subtype == 3 ? 7 : subtype + 2) {
         EXPECT(take_packet(&craft) && packet[7] == 1 && packet[8] == subtype);
     }
     DONE(lpt_end_execute(&craft, &applied));
-    EXPECT(applied.kind == LPT_REFUSED && applied.value == 3);
+    EXPECT(applied.kind == LPT_APPLIED_REFUSED && applied.value == 3);
     EXPECT(take_packet(&craft) && packet[8] == 1 && take_packet(&craft) && packet[8] == 4);
-    EXPECT(!take_packet(&craft) && lpt_end_execute(&craft, &applied) == LPT_NO_JOB);
+    EXPECT(!take_packet(&craft) && lpt_end_execute(&craft, &applied) == LPT_E_NO_JOB);
     lpt_end_free(&craft);
     lpt_end_free(&ground);
 }
@@ -340,7 +349,7 @@ static LptApplied answered(LptEnd *ground, LptEnd *craft) {
     DONE(lpt_end_read(craft));
     DONE(lpt_end_execute(craft, &applied));
     while (take_packet(craft)) {
-        EXPECT(taken(ground, packet, packet_len).kind == LPT_REPORT_NOTED);
+        EXPECT(taken(ground, packet, packet_len).kind == LPT_OUTCOME_REPORT_NOTED);
     }
     return applied;
 }
@@ -358,30 +367,32 @@ static void requests(void) {
     size_t len = 0;
     load[11] = (uint8_t)(sum >> 8);
     load[12] = (uint8_t)sum;
-    make(&ground, LPT_GROUND, &CONFIG);
-    DONE(lpt_end_new(&craft, LPT_SPACECRAFT, &CONFIG, two, 2, message, 220));
-    EXPECT(lpt_end_plain(&ground, 1, 16, 6, 2, load, sizeof load) == LPT_RANGE);
-    EXPECT(lpt_end_plain(&craft, 1, 0, 6, 2, load, sizeof load) == LPT_RANGE);
-    EXPECT(lpt_end_plain(&ground, 1, 9, 13, 9, load, sizeof load) == LPT_PART_REQUEST);
-    EXPECT(lpt_end_plain(&ground, 1, 9, 6, 2, got, P + 11) == LPT_LONG_MESSAGE);
+    make(&ground, LPT_SIDE_GROUND, &CONFIG);
+    DONE(lpt_end_new(&craft, LPT_SIDE_SPACECRAFT, &CONFIG, two, 2, message, 220));
+    EXPECT(lpt_end_plain(&ground, 1, 16, 6, 2, load, sizeof load) == LPT_E_RANGE);
+    EXPECT(lpt_end_plain(&craft, 1, 0, 6, 2, load, sizeof load) == LPT_E_RANGE);
+    EXPECT(lpt_end_plain(&ground, 1, 9, 13, 9, load, sizeof load) == LPT_E_PART_REQUEST);
+    EXPECT(lpt_end_plain(&ground, 1, 9, 6, 2, got, P + 11) == LPT_E_LONG_MESSAGE);
     EXPECT(!take_packet(&ground));
     DONE(lpt_end_plain(&ground, 1, 9, 6, 2, load, sizeof load));
     applied = answered(&ground, &craft);
-    EXPECT(applied.kind == LPT_CARRIED_OUT && applied.value == 0);
+    EXPECT(applied.kind == LPT_APPLIED_CARRIED_OUT && applied.value == 0);
     DONE(lpt_end_memory(&craft, 9, got, sizeof got, &len));
-    EXPECT(len == 200 && memcmp(got, message + 20, 197) == 0 && memcmp(got + 197, load + 8, 3) == 0);
+    EXPECT(len == 200 && memcmp(got, message + 20, 197) == 0 &&
+           memcmp(got + 197, load + 8, 3) == 0);
     DONE(lpt_end_memory(&craft, 1, got, sizeof got, &len));
     EXPECT(len == 10 && memcmp(got, message, 10) == 0);
 
     DONE(lpt_end_plain(&ground, 1, 0, 6, 5, dump, sizeof dump));
     applied = answered(&ground, &craft);
-    EXPECT(applied.kind == LPT_OPENED && same(applied.name, named(0)) && applied.value == 0);
+    EXPECT(applied.kind == LPT_APPLIED_OPENED && same(applied.name, named(0)) &&
+           applied.value == 0);
     for (k = 1; lpt_end_part(&craft, &applied.name, k) == LPT_DONE; k++) {
         EXPECT(take_packet(&craft));
         said = taken(&ground, packet, packet_len);
     }
     /* Around the octets: two headers, the report's own eight octets, and two checksums. */
-    EXPECT(told(said, LPT_RELEASED, named(0), 6 + 11 + 8 + 200 + 2 + 2, 0));
+    EXPECT(told(said, LPT_OUTCOME_RELEASED, named(0), 6 + 11 + 8 + 200 + 2 + 2, 0));
     DONE(lpt_end_released(&ground, got, sizeof got, &len));
     EXPECT(got[7] == 6 && got[8] == 6 && memcmp(got + 25, message + 20, 197) == 0);
     EXPECT(memcmp(got + 25 + 197, load + 8, 3) == 0);
@@ -397,15 +408,15 @@ static void long_message(size_t len, uint32_t p) {
     LptOutcome said = {0, NONE, 0, 0};
     size_t released = 0;
     config.part_size = p;
-    make(&ground, LPT_GROUND, &config);
-    make(&craft, LPT_SPACECRAFT, &config);
+    make(&ground, LPT_SIDE_GROUND, &config);
+    make(&craft, LPT_SIDE_SPACECRAFT, &config);
     DONE(lpt_end_open(&craft, named(65535), message, len));
     for (k = parts; k > 0; k--) {
         kept += make_part(&craft, named(65535), (uint16_t)k) &&
                 lpt_end_packet(&ground, packet, packet_len, &said) == LPT_DONE &&
-                said.kind == (uint32_t)(k == 1 ? LPT_RELEASED : LPT_KEPT);
+                said.kind == (uint32_t)(k == 1 ? LPT_OUTCOME_RELEASED : LPT_OUTCOME_KEPT);
     }
-    EXPECT(kept == parts && told(said, LPT_RELEASED, named(65535), (uint32_t)len, 0));
+    EXPECT(kept == parts && told(said, LPT_OUTCOME_RELEASED, named(65535), (uint32_t)len, 0));
     DONE(lpt_end_released(&ground, got, sizeof got, &released));
     EXPECT(released == len && memcmp(got, message, len) == 0);
     lpt_end_free(&ground);
@@ -422,7 +433,7 @@ static uint32_t new_with(LptEnd *end, uint32_t side, LptConfig config, size_t me
 
 /* A spacecraft with the first of these memories, of this content. */
 static uint32_t new_of(LptEnd *end, const LptMemory *memories, size_t count, size_t len) {
-    return lpt_end_new(end, LPT_SPACECRAFT, &CONFIG, memories, count, message, len);
+    return lpt_end_new(end, LPT_SIDE_SPACECRAFT, &CONFIG, memories, count, message, len);
 }
 
 static void refused_memories(void) {
@@ -434,19 +445,19 @@ static void refused_memories(void) {
         many[k].at = k;
         many[k].len = 1;
     }
-    EXPECT(new_of(&end, many, 0, 20) == LPT_BAD_MEMORIES);
-    EXPECT(new_of(&end, many, 17, 20) == LPT_BAD_MEMORIES);
-    EXPECT(new_of(&end, two, 2, 7) == LPT_BAD_MEMORIES);
+    EXPECT(new_of(&end, many, 0, 20) == LPT_E_MEMORIES);
+    EXPECT(new_of(&end, many, 17, 20) == LPT_E_MEMORIES);
+    EXPECT(new_of(&end, two, 2, 7) == LPT_E_MEMORIES);
     two[1].at = SIZE_MAX;
-    EXPECT(new_of(&end, two, 2, 8) == LPT_BAD_MEMORIES);
+    EXPECT(new_of(&end, two, 2, 8) == LPT_E_MEMORIES);
     two[1].at = 8;
-    EXPECT(new_of(&end, two, 2, 8) == LPT_BAD_MEMORIES);
+    EXPECT(new_of(&end, two, 2, 8) == LPT_E_MEMORIES);
     two[1].at = 4;
     two[1].len = SIZE_MAX;
-    EXPECT(new_of(&end, two, 2, 8) == LPT_BAD_MEMORIES);
+    EXPECT(new_of(&end, two, 2, 8) == LPT_E_MEMORIES);
     two[1].len = 4;
     two[1].id = 1;
-    EXPECT(new_of(&end, two, 2, 8) == LPT_BAD_MEMORIES && !end.full);
+    EXPECT(new_of(&end, two, 2, 8) == LPT_E_MEMORIES && !end.full);
     DONE(new_of(&end, many, 16, 16));
     lpt_end_free(&end);
 }
@@ -454,31 +465,31 @@ static void refused_memories(void) {
 static void refused_ends(void) {
     LptEnd end = LPT_END_EMPTY;
     LptConfig c = CONFIG;
-    EXPECT(new_with(&end, 2, c, 1) == LPT_RANGE);
+    EXPECT(new_with(&end, 2, c, 1) == LPT_E_RANGE);
     c.mode = 2;
-    EXPECT(new_with(&end, LPT_GROUND, c, 1) == LPT_RANGE);
+    EXPECT(new_with(&end, LPT_SIDE_GROUND, c, 1) == LPT_E_RANGE);
     c = CONFIG;
     c.apid = 2047;
     c.part_size = 3;
-    EXPECT(new_with(&end, LPT_GROUND, c, 1) == LPT_BAD_APID);
+    EXPECT(new_with(&end, LPT_SIDE_GROUND, c, 1) == LPT_E_CONFIG_APID);
     c.apid = 2046;
-    EXPECT(new_with(&end, LPT_GROUND, c, 1) == LPT_BAD_PART_SIZE);
+    EXPECT(new_with(&end, LPT_SIDE_GROUND, c, 1) == LPT_E_CONFIG_PART_SIZE);
     c.part_size = 1025;
-    EXPECT(new_with(&end, LPT_GROUND, c, 1) == LPT_BAD_PART_SIZE);
+    EXPECT(new_with(&end, LPT_SIDE_GROUND, c, 1) == LPT_E_CONFIG_PART_SIZE);
     c.part_size = 1024;
     c.timeout = 0;
-    EXPECT(new_with(&end, LPT_GROUND, c, 1) == LPT_BAD_TIMEOUT);
+    EXPECT(new_with(&end, LPT_SIDE_GROUND, c, 1) == LPT_E_CONFIG_TIMEOUT);
     c.timeout = 65535;
     c.receptions = 65;
-    EXPECT(new_with(&end, LPT_GROUND, c, 1) == LPT_BAD_RECEPTIONS);
+    EXPECT(new_with(&end, LPT_SIDE_GROUND, c, 1) == LPT_E_CONFIG_RECEPTIONS);
     c.receptions = 64;
     c.outgoing = 0;
-    EXPECT(new_with(&end, LPT_GROUND, c, 1) == LPT_BAD_OUTGOING);
-    EXPECT(new_with(&end, LPT_SPACECRAFT, CONFIG, 0) == LPT_BAD_MEMORIES);
-    EXPECT(new_with(&end, LPT_SPACECRAFT, CONFIG, 1048577) == LPT_BAD_MEMORIES);
+    EXPECT(new_with(&end, LPT_SIDE_GROUND, c, 1) == LPT_E_CONFIG_OUTGOING);
+    EXPECT(new_with(&end, LPT_SIDE_SPACECRAFT, CONFIG, 0) == LPT_E_MEMORIES);
+    EXPECT(new_with(&end, LPT_SIDE_SPACECRAFT, CONFIG, 1048577) == LPT_E_MEMORIES);
     EXPECT(!end.full && end.held.at == NULL);
-    DONE(new_with(&end, LPT_GROUND, CONFIG, 0));
-    EXPECT(end.full && new_with(&end, LPT_GROUND, CONFIG, 0) == LPT_FULL);
+    DONE(new_with(&end, LPT_SIDE_GROUND, CONFIG, 0));
+    EXPECT(end.full && new_with(&end, LPT_SIDE_GROUND, CONFIG, 0) == LPT_E_FULL);
     lpt_end_free(&end);
     EXPECT(!end.full);
     lpt_end_free(&end);
@@ -489,51 +500,55 @@ static void refused_calls(void) {
     LptEnd end = LPT_END_EMPTY;
     LptOutcome said = {7, NAME, 7, 7};
     size_t len = 99;
+    uint32_t state = 9;
     LptName name = NAME;
-    EXPECT(lpt_end_packet(&end, FIRST, sizeof FIRST, &said) == LPT_EMPTY);
+    EXPECT(lpt_end_packet(&end, FIRST, sizeof FIRST, &said) == LPT_E_EMPTY);
     EXPECT(told(said, 7, &NAME, 7, 7));
-    EXPECT(lpt_end_released(&end, got, sizeof got, &len) == LPT_EMPTY && len == 99);
-    EXPECT(lpt_end_outgoing(&end, got, sizeof got, &len) == LPT_EMPTY && len == 99);
-    EXPECT(lpt_end_sent(&end) == LPT_EMPTY && lpt_end_tick(&end) == LPT_EMPTY);
-    EXPECT(lpt_end_expire(&end, &name) == LPT_EMPTY && same(name, &NAME));
-    EXPECT(lpt_end_open(&end, &NAME, message, 20) == LPT_EMPTY);
-    EXPECT(lpt_end_part(&end, &NAME, 1) == LPT_EMPTY && lpt_end_finish(&end, &NAME) == LPT_EMPTY);
-    EXPECT(lpt_end_retire(&end, 2, &NAME) == LPT_EMPTY && lpt_end_restart(&end) == LPT_EMPTY);
-    EXPECT(lpt_end_read(&end) == LPT_EMPTY);
-    EXPECT(lpt_end_plain(&end, 1, 16, 13, 9, got, 9) == LPT_EMPTY);
-    EXPECT(lpt_end_memory(&end, 1, got, sizeof got, &len) == LPT_EMPTY && len == 99);
+    EXPECT(lpt_end_released(&end, got, sizeof got, &len) == LPT_E_EMPTY && len == 99);
+    EXPECT(lpt_end_outgoing(&end, got, sizeof got, &len) == LPT_E_EMPTY && len == 99);
+    EXPECT(lpt_end_sent(&end) == LPT_E_EMPTY && lpt_end_tick(&end) == LPT_E_EMPTY);
+    EXPECT(lpt_end_expire(&end, &name) == LPT_E_EMPTY && same(name, &NAME));
+    EXPECT(lpt_end_open(&end, &NAME, message, 20) == LPT_E_EMPTY);
+    EXPECT(lpt_end_part(&end, &NAME, 1) == LPT_E_EMPTY &&
+           lpt_end_finish(&end, &NAME) == LPT_E_EMPTY);
+    EXPECT(lpt_end_retire(&end, 2, &NAME) == LPT_E_EMPTY && lpt_end_restart(&end) == LPT_E_EMPTY);
+    EXPECT(lpt_end_name(&end, 0, &NAME, &state) == LPT_E_EMPTY && state == 9);
+    EXPECT(lpt_end_read(&end) == LPT_E_EMPTY);
+    EXPECT(lpt_end_plain(&end, 1, 16, 13, 9, got, 9) == LPT_E_EMPTY);
+    EXPECT(lpt_end_memory(&end, 1, got, sizeof got, &len) == LPT_E_EMPTY && len == 99);
 
     config.clock = 4294967294u;
-    make(&end, LPT_GROUND, &config);
+    make(&end, LPT_SIDE_GROUND, &config);
     DONE(lpt_end_tick(&end));
-    EXPECT(lpt_end_tick(&end) == LPT_CLOCK_END);
-    EXPECT(lpt_end_part(&end, &NAME, 1) == LPT_NOT_OPEN);
-    EXPECT(lpt_end_finish(&end, &NAME) == LPT_NOT_OPEN);
-    EXPECT(lpt_end_open(&end, &NAME, message, P) == LPT_SHORT_MESSAGE);
-    EXPECT(lpt_end_open(&end, &NAME, got, 65543) == LPT_LONG_MESSAGE);
+    EXPECT(lpt_end_tick(&end) == LPT_E_CLOCK_END);
+    EXPECT(lpt_end_part(&end, &NAME, 1) == LPT_E_NOT_OPEN);
+    EXPECT(lpt_end_finish(&end, &NAME) == LPT_E_NOT_OPEN);
+    EXPECT(lpt_end_open(&end, &NAME, message, P) == LPT_E_SHORT_MESSAGE);
+    EXPECT(lpt_end_open(&end, &NAME, got, 65543) == LPT_E_LONG_MESSAGE);
     DONE(lpt_end_open(&end, named(1), message, 65542));
     DONE(lpt_end_open(&end, named(2), message, 9));
-    EXPECT(lpt_end_open(&end, named(3), message, 9) == LPT_TOO_MANY);
-    EXPECT(lpt_end_open(&end, named(2), message, 9) == LPT_IN_USE);
-    EXPECT(lpt_end_part(&end, named(2), 0) == LPT_NO_SUCH_PART);
-    EXPECT(lpt_end_part(&end, named(2), 3) == LPT_NO_SUCH_PART);
-    EXPECT(lpt_end_sent(&end) == LPT_NOTHING);
-    EXPECT(lpt_end_retire(&end, 2, named(2)) == LPT_RANGE);
-    DONE(lpt_end_retire(&end, LPT_DOWN, named(2)));
+    EXPECT(lpt_end_open(&end, named(3), message, 9) == LPT_E_TOO_MANY);
+    EXPECT(lpt_end_open(&end, named(2), message, 9) == LPT_E_IN_USE);
+    EXPECT(lpt_end_part(&end, named(2), 0) == LPT_E_NO_SUCH_PART);
+    EXPECT(lpt_end_part(&end, named(2), 3) == LPT_E_NO_SUCH_PART);
+    EXPECT(lpt_end_sent(&end) == LPT_E_NOTHING);
+    EXPECT(lpt_end_retire(&end, 2, named(2)) == LPT_E_RANGE);
+    EXPECT(lpt_end_name(&end, 2, named(2), &state) == LPT_E_RANGE && state == 9);
+    DONE(lpt_end_retire(&end, LPT_DIRECTION_DOWN, named(2)));
     lpt_end_free(&end);
 }
 
 /* After a new start the counts begin at 0 again, and what was to be sent still is. */
 static void new_start(void) {
     LptEnd ground = LPT_END_EMPTY;
-    make(&ground, LPT_GROUND, &CONFIG);
+    make(&ground, LPT_SIDE_GROUND, &CONFIG);
     DONE(lpt_end_open(&ground, &NAME, message, 20));
     DONE(lpt_end_part(&ground, &NAME, 2));
     DONE(lpt_end_restart(&ground));
-    EXPECT(lpt_end_part(&ground, &NAME, 1) == LPT_NOT_OPEN);
-    EXPECT(lpt_end_open(&ground, &NAME, message, 20) == LPT_IN_USE);
+    EXPECT(lpt_end_part(&ground, &NAME, 1) == LPT_E_NOT_OPEN);
+    EXPECT(lpt_end_open(&ground, &NAME, message, 20) == LPT_E_IN_USE);
     EXPECT(take_packet(&ground) && packet[14] == 2);
-    DONE(lpt_end_retire(&ground, LPT_UP, &NAME));
+    DONE(lpt_end_retire(&ground, LPT_DIRECTION_UP, &NAME));
     DONE(lpt_end_open(&ground, &NAME, message, 20));
     EXPECT(make_part(&ground, &NAME, 1) && packet_is(FIRST, sizeof FIRST));
     lpt_end_free(&ground);

@@ -52,7 +52,7 @@ static unsigned again;
 #define TRY(call)                                                                                  \
     do {                                                                                           \
         uint32_t said = (call);                                                                    \
-        if (said == LPT_MEMORY && was_refused) {                                                   \
+        if (said == LPT_E_ALLOCATION && was_refused) {                                             \
             again++;                                                                               \
             was_refused = 0;                                                                       \
             said = (call);                                                                         \
@@ -64,7 +64,7 @@ static unsigned again;
 /* A message up with a lost part, an expiry and its report; a message down; a request that is
    executed; all by calls that are made again. */
 static void link_pass(void) {
-    static const LptConfig config = {100, 64, 2, 4, 4, 0, LPT_ANY};
+    static const LptConfig config = {100, 64, 2, 4, 4, 0, LPT_MODE_ANY};
     static const LptMemory memories[] = {{1, 0, 60}, {2, 60, 40}};
     static const uint8_t dump[] = {1, 1, 0, 0, 0, 0, 0, 8};
     static const LptName joined = {1, 5}, lost = {2, 5}, down = {1, 7};
@@ -74,8 +74,8 @@ static void link_pass(void) {
     size_t len = 0;
     LptName name = {0, 0};
     uint16_t k;
-    TRY(lpt_end_new(&ground, LPT_GROUND, &config, memories, 0, memory, 0));
-    TRY(lpt_end_new(&craft, LPT_SPACECRAFT, &config, memories, 2, memory, 100));
+    TRY(lpt_end_new(&ground, LPT_SIDE_GROUND, &config, memories, 0, memory, 0));
+    TRY(lpt_end_new(&craft, LPT_SIDE_SPACECRAFT, &config, memories, 2, memory, 100));
     TRY(lpt_end_open(&ground, &joined, message, 300));
     TRY(lpt_end_open(&ground, &lost, message, 300));
     TRY(lpt_end_open(&craft, &down, message, 100));
@@ -84,7 +84,7 @@ static void link_pass(void) {
         EXPECT(lpt_end_outgoing(&ground, packet, sizeof packet, &len) == LPT_DONE);
         EXPECT(lpt_end_sent(&ground) == LPT_DONE);
         TRY(lpt_end_packet(&craft, packet, len, &told));
-        EXPECT(told.kind == (uint32_t)(k == 5 ? LPT_RELEASED : LPT_KEPT));
+        EXPECT(told.kind == (uint32_t)(k == 5 ? LPT_OUTCOME_RELEASED : LPT_OUTCOME_KEPT));
         EXPECT(told.name.source == 1 && told.name.id == 5);
     }
     EXPECT(lpt_end_released(&craft, got, sizeof got, &len) == LPT_DONE && len == 300);
@@ -99,24 +99,24 @@ static void link_pass(void) {
     EXPECT(lpt_end_outgoing(&craft, packet, sizeof packet, &len) == LPT_DONE);
     EXPECT(lpt_end_sent(&craft) == LPT_DONE);
     TRY(lpt_end_packet(&ground, packet, len, &told));
-    EXPECT(told.kind == LPT_ABORT_NOTED && told.name.source == 2 && told.first == 1);
+    EXPECT(told.kind == LPT_OUTCOME_ABORT_NOTED && told.name.source == 2 && told.first == 1);
     TRY(lpt_end_part(&craft, &down, 1));
     TRY(lpt_end_part(&craft, &down, 2));
     while (lpt_end_outgoing(&craft, packet, sizeof packet, &len) == LPT_DONE) {
         TRY(lpt_end_packet(&ground, packet, len, &told));
         EXPECT(lpt_end_sent(&craft) == LPT_DONE);
     }
-    EXPECT(told.kind == LPT_RELEASED && told.name.id == 7 && told.first == 100);
+    EXPECT(told.kind == LPT_OUTCOME_RELEASED && told.name.id == 7 && told.first == 100);
     TRY(lpt_end_read(&craft));
-    EXPECT(lpt_end_outgoing(&craft, packet, sizeof packet, &len) == LPT_NOTHING);
+    EXPECT(lpt_end_outgoing(&craft, packet, sizeof packet, &len) == LPT_E_NOTHING);
     TRY(lpt_end_execute(&craft, &applied));
-    EXPECT(applied.kind == LPT_SILENT);
+    EXPECT(applied.kind == LPT_APPLIED_SILENT);
     TRY(lpt_end_plain(&ground, 1, 11, 6, 5, dump, sizeof dump));
     EXPECT(lpt_end_outgoing(&ground, packet, sizeof packet, &len) == LPT_DONE);
     TRY(lpt_end_packet(&craft, packet, len, &told));
     TRY(lpt_end_read(&craft));
     TRY(lpt_end_execute(&craft, &applied));
-    EXPECT(applied.kind == LPT_CARRIED_OUT);
+    EXPECT(applied.kind == LPT_APPLIED_CARRIED_OUT);
     TRY(lpt_end_restart(&craft));
     lpt_end_free(&ground);
     lpt_end_free(&craft);
@@ -144,7 +144,7 @@ int main(void) {
 #else
 /* A spacecraft with a memory of 64 KiB, and one reception: a message in parts of 64 octets. */
 static void long_message(void) {
-    static const LptConfig config = {100, 64, 10, 1, 1, 0, LPT_ANY};
+    static const LptConfig config = {100, 64, 10, 1, 1, 0, LPT_MODE_ANY};
     LptTcHead head = {100, 0, 0, 13, 0, 1};
     LptEnd craft = LPT_END_EMPTY;
     LptOutcome told = {0, {0, 0}, 0, 0};
@@ -152,7 +152,7 @@ static void long_message(void) {
     size_t len = 0;
     uint32_t kind;
     uint16_t k;
-    TRY(lpt_end_new(&craft, LPT_SPACECRAFT, &config, &whole, 1, memory, sizeof memory));
+    TRY(lpt_end_new(&craft, LPT_SIDE_SPACECRAFT, &config, &whole, 1, memory, sizeof memory));
     for (k = 1; k <= 250; k++) {
         EXPECT(lpt_slice_part(message, sizeof message, 64, 5, k, &kind, body, sizeof body, &len) ==
                LPT_DONE);
@@ -161,7 +161,7 @@ static void long_message(void) {
         EXPECT(lpt_write_tc(&head, body, len, packet, sizeof packet, &len) == LPT_DONE);
         TRY(lpt_end_packet(&craft, packet, len, &told));
     }
-    EXPECT(told.kind == LPT_RELEASED && told.first == sizeof message);
+    EXPECT(told.kind == LPT_OUTCOME_RELEASED && told.first == sizeof message);
     EXPECT(lpt_end_released(&craft, got, sizeof got, &len) == LPT_DONE);
     EXPECT(len == sizeof message && memcmp(got, message, len) == 0);
     lpt_end_free(&craft);
@@ -170,19 +170,19 @@ static void long_message(void) {
 
 /* Memory runs out at last, the end says so and goes on: what it has can still be let go. */
 static void full_pool(void) {
-    static const LptConfig config = {100, 1024, 10, 1, 64, 0, LPT_ANY};
+    static const LptConfig config = {100, 1024, 10, 1, 64, 0, LPT_MODE_ANY};
     LptEnd craft = LPT_END_EMPTY;
     uint32_t said = LPT_DONE;
     LptName name = {1, 0}, first = {1, 1};
     size_t used = 0;
-    TRY(lpt_end_new(&craft, LPT_SPACECRAFT, &config, &whole, 1, memory, sizeof memory));
+    TRY(lpt_end_new(&craft, LPT_SIDE_SPACECRAFT, &config, &whole, 1, memory, sizeof memory));
     while (said == LPT_DONE && name.id < 64) {
         name.id++;
         used = lpt_pool_used();
         said = lpt_end_open(&craft, &name, message, sizeof message);
     }
-    EXPECT(said == LPT_MEMORY && lpt_pool_used() == used);
-    EXPECT(lpt_end_finish(&craft, &name) == LPT_NOT_OPEN);
+    EXPECT(said == LPT_E_ALLOCATION && lpt_pool_used() == used);
+    EXPECT(lpt_end_finish(&craft, &name) == LPT_E_NOT_OPEN);
     EXPECT(lpt_end_finish(&craft, &first) == LPT_DONE && lpt_pool_used() < used);
     EXPECT(lpt_end_open(&craft, &name, message, sizeof message) == LPT_DONE);
     lpt_end_free(&craft);

@@ -7,6 +7,10 @@ use Rattle.lpt_packet.specs.declared.fault.PacketFault.TheVariants as packet_fau
 use Rattle.lpt_part.specs.FaultNames as part
 use Rattle.lpt_part.specs.declared.fault.PartFault.TheVariants as part_fault
 
+-- the library's version, 0.1.0
+abbrev pub version_number : ℕ
+version_number = 1000
+
 -- it is done
 abbrev pub done : ℕ
 done = 0

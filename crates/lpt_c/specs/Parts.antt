@@ -29,9 +29,10 @@ kind_number Last = 3
 abbrev pub is_part_size : ℕ → Bool
 is_part_size p = nat_le 4 p && nat_le p 1024
 
--- how many parts a message has; none of what is no part size
-abbrev pub count_told : ℕ → ℕ → ℕ
-count_told len p = if is_part_size p then part_count len p else 0
+-- how many parts a message has; none where that is no part size, or no message is so long
+abbrev pub count_told : (len p : ℕ) → ℕ
+count_told len p =
+    if is_part_size p && nat_le len longest_packet then part_count len p else 0
 
 -- a part of these fields
 abbrev pub piece_of : (id number : ℕ) → Kind → List ℕ → Piece

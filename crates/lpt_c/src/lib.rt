@@ -21,6 +21,7 @@ mod parts;
 mod reports;
 mod streams;
 mod telemetry;
+mod version;
 
 pub use aborts::{LptAbort, lpt_read_abort, lpt_write_abort};
 pub use checksum::lpt_crc16;
@@ -30,3 +31,4 @@ pub use parts::{LptPart, lpt_part_count, lpt_read_part, lpt_slice_part, lpt_writ
 pub use reports::{LptReport, lpt_read_report, lpt_write_report};
 pub use streams::lpt_packet_length;
 pub use telemetry::{LptTm, LptTmHead, lpt_read_tm, lpt_write_tm};
+pub use version::lpt_version;

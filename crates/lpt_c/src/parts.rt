@@ -28,31 +28,33 @@ pub struct LptPart {
     pub len: usize,
 }
 
-/// How many parts of `p` octets a message of `len` octets has; 0 where `p` isn't 4 to 1024.
-pub fn lpt_part_count(len: u32, p: u32) -> u32
-    ensures { result ≡ count_told len p }
+/// How many parts of `part_size` octets a message of this length has; 0 where the size isn't 4 to
+/// 1024, or the message has more than 65,542 octets.
+pub fn lpt_part_count(message_len: usize, part_size: u32) -> u32
+    ensures { result ≡ count_told message_len part_size }
 {
-    if p < 4 || p > 1024 {
+    if part_size < 4 || part_size > 1024 || message_len > LONGEST_PACKET {
         return 0;
     }
-    count(len, p)
+    count(message_len as u32, part_size)
 }
 
-/// Reads a message's body as a part of this kind, for parts of `p` octets.
+/// Reads a message's body as a part of this kind, for parts of `part_size` octets.
 ///
-/// 0, and `out` says what it is; 102 where the kind isn't 1 to 3 or `p` isn't 4 to 1024; 20 to 23,
-/// the first fault of a body that is no such part.
-pub fn lpt_read_part(kind: u32, body: &[u8], p: u32, out: &mut LptPart) -> u32
-    ensures code { result ≡ code_read (part_read (kind_named kind) body.now p) }
-    ensures out { out.new ≡ left_in part_told (part_read (kind_named kind) body.now p) out.old }
+/// 0, and `out` says what it is; 102 where the kind isn't 1 to 3 or the size isn't 4 to 1024; 20 to
+/// 23, the first fault of a body that is no such part.
+pub fn lpt_read_part(kind: u32, body: &[u8], part_size: u32, out: &mut LptPart) -> u32
+    ensures code { result ≡ code_read (part_read (kind_named kind) body.now part_size) }
+    ensures out { out.new
+        ≡ left_in part_told (part_read (kind_named kind) body.now part_size) out.old }
 {
     let Some(of_kind) = named(kind) else {
         return RANGE;
     };
-    if p < 4 || p > 1024 {
+    if part_size < 4 || part_size > 1024 {
         return RANGE;
     }
-    match read_part(of_kind, body, p) {
+    match read_part(of_kind, body, part_size) {
         Err(fault) => u32::from(fault.code()),
         Ok(part) => {
             *out = LptPart {
@@ -69,29 +71,29 @@ pub fn lpt_read_part(kind: u32, body: &[u8], p: u32, out: &mut LptPart) -> u32
 
 /// Writes the body of a message that carries a part to the front of a buffer.
 ///
-/// 0; 102 where the kind isn't 1 to 3 or `p` isn't 4 to 1024; 21, 22 or 23 where there is no part
-/// of this kind, number and length; 103 where the buffer is too short. At 0 and at 103 `needed`
-/// says how many octets the body has, 4 more than the part.
+/// 0; 102 where the kind isn't 1 to 3 or the size isn't 4 to 1024; 21, 22 or 23 where there is no
+/// part of this kind, number and length; 103 where the buffer is too short. At 0 and at 103
+/// `needed` says how many octets the body has, 4 more than the part.
 pub fn lpt_write_part(
     kind: u32,
     id: u16,
     number: u16,
     octets: &[u8],
-    p: u32,
+    part_size: u32,
     out: &mut [u8],
     needed: &mut usize,
 ) -> u32
     ensures code { result
-        ≡ code_for (part_text (kind_named kind) id number p octets.now) out.old }
+        ≡ code_for (part_text (kind_named kind) id number part_size octets.now) out.old }
     ensures buffer { out.new
-        ≡ left_by (part_text (kind_named kind) id number p octets.now) out.old }
+        ≡ left_by (part_text (kind_named kind) id number part_size octets.now) out.old }
     ensures needed { needed.new
-        ≡ needed_by (part_text (kind_named kind) id number p octets.now) needed.old }
+        ≡ needed_by (part_text (kind_named kind) id number part_size octets.now) needed.old }
 {
     let Some(of_kind) = named(kind) else {
         return RANGE;
     };
-    if p < 4 || p > 1024 {
+    if part_size < 4 || part_size > 1024 {
         return RANGE;
     }
     if number == 0 {
@@ -100,49 +102,58 @@ pub fn lpt_write_part(
     if !number_fits(of_kind, number) {
         return KIND_NUMBER;
     }
-    if !length_fits(of_kind, number, octets.len(), p) {
+    if !length_fits(of_kind, number, octets.len(), part_size) {
         return PART_LENGTH;
     }
     fill_part(of_kind, id, number, octets, out, needed)
 }
 
-/// Writes the body of the message that carries part `k` of a message, in parts of `p` octets, to
-/// the front of a buffer, and gives the part's kind, 1 to 3.
+/// Writes the body of the message that carries the part of a number, in parts of `part_size`
+/// octets, to the front of a buffer, and gives the part's kind, 1 to 3.
 ///
-/// 0; 102 where `p` isn't 4 to 1024; 42 where the message isn't longer than a part, 43 where it has
-/// more than 65,542 octets; 46 where it has no part `k`; 103 where the buffer is too short. At 0
-/// and at 103 the kind is written, and `needed` says how many octets the body has.
+/// 0; 102 where the size isn't 4 to 1024; 42 where the message isn't longer than a part, 43 where
+/// it has more than 65,542 octets; 46 where it has no part of that number; 103 where the buffer is
+/// too short. At 0 and at 103 the kind is written, and `needed` says how many octets the body has.
 pub fn lpt_slice_part(
     message: &[u8],
-    p: u32,
+    part_size: u32,
     id: u16,
-    k: u16,
+    number: u16,
     kind: &mut u32,
     out: &mut [u8],
     needed: &mut usize,
 ) -> u32
-    ensures code { result ≡ code_for (slice_text message.now p id k) out.old }
-    ensures buffer { out.new ≡ left_by (slice_text message.now p id k) out.old }
-    ensures needed { needed.new ≡ needed_by (slice_text message.now p id k) needed.old }
+    ensures code { result ≡ code_for (slice_text message.now part_size id number) out.old }
+    ensures buffer { out.new ≡ left_by (slice_text message.now part_size id number) out.old }
+    ensures needed { needed.new
+        ≡ needed_by (slice_text message.now part_size id number) needed.old }
     ensures kind { kind.new
-        ≡ kind_told (slice_text message.now p id k) (kind_in message.now p k) kind.old }
+        ≡ kind_told (slice_text message.now part_size id number)
+        (kind_in message.now part_size number) kind.old }
 {
-    if p < 4 || p > 1024 {
+    if part_size < 4 || part_size > 1024 {
         return RANGE;
     }
-    if message.len() <= p as usize {
+    if message.len() <= part_size as usize {
         return SHORT;
     }
     if message.len() > LONGEST_PACKET {
         return LONG;
     }
-    let parts = count(message.len() as u32, p);
-    if k == 0 || u32::from(k) > parts {
+    let parts = count(message.len() as u32, part_size);
+    if number == 0 || u32::from(number) > parts {
         return NO_SUCH_PART;
     }
-    let of_kind = kind_of_part(u32::from(k), parts);
+    let of_kind = kind_of_part(u32::from(number), parts);
     *kind = number_of(of_kind);
-    fill_part(of_kind, id, k, part(message, p, k), out, needed)
+    fill_part(
+        of_kind,
+        id,
+        number,
+        part(message, part_size, number),
+        out,
+        needed,
+    )
 }
 
 // The octets of a part that the message has.

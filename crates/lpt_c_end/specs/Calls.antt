@@ -1,10 +1,13 @@
 -- What calls on a handle leave and report.
-use Rattle.std.specs.Prelude.{◌≡◌, ℕ, List, [], ◌∷◌, Option, Some, None, Ok, Err}
+use Rattle.std.specs.Prelude.{◌≡◌, ℕ, nat_lt, if◌then◌else◌, List, [], ◌∷◌, Option, Some, None, Ok, Err}
+use Rattle.std.specs.Option.{unwrap_or}
 use Rattle.lpt_memory.specs.Memories.{Contents, content_of}
 use Rattle.lpt_c_end.specs.Changes.{delivery, execution_of}
 use Rattle.lpt_c_end.specs.Codes.{empty, nothing}
 use Rattle.lpt_c_end.specs.Copies.{Text}
-use Rattle.lpt_c_end.specs.Words.{words, applied_words}
+use Rattle.lpt_node.specs.Restarts.{name_state}
+use Rattle.lpt_packet.specs.Names.{Name}
+use Rattle.lpt_c_end.specs.Words.{direction_from, state_word, words, applied_words}
 use Rattle.lpt_c_end.specs.declared.end.End.{End}
 use Rattle.lpt_c_end.specs.declared.words.LptOutcome.{LptOutcome}
 use Rattle.lpt_c_end.specs.declared.words.LptApplied.{LptApplied}
@@ -24,6 +27,17 @@ IfBoth F (Some e) (Some new) = F e new
 -- what is reported of octets that were delivered
 abbrev pub IsTold : List ℕ → LptOutcome → End → Type 0
 IsTold b said e = said ≡ words (delivery e b).1.outcome
+
+-- the state of a name in a direction, where that is one
+abbrev pub state_of : (direction : ℕ) → Name → End → Option ℕ
+state_of direction name e =
+    if nat_lt 1 direction then None
+    else Some (state_word (name_state e.side e.node.at (direction_from direction) name))
+
+-- the same behind a handle, and what stood there before where there is none
+abbrev pub state_told : (direction : ℕ) → Name → Option End → (before : ℕ) → ℕ
+state_told direction name None before = before
+state_told direction name (Some e) before = unwrap_or (state_of direction name e) before
 
 -- octets, or that there are none
 abbrev pub text_or_nothing : Option (List ℕ) → Text

@@ -91,6 +91,10 @@ retire_refusal direction name e =
     else if may_retire e.side e.node.at (direction_from direction) name then None
     else Some still_open
 
+-- the state of a name isn't told
+abbrev pub name_refusal : (direction : ℕ) → End → Option ℕ
+name_refusal direction e = if nat_lt 1 direction then Some range else None
+
 -- the end isn't restarted
 abbrev pub restart_refusal : End → Option ℕ
 restart_refusal e = if e.node.at.boot == last_number then Some no_number else None

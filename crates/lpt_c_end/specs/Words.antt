@@ -9,6 +9,8 @@ use Rattle.lpt_events.specs.declared.outcome.Why.{Why}
 use Rattle.lpt_events.specs.declared.outcome.Why.TheVariants.{Unreadable, Idle, ForeignApid, BadPart, Closed, NoRoom}
 use Rattle.lpt_events.specs.declared.side.Side.{Side}
 use Rattle.lpt_events.specs.declared.side.Side.TheVariants.{Ground, Craft}
+use Rattle.lpt_ledger.specs.declared.state.State.{State}
+use Rattle.lpt_ledger.specs.declared.state.State.TheVariants.{Free, Open, Closed as Shut}
 use Rattle.lpt_packet.specs.declared.direction.Direction.{Direction}
 use Rattle.lpt_packet.specs.declared.direction.Direction.TheVariants.{Up, Down}
 use Rattle.lpt_packet.specs.Names.{Name, named_by, no_name}
@@ -44,6 +46,12 @@ name_from n = named_by n.source n.id
 -- the name as C is told it
 abbrev pub name_word : Name → LptName
 name_word n = record { source = n.source; id = n.id }
+
+-- the state of a name as C is told it
+abbrev pub state_word : State → ℕ
+state_word Free = 0
+state_word Open = 1
+state_word Shut = 2
 
 -- ---- a configuration
 

@@ -34,5 +34,5 @@ pub use memories::LptMemory;
 pub use receiving::{lpt_end_expire, lpt_end_packet, lpt_end_released};
 pub use requesting::lpt_end_plain;
 pub use sending::{lpt_end_finish, lpt_end_open, lpt_end_outgoing, lpt_end_part, lpt_end_sent};
-pub use upkeep::{lpt_end_restart, lpt_end_retire, lpt_end_tick};
+pub use upkeep::{lpt_end_name, lpt_end_restart, lpt_end_retire, lpt_end_tick};
 pub use words::{LptApplied, LptConfig, LptName, LptOutcome};

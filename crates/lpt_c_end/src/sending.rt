@@ -23,7 +23,8 @@ use std::alloc::Global;
 /// 0; 106 where the handle is empty; 41 to 44, the first fault that applies; 58 when out of memory.
 /// Then nothing has changed.
 pub fn lpt_end_open(alloc: Global, end: &mut LptEnd, name: &LptName, message: &[u8]) -> u32
-    ensures code { IsAnswer (refusal_by (open_refusal (name_from name.now) message.now) end.old.held.value) result }
+    ensures code { IsAnswer (refusal_by (open_refusal (name_from name.now) message.now) end.old.held.value)
+        result }
     ensures done { result ≡ 0
         → IfBoth (IsOpened (name_from name.now) message.now) end.old.held.value end.new.held.value }
     ensures refused { ¬ (result ≡ 0) → IfBoth IsSame end.old.held.value end.new.held.value }
@@ -36,20 +37,20 @@ pub fn lpt_end_open(alloc: Global, end: &mut LptEnd, name: &LptName, message: &[
     code
 }
 
-/// Makes the packet of part `k` of an open message, from 1: it is to be sent.
+/// Makes the packet of the part of a number, from 1, of an open message: it is to be sent.
 ///
 /// 0; 106 where the handle is empty; 45 where no message of this name is open; 46 where it has no
 /// such part; 58 when out of memory. Then nothing has changed.
-pub fn lpt_end_part(alloc: Global, end: &mut LptEnd, name: &LptName, k: u16) -> u32
-    ensures code { IsAnswer (refusal_by (part_refusal (name_from name.now) k) end.old.held.value) result }
+pub fn lpt_end_part(alloc: Global, end: &mut LptEnd, name: &LptName, number: u16) -> u32
+    ensures code { IsAnswer (refusal_by (part_refusal (name_from name.now) number) end.old.held.value) result }
     ensures done { result ≡ 0
-        → IfBoth (IsPartMade (name_from name.now) k) end.old.held.value end.new.held.value }
+        → IfBoth (IsPartMade (name_from name.now) number) end.old.held.value end.new.held.value }
     ensures refused { ¬ (result ≡ 0) → IfBoth IsSame end.old.held.value end.new.held.value }
 {
     let Some(mut held) = take(alloc, end) else {
         return EMPTY;
     };
-    let code = held.part(name_of(name), k);
+    let code = held.part(name_of(name), number);
     put(end, held);
     code
 }
@@ -59,7 +60,8 @@ pub fn lpt_end_part(alloc: Global, end: &mut LptEnd, name: &LptName, k: u16) -> 
 /// 0; 106 where the handle is empty; 45 where no message of this name is open: nothing has changed
 /// then.
 pub fn lpt_end_finish(alloc: Global, end: &mut LptEnd, name: &LptName) -> u32
-    ensures code { result ≡ answer (refusal_by (finish_refusal (name_from name.now)) end.old.held.value) }
+    ensures code { result
+        ≡ answer (refusal_by (finish_refusal (name_from name.now)) end.old.held.value) }
     ensures done { result ≡ 0
         → IfBoth (IsFinished (name_from name.now)) end.old.held.value end.new.held.value }
     ensures refused { ¬ (result ≡ 0) → IfBoth IsSame end.old.held.value end.new.held.value }

@@ -2,11 +2,11 @@
 
 ghost use Rattle.std.specs.Prelude.{◌≡◌};
 ghost use Rattle.lpt_node.specs.Restarts.{may_retire};
-ghost use Rattle.lpt_c_end.specs.Calls.{IfBoth};
+ghost use Rattle.lpt_c_end.specs.Calls.{IfBoth, state_of, state_told};
 ghost use Rattle.lpt_c_end.specs.Changes.{IsRestarted, IsRetired, IsSame, IsTicked};
 ghost use Rattle.lpt_c_end.specs.Codes.{answer};
-ghost use Rattle.lpt_c_end.specs.Refusals.{refusal_by, restart_refusal, retire_refusal, tick_refusal};
-ghost use Rattle.lpt_c_end.specs.Words.{name_from};
+ghost use Rattle.lpt_c_end.specs.Refusals.{name_refusal, refusal_by, restart_refusal, retire_refusal, tick_refusal};
+ghost use Rattle.lpt_c_end.specs.Words.{name_from, state_word};
 
 use crate::codes::{DONE, EMPTY, NO_NUMBER, RANGE, STILL_OPEN};
 use crate::end::End;
@@ -52,6 +52,37 @@ pub fn lpt_end_retire(alloc: Global, end: &mut LptEnd, direction: u32, name: &Lp
     let code = held.retire(direction, name_of(name));
     put(end, held);
     code
+}
+
+/// Tells the state of a transaction's name at this end: 0 free, 1 open, 2 closed; up where
+/// `direction` is 0, down where it is 1. In the direction in which the end sends that is its
+/// message's; in the other its reception's, which is closed once it has ended.
+///
+/// 0; 106 where the handle is empty; 102 where the direction is above 1. The end stays as it is.
+pub fn lpt_end_name(
+    alloc: Global,
+    end: &mut LptEnd,
+    direction: u32,
+    name: &LptName,
+    state: &mut u32,
+) -> u32
+    ensures code { result ≡ answer (refusal_by (name_refusal direction) end.old.held.value) }
+    ensures state { state.new
+        ≡ state_told direction (name_from name.now) end.old.held.value state.old }
+    ensures same { IfBoth IsSame end.old.held.value end.new.held.value }
+{
+    let Some(held) = take(alloc, end) else {
+        return EMPTY;
+    };
+    let told = held.name_state(direction, name_of(name));
+    put(end, held);
+    match told {
+        None => RANGE,
+        Some(word) => {
+            *state = word;
+            DONE
+        }
+    }
 }
 
 /// Restarts the end: its open messages are closed and let go, its open receptions and its jobs
@@ -103,6 +134,16 @@ impl End {
         DONE
     }
 
+    // The state of a name, by its number, in this direction, where that is one.
+    fn name_state(&self, direction: u32, name: Name) -> Option<u32>
+        ensures { result ≡ state_of direction name self.now }
+    {
+        if direction > 1 {
+            return None;
+        }
+        Some(state_word(self.node.state(direction_of(direction), name)))
+    }
+
     // Whether a name may be freed at this end.
     fn may_retire(&self, direction: Direction, name: Name) -> bool
         ensures { result ≡ may_retire self.now.side self.now.node.at direction name }
@@ -130,5 +171,16 @@ impl End {
         }
         self.node.restart();
         DONE
+    }
+}
+
+// The number of a state.
+fn state_word(state: State) -> u32
+    ensures { result ≡ state_word state }
+{
+    match state {
+        State::Free => 0,
+        State::Open => 1,
+        State::Closed => 2,
     }
 }

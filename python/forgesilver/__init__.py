@@ -1,0 +1,66 @@
+"""Space packets (CCSDS 133.0-B), PUS headers, large packet transfer, raw memory management and
+request verification (ECSS-E-ST-70-41C), over the libraries of Forgesilver, which are proved.
+
+    >>> from forgesilver import *
+    >>> packets = list(split(bytes(20), name=(1, 7), part_size=8, apid=100))
+    >>> join(packets, part_size=8) == bytes(20)
+    True
+    >>> with End(Side.SPACECRAFT, Config(part_size=8), {1: bytes(256)}) as spacecraft:
+    ...     [spacecraft.feed(it).kind.name for it in packets]
+    ['KEPT', 'KEPT', 'RELEASED']
+
+The modules:
+
+- packets: packets, telecommands and telemetry, and the packets of a stream
+- parts: the parts of large messages, and `split`
+- joining: `join`, and `join_each` of an archive
+- memory: requests to load, dump and check a memory, and their reports
+- reports: verification reports
+- end: one end of a link, with a spacecraft's memories
+- kinds: the kinds of things
+- faults: an exception for each fault
+
+Octets are anything with a buffer: `bytes`, `bytearray`, `memoryview`, an array or a mapped file. A
+reader copies what it gives of `bytes`, and gives views of a `memoryview`. Numbers out of their
+range raise `faults.Range`, and arguments of another type TypeError.
+
+The package looks for the libraries in the folder that FORGESILVER_LIB names; else beside itself, as
+./install puts them, or in build of the checkout. It compares their version with its own.
+"""
+
+from __future__ import annotations
+
+from . import faults
+from ._library import VERSION as __version__
+from .end import Applied, Config, End, Outcome, WrongThread
+from .faults import Fault
+from .joining import Joined, NotJoined, join, join_each
+from .kinds import (
+    Acknowledge, AppliedKind, Direction, Failure, Mode, NameState, OutcomeKind, PacketKind,
+    PartKind, Reason, ReportKind, Side, Why,
+)
+from .memory import (
+    Area, Check, Checked, CheckReport, Dump, DumpReport, Load, Loaded, read_data_report,
+)
+from .packets import (
+    LONGEST_PACKET, Packet, Telecommand, Telemetry, crc16, packet_length, packets_of, read_message,
+    read_packet, read_telecommand, read_telemetry, write_packet, write_telecommand, write_telemetry,
+)
+from .parts import (
+    AbortReport, Name, Part, part_count, part_of, read_abort, read_part, split, write_abort,
+    write_part,
+)
+from .reports import VerificationReport, read_report, verification_of, write_report
+
+__all__ = [
+    "AbortReport", "Acknowledge", "Applied", "AppliedKind", "Area", "Check", "CheckReport",
+    "Checked", "Config", "Direction", "Dump", "DumpReport", "End", "Failure", "Fault", "Joined",
+    "LONGEST_PACKET", "Load", "Loaded", "Mode", "Name", "NameState", "NotJoined", "Outcome",
+    "OutcomeKind",
+    "Packet", "PacketKind", "Part", "PartKind", "Reason", "ReportKind", "Side", "Telecommand",
+    "Telemetry", "VerificationReport", "Why", "WrongThread", "crc16", "faults", "join", "join_each",
+    "packet_length", "packets_of", "part_count", "part_of", "read_abort", "read_data_report",
+    "read_message", "read_packet", "read_part", "read_report", "read_telecommand",
+    "read_telemetry", "split", "verification_of", "write_abort", "write_packet", "write_part",
+    "write_report", "write_telecommand", "write_telemetry",
+]

@@ -1,0 +1,253 @@
+"""The shared libraries, as ctypes calls them, and how octets reach them. Not for the caller.
+
+The calls keep Python's lock (`PyDLL`), so no other thread of Python writes to what a call reads.
+"""
+
+from __future__ import annotations
+
+import ctypes
+import operator
+import os
+import pathlib
+import sys
+from typing import Any, Union
+
+from .faults import Range
+
+#: What is taken as octets: anything that has a buffer of them.
+Octets = Union[bytes, bytearray, memoryview]
+
+VERSION = "0.1.0"
+VERSION_NUMBER = 1000
+CODECS, END = "liblpt.so.0", "liblpt_end.so.0"
+
+U8, U16, U32 = ctypes.c_uint8, ctypes.c_uint16, ctypes.c_uint32
+SIZE, POINTER = ctypes.c_size_t, ctypes.c_void_p
+
+
+def _structure(called: str, /, **fields: Any) -> Any:
+    """A structure of C with these fields."""
+    return type(called, (ctypes.Structure,), {"_fields_": list(fields.items())})
+
+
+LptPacket = _structure("LptPacket", kind=U32, apid=U16, count=U16, at=SIZE, len=SIZE)
+LptTcHead = _structure(
+    "LptTcHead", apid=U16, count=U16, flags=U8, service=U8, subtype=U8, source=U16
+)
+LptTc = _structure("LptTc", head=LptTcHead, at=SIZE, len=SIZE)
+LptTmHead = _structure(
+    "LptTmHead", apid=U16, count=U16, status=U8, service=U8, subtype=U8, counter=U16,
+    destination=U16, time=U32,
+)
+LptTm = _structure("LptTm", head=LptTmHead, at=SIZE, len=SIZE)
+LptPart = _structure("LptPart", id=U16, number=U16, kind=U32, at=SIZE, len=SIZE)
+LptAbort = _structure("LptAbort", id=U16, reason=U16)
+LptReport = _structure("LptReport", request=U32, failed=U16, code=U16)
+
+LptHeld = _structure("LptHeld", at=POINTER)
+LptEnd = _structure("LptEnd", full=ctypes.c_bool, held=LptHeld)
+LptConfig = _structure(
+    "LptConfig", apid=U16, part_size=U32, timeout=U32, receptions=U32, outgoing=U32, clock=U32,
+    mode=U32,
+)
+LptName = _structure("LptName", source=U16, id=U16)
+LptMemory = _structure("LptMemory", id=U8, at=SIZE, len=SIZE)
+LptOutcome = _structure("LptOutcome", kind=U32, name=LptName, first=U32, second=U32)
+LptApplied = _structure("LptApplied", kind=U32, name=LptName, value=U32)
+
+# What the calls take. A pointer is octets or an address, and in front of its length.
+_READ, _WRITE = (POINTER, SIZE), (POINTER, SIZE, POINTER)
+_OF_CODECS: dict[str, tuple[Any, ...]] = {
+    "lpt_version": (),
+    "lpt_crc16": _READ,
+    "lpt_packet_length": (*_READ, POINTER),
+    "lpt_read_packet": (*_READ, POINTER),
+    "lpt_write_packet": (U32, U16, U16, *_READ, *_WRITE),
+    "lpt_read_tc": (*_READ, POINTER),
+    "lpt_write_tc": (POINTER, *_READ, *_WRITE),
+    "lpt_request_id": (POINTER, POINTER),
+    "lpt_read_tm": (*_READ, POINTER),
+    "lpt_write_tm": (POINTER, *_READ, *_WRITE),
+    "lpt_part_count": (SIZE, U32),
+    "lpt_slice_part": (*_READ, U32, U16, U16, POINTER, *_WRITE),
+    "lpt_read_part": (U32, *_READ, U32, POINTER),
+    "lpt_write_part": (U32, U16, U16, *_READ, U32, *_WRITE),
+    "lpt_read_abort": (*_READ, POINTER),
+    "lpt_write_abort": (U16, U16, *_WRITE),
+    "lpt_read_report": (U8, *_READ, POINTER),
+    "lpt_write_report": (U8, U32, U16, *_WRITE),
+}
+_OF_END: dict[str, tuple[Any, ...]] = {
+    "lpt_end_new": (POINTER, U32, POINTER, POINTER, SIZE, *_READ),
+    "lpt_end_free": (POINTER,),
+    "lpt_end_packet": (POINTER, *_READ, POINTER),
+    "lpt_end_released": (POINTER, *_WRITE),
+    "lpt_end_expire": (POINTER, POINTER),
+    "lpt_end_open": (POINTER, POINTER, *_READ),
+    "lpt_end_part": (POINTER, POINTER, U16),
+    "lpt_end_plain": (POINTER, U16, U8, U8, U8, *_READ),
+    "lpt_end_finish": (POINTER, POINTER),
+    "lpt_end_outgoing": (POINTER, *_WRITE),
+    "lpt_end_sent": (POINTER,),
+    "lpt_end_read": (POINTER,),
+    "lpt_end_execute": (POINTER, POINTER),
+    "lpt_end_memory": (POINTER, U8, *_WRITE),
+    "lpt_end_tick": (POINTER,),
+    "lpt_end_retire": (POINTER, U32, POINTER),
+    "lpt_end_name": (POINTER, U32, POINTER, POINTER),
+    "lpt_end_restart": (POINTER,),
+}
+
+
+def folder() -> pathlib.Path:
+    """The folder of the libraries: that of FORGESILVER_LIB, where it is set; else the first that
+    has them, of the package's own, the `lib` in which it is installed, and `build` of its
+    checkout."""
+    here = pathlib.Path(__file__).resolve().parent
+    above = list(here.parents)
+    places = [here, *above[2:3], *(it / "build" for it in above[1:2])]
+    if os.environ.get("FORGESILVER_LIB"):
+        places = [pathlib.Path(os.environ["FORGESILVER_LIB"]).resolve()]
+    for place in places:
+        if all((place / it).is_file() for it in (CODECS, END)):
+            return place
+    said = ", ".join(map(str, places))
+    raise ImportError(f"forgesilver: {CODECS} and {END} aren't in {said}: run ./build-c, or name "
+                      "their folder in FORGESILVER_LIB")
+
+
+def _loaded(path: pathlib.Path, calls: dict[str, tuple[Any, ...]]) -> Any:
+    """A shared library, each of whose calls knows what it takes and answers."""
+    try:
+        library = ctypes.PyDLL(str(path))
+        for name, words in calls.items():
+            call = getattr(library, name)
+            call.argtypes, call.restype = words, U32
+    except (OSError, AttributeError) as error:
+        raise ImportError(f"forgesilver: {path}: {error}") from error
+    return library
+
+
+def _load() -> tuple[Any, Any]:
+    """Both libraries, which are of the package's version."""
+    place = folder()
+    codecs, end = _loaded(place / CODECS, _OF_CODECS), _loaded(place / END, _OF_END)
+    codecs.lpt_crc16.restype, end.lpt_end_free.restype = U16, None
+    found = codecs.lpt_version()
+    if found != VERSION_NUMBER:
+        raise ImportError(f"forgesilver: {place / CODECS} is of version {_dotted(found)}, and the "
+                          f"package of {VERSION}")
+    return codecs, end
+
+
+def _dotted(number: int) -> str:
+    """A version's number, as it is written."""
+    return f"{number // 1000000}.{number // 1000 % 1000}.{number % 1000}"
+
+
+codecs, end = _load()
+
+# ---- octets in ----
+
+# A view of no more octets than these is copied, which is quicker than to ask where it stands.
+_QUICKLY_COPIED = 4096
+
+
+class _Buffer(ctypes.Structure):
+    """Python's Py_buffer."""
+
+    _fields_ = [
+        ("at", POINTER), ("of", POINTER), ("len", ctypes.c_ssize_t),
+        ("itemsize", ctypes.c_ssize_t), ("readonly", ctypes.c_int), ("ndim", ctypes.c_int),
+        ("format", POINTER), ("shape", POINTER), ("strides", POINTER), ("suboffsets", POINTER),
+        ("internal", POINTER),
+    ]
+
+
+def _has_addresses() -> bool:
+    """Whether Python says where a buffer stands, and its lock keeps others from writing there."""
+    is_locked = getattr(sys, "_is_gil_enabled", lambda: True)()
+    return is_locked and hasattr(ctypes, "pythonapi")
+
+
+_HAS_ADDRESSES = _has_addresses()
+if _HAS_ADDRESSES:
+    _get = ctypes.pythonapi.PyObject_GetBuffer
+    _get.argtypes, _get.restype = (ctypes.py_object, ctypes.POINTER(_Buffer), ctypes.c_int), int
+    _release = ctypes.pythonapi.PyBuffer_Release
+    _release.argtypes, _release.restype = (ctypes.POINTER(_Buffer),), None
+
+
+def view_of(octets: Octets) -> memoryview:
+    """A view of octets, one behind the other; TypeError of what has none."""
+    view = memoryview(octets)
+    if view.ndim != 1 or view.itemsize != 1 or not view.c_contiguous:
+        view = view.cast("B")
+    return view
+
+
+class Given:
+    """Octets for a call that reads them: `at` and `len`, as long as this is kept."""
+
+    __slots__ = ("at", "kept", "len")
+
+    def __init__(self, octets: Octets) -> None:
+        self.at: Union[bytes, int]
+        if type(octets) is bytes:
+            self.at, self.len, self.kept = octets, len(octets), None
+            return
+        view = view_of(octets)
+        self.len = view.nbytes
+        if self.len <= _QUICKLY_COPIED or not _HAS_ADDRESSES:
+            self.at, self.kept = view.tobytes(), None
+            return
+        buffer = _Buffer()
+        _get(view, buffer, 0)
+        self.at = buffer.at
+        _release(buffer)
+        # The view keeps its octets where they are.
+        self.kept = view
+
+
+def piece_of(octets: Octets, at: int, length: int) -> Octets:
+    """A piece of octets: of a view a view, of all else a copy."""
+    if type(octets) is bytes:
+        return octets[at : at + length]
+    piece = view_of(octets)[at : at + length]
+    return piece if isinstance(octets, memoryview) else piece.tobytes()
+
+
+# ---- octets out ----
+
+LONGEST_PACKET = 65542
+_BYTE = ctypes.c_char
+
+
+class Room:
+    """A buffer of this length for a call that writes: its `at`, what it `needed`, and then
+    `octets`."""
+
+    __slots__ = ("at", "buffer", "len", "needed", "needs", "_pin")
+
+    def __init__(self, length: int) -> None:
+        self.buffer = bytearray(length or 1)
+        self.len = length
+        self._pin = _BYTE.from_buffer(self.buffer)
+        self.at = ctypes.addressof(self._pin)
+        self.needed = SIZE(0)
+        self.needs = ctypes.addressof(self.needed)
+
+    def octets(self) -> bytes:
+        """What a call wrote."""
+        return bytes(memoryview(self.buffer)[: self.needed.value])
+
+
+# ---- numbers ----
+
+
+def number(value: Any, most: int, what: str, least: int = 0) -> int:
+    """A whole number of this range; TypeError of what is none, `Range` of another."""
+    value = operator.index(value)
+    if not least <= value <= most:
+        raise Range(f"{what} is {value}, and not {least:,} to {most:,}")
+    return int(value)

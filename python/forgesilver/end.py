@@ -1,0 +1,433 @@
+"""One end of the link: which names it knows, what it sends in parts, what it joins, and when it
+gives a reception up. Ends that keep to the rules of docs/C.md keep the promise of the README."""
+
+from __future__ import annotations
+
+import operator
+import threading
+import warnings
+from ctypes import addressof, byref
+from dataclasses import dataclass
+from types import TracebackType
+from typing import Any, Iterable, Iterator, Mapping, Optional
+
+from . import _library
+from ._library import U32, Given, Octets, Room, number
+from .faults import Empty, NoSuchPart, raise_fault
+from .kinds import (
+    Acknowledge, AppliedKind, Direction, Failure, Mode, NameState, OutcomeKind, Reason, Side, Why,
+)
+from .memory import SERVICE as MEMORY_SERVICE
+from .memory import Request
+from .parts import Name, Named, name_of, part_count
+
+_end = _library.end
+_KINDS = {int(it): it for it in OutcomeKind}
+_NAMED = frozenset(
+    (
+        OutcomeKind.KEPT, OutcomeKind.AGAIN, OutcomeKind.RELEASED, OutcomeKind.ABORT_NOTED,
+        OutcomeKind.BROKEN,
+    )
+)
+_ROOM, _NO_JOB, _NOTHING_DUE, _NOTHING = 103, 51, 50, 109
+
+
+@dataclass(frozen=True)
+class Config:
+    """What is fixed of an end. Both ends of a link have the same, in every value but the clock."""
+
+    #: Of all packets, 0 to 2046.
+    apid: int = 100
+    #: In octets, 4 to 1,024.
+    part_size: int = 1024
+    #: Of a reception, in ticks, 1 to 65,535.
+    timeout: int = 10
+    #: How many receptions may be open, 1 to 64.
+    receptions: int = 8
+    #: How many messages may be open to be sent, 1 to 64.
+    outgoing: int = 8
+    #: The clock's first value, in ticks.
+    clock: int = 0
+    #: In which order parts are taken.
+    mode: Mode = Mode.ANY
+
+
+@dataclass(frozen=True)
+class Outcome:
+    """What became of a packet. What its kind doesn't say is None."""
+
+    kind: OutcomeKind
+    #: Its transaction: of a part that was kept, again or broken, a release, an abortion.
+    name: Optional[Name] = None
+    #: The number of a part that was kept, or came again.
+    part: Optional[int] = None
+    #: The length of the message that was released; `End.released` gives it.
+    length: Optional[int] = None
+    #: Of a report that was noted: its service type and message subtype.
+    types: Optional[tuple[int, int]] = None
+    #: Why a reception was aborted.
+    reason: Optional[Reason] = None
+    #: Why nothing was made of the packet.
+    why: Optional[Why] = None
+
+    @property
+    def has_released(self) -> bool:
+        """Whether the packet released a message, or is a plain request."""
+        return self.length is not None
+
+
+@dataclass(frozen=True)
+class Applied:
+    """What became of a request. What its kind doesn't say is None."""
+
+    kind: AppliedKind
+    #: The name under which its report is open to be sent in parts.
+    name: Optional[Name] = None
+    #: Why it was refused.
+    failure: Optional[Failure] = None
+
+
+class WrongThread(RuntimeError):
+    """An end is used by another thread than the one that made it, or within another of its
+    calls."""
+
+
+class End:
+    """An end of the link, as a context manager: at its close all its memory goes back.
+
+    >>> with End(Side.GROUND, Config(part_size=8)) as ground:
+    ...     ground.open((1, 7), bytes(20))
+    ...     [len(it) for it in ground.parts((1, 7))]
+    3
+    [25, 25, 21]
+
+    An end stays on the thread that made it, and is neither copied nor pickled. A call raises the
+    first fault that applies, and then the end is as it was; `Empty` where it was closed. Arguments
+    of another type raise TypeError.
+    """
+
+    __slots__ = ("config", "side", "_at", "_handle", "_length", "_lock", "_thread", "__weakref__")
+
+    def __init__(
+        self,
+        side: Side,
+        config: Optional[Config] = None,
+        memories: Optional[Mapping[int, Octets]] = None,
+    ) -> None:
+        """Makes an end. The spacecraft's has these memories, which begin with these octets: 1 to
+        16, of 1 to 1,048,576 octets each. Ground's has none.
+
+        An end that is made anew isn't restarted: it has forgotten which names are used up. So the
+        other end is made anew too then, and no packet of before may come any more. Raises `Range`,
+        `ConfigApid` to `ConfigOutgoing`, or `Memories`.
+        """
+        self._handle, self._length = _library.LptEnd(), 0
+        self._at = addressof(self._handle)
+        self._lock, self._thread = threading.Lock(), threading.get_ident()
+        self.side, self.config = Side(side), config if config is not None else Config()
+        if not isinstance(self.config, Config):
+            raise TypeError(f"{self.config!r} is no Config")
+        made = _config_of(self.config)
+        listed, content = _memories_of(memories or {})
+        given = Given(content)
+        raise_fault(
+            _end.lpt_end_new(
+                self._at, int(self.side), byref(made), addressof(listed), len(memories or {}),
+                given.at, given.len,
+            )
+        )
+
+    # ---- its life ----
+
+    def close(self) -> None:
+        """Lets the end go, and gives all its memory back. Of a closed end nothing changes."""
+        if self._handle.full:
+            self._call(_end.lpt_end_free)
+
+    @property
+    def is_closed(self) -> bool:
+        """Whether the end was closed."""
+        return not self._handle.full
+
+    def __enter__(self) -> End:
+        if self.is_closed:
+            raise Empty
+        return self
+
+    def __exit__(
+        self,
+        kind: Optional[type[BaseException]],
+        error: Optional[BaseException],
+        trace: Optional[TracebackType],
+    ) -> None:
+        self.close()
+
+    def __del__(self) -> None:
+        if not hasattr(self, "_handle") or not self._handle.full:
+            return
+        try:
+            warnings.warn(f"{self!r} wasn't closed", ResourceWarning, stacklevel=2, source=self)
+        finally:
+            # Another thread leaves it alone, and so its memory isn't given back.
+            if threading.get_ident() == self._thread:
+                self.close()
+
+    def __reduce__(self) -> Any:
+        raise TypeError("an end is neither copied nor pickled")
+
+    def __repr__(self) -> str:
+        closed = ", closed" if self.is_closed else ""
+        return f"<End of {self.side.name.lower()}{closed}>"
+
+    def _call(self, function: Any, *words: Any) -> int:
+        """Calls a function of the library, on this end: its answer."""
+        if threading.get_ident() != self._thread:
+            raise WrongThread("the end is of another thread")
+        if not self._lock.acquire(blocking=False):
+            raise WrongThread("a call of the end is under way")
+        try:
+            return function(self._at, *words)  # type: ignore[no-any-return]
+        finally:
+            self._lock.release()
+
+    def _done(self, function: Any, *words: Any) -> None:
+        """The same of a call that has to end well."""
+        fault = self._call(function, *words)
+        if fault:
+            raise_fault(fault)
+
+    def _copied(self, function: Any, room: Room, *words: int) -> Optional[bytes]:
+        """The octets that a call copies, by way of this room or of a longer one; None where there
+        are none."""
+        fault = self._call(function, *words, room.at, room.len, room.needs)
+        if fault == _ROOM:
+            room = Room(room.needed.value)
+            fault = self._call(function, *words, room.at, room.len, room.needs)
+        if fault == _NOTHING:
+            return None
+        raise_fault(fault)
+        return room.octets()
+
+    # ---- receiving ----
+
+    def feed(self, octets: Octets) -> Outcome:
+        """Takes a packet that came, and says what became of it. What it released can be copied by
+        `released` until the next is taken. A spacecraft that aborts a reception has a report of it
+        to be sent.
+
+        Where packets begin and end is for the link below to say. A packet that is damaged, foreign
+        or late is no fault: its outcome is IGNORED, and says why. Raises `NoNumber` or
+        `Allocation`.
+        """
+        given, out = Given(octets), _library.LptOutcome()
+        self._done(_end.lpt_end_packet, given.at, given.len, byref(out))
+        outcome = _outcome_of(out)
+        self._length = outcome.length or 0
+        return outcome
+
+    def released(self) -> Optional[bytes]:
+        """A copy of the message that the last packet released; None where it released nothing."""
+        return self._copied(_end.lpt_end_released, Room(self._length))
+
+    def expire(self) -> Optional[Name]:
+        """Gives a reception up that took no part for as long as the time-out: the one that has
+        waited longest. Its name, or None where none is due. A spacecraft has a report of it to be
+        sent."""
+        name = _library.LptName()
+        fault = self._call(_end.lpt_end_expire, byref(name))
+        if fault == _NOTHING_DUE:
+            return None
+        raise_fault(fault)
+        return Name(name.source, name.id)
+
+    # ---- sending ----
+
+    def open(self, name: Named, message: Octets) -> int:
+        """Takes a message to be sent in parts, under a free name, and says how many parts it has.
+        It is copied. Raises `InUse`, `ShortMessage`, `LongMessage`, `TooMany` or `Allocation`."""
+        named, given = _c_name(name), Given(message)
+        self._done(_end.lpt_end_open, byref(named), given.at, given.len)
+        return part_count(given.len, self.config.part_size)
+
+    def part(self, name: Named, its_number: int) -> None:
+        """Makes the packet of the part of this number, from 1, of an open message: it is to be
+        sent, behind those that are. Raises `NotOpen`, `NoSuchPart` or `Allocation`."""
+        named, its_number = _c_name(name), number(its_number, 0xFFFF, "the part's number")
+        self._done(_end.lpt_end_part, byref(named), its_number)
+
+    def parts(self, name: Named, numbers: Optional[Iterable[int]] = None) -> Iterator[bytes]:
+        """Makes the packets of an open message's parts one by one, of all or of those with these
+        numbers, and gives each, with what else is to be sent, as `outgoing` does. The message stays
+        open until `finish`."""
+        its_name = name_of(name)
+        for it in range(1, 0x10000) if numbers is None else numbers:
+            try:
+                self.part(its_name, it)
+            except NoSuchPart:
+                if numbers is None:
+                    return
+                raise
+            yield from self.outgoing()
+
+    def plain(
+        self, service: int, subtype: int, body: Octets, *, source: int,
+        flags: Acknowledge = Acknowledge.NONE,
+    ) -> None:
+        """Makes the packet of a plain request: it is to be sent, behind those that are. Ground
+        alone makes them. It is executed as often as its packet is delivered. Raises `Range`,
+        `PartRequest`, `LongMessage` or `Allocation`."""
+        words = (
+            number(source, 0xFFFF, "the source"), number(flags, 15, "the flags"),
+            number(service, 255, "the service"), number(subtype, 255, "the subtype"),
+        )
+        given = Given(body)
+        self._done(_end.lpt_end_plain, *words, given.at, given.len)
+
+    def request(
+        self, request: Request, *, source: int, flags: Acknowledge = Acknowledge.NONE
+    ) -> None:
+        """The same of a request of a memory."""
+        self.plain(MEMORY_SERVICE, request.subtype, request.body(), source=source, flags=flags)
+
+    def finish(self, name: Named) -> None:
+        """Closes an open message, and lets it go. Raises `NotOpen`."""
+        named = _c_name(name)
+        self._done(_end.lpt_end_finish, byref(named))
+
+    def first(self) -> Optional[bytes]:
+        """A copy of the packet that is to be sent first; None where there is none. It is to be sent
+        still, until `sent`."""
+        return self._copied(_end.lpt_end_outgoing, Room(self.config.part_size + 23))
+
+    def sent(self) -> None:
+        """Lets the packet go that is to be sent first. Raises `Nothing`."""
+        self._done(_end.lpt_end_sent)
+
+    def outgoing(self) -> Iterator[bytes]:
+        """The packets that are to be sent, in order. Each is let go once the next is asked for; so
+        where the loop is left, by an exception or `break`, the one that it had is to be sent
+        still."""
+        room = Room(self.config.part_size + 23)
+        while True:
+            packet = self._copied(_end.lpt_end_outgoing, room)
+            if packet is None:
+                return
+            yield packet
+            self.sent()
+
+    # ---- the requests that the spacecraft released ----
+
+    def read(self) -> bool:
+        """Reads the oldest request that was released and not read yet; False where there is none,
+        as always on ground. Raises `Allocation`."""
+        return not self._unless(_NO_JOB, self._call(_end.lpt_end_read))
+
+    def execute(self) -> Optional[Applied]:
+        """Executes the oldest request, which has to be read, and says what became of it; None where
+        there is none. Its reports are to be sent; one that is too long for a packet is opened as a
+        message. Raises `NotRead`, `Unsent` or `Allocation`."""
+        out = _library.LptApplied()
+        if self._unless(_NO_JOB, self._call(_end.lpt_end_execute, byref(out))):
+            return None
+        kind = AppliedKind(out.kind)
+        name = Name(out.name.source, out.name.id) if kind is AppliedKind.OPENED else None
+        return Applied(kind, name, Failure(out.value) if kind is AppliedKind.REFUSED else None)
+
+    def serve(self) -> Iterator[bytes]:
+        """Reads and executes all requests that were released, and gives the packets to be sent, as
+        `outgoing` does: what waited before, reports, and the parts of reports that are too long for
+        a packet. The names of those are finished then; both ends retire them, ground first."""
+        while self.read():
+            pass
+        yield from self.outgoing()
+        while True:
+            applied = self.execute()
+            if applied is None:
+                return
+            yield from self.outgoing()
+            if applied.name is not None:
+                yield from self.parts(applied.name)
+                self.finish(applied.name)
+
+    def memory(self, identifier: int) -> Optional[bytes]:
+        """A copy of a memory; None where the end has no such memory."""
+        return self._copied(_end.lpt_end_memory, Room(0), number(identifier, 255, "the identifier"))
+
+    # ---- the clock, names, and a restart ----
+
+    def tick(self, ticks: int = 1) -> None:
+        """Sets the clock so many ticks on. Raises `ClockEnd`, where it went as far as it can."""
+        for _ in range(number(ticks, 0xFFFFFFFF, "the ticks")):
+            self._done(_end.lpt_end_tick)
+
+    def retire(self, direction: Direction, name: Named) -> None:
+        """Makes the name of a transaction free at this end. A name is used again only once both
+        ends have freed it, in this order: the sender's message is closed; no part of it will come
+        any more; the receiver's end retires it; the sender's does. Raises `StillOpen`."""
+        named = _c_name(name)
+        self._done(_end.lpt_end_retire, int(Direction(direction)), byref(named))
+
+    def name_state(self, direction: Direction, name: Named) -> NameState:
+        """The state of a transaction's name at this end: in the direction in which it sends that of
+        its message, in the other that of its reception."""
+        named, state = _c_name(name), U32(0)
+        self._done(_end.lpt_end_name, int(Direction(direction)), byref(named), byref(state))
+        return NameState(state.value)
+
+    def restart(self) -> None:
+        """Restarts the end. Its open messages and receptions are let go, and what it keeps of
+        released requests; it counts its packets from 0. It knows other names, the clock and the
+        memories as before. What was released last, and what is to be sent, stays. Raises
+        `NoNumber`."""
+        self._done(_end.lpt_end_restart)
+
+    @staticmethod
+    def _unless(expected: int, fault: int) -> bool:
+        """Whether a call answered this, and no other fault."""
+        if fault != expected:
+            raise_fault(fault)
+        return fault == expected
+
+
+def _c_name(name: Named) -> Any:
+    """A name as the library takes it."""
+    return _library.LptName(*name_of(name))
+
+
+def _config_of(config: Config) -> Any:
+    """A configuration as the library takes it. What has no room in it isn't in its range either."""
+    names = ("apid", "part_size", "timeout", "receptions", "outgoing")
+    words = []
+    for name in names:
+        value = operator.index(getattr(config, name))
+        most = 0xFFFF if name == "apid" else 0xFFFFFFFF
+        words.append(value if 0 <= value <= most else most)
+    clock = number(config.clock, 0xFFFFFFFF, "the clock")
+    return _library.LptConfig(*words, clock, int(Mode(config.mode)))
+
+
+def _memories_of(memories: Mapping[int, Octets]) -> tuple[Any, bytes]:
+    """Memories as the library takes them: the list, and their content."""
+    listed = (_library.LptMemory * max(len(memories), 1))()
+    at, pieces = 0, []
+    for it, (identifier, octets) in zip(listed, memories.items()):
+        piece = _library.view_of(octets)
+        it.id, it.at, it.len = number(identifier, 255, "the identifier"), at, piece.nbytes
+        at += piece.nbytes
+        pieces.append(piece)
+    return listed, b"".join(pieces)
+
+
+def _outcome_of(out: Any) -> Outcome:
+    """What the library says became of a packet."""
+    kind = _KINDS[out.kind]
+    name = Name(out.name.source, out.name.id) if kind in _NAMED else None
+    if kind in (OutcomeKind.KEPT, OutcomeKind.AGAIN):
+        return Outcome(kind, name, part=out.first)
+    if kind in (OutcomeKind.RELEASED, OutcomeKind.PLAIN_RELEASED):
+        return Outcome(kind, name, length=out.first)
+    if kind is OutcomeKind.REPORT_NOTED:
+        return Outcome(kind, types=(out.first, out.second))
+    if kind is OutcomeKind.IGNORED:
+        return Outcome(kind, why=Why(out.first))
+    return Outcome(kind, name, reason=Reason(out.first))

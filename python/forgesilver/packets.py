@@ -1,0 +1,240 @@
+"""Space packets (CCSDS 133.0-B), and telecommands and telemetry of ECSS-E-ST-70-41C in them.
+
+What a reader gives of `bytes` it copies; of a `memoryview` it gives views of the same octets, which
+are good as long as those stay as they are.
+"""
+
+from __future__ import annotations
+
+from ctypes import byref
+from dataclasses import dataclass
+from typing import Any, BinaryIO, Iterator, Union
+
+from . import _library
+from ._library import SIZE, U32, Given, Octets, Room, number, piece_of
+from .faults import More, raise_fault
+from .kinds import Acknowledge, PacketKind
+
+LONGEST_PACKET = _library.LONGEST_PACKET
+#: The greatest application process identifier; 2047 marks an idle packet.
+GREATEST_APID = 2046
+
+_codecs = _library.codecs
+_KINDS = tuple(PacketKind)
+_FLAGS = tuple(Acknowledge(it) for it in range(16))
+
+
+@dataclass(frozen=True)
+class Packet:
+    """A space packet: its numbers, and its data field. The checksum isn't part of the field."""
+
+    kind: PacketKind
+    apid: int
+    count: int
+    data: Octets
+
+
+@dataclass(frozen=True)
+class Telecommand:
+    """A telecommand: what its headers say, and its body."""
+
+    apid: int
+    count: int
+    flags: Acknowledge
+    service: int
+    subtype: int
+    source: int
+    body: Octets = b""
+
+    @property
+    def request_id(self) -> int:
+        """The request ID, by which reports name it: the first four octets of its packet."""
+        request = U32(0)
+        raise_fault(_codecs.lpt_request_id(byref(_head_of(self)), byref(request)))
+        return request.value
+
+
+@dataclass(frozen=True)
+class Telemetry:
+    """Telemetry: what its headers say, and its body. A status is written as 0."""
+
+    apid: int
+    count: int
+    service: int
+    subtype: int
+    destination: int
+    body: Octets = b""
+    counter: int = 0
+    time: int = 0
+    status: int = 0
+
+
+def crc16(octets: Octets) -> int:
+    """The packet error control over these octets.
+
+    >>> hex(crc16(b"123456789"))
+    '0x29b1'
+    """
+    given = Given(octets)
+    return int(_codecs.lpt_crc16(given.at, given.len))
+
+
+# ---- packets ----
+
+
+def read_packet(octets: Octets) -> Packet:
+    """Reads octets as a packet. Raises `Idle`, or `Short` to `Checksum`, the first that applies."""
+    given, out = Given(octets), _library.LptPacket()
+    raise_fault(_codecs.lpt_read_packet(given.at, given.len, byref(out)))
+    return Packet(_KINDS[out.kind], out.apid, out.count, piece_of(octets, out.at, out.len))
+
+
+def write_packet(packet: Packet) -> bytes:
+    """The octets of a packet, 8 more than its data field has. Raises `Range` or `TooLong`."""
+    kind = number(packet.kind, 1, "the kind")
+    apid, count = _numbers(packet)
+    given = Given(packet.data)
+    room = Room(given.len + 8)
+    raise_fault(
+        _codecs.lpt_write_packet(
+            kind, apid, count, given.at, given.len, room.at, room.len, room.needs
+        )
+    )
+    return room.octets()
+
+
+def packet_length(octets: Octets) -> int:
+    """How many octets the packet has that begins here, idle or not, by the first six of them.
+
+    Raises `More` where there are fewer, and `Version` where no packet begins so.
+    """
+    front, length = bytes(_library.view_of(octets)[:6]), SIZE(0)
+    _allow_idle(_codecs.lpt_packet_length(front, len(front), byref(length)))
+    return length.value
+
+
+def packets_of(stream: Union[Octets, BinaryIO]) -> Iterator[Octets]:
+    """The whole packets of a stream, one behind the other, idle ones too: of octets, as views of
+    them, or of a binary file that is open. Where they begin is known from the first on.
+
+    Raises `Version` where no packet begins, and `More` where the last is cut short: what comes from
+    there on isn't searched for packets, since a message may hold packets that nobody sent.
+    """
+    if hasattr(stream, "read"):
+        yield from _packets_of_file(stream)  # type: ignore[arg-type]
+        return
+    view, at = _library.view_of(stream), 0  # type: ignore[arg-type]
+    while at < len(view):
+        end = at + packet_length(view[at : at + 6])
+        if end > len(view):
+            raise More(f"the packet at octet {at} isn't whole")
+        yield view[at:end]
+        at = end
+
+
+def _packets_of_file(file: BinaryIO) -> Iterator[bytes]:
+    """The packets of a file."""
+    while True:
+        front = _read_all(file, 6)
+        if not front:
+            return
+        size = packet_length(front)
+        octets = front + _read_all(file, size - 6)
+        if len(octets) < size:
+            raise More("the last packet isn't whole")
+        yield octets
+
+
+def _read_all(file: BinaryIO, size: int) -> bytes:
+    """So many octets of a file, or fewer where it ends."""
+    found = file.read(size)
+    while found is not None and 0 < len(found) < size:
+        more = file.read(size - len(found))
+        if not more:
+            break
+        found += more
+    return found or b""
+
+
+# ---- telecommands and telemetry ----
+
+
+def read_telecommand(octets: Octets) -> Telecommand:
+    """Reads the octets of a whole packet as a telecommand. Raises what `read_packet` does, and then
+    `WrongType`, `ShortHeader` or `PusVersion`."""
+    given, out = Given(octets), _library.LptTc()
+    raise_fault(_codecs.lpt_read_tc(given.at, given.len, byref(out)))
+    head, body = out.head, piece_of(octets, out.at, out.len)
+    return Telecommand(
+        head.apid, head.count, _FLAGS[head.flags], head.service, head.subtype, head.source, body
+    )
+
+
+def write_telecommand(telecommand: Telecommand) -> bytes:
+    """The whole packet of a telecommand, 13 octets more than its body. Raises `Range` or
+    `TooLong`."""
+    head, given = _head_of(telecommand), Given(telecommand.body)
+    room = Room(given.len + 13)
+    raise_fault(
+        _codecs.lpt_write_tc(byref(head), given.at, given.len, room.at, room.len, room.needs)
+    )
+    return room.octets()
+
+
+def read_telemetry(octets: Octets) -> Telemetry:
+    """Reads the octets of a whole packet as telemetry, as `read_telecommand`."""
+    given, out = Given(octets), _library.LptTm()
+    raise_fault(_codecs.lpt_read_tm(given.at, given.len, byref(out)))
+    head, body = out.head, piece_of(octets, out.at, out.len)
+    return Telemetry(
+        head.apid, head.count, head.service, head.subtype, head.destination, body, head.counter,
+        head.time, head.status,
+    )
+
+
+def write_telemetry(telemetry: Telemetry) -> bytes:
+    """The whole packet of telemetry, 19 octets more than its body. Raises `Range` or `TooLong`."""
+    apid, count = _numbers(telemetry)
+    head = _library.LptTmHead(
+        apid, count, number(telemetry.status, 15, "the status"), *_types(telemetry),
+        number(telemetry.counter, 0xFFFF, "the counter"),
+        number(telemetry.destination, 0xFFFF, "the destination"),
+        number(telemetry.time, 0xFFFFFFFF, "the time"),
+    )
+    given = Given(telemetry.body)
+    room = Room(given.len + 19)
+    raise_fault(
+        _codecs.lpt_write_tm(byref(head), given.at, given.len, room.at, room.len, room.needs)
+    )
+    return room.octets()
+
+
+def read_message(octets: Octets) -> Union[Telecommand, Telemetry]:
+    """Reads the octets of a whole packet as what it is, a telecommand or telemetry."""
+    front = _library.view_of(octets)
+    is_telecommand = len(front) > 0 and front[0] & 0x10
+    return read_telecommand(octets) if is_telecommand else read_telemetry(octets)
+
+
+def _allow_idle(fault: int) -> None:
+    """Raises a fault, but for an idle packet."""
+    if fault != 101:
+        raise_fault(fault)
+
+
+def _numbers(of: Union[Packet, Telecommand, Telemetry]) -> tuple[int, int]:
+    """The APID and the count of what is written."""
+    return number(of.apid, GREATEST_APID, "the APID"), number(of.count, 16383, "the count")
+
+
+def _types(of: Union[Telecommand, Telemetry]) -> tuple[int, int]:
+    """The service type and the message subtype of what is written."""
+    return number(of.service, 255, "the service"), number(of.subtype, 255, "the subtype")
+
+
+def _head_of(it: Telecommand) -> Any:
+    """What is written of a telecommand's headers."""
+    return _library.LptTcHead(
+        *_numbers(it), number(it.flags, 15, "the flags"), *_types(it),
+        number(it.source, 0xFFFF, "the source"),
+    )

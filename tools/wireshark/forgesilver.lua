@@ -1,0 +1,501 @@
+-- Space packets with PUS headers, large packet transfer, raw memory management and request
+-- verification, for Wireshark and tshark. The layouts are those of docs/FORMATS.md.
+--
+--   tshark -X lua_script:tools/wireshark/forgesilver.lua -r packets.pcap -Y 'lpt.id == 7'
+--
+-- It reads the records of link type 147, and the datagrams of the UDP ports that a preference names:
+-- packets one behind the other. docs/FILES.md says how it is used.
+
+local pus = Proto("pus", "Space packet with PUS headers")
+local lpt = Proto("lpt", "Large packet transfer")
+
+local TELECOMMAND, IDLE_APID, LONGEST, LAST = 1, 2047, 65542, 3
+local SHORT, VERSION, LENGTH, SEGMENTED, NO_SECONDARY, CHECKSUM = 1, 2, 3, 4, 5, 6
+local PUS_VERSION, SHORT_HEADER = 11, 13
+local SHORT_PART, ZERO, KIND_NUMBER, PART_LENGTH, ABORT_BODY = 20, 21, 22, 23, 24
+local FAULTS = {
+    [SHORT] = "Short", [VERSION] = "Version", [LENGTH] = "Length", [SEGMENTED] = "Segmented",
+    [NO_SECONDARY] = "NoSecondary", [CHECKSUM] = "Checksum", [PUS_VERSION] = "PusVersion",
+    [SHORT_HEADER] = "ShortHeader", [SHORT_PART] = "ShortPart", [ZERO] = "Zero",
+    [KIND_NUMBER] = "KindNumber", [PART_LENGTH] = "PartLength", [ABORT_BODY] = "AbortBody",
+}
+local TYPES = {[0] = "telemetry", [1] = "telecommand"}
+local KINDS = {"first", "intermediate", "last"}
+local REASONS = {"expired", "discontinuity", "conflict"}
+local FAILURES = {
+    "unknown service or subtype", "malformed body", "unknown memory", "out of range",
+    "wrong checksum", "reply too long", "no free identifier", "too many open",
+}
+
+-- Numbers of 8, 16 and 32 bits, and of the bits of a mask.
+local function u8(name, title, words, mask)
+    return ProtoField.uint8(name, title, base.DEC, words, mask)
+end
+
+local function u16(name, title, words, mask)
+    return ProtoField.uint16(name, title, base.DEC, words, mask)
+end
+
+local function bit_of(name, title, mask)
+    return ProtoField.bool(name, title, 8, nil, mask)
+end
+
+local p = {
+    length = ProtoField.uint32("pus.length", "Octets of the packet"),
+    version = u16("pus.packet_version_number", "Packet version number", nil, 0xE000),
+    kind = u16("pus.packet_type", "Packet type", TYPES, 0x1000),
+    secondary = u16("pus.secondary_header_flag", "Secondary header flag", nil, 0x0800),
+    apid = u16("pus.application_process_id", "Application process ID", nil, 0x07FF),
+    sequence = u16("pus.sequence_flags", "Sequence flags", nil, 0xC000),
+    count = u16("pus.packet_sequence_count", "Packet sequence count", nil, 0x3FFF),
+    data_length = u16("pus.packet_data_length", "Packet data length"),
+    idle = ProtoField.bool("pus.idle", "Idle packet"),
+    pus = u8("pus.version_number", "PUS version number", nil, 0xF0),
+    flags = u8("pus.acknowledgement_flags", "Acknowledgement flags", nil, 0x0F),
+    acceptance = bit_of("pus.acknowledge_acceptance", "Acceptance", 1),
+    start = bit_of("pus.acknowledge_start", "Start of execution", 2),
+    progress = bit_of("pus.acknowledge_progress", "Progress of execution", 4),
+    completion = bit_of("pus.acknowledge_completion", "Completion of execution", 8),
+    status = u8("pus.spacecraft_time_reference_status", "Spacecraft time reference status", nil, 0x0F),
+    service = u8("pus.service_type", "Service type"),
+    subtype = u8("pus.message_subtype", "Message subtype"),
+    source = u16("pus.source_id", "Source ID"),
+    counter = u16("pus.message_type_counter", "Message type counter"),
+    destination = u16("pus.destination_id", "Destination ID"),
+    time = ProtoField.uint32("pus.time", "Time"),
+    body = ProtoField.bytes("pus.body", "Body"),
+    checksum = ProtoField.uint16("pus.packet_error_control", "Packet error control", base.HEX),
+    fault = u8("pus.fault_code", "Fault", FAULTS),
+
+    request = ProtoField.uint32("pus.request_id", "Request ID", base.HEX),
+    failure = u16("pus.failure_code", "Failure code", FAILURES),
+
+    memory = u8("pus.memory_id", "Memory ID"),
+    areas = u8("pus.n", "N"),
+    address = ProtoField.uint32("pus.start_address", "Start address", base.HEX_DEC),
+    area_length = u16("pus.area_length", "Length"),
+    area_data = ProtoField.bytes("pus.area_data", "Data"),
+    area_checksum = ProtoField.uint16("pus.area_checksum", "Checksum", base.HEX),
+}
+pus.fields = p
+
+local m = {
+    id = u16("lpt.id", "Large message transaction identifier"),
+    part = u16("lpt.part", "Part sequence number"),
+    kind = u8("lpt.kind", "Kind of part", KINDS),
+    octets = u16("lpt.part_octets", "Octets of the part"),
+    data = ProtoField.bytes("lpt.part_data", "Part"),
+    source = u16("lpt.source", "Source of the transaction"),
+    reason = u8("lpt.failure_reason", "Failure reason", REASONS),
+    fault = u8("lpt.fault_code", "Fault", FAULTS),
+    first = ProtoField.framenum("lpt.first_frame", "The message's first packet"),
+    whole = ProtoField.framenum("lpt.whole_frame", "The message is whole"),
+    missing = ProtoField.string("lpt.missing", "Missing parts"),
+    length = ProtoField.uint32("lpt.message_length", "Octets of the message"),
+}
+lpt.fields = m
+
+local MALFORMED, SEQUENCE = expert.group.MALFORMED, expert.group.SEQUENCE
+local ERROR, WARN, NOTE = expert.severity.ERROR, expert.severity.WARN, expert.severity.NOTE
+local e = {
+    checksum = ProtoExpert.new("pus.wrong_checksum", "Wrong checksum", expert.group.CHECKSUM, ERROR),
+    area = ProtoExpert.new("pus.wrong_area_checksum", "Wrong checksum of an area", expert.group.CHECKSUM, ERROR),
+    fault = ProtoExpert.new("pus.fault", "No packet", MALFORMED, ERROR),
+    unread = ProtoExpert.new("pus.unread", "Unread body", MALFORMED, ERROR),
+    failed = ProtoExpert.new("pus.failed", "Failed request", expert.group.RESPONSE_CODE, WARN),
+}
+pus.experts = e
+
+local x = {
+    unread = ProtoExpert.new("lpt.unread", "Unread part", MALFORMED, ERROR),
+    aborted = ProtoExpert.new("lpt.aborted", "Aborted reception", expert.group.RESPONSE_CODE, WARN),
+    contradiction = ProtoExpert.new("lpt.contradiction", "Contradiction", SEQUENCE, WARN),
+    missing = ProtoExpert.new("lpt.part_missing", "Missing part", SEQUENCE, WARN),
+    again = ProtoExpert.new("lpt.again", "Repeated part", SEQUENCE, NOTE),
+}
+lpt.experts = x
+
+pus.prefs.udp_ports = Pref.range("UDP ports", "", "Ports whose datagrams are space packets", 65535)
+lpt.prefs.part_size = Pref.uint("Part size", 0, "In octets, as both ends have it; 0 takes any")
+
+-- The checksum: a register of 16 ones, into which octets are shifted by x^16 + x^12 + x^5 + 1.
+
+local xor = bit32 and bit32.bxor or bit and bit.bxor or load("return function(a, b) return a ~ b end")()
+local SHIFTED = {}
+for octet = 0, 255 do
+    local register = octet * 256
+    for _ = 1, 8 do
+        register = register * 2
+        register = register < 0x10000 and register or xor(register, 0x11021)
+    end
+    SHIFTED[octet] = register
+end
+
+local function checksum_of(octets)
+    local register = 0xFFFF
+    for at = 1, #octets do
+        local low = register % 256
+        register = xor(low * 256, SHIFTED[xor(math.floor(register / 256), octets:byte(at))])
+    end
+    return register
+end
+
+-- The octets of the packet that begins here, and the first test that they fail.
+local function front(rest)
+    if rest:len() < 7 then return rest, SHORT end
+    local length = 7 + rest(4, 2):uint()
+    local octets = length < rest:len() and rest(0, length) or rest
+    if rest(0, 1):bitfield(0, 3) ~= 0 then return octets, VERSION end
+    if length > rest:len() then return rest, LENGTH end
+    if octets(0, 2):bitfield(5, 11) == IDLE_APID then return octets end
+    if octets(2, 1):bitfield(0, 2) ~= 3 then return octets, SEGMENTED end
+    if octets(0, 1):bitfield(4, 1) == 0 then return octets, NO_SECONDARY end
+    if length < 8 or checksum_of(octets:raw(0, length - 2)) ~= octets(length - 2, 2):uint() then
+        return octets, CHECKSUM
+    end
+    return octets
+end
+
+-- Messages in parts: what came of each name. Each part's place is found once, in the order of frames.
+
+local messages, places = {}, {}
+
+function lpt.init()
+    messages, places = {}, {}
+end
+
+-- The part, of those that came, that a further one of its name contradicts.
+local function contradicted(message, part)
+    local kept = message.kept
+    local same, last, greatest = kept[part.number], kept[message.last], kept[message.greatest]
+    if same then
+        return (same.kind ~= part.kind or same.octets ~= part.octets) and same or nil
+    elseif last and (part.kind == LAST or part.number > last.number or #part.octets < #last.octets) then
+        return last
+    elseif part.kind == LAST then
+        return (part.number < greatest.number or #part.octets > message.size) and greatest or nil
+    end
+    return message.size and message.size ~= #part.octets and greatest or nil
+end
+
+-- Takes a part of this name: behind a whole message, or where it contradicts what came, another begins.
+local function take(name, part)
+    local message, place = messages[name], {}
+    local other = message and contradicted(message, part)
+    if message and message.kept[part.number] and not other then
+        return {message = message, again = message.kept[part.number]}
+    end
+    if other then
+        place.contradicted = not message.whole and other or nil
+        message = nil
+    end
+    message = message or {kept = {}, count = 0, greatest = 0, first = part.frame}
+    messages[name], place.message, message.newest = message, message, place
+    message.kept[part.number], message.count = part, message.count + 1
+    message.greatest = math.max(message.greatest, part.number)
+    if part.kind == LAST then message.last = part.number else message.size = #part.octets end
+    message.whole = message.count == message.last and part.frame or nil
+    place.is_whole = message.whole ~= nil
+    return place
+end
+
+-- The parts that didn't come, as `lpt join` lists them.
+local function missing_parts(message)
+    local runs, from = {}, 1
+    for number = 1, message.greatest do
+        if message.kept[number] then
+            if from == number - 1 then runs[#runs + 1] = from end
+            if from < number - 1 then runs[#runs + 1] = from .. "-" .. number - 1 end
+            from = number + 1
+        end
+    end
+    if not message.last then runs[#runs + 1] = from .. "-" end
+    return table.concat(runs, ",")
+end
+
+-- The octets of a whole message, as a source of their own.
+local function joined(message)
+    local octets = {}
+    for number = 1, message.last do octets[number] = message.kept[number].octets end
+    return ByteArray.new(table.concat(octets), true):tvb("Large message")()
+end
+
+local packet
+
+-- Tells a part's place, and where it makes a message whole, what that is: a packet.
+local function show_place(place, part, at, node)
+    local message = place.message
+    node:add(m.first, message.first):set_generated()
+    if place.again then
+        local text = "The part came before, in frame " .. place.again.frame
+        node:add_proto_expert_info(x.again, text)
+    end
+    if place.contradicted then
+        local text = "The part contradicts the one in frame " .. place.contradicted.frame
+        node:add_proto_expert_info(x.contradiction, text .. ": another message of this name begins")
+    end
+    if message.whole then node:add(m.whole, message.whole):set_generated() end
+    if place.is_whole then
+        local whole = joined(message)
+        node:add(m.length, whole:len()):set_generated()
+        local octets, fault = front(whole)
+        if octets:len() < whole:len() then octets, fault = whole, LENGTH end
+        return ", whole: " .. packet(octets, fault, {pinfo = at.pinfo, root = at.root, is_joined = true})
+    end
+    -- What is missing is known behind all frames, or told at a last part.
+    local is_told = at.pinfo.visited or part.kind == LAST
+    if is_told and message.newest == place and not message.whole then
+        local missing = missing_parts(message)
+        node:add(m.missing, missing):set_generated()
+        node:add_proto_expert_info(x.missing, "Missing parts: " .. missing)
+    end
+    return ""
+end
+
+-- The first test that the body of a part fails.
+local function part_fault(kind, body)
+    if body:len() < 4 then return SHORT_PART end
+    local number, length, size = body(2, 2):uint(), body:len() - 4, lpt.prefs.part_size
+    if number == 0 then return ZERO end
+    if (kind == 1) ~= (number == 1) then return KIND_NUMBER end
+    local is_size = size == 0 or length == size or kind == LAST and length < size
+    local before = (number - 1) * (kind == LAST and size or length)
+    if length == 0 or not is_size or before + length > LONGEST then return PART_LENGTH end
+end
+
+-- What bodies are. Each function shows one, and says it in a few words.
+
+local function part_body(kind)
+    return function(body, head, node, at)
+        local tree = node:add(lpt, body)
+        at.pinfo.cols.protocol = "LPT"
+        if body:len() >= 4 then
+            tree:add(m.id, body(0, 2))
+            tree:add(m.part, body(2, 2))
+        end
+        tree:add(m.source, head.peer):set_generated()
+        local fault = part_fault(kind, body)
+        if fault then
+            if not head.fault then
+                tree:add(m.fault, fault):set_generated()
+                tree:add_proto_expert_info(x.unread, "The part isn't read: " .. FAULTS[fault])
+            end
+            return "part unread"
+        end
+        local part = {kind = kind, number = body(2, 2):uint(), octets = body:raw(4), frame = at.pinfo.number}
+        tree:add(m.kind, kind):set_generated()
+        tree:add(m.octets, #part.octets):set_generated()
+        tree:add(m.data, body(4))
+        local direction = head.kind == TELECOMMAND and "up" or "down"
+        local name = string.format("%s %d/%d", direction, head.peer, body(0, 2):uint())
+        tree:append_text(string.format(", %s, part %d", name, part.number))
+        local said = string.format("%s part %d of %s", KINDS[kind], part.number, name)
+        if at.is_joined or head.fault then return said end
+        local key = at.pinfo.number .. ":" .. at.number
+        places[key] = places[key] or take(head.apid .. " " .. name, part)
+        return said .. show_place(places[key], part, at, tree)
+    end
+end
+
+local function abort_body(body, head, node, at)
+    local tree = node:add(lpt, body)
+    at.pinfo.cols.protocol = "LPT"
+    tree:add(m.source, head.peer):set_generated()
+    if body:len() ~= 3 or not REASONS[body(2, 1):uint()] then
+        if not head.fault then
+            tree:add(m.fault, ABORT_BODY):set_generated()
+            tree:add_proto_expert_info(x.unread, "The abortion report isn't read")
+        end
+        return "abortion report unread"
+    end
+    tree:add(m.id, body(0, 2))
+    tree:add(m.reason, body(2, 1))
+    local reason = REASONS[body(2, 1):uint()]
+    local said = string.format("up %d/%d aborted: %s", head.peer, body(0, 2):uint(), reason)
+    tree:add_proto_expert_info(x.aborted, "The reception was aborted: " .. reason)
+    return said
+end
+
+local function report_body(what, is_failure)
+    return function(body, _, tree)
+        if body:len() ~= (is_failure and 6 or 4) then
+            tree:add_proto_expert_info(e.unread, "The report isn't read")
+            return "report unread"
+        end
+        local apid, count = body(0, 2):bitfield(5, 11), body(2, 2):bitfield(2, 14)
+        local of = string.format("of APID %d count %d", apid, count)
+        tree:add(p.request, body(0, 4)):append_text(" (" .. of .. ")")
+        if not is_failure then return what .. " succeeded, " .. of end
+        local code = body(4, 2):uint()
+        tree:add(p.failure, body(4, 2))
+        local why = string.format("code %d, %s", code, FAILURES[code] or "unknown")
+        tree:add_proto_expert_info(e.failed, what .. " failed: " .. why)
+        return what .. " failed, " .. of .. ": " .. why
+    end
+end
+
+local function show_area(octets, length, tree, has_data, has_checksum)
+    local address = octets(0, 4):uint()
+    local area = tree:add(octets, string.format("Area: address %d, %d octets", address, length))
+    area:add(p.address, octets(0, 4))
+    area:add(p.area_length, octets(4, 2))
+    if has_data then area:add(p.area_data, octets(6, length)) end
+    if not has_checksum then return end
+    local given = octets(octets:len() - 2, 2)
+    local node = area:add(p.area_checksum, given)
+    local right = has_data and checksum_of(octets:raw(6, length)) or given:uint()
+    if right ~= given:uint() then
+        node:add_proto_expert_info(e.area, string.format("The area's checksum is 0x%04x", right))
+    end
+end
+
+local function areas_body(what, has_data, has_checksum)
+    return function(body, _, tree)
+        local at, count, length = 2, body:len() >= 2 and body(1, 1):uint() or 0, nil
+        if body:len() >= 2 then
+            tree:add(p.memory, body(0, 1))
+            tree:add(p.areas, body(1, 1))
+        end
+        local is_read = count > 0
+        for _ = 1, count do
+            length = at + 6 <= body:len() and body(at + 4, 2):uint() or 0
+            local size = 6 + (has_data and length or 0) + (has_checksum and 2 or 0)
+            is_read = length > 0 and at + size <= body:len()
+            if not is_read then break end
+            show_area(body(at, size), length, tree, has_data, has_checksum)
+            at = at + size
+        end
+        if not is_read or at < body:len() then
+            tree:add_proto_expert_info(e.unread, "The body of " .. body:len() .. " octets isn't read")
+            return what .. " unread"
+        end
+        return string.format("%s of memory %d, %d area%s", what, body(0, 1):uint(), count, count > 1 and "s" or "")
+    end
+end
+
+local BODIES = {
+    ["TM[1,1]"] = report_body("acceptance"), ["TM[1,2]"] = report_body("acceptance", true),
+    ["TM[1,3]"] = report_body("start"), ["TM[1,4]"] = report_body("start", true),
+    ["TM[1,7]"] = report_body("completion"),
+    ["TC[6,2]"] = areas_body("load", true, true), ["TC[6,5]"] = areas_body("dump"),
+    ["TC[6,9]"] = areas_body("check"), ["TM[6,6]"] = areas_body("dump report", true, true),
+    ["TM[6,10]"] = areas_body("check report", false, true),
+    ["TM[13,1]"] = part_body(1), ["TM[13,2]"] = part_body(2), ["TM[13,3]"] = part_body(3),
+    ["TC[13,9]"] = part_body(1), ["TC[13,10]"] = part_body(2), ["TC[13,11]"] = part_body(3),
+    ["TM[13,16]"] = abort_body,
+}
+
+-- Headers.
+
+local function primary_header(octets, tree)
+    local node = tree:add(octets(0, 6), "Packet primary header")
+    for _, field in ipairs({p.version, p.kind, p.secondary, p.apid}) do node:add(field, octets(0, 2)) end
+    node:add(p.sequence, octets(2, 2))
+    node:add(p.count, octets(2, 2))
+    node:add(p.data_length, octets(4, 2))
+    return {
+        kind = octets(0, 1):bitfield(3, 1), apid = octets(0, 2):bitfield(5, 11),
+        count = octets(2, 2):bitfield(2, 14),
+    }
+end
+
+-- The rest of a telecommand's secondary header, and of telemetry's; what names the other end.
+local function command_header(field, node)
+    local flags = node:add(p.flags, field(0, 1))
+    for _, flag in ipairs({p.acceptance, p.start, p.progress, p.completion}) do flags:add(flag, field(0, 1)) end
+    node:add(p.service, field(1, 1))
+    node:add(p.subtype, field(2, 1))
+    node:add(p.source, field(3, 2))
+    return field(3, 2):uint()
+end
+
+local function report_header(field, node)
+    node:add(p.status, field(0, 1))
+    node:add(p.service, field(1, 1))
+    node:add(p.subtype, field(2, 1))
+    node:add(p.counter, field(3, 2))
+    node:add(p.destination, field(5, 2))
+    node:add(p.time, field(7, 4))
+    return field(5, 2):uint()
+end
+
+local function show_fault(fault, tree)
+    tree:add(p.fault, fault):set_generated()
+    tree:add_proto_expert_info(e.fault, "The octets aren't read as a packet: " .. FAULTS[fault])
+    return "fault " .. fault .. " " .. FAULTS[fault]
+end
+
+-- The secondary header and the body. Where the checksum is wrong that is the packet's fault, and no other.
+local function data_field(field, head, tree, at)
+    local is_command = head.kind == TELECOMMAND
+    local size = is_command and 5 or 11
+    local fault = (not field or field:len() < size) and SHORT_HEADER
+        or field(0, 1):bitfield(0, 4) ~= 2 and PUS_VERSION
+    if fault then return head.fault and "" or show_fault(fault, tree) end
+    local node = tree:add(field(0, size), "PUS header")
+    node:add(p.pus, field(0, 1))
+    head.peer = (is_command and command_header or report_header)(field, node)
+    local title = string.format("%s[%d,%d]", is_command and "TC" or "TM", field(1, 1):uint(), field(2, 1):uint())
+    tree:append_text(", " .. title)
+    local read = BODIES[title]
+    if field:len() == size then return title .. (read and ", no body" or "") end
+    local body = field(size)
+    if not read then
+        tree:add(p.body, body)
+        return title
+    end
+    return title .. " " .. read(body, head, tree, at)
+end
+
+-- Shows a packet, or octets that fail this test of one, and says what they are. `at` is where they stand: the
+-- frame, the root of its tree and the packet's number there; or a message that was joined.
+function packet(octets, fault, at)
+    local tree = at.root:add(pus, octets)
+    if at.is_joined then tree:append_text(", joined") end
+    tree:add(p.length, octets:len()):set_generated()
+    local head = octets:len() >= 7 and primary_header(octets, tree)
+    if fault and fault ~= CHECKSUM then return show_fault(fault, tree) end
+    if head.apid == IDLE_APID then
+        tree:add(p.idle, true):set_generated()
+        return "idle packet"
+    end
+    local size = octets:len()
+    if size < 8 then return show_fault(fault, tree) end
+    head.fault = fault
+    local said = data_field(size > 8 and octets(6, size - 8) or nil, head, tree, at)
+    local node = tree:add(p.checksum, octets(size - 2, 2))
+    said = string.format("APID %d count %d %s", head.apid, head.count, said)
+    if fault then
+        tree:add(p.fault, fault):set_generated()
+        local right = checksum_of(octets:raw(0, size - 2))
+        node:add_proto_expert_info(e.checksum, string.format("The packet's checksum is 0x%04x", right))
+        said = "wrong checksum, " .. said
+    end
+    return said
+end
+
+-- The packets of a record or of a datagram.
+function pus.dissector(tvb, pinfo, root)
+    pinfo.cols.protocol = "PUS"
+    local rest, said = tvb:len() > 0 and tvb() or nil, {}
+    while rest do
+        local octets, fault = front(rest)
+        said[#said + 1] = packet(octets, fault, {pinfo = pinfo, root = root, number = #said})
+        rest = octets:len() < rest:len() and rest(octets:len()) or nil
+    end
+    pinfo.cols.info = table.concat(said, "; ")
+    return tvb:len()
+end
+
+-- Where packets are.
+
+local encapsulations = wtap_encaps or wtap
+DissectorTable.get("wtap_encap"):add(encapsulations.USER0, pus)
+local datagrams, ports = DissectorTable.get("udp.port"), ""
+datagrams:add_for_decode_as(pus)
+
+function pus.prefs_changed()
+    if ports ~= "" then datagrams:remove(ports, pus) end
+    ports = pus.prefs.udp_ports
+    if ports ~= "" then datagrams:add(ports, pus) end
+end
