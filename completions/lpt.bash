@@ -5,7 +5,7 @@ _lpt() {
     local command='' request='' offered='' i
     for ((i = 1; i < COMP_CWORD; i++)); do
         case $command:${COMP_WORDS[i]} in
-        :run | :threads | :shell | :lint | :chart | :decode | :list | :split | :join | :extract | :request | :help)
+        :run | :threads | :shell | :lint | :chart | :decode | :list | :split | :join | :extract | :link | :spacecraft | :request | :help)
             command=${COMP_WORDS[i]}
             ;;
         request:load | request:dump | request:check | request:help)
@@ -22,6 +22,8 @@ _lpt() {
     split:*) options+=' --parts --count --whole --pcap' ;;
     join:*) options+=' --id --first --any --each --from --to' ;;
     extract:*) options+=' --at --from --fill --whole' ;;
+    link:*) options='--lose --repeat --damage --delay --seed --help --version' ;;
+    spacecraft:*) options+=' --memory --save --tick-every' ;;
     request:load) options+=' --area --ack --count' ;;
     request:dump | request:check) options+=' --ack --count' ;;
     esac
@@ -31,21 +33,22 @@ _lpt() {
         mapfile -t COMPREPLY < <(compgen -f -- "$word")
         return
         ;;
-    *:*:--each:*)
+    join:*:--each:*)
         mapfile -t COMPREPLY < <(compgen -d -- "$word")
         return
         ;;
-    *:*:--from:* | *:*:--to:* | *:*:--at:* | *:*:--fill:* | *:*:--parts:* | *:*:--id:* | *:*:--ack:* | *:*:--count:* | *:*:--area:*)
+    *:*:--from:* | *:*:--to:* | *:*:--at:* | *:*:--fill:* | *:*:--parts:* | *:*:--id:* | *:*:--ack:* | *:*:--count:* | *:*:--area:* | \
+        *:*:--lose:* | *:*:--repeat:* | *:*:--damage:* | *:*:--delay:* | *:*:--seed:* | *:*:--memory:* | *:*:--tick-every:*)
         return
         ;;
-    :*) offered='run threads shell lint chart decode list split join extract request help --help --version' ;;
-    help::help:*) offered='run threads shell lint chart decode list split join extract request help' ;;
+    :*) offered='run threads shell lint chart decode list split join extract link spacecraft request help --help --version' ;;
+    help::help:*) offered='run threads shell lint chart decode list split join extract link spacecraft request help' ;;
     help::request:* | request:help:help:*) offered='load dump check' ;;
     help:* | request:help:*) return ;;
     request::*) offered='load dump check help --help --version' ;;
     *:*:*:-*) offered=$options ;;
     split::split:* | join::join:*) offered='up down' ;;
-    decode:* | shell:*) return ;;
+    decode:* | shell:* | spacecraft:*) return ;;
     *)
         mapfile -t COMPREPLY < <(compgen -f -- "$word")
         return

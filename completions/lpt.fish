@@ -27,9 +27,11 @@ complete -c lpt -n '__lpt_is' -a list -d 'Say what each packet of a stream is'
 complete -c lpt -n '__lpt_is' -a split -d "Write the packets of a message's parts"
 complete -c lpt -n '__lpt_is' -a join -d 'Write the message that packets carry'
 complete -c lpt -n '__lpt_is' -a extract -d 'Write the octets that dump reports hold'
+complete -c lpt -n '__lpt_is' -a link -d 'Carry packets over a link that loses'
+complete -c lpt -n '__lpt_is' -a spacecraft -d 'Take packets as the spacecraft does, and write its reports'
 complete -c lpt -n '__lpt_is' -a request -d 'Write a request to a memory as a telecommand'
 complete -c lpt -n '__lpt_is' -a help -d 'Print the help of a command'
-complete -c lpt -n '__lpt_is help' -a 'run threads shell lint chart decode list split join extract request help'
+complete -c lpt -n '__lpt_is help' -a 'run threads shell lint chart decode list split join extract link spacecraft request help'
 complete -c lpt -n '__lpt_is help request; or __lpt_is request help' -a 'load dump check'
 complete -c lpt -n '__lpt_is request' -a load -d 'Load octets into a memory'
 complete -c lpt -n '__lpt_is request' -a dump -d 'Ask for octets of a memory'
@@ -41,13 +43,13 @@ complete -c lpt -n '__lpt_is split; or __lpt_is join' -a 'up down'
 complete -c lpt -n '__lpt_at run; or __lpt_at threads; or __lpt_at lint; or __lpt_at chart; or __lpt_at list' -F
 complete -c lpt -n '__lpt_at split up; or __lpt_at split down' -F
 complete -c lpt -n '__lpt_at join up; or __lpt_at join down' -F
-complete -c lpt -n '__lpt_at extract' -F
+complete -c lpt -n '__lpt_at extract; or __lpt_at link' -F
 complete -c lpt -n '__lpt_at request load' -F
 
 # Options.
 complete -c lpt -n 'not __lpt_at help; and not __lpt_at request help' -s h -l help -d 'Print help'
 complete -c lpt -n 'not __lpt_at help; and not __lpt_at request help' -s V -l version -d 'Print version'
-for command in run threads shell chart decode list split join extract 'request load' 'request dump' 'request check'
+for command in run threads shell chart decode list split join extract spacecraft 'request load' 'request dump' 'request check'
     complete -c lpt -n "__lpt_at $command" -l config -r -F -d 'The configuration, a TOML file'
 end
 complete -c lpt -n '__lpt_at chart' -l from -x -d 'The first place of the journal that is drawn'
@@ -71,6 +73,14 @@ complete -c lpt -n '__lpt_at extract' -l from -x -d 'The address at which the im
 complete -c lpt -n '__lpt_at extract' -l fill -x -d 'The octet where no area gives one, 0 to 255, 0 without it'
 complete -c lpt -n '__lpt_at extract' -l whole -d 'Write an image only where no octet of it is wanting'
 complete -c lpt -n '__lpt_at request load' -l area -x -d 'Octets for another address'
+complete -c lpt -n '__lpt_at link' -l lose -x -d "How many of the packets aren't written"
+complete -c lpt -n '__lpt_at link' -l repeat -x -d 'How many of them are written twice'
+complete -c lpt -n '__lpt_at link' -l damage -x -d 'Of how many of them bits are changed'
+complete -c lpt -n '__lpt_at link' -l delay -x -d 'How many packets later one is written at most, 0 to 1000'
+complete -c lpt -n '__lpt_at link' -l seed -x -d 'The seed: the same one gives the same run'
+complete -c lpt -n '__lpt_at spacecraft' -l memory -x -d 'A memory, and the file of its first content'
+complete -c lpt -n '__lpt_at spacecraft' -l save -d 'Write the memories back into their files at the end'
+complete -c lpt -n '__lpt_at spacecraft' -l tick-every -x -d 'Set the clock on behind each N packets'
 for command in 'request load' 'request dump' 'request check'
     complete -c lpt -n "__lpt_at $command" -l ack -x -d 'The acknowledgement flags, 0 to 15'
 end

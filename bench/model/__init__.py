@@ -6,6 +6,7 @@ configuration means. In it memory never runs out. It knows no script of more tha
 that can't be read.
 """
 
+from .craft import serve
 from .decoding import complaint, decode
 from .memories import load_body
 from .packets import Name, checksum, hexadecimal, write_command

@@ -13,7 +13,8 @@ from typing import Iterable, Optional
 APART = re.compile(r"(pub )?use |--")
 FURTHER = re.compile(r"unfolding |[ })\]]|$")
 NAME = re.compile(r"(?:pub |abbrev )*([^\s:=]+)")
-ANSWER = re.compile(r"^(?:pub )?\S+ : goal\.(\S+)$", re.MULTILINE)
+# The goal may stand on a line of its own, where both don't fit into one.
+ANSWER = re.compile(r"^(?:pub )?\S+ :(?: |\n +)goal\.(\S+)$", re.MULTILINE)
 # What may stand in a name.
 OF_A_NAME = r"[^\s(){}\[\].,;:=λ→∙]"
 

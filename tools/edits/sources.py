@@ -8,7 +8,7 @@ from dataclasses import dataclass
 from typing import Iterator
 
 FUNCTION = re.compile(r"( *)(?:pub(?:\([a-z]+\))? )?(?:const |unsafe |extern \"C\" )*fn (\w+)")
-IMPL = re.compile(r"impl(?:<.*?>)? (?:(?:\w+::)*(\w+)(?:<.*>)? for )?(\w+)")
+IMPL = re.compile(r"impl(?:<.*?>)? (?:(?:\w+::)*(\w+)(?:<(.*)>)? for )?(\w+)")
 TYPE = re.compile(r"^(?:pub(?:\([a-z]+\))? )?(?:struct|enum|union) (\w+)", re.MULTILINE)
 
 
@@ -34,7 +34,7 @@ def functions_of(path: str, text: str) -> Iterator[Function]:
     for head, line in enumerate(lines):
         impl, function = IMPL.match(line), FUNCTION.match(line)
         if impl:
-            owner, is_own = impl[2] + (impl[1] or ""), not impl[1]
+            owner, is_own = owner_of(impl), not impl[1]
         elif line.startswith("}"):
             owner = None
         if not function or function[1] and owner is None:
@@ -47,6 +47,11 @@ def functions_of(path: str, text: str) -> Iterator[Function]:
             last = lines.index(indent + "}", opening)
             is_plain = "const fn" not in line and (is_own or not indent)
             yield Function(path, indent, whole, first_of(lines, head), head, opening, last, is_plain)
+
+
+def owner_of(impl: re.Match[str]) -> str:
+    """What the methods of an impl go by: its type, its trait, and the unit that this is given."""
+    return impl[3] + (impl[1] or "") + ("Unit" if impl[2] == "()" else "")
 
 
 def opening_of(lines: list[str], head: int, indent: str) -> int:

@@ -9,7 +9,8 @@ use crate::work::status_at_end;
 use lpt_chart::Choice;
 use lpt_chart_script::{Drawing, draw_script};
 use lpt_command_line::ChartWords;
-use lpt_text::{ToolFault, write_out};
+use lpt_text::write_out;
+use lpt_tool::ToolFault;
 
 /// Runs a script on a new world, the one at this path or standard input for `-`, and writes the picture of
 /// what happened. The world is that of the configuration at its own path, if it has one. Standard error is
@@ -39,7 +40,7 @@ pub fn chart(
     let drawn = draw_script(alloc, config, memories, choice, words.refused, &mut source);
     let status = match drawn {
         Ok(drawing) => told(rt, &source, words, drawing),
-        Err(fault) => Err(Failure::from(fault)),
+        Err(fault) => Err(Failure::from(ToolFault::from(fault))),
     };
     drop(source);
     status
@@ -57,6 +58,10 @@ fn told(
         ran,
         events,
     } = drawing;
+    let ran = match ran {
+        Ok(end) => Ok(end),
+        Err(fault) => Err(ToolFault::from(fault)),
+    };
     let written = if events == 0 && matches!(ran, Err(ToolFault::Read)) {
         Ok(())
     } else {

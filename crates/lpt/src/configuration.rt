@@ -7,8 +7,9 @@ use crate::end::Failure;
 use crate::watched::Watched;
 use lpt_events::{Config, Turns};
 use lpt_memory::Memories;
-use lpt_settings::{read_config, why_refused};
-use lpt_text::{End, FromStd, ToolFault, read_text};
+use lpt_settings::{SettingsFault, read_config, why_refused};
+use lpt_text::{End, FromStd, read_text};
+use lpt_tool::ToolFault;
 use std::alloc::{AllocError, Global};
 use std::fs::File;
 use std::io::{Read, Take};
@@ -32,7 +33,7 @@ pub fn read(rt: &HostRuntime, path: Option<&str>) -> Result<(Config, Memories, T
     match str::from_utf8(octets.as_slice()) {
         Ok(text) => match read_config(rt.alloc(), text) {
             Ok(read) => Ok(read),
-            Err(ToolFault::Config) => {
+            Err(SettingsFault::Config) => {
                 let place = complaint(rt.alloc(), path, text);
                 Err(Failure::at(ToolFault::Config, place))
             }
@@ -52,13 +53,9 @@ pub fn read(rt: &HostRuntime, path: Option<&str>) -> Result<(Config, Memories, T
 pub fn alone(rt: &HostRuntime, path: Option<&str>) -> Result<Config, Failure>
     ensures { IfOk result (λ c. IsConfig c) }
 {
-    match read(rt, path) {
-        Ok((config, memories, _)) => {
-            drop(memories);
-            Ok(config)
-        }
-        Err(failure) => Err(failure),
-    }
+    let (config, memories, _) = read(rt, path)?;
+    drop(memories);
+    Ok(config)
 }
 
 // Where the text of the file at this path is refused, and why.

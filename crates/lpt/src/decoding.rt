@@ -11,7 +11,8 @@ use lpt_packet::{Direction, Octets, Packet, PacketKind, Seen, read_packet};
 use lpt_part::{Kind, read_part};
 use lpt_pus::{read_tc, read_tm};
 use lpt_script_words::read_hex;
-use lpt_text::{End, ToolFault, read_text};
+use lpt_text::{End, LONGEST_TEXT, read_text};
+use lpt_tool::ToolFault;
 use std::alloc::AllocError;
 
 /// How many octets of a part's body stand before the part's own.
@@ -81,7 +82,7 @@ fn decode_octets(rt: &HostRuntime, octets: &[u8], p: u32) -> Result<Status, Fail
     requires { IsPartSize p }
 {
     let mut out = output(rt)?;
-    let decoded = lpt_script::decode(rt.alloc(), octets, p, &mut out);
+    let decoded = lpt_tool::decode(rt.alloc(), octets, p, &mut out);
     finish(rt, out)?;
     let is_faulty = decoded?;
     tell_size(rt, octets, p);
@@ -105,7 +106,7 @@ fn text_of(rt: &HostRuntime, source: &mut Incoming) -> Result<Vec<u8>, Failure> 
         End::Whole => Ok(text),
         End::Failed => Err(read_failure(rt, source, STANDARD)),
         End::TooLong => {
-            let place = format!(in rt.alloc(); "standard input: more than 16777216 octets");
+            let place = format!(in rt.alloc(); "standard input: more than {LONGEST_TEXT} octets");
             Err(Failure::at(ToolFault::Read, place))
         }
     }

@@ -5,13 +5,15 @@ ghost use Rattle.lpt_events.specs.Configs.{IsConfig};
 use crate::end::{Failure, Status};
 use crate::input::{Packets, opened_packets, packets_end};
 use crate::joins::{tell, tell_missing, tell_skips, tell_unfit};
+use crate::saving::write_beside;
 use lpt_command_line::JoinWords;
 use lpt_each::{News, Taker, each_stream};
 use lpt_events::Config;
 use lpt_join::Transaction;
 use lpt_packet::Name;
 use lpt_skips::Skips;
-use lpt_text::ToolFault;
+use lpt_text::StreamFault;
+use lpt_tool::ToolFault;
 use std::alloc::AllocError;
 use std::collections::BTreeMap;
 use std::fs;
@@ -38,21 +40,21 @@ impl Taker for Folder<'_> {
 
     ghost heard = { λ _. None };
 
-    fn take(&mut self, name: Name, news: &News) -> Result<(), ToolFault> {
+    fn take(&mut self, name: Name, news: &News) -> Result<(), StreamFault> {
         self.came = true;
         match news {
             News::Given(message) => match self.write(name, message.as_slice()) {
                 Ok(()) => Ok(()),
                 Err(failure) => {
                     self.failure = Some(failure);
-                    Err(ToolFault::Write)
+                    Err(StreamFault::Write)
                 }
             },
             lost => {
                 self.lost = true;
                 match self.tell(name, lost) {
                     Ok(()) => Ok(()),
-                    Err(_) => Err(ToolFault::Memory),
+                    Err(_) => Err(StreamFault::Memory),
                 }
             }
         }
@@ -104,22 +106,7 @@ impl Folder<'_> {
             let place = format!(in rt.alloc(); "{path} is there already");
             return Err(Failure::at(ToolFault::Write, place));
         }
-        let part = match format!(in rt.alloc(); "{path}.part") {
-            Ok(part) => part,
-            Err(_) => return Err(Failure::from(ToolFault::Memory)),
-        };
-        let written = match fs::write(rt, part.as_str(), octets) {
-            Ok(()) => fs::rename(rt, part.as_str(), path),
-            Err(error) => Err(error),
-        };
-        match written {
-            Ok(()) => Ok(()),
-            Err(error) => {
-                let place = format!(in rt.alloc(); "{path}: {error}");
-                let _ = fs::remove_file(rt, part.as_str());
-                Err(Failure::at(ToolFault::Write, place))
-            }
-        }
+        write_beside(rt, path, octets)
     }
 }
 
@@ -176,7 +163,7 @@ fn write_each<'a>(
         part_size: config.part_size,
     };
     let ended = each_stream(rt.alloc(), &transaction, words.any, source, &mut folder);
-    let failed = matches!(ended, Err(ToolFault::Read));
+    let failed = matches!(ended, Err(StreamFault::Read));
     let failure = match packets_end(rt, source, &words.files, failed) {
         Some(failure) => Some(failure),
         None => folder.failure.take(),
@@ -196,7 +183,7 @@ fn status_of(
     words: &JoinWords<'_>,
     came: bool,
     lost: bool,
-    ended: Result<Skips, ToolFault>,
+    ended: Result<Skips, StreamFault>,
 ) -> Result<Status, Failure>
     requires { IsConfig config.now }
 {

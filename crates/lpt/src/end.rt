@@ -2,7 +2,9 @@
 
 use clap::error::ErrorKind;
 use lpt_command_line::{NoCommand, WordFault};
-use lpt_text::ToolFault;
+use lpt_settings::SettingsFault;
+use lpt_text::StreamFault;
+use lpt_tool::ToolFault;
 use std::alloc::{AllocError, Global};
 use std::io;
 
@@ -56,6 +58,21 @@ impl From<ToolFault> for Failure {
             fault,
             quiet: false,
             place: None,
+        }
+    }
+}
+
+impl From<StreamFault> for Failure {
+    fn from(fault: StreamFault) -> Self {
+        Failure::from(ToolFault::from(fault))
+    }
+}
+
+impl From<SettingsFault> for Failure {
+    fn from(fault: SettingsFault) -> Self {
+        match fault {
+            SettingsFault::Config => Failure::from(ToolFault::Config),
+            SettingsFault::Memory => Failure::from(ToolFault::Memory),
         }
     }
 }

@@ -10,7 +10,8 @@ use lpt_extract::{
     ExtractEnd, Extracted, Gap, Listener, Notice, Others, Place, Span, Tally, Wanted,
     extract_stream,
 };
-use lpt_text::ToolFault;
+use lpt_text::StreamFault;
+use lpt_tool::ToolFault;
 use std::alloc::{AllocError, Global};
 
 /// Standard error, which is told of each area, and of each report that isn't read.
@@ -64,22 +65,22 @@ fn extract_packets(
     let mut out = output(rt)?;
     let mut telling = Telling { rt };
     let extracted = extract_stream(rt.alloc(), wanted, source, &mut out, &mut telling);
-    let failed = matches!(extracted, Err(ToolFault::Read));
+    let failed = matches!(extracted, Err(StreamFault::Read));
     let failure = packets_end(rt, source, &words.files, failed);
-    let status = match first_failure(finish(rt, out), failure) {
-        Ok(()) => status_of(rt, wanted, &extracted),
-        Err(failure) => Err(failure),
-    };
+    let finished = first_failure(finish(rt, out), failure);
+    let status = status_of(rt, wanted, finished, &extracted);
     drop(extracted);
     status
 }
 
-// The status of an extraction that ended so.
+// The status of an extraction that ended so, where its output was finished.
 fn status_of(
     rt: &HostRuntime,
     wanted: &Wanted,
-    extracted: &Result<Extracted, ToolFault>,
+    finished: Result<(), Failure>,
+    extracted: &Result<Extracted, StreamFault>,
 ) -> Result<Status, Failure> {
+    finished?;
     match extracted {
         Ok(extracted) => extract_status(rt, wanted, extracted),
         Err(fault) => Err(Failure::from(*fault)),

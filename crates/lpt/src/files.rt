@@ -7,9 +7,8 @@ use crate::input::{Incoming, opened, read_failure};
 use crate::streams::{finish, first_failure, output};
 use lpt_command_line::SplitWords;
 use lpt_events::Config;
-use lpt_files::{SplitEnd, Wanted, split_message};
-use lpt_split::Form;
-use lpt_text::ToolFault;
+use lpt_split::{Form, SplitEnd, Wanted, split_message};
+use lpt_text::StreamFault;
 use std::alloc::{AllocError, Global};
 
 /// Writes the packets of a message's parts.
@@ -38,7 +37,7 @@ fn split_from(
     let mut out = output(rt)?;
     let split = split_message(rt.alloc(), config, wanted, source, &mut out);
     let failure = match split {
-        Err(ToolFault::Read) => Some(read_failure(rt, source, words.file)),
+        Err(StreamFault::Read) => Some(read_failure(rt, source, words.file)),
         _ => None,
     };
     first_failure(finish(rt, out), failure)?;

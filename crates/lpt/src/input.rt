@@ -5,7 +5,8 @@ use crate::recalled::{Kept, Recalled, Script};
 use crate::watched::Watched;
 use lpt_capture::Captured;
 use lpt_sources::{Chain, Span};
-use lpt_text::{FromStd, ToolFault};
+use lpt_text::FromStd;
+use lpt_tool::ToolFault;
 use std::fs::File;
 use std::io::{self, Read, StdinLock};
 

@@ -7,11 +7,14 @@ use crate::input::{Packets, opened_packets, packets_end};
 use crate::streams::{Output, finish, first_failure, output};
 use lpt_command_line::JoinWords;
 use lpt_events::{Config, name_word};
-use lpt_files::{JoinEnd, JoinReport, join_message, join_only, missing_list};
-use lpt_join::{Gatherings, Joining, Misfit, PartNumbers, Transaction, check_message};
+use lpt_join::{
+    Gatherings, JoinEnd, JoinReport, Joining, Misfit, PartNumbers, Transaction, check_message,
+    join_message, join_only, missing_list,
+};
 use lpt_packet::Name;
 use lpt_skips::{Reading, Skips};
-use lpt_text::ToolFault;
+use lpt_text::StreamFault;
+use lpt_tool::ToolFault;
 use std::alloc::{AllocError, Global};
 
 /// What became of the packets of a file.
@@ -47,25 +50,25 @@ fn join_from(
 {
     let mut out = output(rt)?;
     let joined = join_packets(rt.alloc(), config, words, source, &mut out);
-    let failed = matches!(joined, Err(ToolFault::Read));
+    let failed = matches!(joined, Err(StreamFault::Read));
     let failure = packets_end(rt, source, &words.files, failed);
-    let status = match first_failure(finish(rt, out), failure) {
-        Ok(()) => status_of(rt, config, words, &joined),
-        Err(failure) => Err(failure),
-    };
+    let finished = first_failure(finish(rt, out), failure);
+    let status = status_of(rt, config, words, finished, &joined);
     drop(joined);
     status
 }
 
-// The status of a join that ended so.
+// The status of a join that ended so, where its output was finished.
 fn status_of(
     rt: &HostRuntime,
     config: &Config,
     words: &JoinWords<'_>,
-    joined: &Result<Joined, ToolFault>,
+    finished: Result<(), Failure>,
+    joined: &Result<Joined, StreamFault>,
 ) -> Result<Status, Failure>
     requires { IsConfig config.now }
 {
+    finished?;
     match joined {
         Ok(joined) => match told(rt, config, words, joined) {
             Ok(status) => Ok(status),
@@ -82,7 +85,7 @@ fn join_packets(
     words: &JoinWords<'_>,
     source: &mut Packets,
     out: &mut Output<'_>,
-) -> Result<Joined, ToolFault>
+) -> Result<Joined, StreamFault>
     requires { IsConfig config.now }
 {
     let given = words.name.map(|name| name.under(config.source));

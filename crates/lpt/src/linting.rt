@@ -6,6 +6,7 @@ use crate::streams::{finish, output};
 use crate::work::status_after;
 use lpt_script::ScriptEnd;
 use lpt_script_lint::{explain, finding_text};
+use lpt_tool::ToolFault;
 
 /// Writes what is unreadable in a script, the one at this path or standard input for `-`.
 ///
@@ -26,7 +27,7 @@ fn lint_from(rt: &HostRuntime, script: &str, source: &mut Incoming) -> Result<St
         Ok(end) => Ok(ScriptEnd {
             refused: end.unreadable,
         }),
-        Err(fault) => Err(fault),
+        Err(fault) => Err(ToolFault::from(fault)),
     };
     finish(rt, out)?;
     status_after(rt, source.inner().error(), script, ran)

@@ -8,7 +8,7 @@ use crate::streams::{finish, first_failure, output};
 use lpt_command_line::ListWords;
 use lpt_events::Config;
 use lpt_list::{Form, ListEnd, Listed, Tally, list_stream};
-use lpt_text::ToolFault;
+use lpt_text::StreamFault;
 
 /// Lists the packets of a stream.
 ///
@@ -37,7 +37,7 @@ fn list_packets(
     let from = words.span.from.unwrap_or(0);
     let mut out = output(rt)?;
     let listed = list_stream(rt.alloc(), form, size, strict, from, source, &mut out);
-    let failed = matches!(listed, Err(ToolFault::Read));
+    let failed = matches!(listed, Err(StreamFault::Read));
     let failure = packets_end(rt, source, &words.files, failed);
     first_failure(finish(rt, out), failure)?;
     match listed {

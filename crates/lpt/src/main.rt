@@ -18,11 +18,14 @@ mod extracts;
 mod files;
 mod input;
 mod joins;
+mod links;
 mod linting;
 mod lists;
 mod recalled;
 mod requests;
+mod saving;
 mod shelling;
+mod spacecraft;
 mod streams;
 mod watched;
 mod work;
@@ -32,7 +35,7 @@ use end::{Failure, Status};
 use input::STANDARD;
 use lpt_command_line::{Command, CommandLine, JoinWords, read_words};
 use lpt_events::Config;
-use lpt_text::ToolFault;
+use lpt_tool::ToolFault;
 use std::process::ExitCode;
 use std::sync::Wait;
 use std::thread::Threads;
@@ -92,8 +95,10 @@ fn done<T: Threads + Wait + Sync>(
         Command::List(words) => lists::list(rt, &alone(rt, path)?, words),
         Command::Split(words) => files::split(rt, &alone(rt, path)?, words),
         Command::Join(words) => joined(rt, &alone(rt, path)?, words),
+        Command::Link(words) => links::link(rt, words),
         Command::Extract(words) => extracts::extract(rt, &alone(rt, path)?, words),
         Command::Request(words) => requests::request(rt, &alone(rt, path)?, words),
+        Command::Spacecraft(words) => spacecraft::spacecraft(rt, path, words),
     }
 }
 

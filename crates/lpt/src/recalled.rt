@@ -2,13 +2,9 @@
 
 use crate::input::Input;
 use crate::watched::Watched;
-use lpt_script_words::split_line;
-use lpt_text::FromStd;
+use lpt_text::{FromStd, LONGEST_LINE, split_line};
 use std::alloc::Global;
 use std::io::{self, Read};
-
-/// The most octets of a line, with the carriage return that its line feed drops.
-const LONGEST_LINE: usize = 140_000;
 
 /// The octets of a script as they come, which keeps why it failed, and the last lines.
 pub type Script = FromStd<Watched<Recalled>>;
@@ -88,12 +84,8 @@ fn is_line_feed(octet: &u8) -> bool {
 
 impl Read for Recalled {
     fn read(&mut self, buf: &mut [u8]) -> io::Result<usize> {
-        match self.input.read(buf) {
-            Ok(count) => {
-                self.keep(&buf[..count]);
-                Ok(count)
-            }
-            Err(error) => Err(error),
-        }
+        let count = self.input.read(buf)?;
+        self.keep(&buf[..count]);
+        Ok(count)
     }
 }

@@ -10,7 +10,8 @@ use lpt_events::Config;
 use lpt_memory::{Area, MemoryFault};
 use lpt_packet::Octets;
 use lpt_requests::{Range, Request, write_request};
-use lpt_text::{End, ToolFault, read_text, write_out};
+use lpt_text::{End, read_text, write_out};
+use lpt_tool::ToolFault;
 use std::alloc::Global;
 
 /// Writes a request to a memory as a telecommand.

@@ -6,7 +6,7 @@ use lpt_events::Config;
 use lpt_memory::Memories;
 use lpt_script::ScriptEnd;
 use lpt_script_shell::run_shell;
-use lpt_text::ToolFault;
+use lpt_tool::ToolFault;
 use std::io::IsTerminal;
 
 /// What a shell writes before each line, where standard input is a terminal.
@@ -34,6 +34,6 @@ pub fn answer_lines(
     };
     match run_shell(rt.alloc(), config, memories, prompt.as_bytes(), source, out) {
         Ok(refused) => Ok(ScriptEnd { refused }),
-        Err(fault) => Err(fault),
+        Err(fault) => Err(ToolFault::from(fault)),
     }
 }

@@ -2,7 +2,8 @@
 
 use crate::end::Failure;
 use crate::watched::Watched;
-use lpt_text::{FromStd, ToolFault, flush_out};
+use lpt_text::{FromStd, StreamFault, flush_out};
+use lpt_tool::ToolFault;
 use std::io;
 use std::io::{BufWriter, ErrorKind, Printer};
 
@@ -53,7 +54,7 @@ pub fn first_failure(finished: Result<(), Failure>, other: Option<Failure>) -> R
 fn write_failure<W>(
     rt: &HostRuntime,
     writer: &Watched<W>,
-    flushed: Result<(), ToolFault>,
+    flushed: Result<(), StreamFault>,
 ) -> Option<Failure> {
     if let Some(error) = writer.error() {
         let place = format!(in rt.alloc(); "standard output: {error}");

@@ -9,9 +9,10 @@ use crate::shelling::answer_lines;
 use crate::streams::{finish, output};
 use lpt_events::{Config, Turns};
 use lpt_memory::Memories;
-use lpt_script::{ScriptEnd, run_script};
-use lpt_text::ToolFault;
-use lpt_tool::{ThreadsEnd, run_threads_script};
+use lpt_script::ScriptEnd;
+use lpt_share::ShareFault;
+use lpt_text::LONGEST_TEXT;
+use lpt_tool::{ThreadsEnd, ToolFault, run_script, run_threads_script};
 use std::io;
 use std::sync::Wait;
 use std::thread::Threads;
@@ -83,10 +84,8 @@ fn lines_run<T: Threads + Wait + Sync>(
             told_full(rt, turns, ran)
         }
     };
-    match finish(rt, out) {
-        Ok(()) => Ok(ran),
-        Err(failure) => Err(failure),
-    }
+    finish(rt, out)?;
+    Ok(ran)
 }
 
 // How the lines of a script with threads ended, after standard error was told which seats reached
@@ -96,17 +95,13 @@ fn told_full(
     turns: Turns,
     ran: Result<ThreadsEnd, ToolFault>,
 ) -> Result<ScriptEnd, ToolFault> {
-    match ran {
-        Ok(end) => {
-            for seat in &end.full {
-                tell_full(rt, turns, *seat);
-            }
-            Ok(ScriptEnd {
-                refused: end.refused,
-            })
-        }
-        Err(fault) => Err(fault),
+    let end = ran?;
+    for seat in &end.full {
+        tell_full(rt, turns, *seat);
     }
+    Ok(ScriptEnd {
+        refused: end.refused,
+    })
 }
 
 // Says on standard error that a seat reached its limit.
@@ -166,25 +161,25 @@ pub(crate) fn status_after(
             let name = name_of(path);
             let place = match error {
                 Some(error) => format!(in rt.alloc(); "{name}: {error}"),
-                None => format!(in rt.alloc(); "{name}: more than 16777216 octets"),
+                None => format!(in rt.alloc(); "{name}: more than {LONGEST_TEXT} octets"),
             };
             Err(Failure::at(ToolFault::Read, place))
         }
-        Err(ToolFault::Threads(code)) => {
-            let why = threads_words(code);
+        Err(ToolFault::Threads(fault)) => {
+            let (code, why) = (fault.code(), threads_words(fault));
             let place = format!(in rt.alloc(); "fault {code}: {why}");
-            Err(Failure::at(ToolFault::Threads(code), place))
+            Err(Failure::at(ToolFault::Threads(fault), place))
         }
         Err(fault) => Err(Failure::from(fault)),
     }
 }
 
-// Why a run of threads ended by the fault of this number.
-fn threads_words(code: u16) -> &'static str {
-    match code {
-        61 => "something was left to do, or the logs and the journal don't agree",
-        62 => "out of memory",
-        _ => "a thread couldn't be started",
+// Why a run of threads ended by this fault.
+fn threads_words(fault: ShareFault) -> &'static str {
+    match fault {
+        ShareFault::Torn => "something was left to do, or the logs and the journal don't agree",
+        ShareFault::Memory => "out of memory",
+        ShareFault::NoThread => "a thread couldn't be started",
     }
 }
 

@@ -20,7 +20,8 @@ pub known-given : (a : Option (List ℕ)) (h k xs : List ℕ) (n : ℕ)
     → Consumes (prepend_known h a) (prepend_known k a) xs
 known-given None h k xs n front rest = tt
 known-given (Some x) h k xs n front rest =
-    ap (λ f. f ++ x) (sym (take-append-drop n h) ∙ ap (λ f. f ++ drop n h) (sym front) ∙ ap (λ r. xs ++ r) (sym rest))
+    ap (λ f. f ++ x) (sym (take-append-drop n h) ∙ ap (λ f. f ++ drop n h) (sym front)
+    ∙ ap (λ r. xs ++ r) (sym rest))
     ∙ append_assoc xs k x
 
 -- a front part that was copied is one of what is held
@@ -29,7 +30,8 @@ pub copied-front : (held buf copied : List ℕ) (n : ℕ)
     → n ≤ length held
     → take n (copied ++ drop n buf) ≡ take n held
 copied-front held buf copied n is within =
-    let size : length copied ≡ n = ap length is ∙ (let cut = length-take n held in omega (arith, cut, within)) in
+    let size : length copied ≡ n = ap length is
+    ∙ (let cut = length-take n held in omega (arith, cut, within)) in
     take-append-le n copied (drop n buf) (omega (arith, size))
     ∙ ap (take n) is
     ∙ take-take n n held (omega arith)

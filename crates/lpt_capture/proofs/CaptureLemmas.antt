@@ -68,7 +68,8 @@ none-behind : (h b : List ℕ) → b ≡ [] → h ++ b ≡ h
 none-behind h b none = ap (λ k. h ++ k) none ∙ append-nil h
 
 -- where no octets of a record are left, the others are found
-pub none-left : (at : ℕ) (b : List ℕ) (others : List ℕ → Finding) → in_record at 0 b others ≡ others b
+pub none-left : (at : ℕ) (b : List ℕ) (others : List ℕ → Finding) → in_record at 0 b others
+    ≡ others b
 none-left at b others =
     let whole = lt-false (length b) 0 (omega arith) in
     rw whole refl
@@ -114,7 +115,8 @@ pub capture_other : (t : Bool) (h b : List ℕ)
     → found_in (h ++ b) ≡ broken [] (LinkType (number_at t h 20))
 capture_other t h b is whole other =
     capture_whole t h b is whole
-    ∙ ap (λ same. if same then records_of t 24 (drop 24 h ++ b) else broken [] (LinkType (number_at t h 20)))
+    ∙ ap (λ same. if same then records_of t 24 (drop 24 h ++ b) else broken []
+    (LinkType (number_at t h 20)))
     (ne_eqb (number_at t h 20) 147 other)
 
 -- of this one: its records are what is found
@@ -125,7 +127,8 @@ pub capture_records : (t : Bool) (h b : List ℕ)
     → found_in (h ++ b) ≡ in_record 0 0 (drop 24 h ++ b) (records_of t 24)
 capture_records t h b is whole same =
     capture_whole t h b is whole
-    ∙ ap (λ same. if same then records_of t 24 (drop 24 h ++ b) else broken [] (LinkType (number_at t h 20)))
+    ∙ ap (λ same. if same then records_of t 24 (drop 24 h ++ b) else broken []
+    (LinkType (number_at t h 20)))
     (eq-eqb (number_at t h 20) 147 same)
     ∙ sym (none-left 0 (drop 24 h ++ b) (records_of t 24))
 
@@ -183,7 +186,8 @@ pub record_none : (t : Bool) (at : ℕ) (h b : List ℕ)
     → h ≡ []
     → b ≡ []
     → records_of t at (h ++ b) ≡ sound []
-record_none t at h b none end = ap (λ k. records_of t at (k ++ b)) none ∙ ap (records_of t at) end ∙ no-records t at
+record_none t at h b none end = ap (λ k. records_of t at (k ++ b)) none ∙ ap (records_of t at) end
+    ∙ no-records t at
 
 -- one whose header isn't whole
 pub record_short : (t : Bool) (at : ℕ) (h b : List ℕ)
@@ -210,7 +214,8 @@ pub record_whole : (t : Bool) (at : ℕ) (h b : List ℕ)
     → records_of t at (h ++ b)
     ≡ (if (number_at t h 8 == 0) || nat_lt longest_packet (number_at t h 8)
     then broken [] (Size at (number_at t h 8))
-    else in_record at (number_at t h 8) (drop 16 h ++ b) (records_of t (place_behind at (number_at t h 8))))
+    else in_record at (number_at t h 8) (drop 16 h ++ b)
+    (records_of t (place_behind at (number_at t h 8))))
 unfolding records_of
 record_whole t at h b whole =
     let all = h ++ b in
@@ -228,7 +233,8 @@ record_whole t at h b whole =
     let same : length c ≡ n - 16 = ap length (sym rest) ∙ one in
     fuel n (suc n) t at all (omega arith) (omega arith)
     ∙ rw (nonzero, long, size, rest)
-    (ap (λ f. if (s == 0) || nat_lt longest_packet s then broken [] (Size at s) else behind_header at s c f)
+    (ap (λ f. if (s == 0) || nat_lt longest_packet s then broken []
+    (Size at s) else behind_header at s c f)
     (fuel n (length (drop s c)) t place (drop s c) (omega (arith, left, same)) (omega arith)))
 
 abbrev finding : List ℕ → Option CaptureFault → Finding
@@ -258,5 +264,6 @@ pub record_given : (at left : ℕ) (xs b : List ℕ) (others : List ℕ → Find
     → in_record at left (xs ++ b) others ≡ before xs (in_record at (left - length xs) b others)
 record_given at left xs b others within =
     let all : length xs + (left - length xs) ≡ left = omega (arith, within) in
-    subst (λ n. in_record at n (xs ++ b) others ≡ before xs (in_record at (left - length xs) b others)) all
+    subst (λ n. in_record at n (xs ++ b) others
+    ≡ before xs (in_record at (left - length xs) b others)) all
     (given at (left - length xs) xs b others)

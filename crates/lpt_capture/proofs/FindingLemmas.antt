@@ -55,7 +55,8 @@ front-found p q a h k rest n place same end found =
     (gives-behind found_in (found_at q) h k rest (λ b ended. found b (λ short. ended (end short))))
 
 -- octets of a record are given
-pub record-found : (f g : List ℕ → Finding) (at left : ℕ) (others : List ℕ → Finding) (a b : Option (List ℕ)) (xs zs : List ℕ)
+pub record-found : (f g : List ℕ → Finding) (at left : ℕ) (others : List ℕ
+    → Finding) (a b : Option (List ℕ)) (xs zs : List ℕ)
     → Consumes a b xs
     → length xs ≤ left
     → zs ≡ xs
@@ -65,6 +66,7 @@ pub record-found : (f g : List ℕ → Finding) (at left : ℕ) (others : List �
 record-found f g at left others a b xs zs came within same front rest =
     subst (λ ys. Gives (option_map f a) (option_map g b) ys) (sym same)
     (gives-consumed f g a b xs came
-    (λ r. front (xs ++ r) ∙ record_given at left xs r others within ∙ ap (before xs) (sym (rest r))))
+    (λ r. front (xs ++ r) ∙ record_given at left xs r others within
+    ∙ ap (before xs) (sym (rest r))))
 
 -- ---- as a source

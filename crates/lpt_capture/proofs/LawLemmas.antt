@@ -10,7 +10,7 @@ use Rattle.lpt_packet.specs.Packets.{Fields, IsPacket, IsIdle, packet_type, spel
 use Rattle.lpt_packet.specs.Ranges.{InRange}
 use Rattle.lpt_packet.specs.Sizes.{longest_packet}
 use Rattle.lpt_packet.proofs.Codec.{length-spelling, word_at-0}
-use Rattle.lpt_stream.specs.Captures.{capture_header, record_header, record_of, capture_of}
+use Rattle.lpt_capture.specs.Captures.{capture_header, record_header, record_of, capture_of}
 use Rattle.lpt_stream.specs.Streams.{IsPacketOrIdle, IsStream, all_octets}
 use Rattle.lpt_capture.specs.declared.fault.CaptureFault.TheVariants.{Pcapng}
 use Rattle.lpt_capture.specs.Captured.{Finding, sound, broken, before, number_at, order_of, begins_so, is_pcapng, in_record, place_behind, records_of, found_by, found_in}
@@ -73,7 +73,8 @@ record-read time at p rest h =
     let behind = no-more time (length p) in
     ap (records_of false at) (append_assoc head p rest)
     ∙ record_whole false at head (p ++ rest) long
-    ∙ rw (said, some, fits, behind) (at-once at p rest (records_of false (place_behind at (length p))))
+    ∙ rw (said, some, fits, behind)
+    (at-once at p rest (records_of false (place_behind at (length p))))
 
 records-read : (time at : ℕ) (packets : List (List ℕ))
     → IsStream packets
@@ -101,7 +102,9 @@ small-packet : (b : List ℕ) (f : Fields) → IsPacket b f → word_at b 0 < 81
 small-packet b f h =
     let ranges = h.ranges in
     let kind = type-small f.kind in
-    let word : word_at b 0 ≡ packet_type f.kind * 4096 + 2048 + f.apid = ap (λ x. word_at x 0) h.spelled ∙ word_at-0 f h.ranges in
+    let word : word_at b 0
+    ≡ packet_type f.kind * 4096 + 2048 + f.apid = ap (λ x. word_at x 0) h.spelled
+    ∙ word_at-0 f h.ranges in
     omega (arith, word, kind, ranges.apid_fits)
 
 small-idle : (b : List ℕ) → IsIdle b → word_at b 0 < 8192

@@ -1,7 +1,7 @@
 //! What the definitions say of captures, proved of all of them: functions with empty bodies.
 
 ghost use Rattle.std.specs.Prelude.{◌≡◌, ℕ, List};
-ghost use Rattle.lpt_stream.specs.Captures.{capture_of};
+ghost use Rattle.lpt_capture.specs.Captures.{capture_of};
 ghost use Rattle.lpt_stream.specs.Streams.{IsStream, all_octets};
 ghost use Rattle.lpt_capture.specs.Captured.{found_in, sound};
 

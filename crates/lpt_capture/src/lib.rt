@@ -1,8 +1,9 @@
-//! Captures of packets, read: the octets of the records of a file of classic pcap, as they come.
-//! What doesn't begin as a capture is given as it is: a packet begins with three bits of 0, and a
-//! capture never does.
+//! Captures of packets, files of classic pcap: what stands in front of one and of each of its
+//! records, to be written; and the octets of the records, read as they come. What doesn't begin as
+//! a capture is given as it is: a packet begins with three bits of 0, and a capture never does.
 //!
-//! The main type is `Captured`, a source over a source. The first call is `Captured::new`.
+//! The main type is `Captured`, a source over a source. The first calls are `Captured::new`, and
+//! `capture_header` where one is written.
 #![tactic(auto)]
 
 mod ahead;
@@ -11,6 +12,8 @@ mod fault;
 pub mod laws;
 mod numbers;
 mod place;
+mod writing;
 
 pub use captured::Captured;
 pub use fault::CaptureFault;
+pub use writing::{capture_header, record_header};

@@ -3,7 +3,7 @@ use Rattle.std.proofs.Common.{◌≡◌, ◌∙◌, ℕ, ◌+◌, ◌<◌, ◌==
 use Rattle.std.proofs.Math.Seq.{take-suc}
 use Rattle.std.proofs.lemmas.Bool.{ne_eqb}
 use Rattle.lpt_chart_script.specs.Fronts.{whole_lines}
-use Rattle.lpt_script_words.specs.Words.{is_filled}
+use Rattle.lpt_text.specs.Texts.{is_filled}
 
 -- a text with an octet behind it is not empty
 filled_behind : (xs : List ℕ) (b : ℕ) → is_filled (xs ++ b ∷ []) ≡ true

@@ -7,7 +7,7 @@ use Rattle.lpt_script_words.specs.declared.grammar.Reading.{Reading}
 use Rattle.lpt_script_words.specs.declared.grammar.Reading.TheVariants.{Skipped, Asks, Unreadable}
 use Rattle.lpt_script_words.specs.declared.showing.Show.{Show}
 use Rattle.lpt_script_words.specs.Grammar.{reading_of}
-use Rattle.lpt_script_words.specs.Words.{lines}
+use Rattle.lpt_text.specs.Texts.{lines}
 use Rattle.lpt_events.specs.declared.fault.StepFault.{StepFault}
 use Rattle.lpt_world.specs.Worlds.{Shown}
 use Rattle.lpt_script.specs.Scripts.{Ran, line_ran, lines_left, lines_ran, says_now, shows_left, then_rest}

@@ -4,12 +4,13 @@ use Rattle.lpt_chart.specs.declared.choice.Choice.{Choice}
 use Rattle.lpt_chart.specs.declared.refusal.Refusal.{Refusal}
 use Rattle.lpt_chart.specs.Charts.{chart_text}
 use Rattle.lpt_text.specs.Reading.{ReadTo}
-use Rattle.lpt_text.specs.declared.fault.ToolFault.{ToolFault}
-use Rattle.lpt_text.specs.declared.fault.ToolFault.TheVariants as tool
+use Rattle.lpt_text.specs.declared.fault.StreamFault.TheVariants as faults
+use Rattle.lpt_script.specs.declared.fault.ScriptFault.{ScriptFault}
+use Rattle.lpt_script.specs.declared.fault.ScriptFault.TheVariants as scripts
 use Rattle.lpt_text.specs.declared.reading.End.{End}
 use Rattle.lpt_text.specs.declared.reading.End.TheVariants.{Whole, Failed, TooLong}
 use Rattle.lpt_script_words.specs.Grammar.{reading_of}
-use Rattle.lpt_script_words.specs.Words.{lines}
+use Rattle.lpt_text.specs.Texts.{lines}
 use Rattle.lpt_events.specs.declared.fault.StepFault.{StepFault}
 use Rattle.lpt_world.specs.Worlds.{Shown}
 use Rattle.lpt_script.specs.Scripts.{Ran, line_ran, script_left, script_ran}
@@ -78,14 +79,14 @@ run_text c all title run =
     chart_text run.world.config.source c title run.world.journal (drawn_refusals all run.refused)
 
 -- how a script's run ended whose text was read to this end
-abbrev pub ended : End → ℕ → Result ScriptEnd ToolFault
+abbrev pub ended : End → ℕ → Result ScriptEnd ScriptFault
 ended Whole n = Ok (record { refused = n })
-ended Failed n = Err tool.Read
-ended TooLong n = Err tool.Read
+ended Failed n = Err (scripts.Stream faults.Read)
+ended TooLong n = Err (scripts.Stream faults.Read)
 
 -- the same; an unreadable line ends it before
-abbrev pub run_end : End → (refused : ℕ) → (bad : Option ℕ) → Result ScriptEnd ToolFault
-run_end end refused (Some n) = Err (tool.Line n)
+abbrev pub run_end : End → (refused : ℕ) → (bad : Option ℕ) → Result ScriptEnd ScriptFault
+run_end end refused (Some n) = Err (scripts.Line n)
 run_end end refused None = ended end refused
 
 -- the drawing of what these octets leave of a world, which were read to this end

@@ -1,7 +1,7 @@
 -- The title of a script's picture: the first sentence of its first comment. The lines of the comment are
 -- joined by spaces, without their marks, up to a full stop before a space or a line end.
 use Rattle.std.specs.Prelude.{ℕ, ◌==◌, ◌&&◌, ◌||◌, not, Bool, true, false, if◌then◌else◌, List, [], ◌∷◌, ◌++◌, codes, fold}
-use Rattle.lpt_script_words.specs.Words.{is_filled}
+use Rattle.lpt_text.specs.Texts.{is_filled}
 use Rattle.lpt_chart_script.specs.declared.title.Place.{Place}
 use Rattle.lpt_chart_script.specs.declared.title.Place.TheVariants.{Start, Mark, Comment, Other}
 

@@ -13,8 +13,8 @@ use crate::title::title_of;
 use lpt_chart::{Choice, Refusal, chart};
 use lpt_events::{Config, ConfigFault, Entry};
 use lpt_memory::Memories;
-use lpt_script::ScriptEnd;
-use lpt_text::{End, Source, ToolFault, read_text};
+use lpt_script::{ScriptEnd, ScriptFault};
+use lpt_text::{End, Source, StreamFault, read_text};
 use lpt_world::World;
 use std::alloc::{AllocError, Global};
 
@@ -26,7 +26,7 @@ pub struct Drawing {
     pub picture: String,
     /// How the run ended: `Line` at an unreadable line, `Read` where a read failed or more octets came
     /// than a script may have.
-    pub ran: Result<ScriptEnd, ToolFault>,
+    pub ran: Result<ScriptEnd, ScriptFault>,
     /// How many events there were.
     pub events: u64,
 }
@@ -46,11 +46,11 @@ pub fn draw_script<S: Source>(
     choice: Choice,
     all: bool,
     reader: &mut S,
-) -> Result<Drawing, ToolFault>
+) -> Result<Drawing, ScriptFault>
     // The picture and the end are those of what was read.
     ensures draws { IfOk result (λ d. Draws (new_world config memories) choice all d
         (S.remaining reader.old) (S.remaining reader.new) (S.failed reader.old) (S.failed reader.new)) }
-    ensures config { IsErrOf result ToolFault.Config ↔ IsSome (config_fault config) }
+    ensures config { IsErrOf result ScriptFault.Config ↔ IsSome (config_fault config) }
 {
     match World::new(alloc, config, memories) {
         Ok(mut world) => {
@@ -58,8 +58,8 @@ pub fn draw_script<S: Source>(
             drop(world);
             drawn
         }
-        Err(ConfigFault::Memory) => Err(ToolFault::Memory),
-        Err(_) => Err(ToolFault::Config),
+        Err(ConfigFault::Memory) => Err(ScriptFault::Stream(StreamFault::Memory)),
+        Err(_) => Err(ScriptFault::Config),
     }
 }
 
@@ -70,18 +70,18 @@ fn draw_from<S: Source>(
     choice: Choice,
     all: bool,
     reader: &mut S,
-) -> Result<Drawing, ToolFault>
+) -> Result<Drawing, ScriptFault>
     ensures draws { IfOk result (λ d. Draws world.old choice all d
         (S.remaining reader.old) (S.remaining reader.new) (S.failed reader.old) (S.failed reader.new)) }
-    ensures config { result ≢ Err ToolFault.Config }
+    ensures config { result ≢ Err ScriptFault.Config }
 {
     let (text, end) = match read_text(alloc, reader) {
         Ok(read) => read,
-        Err(fault) => return Err(fault),
+        Err(fault) => return Err(ScriptFault::Stream(fault)),
     };
     match draw_text(alloc, world, choice, all, end, text.as_slice()) {
         Ok(drawing) => Ok(drawing),
-        Err(_) => Err(ToolFault::Memory),
+        Err(_) => Err(ScriptFault::Stream(StreamFault::Memory)),
     }
 }
 
@@ -137,13 +137,13 @@ fn draw_front(
 
 // How a script's run ended whose text was read to this end, by how many lines were refused and by the
 // number of an unreadable one.
-fn run_end(end: End, refused: u64, bad: Option<u64>) -> Result<ScriptEnd, ToolFault>
+fn run_end(end: End, refused: u64, bad: Option<u64>) -> Result<ScriptEnd, ScriptFault>
     ensures { result ≡ run_end end refused bad }
 {
     match (bad, end) {
-        (Some(number), _) => Err(ToolFault::Line(number)),
+        (Some(number), _) => Err(ScriptFault::Line(number)),
         (None, End::Whole) => Ok(ScriptEnd { refused }),
-        (None, End::Failed | End::TooLong) => Err(ToolFault::Read),
+        (None, End::Failed | End::TooLong) => Err(ScriptFault::Stream(StreamFault::Read)),
     }
 }
 

@@ -3,13 +3,7 @@
 ghost use Rattle.std.specs.Prelude.{◌≡◌, take};
 ghost use Rattle.lpt_chart_script.specs.Fronts.{cut_text, front_of, whole_lines};
 
-use lpt_text::End;
-
-/// The most octets that a script may have.
-const LIMIT: usize = 16_777_216;
-
-/// The most octets of a line that is read.
-const LONGEST_LINE: usize = 140_000;
+use lpt_text::{End, LONGEST_LINE, LONGEST_TEXT};
 
 // The lines of a text that end in it.
 fn whole_lines(text: &[u8]) -> &[u8]
@@ -54,6 +48,6 @@ pub(crate) fn front_of(end: End, text: &[u8]) -> &[u8]
     match end {
         End::Whole => text,
         End::Failed => cut_text(text),
-        End::TooLong => cut_text(up_to(LIMIT, text)),
+        End::TooLong => cut_text(up_to(LONGEST_TEXT, text)),
     }
 }

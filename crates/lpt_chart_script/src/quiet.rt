@@ -20,7 +20,7 @@ impl Nowhere {
 impl Sink for Nowhere {
     ghost contents = { λ _. None };
 
-    ghost passed = { λ _. None };
+    ghost flushed = { λ _. None };
 
     ghost failed = { λ sink. sink.failed };
 

@@ -3,7 +3,7 @@
 ghost use Rattle.std.specs.Prelude.{◌≡◌, ◌++◌, take, IfOk, OnOk, None};
 ghost use Rattle.lpt_chart_script.specs.Drawings.{LineLeaves, left_by, lines_run, refusals_at};
 ghost use Rattle.lpt_script_words.specs.Grammar.{reading_of};
-ghost use Rattle.lpt_script_words.specs.Words.{lines};
+ghost use Rattle.lpt_text.specs.Texts.{lines};
 ghost use Rattle.lpt_script.specs.Scripts.{command_ran, line_ran};
 
 use crate::front::up_to;
@@ -12,7 +12,8 @@ use lpt_chart::Refusal;
 use lpt_events::StepFault;
 use lpt_packet::Octets;
 use lpt_script::run_command;
-use lpt_script_words::{Command, Reading, read_line, split_line};
+use lpt_script_words::{Command, Reading, read_line};
+use lpt_text::split_line;
 use lpt_world::World;
 use std::alloc::{AllocError, Global};
 

@@ -2,7 +2,7 @@
 
 ghost use Rattle.std.specs.Prelude.{◌≡◌, ◌++◌, fold, IfOk, OnOk};
 ghost use Rattle.lpt_chart_script.specs.Titles.{heading_after, is_over, is_gap, is_stop, leaves, letters_in, letters_of, no_heading, place_behind, place_in, title_of, title_or};
-ghost use Rattle.lpt_script_words.specs.Words.{is_filled};
+ghost use Rattle.lpt_text.specs.Texts.{is_filled};
 
 use std::alloc::{AllocError, Global};
 use std::marker::Model;

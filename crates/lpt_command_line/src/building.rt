@@ -20,6 +20,7 @@ Examples:
   lpt request load 1 0 image            write the telecommand that loads this file
   lpt split up 7 load                   write the packets of this message
   lpt join up --id 7 packets            write the message that they carry
+  lpt link --lose 5% packets            lose one in twenty of these packets
   lpt extract dumps                     write the octets of these dump reports
 
 Statuses:

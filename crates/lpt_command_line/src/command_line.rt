@@ -5,7 +5,9 @@ use crate::extract_words::{ExtractWords, extract_words};
 use crate::file_words::{
     JoinWords, ListWords, SplitWords, check_order, join_words, list_words, split_words,
 };
+use crate::link_words::{LinkWords, link_words};
 use crate::request_words::{RequestWords, request_words};
+use crate::spacecraft_words::{SpacecraftWords, spacecraft_words};
 use crate::word_fault::WordFault;
 use clap::{ArgMatches, Error};
 use std::alloc::{AllocError, Global};
@@ -40,10 +42,14 @@ pub enum Command<'a> {
     Split(SplitWords<'a>),
     /// `join up|down [FILE]..`.
     Join(JoinWords<'a>),
+    /// `link [FILE]..`.
+    Link(LinkWords<'a>),
     /// `extract [FILE]..`.
     Extract(ExtractWords<'a>),
     /// `request load|dump|check MEMORY ..`.
     Request(RequestWords<'a>),
+    /// `spacecraft`.
+    Spacecraft(SpacecraftWords<'a>),
 }
 
 /// What `chart` asks for.
@@ -125,7 +131,9 @@ fn command_of<'a>(
         "list" => Some(Command::List(list_words(alloc, words)?)),
         "split" => Some(Command::Split(split_words(words)?)),
         "join" => Some(Command::Join(join_words(alloc, words)?)),
+        "link" => Some(Command::Link(link_words(alloc, words)?)),
         "extract" => Some(Command::Extract(extract_words(alloc, words)?)),
+        "spacecraft" => Some(Command::Spacecraft(spacecraft_words(alloc, words)?)),
         _ => words.get_str("HEX").map(Command::Decode),
     })
 }

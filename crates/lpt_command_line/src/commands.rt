@@ -1,16 +1,17 @@
 //! The commands, and the words of each.
 
+use crate::passes::{LINK, SPACECRAFT};
 use crate::row::{Family, Named, Need, Row, Word};
 use clap::ArgAction;
 use clap::builder::ValueParser;
 
-const TEXT: ValueParser<'static> = ValueParser::String;
+pub(crate) const TEXT: ValueParser<'static> = ValueParser::String;
 
 const U8: ValueParser<'static> = ValueParser::Signed(0, 255);
 
 const U32: ValueParser<'static> = ValueParser::Signed(0, 4_294_967_295);
 
-const U64: ValueParser<'static> = ValueParser::Unsigned(0, u64::MAX);
+pub(crate) const U64: ValueParser<'static> = ValueParser::Unsigned(0, u64::MAX);
 
 const SCRIPT: Word = Word {
     name: "SCRIPT",
@@ -40,7 +41,7 @@ const PLACES: Word = Word {
     help: "Addresses, each with a number of octets, 1 to 65535",
 };
 
-const PACKETS: Word = Word {
+pub(crate) const PACKETS: Word = Word {
     name: "FILE",
     value: TEXT,
     need: Need::Any(&["-"]),
@@ -65,7 +66,7 @@ const TO: Named = Named {
     help: "The place of the first octet that isn't read any more",
 };
 
-const CONFIG: Named = Named {
+pub(crate) const CONFIG: Named = Named {
     name: "config",
     value: TEXT,
     behind: &["FILE"],
@@ -93,7 +94,7 @@ const ACK: Named = Named {
 };
 
 /// The commands without others below them.
-pub(crate) static COMMANDS: [Row; 10] = [
+pub(crate) static COMMANDS: [Row; 12] = [
     Row {
         name: "run",
         about: "Run a script on a new world",
@@ -316,6 +317,8 @@ pub(crate) static COMMANDS: [Row; 10] = [
             CONFIG,
         ],
     },
+    SPACECRAFT,
+    LINK,
 ];
 
 /// The commands with others below them.

@@ -15,10 +15,14 @@ pub enum WordFault<'a> {
     Length(&'a str),
     /// Behind this address no number of octets stands.
     NoLength(&'a str),
+    /// This one is no percentage.
+    Odds(&'a str),
     /// These two don't stand beside each other.
     Beside(&'static str, &'static str),
     /// What is read would begin at the first of these places, behind the second, where it ends.
     Order(u64, u64),
+    /// This one is no memory's identifier with a file.
+    NoMemory(&'a str),
     /// Standard input is to be read twice.
     Twice,
     /// Memory runs out.
@@ -52,11 +56,19 @@ impl WordFault<'_> {
             WordFault::NoLength(word) => {
                 format!(in alloc; "no '<LENGTH>' stands behind the '<ADDRESS>' {word}")
             }
+            WordFault::Odds(word) => {
+                format!(in alloc; "invalid value '{word}' for '<P>': no percentage of 0% to 100%")
+            }
             WordFault::Beside(one, other) => {
                 format!(in alloc; "the argument '{one}' cannot be used with '{other}'")
             }
             WordFault::Order(from, to) => {
                 format!(in alloc; "'--from {from}' stands behind '--to {to}'")
+            }
+            WordFault::NoMemory(word) => {
+                format!(in alloc;
+                    "invalid value '{word}' for '--memory': no ID=FILE, an ID of 0 to 255"
+                )
             }
             WordFault::Twice => format!(in alloc; "'-' stands twice: standard input is read once"),
             WordFault::Memory => format!(in alloc; "out of memory"),

@@ -68,10 +68,8 @@ fn answer(alloc: Global, link: &mut Link, call: Call) -> Result<u64, LinkFault> 
             Err(_) => Err(LinkFault::Memory),
         },
     };
-    match done {
-        Ok(()) => Ok(0),
-        Err(fault) => Err(fault),
-    }
+    done?;
+    Ok(0)
 }
 
 const ZERO: Name = Name { source: 1, id: 0 };

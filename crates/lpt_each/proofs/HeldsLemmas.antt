@@ -10,7 +10,7 @@ use Rattle.lpt_join.specs.declared.transaction.Transaction.{Transaction}
 use Rattle.lpt_join.specs.Offers.{offered, piece_in}
 use Rattle.lpt_join.specs.Several.{of_name}
 use Rattle.lpt_join.proofs.OtherLemmas.{none_carried}
-use Rattle.lpt_join.proofs.SeveralLemmas.{its_part, no_part, offered-its, offered-other}
+use Rattle.lpt_join.proofs.SeveralLemmas.{its_part, no_part, offered-other}
 use Rattle.lpt_each.specs.declared.held.Held as code
 use Rattle.lpt_each.specs.declared.helds.Helds as codes
 use Rattle.lpt_each.specs.declared.news.News as code_news
@@ -110,15 +110,3 @@ module _ (t : Transaction) (any : Bool) (bs : List (List ℕ)) (b : List ℕ) wh
         → option_map news_of o ≡ (step (of_name t name) any (held (of_name t name) any bs) x).1
         → of name (listed (option_map news_of o)) ≡ told_by t any bs b (piece_in t b)
     told-part o is = ap (λ (w : Option News). of name (listed w)) is ∙ told-is
-
-no_some : (x : ℕ × Kept) → ◌≡◌ {A = Option (ℕ × Kept)} None (Some x) → ⊥
-no_some x h = cc
-
--- a packet that carries a part of a name carries one that is read
-pub no_part_of : (t : Transaction) (name : Name) (b : List ℕ)
-    → Some name ≡ option_map (λ (q : NamedPart). q.name) (piece_in t b)
-    → None ≡ offered (of_name t name) b
-    → ⊥
-no_part_of t name b e none =
-    let its = offered-its t name b e in
-    no_some its.0 (none ∙ its.1)

@@ -3,3 +3,4 @@ pub mod Helds
 pub mod Laws
 pub mod News
 pub mod Streams
+pub mod Tellers

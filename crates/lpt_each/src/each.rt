@@ -1,24 +1,27 @@
 //! The messages of a stream, each of every name, as its packets come.
 
-ghost use Rattle.std.specs.Prelude.{◌≡◌, ◌≢◌, ◌⊎◌, ◌∷◌, ◌++◌, ℕ, List, [], true, None, Err, IfErr, IfOk, IsErrOf, OnOk};
-ghost use Rattle.lpt_stream.specs.Pieces.{packet_before, packets_of};
-ghost use Rattle.lpt_stream.specs.Reads.{IsEndless};
+ghost use Rattle.std.specs.Prelude.{◌≡◌, ◌⊎◌, ◌∷◌, ◌++◌, ℕ, List, [], None, Some, IfErr, IfOk, OnOk};
+ghost use Rattle.lpt_events.specs.NamedParts.{named};
+ghost use Rattle.lpt_part.specs.Parts.{piece};
+ghost use Rattle.lpt_stream.specs.Pieces.{packets_of};
+ghost use Rattle.lpt_stream.specs.Reads.{IsEndless, ReadsPieces};
 ghost use Rattle.lpt_skips.specs.Tallies.{skips_of};
-ghost use Rattle.lpt_join.specs.Reads.{ReadsPieces};
+ghost use Rattle.lpt_text.specs.Streams.{ReadEnds};
 ghost use Rattle.lpt_join.specs.Several.{reading_of};
 ghost use Rattle.lpt_join.specs.Offers.{piece_in};
-ghost use Rattle.lpt_join.specs.declared.transaction.Transaction.{Transaction};
 ghost use Rattle.lpt_each.specs.Helds.{HoldsEach};
-ghost use Rattle.lpt_each.specs.News.{Event, Hears};
-ghost use Rattle.lpt_each.specs.Streams.{Leaves, Tells, events_from, told_by};
+ghost use Rattle.lpt_each.specs.News.{Hears};
+ghost use Rattle.lpt_each.specs.Streams.{Tells, told_by};
 
 use crate::Taker;
 use crate::helds::Helds;
 use crate::leaving::leave;
-use lpt_join::Transaction;
+use lpt_join::{Transaction, named_part_in};
+use lpt_packet::Name;
+use lpt_part::Part;
 use lpt_skips::Skips;
-use lpt_stream::{PacketBuffer, PieceKind};
-use lpt_text::{Source, ToolFault};
+use lpt_stream::{PieceKind, PieceTaker, each_piece};
+use lpt_text::{Source, StreamFault};
 use std::alloc::Global;
 
 /// Reads a stream of packets to its end, and tells the taker of each message of every name, of
@@ -36,88 +39,112 @@ pub fn each_stream<S: Source, T: Taker>(
     any: bool,
     source: &mut S,
     taker: &mut T,
-) -> Result<Skips, ToolFault>
+) -> Result<Skips, StreamFault>
     ensures told { IfOk result (λ skips. ReadsPieces (S.remaining source.old)
         (S.remaining source.new) (λ pieces. Tells transaction.now any (packets_of pieces)
         (T.heard taker.old) (T.heard taker.new)
         × (skips ≡ skips_of (reading_of transaction.now None) pieces))) }
-
-    // Each fault is that of a read, of memory or of the taker.
-    ensures fault { IfErr result (λ e. (e ≡ ToolFault.Read)
-        ⊎ ((e ≡ ToolFault.Write) ⊎ (e ≡ ToolFault.Memory))) }
-    ensures read { IsErrOf result ToolFault.Read → (S.failed source.new ≡ true)
-        ⊎ IsEndless (S.remaining source.old) (S.remaining source.new) }
-    ensures heard { result ≢ Err ToolFault.Read → S.failed source.new ≡ S.failed source.old }
+    ensures reader { ReadEnds (IsEndless (S.remaining source.old) (S.remaining source.new)) result
+        (S.failed source.old) (S.failed source.new) }
 {
-    let mut buffer = PacketBuffer::new(alloc);
-    let mut helds = Helds::new(alloc);
-    let reading = transaction.reading(None);
-    let mut skips = Skips::new();
-    for count in 0..u64::MAX {
-        let found = match buffer.find_piece(source) {
-            Ok(Some(found)) => found,
-            Ok(None) => match leave(helds, taker) {
-                Ok(()) => return Ok(skips),
-                Err(fault) => return Err(fault),
-            },
-            Err(fault) => return Err(fault),
+    let helds = Helds::new(alloc);
+    let skips = Skips::new();
+    let first = Teller {
+        transaction: *transaction,
+        any,
+        helds,
+        skips,
+    };
+    let last = match each_piece(alloc, source, first, taker) {
+        Ok(last) => last,
+        Err(fault) => return Err(fault),
+    };
+    match leave(last.helds, taker) {
+        Ok(()) => Ok(last.skips),
+        Err(fault) => Err(fault),
+    }
+}
+
+// What a stream's pieces have given of each name so far, while the taker is told.
+#[derive(Drop)]
+struct Teller {
+    // The others are read as this one is.
+    transaction: Transaction,
+    any: bool,
+    helds: Helds,
+    // What was passed over.
+    skips: Skips,
+}
+
+impl<T: Taker> PieceTaker<T> for Teller {
+    ghost use Rattle.std.specs.Prelude.{◌≡◌, ◌⊎◌};
+    ghost use Rattle.lpt_text.specs.declared.fault.StreamFault.TheVariants as faults;
+    ghost use Rattle.lpt_each.specs.Tellers.{IsTold};
+
+    ghost takes = { λ first now old new pieces. IsTold first now (T.heard old) (T.heard new) pieces };
+
+    ghost fails = { λ e. (e ≡ faults.Write) ⊎ (e ≡ faults.Memory) };
+
+    fn take(
+        self,
+        alloc: Global,
+        lent: &mut T,
+        _place: u64,
+        kind: PieceKind,
+        octets: &[u8],
+    ) -> Result<Teller, StreamFault> {
+        let Teller {
+            transaction,
+            any,
+            helds,
+            mut skips,
+        } = self;
+        let Some((name, part)) = named_part_in(kind, octets, &transaction) else {
+            skips.note(&transaction.reading(None), kind, octets);
+            return Ok(Teller {
+                transaction,
+                any,
+                helds,
+                skips,
+            });
         };
-        let octets = &buffer.held()[..found.len];
-        skips.note(&reading, found.kind, octets);
-        match take_piece(alloc, transaction, any, found.kind, octets, helds, taker) {
-            Ok(more) => helds = more,
-            Err(fault) => return Err(fault),
+        match take_part(alloc, &transaction, any, name, &part, helds, lent) {
+            Ok(helds) => Ok(Teller {
+                transaction,
+                any,
+                helds,
+                skips,
+            }),
+            Err(fault) => Err(fault),
         }
-        buffer.skip(found);
-    }
-    Err(ToolFault::Read)
-}
-
-// Takes a piece of a stream: a packet, or what is none and tells nothing.
-fn take_piece<T: Taker>(
-    alloc: Global,
-    transaction: &Transaction,
-    any: bool,
-    kind: PieceKind,
-    octets: &[u8],
-    helds: Helds,
-    taker: &mut T,
-) -> Result<Helds, ToolFault>
-    requires { (bs : List (List ℕ)) × HoldsEach transaction.now any bs helds }
-    ensures held { (bs : List (List ℕ)) → HoldsEach transaction.now any bs helds → IfOk result
-        (HoldsEach transaction.now any (bs ++ packet_before kind octets.now [])) }
-    ensures told { (bs : List (List ℕ)) → HoldsEach transaction.now any bs helds → OnOk result
-        (Hears (T.heard taker.old) (T.heard taker.new)
-        (events_from transaction.now any bs (packet_before kind octets.now []))) }
-    ensures fault { IfErr result (λ e. (e ≡ ToolFault.Write) ⊎ (e ≡ ToolFault.Memory)) }
-{
-    match kind {
-        PieceKind::Whole => take_packet(alloc, transaction, any, octets, helds, taker),
-        PieceKind::Damaged => Ok(helds),
-        PieceKind::Stray => Ok(helds),
     }
 }
 
-// Takes a packet.
-fn take_packet<T: Taker>(
+// Takes a part of this name that a packet carries.
+fn take_part<T: Taker>(
     alloc: Global,
     transaction: &Transaction,
     any: bool,
-    octets: &[u8],
+    name: Name,
+    part: &Part<'_>,
     helds: Helds,
     taker: &mut T,
-) -> Result<Helds, ToolFault>
-    requires { (bs : List (List ℕ)) × HoldsEach transaction.now any bs helds }
-    ensures held { (bs : List (List ℕ)) → HoldsEach transaction.now any bs helds → IfOk result
-        (HoldsEach transaction.now any (bs ++ octets.now ∷ [])) }
-    ensures told { (bs : List (List ℕ)) → HoldsEach transaction.now any bs helds → OnOk result
-        (Hears (T.heard taker.old) (T.heard taker.new)
-        (told_by transaction.now any bs octets.now (piece_in transaction.now octets.now))) }
-    ensures fault { IfErr result (λ e. (e ≡ ToolFault.Write) ⊎ (e ≡ ToolFault.Memory)) }
+) -> Result<Helds, StreamFault>
+    requires each { (bs : List (List ℕ)) × HoldsEach transaction.now any bs helds }
+    requires id { part.now.id ≡ name.id }
+    requires size { part.now.p ≡ transaction.now.part_size }
+    ensures held { (bs : List (List ℕ)) (octets : List ℕ) → HoldsEach transaction.now any bs helds
+        → Some (named name.source (piece part.now)) ≡ piece_in transaction.now octets
+        → IfOk result (HoldsEach transaction.now any (bs ++ octets ∷ [])) }
+    ensures told { (bs : List (List ℕ)) (octets : List ℕ) → HoldsEach transaction.now any bs helds
+        → Some (named name.source (piece part.now)) ≡ piece_in transaction.now octets
+        → OnOk result (Hears (T.heard taker.old) (T.heard taker.new)
+        (told_by transaction.now any bs octets (piece_in transaction.now octets))) }
+    ensures fault { IfErr result (λ e. (e ≡ StreamFault.Write) ⊎ (e ≡ StreamFault.Memory)) }
 {
-    let (helds, event) = match helds.take(alloc, transaction, any, octets) {
+    let (helds, event) = match helds.take(alloc, transaction, any, name, part) {
         Ok(taken) => taken,
-        Err(_) => return Err(ToolFault::Memory),
+        Err(_) => return Err(StreamFault::Memory),
     };
     let Some((name, news)) = event else {
         return Ok(helds);

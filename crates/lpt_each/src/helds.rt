@@ -3,6 +3,8 @@
 ghost use Rattle.std.specs.Prelude.{◌≡◌, ℕ, Bool, List, [], ◌∷◌, ◌++◌, false, Some, IfOk, OnOk};
 ghost use Rattle.std.specs.BTreeMap.{get, IsOrdered};
 ghost use Rattle.lpt_packet.specs.Names.{Name, name_cmp, same_name};
+ghost use Rattle.lpt_events.specs.NamedParts.{named};
+ghost use Rattle.lpt_part.specs.Parts.{piece};
 ghost use Rattle.lpt_join.specs.declared.transaction.Transaction.{Transaction};
 ghost use Rattle.lpt_join.specs.Offers.{piece_in};
 ghost use Rattle.lpt_join.specs.Several.{of_name};
@@ -12,8 +14,9 @@ ghost use Rattle.lpt_each.specs.Streams.{told_by};
 
 use crate::News;
 use crate::held::Held;
-use lpt_join::{Transaction, name_in, part_in};
+use lpt_join::Transaction;
 use lpt_packet::Name;
+use lpt_part::Part;
 use std::alloc::{AllocError, Global};
 use std::collections::BTreeMap;
 
@@ -33,31 +36,33 @@ impl Helds {
         }
     }
 
-    // Takes a packet, and gives what it tells. The only error is out of memory.
+    // Takes a part of this name that a packet carries, and gives what it tells. The only error is out of
+    // memory.
     pub(crate) fn take(
         self,
         alloc: Global,
         transaction: &Transaction,
         any: bool,
-        octets: &[u8],
+        name: Name,
+        part: &Part<'_>,
     ) -> Result<(Helds, Option<(Name, News)>), AllocError>
-        requires { (bs : List (List ℕ)) × HoldsEach transaction.now any bs self }
-        ensures held { (bs : List (List ℕ)) → HoldsEach transaction.now any bs self → IfOk result
-            (λ r. HoldsEach transaction.now any (bs ++ octets.now ∷ []) r.0) }
-        ensures told { (bs : List (List ℕ)) → HoldsEach transaction.now any bs self → IfOk result
-            (λ r. events_of r.1
-            ≡ told_by transaction.now any bs octets.now (piece_in transaction.now octets.now)) }
+        requires each { (bs : List (List ℕ)) × HoldsEach transaction.now any bs self }
+        requires id { part.now.id ≡ name.id }
+        requires size { part.now.p ≡ transaction.now.part_size }
+        ensures held { (bs : List (List ℕ)) (octets : List ℕ)
+            → HoldsEach transaction.now any bs self
+            → Some (named name.source (piece part.now)) ≡ piece_in transaction.now octets
+            → IfOk result (λ r. HoldsEach transaction.now any (bs ++ octets ∷ []) r.0) }
+        ensures told { (bs : List (List ℕ)) (octets : List ℕ)
+            → HoldsEach transaction.now any bs self
+            → Some (named name.source (piece part.now)) ≡ piece_in transaction.now octets
+            → IfOk result (λ r. events_of r.1
+            ≡ told_by transaction.now any bs octets (piece_in transaction.now octets)) }
     {
-        let Some(name) = name_in(octets, transaction) else {
-            return Ok((self, None));
-        };
         let own = transaction.of_name(name);
-        let Some(part) = part_in(octets, &own) else {
-            return Ok((self, None));
-        };
         let mut helds = self;
         let held = helds.take_out(alloc, name);
-        let (held, news) = held.take(alloc, &own, any, &part)?;
+        let (held, news) = held.take(alloc, &own, any, part)?;
         helds.put(name, held)?;
         match news {
             None => Ok((helds, None)),

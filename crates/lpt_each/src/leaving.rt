@@ -11,14 +11,14 @@ use crate::held::Held;
 use crate::helds::Helds;
 use crate::{News, Taker};
 use lpt_packet::Name;
-use lpt_text::ToolFault;
+use lpt_text::StreamFault;
 
 // Tells what is left of each name, in the order of names.
-pub(crate) fn leave<T: Taker>(helds: Helds, taker: &mut T) -> Result<(), ToolFault>
+pub(crate) fn leave<T: Taker>(helds: Helds, taker: &mut T) -> Result<(), StreamFault>
     ensures told { (t : Transaction) (any : Bool) (bs : List (List ℕ)) → HoldsEach t any bs helds
         → OnOk result ((es : List Event) × Leaves t any bs es
         × Hears (T.heard taker.old) (T.heard taker.new) es) }
-    ensures fault { IfErr result (λ e. (e ≡ ToolFault.Write) ⊎ (e ≡ ToolFault.Memory)) }
+    ensures fault { IfErr result (λ e. (e ≡ StreamFault.Write) ⊎ (e ≡ StreamFault.Memory)) }
 {
     let mut kept = helds.kept;
     while let Some((name, held)) = kept.pop_first() {
@@ -31,10 +31,10 @@ pub(crate) fn leave<T: Taker>(helds: Helds, taker: &mut T) -> Result<(), ToolFau
 }
 
 // Tells what is left of a name.
-fn tell_left<T: Taker>(name: Name, held: Held, taker: &mut T) -> Result<(), ToolFault>
+fn tell_left<T: Taker>(name: Name, held: Held, taker: &mut T) -> Result<(), StreamFault>
     ensures told { (t : Transaction) (h : each.Held) → Holds t held h → OnOk result
         (Hears (T.heard taker.old) (T.heard taker.new) (of name (each.left h))) }
-    ensures fault { IfErr result (λ e. (e ≡ ToolFault.Write) ⊎ (e ≡ ToolFault.Memory)) }
+    ensures fault { IfErr result (λ e. (e ≡ StreamFault.Write) ⊎ (e ≡ StreamFault.Memory)) }
 {
     if held.is_empty() {
         return Ok(());

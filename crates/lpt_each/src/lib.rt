@@ -19,5 +19,5 @@ pub use each::each_stream;
 pub use lpt_join::{Misfit, PartNumbers, Transaction};
 pub use lpt_packet::{Name, Octets};
 pub use lpt_skips::Skips;
-pub use lpt_text::{Source, ToolFault};
+pub use lpt_text::{Source, StreamFault};
 pub use news::{News, Taker};

@@ -2,7 +2,7 @@
 
 use lpt_join::{Misfit, PartNumbers};
 use lpt_packet::{Name, Octets};
-use lpt_text::ToolFault;
+use lpt_text::StreamFault;
 
 /// What became of the parts of a name.
 #[derive(Drop)]
@@ -27,8 +27,8 @@ pub trait Taker {
     /// Is told something more.
     ///
     /// Errors: `Write` where it couldn't be written; `Memory`.
-    fn take(&mut self, name: Name, news: &News) -> Result<(), ToolFault>
+    fn take(&mut self, name: Name, news: &News) -> Result<(), StreamFault>
         ensures heard { OnOk result (Hears (heard self.old) (heard self.new)
             ((name, news_of news.now) ∷ [])) }
-        ensures fault { IfErr result (λ e. (e ≡ ToolFault.Write) ⊎ (e ≡ ToolFault.Memory)) };
+        ensures fault { IfErr result (λ e. (e ≡ StreamFault.Write) ⊎ (e ≡ StreamFault.Memory)) };
 }

@@ -6,9 +6,9 @@ use Rattle.std.proofs.lemmas.List.Elements.{filter-append}
 use Rattle.std.proofs.KnownBytes.{Appends-kept, Appends-nil, Appends-trans}
 use Rattle.std.specs.Io.KnownBytes.{Appends, Keeps}
 use Rattle.lpt_text.specs.Streams.{AppendsPart}
-use Rattle.lpt_stream.specs.Pieces.{Piece}
+use Rattle.lpt_stream.specs.Pieces.{Piece, octets_in, up_to_limit}
 use Rattle.lpt_text.proofs.StreamLemmas.{part_after, part_of_front, part_of_nothing, part_whole}
-use Rattle.lpt_text.specs.declared.fault.ToolFault.TheVariants as tool
+use Rattle.lpt_text.specs.declared.fault.StreamFault.TheVariants as faults
 use Rattle.lpt_memory.specs.declared.request.Area.{Area}
 use Rattle.lpt_memory.specs.Meanings.{area}
 use Rattle.lpt_extract.specs.declared.extracted.ExtractEnd.{ExtractEnd}
@@ -25,9 +25,9 @@ use Rattle.lpt_extract.specs.Areas.{all_octets, end_of, extent}
 use Rattle.lpt_extract.specs.Extracts.{is_of, start, whole_areas, written, written_first, areas_in, notices_at, notices_in, areas_of, notices_of, Ends, LeavesFront}
 use Rattle.lpt_extract.specs.CoversInside.{gaps_of}
 use Rattle.lpt_extract.specs.Gaps.{is_given, AreGaps}
-use Rattle.lpt_extract.specs.ExtractsInside.{given, size_of, told_of, written_last, EndsBy, HasImage, Held}
+use Rattle.lpt_extract.specs.ExtractsInside.{given, told_of, written_last, EndsBy, HasImage, Held}
 use Rattle.lpt_extract.specs.ImagesInside.{end_of_image, octets_of_image}
-use Rattle.lpt_extract.specs.Notices.{is_whole, notice, span, up_to_limit, Hears}
+use Rattle.lpt_extract.specs.Notices.{is_whole, notice, span, Hears}
 use Rattle.lpt_extract.proofs.ImageLemmas.{extent-more, image-none}
 use Rattle.lpt_extract.specs.Reports.{Saying, Areas, report_in}
 use Rattle.lpt_extract.specs.ReportsInside.{load_area}
@@ -89,15 +89,10 @@ given-split n xs = sym (given-append (take n xs) (drop n xs)) ∙ ap given (take
 pub areas-append : (w : Wanted) (xs ys : List (List ℕ)) → areas_in w (xs ++ ys) ≡ areas_in w xs ++ areas_in w ys
 areas-append w xs ys = flat_map-append (λ b. areas_of w.at (report_in w.apid b)) xs ys
 
--- the octets of a piece more
-pub size-next : (ps : List Piece) (p : Piece) → size_of (ps ++ p ∷ []) ≡ size_of ps + length p.octets
-size-next [] p = omega arith
-size-next (q ∷ ps) p = let rest = size-next ps p in omega (arith, rest)
-
 -- what is told of a piece more
 pub notices-next : (w : Wanted) (n : ℕ) (ps : List Piece) (p : Piece)
     → notices_in w n (ps ++ p ∷ [])
-    ≡ notices_in w n ps ++ notices_at w (up_to_limit (n + size_of ps)) p.kind p.octets
+    ≡ notices_in w n ps ++ notices_at w (up_to_limit (n + octets_in ps)) p.kind p.octets
 notices-next w n [] p =
     append-nil (notices_at w (up_to_limit n) p.kind p.octets)
     ∙ ap (λ k. notices_at w (up_to_limit k) p.kind p.octets) (omega arith)
@@ -260,8 +255,8 @@ ends-by (Some p) areas u NotWhole a b c h k = (k.0, k.1, k.2, Appends-trans a b 
 -- a front part of what is written first
 pub leaves-first : (at : Option Place) (areas : List Area) (a b : Option (List ℕ))
     → AppendsPart a b (written_first at areas)
-    → LeavesFront tool.Memory at areas a b × LeavesFront tool.Read at areas a b
-    × LeavesFront tool.Write at areas a b
+    → LeavesFront faults.Memory at areas a b × LeavesFront faults.Read at areas a b
+    × LeavesFront faults.Write at areas a b
 leaves-first at areas a b h = (
   h,
   h,
@@ -273,7 +268,7 @@ leaves-first at areas a b h = (
 pub leaves-last : (at : Option Place) (areas : List Area) (a b c : Option (List ℕ))
     → Appends a b (written_first at areas)
     → AppendsPart b c (written_last at areas)
-    → LeavesFront tool.Write at areas a c
+    → LeavesFront faults.Write at areas a c
 leaves-last at areas a b c h k =
     subst (AppendsPart a c) (written-both at areas) (part_after a b c _ _ h k)
 

@@ -3,21 +3,19 @@ use Rattle.std.proofs.Common.{◌≡◌, ◌∙◌, ap, sym, subst, refl, ℕ, �
 use Rattle.std.proofs.KnownBytes.{Appends-kept}
 use Rattle.std.specs.Prelude.{IfOk, IfErr}
 use Rattle.std.specs.Io.KnownBytes.{Appends, Consumes, Keeps}
-use Rattle.lpt_stream.specs.Buffers.{FindsPassing}
-use Rattle.lpt_stream.specs.declared.buffer.PacketBuffer.{PacketBuffer}
-use Rattle.lpt_stream.specs.Pieces.{Piece, Leads, packet_before, packets_of}
-use Rattle.lpt_stream.proofs.CutLemmas.{packets-next}
-use Rattle.lpt_text.specs.declared.fault.ToolFault.{ToolFault}
-use Rattle.lpt_text.specs.declared.fault.ToolFault.TheVariants as tool
+use Rattle.lpt_stream.specs.Pieces.{Piece, Leads, packet_before, packets_of, octets_in, up_to_limit}
+use Rattle.lpt_stream.proofs.CutLemmas.{octets-next, packets-next}
+use Rattle.lpt_text.specs.declared.fault.StreamFault.{StreamFault}
+use Rattle.lpt_text.specs.declared.fault.StreamFault.TheVariants as faults
 use Rattle.lpt_text.specs.Streams.{AppendsPart}
 use Rattle.lpt_memory.specs.declared.request.Area.{Area}
 use Rattle.lpt_extract.specs.declared.holding.Holding.{Holding}
 use Rattle.lpt_extract.specs.declared.notice.Notice.{Notice}
 use Rattle.lpt_extract.specs.declared.wanted.Wanted.{Wanted}
 use Rattle.lpt_extract.specs.Extracts.{areas_in, notices_at, notices_in, written_first, ExtractLeaves, LeavesFront}
-use Rattle.lpt_extract.specs.ExtractsInside.{size_of, Held}
-use Rattle.lpt_extract.specs.Notices.{up_to_limit, Hears}
-use Rattle.lpt_extract.proofs.GiveLemmas.{areas-append, notices-next, size-next, held-as, hears-more, hears-nothing, wrote-none, wrote-more, part-more, leaves-first}
+use Rattle.lpt_extract.specs.ExtractsInside.{Held}
+use Rattle.lpt_extract.specs.Notices.{Hears}
+use Rattle.lpt_extract.proofs.GiveLemmas.{areas-append, notices-next, held-as, hears-more, hears-nothing, wrote-none, wrote-more, part-more, leaves-first}
 
 -- what pieces give was held, written and told, and the place behind them is known
 pub record Taken (w : Wanted) (h : Holding) (place : ℕ) (old new : Option (List ℕ))
@@ -25,7 +23,7 @@ pub record Taken (w : Wanted) (h : Holding) (place : ℕ) (old new : Option (Lis
   pub held : Held w.at (areas_in w (packets_of ps)) (notices_in w 0 ps) h
   pub wrote : Appends old new (written_first w.at (areas_in w (packets_of ps)))
   pub told : Hears heard hears (notices_in w 0 ps)
-  pub place_is : place ≡ up_to_limit (size_of ps)
+  pub place_is : place ≡ up_to_limit (octets_in ps)
 
 -- nothing was taken of no pieces
 pub taken-none : (w : Wanted) (h : Holding) (old : Option (List ℕ)) (heard : Option (List Notice))
@@ -77,7 +75,7 @@ taken-next w h k place behind old mid new heard hear hears ps p was held wrote t
       wrote = subst (λ areas. Appends old new (written_first w.at areas)) (sym (areas-next w ps p))
           (wrote-more w.at old mid new _ _ was.wrote wrote);
       told = subst (Hears heard hears) next (hears-more heard hear hears _ _ was.told told);
-      place_is = omega (arith, further, was.place_is, size-next ps p);
+      place_is = omega (arith, further, was.place_is, octets-next ps p);
     }
 
 -- a front part of what it gives was written
@@ -109,32 +107,10 @@ if-err P Q R (Err e) f h k = f e h k
 
 -- ---- faults
 
--- what was read of a stream in which no piece was found
-pub find-lost : (fault : ToolFault) (old new : PacketBuffer) (a b : Option (List ℕ)) (had failed : Bool)
-    → FindsPassing (Err fault) old new a b had failed
-    → (lost : List ℕ) × Consumes a b lost
-find-lost tool.Read old new a b had failed h = (h.0, h.1)
-find-lost tool.Memory old new a b had failed h = (h.0, h.1)
-find-lost tool.Write old new a b had failed h = (h.0, h.1.added.consumed)
-find-lost tool.Config old new a b had failed h = absurd h
-find-lost (tool.Line n) old new a b had failed h = absurd h
-find-lost (tool.Threads n) old new a b had failed h = absurd h
-
--- which faults there are, and that only a read fails a source
-pub find-fault : (fault : ToolFault) (old new : PacketBuffer) (a b : Option (List ℕ)) (had failed : Bool)
-    → FindsPassing (Err fault) old new a b had failed
-    → (fault ≡ tool.Read) ⊎ ((fault ≡ tool.Write) ⊎ (fault ≡ tool.Memory))
-find-fault tool.Read old new a b had failed h = inl refl
-find-fault tool.Memory old new a b had failed h = inr (inr refl)
-find-fault tool.Write old new a b had failed h = inr (inl refl)
-find-fault tool.Config old new a b had failed h = absurd h
-find-fault (tool.Line n) old new a b had failed h = absurd h
-find-fault (tool.Threads n) old new a b had failed h = absurd h
-
 module _ (w : Wanted) (before after : Option (List ℕ)) (stream others : List ℕ) (pieces : List Piece)
     (in_step : Bool) (rest : List ℕ) (consumed : Consumes before after (stream ++ others))
     (leads : Leads true stream pieces in_step rest) (old new : Option (List ℕ)) where
-  left : (e : ToolFault)
+  left : (e : StreamFault)
       → LeavesFront e w.at (areas_in w (packets_of pieces)) old new
       → ExtractLeaves w e before after old new
   left e front = record {
@@ -149,25 +125,25 @@ module _ (w : Wanted) (before after : Option (List ℕ)) (stream others : List �
   }
 
   -- a read or a write failed, or memory ran out
-  pub left-first : (e : ToolFault)
-      → (e ≡ tool.Read) ⊎ ((e ≡ tool.Write) ⊎ (e ≡ tool.Memory))
+  pub left-first : (e : StreamFault)
+      → (e ≡ faults.Read) ⊎ ((e ≡ faults.Write) ⊎ (e ≡ faults.Memory))
       → AppendsPart old new (written_first w.at (areas_in w (packets_of pieces)))
       → ExtractLeaves w e before after old new
   left-first e is part =
       let leaves = leaves-first w.at (areas_in w (packets_of pieces)) old new part in
-      let at : (f : ToolFault)
+      let at : (f : StreamFault)
       → LeavesFront f w.at (areas_in w (packets_of pieces)) old new → e ≡ f → ExtractLeaves w e before after old new =
       λ f front same.
       left e (subst (λ f. LeavesFront f w.at (areas_in w (packets_of pieces)) old new) (sym same) front) in
       elim is [
-        | inl r ↦ at tool.Read leaves.1 r
-        | inr o ↦ elim o [ inl r ↦ at tool.Write leaves.2 r | inr r ↦ at tool.Memory leaves.0 r ]
+        | inl r ↦ at faults.Read leaves.1 r
+        | inr o ↦ elim o [ inl r ↦ at faults.Write leaves.2 r | inr r ↦ at faults.Memory leaves.0 r ]
       ]
 
   -- the last write failed
-  pub left-last : (e : ToolFault)
-      → e ≡ tool.Write
-      → LeavesFront tool.Write w.at (areas_in w (packets_of pieces)) old new
+  pub left-last : (e : StreamFault)
+      → e ≡ faults.Write
+      → LeavesFront faults.Write w.at (areas_in w (packets_of pieces)) old new
       → ExtractLeaves w e before after old new
   left-last e is front =
       left e (subst (λ f. LeavesFront f w.at (areas_in w (packets_of pieces)) old new) (sym is) front)

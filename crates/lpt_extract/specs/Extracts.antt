@@ -3,11 +3,11 @@ use Rattle.std.specs.Prelude.{◌≡◌, ◌<◌, ◌≤◌, ◌==◌, ◌+◌, 
 use Rattle.std.specs.List.{flat_map}
 use Rattle.std.specs.Io.KnownBytes.{Appends, Consumes, IsAtEnd}
 use Rattle.lpt_text.specs.Streams.{AppendsPart}
-use Rattle.lpt_text.specs.declared.fault.ToolFault.{ToolFault}
-use Rattle.lpt_text.specs.declared.fault.ToolFault.TheVariants as tool
+use Rattle.lpt_text.specs.declared.fault.StreamFault.{StreamFault}
+use Rattle.lpt_text.specs.declared.fault.StreamFault.TheVariants as faults
 use Rattle.lpt_stream.specs.declared.piece_kind.PieceKind.{PieceKind}
 use Rattle.lpt_stream.specs.declared.piece_kind.PieceKind.TheVariants.{Whole, Damaged, Stray}
-use Rattle.lpt_stream.specs.Pieces.{Piece, Cuts, Leads, packets_of}
+use Rattle.lpt_stream.specs.Pieces.{Piece, Cuts, Leads, packets_of, up_to_limit}
 use Rattle.lpt_memory.specs.declared.request.Area.{Area}
 use Rattle.lpt_memory.specs.Meanings.{area}
 use Rattle.lpt_memory.specs.Requests.{LoadArea}
@@ -21,7 +21,7 @@ use Rattle.lpt_extract.specs.declared.wanted.Place.{Place}
 use Rattle.lpt_extract.specs.declared.wanted.Wanted.{Wanted}
 use Rattle.lpt_extract.specs.Areas.{all_octets, extent, image, image_limit}
 use Rattle.lpt_extract.specs.Gaps.{is_given, AreGaps}
-use Rattle.lpt_extract.specs.Notices.{is_whole, notice, up_to_limit, Hears}
+use Rattle.lpt_extract.specs.Notices.{is_whole, notice, Hears}
 use Rattle.lpt_extract.specs.Reports.{Saying, Other, Foreign, Unread, Areas, report_in}
 use Rattle.lpt_extract.specs.Tallies.{IsTally}
 
@@ -156,14 +156,13 @@ is_clean x =
 
 -- what was written where memory ran out or a read failed is a front part of what is written as
 -- areas come; where a write failed, of what is to be written
-abbrev pub LeavesFront : ToolFault → Option Place → List Area → (old new : Option (List ℕ)) → Type 0
-LeavesFront tool.Write at areas old new = AppendsPart old new (written at areas)
-LeavesFront tool.Read at areas old new = AppendsPart old new (written_first at areas)
-LeavesFront tool.Memory at areas old new = AppendsPart old new (written_first at areas)
-LeavesFront e at areas old new = ⊥
+abbrev pub LeavesFront : StreamFault → Option Place → List Area → (old new : Option (List ℕ)) → Type 0
+LeavesFront faults.Write at areas old new = AppendsPart old new (written at areas)
+LeavesFront faults.Read at areas old new = AppendsPart old new (written_first at areas)
+LeavesFront faults.Memory at areas old new = AppendsPart old new (written_first at areas)
 
 -- the packets that were found before a fault, and maybe octets behind them that were read
-pub record ExtractLeaves (w : Wanted) (e : ToolFault) (before after old new : Option (List ℕ)) : Type 0 where
+pub record ExtractLeaves (w : Wanted) (e : StreamFault) (before after old new : Option (List ℕ)) : Type 0 where
   pub stream : List ℕ
   pub others : List ℕ
   pub pieces : List Piece

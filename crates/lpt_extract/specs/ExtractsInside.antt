@@ -1,7 +1,6 @@
 -- What is held and told as areas are taken.
 use Rattle.std.specs.Prelude.{◌≡◌, ◌<◌, ◌≤◌, ℕ, Bool, true, false, List, [], map, length, ◌∷◌, ◌+◌, Option, Some, None}
 use Rattle.std.specs.Io.KnownBytes.{Appends}
-use Rattle.lpt_stream.specs.Pieces.{Piece}
 use Rattle.lpt_memory.specs.declared.request.Area.{Area}
 use Rattle.lpt_extract.specs.declared.extracted.ExtractEnd.{ExtractEnd}
 use Rattle.lpt_extract.specs.declared.extracted.ExtractEnd.TheVariants.{Written, Nothing, TooLarge, NotWhole}
@@ -18,11 +17,6 @@ use Rattle.lpt_extract.specs.ImagesInside.{end_of_image, Imaged}
 use Rattle.lpt_extract.specs.Notices.{notice}
 use Rattle.lpt_extract.specs.ReportsInside.{load_area}
 use Rattle.lpt_extract.specs.Tallies.{IsTally}
-
--- how many octets pieces have
-abbrev pub size_of : List Piece → ℕ
-size_of [] = 0
-size_of (p ∷ ps) = length p.octets + size_of ps
 
 -- where the area ends that ends last of these, and their image, where one is wanted
 abbrev pub HasImage : Option Place → List Area → Image → Type 0

@@ -1,5 +1,5 @@
 -- What is told of a stream.
-use Rattle.std.specs.Prelude.{◌≡◌, ◌==◌, min, Bool, if◌then◌else◌, ℕ, List, ◌++◌, length, Option, Some, None, ⊤}
+use Rattle.std.specs.Prelude.{◌≡◌, ◌==◌, Bool, if◌then◌else◌, ℕ, List, ◌++◌, length, Option, Some, None, ⊤}
 use Rattle.lpt_packet.specs.Checksums.{checksum}
 use Rattle.lpt_memory.specs.Requests.{LoadArea}
 use Rattle.lpt_extract.specs.declared.notice.Notice.{Notice}
@@ -11,10 +11,6 @@ abbrev pub Hears : (old new : Option (List Notice)) → List Notice → Type 0
 Hears None new ns = ⊤
 Hears (Some xs) None ns = ⊥
 Hears (Some xs) (Some ys) ns = ys ≡ xs ++ ns
-
--- a number as it is told and counted: no more than 2^64 - 1
-abbrev pub up_to_limit : ℕ → ℕ
-up_to_limit n = min n 18446744073709551615
 
 -- where the octets of an area stand
 abbrev pub span : ℕ → LoadArea → Span

@@ -4,7 +4,7 @@ use Rattle.lpt_extract.specs.declared.notice.Notice.{Notice}
 use Rattle.lpt_extract.specs.declared.notice.Notice.TheVariants.{WrongChecksum, Unread, OtherMemory, OtherApid, Damaged, Stray}
 use Rattle.lpt_extract.specs.declared.tally.Others.{Others}
 use Rattle.lpt_extract.specs.declared.tally.Tally.{Tally}
-use Rattle.lpt_extract.specs.Notices.{up_to_limit}
+use Rattle.lpt_stream.specs.Pieces.{up_to_limit}
 
 -- an area or a report that was passed over
 abbrev pub is_passed : Notice → Bool

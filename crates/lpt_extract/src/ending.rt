@@ -1,14 +1,14 @@
 //! How an extraction ends.
 
-ghost use Rattle.std.specs.Prelude.{◌≡◌, List, true, IfErr, IfOk, IsOk, OnOk};
-ghost use Rattle.lpt_text.specs.Streams.{AppendsPart};
+ghost use Rattle.std.specs.Prelude.{◌≡◌, List, IfErr, IfOk, IsOk};
+ghost use Rattle.lpt_text.specs.Streams.{AppendsPart, WriteEnds};
 ghost use Rattle.lpt_memory.specs.declared.request.Area.{Area};
 ghost use Rattle.lpt_extract.specs.declared.notice.Notice.{Notice};
 ghost use Rattle.lpt_extract.specs.ExtractsInside.{is_unbroken_so_far, written_last, EndsAs, EndsBy, HasImage, Held};
 
 use crate::holding::Holding;
 use crate::{ExtractEnd, Extracted, Wanted};
-use lpt_text::{Sink, ToolFault, flush_out, write_out};
+use lpt_text::{Sink, StreamFault, flush_out, write_out};
 
 // Ends an extraction once the stream was read: writes the image, where one is wanted, and passes on
 // what was written.
@@ -16,16 +16,16 @@ pub(crate) fn end_extract<K: Sink>(
     wanted: &Wanted,
     holding: Holding,
     out: &mut K,
-) -> Result<Extracted, ToolFault>
+) -> Result<Extracted, StreamFault>
     ensures ends { (areas : List Area) (ns : List Notice) → Held wanted.now.at areas ns holding
         → IfOk result (λ x. EndsAs wanted.now.at areas ns x
         (K.contents out.old) (K.contents out.new)) }
-    ensures passed { IsOk result → K.passed out.new ≡ K.contents out.new }
-    ensures fault { IfErr result (λ e. (e ≡ ToolFault.Write) × (K.failed out.new ≡ true)) }
+    ensures passed { IsOk result → K.flushed out.new ≡ K.contents out.new }
+    ensures fault { IfErr result (λ e. e ≡ StreamFault.Write) }
     ensures part { (areas : List Area) (ns : List Notice) → Held wanted.now.at areas ns holding
         → IfErr result (λ _. AppendsPart (K.contents out.old) (K.contents out.new)
         (written_last wanted.now.at areas)) }
-    ensures told { OnOk result (K.failed out.new ≡ K.failed out.old) }
+    ensures writer { WriteEnds result (K.failed out.old) (K.failed out.new) }
 {
     let end = match write_image(wanted, &holding, out) {
         Ok(end) => end,
@@ -42,15 +42,15 @@ fn write_image<K: Sink>(
     wanted: &Wanted,
     holding: &Holding,
     out: &mut K,
-) -> Result<ExtractEnd, ToolFault>
+) -> Result<ExtractEnd, StreamFault>
     ensures ends { (areas : List Area) → HasImage wanted.now.at areas holding.now.image
         → IfOk result (λ end. EndsBy wanted.now.at areas (is_unbroken_so_far holding.now) end
         (K.contents out.old) (K.contents out.new)) }
-    ensures fault { IfErr result (λ e. (e ≡ ToolFault.Write) × (K.failed out.new ≡ true)) }
+    ensures fault { IfErr result (λ e. e ≡ StreamFault.Write) }
     ensures part { (areas : List Area) → HasImage wanted.now.at areas holding.now.image
         → IfErr result (λ _. AppendsPart (K.contents out.old) (K.contents out.new)
         (written_last wanted.now.at areas)) }
-    ensures told { OnOk result (K.failed out.new ≡ K.failed out.old) }
+    ensures writer { WriteEnds result (K.failed out.old) (K.failed out.new) }
 {
     let image = &holding.image;
     if image.end() <= wanted.start() {
@@ -67,6 +67,6 @@ fn write_image<K: Sink>(
     }
     match write_out(out, image.octets()) {
         Ok(()) => Ok(ExtractEnd::Written),
-        Err(_) => Err(ToolFault::Write),
+        Err(fault) => Err(fault),
     }
 }

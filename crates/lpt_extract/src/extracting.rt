@@ -1,6 +1,7 @@
 //! The octets of dump reports, extracted from a stream as it comes.
 
-ghost use Rattle.std.specs.Prelude.{◌≡◌, ◌≢◌, ◌⊎◌, true, Err, IfErr, IfOk, IsErrOf, IsOk};
+ghost use Rattle.std.specs.Prelude.{◌≡◌, IfErr, IfOk, IsOk};
+ghost use Rattle.lpt_text.specs.Streams.{ReadEnds, WriteEnds};
 ghost use Rattle.lpt_stream.specs.Reads.{IsEndless};
 ghost use Rattle.lpt_extract.specs.Extracts.{ExtractLeaves, ExtractsTo};
 
@@ -9,7 +10,7 @@ use crate::holding::Holding;
 use crate::taking::take_piece;
 use crate::{Extracted, Listener, Wanted};
 use lpt_stream::PacketBuffer;
-use lpt_text::{Sink, Source, ToolFault};
+use lpt_text::{Sink, Source, StreamFault};
 use std::alloc::Global;
 
 /// Reads a stream of packets to its end, and writes what is wanted of the dump reports among them:
@@ -25,23 +26,21 @@ pub fn extract_stream<S: Source, K: Sink, L: Listener>(
     source: &mut S,
     out: &mut K,
     listener: &mut L,
-) -> Result<Extracted, ToolFault>
+) -> Result<Extracted, StreamFault>
     ensures ends { IfOk result (λ x. ExtractsTo wanted.now x
         (S.remaining source.old) (S.remaining source.new) (K.contents out.old) (K.contents out.new)
         (L.heard listener.old) (L.heard listener.new)) }
 
     // All that was written is passed on.
-    ensures passed { IsOk result → K.passed out.new ≡ K.contents out.new }
+    ensures passed { IsOk result → K.flushed out.new ≡ K.contents out.new }
 
-    // Each fault is that of a read, of a write or of memory.
+    // What a fault leaves.
     ensures leaves { IfErr result (λ e. ExtractLeaves wanted.now e
         (S.remaining source.old) (S.remaining source.new)
         (K.contents out.old) (K.contents out.new)) }
-    ensures read { IsErrOf result ToolFault.Read → (S.failed source.new ≡ true)
-        ⊎ IsEndless (S.remaining source.old) (S.remaining source.new) }
-    ensures heard { result ≢ Err ToolFault.Read → S.failed source.new ≡ S.failed source.old }
-    ensures cause { IsErrOf result ToolFault.Write → K.failed out.new ≡ true }
-    ensures told { result ≢ Err ToolFault.Write → K.failed out.new ≡ K.failed out.old }
+    ensures reader { ReadEnds (IsEndless (S.remaining source.old) (S.remaining source.new)) result
+        (S.failed source.old) (S.failed source.new) }
+    ensures writer { WriteEnds result (K.failed out.old) (K.failed out.new) }
 {
     let mut buffer = PacketBuffer::new(alloc);
     let mut holding = Holding::new(alloc);
@@ -69,5 +68,5 @@ pub fn extract_stream<S: Source, K: Sink, L: Listener>(
         place = place.saturating_add(found.len as u64);
         buffer.skip(found);
     }
-    Err(ToolFault::Read)
+    Err(StreamFault::Read)
 }

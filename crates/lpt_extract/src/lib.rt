@@ -26,7 +26,7 @@ mod wanted;
 pub use extracted::{ExtractEnd, Extracted};
 pub use extracting::extract_stream;
 pub use gap::Gap;
-pub use lpt_text::{Sink, Source, ToolFault};
+pub use lpt_text::{Sink, Source, StreamFault};
 pub use notice::{Listener, Notice, Span};
 pub use tally::{Others, Tally};
 pub use wanted::{Place, Wanted};

@@ -1,8 +1,8 @@
 //! What a piece of a stream gives.
 
-ghost use Rattle.std.specs.Prelude.{◌≡◌, ◌≢◌, ◌⊎◌, ◌∷◌, ◌++◌, List, [], true, Err, IfErr, IsErrOf, OnOk};
+ghost use Rattle.std.specs.Prelude.{◌≡◌, ◌⊎◌, ◌∷◌, ◌++◌, List, [], IfErr, OnOk};
 ghost use Rattle.std.specs.Io.KnownBytes.{Appends};
-ghost use Rattle.lpt_text.specs.Streams.{AppendsPart};
+ghost use Rattle.lpt_text.specs.Streams.{AppendsPart, WriteEnds};
 ghost use Rattle.lpt_stream.specs.Pieces.{packet_before};
 ghost use Rattle.lpt_memory.specs.declared.request.Area.{Area};
 ghost use Rattle.lpt_memory.specs.Meanings.{area};
@@ -19,7 +19,7 @@ use crate::seen_area::SeenArea;
 use crate::{Listener, Notice, Span, Wanted};
 use lpt_packet::crc16;
 use lpt_stream::PieceKind;
-use lpt_text::{Sink, ToolFault, write_out};
+use lpt_text::{Sink, StreamFault, write_out};
 use std::alloc::Global;
 
 // Takes what a piece gives: a packet, or what is none and gives nothing.
@@ -34,7 +34,7 @@ pub(crate) fn take_piece<K: Sink, L: Listener>(
     holding: &mut Holding,
     out: &mut K,
     listener: &mut L,
-) -> Result<(), ToolFault>
+) -> Result<(), StreamFault>
     ensures held { (areas : List Area) (ns : List Notice) → Held wanted.now.at areas ns holding.old
         → OnOk result (Held wanted.now.at
         (areas ++ areas_in wanted.now (packet_before kind octets.now []))
@@ -43,11 +43,10 @@ pub(crate) fn take_piece<K: Sink, L: Listener>(
         (written_first wanted.now.at (areas_in wanted.now (packet_before kind octets.now [])))) }
     ensures heard { OnOk result (Hears (L.heard listener.old) (L.heard listener.new)
         (notices_at wanted.now place kind octets.now)) }
-    ensures fault { IfErr result (λ e. (e ≡ ToolFault.Write) ⊎ (e ≡ ToolFault.Memory)) }
+    ensures fault { IfErr result (λ e. (e ≡ StreamFault.Write) ⊎ (e ≡ StreamFault.Memory)) }
     ensures part { IfErr result (λ _. AppendsPart (K.contents out.old) (K.contents out.new)
         (written_first wanted.now.at (areas_in wanted.now (packet_before kind octets.now [])))) }
-    ensures cause { IsErrOf result ToolFault.Write → K.failed out.new ≡ true }
-    ensures told { result ≢ Err ToolFault.Write → K.failed out.new ≡ K.failed out.old }
+    ensures writer { WriteEnds result (K.failed out.old) (K.failed out.new) }
 {
     match kind {
         PieceKind::Whole => take_packet(alloc, wanted, place, octets, holding, out, listener),
@@ -71,7 +70,7 @@ fn take_packet<K: Sink, L: Listener>(
     holding: &mut Holding,
     out: &mut K,
     listener: &mut L,
-) -> Result<(), ToolFault>
+) -> Result<(), StreamFault>
     ensures held { (areas : List Area) (ns : List Notice) → Held wanted.now.at areas ns holding.old
         → OnOk result (Held wanted.now.at
         (areas ++ areas_of wanted.now.at (report_in wanted.now.apid octets.now))
@@ -80,15 +79,14 @@ fn take_packet<K: Sink, L: Listener>(
         (written_first wanted.now.at (areas_of wanted.now.at (report_in wanted.now.apid octets.now)))) }
     ensures heard { OnOk result (Hears (L.heard listener.old) (L.heard listener.new)
         (notices_of wanted.now.at place (report_in wanted.now.apid octets.now))) }
-    ensures fault { IfErr result (λ e. (e ≡ ToolFault.Write) ⊎ (e ≡ ToolFault.Memory)) }
+    ensures fault { IfErr result (λ e. (e ≡ StreamFault.Write) ⊎ (e ≡ StreamFault.Memory)) }
     ensures part { IfErr result (λ _. AppendsPart (K.contents out.old) (K.contents out.new)
         (written_first wanted.now.at (areas_of wanted.now.at (report_in wanted.now.apid octets.now)))) }
-    ensures cause { IsErrOf result ToolFault.Write → K.failed out.new ≡ true }
-    ensures told { result ≢ Err ToolFault.Write → K.failed out.new ≡ K.failed out.old }
+    ensures writer { WriteEnds result (K.failed out.old) (K.failed out.new) }
 {
     let report = match read_report(alloc, wanted.apid, octets) {
         Ok(report) => report,
-        Err(_) => return Err(ToolFault::Memory),
+        Err(_) => return Err(StreamFault::Memory),
     };
     match report {
         Report::Other => Ok(()),
@@ -119,7 +117,7 @@ fn take_areas<K: Sink, L: Listener>(
     holding: &mut Holding,
     out: &mut K,
     listener: &mut L,
-) -> Result<(), ToolFault>
+) -> Result<(), StreamFault>
     ensures held { (before : List Area) (ns : List Notice)
         → Held wanted.now.at before ns holding.old
         → OnOk result (Held wanted.now.at (before ++ given areas.now)
@@ -128,11 +126,10 @@ fn take_areas<K: Sink, L: Listener>(
         (written_first wanted.now.at (given areas.now))) }
     ensures heard { OnOk result (Hears (L.heard listener.old) (L.heard listener.new)
         (told_of memory place areas.now)) }
-    ensures fault { IfErr result (λ e. (e ≡ ToolFault.Write) ⊎ (e ≡ ToolFault.Memory)) }
+    ensures fault { IfErr result (λ e. (e ≡ StreamFault.Write) ⊎ (e ≡ StreamFault.Memory)) }
     ensures part { IfErr result (λ _. AppendsPart (K.contents out.old) (K.contents out.new)
         (written_first wanted.now.at (given areas.now))) }
-    ensures cause { IsErrOf result ToolFault.Write → K.failed out.new ≡ true }
-    ensures told { result ≢ Err ToolFault.Write → K.failed out.new ≡ K.failed out.old }
+    ensures writer { WriteEnds result (K.failed out.old) (K.failed out.new) }
 {
     for seen in areas {
         match take_area(wanted, place, memory, seen, holding, out, listener) {
@@ -152,7 +149,7 @@ fn take_area<K: Sink, L: Listener>(
     holding: &mut Holding,
     out: &mut K,
     listener: &mut L,
-) -> Result<(), ToolFault>
+) -> Result<(), StreamFault>
     ensures held { (before : List Area) (ns : List Notice)
         → Held wanted.now.at before ns holding.old
         → OnOk result (Held wanted.now.at (before ++ given (seen.now ∷ []))
@@ -161,11 +158,10 @@ fn take_area<K: Sink, L: Listener>(
         (written_first wanted.now.at (given (seen.now ∷ [])))) }
     ensures heard { OnOk result (Hears (L.heard listener.old) (L.heard listener.new)
         (told_of memory place (seen.now ∷ []))) }
-    ensures fault { IfErr result (λ e. (e ≡ ToolFault.Write) ⊎ (e ≡ ToolFault.Memory)) }
+    ensures fault { IfErr result (λ e. (e ≡ StreamFault.Write) ⊎ (e ≡ StreamFault.Memory)) }
     ensures part { IfErr result (λ _. AppendsPart (K.contents out.old) (K.contents out.new)
         (written_first wanted.now.at (given (seen.now ∷ [])))) }
-    ensures cause { IsErrOf result ToolFault.Write → K.failed out.new ≡ true }
-    ensures told { result ≢ Err ToolFault.Write → K.failed out.new ≡ K.failed out.old }
+    ensures writer { WriteEnds result (K.failed out.old) (K.failed out.new) }
 {
     let span = Span {
         memory,
@@ -186,30 +182,29 @@ fn keep_area<K: Sink>(
     seen: &SeenArea<'_>,
     holding: &mut Holding,
     out: &mut K,
-) -> Result<(), ToolFault>
+) -> Result<(), StreamFault>
     ensures held { (before : List Area) (ns : List Notice)
         → Held wanted.now.at before ns holding.old
         → OnOk result (Held wanted.now.at
         (before ++ area (load_area seen.now) ∷ []) ns holding.new) }
     ensures wrote { OnOk result (Appends (K.contents out.old) (K.contents out.new)
         (written_first wanted.now.at (area (load_area seen.now) ∷ []))) }
-    ensures fault { IfErr result (λ e. (e ≡ ToolFault.Write) ⊎ (e ≡ ToolFault.Memory)) }
+    ensures fault { IfErr result (λ e. (e ≡ StreamFault.Write) ⊎ (e ≡ StreamFault.Memory)) }
     ensures part { IfErr result (λ _. AppendsPart (K.contents out.old) (K.contents out.new)
         (written_first wanted.now.at (area (load_area seen.now) ∷ []))) }
-    ensures cause { IsErrOf result ToolFault.Write → K.failed out.new ≡ true }
-    ensures told { result ≢ Err ToolFault.Write → K.failed out.new ≡ K.failed out.old }
+    ensures writer { WriteEnds result (K.failed out.old) (K.failed out.new) }
 {
     match wanted.at {
         None => {
             holding.image.reach(seen.address, seen.octets.len());
             match write_out(out, seen.octets) {
                 Ok(()) => Ok(()),
-                Err(_) => Err(ToolFault::Write),
+                Err(fault) => Err(fault),
             }
         }
         Some(place) => match holding.image.put(&place, seen.address, seen.octets) {
             Ok(()) => Ok(()),
-            Err(_) => Err(ToolFault::Memory),
+            Err(_) => Err(StreamFault::Memory),
         },
     }
 }

@@ -9,7 +9,7 @@ use Rattle.lpt_join.specs.declared.transaction.Transaction.{Transaction}
 use Rattle.lpt_join.specs.Gatherings.{state, Gives}
 use Rattle.lpt_join.specs.Joins.{Complete, joined}
 use Rattle.lpt_join.specs.Laws.{AllMadeOrOther, EachIsAmong, IsSending}
-use Rattle.lpt_join.specs.Reads.{ReadsPieces}
+use Rattle.lpt_stream.specs.Reads.{ReadsPieces}
 use Rattle.lpt_join.proofs.SentLemmas.{sent_joined}
 
 same_some : (x y : List ℕ) → ◌≡◌ {A = Option (List ℕ)} (Some x) (Some y) → x ≡ y

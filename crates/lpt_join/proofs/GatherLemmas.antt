@@ -1,6 +1,5 @@
 -- What a stream's pieces give, a piece further.
-use Rattle.std.proofs.Common.{◌≡◌, ◌∙◌, ap, sym, refl, ℕ, ◌+◌, ◌-◌, ◌^◌, ◌==◌, Bool, true, false, ◌||◌, List, [], ◌∷◌, ◌++◌, length, Option, Some, None, append-nil, arith}
-use Rattle.std.specs.Prelude.{min}
+use Rattle.std.proofs.Common.{◌≡◌, ◌∙◌, ap, sym, refl, ℕ, ◌+◌, ◌==◌, Bool, true, false, ◌||◌, List, [], ◌∷◌, ◌++◌, length, Option, Some, None, append-nil, arith}
 use Rattle.std.specs.Option.{option_map}
 use Rattle.std.specs.List.{list_any}
 use Rattle.lpt_reception.specs.Received.{Kept, is_last, no_parts}
@@ -10,12 +9,12 @@ use Rattle.lpt_skips.specs.Tallies.{noted, nothing_noted, skips_of}
 use Rattle.lpt_skips.proofs.TallyLemmas.{noted-append}
 use Rattle.lpt_stream.specs.declared.piece_kind.PieceKind.{PieceKind}
 use Rattle.lpt_stream.specs.declared.piece_kind.PieceKind.TheVariants.{Whole, Damaged, Stray}
-use Rattle.lpt_stream.specs.Pieces.{Piece, packet_before, packets_of}
+use Rattle.lpt_stream.specs.Pieces.{Piece, packet_before, packets_of, octets_in, up_to_limit}
 use Rattle.lpt_stream.proofs.CutLemmas.{packets-next}
 use Rattle.lpt_join.specs.declared.gathering.Gathering.{Gathering}
 use Rattle.lpt_join.specs.declared.transaction.Transaction.{Transaction}
 use Rattle.lpt_join.specs.PartNumbersInside.{has, is_ended}
-use Rattle.lpt_join.specs.Contradictions.{offered_in, is_against, place_or, place_if, against_from, first_against, octets_in, told_place}
+use Rattle.lpt_join.specs.Contradictions.{offered_in, is_against, place_or, place_if, against_from, first_against}
 use Rattle.lpt_join.specs.Gatherings.{state, IsJoiningOf, Gives}
 use Rattle.lpt_join.specs.Joins.{Joined, Missing, Complete, Broken, join_part, joined_from, joined}
 use Rattle.lpt_join.specs.Laws.{is_part, is_end, came, ended}
@@ -101,28 +100,11 @@ place_assoc (Some at) y z = refl
 place_assoc None y z = refl
 
 told_or : (x : Option ℕ) (here : Bool) (at : ℕ)
-    → option_map told_place (place_or x (place_if here at))
-    ≡ place_or (option_map told_place x) (place_if here (told_place at))
+    → option_map up_to_limit (place_or x (place_if here at))
+    ≡ place_or (option_map up_to_limit x) (place_if here (up_to_limit at))
 told_or (Some at) here n = refl
 told_or None true n = refl
 told_or None false n = refl
-
-pub octets-next : (ps : List Piece) (p : Piece)
-    → octets_in (ps ++ p ∷ []) ≡ octets_in ps + length p.octets
-octets-next [] p = omega arith
-octets-next (q ∷ qs) p =
-    let rest = octets-next qs p in
-    ap (λ n. length q.octets + n) rest ∙ omega arith
-
--- the place behind a piece
-pub told-next : (ps : List Piece) (p : Piece) (at next len : ℕ)
-    → at ≡ told_place (octets_in ps)
-    → length p.octets ≡ len
-    → next ≡ min (at + len) (2 ^ 64 - 1)
-    → next ≡ told_place (octets_in (ps ++ p ∷ []))
-told-next ps p at next len is size then =
-    let sum = octets-next ps p in
-    omega arith
 
 module _ (t : Transaction) where
   -- the packet in front
@@ -156,14 +138,14 @@ module _ (t : Transaction) where
 
   -- the same as it is told
   pub told-against : (ps : List Piece) (p : Piece)
-      → option_map told_place (first_against t (ps ++ p ∷ []))
-      ≡ place_or (option_map told_place (first_against t ps))
-      (place_if (is_against t.part_size (joined t (packets_of ps)) (part_of t p)) (told_place (octets_in ps)))
+      → option_map up_to_limit (first_against t (ps ++ p ∷ []))
+      ≡ place_or (option_map up_to_limit (first_against t ps))
+      (place_if (is_against t.part_size (joined t (packets_of ps)) (part_of t p)) (up_to_limit (octets_in ps)))
   told-against ps p =
-      ap (option_map told_place) (against-next (Missing no_parts) 0 ps p)
+      ap (option_map up_to_limit) (against-next (Missing no_parts) 0 ps p)
       ∙ told_or (first_against t ps) (is_against t.part_size (joined t (packets_of ps)) (part_of t p)) (0 + octets_in ps)
-      ∙ ap (λ n. place_or (option_map told_place (first_against t ps))
-      (place_if (is_against t.part_size (joined t (packets_of ps)) (part_of t p)) (told_place n))) (zero_front (octets_in ps))
+      ∙ ap (λ n. place_or (option_map up_to_limit (first_against t ps))
+      (place_if (is_against t.part_size (joined t (packets_of ps)) (part_of t p)) (up_to_limit n))) (zero_front (octets_in ps))
     where
       zero_front : (n : ℕ) → 0 + n ≡ n
       zero_front n = omega arith
@@ -186,11 +168,11 @@ gives-other t ps p g h none = record {
       ∙ ap (join_part (joined t (packets_of ps))) none ∙ sym (joined-piece t ps p);
   came_is = λ n. h.came_is n ∙ ap (λ o. is_part n o || came t n (packets_of ps)) none ∙ sym (came-piece t n ps p);
   ended_is = h.ended_is ∙ ap (λ o. is_end o || ended t (packets_of ps)) none ∙ sym (ended-piece t ps p);
-  against_is = h.against_is ∙ sym (place_none (option_map told_place (first_against t ps)))
-      ∙ ap (λ b. place_or (option_map told_place (first_against t ps)) (place_if b (told_place (octets_in ps))))
+  against_is = h.against_is ∙ sym (place_none (option_map up_to_limit (first_against t ps)))
+      ∙ ap (λ b. place_or (option_map up_to_limit (first_against t ps)) (place_if b (up_to_limit (octets_in ps))))
       (sym (against_none t.part_size (joined t (packets_of ps))))
-      ∙ ap (λ o. place_or (option_map told_place (first_against t ps))
-      (place_if (is_against t.part_size (joined t (packets_of ps)) o) (told_place (octets_in ps)))) none
+      ∙ ap (λ o. place_or (option_map up_to_limit (first_against t ps))
+      (place_if (is_against t.part_size (joined t (packets_of ps)) o) (up_to_limit (octets_in ps)))) none
       ∙ sym (told-against t ps p);
 }
 
@@ -204,7 +186,7 @@ pub gives-part : (t : Transaction) (ps : List Piece) (p : Piece) (g h : Gatherin
     → ((q : ℕ) → has h.came q ≡ ((n == q) || has g.came q))
     → is_ended h.came ≡ (is_last x || is_ended g.came)
     → is ≡ is_against t.part_size (state g.joining) (Some (n, x))
-    → place ≡ told_place (octets_in ps)
+    → place ≡ up_to_limit (octets_in ps)
     → h.against ≡ place_or g.against (place_if is place)
     → Gives t (ps ++ p ∷ []) h
 gives-part t ps p g h n x is place was some of joins comes ends against at found = record {
@@ -216,10 +198,10 @@ gives-part t ps p g h n x is place was some of joins comes ends against at found
   ended_is = ends ∙ ap (λ e. is_last x || e) was.ended_is
       ∙ ap (λ o. is_end o || ended t (packets_of ps)) some ∙ sym (ended-piece t ps p);
   against_is = found ∙ ap (λ o. place_or o (place_if is place)) was.against_is
-      ∙ ap (λ b. place_or (option_map told_place (first_against t ps)) (place_if b place))
+      ∙ ap (λ b. place_or (option_map up_to_limit (first_against t ps)) (place_if b place))
       (against ∙ ap (λ j. is_against t.part_size j (Some (n, x))) was.state_is
       ∙ ap (is_against t.part_size (joined t (packets_of ps))) some)
-      ∙ ap (λ q. place_or (option_map told_place (first_against t ps))
+      ∙ ap (λ q. place_or (option_map up_to_limit (first_against t ps))
       (place_if (is_against t.part_size (joined t (packets_of ps)) (part_of t p)) q)) at
       ∙ sym (told-against t ps p);
 }

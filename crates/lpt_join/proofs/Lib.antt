@@ -1,18 +1,21 @@
 mod AgainstLemmas
 mod BreakLemmas
 mod DamageLemmas
-pub mod EndLemmas
+mod EndLemmas
 pub mod FitLemmas
 pub mod GatherLemmas
 mod LastLemmas
 pub mod LawLemmas
 mod MadeLemmas
-pub mod MessageLemmas
+mod MessageLemmas
+mod OnlyLemmas
 pub mod OtherLemmas
 mod ReadLemmas
 pub mod RoundLemmas
 pub mod SentLemmas
 pub mod SetLemmas
+pub mod SkipLemmas
 pub mod SeveralLemmas
-pub mod SoleLemmas
+mod SoleLemmas
 pub mod ThereLemmas
+mod WriteLemmas

@@ -1,9 +1,8 @@
 -- The part that octets carry, by what they are seen as.
-use Rattle.std.proofs.Common.{◌≡◌, ◌≢◌, ◌∙◌, ap, sym, ℕ, Bool, if◌then◌else◌, List, Option, Some, None, Result, Ok, Err}
+use Rattle.std.proofs.Common.{◌≡◌, ◌≢◌, ◌∙◌, ap, sym, ℕ, Bool, if◌then◌else◌, List, Option, Some, None, Result, Err}
 use Rattle.std.specs.Result.{result_ok}
 use Rattle.lpt_packet.specs.declared.fault.PacketFault.{PacketFault}
-use Rattle.lpt_packet.specs.declared.packet.Seen.{Seen}
-use Rattle.lpt_packet.specs.Packets.{Fields, Sight, IdlePacket, APacket, seen, sight, verdict}
+use Rattle.lpt_packet.specs.Packets.{Fields, Sight, IdlePacket, APacket, seen, verdict}
 use Rattle.lpt_packet.proofs.Readings.{eq_true, eq_false}
 use Rattle.lpt_events.specs.Arrivals.{Foreign, packet_arrival, sight_arrival, arrival}
 use Rattle.lpt_events.specs.Sides.{receiver_side}
@@ -24,15 +23,6 @@ pub none-unread : (t : Transaction) (b : List ℕ) (e : PacketFault)
     → None ≡ piece_in t b
 none-unread t b e law h =
     piece-seen t b None (law ∙ ap (λ (r : Result Sight PacketFault). result_ok r) h)
-
--- what a reader saw is seen
-pub seen-read : (b : List ℕ) (s r : Seen)
-    → seen b ≡ result_ok (verdict b)
-    → verdict b ≡ Ok (sight s)
-    → s ≡ r
-    → seen b ≡ Some (sight r)
-seen-read b s r law reads same =
-    law ∙ ap (λ (r : Result Sight PacketFault). result_ok r) reads ∙ ap (λ (s : Seen). Some (sight s)) same
 
 pub none-idle : (t : Transaction) (b : List ℕ) → seen b ≡ Some IdlePacket → None ≡ piece_in t b
 none-idle t b e = piece-seen t b (Some IdlePacket) e

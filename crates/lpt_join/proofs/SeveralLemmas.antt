@@ -2,9 +2,10 @@
 use Rattle.std.proofs.Common.{◌≡◌, ◌∙◌, ap, sym, subst, refl, inl, inr, ◌⊎◌, ℕ, ◌+◌, ◌≤◌, Bool, true, false, if◌then◌else◌, ◌||◌, List, [], ◌∷◌, ◌++◌, length, Option, Some, None, is_some, append-nil, append_assoc, arith}
 use Rattle.std.specs.Option.{option_map}
 use Rattle.std.proofs.lemmas.Bool.{or_parts}
-use Rattle.lpt_packet.specs.Names.{Name, same_name}
+use Rattle.lpt_packet.specs.Names.{Name, named_by, same_name}
 use Rattle.lpt_packet.proofs.NameLemmas.{same_name-refl, same_name-true}
-use Rattle.lpt_events.specs.NamedParts.{NamedPart, bare}
+use Rattle.lpt_part.specs.Parts as APart
+use Rattle.lpt_events.specs.NamedParts.{NamedPart, bare, named}
 use Rattle.lpt_reception.specs.Received.{Kept}
 use Rattle.lpt_stream.specs.declared.piece_kind.PieceKind.{PieceKind}
 use Rattle.lpt_stream.specs.declared.piece_kind.PieceKind.TheVariants.{Whole, Damaged, Stray}
@@ -14,7 +15,7 @@ use Rattle.lpt_join.specs.declared.gatherings.Gatherings.{Gatherings}
 use Rattle.lpt_join.specs.declared.transaction.Transaction.{Transaction}
 use Rattle.lpt_join.specs.Contradictions.{offered_in}
 use Rattle.lpt_join.specs.Gatherings.{Gives}
-use Rattle.lpt_join.specs.Offers.{offered, part_of_name, part_of_piece, piece_in}
+use Rattle.lpt_join.specs.Offers.{named_in, offered, part_of_name, part_of_piece, piece_in}
 use Rattle.lpt_join.specs.Several.{carried, GivesEach, IsKept, kept_of, of_name}
 use Rattle.lpt_join.specs.SeveralInside.{HasPlace, IsFull}
 use Rattle.lpt_join.proofs.OtherLemmas.{none_carried, apart_carried}
@@ -116,13 +117,41 @@ each-other t bs b g none h = record {
 abbrev packet : List ℕ → Piece
 packet b = record { kind = Whole; octets = b }
 
--- no part of any transaction came
-pub each-none : (t : Transaction) (bs : List Piece) (b : List ℕ) (g : Gatherings)
-    → None ≡ option_map (λ (q : NamedPart). q.name) (piece_in t b)
-    → GivesEach t bs g
-    → GivesEach t (bs ++ packet b ∷ []) g
-each-none t bs b g e h =
-    each-other t bs (packet b) g (λ n. none_carried (of_name t n) b (no_part (piece_in t b) e)) h
+-- what carries no part of any carries none of one of a name
+pub none-named : (t : Transaction) (n : Name) (k : PieceKind) (b : List ℕ)
+    → None ≡ named_in t k b
+    → offered_in (of_name t n) k b ≡ None
+none-named t n Whole b e = none_carried (of_name t n) b (sym e)
+none-named t n Damaged b e = refl
+none-named t n Stray b e = refl
+
+nothing_named : (q : NamedPart) → ◌≡◌ {A = Option NamedPart} (Some q) None → ⊥
+nothing_named q h = cc
+
+-- what carries a part is a packet
+pub each-packet : (t : Transaction) (ps : List Piece) (k : PieceKind) (b : List ℕ) (q : NamedPart) (g : Gatherings)
+    → Some q ≡ named_in t k b
+    → (Some q ≡ piece_in t b → GivesEach t (ps ++ packet b ∷ []) g)
+    → GivesEach t (ps ++ record { kind = k; octets = b } ∷ []) g
+each-packet t ps Whole b q g h given = given h
+each-packet t ps Damaged b q g h given = absurd (nothing_named q h)
+each-packet t ps Stray b q g h given = absurd (nothing_named q h)
+
+module _ (t : Transaction) (name : Name) (p : APart.Piece) (b : List ℕ)
+    (same : p.id ≡ name.id) (some : Some (named name.source p) ≡ piece_in t b) where
+  -- a part has this name
+  pub named-name : Some name ≡ option_map (λ (q : NamedPart). q.name) (piece_in t b)
+  named-name =
+      ap (λ (n : ℕ). Some (named_by name.source n)) (sym same)
+      ∙ ap (option_map (λ (q : NamedPart). q.name)) some
+
+  -- and is one of the transaction of that name
+  pub offered-named : Some (part_of_piece p) ≡ offered (of_name t name) b
+  unfolding offered
+  offered-named =
+      sym (ap (λ (s : Bool). if s then Some (part_of_piece p) else None) (same_name-refl name))
+      ∙ ap (λ (n : ℕ). if same_name (named_by name.source n) name then Some (part_of_piece p) else None) (sym same)
+      ∙ ap (part_of_name name) some
 
 full_size : (old new : Gatherings)
     → IsFull old new

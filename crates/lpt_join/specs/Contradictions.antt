@@ -1,5 +1,5 @@
 -- Where a part comes that contradicts those before it.
-use Rattle.std.specs.Prelude.{ℕ, ◌+◌, ◌-◌, ◌^◌, min, Bool, true, false, not, if◌then◌else◌, List, [], ◌∷◌, length, Option, Some, None}
+use Rattle.std.specs.Prelude.{ℕ, ◌+◌, Bool, true, false, not, if◌then◌else◌, List, [], ◌∷◌, length, Option, Some, None}
 use Rattle.lpt_reception.specs.Received.{Kept, no_parts, contradicts}
 use Rattle.lpt_stream.specs.declared.piece_kind.PieceKind.{PieceKind}
 use Rattle.lpt_stream.specs.declared.piece_kind.PieceKind.TheVariants.{Whole, Damaged, Stray}
@@ -43,12 +43,3 @@ against_from t j at (b ∷ bs) =
 -- the same of all pieces of a stream
 abbrev pub first_against : Transaction → List Piece → Option ℕ
 first_against t bs = against_from t (Missing no_parts) 0 bs
-
--- how many octets pieces have
-abbrev pub octets_in : List Piece → ℕ
-octets_in [] = 0
-octets_in (b ∷ bs) = length b.octets + octets_in bs
-
--- a place as it is told: one beyond 2^64 - 1 as that
-abbrev pub told_place : ℕ → ℕ
-told_place at = min at (2 ^ 64 - 1)

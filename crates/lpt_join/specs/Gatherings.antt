@@ -2,13 +2,13 @@
 use Rattle.std.specs.Prelude.{◌≡◌, ℕ, List}
 use Rattle.std.specs.Option.{option_map}
 use Rattle.lpt_reception.specs.Received.{no_parts}
-use Rattle.lpt_stream.specs.Pieces.{Piece, packets_of}
+use Rattle.lpt_stream.specs.Pieces.{Piece, packets_of, up_to_limit}
 use Rattle.lpt_join.specs.declared.gathering.Gathering.{Gathering}
 use Rattle.lpt_join.specs.declared.joining.Joining.{Joining}
 use Rattle.lpt_join.specs.declared.joining.Joining.TheVariants as joining
 use Rattle.lpt_join.specs.declared.transaction.Transaction.{Transaction}
 use Rattle.lpt_join.specs.PartNumbersInside.{has, is_ended}
-use Rattle.lpt_join.specs.Contradictions.{first_against, told_place}
+use Rattle.lpt_join.specs.Contradictions.{first_against}
 use Rattle.lpt_join.specs.Joins.{Joined, Missing, Complete, Broken, joined}
 use Rattle.lpt_join.specs.Laws.{came, ended}
 
@@ -33,4 +33,4 @@ pub record Gives (t : Transaction) (pieces : List Piece) (g : Gathering) : Type 
   pub state_is : state g.joining ≡ joined t (packets_of pieces)
   pub came_is : (n : ℕ) → has g.came n ≡ came t n (packets_of pieces)
   pub ended_is : is_ended g.came ≡ ended t (packets_of pieces)
-  pub against_is : g.against ≡ option_map told_place (first_against t pieces)
+  pub against_is : g.against ≡ option_map up_to_limit (first_against t pieces)

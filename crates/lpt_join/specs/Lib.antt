@@ -5,7 +5,10 @@ pub mod Joins
 pub mod Laws
 pub mod Messages
 pub mod Missing
+pub mod MissingLists
 pub mod Offers
-pub mod Reads
+pub mod Only
+pub mod Readers
 pub mod Several
 pub mod SeveralInside
+pub mod Writes

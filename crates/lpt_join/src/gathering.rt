@@ -1,13 +1,14 @@
 //! What is kept of a stream's packets.
 
-ghost use Rattle.std.specs.Prelude.{◌≡◌, ℕ, List, [], ◌∷◌, ◌++◌, IfOk};
-ghost use Rattle.lpt_stream.specs.declared.piece_kind.PieceKind.TheVariants.{Whole};
-ghost use Rattle.lpt_stream.specs.Pieces.{Piece};
-ghost use Rattle.lpt_join.specs.Contradictions.{octets_in, place_if, place_or, told_place};
+ghost use Rattle.std.specs.Prelude.{◌≡◌, List, [], ◌∷◌, ◌++◌, Some, IfOk};
+ghost use Rattle.lpt_part.specs.Parts.{piece};
+ghost use Rattle.lpt_stream.specs.Pieces.{Piece, octets_in, up_to_limit};
+ghost use Rattle.lpt_join.specs.Contradictions.{offered_in, place_if, place_or};
+ghost use Rattle.lpt_join.specs.Offers.{part_of_piece};
 ghost use Rattle.lpt_join.specs.declared.transaction.Transaction.{Transaction};
 
-use crate::{Joining, PartNumbers, Transaction, part_in};
-use lpt_stream::PieceKind;
+use crate::{Joining, PartNumbers, Transaction};
+use lpt_part::Part;
 use std::alloc::{AllocError, Global};
 
 /// What a stream's packets have given of one transaction so far: what its parts are joined to, and
@@ -26,7 +27,7 @@ pub struct Gathering {
 }
 
 impl Gathering {
-    ghost use Rattle.lpt_join.specs.Gatherings.{Gives};
+    ghost use Rattle.lpt_join.specs.Gatherings.{Gives, IsJoiningOf};
 
     /// Nothing has come.
     pub fn new(alloc: Global) -> Gathering
@@ -39,57 +40,35 @@ impl Gathering {
         }
     }
 
-    /// Takes a packet that stands at a place of the stream, or beyond 2^64 - 1 where it is that. Where it
-    /// carries a part of the transaction, the part is kept. The only error is out of memory.
-    pub fn take(
+    /// Adds a part of the transaction that a piece carries which stands at a place of the stream, or
+    /// beyond 2^64 - 1 where it is that. The only error is out of memory.
+    pub fn add(
         self,
         alloc: Global,
         transaction: &Transaction,
         place: u64,
-        octets: &[u8],
+        part: &Part<'_>,
     ) -> Result<Gathering, AllocError>
-        requires { (pieces : List Piece) × Gives transaction.now pieces self }
-        ensures { (pieces : List Piece) → Gives transaction.now pieces self
-            → place ≡ told_place (octets_in pieces) → IfOk result (Gives transaction.now
-            (pieces ++ record { kind = Whole; octets = octets.now } ∷ [])) }
+        requires joining { IsJoiningOf transaction.now self.joining }
+        requires id { part.now.id ≡ transaction.now.name.id }
+        requires size { part.now.p ≡ transaction.now.part_size }
+        ensures { (pieces : List Piece) (b : Piece) → Gives transaction.now pieces self
+            → place ≡ up_to_limit (octets_in pieces)
+            → Some (part_of_piece (piece part.now)) ≡ offered_in transaction.now b.kind b.octets
+            → IfOk result (Gives transaction.now (pieces ++ b ∷ [])) }
     {
-        let Some(part) = part_in(octets, transaction) else {
-            return Ok(self);
-        };
         let Gathering {
             joining,
             mut came,
             against,
         } = self;
         came.add(part.number, part.kind)?;
-        let (joining, is_against) = joining.take(alloc, transaction, &part)?;
+        let (joining, is_against) = joining.take(alloc, transaction, part)?;
         Ok(Gathering {
             joining,
             came,
             against: first_of(against, is_against, place),
         })
-    }
-
-    /// Takes a piece that stands at a place of the stream: a packet, or what is none and gives nothing.
-    /// The only error is out of memory.
-    pub fn take_piece(
-        self,
-        alloc: Global,
-        transaction: &Transaction,
-        place: u64,
-        kind: PieceKind,
-        octets: &[u8],
-    ) -> Result<Gathering, AllocError>
-        requires { (pieces : List Piece) × Gives transaction.now pieces self }
-        ensures { (pieces : List Piece) → Gives transaction.now pieces self
-            → place ≡ told_place (octets_in pieces) → IfOk result (Gives transaction.now
-            (pieces ++ record { kind = kind; octets = octets.now } ∷ [])) }
-    {
-        match kind {
-            PieceKind::Whole => self.take(alloc, transaction, place, octets),
-            PieceKind::Damaged => Ok(self),
-            PieceKind::Stray => Ok(self),
-        }
     }
 }
 

@@ -2,12 +2,14 @@
 
 ghost use Rattle.std.specs.Prelude.{◌≡◌, ◌≤◌, ◌<◌, ◌+◌, ◌⊎◌, ℕ, List, [], ◌∷◌, ◌++◌, length, true, false, Some, None, IfOk, IfSome, OnOk, IfNone};
 ghost use Rattle.lpt_packet.specs.Names.{Name, same_name};
+ghost use Rattle.lpt_part.specs.Parts.{piece};
+ghost use Rattle.lpt_events.specs.NamedParts.{named};
 ghost use Rattle.lpt_join.specs.declared.gathering.Gathering.{Gathering};
 ghost use Rattle.lpt_join.specs.declared.transaction.Transaction.{Transaction};
 
-use crate::{Gathering, Transaction, name_in};
+use crate::{Gathering, Transaction};
 use lpt_packet::Name;
-use lpt_stream::PieceKind;
+use lpt_part::Part;
 use std::alloc::{AllocError, Global};
 use std::collections::BTreeMap;
 
@@ -26,9 +28,9 @@ pub struct Gatherings {
 
 impl Gatherings {
     ghost use Rattle.lpt_stream.specs.declared.piece_kind.PieceKind.TheVariants.{Whole};
-    ghost use Rattle.lpt_stream.specs.Pieces.{Piece};
-    ghost use Rattle.lpt_join.specs.Contradictions.{octets_in, told_place};
+    ghost use Rattle.lpt_stream.specs.Pieces.{Piece, octets_in, up_to_limit};
     ghost use Rattle.lpt_join.specs.Gatherings.{Gives};
+    ghost use Rattle.lpt_join.specs.Offers.{piece_in};
     ghost use Rattle.lpt_join.specs.Several.{GivesEach, kept_of, of_name};
     ghost use Rattle.lpt_join.specs.SeveralInside.{HasPlace, IsFull};
 
@@ -42,53 +44,33 @@ impl Gatherings {
         }
     }
 
-    /// Takes a packet that stands at a place of the stream, or beyond 2^64 - 1 where it is that. Where it
-    /// carries a part of one of these transactions, the part is kept. The only error is out of memory.
-    pub fn take(
+    /// Adds a part of the transaction of this name that a packet carries which stands at a place of the
+    /// stream, or beyond 2^64 - 1 where it is that. The only error is out of memory.
+    pub fn add(
         self,
         alloc: Global,
         transaction: &Transaction,
         place: u64,
-        octets: &[u8],
+        name: Name,
+        part: &Part<'_>,
     ) -> Result<Gatherings, AllocError>
-        requires { (pieces : List Piece) × GivesEach transaction.now pieces self }
-        ensures { (pieces : List Piece) → GivesEach transaction.now pieces self
-            → place ≡ told_place (octets_in pieces) → IfOk result (GivesEach transaction.now
-            (pieces ++ record { kind = Whole; octets = octets.now } ∷ [])) }
+        requires each { (pieces : List Piece) × GivesEach transaction.now pieces self }
+        requires id { part.now.id ≡ name.id }
+        requires size { part.now.p ≡ transaction.now.part_size }
+        ensures { (pieces : List Piece) (octets : List ℕ) → GivesEach transaction.now pieces self
+            → place ≡ up_to_limit (octets_in pieces)
+            → Some (named name.source (piece part.now)) ≡ piece_in transaction.now octets
+            → IfOk result (GivesEach transaction.now
+            (pieces ++ record { kind = Whole; octets = octets } ∷ [])) }
     {
-        let Some(name) = name_in(octets, transaction) else {
-            return Ok(self);
-        };
         let mut gatherings = self;
         let Some(gathering) = gatherings.take_out(alloc, name) else {
             gatherings.has_more = true;
             return Ok(gatherings);
         };
-        let gathering = gathering.take(alloc, &transaction.of_name(name), place, octets)?;
+        let gathering = gathering.add(alloc, &transaction.of_name(name), place, part)?;
         gatherings.put(name, gathering)?;
         Ok(gatherings)
-    }
-
-    /// Takes a piece that stands at a place of the stream: a packet, or what is none and gives nothing.
-    /// The only error is out of memory.
-    pub fn take_piece(
-        self,
-        alloc: Global,
-        transaction: &Transaction,
-        place: u64,
-        kind: PieceKind,
-        octets: &[u8],
-    ) -> Result<Gatherings, AllocError>
-        requires { (pieces : List Piece) × GivesEach transaction.now pieces self }
-        ensures { (pieces : List Piece) → GivesEach transaction.now pieces self
-            → place ≡ told_place (octets_in pieces) → IfOk result (GivesEach transaction.now
-            (pieces ++ record { kind = kind; octets = octets.now } ∷ [])) }
-    {
-        match kind {
-            PieceKind::Whole => self.take(alloc, transaction, place, octets),
-            PieceKind::Damaged => Ok(self),
-            PieceKind::Stray => Ok(self),
-        }
     }
 
     // What is kept of a transaction, taken out, or what nothing has given; none where nothing is kept

@@ -6,9 +6,10 @@ ghost use Rattle.lpt_packet.specs.Packets.{fields};
 ghost use Rattle.lpt_part.specs.Parts.{piece};
 ghost use Rattle.lpt_part.specs.Splitting.{IsPartSize};
 ghost use Rattle.lpt_events.specs.Arrivals.{packet_arrival};
-ghost use Rattle.lpt_events.specs.NamedParts.{NamedPart, named};
+ghost use Rattle.lpt_events.specs.NamedParts.{named};
 ghost use Rattle.lpt_events.specs.declared.side.Side.TheVariants.{Ground, Craft};
-ghost use Rattle.lpt_join.specs.Offers.{piece_of, piece_in, part_of_piece, offered};
+ghost use Rattle.lpt_join.specs.Contradictions.{offered_in};
+ghost use Rattle.lpt_join.specs.Offers.{named_in, offered, part_of_piece, piece_in, piece_of};
 
 use crate::Transaction;
 use lpt_events::part_kind;
@@ -16,6 +17,7 @@ use lpt_packet::laws::seen_is_read;
 use lpt_packet::{Direction, Name, Packet, Seen, read_packet};
 use lpt_part::{Part, read_part};
 use lpt_pus::{read_tc, read_tm};
+use lpt_stream::PieceKind;
 
 /// The part of this transaction that octets carry; none where they are no packet, an idle one, one
 /// of another APID, type, service or transaction, or one whose part isn't read for this part size.
@@ -35,17 +37,46 @@ pub fn part_in<'a>(octets: &'a [u8], transaction: &Transaction) -> Option<Part<'
     Some(part)
 }
 
-/// The name of the transaction, whichever it is, of which octets carry a part that is read as this
-/// one's parts are; none where they carry none.
-pub fn name_in(octets: &[u8], transaction: &Transaction) -> Option<Name>
-    ensures { result ≡ option_map (λ (q : NamedPart). q.name) (piece_in transaction.now octets.now) }
+/// The part of this transaction that a piece of a stream carries; what is no packet carries none.
+pub fn part_in_piece<'a>(
+    kind: PieceKind,
+    octets: &'a [u8],
+    transaction: &Transaction,
+) -> Option<Part<'a>>
+    ensures part { option_map (λ x. part_of_piece (piece x)) result
+        ≡ offered_in transaction.now kind octets.now }
+    ensures id { IfSome result (λ x. x.id ≡ transaction.now.name.id) }
+    ensures size { IfSome result (λ x. x.p ≡ transaction.now.part_size) }
 {
-    match any_part_in(octets, transaction) {
-        Some((source, part)) => Some(Name {
-            source,
-            id: part.id,
-        }),
-        None => None,
+    match kind {
+        PieceKind::Whole => part_in(octets, transaction),
+        PieceKind::Damaged => None,
+        PieceKind::Stray => None,
+    }
+}
+
+/// The part of any transaction, whichever it is, that a piece of a stream carries and that is read as
+/// this one's parts are, with its name; what is no packet carries none.
+pub fn named_part_in<'a>(
+    kind: PieceKind,
+    octets: &'a [u8],
+    transaction: &Transaction,
+) -> Option<(Name, Part<'a>)>
+    ensures part { option_map (λ x. named x.0.source (piece x.1)) result
+        ≡ named_in transaction.now kind octets.now }
+    ensures id { IfSome result (λ x. x.1.id ≡ x.0.id) }
+    ensures size { IfSome result (λ x. x.1.p ≡ transaction.now.part_size) }
+{
+    match kind {
+        PieceKind::Whole => match any_part_in(octets, transaction) {
+            Some((source, part)) => {
+                let id = part.id;
+                Some((Name { source, id }, part))
+            }
+            None => None,
+        },
+        PieceKind::Damaged => None,
+        PieceKind::Stray => None,
     }
 }
 

@@ -1,21 +1,20 @@
 //! The message of a transaction, joined as a stream of packets comes.
 
-ghost use Rattle.std.specs.Prelude.{◌≡◌, ◌≢◌, ◌⊎◌, ◌≤◌, ℕ, List, length, true, Some, IfOk, IfErr, IsErrOf, OnOk, Err};
-ghost use Rattle.std.specs.Io.KnownBytes.{Consumes, IsAtEnd};
+ghost use Rattle.std.specs.Prelude.{◌≡◌, ◌⊎◌, ℕ, List, Some, IfOk, IfErr};
 ghost use Rattle.lpt_events.specs.declared.config.Config.{Config};
 ghost use Rattle.lpt_stream.specs.Pieces.{Finds};
 ghost use Rattle.lpt_join.specs.Gatherings.{state, Gives};
 ghost use Rattle.lpt_join.specs.Joins.{Complete};
 ghost use Rattle.lpt_join.specs.Laws.{AllMadeOrOther, EachIsAmong, IsSending};
-ghost use Rattle.lpt_stream.specs.Reads.{IsEndless};
-ghost use Rattle.lpt_join.specs.Reads.{ReadsPieces};
+ghost use Rattle.lpt_text.specs.Streams.{ReadEnds};
+ghost use Rattle.lpt_stream.specs.Reads.{IsEndless, ReadsPieces};
 ghost use Rattle.lpt_join.specs.Several.{reading_of};
 ghost use Rattle.lpt_skips.specs.Tallies.{skips_of};
 
-use crate::{Gathering, Transaction};
+use crate::{Gathering, Transaction, part_in_piece};
 use lpt_skips::Skips;
-use lpt_stream::PacketBuffer;
-use lpt_text::{Source, ToolFault};
+use lpt_stream::{PieceKind, PieceTaker, each_piece};
+use lpt_text::{Source, StreamFault};
 use std::alloc::Global;
 
 /// Joins the parts of a transaction that a stream's packets carry, up to the stream's end, and counts
@@ -26,7 +25,7 @@ pub fn join_stream<S: Source>(
     alloc: Global,
     transaction: &Transaction,
     source: &mut S,
-) -> Result<(Gathering, Skips), ToolFault>
+) -> Result<(Gathering, Skips), StreamFault>
     // The stream is read to its end, and what is kept is what the packets among its pieces give.
     ensures joined { IfOk result (λ r. ReadsPieces (S.remaining source.old) (S.remaining source.new)
         (λ pieces. Gives transaction.now pieces r.0
@@ -40,33 +39,69 @@ pub fn join_stream<S: Source>(
         → AllMadeOrOther transaction.now c m packets → EachIsAmong transaction.now c m packets
         → state r.0.joining ≡ Complete m) }
 
-    ensures told { OnOk result (S.failed source.new ≡ S.failed source.old) }
-
-    // Each fault is that of a read or of memory, but for a stream of more pieces than there are.
-    ensures fault { IfErr result (λ e.
-        ((e ≡ ToolFault.Read) × ((S.failed source.new ≡ true)
-        ⊎ IsEndless (S.remaining source.old) (S.remaining source.new)))
-        ⊎ ((e ≡ ToolFault.Memory) × (S.failed source.new ≡ S.failed source.old))) }
+    ensures reader { ReadEnds (IsEndless (S.remaining source.old) (S.remaining source.new)) result
+        (S.failed source.old) (S.failed source.new) }
+    ensures fault { IfErr result (λ e. (e ≡ StreamFault.Read) ⊎ (e ≡ StreamFault.Memory)) }
 {
-    let mut buffer = PacketBuffer::new(alloc);
-    let mut gathering = Gathering::new(alloc);
-    let mut place: u64 = 0;
-    let reading = transaction.reading(Some(transaction.name));
-    let mut skips = Skips::new();
-    for count in 0..u64::MAX {
-        let found = match buffer.find_piece(source) {
-            Ok(Some(found)) => found,
-            Ok(None) => return Ok((gathering, skips)),
-            Err(fault) => return Err(fault),
-        };
-        let octets = &buffer.held()[..found.len];
-        skips.note(&reading, found.kind, octets);
-        match gathering.take_piece(alloc, transaction, place, found.kind, octets) {
-            Ok(more) => gathering = more,
-            Err(_) => return Err(ToolFault::Memory),
-        }
-        place = place.saturating_add(found.len as u64);
-        buffer.skip(found);
+    let gathering = Gathering::new(alloc);
+    let skips = Skips::new();
+    let first = Joiner {
+        transaction: *transaction,
+        gathering,
+        skips,
+    };
+    match each_piece(alloc, source, first, &mut ()) {
+        Ok(last) => Ok((last.gathering, last.skips)),
+        Err(fault) => Err(fault),
     }
-    Err(ToolFault::Read)
+}
+
+// What a stream's pieces have given of a transaction so far.
+#[derive(Drop)]
+struct Joiner {
+    transaction: Transaction,
+    gathering: Gathering,
+    // What was passed over.
+    skips: Skips,
+}
+
+impl PieceTaker<()> for Joiner {
+    ghost use Rattle.std.specs.Prelude.{◌≡◌};
+    ghost use Rattle.lpt_text.specs.declared.fault.StreamFault.TheVariants as faults;
+    ghost use Rattle.lpt_join.specs.Readers.{Joins};
+
+    ghost takes = { λ first now old new pieces. Joins first now pieces };
+
+    ghost fails = { λ e. e ≡ faults.Memory };
+
+    fn take(
+        self,
+        alloc: Global,
+        _lent: &mut (),
+        place: u64,
+        kind: PieceKind,
+        octets: &[u8],
+    ) -> Result<Joiner, StreamFault> {
+        let Joiner {
+            transaction,
+            gathering,
+            mut skips,
+        } = self;
+        let Some(part) = part_in_piece(kind, octets, &transaction) else {
+            skips.note(&transaction.reading(Some(transaction.name)), kind, octets);
+            return Ok(Joiner {
+                transaction,
+                gathering,
+                skips,
+            });
+        };
+        match gathering.add(alloc, &transaction, place, &part) {
+            Ok(gathering) => Ok(Joiner {
+                transaction,
+                gathering,
+                skips,
+            }),
+            Err(_) => Err(StreamFault::Memory),
+        }
+    }
 }

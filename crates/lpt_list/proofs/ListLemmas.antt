@@ -1,5 +1,5 @@
 -- A list, a piece further.
-use Rattle.std.proofs.Common.{◌≡◌, ◌≢◌, ◌⊎◌, ◌∙◌, ap, sym, subst, refl, inl, inr, ℕ, ◌+◌, ◌<◌, ◌≤◌, Bool, true, false, List, [], ◌∷◌, ◌++◌, length, take, drop, Option, Some, None, Result, Err, append-nil, append_assoc, arith, take_all}
+use Rattle.std.proofs.Common.{◌≡◌, ◌≢◌, ◌∙◌, ap, sym, subst, refl, ℕ, ◌+◌, ◌<◌, ◌≤◌, Bool, true, false, List, [], ◌∷◌, ◌++◌, length, take, drop, Option, Some, None, append-nil, append_assoc, arith, take_all}
 use Rattle.std.specs.Io.KnownBytes.{Appends, Consumes, IsAtEnd, Keeps}
 use Rattle.std.proofs.KnownBytes.{Appends-nil, Appends-trans, Consumes-nil, Consumes-trans}
 use Rattle.std.proofs.lemmas.List.{length-take, length-take-le, length-drop}
@@ -8,14 +8,11 @@ use Rattle.lpt_stream.specs.declared.found.Found.{Found}
 use Rattle.lpt_stream.specs.declared.piece_kind.PieceKind.{PieceKind}
 use Rattle.lpt_stream.specs.declared.piece_kind.PieceKind.TheVariants.{Whole as APacket, Damaged, Stray}
 use Rattle.lpt_stream.specs.Buffers.{held, is_in_step, is_ended, found_piece, Goes, IsInFront}
-use Rattle.lpt_text.specs.declared.fault.ToolFault.{ToolFault}
-use Rattle.lpt_text.specs.declared.fault.ToolFault.TheVariants as tool
 use Rattle.lpt_text.specs.Streams.{AppendsPart}
 use Rattle.lpt_stream.specs.Pieces.{Piece, Leads, keeps_step, kind_in, lookahead, piece_at, size_in}
 use Rattle.lpt_stream.proofs.CutLemmas.{IsRead, read-none, read-more, read-next, read-end, read-leads, read-front}
 use Rattle.lpt_text.proofs.StreamLemmas.{part_after}
 use Rattle.lpt_list.specs.declared.list_end.ListEnd.{ListEnd}
-use Rattle.lpt_list.specs.declared.list_end.Listed.{Listed}
 use Rattle.lpt_list.specs.declared.list_end.Tally.{Tally}
 use Rattle.lpt_list.specs.declared.list_end.ListEnd.TheVariants.{Whole as AtEnd, Stopped}
 use Rattle.lpt_list.specs.declared.form.Form.{Form}
@@ -351,47 +348,3 @@ at-last form p from strict (Stopped place) n before after old mid new h keeps = 
   h.cut,
   all_written old mid new (listing form p from true (h.pieces ++ h.last ∷ [])) h.written keeps,
 )
-
-abbrev fails : ToolFault → Result Listed ToolFault
-fails e = Err e
-
--- a fault that isn't a read's leaves the reader as it was
-pub heard_by : (fault : ToolFault) (had failed : Bool)
-    → ((fault ≡ tool.Read) × (failed ≡ true))
-    ⊎ (((fault ≡ tool.Write) ⊎ (fault ≡ tool.Memory)) × (failed ≡ had))
-    → fails fault ≢ fails tool.Read
-    → failed ≡ had
-heard_by fault had failed (inl h) ne = absurd (ne (ap fails h.0))
-heard_by fault had failed (inr h) ne = h.1
-
--- and one that isn't a write's the writer
-pub told_by : (fault : ToolFault) (had failed : Bool)
-    → ((fault ≡ tool.Write) × (failed ≡ true)) ⊎ ((fault ≡ tool.Memory) × (failed ≡ had))
-    → fails fault ≢ fails tool.Write
-    → failed ≡ had
-told_by fault had failed (inl h) ne = absurd (ne (ap fails h.0))
-told_by fault had failed (inr h) ne = h.1
-
-same_fault : (f g : ToolFault) → ◌≡◌ {A = Result (Option Found) ToolFault} (Err f) (Err g) → f ≡ g
-same_fault f g e = cc
-
--- a search that didn't fail by the writer leaves it as it was
-pub told_found : (fault : ToolFault) (had failed : Bool)
-    → (◌≢◌ {A = Result (Option Found) ToolFault} (Err fault) (Err tool.Write) → failed ≡ had)
-    → fails fault ≢ fails tool.Write
-    → failed ≡ had
-told_found fault had failed h other = h (λ e. other (ap fails (same_fault fault tool.Write e)))
-
-abbrev fails_found : ToolFault → Result (Option Found) ToolFault
-fails_found e = Err e
-
--- what a search that failed says of the fault
-pub fault_found : (fault : ToolFault) (had failed wrote : Bool) (TooLong : Type 0)
-    → ((fault ≡ tool.Read) × (failed ≡ true))
-    ⊎ (((fault ≡ tool.Write) ⊎ (fault ≡ tool.Memory)) × (failed ≡ had))
-    → (◌≡◌ {A = Result (Option Found) ToolFault} (Err fault) (Err tool.Write) → wrote ≡ true)
-    → ((fault ≡ tool.Read) × ((failed ≡ true) ⊎ TooLong))
-    ⊎ (((fault ≡ tool.Write) × (wrote ≡ true)) ⊎ (fault ≡ tool.Memory))
-fault_found fault had failed wrote TooLong (inl h) cause = inl (h.0, inl h.1)
-fault_found fault had failed wrote TooLong (inr (inl w, k)) cause = inr (inl (w, cause (ap fails_found w)))
-fault_found fault had failed wrote TooLong (inr (inr m, k)) cause = inr (inr m)

@@ -16,4 +16,4 @@ mod listing;
 pub use form::Form;
 pub use list_end::{ListEnd, Listed, Tally};
 pub use listing::list_stream;
-pub use lpt_text::{Sink, Source, ToolFault};
+pub use lpt_text::{Sink, Source, StreamFault};

@@ -1,10 +1,10 @@
 //! The list of a stream, written as the stream comes.
 
-ghost use Rattle.std.specs.Prelude.{◌≡◌, ◌≢◌, ◌⊎◌, Err, IfErr, IfOk, IsOk, OnOk, false, true};
+ghost use Rattle.std.specs.Prelude.{◌≡◌, ◌≢◌, ◌⊎◌, IfErr, IfOk, IsOk, OnOk, false, true};
 ghost use Rattle.std.specs.Io.KnownBytes.{Appends};
 ghost use Rattle.std.specs.String.{string_bytes};
 ghost use Rattle.lpt_part.specs.Splitting.{IsPartSize};
-ghost use Rattle.lpt_text.specs.Streams.{AppendsPart};
+ghost use Rattle.lpt_text.specs.Streams.{AppendsPart, ReadEnds, WriteEnds};
 ghost use Rattle.lpt_stream.specs.Pieces.{keeps_step};
 ghost use Rattle.lpt_list.specs.Lists.{line_for, IsTooLong, ListLeaves, ListsTo};
 
@@ -12,7 +12,7 @@ use crate::lines::{print_none, print_piece};
 use crate::list_end::counted;
 use crate::{Form, ListEnd, Listed, Tally};
 use lpt_stream::{PacketBuffer, PieceKind};
-use lpt_text::{Sink, Source, ToolFault, flush_out, write_out};
+use lpt_text::{Sink, Source, StreamFault, flush_out, write_out};
 use std::alloc::{AllocError, Global};
 
 /// So far a stream is listed: up to place 2^64 - 131,085.
@@ -36,22 +36,20 @@ pub fn list_stream<S: Source, K: Sink>(
     from: u64,
     source: &mut S,
     out: &mut K,
-) -> Result<Listed, ToolFault>
+) -> Result<Listed, StreamFault>
     requires { IsPartSize p }
     ensures ends { IfOk result (λ l. ListsTo form p from strict l.end l.tally
         (S.remaining source.old) (S.remaining source.new)
         (K.contents out.old) (K.contents out.new)) }
 
-    // Each fault is that of a read, of a write or of memory.
-    ensures fault { IfErr result (λ e. ((e ≡ ToolFault.Read) × ((S.failed source.new ≡ true)
-        ⊎ IsTooLong from (S.remaining source.old) (S.remaining source.new)))
-        ⊎ (((e ≡ ToolFault.Write) × (K.failed out.new ≡ true)) ⊎ (e ≡ ToolFault.Memory))) }
+    // What a fault leaves.
     ensures leaves { IfErr result (λ _. ListLeaves form p from
         (S.remaining source.old) (S.remaining source.new)
         (K.contents out.old) (K.contents out.new)) }
-    ensures heard { result ≢ Err ToolFault.Read → S.failed source.new ≡ S.failed source.old }
-    ensures told { result ≢ Err ToolFault.Write → K.failed out.new ≡ K.failed out.old }
-    ensures passed { IsOk result → K.passed out.new ≡ K.contents out.new }
+    ensures reader { ReadEnds (IsTooLong from (S.remaining source.old) (S.remaining source.new)) result
+        (S.failed source.old) (S.failed source.new) }
+    ensures writer { WriteEnds result (K.failed out.old) (K.failed out.new) }
+    ensures passed { IsOk result → K.flushed out.new ≡ K.contents out.new }
 {
     let listed = match list_pieces(alloc, form, p, strict, from, source, out) {
         Ok(listed) => listed,
@@ -72,19 +70,17 @@ fn list_pieces<S: Source, K: Sink>(
     from: u64,
     source: &mut S,
     out: &mut K,
-) -> Result<Listed, ToolFault>
+) -> Result<Listed, StreamFault>
     requires { IsPartSize p }
     ensures ends { IfOk result (λ l. ListsTo form p from strict l.end l.tally
         (S.remaining source.old) (S.remaining source.new)
         (K.contents out.old) (K.contents out.new)) }
-    ensures fault { IfErr result (λ e. ((e ≡ ToolFault.Read) × ((S.failed source.new ≡ true)
-        ⊎ IsTooLong from (S.remaining source.old) (S.remaining source.new)))
-        ⊎ (((e ≡ ToolFault.Write) × (K.failed out.new ≡ true)) ⊎ (e ≡ ToolFault.Memory))) }
     ensures leaves { IfErr result (λ _. ListLeaves form p from
         (S.remaining source.old) (S.remaining source.new)
         (K.contents out.old) (K.contents out.new)) }
-    ensures heard { result ≢ Err ToolFault.Read → S.failed source.new ≡ S.failed source.old }
-    ensures told { result ≢ Err ToolFault.Write → K.failed out.new ≡ K.failed out.old }
+    ensures reader { ReadEnds (IsTooLong from (S.remaining source.old) (S.remaining source.new)) result
+        (S.failed source.old) (S.failed source.new) }
+    ensures writer { WriteEnds result (K.failed out.old) (K.failed out.new) }
 {
     let mut buffer = PacketBuffer::new(alloc);
     let mut place = from;
@@ -120,7 +116,7 @@ fn list_pieces<S: Source, K: Sink>(
         in_step = goes_on(found.kind);
         buffer.skip(found);
     }
-    Err(ToolFault::Read)
+    Err(StreamFault::Read)
 }
 
 // Whether a list ends with such a piece.
@@ -151,19 +147,18 @@ fn list_piece<K: Sink>(
     kind: PieceKind,
     octets: &[u8],
     out: &mut K,
-) -> Result<(), ToolFault>
+) -> Result<(), StreamFault>
     requires { IsPartSize p }
     ensures ok { OnOk result (Appends (K.contents out.old) (K.contents out.new)
         (line_for form p place in_step kind octets.now)) }
-    ensures fault { IfErr result (λ e. ((e ≡ ToolFault.Write) × (K.failed out.new ≡ true))
-        ⊎ ((e ≡ ToolFault.Memory) × (K.failed out.new ≡ K.failed out.old))) }
+    ensures fault { IfErr result (λ e. (e ≡ StreamFault.Write) ⊎ (e ≡ StreamFault.Memory)) }
     ensures part { IfErr result (λ _. AppendsPart (K.contents out.old) (K.contents out.new)
         (line_for form p place in_step kind octets.now)) }
-    ensures told { OnOk result (K.failed out.new ≡ K.failed out.old) }
+    ensures writer { WriteEnds result (K.failed out.old) (K.failed out.new) }
 {
     match print_line(alloc, form, p, place, in_step, kind, octets) {
         Ok(line) => write_out(out, line.as_bytes()),
-        Err(_) => Err(ToolFault::Memory),
+        Err(_) => Err(StreamFault::Memory),
     }
 }
 

@@ -9,10 +9,10 @@ use Rattle.std.proofs.KnownBytes.{Appends-trans}
 use Rattle.std.specs.Io.KnownBytes.{Appends}
 use Rattle.lpt_script_text.specs.Printing.{accepted_text, refused_text}
 use Rattle.lpt_text.specs.Streams.{AppendsPart}
-use Rattle.lpt_text.specs.declared.fault.ToolFault.{ToolFault}
-use Rattle.lpt_text.specs.declared.fault.ToolFault.TheVariants as tool
-use Rattle.lpt_script.specs.Ends.{TextEnds, LineEnds, LinesEnd, unrefused}
-use Rattle.lpt_script.specs.Scripts.{Ran, Script, printed, answered, stepped, stepped_as, joined, unless_refused, and_then}
+use Rattle.lpt_text.specs.declared.fault.StreamFault.{StreamFault}
+use Rattle.lpt_text.specs.declared.fault.StreamFault.TheVariants as faults
+use Rattle.lpt_script.specs.Ends.{TextEnds, LineEnds, unrefused}
+use Rattle.lpt_script.specs.Scripts.{Ran, printed, answered, stepped, stepped_as, joined, unless_refused, and_then}
 use Rattle.lpt_events.specs.declared.event.Event.{Event}
 use Rattle.lpt_events.specs.declared.fault.StepFault.{StepFault}
 use Rattle.lpt_events.specs.declared.fault.StepFault.TheVariants.{Memory}
@@ -21,49 +21,32 @@ use Rattle.lpt_world.specs.Worlds.{Shown, refusal_at, RefusedBy}
 -- ---- printed texts
 
 -- what is printed without an event leaves the world as it is
-pub quiet_ends : (w : Shown) (text : List ℕ) (r : Result Unit ToolFault) (a b : Option (List ℕ))
+pub quiet_ends : (w : Shown) (text : List ℕ) (r : Result Unit StreamFault) (a b : Option (List ℕ))
     → TextEnds text r a b
     → LineEnds (printed w text) (unrefused r) w a b
 quiet_ends w text (Ok u) a b p = (refl, refl, refl, p)
-quiet_ends w text (Err tool.Write) a b p = p
-quiet_ends w text (Err tool.Memory) a b p = p
-quiet_ends w text (Err tool.Read) a b p = p
-quiet_ends w text (Err tool.Config) a b p = p
-quiet_ends w text (Err (tool.Line k)) a b p = absurd p
-quiet_ends w text (Err (tool.Threads k)) a b p = p
-
--- a text that can't be written
-pub text_fault : (script : Script) (fault : ToolFault) (a b : Option (List ℕ))
-    → TextEnds {A = Unit} script.text (Err fault) a b
-    → LinesEnd script (Err fault) a b
-text_fault script tool.Write a b p = p
-text_fault script tool.Memory a b p = p
-text_fault script tool.Read a b p = p
-text_fault script tool.Config a b p = p
-text_fault script (tool.Line k) a b p = absurd p
-text_fault script (tool.Threads k) a b p = p
+quiet_ends w text (Err faults.Write) a b p = p
+quiet_ends w text (Err faults.Memory) a b p = p
+quiet_ends w text (Err faults.Read) a b p = p
 
 -- ---- events
 
 -- the answer of a refused event: out of memory prints nothing
-pub refused_ends : (w v : Shown) (e : Event) (fault : StepFault) (r : Result (Option StepFault) ToolFault) (a b : Option (List ℕ))
+pub refused_ends : (w v : Shown) (e : Event) (fault : StepFault) (r : Result (Option StepFault) StreamFault) (a b : Option (List ℕ))
     → RefusedBy (refusal_at w 0 e) fault
     → v ≡ w
     → TextEnds (refused_text fault) r a b
     → IfOk r (λ refused. refused ≡ Some fault)
-    → (fault ≡ Memory → (r ≡ Err tool.Memory) × (a ≡ b))
+    → (fault ≡ Memory → (r ≡ Err faults.Memory) × (a ≡ b))
     → LineEnds (stepped w e) r v a b
 refused_ends w v e fault r a b by same p was_refused memory = by_reason (refusal_at w 0 e) by
   where
-    told : (first : StepFault) → fault ≡ first → (r : Result (Option StepFault) ToolFault) → TextEnds (refused_text fault) r a b
+    told : (first : StepFault) → fault ≡ first → (r : Result (Option StepFault) StreamFault) → TextEnds (refused_text fault) r a b
         → IfOk r (λ refused. refused ≡ Some fault) → LineEnds (stepped_as w e (Some first)) r v a b
     told first is (Ok f) p q = (refl, q ∙ ap Some is, same, subst (λ x. Appends a b (refused_text x)) is p)
-    told first is (Err tool.Write) p q = subst (λ x. AppendsPart a b (refused_text x)) is p
-    told first is (Err tool.Memory) p q = subst (λ x. AppendsPart a b (refused_text x)) is p
-    told first is (Err tool.Read) p q = p
-    told first is (Err tool.Config) p q = p
-    told first is (Err (tool.Line k)) p q = absurd p
-    told first is (Err (tool.Threads k)) p q = p
+    told first is (Err faults.Write) p q = subst (λ x. AppendsPart a b (refused_text x)) is p
+    told first is (Err faults.Memory) p q = subst (λ x. AppendsPart a b (refused_text x)) is p
+    told first is (Err faults.Read) p q = p
 
     by_reason : (x : Option StepFault) → RefusedBy x fault → LineEnds (stepped_as w e x) r v a b
     by_reason None is =
@@ -75,7 +58,7 @@ refused_ends w v e fault r a b by same p was_refused memory = by_reason (refusal
 -- ---- one event after another
 
 -- the second event, where the first was accepted
-pub then_ends : (first : Ran) (second : Shown → Ran) (r : Result (Option StepFault) ToolFault) (w v : Shown) (a b c : Option (List ℕ))
+pub then_ends : (first : Ran) (second : Shown → Ran) (r : Result (Option StepFault) StreamFault) (w v : Shown) (a b c : Option (List ℕ))
     → LineEnds first (Ok None) w a b
     → LineEnds (second w) r v b c
     → LineEnds (and_then first second) r v a c
@@ -83,18 +66,15 @@ then_ends first second r w v a b c p q =
     subst (λ x. LineEnds (unless_refused x first second) r v a c) p.1
     (joined_ends r (subst (λ x. LineEnds (second x) r v b c) p.2 q))
   where
-    joined_ends : (r : Result (Option StepFault) ToolFault) → LineEnds (second first.world) r v b c
+    joined_ends : (r : Result (Option StepFault) StreamFault) → LineEnds (second first.world) r v b c
         → LineEnds (joined first (second first.world)) r v a c
     joined_ends (Ok f) q = (q.0, q.1, q.2, Appends-trans a b c first.text _ p.3 q.3)
-    joined_ends (Err (tool.Line k)) q = (q.0, Appends-trans a b c first.text _ p.3 q.1)
-    joined_ends (Err tool.Write) q = part_after a b c first.text _ p.3 q
-    joined_ends (Err tool.Memory) q = part_after a b c first.text _ p.3 q
-    joined_ends (Err tool.Read) q = q
-    joined_ends (Err tool.Config) q = q
-    joined_ends (Err (tool.Threads k)) q = q
+    joined_ends (Err faults.Write) q = part_after a b c first.text _ p.3 q
+    joined_ends (Err faults.Memory) q = part_after a b c first.text _ p.3 q
+    joined_ends (Err faults.Read) q = q
 
 -- the first event alone, where it was refused or its text could not be written
-pub first_ends : (first : Ran) (v : Shown) (second : Shown → Ran) (r : Result (Option StepFault) ToolFault) (a b : Option (List ℕ))
+pub first_ends : (first : Ran) (v : Shown) (second : Shown → Ran) (r : Result (Option StepFault) StreamFault) (a b : Option (List ℕ))
     → first.bad ≡ None
     → LineEnds first r v a b
     → IfOk r (λ refused. is_some refused ≡ true)
@@ -103,18 +83,15 @@ first_ends first v second r a b good p q = by_refused first.refused refl r p q
   where
     by_refused : (t : Option StepFault)
         → first.refused ≡ t
-        → (r : Result (Option StepFault) ToolFault)
+        → (r : Result (Option StepFault) StreamFault)
         → LineEnds first r v a b
         → IfOk r (λ refused. is_some refused ≡ true)
         → LineEnds (unless_refused t first second) r v a b
     by_refused (Some fault) is r p q = p
     by_refused None is (Ok f) p q = let never : true ≡ false = sym q ∙ ap is_some (p.1 ∙ is) in absurd cc
-    by_refused None is (Err (tool.Line k)) p q = let never : None ≡ Some k = sym good ∙ p.0 in absurd cc
-    by_refused None is (Err tool.Write) p q = part_of_front a b _ _ p
-    by_refused None is (Err tool.Memory) p q = part_of_front a b _ _ p
-    by_refused None is (Err tool.Read) p q = p
-    by_refused None is (Err tool.Config) p q = p
-    by_refused None is (Err (tool.Threads k)) p q = p
+    by_refused None is (Err faults.Write) p q = part_of_front a b _ _ p
+    by_refused None is (Err faults.Memory) p q = part_of_front a b _ _ p
+    by_refused None is (Err faults.Read) p q = p
 
 -- an event is no unreadable line
 pub good_event : (w : Shown) (e : Event) → (stepped w e).bad ≡ None
@@ -167,15 +144,12 @@ texts_part f xs x n a b c short at p q =
     subst (AppendsPart a c) whole (part_of_front a c (flat_map f (take (n + 1) xs)) rest front)
 
 -- the fault of the next ends all
-pub texts_end : {X : Type 0} (f : X → List ℕ) (xs : List X) (x : X) (n : ℕ) (fault : ToolFault) (a b c : Option (List ℕ))
+pub texts_end : {X : Type 0} (f : X → List ℕ) (xs : List X) (x : X) (n : ℕ) (fault : StreamFault) (a b c : Option (List ℕ))
     → n < length xs
     → x ≡ slice_index_or xs n x
     → Appends a b (flat_map f (take n xs))
     → TextEnds {A = Unit} (f x) (Err fault) b c
     → TextEnds {A = Unit} (flat_map f xs) (Err fault) a c
-texts_end f xs x n tool.Write a b c short at p q = texts_part f xs x n a b c short at p q
-texts_end f xs x n tool.Memory a b c short at p q = texts_part f xs x n a b c short at p q
-texts_end f xs x n tool.Read a b c short at p q = q
-texts_end f xs x n tool.Config a b c short at p q = q
-texts_end f xs x n (tool.Line k) a b c short at p q = absurd q
-texts_end f xs x n (tool.Threads k) a b c short at p q = absurd q
+texts_end f xs x n faults.Write a b c short at p q = texts_part f xs x n a b c short at p q
+texts_end f xs x n faults.Memory a b c short at p q = texts_part f xs x n a b c short at p q
+texts_end f xs x n faults.Read a b c short at p q = q

@@ -1,7 +1,6 @@
 -- What was written stays, whatever is written behind it.
 use Rattle.std.proofs.Common.{ℕ, List, ◌++◌, Option}
 use Rattle.std.proofs.KnownBytes.{Appends-trans}
-use Rattle.lpt_text.specs.declared.fault.ToolFault.TheVariants as tool
 use Rattle.lpt_script.specs.Ends.{Grows}
 
 pub grows_on : (a b c : Option (List ℕ)) → Grows a b → Grows b c → Grows a c

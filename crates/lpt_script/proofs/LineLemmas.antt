@@ -1,205 +1,206 @@
--- How a script's ending follows from those of its lines.
-use Rattle.std.proofs.Common.{◌≡◌, ℕ, ◌+◌, ◌<◌, List, [], ◌∷◌, ◌++◌, length, Option, None, Some, is_some, Result, Ok, Err, Bool, refl, sym, ap, ◌∙◌, subst, append_assoc, append-nil, arith}
+-- What a line of a script does, taken alone.
+use Rattle.std.proofs.Common.{◌≡◌, ◌⊎◌, ℕ, ◌+◌, ◌<◌, List, [], ◌∷◌, ◌++◌, length, Option, None, Some, is_some, Ok, Err, Bool, false, refl, sym, ap, ◌∙◌, subst, inl, inr, append-nil, length-append, arith}
 use Rattle.std.specs.Int.{from_bool}
-use Rattle.std.proofs.KnownBytes.{Appends-trans, Appends-nil}
 use Rattle.std.specs.Io.KnownBytes.{Appends}
 use Rattle.std.proofs.lemmas.Bool.Decides.{nat_tests}
-use Rattle.lpt_text.specs.Lines.{line_end}
+use Rattle.lpt_text.specs.Taking.{IsBehind, Story, behind, failures, is_last, unless_last}
+use Rattle.lpt_text.specs.declared.fault.StreamFault.{StreamFault}
+use Rattle.lpt_text.specs.declared.fault.StreamFault.TheVariants as faults
 use Rattle.lpt_text.specs.Streams.{AppendsPart}
-use Rattle.lpt_text.specs.declared.fault.ToolFault.{ToolFault}
-use Rattle.lpt_text.specs.declared.fault.ToolFault.TheVariants as tool
-use Rattle.lpt_script.specs.Ends.{LineEnds, LinesEnd}
-use Rattle.lpt_script.specs.Scripts.{Ran, Script, behind, left_of, then_rest, lines_left, lines_ran, line_ran, says, says_now, shows_left}
+use Rattle.lpt_text.proofs.StreamLemmas.{part_of_front}
+use Rattle.lpt_text.specs.declared.taking.Taken.{Taken}
+use Rattle.lpt_text.specs.declared.taking.Taken.TheVariants.{Done, Failed, Over}
+use Rattle.lpt_events.specs.declared.fault.StepFault.{StepFault}
+use Rattle.lpt_script.specs.Ends.{LineEnds, TextEnds}
+use Rattle.lpt_script.specs.Runs.{RunLeft, ended_by, run_story, unless_bad}
+use Rattle.lpt_script.specs.RunsInside.{LineTaken}
+use Rattle.lpt_script.specs.Scripts.{Ran, lines_left, lines_ran, line_ran, says, says_now, shows_left, then_rest}
 use Rattle.lpt_script_words.specs.declared.showing.Show.{Show}
-use Rattle.lpt_text.proofs.StreamLemmas.{part_after, part_of_front}
-use Rattle.lpt_script.specs.declared.end.ScriptEnd.{ScriptEnd}
-use Rattle.lpt_script_words.proofs.Pieces.{lines-nowhere}
-use Rattle.lpt_script_words.specs.Words.{lines}
+use Rattle.lpt_script_words.specs.declared.grammar.Reading.{Reading}
 use Rattle.lpt_script_words.specs.declared.grammar.Reading.TheVariants.{Unreadable}
 use Rattle.lpt_script_words.specs.Grammar.{reading_of}
-use Rattle.lpt_events.specs.declared.fault.StepFault.{StepFault}
 use Rattle.lpt_world.specs.Worlds.{Shown}
 
--- a text before a text is their joined text
-behind_behind : (first second : List ℕ) (s : Script) → behind first (behind second s) ≡ behind (first ++ second) s
-behind_behind first second s = ap (λ t. record s { text = t }) (sym (append_assoc first second s.text))
-
--- what all lines do: this text was written, and the lines from here on do the rest
-pub record Goes (later : Bool) (all : Script) (rest : List (List ℕ)) (w : Shown) (n refused : ℕ) (a b : Option (List ℕ)) : Type 0 where
-  pub done : List ℕ
-  pub written : Appends a b done
-  pub follows : all ≡ behind done (lines_ran later rest w n refused)
-
--- the line's text follows what was written
-pub line_first : (later : Bool) (all : Script) (line : List ℕ) (more : List (List ℕ)) (w : Shown) (n refused : ℕ) (a b : Option (List ℕ))
-    → (goes : Goes later all (line ∷ more) w n refused a b)
-    → (line_ran (says later w.config.source line) n w).bad ≡ None
-    → all ≡ behind (goes.done ++ (line_ran (says later w.config.source line) n w).text)
-    (lines_ran later more (line_ran (says later w.config.source line) n w).world (n + 1) (refused + from_bool (is_some (line_ran (says later w.config.source line) n w).refused)))
-line_first later all line more w n refused a b goes good =
-    let ran = line_ran (says later w.config.source line) n w in
-    goes.follows
-    ∙ ap (λ x. behind goes.done (then_rest ran n refused (lines_ran later more) x)) good
-    ∙ behind_behind goes.done ran.text (lines_ran later more ran.world (n + 1) (refused + from_bool (is_some ran.refused)))
-
--- a line that ended well leaves the rest to do
-pub line_done : (later : Bool) (all : Script) (rest more : List (List ℕ)) (line : List ℕ) (w v : Shown) (n refused : ℕ) (f : Option StepFault) (a b c : Option (List ℕ))
-    → Goes later all rest w n refused a b
-    → rest ≡ line ∷ more
-    → LineEnds (line_ran (says later w.config.source line) n w) (Ok f) v b c
-    → Goes later all more v (n + 1) (refused + from_bool (is_some f)) a c
-line_done later all rest more line w v n refused f a b c goes at ends =
-    let ran = line_ran (says later w.config.source line) n w in
-    let here = subst (λ x. Goes later all x w n refused a b) at goes in
-    record {
-      done = here.done ++ ran.text;
-      written = Appends-trans a b c here.done ran.text here.written ends.3;
-      follows = line_first later all line more w n refused a b here ends.0
-          ∙ ap (λ x. behind (here.done ++ ran.text) (lines_ran later more x (n + 1) (refused + from_bool (is_some ran.refused)))) (sym ends.2)
-          ∙ ap (λ x. behind (here.done ++ ran.text) (lines_ran later more v (n + 1) (refused + from_bool (is_some x)))) (sym ends.1);
-    }
-
--- all that a line's text is a front part of
-line_front : (later : Bool) (all : Script) (line : List ℕ) (more : List (List ℕ)) (w : Shown) (n refused : ℕ) (a b c : Option (List ℕ))
-    → Goes later all (line ∷ more) w n refused a b
-    → AppendsPart b c (line_ran (says later w.config.source line) n w).text
-    → AppendsPart a c all.text
-line_front later all line more w n refused a b c goes p = by_bad ran.bad refl
-  where
-    ran : Ran
-    ran = line_ran (says later w.config.source line) n w
-
-    front : AppendsPart a c (goes.done ++ ran.text)
-    front = part_after a b c goes.done ran.text goes.written p
-
-    by_bad : (x : Option ℕ) → ran.bad ≡ x → AppendsPart a c all.text
-    by_bad None is =
-        let rest = lines_ran later more ran.world (n + 1) (refused + from_bool (is_some ran.refused)) in
-        subst (λ s. AppendsPart a c s.text) (sym (line_first later all line more w n refused a b goes is))
-        (part_of_front a c (goes.done ++ ran.text) rest.text front)
-    by_bad (Some k) is =
-        let last = goes.follows ∙ ap (λ x. behind goes.done (then_rest ran n refused (lines_ran later more) x)) is in
-        subst (λ s. AppendsPart a c s.text) (sym last) front
-
--- a line that ended by a fault ends all
-pub line_fault : (later : Bool) (all : Script) (rest more : List (List ℕ)) (line : List ℕ) (w v : Shown) (n refused : ℕ) (fault : ToolFault) (a b c : Option (List ℕ))
-    → Goes later all rest w n refused a b
-    → rest ≡ line ∷ more
-    → LineEnds (line_ran (says later w.config.source line) n w) (Err fault) v b c
-    → LinesEnd all (Err fault) a c
-line_fault later all rest more line w v n refused fault a b c goes at ends = by_fault fault ends
-  where
-    ran : Ran
-    ran = line_ran (says later w.config.source line) n w
-
-    here : Goes later all (line ∷ more) w n refused a b
-    here = subst (λ x. Goes later all x w n refused a b) at goes
-
-    by_fault : (fault : ToolFault) → LineEnds ran (Err fault) v b c → LinesEnd all (Err fault) a c
-    by_fault (tool.Line k) p =
-        let last = here.follows ∙ ap (λ x. behind here.done (then_rest ran n refused (lines_ran later more) x)) p.0 in (
-          ap (λ s. s.bad) last,
-          subst (λ s. Appends a c s.text) (sym last) (Appends-trans a b c here.done ran.text here.written p.1),
-        )
-    by_fault tool.Write p = line_front later all line more w n refused a b c here p
-    by_fault tool.Memory p = line_front later all line more w n refused a b c here p
-    by_fault tool.Read p = p
-    by_fault tool.Config p = p
-    by_fault (tool.Threads k) p = p
-
--- ---- the end of all lines
-
--- where no line is left, all are done
-goes_end : (later : Bool) (all : Script) (w : Shown) (n refused : ℕ) (a b : Option (List ℕ))
-    → Goes later all [] w n refused a b
-    → LinesEnd all (Ok (record { refused = refused })) a b
-goes_end later all w n refused a b goes = (
-  ap (λ s. s.bad) goes.follows,
-  sym (ap (λ s. s.refused) goes.follows),
-  subst (Appends a b) (sym (ap (λ s. s.text) goes.follows ∙ append-nil goes.done)) goes.written,
-)
-
--- the lines from here on end all
-pub rest_ends : (later : Bool) (all : Script) (done : List ℕ) (rest : List (List ℕ)) (w : Shown) (n refused : ℕ) (r : Result ScriptEnd ToolFault) (a b c : Option (List ℕ))
-    → Appends a b done
-    → all ≡ behind done (lines_ran later rest w n refused)
-    → LinesEnd (lines_ran later rest w n refused) r b c
-    → LinesEnd all r a c
-rest_ends later all done rest w n refused (Ok end) a b c p is q = (
-  ap (λ s. s.bad) is ∙ q.0,
-  q.1 ∙ sym (ap (λ s. s.refused) is),
-  subst (λ s. Appends a c s.text) (sym is) (Appends-trans a b c done (lines_ran later rest w n refused).text p q.2),
-)
-rest_ends later all done rest w n refused (Err (tool.Line k)) a b c p is q = (
-  ap (λ s. s.bad) is ∙ q.0,
-  subst (λ s. Appends a c s.text) (sym is) (Appends-trans a b c done (lines_ran later rest w n refused).text p q.1),
-)
-rest_ends later all done rest w n refused (Err tool.Write) a b c p is q =
-    subst (λ s. AppendsPart a c s.text) (sym is) (part_after a b c done (lines_ran later rest w n refused).text p q)
-rest_ends later all done rest w n refused (Err tool.Memory) a b c p is q =
-    subst (λ s. AppendsPart a c s.text) (sym is) (part_after a b c done (lines_ran later rest w n refused).text p q)
-rest_ends later all done rest w n refused (Err tool.Read) a b c p is q = q
-rest_ends later all done rest w n refused (Err tool.Config) a b c p is q = q
-rest_ends later all done rest w n refused (Err (tool.Threads k)) a b c p is q = q
-
--- ---- the last line, which lacks its line end
-
--- it is to be done, and nothing is written yet
-last_goes : (later : Bool) (line : List ℕ) (w : Shown) (n refused : ℕ) (b : Option (List ℕ))
-    → Goes later (lines_ran later (lines line) w n refused) (lines line) w n refused b b
-last_goes later line w n refused b = record { done = []; written = Appends-nil b; follows = refl }
-
--- it ended well
-pub last_done : (later : Bool) (line : List ℕ) (w v : Shown) (n refused : ℕ) (f : Option StepFault) (b c : Option (List ℕ))
-    → line_end line ≡ None
-    → 0 < length line
-    → LineEnds (line_ran (says later w.config.source line) n w) (Ok f) v b c
-    → LinesEnd (lines_ran later (lines line) w n refused) (Ok (record { refused = refused + from_bool (is_some f) })) b c
-last_done later line w v n refused f b c none some ends =
-    let all = lines_ran later (lines line) w n refused in
-    goes_end later all v (n + 1) (refused + from_bool (is_some f)) b c
-    (line_done later all (lines line) [] line w v n refused f b b c (last_goes later line w n refused b) (lines-nowhere line none some) ends)
-
--- what it leaves then
-pub last_left : (later : Bool) (line : List ℕ) (w v : Shown) (n : ℕ) (f : Option StepFault) (b c : Option (List ℕ)) (before after : List Show)
-    → line_end line ≡ None
-    → 0 < length line
-    → LineEnds (line_ran (says later w.config.source line) n w) (Ok f) v b c
-    → after ≡ before ++ shows_left later (reading_of w.config.source line)
-    → lines_left later (lines line) w n before ≡ left_of v after
-last_left later line w v n f b c before after none some ends is =
-    ap (λ x. lines_left later x w n before) (lines-nowhere line none some)
-    ∙ ap (λ x. left_of x (before ++ shows_left later (reading_of w.config.source line))) (sym ends.2)
-    ∙ ap (left_of v) (sym is)
-
--- it ended by a fault
-pub last_fault : (later : Bool) (line : List ℕ) (w v : Shown) (n refused : ℕ) (fault : ToolFault) (b c : Option (List ℕ))
-    → line_end line ≡ None
-    → 0 < length line
-    → LineEnds (line_ran (says later w.config.source line) n w) (Err fault) v b c
-    → LinesEnd (lines_ran later (lines line) w n refused) (Err fault) b c
-last_fault later line w v n refused fault b c none some ends =
-    line_fault later (lines_ran later (lines line) w n refused) (lines line) [] line w v n refused fault b b c
-    (last_goes later line w n refused b) (lines-nowhere line none some) ends
-
--- it is too long
+-- a line that is too long is unreadable
 pub unread : (source : ℕ) (line : List ℕ)
     → 140000 < length line
     → reading_of source line ≡ Unreadable
 unfolding reading_of
 unread source line long = grind (arith, nat_tests)
 
-too_long : (later : Bool) (source : ℕ) (line : List ℕ)
-    → 140000 < length line
-    → says later source line ≡ Unreadable
-too_long later source line long = ap (says_now later) (unread source line long)
+-- so is the line of which it is the front
+same_reading : (source : ℕ) (line rest : List ℕ)
+    → IsBehind line rest
+    → reading_of source (line ++ rest) ≡ reading_of source line
+same_reading source line rest (inl none) =
+    ap (λ x. reading_of source (line ++ x)) none ∙ ap (reading_of source) (append-nil line)
+same_reading source line rest (inr long) =
+    unread source (line ++ rest) (omega (arith, length-append line rest)) ∙ sym (unread source line long)
 
--- then it is unreadable
-pub long_bad : (later : Bool) (line : List ℕ) (w : Shown) (n refused : ℕ)
-    → line_end line ≡ None
-    → 140000 < length line
-    → (lines_ran later (lines line) w n refused).bad ≡ Some n
-long_bad later line w n refused none long =
-    let one = lines-nowhere line none (omega arith) in
-    ap (λ x. (lines_ran later x w n refused).bad) one
-    ∙ ap (λ x. (then_rest (line_ran x n w) n refused (lines_ran later []) (line_ran x n w).bad).bad) (too_long later w.config.source line long)
+-- what a line and those behind it do, by what it says and whether it ends them
+story_by :
+    (later : Bool) → (kept : List Show) → Shown → (n refused : ℕ) → List (List ℕ) → Reading → Option ℕ
+    → Story RunLeft
+story_by later kept w n refused more r bad =
+    let ran = line_ran (says_now later r) n w in
+    let script = then_rest ran n refused (lines_ran later more) bad in
+    record {
+      text = script.text;
+      left = record {
+        refused = script.refused;
+        bad = script.bad;
+        left = unless_bad script.bad (lines_left later more ran.world (n + 1) (kept ++ shows_left later r));
+      };
+    }
+
+-- a line does what it does alone, and then those behind it do the rest
+pub line_story : (later : Bool) (kept : List Show) (w : Shown) (n refused : ℕ) (line rest : List ℕ)
+    (more : List (List ℕ)) (taken : Taken)
+    → IsBehind line rest
+    → let ran = line_ran (says later w.config.source line) n w in
+    ran.bad ≡ ended_by taken n
+    → from_bool (is_some ran.refused) ≡ failures taken
+    → run_story later kept w None ((line ++ rest) ∷ more) n refused
+    ≡ behind ran.text (run_story later (kept ++ shows_left later (reading_of w.config.source line)) ran.world
+    (ended_by taken n) (unless_last taken more) (n + 1) (refused + failures taken))
+unfolding story_by
+line_story later kept w n refused line rest more taken long ended failed =
+    ap (λ r. story_by later kept w n refused more r (line_ran (says_now later r) n w).bad)
+    (same_reading w.config.source line rest long)
+    ∙ by_taken taken ended failed
+  where
+    reading : Reading
+    reading = reading_of w.config.source line
+
+    ran : Ran
+    ran = line_ran (says later w.config.source line) n w
+
+    by_taken : (taken : Taken) → ran.bad ≡ ended_by taken n → from_bool (is_some ran.refused) ≡ failures taken
+        → story_by later kept w n refused more reading ran.bad
+        ≡ behind ran.text (run_story later (kept ++ shows_left later reading) ran.world
+        (ended_by taken n) (unless_last taken more) (n + 1) (refused + failures taken))
+    by_taken Done ended failed =
+        ap (story_by later kept w n refused more reading) ended
+        ∙ ap (λ k. behind ran.text (run_story later (kept ++ shows_left later reading) ran.world None more (n + 1) (refused + k))) failed
+    by_taken Failed ended failed =
+        ap (story_by later kept w n refused more reading) ended
+        ∙ ap (λ k. behind ran.text (run_story later (kept ++ shows_left later reading) ran.world None more (n + 1) (refused + k))) failed
+    by_taken Over ended failed =
+        let told : List ℕ → ℕ → Story RunLeft =
+        λ t k. record { text = t; left = record { refused = k; bad = Some n; left = None } } in
+        let none : refused ≡ refused + 0 = omega arith in
+        ap (story_by later kept w n refused more reading) ended
+        ∙ ap (λ t. told t refused) (sym (append-nil ran.text))
+        ∙ ap (λ k. told (ran.text ++ []) k) none
+
+-- a front part of what a line writes is one of what it and those behind it write
+pub line_part : (later : Bool) (kept : List Show) (w : Shown) (n refused : ℕ) (line : List ℕ)
+    (more : List (List ℕ)) (a b : Option (List ℕ))
+    → AppendsPart a b (line_ran (says later w.config.source line) n w).text
+    → AppendsPart a b (run_story later kept w None (line ∷ more) n refused).text
+line_part later kept w n refused line more a b part = by_bad ran.bad
+  where
+    ran : Ran
+    ran = line_ran (says later w.config.source line) n w
+
+    by_bad : (bad : Option ℕ) → AppendsPart a b (then_rest ran n refused (lines_ran later more) bad).text
+    by_bad None =
+        part_of_front a b ran.text
+        (lines_ran later more ran.world (n + 1) (refused + from_bool (is_some ran.refused))).text part
+    by_bad (Some k) = part
+
+-- ---- what became of a line
+
+-- of one whose command was refused
+pub taken_refused : (ran : Ran) (n : ℕ) (r : Option StepFault) (f : StepFault) (w : Shown) (a b : Option (List ℕ))
+    → r ≡ Some f
+    → LineEnds ran (Ok r) w a b
+    → LineTaken ran n (Ok Failed) w a b
+taken_refused ran n r f w a b is p = (p.0, ap (λ x. from_bool (is_some x)) (sym p.1 ∙ is), p.2, p.3)
+
+-- of one whose command was not
+pub taken_done : (ran : Ran) (n : ℕ) (r : Option StepFault) (w : Shown) (a b : Option (List ℕ))
+    → r ≡ None
+    → LineEnds ran (Ok r) w a b
+    → LineTaken ran n (Ok Done) w a b
+taken_done ran n r w a b is p = (p.0, ap (λ x. from_bool (is_some x)) (sym p.1 ∙ is), p.2, p.3)
+
+-- of one that could not be run
+pub taken_fault : (ran : Ran) (n : ℕ) (fault : StreamFault) (w : Shown) (a b : Option (List ℕ))
+    → LineEnds ran (Err fault) w a b
+    → LineTaken ran n (Err fault) w a b
+taken_fault ran n faults.Write w a b p = p
+taken_fault ran n faults.Memory w a b p = p
+taken_fault ran n faults.Read w a b p = p
+
+-- of one whose text could not be written
+pub taken_text : (ran : Ran) (n : ℕ) (fault : StreamFault) (w : Shown) (a b : Option (List ℕ))
+    → TextEnds {A = Unit} ran.text (Err fault) a b
+    → LineTaken ran n (Err fault) w a b
+taken_text ran n faults.Write w a b p = p
+taken_text ran n faults.Memory w a b p = p
+taken_text ran n faults.Read w a b p = p
+
+-- by which faults that ends
+pub fault_taken : (ran : Ran) (n : ℕ) (fault : StreamFault) (w : Shown) (a b : Option (List ℕ))
+    → LineTaken ran n (Err fault) w a b
+    → (fault ≡ faults.Write) ⊎ (fault ≡ faults.Memory)
+fault_taken ran n faults.Write w a b p = inl refl
+fault_taken ran n faults.Memory w a b p = inr refl
+fault_taken ran n faults.Read w a b p = absurd p
+
+-- ---- by the fields of the world on which it is run
+
+none_of : (bad : Option ℕ) → is_some bad ≡ false → bad ≡ None
+none_of None fresh = refl
+none_of (Some n) fresh = cc
+
+-- a line ends a run where it is the last that is taken
+pub ended_last : (taken : Taken) (n : ℕ) → is_some (ended_by taken n) ≡ is_last taken
+ended_last Done n = refl
+ended_last Failed n = refl
+ended_last Over n = refl
+
+-- a line was run
+pub takes_line : (later next_later : Bool) (kept next_kept : List Show) (w v : Shown) (bad next_bad : Option ℕ)
+    (n : ℕ) (line : List ℕ) (taken : Taken) (a b : Option (List ℕ))
+    → is_some bad ≡ false
+    → next_later ≡ later
+    → next_kept ≡ kept ++ shows_left later (reading_of w.config.source line)
+    → next_bad ≡ ended_by taken n
+    → LineTaken (line_ran (says later w.config.source line) n w) n (Ok taken) v a b
+    → (text : List ℕ) × Appends a b text
+    × ((rest : List ℕ) (refused : ℕ) (more : List (List ℕ)) → IsBehind line rest
+    → run_story later kept w bad ((line ++ rest) ∷ more) n refused
+    ≡ behind text (run_story next_later next_kept v next_bad (unless_last taken more) (n + 1) (refused + failures taken)))
+takes_line later next_later kept next_kept w v bad next_bad n line taken a b fresh same keeps ends p =
+    let ran = line_ran (says later w.config.source line) n w in (
+      ran.text,
+      p.3,
+      λ rest refused more long.
+          let ls = unless_last taken more in
+          let k = refused + failures taken in
+          ap (λ x. run_story later kept w x ((line ++ rest) ∷ more) n refused) (none_of bad fresh)
+          ∙ line_story later kept w n refused line rest more taken long p.0 p.1
+          ∙ ap (λ x. behind ran.text (run_story later x ran.world (ended_by taken n) ls (n + 1) k)) (sym keeps)
+          ∙ ap (λ x. behind ran.text (run_story later next_kept x (ended_by taken n) ls (n + 1) k)) (sym p.2)
+          ∙ ap (λ x. behind ran.text (run_story later next_kept v x ls (n + 1) k)) (sym ends)
+          ∙ ap (λ x. behind ran.text (run_story x next_kept v next_bad ls (n + 1) k)) (sym same),
+    )
+
+-- a line could not be run
+pub breaks_line : (later : Bool) (kept : List Show) (w v : Shown) (bad : Option ℕ) (n : ℕ) (line : List ℕ)
+    (fault : StreamFault) (a b : Option (List ℕ))
+    → is_some bad ≡ false
+    → LineTaken (line_ran (says later w.config.source line) n w) n (Err fault) v a b
+    → (refused : ℕ) (more : List (List ℕ))
+    → AppendsPart a b (run_story later kept w bad (line ∷ more) n refused).text
+breaks_line later kept w v bad n line fault a b fresh p refused more =
+    subst (λ x. AppendsPart a b (run_story later kept w x (line ∷ more) n refused).text) (sym (none_of bad fresh))
+    (line_part later kept w n refused line more a b (by_fault fault p))
+  where
+    by_fault : (fault : StreamFault) → LineTaken (line_ran (says later w.config.source line) n w) n (Err fault) v a b
+        → AppendsPart a b (line_ran (says later w.config.source line) n w).text
+    by_fault faults.Write p = p
+    by_fault faults.Memory p = p
+    by_fault faults.Read p = absurd p

@@ -1,36 +1,28 @@
 -- How the run of a script ends.
-use Rattle.std.proofs.Common.{◌≡◌, ℕ, ◌+◌, ◌<◌, ◌≤◌, List, [], ◌∷◌, ◌++◌, length, take, drop, Option, None, Some, Result, Ok, Err, IfOk, Bool, true, refl, sym, ap, ◌∙◌, subst, inl, inr, ◌⊎◌, append_assoc, append-nil, length-append, take-append-drop, arith}
-use Rattle.std.proofs.KnownBytes.{Appends-kept, Consumes-trans}
-use Rattle.std.specs.Io.KnownBytes.{Appends, Consumes, IsAtEnd, Keeps}
+use Rattle.std.proofs.Common.{◌≡◌, ◌≢◌, ℕ, ◌+◌, ◌<◌, List, [], ◌∷◌, ◌++◌, length, Option, None, Some, unwrap_or, Result, Ok, Err, IfOk, Bool, true, false, refl, sym, ap, ◌∙◌, subst, inl, inr, ◌⊎◌, append-nil, is_some, arith}
+use Rattle.std.proofs.KnownBytes.{Appends-kept}
+use Rattle.std.specs.Bool.{⊤}
+use Rattle.std.specs.Int.{from_bool}
+use Rattle.std.specs.Io.KnownBytes.{Appends, Consumes, Keeps}
+use Rattle.lpt_text.proofs.Pieces.{lines-long_end}
 use Rattle.lpt_text.proofs.StreamLemmas.{part_unchanged, part_whole}
-use Rattle.lpt_text.specs.Lines.{held, room_of, line_end, FindsLine}
 use Rattle.lpt_text.specs.Reading.{EndsLine, EndsLong}
-use Rattle.lpt_text.specs.declared.fault.ToolFault.{ToolFault}
-use Rattle.lpt_text.specs.declared.fault.ToolFault.TheVariants as tool
-use Rattle.lpt_text.specs.declared.lines.LineBuffer.{LineBuffer}
-use Rattle.lpt_script.proofs.LineLemmas.{Goes, line_fault, long_bad, rest_ends}
-use Rattle.lpt_script.proofs.RunLemmas.{Runs, goes_line, line_behind, line_ends}
-use Rattle.lpt_script.specs.Ends.{LineEnds, LinesEnd, LinesLeave, RunEnds}
-use Rattle.lpt_script.specs.Scripts.{Script, left_of, lines_left, lines_ran, line_ran, script_ran, says}
-use Rattle.lpt_script_words.specs.declared.showing.Show.{Show}
+use Rattle.lpt_text.specs.Streams.{AppendsPart, ReadEnds, WriteEnds}
+use Rattle.lpt_text.specs.Taking.{LinesTaken, TakesText}
+use Rattle.lpt_text.specs.Texts.{lines}
+use Rattle.lpt_text.specs.declared.fault.StreamFault.{StreamFault}
+use Rattle.lpt_text.specs.declared.fault.StreamFault.TheVariants as faults
+use Rattle.lpt_script.proofs.LineLemmas.{unread}
+use Rattle.lpt_script.specs.Ends.{LinesEnd, LinesLeave, RunEnds, streams_end}
+use Rattle.lpt_script.specs.Runs.{run_story, script_end, unless_bad}
+use Rattle.lpt_script.specs.RunsInside.{is_ended, story_of}
+use Rattle.lpt_script.specs.Scripts.{Left, Ran, is_later, kept_of, left_of, lines_left, lines_ran, line_ran, script_ran, says, says_now, then_rest}
 use Rattle.lpt_script.specs.declared.end.ScriptEnd.{ScriptEnd}
-use Rattle.lpt_script_words.specs.Words.{ended_line, lines}
+use Rattle.lpt_script.specs.declared.fault.ScriptFault.TheVariants as scripts
+use Rattle.lpt_script.specs.declared.running.Running.{Running}
 use Rattle.lpt_world.specs.Worlds.{Shown}
 
--- a front part of what was read, run to a fault
-fault_ends : (later : Bool) (first : Shown) (fault : ToolFault) (text more : List ℕ) (old now a c : Option (List ℕ)) (failed wrote : Bool)
-    → Consumes old now (text ++ more)
-    → (((more ≡ []) × IsAtEnd now) ⊎ (EndsLine text ⊎ EndsLong text))
-    → length text ≤ 16777216
-    → LinesEnd (script_ran later first text) (Err fault) a c
-    → (fault ≡ tool.Write → wrote ≡ true)
-    → RunEnds later first (Err fault) old now a c failed wrote
-fault_ends later first (tool.Line k) text more old now a c failed wrote p why bound q cause = (text, more, p, why, bound, q)
-fault_ends later first tool.Write text more old now a c failed wrote p why bound q cause = ((text, more, p, why, bound, q), cause refl)
-fault_ends later first tool.Memory text more old now a c failed wrote p why bound q cause = (text, more, p, why, bound, q)
-fault_ends later first tool.Read text more old now a c failed wrote p why bound q cause = absurd q
-fault_ends later first tool.Config text more old now a c failed wrote p why bound q cause = absurd q
-fault_ends later first (tool.Threads k) text more old now a c failed wrote p why bound q cause = q
+-- ---- what was written is passed on
 
 -- the lines ran well, and the writer passed on what was written
 pub ok_kept : (later : Bool) (w : Shown) (end : ScriptEnd) (old new a b c : Option (List ℕ)) (failed wrote more : Bool)
@@ -41,14 +33,16 @@ ok_kept later w end old new a b c failed wrote more p q =
     (p.0, p.1, p.2, p.3, (p.4.0, p.4.1, Appends-kept a b c (script_ran later w p.0).text p.4.2 q))
 
 -- the lines ran well, and the writer could not pass on what was written
-pub flush_failed : (later : Bool) (w : Shown) (end : ScriptEnd) (fault : ToolFault) (old new a b c : Option (List ℕ)) (failed wrote more : Bool)
+pub flush_failed : (later : Bool) (w : Shown) (end : ScriptEnd) (fault : StreamFault) (old new a b c : Option (List ℕ)) (failed wrote had more : Bool)
     → RunEnds later w (Ok end) old new a b failed wrote
     → Keeps b c
-    → (fault ≡ tool.Write) × (more ≡ true)
-    → RunEnds later w (Err fault) old new a c failed more
-flush_failed later w end fault old new a b c failed wrote more p q cause =
+    → fault ≡ faults.Write
+    → WriteEnds {A = Unit} (Err fault) had more
+    → RunEnds later w (Err (scripts.Stream fault)) old new a c failed more
+flush_failed later w end fault old new a b c failed wrote had more p q cause ends =
     let text = (script_ran later w p.0).text in
-    subst (λ f. RunEnds later w (Err f) old new a c failed more) (sym cause.0) (
+    subst (λ f. WriteEnds {A = Unit} (Err f) had more → RunEnds later w (Err (scripts.Stream f)) old new a c failed more) (sym cause)
+    (λ ends. (
       (
         p.0,
         [],
@@ -57,158 +51,175 @@ flush_failed later w end fault old new a b c failed wrote more p q cause =
         p.3,
         part_whole a c text (Appends-kept a b c text p.4.2 q),
       ),
-      cause.1,
-    )
+      ends,
+    )) ends
 
 -- no memory for a world
 pub memory_ends : (later : Bool) (first : Shown) (read : List ℕ) (old new before : Option (List ℕ)) (failed wrote : Bool)
     → Consumes old new read
-    → RunEnds later first (Err tool.Memory) old new before before failed wrote
+    → RunEnds later first (Err (scripts.Stream faults.Memory)) old new before before failed wrote
 memory_ends later first read old new before failed wrote p =
     ([], read, p, inr (inl (inl refl)), (omega arith), part_unchanged before (script_ran later first []).text)
 
--- a line ended by a fault
-pub runs_fault : (later : Bool) (had kept : List Show) (first w v : Shown) (n refused place : ℕ) (fault : ToolFault) (text : List ℕ) (room : ℕ) (old now a b c : Option (List ℕ)) (failed wrote : Bool)
-    → Runs later had kept first w n refused text room old now a b
-    → line_end text ≡ Some place
-    → LineEnds (line_ran (says later w.config.source (ended_line (take place text))) n w) (Err fault) v b c
-    → (fault ≡ tool.Write → wrote ≡ true)
-    → RunEnds later first (Err fault) old now a c failed wrote
-runs_fault later had kept first w v n refused place fault text room old now a b c failed wrote runs at ends cause =
-    let given = runs.given ++ take (place + 1) text in
-    let line = ended_line (take place text) in
-    let goes : Goes later (script_ran later first (given ++ [])) (line ∷ lines []) w n refused a b = record {
-      done = runs.done;
-      written = runs.written;
-      follows = goes_line later had kept first w n refused place text room old now a b runs at [];
-    } in
-    let whole : length text ≡ length (take (place + 1) text) + length (drop (place + 1) text) =
-    ap length (sym (take-append-drop (place + 1) text)) ∙ length-append (take (place + 1) text) (drop (place + 1) text) in
-    fault_ends later first fault given (drop (place + 1) text) old now a c failed wrote
-    (subst (Consumes old now) (line_behind runs.given text place) runs.consumed)
-    (inr (inl (line_ends runs.given text place at)))
-    (omega (arith, runs.counted, whole, length-append runs.given (take (place + 1) text)))
-    (subst (λ x. LinesEnd (script_ran later first x) (Err fault) a c) (append-nil given)
-    (line_fault later (script_ran later first (given ++ [])) (line ∷ lines []) (lines []) line w v n refused fault a b c goes refl ends))
-    cause
+-- ---- a line that is too long ends a script
 
--- what the lines did that were run
-done_script : (later : Bool) (had kept : List Show) (first w : Shown) (n refused : ℕ) (rest : List ℕ) (room : ℕ) (old now a b : Option (List ℕ))
-    → (runs : Runs later had kept first w n refused rest room old now a b)
-    → let all : Script = record { text = runs.done; refused = refused; bad = None } in script_ran later first runs.given ≡ all
-done_script later had kept first w n refused rest room old now a b runs =
-    let with_text : List ℕ → Script = λ t. record { text = t; refused = refused; bad = None } in
-    ap (script_ran later first) (sym (append-nil runs.given)) ∙ runs.follows [] ∙ ap with_text (append-nil runs.done)
-
--- no more could be read, or what was written could not be passed on
-pub runs_cut : (later : Bool) (had kept : List Show) (first w : Shown) (n refused : ℕ) (before after : LineBuffer) (fault : ToolFault) (old now next a b c : Option (List ℕ)) (was failed wrote : Bool)
-    → Runs later had kept first w n refused (held before) (room_of before) old now a b
-    → FindsLine (Err fault) before after now next was failed
-    → Keeps b c
-    → (fault ≡ tool.Write → wrote ≡ true)
-    → RunEnds later first (Err fault) old next a c failed wrote
-runs_cut later had kept first w n refused before after fault old now next a b c was failed wrote runs finds keeps cause =
-    by_fault fault finds cause
+bad_behind : (later : Bool) (front : List (List ℕ)) (line : List ℕ) (w : Shown) (n refused : ℕ)
+    → 140000 < length line
+    → (lines_ran later (front ++ line ∷ []) w n refused).bad ≡ None
+    → ⊥
+bad_behind later [] line w n refused long good =
+    let said = ap (says_now later) (unread w.config.source line long) in
+    let bad = ap (λ r. (then_rest (line_ran r n w) n refused (lines_ran later []) (line_ran r n w).bad).bad) said in
+    let never : None ≡ Some n = sym good ∙ bad in absurd cc
+bad_behind later (l ∷ front) line w n refused long good =
+    by_bad (λ v m k. bad_behind later front line v m k long) ran.bad good
   where
-    is : script_ran later first runs.given ≡ record { text = runs.done; refused = refused; bad = None }
-    is = done_script later had kept first w n refused (held before) (room_of before) old now a b runs
+    ran : Ran
+    ran = line_ran (says later w.config.source l) n w
 
-    written : Appends a c (script_ran later first runs.given).text
-    written = subst (λ s. Appends a c s.text) (sym is) (Appends-kept a b c runs.done runs.written keeps)
+    by_bad : ((v : Shown) (m k : ℕ) → (lines_ran later (front ++ line ∷ []) v m k).bad ≡ None → ⊥)
+        → (bad : Option ℕ)
+        → (then_rest ran n refused (lines_ran later (front ++ line ∷ [])) bad).bad ≡ None
+        → ⊥
+    by_bad behind (Some k) good = absurd cc
+    by_bad behind None good =
+        behind ran.world (n + 1) (refused + from_bool (is_some ran.refused)) good
 
-    lost_ends : (fault : ToolFault) (lost : List ℕ)
-        → Consumes now next lost
-        → LinesEnd (script_ran later first runs.given) (Err fault) a c
-        → (fault ≡ tool.Write → wrote ≡ true)
-        → RunEnds later first (Err fault) old next a c failed wrote
-    lost_ends fault lost p q cause =
-        fault_ends later first fault runs.given (held before ++ lost) old next a c failed wrote
-        (subst (Consumes old next) (append_assoc runs.given (held before) lost)
-        (Consumes-trans old now next (runs.given ++ held before) lost runs.consumed p))
-        (inr (inl runs.ends)) (omega (arith, runs.counted)) q cause
+whole_lines : (later : Bool) (w : Shown) (text : List ℕ)
+    → EndsLine text ⊎ EndsLong text
+    → (script_ran later w text).bad ≡ None
+    → EndsLine text
+whole_lines later w text (inl ends) good = ends
+whole_lines later w text (inr long) good =
+    let cut = ap lines long.2 ∙ lines-long_end long.0 long.1 long.3 long.4 (omega (arith, long.5)) in
+    absurd (bad_behind later (lines long.0) long.1 w 1 0 long.5
+    (subst (λ ls. (lines_ran later ls w 1 0).bad ≡ None) cut good))
 
-    by_fault : (fault : ToolFault)
-        → FindsLine (Err fault) before after now next was failed
-        → (fault ≡ tool.Write → wrote ≡ true)
-        → RunEnds later first (Err fault) old next a c failed wrote
-    by_fault tool.Write q cause = lost_ends tool.Write q.0 q.1 (part_whole a c (script_ran later first runs.given).text written) cause
-    by_fault tool.Memory q cause = lost_ends tool.Memory q.0 q.1 (part_whole a c (script_ran later first runs.given).text written) cause
-    by_fault tool.Config q cause = absurd q
-    by_fault (tool.Line k) q cause = absurd q
-    by_fault (tool.Threads k) q cause = q
-    by_fault tool.Read q cause =
-        let grown : length (held after) ≡ length (held before) + length q.0 = ap length q.2.behind ∙ length-append (held before) q.0 in (
-          runs.given,
-          held after,
-          q.1,
-          subst (Consumes old next)
-              (append_assoc runs.given (held before) (q.0 ++ q.1)
-              ∙ ap (λ x. runs.given ++ x) (sym (append_assoc (held before) q.0 q.1) ∙ ap (λ x. x ++ q.1) (sym q.2.behind)))
-              (Consumes-trans old now next (runs.given ++ held before) (q.0 ++ q.1) runs.consumed q.2.consumed),
-          runs.ends,
-          q.3,
-          q.4,
-          omega (arith, runs.counted, grown, q.2.counted),
-          why grown q.5,
-          (ap (λ s. s.bad) is, written),
-        )
-      where
-        why : length (held after) ≡ length (held before) + length q.0
-            → (((q.1 ≡ []) × (failed ≡ true)) ⊎ ((room_of after ≡ 0) × (0 < length q.1) × (failed ≡ was)))
-            → (((q.1 ≡ []) × (failed ≡ true)) ⊎ ((length runs.given + length (held after) ≡ 16777216) × (0 < length q.1)))
-        why grown (inl p) = inl p
-        why grown (inr p) = inr (omega (arith, runs.counted, grown, q.2.counted, p.0), p.1)
+-- ---- the lines were taken
 
--- what is held is the last line, or it is too long, or nothing is held
-pub runs_end : (later : Bool) (had kept : List Show) (first w : Shown) (n refused : ℕ) (rest : List ℕ) (room : ℕ) (r : Result ScriptEnd ToolFault) (old now a b c : Option (List ℕ)) (failed wrote : Bool)
-    → Runs later had kept first w n refused rest room old now a b
-    → line_end rest ≡ None
-    → (IsAtEnd now ⊎ (140000 < length rest))
-    → LinesEnd (lines_ran later (lines rest) w n refused) r b c
-    → (r ≡ Err tool.Write → wrote ≡ true)
-    → RunEnds later first r old now a c failed wrote
-runs_end later had kept first w n refused rest room r old now a b c failed wrote runs none why ends cause = by_result r ends cause why
+same_left : (bad : Option ℕ) (l m : Left) → bad ≡ None → unless_bad bad l ≡ Some m → l ≡ m
+same_left None l m good is = ap (λ o. unwrap_or o l) is
+same_left (Some n) l m good is = absurd cc
+
+-- what a run did that no line ended
+none_ended : (r t : Running) (text : List ℕ) (refused : ℕ) (a c : Option (List ℕ))
+    → r.bad ≡ None
+    → t.bad ≡ None
+    → TakesText story_of r t text refused a c
+    → LinesEnd (script_ran (is_later r.shows) r.world text) (Ok (record { refused = refused })) a c
+    × (lines_left (is_later r.shows) (lines text) r.world 1 (kept_of r.shows) ≡ left_of t.world (kept_of t.shows))
+none_ended r t text refused a c fresh good told = (
+  (
+    bad,
+    sym (ap (λ s. s.left.refused) is),
+    subst (Appends a c) (sym (append-nil told.1) ∙ sym (ap (λ s. s.text) is)) told.3,
+  ),
+  same_left (script_ran (is_later r.shows) r.world text).bad
+      (lines_left (is_later r.shows) (lines text) r.world 1 (kept_of r.shows)) (left_of t.world (kept_of t.shows)) bad
+      (ap (λ s. s.left.left) is),
+)
   where
-    given : List ℕ
-    given = runs.given ++ rest
+    is : run_story (is_later r.shows) (kept_of r.shows) r.world None (lines text) 1 0
+        ≡ record { text = told.1 ++ []; left = record { refused = refused; bad = None; left = Some (left_of t.world (kept_of t.shows)) } }
+    is =
+        ap (λ b. run_story (is_later r.shows) (kept_of r.shows) r.world b (lines text) 1 0) (sym fresh) ∙ told.2
+        ∙ ap (λ b. record {
+          text = told.1 ++ (run_story (is_later t.shows) (kept_of t.shows) t.world b [] told.0 refused).text;
+          left = (run_story (is_later t.shows) (kept_of t.shows) t.world b [] told.0 refused).left;
+        }) good
 
-    bound : length (runs.given ++ rest) ≤ 16777216
-    bound = omega (arith, runs.counted, length-append runs.given rest)
+    bad : (script_ran (is_later r.shows) r.world text).bad ≡ None
+    bad = ap (λ s. s.left.bad) is
 
-    all : (r : Result ScriptEnd ToolFault) → LinesEnd (lines_ran later (lines rest) w n refused) r b c → LinesEnd (script_ran later first (runs.given ++ rest)) r a c
-    all r q = rest_ends later (script_ran later first (runs.given ++ rest)) runs.done (lines rest) w n refused r a b c runs.written (runs.follows rest) q
+-- what a run did that this line ended
+line_ended : (r t : Running) (text : List ℕ) (n refused : ℕ) (a c : Option (List ℕ))
+    → r.bad ≡ None
+    → t.bad ≡ Some n
+    → TakesText story_of r t text refused a c
+    → LinesEnd (script_ran (is_later r.shows) r.world text) (Err (scripts.Line n)) a c
+line_ended r t text n refused a c fresh ended told =
+    (ap (λ s. s.left.bad) is, subst (Appends a c) (sym (append-nil told.1) ∙ sym (ap (λ s. s.text) is)) told.3)
+  where
+    is : run_story (is_later r.shows) (kept_of r.shows) r.world None (lines text) 1 0
+        ≡ record { text = told.1 ++ []; left = record { refused = refused; bad = Some n; left = None } }
+    is =
+        ap (λ b. run_story (is_later r.shows) (kept_of r.shows) r.world b (lines text) 1 0) (sym fresh) ∙ told.2
+        ∙ ap (λ b. record {
+          text = told.1 ++ (run_story (is_later t.shows) (kept_of t.shows) t.world b [] told.0 refused).text;
+          left = (run_story (is_later t.shows) (kept_of t.shows) t.world b [] told.0 refused).left;
+        }) ended
 
-    consumed : Consumes old now ((runs.given ++ rest) ++ [])
-    consumed = subst (Consumes old now) (sym (append-nil (runs.given ++ rest))) runs.consumed
+-- how the script ends
+pub script_ends : (r t : Running) (bad : Option ℕ) (taken : Result ℕ StreamFault) (old new a c : Option (List ℕ)) (failed had wrote : Bool)
+    → r.bad ≡ None
+    → t.bad ≡ bad
+    → LinesTaken story_of r t (is_ended t) taken old new a c failed
+    → WriteEnds taken had wrote
+    → RunEnds (is_later r.shows) r.world (script_end taken bad) old new a c failed wrote
+script_ends r t None (Ok refused) old new a c failed had wrote fresh is taken ends =
+    let p = subst (λ b. LinesTaken story_of r t (is_some b) (Ok refused) old new a c failed) is taken in
+    (p.0, p.1, p.2, p.3, (none_ended r t p.0 refused a c fresh is p.4).0)
+script_ends r t (Some n) (Ok refused) old new a c failed had wrote fresh is taken ends =
+    let p = subst (λ b. LinesTaken story_of r t (is_some b) (Ok refused) old new a c failed) is taken in
+    (p.0, p.1, p.2, p.3, p.4, line_ended r t p.0 n refused a c fresh is p.5)
+script_ends r t bad (Err faults.Read) old new a c failed had wrote fresh is taken ends = cut t.bad refl
+  where
+    cut : (b : Option ℕ) → t.bad ≡ b → RunEnds (is_later r.shows) r.world (Err (scripts.Stream faults.Read)) old new a c failed wrote
+    cut (Some n) at = let never : true ≡ false = sym (ap is_some at) ∙ taken.0 in absurd cc
+    cut None at =
+        let p = taken.1 in
+        let told = (none_ended r t p.0 p.9.0 a c fresh at p.9.1).0 in
+        (p.0, p.1, p.2, p.3, whole_lines (is_later r.shows) r.world p.0 p.4 told.0, p.5, p.6, p.7, p.8, (told.0, told.2))
+script_ends r t bad (Err faults.Write) old new a c failed had wrote fresh is taken ends = (
+  (
+    taken.0,
+    taken.1,
+    taken.2,
+    taken.3,
+    taken.4,
+    subst (λ b. AppendsPart a c (run_story (is_later r.shows) (kept_of r.shows) r.world b (lines taken.0) 1 0).text) fresh taken.5,
+  ),
+  ends,
+)
+script_ends r t bad (Err faults.Memory) old new a c failed had wrote fresh is taken ends = (
+  taken.0,
+  taken.1,
+  taken.2,
+  taken.3,
+  taken.4,
+  subst (λ b. AppendsPart a c (run_story (is_later r.shows) (kept_of r.shows) r.world b (lines taken.0) 1 0).text) fresh taken.5,
+)
 
-    by_result : (r : Result ScriptEnd ToolFault) → LinesEnd (lines_ran later (lines rest) w n refused) r b c → (r ≡ Err tool.Write → wrote ≡ true)
-        → (IsAtEnd now ⊎ (140000 < length rest)) → RunEnds later first r old now a c failed wrote
-    by_result (Ok end) q cause (inl at_end) = (runs.given ++ rest, runs.consumed, at_end, bound, all (Ok end) q)
-    by_result (Ok end) q cause (inr long) =
-        let bad : Some n ≡ None = sym (long_bad later rest w n refused none long) ∙ q.0 in absurd cc
-    by_result (Err fault) q cause (inl at_end) =
-        fault_ends later first fault (runs.given ++ rest) [] old now a c failed wrote consumed (inl (refl, at_end)) bound (all (Err fault) q)
-        (λ is. cause (ap Err is))
-    by_result (Err fault) q cause (inr long) =
-        fault_ends later first fault (runs.given ++ rest) [] old now a c failed wrote consumed
-        (inr (inr (runs.given, rest, refl, runs.ends, none, long))) bound (all (Err fault) q) (λ is. cause (ap Err is))
+-- what it leaves
+pub script_leaves : (r t : Running) (bad : Option ℕ) (taken : Result ℕ StreamFault) (old new a c : Option (List ℕ)) (failed : Bool)
+    → r.bad ≡ None
+    → t.bad ≡ bad
+    → LinesTaken story_of r t (is_ended t) taken old new a c failed
+    → IfOk (script_end taken bad) (λ end. LinesLeave (is_later r.shows) (kept_of r.shows) r.world end (left_of t.world (kept_of t.shows)) old new a c)
+script_leaves r t None (Ok refused) old new a c failed fresh is taken =
+    let p = subst (λ b. LinesTaken story_of r t (is_some b) (Ok refused) old new a c failed) is taken in
+    (p.0, p.1, p.2, p.3, none_ended r t p.0 refused a c fresh is p.4)
+script_leaves r t (Some n) (Ok refused) old new a c failed fresh is taken = tt
+script_leaves r t bad (Err fault) old new a c failed fresh is taken = tt
 
--- what is left, where it ended well
-pub runs_left : (later : Bool) (had kept after : List Show) (first w v : Shown) (n refused : ℕ) (rest : List ℕ) (room : ℕ) (r : Result ScriptEnd ToolFault) (old now a b c : Option (List ℕ))
-    → Runs later had kept first w n refused rest room old now a b
-    → line_end rest ≡ None
-    → (IsAtEnd now ⊎ (140000 < length rest))
-    → LinesEnd (lines_ran later (lines rest) w n refused) r b c
-    → IfOk r (λ end. lines_left later (lines rest) w n kept ≡ left_of v after)
-    → IfOk r (λ end. LinesLeave later had first end (left_of v after) old now a c)
-runs_left later had kept after first w v n refused rest room (Ok end) old now a b c runs none (inl at_end) ends is =
-    let all = script_ran later first (runs.given ++ rest) in (
-      runs.given ++ rest,
-      runs.consumed,
-      at_end,
-      omega (arith, runs.counted, length-append runs.given rest),
-      (rest_ends later all runs.done (lines rest) w n refused (Ok end) a b c runs.written (runs.follows rest) ends, runs.left rest ∙ is),
-    )
-runs_left later had kept after first w v n refused rest room (Ok end) old now a b c runs none (inr long) ends is =
-    let bad : Some n ≡ None = sym (long_bad later rest w n refused none long) ∙ ends.0 in absurd cc
-runs_left later had kept after first w v n refused rest room (Err fault) old now a b c runs none why ends is = tt
+-- it ends by no configuration
+pub no_config : (bad : Option ℕ) (taken : Result ℕ StreamFault) → script_end taken bad ≢ Err scripts.Config
+no_config None (Ok refused) = λ is. cc
+no_config (Some n) (Ok refused) = λ is. cc
+no_config bad (Err fault) = λ is. cc
+
+-- how it leaves the writer
+pub script_writes : (bad : Option ℕ) (taken : Result ℕ StreamFault) (had failed : Bool)
+    → WriteEnds taken had failed
+    → WriteEnds (streams_end (script_end taken bad)) had failed
+script_writes None (Ok refused) had failed p = p
+script_writes (Some n) (Ok refused) had failed p = p
+script_writes bad (Err fault) had failed p = p
+
+-- and the reader
+pub script_reads : (bad : Option ℕ) (taken : Result ℕ StreamFault) (had failed : Bool)
+    → ReadEnds ⊤ taken had failed
+    → ReadEnds ⊤ (streams_end (script_end taken bad)) had failed
+script_reads None (Ok refused) had failed p = p
+script_reads (Some n) (Ok refused) had failed p = p
+script_reads bad (Err fault) had failed p = p

@@ -1,2 +1,4 @@
 pub mod Ends
+pub mod Runs
+pub mod RunsInside
 pub mod Scripts

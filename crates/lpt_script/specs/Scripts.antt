@@ -4,7 +4,7 @@ use Rattle.std.specs.Int.{from_bool}
 use Rattle.std.specs.Option.{option_and_then}
 use Rattle.lpt_memory.specs.Memories.{content_of}
 use Rattle.lpt_packet.specs.declared.direction.Direction.TheVariants.{Up}
-use Rattle.lpt_script_words.specs.Words.{lines}
+use Rattle.lpt_text.specs.Texts.{lines}
 use Rattle.lpt_events.specs.declared.side.Side.{Side}
 use Rattle.lpt_script_text.specs.Printing.{accepted_text, refused_text, releases_text, packet_text, clear_text, memory_text, journal_text, unreadable_text}
 use Rattle.lpt_script_words.specs.declared.grammar.Command.{Command}

@@ -1,6 +1,7 @@
 //! What a command does to a world and what it prints.
 
 ghost use Rattle.std.specs.Prelude.{◌≡◌, ◌≢◌, ◌<◌, ◌-◌, length, slice_get, IsErrOf, None, IfErr, IfOk, IfSome, OnOk, Err, true};
+ghost use Rattle.lpt_text.specs.Streams.{WriteEnds};
 ghost use Rattle.lpt_script_text.specs.Printing.{accepted_text};
 ghost use Rattle.lpt_script.specs.Ends.{IsTickRefused, LineEnds, TextEnds, unrefused};
 ghost use Rattle.lpt_world.specs.Worlds.{RefusedBy, refusal_at, with_entry};
@@ -12,7 +13,7 @@ use crate::showing::run_show;
 use lpt_events::{Entry, Event, Side, StepFault, Worker};
 use lpt_script_text::print_accepted;
 use lpt_script_words::Command;
-use lpt_text::{Sink, ToolFault};
+use lpt_text::{Sink, StreamFault};
 use lpt_world::World;
 use std::alloc::Global;
 
@@ -25,10 +26,9 @@ pub fn run_command<K: Sink>(
     world: &mut World,
     command: Command,
     out: &mut K,
-) -> Result<Option<StepFault>, ToolFault>
+) -> Result<Option<StepFault>, StreamFault>
     ensures ends { LineEnds (command_ran command world.old) result world.new (K.contents out.old) (K.contents out.new) }
-    ensures cause { IsErrOf result ToolFault.Write → K.failed out.new ≡ true }
-    ensures told { result ≢ Err ToolFault.Write → K.failed out.new ≡ K.failed out.old }
+    ensures writer { WriteEnds result (K.failed out.old) (K.failed out.new) }
 {
     match command {
         Command::Event(event) => run_event(alloc, world, event, out),
@@ -44,7 +44,7 @@ pub fn run_command<K: Sink>(
 }
 
 // What printed nothing of an event has not been refused.
-fn quietly(written: Result<(), ToolFault>) -> Result<Option<StepFault>, ToolFault>
+fn quietly(written: Result<(), StreamFault>) -> Result<Option<StepFault>, StreamFault>
     ensures { result ≡ unrefused written }
 {
     match written {
@@ -59,10 +59,9 @@ pub(crate) fn run_event<K: Sink>(
     world: &mut World,
     event: Event,
     out: &mut K,
-) -> Result<Option<StepFault>, ToolFault>
+) -> Result<Option<StepFault>, StreamFault>
     ensures ends { LineEnds (stepped world.old event) result world.new (K.contents out.old) (K.contents out.new) }
-    ensures cause { IsErrOf result ToolFault.Write → K.failed out.new ≡ true }
-    ensures told { result ≢ Err ToolFault.Write → K.failed out.new ≡ K.failed out.old }
+    ensures writer { WriteEnds result (K.failed out.old) (K.failed out.new) }
 {
     match world.step(SESSION, event) {
         Ok(_) => put_last(alloc, world, out),
@@ -75,17 +74,16 @@ fn put_last<K: Sink>(
     alloc: Global,
     world: &World,
     out: &mut K,
-) -> Result<Option<StepFault>, ToolFault>
+) -> Result<Option<StepFault>, StreamFault>
+    requires { 0 < length world.now.journal }
     ensures ends { IfSome (slice_get world.now.journal (length world.now.journal - 1))
         (λ x. TextEnds (accepted_text world.now.config.source x.event x.reply) result (K.contents out.old) (K.contents out.new)) }
     ensures accepted { IfOk result (λ r. r ≡ None) }
-    ensures cause { IsErrOf result ToolFault.Write → K.failed out.new ≡ true }
-    ensures told { result ≢ Err ToolFault.Write → K.failed out.new ≡ K.failed out.old }
+    ensures writer { WriteEnds result (K.failed out.old) (K.failed out.new) }
 {
-    match world.journal().last() {
-        Some(entry) => put_entry(alloc, world.config().source, entry, out),
-        None => Ok(None),
-    }
+    let journal = world.journal();
+    let last = &journal[journal.len() - 1];
+    put_entry(alloc, world.config().source, last, out)
 }
 
 // Prints what an accepted event answered, where this source is configured.
@@ -94,11 +92,10 @@ fn put_entry<K: Sink>(
     source: u16,
     entry: &Entry,
     out: &mut K,
-) -> Result<Option<StepFault>, ToolFault>
+) -> Result<Option<StepFault>, StreamFault>
     ensures ends { TextEnds (accepted_text source entry.now.event entry.now.reply) result (K.contents out.old) (K.contents out.new) }
     ensures accepted { IfOk result (λ r. r ≡ None) }
-    ensures cause { IsErrOf result ToolFault.Write → K.failed out.new ≡ true }
-    ensures told { result ≢ Err ToolFault.Write → K.failed out.new ≡ K.failed out.old }
+    ensures writer { WriteEnds result (K.failed out.old) (K.failed out.new) }
 {
     match put(
         out,
@@ -116,11 +113,10 @@ fn run_both<K: Sink>(
     first: Event,
     second: Event,
     out: &mut K,
-) -> Result<Option<StepFault>, ToolFault>
+) -> Result<Option<StepFault>, StreamFault>
     ensures ends { LineEnds (and_then (stepped world.old first) (λ w. stepped w second))
         result world.new (K.contents out.old) (K.contents out.new) }
-    ensures cause { IsErrOf result ToolFault.Write → K.failed out.new ≡ true }
-    ensures told { result ≢ Err ToolFault.Write → K.failed out.new ≡ K.failed out.old }
+    ensures writer { WriteEnds result (K.failed out.old) (K.failed out.new) }
 {
     match run_event(alloc, world, first, out) {
         Ok(None) => run_event(alloc, world, second, out),
@@ -135,10 +131,9 @@ fn run_work<K: Sink>(
     alloc: Global,
     world: &mut World,
     out: &mut K,
-) -> Result<Option<StepFault>, ToolFault>
+) -> Result<Option<StepFault>, StreamFault>
     ensures ends { LineEnds (worked world.old) result world.new (K.contents out.old) (K.contents out.new) }
-    ensures cause { IsErrOf result ToolFault.Write → K.failed out.new ≡ true }
-    ensures told { result ≢ Err ToolFault.Write → K.failed out.new ≡ K.failed out.old }
+    ensures writer { WriteEnds result (K.failed out.old) (K.failed out.new) }
 {
     let (claim, commit) = (Event::Claim(Worker::W1), Event::Commit(Worker::W1));
     match run_both(alloc, world, claim, commit, out) {
@@ -155,10 +150,9 @@ fn run_ticks<K: Sink>(
     side: Side,
     count: u32,
     out: &mut K,
-) -> Result<Option<StepFault>, ToolFault>
+) -> Result<Option<StepFault>, StreamFault>
     ensures ends { LineEnds (ticked count side world.old) result world.new (K.contents out.old) (K.contents out.new) }
-    ensures cause { IsErrOf result ToolFault.Write → K.failed out.new ≡ true }
-    ensures told { result ≢ Err ToolFault.Write → K.failed out.new ≡ K.failed out.old }
+    ensures writer { WriteEnds result (K.failed out.old) (K.failed out.new) }
 {
     if count == 0 {
         return Ok(None);

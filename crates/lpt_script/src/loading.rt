@@ -1,6 +1,7 @@
 //! Loads that a script asks to be opened.
 
 ghost use Rattle.std.specs.Prelude.{◌≡◌, ◌≢◌, IsErrOf, Err, true};
+ghost use Rattle.lpt_text.specs.Streams.{WriteEnds};
 ghost use Rattle.lpt_script.specs.Ends.{LineEnds};
 ghost use Rattle.lpt_script.specs.Scripts.{stepped};
 ghost use Rattle.lpt_script_words.specs.Loads.{load_packet};
@@ -9,7 +10,7 @@ use crate::command::run_event;
 use lpt_events::{Event, StepFault};
 use lpt_packet::Direction;
 use lpt_script_words::Load;
-use lpt_text::{Sink, ToolFault};
+use lpt_text::{Sink, StreamFault};
 use lpt_world::World;
 use std::alloc::Global;
 
@@ -20,12 +21,11 @@ pub(crate) fn run_load<K: Sink>(
     world: &mut World,
     load: &Load,
     out: &mut K,
-) -> Result<Option<StepFault>, ToolFault>
+) -> Result<Option<StepFault>, StreamFault>
     ensures ends { LineEnds (stepped world.old (Event.Open Direction.Up load.now.name
         (load_packet world.old.config.apid load.now)))
         result world.new (K.contents out.old) (K.contents out.new) }
-    ensures cause { IsErrOf result ToolFault.Write → K.failed out.new ≡ true }
-    ensures told { result ≢ Err ToolFault.Write → K.failed out.new ≡ K.failed out.old }
+    ensures writer { WriteEnds result (K.failed out.old) (K.failed out.new) }
 {
     let config = world.config();
     match load.packet(alloc, config.apid) {
@@ -35,6 +35,6 @@ pub(crate) fn run_load<K: Sink>(
             Event::Open(Direction::Up, load.name(), packet),
             out,
         ),
-        Err(_) => Err(ToolFault::Memory),
+        Err(_) => Err(StreamFault::Memory),
     }
 }

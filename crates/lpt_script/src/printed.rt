@@ -1,25 +1,25 @@
 //! Texts on their way to the writer.
 
 ghost use Rattle.std.specs.Prelude.{◌≡◌, ◌≢◌, ◌⊎◌, ℕ, List, IfErr, IfOk, IsErrOf, Err, Some, string_bytes, true};
+ghost use Rattle.lpt_text.specs.Streams.{WriteEnds};
 ghost use Rattle.lpt_script_text.specs.Printing.{refused_text};
 ghost use Rattle.lpt_script.specs.Ends.{Grows, TextEnds};
 
 use lpt_events::StepFault;
 use lpt_script_text::print_refused;
-use lpt_text::{Sink, ToolFault, write_out};
+use lpt_text::{Sink, StreamFault, write_out};
 use std::alloc::{AllocError, Global};
 
 /// Writes a text, where it could be made.
-pub fn put<K: Sink>(out: &mut K, text: Result<String, AllocError>) -> Result<(), ToolFault>
+pub fn put<K: Sink>(out: &mut K, text: Result<String, AllocError>) -> Result<(), StreamFault>
     ensures ends { (t : List ℕ) → IfOk text (λ s. string_bytes s ≡ t) → TextEnds t result (K.contents out.old) (K.contents out.new) }
     ensures grows { Grows (K.contents out.old) (K.contents out.new) }
-    ensures only { IfErr result (λ e. (e ≡ ToolFault.Write) ⊎ (e ≡ ToolFault.Memory)) }
-    ensures cause { IsErrOf result ToolFault.Write → K.failed out.new ≡ true }
-    ensures told { result ≢ Err ToolFault.Write → K.failed out.new ≡ K.failed out.old }
+    ensures only { IfErr result (λ e. (e ≡ StreamFault.Write) ⊎ (e ≡ StreamFault.Memory)) }
+    ensures writer { WriteEnds result (K.failed out.old) (K.failed out.new) }
 {
     match text {
         Ok(text) => write_out(out, text.as_bytes()),
-        Err(_) => Err(ToolFault::Memory),
+        Err(_) => Err(StreamFault::Memory),
     }
 }
 
@@ -29,15 +29,14 @@ pub(crate) fn put_refused<K: Sink>(
     alloc: Global,
     fault: StepFault,
     out: &mut K,
-) -> Result<Option<StepFault>, ToolFault>
+) -> Result<Option<StepFault>, StreamFault>
     ensures refused { IfOk result (λ r. r ≡ Some fault) }
     ensures ends { TextEnds (refused_text fault) result (K.contents out.old) (K.contents out.new) }
-    ensures memory { fault ≡ StepFault.Memory → (result ≡ Err ToolFault.Memory) × (K.contents out.old ≡ K.contents out.new) }
-    ensures cause { IsErrOf result ToolFault.Write → K.failed out.new ≡ true }
-    ensures told { result ≢ Err ToolFault.Write → K.failed out.new ≡ K.failed out.old }
+    ensures memory { fault ≡ StepFault.Memory → (result ≡ Err StreamFault.Memory) × (K.contents out.old ≡ K.contents out.new) }
+    ensures writer { WriteEnds result (K.failed out.old) (K.failed out.new) }
 {
     if fault == StepFault::Memory {
-        return Err(ToolFault::Memory);
+        return Err(StreamFault::Memory);
     }
     match put(out, print_refused(alloc, fault)) {
         Ok(()) => Ok(Some(fault)),

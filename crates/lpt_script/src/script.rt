@@ -1,24 +1,19 @@
 //! Scripts: lines of text that ask a world for events, or show what is in it.
 
-ghost use Rattle.std.specs.Prelude.{◌≡◌, ◌≢◌, ◌↔◌, ◌+◌, ◌++◌, ◌<◌, ◌≤◌, ◌^◌, is_some, IfOk, IsErrOf, IsOk, IsSome, Err, None, true};
-ghost use Rattle.std.specs.Int.{from_bool};
-ghost use Rattle.lpt_text.specs.Lines.{line_end};
-ghost use Rattle.lpt_script.specs.Ends.{LineEnds, LinesEnd, LinesLeave, RunEnds, ScriptEnds};
-ghost use Rattle.lpt_script.specs.Scripts.{is_later, kept_of, left_of, line_ran, lines_left, lines_ran, says, shows_left, unreadable};
-ghost use Rattle.lpt_script_words.specs.Grammar.{reading_of};
-ghost use Rattle.lpt_script_words.specs.Words.{lines};
+ghost use Rattle.std.specs.Prelude.{◌≡◌, ◌≢◌, ◌↔◌, ⊤, IfOk, IsErrOf, IsOk, IsSome, Err};
+ghost use Rattle.lpt_text.specs.Streams.{ReadEnds, WriteEnds};
+ghost use Rattle.lpt_script.specs.Ends.{LinesLeave, RunEnds, ScriptEnds, streams_end};
+ghost use Rattle.lpt_script.specs.Runs.{script_end};
+ghost use Rattle.lpt_script.specs.Scripts.{is_later, kept_of, left_of};
 ghost use Rattle.lpt_events.specs.Configs.{config_fault};
 ghost use Rattle.lpt_world.specs.Worlds.{new_world};
 
-use crate::ScriptEnd;
-use crate::command::run_command;
-use crate::printed::put;
+use crate::running::Running;
 use crate::shows::Shows;
-use lpt_events::{Config, ConfigFault, StepFault};
+use crate::{ScriptEnd, ScriptFault};
+use lpt_events::{Config, ConfigFault};
 use lpt_memory::Memories;
-use lpt_script_text::print_unreadable;
-use lpt_script_words::{Reading, ended, read_line};
-use lpt_text::{LineBuffer, Sink, Source, ToolFault, flush_out};
+use lpt_text::{Sink, Source, StreamFault, each_line, flush_out};
 use lpt_world::World;
 use std::alloc::Global;
 
@@ -40,168 +35,92 @@ pub fn run_script<S: Source, K: Sink>(
     memories: Memories,
     reader: &mut S,
     out: &mut K,
-) -> Result<ScriptEnd, ToolFault>
+) -> Result<ScriptEnd, ScriptFault>
     ensures ends { ScriptEnds (new_world config memories) result (S.remaining reader.old) (S.remaining reader.new)
         (K.contents out.old) (K.contents out.new) (S.failed reader.new) (K.failed out.new) }
-    ensures config { IsErrOf result ToolFault.Config ↔ IsSome (config_fault config) }
+    ensures config { IsErrOf result ScriptFault.Config ↔ IsSome (config_fault config) }
 
     // A fault of a write is reported, and so is one of a read, unless the run ended by another.
-    ensures told { result ≢ Err ToolFault.Write → K.failed out.new ≡ K.failed out.old }
-    ensures read { IsOk result → S.failed reader.new ≡ S.failed reader.old }
-    ensures passed { IsOk result → K.passed out.new ≡ K.contents out.new }
+    ensures writer { WriteEnds (streams_end result) (K.failed out.old) (K.failed out.new) }
+    ensures reader { ReadEnds ⊤ (streams_end result) (S.failed reader.old) (S.failed reader.new) }
+    ensures passed { IsOk result → K.flushed out.new ≡ K.contents out.new }
 {
     match World::new(alloc, config, memories) {
-        Ok(mut world) => {
-            let ran = run_all(alloc, &mut world, reader, out);
-            drop(world);
-            ran
-        }
-        Err(ConfigFault::Memory) => Err(ToolFault::Memory),
-        Err(_) => Err(ToolFault::Config),
+        Ok(world) => run_all(alloc, world, reader, out),
+        Err(ConfigFault::Memory) => Err(ScriptFault::Stream(StreamFault::Memory)),
+        Err(_) => Err(ScriptFault::Config),
     }
 }
 
 // Runs the lines that a reader gives, each in its place, and has what they printed passed on.
-#[tactic(auto, using(crate::proofs::RunEnds::ok_kept))]
 fn run_all<S: Source, K: Sink>(
     alloc: Global,
-    world: &mut World,
+    world: World,
     reader: &mut S,
     out: &mut K,
-) -> Result<ScriptEnd, ToolFault>
-    ensures ends { ScriptEnds world.old result (S.remaining reader.old) (S.remaining reader.new)
+) -> Result<ScriptEnd, ScriptFault>
+    ensures ends { ScriptEnds world result (S.remaining reader.old) (S.remaining reader.new)
         (K.contents out.old) (K.contents out.new) (S.failed reader.new) (K.failed out.new) }
-    ensures config { result ≢ Err ToolFault.Config }
-    ensures told { result ≢ Err ToolFault.Write → K.failed out.new ≡ K.failed out.old }
-    ensures read { IsOk result → S.failed reader.new ≡ S.failed reader.old }
-    ensures passed { IsOk result → K.passed out.new ≡ K.contents out.new }
+    ensures config { result ≢ Err ScriptFault.Config }
+    ensures writer { WriteEnds (streams_end result) (K.failed out.old) (K.failed out.new) }
+    ensures reader { ReadEnds ⊤ (streams_end result) (S.failed reader.old) (S.failed reader.new) }
+    ensures passed { IsOk result → K.flushed out.new ≡ K.contents out.new }
 {
-    let end = match run_lines(alloc, world, &mut Shows::Now, reader, out) {
+    let (ran, world, shows) = run_lines(alloc, world, Shows::Now, reader, out);
+    drop(world);
+    drop(shows);
+    let end = match ran {
         Ok(end) => end,
         Err(fault) => return Err(fault),
     };
     match flush_out(out) {
         Ok(()) => Ok(end),
-        Err(fault) => Err(fault),
+        Err(fault) => Err(ScriptFault::Stream(fault)),
     }
 }
 
-/// Runs the lines that a reader gives, the first of which has number 1, and counts those of which an
-/// event was refused.
+/// Runs the lines that a reader gives on a world, the first of which has number 1, and counts those of
+/// which an event was refused. The world is given back, and so is what was kept to be shown later.
 ///
 /// Errors: those of `run_script` but `Config`.
 pub fn run_lines<S: Source, K: Sink>(
     alloc: Global,
-    world: &mut World,
-    shows: &mut Shows,
+    world: World,
+    shows: Shows,
     reader: &mut S,
     out: &mut K,
-) -> Result<ScriptEnd, ToolFault>
-    ensures ends { RunEnds (is_later shows.old) world.old result (S.remaining reader.old) (S.remaining reader.new)
+) -> (Result<ScriptEnd, ScriptFault>, World, Shows)
+    ensures ends { RunEnds (is_later shows) world result.0 (S.remaining reader.old) (S.remaining reader.new)
         (K.contents out.old) (K.contents out.new) (S.failed reader.new) (K.failed out.new) }
-    ensures left { IfOk result (λ end. LinesLeave (is_later shows.old) (kept_of shows.old) world.old end (left_of world.new (kept_of shows.new))
+    ensures left { IfOk result.0 (λ end. LinesLeave (is_later shows) (kept_of shows) world end (left_of result.1 (kept_of result.2))
         (S.remaining reader.old) (S.remaining reader.new) (K.contents out.old) (K.contents out.new)) }
-    ensures config { result ≢ Err ToolFault.Config }
-    ensures told { result ≢ Err ToolFault.Write → K.failed out.new ≡ K.failed out.old }
-    ensures read { IsOk result → S.failed reader.new ≡ S.failed reader.old }
+    ensures config { result.0 ≢ Err ScriptFault.Config }
+    ensures writer { WriteEnds (streams_end result.0) (K.failed out.old) (K.failed out.new) }
+    ensures reader { ReadEnds ⊤ (streams_end result.0) (S.failed reader.old) (S.failed reader.new) }
 {
-    let mut lines = LineBuffer::new(alloc);
-    let mut number = 1;
-    let mut refused = 0;
-    loop {
-        let len = match lines.find_line(reader, out) {
-            Ok(Some(len)) => len,
-            Ok(None) => return run_last(alloc, world, shows, lines.held(), number, refused, out),
-            Err(fault) => return Err(fault),
-        };
-        match run_line(
-            alloc,
-            world,
-            shows,
-            ended(&lines.held()[..len]),
-            number,
-            out,
-        ) {
-            Ok(was_refused) => refused += counted(was_refused),
-            Err(fault) => return Err(fault),
-        }
-        lines.skip(len + 1);
-        number += 1;
-    }
+    let mut running = Running {
+        alloc,
+        world,
+        shows,
+        bad: None,
+    };
+    let taken = each_line(alloc, reader, out, &mut running);
+    let Running {
+        alloc: _,
+        world,
+        shows,
+        bad,
+    } = running;
+    (script_end(taken, bad), world, shows)
 }
 
-// Runs what follows the last line end, which is a line where it isn't empty; so many lines were
-// refused before.
-fn run_last<K: Sink>(
-    alloc: Global,
-    world: &mut World,
-    shows: &mut Shows,
-    last: &[u8],
-    number: u64,
-    refused: u64,
-    out: &mut K,
-) -> Result<ScriptEnd, ToolFault>
-    requires one { line_end last.now ≡ None }
-    requires fits { refused + 1 < 2 ^ 64 }
-    ensures ends { LinesEnd (lines_ran (is_later shows.old) (lines last.now) world.old number refused) result (K.contents out.old) (K.contents out.new) }
-    ensures left { IfOk result (λ _. lines_left (is_later shows.old) (lines last.now) world.old number (kept_of shows.old) ≡ left_of world.new (kept_of shows.new)) }
-    ensures cause { IsErrOf result ToolFault.Write → K.failed out.new ≡ true }
-    ensures told { result ≢ Err ToolFault.Write → K.failed out.new ≡ K.failed out.old }
+// How a script ends whose lines were taken, up to an unreadable one of this number.
+fn script_end(taken: Result<u64, StreamFault>, bad: Option<u64>) -> Result<ScriptEnd, ScriptFault>
+    ensures { result ≡ script_end taken bad }
 {
-    if last.is_empty() {
-        return Ok(ScriptEnd { refused });
-    }
-    match run_line(alloc, world, shows, last, number, out) {
-        Ok(was_refused) => Ok(ScriptEnd {
-            refused: refused + counted(was_refused),
-        }),
-        Err(fault) => Err(fault),
-    }
-}
-
-// One for an event that was refused, and none where none was.
-fn counted(refused: Option<StepFault>) -> u64
-    ensures value { result ≡ from_bool (is_some refused) }
-    ensures small { result ≤ 1 }
-{
-    u64::from(refused.is_some())
-}
-
-// Runs a line, and answers why an event of it was refused, if one was.
-fn run_line<K: Sink>(
-    alloc: Global,
-    world: &mut World,
-    shows: &mut Shows,
-    line: &[u8],
-    number: u64,
-    out: &mut K,
-) -> Result<Option<StepFault>, ToolFault>
-    ensures same { is_later shows.new ≡ is_later shows.old }
-    ensures left { IfOk result (λ _. kept_of shows.new ≡ kept_of shows.old ++ shows_left (is_later shows.old) (reading_of world.old.config.source line.now)) }
-    ensures ends { LineEnds (line_ran (says (is_later shows.old) world.old.config.source line.now) number world.old) result world.new (K.contents out.old) (K.contents out.new) }
-    ensures cause { IsErrOf result ToolFault.Write → K.failed out.new ≡ true }
-    ensures told { result ≢ Err ToolFault.Write → K.failed out.new ≡ K.failed out.old }
-{
-    match read_line(alloc, world.config().source, line) {
-        Err(_) => Err(ToolFault::Memory),
-        Ok(Reading::Skipped) => Ok(None),
-        Ok(Reading::Asks(command)) => match shows.keep(command) {
-            Ok(Some(command)) => run_command(alloc, world, command, out),
-            Ok(None) => Ok(None),
-            Err(_) => Err(ToolFault::Memory),
-        },
-        Ok(Reading::Unreadable) => Err(end_unreadable(alloc, number, out)),
-    }
-}
-
-// Writes that a line is unreadable, and gives the fault that this ends by.
-fn end_unreadable<K: Sink>(alloc: Global, number: u64, out: &mut K) -> ToolFault
-    ensures ends { LinesEnd (unreadable number) (Err result) (K.contents out.old) (K.contents out.new) }
-    ensures cause { result ≡ ToolFault.Write → K.failed out.new ≡ true }
-    ensures told { result ≢ ToolFault.Write → K.failed out.new ≡ K.failed out.old }
-{
-    match put(out, print_unreadable(alloc, number)) {
-        Ok(()) => ToolFault::Line(number),
-        Err(fault) => fault,
+    match (taken, bad) {
+        (Ok(_), Some(number)) => Err(ScriptFault::Line(number)),
+        (Ok(refused), None) => Ok(ScriptEnd { refused }),
+        (Err(fault), _) => Err(ScriptFault::Stream(fault)),
     }
 }

@@ -1,6 +1,7 @@
 //! What a world shows, printed.
 
 ghost use Rattle.std.specs.Prelude.{◌≡◌, ◌≢◌, IsErrOf, Err, true, option_map};
+ghost use Rattle.lpt_text.specs.Streams.{WriteEnds};
 ghost use Rattle.std.specs.List.{flat_map};
 ghost use Rattle.lpt_script_text.specs.Printing.{clear_text, memory_text, release_text, releases_text};
 ghost use Rattle.lpt_journal.specs.Clear.{is_clear};
@@ -15,7 +16,7 @@ use lpt_script_text::{
     print_clear, print_journal, print_memory, print_none, print_packet, print_release,
 };
 use lpt_script_words::Show;
-use lpt_text::{Sink, ToolFault};
+use lpt_text::{Sink, StreamFault};
 use lpt_world::World;
 use std::alloc::Global;
 
@@ -25,10 +26,9 @@ pub fn run_show<K: Sink>(
     world: &World,
     show: Show,
     out: &mut K,
-) -> Result<(), ToolFault>
+) -> Result<(), StreamFault>
     ensures ends { TextEnds (show_text show world.now) result (K.contents out.old) (K.contents out.new) }
-    ensures cause { IsErrOf result ToolFault.Write → K.failed out.new ≡ true }
-    ensures told { result ≢ Err ToolFault.Write → K.failed out.new ≡ K.failed out.old }
+    ensures writer { WriteEnds result (K.failed out.old) (K.failed out.new) }
 {
     match show {
         Show::Released => { show_released(alloc, world.config().source, world.released(), out) }
@@ -47,10 +47,9 @@ fn show_memory<K: Sink>(
     address: u32,
     len: u32,
     out: &mut K,
-) -> Result<(), ToolFault>
+) -> Result<(), StreamFault>
     ensures ends { TextEnds (memory_text id address (memory_octets world.now id address len)) result (K.contents out.old) (K.contents out.new) }
-    ensures cause { IsErrOf result ToolFault.Write → K.failed out.new ≡ true }
-    ensures told { result ≢ Err ToolFault.Write → K.failed out.new ≡ K.failed out.old }
+    ensures writer { WriteEnds result (K.failed out.old) (K.failed out.new) }
 {
     let octets = match world.memory(id) {
         Some(content) => octets_from(content, address, len),
@@ -66,10 +65,9 @@ fn show_clear<K: Sink>(
     direction: Direction,
     name: Name,
     out: &mut K,
-) -> Result<(), ToolFault>
+) -> Result<(), StreamFault>
     ensures ends { TextEnds (clear_text (is_clear world.now.config (history world.now) direction name)) result (K.contents out.old) (K.contents out.new) }
-    ensures cause { IsErrOf result ToolFault.Write → K.failed out.new ≡ true }
-    ensures told { result ≢ Err ToolFault.Write → K.failed out.new ≡ K.failed out.old }
+    ensures writer { WriteEnds result (K.failed out.old) (K.failed out.new) }
 {
     put(out, print_clear(alloc, world.is_clear(direction, name)))
 }
@@ -92,10 +90,9 @@ fn show_released<K: Sink>(
     source: u16,
     releases: &[Release],
     out: &mut K,
-) -> Result<(), ToolFault>
+) -> Result<(), StreamFault>
     ensures ends { TextEnds (releases_text source releases.now) result (K.contents out.old) (K.contents out.new) }
-    ensures cause { IsErrOf result ToolFault.Write → K.failed out.new ≡ true }
-    ensures told { result ≢ Err ToolFault.Write → K.failed out.new ≡ K.failed out.old }
+    ensures writer { WriteEnds result (K.failed out.old) (K.failed out.new) }
 {
     if releases.is_empty() {
         put(out, print_none(alloc))
@@ -110,10 +107,9 @@ fn put_releases<K: Sink>(
     source: u16,
     releases: &[Release],
     out: &mut K,
-) -> Result<(), ToolFault>
+) -> Result<(), StreamFault>
     ensures ends { TextEnds (flat_map (release_text source) releases.now) result (K.contents out.old) (K.contents out.new) }
-    ensures cause { IsErrOf result ToolFault.Write → K.failed out.new ≡ true }
-    ensures told { result ≢ Err ToolFault.Write → K.failed out.new ≡ K.failed out.old }
+    ensures writer { WriteEnds result (K.failed out.old) (K.failed out.new) }
 {
     for release in releases {
         match put(out, print_release(alloc, source, release)) {

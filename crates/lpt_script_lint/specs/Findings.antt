@@ -1,7 +1,8 @@
 -- What is found in a line, and in the lines of a script.
 use Rattle.std.specs.Prelude.{ℕ, ◌+◌, ◌-◌, ◌==◌, nat_lt, Bool, true, false, if◌then◌else◌, List, [], ◌∷◌, ◌++◌, length, take, drop, get_or, position, Option, Some, None, option_map}
 use Rattle.lpt_script_words.specs.Grammar.{is_comment}
-use Rattle.lpt_script_words.specs.Words.{lines, words}
+use Rattle.lpt_text.specs.Texts.{lines, longest_line}
+use Rattle.lpt_script_words.specs.Words.{words}
 use Rattle.lpt_script_words.specs.declared.grammar.Reading.{Reading}
 use Rattle.lpt_script_words.specs.declared.grammar.Reading.TheVariants.{Skipped, Asks, Unreadable}
 use Rattle.lpt_script_lint.specs.Shapes.{command_misfit, command_shape}
@@ -36,7 +37,7 @@ finding_at line m = record { column = column_of m.word line; reason = m.reason }
 -- why a line is unreadable, where it is
 unfoldable pub why : List ℕ → Option Finding
 why line =
-    if nat_lt 140000 (length line) then Some (record { column = 140001; reason = LongLine })
+    if nat_lt longest_line (length line) then Some (record { column = longest_line + 1; reason = LongLine })
     else option_map (finding_at line) (words_misfit (words line))
 
 -- whether a run would end at a line
@@ -65,7 +66,7 @@ front_word text = before text (position (λ b. b == 32) text)
 -- the word that begins in this column; of a line that is too long none is told
 abbrev pub word_at : ℕ → List ℕ → List ℕ
 word_at column line =
-    if nat_lt 140000 (length line) then [] else front_word (drop (column - 1) line)
+    if nat_lt longest_line (length line) then [] else front_word (drop (column - 1) line)
 
 -- what is found in the line of this number
 abbrev pub found_in : ℕ → List ℕ → Option Finding → List Found

@@ -10,9 +10,7 @@ use crate::fitting::begins_comment;
 use crate::judging::command_misfit;
 use crate::reasons::Reason;
 use lpt_script_words::split_word;
-
-/// The most octets of a line, with the carriage return that its line feed drops.
-pub(crate) const LONGEST_LINE: usize = 140_000;
+use lpt_text::LONGEST_LINE;
 
 /// Where and why a line is unreadable, given without its line feed and the carriage return dropped
 /// with that; nothing of one that can be read.

@@ -22,6 +22,6 @@ pub use explaining::explain;
 pub use findings::Finding;
 pub use kinds::{Kind, Number};
 pub use linting::{LintEnd, lint};
-pub use lpt_text::{Sink, Source, ToolFault};
+pub use lpt_text::{Sink, Source, StreamFault};
 pub use reasons::Reason;
 pub use texts::{finding_text, reason_text};

@@ -1,12 +1,11 @@
 //! Scripts judged line by line.
 
-ghost use Rattle.std.specs.Prelude.{◌≡◌, ◌≢◌, IsErrOf, IsOk, Err, true};
+ghost use Rattle.std.specs.Prelude.{◌≡◌, ⊤, IsOk};
+ghost use Rattle.lpt_text.specs.Streams.{ReadEnds, WriteEnds};
 ghost use Rattle.lpt_script_lint.specs.Ends.{LintEnds};
 
-use crate::explaining::LONGEST_LINE;
 use crate::telling::tell_line;
-use lpt_script_words::ended;
-use lpt_text::{LineBuffer, Sink, Source, ToolFault, flush_out};
+use lpt_text::{LineTaker, Sink, Source, StreamFault, Taken, each_line, flush_out};
 use std::alloc::Global;
 
 /// What a lint found.
@@ -31,14 +30,14 @@ pub fn lint<S: Source, K: Sink>(
     path: &[u8],
     reader: &mut S,
     out: &mut K,
-) -> Result<LintEnd, ToolFault>
+) -> Result<LintEnd, StreamFault>
     ensures ends { LintEnds path.now result (S.remaining reader.old) (S.remaining reader.new)
         (K.contents out.old) (K.contents out.new) (S.failed reader.new) (K.failed out.new) }
 
     // A fault of a write is reported, and so is one of a read, unless the lint ended by another.
-    ensures told { result ≢ Err ToolFault.Write → K.failed out.new ≡ K.failed out.old }
-    ensures read { IsOk result → S.failed reader.new ≡ S.failed reader.old }
-    ensures passed { IsOk result → K.passed out.new ≡ K.contents out.new }
+    ensures writer { WriteEnds result (K.failed out.old) (K.failed out.new) }
+    ensures reader { ReadEnds ⊤ result (S.failed reader.old) (S.failed reader.new) }
+    ensures passed { IsOk result → K.flushed out.new ≡ K.contents out.new }
 {
     let end = match lint_lines(alloc, path, reader, out) {
         Ok(end) => end,
@@ -56,48 +55,44 @@ fn lint_lines<S: Source, K: Sink>(
     path: &[u8],
     reader: &mut S,
     out: &mut K,
-) -> Result<LintEnd, ToolFault>
+) -> Result<LintEnd, StreamFault>
     ensures ends { LintEnds path.now result (S.remaining reader.old) (S.remaining reader.new)
         (K.contents out.old) (K.contents out.new) (S.failed reader.new) (K.failed out.new) }
-    ensures told { result ≢ Err ToolFault.Write → K.failed out.new ≡ K.failed out.old }
-    ensures read { IsOk result → S.failed reader.new ≡ S.failed reader.old }
+    ensures writer { WriteEnds result (K.failed out.old) (K.failed out.new) }
+    ensures reader { ReadEnds ⊤ result (S.failed reader.old) (S.failed reader.new) }
 {
-    let mut lines = LineBuffer::new(alloc);
-    let mut number = 1;
-    let mut unreadable = 0;
-    // Whether what is held goes on a line that was reported already, since it is too long.
-    let mut is_told = false;
-    loop {
-        let len = match lines.find_line(reader, out) {
-            Ok(Some(len)) => len,
-            Ok(None) => {
-                match tell_line(alloc, path, number, lines.held(), is_told, out) {
-                    Ok(told) => unreadable += u64::from(told),
-                    Err(fault) => return Err(fault),
-                }
-                let held = lines.held().len();
-                if held <= LONGEST_LINE {
-                    return Ok(LintEnd { unreadable });
-                }
-                lines.skip(held);
-                is_told = true;
-                continue;
-            }
-            Err(fault) => return Err(fault),
-        };
-        match tell_line(
-            alloc,
-            path,
-            number,
-            ended(&lines.held()[..len]),
-            is_told,
-            out,
-        ) {
-            Ok(told) => unreadable += u64::from(told),
-            Err(fault) => return Err(fault),
+    match each_line(alloc, reader, out, &mut Linting { alloc, path }) {
+        Ok(unreadable) => Ok(LintEnd { unreadable }),
+        Err(fault) => Err(fault),
+    }
+}
+
+// Judges the lines of a script with this path.
+#[derive(Drop)]
+pub(crate) struct Linting<'p> {
+    alloc: Global,
+    path: &'p [u8],
+}
+
+impl LineTaker for Linting<'_> {
+    ghost use Rattle.std.specs.Prelude.{ℕ, false};
+    ghost use Rattle.lpt_script_lint.specs.EndsInside.{lint_story};
+
+    ghost Left = { ℕ };
+
+    ghost story = { λ it. lint_story it.path.now };
+
+    ghost is_over = { λ _. false };
+
+    fn take<K: Sink>(
+        &mut self,
+        number: u64,
+        line: &[u8],
+        out: &mut K,
+    ) -> Result<Taken, StreamFault> {
+        match tell_line(self.alloc, self.path, number, line, out) {
+            Ok(told) => Ok(Taken::counting(told)),
+            Err(fault) => Err(fault),
         }
-        lines.skip(len + 1);
-        is_told = false;
-        number += 1;
     }
 }

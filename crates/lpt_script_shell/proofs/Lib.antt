@@ -3,5 +3,5 @@ pub mod HeardLemmas
 pub mod KeptLemmas
 pub mod LongLemmas
 pub mod RowLemmas
-pub mod ServeLemmas
+pub mod LineLemmas
 pub mod SessionLemmas

@@ -9,7 +9,8 @@ use Rattle.lpt_script_lint.specs.declared.reasons.Reason.TheVariants as reason
 use Rattle.lpt_script.specs.Scripts.{Ran, command_ran}
 use Rattle.lpt_script_words.specs.Grammar.{reading_of}
 use Rattle.lpt_script_words.specs.Numbers.{is_word}
-use Rattle.lpt_script_words.specs.Words.{is_empty, lines, words}
+use Rattle.lpt_text.specs.Texts.{lines, longest_line}
+use Rattle.lpt_script_words.specs.Words.{is_empty, words}
 use Rattle.lpt_script_words.specs.declared.grammar.Reading.{Reading}
 use Rattle.lpt_script_words.specs.declared.grammar.Reading.TheVariants.{Skipped, Asks, Unreadable}
 use Rattle.lpt_world.specs.Worlds.{Shown}
@@ -46,7 +47,7 @@ served w text failed = record { world = w; text = text; failed = failed }
 
 -- what a line prints that only a shell reads; a line that is too long isn't looked at
 abbrev pub own_line : Shown → List ℕ → Option (List ℕ)
-own_line w line = if nat_lt 140000 (length line) then None else own_text w (words line)
+own_line w line = if nat_lt longest_line (length line) then None else own_text w (words line)
 
 -- a line that a script doesn't read, by what it prints where a shell does
 abbrev pub own_served : Shown → List ℕ → Option (List ℕ) → Served
@@ -65,10 +66,6 @@ answered w line Skipped = served w [] false
 answered w line (Asks c) = noted (parts_named w c) (command_ran c w)
 answered w line Unreadable = own_served w line (own_line w line)
 
--- what a line does that is too long
-abbrev pub long_answered : Shown → Served
-long_answered w = served w (finding_line (record { column = 140001; reason = reason.LongLine })) true
-
 -- the same, with the prompt for the next line behind it
 abbrev pub prompted : (prompt : List ℕ) → Served → Served
 prompted prompt s = record s { text = s.text ++ prompt }
@@ -86,7 +83,7 @@ is_exit (word ∷ ws) = is_empty ws && (is_word (codes "exit") word || is_word (
 
 -- whether a line ends a session; one that is too long isn't looked at
 abbrev pub ends_session : List ℕ → Bool
-ends_session line = if nat_lt 140000 (length line) then false else is_exit (words line)
+ends_session line = if nat_lt longest_line (length line) then false else is_exit (words line)
 
 -- what lines leave: their text, how many of them failed, and whether one of them ended the session
 pub record Session : Type 0 where

@@ -1,12 +1,13 @@
 //! What a line does in a shell.
 
 ghost use Rattle.std.specs.Prelude.{◌≡◌, ◌≢◌, ◌&&◌, ◌||◌, ℕ, List, IfOk, IsErrOf, Err, true, option_map, string_bytes};
+ghost use Rattle.lpt_text.specs.Streams.{WriteEnds};
 ghost use Rattle.lpt_script.specs.Ends.{TextEnds};
 ghost use Rattle.lpt_script.specs.Scripts.{command_ran};
 ghost use Rattle.lpt_script_words.specs.Grammar.{reading_of};
 ghost use Rattle.lpt_script_words.specs.Words.{words};
-ghost use Rattle.lpt_script_shell.specs.Answers.{answered, ends_session, finding_line, finding_text, is_exit, long_answered, noted, own_line, own_served, why_words};
-ghost use Rattle.lpt_script_shell.specs.EndsInside.{ServedEnds, piece_answered, piece_ends, piece_served};
+ghost use Rattle.lpt_script_shell.specs.Answers.{answered, ends_session, finding_line, finding_text, is_exit, line_served, noted, own_line, own_served, why_words};
+ghost use Rattle.lpt_script_shell.specs.EndsInside.{ServedEnds};
 ghost use Rattle.lpt_script_shell.specs.Notes.{parts_named};
 ghost use Rattle.lpt_script_lint.specs.Findings.{why};
 
@@ -15,22 +16,12 @@ use crate::views::{is_blank, own_line};
 use lpt_script::{put, run_command};
 use lpt_script_lint::{Finding, Reason, explain, reason_text};
 use lpt_script_words::{Command, Reading, read_line, split_word};
-use lpt_text::{Sink, ToolFault, write_out};
+use lpt_text::{LONGEST_LINE, Sink, StreamFault, write_out};
 use lpt_world::World;
 use std::alloc::{AllocError, Global};
 
-/// The most octets of a line, with the carriage return that its line feed drops.
-pub(crate) const LONGEST_LINE: usize = 140_000;
-
-// Whether a line ends the session, of which more than a line may have was dropped already, or not.
-pub(crate) fn piece_ends(is_long: bool, line: &[u8]) -> bool
-    ensures { result ≡ piece_ends is_long line.now }
-{
-    !is_long && ends_session(line)
-}
-
 // Whether a line ends the session; one that is too long isn't looked at.
-fn ends_session(line: &[u8]) -> bool
+pub(crate) fn ends_session(line: &[u8]) -> bool
     ensures { result ≡ ends_session line.now }
 {
     line.len() <= LONGEST_LINE && is_exit(line)
@@ -47,46 +38,25 @@ fn is_exit(line: &[u8]) -> bool
 }
 
 // Answers a line, with the prompt for the next one behind it, and says whether it was unreadable or
-// an event of it refused. A line that is too long is answered by that alone.
+// an event of it refused.
 #[tactic(auto, using(crate::proofs::AnswerLemmas::prompted_ends, crate::proofs::AnswerLemmas::prompted_part, crate::proofs::AnswerLemmas::prompted_fault))]
 pub(crate) fn serve_line<K: Sink>(
     alloc: Global,
     world: &mut World,
     prompt: &[u8],
     line: &[u8],
-    is_long: bool,
     out: &mut K,
-) -> Result<bool, ToolFault>
-    ensures ends { ServedEnds (piece_served is_long prompt.now line.now world.old)
+) -> Result<bool, StreamFault>
+    ensures ends { ServedEnds (line_served prompt.now line.now world.old)
         result world.new (K.contents out.old) (K.contents out.new) }
-    ensures cause { IsErrOf result ToolFault.Write → K.failed out.new ≡ true }
-    ensures told { result ≢ Err ToolFault.Write → K.failed out.new ≡ K.failed out.old }
+    ensures writer { WriteEnds result (K.failed out.old) (K.failed out.new) }
 {
-    match answer_piece(alloc, world, line, is_long, out) {
+    match answer(alloc, world, line, out) {
         Ok(has_failed) => match write_out(out, prompt) {
             Ok(()) => Ok(has_failed),
             Err(fault) => Err(fault),
         },
         Err(fault) => Err(fault),
-    }
-}
-
-// Answers a line, or says that it is too long.
-fn answer_piece<K: Sink>(
-    alloc: Global,
-    world: &mut World,
-    line: &[u8],
-    is_long: bool,
-    out: &mut K,
-) -> Result<bool, ToolFault>
-    ensures ends { ServedEnds (piece_answered is_long line.now world.old) result world.new (K.contents out.old) (K.contents out.new) }
-    ensures cause { IsErrOf result ToolFault.Write → K.failed out.new ≡ true }
-    ensures told { result ≢ Err ToolFault.Write → K.failed out.new ≡ K.failed out.old }
-{
-    if is_long {
-        tell_long(alloc, world, out)
-    } else {
-        answer(alloc, world, line, out)
     }
 }
 
@@ -96,13 +66,12 @@ fn answer<K: Sink>(
     world: &mut World,
     line: &[u8],
     out: &mut K,
-) -> Result<bool, ToolFault>
+) -> Result<bool, StreamFault>
     ensures ends { ServedEnds (answered world.old line.now (reading_of world.old.config.source line.now)) result world.new (K.contents out.old) (K.contents out.new) }
-    ensures cause { IsErrOf result ToolFault.Write → K.failed out.new ≡ true }
-    ensures told { result ≢ Err ToolFault.Write → K.failed out.new ≡ K.failed out.old }
+    ensures writer { WriteEnds result (K.failed out.old) (K.failed out.new) }
 {
     match read_line(alloc, world.config().source, line) {
-        Err(_) => Err(ToolFault::Memory),
+        Err(_) => Err(StreamFault::Memory),
         Ok(Reading::Skipped) => Ok(false),
         Ok(Reading::Asks(command)) => run_noted(alloc, world, command, out),
         Ok(Reading::Unreadable) => answer_own(alloc, world, line, out),
@@ -116,11 +85,10 @@ fn run_noted<K: Sink>(
     world: &mut World,
     command: Command,
     out: &mut K,
-) -> Result<bool, ToolFault>
+) -> Result<bool, StreamFault>
     ensures ends { ServedEnds (noted (parts_named world.old command) (command_ran command world.old))
         result world.new (K.contents out.old) (K.contents out.new) }
-    ensures cause { IsErrOf result ToolFault.Write → K.failed out.new ≡ true }
-    ensures told { result ≢ Err ToolFault.Write → K.failed out.new ≡ K.failed out.old }
+    ensures writer { WriteEnds result (K.failed out.old) (K.failed out.new) }
 {
     let parts = parts_named(world, &command);
     match run_command(alloc, world, command, out) {
@@ -137,10 +105,9 @@ fn answer_own<K: Sink>(
     world: &World,
     line: &[u8],
     out: &mut K,
-) -> Result<bool, ToolFault>
+) -> Result<bool, StreamFault>
     ensures ends { ServedEnds (own_served world.now line.now (own_line world.now line.now)) result world.now (K.contents out.old) (K.contents out.new) }
-    ensures cause { IsErrOf result ToolFault.Write → K.failed out.new ≡ true }
-    ensures told { result ≢ Err ToolFault.Write → K.failed out.new ≡ K.failed out.old }
+    ensures writer { WriteEnds result (K.failed out.old) (K.failed out.new) }
 {
     match own_line(alloc, world, line) {
         Ok(Some(text)) => match write_out(out, text.as_bytes()) {
@@ -148,30 +115,15 @@ fn answer_own<K: Sink>(
             Err(fault) => Err(fault),
         },
         Ok(None) => put_told(out, finding_text(alloc, line)),
-        Err(_) => Err(ToolFault::Memory),
+        Err(_) => Err(StreamFault::Memory),
     }
 }
 
-// Says that a line is too long.
-#[tactic(auto, using(crate::proofs::AnswerLemmas::told_ends))]
-fn tell_long<K: Sink>(alloc: Global, world: &World, out: &mut K) -> Result<bool, ToolFault>
-    ensures ends { ServedEnds (long_answered world.now) result world.now (K.contents out.old) (K.contents out.new) }
-    ensures cause { IsErrOf result ToolFault.Write → K.failed out.new ≡ true }
-    ensures told { result ≢ Err ToolFault.Write → K.failed out.new ≡ K.failed out.old }
-{
-    let finding = Finding {
-        column: LONGEST_LINE + 1,
-        reason: Reason::LongLine,
-    };
-    put_told(out, finding_line(alloc, finding))
-}
-
 // Writes a text, and answers that something failed.
-fn put_told<K: Sink>(out: &mut K, text: Result<String, AllocError>) -> Result<bool, ToolFault>
+fn put_told<K: Sink>(out: &mut K, text: Result<String, AllocError>) -> Result<bool, StreamFault>
     ensures ends { (t : List ℕ) → IfOk text (λ s. string_bytes s ≡ t) → TextEnds t result (K.contents out.old) (K.contents out.new) }
     ensures failed { IfOk result (λ r. r ≡ true) }
-    ensures cause { IsErrOf result ToolFault.Write → K.failed out.new ≡ true }
-    ensures told { result ≢ Err ToolFault.Write → K.failed out.new ≡ K.failed out.old }
+    ensures writer { WriteEnds result (K.failed out.old) (K.failed out.new) }
 {
     match put(out, text) {
         Ok(()) => Ok(true),

@@ -17,5 +17,6 @@ mod views;
 
 pub use lpt_events::Config;
 pub use lpt_memory::Memories;
-pub use lpt_text::{Sink, Source, ToolFault};
+pub use lpt_script::ScriptFault;
+pub use lpt_text::{Sink, Source};
 pub use shell::run_shell;

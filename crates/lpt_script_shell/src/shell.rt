@@ -1,20 +1,21 @@
 //! A shell: lines answered one by one.
 
-ghost use Rattle.std.specs.Prelude.{◌≡◌, ◌≢◌, ◌↔◌, ◌+◌, ◌<◌, ◌^◌, IfErr, IsErrOf, IsOk, IsSome, OnOk, Err, None, true};
+ghost use Rattle.std.specs.Prelude.{◌≡◌, ◌≢◌, ◌↔◌, ⊤, IfErr, IfOk, IsErrOf, IsOk, IsSome, OnOk, Err};
 ghost use Rattle.std.specs.Io.KnownBytes.{Appends};
-ghost use Rattle.lpt_text.specs.Lines.{line_end};
-ghost use Rattle.lpt_text.specs.Streams.{AppendsPart};
+ghost use Rattle.lpt_script.specs.Ends.{streams_end};
+ghost use Rattle.lpt_text.specs.Reading.{IsWithin};
+ghost use Rattle.lpt_text.specs.Streams.{AppendsPart, ReadEnds, WriteEnds};
 ghost use Rattle.lpt_script_shell.specs.Answers.{closing};
 ghost use Rattle.lpt_script_shell.specs.Ends.{ShellEnds};
-ghost use Rattle.lpt_script_shell.specs.EndsInside.{LastEnds, LinesServed, last_served};
+ghost use Rattle.lpt_script_shell.specs.EndsInside.{LinesServed};
 ghost use Rattle.lpt_events.specs.Configs.{config_fault};
 ghost use Rattle.lpt_world.specs.Worlds.{new_world};
 
-use crate::answers::{LONGEST_LINE, piece_ends, serve_line};
+use crate::answers::{ends_session, serve_line};
 use lpt_events::{Config, ConfigFault};
 use lpt_memory::Memories;
-use lpt_script_words::ended;
-use lpt_text::{LineBuffer, Sink, Source, ToolFault, flush_out, write_out};
+use lpt_script::ScriptFault;
+use lpt_text::{LineTaker, Sink, Source, StreamFault, Taken, each_line, flush_out, write_out};
 use lpt_world::World;
 use std::alloc::Global;
 
@@ -48,62 +49,63 @@ pub fn run_shell<S: Source, K: Sink>(
     prompt: &[u8],
     reader: &mut S,
     out: &mut K,
-) -> Result<u64, ToolFault>
+) -> Result<u64, ScriptFault>
     ensures ends { ShellEnds prompt.now (new_world config memories) result (S.remaining reader.old) (S.remaining reader.new)
         (K.contents out.old) (K.contents out.new) (S.failed reader.new) (K.failed out.new) }
-    ensures config { IsErrOf result ToolFault.Config ↔ IsSome (config_fault config) }
+    ensures config { IsErrOf result ScriptFault.Config ↔ IsSome (config_fault config) }
+    ensures within { IfOk result (λ _. IsWithin (S.remaining reader.old) (S.remaining reader.new)) }
 
     // A fault of a write is reported, and so is one of a read, unless the shell ended by another.
-    ensures told { result ≢ Err ToolFault.Write → K.failed out.new ≡ K.failed out.old }
-    ensures read { IsOk result → S.failed reader.new ≡ S.failed reader.old }
-    ensures passed { IsOk result → K.passed out.new ≡ K.contents out.new }
+    ensures writer { WriteEnds (streams_end result) (K.failed out.old) (K.failed out.new) }
+    ensures reader { ReadEnds ⊤ (streams_end result) (S.failed reader.old) (S.failed reader.new) }
+    ensures passed { IsOk result → K.flushed out.new ≡ K.contents out.new }
 {
     match World::new(alloc, config, memories) {
-        Ok(mut world) => {
-            let ended = serve(alloc, &mut world, prompt, reader, out);
-            drop(world);
-            ended
-        }
-        Err(ConfigFault::Memory) => Err(ToolFault::Memory),
-        Err(_) => Err(ToolFault::Config),
+        Ok(world) => serve(alloc, world, prompt, reader, out),
+        Err(ConfigFault::Memory) => Err(ScriptFault::Stream(StreamFault::Memory)),
+        Err(_) => Err(ScriptFault::Config),
     }
 }
 
 // Answers the lines that a reader gives, behind a prompt, and has what was written passed on.
 fn serve<S: Source, K: Sink>(
     alloc: Global,
-    world: &mut World,
+    world: World,
     prompt: &[u8],
     reader: &mut S,
     out: &mut K,
-) -> Result<u64, ToolFault>
-    ensures ends { ShellEnds prompt.now world.old result (S.remaining reader.old) (S.remaining reader.new)
+) -> Result<u64, ScriptFault>
+    ensures ends { ShellEnds prompt.now world result (S.remaining reader.old) (S.remaining reader.new)
         (K.contents out.old) (K.contents out.new) (S.failed reader.new) (K.failed out.new) }
-    ensures config { result ≢ Err ToolFault.Config }
-    ensures told { result ≢ Err ToolFault.Write → K.failed out.new ≡ K.failed out.old }
-    ensures read { IsOk result → S.failed reader.new ≡ S.failed reader.old }
-    ensures passed { IsOk result → K.passed out.new ≡ K.contents out.new }
+    ensures within { IfOk result (λ _. IsWithin (S.remaining reader.old) (S.remaining reader.new)) }
+    ensures config { result ≢ Err ScriptFault.Config }
+    ensures writer { WriteEnds (streams_end result) (K.failed out.old) (K.failed out.new) }
+    ensures reader { ReadEnds ⊤ (streams_end result) (S.failed reader.old) (S.failed reader.new) }
+    ensures passed { IsOk result → K.flushed out.new ≡ K.contents out.new }
 {
     match write_out(out, prompt) {
         Ok(()) => {}
-        Err(fault) => return Err(fault),
+        Err(fault) => {
+            drop(world);
+            return Err(ScriptFault::Stream(fault));
+        }
     }
     let heard = match serve_lines(alloc, world, prompt, reader, out) {
         Ok(heard) => heard,
-        Err(fault) => return Err(fault),
+        Err(fault) => return Err(ScriptFault::Stream(fault)),
     };
     match close(prompt, heard.is_over, out) {
         Ok(()) => Ok(heard.failed),
-        Err(fault) => Err(fault),
+        Err(fault) => Err(ScriptFault::Stream(fault)),
     }
 }
 
 // Ends the line of the last prompt, unless the session is over, and has all passed on.
-fn close<K: Sink>(prompt: &[u8], is_over: bool, out: &mut K) -> Result<(), ToolFault>
+fn close<K: Sink>(prompt: &[u8], is_over: bool, out: &mut K) -> Result<(), StreamFault>
     ensures ok { OnOk result (Appends (K.contents out.old) (K.contents out.new) (closing prompt.now is_over)) }
-    ensures passed { OnOk result (K.passed out.new ≡ K.contents out.new) }
-    ensures told { OnOk result (K.failed out.new ≡ K.failed out.old) }
-    ensures fault { IfErr result (λ e. (e ≡ ToolFault.Write) × (K.failed out.new ≡ true)) }
+    ensures passed { OnOk result (K.flushed out.new ≡ K.contents out.new) }
+    ensures fault { IfErr result (λ e. e ≡ StreamFault.Write) }
+    ensures writer { WriteEnds result (K.failed out.old) (K.failed out.new) }
     ensures part { IfErr result (λ _. AppendsPart (K.contents out.old) (K.contents out.new) (closing prompt.now is_over)) }
 {
     if !is_over && !prompt.is_empty() {
@@ -118,83 +120,69 @@ fn close<K: Sink>(prompt: &[u8], is_over: bool, out: &mut K) -> Result<(), ToolF
 // Answers the lines that a reader gives, up to one that ends the session, and counts those that failed.
 fn serve_lines<S: Source, K: Sink>(
     alloc: Global,
-    world: &mut World,
+    world: World,
     prompt: &[u8],
     reader: &mut S,
     out: &mut K,
-) -> Result<Heard, ToolFault>
-    ensures ends { LinesServed prompt.now world.old result (S.remaining reader.old) (S.remaining reader.new)
+) -> Result<Heard, StreamFault>
+    ensures ends { LinesServed prompt.now world result (S.remaining reader.old) (S.remaining reader.new)
         (K.contents out.old) (K.contents out.new) (S.failed reader.new) (K.failed out.new) }
-    ensures told { result ≢ Err ToolFault.Write → K.failed out.new ≡ K.failed out.old }
-    ensures read { IsOk result → S.failed reader.new ≡ S.failed reader.old }
+    ensures within { IfOk result (λ _. IsWithin (S.remaining reader.old) (S.remaining reader.new)) }
+    ensures writer { WriteEnds result (K.failed out.old) (K.failed out.new) }
+    ensures reader { ReadEnds ⊤ result (S.failed reader.old) (S.failed reader.new) }
 {
-    let mut lines = LineBuffer::new(alloc);
-    let mut failed = 0;
-    // Whether what is held goes on a line that is too long already.
-    let mut is_long = false;
-    loop {
-        let len = match lines.find_line(reader, out) {
-            Ok(Some(len)) => len,
-            Ok(None) => {
-                let held = lines.held().len();
-                if held <= LONGEST_LINE {
-                    return serve_last(alloc, world, prompt, lines.held(), is_long, failed, out);
-                }
-                lines.skip(held);
-                is_long = true;
-                continue;
-            }
-            Err(fault) => return Err(fault),
-        };
-        let line = ended(&lines.held()[..len]);
-        if piece_ends(is_long, line) {
-            return Ok(Heard {
-                failed,
-                is_over: true,
-            });
-        }
-        match serve_line(alloc, world, prompt, line, is_long, out) {
-            Ok(has_failed) => failed += u64::from(has_failed),
-            Err(fault) => return Err(fault),
-        }
-        lines.skip(len + 1);
-        is_long = false;
+    let mut serving = Serving {
+        alloc,
+        world,
+        prompt,
+        is_over: false,
+    };
+    let taken = each_line(alloc, reader, out, &mut serving);
+    let Serving {
+        alloc: _,
+        world,
+        prompt: _,
+        is_over,
+    } = serving;
+    drop(world);
+    match taken {
+        Ok(failed) => Ok(Heard { failed, is_over }),
+        Err(fault) => Err(fault),
     }
 }
 
-// Answers what follows the last line end, which is a line where there is any of it; so many lines
-// failed before.
-fn serve_last<K: Sink>(
+// A world on which the lines of a session are answered.
+#[derive(Drop)]
+pub(crate) struct Serving<'p> {
     alloc: Global,
-    world: &mut World,
-    prompt: &[u8],
-    last: &[u8],
-    is_long: bool,
-    failed: u64,
-    out: &mut K,
-) -> Result<Heard, ToolFault>
-    requires fits { failed + 1 < 2 ^ 64 }
-    ensures ends { LastEnds (last_served is_long prompt.now last.now world.old failed) result (K.contents out.old) (K.contents out.new) }
-    ensures cause { IsErrOf result ToolFault.Write → K.failed out.new ≡ true }
-    ensures told { result ≢ Err ToolFault.Write → K.failed out.new ≡ K.failed out.old }
-{
-    if last.is_empty() && !is_long {
-        return Ok(Heard {
-            failed,
-            is_over: false,
-        });
-    }
-    if piece_ends(is_long, last) {
-        return Ok(Heard {
-            failed,
-            is_over: true,
-        });
-    }
-    match serve_line(alloc, world, prompt, last, is_long, out) {
-        Ok(has_failed) => Ok(Heard {
-            failed: failed + u64::from(has_failed),
-            is_over: false,
-        }),
-        Err(fault) => Err(fault),
+    world: World,
+    prompt: &'p [u8],
+    // Whether a line ended the session.
+    is_over: bool,
+}
+
+impl LineTaker for Serving<'_> {
+    ghost use Rattle.lpt_script_shell.specs.EndsInside.{LinesLeft, serve_story};
+
+    ghost Left = { LinesLeft };
+
+    ghost story = { λ it. serve_story it.is_over it.prompt.now it.world };
+
+    ghost is_over = { λ it. it.is_over };
+
+    fn take<K: Sink>(
+        &mut self,
+        number: u64,
+        line: &[u8],
+        out: &mut K,
+    ) -> Result<Taken, StreamFault> {
+        if ends_session(line) {
+            self.is_over = true;
+            return Ok(Taken::Over);
+        }
+        match serve_line(self.alloc, &mut self.world, self.prompt, line, out) {
+            Ok(has_failed) => Ok(Taken::counting(has_failed)),
+            Err(fault) => Err(fault),
+        }
     }
 }

@@ -5,11 +5,11 @@ ghost use Rattle.lpt_script_words.specs.Words.{is_empty, words};
 ghost use Rattle.lpt_script_shell.specs.Answers.{own_line};
 ghost use Rattle.lpt_script_shell.specs.Views.{counts_text, hand_text, hands_text, help_of, jobs_text, shown_text, ticket_text, two_numbers, up_to, view_of, view_text, whole_view};
 
-use crate::answers::LONGEST_LINE;
 use crate::help::{all_topics, topic};
 use crate::rows::{Half, add_held, add_messages, add_packets};
 use lpt_events::{Lane, Worker};
 use lpt_script_words::{GREATEST_NUMBER, read_number, split_word};
+use lpt_text::LONGEST_LINE;
 use lpt_world::World;
 use std::alloc::{AllocError, Global};
 

@@ -8,6 +8,7 @@ use Rattle.lpt_events.specs.declared.lane.Lane.{Lane}
 use Rattle.lpt_memory.specs.declared.request.Area.{Area}
 use Rattle.lpt_memory.specs.Fields.{◌>>=◌}
 use Rattle.lpt_memory.specs.Spellings.{write_fault}
+use Rattle.lpt_text.specs.Texts.{longest_line}
 use Rattle.lpt_script_words.specs.declared.grammar.Command.{Command}
 use Rattle.lpt_script_words.specs.declared.grammar.Command.TheVariants as command
 use Rattle.lpt_script_words.specs.declared.grammar.Reading.{Reading}
@@ -257,4 +258,4 @@ words_reading source (w ∷ ws) =
 -- what a line says where this source is configured; one of more than 140,000 octets is unreadable, whatever it holds
 unfoldable pub reading_of : (source : ℕ) → List ℕ → Reading
 reading_of source line =
-    if nat_lt 140000 (length line) then Unreadable else words_reading source (words line)
+    if nat_lt longest_line (length line) then Unreadable else words_reading source (words line)

@@ -10,8 +10,9 @@ use crate::names::{Keyword, read_keyword};
 use crate::nodes::{read_claim, read_commit, read_expire, read_restart, read_tick};
 use crate::packets::{read_damage, read_deliver, read_lose, read_pass, read_take};
 use crate::showing::{Show, read_show};
-use crate::words::{LONGEST_LINE, is_blank, split_word};
+use crate::words::{is_blank, split_word};
 use lpt_events::{Event, Lane, Side};
+use lpt_text::LONGEST_LINE;
 use std::alloc::{AllocError, Global};
 
 /// What a line asks for.

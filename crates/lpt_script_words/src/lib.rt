@@ -1,6 +1,5 @@
-//! The lines of a script: how a text is cut into lines and words, and what each line asks for. A
-//! script is text: lines end with a line feed, and the words of a line stand between spaces. This
-//! crate reads lines; it runs and prints nothing. A line is read as a load only where its areas can
+//! The lines of a script: how a line is cut into words, and what it asks for. The words of a line stand
+//! between spaces. This crate reads lines; it runs and prints nothing. A line is read as a load only where its areas can
 //! be written.
 //!
 //! The main types are `Reading`, what a line says, `Command`, what it asks for, and `Load`. The
@@ -23,4 +22,4 @@ pub use load::Load;
 pub use names::{GREATEST_NUMBER, cut_source};
 pub use numbers::{read_hex, read_number};
 pub use showing::Show;
-pub use words::{ended, split_line, split_word};
+pub use words::split_word;

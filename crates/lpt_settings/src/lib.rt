@@ -1,7 +1,7 @@
 //! The configuration file: a TOML document of numbers, each with its range and its default, of the
 //! mode, and of the memories. The main types are lpt_events' `Config` and `Turns`, lpt_memory's
-//! `Memories`, and `Complaint`, what is wrong with a text. The first calls are `read_config` and,
-//! where it refuses a text, `why_refused`.
+//! `Memories`, `SettingsFault`, and `Complaint`, what is wrong with a text. The first calls are
+//! `read_config` and, where it refuses a text, `why_refused`.
 //!
 //! | Key | Range | Default |
 //! |---|---|---|
@@ -31,6 +31,7 @@
 #![tactic(auto)]
 
 mod complaint;
+mod fault;
 mod keys;
 mod memories;
 mod mode;
@@ -40,5 +41,6 @@ mod settings;
 mod wrong;
 
 pub use complaint::{Complaint, why_refused};
+pub use fault::SettingsFault;
 pub use settings::read_config;
 pub use wrong::Reason;

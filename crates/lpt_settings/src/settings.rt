@@ -8,6 +8,7 @@ ghost use Rattle.toml.specs.View.{table_view};
 ghost use Rattle.lpt_events.specs.Configs.{IsConfig};
 ghost use Rattle.lpt_settings.specs.Settings.{config_of, turns_of, numbers_of, settings_of, default_settings};
 
+use crate::SettingsFault;
 use crate::keys::{KEYS, has_only, unknown_key};
 use crate::memories::{judge_memories, memories};
 use crate::mode::mode;
@@ -15,7 +16,6 @@ use crate::numbers::number;
 use crate::wrong::{Reason, Wrong};
 use lpt_events::{Config, Turns};
 use lpt_memory::Memories;
-use lpt_text::ToolFault;
 use std::alloc::{AllocError, Global};
 use toml::Table;
 
@@ -26,7 +26,7 @@ use toml::Table;
 /// type or is out of its range, the memories are too many or none or have an identifier twice, and
 /// where the reader of TOML runs out of memory; `Memory` where there is none for the memories of a
 /// text that isn't refused for anything else.
-pub fn read_config(alloc: Global, text: &str) -> Result<(Config, Memories, Turns), ToolFault>
+pub fn read_config(alloc: Global, text: &str) -> Result<(Config, Memories, Turns), SettingsFault>
     // The text is a TOML document, and the settings are what its table means.
     ensures ok { IfOk result (λ s.
         option_and_then settings_of (parse_document text.now) ≡ Some ((s.0, s.2), s.1)) }
@@ -34,22 +34,22 @@ pub fn read_config(alloc: Global, text: &str) -> Result<(Config, Memories, Turns
 
     // White space and comments alone give the defaults, if there is memory for them.
     ensures blank { IsBlank text.now
-        → MatchResult result (λ s. ((s.0, s.2), s.1) ≡ default_settings) (λ e. e ≡ ToolFault.Memory) }
+        → MatchResult result (λ s. ((s.0, s.2), s.1) ≡ default_settings) (λ e. e ≡ SettingsFault.Memory) }
 
     // All of the text is judged before memory is taken for the memories.
-    ensures memory { IfErr result (λ e. e ≡ ToolFault.Memory
+    ensures memory { IfErr result (λ e. e ≡ SettingsFault.Memory
         → IsSome (option_and_then settings_of (parse_document text.now))) }
 
     // No clause says when else it succeeds, since the reader of TOML may want memory.
-    ensures fault { IfErr result (λ e. (e ≡ ToolFault.Config) ⊎ (e ≡ ToolFault.Memory)) }
+    ensures fault { IfErr result (λ e. (e ≡ SettingsFault.Config) ⊎ (e ≡ SettingsFault.Memory)) }
 {
     let Ok(table) = toml::table_from_str(alloc, text) else {
-        return Err(ToolFault::Config);
+        return Err(SettingsFault::Config);
     };
     match read_table(alloc, &table) {
         Ok(Some(((config, turns), memories))) => Ok((config, memories, turns)),
-        Ok(None) => Err(ToolFault::Config),
-        Err(_) => Err(ToolFault::Memory),
+        Ok(None) => Err(SettingsFault::Config),
+        Err(_) => Err(SettingsFault::Memory),
     }
 }
 

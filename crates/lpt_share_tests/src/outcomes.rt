@@ -5,8 +5,9 @@ use lpt_events::{Outcome, Turns, Why};
 use lpt_packet::Direction;
 use lpt_part::Reason;
 use lpt_script_text::print_outcome;
-use lpt_settings::read_config;
-use lpt_text::ToolFault;
+use lpt_settings::{SettingsFault, read_config};
+use lpt_share::ShareFault;
+use lpt_tool::ToolFault;
 use std::alloc::{AllocError, Global};
 use std::test::Fail;
 
@@ -115,7 +116,7 @@ fn reads_how_much_threads_do(rt: HostRuntime) {
 }
 
 // How much the threads of a text do.
-fn turns_in(alloc: Global, text: &str) -> Result<Turns, ToolFault> {
+fn turns_in(alloc: Global, text: &str) -> Result<Turns, SettingsFault> {
     let (_, _, turns) = read_config(alloc, text)?;
     Ok(turns)
 }
@@ -123,8 +124,8 @@ fn turns_in(alloc: Global, text: &str) -> Result<Turns, ToolFault> {
 #[test]
 fn prints_the_numbers_of_faults(rt: HostRuntime) -> Result<(), Fail> {
     let line = format!(in rt.alloc(); "{}", ToolFault::Line(12))?;
-    let threads = format!(in rt.alloc(); "{}", ToolFault::Threads(58))?;
+    let threads = format!(in rt.alloc(); "{}", ToolFault::Threads(ShareFault::NoThread))?;
     assert!(rt; line.as_str() == "line 12 is unreadable");
-    assert!(rt; threads.as_str() == "a run of threads ended by fault 58");
+    assert!(rt; threads.as_str() == "a run of threads ended by fault 63");
     Ok(())
 }

@@ -4,8 +4,8 @@
 
 use crate::usual::{USUAL, contents};
 use lpt_memory::Memories;
-use lpt_script::run_script;
-use lpt_text::{Flushed, FromStd, ToolFault};
+use lpt_text::{Flushed, FromStd};
+use lpt_tool::{ToolFault, run_script};
 use std::alloc::Global;
 use std::io::{self, ErrorKind, Write};
 use std::process::Abort;
@@ -41,7 +41,7 @@ impl Write for Fixed {
 }
 
 impl Flushed for Fixed {
-    fn pass_on(&mut self) -> io::Result<()> {
+    fn flush_all(&mut self) -> io::Result<()> {
         self.flush()
     }
 }

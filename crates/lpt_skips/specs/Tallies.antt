@@ -1,7 +1,7 @@
 -- How many pieces of a stream are passed over, and why.
-use Rattle.std.specs.Prelude.{ℕ, ◌+◌, ◌-◌, ◌^◌, min, List, [], ◌∷◌, Some, None}
+use Rattle.std.specs.Prelude.{ℕ, ◌+◌, List, [], ◌∷◌, Some, None}
 use Rattle.std.specs.Option.{option_or}
-use Rattle.lpt_stream.specs.Pieces.{Piece}
+use Rattle.lpt_stream.specs.Pieces.{Piece, up_to_limit}
 use Rattle.lpt_skips.specs.declared.reading.Reading.{Reading}
 use Rattle.lpt_skips.specs.declared.skips.Skips.{Skips}
 use Rattle.lpt_skips.specs.declared.why.Why.{Why}
@@ -10,12 +10,11 @@ use Rattle.lpt_skips.specs.Skipping.{why}
 
 -- a count and so many more, up to the greatest of 64 bits
 abbrev pub raised : ℕ → ℕ → ℕ
-raised count more = min (count + more) (2 ^ 64 - 1)
+raised count more = up_to_limit (count + more)
 
 -- before any piece
 abbrev pub nothing_noted : Skips
 nothing_noted = record {
-  taken = 0;
   of_others = 0;
   apid = None;
   turned = 0;
@@ -28,9 +27,9 @@ nothing_noted = record {
   stray = 0;
 }
 
--- with one more that is passed over for this reason
+-- with one more that is passed over for this reason, or isn't
 abbrev pub with_why : Skips → Why → Skips
-with_why s Taken = record s { taken = raised s.taken 1 }
+with_why s Taken = s
 with_why s Damaged = record s { damaged = raised s.damaged 1 }
 with_why s (Stray octets) = record s { stray = raised s.stray octets }
 with_why s (OtherApid apid) =

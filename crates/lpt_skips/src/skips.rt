@@ -10,8 +10,6 @@ use lpt_stream::PieceKind;
 /// How many pieces of a stream were passed over, and why. A count ends at 2^64 - 1.
 #[derive(Clone, Copy)]
 pub struct Skips {
-    /// Parts that were wanted.
-    pub taken: u64,
     /// Packets of another APID.
     pub of_others: u64,
     /// The APID of the first of these.
@@ -40,7 +38,6 @@ impl Skips {
         ensures { result ≡ nothing_noted }
     {
         Skips {
-            taken: 0,
             of_others: 0,
             apid: None,
             turned: 0,
@@ -54,13 +51,14 @@ impl Skips {
         }
     }
 
-    /// Notes a piece of a stream that came to this reading: of this kind and these octets.
+    /// Notes a piece of a stream that came to this reading, of this kind and these octets: nothing
+    /// of a part that is wanted.
     pub fn note(&mut self, reading: &Reading, kind: PieceKind, octets: &[u8])
         ensures noted { self.new
             ≡ noted reading.now self.old (record { kind = kind; octets = octets.now }) }
     {
         match reading.why(kind, octets) {
-            Why::Taken => self.taken = self.taken.saturating_add(1),
+            Why::Taken => {}
             Why::Damaged => self.damaged = self.damaged.saturating_add(1),
             Why::Stray(len) => self.stray = self.stray.saturating_add(len as u64),
             Why::OtherApid(apid) => {

@@ -8,7 +8,7 @@ use Rattle.lpt_packet.specs.Names.{Name}
 use Rattle.lpt_packet.specs.declared.direction.Direction.{Direction}
 use Rattle.lpt_events.specs.declared.config.Config.{Config}
 use Rattle.lpt_events.specs.MadePackets.{part_made, nth_part}
-use Rattle.lpt_stream.specs.Captures.{record_of}
+use Rattle.lpt_capture.specs.Captures.{record_of}
 use Rattle.lpt_split.specs.declared.form.Form.{Form}
 use Rattle.lpt_split.specs.declared.form.Form.TheVariants.{Plain, Capture}
 use Rattle.lpt_split.specs.FormsInside.{front_in, packet_in, packets_in}

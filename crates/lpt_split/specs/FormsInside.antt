@@ -1,7 +1,7 @@
 -- What a form makes of packets, step by step.
-use Rattle.std.specs.Prelude.{ℕ, List, [], ◌++◌}
+use Rattle.std.specs.Prelude.{ℕ, List, []}
 use Rattle.std.specs.List.{flat_map}
-use Rattle.lpt_stream.specs.Captures.{capture_header, record_of}
+use Rattle.lpt_capture.specs.Captures.{capture_header, record_of}
 use Rattle.lpt_split.specs.declared.form.Form.{Form}
 use Rattle.lpt_split.specs.declared.form.Form.TheVariants.{Plain, Capture}
 use Rattle.lpt_split.specs.Splits.{octets_of}

@@ -1,2 +1,4 @@
 pub mod FormsInside
+pub mod Lists
+pub mod Messages
 pub mod Splits

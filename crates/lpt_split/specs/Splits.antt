@@ -5,7 +5,7 @@ use Rattle.lpt_packet.specs.Names.{Name}
 use Rattle.lpt_packet.specs.declared.direction.Direction.{Direction}
 use Rattle.lpt_events.specs.declared.config.Config.{Config}
 use Rattle.lpt_events.specs.MadePackets.{nth_part, part_made}
-use Rattle.lpt_stream.specs.Captures.{capture_of}
+use Rattle.lpt_capture.specs.Captures.{capture_of}
 use Rattle.lpt_split.specs.declared.form.Form.{Form}
 use Rattle.lpt_split.specs.declared.form.Form.TheVariants.{Plain, Capture}
 use Rattle.lpt_events.specs.Counts.{sequence_counts}

@@ -1,22 +1,22 @@
 //! The packets of a message's parts, written one behind the other.
 
-ghost use Rattle.std.specs.Prelude.{◌≡◌, ◌<◌, ◌≤◌, ◌⊎◌, ◌∷◌, [], length, true, IfErr, OnOk};
+ghost use Rattle.std.specs.Prelude.{◌≡◌, ◌<◌, ◌≤◌, ◌⊎◌, ◌∷◌, [], length, IfErr, OnOk};
 ghost use Rattle.std.specs.Io.KnownBytes.{Appends};
 ghost use Rattle.lpt_part.specs.Splitting.{part_count};
 ghost use Rattle.lpt_events.specs.Configs.{IsConfig};
-ghost use Rattle.lpt_stream.specs.Captures.{record_of};
-ghost use Rattle.lpt_text.specs.Streams.{AppendsPart};
+ghost use Rattle.lpt_capture.specs.Captures.{record_of};
+ghost use Rattle.lpt_text.specs.Streams.{AppendsPart, WriteEnds};
 ghost use Rattle.lpt_split.specs.FormsInside.{front_in, packet_in, packets_in};
 ghost use Rattle.lpt_split.specs.Splits.{next_count, split_of, written_in, AreNumbers};
 ghost use Rattle.lpt_packet.specs.Sizes.{longest_packet};
 
 use crate::Form;
 use crate::packet::part_packet;
+use lpt_capture::{capture_header, record_header};
 use lpt_events::Config;
 use lpt_packet::{Direction, Name};
 use lpt_part::part_at;
-use lpt_stream::{capture_header, record_header};
-use lpt_text::{Sink, ToolFault, write_out};
+use lpt_text::{Sink, StreamFault, write_out};
 use std::alloc::Global;
 
 /// Writes the packets of these parts of a message, which goes under this name, in this order and
@@ -37,7 +37,7 @@ pub fn split<K: Sink>(
     first: u16,
     form: Form,
     out: &mut K,
-) -> Result<(), ToolFault>
+) -> Result<(), StreamFault>
     requires config { IsConfig config.now }
     requires long { config.now.part_size < length message.now }
     requires short { length message.now ≤ longest_packet }
@@ -45,11 +45,10 @@ pub fn split<K: Sink>(
     requires first { first ≤ 16383 }
     ensures ok { OnOk result (Appends (K.contents out.old) (K.contents out.new) (written_in form
         config.now.clock (split_of config.now direction name message.now first numbers.now))) }
-    ensures told { OnOk result (K.failed out.new ≡ K.failed out.old) }
+    ensures writer { WriteEnds result (K.failed out.old) (K.failed out.new) }
 
     // It fails only by a write that failed, or when out of memory.
-    ensures fault { IfErr result (λ e. ((e ≡ ToolFault.Write) × (K.failed out.new ≡ true))
-        ⊎ ((e ≡ ToolFault.Memory) × (K.failed out.new ≡ K.failed out.old))) }
+    ensures fault { IfErr result (λ e. (e ≡ StreamFault.Write) ⊎ (e ≡ StreamFault.Memory)) }
     ensures part { IfErr result (λ _. AppendsPart (K.contents out.old) (K.contents out.new)
         (written_in form config.now.clock
         (split_of config.now direction name message.now first numbers.now))) }
@@ -76,12 +75,11 @@ pub fn write_alone<K: Sink>(
     form: Form,
     packet: &[u8],
     out: &mut K,
-) -> Result<(), ToolFault>
+) -> Result<(), StreamFault>
     ensures ok { OnOk result (Appends (K.contents out.old) (K.contents out.new)
         (written_in form config.now.clock (packet.now ∷ []))) }
-    ensures told { OnOk result (K.failed out.new ≡ K.failed out.old) }
-    ensures fault { IfErr result (λ e. ((e ≡ ToolFault.Write) × (K.failed out.new ≡ true))
-        ⊎ ((e ≡ ToolFault.Memory) × (K.failed out.new ≡ K.failed out.old))) }
+    ensures writer { WriteEnds result (K.failed out.old) (K.failed out.new) }
+    ensures fault { IfErr result (λ e. (e ≡ StreamFault.Write) ⊎ (e ≡ StreamFault.Memory)) }
     ensures part { IfErr result (λ _. AppendsPart (K.contents out.old) (K.contents out.new)
         (written_in form config.now.clock (packet.now ∷ []))) }
 {
@@ -106,7 +104,7 @@ fn write_parts<K: Sink>(
     first: u16,
     form: Form,
     out: &mut K,
-) -> Result<(), ToolFault>
+) -> Result<(), StreamFault>
     requires config { IsConfig config.now }
     requires long { config.now.part_size < length message.now }
     requires short { length message.now ≤ longest_packet }
@@ -114,9 +112,8 @@ fn write_parts<K: Sink>(
     requires first { first ≤ 16383 }
     ensures ok { OnOk result (Appends (K.contents out.old) (K.contents out.new) (packets_in form
         config.now.clock (split_of config.now direction name message.now first numbers.now))) }
-    ensures told { OnOk result (K.failed out.new ≡ K.failed out.old) }
-    ensures fault { IfErr result (λ e. ((e ≡ ToolFault.Write) × (K.failed out.new ≡ true))
-        ⊎ ((e ≡ ToolFault.Memory) × (K.failed out.new ≡ K.failed out.old))) }
+    ensures writer { WriteEnds result (K.failed out.old) (K.failed out.new) }
+    ensures fault { IfErr result (λ e. (e ≡ StreamFault.Write) ⊎ (e ≡ StreamFault.Memory)) }
     ensures part { IfErr result (λ _. AppendsPart (K.contents out.old) (K.contents out.new)
         (packets_in form config.now.clock
         (split_of config.now direction name message.now first numbers.now))) }
@@ -125,7 +122,7 @@ fn write_parts<K: Sink>(
     for number in numbers {
         let part = part_at(message, config.part_size, name.id, *number);
         let Ok(packet) = part_packet(alloc, config, direction, name.source, count, &part) else {
-            return Err(ToolFault::Memory);
+            return Err(StreamFault::Memory);
         };
         match write_packet(form, config.clock, packet.as_slice(), out) {
             Ok(()) => {}
@@ -137,10 +134,10 @@ fn write_parts<K: Sink>(
 }
 
 // Writes what stands in front of the packets.
-fn write_front<K: Sink>(form: Form, out: &mut K) -> Result<(), ToolFault>
+fn write_front<K: Sink>(form: Form, out: &mut K) -> Result<(), StreamFault>
     ensures ok { OnOk result (Appends (K.contents out.old) (K.contents out.new) (front_in form)) }
-    ensures told { OnOk result (K.failed out.new ≡ K.failed out.old) }
-    ensures fault { IfErr result (λ e. (e ≡ ToolFault.Write) × (K.failed out.new ≡ true)) }
+    ensures writer { WriteEnds result (K.failed out.old) (K.failed out.new) }
+    ensures fault { IfErr result (λ e. e ≡ StreamFault.Write) }
     ensures part { IfErr result (λ _.
         AppendsPart (K.contents out.old) (K.contents out.new) (front_in form)) }
 {
@@ -151,12 +148,16 @@ fn write_front<K: Sink>(form: Form, out: &mut K) -> Result<(), ToolFault>
 }
 
 // Writes a packet in this form, of this time.
-fn write_packet<K: Sink>(form: Form, time: u32, packet: &[u8], out: &mut K) -> Result<(), ToolFault>
+fn write_packet<K: Sink>(
+    form: Form,
+    time: u32,
+    packet: &[u8],
+    out: &mut K,
+) -> Result<(), StreamFault>
     ensures ok { OnOk result
         (Appends (K.contents out.old) (K.contents out.new) (packet_in form time packet.now)) }
-    ensures told { OnOk result (K.failed out.new ≡ K.failed out.old) }
-    ensures fault { IfErr result (λ e. ((e ≡ ToolFault.Write) × (K.failed out.new ≡ true))
-        ⊎ ((e ≡ ToolFault.Memory) × (K.failed out.new ≡ K.failed out.old))) }
+    ensures writer { WriteEnds result (K.failed out.old) (K.failed out.new) }
+    ensures fault { IfErr result (λ e. (e ≡ StreamFault.Write) ⊎ (e ≡ StreamFault.Memory)) }
     ensures part { IfErr result (λ _.
         AppendsPart (K.contents out.old) (K.contents out.new) (packet_in form time packet.now)) }
 {
@@ -170,17 +171,16 @@ fn write_packet<K: Sink>(form: Form, time: u32, packet: &[u8], out: &mut K) -> R
 }
 
 // Writes the record of a packet.
-fn write_record<K: Sink>(time: u32, packet: &[u8], out: &mut K) -> Result<(), ToolFault>
+fn write_record<K: Sink>(time: u32, packet: &[u8], out: &mut K) -> Result<(), StreamFault>
     ensures ok { OnOk result
         (Appends (K.contents out.old) (K.contents out.new) (record_of time packet.now)) }
-    ensures told { OnOk result (K.failed out.new ≡ K.failed out.old) }
-    ensures fault { IfErr result (λ e. ((e ≡ ToolFault.Write) × (K.failed out.new ≡ true))
-        ⊎ ((e ≡ ToolFault.Memory) × (K.failed out.new ≡ K.failed out.old))) }
+    ensures writer { WriteEnds result (K.failed out.old) (K.failed out.new) }
+    ensures fault { IfErr result (λ e. (e ≡ StreamFault.Write) ⊎ (e ≡ StreamFault.Memory)) }
     ensures part { IfErr result (λ _.
         AppendsPart (K.contents out.old) (K.contents out.new) (record_of time packet.now)) }
 {
     let Ok(size) = u32::try_from(packet.len()) else {
-        return Err(ToolFault::Memory);
+        return Err(StreamFault::Memory);
     };
     match write_out(out, &record_header(time, size)) {
         Ok(()) => {}

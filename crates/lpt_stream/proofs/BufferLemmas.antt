@@ -4,8 +4,8 @@ use Rattle.std.specs.Io.KnownBytes.{Consumes, IsAtEnd}
 use Rattle.std.proofs.KnownBytes.{Consumes-nil, Consumes-trans}
 use Rattle.std.proofs.lemmas.List.{length-take, take_min}
 use Rattle.lpt_packet.specs.Numbers.{word_at}
-use Rattle.lpt_text.specs.declared.fault.ToolFault.{ToolFault}
-use Rattle.lpt_text.specs.declared.fault.ToolFault.TheVariants as tool
+use Rattle.lpt_text.specs.declared.fault.StreamFault.{StreamFault}
+use Rattle.lpt_text.specs.declared.fault.StreamFault.TheVariants as faults
 use Rattle.lpt_stream.specs.declared.buffer.PacketBuffer.{PacketBuffer}
 use Rattle.lpt_stream.specs.declared.piece_kind.PieceKind.{PieceKind}
 use Rattle.lpt_stream.specs.declared.piece_kind.PieceKind.TheVariants.{Whole}
@@ -72,12 +72,18 @@ nearer mid new b c more more_comes few q (inl h) =
     let size : length (held new) ≡ length (held mid) + length more =
     ap length q.behind ∙ length-append (held mid) more in
     let some = h.1 in
-    subst (λ e. (if e then 0 else 131085 - length (held new)) < (if is_ended mid then 0 else 131085 - length (held mid))) (sym h.0)
-    (subst (λ e. 131085 - length (held new) < (if e then 0 else 131085 - length (held mid))) (sym more_comes)
+    subst (λ e.
+    (if e then 0 else 131085 - length (held new)) <
+    (if is_ended mid then 0 else 131085 - length (held mid))) (sym h.0)
+    (subst (λ e. 131085 - length (held new) < (if e then 0 else 131085 - length (held mid)))
+    (sym more_comes)
     (omega (arith, few, size, some)))
 nearer mid new b c more more_comes few q (inr h) =
-    subst (λ e. (if e then 0 else 131085 - length (held new)) < (if is_ended mid then 0 else 131085 - length (held mid))) (sym h.0)
-    (subst (λ e. 0 < (if e then 0 else 131085 - length (held mid))) (sym more_comes) (omega (arith, few)))
+    subst (λ e.
+    (if e then 0 else 131085 - length (held new)) <
+    (if is_ended mid then 0 else 131085 - length (held mid))) (sym h.0)
+    (subst (λ e. 0 < (if e then 0 else 131085 - length (held mid))) (sym more_comes)
+    (omega (arith, few)))
 
 -- it was asked for, since what was held waited
 pub asked-more : (old mid : PacketBuffer) (a b : Option (List ℕ)) (read more : List ℕ)
@@ -106,65 +112,64 @@ judged-more mid new b c more framed added h is e =
     ∙ judged_stays (is_in_step mid) (held mid) more (sym is ∙ e) h.none h.few
 
 -- a read that failed, or for which memory ran out, ends the search
-pub fill-fault : (fault : ToolFault) (old mid new : PacketBuffer) (a b c : Option (List ℕ))
+pub fill-fault : (fault : StreamFault) (old mid new : PacketBuffer) (a b c : Option (List ℕ))
     (read : List ℕ) (had told failed : Bool)
     → Adds old mid a b read
     → told ≡ had
     → Fills (Err fault) mid new b c told failed
     → FindsPiece (Err fault) old new a c had failed
-fill-fault tool.Read old mid new a b c read had told failed p same q =
+fill-fault faults.Read old mid new a b c read had told failed p same q =
     (read ++ [], (adds-more old mid new a b c read [] p q.0).consumed, q.1)
-fill-fault tool.Memory old mid new a b c read had told failed p same q =
+fill-fault faults.Memory old mid new a b c read had told failed p same q =
     (read ++ q.0, Consumes-trans a b c read q.0 p.consumed q.1, q.2 ∙ same)
-fill-fault tool.Write old mid new a b c read had told failed p same q = q
-fill-fault tool.Config old mid new a b c read had told failed p same q = q
-fill-fault (tool.Line n) old mid new a b c read had told failed p same q = q
-fill-fault (tool.Threads n) old mid new a b c read had told failed p same q = q
+fill-fault faults.Write old mid new a b c read had told failed p same q = q
 
 -- and a search that passes on
-pub passing-fault : (fault : ToolFault) (old new : PacketBuffer) (a b : Option (List ℕ)) (had failed : Bool)
+pub passing-fault : (fault : StreamFault) (old new : PacketBuffer) (a b : Option (List ℕ))
+    (had failed : Bool)
     → FindsPiece (Err fault) old new a b had failed
     → FindsPassing (Err fault) old new a b had failed
-passing-fault tool.Read old new a b had failed h = h
-passing-fault tool.Memory old new a b had failed h = h
-passing-fault tool.Write old new a b had failed h = absurd h
-passing-fault tool.Config old new a b had failed h = h
-passing-fault (tool.Line n) old new a b had failed h = h
-passing-fault (tool.Threads n) old new a b had failed h = h
+passing-fault faults.Read old new a b had failed h = h
+passing-fault faults.Memory old new a b had failed h = h
+passing-fault faults.Write old new a b had failed h = absurd h
 
 -- a search ends by a read that failed, or when out of memory
-pub find-fault : (fault : ToolFault) (old new : PacketBuffer) (a b : Option (List ℕ)) (had failed : Bool)
+pub find-fault : (fault : StreamFault) (old new : PacketBuffer) (a b : Option (List ℕ))
+    (had failed : Bool)
     → FindsPiece (Err fault) old new a b had failed
-    → ((fault ≡ tool.Read) × (failed ≡ true)) ⊎ ((fault ≡ tool.Memory) × (failed ≡ had))
-find-fault tool.Read old new a b had failed h = inl (refl, h.2)
-find-fault tool.Memory old new a b had failed h = inr (refl, h.2)
-find-fault tool.Write old new a b had failed h = absurd h
-find-fault tool.Config old new a b had failed h = absurd h
-find-fault (tool.Line n) old new a b had failed h = absurd h
-find-fault (tool.Threads n) old new a b had failed h = absurd h
+    → ((fault ≡ faults.Read) × (failed ≡ true)) ⊎ ((fault ≡ faults.Memory) × (failed ≡ had))
+find-fault faults.Read old new a b had failed h = inl (refl, h.2)
+find-fault faults.Memory old new a b had failed h = inr (refl, h.2)
+find-fault faults.Write old new a b had failed h = absurd h
 
 -- one that passes on ends so as well, or by the sink
-pub passing-ends : (fault : ToolFault) (old new : PacketBuffer) (a b : Option (List ℕ)) (had failed : Bool)
+pub passing-ends : (fault : StreamFault) (old new : PacketBuffer) (a b : Option (List ℕ))
+    (had failed : Bool)
     → FindsPassing (Err fault) old new a b had failed
-    → ((fault ≡ tool.Read) × (failed ≡ true))
-    ⊎ (((fault ≡ tool.Write) ⊎ (fault ≡ tool.Memory)) × (failed ≡ had))
-passing-ends tool.Read old new a b had failed h = inl (refl, h.2)
-passing-ends tool.Memory old new a b had failed h = inr (inr refl, h.2)
-passing-ends tool.Write old new a b had failed h = inr (inl refl, h.2)
-passing-ends tool.Config old new a b had failed h = absurd h
-passing-ends (tool.Line n) old new a b had failed h = absurd h
-passing-ends (tool.Threads n) old new a b had failed h = absurd h
+    → ((fault ≡ faults.Read) × (failed ≡ true))
+    ⊎ (((fault ≡ faults.Write) ⊎ (fault ≡ faults.Memory)) × (failed ≡ had))
+passing-ends faults.Read old new a b had failed h = inl (refl, h.2)
+passing-ends faults.Memory old new a b had failed h = inr (inr refl, h.2)
+passing-ends faults.Write old new a b had failed h = inr (inl refl, h.2)
+
+-- by one of these faults
+pub passing-faults : (fault : StreamFault) (old new : PacketBuffer) (a b : Option (List ℕ))
+    (had failed : Bool)
+    → FindsPassing (Err fault) old new a b had failed
+    → (fault ≡ faults.Read) ⊎ ((fault ≡ faults.Write) ⊎ (fault ≡ faults.Memory))
+passing-faults fault old new a b had failed h = elim (passing-ends fault old new a b had failed h) [
+  | inl r ↦ inl (r.0)
+  | inr o ↦ inr (o.0)
+]
 
 -- what it has read then
-pub passing-lost : (fault : ToolFault) (old new : PacketBuffer) (a b : Option (List ℕ)) (had failed : Bool)
+pub passing-lost : (fault : StreamFault) (old new : PacketBuffer) (a b : Option (List ℕ))
+    (had failed : Bool)
     → FindsPassing (Err fault) old new a b had failed
     → (lost : List ℕ) × Consumes a b lost
-passing-lost tool.Read old new a b had failed h = (h.0, h.1)
-passing-lost tool.Memory old new a b had failed h = (h.0, h.1)
-passing-lost tool.Write old new a b had failed h = (h.0, h.1.added.consumed)
-passing-lost tool.Config old new a b had failed h = absurd h
-passing-lost (tool.Line n) old new a b had failed h = absurd h
-passing-lost (tool.Threads n) old new a b had failed h = absurd h
+passing-lost faults.Read old new a b had failed h = (h.0, h.1)
+passing-lost faults.Memory old new a b had failed h = (h.0, h.1)
+passing-lost faults.Write old new a b had failed h = (h.0, h.1.added.consumed)
 
 -- ---- what is in front
 
@@ -227,7 +232,8 @@ other_settled p near k n is some least known kind size within =
           → (waits (is_in_step p) near ≡ false) ⊎ (is_ended p ≡ true)
           → piece_at (is_in_step p) (held p ++ more) ≡ found_piece p (record { kind = k; len = n })
       go more e kind_is size_is fits (inl h) =
-          piece_stays (is_in_step p) (held p) more k n (sym (ap (waits (is_in_step p)) is) ∙ h) kind_is size_is fits
+          piece_stays (is_in_step p) (held p) more k n (sym (ap (waits (is_in_step p)) is)
+          ∙ h) kind_is size_is fits
       go more e kind_is size_is fits (inr h) =
           last_stays (is_in_step p) (held p) more k n (e h) kind_is size_is fits
 
@@ -255,7 +261,8 @@ unsettled p near is waiting few none more_comes =
     }
 
 -- nothing is held
-pub nothing_held : (p : PacketBuffer) (o : List ℕ) → o ≡ held p → (length o == 0) ≡ true → IsUnsettled p
+pub nothing_held : (p : PacketBuffer) (o : List ℕ) → o ≡ held p → (length o == 0) ≡ true
+    → IsUnsettled p
 nothing_held p o is none =
     let empty : [] ≡ held p = sym (no_octets o none) ∙ is in
     record {

@@ -1,12 +1,13 @@
 -- A stream is cut into pieces in one way, piece after piece.
-use Rattle.std.proofs.Common.{◌≡◌, ◌∙◌, ap, sym, subst, refl, ℕ, ◌+◌, ◌<◌, Bool, true, List, [], ◌∷◌, ◌++◌, length, take, drop, Option, arith, append-nil, append_assoc, length-append}
+use Rattle.std.proofs.Common.{◌≡◌, ◌∙◌, ap, sym, subst, refl, ℕ, ◌+◌, ◌-◌, ◌^◌, ◌<◌, Bool, true, List, [], ◌∷◌, ◌++◌, length, take, drop, Option, arith, append-nil, append_assoc, length-append}
+use Rattle.std.specs.Prelude.{min}
 use Rattle.std.proofs.lemmas.List.{drop-append-le, length-take-le}
 use Rattle.lpt_stream.specs.declared.buffer.PacketBuffer.{PacketBuffer}
 use Rattle.lpt_stream.specs.declared.found.Found.{Found}
 use Rattle.lpt_stream.specs.Buffers.{held, is_in_step, is_ended, found_piece, Goes, IsInFront}
 use Rattle.lpt_stream.specs.declared.piece_kind.PieceKind.{PieceKind}
 use Rattle.lpt_stream.specs.declared.piece_kind.PieceKind.TheVariants.{Whole, Damaged, Stray}
-use Rattle.lpt_stream.specs.Pieces.{Piece, piece_at, keeps_step, Leads, Cuts, packet_before, packets_of}
+use Rattle.lpt_stream.specs.Pieces.{Piece, piece_at, keeps_step, Leads, Cuts, octets_in, packet_before, packets_of, up_to_limit}
 
 -- ---- one way
 
@@ -45,7 +46,8 @@ leads-next s b (q ∷ qs) t c p h some is =
     (h.0, h.1, leads-next (keeps_step q.kind) (drop (length q.octets) b) qs t c p h.2 some is)
 
 -- the pieces of what was read, whatever comes behind, what holds of them, and how many they are
-pub record IsRead (P : List Piece → Type 0) (b : PacketBuffer) (stream : List ℕ) (count : ℕ) : Type 0 where
+pub record IsRead (P : List Piece
+    → Type 0) (b : PacketBuffer) (stream : List ℕ) (count : ℕ) : Type 0 where
   pub pieces : List Piece
   pub leads : (more : List ℕ) → (is_ended b ≡ true → more ≡ [])
       → Leads true (stream ++ more) pieces (is_in_step b) (held b ++ more)
@@ -77,8 +79,11 @@ pub read-more : (P : List Piece → Type 0) (old new : PacketBuffer) (a c : Opti
 read-more P old new a c stream read count h goes = record {
   pieces = h.pieces;
   leads = λ more over.
-      let was = h.leads (read ++ more) (λ e. no_more read more (goes.stays e).1 (over (goes.stays e).0)) in
-      subst (λ x. Leads true x h.pieces (is_in_step new) (held new ++ more)) (sym (append_assoc stream read more))
+      let was =
+      h.leads (read ++ more)
+      (λ e. no_more read more (goes.stays e).1 (over (goes.stays e).0)) in
+      subst (λ x. Leads true x h.pieces (is_in_step new) (held new ++ more))
+      (sym (append_assoc stream read more))
       (subst (λ x. Leads true (stream ++ (read ++ more)) h.pieces (is_in_step new) x)
       (sym (ap (λ x. x ++ more) goes.added.behind ∙ append_assoc (held old) read more))
       (subst (λ s. Leads true (stream ++ (read ++ more)) h.pieces s (held old ++ (read ++ more)))
@@ -91,7 +96,8 @@ long : (b more : List ℕ) → 0 < length b → 0 < length (b ++ more)
 long b more h = let size = length-append b more in omega (arith, h)
 
 -- with the piece in front taken
-pub read-next : (P Q : List Piece → Type 0) (b new : PacketBuffer) (f : Found) (stream : List ℕ) (count : ℕ)
+pub read-next : (P Q : List Piece
+    → Type 0) (b new : PacketBuffer) (f : Found) (stream : List ℕ) (count : ℕ)
     → (h : IsRead P b stream count)
     → IsInFront b f
     → held new ≡ drop f.len (held b)
@@ -104,12 +110,15 @@ read-next P Q b new f stream count h front over step end gives = record {
   leads = λ more none.
       let left : is_ended b ≡ true → more ≡ [] = λ e. none (end ∙ e) in
       let next = leads-next true (stream ++ more) h.pieces (is_in_step b) (held b ++ more)
-      (found_piece b f) (h.leads more left) (long (held b) more front.some) (sym (front.is more left)) in
-      let size : length (take f.len (held b)) ≡ f.len = length-take-le f.len (held b) front.within in
+      (found_piece b f) (h.leads more left) (long (held b) more front.some)
+      (sym (front.is more left)) in
+      let size : length (take f.len (held b))
+      ≡ f.len = length-take-le f.len (held b) front.within in
       let over_it : drop (length (take f.len (held b))) (held b ++ more) ≡ held new ++ more =
       ap (λ n. drop n (held b ++ more)) size ∙ drop-append-le f.len (held b) more front.within
       ∙ ap (λ x. x ++ more) (sym over) in
-      subst (λ x. Leads true (stream ++ more) (h.pieces ++ found_piece b f ∷ []) (is_in_step new) x) over_it
+      subst (λ x. Leads true (stream ++ more) (h.pieces ++ found_piece b f ∷ []) (is_in_step new) x)
+      over_it
       (subst (λ s. Leads true (stream ++ more) (h.pieces ++ found_piece b f ∷ []) s
       (drop (length (take f.len (held b))) (held b ++ more))) (sym step) next);
   gives = gives;
@@ -138,7 +147,8 @@ read-leads P b stream count h =
     (h.leads [] (λ e. refl)))
 
 -- and with the one in front
-pub read-front : (P : List Piece → Type 0) (b : PacketBuffer) (f : Found) (stream : List ℕ) (count : ℕ)
+pub read-front : (P : List Piece
+    → Type 0) (b : PacketBuffer) (f : Found) (stream : List ℕ) (count : ℕ)
     → (h : IsRead P b stream count)
     → IsInFront b f
     → Leads true stream (h.pieces ++ found_piece b f ∷ []) (keeps_step f.kind)
@@ -163,3 +173,23 @@ packets-next [] p = refl
 packets-next (q ∷ qs) p =
     ap (packet_before q.kind q.octets) (packets-next qs p)
     ∙ before-next q.kind q.octets (packets_of qs) (packet_before p.kind p.octets [])
+
+-- ---- the octets of pieces
+
+-- with one more piece
+pub octets-next : (ps : List Piece) (p : Piece)
+    → octets_in (ps ++ p ∷ []) ≡ octets_in ps + length p.octets
+octets-next [] p = omega arith
+octets-next (q ∷ qs) p =
+    let rest = octets-next qs p in
+    ap (λ n. length q.octets + n) rest ∙ omega arith
+
+-- the place behind a piece
+pub told-next : (ps : List Piece) (p : Piece) (at next len : ℕ)
+    → at ≡ up_to_limit (octets_in ps)
+    → length p.octets ≡ len
+    → next ≡ min (at + len) (2 ^ 64 - 1)
+    → next ≡ up_to_limit (octets_in (ps ++ p ∷ []))
+told-next ps p at next len is size then =
+    let sum = octets-next ps p in
+    omega arith

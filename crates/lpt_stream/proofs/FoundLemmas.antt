@@ -59,7 +59,8 @@ lead (b ∷ bs) h =
     let t = taken b h.0 in (
       some b (all_octets bs) t,
       sym (front_piece b (all_octets bs) t),
-      subst (λ x. Leads true x (wholes bs) true []) (sym (drop-append_seam b (all_octets bs))) (lead bs h.1),
+      subst (λ x. Leads true x (wholes bs) true []) (sym (drop-append_seam b (all_octets bs)))
+          (lead bs h.1),
     )
 
 same : (bs : List (List ℕ)) → packets_of (wholes bs) ≡ bs

@@ -1,5 +1,6 @@
 pub mod BufferLemmas
 pub mod CutLemmas
+pub mod EndLemmas
 pub mod FoundLemmas
 pub mod PieceLemmas
 pub mod StreamLemmas

@@ -17,7 +17,9 @@ use Rattle.lpt_stream.proofs.StreamLemmas.{word_at-front}
 -- octets that are too few, or not as many as their header says, are no packet
 faulty : (s short version fits : Bool) (r : Result Sight PacketFault)
     → (short ≡ true) ⊎ (fits ≡ false)
-    → is_taken s (if short then Err Short else if version then (if fits then r else Err Length) else Err Version) ≡ false
+    → is_taken s
+    (if short then Err Short else if version then
+    (if fits then r else Err Length) else Err Version) ≡ false
 faulty s true version fits r h = refl
 faulty s false true true r (inl h) = absurd cc
 faulty s false true true r (inr h) = absurd cc
@@ -27,7 +29,8 @@ faulty s false false fits r h = refl
 few : (n w : ℕ) → n < (if nat_lt n 6 then 6 else 7 + w) → n ≤ 7 + w
 few n w h = grind (arith, h)
 
-differ : (n w : ℕ) → n < (if nat_lt n 6 then 6 else 7 + w) → (nat_lt n 7 ≡ true) ⊎ ((n == 7 + w) ≡ false)
+differ : (n w : ℕ) → n < (if nat_lt n 6 then 6 else 7 + w) → (nat_lt n 7 ≡ true)
+    ⊎ ((n == 7 + w) ≡ false)
 differ n w h = go (nat_lt n 7) refl where
   go : (t : Bool) → nat_lt n 7 ≡ t → (nat_lt n 7 ≡ true) ⊎ ((n == 7 + w) ≡ false)
   go true e = inl e
@@ -68,12 +71,16 @@ pub packet_stays : (s : Bool) (b more : List ℕ) (n : ℕ)
 unfolding piece_at
 packet_stays s b more n is size near within =
     let m = take_more lookahead b more in
-    let fits : 7 + word_at (take lookahead b) 4 ≤ length (take lookahead b) = subst (λ k. k ≤ length (take lookahead b)) size near in
+    let fits : 7 + word_at (take lookahead b) 4 ≤ length (take lookahead b) =
+    subst (λ k. k ≤ length (take lookahead b)) size near in
     let same : begins s (take lookahead (b ++ more)) ≡ true =
-    ap (begins s) m.1 ∙ ap (λ x. is_taken s (verdict x)) (frame-more (take lookahead b) m.0 fits) ∙ is in
+    ap (begins s) m.1 ∙ ap (λ x. is_taken s (verdict x)) (frame-more (take lookahead b) m.0 fits)
+    ∙ is in
     let word : word_at (take lookahead (b ++ more)) 4 ≡ word_at (take lookahead b) 4 =
     ap (λ x. word_at x 4) m.1 ∙ word_at-front (take lookahead b) m.0 (omega (arith, fits)) in
-    ap (λ t. piece_of (if t then Whole else if s && is_passed (take lookahead (b ++ more)) then Damaged else Stray)
+    ap (λ t. piece_of
+    (if t then Whole else if s && is_passed
+    (take lookahead (b ++ more)) then Damaged else Stray)
     (take lookahead (b ++ more)) (b ++ more)) same
     ∙ ap (λ w. whole (take (7 + w) (b ++ more))) word
     ∙ ap (λ k. whole (take k (b ++ more))) (sym size)
@@ -108,7 +115,8 @@ kept n m a p q more same h = go (nat_lt n a) refl where
   go true e = ap (λ t. t || p) e
   go false e =
       let has : a ≤ n = not_lt n a e in
-      or_right (nat_lt n a) p (sym (same has) ∙ sym (ap (λ t. t || q) (lt_false m a (omega (arith, has, more)))) ∙ h)
+      or_right (nat_lt n a) p (sym (same has)
+      ∙ sym (ap (λ t. t || q) (lt_false m a (omega (arith, has, more)))) ∙ h)
 
 -- a word that has come stays
 word_stays : (b more : List ℕ) (k : ℕ) → k + 2 ≤ length b → word_at (b ++ more) k ≡ word_at b k
@@ -127,27 +135,33 @@ first_kept (x ∷ []) more h = both _ _ (version x (get_or more 0 0) (and_left _
   version x y h = grind (arith, h)
 first_kept (x ∷ y ∷ b) more h =
     both _ _ (and_left _ _ h)
-    (kept (length (x ∷ y ∷ b)) (length (x ∷ y ∷ b ++ more)) 2 _ _ (longer (x ∷ y ∷ b) more) (λ e. refl) (and_right _ _ h))
+    (kept (length (x ∷ y ∷ b)) (length (x ∷ y ∷ b ++ more)) 2 _ _ (longer (x ∷ y ∷ b) more)
+    (λ e. refl) (and_right _ _ h))
 
 flags_kept : (b more : List ℕ) → flags_fit (b ++ more) ≡ true → flags_fit b ≡ true
 flags_kept b more h =
-    kept (length b) (length (b ++ more)) 4 (word_at b 2 / 16384 == 3) (word_at (b ++ more) 2 / 16384 == 3) (longer b more)
+    kept (length b) (length (b ++ more)) 4 (word_at b 2 / 16384 == 3)
+    (word_at (b ++ more) 2 / 16384 == 3) (longer b more)
     (λ e. ap (λ w. w / 16384 == 3) (word_stays b more 2 e)) h
 
 size_kept : (b more : List ℕ) → size_fits (b ++ more) ≡ true → size_fits b ≡ true
 size_kept b more h =
-    kept (length b) (length (b ++ more)) 6 (not (word_at b 4 == 0)) (not (word_at (b ++ more) 4 == 0)) (longer b more)
+    kept (length b) (length (b ++ more)) 6 (not (word_at b 4 == 0))
+    (not (word_at (b ++ more) 4 == 0)) (longer b more)
     (λ e. ap (λ w. not (w == 0)) (word_stays b more 4 e)) h
 
 -- a packet may begin with octets with which it may, and others behind them
 may_kept : (b more : List ℕ) → may_begin (b ++ more) ≡ true → may_begin b ≡ true
 may_kept b more h =
-    let front = and_left (first_fits (b ++ more) && flags_fit (b ++ more)) (size_fits (b ++ more)) h in
+    let front = and_left (first_fits (b ++ more) && flags_fit (b ++ more))
+    (size_fits (b ++ more)) h in
     both (first_fits b && flags_fit b) (size_fits b)
-    (both (first_fits b) (flags_fit b) (first_kept b more (and_left _ _ front)) (flags_kept b more (and_right _ _ front)))
+    (both (first_fits b) (flags_fit b) (first_kept b more (and_left _ _ front))
+    (flags_kept b more (and_right _ _ front)))
     (size_kept b more (and_right _ _ h))
 
-taken_busy : (r : Result Sight PacketFault) → is_taken false r ≡ true → (f : Fields) × (r ≡ Ok (APacket f))
+taken_busy : (r : Result Sight PacketFault) → is_taken false r ≡ true → (f : Fields)
+    × (r ≡ Ok (APacket f))
 taken_busy (Ok (APacket f)) h = (f, refl)
 taken_busy (Ok IdlePacket) h = absurd cc
 taken_busy (Err e) h = absurd cc
@@ -172,10 +186,13 @@ begins_may b h =
     (or_right (nat_lt (length b) 2) _
     (both _ _ (sym (ap (λ w. w / 2048 % 2 == 1) (word 0 (omega arith))) ∙ passed.has_header)
     (ap not (sym (ap (λ w. w % 2048 == 2047) (word 0 (omega arith))) ∙ passed.not_idle)))))
-    (or_right (nat_lt (length b) 4) _ (sym (ap (λ w. w / 16384 == 3) (word 2 (omega arith))) ∙ passed.unsegmented)))
+    (or_right (nat_lt (length b) 4) _ (sym (ap (λ w. w / 16384 == 3) (word 2 (omega arith)))
+    ∙ passed.unsegmented)))
     (or_right (nat_lt (length b) 6) _
     (ap not (sym (ap (λ w. w == 0) (word 4 (omega arith)))
-    ∙ eq_false (word_at x 4) 0 (some_left (length x) (word_at x 4) (true_eq _ _ passed.length_fits) (not_lt (length x) 8 passed.has_checksum)))))
+    ∙ eq_false (word_at x 4) 0
+    (some_left (length x) (word_at x 4) (true_eq _ _ passed.length_fits)
+    (not_lt (length x) 8 passed.has_checksum)))))
 
 wanted_more : (n w : ℕ) → nat_le (7 + w) n ≡ false → n < (if nat_lt n 6 then 6 else 7 + w)
 wanted_more n w h = grind (arith, h)
@@ -244,7 +261,8 @@ passed_kept b more framed closed_behind =
     let rest : behind (b ++ more) ≡ behind b ++ more =
     ap (λ w. drop (7 + w) (b ++ more)) word ∙ drop-append-le (7 + word_at b 4) b more fits in
     let longer_still : is_framed (b ++ more) ≡ true =
-    ap (λ w. nat_le (7 + w) (length (b ++ more))) word ∙ enough (7 + word_at b 4) (length b) (length (b ++ more)) fits (longer b more) in
+    ap (λ w. nat_le (7 + w) (length (b ++ more))) word
+    ∙ enough (7 + word_at b 4) (length b) (length (b ++ more)) fits (longer b more) in
     let some : (length (behind b) == 0) ≡ false = some_behind (behind b) closed_behind in
     let still : (length (behind (b ++ more)) == 0) ≡ false =
     ap (λ l. length l == 0) rest ∙ none_lost (behind b) more some in
@@ -276,20 +294,25 @@ front_kept s b more h = go (is_framed b) refl where
   go true e =
       let fits = framed_fits b e in
       record {
-        kind = ap (λ x. kind_by (is_taken s (verdict x)) s (is_passed (b ++ more))) (frame-more b more fits)
+        kind = ap (λ x. kind_by (is_taken s (verdict x)) s (is_passed (b ++ more)))
+            (frame-more b more fits)
             ∙ kind_same (begins s b) s (is_passed (b ++ more)) (is_passed b)
-            (λ k l. passed_kept b more e (unopened (is_framed b) (begins s b) s (is_open (behind b)) (may_begin b) h e k l));
+            (λ k l. passed_kept b more e
+            (unopened (is_framed b) (begins s b) s (is_open (behind b)) (may_begin b) h e k l));
         size = size_of (kind_in s b) (b ++ more) b (word_at-front b more (omega (arith, fits)));
       }
   go false e =
       let out = unstepped (is_framed b) (begins s b) s (is_open (behind b)) (may_begin b) h e in
       let shut : is_open b ≡ false = ap (λ m. m && not (is_framed b)) out.1 in
       let none : begins s b ≡ false = unframed_begins s b e in
-      let stray : kind_in s b ≡ Stray = ap (λ t. kind_by t s (is_passed b)) none ∙ ap (λ t. kind_by false t (is_passed b)) out.0 in
+      let stray : kind_in s b ≡ Stray = ap (λ t. kind_by t s (is_passed b)) none
+      ∙ ap (λ t. kind_by false t (is_passed b)) out.0 in
       let still : begins s (b ++ more) ≡ false =
-      ap (λ t. begins t (b ++ more)) out.0 ∙ closed b more shut ∙ ap (λ t. begins t b) (sym out.0) ∙ none in
+      ap (λ t. begins t (b ++ more)) out.0 ∙ closed b more shut ∙ ap (λ t. begins t b) (sym out.0)
+      ∙ none in
       record {
-        kind = ap (λ t. kind_by t s (is_passed (b ++ more))) still ∙ ap (λ t. kind_by false t (is_passed (b ++ more))) out.0
+        kind = ap (λ t. kind_by t s (is_passed (b ++ more))) still
+            ∙ ap (λ t. kind_by false t (is_passed (b ++ more))) out.0
             ∙ sym stray;
         size = ap (λ k. size_in k (b ++ more)) stray ∙ sym (ap (λ k. size_in k b) stray);
       }

@@ -1,9 +1,12 @@
--- Packets are cut out by their lengths.
-use Rattle.std.proofs.Common.{◌≡◌, ◌∙◌, ap, sym, ℕ, ◌+◌, ◌*◌, ◌≤◌, nat_lt, false, if◌then◌else◌, List, ◌++◌, length, Some, None, arith, length-append}
+-- Packets are cut out by their lengths, and seen.
+use Rattle.std.proofs.Common.{◌≡◌, ◌∙◌, ap, sym, ℕ, ◌+◌, ◌*◌, ◌≤◌, nat_lt, false, if◌then◌else◌, List, ◌++◌, length, Some, None, Result, Ok, Err, arith, length-append}
+use Rattle.std.specs.Result.{result_ok}
 use Rattle.std.proofs.lemmas.List.{get_or_append_left}
 use Rattle.std.proofs.Math.Seq.{take-append_seam, drop-append_seam}
 use Rattle.lpt_packet.specs.Numbers.{word_at}
-use Rattle.lpt_packet.specs.Packets.{Fields, IsPacket, IsIdle}
+use Rattle.lpt_packet.specs.declared.fault.PacketFault.{PacketFault}
+use Rattle.lpt_packet.specs.declared.packet.Seen.{Seen}
+use Rattle.lpt_packet.specs.Packets.{Fields, IsPacket, IsIdle, Sight, seen, sight, verdict}
 use Rattle.lpt_packet.proofs.Codec.{length-spelling, word_at-4}
 use Rattle.lpt_packet.proofs.Readings.{lt_false}
 use Rattle.lpt_stream.specs.Streams.{wanted, cut_at, front_of, IsFramed}
@@ -27,7 +30,8 @@ unfolding front_of
 framed_first b rest h =
     let all = b ++ rest in
     let size : length all ≡ length b + length rest = length-append b rest in
-    let same : 7 + word_at all 4 ≡ length b = ap (λ n. 7 + n) (word_at-front b rest h.headed) ∙ sym h.whole in
+    let same : 7 + word_at all 4 ≡ length b = ap (λ n. 7 + n) (word_at-front b rest h.headed)
+    ∙ sym h.whole in
     let want : wanted all ≡ length b = wanted-headed all (omega (arith, h.headed)) ∙ same in
     let enough : nat_lt (length all) (wanted all) ≡ false = lt_false _ _ (omega arith) in
     ap (λ t. if t then None else Some (cut_at (7 + word_at all 4) all)) enough
@@ -40,7 +44,8 @@ framed_first b rest h =
 pub framed_packet : (b : List ℕ) (f : Fields) → IsPacket b f → IsFramed b
 framed_packet b f h =
     let long : length b ≡ length f.octets + 8 = ap length h.spelled ∙ length-spelling f in
-    let word : word_at b 4 ≡ length f.octets + 1 = ap (λ x. word_at x 4) h.spelled ∙ word_at-4 f h.ranges in
+    let word : word_at b 4 ≡ length f.octets + 1 = ap (λ x. word_at x 4) h.spelled
+    ∙ word_at-4 f h.ranges in
     record { headed = omega arith; whole = omega arith }
 
 -- an idle packet is
@@ -48,3 +53,22 @@ pub framed_idle : (b : List ℕ) → IsIdle b → IsFramed b
 framed_idle b h =
     let long = h.long in
     record { headed = omega arith; whole = h.data_length }
+
+-- ---- what is seen
+
+-- what a reader saw is seen
+pub seen-read : (b : List ℕ) (s r : Seen)
+    → seen b ≡ result_ok (verdict b)
+    → verdict b ≡ Ok (sight s)
+    → s ≡ r
+    → seen b ≡ Some (sight r)
+seen-read b s r law reads same =
+    law ∙ ap (λ (r : Result Sight PacketFault). result_ok r) reads
+    ∙ ap (λ (s : Seen). Some (sight s)) same
+
+-- and nothing where it gave a fault
+pub seen-unread : (b : List ℕ) (e : PacketFault)
+    → seen b ≡ result_ok (verdict b)
+    → verdict b ≡ Err e
+    → seen b ≡ None
+seen-unread b e law h = law ∙ ap (λ (r : Result Sight PacketFault). result_ok r) h

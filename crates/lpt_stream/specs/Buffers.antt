@@ -1,8 +1,8 @@
 -- The pieces of a stream, found as it comes.
 use Rattle.std.specs.Prelude.{◌≡◌, ◌<◌, ◌≤◌, ◌⊎◌, ◌++◌, ℕ, Bool, true, false, List, [], length, take, drop, Option, Some, None, Result, Ok, Err}
 use Rattle.std.specs.Io.KnownBytes.{Consumes, IsAtEnd}
-use Rattle.lpt_text.specs.declared.fault.ToolFault.{ToolFault}
-use Rattle.lpt_text.specs.declared.fault.ToolFault.TheVariants as tool
+use Rattle.lpt_text.specs.declared.fault.StreamFault.{StreamFault}
+use Rattle.lpt_text.specs.declared.fault.StreamFault.TheVariants as faults
 use Rattle.lpt_stream.specs.declared.buffer.PacketBuffer.{PacketBuffer}
 use Rattle.lpt_stream.specs.declared.found.Found.{Found}
 use Rattle.lpt_stream.specs.Pieces.{Piece, begins, lookahead, piece_at, waits}
@@ -44,7 +44,8 @@ pub record IsUnsettled (b : PacketBuffer) : Type 0 where
 -- ---- reads
 
 -- octets were read, and are held behind the rest
-pub record Adds (old new : PacketBuffer) (before after : Option (List ℕ)) (read : List ℕ) : Type 0 where
+pub record Adds (old new : PacketBuffer) (before after : Option (List ℕ))
+    (read : List ℕ) : Type 0 where
   pub consumed : Consumes before after read
   pub behind : held new ≡ held old ++ read
   pub step : is_in_step new ≡ is_in_step old
@@ -52,19 +53,20 @@ pub record Adds (old new : PacketBuffer) (before after : Option (List ℕ)) (rea
 -- what a read gives: octets, or the end of the stream; or that it failed; where memory runs out,
 -- octets were read and lost
 abbrev pub Fills :
-    Result Unit ToolFault → (old new : PacketBuffer) → (before after : Option (List ℕ))
+    Result Unit StreamFault → (old new : PacketBuffer) → (before after : Option (List ℕ))
     → (had failed : Bool) → Type 0
 Fills (Ok _) old new before after had failed =
     (read : List ℕ) × Adds old new before after read × (failed ≡ had) × (length read ≤ 65536)
     × (((is_ended new ≡ false) × (0 < length read)) ⊎ ((is_ended new ≡ true) × IsAtEnd after))
-Fills (Err tool.Read) old new before after had failed =
+Fills (Err faults.Read) old new before after had failed =
     Adds old new before after [] × (failed ≡ true)
-Fills (Err tool.Memory) old new before after had failed =
+Fills (Err faults.Memory) old new before after had failed =
     (lost : List ℕ) × Consumes before after lost × (failed ≡ had)
-Fills (Err _) old new before after had failed = ⊥
+Fills (Err faults.Write) old new before after had failed = ⊥
 
 -- octets were read, and behind the stream's end none
-pub record Goes (old new : PacketBuffer) (before after : Option (List ℕ)) (read : List ℕ) : Type 0 where
+pub record Goes (old new : PacketBuffer) (before after : Option (List ℕ))
+    (read : List ℕ) : Type 0 where
   pub added : Adds old new before after read
   pub stays : is_ended old ≡ true → (is_ended new ≡ true) × (read ≡ [])
   pub at_end : (is_ended old ≡ true → IsAtEnd before) → is_ended new ≡ true → IsAtEnd after
@@ -80,7 +82,7 @@ IsAsked s held read =
 -- what a search for a piece gives: the one in front; or that none is left at the end of the stream;
 -- or that a read failed
 abbrev pub FindsPiece :
-    Result (Option Found) ToolFault → (old new : PacketBuffer) → (before after : Option (List ℕ))
+    Result (Option Found) StreamFault → (old new : PacketBuffer) → (before after : Option (List ℕ))
     → (had failed : Bool) → Type 0
 FindsPiece (Ok (Some f)) old new before after had failed =
     (read : List ℕ) × Goes old new before after read × IsInFront new f × (failed ≡ had)
@@ -88,23 +90,22 @@ FindsPiece (Ok (Some f)) old new before after had failed =
 FindsPiece (Ok None) old new before after had failed =
     (read : List ℕ) × Goes old new before after read × (held new ≡ []) × (is_ended new ≡ true)
     × (failed ≡ had)
-FindsPiece (Err tool.Read) old new before after had failed =
+FindsPiece (Err faults.Read) old new before after had failed =
     (read : List ℕ) × Consumes before after read × (failed ≡ true)
-FindsPiece (Err tool.Memory) old new before after had failed =
+FindsPiece (Err faults.Memory) old new before after had failed =
     (lost : List ℕ) × Consumes before after lost × (failed ≡ had)
-FindsPiece (Err _) old new before after had failed = ⊥
+FindsPiece (Err faults.Write) old new before after had failed = ⊥
 
 -- what such a search gives where a sink passes on what it has kept back before each read: the same;
 -- or that the sink failed, with all that was read held
 abbrev pub FindsPassing :
-    Result (Option Found) ToolFault → (old new : PacketBuffer) → (before after : Option (List ℕ))
+    Result (Option Found) StreamFault → (old new : PacketBuffer) → (before after : Option (List ℕ))
     → (had failed : Bool) → Type 0
 FindsPassing (Ok found) old new before after had failed =
     FindsPiece (Ok found) old new before after had failed
-FindsPassing (Err tool.Read) old new before after had failed =
-    FindsPiece (Err tool.Read) old new before after had failed
-FindsPassing (Err tool.Write) old new before after had failed =
+FindsPassing (Err faults.Read) old new before after had failed =
+    FindsPiece (Err faults.Read) old new before after had failed
+FindsPassing (Err faults.Write) old new before after had failed =
     (read : List ℕ) × Goes old new before after read × (failed ≡ had)
-FindsPassing (Err tool.Memory) old new before after had failed =
-    FindsPiece (Err tool.Memory) old new before after had failed
-FindsPassing (Err _) old new before after had failed = ⊥
+FindsPassing (Err faults.Memory) old new before after had failed =
+    FindsPiece (Err faults.Memory) old new before after had failed

@@ -1,5 +1,4 @@
 pub mod Buffers
-pub mod Captures
 pub mod Pieces
 pub mod Reads
 pub mod Streams

@@ -1,5 +1,5 @@
 -- How a stream is cut into pieces, where not all of its octets are packets.
-use Rattle.std.specs.Prelude.{◌≡◌, ℕ, ◌+◌, ◌<◌, ◌==◌, ◌&&◌, ◌||◌, not, ◌/◌, ◌%◌, nat_lt, nat_le, Bool, true, false, if◌then◌else◌, List, [], ◌∷◌, length, take, drop, Result, Ok, Err}
+use Rattle.std.specs.Prelude.{◌≡◌, ℕ, ◌+◌, ◌-◌, ◌^◌, ◌<◌, ◌==◌, ◌&&◌, ◌||◌, not, ◌/◌, ◌%◌, min, nat_lt, nat_le, Bool, true, false, if◌then◌else◌, List, [], ◌∷◌, length, take, drop, Result, Ok, Err}
 use Rattle.lpt_packet.specs.declared.fault.PacketFault.{PacketFault}
 use Rattle.lpt_packet.specs.Numbers.{word_at}
 use Rattle.lpt_packet.specs.Packets.{Sight, IdlePacket, APacket, verdict}
@@ -35,7 +35,8 @@ begins s b = is_taken s (verdict (frame b))
 abbrev pub is_framed : List ℕ → Bool
 is_framed b = nat_le (7 + word_at b 4) (length b)
 
--- whether what begins at the front is as long as its header says, with a packet behind it, or nothing
+-- whether what begins at the front is as long as its header says, with a packet behind it, or
+-- nothing
 abbrev pub is_passed : List ℕ → Bool
 is_passed b = is_framed b && ((length (behind b) == 0) || begins false (behind b))
 
@@ -51,8 +52,8 @@ size_in Stray b = 1
 
 -- ---- what may still come
 
--- whether the first word of a header is right, as far as it has come: version 0, a secondary header,
--- and no idle packet's APID
+-- whether the first word of a header is right, as far as it has come: version 0, a secondary
+-- header, and no idle packet's APID
 abbrev pub first_fits : List ℕ → Bool
 first_fits b =
     (word_at b 0 / 8192 == 0)
@@ -74,9 +75,9 @@ may_begin b = first_fits b && flags_fit b && size_fits b
 abbrev pub is_open : List ℕ → Bool
 is_open b = may_begin b && not (is_framed b)
 
--- whether what is at the front depends on octets that may still come. Where as many have come as its
--- header says, and are no packet, in step, so does it until it is known if a packet stands behind.
--- Where fewer have come, it does in step, and elsewhere if a packet may begin
+-- whether what is at the front depends on octets that may still come. Where as many have come as
+-- its header says, and are no packet, in step, so does it until it is known if a packet stands
+-- behind. Where fewer have come, it does in step, and elsewhere if a packet may begin
 abbrev pub waits : (in_step : Bool) → List ℕ → Bool
 waits s b =
     if is_framed b then s && not (begins s b) && is_open (behind b) else s || may_begin b
@@ -112,6 +113,15 @@ Leads s b (p ∷ ps) t c =
 -- the stream is these pieces; it begins in step
 abbrev pub Cuts : List ℕ → List Piece → Type 0
 Cuts stream ps = (t : Bool) × Leads true stream ps t []
+
+-- how many octets pieces have
+abbrev pub octets_in : List Piece → ℕ
+octets_in [] = 0
+octets_in (p ∷ ps) = length p.octets + octets_in ps
+
+-- a place or a number as it is told and counted: one beyond 2^64 - 1 as that
+abbrev pub up_to_limit : ℕ → ℕ
+up_to_limit n = min n (2 ^ 64 - 1)
 
 -- the octets of a piece that is a packet, in front of others
 abbrev pub packet_before : PieceKind → List ℕ → List (List ℕ) → List (List ℕ)

@@ -1,13 +1,19 @@
 -- What was read of a stream of packets.
 use Rattle.std.specs.Prelude.{◌≡◌, ℕ, ◌-◌, ◌^◌, Bool, true, List, length, Option}
 use Rattle.std.specs.Io.KnownBytes.{Consumes, IsAtEnd}
-use Rattle.lpt_stream.specs.Pieces.{Piece, Finds, Leads}
+use Rattle.lpt_stream.specs.Pieces.{Piece, Cuts, Finds, Leads}
 
 -- a stream was read to its end, and this holds of the packets that are found in it
 abbrev pub ReadsAll : Option (List ℕ) → Option (List ℕ) → (List (List ℕ) → Type 0) → Type 0
 ReadsAll old new P =
     (stream : List ℕ) × (packets : List (List ℕ))
     × Consumes old new stream × IsAtEnd new × Finds stream packets × P packets
+
+-- a stream was read to its end, and this holds of the pieces that it is cut into
+abbrev pub ReadsPieces : (before after : Option (List ℕ)) → (List Piece → Type 0) → Type 0
+ReadsPieces before after P =
+    (stream : List ℕ) × (pieces : List Piece)
+    × Consumes before after stream × IsAtEnd after × Cuts stream pieces × P pieces
 
 -- 2^64 - 1 pieces were read of a stream
 abbrev pub IsEndless : Option (List ℕ) → Option (List ℕ) → Type 0

@@ -6,7 +6,7 @@ use crate::PieceKind;
 use crate::cutting::whole_length;
 use crate::found::{Found, other_in_front, packet_unless};
 use crate::waiting::waits;
-use lpt_text::{Sink, Source, ToolFault, flush_out};
+use lpt_text::{Sink, Source, StreamFault, flush_out};
 use std::alloc::Global;
 
 /// How many octets are asked for at a time.
@@ -31,8 +31,9 @@ pub struct PacketBuffer {
 }
 
 impl PacketBuffer {
-    ghost use Rattle.std.specs.Prelude.{◌≡◌, ◌≢◌, ◌⊎◌, ◌<◌, ◌++◌, [], drop, take, true, false, None, Err, IfErr, IfSome, IsErrOf, OnOk};
+    ghost use Rattle.std.specs.Prelude.{◌≡◌, ◌≢◌, ◌⊎◌, ◌<◌, ◌++◌, [], drop, take, true, false, None, Err, IfErr, IfSome, OnOk};
     ghost use Rattle.std.specs.Io.KnownBytes.{Keeps};
+    ghost use Rattle.lpt_text.specs.Streams.{WriteEnds};
     ghost use Rattle.lpt_stream.specs.Buffers.{held, is_ended, is_in_step, Fills, FindsPassing, FindsPiece, IsInFront, IsUnsettled};
     ghost use Rattle.lpt_stream.specs.Pieces.{begins, is_framed, keeps_step, lookahead, waits};
 
@@ -68,13 +69,13 @@ impl PacketBuffer {
         self.in_step = found.kind != PieceKind::Stray;
     }
 
-    /// Reads until the octets that are held show which piece is in front of them, and gives it. Where
-    /// they do already, nothing is read.
+    /// Reads until the octets that are held show which piece is in front of them, and gives it.
+    /// Where they do already, nothing is read.
     ///
     /// There is none where the stream is at its end and nothing is held.
     ///
     /// Errors: `Read` where a read failed; `Memory`, with which some octets of the stream are lost.
-    pub fn find_piece<S: Source>(&mut self, source: &mut S) -> Result<Option<Found>, ToolFault>
+    pub fn find_piece<S: Source>(&mut self, source: &mut S) -> Result<Option<Found>, StreamFault>
         ensures { FindsPiece result self.old self.new (S.remaining source.old)
             (S.remaining source.new) (S.failed source.old) (S.failed source.new) }
     {
@@ -104,16 +105,15 @@ impl PacketBuffer {
         &mut self,
         source: &mut S,
         out: &mut K,
-    ) -> Result<Option<Found>, ToolFault>
+    ) -> Result<Option<Found>, StreamFault>
         ensures finds { FindsPassing result self.old self.new (S.remaining source.old)
             (S.remaining source.new) (S.failed source.old) (S.failed source.new) }
 
         // What was written stays, and where something was read, all of it was passed on before.
         ensures same { Keeps (K.contents out.old) (K.contents out.new) }
-        ensures passed { result ≢ Err ToolFault.Write →
-            (source.new ≡ source.old) ⊎ (K.passed out.new ≡ K.contents out.new) }
-        ensures cause { IsErrOf result ToolFault.Write → K.failed out.new ≡ true }
-        ensures told { result ≢ Err ToolFault.Write → K.failed out.new ≡ K.failed out.old }
+        ensures passed { result ≢ Err StreamFault.Write →
+            (source.new ≡ source.old) ⊎ (K.flushed out.new ≡ K.contents out.new) }
+        ensures writer { WriteEnds result (K.failed out.old) (K.failed out.new) }
     {
         let mut is_judged = false;
         loop {
@@ -134,8 +134,8 @@ impl PacketBuffer {
         }
     }
 
-    // The piece in front, as soon as nothing that may come behind the octets that are held can change
-    // it. Where it is judged already that no packet is there, that isn't looked at again.
+    // The piece in front, as soon as nothing that may come behind the octets that are held can
+    // change it. Where it is judged already that no packet is there, that isn't looked at again.
     fn settled(&self, is_judged: bool) -> Option<Found>
         requires { is_judged ≡ true
             → begins (is_in_step self.now) (take lookahead (held self.now)) ≡ false }
@@ -181,14 +181,14 @@ impl PacketBuffer {
     }
 
     // Reads some octets behind those that are held, or the stream's end.
-    fn fill<S: Source>(&mut self, source: &mut S) -> Result<(), ToolFault>
+    fn fill<S: Source>(&mut self, source: &mut S) -> Result<(), StreamFault>
         requires { is_ended self.old ≡ false }
         ensures { Fills result self.old self.new (S.remaining source.old) (S.remaining source.new)
             (S.failed source.old) (S.failed source.new) }
     {
         let mut chunk = [0; CHUNK];
         let Some(count) = source.read(&mut chunk) else {
-            return Err(ToolFault::Read);
+            return Err(StreamFault::Read);
         };
         if count == 0 {
             self.ended = true;
@@ -201,15 +201,15 @@ impl PacketBuffer {
     }
 
     // Holds octets behind the rest.
-    fn push(&mut self, octets: &[u8]) -> Result<(), ToolFault>
+    fn push(&mut self, octets: &[u8]) -> Result<(), StreamFault>
         ensures held { OnOk result (held self.new ≡ held self.old ++ octets.now) }
         ensures step { is_in_step self.new ≡ is_in_step self.old }
         ensures end { is_ended self.new ≡ is_ended self.old }
-        ensures fault { IfErr result (λ e. e ≡ ToolFault.Memory) }
+        ensures fault { IfErr result (λ e. e ≡ StreamFault.Memory) }
     {
         self.compact();
         if self.octets.extend_from_slice(octets).is_err() {
-            return Err(ToolFault::Memory);
+            return Err(StreamFault::Memory);
         }
         Ok(())
     }

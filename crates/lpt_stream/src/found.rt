@@ -20,7 +20,8 @@ pub struct Found {
 // How many octets the packet at the front has, where one has come whole; an idle one counts in step
 // alone.
 pub(crate) fn packet_in_front(bytes: &[u8], in_step: bool) -> Option<usize>
-    ensures some { IfSome result (λ n. (begins in_step bytes.now ≡ true) × (n ≡ 7 + word_at bytes.now 4)
+    ensures some { IfSome result (λ n. (begins in_step bytes.now ≡ true)
+        × (n ≡ 7 + word_at bytes.now 4)
         × (n ≤ length bytes.now)) }
     ensures least { IfSome result (λ n. 0 < n) }
     ensures none { result ≡ None → begins in_step bytes.now ≡ false }
@@ -36,7 +37,8 @@ pub(crate) fn packet_in_front(bytes: &[u8], in_step: bool) -> Option<usize>
 // The same, where it isn't judged already that none is there.
 pub(crate) fn packet_unless(is_judged: bool, bytes: &[u8], in_step: bool) -> Option<usize>
     requires { is_judged ≡ true → begins in_step bytes.now ≡ false }
-    ensures some { IfSome result (λ n. (begins in_step bytes.now ≡ true) × (n ≡ 7 + word_at bytes.now 4)
+    ensures some { IfSome result (λ n. (begins in_step bytes.now ≡ true)
+        × (n ≡ 7 + word_at bytes.now 4)
         × (n ≤ length bytes.now)) }
     ensures least { IfSome result (λ n. 0 < n) }
     ensures none { result ≡ None → begins in_step bytes.now ≡ false }

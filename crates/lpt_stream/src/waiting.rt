@@ -27,8 +27,8 @@ fn is_open(bytes: &[u8]) -> bool
     may_begin(bytes) && whole_length(bytes).is_none()
 }
 
-// Whether one may begin with these octets and others behind them: none of the words of a header that
-// have come is wrong.
+// Whether one may begin with these octets and others behind them: none of the words of a header
+// that have come is wrong.
 fn may_begin(bytes: &[u8]) -> bool
     ensures { result ≡ may_begin bytes.now }
 {

@@ -12,8 +12,8 @@ use Rattle.std.proofs.lemmas.List.Sums.{prefix_len-le-length, position_or_len_is
 use Rattle.std.proofs.KnownBytes.{Consumes-trans}
 use Rattle.std.specs.Io.KnownBytes.{Consumes}
 use Rattle.lpt_text.specs.Lines.{held, line_end, Adds, IsCut, Fills, FindsLine}
-use Rattle.lpt_text.specs.declared.fault.ToolFault.{ToolFault}
-use Rattle.lpt_text.specs.declared.fault.ToolFault.TheVariants as tool
+use Rattle.lpt_text.specs.declared.fault.StreamFault.{StreamFault}
+use Rattle.lpt_text.specs.declared.fault.StreamFault.TheVariants as faults
 use Rattle.lpt_text.specs.declared.lines.LineBuffer.{LineBuffer}
 
 -- ---- places
@@ -42,7 +42,8 @@ pub line_end-from : (text : List ℕ) (at n : ℕ)
     → line_end text ≡ Some (at + n)
 line_end-from text at n within none some =
     subst (λ x. line_end x ≡ Some (at + n)) (take-append-drop at text)
-    (subst (λ k. line_end (take at text ++ drop at text) ≡ Some (k + n)) (length-take-le at text within)
+    (subst (λ k. line_end (take at text ++ drop at text)
+    ≡ Some (k + n)) (length-take-le at text within)
     (line_end-behind (take at text) (drop at text) n none some))
 
 pub line_end-none : (text : List ℕ) (at : ℕ)
@@ -83,20 +84,22 @@ pub adds-more : (old mid new : LineBuffer) (a b c : Option (List ℕ)) (read mor
     → Adds old new a c (read ++ more) over
 adds-more old mid new a b c read more over p q = record {
   consumed = subst (Consumes a c) (sym (append_assoc read more over))
-      (Consumes-trans a b c read (more ++ over) (subst (Consumes a b) (append-nil read) p.consumed) q.consumed);
+      (Consumes-trans a b c read (more ++ over)
+      (subst (Consumes a b) (append-nil read) p.consumed) q.consumed);
   behind = q.behind ∙ ap (λ x. x ++ more) p.behind ∙ append_assoc (held old) read more;
   counted = grind (arith, common_steps, p.counted, q.counted);
 }
 
 -- a read that failed, or was cut, ends the search
-pub fill-fault : (fault : ToolFault) (old mid new : LineBuffer) (a b c : Option (List ℕ)) (read : List ℕ) (had told failed : Bool)
+pub fill-fault : (fault : StreamFault) (old mid new : LineBuffer) (a b c : Option (List ℕ))
+    (read : List ℕ) (had told failed : Bool)
     → Adds old mid a b read []
     → line_end (held mid) ≡ None
     → length (held mid) ≤ 140000
     → told ≡ had
     → Fills (Err fault) mid new b c told failed
     → FindsLine (Err fault) old new a c had failed
-fill-fault tool.Read old mid new a b c read had told failed p none short same q =
+fill-fault faults.Read old mid new a b c read had told failed p none short same q =
     let all : held new ≡ held mid = q.1.behind ∙ append-nil (held mid) in (
       read ++ [],
       q.0,
@@ -105,12 +108,13 @@ fill-fault tool.Read old mid new a b c read had told failed p none short same q 
       subst (λ x. length x ≤ 140000) (sym all) short,
       subst (λ x. IsCut new q.0 x failed) same q.2,
     )
-fill-fault tool.Memory old mid new a b c read had told failed p none short same q =
-    (read ++ q.0, Consumes-trans a b c read q.0 (subst (Consumes a b) (append-nil read) p.consumed) q.1, q.2 ∙ same)
-fill-fault tool.Write old mid new a b c read had told failed p none short same q = absurd q
-fill-fault tool.Config old mid new a b c read had told failed p none short same q = q
-fill-fault (tool.Line n) old mid new a b c read had told failed p none short same q = q
-fill-fault (tool.Threads n) old mid new a b c read had told failed p none short same q = q
+fill-fault faults.Memory old mid new a b c read had told failed p none short same q = (
+  read ++ q.0,
+  Consumes-trans a b c read q.0
+      (subst (Consumes a b) (append-nil read) p.consumed) q.1,
+  q.2 ∙ same,
+)
+fill-fault faults.Write old mid new a b c read had told failed p none short same q = absurd q
 
 -- ---- the line that ends there
 
@@ -120,7 +124,8 @@ pub line_end-split : (text : List ℕ) (n : ℕ)
     → take (n + 1) text ≡ take n text ++ 10 ∷ []
 line_end-split text n at =
     let found = position-Some (λ b. b == 10) text n 0 at in
-    take_more text n 0 found.0 ∙ ap (λ b. take n text ++ b ∷ []) (eqb-true (get_or text n 0) 10 found.1)
+    take_more text n 0 found.0
+    ∙ ap (λ b. take n text ++ b ∷ []) (eqb-true (get_or text n 0) 10 found.1)
 
 -- it ends there whatever follows
 pub line_end-then : (text more : List ℕ) (n : ℕ)
@@ -128,13 +133,16 @@ pub line_end-then : (text more : List ℕ) (n : ℕ)
     → line_end (take (n + 1) text ++ more) ≡ Some n
 line_end-then text more n at =
     let found = position-Some (λ b. b == 10) text n 0 at in
-    let long : length (take (n + 1) text) ≡ n + 1 = length-take-le (n + 1) text (grind (arith, found.0)) in
+    let long : length (take (n + 1) text)
+    ≡ n + 1 = length-take-le (n + 1) text (grind (arith, found.0)) in
     let same : (k : ℕ) → k < n + 1 → get_or (take (n + 1) text ++ more) k 0 ≡ get_or text k 0 =
-    λ k below. get_or-append (take (n + 1) text) more 0 k (omega arith) ∙ get_or-take (n + 1) text k 0 below in
+    λ k below. get_or-append (take (n + 1) text) more 0 k (omega arith)
+    ∙ get_or-take (n + 1) text k 0 below in
     let place : position_or_len (λ b. b == 10) (take (n + 1) text ++ more) ≡ n =
     position_or_len_is (λ b. b == 10) (take (n + 1) text ++ more) n 0
     (omega (arith, length-append (take (n + 1) text) more))
     (λ k below. ap (λ b. b == 10) (same k (omega arith)) ∙ found.2 k below)
     (λ _. ap (λ b. b == 10) (same n (omega arith)) ∙ found.1) in
-    let within : n < length (take (n + 1) text ++ more) = omega (arith, length-append (take (n + 1) text) more) in
+    let within : n < length (take (n + 1) text ++ more) =
+    omega (arith, length-append (take (n + 1) text) more) in
     rw place (grind (arith, nat_tests))

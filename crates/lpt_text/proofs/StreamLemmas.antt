@@ -64,7 +64,8 @@ part_unchanged a text = part_of_nothing a a text (Appends-nil a)
 -- ---- what is passed on
 
 -- known octets with nothing kept back behind them
-pub nothing_behind : (known : Option (List ℕ)) (kept : List ℕ) → kept ≡ [] → known ≡ append_known known kept
+pub nothing_behind : (known : Option (List ℕ)) (kept : List ℕ) → kept ≡ [] → known
+    ≡ append_known known kept
 nothing_behind None kept none = refl
 nothing_behind (Some xs) kept none = ap Some (sym (ap (λ ys. xs ++ ys) none ∙ append-nil xs))
 

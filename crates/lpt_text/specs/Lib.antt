@@ -1,5 +1,7 @@
-pub mod FaultNames
 pub mod Lines
 pub mod Reading
 pub mod Streams
+pub mod Taking
+pub mod TakingInside
+pub mod Texts
 pub mod FromStdInside

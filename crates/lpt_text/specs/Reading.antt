@@ -2,22 +2,27 @@
 use Rattle.std.specs.Prelude.{◌≡◌, ℕ, ◌≤◌, ◌<◌, ◌⊎◌, [], ◌∷◌, ◌++◌, ◌+◌, Bool, true, List, length, Option, None}
 use Rattle.std.specs.Io.KnownBytes.{Consumes, IsAtEnd}
 use Rattle.lpt_text.specs.Lines.{line_end}
+use Rattle.lpt_text.specs.Texts.{longest_line, longest_text}
 use Rattle.lpt_text.specs.declared.reading.End.{End}
 use Rattle.lpt_text.specs.declared.reading.End.TheVariants.{Whole, Failed, TooLong}
 
 -- the text was consumed, to the end of what there is, or to a fault of a read, or past the limit
 abbrev pub ReadTo : End → List ℕ → Option (List ℕ) → Option (List ℕ) → Bool → Bool → Type 0
 ReadTo Whole text old new before failed =
-    Consumes old new text × IsAtEnd new × (length text ≤ 16777216) × (failed ≡ before)
+    Consumes old new text × IsAtEnd new × (length text ≤ longest_text) × (failed ≡ before)
 ReadTo Failed text old new before failed =
-    Consumes old new text × (failed ≡ true) × (length text ≤ 16777216)
+    Consumes old new text × (failed ≡ true) × (length text ≤ longest_text)
 ReadTo TooLong text old new before failed =
-    Consumes old new text × (16777216 < length text) × (failed ≡ before)
+    Consumes old new text × (longest_text < length text) × (failed ≡ before)
 
 -- the text is what there was to read, all of it, at most the limit
 abbrev pub IsWhole : Option (List ℕ) → Option (List ℕ) → (List ℕ → Type 0) → Type 0
 IsWhole old new P =
-    (text : List ℕ) × Consumes old new text × IsAtEnd new × (length text ≤ 16777216) × P text
+    (text : List ℕ) × Consumes old new text × IsAtEnd new × (length text ≤ longest_text) × P text
+
+-- what was read has no more octets than a text may have
+abbrev pub IsWithin : Option (List ℕ) → Option (List ℕ) → Type 0
+IsWithin old new = (read : List ℕ) × Consumes old new read × (length read ≤ longest_text)
 
 -- the text is empty or ends with a line end
 abbrev pub EndsLine : List ℕ → Type 0
@@ -27,7 +32,7 @@ EndsLine text = (text ≡ []) ⊎ ((line : List ℕ) × (text ≡ line ++ 10 ∷
 abbrev pub EndsLong : List ℕ → Type 0
 EndsLong text =
     (front : List ℕ) × (line : List ℕ) × (text ≡ front ++ line) × EndsLine front
-    × (line_end line ≡ None) × (140000 < length line)
+    × (line_end line ≡ None) × (longest_line < length line)
 
 -- the text is a front part of what was read: lines, perhaps with so much of one more that this is
 -- too long, or all that there was to read
@@ -35,15 +40,25 @@ abbrev pub IsFront : Option (List ℕ) → Option (List ℕ) → (List ℕ → T
 IsFront old new P =
     (text : List ℕ) × (more : List ℕ) × Consumes old new (text ++ more)
     × (((more ≡ []) × IsAtEnd new) ⊎ (EndsLine text ⊎ EndsLong text))
-    × (length text ≤ 16777216) × P text
+    × (length text ≤ longest_text) × P text
 
 -- the text is the lines that were read before a read failed, or before more came than a text may
 -- have; the line that this cuts isn't too long so far
 abbrev pub IsCutFront : Option (List ℕ) → Option (List ℕ) → Bool → (List ℕ → Type 0) → Type 0
 IsCutFront old new failed P =
     (text : List ℕ) × (cut : List ℕ) × (over : List ℕ) × Consumes old new (text ++ (cut ++ over))
-    × EndsLine text × (line_end cut ≡ None) × (length cut ≤ 140000)
-    × (length text + length cut ≤ 16777216)
+    × EndsLine text × (line_end cut ≡ None) × (length cut ≤ longest_line)
+    × (length text + length cut ≤ longest_text)
     × (((over ≡ []) × (failed ≡ true))
-    ⊎ ((length text + length cut ≡ 16777216) × (0 < length over)))
+    ⊎ ((length text + length cut ≡ longest_text) × (0 < length over)))
+    × P text
+
+-- The same where so much of a last line is among them as shows that it is too long.
+abbrev pub IsCutShort : Option (List ℕ) → Option (List ℕ) → Bool → (List ℕ → Type 0) → Type 0
+IsCutShort old new failed P =
+    (text : List ℕ) × (cut : List ℕ) × (over : List ℕ) × Consumes old new (text ++ (cut ++ over))
+    × (EndsLine text ⊎ EndsLong text) × (line_end cut ≡ None) × (length cut ≤ longest_line)
+    × (length text + length cut ≤ longest_text)
+    × (((over ≡ []) × (failed ≡ true))
+    ⊎ ((length text + length cut ≡ longest_text) × (0 < length over)))
     × P text

@@ -2,14 +2,12 @@
 
 ghost use Rattle.std.specs.Prelude.{◌≤◌, length};
 
-use crate::fault::ToolFault;
+use crate::fault::StreamFault;
 use crate::line_end::first_line_end;
-use crate::reading::{CHUNK, LIMIT};
+use crate::reading::CHUNK;
 use crate::stream::{Sink, Source, flush_out};
+use crate::texts::{LONGEST_LINE, LONGEST_TEXT};
 use std::alloc::Global;
-
-/// The most octets of a line, without its line end.
-const LONGEST_LINE: usize = 140_000;
 
 /// The octets of a text that were read and not passed over yet.
 ///
@@ -26,19 +24,21 @@ pub struct LineBuffer {
 }
 
 impl LineBuffer {
-    ghost use Rattle.std.specs.Prelude.{◌≡◌, ◌≢◌, ◌⊎◌, ◌+◌, ◌++◌, [], drop, true, Err, IfErr, OnOk, OnErr, IsErrOf};
+    ghost use Rattle.std.specs.Prelude.{◌≡◌, ◌≢◌, ◌⊎◌, ◌+◌, ◌++◌, [], drop, Err, IfErr, OnOk};
     ghost use Rattle.std.specs.Io.KnownBytes.{Keeps};
     ghost use Rattle.lpt_text.specs.Lines.{held, room_of, Fills, FindsLine};
+    ghost use Rattle.lpt_text.specs.Streams.{WriteEnds};
+    ghost use Rattle.lpt_text.specs.Texts.{longest_text};
 
     /// A text of which nothing was read.
     pub fn new(alloc: Global) -> Self
         ensures held { held result ≡ [] }
-        ensures room { room_of result ≡ 16777216 }
+        ensures room { room_of result ≡ longest_text }
     {
         LineBuffer {
             octets: Vec::new(alloc),
             start: 0,
-            room: LIMIT,
+            room: LONGEST_TEXT,
         }
     }
 
@@ -70,16 +70,15 @@ impl LineBuffer {
         &mut self,
         source: &mut S,
         out: &mut K,
-    ) -> Result<Option<usize>, ToolFault>
+    ) -> Result<Option<usize>, StreamFault>
         ensures finds { FindsLine result self.old self.new (S.remaining source.old)
             (S.remaining source.new) (S.failed source.old) (S.failed source.new) }
 
         // What was written stays, and where something was read, all of it was passed on before.
         ensures same { Keeps (K.contents out.old) (K.contents out.new) }
-        ensures passed { result ≢ Err ToolFault.Write →
-            (source.new ≡ source.old) ⊎ (K.passed out.new ≡ K.contents out.new) }
-        ensures cause { IsErrOf result ToolFault.Write → K.failed out.new ≡ true }
-        ensures told { result ≢ Err ToolFault.Write → K.failed out.new ≡ K.failed out.old }
+        ensures passed { result ≢ Err StreamFault.Write →
+            (source.new ≡ source.old) ⊎ (K.flushed out.new ≡ K.contents out.new) }
+        ensures writer { WriteEnds result (K.failed out.old) (K.failed out.new) }
     {
         let mut searched = 0;
         loop {
@@ -90,10 +89,7 @@ impl LineBuffer {
             if searched > LONGEST_LINE {
                 return Ok(None);
             }
-            match flush_out(out) {
-                Ok(()) => {}
-                Err(fault) => return Err(fault),
-            }
+            flush_out(out)?;
             match self.fill(source) {
                 Ok(more) => {
                     if !more {
@@ -106,37 +102,35 @@ impl LineBuffer {
     }
 
     // Reads some octets behind those that are held, and answers whether there were any.
-    fn fill<S: Source>(&mut self, source: &mut S) -> Result<bool, ToolFault>
+    fn fill<S: Source>(&mut self, source: &mut S) -> Result<bool, StreamFault>
         ensures { Fills result self.old self.new (S.remaining source.old) (S.remaining source.new)
             (S.failed source.old) (S.failed source.new) }
     {
         let mut chunk = [0; CHUNK];
         let asked = self.room.clamp(1, CHUNK);
         let Some(count) = source.read(&mut chunk[..asked]) else {
-            return Err(ToolFault::Read);
+            return Err(StreamFault::Read);
         };
         if count == 0 {
             return Ok(false);
         }
         if self.room == 0 {
-            return Err(ToolFault::Read);
+            return Err(StreamFault::Read);
         }
-        match self.push(&chunk[..count]) {
-            Ok(()) => Ok(true),
-            Err(fault) => Err(fault),
-        }
+        self.push(&chunk[..count])?;
+        Ok(true)
     }
 
     // Holds octets behind the rest.
-    fn push(&mut self, octets: &[u8]) -> Result<(), ToolFault>
+    fn push(&mut self, octets: &[u8]) -> Result<(), StreamFault>
         requires { length octets.now ≤ room_of self.old }
         ensures held { OnOk result (held self.new ≡ held self.old ++ octets.now) }
         ensures room { OnOk result (room_of self.new + length octets.now ≡ room_of self.old) }
-        ensures fault { IfErr result (λ e. e ≡ ToolFault.Memory) }
+        ensures fault { IfErr result (λ e. e ≡ StreamFault.Memory) }
     {
         self.compact();
         if self.octets.extend_from_slice(octets).is_err() {
-            return Err(ToolFault::Memory);
+            return Err(StreamFault::Memory);
         }
         self.room -= octets.len();
         Ok(())

@@ -1,12 +1,12 @@
 //! Readers and writers that report their octets and their faults.
 
-ghost use Rattle.std.specs.Prelude.{◌≡◌, ◌≤◌, ◌<◌, ℕ, List, Bool, true, false, length, take, Option, MatchOption, IfSome, IfErr, IsTrue, OnOk};
+ghost use Rattle.std.specs.Prelude.{◌≡◌, ◌≤◌, ◌<◌, ℕ, List, Bool, false, length, take, Option, MatchOption, IfSome, IfErr, IsTrue, OnOk};
 ghost use Rattle.std.specs.Io.KnownBytes.{Keeps, Appends, Consumes, IsAtEnd};
-ghost use Rattle.lpt_text.specs.Streams.{read_failed, write_failed, flush_failed, AppendsPart};
+ghost use Rattle.lpt_text.specs.Streams.{read_failed, write_failed, flush_failed, AppendsPart, WriteEnds};
 ghost use Rattle.lpt_text.specs.FromStdInside.{inner_of, has_failed};
 
-use crate::fault::ToolFault;
-use crate::flushed::Flushed;
+use crate::fault::StreamFault;
+use crate::flushing::Flushed;
 use std::io;
 
 /// Where a text is read from.
@@ -35,7 +35,7 @@ pub trait Sink {
     ghost contents: { Self → Option (List ℕ) };
 
     // The octets that were passed on, where they are known: the others are kept back.
-    ghost passed: { Self → Option (List ℕ) };
+    ghost flushed: { Self → Option (List ℕ) };
 
     // Whether a write has failed or taken nothing.
     ghost failed: { Self → Bool };
@@ -50,11 +50,11 @@ pub trait Sink {
             (λ n. Appends (contents self.old) (contents self.new) (take n buf.now)) }
         ensures cause { failed self.new ≡ write_failed result (failed self.old) };
 
-    /// Passes on what the sink has kept back of what was written, and answers whether it could: then
-    /// nothing is kept back. If not, the sink has failed from then on.
+    /// Passes on what the sink has kept back of what was written, and answers whether it could:
+    /// then nothing is kept back. If not, the sink has failed from then on.
     fn flush(&mut self) -> bool
         ensures bytes { Keeps (contents self.old) (contents self.new) }
-        ensures all { IsTrue result → passed self.new ≡ contents self.new }
+        ensures all { IsTrue result → flushed self.new ≡ contents self.new }
         ensures cause { failed self.new ≡ flush_failed result (failed self.old) };
 }
 
@@ -112,7 +112,7 @@ impl<R: io::Read> Source for FromStd<R> {
 impl<W: Flushed> Sink for FromStd<W> {
     ghost contents = { λ told. W.contents (inner_of told) };
 
-    ghost passed = { λ told. W.passed (inner_of told) };
+    ghost flushed = { λ told. W.flushed (inner_of told) };
 
     ghost failed = { λ told. has_failed told };
 
@@ -132,7 +132,7 @@ impl<W: Flushed> Sink for FromStd<W> {
     }
 
     fn flush(&mut self) -> bool {
-        let flushed = self.inner.pass_on().is_ok();
+        let flushed = self.inner.flush_all().is_ok();
         if !flushed {
             self.failed = true;
         }
@@ -144,12 +144,12 @@ impl<W: Flushed> Sink for FromStd<W> {
 ///
 /// Errors: `Write` where a write failed or took nothing. The front part of the text that was taken
 /// before stays written.
-pub fn write_out<K: Sink>(out: &mut K, text: &[u8]) -> Result<(), ToolFault>
+pub fn write_out<K: Sink>(out: &mut K, text: &[u8]) -> Result<(), StreamFault>
     ensures ok { OnOk result (Appends (K.contents out.old) (K.contents out.new) text.now) }
-    ensures told { OnOk result (K.failed out.new ≡ K.failed out.old) }
 
     // It fails only by a write that failed or took nothing.
-    ensures fault { IfErr result (λ e. (e ≡ ToolFault.Write) × (K.failed out.new ≡ true)) }
+    ensures fault { IfErr result (λ e. e ≡ StreamFault.Write) }
+    ensures writer { WriteEnds result (K.failed out.old) (K.failed out.new) }
     ensures part { IfErr result (λ _.
         AppendsPart (K.contents out.old) (K.contents out.new) text.now) }
 {
@@ -157,7 +157,7 @@ pub fn write_out<K: Sink>(out: &mut K, text: &[u8]) -> Result<(), ToolFault>
     while at < text.len() {
         let taken = out.write(&text[at..]).unwrap_or(0);
         if taken == 0 {
-            return Err(ToolFault::Write);
+            return Err(StreamFault::Write);
         }
         at += taken;
     }
@@ -167,15 +167,15 @@ pub fn write_out<K: Sink>(out: &mut K, text: &[u8]) -> Result<(), ToolFault>
 /// Has a sink pass on what it has kept back of what was written.
 ///
 /// Errors: `Write` where it couldn't.
-pub fn flush_out<K: Sink>(out: &mut K) -> Result<(), ToolFault>
+pub fn flush_out<K: Sink>(out: &mut K) -> Result<(), StreamFault>
     ensures same { Keeps (K.contents out.old) (K.contents out.new) }
-    ensures all { OnOk result (K.passed out.new ≡ K.contents out.new) }
-    ensures told { OnOk result (K.failed out.new ≡ K.failed out.old) }
-    ensures fault { IfErr result (λ e. (e ≡ ToolFault.Write) × (K.failed out.new ≡ true)) }
+    ensures all { OnOk result (K.flushed out.new ≡ K.contents out.new) }
+    ensures fault { IfErr result (λ e. e ≡ StreamFault.Write) }
+    ensures writer { WriteEnds result (K.failed out.old) (K.failed out.new) }
 {
     if out.flush() {
         Ok(())
     } else {
-        Err(ToolFault::Write)
+        Err(StreamFault::Write)
     }
 }

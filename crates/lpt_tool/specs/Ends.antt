@@ -1,10 +1,10 @@
 -- How a script with threads ends: what the answer says of what was read and written.
-use Rattle.std.specs.Prelude.{◌≡◌, ◌⊎◌, ◌≤◌, ◌++◌, ℕ, Bool, true, List, [], Option, None, Result, Ok, Err}
+use Rattle.std.specs.Prelude.{◌≡◌, ◌⊎◌, ◌++◌, ℕ, Bool, true, List, [], Option, None, Result, Ok, Err}
 use Rattle.std.specs.Io.KnownBytes.{Appends}
 use Rattle.std.specs.List.{flat_map}
 use Rattle.lpt_text.specs.Reading.{IsWhole}
-use Rattle.lpt_text.specs.declared.fault.ToolFault.{ToolFault}
-use Rattle.lpt_text.specs.declared.fault.ToolFault.TheVariants as tool
+use Rattle.lpt_text.specs.declared.fault.StreamFault.TheVariants as streams
+use Rattle.lpt_script.specs.declared.fault.ScriptFault.TheVariants as scripts
 use Rattle.lpt_script_words.specs.declared.showing.Show.{Show}
 use Rattle.lpt_script.specs.Ends.{Grows, RunEnds}
 use Rattle.lpt_script.specs.Scripts.{Left, Script, script_left, script_ran, show_text}
@@ -14,6 +14,8 @@ use Rattle.lpt_world.specs.Worlds.{Shown, history}
 use Rattle.lpt_share.specs.WholeRuns.{IsRun}
 use Rattle.lpt_tool.specs.Full.{full_seats}
 use Rattle.lpt_tool.specs.Summary.{IsSummary}
+use Rattle.lpt_tool.specs.declared.fault.ToolFault.{ToolFault}
+use Rattle.lpt_tool.specs.declared.fault.ToolFault.TheVariants as tool
 use Rattle.lpt_tool.specs.declared.threads_end.ThreadsEnd.{ThreadsEnd}
 
 -- the whole text of lines was written, and more may stand behind it
@@ -50,32 +52,21 @@ ThreadsEnds turns w (Ok end) old new before after read_failed write_failed =
     × (end.refused ≡ (script_ran true w text).refused)
     × IsShownBehind (script_ran true w text).text turns (script_left true w text) end.full.items before after)
 ThreadsEnds turns w (Err (tool.Line n)) old new before after read_failed write_failed =
-    RunEnds true w (Err (tool.Line n)) old new before after read_failed write_failed
+    RunEnds true w (Err (scripts.Line n)) old new before after read_failed write_failed
 ThreadsEnds turns w (Err tool.Read) old new before after read_failed write_failed =
-    RunEnds true w (Err tool.Read) old new before after read_failed write_failed
+    RunEnds true w (Err (scripts.Stream streams.Read)) old new before after read_failed write_failed
 ThreadsEnds turns w (Err tool.Config) old new before after read_failed write_failed =
     (old ≡ new) × (before ≡ after)
 ThreadsEnds turns w (Err tool.Write) old new before after read_failed write_failed =
-    RunEnds true w (Err tool.Write) old new before after read_failed write_failed
+    RunEnds true w (Err (scripts.Stream streams.Write)) old new before after read_failed write_failed
     ⊎ (IsWhole old new (λ text. LinesAndMore (script_ran true w text) before after) × (write_failed ≡ true))
 ThreadsEnds turns w (Err tool.Memory) old new before after read_failed write_failed =
-    RunEnds true w (Err tool.Memory) old new before after read_failed write_failed
+    RunEnds true w (Err (scripts.Stream streams.Memory)) old new before after read_failed write_failed
     ⊎ IsWhole old new (λ text. LinesAndMore (script_ran true w text) before after)
-ThreadsEnds turns w (Err (tool.Threads n)) old new before after read_failed write_failed =
+ThreadsEnds turns w (Err (tool.Threads fault)) old new before after read_failed write_failed =
     IsWhole old new
     (λ text. ((script_ran true w text).bad ≡ None)
     × Appends before after (script_ran true w text).text)
-    × (61 ≤ n)
-    × (n ≤ 63)
-
--- a fault of the threads, by its number
-abbrev pub IsOfThreads : ToolFault → Type 0
-IsOfThreads (tool.Threads n) = (61 ≤ n) × (n ≤ 63)
-IsOfThreads tool.Read = ⊥
-IsOfThreads tool.Write = ⊥
-IsOfThreads (tool.Line n) = ⊥
-IsOfThreads tool.Memory = ⊥
-IsOfThreads tool.Config = ⊥
 
 -- how the threads and what is printed after them end, behind lines of which so many were refused: where the
 -- threads fail, nothing was written
@@ -84,7 +75,7 @@ GoesOn turns left refused (Ok end) before after write_failed =
     (end.refused ≡ refused) × IsShownBehind [] turns left end.full.items before after
 GoesOn turns left refused (Err tool.Write) before after write_failed = Grows before after × (write_failed ≡ true)
 GoesOn turns left refused (Err tool.Memory) before after write_failed = Grows before after
-GoesOn turns left refused (Err (tool.Threads n)) before after write_failed = (before ≡ after) × (61 ≤ n) × (n ≤ 63)
+GoesOn turns left refused (Err (tool.Threads fault)) before after write_failed = before ≡ after
 GoesOn turns left refused (Err (tool.Line n)) before after write_failed = ⊥
 GoesOn turns left refused (Err tool.Read) before after write_failed = ⊥
 GoesOn turns left refused (Err tool.Config) before after write_failed = ⊥

@@ -1,17 +1,19 @@
 //! Scripts whose events are followed by a run of threads.
 
-ghost use Rattle.std.specs.Prelude.{◌≡◌, ◌≢◌, ◌↔◌, ◌⊎◌, ◌++◌, ℕ, List, IfErr, IfOk, IsErrOf, IsOk, IsSome, OnOk, Err, true};
+ghost use Rattle.std.specs.Prelude.{⊤, ◌≡◌, ◌≢◌, ◌↔◌, ◌⊎◌, ◌++◌, ℕ, List, IfErr, IfOk, IsErrOf, IsOk, IsSome, OnOk, Err, true};
+ghost use Rattle.lpt_text.specs.Streams.{ReadEnds, WriteEnds};
 ghost use Rattle.std.specs.Io.KnownBytes.{Appends};
 ghost use Rattle.lpt_events.specs.Configs.{config_fault};
 ghost use Rattle.lpt_script.specs.Ends.{Grows, TextEnds};
 ghost use Rattle.lpt_script.specs.Scripts.{left_of};
-ghost use Rattle.lpt_share.specs.FaultNames.{code_of};
 ghost use Rattle.lpt_journal.specs.Releases.{releases};
 ghost use Rattle.lpt_world.specs.Worlds.{history, new_world};
 ghost use Rattle.lpt_share.specs.WholeRuns.{IsRun};
-ghost use Rattle.lpt_tool.specs.Ends.{shown_text, GoesOn, IsOfThreads, ThreadsEnds};
+ghost use Rattle.lpt_tool.specs.Faults.{streams_end};
+ghost use Rattle.lpt_tool.specs.Ends.{shown_text, GoesOn, ThreadsEnds};
 ghost use Rattle.lpt_tool.specs.Summary.{IsSummary};
 
+use crate::ToolFault;
 use crate::full::full_seats;
 use crate::summary::put_summary;
 use crate::threads_end::ThreadsEnd;
@@ -20,7 +22,7 @@ use lpt_memory::Memories;
 use lpt_script::{Shows, run_lines, run_show};
 use lpt_script_words::Show;
 use lpt_share::{Gate, Point, ShareFault, run_threads};
-use lpt_text::{Sink, Source, ToolFault, flush_out};
+use lpt_text::{Sink, Source, StreamFault, flush_out};
 use lpt_world::World;
 use std::alloc::Global;
 use std::sync::Wait;
@@ -43,8 +45,7 @@ impl Gate for Open {
 /// `out` has passed on all that was written, and it is answered which seats have as many calls in the
 /// journal as `turns` gives each, or more: of those much may be left to do.
 ///
-/// Errors: those of `run_script`, and `Threads` with the number of the fault by which the threads
-/// ended, 61 to 63.
+/// Errors: those of `run_script`, and `Threads` with the fault by which the threads ended.
 pub fn run_threads_script<R: Threads + Wait + Sync, S: Source, K: Sink>(
     alloc: Global,
     rt: &R,
@@ -57,17 +58,35 @@ pub fn run_threads_script<R: Threads + Wait + Sync, S: Source, K: Sink>(
     ensures ends { ThreadsEnds turns (new_world config memories) result (S.remaining reader.old) (S.remaining reader.new)
         (K.contents out.old) (K.contents out.new) (S.failed reader.new) (K.failed out.new) }
     ensures config { IsErrOf result ToolFault.Config ↔ IsSome (config_fault config) }
-    ensures told { result ≢ Err ToolFault.Write → K.failed out.new ≡ K.failed out.old }
-    ensures read { IsOk result → S.failed reader.new ≡ S.failed reader.old }
-    ensures passed { IsOk result → K.passed out.new ≡ K.contents out.new }
+    ensures writer { WriteEnds (streams_end result) (K.failed out.old) (K.failed out.new) }
+    ensures reader { ReadEnds ⊤ (streams_end result) (S.failed reader.old) (S.failed reader.new) }
+    ensures passed { IsOk result → K.flushed out.new ≡ K.contents out.new }
 {
-    let mut world = match World::new(alloc, config, memories) {
-        Ok(world) => world,
-        Err(ConfigFault::Memory) => return Err(ToolFault::Memory),
-        Err(_) => return Err(ToolFault::Config),
-    };
-    let mut shows = Shows::later(alloc);
-    match run_lines(alloc, &mut world, &mut shows, reader, out) {
+    match World::new(alloc, config, memories) {
+        Ok(world) => run_all(alloc, rt, world, turns, reader, out),
+        Err(ConfigFault::Memory) => Err(ToolFault::Memory),
+        Err(_) => Err(ToolFault::Config),
+    }
+}
+
+// Runs the lines that a reader gives, and then the threads.
+fn run_all<R: Threads + Wait + Sync, S: Source, K: Sink>(
+    alloc: Global,
+    rt: &R,
+    world: World,
+    turns: Turns,
+    reader: &mut S,
+    out: &mut K,
+) -> Result<ThreadsEnd, ToolFault>
+    ensures ends { ThreadsEnds turns world result (S.remaining reader.old) (S.remaining reader.new)
+        (K.contents out.old) (K.contents out.new) (S.failed reader.new) (K.failed out.new) }
+    ensures config { result ≢ Err ToolFault.Config }
+    ensures writer { WriteEnds (streams_end result) (K.failed out.old) (K.failed out.new) }
+    ensures reader { ReadEnds ⊤ (streams_end result) (S.failed reader.old) (S.failed reader.new) }
+    ensures passed { IsOk result → K.flushed out.new ≡ K.contents out.new }
+{
+    let (ran, world, shows) = run_lines(alloc, world, Shows::later(alloc), reader, out);
+    match ran {
         Ok(end) => {
             let kept = shows.into_kept(alloc);
             go_on(alloc, rt, world, turns, kept, end.refused, out)
@@ -75,7 +94,7 @@ pub fn run_threads_script<R: Threads + Wait + Sync, S: Source, K: Sink>(
         Err(fault) => {
             drop(world);
             drop(shows);
-            Err(fault)
+            Err(ToolFault::from(fault))
         }
     }
 }
@@ -92,8 +111,8 @@ fn go_on<R: Threads + Wait + Sync, K: Sink>(
     out: &mut K,
 ) -> Result<ThreadsEnd, ToolFault>
     ensures ends { GoesOn turns (left_of world kept.items) refused result (K.contents out.old) (K.contents out.new) (K.failed out.new) }
-    ensures passed { IsOk result → K.passed out.new ≡ K.contents out.new }
-    ensures told { result ≢ Err ToolFault.Write → K.failed out.new ≡ K.failed out.old }
+    ensures passed { IsOk result → K.flushed out.new ≡ K.contents out.new }
+    ensures writer { WriteEnds (streams_end result) (K.failed out.old) (K.failed out.new) }
 {
     match run_ten(alloc, rt, world, turns) {
         Ok(world) => {
@@ -106,12 +125,12 @@ fn go_on<R: Threads + Wait + Sync, K: Sink>(
                         Ok(full) => Ok(ThreadsEnd { refused, full }),
                         Err(_) => Err(ToolFault::Memory),
                     },
-                    Err(fault) => Err(fault),
+                    Err(fault) => Err(ToolFault::from(fault)),
                 },
-                Err(fault) => Err(fault),
+                Err(fault) => Err(ToolFault::from(fault)),
             }
         }
-        Err(fault) => Err(fault),
+        Err(fault) => Err(ToolFault::Threads(fault)),
     }
 }
 
@@ -121,9 +140,8 @@ fn run_ten<R: Threads + Wait + Sync>(
     rt: &R,
     world: World,
     turns: Turns,
-) -> Result<World, ToolFault>
-    ensures ok { IfOk result (λ left. IsRun turns world left) }
-    ensures err { IfErr result IsOfThreads }
+) -> Result<World, ShareFault>
+    ensures { IfOk result (λ left. IsRun turns world left) }
 {
     match run_threads(alloc, rt, world, turns, &Open) {
         Ok((world, logs)) => {
@@ -133,18 +151,9 @@ fn run_ten<R: Threads + Wait + Sync>(
         Err(end) => {
             let fault = end.fault;
             drop(end);
-            Err(threads_fault(fault))
+            Err(fault)
         }
     }
-}
-
-// The fault of a run that ended by this one.
-#[tactic(auto, using(crate::proofs::ThreadLemmas::code_within))]
-fn threads_fault(fault: ShareFault) -> ToolFault
-    ensures exact { result ≡ ToolFault.Threads (code_of fault) }
-    ensures within { IsOfThreads result }
-{
-    ToolFault::Threads(fault.code())
 }
 
 // Prints what threads left, and then what the kept lines show of it.
@@ -153,13 +162,12 @@ fn show_left<K: Sink>(
     world: &World,
     kept: &[Show],
     out: &mut K,
-) -> Result<(), ToolFault>
+) -> Result<(), StreamFault>
     ensures all { OnOk result ((summary : List ℕ) × IsSummary world.now.config.source (releases world.now.config (history world.now)) world.now.journal summary
         × Appends (K.contents out.old) (K.contents out.new) (summary ++ shown_text kept.now world.now)) }
     ensures grows { Grows (K.contents out.old) (K.contents out.new) }
-    ensures only { IfErr result (λ e. (e ≡ ToolFault.Write) ⊎ (e ≡ ToolFault.Memory)) }
-    ensures cause { IsErrOf result ToolFault.Write → K.failed out.new ≡ true }
-    ensures told { result ≢ Err ToolFault.Write → K.failed out.new ≡ K.failed out.old }
+    ensures only { IfErr result (λ e. (e ≡ StreamFault.Write) ⊎ (e ≡ StreamFault.Memory)) }
+    ensures writer { WriteEnds result (K.failed out.old) (K.failed out.new) }
 {
     match put_summary(
         alloc,
@@ -179,10 +187,9 @@ fn show_kept<K: Sink>(
     world: &World,
     kept: &[Show],
     out: &mut K,
-) -> Result<(), ToolFault>
+) -> Result<(), StreamFault>
     ensures ends { TextEnds (shown_text kept.now world.now) result (K.contents out.old) (K.contents out.new) }
-    ensures cause { IsErrOf result ToolFault.Write → K.failed out.new ≡ true }
-    ensures told { result ≢ Err ToolFault.Write → K.failed out.new ≡ K.failed out.old }
+    ensures writer { WriteEnds result (K.failed out.old) (K.failed out.new) }
 {
     for show in kept {
         match run_show(alloc, world, *show, out) {

@@ -1,6 +1,6 @@
 use Rattle.std.proofs.Common.{◌≡◌, ◌≤◌, ◌+◌, length}
 use Rattle.lpt_chart_script.specs.Drawings.{lines_run}
-use Rattle.lpt_script_words.specs.Words.{lines}
+use Rattle.lpt_text.specs.Texts.{lines}
 use Rattle.lpt_chart_script.proofs.running.run_text.Given as goal
 
 -- the lines that are left do what all do

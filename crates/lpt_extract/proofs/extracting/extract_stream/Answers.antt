@@ -8,8 +8,8 @@ use Rattle.lpt_stream.specs.Buffers.{held, is_in_step, found_piece, FindsPassing
 use Rattle.lpt_stream.specs.Pieces.{Piece, keeps_step, packet_before, packets_of}
 use Rattle.lpt_stream.proofs.CutLemmas.{read-none, read-more, read-next, read-end, read-front, read-leads}
 use Rattle.lpt_text.proofs.StreamLemmas.{part_whole}
-use Rattle.lpt_text.specs.declared.fault.ToolFault.{ToolFault}
-use Rattle.lpt_text.specs.declared.fault.ToolFault.TheVariants as tool
+use Rattle.lpt_text.specs.declared.fault.StreamFault.{StreamFault}
+use Rattle.lpt_text.specs.declared.fault.StreamFault.TheVariants as faults
 use Rattle.lpt_text.specs.Streams.{AppendsPart}
 use Rattle.lpt_memory.specs.declared.request.Area.{Area}
 use Rattle.lpt_extract.specs.Extracts.{areas_in, notices_at, notices_in, written_first, ExtractLeaves, ExtractsTo}
@@ -17,14 +17,13 @@ use Rattle.lpt_extract.specs.ExtractsInside.{written_last, EndsAs, Held}
 use Rattle.lpt_extract.specs.declared.notice.Notice.{Notice}
 use Rattle.lpt_extract.specs.Notices.{Hears}
 use Rattle.lpt_extract.proofs.GiveLemmas.{ends-by, leaves-last}
-use Rattle.lpt_extract.proofs.ReadLemmas.{Taken, taken-kept, taken-none, taken-next, part-next, if-ok, if-err, find-fault, find-lost, left-first, left-last}
+use Rattle.lpt_stream.proofs.BufferLemmas.{passing-faults, passing-lost}
+use Rattle.lpt_stream.proofs.EndLemmas.{other-fault, passing-reader, reader-after, reader-all, reader-kept, writer-after, writer-all}
+use Rattle.lpt_extract.proofs.ReadLemmas.{Taken, taken-kept, taken-none, taken-next, part-next, if-ok, if-err, left-first, left-last}
 use Rattle.lpt_extract.proofs.extracting.extract_stream.Goals as goal
 
 never : (e : Bool) → e ≡ false → e ≡ true → ⊥
 never e h k = cc
-
-no-fault : {A : Type 0} (x : A) (e : ToolFault) → ◌≡◌ {A = Result A ToolFault} (Ok x) (Err e) → ⊥
-no-fault x e h = cc
 
 nothing-behind : (a b : Option (List ℕ)) (read : List ℕ) → Consumes a b read → Consumes a b (read ++ [])
 nothing-behind a b read h = subst (Consumes a b) (sym (append-nil read)) h
@@ -43,8 +42,8 @@ loop-count-init g c =
             c.new-buffer.ensures.held c.new-buffer.ensures.step,
       );
       ended = λ e. absurd (never (c.new-buffer.result.ended) c.new-buffer.ensures.end e);
-      heard = refl;
-      told = refl;
+      reader = refl;
+      writer = refl;
     }
 
 -- the stream is at its end, and nothing is left
@@ -60,14 +59,17 @@ returns-in-Ok-None-clause-ends g c =
     let new = g.K.Sink.contents c.end_extract.new.out in
     let heard = g.L.Listener.heard c.args.listener.now in
     let hears = g.L.Listener.heard c.loop-count.listener in
-    let found = subst (λ (f : Option Found). FindsPassing (Ok f) c.loop-count.buffer c.find_piece_passing.new.self b d
+    let found = subst (λ (f : Option Found). FindsPassing (Ok f) c.loop-count.buffer
+    c.find_piece_passing.new.self b d
     (g.S.Source.failed c.loop-count.source) (g.S.Source.failed c.find_piece_passing.new.source))
     c.in-Ok-None.field-0-is c.in-Ok-None.ensures.finds in
     let was = c.loop-count.invariant.read in
-    let P : List Piece → Type 0 = Taken w c.loop-count.holding c.loop-count.place old kept heard hears in
+    let P : List Piece → Type 0 =
+    Taken w c.loop-count.holding c.loop-count.place old kept heard hears in
     let read = read-more P c.loop-count.buffer c.find_piece_passing.new.self b d was.0 found.0
     c.loop-count.count was.2 found.1 in
-    let gives = taken-kept w c.loop-count.holding c.loop-count.place old kept mid heard hears read.pieces read.gives
+    let gives = taken-kept w c.loop-count.holding c.loop-count.place old kept mid heard hears
+    read.pieces read.gives
     c.in-Ok-None.ensures.same in
     let areas = areas_in w (packets_of read.pieces) in
     let ns = notices_in w 0 read.pieces in
@@ -78,7 +80,8 @@ returns-in-Ok-None-clause-ends g c =
       pieces = read.pieces;
       consumed = Consumes-trans a b d was.0 found.0 was.1 found.1.added.consumed;
       at_end = found.1.at_end c.loop-count.invariant.ended found.3;
-      cut = read-end P c.find_piece_passing.new.self (was.0 ++ found.0) c.loop-count.count read found.2;
+      cut = read-end P c.find_piece_passing.new.self (was.0 ++ found.0) c.loop-count.count read
+          found.2;
       ends = ends-by w.at areas _ x.end old mid new gives.wrote as_is.by;
       missing = as_is.missing;
       told = gives.told;
@@ -98,18 +101,21 @@ returns-in-Ok-None-clause-leaves g c =
     let new = g.K.Sink.contents c.end_extract.new.out in
     let heard = g.L.Listener.heard c.args.listener.now in
     let hears = g.L.Listener.heard c.loop-count.listener in
-    let found = subst (λ (f : Option Found). FindsPassing (Ok f) c.loop-count.buffer c.find_piece_passing.new.self b d
+    let found = subst (λ (f : Option Found). FindsPassing (Ok f) c.loop-count.buffer
+    c.find_piece_passing.new.self b d
     (g.S.Source.failed c.loop-count.source) (g.S.Source.failed c.find_piece_passing.new.source))
     c.in-Ok-None.field-0-is c.in-Ok-None.ensures.finds in
     let was = c.loop-count.invariant.read in
-    let P : List Piece → Type 0 = Taken w c.loop-count.holding c.loop-count.place old kept heard hears in
+    let P : List Piece → Type 0 =
+    Taken w c.loop-count.holding c.loop-count.place old kept heard hears in
     let read = read-more P c.loop-count.buffer c.find_piece_passing.new.self b d was.0 found.0
     c.loop-count.count was.2 found.1 in
-    let gives = taken-kept w c.loop-count.holding c.loop-count.place old kept mid heard hears read.pieces read.gives
+    let gives = taken-kept w c.loop-count.holding c.loop-count.place old kept mid heard hears
+    read.pieces read.gives
     c.in-Ok-None.ensures.same in
     let areas = areas_in w (packets_of read.pieces) in
     let ns = notices_in w 0 read.pieces in
-    if-err (λ e. (e ≡ tool.Write) × (g.K.Sink.failed c.end_extract.new.out ≡ true))
+    if-err (λ e. e ≡ faults.Write)
     (λ e. AppendsPart mid new (written_last w.at areas))
     (λ e. ExtractLeaves w e a d old new)
     c.end_extract.result
@@ -118,7 +124,7 @@ returns-in-Ok-None-clause-leaves g c =
     (nothing-behind a d (was.0 ++ found.0)
     (Consumes-trans a b d was.0 found.0 was.1 found.1.added.consumed))
     (read-leads P c.find_piece_passing.new.self (was.0 ++ found.0) c.loop-count.count read)
-    old new e cause.0 (leaves-last w.at areas old mid new gives.wrote part))
+    old new e cause (leaves-last w.at areas old mid new gives.wrote part))
     c.end_extract.ensures.fault
     (c.end_extract.ensures.part areas ns gives.held)
 
@@ -142,16 +148,20 @@ loop-count-preserved g c =
     (g.S.Source.failed c.loop-count.source) (g.S.Source.failed c.find_piece_passing.new.source))
     c.in-Ok-Some.field-0-is c.in-Ok-Some.ensures.finds in
     let was = c.loop-count.invariant.read in
-    let P : List Piece → Type 0 = Taken w c.loop-count.holding c.loop-count.place old kept heard hear in
+    let P : List Piece → Type 0 =
+    Taken w c.loop-count.holding c.loop-count.place old kept heard hear in
     let Q : List Piece → Type 0 =
     Taken w c.take_piece.new.holding c.saturating_add-place.result old new heard hears in
-    let read = read-more P c.loop-count.buffer now b d was.0 found.0 c.loop-count.count was.2 found.1 in
-    let gives = taken-kept w c.loop-count.holding c.loop-count.place old kept mid heard hear read.pieces read.gives
+    let read = read-more P c.loop-count.buffer now b d was.0 found.0 c.loop-count.count was.2
+    found.1 in
+    let gives = taken-kept w c.loop-count.holding c.loop-count.place old kept mid heard hear
+    read.pieces read.gives
     c.in-Ok-Some.ensures.same in
     let p = found_piece now f in
     let same : take f.len (c.held.result.now) ≡ p.octets = ap (take f.len) c.held.ensures in
     let step : Q (read.pieces ++ p ∷ []) =
-    taken-next w c.loop-count.holding c.take_piece.new.holding c.loop-count.place c.saturating_add-place.result
+    taken-next w c.loop-count.holding c.take_piece.new.holding c.loop-count.place
+    c.saturating_add-place.result
     old mid new heard hear hears read.pieces p gives
     (subst (λ o. (areas : List Area) (ns : List Notice) → Held w.at areas ns c.loop-count.holding
     → Held w.at (areas ++ areas_in w (packet_before f.kind o []))
@@ -171,9 +181,8 @@ loop-count-preserved g c =
             c.skip.ensures.held c.skip.ensures.step c.skip.ensures.end step,
       );
       ended = λ e. found.1.at_end c.loop-count.invariant.ended (sym c.skip.ensures.end ∙ e);
-      heard = found.3 ∙ c.loop-count.invariant.heard;
-      told = c.in-Ok.ensures.told (no-fault _ _) ∙ c.in-Ok-Some.ensures.told (no-fault _ _)
-          ∙ c.loop-count.invariant.told;
+      reader = found.3 ∙ c.loop-count.invariant.reader;
+      writer = c.in-Ok.ensures.writer ∙ c.in-Ok-Some.ensures.writer ∙ c.loop-count.invariant.writer;
     }
 
 -- a read failed, memory ran out, or octets couldn't be passed on
@@ -189,16 +198,19 @@ returns-in-Err-clause-leaves g c =
     let heard = g.L.Listener.heard c.args.listener.now in
     let hear = g.L.Listener.heard c.loop-count.listener in
     let was = c.loop-count.invariant.read in
-    let P : List Piece → Type 0 = Taken w c.loop-count.holding c.loop-count.place old kept heard hear in
-    let lost = find-lost c.in-Err.fault c.loop-count.buffer c.find_piece_passing.new.self b d
-    (g.S.Source.failed c.loop-count.source) (g.S.Source.failed c.find_piece_passing.new.source) c.in-Err.ensures.finds in
+    let P : List Piece → Type 0 =
+    Taken w c.loop-count.holding c.loop-count.place old kept heard hear in
+    let lost = passing-lost c.in-Err.fault c.loop-count.buffer c.find_piece_passing.new.self b d
+    (g.S.Source.failed c.loop-count.source) (g.S.Source.failed c.find_piece_passing.new.source)
+    c.in-Err.ensures.finds in
     left-first w a d was.0 lost.0 was.2.pieces
     (is_in_step c.loop-count.buffer) (held c.loop-count.buffer)
     (Consumes-trans a b d was.0 lost.0 was.1 lost.1)
     (read-leads P c.loop-count.buffer was.0 c.loop-count.count was.2)
     old mid c.in-Err.fault
-    (find-fault c.in-Err.fault c.loop-count.buffer c.find_piece_passing.new.self b d
-    (g.S.Source.failed c.loop-count.source) (g.S.Source.failed c.find_piece_passing.new.source) c.in-Err.ensures.finds)
+    (passing-faults c.in-Err.fault c.loop-count.buffer c.find_piece_passing.new.self b d
+    (g.S.Source.failed c.loop-count.source) (g.S.Source.failed c.find_piece_passing.new.source)
+    c.in-Err.ensures.finds)
     (part_whole old mid (written_first w.at (areas_in w (packets_of was.2.pieces)))
     (Appends-kept old kept mid (written_first w.at (areas_in w (packets_of was.2.pieces)))
     was.2.gives.wrote c.in-Err.ensures.same))
@@ -214,28 +226,32 @@ returns-clause-leaves g c =
     let heard = g.L.Listener.heard c.args.listener.now in
     let hear = g.L.Listener.heard c.loop-count.listener in
     let was = c.loop-count.invariant.read in
-    let P : List Piece → Type 0 = Taken w c.loop-count.holding c.loop-count.place old mid heard hear in
+    let P : List Piece → Type 0 =
+    Taken w c.loop-count.holding c.loop-count.place old mid heard hear in
     left-first w a b was.0 [] was.2.pieces
     (is_in_step c.loop-count.buffer) (held c.loop-count.buffer)
     (nothing-behind a b was.0 was.1)
     (read-leads P c.loop-count.buffer was.0 c.loop-count.count was.2)
-    old mid tool.Read (inl refl)
-    (part_whole old mid (written_first w.at (areas_in w (packets_of was.2.pieces))) was.2.gives.wrote)
+    old mid faults.Read (inl refl)
+    (part_whole old mid (written_first w.at (areas_in w (packets_of was.2.pieces)))
+    was.2.gives.wrote)
 
-pub returns-clause-read : goal.returns-clause-read
-returns-clause-read g c =
+pub returns-clause-reader : goal.returns-clause-reader
+returns-clause-reader g c =
     let was = c.loop-count.invariant.read in
     let most : c.loop-count.count ≡ 18446744073709551615 =
     grind (arith, c.loop-count.auto.count-end, c.loop-count-test.false) in
-    λ e. inr (
+    inr (
       was.0,
       was.2.pieces,
       is_in_step c.loop-count.buffer,
       held c.loop-count.buffer,
       was.1,
-      read-leads (Taken c.args.wanted.now c.loop-count.holding c.loop-count.place (g.K.Sink.contents c.args.out.now)
+      read-leads (Taken c.args.wanted.now c.loop-count.holding c.loop-count.place
+          (g.K.Sink.contents c.args.out.now)
           (g.K.Sink.contents c.loop-count.out) (g.L.Listener.heard c.args.listener.now)
-          (g.L.Listener.heard c.loop-count.listener)) c.loop-count.buffer was.0 c.loop-count.count was.2,
+          (g.L.Listener.heard c.loop-count.listener)) c.loop-count.buffer was.0 c.loop-count.count
+          was.2,
       was.2.count_is ∙ most,
     )
 
@@ -258,9 +274,12 @@ returns-in-Err-take_piece-clause-leaves g c =
     (g.S.Source.failed c.loop-count.source) (g.S.Source.failed c.find_piece_passing.new.source))
     c.in-Ok-Some.field-0-is c.in-Ok-Some.ensures.finds in
     let was = c.loop-count.invariant.read in
-    let P : List Piece → Type 0 = Taken w c.loop-count.holding c.loop-count.place old kept heard hear in
-    let read = read-more P c.loop-count.buffer now b d was.0 found.0 c.loop-count.count was.2 found.1 in
-    let gives = taken-kept w c.loop-count.holding c.loop-count.place old kept mid heard hear read.pieces read.gives
+    let P : List Piece → Type 0 =
+    Taken w c.loop-count.holding c.loop-count.place old kept heard hear in
+    let read = read-more P c.loop-count.buffer now b d was.0 found.0 c.loop-count.count was.2
+    found.1 in
+    let gives = taken-kept w c.loop-count.holding c.loop-count.place old kept mid heard hear
+    read.pieces read.gives
     c.in-Ok-Some.ensures.same in
     let p = found_piece now f in
     let same : take f.len (c.held.result.now) ≡ p.octets = ap (take f.len) c.held.ensures in
@@ -271,5 +290,54 @@ returns-in-Err-take_piece-clause-leaves g c =
     (read-front P now f (was.0 ++ found.0) c.loop-count.count read found.2)
     old new c.in-Err-take_piece.fault (inr c.in-Err-take_piece.ensures.fault)
     (part-next w c.loop-count.holding c.loop-count.place old mid new heard hear read.pieces p gives
-    (subst (λ o. AppendsPart mid new (written_first w.at (areas_in w (packet_before f.kind o [])))) same
+    (subst (λ o. AppendsPart mid new (written_first w.at (areas_in w (packet_before f.kind o []))))
+    same
     c.in-Err-take_piece.ensures.part))
+
+-- ---- the reader and the writer
+
+pub returns-in-Ok-None-clause-reader : goal.returns-in-Ok-None-clause-reader
+returns-in-Ok-None-clause-reader g c =
+    let found = subst (λ (f : Option Found). FindsPassing (Ok f) c.loop-count.buffer
+    c.find_piece_passing.new.self
+    (g.S.Source.remaining c.loop-count.source)
+    (g.S.Source.remaining c.find_piece_passing.new.source)
+    (g.S.Source.failed c.loop-count.source) (g.S.Source.failed c.find_piece_passing.new.source))
+    c.in-Ok-None.field-0-is c.in-Ok-None.ensures.finds in
+    reader-all _ c.end_extract.result _ _ c.end_extract.ensures.fault
+    (found.4 ∙ c.loop-count.invariant.reader)
+
+pub returns-in-Ok-None-clause-writer : goal.returns-in-Ok-None-clause-writer
+returns-in-Ok-None-clause-writer g c =
+    writer-all c.end_extract.result _ _ _ c.end_extract.ensures.writer
+    (c.in-Ok-None.ensures.writer ∙ c.loop-count.invariant.writer)
+
+pub returns-in-Err-clause-reader : goal.returns-in-Err-clause-reader
+returns-in-Err-clause-reader g c =
+    reader-after _ c.in-Err.fault _ _ _
+    (passing-reader _ c.in-Err.fault _ _ _ _ _ _ c.in-Err.ensures.finds)
+    c.loop-count.invariant.reader
+
+pub returns-in-Err-clause-writer : goal.returns-in-Err-clause-writer
+returns-in-Err-clause-writer g c =
+    writer-after c.in-Err.fault _ _ _ c.in-Err.ensures.writer c.loop-count.invariant.writer
+
+pub returns-in-Err-take_piece-clause-reader : goal.returns-in-Err-take_piece-clause-reader
+returns-in-Err-take_piece-clause-reader g c =
+    let found = subst (λ (f : Option Found). FindsPassing (Ok f) c.loop-count.buffer
+    c.find_piece_passing.new.self
+    (g.S.Source.remaining c.loop-count.source)
+    (g.S.Source.remaining c.find_piece_passing.new.source)
+    (g.S.Source.failed c.loop-count.source) (g.S.Source.failed c.find_piece_passing.new.source))
+    c.in-Ok-Some.field-0-is c.in-Ok-Some.ensures.finds in
+    reader-kept _ c.in-Err-take_piece.fault _ _
+    (other-fault c.in-Err-take_piece.fault c.in-Err-take_piece.ensures.fault)
+    (found.3 ∙ c.loop-count.invariant.reader)
+
+pub returns-in-Err-take_piece-clause-writer : goal.returns-in-Err-take_piece-clause-writer
+returns-in-Err-take_piece-clause-writer g c =
+    writer-after c.in-Err-take_piece.fault _ _ _ c.in-Err-take_piece.ensures.writer
+    (c.in-Ok-Some.ensures.writer ∙ c.loop-count.invariant.writer)
+
+pub returns-clause-writer : goal.returns-clause-writer
+returns-clause-writer g c = c.loop-count.invariant.writer

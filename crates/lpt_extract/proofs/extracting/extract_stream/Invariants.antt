@@ -13,6 +13,6 @@ invariant-loop-count g l = record {
       × IsRead (Taken l.wanted l.holding l.place (g.K.Sink.contents l.fn.out) (g.K.Sink.contents l.out)
       (g.L.Listener.heard l.fn.listener) (g.L.Listener.heard l.listener)) l.buffer stream l.count;
   ended : is_ended l.buffer ≡ true → IsAtEnd (g.S.Source.remaining l.source);
-  heard : g.S.Source.failed l.source ≡ g.S.Source.failed l.fn.source;
-  told : g.K.Sink.failed l.out ≡ g.K.Sink.failed l.fn.out;
+  reader : g.S.Source.failed l.source ≡ g.S.Source.failed l.fn.source;
+  writer : g.K.Sink.failed l.out ≡ g.K.Sink.failed l.fn.out;
 }

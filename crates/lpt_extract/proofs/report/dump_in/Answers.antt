@@ -3,7 +3,8 @@ use Rattle.std.proofs.Common.{◌∙◌, arith}
 use Rattle.lpt_packet.specs.declared.packet.Seen.TheVariants as seen_as
 use Rattle.lpt_packet.specs.Numbers.{IsOctets}
 use Rattle.lpt_packet.specs.Packets.{fields}
-use Rattle.lpt_extract.proofs.SeenLemmas.{seen-read, seen-unread, dump-none, dump-idle, dump-packet}
+use Rattle.lpt_stream.proofs.StreamLemmas.{seen-read, seen-unread}
+use Rattle.lpt_extract.proofs.SeenLemmas.{dump-none, dump-idle, dump-packet}
 use Rattle.lpt_extract.proofs.report.dump_in.Goals as goal
 
 pub returns-in-Ok-Packet : goal.returns-in-Ok-Packet

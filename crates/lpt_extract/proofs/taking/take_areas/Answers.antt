@@ -1,8 +1,9 @@
 -- An area more was taken, or a front part of it was written.
-use Rattle.std.proofs.Common.{◌≡◌, ◌∙◌, ap, sym, subst, rules, arith, ◌+◌, ◌++◌, ◌∷◌, [], take, drop}
+use Rattle.std.proofs.Common.{◌≡◌, ◌∙◌, ap, sym, subst, arith, ◌+◌, ◌++◌, ◌∷◌, [], take, drop}
 use Rattle.std.proofs.lemmas.List.{take_all}
 use Rattle.std.specs.Io.KnownBytes.{Appends}
 use Rattle.lpt_text.specs.Streams.{AppendsPart}
+use Rattle.lpt_stream.proofs.EndLemmas.{writer-after}
 use Rattle.lpt_extract.specs.Extracts.{written_first}
 use Rattle.lpt_extract.specs.ExtractsInside.{given, told_of}
 use Rattle.lpt_extract.specs.Notices.{Hears}
@@ -26,6 +27,10 @@ returns-in-Err-clause-part g c =
     (subst (λ areas. AppendsPart old new (written_first at areas)) more
     (part-more at old mid new (given (take i xs)) (given (x ∷ []))
     c.loop-seen.invariant.wrote c.in-Err.ensures.part)))
+
+pub returns-in-Err-clause-writer : goal.returns-in-Err-clause-writer
+returns-in-Err-clause-writer g c =
+    writer-after c.in-Err.fault _ _ _ c.in-Err.ensures.writer c.loop-seen.invariant.writer
 
 pub loop-seen-preserved : goal.loop-seen-preserved
 loop-seen-preserved g c =
@@ -56,7 +61,7 @@ loop-seen-preserved g c =
           (hears-more (g.L.Listener.heard c.args.listener.now) (g.L.Listener.heard c.loop-seen.listener)
           (g.L.Listener.heard c.take_area.new.listener) (told_of m n (take i xs)) (told_of m n (x ∷ []))
           c.loop-seen.invariant.heard c.in-Ok.ensures.heard);
-      told = search rules;
+      writer = c.in-Ok.ensures.writer ∙ c.loop-seen.invariant.writer;
     }
 
 pub returns-clause-held : goal.returns-clause-held

@@ -17,5 +17,5 @@ invariant-loop-seen g l = record {
       (written_first l.wanted.at (given (take l.seen-index l.areas)));
   heard : Hears (g.L.Listener.heard l.fn.listener) (g.L.Listener.heard l.listener)
       (told_of l.memory l.place (take l.seen-index l.areas));
-  told : g.K.Sink.failed l.out ≡ g.K.Sink.failed l.fn.out;
+  writer : g.K.Sink.failed l.out ≡ g.K.Sink.failed l.fn.out;
 }

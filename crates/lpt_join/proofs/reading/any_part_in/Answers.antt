@@ -7,7 +7,8 @@ use Rattle.lpt_events.specs.Arrivals.{packet_arrival}
 use Rattle.lpt_packet.specs.declared.direction.Direction.{Direction}
 use Rattle.lpt_events.specs.Sides.{receiver_side}
 use Rattle.lpt_join.specs.Offers.{piece_of}
-use Rattle.lpt_join.proofs.ReadLemmas.{none-unread, seen-read, none-idle, none-foreign, piece-packet}
+use Rattle.lpt_stream.proofs.StreamLemmas.{seen-read}
+use Rattle.lpt_join.proofs.ReadLemmas.{none-unread, none-idle, none-foreign, piece-packet}
 use Rattle.lpt_join.proofs.reading.any_part_in.Goals as goal
 
 pub returns-in-Err-clause-part : goal.returns-in-Err-clause-part

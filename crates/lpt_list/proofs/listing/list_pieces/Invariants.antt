@@ -8,8 +8,8 @@ invariant-loop-place g l = record {
   at : IsAt l.form l.p l.from l.strict (g.S.Source.remaining l.fn.source) (g.S.Source.remaining l.source)
       (g.K.Sink.contents l.fn.out) (g.K.Sink.contents l.out) l.buffer l.place l.in_step l.tally;
   fits : l.tally.damaged + l.tally.stray ≤ l.place;
-  heard : g.S.Source.failed l.source ≡ g.S.Source.failed l.fn.source;
-  told : g.K.Sink.failed l.out ≡ g.K.Sink.failed l.fn.out;
+  reader : g.S.Source.failed l.source ≡ g.S.Source.failed l.fn.source;
+  writer : g.K.Sink.failed l.out ≡ g.K.Sink.failed l.fn.out;
 }
 
 -- each piece brings the last place nearer

@@ -8,5 +8,5 @@ returns-in-Err-flush_out-clause-ends g c =
     (g.S.Source.remaining c.args.reader.now) (g.S.Source.remaining c.lint_lines.new.reader)
     (g.K.Sink.contents c.args.out.now) (g.K.Sink.contents c.lint_lines.new.out)
     (g.K.Sink.contents c.flush_out.new.out) (g.S.Source.failed c.lint_lines.new.reader)
-    (g.K.Sink.failed c.lint_lines.new.out) (g.K.Sink.failed c.flush_out.new.out)
-    c.in-Ok.ensures.ends c.flush_out.ensures.same c.in-Err-flush_out.ensures.fault
+    (g.K.Sink.failed c.lint_lines.new.out) (g.K.Sink.failed c.lint_lines.new.out) (g.K.Sink.failed c.flush_out.new.out)
+    c.in-Ok.ensures.ends c.flush_out.ensures.same c.in-Err-flush_out.ensures.fault c.in-Err-flush_out.ensures.writer

@@ -5,5 +5,7 @@ use Rattle.lpt_script_shell.proofs.shell.run_shell.Goals as goal
 -- no memory for the world
 pub returns-in-Err-Memory-clause-ends : goal.returns-in-Err-Memory-clause-ends
 returns-in-Err-Memory-clause-ends g c =
-    session_unmade c.args.prompt.now (new_world c.args.config c.args.memories) (g.S.Source.remaining c.args.reader.now)
-    (g.K.Sink.contents c.args.out.now) (g.S.Source.failed c.args.reader.now) (g.K.Sink.failed c.args.out.now)
+    session_unmade c.args.prompt.now (new_world c.args.config c.args.memories)
+    (g.S.Source.remaining c.args.reader.now)
+    (g.K.Sink.contents c.args.out.now) (g.S.Source.failed c.args.reader.now)
+    (g.K.Sink.failed c.args.out.now)

@@ -6,6 +6,7 @@ use Rattle.lpt_text.specs.Streams.{AppendsPart}
 use Rattle.lpt_split.specs.FormsInside.{packet_in}
 use Rattle.lpt_split.specs.Splits.{next_count}
 use Rattle.lpt_split.proofs.WriteLemmas.{wrote-more, wrote-part, wrote-part-more, packet_at, octets-next, numbers-next}
+use Rattle.lpt_stream.proofs.EndLemmas.{writer-after}
 use Rattle.lpt_split.proofs.splitting.write_parts.Goals as goal
 
 -- memory runs out for a packet
@@ -49,5 +50,9 @@ loop-number-preserved g c =
       written = wrote-more _ _ _ (packet_in c.args.form config.clock (packet_at c.args.form config d c.args.name m ns i count)) _ _ _
           c.loop-number.invariant.written next
           (subst (λ b. Appends (g.K.Sink.contents c.loop-number.out) (g.K.Sink.contents c.write_packet.new.out) (packet_in c.args.form config.clock b)) is all);
-      told = c.in-Ok-write_packet.ensures.told ∙ c.loop-number.invariant.told;
+      writer = c.in-Ok-write_packet.ensures.writer ∙ c.loop-number.invariant.writer;
     }
+
+pub returns-in-Err-clause-writer : goal.returns-in-Err-clause-writer
+returns-in-Err-clause-writer g c =
+    writer-after c.in-Err.fault _ _ _ c.in-Err.ensures.writer c.loop-number.invariant.writer

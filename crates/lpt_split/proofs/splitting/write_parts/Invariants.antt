@@ -15,5 +15,5 @@ invariant-loop-number g l = record {
       (split_of l.config l.direction l.name l.message l.count (drop l.number-index l.numbers))
       ≡ packets_in l.form l.config.clock
       (split_of l.config l.direction l.name l.message l.first l.numbers));
-  told : g.K.Sink.failed l.out ≡ g.K.Sink.failed l.fn.out;
+  writer : g.K.Sink.failed l.out ≡ g.K.Sink.failed l.fn.out;
 }

@@ -1,9 +1,10 @@
 -- A front part of the record was written.
 use Rattle.std.proofs.Common.{◌≡◌, ◌∙◌, ap, subst, rules, length}
 use Rattle.std.specs.Io.KnownBytes.{Appends}
-use Rattle.lpt_stream.specs.Captures.{record_header}
+use Rattle.lpt_capture.specs.Captures.{record_header}
 use Rattle.lpt_text.specs.Streams.{AppendsPart}
 use Rattle.lpt_text.proofs.StreamLemmas.{part_after, part_of_front}
+use Rattle.lpt_stream.proofs.EndLemmas.{writer-after}
 use Rattle.lpt_split.proofs.splitting.write_record.Goals as goal
 
 pub returns-in-Err-clause-part : goal.returns-in-Err-clause-part
@@ -24,3 +25,7 @@ returns-in-Err-write_out-clause-part g c =
     let head = c.record_header.ensures ∙ ap (record_header c.args.time) size in
     part_after old mid new (record_header c.args.time (length c.args.packet.now)) c.args.packet.now
     (subst (Appends old mid) head c.in-Ok-write_out.ensures.ok) c.in-Err-write_out.ensures.part
+
+pub returns-in-Err-write_out-clause-writer : goal.returns-in-Err-write_out-clause-writer
+returns-in-Err-write_out-clause-writer g c =
+    writer-after c.in-Err-write_out.fault _ _ _ c.in-Err-write_out.ensures.writer c.in-Ok-write_out.ensures.writer

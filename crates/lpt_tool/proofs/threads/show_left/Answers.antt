@@ -5,7 +5,6 @@ use Rattle.lpt_events.specs.declared.entry.Release.{Release}
 use Rattle.lpt_events.specs.declared.config.Config.{Config}
 use Rattle.lpt_tool.specs.Summary.{IsSummary}
 use Rattle.lpt_script.proofs.GrowthLemmas.{grows_on}
-use Rattle.lpt_script.specs.Scripts.{show_text}
 use Rattle.lpt_tool.proofs.SummaryLemmas.{text_grows, text_only}
 use Rattle.lpt_tool.proofs.ThreadLemmas.{left_shown}
 use Rattle.lpt_tool.specs.Ends.{shown_text}

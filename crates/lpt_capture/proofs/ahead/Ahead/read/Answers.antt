@@ -15,9 +15,12 @@ returns-clause-bytes g c =
     let front : copied ≡ take n had = c.copy_from_slice.ensures.after ∙ ap (take n) seen in
     let given : take n (copied ++ drop n c.args.buf.now) ≡ take n had =
     copied-front had c.args.buf.now copied n front least in (
-      subst (λ s. Consumes (known g.S.Source.remaining c.args.self.now) (prepend_known (held c.skip.new.self) (g.S.Source.remaining s)) (take n (copied ++ drop n c.args.buf.now)))
+      subst (λ s. Consumes (known g.S.Source.remaining c.args.self.now)
+          (prepend_known (held c.skip.new.self) (g.S.Source.remaining s))
+          (take n (copied ++ drop n c.args.buf.now)))
           (sym c.skip.ensures.source)
           (known-given _ had (held c.skip.new.self) _ n given c.skip.ensures.held),
       λ zero room. absurd (none-given had c.args.buf.now copied n c.copy_from_slice.ensures.len
-          (search rules) (c.min-n.ensures ∙ ap (λ xs. min (length xs) (length c.args.buf.now)) seen) zero room),
+          (search rules) (c.min-n.ensures
+          ∙ ap (λ xs. min (length xs) (length c.args.buf.now)) seen) zero room),
     )

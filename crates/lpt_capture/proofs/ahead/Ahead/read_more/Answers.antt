@@ -8,7 +8,14 @@ use Rattle.lpt_capture.proofs.ahead.Ahead.read_more.Goals as goal
 pub invariant_of-self-2 : goal.invariant_of-self-2
 invariant_of-self-2 g c =
     let fits : c.args.self.now.have + c.in_ok-n.n ≤ 24 =
-    omega (arith, length-take {A = ℕ}, c.in_ok-n.ensures.bound, c.read.auto.buf, c.args.self.now.within, c.requires.most) in
+    omega (
+      arith,
+      length-take {A = ℕ},
+      c.in_ok-n.ensures.bound,
+      c.read.auto.buf,
+      c.args.self.now.within,
+      c.requires.most,
+    ) in
     record { within = fits }
 
 pub returns-clause-same : goal.returns-clause-same
@@ -23,5 +30,6 @@ returns-clause-same g c =
     ap length came ∙ (let cut = length-take n buf in omega (arith, cut, c.in_ok-n.ensures.bound)) in
     let most : kept ≤ length octets = search rules in
     known-more _ _ _ (take n buf) _ c.in_ok-n.ensures.bytes.0
-    (take-put_mid kept (kept + n - kept) octets c.copy_from_slice.new.self (kept + n) (omega (arith, size)) most
+    (take-put_mid kept (kept + n - kept) octets c.copy_from_slice.new.self (kept + n)
+    (omega (arith, size)) most
     ∙ ap (λ xs. take kept octets ++ xs) came)

@@ -1,52 +1,37 @@
--- By the name of which the packet carries a part.
-use Rattle.std.proofs.Common.{◌∙◌, ap, sym, subst}
+-- By the name of which it is a part.
+use Rattle.std.proofs.Common.{◌∙◌, ap, sym, subst, Some, None}
+use Rattle.std.specs.Option.{option_map}
 use Rattle.lpt_part.specs.Parts.{piece}
-use Rattle.lpt_join.specs.Offers.{offered, part_of_piece}
+use Rattle.lpt_join.specs.Offers.{part_of_piece}
 use Rattle.lpt_join.specs.declared.transaction.Transaction.{Transaction}
 use Rattle.lpt_join.specs.Several.{of_name}
+use Rattle.lpt_join.proofs.SeveralLemmas.{named-name, offered-named}
 use Rattle.lpt_each.specs.Eaches.{held, step}
-use Rattle.lpt_each.specs.Helds.{Holds}
-use Rattle.lpt_each.proofs.HeldsLemmas.{each-none, each-part, no_part_of, told-none}
+use Rattle.lpt_each.specs.Helds.{Holds, news_of}
+use Rattle.lpt_each.proofs.HeldsLemmas.{each-part, told-part}
 use Rattle.lpt_each.proofs.helds.Helds.take.Goals as goal
-
--- no part of any
-pub returns-in_default-clause-held : goal.returns-in_default-clause-held
-returns-in_default-clause-held c = λ bs h.
-    each-none c.args.transaction.now c.args.any bs c.args.octets.now c.args.self c.in_default.ensures h
-
-pub returns-in_default-clause-told : goal.returns-in_default-clause-told
-returns-in_default-clause-told c = λ bs h.
-    told-none c.args.transaction.now c.args.any bs c.args.octets.now c.in_default.ensures
-
--- a part of one is read again
-pub returns-in_default-part_in-clause-held : goal.returns-in_default-part_in-clause-held
-returns-in_default-part_in-clause-held c = λ bs h.
-    absurd (no_part_of c.args.transaction.now c.in-Some.name c.args.octets.now c.in-Some.ensures
-    (c.in_default-part_in.ensures.part
-    ∙ ap (λ (t : Transaction). offered t c.args.octets.now) c.of_name-own.ensures))
 
 -- what was kept of it
 pub take-requires-clause-held : goal.take-requires-clause-held
 take-requires-clause-held c =
     let t = c.args.transaction.now in
-    let bs = c.requires.0 in
-    let name = c.in-Some.name in (
+    let bs = c.requires.each.0 in
+    let name = c.args.name in (
       held (of_name t name) c.args.any bs,
       subst (λ (own : Transaction). Holds own c.take_out-held.result (held (of_name t name) c.args.any bs))
-          (sym c.of_name-own.ensures) (c.take_out-held.ensures.given t c.args.any bs c.requires.1),
+          (sym c.of_name-own.ensures) (c.take_out-held.ensures.given t c.args.any bs c.requires.each.1),
     )
 
 -- and is now: nothing is told, or something
 pub returns-in-None-clause-held : goal.returns-in-None-clause-held
-returns-in-None-clause-held c = λ bs h.
+returns-in-None-clause-held c = λ bs octets h some.
     let t = c.args.transaction.now in
-    let name = c.in-Some.name in
-    let part = c.in-Some-part_in.part in
-    let x = part_of_piece (piece part) in
+    let name = c.args.name in
+    let p = piece c.args.part.now in
+    let x = part_of_piece p in
     let before = held (of_name t name) c.args.any bs in
-    each-part t c.args.any bs c.args.octets.now name c.in-Some.ensures x
-    (c.in-Some-part_in.ensures.part
-    ∙ ap (λ (own : Transaction). offered own c.args.octets.now) c.of_name-own.ensures)
+    each-part t c.args.any bs octets name (named-name t name p octets c.requires.id some) x
+    (offered-named t name p octets c.requires.id some)
     c.args.self c.put.new.self c.in_ok-held.held
     (λ n other. c.in_ok-put.ensures.others n other ∙ c.take_out-held.ensures.others n other)
     c.in_ok-put.ensures.kept c.in_ok-put.ensures.in_order
@@ -56,16 +41,15 @@ returns-in-None-clause-held c = λ bs h.
     (c.take_out-held.ensures.given t c.args.any bs h))))
     h
 
-pub returns-in-Some-news-clause-held : goal.returns-in-Some-news-clause-held
-returns-in-Some-news-clause-held c = λ bs h.
+pub returns-in-Some-clause-held : goal.returns-in-Some-clause-held
+returns-in-Some-clause-held c = λ bs octets h some.
     let t = c.args.transaction.now in
-    let name = c.in-Some.name in
-    let part = c.in-Some-part_in.part in
-    let x = part_of_piece (piece part) in
+    let name = c.args.name in
+    let p = piece c.args.part.now in
+    let x = part_of_piece p in
     let before = held (of_name t name) c.args.any bs in
-    each-part t c.args.any bs c.args.octets.now name c.in-Some.ensures x
-    (c.in-Some-part_in.ensures.part
-    ∙ ap (λ (own : Transaction). offered own c.args.octets.now) c.of_name-own.ensures)
+    each-part t c.args.any bs octets name (named-name t name p octets c.requires.id some) x
+    (offered-named t name p octets c.requires.id some)
     c.args.self c.put.new.self c.in_ok-held.held
     (λ n other. c.in_ok-put.ensures.others n other ∙ c.take_out-held.ensures.others n other)
     c.in_ok-put.ensures.kept c.in_ok-put.ensures.in_order
@@ -74,3 +58,33 @@ returns-in-Some-news-clause-held c = λ bs h.
     (subst (λ (own : Transaction). Holds own c.take_out-held.result before) (sym c.of_name-own.ensures)
     (c.take_out-held.ensures.given t c.args.any bs h))))
     h
+
+pub returns-in-None-clause-told : goal.returns-in-None-clause-told
+returns-in-None-clause-told c = λ bs octets h some.
+    let t = c.args.transaction.now in
+    let name = c.args.name in
+    let p = piece c.args.part.now in
+    let x = part_of_piece p in
+    let before = held (of_name t name) c.args.any bs in
+    told-part t c.args.any bs octets name (named-name t name p octets c.requires.id some) x
+    (offered-named t name p octets c.requires.id some) None
+    (sym (ap (option_map news_of) c.in-None.is)
+    ∙ c.in_ok-held.ensures.told before
+    (subst (λ (own : Transaction). Holds own c.take_out-held.result before) (sym c.of_name-own.ensures)
+    (c.take_out-held.ensures.given t c.args.any bs h))
+    ∙ ap (λ (own : Transaction). (step own c.args.any before x).1) c.of_name-own.ensures)
+
+pub returns-in-Some-clause-told : goal.returns-in-Some-clause-told
+returns-in-Some-clause-told c = λ bs octets h some.
+    let t = c.args.transaction.now in
+    let name = c.args.name in
+    let p = piece c.args.part.now in
+    let x = part_of_piece p in
+    let before = held (of_name t name) c.args.any bs in
+    told-part t c.args.any bs octets name (named-name t name p octets c.requires.id some) x
+    (offered-named t name p octets c.requires.id some) (Some c.in-Some.news)
+    (sym (ap (option_map news_of) c.in-Some.is)
+    ∙ c.in_ok-held.ensures.told before
+    (subst (λ (own : Transaction). Holds own c.take_out-held.result before) (sym c.of_name-own.ensures)
+    (c.take_out-held.ensures.given t c.args.any bs h))
+    ∙ ap (λ (own : Transaction). (step own c.args.any before x).1) c.of_name-own.ensures)

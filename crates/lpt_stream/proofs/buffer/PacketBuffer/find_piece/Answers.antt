@@ -48,7 +48,8 @@ loop-found-preserved g c = record {
   );
   judged = λ e.
       judged-more c.loop-found.self c.fill.new.self (g.S.Source.remaining c.loop-found.source)
-      (g.S.Source.remaining c.fill.new.source) c.in-Ok.ensures.0 c.is_framed-is_judged.result c.in-Ok.ensures.1
+      (g.S.Source.remaining c.fill.new.source) c.in-Ok.ensures.0 c.is_framed-is_judged.result
+      c.in-Ok.ensures.1
       (c.in-None.ensures.none refl) c.is_framed-is_judged.ensures e;
   told = c.in-Ok.ensures.2 ∙ c.loop-found.invariant.told;
 }

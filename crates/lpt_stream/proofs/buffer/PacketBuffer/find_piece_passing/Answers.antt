@@ -44,21 +44,24 @@ loop-found-preserved g c = record {
     c.loop-found.invariant.goes.0 ++ c.in-Ok-fill.ensures.0,
     goes-more c.args.self.now c.loop-found.self c.fill.new.self
         (g.S.Source.remaining c.args.source.now) (g.S.Source.remaining c.loop-found.source)
-        (g.S.Source.remaining c.fill.new.source) c.loop-found.invariant.goes.0 c.in-Ok-fill.ensures.0
+        (g.S.Source.remaining c.fill.new.source) c.loop-found.invariant.goes.0
+        c.in-Ok-fill.ensures.0
         c.if-self.false c.loop-found.invariant.goes.1 c.in-Ok-fill.ensures.1 c.in-Ok-fill.ensures.4,
     asked-more c.args.self.now c.loop-found.self (g.S.Source.remaining c.args.source.now)
-        (g.S.Source.remaining c.loop-found.source) c.loop-found.invariant.goes.0 c.in-Ok-fill.ensures.0
+        (g.S.Source.remaining c.loop-found.source) c.loop-found.invariant.goes.0
+        c.in-Ok-fill.ensures.0
         c.loop-found.invariant.goes.1 (c.in-None.ensures.none refl) c.in-Ok-fill.ensures.3,
   );
   judged = λ e.
       judged-more c.loop-found.self c.fill.new.self (g.S.Source.remaining c.loop-found.source)
-      (g.S.Source.remaining c.fill.new.source) c.in-Ok-fill.ensures.0 c.is_framed-is_judged.result c.in-Ok-fill.ensures.1
+      (g.S.Source.remaining c.fill.new.source) c.in-Ok-fill.ensures.0 c.is_framed-is_judged.result
+      c.in-Ok-fill.ensures.1
       (c.in-None.ensures.none refl) c.is_framed-is_judged.ensures e;
   told = c.in-Ok-fill.ensures.2 ∙ c.loop-found.invariant.told;
   same = Keeps-trans (g.K.Sink.contents c.args.out.now) (g.K.Sink.contents c.loop-found.out)
       (g.K.Sink.contents c.flush_out.new.out) c.loop-found.invariant.same c.in-Ok.ensures.same;
   passed = inr c.in-Ok.ensures.all;
-  written = c.in-Ok.ensures.told ∙ c.loop-found.invariant.written;
+  written = c.in-Ok.ensures.writer ∙ c.loop-found.invariant.written;
 }
 
 -- a read failed, or memory ran out, before a piece was shown

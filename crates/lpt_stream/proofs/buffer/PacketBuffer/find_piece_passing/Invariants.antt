@@ -13,7 +13,7 @@ invariant-loop-found g l = record {
   judged : l.is_judged ≡ true → begins (is_in_step l.self) (take lookahead (held l.self)) ≡ false;
   told : g.S.Source.failed l.source ≡ g.S.Source.failed l.fn.source;
   same : Keeps (g.K.Sink.contents l.fn.out) (g.K.Sink.contents l.out);
-  passed : (l.source ≡ l.fn.source) ⊎ (g.K.Sink.passed l.out ≡ g.K.Sink.contents l.out);
+  passed : (l.source ≡ l.fn.source) ⊎ (g.K.Sink.flushed l.out ≡ g.K.Sink.contents l.out);
   written : g.K.Sink.failed l.out ≡ g.K.Sink.failed l.fn.out;
 }
 

@@ -13,26 +13,31 @@ returns-in-Some-clause-some c =
     packet_settled c.args.self.now _ c.in-Some.len
     (near_held b o c.min.result c.held-octets.ensures c.min.ensures)
     (some_held b o c.held-octets.ensures c.if-is_empty.ensures)
-    c.in-Some.ensures.least c.in-Some.ensures.some.0 c.in-Some.ensures.some.1 c.in-Some.ensures.some.2
+    c.in-Some.ensures.least c.in-Some.ensures.some.0 c.in-Some.ensures.some.1
+    c.in-Some.ensures.some.2
 
 -- nothing is held
 pub returns-then-is_empty-clause-none : goal.returns-then-is_empty-clause-none
 returns-then-is_empty-clause-none c =
-    λ none. nothing_held c.args.self.now c.held-octets.result.now c.held-octets.ensures (sym c.if-is_empty.ensures)
+    λ none. nothing_held c.args.self.now c.held-octets.result.now c.held-octets.ensures
+    (sym c.if-is_empty.ensures)
 
 -- what is judged is what is looked at
 pub packet_unless-requires : goal.packet_unless-requires
 packet_unless-requires c =
     λ judged. ap (begins c.args.self.now.in_step)
-    (near_held (held c.args.self.now) c.held-octets.result.now c.min.result c.held-octets.ensures c.min.ensures)
+    (near_held (held c.args.self.now) c.held-octets.result.now c.min.result c.held-octets.ensures
+    c.min.ensures)
     ∙ c.requires judged
 
 -- it waits
 pub returns-then-is_unsettled-clause-none : goal.returns-then-is_unsettled-clause-none
 returns-then-is_unsettled-clause-none c =
     λ none. unsettled c.args.self.now _
-    (near_held (held c.args.self.now) c.held-octets.result.now c.min.result c.held-octets.ensures c.min.ensures)
-    (c.is_unsettled.ensures.waits c.if-is_unsettled.true).0 (c.is_unsettled.ensures.waits c.if-is_unsettled.true).1
+    (near_held (held c.args.self.now) c.held-octets.result.now c.min.result c.held-octets.ensures
+    c.min.ensures)
+    (c.is_unsettled.ensures.waits c.if-is_unsettled.true).0
+    (c.is_unsettled.ensures.waits c.if-is_unsettled.true).1
     (c.in-None.ensures.none refl) (c.is_unsettled.ensures.waits c.if-is_unsettled.true).2
 
 -- something else
@@ -44,5 +49,6 @@ returns-clause-some c =
     (near_held b o c.min.result c.held-octets.ensures c.min.ensures)
     (some_held b o c.held-octets.ensures c.if-is_empty.ensures)
     c.other_in_front.ensures.least
-    (c.is_unsettled.ensures.shows c.if-is_unsettled.false) c.other_in_front.ensures.kind c.other_in_front.ensures.len
+    (c.is_unsettled.ensures.shows c.if-is_unsettled.false) c.other_in_front.ensures.kind
+    c.other_in_front.ensures.len
     c.other_in_front.ensures.within

@@ -9,10 +9,12 @@ use Rattle.lpt_text.proofs.lines.LineBuffer.find_line.Goals as goal
 pub returns-in-Some-clause-finds : goal.returns-in-Some-clause-finds
 returns-in-Some-clause-finds g c =
     let text = held c.loop-place.self in
-    let here = line_end-rest c.held.result.now text c.loop-place.searched (Some c.in-Some.place) c.held.ensures c.in-Some.ensures.at in (
+    let here = line_end-rest c.held.result.now text c.loop-place.searched
+    (Some c.in-Some.place) c.held.ensures c.in-Some.ensures.at in (
       c.loop-place.invariant.added.0,
       c.loop-place.invariant.added.1,
-      line_end-from text c.loop-place.searched c.in-Some.place c.loop-place.invariant.within c.loop-place.invariant.none here,
+      line_end-from text c.loop-place.searched c.in-Some.place c.loop-place.invariant.within
+          c.loop-place.invariant.none here,
       grind (arith, common_steps),
       c.loop-place.invariant.told,
     )
@@ -22,7 +24,9 @@ pub returns-then-searched-gt-LONGEST_LINE-clause-finds :
     goal.returns-then-searched-gt-LONGEST_LINE-clause-finds
 returns-then-searched-gt-LONGEST_LINE-clause-finds g c =
     let text = held c.loop-place.self in
-    let here = line_end-rest c.held.result.now text c.loop-place.searched None c.held.ensures c.in-None.ensures.at in (
+    let here =
+    line_end-rest c.held.result.now text c.loop-place.searched None c.held.ensures
+    c.in-None.ensures.at in (
       c.loop-place.invariant.added.0,
       c.loop-place.invariant.added.1,
       line_end-none text c.loop-place.searched c.loop-place.invariant.none here,
@@ -34,16 +38,22 @@ returns-then-searched-gt-LONGEST_LINE-clause-finds g c =
 pub returns-then-not-more-clause-finds : goal.returns-then-not-more-clause-finds
 returns-then-not-more-clause-finds g c =
     let text = held c.loop-place.self in
-    let here = line_end-rest c.held.result.now text c.loop-place.searched None c.held.ensures c.in-None.ensures.at in
+    let here =
+    line_end-rest c.held.result.now text c.loop-place.searched None c.held.ensures
+    c.in-None.ensures.at in
     let a = g.S.Source.remaining c.args.source.now in
     let b = g.S.Source.remaining c.loop-place.source in
     let d = g.S.Source.remaining c.fill.new.source in
     let added = c.loop-place.invariant.added in
-    let ends = subst (λ more. Fills (Ok more) c.loop-place.self c.fill.new.self b d (g.S.Source.failed c.loop-place.source)
-    (g.S.Source.failed c.fill.new.source)) c.if-not-more.true c.in-Ok-fill.ensures in (
+    let ends =
+    subst (λ more. Fills (Ok more) c.loop-place.self c.fill.new.self b d
+    (g.S.Source.failed c.loop-place.source)
+    (g.S.Source.failed c.fill.new.source)) c.if-not-more.true c.in-Ok.ensures in (
       added.0 ++ [],
-      adds-more c.args.self.now c.loop-place.self c.fill.new.self a b d added.0 [] [] added.1 ends.0,
-      ap line_end (ends.0.behind ∙ append-nil text) ∙ line_end-none text c.loop-place.searched c.loop-place.invariant.none here,
+      adds-more c.args.self.now c.loop-place.self c.fill.new.self a b d added.0 [] [] added.1
+          ends.0,
+      ap line_end (ends.0.behind ∙ append-nil text)
+          ∙ line_end-none text c.loop-place.searched c.loop-place.invariant.none here,
       inl ends.1,
       ends.2 ∙ c.loop-place.invariant.told,
     )
@@ -52,35 +62,49 @@ returns-then-not-more-clause-finds g c =
 pub loop-place-preserved : goal.loop-place-preserved
 loop-place-preserved g c =
     let text = held c.loop-place.self in
-    let here = line_end-rest c.held.result.now text c.loop-place.searched None c.held.ensures c.in-None.ensures.at in
+    let here =
+    line_end-rest c.held.result.now text c.loop-place.searched None c.held.ensures
+    c.in-None.ensures.at in
     let a = g.S.Source.remaining c.args.source.now in
     let b = g.S.Source.remaining c.loop-place.source in
     let d = g.S.Source.remaining c.fill.new.source in
     let added = c.loop-place.invariant.added in
-    let more = subst (λ more. Fills (Ok more) c.loop-place.self c.fill.new.self b d (g.S.Source.failed c.loop-place.source)
-    (g.S.Source.failed c.fill.new.source)) c.if-not-more.false c.in-Ok-fill.ensures in
-    let kept = line_end-kept c.held-searched.result.now text more.0 (held c.fill.new.self) c.held-searched.ensures more.1.behind
+    let more =
+    subst (λ more. Fills (Ok more) c.loop-place.self c.fill.new.self b d
+    (g.S.Source.failed c.loop-place.source)
+    (g.S.Source.failed c.fill.new.source)) c.if-not-more.false c.in-Ok.ensures in
+    let kept = line_end-kept c.held-searched.result.now text more.0
+    (held c.fill.new.self) c.held-searched.ensures more.1.behind
     (line_end-none text c.loop-place.searched c.loop-place.invariant.none here) in
     record {
-      added = (added.0 ++ more.0, adds-more c.args.self.now c.loop-place.self c.fill.new.self a b d added.0 more.0 [] added.1 more.1);
+      added = (
+        added.0 ++ more.0,
+        adds-more c.args.self.now c.loop-place.self c.fill.new.self a b d
+            added.0 more.0 [] added.1 more.1,
+      );
       told = more.3 ∙ c.loop-place.invariant.told;
-      same = Keeps-trans (g.K.Sink.contents c.args.out.now) (g.K.Sink.contents c.loop-place.out) (g.K.Sink.contents c.flush_out.new.out)
-          c.loop-place.invariant.same c.in-Ok.ensures.same;
-      passed = inr c.in-Ok.ensures.all;
-      written = c.in-Ok.ensures.told ∙ c.loop-place.invariant.written;
+      same = Keeps-trans (g.K.Sink.contents c.args.out.now) (g.K.Sink.contents c.loop-place.out)
+          (g.K.Sink.contents c.flush_out.new.out)
+          c.loop-place.invariant.same c.in_ok-flush_out.ensures.same;
+      passed = inr c.in_ok-flush_out.ensures.all;
+      written = c.in_ok-flush_out.ensures.writer ∙ c.loop-place.invariant.written;
       within = kept.0;
       none = kept.1;
     }
 
 -- a read failed, or was cut
-pub returns-in-Err-fill-clause-finds : goal.returns-in-Err-fill-clause-finds
-returns-in-Err-fill-clause-finds g c =
+pub returns-in-Err-clause-finds : goal.returns-in-Err-clause-finds
+returns-in-Err-clause-finds g c =
     let text = held c.loop-place.self in
-    let here = line_end-rest c.held.result.now text c.loop-place.searched None c.held.ensures c.in-None.ensures.at in
-    fill-fault c.in-Err-fill.fault c.args.self.now c.loop-place.self c.fill.new.self
-    (g.S.Source.remaining c.args.source.now) (g.S.Source.remaining c.loop-place.source) (g.S.Source.remaining c.fill.new.source)
-    c.loop-place.invariant.added.0 (g.S.Source.failed c.args.source.now) (g.S.Source.failed c.loop-place.source) (g.S.Source.failed c.fill.new.source)
+    let here =
+    line_end-rest c.held.result.now text c.loop-place.searched None c.held.ensures
+    c.in-None.ensures.at in
+    fill-fault c.in-Err.fault c.args.self.now c.loop-place.self c.fill.new.self
+    (g.S.Source.remaining c.args.source.now) (g.S.Source.remaining c.loop-place.source)
+    (g.S.Source.remaining c.fill.new.source)
+    c.loop-place.invariant.added.0 (g.S.Source.failed c.args.source.now)
+    (g.S.Source.failed c.loop-place.source) (g.S.Source.failed c.fill.new.source)
     c.loop-place.invariant.added.1
     (line_end-none text c.loop-place.searched c.loop-place.invariant.none here)
     (grind (arith, common_steps))
-    c.loop-place.invariant.told c.in-Err-fill.ensures
+    c.loop-place.invariant.told c.in-Err.ensures

@@ -10,7 +10,7 @@ invariant-loop-place g l = record {
       (g.S.Source.remaining l.source) read [];
   told : g.S.Source.failed l.source ≡ g.S.Source.failed l.fn.source;
   same : Keeps (g.K.Sink.contents l.fn.out) (g.K.Sink.contents l.out);
-  passed : (l.source ≡ l.fn.source) ⊎ (g.K.Sink.passed l.out ≡ g.K.Sink.contents l.out);
+  passed : (l.source ≡ l.fn.source) ⊎ (g.K.Sink.flushed l.out ≡ g.K.Sink.contents l.out);
   written : g.K.Sink.failed l.out ≡ g.K.Sink.failed l.fn.out;
   within : l.searched ≤ length (held l.self);
   none : line_end (take l.searched (held l.self)) ≡ None;

@@ -1,0 +1,75 @@
+//! Packets carried over a link that loses, from files or standard input to standard output.
+
+use crate::end::{Failure, Status, tell_place};
+use crate::input::{Packets, opened_packets, packets_end};
+use crate::streams::{finish, first_failure, output};
+use lpt_command_line::LinkWords;
+use lpt_lossy::{Counts, Dice, LossyEnd, Odds, lossy_stream};
+use lpt_text::StreamFault;
+
+/// Carries packets over a link that loses, and tells how many were lost, repeated and so on.
+///
+/// Errors: `Read` where the packets can't be opened or read, or their capture is wrong; `Write`,
+/// `Memory`.
+pub fn link(rt: &HostRuntime, words: &LinkWords<'_>) -> Result<Status, Failure> {
+    let mut source = opened_packets(rt, &words.files, None, None)?;
+    let status = carry_packets(rt, words, &mut source);
+    drop(source);
+    status
+}
+
+// The same of packets that were opened.
+fn carry_packets(
+    rt: &HostRuntime,
+    words: &LinkWords<'_>,
+    source: &mut Packets,
+) -> Result<Status, Failure> {
+    let odds = Odds {
+        lose: words.lose,
+        repeat: words.repeat,
+        damage: words.damage,
+        delay: words.delay,
+    };
+    let mut dice = Dice::new(odds, words.seed);
+    let mut out = output(rt)?;
+    let carried = lossy_stream(rt.alloc(), words.delay, &mut dice, source, &mut out);
+    drop(dice);
+    let failed = matches!(carried, Err(StreamFault::Read));
+    let failure = packets_end(rt, source, &words.files, failed);
+    first_failure(finish(rt, out), failure)?;
+    match carried {
+        Ok(end) => Ok(link_status(rt, end)),
+        Err(fault) => Err(Failure::from(fault)),
+    }
+}
+
+// The status of a run that ended so, once it was told how many packets were lost and so on, and where
+// no packet is.
+fn link_status(rt: &HostRuntime, end: LossyEnd) -> Status {
+    tell_counts(rt, &end.counts);
+    match end.stray {
+        None => Status::Done,
+        Some(place) => {
+            if let Ok(text) = format!(in rt.alloc(); "octet {place}: no packet") {
+                tell_place(rt, text.as_str());
+            }
+            Status::Refused
+        }
+    }
+}
+
+// Tells how many packets were lost, repeated and so on.
+fn tell_counts(rt: &HostRuntime, counts: &Counts) {
+    let Counts {
+        lost,
+        repeated,
+        delayed,
+        damaged,
+        passed,
+    } = *counts;
+    if let Ok(text) = format!(in rt.alloc();
+        "lost {lost}, repeated {repeated}, delayed {delayed}, damaged {damaged}, passed {passed}"
+    ) {
+        tell_place(rt, text.as_str());
+    }
+}

@@ -1,0 +1,153 @@
+//! The spacecraft's end, from standard input to standard output.
+
+ghost use Rattle.lpt_events.specs.Configs.{IsConfig};
+ghost use Rattle.lpt_spacecraft.specs.Streams.{IsIdle};
+
+use crate::configuration::read;
+use crate::end::{Failure, Status, tell_place};
+use crate::input::{Incoming, STANDARD, opened, read_failure};
+use crate::saving::write_beside;
+use crate::streams::{finish, first_failure, output};
+use lpt_command_line::SpacecraftWords;
+use lpt_events::Config;
+use lpt_memory::Memories;
+use lpt_packet::Octets;
+use lpt_spacecraft::{Spacecraft, Stop, serve_stream};
+use lpt_text::{End, StreamFault, read_text};
+use lpt_tool::ToolFault;
+
+/// Takes the packets of standard input as the spacecraft does, and writes its reports to standard
+/// output. With `--save` the memories go back into their files, whatever ended it.
+///
+/// Errors: `Read` where a file or standard input can't be read; `Config` where the files make no
+/// memories; `Write`, also where a file can't be written; `Memory`.
+pub fn spacecraft(
+    rt: &HostRuntime,
+    path: Option<&str>,
+    words: &SpacecraftWords<'_>,
+) -> Result<Status, Failure> {
+    let (config, usual, _) = read(rt, path)?;
+    let memories = if words.memories.is_empty() {
+        usual
+    } else {
+        drop(usual);
+        memories_of(rt, words)?
+    };
+    serve(rt, &config, memories, words)
+}
+
+// Serves standard input with these memories, and saves them where that is asked for.
+fn serve(
+    rt: &HostRuntime,
+    config: &Config,
+    memories: Memories,
+    words: &SpacecraftWords<'_>,
+) -> Result<Status, Failure>
+    requires { IsConfig config.now }
+{
+    let Ok(mut craft) = Spacecraft::new(rt.alloc(), config, memories) else {
+        return Err(Failure::from(ToolFault::Memory));
+    };
+    let ended = serve_input(rt, &mut craft, words.tick_every);
+    let saved = if words.save {
+        save(rt, &craft, words)
+    } else {
+        Ok(())
+    };
+    drop(craft);
+    match saved {
+        Ok(()) => ended,
+        Err(failure) => {
+            drop(ended);
+            Err(failure)
+        }
+    }
+}
+
+// Serves standard input, and says where it stopped.
+fn serve_input(rt: &HostRuntime, craft: &mut Spacecraft, every: u64) -> Result<Status, Failure>
+    requires { IsIdle craft.old }
+{
+    let mut source = opened(rt, STANDARD)?;
+    let mut out = output(rt)?;
+    let ended = serve_stream(craft, every, &mut source, &mut out);
+    let failure = match ended {
+        Err(StreamFault::Read) => Some(read_failure(rt, &source, STANDARD)),
+        _ => None,
+    };
+    drop(source);
+    first_failure(finish(rt, out), failure)?;
+    match ended {
+        Ok(stop) => Ok(status_at(rt, stop)),
+        Err(fault) => Err(Failure::from(fault)),
+    }
+}
+
+// The status of work that stopped there, which is told.
+fn status_at(rt: &HostRuntime, stop: Stop) -> Status {
+    let text = match stop {
+        Stop::End => return Status::Done,
+        Stop::Cut(place) => format!(in rt.alloc(); "octet {place}: the last packet isn't whole"),
+        Stop::Stray(place) => format!(in rt.alloc(); "octet {place}: no packet begins there"),
+    };
+    if let Ok(text) = text {
+        tell_place(rt, text.as_str());
+    }
+    Status::Refused
+}
+
+// The memories whose first contents are these files.
+fn memories_of(rt: &HostRuntime, words: &SpacecraftWords<'_>) -> Result<Memories, Failure> {
+    let mut list = Vec::new(rt.alloc());
+    match read_memories(rt, words, &mut list) {
+        Ok(()) => {}
+        Err(failure) => {
+            drop(list);
+            return Err(failure);
+        }
+    }
+    match Memories::new(list) {
+        Ok(memories) => Ok(memories),
+        Err(_) => {
+            let place = format!(in rt.alloc();
+                "--memory: each has another ID and 1 to 1048576 octets"
+            );
+            Err(Failure::at(ToolFault::Config, place))
+        }
+    }
+}
+
+fn read_memories(
+    rt: &HostRuntime,
+    words: &SpacecraftWords<'_>,
+    list: &mut Vec<(u8, Octets)>,
+) -> Result<(), Failure> {
+    for (id, file) in &words.memories {
+        let mut source = opened(rt, file)?;
+        let octets = octets_from(rt, file, &mut source);
+        drop(source);
+        if list.push((*id, octets?)).is_err() {
+            return Err(Failure::from(ToolFault::Memory));
+        }
+    }
+    Ok(())
+}
+
+// The octets of a file that was opened.
+fn octets_from(rt: &HostRuntime, file: &str, source: &mut Incoming) -> Result<Octets, Failure> {
+    let (octets, end) = read_text(rt.alloc(), source)?;
+    match end {
+        End::Failed => Err(read_failure(rt, source, file)),
+        _ => Ok(Octets::from_vec(octets)),
+    }
+}
+
+// Writes each memory beside its file, and renames it.
+fn save(rt: &HostRuntime, craft: &Spacecraft, words: &SpacecraftWords<'_>) -> Result<(), Failure> {
+    for (id, file) in &words.memories {
+        if let Some(content) = craft.content(*id) {
+            write_beside(rt, file, content)?;
+        }
+    }
+    Ok(())
+}

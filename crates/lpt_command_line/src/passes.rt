@@ -1,0 +1,89 @@
+//! The commands that play a pass: the link, and the spacecraft's end.
+
+use crate::commands::{CONFIG, PACKETS, TEXT, U64};
+use crate::row::{Named, Row};
+use clap::ArgAction;
+use clap::builder::ValueParser;
+
+/// `link`.
+pub(crate) const LINK: Row = Row {
+    name: "link",
+    about: "Carry packets over a link that loses",
+    words: &[PACKETS],
+    named: &[
+        Named {
+            name: "lose",
+            value: TEXT,
+            behind: &["P"],
+            action: ArgAction::Set,
+            other: &["0%"],
+            help: "How many of the packets aren't written",
+        },
+        Named {
+            name: "repeat",
+            value: TEXT,
+            behind: &["P"],
+            action: ArgAction::Set,
+            other: &["0%"],
+            help: "How many of them are written twice",
+        },
+        Named {
+            name: "damage",
+            value: TEXT,
+            behind: &["P"],
+            action: ArgAction::Set,
+            other: &["0%"],
+            help: "Of how many of them bits are changed, which their checksum shows",
+        },
+        Named {
+            name: "delay",
+            value: ValueParser::Signed(0, 1000),
+            behind: &["N"],
+            action: ArgAction::Set,
+            other: &["0"],
+            help: "How many packets later one is written at most, 0 to 1000",
+        },
+        Named {
+            name: "seed",
+            value: U64,
+            behind: &["S"],
+            action: ArgAction::Set,
+            other: &["0"],
+            help: "The seed: the same one gives the same run",
+        },
+    ],
+};
+
+/// `spacecraft`.
+pub(crate) const SPACECRAFT: Row = Row {
+    name: "spacecraft",
+    about: "Take packets of standard input as the spacecraft does, and write its reports",
+    words: &[],
+    named: &[
+        Named {
+            name: "memory",
+            value: TEXT,
+            behind: &["ID=FILE"],
+            action: ArgAction::Append,
+            other: &[],
+            help: "A memory, and the file of its first content",
+        },
+        Named {
+            name: "save",
+            value: ValueParser::Bool,
+            behind: &[],
+            action: ArgAction::SetTrue,
+            other: &[],
+            help: "Write the memories back into their files at the end",
+        },
+        Named {
+            name: "tick-every",
+            value: U64,
+            behind: &["N"],
+            action: ArgAction::Set,
+            other: &[],
+            help: "Set the clock on behind each N packets; without it, or at 0, never",
+        },
+        CONFIG,
+    ],
+};

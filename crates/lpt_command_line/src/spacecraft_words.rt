@@ -1,0 +1,49 @@
+//! The words of the spacecraft's end.
+
+use crate::word_fault::WordFault;
+use clap::ArgMatches;
+use std::alloc::Global;
+
+/// What `spacecraft` asks for.
+#[derive(Drop)]
+pub struct SpacecraftWords<'a> {
+    /// The memories' identifiers, and the files of their first contents.
+    pub memories: Vec<(u8, &'a str)>,
+    /// Whether the memories go back into their files.
+    pub save: bool,
+    /// Behind how many packets a tick comes, or never at 0.
+    pub tick_every: u64,
+}
+
+/// What the words of `spacecraft` ask for.
+///
+/// Errors: `Memory`, and what is wrong with a memory's word.
+pub fn spacecraft_words<'a>(
+    alloc: Global,
+    matches: &ArgMatches<'a>,
+) -> Result<SpacecraftWords<'a>, WordFault<'a>> {
+    let mut memories = Vec::new(alloc);
+    if let Some(words) = matches.get_strs("memory") {
+        for word in words {
+            if memories.push(memory_in(word)?).is_err() {
+                return Err(WordFault::Memory);
+            }
+        }
+    }
+    Ok(SpacecraftWords {
+        memories,
+        save: matches.get_flag("save"),
+        tick_every: matches.get_one("tick-every").unwrap_or(0),
+    })
+}
+
+// The memory that a word `ID=FILE` names.
+fn memory_in<'a>(word: &'a str) -> Result<(u8, &'a str), WordFault<'a>> {
+    let Some((id, file)) = word.split_once('=') else {
+        return Err(WordFault::NoMemory(word));
+    };
+    match id.parse() {
+        Ok(id) => Ok((id, file)),
+        Err(_) => Err(WordFault::NoMemory(word)),
+    }
+}

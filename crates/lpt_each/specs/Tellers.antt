@@ -1,0 +1,18 @@
+-- What was told of a stream's pieces while it is read.
+use Rattle.std.specs.Prelude.{◌≡◌, List, Option, None}
+use Rattle.lpt_skips.specs.Tallies.{skips_of}
+use Rattle.lpt_stream.specs.Pieces.{Piece, packets_of}
+use Rattle.lpt_join.specs.Several.{reading_of}
+use Rattle.lpt_each.specs.declared.each.Teller.{Teller}
+use Rattle.lpt_each.specs.Helds.{HoldsEach}
+use Rattle.lpt_each.specs.News.{Event, Hears}
+use Rattle.lpt_each.specs.Streams.{events}
+
+-- what the packets among pieces give is kept, and was told, and what was passed over is noted
+pub record IsTold (first now : Teller) (heard hears : Option (List Event)) (ps : List Piece)
+    : Type 0 where
+  pub same : now.transaction ≡ first.transaction
+  pub same_any : now.any ≡ first.any
+  pub held : HoldsEach now.transaction now.any (packets_of ps) now.helds
+  pub told : Hears heard hears (events now.transaction now.any (packets_of ps))
+  pub skips_are : now.skips ≡ skips_of (reading_of now.transaction None) ps

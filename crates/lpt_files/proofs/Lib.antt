@@ -1,3 +1,0 @@
-mod JoinLemmas
-mod ListLemmas
-mod OnlyLemmas

@@ -1,5 +1,0 @@
-pub mod Joins
-pub mod Lists
-pub mod MissingLists
-pub mod Only
-pub mod Splits

@@ -1,0 +1,121 @@
+//! The frames of a stream, found as it comes.
+
+ghost use Rattle.std.specs.Prelude.{◌≤◌, length};
+
+use crate::front::front_in;
+use crate::{Front, Peer};
+use lpt_text::{Sink, StreamFault, flush_out};
+use std::alloc::Global;
+
+/// How many octets are asked for at a time.
+const CHUNK: usize = 65_536;
+
+/// The octets of a stream that were read and not passed over yet: of a packet at most, and what one
+/// read gives.
+#[derive(Drop)]
+pub struct FrameBuffer {
+    octets: Vec<u8>,
+    // How many of them were passed over.
+    start: usize,
+    ghost within: { start ≤ length octets.items },
+}
+
+impl FrameBuffer {
+    ghost use Rattle.std.specs.Prelude.{◌≡◌, ◌≢◌, ◌⊎◌, ◌++◌, [], drop, Err, IfErr, OnOk};
+    ghost use Rattle.std.specs.Io.KnownBytes.{Keeps};
+    ghost use Rattle.lpt_text.specs.Streams.{WriteEnds};
+    ghost use Rattle.lpt_frames.specs.Buffers.{held, Fills, FindsFrame};
+
+    /// A stream of which nothing was read.
+    pub fn new(alloc: Global) -> Self
+        ensures { held result ≡ [] }
+    {
+        FrameBuffer {
+            octets: Vec::new(alloc),
+            start: 0,
+        }
+    }
+
+    /// The octets that were read and not passed over yet.
+    pub fn held(&self) -> &[u8]
+        ensures { result.now ≡ held self.now }
+    {
+        &self.octets[self.start..]
+    }
+
+    /// Passes over so many of the octets that are held.
+    pub fn skip(&mut self, len: usize)
+        requires { len ≤ length (held self.old) }
+        ensures { held self.new ≡ drop len (held self.old) }
+    {
+        self.start += len;
+    }
+
+    /// Reads until the octets that are held show what stands in front of them, and gives it. Where
+    /// they do already, nothing is read. Before each read `out` passes on what it has kept back.
+    ///
+    /// Errors: `Read` where a read failed; `Write` where `out` failed; `Memory`, with which some
+    /// octets of the stream are lost.
+    pub fn find_frame<P: Peer, K: Sink>(
+        &mut self,
+        peer: &mut P,
+        out: &mut K,
+    ) -> Result<Front, StreamFault>
+        ensures finds { FindsFrame result self.old self.new (P.remaining peer.old)
+            (P.remaining peer.new) (P.failed peer.old) (P.failed peer.new) }
+        ensures same { Keeps (K.contents out.old) (K.contents out.new) }
+        ensures writer { WriteEnds result (K.failed out.old) (K.failed out.new) }
+    {
+        loop {
+            match front_in(self.held()) {
+                Some(front) => return Ok(front),
+                None => {}
+            }
+            flush_out(out)?;
+            match self.fill(peer, out) {
+                Ok(true) => {}
+                Ok(false) => return Ok(Front::End),
+                Err(fault) => return Err(fault),
+            }
+        }
+    }
+
+    // Reads some octets behind those that are held, and answers whether there were any.
+    fn fill<P: Peer, K: Sink>(&mut self, peer: &mut P, out: &K) -> Result<bool, StreamFault>
+        requires { K.flushed out.now ≡ K.contents out.now }
+        ensures { Fills result self.old self.new (P.remaining peer.old) (P.remaining peer.new)
+            (P.failed peer.old) (P.failed peer.new) }
+    {
+        let mut chunk = [0; CHUNK];
+        let Some(count) = peer.read(out, &mut chunk) else {
+            return Err(StreamFault::Read);
+        };
+        if count == 0 {
+            return Ok(false);
+        }
+        self.push(&chunk[..count])?;
+        Ok(true)
+    }
+
+    // Holds octets behind the rest.
+    fn push(&mut self, octets: &[u8]) -> Result<(), StreamFault>
+        ensures held { OnOk result (held self.new ≡ held self.old ++ octets.now) }
+        ensures fault { IfErr result (λ e. e ≡ StreamFault.Memory) }
+    {
+        self.compact();
+        if self.octets.extend_from_slice(octets).is_err() {
+            return Err(StreamFault::Memory);
+        }
+        Ok(())
+    }
+
+    // Gives up the octets that were passed over.
+    fn compact(&mut self)
+        ensures { held self.new ≡ held self.old }
+    {
+        let left = self.octets.len() - self.start;
+        self.octets.rotate_left(self.start);
+        self.octets.truncate(left);
+        self.start = 0;
+    }
+}

@@ -1,0 +1,174 @@
+-- Front parts of what is written, and what is held.
+use Rattle.std.proofs.Common.{◌≡◌, ◌∙◌, ap, sym, refl, subst, ℕ, zero, suc, ◌+◌, ◌-◌, ◌<◌, ◌≤◌, ◌==◌, Bool, true, false, if◌then◌else◌, List, [], ◌∷◌, ◌++◌, length, map, take, drop, get_or, set, inl, inr, nat_lt, ◌⊎◌, Option, Result, Ok, Err, append-nil, append_assoc, arith, length-drop}
+use Rattle.std.specs.Prelude.{IfErr}
+use Rattle.std.specs.List.{concat}
+use Rattle.std.specs.Io.KnownBytes.{Appends, IsAtEnd}
+use Rattle.std.proofs.KnownBytes.{Appends-trans}
+use Rattle.std.proofs.lemmas.Bool.Decides.{nat_tests}
+use Rattle.std.proofs.Math.Seq.{paste, take-append-add}
+use Rattle.std.proofs.lemmas.List.{drop-take, length-take-le, take-append-le, take-take}
+use Rattle.std.proofs.lemmas.List.Edits.{take-paste}
+use Rattle.lpt_text.specs.Streams.{AppendsPart}
+use Rattle.lpt_text.proofs.StreamLemmas.{part_after, part_of_front}
+use Rattle.lpt_lossy.specs.declared.fate.Fate.{Fate}
+use Rattle.lpt_lossy.specs.TurnsInside.{behind_turn, handed_turns, passed_octets, repeated}
+
+-- ---- faults
+
+-- what holds of any fault
+pub any-err : {A E : Type 0} (P : Type 0) (r : Result A E) → P → IfErr r (λ _. P)
+any-err P (Ok a) p = tt
+any-err P (Err e) p = p
+
+-- a front part of octets is one of them once or twice
+pub part-repeated : (twice : Bool) (a b : Option (List ℕ)) (o : List ℕ)
+    → AppendsPart a b o
+    → AppendsPart a b (repeated twice o)
+part-repeated true a b o part = part_of_front a b o o part
+part-repeated false a b o part = part
+
+-- ---- turns
+
+length-behind : (k : ℕ) (b : List ℕ) (os : List (List ℕ)) → length (behind_turn k b os) ≡ length os
+length-behind zero b [] = refl
+length-behind (suc k) b [] = refl
+length-behind zero b (o ∷ os) = refl
+length-behind (suc k) b (o ∷ os) = omega (arith, length-behind k b os)
+
+length-if_behind : (now : Bool) (k : ℕ) (b : List ℕ) (os : List (List ℕ))
+    → length (if now then os else behind_turn k b os) ≡ length os
+length-if_behind true k b os = refl
+length-if_behind false k b os = length-behind k b os
+
+-- as many turns are left
+pub length-handed : (w : Fate) (b : List ℕ) (os : List (List ℕ)) → length (handed_turns w b os)
+    ≡ length os
+length-handed w b os = length-if_behind (w.later == 0) w.later (passed_octets w b) os
+
+-- octets are held behind those of a turn
+pub held-set : {V : Type 0} (items : V → List ℕ) (vs : List V) (i : ℕ) (v d : V) (b : List ℕ)
+    → i < length vs
+    → items v ≡ items (get_or vs i d) ++ b
+    → map items (set vs i v) ≡ behind_turn i b (map items vs)
+held-set items [] i v d b h e = absurd (omega arith)
+held-set items (x ∷ vs) zero v d b h e = ap (λ (o : List ℕ). o ∷ map items vs) e
+held-set items (x ∷ vs) (suc i) v d b h e =
+    ap (λ (os : List (List ℕ)). items x ∷ os) (held-set items vs i v d b (omega arith) e)
+
+-- the octets of all turns, those up to one, and the others
+pub concat-at : {V : Type 0} (items : V → List ℕ) (vs : List V) (i : ℕ) (d : V)
+    → i < length vs
+    → concat (map items vs)
+    ≡ (concat (map items (take i vs)) ++ items (get_or vs i d)) ++ concat
+    (map items (drop (suc i) vs))
+concat-at items [] i d h = absurd (omega arith)
+concat-at items (x ∷ vs) zero d h = refl
+concat-at items (x ∷ vs) (suc i) d h =
+    let front = concat (map items (take i vs)) in
+    let turn = items (get_or vs i d) in
+    let back = concat (map items (drop (suc i) vs)) in
+    ap (λ (o : List ℕ). items x ++ o) (concat-at items vs i d (omega arith))
+    ∙ sym (append_assoc (items x) (front ++ turn) back)
+    ∙ ap (λ (o : List ℕ). o ++ back) (sym (append_assoc (items x) front turn))
+
+-- ---- what is held of a stream
+
+-- what was moved to the front
+pub moved : (s e : ℕ) (items : List ℕ)
+    → s ≤ e
+    → e ≤ length items
+    → take (e - s) (paste items 0 (drop s items) (e - s)) ≡ drop s (take e items)
+moved s e items h k =
+    let none : 0 + (e - s) ≡ e - s = omega arith in
+    let all : s + (e - s) ≡ e = omega arith in
+    ap (λ (n : ℕ). take n (paste items 0 (drop s items) (e - s))) (sym none)
+    ∙ take-paste items 0 (drop s items) (e - s) (omega arith) (omega (arith, length-drop s items))
+    ∙ sym (drop-take s (e - s) items)
+    ∙ ap (λ (n : ℕ). drop s (take n items)) all
+
+-- what was read behind it
+pub filled : (s e n len : ℕ) (items slice buf post more : List ℕ)
+    → s ≡ 0
+    → slice ≡ items
+    → e ≤ length items
+    → n ≤ length buf
+    → e + n ≤ len
+    → drop s (take (e + n) (take len ((take e slice ++ (buf ++ post)) ++ more)))
+    ≡ drop s (take e items) ++ take n buf
+filled s e n len items slice buf post more none same within some fits =
+    let front = take e items in
+    let size : length front ≡ e = length-take-le e items within in
+    let joined : (take e slice ++ (buf ++ post)) ++ more ≡ front ++ (buf ++ (post ++ more))
+    = ap (λ (o : List ℕ). (take e o ++ (buf ++ post)) ++ more) same
+    ∙ append_assoc front (buf ++ post) more
+    ∙ ap (λ (o : List ℕ). front ++ o) (append_assoc buf post more) in
+    let all = (front ++ (buf ++ (post ++ more))) in
+    let seen : take (e + n) (take len ((take e slice ++ (buf ++ post)) ++ more))
+    ≡ front ++ take n buf
+    = take-take (e + n) len _ fits
+    ∙ ap (take (e + n)) joined
+    ∙ ap (λ (k : ℕ). take (k + n) all) (sym size)
+    ∙ take-append-add front (buf ++ (post ++ more)) n
+    ∙ ap (λ (o : List ℕ). front ++ o) (take-append-le n buf (post ++ more) some) in
+    ap (λ (k : ℕ). drop k (take (e + n) (take len ((take e slice ++ (buf ++ post)) ++ more)))) none
+    ∙ seen
+    ∙ ap (λ (k : ℕ). drop k (take e items) ++ take n buf) (sym none)
+
+-- octets came, or it is the end
+pub more-or : (n : ℕ) (buf : List ℕ) (after : Option (List ℕ))
+    → 0 < length buf
+    → (n ≡ 0 → 0 < length buf → IsAtEnd after)
+    → (nat_lt 0 n ≡ true) ⊎ ((take n buf ≡ []) × IsAtEnd after)
+more-or zero buf after some end = inr (refl, end refl some)
+more-or (suc n) buf after some end = inl (grind (arith, nat_tests))
+
+-- ---- turn after turn
+
+take-next : {V : Type 0} (items : V → List ℕ) (vs : List V) (i : ℕ) (v : V)
+    → i < length vs
+    → v ≡ get_or vs i v
+    → concat (map items (take (suc i) vs)) ≡ concat (map items (take i vs)) ++ items v
+take-next items [] i v h e = absurd (omega arith)
+take-next items (x ∷ vs) zero v h e = append-nil (items x) ∙ ap items (sym e)
+take-next items (x ∷ vs) (suc i) v h e =
+    ap (λ (o : List ℕ). items x ++ o) (take-next items vs i v (omega arith) e)
+    ∙ sym (append_assoc (items x) (concat (map items (take i vs))) (items v))
+
+-- a turn was written
+pub turn-all : {V : Type 0} (items : V → List ℕ) (xs vs : List V) (i : ℕ) (v : V) (o : List ℕ)
+    (before mid after : Option (List ℕ))
+    → xs ≡ vs
+    → i < length xs
+    → v ≡ get_or xs i v
+    → o ≡ items v
+    → Appends before mid (concat (map items (take i vs)))
+    → Appends mid after o
+    → Appends before after (concat (map items (take (i + 1) vs)))
+turn-all items xs vs i v o before mid after same h e oe front last =
+    let one : suc i ≡ i + 1 = omega arith in
+    let within : i < length vs = subst (λ ys. i < length ys) same h in
+    let is = e ∙ ap (λ ys. get_or ys i v) same in
+    subst (Appends before after)
+    (ap (λ (q : List ℕ). concat (map items (take i vs)) ++ q) oe
+    ∙ sym (take-next items vs i v within is)
+    ∙ ap (λ (k : ℕ). concat (map items (take k vs))) one)
+    (Appends-trans before mid after _ _ front last)
+
+-- a turn was written in part
+pub turn-part : {V : Type 0} (items : V → List ℕ) (xs vs : List V) (i : ℕ) (v : V) (o : List ℕ)
+    (before mid after : Option (List ℕ))
+    → xs ≡ vs
+    → i < length xs
+    → v ≡ get_or xs i v
+    → o ≡ items v
+    → Appends before mid (concat (map items (take i vs)))
+    → AppendsPart mid after o
+    → AppendsPart before after (concat (map items vs))
+turn-part items xs vs i v o before mid after same h e oe front part =
+    let within : i < length vs = subst (λ ys. i < length ys) same h in
+    let is = e ∙ ap (λ ys. get_or ys i v) same in
+    let back = concat (map items (drop (suc i) vs)) in
+    subst (AppendsPart before after)
+    (ap (λ (q : List ℕ). (concat (map items (take i vs)) ++ q) ++ back) (oe ∙ ap items is)
+    ∙ sym (concat-at items vs i v within))
+    (part_of_front before after _ back (part_after before mid after _ o front part))

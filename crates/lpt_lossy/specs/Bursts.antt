@@ -1,0 +1,52 @@
+-- Changed bits of packets.
+use Rattle.std.specs.Prelude.{◌≡◌, ℕ, ◌+◌, ◌&&◌, ◌||◌, nat_lt, Bool, true, false, List, ◌∷◌, [], ◌++◌, length, take, drop, slice_index, bit_xor, Option, None, Some, Result, Ok, Err}
+use Rattle.lpt_packet.specs.declared.fault.PacketFault.{PacketFault}
+use Rattle.lpt_packet.specs.declared.packet.Seen.{Seen}
+use Rattle.lpt_packet.specs.declared.packet.Seen.TheVariants as seen_as
+use Rattle.lpt_packet.specs.Bursts.{DifferInBurst}
+use Rattle.lpt_packet.specs.Numbers.{word_at}
+use Rattle.lpt_packet.specs.Packets.{Fields, Sight, IdlePacket, APacket, IsPacket, seen}
+use Rattle.lpt_lossy.specs.declared.fate.Burst.{Burst}
+
+-- whether these are bits of an octet, and some of them
+abbrev pub has_bits : (mask : ℕ) → Bool
+has_bits mask = nat_lt 0 mask && nat_lt mask 256
+
+-- whether a burst changes bits, in two octets within so many, none of them the first octet or one
+-- of the length field, by which a stream is cut
+abbrev pub is_within : Burst → (len : ℕ) → Bool
+is_within u len =
+    (has_bits u.first || has_bits u.second)
+    && ((nat_lt 0 u.at && nat_lt u.at 3) || nat_lt 5 u.at)
+    && nat_lt (u.at + 1) len
+
+-- whether octets are a packet that isn't idle
+abbrev pub is_packet : Option Sight → Bool
+is_packet None = false
+is_packet (Some IdlePacket) = false
+is_packet (Some (APacket f)) = true
+
+-- the same of what a reader answered
+abbrev pub is_read : Result Seen PacketFault → Bool
+is_read (Ok seen_as.Idle) = false
+is_read (Ok (seen_as.Packet p)) = true
+is_read (Err e) = false
+
+-- whether octets are changed by a burst: it is within them, and they are a packet that isn't idle
+abbrev pub can_change : Burst → List ℕ → Bool
+can_change u b = is_within u (length b) && is_packet (seen b)
+
+-- octets with those bits changed
+abbrev pub changed : Burst → List ℕ → List ℕ
+changed u b =
+    take u.at b
+    ++ (bit_xor (slice_index b u.at) u.first ∷ bit_xor (slice_index b (u.at + 1)) u.second ∷ [])
+    ++ drop (u.at + 2) b
+
+-- octets that were a packet, and are none any more: as many, with the same length field
+pub record IsDamage (b damaged : List ℕ) : Type 0 where
+  pub was : (f : Fields) × IsPacket b f
+  pub none : (f : Fields) → ¬ IsPacket damaged f
+  pub differ : DifferInBurst b damaged
+  pub as_many : length damaged ≡ length b
+  pub same_length : word_at damaged 4 ≡ word_at b 4

@@ -1,0 +1,54 @@
+-- Which packets a link writes, and in which order.
+use Rattle.std.specs.Prelude.{ℕ, zero, suc, ◌==◌, if◌then◌else◌, List, [], ◌∷◌, ◌++◌}
+use Rattle.std.specs.List.{flat_map}
+use Rattle.lpt_lossy.specs.Ways.{Crossing, way, written_of}
+
+-- what is held: what is written with the next packet, then what is with the one behind it, and so
+-- on
+abbrev pub Turns : Type 0
+Turns = List (List (List ℕ))
+
+-- turns of which none holds anything: one more than a packet may be later
+abbrev pub empty_turns : (most_later : ℕ) → Turns
+empty_turns zero = [] ∷ []
+empty_turns (suc n) = [] ∷ empty_turns n
+
+-- what is written with the next packet
+abbrev pub first_turn : Turns → List (List ℕ)
+first_turn [] = []
+first_turn (t ∷ ts) = t
+
+-- the turns behind it
+abbrev pub next_turns : Turns → Turns
+next_turns [] = []
+next_turns (t ∷ ts) = ts ++ [] ∷ []
+
+-- the turns with these held as well, so many turns later
+abbrev pub held_later : ℕ → List (List ℕ) → Turns → Turns
+held_later n ps [] = []
+held_later zero ps (t ∷ ts) = (t ++ ps) ∷ ts
+held_later (suc n) ps (t ∷ ts) = t ∷ held_later n ps ts
+
+-- what is written of a packet as it comes
+abbrev pub at_once : (most_later : ℕ) → Crossing → List (List ℕ)
+at_once n x = if (way n x).later == 0 then written_of n x else []
+
+-- the turns with what is written of it later
+abbrev pub with_later : (most_later : ℕ) → Crossing → Turns → Turns
+with_later n x ts = if (way n x).later == 0 then ts else held_later (way n x).later
+    (written_of n x) ts
+
+-- what is written as packets come: each that isn't later, and what was held for this turn
+abbrev pub so_far : (most_later : ℕ) → Turns → List Crossing → List (List ℕ)
+so_far n ts [] = []
+so_far n ts (x ∷ xs) = at_once n x ++ first_turn ts ++ so_far n (next_turns (with_later n x ts)) xs
+
+-- what is held then
+abbrev pub left : (most_later : ℕ) → Turns → List Crossing → Turns
+left n ts [] = ts
+left n ts (x ∷ xs) = left n (next_turns (with_later n x ts)) xs
+
+-- what is written of packets: as they come, and at the end all that is held
+abbrev pub carried : (most_later : ℕ) → List Crossing → List (List ℕ)
+carried n xs =
+    so_far n (empty_turns n) xs ++ flat_map (λ t. t) (left n (empty_turns n) xs)

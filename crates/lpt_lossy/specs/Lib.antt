@@ -1,0 +1,10 @@
+pub mod Bursts
+pub mod Carrying
+pub mod Counts
+pub mod Ends
+pub mod Frames
+pub mod FramesInside
+pub mod Laws
+pub mod Throws
+pub mod TurnsInside
+pub mod Ways

@@ -1,0 +1,54 @@
+//! Changed bits.
+
+ghost use Rattle.std.specs.Prelude.{◌≡◌, length, true, IfOk};
+ghost use Rattle.lpt_packet.specs.Packets.{seen};
+ghost use Rattle.lpt_lossy.specs.Bursts.{can_change, changed, is_packet, is_read, is_within};
+
+use crate::Burst;
+use lpt_packet::{Octets, PacketFault, Seen, read_packet};
+use std::alloc::{AllocError, Global};
+
+// Whether a burst changes bits, within so many octets, and none of the first octet and of the
+// length field, by which a stream is cut.
+fn is_within(burst: &Burst, len: usize) -> bool
+    ensures { result ≡ is_within burst.now len }
+{
+    let at = burst.at;
+    let has_bits = burst.first > 0 || burst.second > 0;
+    let is_apart = (at > 0 && at < 3) || at > 5;
+    has_bits && is_apart && at < len && at + 1 < len
+}
+
+// Whether octets are changed by a burst: it is within them, and they are a packet, so that its
+// checksum shows that they were.
+pub(crate) fn can_change(burst: &Burst, octets: &[u8]) -> bool
+    ensures { result ≡ can_change burst.now octets.now }
+{
+    is_within(burst, octets.len()) && is_packet(octets)
+}
+
+// Whether octets read as a packet that isn't idle.
+fn is_packet(octets: &[u8]) -> bool
+    ensures { result ≡ is_packet (seen octets.now) }
+{
+    is_read(&read_packet(octets))
+}
+
+// Whether what was read is a packet that isn't idle.
+fn is_read(read: &Result<Seen<'_>, PacketFault>) -> bool
+    ensures { result ≡ is_read read.now }
+{
+    matches!(read, Ok(Seen::Packet(_)))
+}
+
+// A copy of octets with those bits changed. The only error is out of memory.
+pub(crate) fn changed(alloc: Global, burst: &Burst, octets: &[u8]) -> Result<Octets, AllocError>
+    requires { is_within burst.now (length octets.now) ≡ true }
+    ensures { IfOk result (λ o. o ≡ changed burst.now octets.now) }
+{
+    let at = burst.at;
+    let two = [octets[at] ^ burst.first, octets[at + 1] ^ burst.second];
+    let mut copy = Octets::from_vec(Vec::from_slice(alloc, octets)?);
+    copy.overwrite(at, &two);
+    Ok(copy)
+}

@@ -1,0 +1,78 @@
+//! How many packets were lost, repeated, delayed, damaged and passed on as they were.
+
+ghost use Rattle.std.specs.Prelude.{◌≡◌, ◌+◌, ◌-◌, ◌^◌, min};
+ghost use Rattle.std.specs.Int.{from_bool};
+ghost use Rattle.lpt_lossy.specs.Counts.{is_passed};
+
+use crate::Fate;
+
+/// How many packets of a stream were lost, repeated and so on. One can be several of these. Each
+/// number stays at 2^64 - 1 where it would be more.
+#[derive(Clone, Copy)]
+pub struct Counts {
+    /// Packets that weren't written.
+    pub lost: u64,
+    /// Packets that were written twice.
+    pub repeated: u64,
+    /// Packets that were written later.
+    pub delayed: u64,
+    /// Packets of which bits were changed.
+    pub damaged: u64,
+    /// Packets that were written once, as they came and as they were.
+    pub passed: u64,
+}
+
+/// How a stream over the link ended.
+#[derive(Clone, Copy)]
+pub struct LossyEnd {
+    /// How many packets were lost, repeated and so on.
+    pub counts: Counts,
+    /// The place of the octets that ended it, with which no packet begins; none at the stream's
+    /// end.
+    pub stray: Option<u64>,
+}
+
+impl Counts {
+    ghost use Rattle.std.specs.Prelude.{◌≡◌, ◌++◌, ◌∷◌, ℕ, List, []};
+    ghost use Rattle.lpt_lossy.specs.Counts.{IsCounted};
+    ghost use Rattle.lpt_lossy.specs.Ways.{way, Crossing};
+
+    // Of no packets.
+    pub(crate) fn new() -> Counts
+        ensures { (n : ℕ) → IsCounted n [] result }
+    {
+        Counts {
+            lost: 0,
+            repeated: 0,
+            delayed: 0,
+            damaged: 0,
+            passed: 0,
+        }
+    }
+
+    // Counts a packet of which this became.
+    pub(crate) fn add(&mut self, became: &Fate)
+        ensures { (n : ℕ) (xs : List Crossing) (x : Crossing) → became.now ≡ way n x
+            → IsCounted n xs self.old → IsCounted n (xs ++ x ∷ []) self.new }
+    {
+        self.lost = one_more(self.lost, became.is_lost);
+        self.repeated = one_more(self.repeated, became.is_twice);
+        self.delayed = one_more(self.delayed, became.later > 0);
+        self.damaged = one_more(self.damaged, became.burst.is_some());
+        self.passed = one_more(self.passed, is_passed(became));
+    }
+}
+
+// Whether a packet of which this became was written once, as it came and as it was.
+fn is_passed(became: &Fate) -> bool
+    ensures { result ≡ is_passed became.now }
+{
+    !(became.is_lost || became.is_twice || became.later > 0 || became.burst.is_some())
+}
+
+// One more, where it is.
+fn one_more(count: u64, is: bool) -> u64
+    ensures { result ≡ min (count + from_bool is) (2 ^ 64 - 1) }
+{
+    count.saturating_add(u64::from(is))
+}

@@ -1,0 +1,68 @@
+//! Packets that are lost, repeated, delayed and damaged by chance.
+
+use crate::fate::{Decider, Fate};
+use crate::words::{befalls, burst_of, up_to};
+use rand_core::SeedableRng;
+use rand_core::utils::NextWord;
+use rand_xoshiro::Xoshiro256PlusPlus;
+
+/// How often what becomes of packets, in millionths: 0 for never, 1,000,000 for always.
+#[derive(Clone, Copy)]
+pub struct Odds {
+    /// That a packet isn't written.
+    pub lose: u32,
+    /// That it is written twice.
+    pub repeat: u32,
+    /// That bits of it are changed.
+    pub damage: u32,
+    /// How many packets later it is written at most: each number up to this one is as likely.
+    pub delay: u16,
+}
+
+/// One who decides by chance. What it decides is the same for the same odds and seed. The generator
+/// is no secret: it serves tests.
+#[derive(Drop)]
+pub struct Dice {
+    odds: Odds,
+    generator: Xoshiro256PlusPlus,
+}
+
+impl Dice {
+    ghost use Rattle.std.specs.Prelude.{◌≡◌};
+    ghost use Rattle.lpt_lossy.specs.Throws.{seeded};
+
+    /// Dice of these odds that were seeded by this number.
+    pub fn new(odds: Odds, seed: u64) -> Dice
+        ensures { result ≡ seeded odds seed }
+    {
+        Dice {
+            odds,
+            generator: Xoshiro256PlusPlus::seed_from_u64(seed),
+        }
+    }
+}
+
+impl Decider for Dice {
+    ghost use Rattle.lpt_lossy.specs.Throws.{throw};
+
+    ghost decides = { throw };
+
+    fn decide(&mut self, len: usize) -> Fate {
+        let lose = self.generator.next_word();
+        let repeat = self.generator.next_word();
+        let later = self.generator.next_word();
+        let damage = self.generator.next_word();
+        let bits = self.generator.next_word();
+        let burst = if befalls(self.odds.damage, damage) {
+            Some(burst_of(len, bits))
+        } else {
+            None
+        };
+        Fate {
+            is_lost: befalls(self.odds.lose, lose),
+            is_twice: befalls(self.odds.repeat, repeat),
+            later: up_to(self.odds.delay, later),
+            burst,
+        }
+    }
+}

@@ -1,0 +1,39 @@
+//! What becomes of a packet on the link.
+
+/// What becomes of a packet.
+#[derive(Clone, Copy)]
+pub struct Fate {
+    /// It isn't written. What else is said here then counts for nothing.
+    pub is_lost: bool,
+    /// It is written twice.
+    pub is_twice: bool,
+    /// It is written behind so many of the packets that come after it, or at the stream's end.
+    pub later: u16,
+    /// So it is changed, where it reads as a packet that isn't idle, and this lies within it.
+    pub burst: Option<Burst>,
+}
+
+/// Bits that are changed, in two octets that follow one another.
+#[derive(Clone, Copy)]
+pub struct Burst {
+    /// The place of the first of the two octets.
+    pub at: usize,
+    /// The bits of the first that are changed.
+    pub first: u8,
+    /// The bits of the second that are changed.
+    pub second: u8,
+}
+
+/// Who decides what becomes of packets, one after the other.
+pub trait Decider {
+    ghost use Rattle.std.specs.Prelude.{◌≡◌, ◌≤◌, ℕ};
+    ghost use Rattle.lpt_lossy.specs.declared.fate.Fate.{Fate};
+
+    // What becomes of the next packet, which has so many octets, and who decides then.
+    ghost decides: { Self → ℕ → Fate × Self };
+
+    /// What becomes of the next packet, which has so many octets, 7 or more.
+    fn decide(&mut self, len: usize) -> Fate
+        requires { 7 ≤ len }
+        ensures { (result, self.new) ≡ decides self.old len };
+}

@@ -1,0 +1,25 @@
+//! A link that loses: packets are read and written again, some not, some twice, some later, and
+//! some with changed bits, which no reader takes as a packet.
+//!
+//! A stream is cut by lengths alone (CCSDS 133.0-B): nothing is searched in it, and no octets of a
+//! packet are ever taken for another one. What becomes of a packet, a `Decider` decides; `Dice` is
+//! one that throws, by a seed and `Odds`. The first call is `lossy_stream`.
+#![tactic(auto)]
+
+mod burst;
+mod carrying;
+mod counts;
+mod dice;
+mod fate;
+mod frames;
+pub mod laws;
+mod lossy;
+mod settling;
+mod turns;
+mod words;
+
+pub use counts::{Counts, LossyEnd};
+pub use dice::{Dice, Odds};
+pub use fate::{Burst, Decider, Fate};
+pub use lossy::lossy_stream;
+pub use lpt_text::{Sink, Source, StreamFault};

@@ -1,0 +1,86 @@
+//! A stream of packets, carried over the link as it comes.
+
+ghost use Rattle.std.specs.Prelude.{◌≡◌, IfErr, IfOk, IsOk, OnOk};
+ghost use Rattle.std.specs.List.{concat};
+ghost use Rattle.std.specs.Io.KnownBytes.{Appends};
+ghost use Rattle.lpt_text.specs.Streams.{AppendsPart, ReadEnds, WriteEnds};
+ghost use Rattle.lpt_lossy.specs.Ends.{CarriesAll, CarriesPart, IsEndless};
+ghost use Rattle.lpt_lossy.specs.TurnsInside.{turn_octets};
+
+use crate::carrying::carry;
+use crate::counts::{Counts, LossyEnd};
+use crate::fate::Decider;
+use crate::frames::FrameBuffer;
+use crate::settling::settled;
+use crate::turns::Turns;
+use lpt_text::{Sink, Source, StreamFault, flush_out};
+use std::alloc::Global;
+
+/// Reads the packets of a stream and writes them again: some not, some twice, some later, but at
+/// most behind so many of those that come after them, and some with changed bits, as the decider
+/// says. At the end all that is held is written and passed on; so is what was written before each
+/// read.
+///
+/// Octets with which no packet begins end the run: those of another version than 0, and those at
+/// the stream's end that are fewer than their header says.
+///
+/// Errors: `Read` where a read failed, or where 2^64 - 1 packets came; `Write` where a write
+/// failed; `Memory`. A front part of what would be written stays written.
+pub fn lossy_stream<S: Source, K: Sink, D: Decider>(
+    alloc: Global,
+    most_later: u16,
+    decider: &mut D,
+    source: &mut S,
+    out: &mut K,
+) -> Result<LossyEnd, StreamFault>
+    ensures ends { IfOk result (λ end. CarriesAll D.decides most_later decider.old end
+        (S.remaining source.old) (S.remaining source.new) (K.contents out.old) (K.contents out.new)) }
+
+    // All that was written is passed on.
+    ensures passed { IsOk result → K.flushed out.new ≡ K.contents out.new }
+
+    // What a fault leaves.
+    ensures leaves { IfErr result (λ _. CarriesPart D.decides most_later decider.old
+        (S.remaining source.old) (S.remaining source.new) (K.contents out.old) (K.contents out.new)) }
+    ensures reader { ReadEnds (IsEndless (S.remaining source.old) (S.remaining source.new)) result
+        (S.failed source.old) (S.failed source.new) }
+    ensures writer { WriteEnds result (K.failed out.old) (K.failed out.new) }
+{
+    let mut frames = FrameBuffer::new(alloc)?;
+    let mut turns = Turns::new(alloc, most_later)?;
+    let mut counts = Counts::new();
+    let mut place: u64 = 0;
+    for _ in 0..u64::MAX {
+        let len = match frames.find_frame(source, out)? {
+            Some(len) => len,
+            None => {
+                end_run(&turns, out)?;
+                let stray = frames.stray(place);
+                return Ok(LossyEnd { counts, stray });
+            }
+        };
+        let octets = &frames.held()[..len];
+        let way = settled(decider.decide(len), most_later, octets);
+        carry(alloc, &way, octets, &mut turns, out)?;
+        counts.add(&way);
+        place = place.saturating_add(len as u64);
+        frames.skip(len);
+    }
+    Err(StreamFault::Read)
+}
+
+// Writes all that is held, and has it passed on.
+//
+// Errors: `Write` where a write failed.
+fn end_run<K: Sink>(turns: &Turns, out: &mut K) -> Result<(), StreamFault>
+    ensures ok { OnOk result (Appends (K.contents out.old) (K.contents out.new)
+        (concat (turn_octets turns.now))) }
+    ensures passed { IsOk result → K.flushed out.new ≡ K.contents out.new }
+    ensures fault { IfErr result (λ e. e ≡ StreamFault.Write) }
+    ensures part { IfErr result (λ _. AppendsPart (K.contents out.old) (K.contents out.new)
+        (concat (turn_octets turns.now))) }
+    ensures writer { WriteEnds result (K.failed out.old) (K.failed out.new) }
+{
+    turns.write_all(out)?;
+    flush_out(out)
+}

@@ -1,0 +1,47 @@
+//! What becomes of a packet in the end.
+
+ghost use Rattle.std.specs.Prelude.{◌≡◌, ◌≤◌, true, length, IfSome};
+ghost use Rattle.lpt_lossy.specs.Bursts.{is_within};
+ghost use Rattle.lpt_lossy.specs.Ways.{if_it_can, settled};
+
+use crate::burst::can_change;
+use crate::{Burst, Fate};
+
+// What becomes of these octets, where none are written later than so many packets: nothing else
+// becomes of what is lost, and bits are changed only where that shows.
+pub(crate) fn settled(fate: Fate, most_later: u16, octets: &[u8]) -> Fate
+    ensures way { result ≡ settled most_later fate octets.now }
+    ensures most { result.later ≤ most_later }
+    ensures lost { result.is_lost ≡ true → result.later ≡ 0 }
+    ensures burst { IfSome result.burst (λ u. is_within u (length octets.now) ≡ true) }
+{
+    if fate.is_lost {
+        return Fate {
+            is_lost: true,
+            is_twice: false,
+            later: 0,
+            burst: None,
+        };
+    }
+    Fate {
+        is_lost: false,
+        is_twice: fate.is_twice,
+        later: fate.later.min(most_later),
+        burst: if_it_can(fate.burst, octets),
+    }
+}
+
+// A burst that can change these octets.
+fn if_it_can(burst: Option<Burst>, octets: &[u8]) -> Option<Burst>
+    ensures value { result ≡ if_it_can burst octets.now }
+    ensures within { IfSome result (λ u. is_within u (length octets.now) ≡ true) }
+{
+    match burst {
+        Some(burst) => if can_change(&burst, octets) {
+            Some(burst)
+        } else {
+            None
+        },
+        None => None,
+    }
+}

@@ -1,0 +1,4 @@
+pub mod FoldLemmas
+pub mod ServingLemmas
+pub mod StreamLemmas
+pub mod WritingLemmas

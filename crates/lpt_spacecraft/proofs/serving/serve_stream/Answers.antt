@@ -1,0 +1,190 @@
+-- Packet after packet, until none is left.
+use Rattle.std.proofs.Common.{◌≡◌, ◌∙◌, ap, sym, subst, refl, inr, take, length, Bool, true, false, Ok, arith}
+use Rattle.lpt_frames.specs.declared.front.Front.{Front}
+use Rattle.lpt_frames.specs.Buffers.{held, FindsFrame}
+use Rattle.lpt_stream.specs.Streams.{all_octets}
+use Rattle.lpt_stream.proofs.EndLemmas.{other-fault, reader-after, reader-all, reader-kept, writer-after, writer-all}
+use Rattle.lpt_spacecraft.specs.Streams.{end_at, StopsAt}
+use Rattle.lpt_spacecraft.proofs.StreamLemmas.{endless, ends-at, find-reader, serve-broken, serve-fault, serve-read, serve-stop, served-more, served-next, served-none}
+use Rattle.lpt_spacecraft.proofs.serving.serve_stream.Goals as goal
+
+pub loop-count-init : goal.loop-count-init
+loop-count-init g c = record {
+  served = served-none c.args.every c.args.craft.now (g.P.Peer.remaining c.args.peer.now)
+      (g.K.Sink.contents c.args.out.now) (held c.new-buffer.result) c.new-buffer.ensures;
+  idle = c.requires;
+  config = refl;
+  reader = refl;
+  writer = refl;
+}
+
+-- it stops before octets with which no packet begins
+pub returns-in-Ok-Stray-clause-ends : goal.returns-in-Ok-Stray-clause-ends
+returns-in-Ok-Stray-clause-ends g c =
+    let found = subst (λ (f : Front). FindsFrame (Ok f) c.loop-count.buffer c.find_frame.new.self
+    (g.P.Peer.remaining c.loop-count.peer) (g.P.Peer.remaining c.find_frame.new.peer)
+    (g.P.Peer.failed c.loop-count.peer) (g.P.Peer.failed c.find_frame.new.peer))
+    c.in-Ok-Stray.field-0-is c.in-Ok-Stray.ensures.finds in
+    let at = served-more c.args.every c.args.craft.now c.loop-count.craft _ _ _ _ _ _ _ _ found.0 _
+    _ _
+    c.loop-count.invariant.served found.1.consumed found.1.behind c.in-Ok-Stray.ensures.same in
+    serve-stop c.stop_at.result _ c.args.every _ _ _ _ _ _ _ _ _ _ _ c.stop_at.ensures.stop
+    c.stop_at.ensures.fault
+    at c.stop_at.ensures.same (at.place_is, found.2)
+
+pub returns-in-Ok-Stray-clause-reader : goal.returns-in-Ok-Stray-clause-reader
+returns-in-Ok-Stray-clause-reader g c =
+    let found = subst (λ (f : Front). FindsFrame (Ok f) c.loop-count.buffer c.find_frame.new.self
+    (g.P.Peer.remaining c.loop-count.peer) (g.P.Peer.remaining c.find_frame.new.peer)
+    (g.P.Peer.failed c.loop-count.peer) (g.P.Peer.failed c.find_frame.new.peer))
+    c.in-Ok-Stray.field-0-is c.in-Ok-Stray.ensures.finds in
+    reader-all _ c.stop_at.result _ _ c.stop_at.ensures.fault
+    (found.3 ∙ c.loop-count.invariant.reader)
+
+pub returns-in-Ok-Stray-clause-writer : goal.returns-in-Ok-Stray-clause-writer
+returns-in-Ok-Stray-clause-writer g c =
+    writer-all c.stop_at.result _ _ _ c.stop_at.ensures.writer
+    (c.in-Ok-Stray.ensures.writer ∙ c.loop-count.invariant.writer)
+
+-- it stops at the end of the stream
+pub returns-in-Ok-End-clause-ends : goal.returns-in-Ok-End-clause-ends
+returns-in-Ok-End-clause-ends g c =
+    let found = subst (λ (f : Front). FindsFrame (Ok f) c.loop-count.buffer c.find_frame.new.self
+    (g.P.Peer.remaining c.loop-count.peer) (g.P.Peer.remaining c.find_frame.new.peer)
+    (g.P.Peer.failed c.loop-count.peer) (g.P.Peer.failed c.find_frame.new.peer))
+    c.in-Ok-End.field-0-is c.in-Ok-End.ensures.finds in
+    let at = served-more c.args.every c.args.craft.now c.loop-count.craft _ _ _ _ _ _ _ _ found.0 _
+    _ _
+    c.loop-count.invariant.served found.1.consumed found.1.behind c.in-Ok-End.ensures.same in
+    serve-stop c.stop_at-in-Ok-End.result _ c.args.every _ _ _ _ _ _ _ _ _ _ _
+    c.stop_at-in-Ok-End.ensures.stop c.stop_at-in-Ok-End.ensures.fault
+    at c.stop_at-in-Ok-End.ensures.same
+    (subst (λ x. StopsAt x (length (all_octets at.packets)) (held c.find_frame.new.self)
+    (g.P.Peer.remaining c.find_frame.new.peer))
+    (sym (c.end_at.ensures ∙ ap (end_at c.loop-count.place) c.held.ensures))
+    (ends-at c.loop-count.place _ (held c.find_frame.new.self) _ at.place_is found.2.0 found.2.1))
+
+pub returns-in-Ok-End-clause-reader : goal.returns-in-Ok-End-clause-reader
+returns-in-Ok-End-clause-reader g c =
+    let found = subst (λ (f : Front). FindsFrame (Ok f) c.loop-count.buffer c.find_frame.new.self
+    (g.P.Peer.remaining c.loop-count.peer) (g.P.Peer.remaining c.find_frame.new.peer)
+    (g.P.Peer.failed c.loop-count.peer) (g.P.Peer.failed c.find_frame.new.peer))
+    c.in-Ok-End.field-0-is c.in-Ok-End.ensures.finds in
+    reader-all _ c.stop_at-in-Ok-End.result _ _ c.stop_at-in-Ok-End.ensures.fault
+    (found.3 ∙ c.loop-count.invariant.reader)
+
+pub returns-in-Ok-End-clause-writer : goal.returns-in-Ok-End-clause-writer
+returns-in-Ok-End-clause-writer g c =
+    writer-all c.stop_at-in-Ok-End.result _ _ _ c.stop_at-in-Ok-End.ensures.writer
+    (c.in-Ok-End.ensures.writer ∙ c.loop-count.invariant.writer)
+
+-- a read or a write failed
+pub returns-in-Err-clause-ends : goal.returns-in-Err-clause-ends
+returns-in-Err-clause-ends g c =
+    serve-fault c.in-Err.fault c.args.every c.args.craft.now c.loop-count.craft c.loop-count.buffer
+    c.find_frame.new.self
+    _ _ _ _ _ _ _ _ _ _ _ c.in-Err.ensures.finds c.loop-count.invariant.served c.in-Err.ensures.same
+
+pub returns-in-Err-clause-reader : goal.returns-in-Err-clause-reader
+returns-in-Err-clause-reader g c =
+    reader-after _ c.in-Err.fault _ _ _
+    (find-reader _ c.in-Err.fault c.loop-count.buffer c.find_frame.new.self _ _ _ _
+    c.in-Err.ensures.finds)
+    c.loop-count.invariant.reader
+
+pub returns-in-Err-clause-writer : goal.returns-in-Err-clause-writer
+returns-in-Err-clause-writer g c =
+    writer-after c.in-Err.fault _ _ _ c.in-Err.ensures.writer c.loop-count.invariant.writer
+
+-- no more requests can be numbered
+pub returns-then-is_full-clause-ends : goal.returns-then-is_full-clause-ends
+returns-then-is_full-clause-ends g c =
+    let found = subst (λ (f : Front). FindsFrame (Ok f) c.loop-count.buffer c.find_frame.new.self
+    (g.P.Peer.remaining c.loop-count.peer) (g.P.Peer.remaining c.find_frame.new.peer)
+    (g.P.Peer.failed c.loop-count.peer) (g.P.Peer.failed c.find_frame.new.peer))
+    c.in-Ok-Frame.field-0-is c.in-Ok-Frame.ensures.finds in
+    serve-read c.args.every c.args.craft.now c.loop-count.craft _ _ _ _ (held c.find_frame.new.self)
+    _ _ _
+    (served-more c.args.every c.args.craft.now c.loop-count.craft _ _ _ _ _ _ _ _ found.0 _ _ _
+    c.loop-count.invariant.served found.1.consumed found.1.behind c.in-Ok-Frame.ensures.same)
+
+pub returns-then-is_full-clause-reader : goal.returns-then-is_full-clause-reader
+returns-then-is_full-clause-reader g c = inr (inr (c.is_full.ensures.full c.if-is_full.true))
+
+pub returns-then-is_full-clause-writer : goal.returns-then-is_full-clause-writer
+returns-then-is_full-clause-writer g c = c.in-Ok-Frame.ensures.writer ∙
+    c.loop-count.invariant.writer
+
+-- work broke off in a packet
+pub returns-in-Err-serve_packet-clause-ends : goal.returns-in-Err-serve_packet-clause-ends
+returns-in-Err-serve_packet-clause-ends g c =
+    let found = subst (λ (f : Front). FindsFrame (Ok f) c.loop-count.buffer c.find_frame.new.self
+    (g.P.Peer.remaining c.loop-count.peer) (g.P.Peer.remaining c.find_frame.new.peer)
+    (g.P.Peer.failed c.loop-count.peer) (g.P.Peer.failed c.find_frame.new.peer))
+    c.in-Ok-Frame.field-0-is c.in-Ok-Frame.ensures.finds in
+    let at = served-more c.args.every c.args.craft.now c.loop-count.craft _ _ _ _ _ _ _ _ found.0 _
+    _ _
+    c.loop-count.invariant.served found.1.consumed found.1.behind c.in-Ok-Frame.ensures.same in
+    serve-broken c.in-Err-serve_packet.fault c.args.every c.args.craft.now c.loop-count.craft
+    c.serve_packet.new.craft
+    c.loop-count.craft.config _ _ _ _ _ (held c.find_frame.new.self)
+    (take c.in-Ok-Frame.len c.held-in-loop-count.result.now) c.loop-count.count
+    c.loop-count.since c.loop-count.place
+    c.in-Ok-Frame.len c.in-Err-serve_packet.ensures.fault at c.loop-count.invariant.config found.2.1
+    (ap (take c.in-Ok-Frame.len) c.held-in-loop-count.ensures)
+    c.in-Err-serve_packet.ensures.breaks
+
+pub returns-in-Err-serve_packet-clause-reader : goal.returns-in-Err-serve_packet-clause-reader
+returns-in-Err-serve_packet-clause-reader g c =
+    let found = subst (λ (f : Front). FindsFrame (Ok f) c.loop-count.buffer c.find_frame.new.self
+    (g.P.Peer.remaining c.loop-count.peer) (g.P.Peer.remaining c.find_frame.new.peer)
+    (g.P.Peer.failed c.loop-count.peer) (g.P.Peer.failed c.find_frame.new.peer))
+    c.in-Ok-Frame.field-0-is c.in-Ok-Frame.ensures.finds in
+    reader-kept _ c.in-Err-serve_packet.fault _ _ (other-fault c.in-Err-serve_packet.fault
+    c.in-Err-serve_packet.ensures.fault)
+    (found.3 ∙ c.loop-count.invariant.reader)
+
+pub returns-in-Err-serve_packet-clause-writer : goal.returns-in-Err-serve_packet-clause-writer
+returns-in-Err-serve_packet-clause-writer g c =
+    writer-after c.in-Err-serve_packet.fault _ _ _ c.in-Err-serve_packet.ensures.writer
+    (c.in-Ok-Frame.ensures.writer ∙ c.loop-count.invariant.writer)
+
+-- a packet was taken
+pub loop-count-preserved : goal.loop-count-preserved
+loop-count-preserved g c =
+    let found = subst (λ (f : Front). FindsFrame (Ok f) c.loop-count.buffer c.find_frame.new.self
+    (g.P.Peer.remaining c.loop-count.peer) (g.P.Peer.remaining c.find_frame.new.peer)
+    (g.P.Peer.failed c.loop-count.peer) (g.P.Peer.failed c.find_frame.new.peer))
+    c.in-Ok-Frame.field-0-is c.in-Ok-Frame.ensures.finds in
+    let at = served-more c.args.every c.args.craft.now c.loop-count.craft _ _ _ _ _ _ _ _ found.0 _
+    _ _
+    c.loop-count.invariant.served found.1.consumed found.1.behind c.in-Ok-Frame.ensures.same in
+    record {
+      served = served-next c.args.every c.args.craft.now c.loop-count.craft c.serve_packet.new.craft
+          c.loop-count.craft.config _ _ _ _ _ (held c.find_frame.new.self) _
+          (take c.in-Ok-Frame.len c.held-in-loop-count.result.now) c.loop-count.count
+          c.loop-count.since
+          c.loop-count.place c.in-Ok-Frame.len _ _ at c.loop-count.invariant.config found.2.1
+          found.2.0
+          (ap (take c.in-Ok-Frame.len) c.held-in-loop-count.ensures)
+          c.in-Ok.ensures.ok c.in-Ok.ensures.since
+          c.saturating_add-place.ensures c.skip.ensures;
+      idle = c.in-Ok.ensures.idle;
+      config = c.in-Ok.ensures.config ∙ c.loop-count.invariant.config;
+      reader = found.3 ∙ c.loop-count.invariant.reader;
+      writer = c.in-Ok.ensures.writer ∙ (c.in-Ok-Frame.ensures.writer ∙
+          c.loop-count.invariant.writer);
+    }
+
+-- so many packets came
+pub returns-clause-ends : goal.returns-clause-ends
+returns-clause-ends g c =
+    serve-read c.args.every c.args.craft.now c.loop-count.craft _ _ _ _ _ _ _ _
+    c.loop-count.invariant.served
+
+pub returns-clause-reader : goal.returns-clause-reader
+returns-clause-reader g c =
+    let most : c.loop-count.count ≡ 18446744073709551615 =
+    grind (arith, c.loop-count.auto.count-end, c.loop-count-test.false) in
+    inr (endless c.args.every c.args.craft.now c.loop-count.craft _ _ _ _ _ _ _ _
+    c.loop-count.invariant.served most)

@@ -1,0 +1,18 @@
+use Rattle.std.proofs.Common.{◌≡◌}
+use Rattle.lpt_frames.specs.Buffers.{held}
+use Rattle.lpt_spacecraft.specs.Streams.{IsIdle}
+use Rattle.lpt_spacecraft.proofs.StreamLemmas.{IsServed}
+use Rattle.lpt_spacecraft.proofs.serving.serve_stream.Given as goal
+
+-- the packets that came were taken, and nothing waits
+abbrev pub invariant-loop-count : goal.invariant-loop-count
+invariant-loop-count g l = record {
+  served : IsServed l.every l.fn.craft l.craft (g.P.Peer.remaining l.fn.peer)
+      (g.P.Peer.remaining l.peer)
+      (g.K.Sink.contents l.fn.out) (g.K.Sink.contents l.out) (held l.buffer) l.count l.since
+      l.place;
+  idle : IsIdle l.craft;
+  config : l.craft.config ≡ l.fn.craft.config;
+  reader : g.P.Peer.failed l.peer ≡ g.P.Peer.failed l.fn.peer;
+  writer : g.K.Sink.failed l.out ≡ g.K.Sink.failed l.fn.out;
+}

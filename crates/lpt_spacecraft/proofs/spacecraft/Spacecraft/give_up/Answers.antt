@@ -1,0 +1,41 @@
+-- Reception after reception.
+use Rattle.std.proofs.Common.{◌≡◌, ◌∙◌, ap, sym, subst, ℕ, ◌+◌, List, [], arith}
+use Rattle.std.specs.Io.KnownBytes.{Appends}
+use Rattle.lpt_events.specs.declared.config.Config.{Config}
+use Rattle.lpt_node.specs.Nodes.{NodeData}
+use Rattle.lpt_text.specs.Streams.{AppendsPart}
+use Rattle.lpt_stream.specs.Streams.{all_octets}
+use Rattle.lpt_spacecraft.specs.Serving.{first_expired, then_expired}
+use Rattle.lpt_spacecraft.proofs.ServingLemmas.{expired-next, expired-part, expired-step}
+use Rattle.lpt_spacecraft.proofs.spacecraft.Spacecraft.give_up.Goals as goal
+
+pub loop-k-preserved : goal.loop-k-preserved
+loop-k-preserved g c =
+    let s = c.args.self.now in
+    let was = c.loop-k.invariant in
+    let k = c.loop-k.k in
+    let same : c.loop-k.self.config ≡ s.config = was.config in
+    record {
+      node = c.in-Ok.ensures.ok.0
+          ∙ (λ i. (then_expired (same i) (was.node i, [])).0)
+          ∙ ap (λ (x : NodeData × List (List ℕ)). x.0) (sym (expired-next s.config s.node.at k));
+      written = expired-step s.config s.node.at c.loop-k.self.node.at k _ _ _ was.node was.written
+          (subst (λ (z : Config). Appends (g.K.Sink.contents c.loop-k.out)
+          (g.K.Sink.contents c.give_up_one.new.out)
+          (all_octets (then_expired z (c.loop-k.self.node.at, [])).1)) same
+          c.in-Ok.ensures.ok.2);
+      config = c.in-Ok.ensures.config ∙ was.config;
+      memories = c.in-Ok.ensures.memories ∙ was.memories;
+      jobs = c.in-Ok.ensures.jobs ∙ was.jobs;
+      told = c.in-Ok.ensures.writer ∙ was.told;
+    }
+
+pub returns-in-Err-clause-part : goal.returns-in-Err-clause-part
+returns-in-Err-clause-part g c =
+    let s = c.args.self.now in
+    let was = c.loop-k.invariant in
+    expired-part s.config s.node.at c.loop-k.self.node.at c.loop-k.k c.args.most _ _ _ (omega arith)
+    was.node was.written
+    (subst (λ (z : Config). AppendsPart (g.K.Sink.contents c.loop-k.out)
+    (g.K.Sink.contents c.give_up_one.new.out)
+    (all_octets (then_expired z (c.loop-k.self.node.at, [])).1)) was.config c.in-Err.ensures.part)

@@ -1,0 +1,17 @@
+use Rattle.std.proofs.Common.{◌≡◌}
+use Rattle.std.specs.Io.KnownBytes.{Appends}
+use Rattle.lpt_stream.specs.Streams.{all_octets}
+use Rattle.lpt_spacecraft.specs.Serving.{first_sent}
+use Rattle.lpt_spacecraft.proofs.spacecraft.Spacecraft.send_parts.Given as goal
+
+-- so many parts were sent
+abbrev pub invariant-loop-k : goal.invariant-loop-k
+invariant-loop-k g l = record {
+  node : l.self.node.at ≡ (first_sent l.fn.self.config l.fn.self.node.at l.name l.k).0;
+  written : Appends (g.K.Sink.contents l.fn.out) (g.K.Sink.contents l.out)
+      (all_octets (first_sent l.fn.self.config l.fn.self.node.at l.name l.k).1);
+  config : l.self.config ≡ l.fn.self.config;
+  memories : l.self.memories ≡ l.fn.self.memories;
+  jobs : l.self.node.at.jobs ≡ l.fn.self.node.at.jobs;
+  told : g.K.Sink.failed l.out ≡ g.K.Sink.failed l.fn.out;
+}

@@ -1,0 +1,111 @@
+-- What the spacecraft's end makes of a stream.
+use Rattle.std.specs.Prelude.{◌≡◌, ◌⊎◌, ◌-◌, ◌^◌, ◌<◌, ◌++◌, ℕ, List, [], ◌∷◌, length, Option, Some, None, Result, Ok, Err, option_to_list}
+use Rattle.std.specs.Io.KnownBytes.{Appends, Consumes, IsAtEnd}
+use Rattle.lpt_memory.specs.Memories.{Contents}
+use Rattle.lpt_jobs.specs.Jobs.{numbered}
+use Rattle.lpt_jobs.specs.declared.job.Job.{Job}
+use Rattle.lpt_jobs.specs.declared.job.Job.TheVariants.{Waiting}
+use Rattle.lpt_node.specs.Nodes.{NodeData}
+use Rattle.lpt_text.specs.Streams.{AppendsPart}
+use Rattle.lpt_text.specs.declared.fault.StreamFault.{StreamFault}
+use Rattle.lpt_text.specs.declared.fault.StreamFault.TheVariants as faults
+use Rattle.lpt_stream.specs.Pieces.{up_to_limit}
+use Rattle.lpt_stream.specs.Streams.{all_octets, IsUnfinished}
+use Rattle.lpt_frames.specs.Frames.{IsCut, IsStray}
+use Rattle.lpt_spacecraft.specs.Serving.{Onboard, served, with_ticks}
+use Rattle.lpt_spacecraft.specs.declared.spacecraft.Spacecraft.{Spacecraft}
+use Rattle.lpt_spacecraft.specs.declared.stop.Stop.{Stop}
+use Rattle.lpt_spacecraft.specs.declared.stop.Stop.TheVariants.{End, Cut, Stray}
+
+-- ---- one call
+
+-- what changes of a spacecraft
+abbrev pub onboard : Spacecraft → Onboard
+onboard s = record { node = s.node.at; memories = s.memories }
+
+-- nothing waits at an end
+abbrev pub IsIdle : Spacecraft → Type 0
+IsIdle s = s.node.at.jobs.jobs ≡ []
+
+-- what waits, by what was released
+abbrev pub WaitsFor : Option (List ℕ) → List Job → Type 0
+WaitsFor None js = js ≡ []
+WaitsFor (Some m) js = js ≡ Waiting m ∷ []
+
+-- a node came to that, its memories are as they were, and what it made was written
+abbrev pub Sends : NodeData × List (List ℕ) → (s t : Spacecraft) → (old new : Option (List ℕ)) →
+    Type 0
+Sends x s t old new =
+    (t.node.at ≡ x.0) × (t.memories ≡ s.memories) × Appends old new (all_octets x.1)
+
+-- an end came to that, and what it made was written
+abbrev pub Writes : Onboard × List (List ℕ) → Spacecraft → (old new : Option (List ℕ)) → Type 0
+Writes x s old new = (onboard s ≡ x.0) × Appends old new (all_octets x.1)
+
+-- the memories are as before or as after that, and a front part of what it makes was written
+abbrev pub Breaks : (before : Contents) → Onboard × List (List ℕ) → (now : Contents)
+    → (old new : Option (List ℕ)) → Type 0
+Breaks before x now old new =
+    ((now ≡ before) ⊎ (now ≡ x.0.memories)) × AppendsPart old new (all_octets x.1)
+
+-- ---- a stream
+
+-- what these packets make of a spacecraft, with a tick behind each that many
+abbrev pub served_by : (every : ℕ) → Spacecraft → List (List ℕ) → Onboard × List (List ℕ)
+served_by every s packets = served s.config (onboard s) (with_ticks every 0 packets)
+
+-- octets were read, and cut into packets and a rest of which this holds; those that are lost were
+-- read behind them
+abbrev pub ReadsCut : (before after : Option (List ℕ)) → (lost : List ℕ)
+    → (List (List ℕ) → List ℕ → Type 0) → Type 0
+ReadsCut before after lost P =
+    (stream : List ℕ) × (packets : List (List ℕ)) × (rest : List ℕ)
+    × Consumes before after (stream ++ lost) × IsCut stream packets rest × P packets rest
+
+-- where a stream ends, with these octets left behind its packets, at this place
+abbrev pub end_at : (place : ℕ) → List ℕ → Stop
+end_at place [] = End
+end_at place (b ∷ bs) = Cut place
+
+-- work stops there: behind so many octets of packets, before this rest
+abbrev pub StopsAt : Stop → (len : ℕ) → (rest : List ℕ) → (after : Option (List ℕ)) → Type 0
+StopsAt End len rest after = (rest ≡ []) × IsAtEnd after
+StopsAt (Cut place) len rest after =
+    (place ≡ up_to_limit len) × IsUnfinished rest × (0 < length rest) × IsAtEnd after
+StopsAt (Stray place) len rest after = (place ≡ up_to_limit len) × IsStray rest
+
+-- all of these packets were taken, and what they make was written
+abbrev pub Serves : (every : ℕ) → (s t : Spacecraft) → (old new : Option (List ℕ))
+    → List (List ℕ) → Type 0
+Serves every s t old new packets = Writes (served_by every s packets) t old new
+
+-- The packets before the last were taken, and what that makes was written in part; the memories are
+-- as before it or as it leaves them. Or there is none at which work broke off.
+pub record BreaksOff (every : ℕ) (s t : Spacecraft) (old new : Option (List ℕ))
+    (packets : List (List ℕ)) : Type 0 where
+  pub taken : List (List ℕ)
+  pub last : Option (List ℕ)
+  pub are : packets ≡ taken ++ option_to_list last
+  pub breaks : Breaks (served_by every s taken).0.memories (served_by every s packets) t.memories
+      old new
+
+-- How work on a stream ends. Ok: where it stops, all packets before that were taken. Read: the
+-- same, and no more was read. Write, Memory: it broke off; octets that found no memory are lost.
+abbrev pub ServesTo : (every : ℕ) → Result Stop StreamFault → (s t : Spacecraft)
+    → (before after old new : Option (List ℕ)) → Type 0
+ServesTo every (Ok stop) s t before after old new =
+    ReadsCut before after [] (λ packets rest.
+    StopsAt stop (length (all_octets packets)) rest after × Serves every s t old new packets)
+ServesTo every (Err faults.Read) s t before after old new =
+    ReadsCut before after [] (λ packets rest. Serves every s t old new packets)
+ServesTo every (Err faults.Write) s t before after old new =
+    ReadsCut before after [] (λ packets rest. BreaksOff every s t old new packets)
+ServesTo every (Err faults.Memory) s t before after old new =
+    (lost : List ℕ)
+    × ReadsCut before after lost (λ packets rest. BreaksOff every s t old new packets)
+
+-- 2^64 - 1 packets were read, or as many requests released
+abbrev pub IsEndless : Spacecraft → (before after : Option (List ℕ)) → Type 0
+IsEndless t before after =
+    ReadsCut before after [] (λ packets rest. length packets ≡ 2 ^ 64 - 1)
+    ⊎ (numbered t.node.at.jobs ≡ 2 ^ 64 - 1)

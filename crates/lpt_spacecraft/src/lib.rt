@@ -1,0 +1,23 @@
+//! The spacecraft's end over a stream of packets. Each packet goes to a node; each request that is
+//! released is read and executed at once; what is reported of it is written, in order, and a
+//! report that is too long for a packet in all its parts. Ticks come every so many packets, and
+//! what is due then is given up.
+//!
+//! The main type is `Spacecraft`. The first calls are `Spacecraft::new` and `serve_stream`.
+#![tactic(auto)]
+
+mod sending;
+mod serving;
+mod spacecraft;
+mod stop;
+mod taking;
+mod ticking;
+mod writing;
+
+pub use lpt_events::Config;
+pub use lpt_frames::Peer;
+pub use lpt_memory::Memories;
+pub use lpt_text::{Sink, StreamFault};
+pub use serving::serve_stream;
+pub use spacecraft::Spacecraft;
+pub use stop::Stop;

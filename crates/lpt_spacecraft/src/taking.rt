@@ -1,0 +1,152 @@
+//! What the spacecraft's end makes of a packet.
+
+ghost use Rattle.std.specs.Prelude.{◌≡◌, ◌∷◌, ◌⊎◌, ◌+◌, ◌-◌, ◌<◌, ◌^◌, ℕ, List, [], true, false, IfErr, IfOk, OnOk, Some, option_map};
+ghost use Rattle.lpt_jobs.specs.Jobs.{numbered};
+ghost use Rattle.lpt_jobs.specs.declared.job.Job.TheVariants.{Waiting};
+ghost use Rattle.lpt_events.specs.Configs.{IsConfig};
+ghost use Rattle.lpt_memory.specs.Memories.{content_of};
+ghost use Rattle.lpt_text.specs.Streams.{WriteEnds};
+ghost use Rattle.lpt_spacecraft.specs.Serving.{new_end, taken, worked, worked_if};
+ghost use Rattle.lpt_spacecraft.specs.Streams.{onboard, Breaks, IsIdle, WaitsFor, Writes};
+
+use crate::Spacecraft;
+use crate::writing::{write_all, write_one};
+use lpt_events::{Config, Side};
+use lpt_memory::{Memories, prepare};
+use lpt_node::{Accepted, Executed, Node};
+use lpt_packet::Octets;
+use lpt_text::{Sink, StreamFault};
+use std::alloc::{AllocError, Global};
+
+impl Spacecraft {
+    /// An end at which nothing has happened, with these memories. The only error is out of memory.
+    pub fn new(alloc: Global, config: &Config, memories: Memories) -> Result<Spacecraft, AllocError>
+        requires { IsConfig config.now }
+        ensures config { IfOk result (λ s. s.config ≡ config.now) }
+        ensures new { IfOk result (λ s. onboard s ≡ new_end config.now memories) }
+        ensures idle { IfOk result IsIdle }
+    {
+        let node = Node::new(alloc, Side::Craft, config)?;
+        Ok(Spacecraft {
+            alloc,
+            config: *config,
+            node,
+            memories,
+        })
+    }
+
+    /// The octets of a memory, or `None` where there is no such memory.
+    pub fn content(&self, id: u8) -> Option<&[u8]>
+        ensures { option_map (λ x. x.now) result ≡ content_of id self.now.memories }
+    {
+        self.memories.content(id)
+    }
+
+    /// Whether no more requests can be numbered: 2^64 - 1 were released.
+    pub fn is_full(&self) -> bool
+        ensures full { result ≡ true → numbered self.now.node.at.jobs ≡ 2 ^ 64 - 1 }
+        ensures room { result ≡ false → numbered self.now.node.at.jobs + 1 < 2 ^ 64 }
+    {
+        self.node.jobs() == u64::MAX
+    }
+
+    /// Takes a packet, executes what it released, and writes what is reported.
+    ///
+    /// Errors: `Write` where a write failed; `Memory`. The memories are as they were or as the
+    /// request leaves them, and a front part of what would be reported stays written.
+    pub fn take<K: Sink>(&mut self, octets: &[u8], out: &mut K) -> Result<(), StreamFault>
+        requires idle { IsIdle self.old }
+        requires room { numbered self.old.node.at.jobs + 1 < 2 ^ 64 }
+        ensures ok { OnOk result (Writes (taken self.old.config (onboard self.old) octets.now)
+            self.new (K.contents out.old) (K.contents out.new)) }
+        ensures idle { OnOk result (IsIdle self.new) }
+
+        ensures config { self.new.config ≡ self.old.config }
+
+        ensures fault { IfErr result (λ e. (e ≡ StreamFault.Write) ⊎ (e ≡ StreamFault.Memory)) }
+        ensures writer { WriteEnds result (K.failed out.old) (K.failed out.new) }
+        ensures breaks { IfErr result (λ _. Breaks self.old.memories
+            (taken self.old.config (onboard self.old) octets.now) self.new.memories
+            (K.contents out.old) (K.contents out.new)) }
+    {
+        let Ok(accepted) = self.node.accept_octets(octets) else {
+            return Err(StreamFault::Memory);
+        };
+        let Accepted {
+            outcome: _,
+            packet,
+            released,
+        } = accepted;
+        match write_one(out, packet) {
+            Ok(()) => {}
+            Err(fault) => return Err(fault),
+        }
+        self.work_if(released, out)
+    }
+
+    // Reads and executes the request that was released, if one was, and writes what is reported.
+    fn work_if<K: Sink>(&mut self, released: Option<Octets>, out: &mut K) -> Result<(), StreamFault>
+        requires { WaitsFor released self.old.node.at.jobs.jobs }
+        ensures ok { OnOk result (Writes (worked_if self.old.config (onboard self.old) released)
+            self.new (K.contents out.old) (K.contents out.new)) }
+        ensures idle { OnOk result (IsIdle self.new) }
+
+        ensures config { self.new.config ≡ self.old.config }
+
+        ensures fault { IfErr result (λ e. (e ≡ StreamFault.Write) ⊎ (e ≡ StreamFault.Memory)) }
+        ensures writer { WriteEnds result (K.failed out.old) (K.failed out.new) }
+        ensures breaks { IfErr result (λ _. Breaks self.old.memories
+            (worked_if self.old.config (onboard self.old) released) self.new.memories
+            (K.contents out.old) (K.contents out.new)) }
+    {
+        match released {
+            None => Ok(()),
+            Some(_) => self.work(out),
+        }
+    }
+
+    // Reads and executes the request that waits, and writes what is reported.
+    fn work<K: Sink>(&mut self, out: &mut K) -> Result<(), StreamFault>
+        requires { (m : List ℕ) × (self.old.node.at.jobs.jobs ≡ Waiting m ∷ []) }
+        ensures ok { OnOk result (Writes (worked self.old.config (onboard self.old)) self.new
+            (K.contents out.old) (K.contents out.new)) }
+        ensures idle { OnOk result (IsIdle self.new) }
+
+        ensures config { self.new.config ≡ self.old.config }
+
+        ensures fault { IfErr result (λ e. (e ≡ StreamFault.Write) ⊎ (e ≡ StreamFault.Memory)) }
+        ensures writer { WriteEnds result (K.failed out.old) (K.failed out.new) }
+        ensures breaks { IfErr result (λ _. Breaks self.old.memories
+            (worked self.old.config (onboard self.old)) self.new.memories
+            (K.contents out.old) (K.contents out.new)) }
+    {
+        let Ok(shape) = self.memories.shape() else {
+            return Err(StreamFault::Memory);
+        };
+        let Ok(ticket) = self.node.claim() else {
+            unreachable!()
+        };
+        let (boot, job) = (ticket.boot(), ticket.job());
+        let reading = match prepare(self.alloc, &shape, self.config.apid, ticket) {
+            Ok(prepared) => prepared.reading(),
+            Err(ticket) => {
+                ticket.abandon();
+                return Err(StreamFault::Memory);
+            }
+        };
+        self.node.commit(boot, job, reading);
+        let Ok(executed) = self.node.apply_front(&mut self.memories) else {
+            return Err(StreamFault::Memory);
+        };
+        let Executed {
+            applied: _,
+            packets,
+            opened,
+        } = executed;
+        match write_all(out, packets.as_slice()) {
+            Ok(()) => {}
+            Err(fault) => return Err(fault),
+        }
+        self.send_opened(opened, out)
+    }
+}

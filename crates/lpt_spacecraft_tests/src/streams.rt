@@ -1,0 +1,63 @@
+//! Streams, from the first octet to where the work stops.
+
+ghost use Rattle.std.specs.Prelude.{IfSome};
+ghost use Rattle.lpt_spacecraft.specs.Streams.{IsIdle};
+
+use crate::worked::{BROKEN_OFF, HALF, LOADED_AND_DUMPED, PART_AND_NOISE, REPORTS};
+use lpt_events::{Config, Mode};
+use lpt_memory::{Memories, Octets};
+use lpt_spacecraft::{Spacecraft, Stop, serve_stream};
+use lpt_text::FromStd;
+use std::alloc::Global;
+use std::test::Fail;
+
+const CONFIG: Config = Config {
+    apid: 100,
+    source: 1,
+    part_size: 16,
+    timeout: 1,
+    receptions: 8,
+    outgoing: 8,
+    clock: 0,
+    mode: Mode::Any,
+};
+
+/// A stream with a tick behind each so many packets, what is written of it, where the work stops,
+/// and what the first octets of the memory are then.
+const CASES: [(&[u8], u64, &[u8], Stop, [u8; 6]); 4] = [
+    (LOADED_AND_DUMPED, 0, REPORTS, Stop::End, [0, 0, 1, 2, 3, 4]),
+    (PART_AND_NOISE, 1, BROKEN_OFF, Stop::Stray(33), [0; 6]),
+    (HALF, 1, &[], Stop::Cut(0), [0; 6]),
+    (&[], 1, &[], Stop::End, [0; 6]),
+];
+
+// A spacecraft with a memory of 16 zeros, or none where memory runs out.
+fn craft(alloc: Global) -> Option<Spacecraft>
+    ensures { IfSome result IsIdle }
+{
+    let zeros = Octets::from_vec(vec![in alloc; 0; 16].ok()?);
+    let list = vec![in alloc; (1, zeros)].ok()?;
+    let memories = Memories::new(list).ok()?;
+    match Spacecraft::new(alloc, &CONFIG, memories) {
+        Ok(craft) => Some(craft),
+        Err(_) => None,
+    }
+}
+
+#[test]
+fn serves_worked_streams(rt: HostRuntime) -> Result<(), Fail> {
+    for (up, every, down, stop, front) in CASES {
+        let Some(mut craft) = craft(rt.alloc()) else {
+            return Err(Fail::from("no memory"));
+        };
+        let mut source = FromStd::new(up);
+        let mut out = FromStd::new(Vec::new(rt.alloc()));
+        let ended = serve_stream(&mut craft, every, &mut source, &mut out);
+        assert!(rt; ended == Ok(stop));
+        let written = out.into_inner();
+        assert!(rt; written.as_slice() == down);
+        let content = craft.content(1).unwrap_or(&[]);
+        assert!(rt; content.starts_with(&front));
+    }
+    Ok(())
+}
