@@ -40,8 +40,6 @@ fn tell_left<T: Taker>(name: Name, held: Held, taker: &mut T) -> Result<(), Stre
         return Ok(());
     }
     let news = News::Dropped(held.into_came());
-    match taker.take(name, &news) {
-        Ok(()) => Ok(()),
-        Err(fault) => Err(fault),
-    }
+    taker.take(name, &news)?;
+    Ok(())
 }

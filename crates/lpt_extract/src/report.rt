@@ -1,8 +1,9 @@
 //! Dump reports, read.
 
-ghost use Rattle.std.specs.Prelude.{◌≡◌, map, option_map, IfOk};
+ghost use Rattle.std.specs.Prelude.{◌≡◌, ◌≢◌, map, option_map, Err, IfOk};
 ghost use Rattle.lpt_memory.specs.Fields.{all_areas};
-ghost use Rattle.lpt_packet.specs.Packets.{fields};
+ghost use Rattle.lpt_packet.specs.Packets.{fields, verdict};
+ghost use Rattle.lpt_packet.specs.declared.fault.PacketFault.TheVariants.{Checksum};
 ghost use Rattle.lpt_memory.specs.Requests.{front_load_area};
 ghost use Rattle.lpt_extract.specs.Reports.{body_report, dump_in, dump_in_packet, report_in};
 ghost use Rattle.lpt_extract.specs.ReportsInside.{load_area, said};
@@ -10,7 +11,7 @@ ghost use Rattle.lpt_extract.specs.ReportsInside.{load_area, said};
 use crate::seen_area::SeenArea;
 use lpt_memory::fields;
 use lpt_packet::laws::seen_is_read;
-use lpt_packet::{Packet, Seen, read_packet};
+use lpt_packet::{Packet, Seen, read_sealed};
 use lpt_pus::read_tm;
 use std::alloc::{AllocError, Global};
 
@@ -33,13 +34,15 @@ pub(crate) enum Report<'a> {
     Areas(u8, Vec<SeenArea<'a>>),
 }
 
-// The dump report of this APID that octets are. The only error is out of memory.
+// The dump report of this APID that the octets of a whole piece are, whose checksum was taken
+// before. The only error is out of memory.
 #[tactic(auto, unfolding(crate::specs::Reports::report_in))]
 pub(crate) fn read_report<'a>(
     alloc: Global,
     apid: u16,
     octets: &'a [u8],
 ) -> Result<Report<'a>, AllocError>
+    requires { verdict octets.now ≢ Err Checksum }
     ensures { IfOk result (λ r. said r ≡ report_in apid octets.now) }
 {
     match dump_in(octets) {
@@ -53,12 +56,13 @@ pub(crate) fn read_report<'a>(
     }
 }
 
-// The APID and the body of the dump report that octets are.
+// The APID and the body of the dump report that they are.
 fn dump_in<'a>(octets: &'a [u8]) -> Option<(u16, &'a [u8])>
+    requires { verdict octets.now ≢ Err Checksum }
     ensures { option_map (λ x. (x.0, x.1.now)) result ≡ dump_in octets.now }
 {
     seen_is_read();
-    match read_packet(octets) {
+    match read_sealed(octets) {
         Ok(Seen::Packet(packet)) => dump_in_packet(&packet),
         Ok(Seen::Idle) => None,
         Err(_) => None,

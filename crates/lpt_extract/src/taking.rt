@@ -1,9 +1,11 @@
 //! What a piece of a stream gives.
 
-ghost use Rattle.std.specs.Prelude.{◌≡◌, ◌⊎◌, ◌∷◌, ◌++◌, List, [], IfErr, OnOk};
+ghost use Rattle.std.specs.Prelude.{◌≡◌, ◌≢◌, ◌⊎◌, ◌∷◌, ◌++◌, List, [], Err, IfErr, OnOk};
 ghost use Rattle.std.specs.Io.KnownBytes.{Appends};
 ghost use Rattle.lpt_text.specs.Streams.{AppendsPart, WriteEnds};
-ghost use Rattle.lpt_stream.specs.Pieces.{packet_before};
+ghost use Rattle.lpt_stream.specs.Pieces.{packet_before, IsSealed};
+ghost use Rattle.lpt_packet.specs.declared.fault.PacketFault.TheVariants.{Checksum};
+ghost use Rattle.lpt_packet.specs.Packets.{verdict};
 ghost use Rattle.lpt_memory.specs.declared.request.Area.{Area};
 ghost use Rattle.lpt_memory.specs.Meanings.{area};
 ghost use Rattle.lpt_extract.specs.declared.notice.Notice.{Notice};
@@ -35,6 +37,7 @@ pub(crate) fn take_piece<K: Sink, L: Listener>(
     out: &mut K,
     listener: &mut L,
 ) -> Result<(), StreamFault>
+    requires { IsSealed kind octets.now }
     ensures held { (areas : List Area) (ns : List Notice) → Held wanted.now.at areas ns holding.old
         → OnOk result (Held wanted.now.at
         (areas ++ areas_in wanted.now (packet_before kind octets.now []))
@@ -71,17 +74,20 @@ fn take_packet<K: Sink, L: Listener>(
     out: &mut K,
     listener: &mut L,
 ) -> Result<(), StreamFault>
+    requires { verdict octets.now ≢ Err Checksum }
     ensures held { (areas : List Area) (ns : List Notice) → Held wanted.now.at areas ns holding.old
         → OnOk result (Held wanted.now.at
         (areas ++ areas_of wanted.now.at (report_in wanted.now.apid octets.now))
         (ns ++ notices_of wanted.now.at place (report_in wanted.now.apid octets.now)) holding.new) }
     ensures wrote { OnOk result (Appends (K.contents out.old) (K.contents out.new)
-        (written_first wanted.now.at (areas_of wanted.now.at (report_in wanted.now.apid octets.now)))) }
+        (written_first wanted.now.at
+        (areas_of wanted.now.at (report_in wanted.now.apid octets.now)))) }
     ensures heard { OnOk result (Hears (L.heard listener.old) (L.heard listener.new)
         (notices_of wanted.now.at place (report_in wanted.now.apid octets.now))) }
     ensures fault { IfErr result (λ e. (e ≡ StreamFault.Write) ⊎ (e ≡ StreamFault.Memory)) }
     ensures part { IfErr result (λ _. AppendsPart (K.contents out.old) (K.contents out.new)
-        (written_first wanted.now.at (areas_of wanted.now.at (report_in wanted.now.apid octets.now)))) }
+        (written_first wanted.now.at
+        (areas_of wanted.now.at (report_in wanted.now.apid octets.now)))) }
     ensures writer { WriteEnds result (K.failed out.old) (K.failed out.new) }
 {
     let report = match read_report(alloc, wanted.apid, octets) {

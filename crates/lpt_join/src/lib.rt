@@ -41,7 +41,7 @@ pub use lpt_text::{Sink, Source, StreamFault};
 pub use messages::{Misfit, check_message, is_part_of};
 pub use only::join_only;
 pub use part_numbers::PartNumbers;
-pub use reading::{named_part_in, part_in, part_in_piece};
+pub use reading::{named_part_in, part_in_piece};
 pub use several::gather_stream;
 pub use stream::join_stream;
 pub use telling::missing_list;

@@ -138,6 +138,7 @@ impl Link {
     /// no tag or this one can be put without taking memory.
     ///
     /// Errors: out of memory alone. Then nothing has changed.
+    #[inline(always)]
     pub fn reserve(&mut self, n: u64, tag: Option<(Direction, Name)>) -> Result<(), AllocError>
         ensures room { OnOk result (n ≤ self.new.spare) }
         ensures place { OnOk result (IfSome tag (λ t. HasPlace self.new.places t.0 t.1)) }

@@ -76,6 +76,7 @@ impl Tags {
     }
 
     // Takes one away from it, and with the last one its place.
+    #[inline(always)]
     pub(crate) fn remove(&mut self, direction: Direction, tag: Option<Name>)
         requires { (name : Name) → one_of direction tag direction name ≤ count_of self.old direction name }
         ensures { IsOneMore direction tag self.new self.old }
@@ -90,6 +91,7 @@ impl Tags {
 }
 
 // The number under a name.
+#[inline(always)]
 fn number(counts: &BTreeMap<Name, u64>, name: Name) -> u64
     ensures { result ≡ number_in counts.now.entries name }
 {
@@ -100,6 +102,7 @@ fn number(counts: &BTreeMap<Name, u64>, name: Name) -> u64
 }
 
 // Makes the place of a name. The only error is out of memory, which comes only where there is none.
+#[inline(always)]
 fn place(counts: &mut BTreeMap<Name, u64>, name: Name) -> Result<(), AllocError>
     ensures place { OnOk result (IsPlaced counts.new.entries name) }
     ensures there { IsPlaced counts.old.entries name → IsOk result }
@@ -116,6 +119,7 @@ fn place(counts: &mut BTreeMap<Name, u64>, name: Name) -> Result<(), AllocError>
 }
 
 // Adds one to the number of a name that has a place.
+#[inline(always)]
 fn add_one(counts: &mut BTreeMap<Name, u64>, name: Name)
     requires place { IsPlaced counts.old.entries name }
     requires room { number_in counts.old.entries name + 1 < 2 ^ 64 }

@@ -2,36 +2,56 @@
 
 ghost use Rattle.std.specs.Prelude.{◌≡◌, IfOk};
 ghost use Rattle.std.specs.String.{string_bytes};
-ghost use Rattle.lpt_packet.specs.Packets.{fields};
+ghost use Rattle.lpt_packet.specs.Packets.{fields, verdict, Gives};
 ghost use Rattle.lpt_pus.specs.Commands.{command, tc_verdict};
 ghost use Rattle.lpt_pus.specs.Telemetry.{telemetry, tm_verdict};
 ghost use Rattle.lpt_part.specs.Splitting.{IsPartSize};
+ghost use Rattle.lpt_stream.specs.Pieces.{IsSealed};
 ghost use Rattle.lpt_list.specs.Items.{abort_items, abort_said, code_items, fault_items, field_said, items_text, packet_said, part_said, report_items, report_said, request_items, said, tc_carried, tc_said, tm_carried, tm_said, unread_items};
 
 use crate::Form;
 use crate::headers::{joined, primary, tc_head, tm_head};
 use lpt_events::part_kind;
-use lpt_packet::{Direction, Packet, PacketKind, Seen, read_packet};
+use lpt_packet::{Direction, Packet, PacketFault, PacketKind, Seen, read_packet, read_sealed};
 use lpt_part::{ABORT, Kind, Reason, TRANSFER, read_abort, read_part};
 use lpt_pus::{TcHead, TmHead, read_tc, read_tm};
+use lpt_stream::PieceKind;
 use lpt_verify::{Report, read_report};
 use std::alloc::{AllocError, Global};
 
 /// The service type of request verification (ECSS-E-ST-70-41C).
 const VERIFICATION: u8 = 1;
 
-// What octets say, for parts of `p` octets.
-pub(crate) fn said(alloc: Global, form: Form, octets: &[u8], p: u32) -> Result<String, AllocError>
-    requires { IsPartSize p }
+// What the octets of a piece of this kind say, for parts of `p` octets.
+pub(crate) fn said(
+    alloc: Global,
+    form: Form,
+    kind: PieceKind,
+    octets: &[u8],
+    p: u32,
+) -> Result<String, AllocError>
+    requires size { IsPartSize p }
+    requires sealed { IsSealed kind octets.now }
     ensures { IfOk result (λ t. string_bytes t ≡ items_text form (said p octets.now)) }
 {
-    match read_packet(octets) {
+    match read_piece(kind, octets) {
         Ok(Seen::Idle) => match form {
             Form::Text => String::from_str(alloc, " idle"),
             Form::Json => String::from_str(alloc, ",\"packet_type\":\"idle\""),
         },
         Ok(Seen::Packet(packet)) => packet_said(alloc, form, &packet, p),
         Err(fault) => fault_said(alloc, form, fault.code(), fault.name()),
+    }
+}
+
+// The octets of a piece of this kind, read: a whole one's checksum was taken before.
+fn read_piece(kind: PieceKind, octets: &[u8]) -> Result<Seen<'_>, PacketFault>
+    requires { IsSealed kind octets.now }
+    ensures { Gives result (verdict octets.now) }
+{
+    match kind {
+        PieceKind::Whole => read_sealed(octets),
+        PieceKind::Damaged | PieceKind::Stray => read_packet(octets),
     }
 }
 

@@ -3,42 +3,51 @@
 ghost use Rattle.std.specs.Prelude.{◌≡◌, ◌++◌, IfOk};
 ghost use Rattle.std.specs.String.{string_bytes};
 ghost use Rattle.lpt_part.specs.Splitting.{IsPartSize};
+ghost use Rattle.lpt_stream.specs.Pieces.{IsSealed};
 ghost use Rattle.lpt_list.specs.declared.form.Form.TheVariants.{Json, Text};
 ghost use Rattle.lpt_list.specs.Items.{items_text};
 ghost use Rattle.lpt_list.specs.Lists.{closing, length_items, none_line, opening, piece_line};
 
 use crate::Form;
 use crate::heads::said;
+use lpt_stream::PieceKind;
 use std::alloc::{AllocError, Global};
 
-// The line of octets at a place of a stream, for parts of `p` octets (4 to 1024): their length, and
-// what they say, or the first test that they fail. The only error is out of memory.
+// The line of a piece at a place of a stream, for parts of `p` octets (4 to 1024): its length, and
+// what it says, or the first test that it fails. The only error is out of memory.
 #[tactic(auto, using(crate::proofs::ItemLemmas::line_parts))]
 pub(crate) fn print_piece(
     alloc: Global,
     form: Form,
     p: u32,
     place: u64,
+    kind: PieceKind,
     octets: &[u8],
 ) -> Result<String, AllocError>
-    requires { IsPartSize p }
+    requires size { IsPartSize p }
+    requires sealed { IsSealed kind octets.now }
     ensures { IfOk result (λ t. string_bytes t ≡ piece_line form p place octets.now) }
 {
     let mut text = line_front(alloc, form, place, octets.len() as u64)?;
-    text.push_str(said(alloc, form, octets, p)?.as_str())?;
+    text.push_str(said(alloc, form, kind, octets, p)?.as_str())?;
     text.push_str(line_end(form))?;
     Ok(text)
 }
 
-// The front of a line: its place, and how many octets there are.
+/// For so many octets a line has room from the first.
+const LINE_ROOM: usize = 160;
+
+// The front of a line, with room for the rest: its place, and how many octets there are.
 fn line_front(alloc: Global, form: Form, place: u64, len: u64) -> Result<String, AllocError>
     ensures { IfOk result (λ t. string_bytes t
         ≡ opening form place ++ items_text form (length_items len)) }
 {
+    let mut text = String::with_capacity(alloc, LINE_ROOM)?;
     match form {
-        Form::Text => format!(in alloc; "{place} length {len}"),
-        Form::Json => format!(in alloc; "{{\"place\":{place},\"length\":{len}"),
+        Form::Text => text.write(format_args!("{place} length {len}"))?,
+        Form::Json => text.write(format_args!("{{\"place\":{place},\"length\":{len}"))?,
     }
+    Ok(text)
 }
 
 // The line that no packet is at a place. The only error is out of memory.

@@ -5,7 +5,7 @@ ghost use Rattle.std.specs.Io.KnownBytes.{Appends};
 ghost use Rattle.std.specs.String.{string_bytes};
 ghost use Rattle.lpt_part.specs.Splitting.{IsPartSize};
 ghost use Rattle.lpt_text.specs.Streams.{AppendsPart, ReadEnds, WriteEnds};
-ghost use Rattle.lpt_stream.specs.Pieces.{keeps_step};
+ghost use Rattle.lpt_stream.specs.Pieces.{keeps_step, IsSealed};
 ghost use Rattle.lpt_list.specs.Lists.{line_for, IsTooLong, ListLeaves, ListsTo};
 
 use crate::lines::{print_none, print_piece};
@@ -148,7 +148,8 @@ fn list_piece<K: Sink>(
     octets: &[u8],
     out: &mut K,
 ) -> Result<(), StreamFault>
-    requires { IsPartSize p }
+    requires size { IsPartSize p }
+    requires sealed { IsSealed kind octets.now }
     ensures ok { OnOk result (Appends (K.contents out.old) (K.contents out.new)
         (line_for form p place in_step kind octets.now)) }
     ensures fault { IfErr result (λ e. (e ≡ StreamFault.Write) ⊎ (e ≡ StreamFault.Memory)) }
@@ -172,11 +173,12 @@ fn print_line(
     kind: PieceKind,
     octets: &[u8],
 ) -> Result<String, AllocError>
-    requires { IsPartSize p }
+    requires size { IsPartSize p }
+    requires sealed { IsSealed kind octets.now }
     ensures { IfOk result (λ t. string_bytes t ≡ line_for form p place in_step kind octets.now) }
 {
     match kind {
-        PieceKind::Whole | PieceKind::Damaged => print_piece(alloc, form, p, place, octets),
+        PieceKind::Whole | PieceKind::Damaged => print_piece(alloc, form, p, place, kind, octets),
         PieceKind::Stray => {
             if in_step {
                 print_none(alloc, form, place)

@@ -58,6 +58,7 @@ impl Node {
     /// As [`Node::accept`], but the octets are borrowed: they are copied only where they are
     /// released as a plain request. The only error is an allocation that fails; then nothing has
     /// changed.
+    #[inline(always)]
     pub fn accept_octets(&mut self, octets: &[u8]) -> Result<Accepted, AllocError>
         requires { numbered self.old.at.jobs + 1 < 2 ^ 64 }
         ensures ok { IfOk result (λ r. (self.new.at, r)
@@ -82,6 +83,7 @@ impl Node {
     }
 
     // Takes what a packet shows that isn't a plain request.
+    #[inline(always)]
     fn accept_shown(&mut self, arrival: &Arrival<'_>) -> Result<Accepted, AllocError>
         requires shown { IsShown self.old.config.part_size arrival.now }
         requires numbers { numbered self.old.at.jobs + 1 < 2 ^ 64 }
@@ -132,6 +134,7 @@ impl Node {
     }
 
     // Takes a part that came from this source, or to it.
+    #[inline(always)]
     fn accept_part(&mut self, source: u16, part: &Part<'_>) -> Result<Accepted, AllocError>
         requires p { part.now.p ≡ self.old.config.part_size }
         requires numbers { numbered self.old.at.jobs + 1 < 2 ^ 64 }

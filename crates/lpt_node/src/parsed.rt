@@ -97,6 +97,7 @@ impl Parsed {
 }
 
 // What octets show that were delivered to this side, for packets of this APID and parts of `p` octets.
+#[inline(always)]
 pub(crate) fn arrival_in(octets: &[u8], side: Side, apid: u16, p: u32) -> Arrival<'_>
     requires { IsPartSize p }
     ensures { Shows p octets.now result (arrival side apid p octets.now) }
@@ -105,6 +106,7 @@ pub(crate) fn arrival_in(octets: &[u8], side: Side, apid: u16, p: u32) -> Arriva
 }
 
 // What octets show in which this was found.
+#[inline(always)]
 fn shown(layout: Layout, octets: &[u8], p: u32) -> Arrival<'_>
     requires within { IsWithin octets.now layout }
     requires part_size { IsPartSize p }

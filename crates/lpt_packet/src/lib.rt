@@ -25,6 +25,6 @@ pub use fault::PacketFault;
 pub use name::Name;
 pub use octets::Octets;
 pub use packet::{Packet, PacketKind, Seen};
-pub use reading::read_packet;
+pub use reading::{read_packet, read_sealed};
 pub use sizes::{ERROR_CONTROL, LONGEST_FIELD, LONGEST_PACKET, PRIMARY_HEADER};
 pub use writing::{primary_header, write_packet, write_pieces};

@@ -1,6 +1,7 @@
 //! Reading a packet from octets.
 
-ghost use Rattle.std.specs.Prelude.{◌≡◌, ◌+◌, ◌-◌, ◌%◌, ◌<◌, ◌≤◌, ◌==◌, length, take, Ok, IfOk};
+ghost use Rattle.std.specs.Prelude.{◌≡◌, ◌+◌, ◌-◌, ◌%◌, ◌<◌, ◌≤◌, ◌==◌, true, length, take, Ok, Err, IfOk};
+ghost use Rattle.lpt_packet.specs.declared.fault.PacketFault.TheVariants.{Checksum};
 ghost use Rattle.lpt_packet.specs.Checksums.{checksum};
 ghost use Rattle.lpt_packet.specs.Numbers.{word_at};
 ghost use Rattle.lpt_packet.specs.Packets.{Fields, IdlePacket, APacket, sight, IsSight, IsPacket, IsIdle, verdict, Gives};
@@ -26,12 +27,22 @@ pub fn read_packet(bytes: &[u8]) -> Result<Seen<'_>, PacketFault>
     // The fault is the first.
     ensures exact { Gives result (verdict bytes.now) }
 {
-    first_fault_or_sight(bytes)
+    first_fault_or_sight(bytes, false)
 }
 
-// The tests of a packet, in their order.
+/// Reads octets of which it is known that their checksum isn't at fault: those of a whole packet
+/// that was found in a stream, say. It answers what `read_packet` answers, and takes no checksum.
+pub fn read_sealed(bytes: &[u8]) -> Result<Seen<'_>, PacketFault>
+    requires { verdict bytes.now ≡ Err Checksum → ⊥ }
+    ensures { Gives result (verdict bytes.now) }
+{
+    first_fault_or_sight(bytes, true)
+}
+
+// The tests of a packet, in their order; the last isn't made where it is known how it ends.
 #[tactic(auto, unfolding(crate::specs::Packets::verdict))]
-fn first_fault_or_sight(bytes: &[u8]) -> Result<Seen<'_>, PacketFault>
+fn first_fault_or_sight(bytes: &[u8], is_known: bool) -> Result<Seen<'_>, PacketFault>
+    requires { is_known ≡ true → verdict bytes.now ≡ Err Checksum → ⊥ }
     ensures { Gives result (verdict bytes.now) }
 {
     if bytes.len() < 7 {
@@ -54,7 +65,7 @@ fn first_fault_or_sight(bytes: &[u8]) -> Result<Seen<'_>, PacketFault>
     if (first >> 11) & 1 != 1 {
         return Err(PacketFault::NoSecondary);
     }
-    if bytes.len() < 8 || !is_sealed(bytes) {
+    if !is_known && (bytes.len() < 8 || !is_sealed(bytes)) {
         return Err(PacketFault::Checksum);
     }
     let kind = if (first >> 12) & 1 == 1 {
@@ -80,6 +91,7 @@ fn has_its_length(bytes: &[u8]) -> bool
 }
 
 // Whether the last two octets are the checksum of those before.
+#[inline(always)]
 fn is_sealed(bytes: &[u8]) -> bool
     requires { 8 ≤ length bytes.now }
     ensures { result ≡ (checksum (take (length bytes.now - 2) bytes.now)

@@ -108,6 +108,7 @@ impl Filling {
 
     /// Adds a part of this transaction in this mode, and leaves the reception where it is. Where the
     /// answer is `Whole` or `Conflict`, `ended_by` and `broken_for` give the reception that ended.
+    #[inline(always)]
     pub fn take(&mut self, mode: Mode, part: &Part<'_>) -> Took
         requires id { part.now.id ≡ self.old.id }
         requires p { part.now.p ≡ self.old.p }

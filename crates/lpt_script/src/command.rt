@@ -54,6 +54,7 @@ fn quietly(written: Result<(), StreamFault>) -> Result<Option<StepFault>, Stream
 }
 
 /// Asks the world for an event, prints what it answers, and answers why it was refused, if it was.
+#[inline(never)]
 pub(crate) fn run_event<K: Sink>(
     alloc: Global,
     world: &mut World,
@@ -70,6 +71,7 @@ pub(crate) fn run_event<K: Sink>(
 }
 
 // Prints what the last event of the journal answered.
+#[inline(always)]
 fn put_last<K: Sink>(
     alloc: Global,
     world: &World,
@@ -87,6 +89,7 @@ fn put_last<K: Sink>(
 }
 
 // Prints what an accepted event answered, where this source is configured.
+#[inline(always)]
 fn put_entry<K: Sink>(
     alloc: Global,
     source: u16,

@@ -11,6 +11,7 @@ use lpt_text::{Sink, StreamFault, write_out};
 use std::alloc::{AllocError, Global};
 
 /// Writes a text, where it could be made.
+#[inline(always)]
 pub fn put<K: Sink>(out: &mut K, text: Result<String, AllocError>) -> Result<(), StreamFault>
     ensures ends { (t : List ℕ) → IfOk text (λ s. string_bytes s ≡ t) → TextEnds t result (K.contents out.old) (K.contents out.new) }
     ensures grows { Grows (K.contents out.old) (K.contents out.new) }
@@ -25,6 +26,7 @@ pub fn put<K: Sink>(out: &mut K, text: Result<String, AllocError>) -> Result<(),
 
 /// Writes why an event was refused, and answers it. Nothing is written when out of memory,
 /// which ends the run.
+#[inline(always)]
 pub(crate) fn put_refused<K: Sink>(
     alloc: Global,
     fault: StepFault,

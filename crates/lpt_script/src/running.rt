@@ -57,6 +57,7 @@ impl Running {
     ghost use Rattle.lpt_script.specs.RunsInside.{LineTaken};
 
     // Runs a line, and answers what became of it.
+    #[inline(always)]
     fn run_line<K: Sink>(
         &mut self,
         number: u64,

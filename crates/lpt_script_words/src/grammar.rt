@@ -61,6 +61,7 @@ pub enum Reading {
 /// Nothing may follow the last word.
 /// Errors: out of memory, only at a line that asks for an `open`, a `damage`, a `plain` or a `load`.
 #[tactic(auto, unfolding(crate::specs::Grammar::reading_of))]
+#[inline(always)]
 pub fn read_line(alloc: Global, source: u16, line: &[u8]) -> Result<Reading, AllocError>
     ensures says { IfOk result (λ r. r ≡ reading_of source line.now) }
 

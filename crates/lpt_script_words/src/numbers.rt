@@ -13,6 +13,7 @@ use std::alloc::{AllocError, Global};
 ///
 /// Leading zeros count as digits. There is none where the word is anything else.
 #[tactic(auto, unfolding(crate::specs::Numbers::number_of))]
+#[inline(always)]
 pub fn read_number(word: &[u8], greatest: u64) -> Option<u64>
     ensures value { result ≡ number_of greatest word.now }
     ensures bound { IfSome result (λ n. n ≤ greatest) }

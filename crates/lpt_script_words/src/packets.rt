@@ -61,6 +61,7 @@ pub(crate) fn read_pass(rest: &[u8]) -> Option<Command>
 }
 
 // A lane and the number of a packet, and no further word.
+#[inline(always)]
 fn read_lane_and_packet(rest: &[u8]) -> Option<(Lane, u64)>
     ensures { result ≡ lane_and_packet_of (words rest.now) }
 {

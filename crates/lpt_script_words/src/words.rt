@@ -10,6 +10,7 @@ use lpt_text::first_place;
 /// Words are the pieces between spaces that aren't empty, so any number of spaces may stand before,
 /// between and after them. No other octet separates, a tab doesn't either. There is none where the
 /// line has no word.
+#[inline(always)]
 pub fn split_word(line: &[u8]) -> Option<(&[u8], &[u8])>
     ensures words { MatchOption result (words line.now ≡ [])
         (λ cut. words line.now ≡ cut.0.now ∷ words cut.1.now) }
@@ -33,6 +34,7 @@ pub(crate) fn is_blank(line: &[u8]) -> bool
 }
 
 // The word of a line that has no other.
+#[inline(always)]
 pub(crate) fn one_word(line: &[u8]) -> Option<&[u8]>
     ensures { MatchOption result (one_of (words line.now) ≡ None)
         (λ word. one_of (words line.now) ≡ Some word.now) }
@@ -42,6 +44,7 @@ pub(crate) fn one_word(line: &[u8]) -> Option<&[u8]>
 }
 
 // The words of a line that has two.
+#[inline(always)]
 pub(crate) fn two_words(line: &[u8]) -> Option<(&[u8], &[u8])>
     ensures { MatchOption result (two_of (words line.now) ≡ None)
         (λ two. two_of (words line.now) ≡ Some (two.0.now, two.1.now)) }
@@ -52,6 +55,7 @@ pub(crate) fn two_words(line: &[u8]) -> Option<(&[u8], &[u8])>
 }
 
 // The words of a line that has three.
+#[inline(always)]
 pub(crate) fn three_words(line: &[u8]) -> Option<(&[u8], &[u8], &[u8])>
     ensures { MatchOption result (three_of (words line.now) ≡ None)
         (λ three. three_of (words line.now) ≡ Some (three.0.now, three.1.now, three.2.now)) }
@@ -62,6 +66,7 @@ pub(crate) fn three_words(line: &[u8]) -> Option<(&[u8], &[u8], &[u8])>
 }
 
 // The word that a text begins with, and what follows the space after it.
+#[inline(always)]
 fn cut_word(text: &[u8]) -> (&[u8], &[u8])
     requires some { 0 < length text.now }
     requires begins { slice_index text.now 0 ≢ 32 }

@@ -1,6 +1,7 @@
 //! How many pieces of a stream were passed over, and why.
 
 ghost use Rattle.std.specs.Prelude.{◌≡◌};
+ghost use Rattle.lpt_stream.specs.Pieces.{IsSealed};
 ghost use Rattle.lpt_skips.specs.Tallies.{nothing_noted, noted};
 
 use crate::{Reading, Why};
@@ -52,8 +53,9 @@ impl Skips {
     }
 
     /// Notes a piece of a stream that came to this reading, of this kind and these octets: nothing
-    /// of a part that is wanted.
+    /// of a part that is wanted. A whole one's checksum was taken before, and is right.
     pub fn note(&mut self, reading: &Reading, kind: PieceKind, octets: &[u8])
+        requires { IsSealed kind octets.now }
         ensures noted { self.new
             ≡ noted reading.now self.old (record { kind = kind; octets = octets.now }) }
     {

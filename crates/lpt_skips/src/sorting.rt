@@ -5,11 +5,12 @@ ghost use Rattle.lpt_packet.specs.Packets.{fields};
 ghost use Rattle.lpt_packet.specs.Names.{named_by};
 ghost use Rattle.lpt_pus.specs.Commands.{tc_verdict};
 ghost use Rattle.lpt_pus.specs.Telemetry.{tm_verdict};
+ghost use Rattle.lpt_stream.specs.Pieces.{IsSealed};
 ghost use Rattle.lpt_skips.specs.Skipping.{fitting_size, why_of, why_typed, why_command, why_telemetry, why_body, why_name};
 
 use crate::{Reading, Why};
 use lpt_events::part_kind;
-use lpt_packet::{Direction, Name, Packet, PacketKind, Seen, read_packet};
+use lpt_packet::{Direction, Name, Packet, PacketKind, Seen, read_sealed};
 use lpt_part::{Kind, read_part};
 use lpt_pus::{read_tc, read_tm};
 use lpt_stream::PieceKind;
@@ -24,14 +25,16 @@ const LEAST_PART_SIZE: usize = 4;
 const GREATEST_PART_SIZE: usize = 1024;
 
 impl Reading {
-    /// Why a piece of this kind, of these octets, is passed over; or that it isn't.
+    /// Why a piece of this kind, of these octets, is passed over; or that it isn't. A whole one's
+    /// checksum was taken before, and is right.
     pub fn why(&self, kind: PieceKind, octets: &[u8]) -> Why
+        requires { IsSealed kind octets.now }
         ensures { result ≡ why_of self.now kind octets.now }
     {
         match kind {
             PieceKind::Damaged => Why::Damaged,
             PieceKind::Stray => Why::Stray(octets.len()),
-            PieceKind::Whole => match read_packet(octets) {
+            PieceKind::Whole => match read_sealed(octets) {
                 Ok(Seen::Packet(packet)) if packet.apid == self.apid => self.why_packet(&packet),
                 Ok(Seen::Packet(packet)) => Why::OtherApid(packet.apid),
                 Ok(Seen::Idle) | Err(_) => Why::NoPart,

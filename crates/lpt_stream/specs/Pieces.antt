@@ -1,6 +1,7 @@
 -- How a stream is cut into pieces, where not all of its octets are packets.
-use Rattle.std.specs.Prelude.{◌≡◌, ℕ, ◌+◌, ◌-◌, ◌^◌, ◌<◌, ◌==◌, ◌&&◌, ◌||◌, not, ◌/◌, ◌%◌, min, nat_lt, nat_le, Bool, true, false, if◌then◌else◌, List, [], ◌∷◌, length, take, drop, Result, Ok, Err}
+use Rattle.std.specs.Prelude.{◌≡◌, ◌≢◌, ℕ, ◌+◌, ◌-◌, ◌^◌, ◌<◌, ◌==◌, ◌&&◌, ◌||◌, not, ◌/◌, ◌%◌, min, nat_lt, nat_le, Bool, true, false, if◌then◌else◌, List, [], ◌∷◌, length, take, drop, Result, Ok, Err}
 use Rattle.lpt_packet.specs.declared.fault.PacketFault.{PacketFault}
+use Rattle.lpt_packet.specs.declared.fault.PacketFault.TheVariants.{Checksum}
 use Rattle.lpt_packet.specs.Numbers.{word_at}
 use Rattle.lpt_packet.specs.Packets.{Sight, IdlePacket, APacket, verdict}
 use Rattle.lpt_stream.specs.declared.piece_kind.PieceKind.{PieceKind}
@@ -96,6 +97,10 @@ piece_of k near b = record { kind = k; octets = take (size_in k near) b }
 -- the piece at the front
 unfoldable pub piece_at : (in_step : Bool) → List ℕ → Piece
 piece_at s b = piece_of (kind_in s (take lookahead b)) (take lookahead b) b
+
+-- a packet's checksum isn't at fault: it was taken as the piece was found
+abbrev pub IsSealed : PieceKind → List ℕ → Type 0
+IsSealed k b = k ≡ Whole → verdict b ≢ Err Checksum
 
 -- whether what comes behind is in step
 abbrev pub keeps_step : PieceKind → Bool

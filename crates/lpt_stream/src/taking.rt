@@ -12,7 +12,7 @@ use std::alloc::Global;
 pub trait PieceTaker<W>: Drop {
     ghost use Rattle.std.specs.Prelude.{◌≡◌, ◌≢◌, ◌∷◌, ◌++◌, [], List, IfErr, IfOk};
     ghost use Rattle.lpt_text.specs.declared.fault.StreamFault.{StreamFault};
-    ghost use Rattle.lpt_stream.specs.Pieces.{Piece, octets_in, up_to_limit};
+    ghost use Rattle.lpt_stream.specs.Pieces.{Piece, IsSealed, octets_in, up_to_limit};
 
     // What it has become by these pieces, and what has become of what is lent to it.
     ghost takes: { (first now : Self) → (old new : W) → List Piece → Type 0 };
@@ -21,7 +21,7 @@ pub trait PieceTaker<W>: Drop {
     ghost fails: { StreamFault → Type 0 };
 
     /// Takes the next piece, which stands at this place of the stream; at 2^64 - 1, there or behind
-    /// it.
+    /// it. The checksum of a whole piece was taken, and is right.
     ///
     /// Errors: those of the taker.
     fn take(
@@ -32,8 +32,9 @@ pub trait PieceTaker<W>: Drop {
         kind: PieceKind,
         octets: &[u8],
     ) -> Result<Self, StreamFault>
-        requires { (first : Self) × (old : W) × (pieces : List Piece)
+        requires before { (first : Self) × (old : W) × (pieces : List Piece)
             × takes first self old lent.old pieces }
+        requires sealed { IsSealed kind octets.now }
         ensures taken { (first : Self) (old : W) (pieces : List Piece)
             → takes first self old lent.old pieces → place ≡ up_to_limit (octets_in pieces)
             → IfOk result (λ now. takes first now old lent.new

@@ -23,6 +23,7 @@ impl System {
     ghost use Rattle.lpt_system.specs.SystemInside.{state_of};
 
     // Delivers what is in a lane's hand.
+    #[inline(always)]
     pub(crate) fn deliver(&mut self, place: u64, lane: Lane) -> Result<Reply, AllocError>
         requires free { refusal_of self.old.config (state_of self.old) (Event.Deliver lane) ≡ None }
         requires numbers { numbered self.old.on_craft.at.jobs + 1 < 2 ^ 64 }
@@ -57,6 +58,7 @@ impl System {
     }
 
     // Notes what a receiver made of the packet in a lane's hand, which is empty then.
+    #[inline(always)]
     fn delivered(&mut self, place: u64, lane: Lane, accepted: Accepted) -> Reply
         requires room { vec_len self.old.released < vec_capacity self.old.released }
         requires spare { 0 < self.old.link.spare }
@@ -79,6 +81,7 @@ impl System {
     }
 
     // Gives the receiver of a lane what is in its hand.
+    #[inline(always)]
     fn receive_held(&mut self, lane: Lane) -> Result<Accepted, AllocError>
         requires full { refusal_of self.old.config (state_of self.old) (Event.Deliver lane) ≡ None }
         requires numbers { numbered self.old.on_craft.at.jobs + 1 < 2 ^ 64 }

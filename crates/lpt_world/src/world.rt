@@ -71,6 +71,7 @@ impl World {
     ///
     /// Errors: `NoSuchSeat` for a seat above 10; else the event's first reason; out of memory is
     /// last. The event comes back, and nothing has changed.
+    #[inline(always)]
     pub fn step(&mut self, seat: u8, event: Event) -> Result<Reply, Refused>
         // Accepted exactly where it can happen, out of memory aside; the reply is the journal's.
         ensures enabled { IfOk result (λ r. refusal_at self.old seat event ≡ None) }
@@ -102,6 +103,7 @@ impl World {
 
     // Does an event that can happen, and enters it. The only error is out of memory: the event
     // comes back, and nothing has changed.
+    #[inline(always)]
     pub(crate) fn enter(&mut self, seat: u8, event: Event) -> Result<Reply, Event>
         requires { refusal_at self.old seat event ≡ None }
         ensures reply { IfOk result (λ r. r ≡ reply self.old.config self.old.first (history self.old) event) }
@@ -168,6 +170,7 @@ impl World {
     }
 
     // Why a seat's event would be refused now, out of memory aside.
+    #[inline(always)]
     pub(crate) fn refusal(&self, seat: u8, event: &Event) -> Option<StepFault>
         ensures { result ≡ refusal_at self.now seat event.now }
     {

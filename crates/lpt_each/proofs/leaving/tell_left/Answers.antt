@@ -6,10 +6,10 @@ use Rattle.lpt_each.specs.Helds.{AreCame}
 use Rattle.lpt_each.proofs.TellLemmas.{left-told}
 use Rattle.lpt_each.proofs.leaving.tell_left.Goals as goal
 
-pub returns-in-Ok-clause-told : goal.returns-in-Ok-clause-told
-returns-in-Ok-clause-told g c = λ t h k.
+pub returns-clause-told : goal.returns-clause-told
+returns-clause-told g c = λ t h k.
     subst (λ (es : List Event). Hears (g.T.Taker.heard c.args.taker.now) (g.T.Taker.heard c.take.new.self) es)
     (left-told c.args.name c.into_came.result h
     (subst (λ (d : PartNumbers). AreCame d h.new) (sym c.into_came.ensures) k.came)
     (sym k.new.none ∙ sym c.is_empty.ensures ∙ c.if-is_empty.false))
-    c.in-Ok.ensures.heard
+    c.in_ok-take.ensures.heard

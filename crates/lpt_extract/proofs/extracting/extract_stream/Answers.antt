@@ -1,14 +1,14 @@
 -- Piece after piece, until none is left.
-use Rattle.std.proofs.Common.{◌≡◌, ◌∙◌, inl, inr, ◌++◌, ◌∷◌, [], ℕ, List, length, take, Option, Ok, Err, Result, Bool, true, false, ap, sym, subst, refl, arith, append-nil}
+use Rattle.std.proofs.Common.{◌≡◌, ◌∙◌, inl, inr, ◌++◌, ◌∷◌, [], ℕ, List, length, take, Option, Ok, Bool, true, false, ap, sym, subst, refl, arith, append-nil}
 use Rattle.std.proofs.lemmas.List.{length-take-le}
 use Rattle.std.proofs.KnownBytes.{Appends-kept, Consumes-nil, Consumes-trans}
 use Rattle.std.specs.Io.KnownBytes.{Appends, Consumes}
 use Rattle.lpt_stream.specs.declared.found.Found.{Found}
 use Rattle.lpt_stream.specs.Buffers.{held, is_in_step, found_piece, FindsPassing}
-use Rattle.lpt_stream.specs.Pieces.{Piece, keeps_step, packet_before, packets_of}
+use Rattle.lpt_stream.specs.Pieces.{Piece, IsSealed, keeps_step, packet_before, packets_of}
+use Rattle.lpt_stream.proofs.SealLemmas.{found_sealed}
 use Rattle.lpt_stream.proofs.CutLemmas.{read-none, read-more, read-next, read-end, read-front, read-leads}
 use Rattle.lpt_text.proofs.StreamLemmas.{part_whole}
-use Rattle.lpt_text.specs.declared.fault.StreamFault.{StreamFault}
 use Rattle.lpt_text.specs.declared.fault.StreamFault.TheVariants as faults
 use Rattle.lpt_text.specs.Streams.{AppendsPart}
 use Rattle.lpt_memory.specs.declared.request.Area.{Area}
@@ -25,7 +25,8 @@ use Rattle.lpt_extract.proofs.extracting.extract_stream.Goals as goal
 never : (e : Bool) → e ≡ false → e ≡ true → ⊥
 never e h k = cc
 
-nothing-behind : (a b : Option (List ℕ)) (read : List ℕ) → Consumes a b read → Consumes a b (read ++ [])
+nothing-behind : (a b : Option (List ℕ)) (read : List ℕ) → Consumes a b read
+    → Consumes a b (read ++ [])
 nothing-behind a b read h = subst (Consumes a b) (sym (append-nil read)) h
 
 pub loop-count-init : goal.loop-count-init
@@ -45,6 +46,18 @@ loop-count-init g c =
       reader = refl;
       writer = refl;
     }
+
+-- the checksum of a whole piece was taken
+pub take_piece-requires : goal.take_piece-requires
+take_piece-requires g c =
+    let f = c.in-Ok-Some.found in
+    let now = c.find_piece_passing.new.self in
+    let found = subst (λ (f : Option Found). FindsPassing (Ok f) c.loop-count.buffer now
+    (g.S.Source.remaining c.loop-count.source)
+    (g.S.Source.remaining c.find_piece_passing.new.source)
+    (g.S.Source.failed c.loop-count.source) (g.S.Source.failed c.find_piece_passing.new.source))
+    c.in-Ok-Some.field-0-is c.in-Ok-Some.ensures.finds in
+    subst (λ o. IsSealed f.kind (take f.len o)) (sym c.held.ensures) (found_sealed now f found.2)
 
 -- the stream is at its end, and nothing is left
 pub returns-in-Ok-None-clause-ends : goal.returns-in-Ok-None-clause-ends

@@ -14,7 +14,7 @@ returns-in-Ok-Packet c =
     c.dump_in_packet.ensures
     ∙ dump-packet b (fields c.in-Ok-Packet.packet)
     (seen-read b c.in-Ok-Packet.field-0 (seen_as.Packet c.in-Ok-Packet.packet)
-    (c.seen_is_read.ensures.tests b octets) c.in-Ok-Packet.ensures.exact c.in-Ok-Packet.field-0-is)
+    (c.seen_is_read.ensures.tests b octets) c.in-Ok-Packet.ensures c.in-Ok-Packet.field-0-is)
 
 pub returns-in-Ok-Idle : goal.returns-in-Ok-Idle
 returns-in-Ok-Idle c =
@@ -22,11 +22,11 @@ returns-in-Ok-Idle c =
     let octets : IsOctets b = λ i. omega (arith, c.type_inv.octets i) in
     dump-idle b
     (seen-read b c.in-Ok-Idle.field-0 seen_as.Idle (c.seen_is_read.ensures.tests b octets)
-    c.in-Ok-Idle.ensures.exact c.in-Ok-Idle.field-0-is)
+    c.in-Ok-Idle.ensures c.in-Ok-Idle.field-0-is)
 
 pub returns-in-Err : goal.returns-in-Err
 returns-in-Err c =
     let b = c.args.octets.now in
     let octets : IsOctets b = λ i. omega (arith, c.type_inv.octets i) in
     dump-none b
-    (seen-unread b c.in-Err.field-0 (c.seen_is_read.ensures.tests b octets) c.in-Err.ensures.exact)
+    (seen-unread b c.in-Err.field-0 (c.seen_is_read.ensures.tests b octets) c.in-Err.ensures)

@@ -1,5 +1,5 @@
 -- Piece after piece, until none is left.
-use Rattle.std.proofs.Common.{◌∙◌, [], inr, Option, Ok, take, subst, refl, arith}
+use Rattle.std.proofs.Common.{◌∙◌, [], inr, Option, Ok, take, sym, subst, refl, arith}
 use Rattle.std.proofs.KnownBytes.{Consumes-nil, Keeps-refl}
 use Rattle.lpt_text.specs.Streams.{AppendsPart}
 use Rattle.std.specs.Io.KnownBytes.{Appends}
@@ -7,13 +7,16 @@ use Rattle.lpt_stream.specs.declared.found.Found.{Found}
 use Rattle.lpt_stream.specs.Buffers.{FindsPiece}
 use Rattle.lpt_stream.proofs.BufferLemmas.{passing-lost}
 use Rattle.lpt_stream.proofs.EndLemmas.{other-fault, passing-reader, reader-after, reader-kept, writer-after}
+use Rattle.lpt_stream.specs.Pieces.{IsSealed}
+use Rattle.lpt_stream.proofs.SealLemmas.{found_sealed}
 use Rattle.lpt_list.specs.Lists.{line_for}
 use Rattle.lpt_list.proofs.ListLemmas.{at-none, at-more, at-next, at-stop, at-part, at-end, at-lost, at-most, tally_fits}
 use Rattle.lpt_list.proofs.listing.list_pieces.Goals as goal
 
 pub loop-place-init : goal.loop-place-init
 loop-place-init g c = record {
-  at = at-none c.args.form c.args.p c.args.from c.args.strict (g.S.Source.remaining c.args.source.now) (g.K.Sink.contents c.args.out.now)
+  at = at-none c.args.form c.args.p c.args.from c.args.strict
+      (g.S.Source.remaining c.args.source.now) (g.K.Sink.contents c.args.out.now)
       c.new-buffer.result c.new-buffer.ensures.held c.new-buffer.ensures.step
       c.new-buffer.ensures.end;
   fits = omega arith;
@@ -77,6 +80,18 @@ returns-in-Err-clause-reader g c =
 pub returns-in-Err-clause-writer : goal.returns-in-Err-clause-writer
 returns-in-Err-clause-writer g c =
     writer-after c.in-Err.fault _ _ _ c.in-Err.ensures.writer c.loop-place.invariant.writer
+
+-- the checksum of a whole piece was taken
+pub list_piece-requires-clause-sealed : goal.list_piece-requires-clause-sealed
+list_piece-requires-clause-sealed g c =
+    let f = c.in-Ok-Some.found in
+    let now = c.find_piece_passing.new.self in
+    let found = subst (λ (f : Option Found). FindsPiece (Ok f) c.loop-place.buffer now
+    (g.S.Source.remaining c.loop-place.source)
+    (g.S.Source.remaining c.find_piece_passing.new.source)
+    (g.S.Source.failed c.loop-place.source) (g.S.Source.failed c.find_piece_passing.new.source))
+    c.in-Ok-Some.field-0-is c.in-Ok-Some.ensures.finds in
+    subst (λ o. IsSealed f.kind (take f.len o)) (sym c.held.ensures) (found_sealed now f found.2)
 
 -- a line wasn't written whole
 pub returns-in-Err-list_piece-clause-leaves : goal.returns-in-Err-list_piece-clause-leaves

@@ -4,10 +4,11 @@ use Rattle.std.proofs.lemmas.List.{length-take-le}
 use Rattle.std.proofs.KnownBytes.{Consumes-nil, Consumes-trans}
 use Rattle.lpt_stream.specs.declared.found.Found.{Found}
 use Rattle.lpt_stream.specs.Buffers.{held, is_in_step, found_piece, FindsPiece}
-use Rattle.lpt_stream.specs.Pieces.{Piece, octets_in, up_to_limit}
+use Rattle.lpt_stream.specs.Pieces.{Piece, IsSealed, octets_in, up_to_limit}
 use Rattle.lpt_stream.proofs.BufferLemmas.{find-fault}
 use Rattle.lpt_stream.proofs.CutLemmas.{read-none, read-more, read-next, read-end, read-leads, told-next}
 use Rattle.lpt_stream.proofs.EndLemmas.{find-reader, reader-after, reader-kept}
+use Rattle.lpt_stream.proofs.SealLemmas.{found_sealed}
 use Rattle.lpt_stream.proofs.taking.each_piece.Goals as goal
 
 never : (e : Bool) → e ≡ false → e ≡ true → ⊥
@@ -31,13 +32,24 @@ loop-count-init g c =
     }
 
 -- the pieces so far were taken
-pub take-requires : goal.take-requires
-take-requires g c = (
+pub take-requires-clause-before : goal.take-requires-clause-before
+take-requires-clause-before g c = (
   c.args.first,
   c.args.lent.now,
   c.loop-count.invariant.read.2.pieces,
   c.loop-count.invariant.read.2.gives.0,
 )
+
+-- and the checksum of the next was, where it is whole
+pub take-requires-clause-sealed : goal.take-requires-clause-sealed
+take-requires-clause-sealed g c =
+    let f = c.in-Ok-Some.found in
+    let now = c.find_piece.new.self in
+    let found = subst (λ (f : Option Found). FindsPiece (Ok f) c.loop-count.buffer now
+    (g.S.Source.remaining c.loop-count.source) (g.S.Source.remaining c.find_piece.new.source)
+    (g.S.Source.failed c.loop-count.source) (g.S.Source.failed c.find_piece.new.source))
+    c.in-Ok-Some.field-0-is c.in-Ok-Some.ensures in
+    subst (λ o. IsSealed f.kind (take f.len o)) (sym c.held.ensures) (found_sealed now f found.2)
 
 -- the stream is at its end, and nothing is left
 pub returns-in-Ok-None-clause-taken : goal.returns-in-Ok-None-clause-taken

@@ -33,7 +33,7 @@ returns-in_default-clause-taken g c = λ first old pieces h at.
 
 -- what was kept is of these
 pub take_part-requires-clause-each : goal.take_part-requires-clause-each
-take_part-requires-clause-each g c = (packets_of (c.requires.2), c.requires.3.held)
+take_part-requires-clause-each g c = (packets_of (c.requires.before.2), c.requires.before.3.held)
 
 -- a part of one is taken
 pub returns-in-Ok-clause-taken : goal.returns-in-Ok-clause-taken
