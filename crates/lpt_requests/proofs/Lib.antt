@@ -1,1 +1,3 @@
+mod CutLemmas
+mod ExecutedLemmas
 mod RangeLemmas

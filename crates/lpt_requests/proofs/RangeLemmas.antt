@@ -1,4 +1,5 @@
--- A dump and a check that are written: their lengths, that they have a spelling, and what they mean.
+-- A dump and a check that are written: their lengths, that they have a spelling, and what they
+-- mean.
 use Rattle.std.proofs.Common.{◌≡◌, ◌∙◌, ap, refl, ℕ, ◌+◌, ◌*◌, ◌<◌, ◌≤◌, ◌==◌, ◌||◌, nat_lt, Bool, true, false, if◌then◌else◌, List, [], ◌∷◌, length, map, Option, Some, None, arith}
 use Rattle.std.specs.List.{flat_map, AllByRecursion}
 use Rattle.std.proofs.lemmas.Bool.{le-ltb}
@@ -15,7 +16,7 @@ use Rattle.lpt_pus.proofs.CommandLemmas.{command_in-spelling, InRange-packet_of}
 use Rattle.lpt_memory.specs.declared.fault.MemoryFault.{MemoryFault}
 use Rattle.lpt_memory.specs.declared.request.AreaRange.{AreaRange}
 use Rattle.lpt_memory.specs.Requests.{Request, front_range, request_in}
-use Rattle.lpt_memory.specs.Meanings.{Meaning, Fault, Dump, Check, Sizes, size_of, range_fault as fault_in, dump_length, unless, dump_meaning, check_meaning, body_meaning, command_meaning, meaning}
+use Rattle.lpt_memory.specs.Meanings.{Fault, Dump, Check, Sizes, size_of, range_fault as fault_in, dump_length, unless, dump_meaning, check_meaning, body_meaning, command_meaning, meaning}
 use Rattle.lpt_pus.specs.declared.failure_code.FailureCode.TheVariants.{ReplyTooLong}
 use Rattle.lpt_memory.specs.Ranges.{RangesFit}
 use Rattle.lpt_memory.specs.Spellings.{body_text, range_text, AreAreas, RangeFits}
@@ -92,7 +93,8 @@ read-again c o fits is =
     ap (command_in c.apid) is
     ∙ command_in-spelling c fits (seen_again (packet_of c) (InRange-packet_of c fits))
 
-fault-none : (size : ℕ) (ranges : List AreaRange) → RangesFit size ranges → fault_in size ranges ≡ None
+fault-none : (size : ℕ) (ranges : List AreaRange) → RangesFit size ranges → fault_in size ranges
+    ≡ None
 fault-none size [] fit = refl
 fault-none size (r ∷ rest) fit =
     let within : nat_lt size (r.address + r.len) ≡ false = le-ltb _ _ fit.0 in

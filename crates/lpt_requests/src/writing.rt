@@ -15,11 +15,11 @@ use lpt_pus::{AckFlags, TcHead};
 use std::alloc::Global;
 
 /// The packet of a request to a memory: a telecommand of this APID (0 to 2046), source, sequence
-/// count (0 to 16,383) and acknowledgement flags, with the areas in their order, and for each area of
-/// a load its checksum.
+/// count (0 to 16,383) and acknowledgement flags, with the areas in their order, and for each area
+/// of a load its checksum.
 ///
-/// Errors: `TooLong` where the packet would have more than 65,542 octets; `BadArea` for no area, more
-/// than 255, or an empty one; where there is no such fault, `Memory`.
+/// Errors: `TooLong` where the packet would have more than 65,542 octets; `BadArea` for no area,
+/// more than 255, or an empty one; where there is no such fault, `Memory`.
 pub fn write_request(
     alloc: Global,
     apid: u16,

@@ -6,7 +6,7 @@ use Rattle.lpt_packet.specs.Packets.{spelling}
 use Rattle.lpt_pus.specs.Commands.{command, packet_of}
 use Rattle.lpt_memory.specs.Spellings.{body_text, range_text}
 use Rattle.lpt_requests.specs.Requests.{as_range, MeansCheck, MeansDump}
-use Rattle.lpt_requests.proofs.RangeLemmas.{length-body, is_writable, dump-written, check-written, IsPacketOf}
+use Rattle.lpt_requests.proofs.RangeLemmas.{length-body, is_writable, dump-written, check-written}
 use Rattle.lpt_requests.proofs.ranges.ranges_packet.Goals as goal
 
 pub ranges_body-requires : goal.ranges_body-requires
@@ -19,7 +19,13 @@ tc_octets-requires c =
     = c.deref.ensures.value ∙ c.in_ok-body.ensures.body in
     let long = ap (λ (b : List ℕ). length b) body in
     let few = (is_writable c.args.ranges.now c.requires.ranges).few in
-    omega (arith, long, length-body c.args.memory ranges, length-map c.args.ranges.now as_range, few)
+    omega (
+      arith,
+      long,
+      length-body c.args.memory ranges,
+      length-map c.args.ranges.now as_range,
+      few,
+    )
 
 pub returns-clause-dump : goal.returns-clause-dump
 returns-clause-dump c = λ subtype.

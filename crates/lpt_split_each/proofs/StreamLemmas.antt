@@ -1,0 +1,279 @@
+-- A stream of which each packet is split, message after message.
+use Rattle.std.proofs.Common.{◌≡◌, ◌⊎◌, ◌∙◌, ap, sym, subst, refl, inl, inr, ℕ, ◌+◌, ◌-◌, ◌^◌, ◌≤◌, min, Bool, Ok, Err, List, [], ◌∷◌, ◌++◌, length, take, drop, Option, append-nil, length-append, take-append-drop, arith}
+use Rattle.std.specs.Io.KnownBytes.{Appends, Consumes, IsAtEnd, Keeps}
+use Rattle.std.proofs.KnownBytes.{Appends-kept, Appends-nil, Appends-trans, Consumes-nil, Consumes-trans}
+use Rattle.std.proofs.lemmas.List.{length-take-le}
+use Rattle.lpt_events.specs.declared.config.Config.{Config}
+use Rattle.lpt_text.specs.Streams.{AppendsPart, ReadFails}
+use Rattle.lpt_text.specs.declared.fault.StreamFault.{StreamFault}
+use Rattle.lpt_text.specs.declared.fault.StreamFault.TheVariants as faults
+use Rattle.lpt_text.proofs.StreamLemmas.{part_after, part_whole}
+use Rattle.lpt_split.specs.Splits.{octets_of}
+use Rattle.lpt_stream.specs.Pieces.{up_to_limit}
+use Rattle.lpt_stream.specs.Streams.{all_octets, IsUnfinished}
+use Rattle.lpt_frames.specs.Buffers.{held, FindsFrame}
+use Rattle.lpt_frames.specs.Frames.{IsCut, IsFrame}
+use Rattle.lpt_frames.specs.declared.buffer.FrameBuffer.{FrameBuffer}
+use Rattle.lpt_frames.proofs.FrameLemmas.{cut-more, cut-next, cut-none, octets-next}
+use Rattle.lpt_split_each.specs.declared.each_wanted.EachWanted.{EachWanted}
+use Rattle.lpt_split_each.specs.declared.ending.EachEnd.{EachEnd}
+use Rattle.lpt_split_each.specs.declared.ending.EachSplit.{EachSplit}
+use Rattle.lpt_split_each.specs.declared.ending.EachEnd.TheVariants as ends
+use Rattle.lpt_split_each.specs.declared.one.One.{One}
+use Rattle.lpt_split_each.specs.declared.one.One.TheVariants as ones
+use Rattle.lpt_split_each.specs.Shares.{WritesOne, all_packets, count_after, count_behind, packets_of}
+use Rattle.lpt_split_each.specs.Streams.{end_at, EndsAt, IsNext, SplitsEach, Writes, WritesPart}
+use Rattle.lpt_split_each.proofs.ShareLemmas.{count-more, octets-more}
+
+-- what is wanted of the messages that came was written, and these octets are held behind them
+pub record IsSplit (c : Config) (w : EachWanted) (a b old new : Option (List ℕ)) (held : List ℕ)
+    (next count place : ℕ) : Type 0 where
+  pub stream : List ℕ
+  pub messages : List (List ℕ)
+  pub consumed : Consumes a b stream
+  pub cut : IsCut stream messages held
+  pub writes : Writes c w old new messages
+  pub next_is : next ≡ w.name.id + length messages
+  pub count_is : count ≡ count_after c w w.name.id w.first messages
+  pub place_is : place ≡ up_to_limit (length (all_octets messages))
+
+-- octets that were consumed, with none lost
+none_lost : (a b : Option (List ℕ)) (stream : List ℕ)
+    → Consumes a b stream
+    → Consumes a b (stream ++ [])
+none_lost a b stream h = subst (Consumes a b) (sym (append-nil stream)) h
+
+module _ (c : Config) (w : EachWanted) where
+  -- none came
+  pub split-none : (a old : Option (List ℕ)) (held : List ℕ)
+      → held ≡ []
+      → IsSplit c w a a old old held w.name.id w.first 0
+  split-none a old held none = record {
+    stream = [];
+    messages = [];
+    consumed = Consumes-nil a;
+    cut = cut-none held none;
+    writes = Appends-nil old;
+    next_is = omega arith;
+    count_is = refl;
+    place_is = refl;
+  }
+
+  -- with more read behind, after all that was written was passed on
+  pub split-more : (a b d old new passed : Option (List ℕ)) (held now read : List ℕ)
+      (next count place : ℕ)
+      → IsSplit c w a b old new held next count place
+      → Consumes b d read
+      → now ≡ held ++ read
+      → Keeps new passed
+      → IsSplit c w a d old passed now next count place
+  split-more a b d old new passed held now read next count place h more is kept = record {
+    stream = h.stream ++ read;
+    messages = h.messages;
+    consumed = Consumes-trans a b d h.stream read h.consumed more;
+    cut = cut-more h.stream h.messages held read now h.cut is;
+    writes = Appends-kept old new passed (octets_of (all_packets c w h.messages)) h.writes kept;
+    next_is = h.next_is;
+    count_is = h.count_is;
+    place_is = h.place_is;
+  }
+
+  -- what is wanted of one message more, as the next
+  one-more : (ms : List (List ℕ)) (m : List ℕ) (next count : ℕ)
+      → next ≡ w.name.id + length ms
+      → count ≡ count_after c w w.name.id w.first ms
+      → octets_of (all_packets c w ms) ++ octets_of (packets_of c w next count m)
+      ≡ octets_of (all_packets c w (ms ++ m ∷ []))
+  one-more ms m next count ids counts =
+      ap (λ (n : ℕ). octets_of (all_packets c w ms) ++ octets_of (packets_of c w n count m)) ids
+      ∙ ap (λ (k : ℕ). octets_of (all_packets c w ms)
+      ++ octets_of (packets_of c w (w.name.id + length ms) k m)) counts
+      ∙ sym (octets-more c w w.name.id w.first ms m)
+
+  place-next : (ms : List (List ℕ)) (m : List ℕ) (at then len : ℕ)
+      → at ≡ up_to_limit (length (all_octets ms))
+      → length m ≡ len
+      → then ≡ min (at + len) (2 ^ 64 - 1)
+      → then ≡ up_to_limit (length (all_octets (ms ++ m ∷ [])))
+  place-next ms m at then len is size placed =
+      let sum : length (all_octets (ms ++ m ∷ [])) ≡ length (all_octets ms) + length m =
+      ap length (octets-next ms m) ∙ length-append (all_octets ms) m in
+      omega arith
+
+  -- what became of the message in front, which is the next
+  at-next : (id next count : ℕ) (octets m : List ℕ) (one other : One) (old new : Option (List ℕ))
+      → id ≡ next
+      → octets ≡ m
+      → one ≡ other
+      → WritesOne c w id count octets one old new
+      → WritesOne c w next count m other old new
+  at-next id next count octets m one other old new same is was h =
+      subst (λ (o : One). WritesOne c w next count m o old new) was
+      (subst (λ (n : ℕ). WritesOne c w n count m one old new) same
+      (subst (λ (b : List ℕ). WritesOne c w id count b one old new) is h))
+
+  -- and with the message in front written
+  pub split-next : (a b old between new : Option (List ℕ)) (held now octets : List ℕ)
+      (id next count place len behind then later : ℕ) (one : One)
+      → IsSplit c w a b old between held next count place
+      → IsFrame (take len held)
+      → len ≤ length held
+      → octets ≡ take len held
+      → id ≡ next
+      → one ≡ ones.Written behind
+      → WritesOne c w id count octets one between new
+      → then ≡ min (place + len) (2 ^ 64 - 1)
+      → later ≡ next + 1
+      → now ≡ drop len held
+      → IsSplit c w a b old new now later behind then
+  split-next a b old between new held now octets id next count place len behind then later one h
+      front within is same was wrote placed onward left =
+      let m = take len held in
+      let ms = h.messages in
+      let at = at-next id next count octets m one (ones.Written behind) between new same is was wrote
+      in
+      record {
+        stream = h.stream;
+        messages = ms ++ m ∷ [];
+        consumed = h.consumed;
+        cut = cut-next h.stream ms held now len h.cut front left;
+        writes = subst (Appends old new) (one-more ms m next count h.next_is h.count_is)
+            (Appends-trans old between new _ _ h.writes at.0);
+        next_is = omega (arith, onward, h.next_is, length-append ms (m ∷ []));
+        count_is = at.1
+            ∙ ap (λ (n : ℕ). count_behind c w n count m) h.next_is
+            ∙ ap (λ (k : ℕ). count_behind c w (w.name.id + length ms) k m) h.count_is
+            ∙ sym (count-more c w w.name.id w.first ms m);
+        place_is = place-next ms m place then len h.place_is (length-take-le len held within) placed;
+      }
+
+  -- ---- how it ends
+
+  -- the message in front
+  pub front-next : (held : List ℕ) (len : ℕ) → IsFrame (take len held) → IsNext (take len held) held
+  front-next held len front = record {
+    frame = front;
+    behind = drop len held;
+    is = sym (take-append-drop len held);
+  }
+
+  -- where it stops at the end of the stream
+  pub ends-at : (next place len : ℕ) (held : List ℕ) (after : Option (List ℕ))
+      → place ≡ up_to_limit len
+      → IsUnfinished held
+      → IsAtEnd after
+      → EndsAt c w next len (end_at place held) held after
+  ends-at next place len [] after is few at_end = (refl, at_end)
+  ends-at next place len (x ∷ xs) after is few at_end = (is, few, omega arith, at_end)
+
+  -- it stopped there
+  pub split-stop : (s : EachSplit) (end : EachEnd) (a b old new : Option (List ℕ)) (held : List ℕ)
+      (next count place : ℕ)
+      → s ≡ record { next = next; end = end }
+      → (h : IsSplit c w a b old new held next count place)
+      → EndsAt c w next (length (all_octets h.messages)) end held b
+      → SplitsEach c w (Ok s) a b old new
+  split-stop s end a b old new held next count place is h at =
+      subst (λ (t : EachSplit). SplitsEach c w (Ok t) a b old new) (sym is) (
+        h.stream,
+        h.messages,
+        held,
+        none_lost a b h.stream h.consumed,
+        h.cut,
+        (h.next_is, at, h.writes),
+      )
+
+  -- the list isn't one of the parts of the message in front
+  pub split-no-part : (s : EachSplit) (last : ℕ) (one : One)
+      (a b old between new : Option (List ℕ)) (held octets : List ℕ)
+      (id next count place len : ℕ)
+      → s ≡ record { next = next; end = ends.NoSuchPart last }
+      → IsSplit c w a b old between held next count place
+      → IsFrame (take len held)
+      → octets ≡ take len held
+      → id ≡ next
+      → one ≡ ones.NoSuchPart last
+      → WritesOne c w id count octets one between new
+      → SplitsEach c w (Ok s) a b old new
+  split-no-part s last one a b old between new held octets id next count place len told h front is
+      same was wrote =
+      let m = take len held in
+      let at = at-next id next count octets m one (ones.NoSuchPart last) between new same is was
+      wrote in
+      subst (λ (x : Option (List ℕ)). SplitsEach c w (Ok s) a b old x) (sym at.2)
+      (split-stop s (ends.NoSuchPart last) a b old between held next count place told h
+      (m, front-next held len front, at.0, at.1))
+
+  -- a read or a write failed before the next packet
+  pub split-fault : (fault : StreamFault) (x y : FrameBuffer)
+      (a b d old new passed : Option (List ℕ))
+      (had failed : Bool) (next count place : ℕ)
+      → FindsFrame (Err fault) x y b d had failed
+      → IsSplit c w a b old new (held x) next count place
+      → Keeps new passed
+      → SplitsEach c w (Err fault) a d old passed
+  split-fault faults.Read x y a b d old new passed had failed next count place found h kept =
+      let at = split-more a b d old new passed (held x) (held y) found.0 next count place h
+      found.1.consumed found.1.behind kept in
+      (at.stream, at.messages, held y, none_lost a d at.stream at.consumed, at.cut, at.writes)
+  split-fault faults.Write x y a b d old new passed had failed next count place found h kept =
+      let at = split-more a b d old new passed (held x) (held y) found.0 next count place h
+      found.1.consumed found.1.behind kept in (
+        at.stream,
+        at.messages,
+        held y,
+        none_lost a d at.stream at.consumed,
+        at.cut,
+        part_whole old passed (octets_of (all_packets c w at.messages)) at.writes,
+      )
+  split-fault faults.Memory x y a b d old new passed had failed next count place found h kept = (
+    found.0,
+    (
+      h.stream,
+      h.messages,
+      held x,
+      Consumes-trans a b d h.stream found.0 h.consumed found.1,
+      h.cut,
+      part_whole old passed (octets_of (all_packets c w h.messages))
+          (Appends-kept old new passed (octets_of (all_packets c w h.messages)) h.writes kept),
+    ),
+  )
+
+  -- a write failed in a message, or memory ran out
+  pub split-broken : (fault : StreamFault) (a b old between new : Option (List ℕ))
+      (held octets : List ℕ) (id next count place len : ℕ)
+      → (fault ≡ faults.Write) ⊎ (fault ≡ faults.Memory)
+      → IsSplit c w a b old between held next count place
+      → IsFrame (take len held)
+      → octets ≡ take len held
+      → id ≡ next
+      → AppendsPart between new (octets_of (packets_of c w id count octets))
+      → SplitsEach c w (Err fault) a b old new
+  split-broken fault a b old between new held octets id next count place len which h front is same
+      part =
+      let m = take len held in
+      let ms = h.messages in
+      let cut = cut-next h.stream ms held (drop len held) len h.cut front refl in
+      let at : AppendsPart between new (octets_of (packets_of c w next count m)) =
+      subst (λ (n : ℕ). AppendsPart between new (octets_of (packets_of c w n count m))) same
+      (subst (λ (o : List ℕ). AppendsPart between new (octets_of (packets_of c w id count o))) is
+      part) in
+      let wrote : WritesPart c w old new (ms ++ m ∷ []) =
+      subst (AppendsPart old new) (one-more ms m next count h.next_is h.count_is)
+      (part_after old between new _ _ h.writes at) in
+      let read = none_lost a b h.stream h.consumed in
+      elim which [
+        | inl e ↦ subst (λ (f : StreamFault). SplitsEach c w (Err f) a b old new) (sym e)
+            (h.stream, ms ++ m ∷ [], drop len held, read, cut, wrote)
+        | inr e ↦ subst (λ (f : StreamFault). SplitsEach c w (Err f) a b old new) (sym e)
+            ([], (h.stream, ms ++ m ∷ [], drop len held, read, cut, wrote))
+      ]
+
+-- how a fault leaves the reader
+pub find-reader : (Over : Type 0) (fault : StreamFault) (x y : FrameBuffer) (a b : Option (List ℕ))
+    (had failed : Bool)
+    → FindsFrame (Err fault) x y a b had failed
+    → ReadFails Over fault had failed
+find-reader Over faults.Read x y a b had failed h = inl h.2
+find-reader Over faults.Write x y a b had failed h = h.2
+find-reader Over faults.Memory x y a b had failed h = h.2

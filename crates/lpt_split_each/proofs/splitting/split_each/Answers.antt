@@ -1,0 +1,156 @@
+-- Message after message, until none is left.
+use Rattle.std.proofs.Common.{◌≡◌, ◌≤◌, ◌+◌, ◌∙◌, ap, sym, subst, refl, take, length, Ok, rules, arith}
+use Rattle.lpt_frames.specs.declared.front.Front.{Front}
+use Rattle.lpt_frames.specs.Buffers.{held, FindsFrame}
+use Rattle.lpt_split_each.specs.declared.ending.EachEnd.TheVariants.{Stray, NoIdentifier}
+use Rattle.lpt_split_each.specs.declared.one.One.{One}
+use Rattle.lpt_split_each.specs.Shares.{WritesOne}
+use Rattle.lpt_split_each.specs.Streams.{end_at, EndsAt}
+use Rattle.lpt_split_each.proofs.StreamLemmas.{IsSplit, ends-at, front-next, split-broken, split-fault, split-more, split-next, split-no-part, split-none, split-stop}
+use Rattle.lpt_stream.specs.Streams.{all_octets}
+use Rattle.lpt_split_each.proofs.splitting.split_each.Goals as goal
+
+pub loop-len-init : goal.loop-len-init
+loop-len-init g c = record {
+  done = subst (λ n. IsSplit c.args.config.now c.args.wanted.now
+      (g.S.Source.remaining c.args.source.now) (g.S.Source.remaining c.args.source.now)
+      (g.K.Sink.contents c.args.out.now) (g.K.Sink.contents c.args.out.now)
+      (held c.new-buffer.result) n c.args.wanted.now.first 0) (sym c.from-next.ensures)
+      (split-none c.args.config.now c.args.wanted.now (g.S.Source.remaining c.args.source.now)
+      (g.K.Sink.contents c.args.out.now) (held c.new-buffer.result) c.new-buffer.ensures);
+  most = search rules;
+  count = c.args.wanted.now.counts;
+  reader = refl;
+  writer = refl;
+}
+
+-- it stops before octets with which no packet begins
+pub returns-in-Ok-Stray-clause-ends : goal.returns-in-Ok-Stray-clause-ends
+returns-in-Ok-Stray-clause-ends g c =
+    let found = subst (λ (f : Front). FindsFrame (Ok f) c.loop-len.buffer c.find_frame.new.self
+    (g.S.Source.remaining c.loop-len.source) (g.S.Source.remaining c.find_frame.new.peer)
+    (g.S.Source.failed c.loop-len.source) (g.S.Source.failed c.find_frame.new.peer))
+    c.in-Ok-Stray.field-0-is c.in-Ok-Stray.ensures.finds in
+    let at = split-more c.args.config.now c.args.wanted.now _ _ _ _ _ _ _
+    (held c.find_frame.new.self) found.0 c.loop-len.next c.loop-len.count c.loop-len.place
+    c.loop-len.invariant.done found.1.consumed found.1.behind c.in-Ok-Stray.ensures.same in
+    split-stop c.args.config.now c.args.wanted.now c.ended.result (Stray c.loop-len.place) _ _ _ _ _
+    c.loop-len.next c.loop-len.count c.loop-len.place c.ended.ensures at (at.place_is, found.2)
+
+-- it stops at the end of the stream
+pub returns-in-Ok-End-clause-ends : goal.returns-in-Ok-End-clause-ends
+returns-in-Ok-End-clause-ends g c =
+    let found = subst (λ (f : Front). FindsFrame (Ok f) c.loop-len.buffer c.find_frame.new.self
+    (g.S.Source.remaining c.loop-len.source) (g.S.Source.remaining c.find_frame.new.peer)
+    (g.S.Source.failed c.loop-len.source) (g.S.Source.failed c.find_frame.new.peer))
+    c.in-Ok-End.field-0-is c.in-Ok-End.ensures.finds in
+    let at = split-more c.args.config.now c.args.wanted.now _ _ _ _ _ _ _
+    (held c.find_frame.new.self) found.0 c.loop-len.next c.loop-len.count c.loop-len.place
+    c.loop-len.invariant.done found.1.consumed found.1.behind c.in-Ok-End.ensures.same in
+    split-stop c.args.config.now c.args.wanted.now c.ended-in-Ok-End.result c.end_at.result _ _ _ _
+    _
+    c.loop-len.next c.loop-len.count c.loop-len.place c.ended-in-Ok-End.ensures at
+    (subst (λ x. EndsAt c.args.config.now c.args.wanted.now c.loop-len.next
+    (length (all_octets at.messages)) x (held c.find_frame.new.self)
+    (g.S.Source.remaining c.find_frame.new.peer))
+    (sym (c.end_at.ensures ∙ ap (end_at c.loop-len.place) c.held.ensures))
+    (ends-at c.args.config.now c.args.wanted.now c.loop-len.next c.loop-len.place _
+    (held c.find_frame.new.self) _ at.place_is found.2.0 found.2.1))
+
+-- a read or a write failed
+pub returns-in-Err-clause-ends : goal.returns-in-Err-clause-ends
+returns-in-Err-clause-ends g c =
+    split-fault c.args.config.now c.args.wanted.now c.in-Err.fault c.loop-len.buffer
+    c.find_frame.new.self _ _ _ _ _ _ _ _ c.loop-len.next c.loop-len.count c.loop-len.place
+    c.in-Err.ensures.finds c.loop-len.invariant.done c.in-Err.ensures.same
+
+-- no identifier is left
+pub returns-in_default-clause-ends : goal.returns-in_default-clause-ends
+returns-in_default-clause-ends g c =
+    let found = subst (λ (f : Front). FindsFrame (Ok f) c.loop-len.buffer c.find_frame.new.self
+    (g.S.Source.remaining c.loop-len.source) (g.S.Source.remaining c.find_frame.new.peer)
+    (g.S.Source.failed c.loop-len.source) (g.S.Source.failed c.find_frame.new.peer))
+    c.in-Ok-Frame.field-0-is c.in-Ok-Frame.ensures.finds in
+    let at = split-more c.args.config.now c.args.wanted.now _ _ _ _ _ _ _
+    (held c.find_frame.new.self) found.0 c.loop-len.next c.loop-len.count c.loop-len.place
+    c.loop-len.invariant.done found.1.consumed found.1.behind c.in-Ok-Frame.ensures.same in
+    let none : c.loop-len.next ≡ 65536 =
+    omega (arith, c.loop-len.invariant.most, c.in_default.ensures) in
+    split-stop c.args.config.now c.args.wanted.now c.ended-in_default.result
+    (NoIdentifier c.loop-len.place) _ _ _ _ _
+    c.loop-len.next c.loop-len.count c.loop-len.place c.ended-in_default.ensures at (
+      at.place_is,
+      none,
+      (
+        take c.in-Ok-Frame.len (held c.find_frame.new.self),
+        front-next c.args.config.now c.args.wanted.now (held c.find_frame.new.self)
+            c.in-Ok-Frame.len found.2.1,
+      ),
+    )
+
+-- the list isn't one of the message's parts
+pub returns-in-Ok-NoSuchPart-clause-ends : goal.returns-in-Ok-NoSuchPart-clause-ends
+returns-in-Ok-NoSuchPart-clause-ends g c =
+    let found = subst (λ (f : Front). FindsFrame (Ok f) c.loop-len.buffer c.find_frame.new.self
+    (g.S.Source.remaining c.loop-len.source) (g.S.Source.remaining c.find_frame.new.peer)
+    (g.S.Source.failed c.loop-len.source) (g.S.Source.failed c.find_frame.new.peer))
+    c.in-Ok-Frame.field-0-is c.in-Ok-Frame.ensures.finds in
+    let at = split-more c.args.config.now c.args.wanted.now _ _ _ _ _ _ _
+    (held c.find_frame.new.self) found.0 c.loop-len.next c.loop-len.count c.loop-len.place
+    c.loop-len.invariant.done found.1.consumed found.1.behind c.in-Ok-Frame.ensures.same in
+    let same : c.in-Ok.id ≡ c.loop-len.next = omega (arith, c.in-Ok.ensures) in
+    split-no-part c.args.config.now c.args.wanted.now c.ended-in-Ok-NoSuchPart.result
+    c.in-Ok-NoSuchPart.last c.in-Ok-NoSuchPart.field-0 _ _ _ _ _ (held c.find_frame.new.self)
+    (take c.in-Ok-Frame.len c.held-in-loop-len.result.now) c.in-Ok.id c.loop-len.next
+    c.loop-len.count c.loop-len.place c.in-Ok-Frame.len c.ended-in-Ok-NoSuchPart.ensures at
+    found.2.1 (ap (take c.in-Ok-Frame.len) c.held-in-loop-len.ensures) same
+    c.in-Ok-NoSuchPart.field-0-is c.in-Ok-NoSuchPart.ensures.ok
+
+-- work broke off in a message
+pub returns-in-Err-split_one-clause-ends : goal.returns-in-Err-split_one-clause-ends
+returns-in-Err-split_one-clause-ends g c =
+    let found = subst (λ (f : Front). FindsFrame (Ok f) c.loop-len.buffer c.find_frame.new.self
+    (g.S.Source.remaining c.loop-len.source) (g.S.Source.remaining c.find_frame.new.peer)
+    (g.S.Source.failed c.loop-len.source) (g.S.Source.failed c.find_frame.new.peer))
+    c.in-Ok-Frame.field-0-is c.in-Ok-Frame.ensures.finds in
+    let at = split-more c.args.config.now c.args.wanted.now _ _ _ _ _ _ _
+    (held c.find_frame.new.self) found.0 c.loop-len.next c.loop-len.count c.loop-len.place
+    c.loop-len.invariant.done found.1.consumed found.1.behind c.in-Ok-Frame.ensures.same in
+    let same : c.in-Ok.id ≡ c.loop-len.next = omega (arith, c.in-Ok.ensures) in
+    split-broken c.args.config.now c.args.wanted.now c.in-Err-split_one.fault _ _ _ _ _
+    (held c.find_frame.new.self) (take c.in-Ok-Frame.len c.held-in-loop-len.result.now) c.in-Ok.id
+    c.loop-len.next c.loop-len.count c.loop-len.place c.in-Ok-Frame.len
+    c.in-Err-split_one.ensures.fault at found.2.1
+    (ap (take c.in-Ok-Frame.len) c.held-in-loop-len.ensures) same c.in-Err-split_one.ensures.part
+
+-- a message was written
+pub loop-len-preserved : goal.loop-len-preserved
+loop-len-preserved g c =
+    let found = subst (λ (f : Front). FindsFrame (Ok f) c.loop-len.buffer c.find_frame.new.self
+    (g.S.Source.remaining c.loop-len.source) (g.S.Source.remaining c.find_frame.new.peer)
+    (g.S.Source.failed c.loop-len.source) (g.S.Source.failed c.find_frame.new.peer))
+    c.in-Ok-Frame.field-0-is c.in-Ok-Frame.ensures.finds in
+    let at = split-more c.args.config.now c.args.wanted.now _ _ _ _ _ _ _
+    (held c.find_frame.new.self) found.0 c.loop-len.next c.loop-len.count c.loop-len.place
+    c.loop-len.invariant.done found.1.consumed found.1.behind c.in-Ok-Frame.ensures.same in
+    let same : c.in-Ok.id ≡ c.loop-len.next = omega (arith, c.in-Ok.ensures) in
+    let octets = take c.in-Ok-Frame.len c.held-in-loop-len.result.now in
+    let wrote = subst (λ (o : One). WritesOne c.args.config.now c.args.wanted.now c.in-Ok.id
+    c.loop-len.count octets o (g.K.Sink.contents c.find_frame.new.out)
+    (g.K.Sink.contents c.split_one.new.out)) c.in-Ok-Written.field-0-is c.in-Ok-Written.ensures.ok
+    in
+    let few : c.in-Ok-Written.behind ≤ 16383 = omega (arith, wrote.2) in
+    record {
+      done = split-next c.args.config.now c.args.wanted.now _ _ _ _ _
+          (held c.find_frame.new.self) (held c.skip.new.self) octets c.in-Ok.id c.loop-len.next
+          c.loop-len.count c.loop-len.place c.in-Ok-Frame.len c.in-Ok-Written.behind
+          c.saturating_add-place.result (c.loop-len.next + 1) c.in-Ok-Written.field-0
+          at found.2.1 found.2.0 (ap (take c.in-Ok-Frame.len) c.held-in-loop-len.ensures) same
+          c.in-Ok-Written.field-0-is c.in-Ok-Written.ensures.ok
+          c.saturating_add-place.ensures refl c.skip.ensures;
+      most = search rules;
+      count = few;
+      reader = found.3 ∙ c.loop-len.invariant.reader;
+      writer = c.in-Ok-Written.ensures.writer
+          ∙ (c.in-Ok-Frame.ensures.writer ∙ c.loop-len.invariant.writer);
+    }

@@ -1,0 +1,26 @@
+//! How the split of a stream ends.
+
+/// How the split of a stream's packets ends. A place is how many octets of the stream come before
+/// it; one beyond 2^64 - 1 is told as that.
+#[derive(Clone, Copy)]
+pub enum EachEnd {
+    /// At the stream's end.
+    End,
+    /// At the stream's end, in a packet: from this place on there is less than its header says.
+    Cut(u64),
+    /// Before octets with which no packet can begin, at this place.
+    Stray(u64),
+    /// Before a message for which a pick is no list of its parts, of which it has so many.
+    NoSuchPart(u32),
+    /// Before a packet for which no identifier is left, at this place.
+    NoIdentifier(u64),
+}
+
+/// What a split of a stream's packets did.
+#[derive(Clone, Copy)]
+pub struct EachSplit {
+    /// The identifier behind that of the last message that was taken, up to 65,536.
+    pub next: u32,
+    /// How it ended.
+    pub end: EachEnd,
+}
