@@ -1,7 +1,6 @@
 -- What comes, one input further.
 use Rattle.std.proofs.Common.{◌≡◌, ◌∙◌, ap, sym, subst, refl, inl, inr, ℕ, ◌+◌, ◌≤◌, ◌==◌, Bool, true, false, if◌then◌else◌, List, [], ◌∷◌, ◌++◌, Option, append-nil, append_assoc, arith}
 use Rattle.std.specs.Io.KnownBytes.{Appends}
-use Rattle.std.proofs.KnownBytes.{Appends-trans}
 use Rattle.lpt_events.specs.declared.config.Config.{Config}
 use Rattle.lpt_memory.specs.Memories.{Contents}
 use Rattle.lpt_stream.specs.Streams.{all_octets}

@@ -1,4 +1,5 @@
 pub mod FoldLemmas
+pub mod KeepingLemmas
 pub mod ServingLemmas
 pub mod StreamLemmas
 pub mod WritingLemmas

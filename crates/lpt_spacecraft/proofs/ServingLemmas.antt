@@ -20,7 +20,7 @@ use Rattle.lpt_jobs.specs.declared.job.Job.TheVariants.{Waiting, Claimed, Commit
 use Rattle.lpt_memory.specs.Memories.{Contents, sizes_of}
 use Rattle.lpt_memory.specs.Readings.{Source}
 use Rattle.lpt_memory.specs.Readings.{Job as Ticket}
-use Rattle.lpt_jobs.specs.Jobs.{head_of, Ready}
+use Rattle.lpt_jobs.specs.Jobs.{head_of}
 use Rattle.lpt_node.specs.Jobs.{Execution, FrontIsFor, claimed, committed, executed, executed_of, with_opened}
 use Rattle.lpt_spacecraft.specs.Serving.{Onboard, after, after_accepted, all_sent, behind, first_expired, first_sent, then_expired, then_sent, read_over, taken, worked, worked_if}
 use Rattle.lpt_spacecraft.proofs.WritingLemmas.{appends-one, appends-list, part-behind, part-first, part-grown}

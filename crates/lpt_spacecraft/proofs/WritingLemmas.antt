@@ -4,7 +4,7 @@ use Rattle.std.proofs.lemmas.List.{drop_more}
 use Rattle.std.proofs.KnownBytes.{Appends-trans}
 use Rattle.std.specs.Io.KnownBytes.{Appends}
 use Rattle.lpt_text.specs.Streams.{AppendsPart}
-use Rattle.lpt_text.proofs.StreamLemmas.{part_after, part_of_front, part_whole}
+use Rattle.lpt_text.proofs.StreamLemmas.{part_after, part_of_front}
 use Rattle.lpt_stream.specs.Streams.{all_octets}
 
 -- the octets of packets in two lists

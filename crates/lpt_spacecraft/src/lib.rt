@@ -1,11 +1,14 @@
 //! The spacecraft's end over a stream of packets. Each packet goes to a node; each request that is
 //! released is read and executed at once; what is reported of it is written, in order, and a
 //! report that is too long for a packet in all its parts. Ticks come every so many packets, and
-//! what is due then is given up.
+//! what is due then is given up. What outlasts a machine that dies is kept before anything that was
+//! made is written.
 //!
 //! The main type is `Spacecraft`. The first calls are `Spacecraft::new` and `serve_stream`.
 #![tactic(auto)]
 
+mod keeping;
+mod kept_file;
 mod sending;
 mod serving;
 mod spacecraft;
@@ -14,9 +17,12 @@ mod taking;
 mod ticking;
 mod writing;
 
+pub use keeping::{Keeper, Unkept};
+pub use kept_file::KeptFault;
 pub use lpt_events::Config;
 pub use lpt_frames::Peer;
 pub use lpt_memory::Memories;
+pub use lpt_state::StateFault;
 pub use lpt_text::{Sink, StreamFault};
 pub use serving::serve_stream;
 pub use spacecraft::Spacecraft;

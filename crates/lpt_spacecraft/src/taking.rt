@@ -1,10 +1,13 @@
 //! What the spacecraft's end makes of a packet.
 
-ghost use Rattle.std.specs.Prelude.{◌≡◌, ◌∷◌, ◌⊎◌, ◌+◌, ◌-◌, ◌<◌, ◌^◌, ℕ, List, [], true, false, IfErr, IfOk, OnOk, Some, option_map};
+ghost use Rattle.std.specs.Prelude.{◌≡◌, ◌∷◌, ◌⊎◌, ◌+◌, ◌-◌, ◌<◌, ◌^◌, ℕ, List, ◌++◌, [], true, false, IfErr, IfOk, Ok, OnErr, OnOk, Some, option_map};
 ghost use Rattle.lpt_jobs.specs.Jobs.{numbered};
 ghost use Rattle.lpt_jobs.specs.declared.job.Job.TheVariants.{Waiting};
 ghost use Rattle.lpt_events.specs.Configs.{IsConfig};
+ghost use Rattle.lpt_events.specs.declared.side.Side.TheVariants.{Craft};
 ghost use Rattle.lpt_memory.specs.Memories.{content_of};
+ghost use Rattle.lpt_state.specs.Spellings.{spelled};
+ghost use Rattle.lpt_state.specs.Verdicts.{reading, StateRefusedBy};
 ghost use Rattle.lpt_text.specs.Streams.{WriteEnds};
 ghost use Rattle.lpt_spacecraft.specs.Serving.{new_end, taken, worked, worked_if};
 ghost use Rattle.lpt_spacecraft.specs.Streams.{onboard, Breaks, IsIdle, WaitsFor, Writes};
@@ -15,6 +18,7 @@ use lpt_events::{Config, Side};
 use lpt_memory::{Memories, prepare};
 use lpt_node::{Accepted, Executed, Node};
 use lpt_packet::Octets;
+use lpt_state::{StateFault, read_state, write_state};
 use lpt_text::{Sink, StreamFault};
 use std::alloc::{AllocError, Global};
 
@@ -33,6 +37,41 @@ impl Spacecraft {
             node,
             memories,
         })
+    }
+
+    /// An end that is read back from the state that was kept of it, over the memories that were
+    /// kept with it: what a restart leaves of it.
+    ///
+    /// Errors: what is wrong with the state; `Memory`.
+    pub fn resume(
+        alloc: Global,
+        config: &Config,
+        state: &[u8],
+        memories: Memories,
+    ) -> Result<Spacecraft, StateFault>
+        requires { IsConfig config.now }
+        ensures config { IfOk result (λ s. s.config ≡ config.now) }
+        ensures node { IfOk result (λ s. reading Craft config.now state.now ≡ Ok s.node) }
+        ensures memories { IfOk result (λ s. s.memories ≡ memories) }
+        ensures idle { IfOk result IsIdle }
+        ensures refused { IfErr result (StateRefusedBy (reading Craft config.now state.now)) }
+    {
+        let node = read_state(alloc, Side::Craft, config, state)?;
+        Ok(Spacecraft {
+            alloc,
+            config: *config,
+            node,
+            memories,
+        })
+    }
+
+    /// Appends the state of the end, without the memories. The only error is out of memory, and
+    /// then nothing is appended.
+    pub fn write_state(&self, out: &mut Vec<u8>) -> Result<(), AllocError>
+        ensures ok { OnOk result (out.new.items ≡ out.old.items ++ spelled self.now.node) }
+        ensures err { OnErr result (out.new.items ≡ out.old.items) }
+    {
+        write_state(&self.node, out)
     }
 
     /// The octets of a memory, or `None` where there is no such memory.

@@ -6,7 +6,7 @@ ghost use Rattle.lpt_spacecraft.specs.Streams.{IsIdle};
 use crate::worked::{BROKEN_OFF, HALF, LOADED_AND_DUMPED, PART_AND_NOISE, REPORTS};
 use lpt_events::{Config, Mode};
 use lpt_memory::{Memories, Octets};
-use lpt_spacecraft::{Spacecraft, Stop, serve_stream};
+use lpt_spacecraft::{Spacecraft, Stop, Unkept, serve_stream};
 use lpt_text::FromStd;
 use std::alloc::Global;
 use std::test::Fail;
@@ -52,7 +52,7 @@ fn serves_worked_streams(rt: HostRuntime) -> Result<(), Fail> {
         };
         let mut source = FromStd::new(up);
         let mut out = FromStd::new(Vec::new(rt.alloc()));
-        let ended = serve_stream(&mut craft, every, &mut source, &mut out);
+        let ended = serve_stream(&mut craft, every, &mut source, &mut Unkept, &mut out);
         assert!(rt; ended == Ok(stop));
         let written = out.into_inner();
         assert!(rt; written.as_slice() == down);

@@ -1,4 +1,4 @@
-mod LawLemmas
+pub mod LawLemmas
 mod NumberLemmas
 mod ReadingLemmas
 mod RunLemmas

@@ -1,5 +1,5 @@
 -- Packet after packet, until none is left.
-use Rattle.std.proofs.Common.{◌≡◌, ◌∙◌, ap, sym, subst, refl, inr, take, length, Bool, true, false, Ok, arith}
+use Rattle.std.proofs.Common.{◌≡◌, ◌∙◌, ap, sym, subst, refl, inr, take, length, Ok, arith}
 use Rattle.lpt_frames.specs.declared.front.Front.{Front}
 use Rattle.lpt_frames.specs.Buffers.{held, FindsFrame}
 use Rattle.lpt_stream.specs.Streams.{all_octets}
@@ -12,7 +12,8 @@ pub loop-count-init : goal.loop-count-init
 loop-count-init g c = record {
   served = served-none c.args.every c.args.craft.now (g.P.Peer.remaining c.args.peer.now)
       (g.K.Sink.contents c.args.out.now) (held c.new-buffer.result) c.new-buffer.ensures;
-  idle = c.requires;
+  idle = c.requires.idle;
+  kept = c.requires.kept;
   config = refl;
   reader = refl;
   writer = refl;
@@ -170,6 +171,7 @@ loop-count-preserved g c =
           c.in-Ok.ensures.ok c.in-Ok.ensures.since
           c.saturating_add-place.ensures c.skip.ensures;
       idle = c.in-Ok.ensures.idle;
+      kept = c.in-Ok.ensures.kept;
       config = c.in-Ok.ensures.config ∙ c.loop-count.invariant.config;
       reader = found.3 ∙ c.loop-count.invariant.reader;
       writer = c.in-Ok.ensures.writer ∙ (c.in-Ok-Frame.ensures.writer ∙

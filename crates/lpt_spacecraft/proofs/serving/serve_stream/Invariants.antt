@@ -1,5 +1,6 @@
 use Rattle.std.proofs.Common.{◌≡◌}
 use Rattle.lpt_frames.specs.Buffers.{held}
+use Rattle.lpt_spacecraft.specs.Keeping.{IsKeptAs}
 use Rattle.lpt_spacecraft.specs.Streams.{IsIdle}
 use Rattle.lpt_spacecraft.proofs.StreamLemmas.{IsServed}
 use Rattle.lpt_spacecraft.proofs.serving.serve_stream.Given as goal
@@ -12,6 +13,7 @@ invariant-loop-count g l = record {
       (g.K.Sink.contents l.fn.out) (g.K.Sink.contents l.out) (held l.buffer) l.count l.since
       l.place;
   idle : IsIdle l.craft;
+  kept : IsKeptAs (g.H.Keeper.kept l.keeper) l.craft;
   config : l.craft.config ≡ l.fn.craft.config;
   reader : g.P.Peer.failed l.peer ≡ g.P.Peer.failed l.fn.peer;
   writer : g.K.Sink.failed l.out ≡ g.K.Sink.failed l.fn.out;

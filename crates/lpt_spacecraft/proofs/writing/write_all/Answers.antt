@@ -1,7 +1,5 @@
 -- Packet after packet.
-use Rattle.std.proofs.Common.{◌≡◌, ◌∙◌, ap, sym, subst, [], ◌++◌, ◌+◌, drop}
-use Rattle.std.specs.Io.KnownBytes.{Appends}
-use Rattle.lpt_text.specs.Streams.{AppendsPart}
+use Rattle.std.proofs.Common.{◌∙◌, ◌+◌, drop}
 use Rattle.lpt_stream.specs.Streams.{all_octets}
 use Rattle.lpt_spacecraft.proofs.WritingLemmas.{octets-at, wrote-more, wrote-part-more}
 use Rattle.lpt_spacecraft.proofs.writing.write_all.Goals as goal

@@ -1,11 +1,11 @@
 -- Reception after reception.
-use Rattle.std.proofs.Common.{◌≡◌, ◌∙◌, ap, sym, subst, ℕ, ◌+◌, List, [], arith}
+use Rattle.std.proofs.Common.{◌≡◌, ◌∙◌, ap, sym, subst, ℕ, List, [], arith}
 use Rattle.std.specs.Io.KnownBytes.{Appends}
 use Rattle.lpt_events.specs.declared.config.Config.{Config}
 use Rattle.lpt_node.specs.Nodes.{NodeData}
 use Rattle.lpt_text.specs.Streams.{AppendsPart}
 use Rattle.lpt_stream.specs.Streams.{all_octets}
-use Rattle.lpt_spacecraft.specs.Serving.{first_expired, then_expired}
+use Rattle.lpt_spacecraft.specs.Serving.{then_expired}
 use Rattle.lpt_spacecraft.proofs.ServingLemmas.{expired-next, expired-part, expired-step}
 use Rattle.lpt_spacecraft.proofs.spacecraft.Spacecraft.give_up.Goals as goal
 

@@ -1,6 +1,5 @@
 -- Part after part.
-use Rattle.std.proofs.Common.{◌≡◌, ◌∙◌, ap, sym, ℕ, ◌+◌, List, arith}
-use Rattle.lpt_events.specs.declared.side.Side.TheVariants.{Craft}
+use Rattle.std.proofs.Common.{◌∙◌, ap, sym, ℕ, ◌+◌, List, arith}
 use Rattle.lpt_node.specs.Nodes.{NodeData}
 use Rattle.lpt_node.specs.Sending.{sent}
 use Rattle.lpt_spacecraft.specs.Serving.{first_sent}

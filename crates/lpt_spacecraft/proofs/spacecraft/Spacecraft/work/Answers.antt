@@ -1,10 +1,10 @@
 -- A request, from its claim to the last of its reports.
-use Rattle.std.proofs.Common.{◌≡◌, ◌∙◌, ap, sym, subst, refl, [], ◌∷◌}
+use Rattle.std.proofs.Common.{◌∙◌, ap, subst, refl}
 use Rattle.std.specs.Io.KnownBytes.{Appends}
 use Rattle.lpt_stream.specs.Streams.{all_octets}
 use Rattle.lpt_events.specs.declared.config.Config.{Config}
-use Rattle.lpt_memory.specs.Memories.{Contents, sizes_of}
-use Rattle.lpt_memory.specs.Readings.{ReadJob, Source}
+use Rattle.lpt_memory.specs.Memories.{Contents}
+use Rattle.lpt_memory.specs.Readings.{ReadJob}
 use Rattle.lpt_node.specs.Jobs.{Execution, executed}
 use Rattle.lpt_node.specs.Nodes.{NodeData}
 use Rattle.lpt_spacecraft.specs.Serving.{all_sent}

@@ -7,7 +7,7 @@ use Rattle.lpt_text.specs.Streams.{AppendsPart}
 use Rattle.lpt_spacecraft.specs.Serving.{beaten}
 use Rattle.lpt_spacecraft.specs.Streams.{onboard}
 use Rattle.lpt_spacecraft.proofs.FoldLemmas.{packet-breaks, tick-breaks}
-use Rattle.lpt_spacecraft.proofs.serving.serve_packet.Goals as goal
+use Rattle.lpt_spacecraft.proofs.serving.serve_one.Goals as goal
 
 -- work broke off in the packet
 pub returns-in-Err-clause-breaks : goal.returns-in-Err-clause-breaks

@@ -1,0 +1,123 @@
+-- Two ends apart, of each of which its state is written down now and then, and read back when its
+-- machine was reset.
+--
+-- What an end did and didn't write is no move: nothing of it was acted on or sent, so it is as if
+-- it hadn't come to it.
+use Rattle.std.specs.Prelude.{◌≡◌, ℕ, ◌+◌, ◌<◌, ◌^◌, List, [], ◌∷◌, Result, Ok, Err, ⊤}
+use Rattle.lpt_apart.specs.Clocks.{later, no_pair_later}
+use Rattle.lpt_apart.specs.Ends.{node_at, with_node}
+use Rattle.lpt_apart.specs.Facts.{Restarted}
+use Rattle.lpt_apart.specs.Moves.{CanMove, Do, Move, Pair, moved}
+use Rattle.lpt_apart.specs.Steps.{Restart}
+use Rattle.lpt_apart.specs.Worlds.{IsPromised}
+use Rattle.lpt_events.specs.Configs.{IsConfig}
+use Rattle.lpt_events.specs.declared.config.Config.{Config}
+use Rattle.lpt_events.specs.declared.side.Side.{Side}
+use Rattle.lpt_events.specs.declared.side.Side.TheVariants.{Ground, Craft}
+use Rattle.lpt_memory.specs.Memories.{Contents}
+use Rattle.lpt_node.specs.Nodes.{NodeView}
+use Rattle.lpt_state.specs.Lastings.{IsEnd}
+use Rattle.lpt_state.specs.Spellings.{spelled}
+use Rattle.lpt_state.specs.Verdicts.{reading}
+use Rattle.lpt_state.specs.declared.fault.StateFault.{StateFault}
+
+-- ---- what is written
+
+-- two ends, the octets that were last written of each, and the memories that were written with the
+-- spacecraft's
+pub record Kept : Type 0 where
+  pub pair : Pair
+  pub ground_octets : List ℕ
+  pub craft_octets : List ℕ
+  pub memories : Contents
+
+-- the end of a side
+abbrev pub end_at : Config → Pair → Side → NodeView
+end_at c p side = record { side = side; config = c; at = node_at p.ends side }
+
+-- the state of a side's end is written, and with the spacecraft's the memories
+abbrev pub written : Config → Kept → Side → Kept
+written c k Ground = record k { ground_octets = spelled (end_at c k.pair Ground) }
+written c k Craft =
+    record k { craft_octets = spelled (end_at c k.pair Craft); memories = k.pair.ends.memories }
+
+-- nothing happened at a side's end since it was written: to write it again would change nothing.
+-- It is one of which a state can be written, and a boot is left.
+pub record IsKept (c : Config) (k : Kept) (side : Side) : Type 0 where
+  pub same : written c k side ≡ k
+  pub is_end : IsEnd (end_at c k.pair side)
+  pub boot_left : (node_at k.pair.ends side).boot + 1 < 2 ^ 64
+
+-- ---- what is read back
+
+-- the ends, of which that of this side is what was read; where nothing could be read they stay
+abbrev pub with_read : Pair → Side → Result NodeView StateFault → Pair
+with_read p side (Ok v) =
+    record p {
+      ends = record (with_node p.ends side v.at) { log = Restarted side ∷ p.ends.log };
+    }
+with_read p side (Err fault) = p
+
+-- the ends with these memories
+abbrev pub with_memories : Pair → Contents → Pair
+with_memories p ms = record p { ends = record p.ends { memories = ms } }
+
+-- the end of a side is read back from what was last written of it, the spacecraft's with its
+-- memories
+abbrev pub read_back : Config → Kept → Side → Kept
+read_back c k Ground =
+    record k { pair = with_read k.pair Ground (reading Ground c k.ground_octets) }
+read_back c k Craft =
+    record k {
+      pair = with_memories (with_read k.pair Craft (reading Craft c k.craft_octets)) k.memories;
+    }
+
+-- ---- what may be done
+
+-- two ends make a move; the state of a side's end is written; or that end is read back
+pub data Deed : Type 0 where
+  Make : Move → Deed
+  Write : Side → Deed
+  ReadBack : Side → Deed
+
+-- what a deed makes of them
+abbrev pub done : Config → Kept → Deed → Kept
+done c k (Make x) = record k { pair = moved c k.pair x }
+done c k (Write side) = written c k side
+done c k (ReadBack side) = read_back c k side
+
+-- A move can be made as before, and a state can be written at any time. An end can be read back if
+-- nothing happened at it since it was written.
+abbrev pub CanDo : Config → Kept → Deed → Type 0
+CanDo c k (Make x) = CanMove c k.pair x
+CanDo c k (Write side) = ⊤
+CanDo c k (ReadBack side) = IsKept c k side
+
+-- two ends after these deeds, the newest of which stands first
+abbrev pub after_deeds : Config → Kept → List Deed → Kept
+after_deeds c k [] = k
+after_deeds c k (x ∷ xs) = done c (after_deeds c k xs) x
+
+-- each of them can be done after those before it
+abbrev pub CanDoAll : Config → Kept → List Deed → Type 0
+CanDoAll c k [] = ⊤
+CanDoAll c k (x ∷ xs) = CanDoAll c k xs × CanDo c (after_deeds c k xs) x
+
+-- ---- the laws
+
+-- a reading back is a restart
+abbrev pub ReadingsAreRestarts : Type 0
+ReadingsAreRestarts =
+    (c : Config) (k : Kept) (side : Side)
+    → IsKept c k side
+    → (read_back c k side).pair ≡ moved c k.pair (Do (Restart side))
+
+-- whatever was done with two new ends, whose clocks began so many ticks later
+abbrev pub KeptEndsKeepThePromise : Type 0
+KeptEndsKeepThePromise =
+    (c : Config) (first : Contents) (g t : ℕ) (k : Kept) (xs : List Deed)
+    → IsConfig (later g c)
+    → IsConfig (later t c)
+    → k.pair ≡ no_pair_later c first g t
+    → CanDoAll c k xs
+    → IsPromised c first (after_deeds c k xs).pair.ends

@@ -1,0 +1,41 @@
+-- What was kept of a spacecraft.
+use Rattle.std.specs.Prelude.{◌≡◌, ℕ, zero, suc, List, [], ◌∷◌, ◌++◌, length, codes, Option, Some, None, Ok, ⊤}
+use Rattle.lpt_events.specs.declared.side.Side.TheVariants.{Craft}
+use Rattle.lpt_memory.specs.Memories.{content_of, Contents}
+use Rattle.lpt_packet.specs.Numbers.{be}
+use Rattle.lpt_packet.specs.Packets.{sealed}
+use Rattle.lpt_state.specs.Spellings.{spelled}
+use Rattle.lpt_state.specs.Verdicts.{reading}
+use Rattle.lpt_spacecraft.specs.declared.spacecraft.Spacecraft.{Spacecraft}
+
+-- what was kept last is the state of this spacecraft and its memories, where it is known
+abbrev pub IsKeptAs : Option (List ℕ × Contents) → Spacecraft → Type 0
+IsKeptAs None s = ⊤
+IsKeptAs (Some x) s = (x.0 ≡ spelled s.node) × (x.1 ≡ s.memories)
+
+-- ---- as octets
+
+-- a memory of this identifier, where there is one: the identifier, its length in 64 bits, its
+-- octets
+abbrev pub kept_memory : ℕ → Option (List ℕ) → List ℕ
+kept_memory id None = []
+kept_memory id (Some m) = id ∷ [] ++ be (length m) 8 ++ m
+
+-- the memories of the first identifiers, so many
+unfoldable pub kept_memories : ℕ → Contents → List ℕ
+kept_memories zero ms = []
+kept_memories (suc id) ms = kept_memories id ms ++ kept_memory id (content_of id ms)
+
+-- what stands in front: tag 32 bits, version 8, and the length of the state 64
+unfoldable pub kept_head : (len : ℕ) → List ℕ
+kept_head len = codes "LPTK" ++ 1 ∷ [] ++ be len 8
+
+-- a state and memories, by identifier, with the checksum of all of them behind
+unfoldable pub kept_octets : (state : List ℕ) → Contents → List ℕ
+kept_octets state ms = sealed (kept_head (length state) ++ state ++ kept_memories 256 ms)
+
+-- a spacecraft is what a restart leaves of that which these octets are kept of
+pub record IsReadFrom (octets : List ℕ) (s : Spacecraft) : Type 0 where
+  pub state : List ℕ
+  pub kept : octets ≡ kept_octets state s.memories
+  pub node : reading Craft s.config state ≡ Ok s.node

@@ -1,0 +1,138 @@
+//! The octets of a spacecraft that is kept: its state, and its memories with it.
+
+ghost use Rattle.std.specs.Prelude.{◌≡◌, ◌++◌, IfOk, OnOk, option_map};
+ghost use Rattle.lpt_events.specs.Configs.{IsConfig};
+ghost use Rattle.lpt_state.specs.Spellings.{spelled};
+ghost use Rattle.lpt_spacecraft.specs.Keeping.{kept_head, kept_memories, kept_memory, kept_octets, IsReadFrom};
+ghost use Rattle.lpt_spacecraft.specs.Streams.{IsIdle};
+
+use crate::Spacecraft;
+use lpt_events::Config;
+use lpt_memory::Memories;
+use lpt_packet::{Octets, crc16};
+use lpt_state::StateFault;
+use std::alloc::{AllocError, Global};
+use thiserror::Error;
+
+/// Why octets are no spacecraft that was kept.
+#[derive(Clone, Copy, Debug, PartialEq, Eq, Error)]
+pub enum KeptFault {
+    /// They aren't what is kept of any spacecraft, or were damaged.
+    #[error("this is no spacecraft that was kept, or it is damaged")]
+    Damaged,
+    /// The state isn't that of a spacecraft of this configuration.
+    #[error("{0}")]
+    State(StateFault),
+    /// There is no memory for it.
+    #[error("out of memory")]
+    Memory,
+}
+
+impl Spacecraft {
+    /// The octets that are kept of it. The only error is out of memory.
+    pub fn kept(&self, alloc: Global) -> Result<Vec<u8>, AllocError>
+        ensures { IfOk result (λ v. v.items
+            ≡ kept_octets (spelled self.now.node) self.now.memories) }
+    {
+        let mut state = Vec::new(alloc);
+        self.write_state(&mut state)?;
+        octets_of(alloc, &state, &self.memories)
+    }
+
+    /// The spacecraft that was kept as these octets: what a restart leaves of it.
+    ///
+    /// Errors: `Damaged`; what is wrong with the state; `Memory`.
+    pub fn read_kept(alloc: Global, config: &Config, octets: &[u8]) -> Result<Spacecraft, KeptFault>
+        requires { IsConfig config.now }
+        ensures config { IfOk result (λ s. s.config ≡ config.now) }
+        ensures read { IfOk result (λ s. IsReadFrom octets.now s) }
+        ensures idle { IfOk result IsIdle }
+    {
+        let Some((state, behind)) = parts_in(octets) else {
+            return Err(KeptFault::Damaged);
+        };
+        let Some(memories) = memories_in(alloc, behind) else {
+            return Err(KeptFault::Damaged);
+        };
+        let Ok(again) = octets_of(alloc, state, &memories) else {
+            return Err(KeptFault::Memory);
+        };
+        if again.as_slice() != octets {
+            return Err(KeptFault::Damaged);
+        }
+        match Spacecraft::resume(alloc, config, state, memories) {
+            Ok(craft) => Ok(craft),
+            Err(fault) => Err(KeptFault::State(fault)),
+        }
+    }
+}
+
+// The octets of a state and memories. The only error is out of memory.
+fn octets_of(alloc: Global, state: &[u8], memories: &Memories) -> Result<Vec<u8>, AllocError>
+    ensures { IfOk result (λ v. v.items ≡ kept_octets state.now memories.now) }
+{
+    let mut octets = Vec::new(alloc);
+    add_head(&mut octets, state.len())?;
+    octets.extend_from_slice(state)?;
+    add_memories(&mut octets, memories)?;
+    let checksum = crc16(&octets);
+    octets.extend_from_slice(&checksum.to_be_bytes())?;
+    Ok(octets)
+}
+
+// Appends what stands before a state of so many octets. The only error is out of memory.
+#[tactic(auto, unfolding(crate::specs::Keeping::kept_head))]
+fn add_head(octets: &mut Vec<u8>, len: usize) -> Result<(), AllocError>
+    ensures { OnOk result (octets.new.items ≡ octets.old.items ++ kept_head len) }
+{
+    octets.extend_from_slice(&[b'L', b'P', b'T', b'K', 1])?;
+    octets.extend_from_slice(&len.to_be_bytes())?;
+    Ok(())
+}
+
+// Appends memories, by identifier. The only error is out of memory.
+fn add_memories(octets: &mut Vec<u8>, memories: &Memories) -> Result<(), AllocError>
+    ensures { OnOk result (octets.new.items
+        ≡ octets.old.items ++ kept_memories 256 memories.now) }
+{
+    for id in 0..256u16 {
+        add_memory(octets, id as u8, memories.content(id as u8))?;
+    }
+    Ok(())
+}
+
+// Appends a memory, where there is one of this identifier. The only error is out of memory.
+fn add_memory(octets: &mut Vec<u8>, id: u8, content: Option<&[u8]>) -> Result<(), AllocError>
+    ensures { OnOk result (octets.new.items
+        ≡ octets.old.items ++ kept_memory id (option_map (λ x. x.now) content.entry)) }
+{
+    if let Some(content) = content {
+        octets.push(id)?;
+        octets.extend_from_slice(&content.len().to_be_bytes())?;
+        octets.extend_from_slice(content)?;
+    }
+    Ok(())
+}
+
+// The state, and the octets of the memories behind it.
+fn parts_in(octets: &[u8]) -> Option<(&[u8], &[u8])> {
+    let behind = octets.strip_prefix(b"LPTK\x01")?;
+    let (len, behind) = behind.split_first_chunk::<8>()?;
+    let (state, behind) = behind.split_at_checked(u64::from_be_bytes(*len) as usize)?;
+    let (memories, _) = behind.split_last_chunk::<2>()?;
+    Some((state, memories))
+}
+
+// The memories that these octets are, each with its identifier and length in front.
+fn memories_in(alloc: Global, octets: &[u8]) -> Option<Memories> {
+    let mut list = Vec::new(alloc);
+    let mut left = octets;
+    while let Some((id, behind)) = left.split_first() {
+        let (len, behind) = behind.split_first_chunk::<8>()?;
+        let (content, behind) = behind.split_at_checked(u64::from_be_bytes(*len) as usize)?;
+        let content = content.to_vec(alloc).ok()?;
+        list.push((*id, Octets::from_vec(content))).ok()?;
+        left = behind;
+    }
+    Memories::new(list).ok()
+}
