@@ -1,6 +1,7 @@
 /*
- * Space packets (CCSDS 133.0-B), PUS headers, large packet transfer and request verification
- * (ECSS-E-ST-70-41C, services 13 and 1), read from and written to the caller's buffers.
+ * Space packets (CCSDS 133.0-B), PUS headers, large packet transfer, request verification and
+ * requests that read a memory (ECSS-E-ST-70-41C, services 13, 1 and 6), read from and written to
+ * the caller's buffers.
  *
  * No call takes memory. Each answers LPT_DONE, or the number of what is wrong; then nothing has
  * been written through a pointer but what the call's comment says. docs/FORMATS.md has the layouts
@@ -91,6 +92,9 @@ enum LptFault {
     /* Of an end: not 1 to 16 memories of 1 to 1,048,576 octets each, as lpt_end_new says. */
     LPT_E_MEMORIES = 25,
 
+    /* A request to a memory: no area, more than 255, or one without octets. */
+    LPT_E_BAD_AREA = 28,
+
     /* Of an end: the transaction's name isn't free. */
     LPT_E_IN_USE = 41,
     /* A message that isn't longer than a part; or one of more than 65,542 octets, or a plain
@@ -129,7 +133,7 @@ enum LptFault {
     LPT_E_ROOM = 103,
     /* The octets don't say it yet: more of the stream is needed. */
     LPT_E_MORE = 104,
-    /* The body is no verification report. */
+    /* The body is no such report. */
     LPT_E_NO_REPORT = 105,
     /* The handle holds no end; it holds one already. */
     LPT_E_EMPTY = 106,
@@ -139,7 +143,19 @@ enum LptFault {
     /* Of an end: there is nothing to copy, or to let go. */
     LPT_E_NOTHING = 109,
     /* Of an end: packets are to be sent first. */
-    LPT_E_UNSENT = 110
+    LPT_E_UNSENT = 110,
+
+    /* Octets that are no state of an end, in the order in which they are tested: they are cut
+       short; they are none; of another version; not as many as they say; the other side's; of
+       another configuration; their checksum is wrong; their names are out of order. */
+    LPT_E_STATE_SHORT = 111,
+    LPT_E_STATE_TAG = 112,
+    LPT_E_STATE_VERSION = 113,
+    LPT_E_STATE_LENGTH = 114,
+    LPT_E_STATE_SIDE = 115,
+    LPT_E_STATE_CONFIG = 116,
+    LPT_E_STATE_CHECKSUM = 117,
+    LPT_E_STATE_ORDER = 118
 };
 
 /* The name of what a call answered, as docs/C.md has it; "unknown" of another number. */
@@ -179,6 +195,8 @@ static inline const char *lpt_fault_name(uint32_t fault) {
         return "abort body";
     case LPT_E_MEMORIES:
         return "memories";
+    case LPT_E_BAD_AREA:
+        return "bad area";
     case LPT_E_IN_USE:
         return "in use";
     case LPT_E_SHORT_MESSAGE:
@@ -235,6 +253,22 @@ static inline const char *lpt_fault_name(uint32_t fault) {
         return "nothing";
     case LPT_E_UNSENT:
         return "unsent";
+    case LPT_E_STATE_SHORT:
+        return "state short";
+    case LPT_E_STATE_TAG:
+        return "state tag";
+    case LPT_E_STATE_VERSION:
+        return "state version";
+    case LPT_E_STATE_LENGTH:
+        return "state length";
+    case LPT_E_STATE_SIDE:
+        return "state side";
+    case LPT_E_STATE_CONFIG:
+        return "state config";
+    case LPT_E_STATE_CHECKSUM:
+        return "state checksum";
+    case LPT_E_STATE_ORDER:
+        return "state order";
     default:
         return "unknown";
     }
@@ -245,8 +279,13 @@ static inline const char *lpt_fault_name(uint32_t fault) {
 /* The kinds of packets. */
 enum LptPacketKind { LPT_PACKET_TM = 0, LPT_PACKET_TC = 1 };
 
-/* The kinds of parts. */
-enum LptPartKind { LPT_PART_FIRST = 1, LPT_PART_INTERMEDIATE = 2, LPT_PART_LAST = 3 };
+/* The kinds of parts, and what carries no part. */
+enum LptPartKind {
+    LPT_PART_NONE = 0,
+    LPT_PART_FIRST = 1,
+    LPT_PART_INTERMEDIATE = 2,
+    LPT_PART_LAST = 3
+};
 
 /* Why a reception was aborted: no part came for as long as the time-out; in strict mode a part came
    that isn't the next; a part contradicts another. */
@@ -379,6 +418,12 @@ uint32_t lpt_write_tm(const LptTmHead *head, const uint8_t *body, size_t body_le
 
 /* ---- parts of large messages ---- */
 
+/* What a message of this service and subtype is, in a packet of this kind (LPT_PACKET_TM or
+   LPT_PACKET_TC): LPT_PART_FIRST, LPT_PART_INTERMEDIATE or LPT_PART_LAST; LPT_PART_NONE where it
+   carries no part, or there is no such kind of packets. */
+LPT_MUST_USE
+uint32_t lpt_part_kind(uint32_t packet_kind, uint8_t service, uint8_t subtype);
+
 /* How many parts of this size a message has; 0 where the size isn't 4 to 1,024 octets, or the
    message has more than 65,542. */
 LPT_MUST_USE
@@ -466,6 +511,43 @@ LPT_MUST_USE
 uint32_t lpt_write_report(uint8_t subtype, uint32_t request, uint16_t code, uint8_t *out,
                           size_t out_len, size_t *needed);
 
+/* ---- requests to a memory: bodies of telecommands of service 6 ---- */
+
+/* Octets of a memory, by their place. */
+typedef struct LptRange {
+    uint32_t address; /* of the first octet, from 0 */
+    uint16_t len;     /* from 1 */
+} LptRange;
+
+/*
+ * Writes the body of a dump, subtype 5, to the front of a buffer, and leaves the rest of it as it
+ * was: of the memory of this identifier, the octets at these places, in their order. LPT_DONE;
+ * LPT_E_BAD_AREA for no place, more than 255, or one without octets; LPT_E_ROOM. At LPT_DONE and
+ * LPT_E_ROOM *needed is the body's length, 2 and 6 for each place.
+ */
+LPT_MUST_USE
+uint32_t lpt_write_dump(uint8_t memory, const LptRange *ranges, size_t ranges_len, uint8_t *out,
+                        size_t out_len, size_t *needed);
+
+/* The same for a check, subtype 9, which asks for the checksums of the octets. */
+LPT_MUST_USE
+uint32_t lpt_write_check(uint8_t memory, const LptRange *ranges, size_t ranges_len, uint8_t *out,
+                         size_t out_len, size_t *needed);
+
+/* An area of the report that answers a check. */
+typedef struct LptChecked {
+    uint8_t memory;
+    uint8_t areas; /* how many the report has */
+    uint32_t address;
+    uint16_t len;
+    uint16_t checksum;
+} LptChecked;
+
+/* Reads one area of a message's body as the report of a check, subtype 10, by its number from 0:
+   LPT_DONE, and *out is written; LPT_E_NO_REPORT; LPT_E_RANGE where it has no such area. */
+LPT_MUST_USE
+uint32_t lpt_read_check(const uint8_t *body, size_t body_len, size_t number, LptChecked *out);
+
 /* ---- what is so of the structures in the archive: size, alignment, offsets ---- */
 
 LPT_LAYOUT(LptPacket, 24, 8);
@@ -518,6 +600,17 @@ LPT_LAYOUT(LptReport, 8, 4);
 LPT_FIELD(LptReport, request, 0);
 LPT_FIELD(LptReport, failed, 4);
 LPT_FIELD(LptReport, code, 6);
+
+LPT_LAYOUT(LptRange, 8, 4);
+LPT_FIELD(LptRange, address, 0);
+LPT_FIELD(LptRange, len, 4);
+
+LPT_LAYOUT(LptChecked, 12, 4);
+LPT_FIELD(LptChecked, memory, 0);
+LPT_FIELD(LptChecked, areas, 1);
+LPT_FIELD(LptChecked, address, 4);
+LPT_FIELD(LptChecked, len, 8);
+LPT_FIELD(LptChecked, checksum, 10);
 
 #ifdef __cplusplus
 }

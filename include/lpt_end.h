@@ -213,7 +213,7 @@ uint32_t lpt_end_sent(LptEnd *end);
 enum LptAppliedKind {
     LPT_APPLIED_CARRIED_OUT = 1,
     LPT_APPLIED_OPENED = 2, /* under `name` its report is open to be sent in parts */
-    LPT_APPLIED_SILENT = 3, /* it is no telecommand of the APID, and nothing was done */
+    LPT_APPLIED_SILENT = 3, /* it is no telecommand of the APID, or was dropped: nothing was done */
     LPT_APPLIED_REFUSED = 4 /* `value` is the LptFailure */
 };
 
@@ -228,6 +228,24 @@ typedef struct LptApplied {
    as always on ground; LPT_E_ALLOCATION. */
 LPT_MUST_USE
 uint32_t lpt_end_read(LptEnd *end);
+
+/*
+ * Says which service type and message subtype the oldest request has that was released and not
+ * read yet, so that a program sees whether it is of memory management, of service 6, or of a
+ * service of its own. LPT_DONE, and *service and *subtype are written; LPT_E_EMPTY; LPT_E_NO_JOB,
+ * as always on ground; LPT_E_NOTHING where the request is no telecommand of the end's APID.
+ */
+LPT_MUST_USE
+uint32_t lpt_end_asked(LptEnd *end, uint8_t *service, uint8_t *subtype);
+
+/*
+ * Drops the oldest request that was released and not read yet, in place of lpt_end_read: it is
+ * never executed. What stands in its place asks nothing: lpt_end_execute lets it go in its turn,
+ * says LPT_APPLIED_SILENT of it, and makes no report. A request that was read isn't dropped any
+ * more. LPT_DONE; LPT_E_EMPTY; LPT_E_NO_JOB, as always on ground; LPT_E_ALLOCATION.
+ */
+LPT_MUST_USE
+uint32_t lpt_end_drop(LptEnd *end);
 
 /*
  * Executes the oldest request, which has to be read: does what it asks of a memory, and says what
@@ -289,6 +307,33 @@ uint32_t lpt_end_name(LptEnd *end, uint32_t direction, const LptName *name, uint
  */
 LPT_MUST_USE
 uint32_t lpt_end_restart(LptEnd *end);
+
+/* ---- what outlasts the program ---- */
+
+/*
+ * Copies the state of the end to the front of a buffer, and leaves the rest of it as it was: the
+ * names that it knows, its clock, and which start it is. Memories are copied by lpt_end_memory.
+ * docs/FORMATS.md has the octets, and docs/C.md says when to keep them. It takes memory while it
+ * runs. LPT_DONE; LPT_E_EMPTY; LPT_E_ROOM; LPT_E_ALLOCATION. At LPT_DONE and LPT_E_ROOM *needed is
+ * the state's length: 57, and 6 for each run of names, of which there are at most as many as names
+ * in use.
+ */
+LPT_MUST_USE
+uint32_t lpt_end_state(LptEnd *end, uint8_t *out, size_t out_len, size_t *needed);
+
+/*
+ * Makes an end of a state into an empty handle, in place of lpt_end_new: what lpt_end_restart would
+ * have left of the end whose state it is, with these memories, nothing released and nothing to be
+ * sent. The clock is the state's; that of the configuration isn't looked at.
+ * LPT_DONE; LPT_E_FULL; LPT_E_RANGE for another side or mode; LPT_E_CONFIG_APID to
+ * LPT_E_CONFIG_OUTGOING; LPT_E_MEMORIES as of lpt_end_new; LPT_E_STATE_SHORT to
+ * LPT_E_STATE_CHECKSUM, in that order; LPT_E_NO_NUMBER where no start follows the state's;
+ * LPT_E_STATE_ORDER; LPT_E_ALLOCATION.
+ */
+LPT_MUST_USE
+uint32_t lpt_end_resume(LptEnd *end, uint32_t side, const LptConfig *config, const uint8_t *state,
+                        size_t state_len, const LptMemory *memories, size_t memories_len,
+                        const uint8_t *content, size_t content_len);
 
 /* ---- memory, which the caller's program gives ---- */
 

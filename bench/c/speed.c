@@ -140,7 +140,44 @@ static void join_plain(void) {
     plain_end_free(end);
 }
 
-/* ---- the table ---- */
+/* ---- the state of an end ---- */
+
+enum { NAMES = 65536, STATES = 20, STATE = 57 + 6 * NAMES };
+static uint8_t state[STATE];
+
+/* What it takes to write the state of an end, and to make one of it, of which so many names were used,
+ * each so far from the one before. */
+static void state_row(const char *name, uint32_t names, uint32_t step) {
+    static const LptConfig config = {100, 8, 10, 4, 4, 0, LPT_MODE_ANY};
+    LptEnd end = LPT_END_EMPTY, again = LPT_END_EMPTY;
+    LptName used = {1, 0};
+    size_t len = 0;
+    uint32_t i;
+    double from, written_in, made_in = 0;
+    wants(lpt_end_new(&end, LPT_SIDE_GROUND, &config, no_memory, 0, message, 0) == LPT_DONE);
+    for (i = 0; i < names; i++) {
+        used.id = (uint16_t)(i * step);
+        used.source = (uint16_t)(1 + i * step / NAMES);
+        wants(lpt_end_open(&end, &used, message, 9) == LPT_DONE);
+        wants(lpt_end_finish(&end, &used) == LPT_DONE);
+    }
+    from = now();
+    for (i = 0; i < STATES; i++) {
+        wants(lpt_end_state(&end, state, sizeof state, &len) == LPT_DONE);
+    }
+    written_in = (now() - from) / STATES;
+    for (i = 0; i < STATES; i++) {
+        from = now();
+        wants(lpt_end_resume(&again, LPT_SIDE_GROUND, &config, state, len, no_memory, 0, message, 0) ==
+              LPT_DONE);
+        made_in += (now() - from) / STATES;
+        lpt_end_free(&again);
+    }
+    lpt_end_free(&end);
+    printf("| %s | %zu | %.3f | %.3f |\n", name, len, written_in * 1e3, made_in * 1e3);
+}
+
+/* ---- the tables ---- */
 
 static int by_size(const void *a, const void *b) {
     double x = *(const double *)a, y = *(const double *)b;
@@ -195,6 +232,10 @@ int main(int argc, char **argv) {
     split(4);
     row("65,542 octets joined of parts of 4", JOINS * (double)LONG, rounds, join_proved,
         join_plain);
+    printf("\n| State of an end | Octets | Written in, ms | Made again in, ms |\n|---|--:|--:|--:|\n");
+    state_row("no name", 0, 1);
+    state_row("65,536 names of a source", NAMES, 1);
+    state_row("32,768 names of a source, every second", NAMES / 2, 2);
     if (is_wrong) {
         printf("what was computed is wrong\n");
     }

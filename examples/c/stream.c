@@ -41,18 +41,20 @@ static size_t send_other(uint8_t *stream, size_t len, const uint8_t *message) {
     return len + needed;
 }
 
-/* Reads a packet that came, and says what it is. Telecommands of service 13 with the subtypes 9, 10
-   and 11 carry parts. */
+/* Reads a packet that came, and says what it is. */
 static void receive(const uint8_t *octets, size_t len) {
     LptTc tc = {{0, 0, 0, 0, 0, 0}, 0, 0};
     LptPart part = {0, 0, 0, 0, 0};
-    uint32_t fault = lpt_read_tc(octets, len, &tc);
-    if (fault == LPT_DONE && tc.head.service != TRANSFER) {
+    uint32_t kind = LPT_PART_NONE, fault = lpt_read_tc(octets, len, &tc);
+    if (fault == LPT_DONE) {
+        kind = lpt_part_kind(LPT_PACKET_TC, tc.head.service, tc.head.subtype);
+    }
+    if (fault == LPT_DONE && kind == LPT_PART_NONE) {
         printf("service %u: no part\n", tc.head.service);
         return;
     }
     if (fault == LPT_DONE) {
-        fault = lpt_read_part(tc.head.subtype - 8u, octets + tc.at, tc.len, PART_SIZE, &part);
+        fault = lpt_read_part(kind, octets + tc.at, tc.len, PART_SIZE, &part);
     }
     if (fault != LPT_DONE) {
         printf("fault %u\n", (unsigned)fault);

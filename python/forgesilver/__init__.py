@@ -47,8 +47,8 @@ from .packets import (
     read_packet, read_telecommand, read_telemetry, write_packet, write_telecommand, write_telemetry,
 )
 from .parts import (
-    AbortReport, Name, Part, part_count, part_of, read_abort, read_part, split, write_abort,
-    write_part,
+    AbortReport, Name, Part, part_count, part_kind, part_of, read_abort, read_part, split,
+    write_abort, write_part,
 )
 from .reports import VerificationReport, read_report, verification_of, write_report
 
@@ -59,7 +59,8 @@ __all__ = [
     "OutcomeKind",
     "Packet", "PacketKind", "Part", "PartKind", "Reason", "ReportKind", "Side", "Telecommand",
     "Telemetry", "VerificationReport", "Why", "WrongThread", "crc16", "faults", "join", "join_each",
-    "packet_length", "packets_of", "part_count", "part_of", "read_abort", "read_data_report",
+    "packet_length", "packets_of", "part_count", "part_kind", "part_of", "read_abort",
+    "read_data_report",
     "read_message", "read_packet", "read_part", "read_report", "read_telecommand",
     "read_telemetry", "split", "verification_of", "write_abort", "write_packet", "write_part",
     "write_report", "write_telecommand", "write_telemetry",

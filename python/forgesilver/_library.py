@@ -43,6 +43,10 @@ LptTm = _structure("LptTm", head=LptTmHead, at=SIZE, len=SIZE)
 LptPart = _structure("LptPart", id=U16, number=U16, kind=U32, at=SIZE, len=SIZE)
 LptAbort = _structure("LptAbort", id=U16, reason=U16)
 LptReport = _structure("LptReport", request=U32, failed=U16, code=U16)
+LptRange = _structure("LptRange", address=U32, len=U16)
+LptChecked = _structure(
+    "LptChecked", memory=U8, areas=U8, address=U32, len=U16, checksum=U16
+)
 
 LptHeld = _structure("LptHeld", at=POINTER)
 LptEnd = _structure("LptEnd", full=ctypes.c_bool, held=LptHeld)
@@ -68,6 +72,7 @@ _OF_CODECS: dict[str, tuple[Any, ...]] = {
     "lpt_request_id": (POINTER, POINTER),
     "lpt_read_tm": (*_READ, POINTER),
     "lpt_write_tm": (POINTER, *_READ, *_WRITE),
+    "lpt_part_kind": (U32, U8, U8),
     "lpt_part_count": (SIZE, U32),
     "lpt_slice_part": (*_READ, U32, U16, U16, POINTER, *_WRITE),
     "lpt_read_part": (U32, *_READ, U32, POINTER),
@@ -76,6 +81,9 @@ _OF_CODECS: dict[str, tuple[Any, ...]] = {
     "lpt_write_abort": (U16, U16, *_WRITE),
     "lpt_read_report": (U8, *_READ, POINTER),
     "lpt_write_report": (U8, U32, U16, *_WRITE),
+    "lpt_write_dump": (U8, POINTER, SIZE, *_WRITE),
+    "lpt_write_check": (U8, POINTER, SIZE, *_WRITE),
+    "lpt_read_check": (*_READ, SIZE, POINTER),
 }
 _OF_END: dict[str, tuple[Any, ...]] = {
     "lpt_end_new": (POINTER, U32, POINTER, POINTER, SIZE, *_READ),
@@ -96,6 +104,10 @@ _OF_END: dict[str, tuple[Any, ...]] = {
     "lpt_end_retire": (POINTER, U32, POINTER),
     "lpt_end_name": (POINTER, U32, POINTER, POINTER),
     "lpt_end_restart": (POINTER,),
+    "lpt_end_state": (POINTER, *_WRITE),
+    "lpt_end_resume": (POINTER, U32, POINTER, *_READ, POINTER, SIZE, *_READ),
+    "lpt_end_asked": (POINTER, POINTER, POINTER),
+    "lpt_end_drop": (POINTER,),
 }
 
 

@@ -113,13 +113,16 @@ class End:
         side: Side,
         config: Optional[Config] = None,
         memories: Optional[Mapping[int, Octets]] = None,
+        state: Optional[Octets] = None,
     ) -> None:
         """Makes an end. The spacecraft's has these memories, which begin with these octets: 1 to
         16, of 1 to 1,048,576 octets each. Ground's has none.
 
         An end that is made anew isn't restarted: it has forgotten which names are used up. So the
-        other end is made anew too then, and no packet of before may come any more. Raises `Range`,
-        `ConfigApid` to `ConfigOutgoing`, or `Memories`.
+        other end is made anew too then, and no packet of before may come any more. Of a state that
+        `End.state` gave it is made as a restart would have left the end that gave it. Raises
+        `Range`, `ConfigApid` to `ConfigOutgoing`, or `Memories`; of a state `StateShort` to
+        `StateOrder`, or `NoNumber`.
         """
         self._handle, self._length = _library.LptEnd(), 0
         self._at = addressof(self._handle)
@@ -130,12 +133,13 @@ class End:
         made = _config_of(self.config)
         listed, content = _memories_of(memories or {})
         given = Given(content)
-        raise_fault(
-            _end.lpt_end_new(
-                self._at, int(self.side), byref(made), addressof(listed), len(memories or {}),
-                given.at, given.len,
-            )
-        )
+        begun = addressof(listed), len(memories or {}), given.at, given.len
+        ours = self._at, int(self.side), byref(made)
+        if state is None:
+            raise_fault(_end.lpt_end_new(*ours, *begun))
+        else:
+            kept = Given(state)
+            raise_fault(_end.lpt_end_resume(*ours, kept.at, kept.len, *begun))
 
     # ---- its life ----
 
@@ -333,6 +337,20 @@ class End:
         name = Name(out.name.source, out.name.id) if kind is AppliedKind.OPENED else None
         return Applied(kind, name, Failure(out.value) if kind is AppliedKind.REFUSED else None)
 
+    def asked(self) -> Optional[tuple[int, int]]:
+        """The service type and the message subtype of the oldest request that wasn't read; None
+        where there is none. Raises `Nothing` where it is no telecommand of the end's APID."""
+        service, subtype = _library.U8(0), _library.U8(0)
+        call = self._call(_end.lpt_end_asked, byref(service), byref(subtype))
+        if self._unless(_NO_JOB, call):
+            return None
+        return service.value, subtype.value
+
+    def drop(self) -> bool:
+        """Drops the oldest request that wasn't read, in place of `read`: it is never executed, and
+        `execute` says that it was silent. False where there is none."""
+        return not self._unless(_NO_JOB, self._call(_end.lpt_end_drop))
+
     def serve(self) -> Iterator[bytes]:
         """Reads and executes all requests that were released, and gives the packets to be sent, as
         `outgoing` does: what waited before, reports, and the parts of reports that are too long for
@@ -380,6 +398,12 @@ class End:
         memories as before. What was released last, and what is to be sent, stays. Raises
         `NoNumber`."""
         self._done(_end.lpt_end_restart)
+
+    def state(self) -> bytes:
+        """What of the end outlasts its process, besides the memories: `End(.., state=..)` makes an
+        end of it. Written before what a call answered is acted on or sent, it keeps the promise
+        through a stop at any place; docs/C.md says how."""
+        return self._copied(_end.lpt_end_state, Room(57)) or b""
 
     @staticmethod
     def _unless(expected: int, fault: int) -> bool:

@@ -294,6 +294,54 @@ class Unsent(Fault, ValueError):
     number = 110
 
 
+class StateShort(Fault, ValueError):
+    """The state is cut short."""
+
+    number = 111
+
+
+class StateTag(Fault, ValueError):
+    """The octets are no state of an end."""
+
+    number = 112
+
+
+class StateVersion(Fault, ValueError):
+    """The state is of another version."""
+
+    number = 113
+
+
+class StateLength(Fault, ValueError):
+    """The state is cut, or has octets behind it."""
+
+    number = 114
+
+
+class StateSide(Fault, ValueError):
+    """The state is the other side's."""
+
+    number = 115
+
+
+class StateConfig(Fault, ValueError):
+    """The state is of another configuration."""
+
+    number = 116
+
+
+class StateChecksum(Fault, ValueError):
+    """The state's checksum is wrong."""
+
+    number = 117
+
+
+class StateOrder(Fault, ValueError):
+    """The state's names are out of order."""
+
+    number = 118
+
+
 #: Each fault by its number.
 BY_NUMBER: dict[int, type[Fault]] = {it.number: it for it in Fault.__subclasses__()}
 

@@ -10,7 +10,7 @@ from typing import Iterable, Iterator, NamedTuple, Optional, Union
 from . import _library
 from ._library import U32, Given, Octets, Room, number, piece_of
 from .faults import LongMessage, ShortMessage, raise_fault
-from .kinds import Acknowledge, Direction, PartKind, Reason
+from .kinds import Acknowledge, Direction, PacketKind, PartKind, Reason
 from .packets import GREATEST_APID, Telecommand, Telemetry, write_telecommand, write_telemetry
 
 #: The service type of large packet transfer, and the message subtype of an abortion report.
@@ -60,6 +60,14 @@ def name_of(name: Named) -> Name:
 def _part_size(size: int) -> int:
     """A part size."""
     return number(size, 1024, "the part size", 4)
+
+
+def part_kind(kind: PacketKind, service: int, subtype: int) -> Optional[PartKind]:
+    """Which kind of part a message of this service and subtype carries in a packet of this kind;
+    `None` where it carries none. Raises `Range`."""
+    its_kind = number(kind, 1, "the packet's kind")
+    types = number(service, 255, "the service"), number(subtype, 255, "the subtype")
+    return _KINDS.get(int(_codecs.lpt_part_kind(its_kind, *types)))
 
 
 def part_count(length: int, part_size: int) -> int:

@@ -284,6 +284,17 @@ static void parts(void) {
     for (k = 0; k < sizeof message; k++) {
         message[k] = (uint8_t)k;
     }
+    EXPECT(lpt_part_kind(LPT_PACKET_TC, 13, 9) == LPT_PART_FIRST);
+    EXPECT(lpt_part_kind(LPT_PACKET_TC, 13, 10) == LPT_PART_INTERMEDIATE);
+    EXPECT(lpt_part_kind(LPT_PACKET_TC, 13, 11) == LPT_PART_LAST);
+    EXPECT(lpt_part_kind(LPT_PACKET_TM, 13, 1) == LPT_PART_FIRST);
+    EXPECT(lpt_part_kind(LPT_PACKET_TM, 13, 2) == LPT_PART_INTERMEDIATE);
+    EXPECT(lpt_part_kind(LPT_PACKET_TM, 13, 3) == LPT_PART_LAST);
+    EXPECT(lpt_part_kind(LPT_PACKET_TC, 13, 1) == LPT_PART_NONE &&
+           lpt_part_kind(LPT_PACKET_TM, 13, 9) == LPT_PART_NONE &&
+           lpt_part_kind(LPT_PACKET_TC, 6, 9) == LPT_PART_NONE &&
+           lpt_part_kind(LPT_PACKET_TM, 13, 16) == LPT_PART_NONE &&
+           lpt_part_kind(2, 13, 9) == LPT_PART_NONE);
     EXPECT(lpt_part_count(20, 8) == 3 && lpt_part_count(16, 8) == 2 && lpt_part_count(9, 8) == 2);
     EXPECT(lpt_part_count(65542, 4) == 16386 && lpt_part_count(65542, 1024) == 65);
     EXPECT(lpt_part_count(20, 3) == 0 && lpt_part_count(20, 1025) == 0 &&
@@ -376,6 +387,42 @@ static void reports(void) {
     REFUSES(lpt_write_report(8, 0x1864c000, 0, out, out_len, &needed), LPT_E_RANGE);
 }
 
+/* The most places, and one more. */
+static LptRange places[256];
+
+static void requests(void) {
+    static const LptRange two[] = {{0x01020304, 0x0506}, {0, 65535}};
+    static const LptRange empty[] = {{1, 2}, {3, 0}};
+    static const uint8_t body[] = {9, 2, 1, 2, 3, 4, 5, 6, 0, 0, 0, 0, 0xff, 0xff};
+    static const uint8_t told[] = {9, 2, 0, 0, 0, 0, 0, 1, 1, 1, 1, 2, 3, 4, 5, 6, 7, 8};
+    static uint8_t most[2 + 6 * 255];
+    LptChecked area = {0, 0, 0, 0, 0};
+    size_t k;
+    most[0] = 7;
+    most[1] = 255;
+    for (k = 0; k < 256; k++) {
+        places[k].address = (uint32_t)k;
+        places[k].len = 1;
+    }
+    for (k = 0; k < 255; k++) {
+        most[2 + 6 * k + 3] = (uint8_t)k;
+        most[2 + 6 * k + 5] = 1;
+    }
+    WRITES(lpt_write_dump(9, two, 2, out, out_len, &needed), body, sizeof body);
+    WRITES(lpt_write_check(9, two, 2, out, out_len, &needed), body, sizeof body);
+    WRITES(lpt_write_dump(7, places, 255, out, out_len, &needed), most, sizeof most);
+    REFUSES(lpt_write_dump(7, places, 256, out, out_len, &needed), LPT_E_BAD_AREA);
+    REFUSES(lpt_write_dump(7, places, 0, out, out_len, &needed), LPT_E_BAD_AREA);
+    REFUSES(lpt_write_check(7, empty, 2, out, out_len, &needed), LPT_E_BAD_AREA);
+    EXPECT(lpt_read_check(told, 18, 1, &area) == LPT_DONE && area.memory == 9 && area.areas == 2);
+    EXPECT(area.address == 0x01020304 && area.len == 0x0506 && area.checksum == 0x0708);
+    EXPECT(lpt_read_check(told, 18, 0, &area) == LPT_DONE && area.address == 0 && area.len == 1);
+    EXPECT(lpt_read_check(told, 18, 2, &area) == LPT_E_RANGE && area.len == 1);
+    EXPECT(lpt_read_check(told, 17, 1, &area) == LPT_E_NO_REPORT && area.len == 1);
+    EXPECT(lpt_read_check(told, 1, 0, &area) == LPT_E_NO_REPORT);
+    EXPECT(lpt_read_check(told + 2, 2, 0, &area) == LPT_E_NO_REPORT);
+}
+
 int main(void) {
     checksums();
     lengths();
@@ -385,6 +432,7 @@ int main(void) {
     parts();
     aborts();
     reports();
+    requests();
     printf("%u passed, %u failed\n", passed, failed);
     return failed != 0;
 }

@@ -554,6 +554,138 @@ static void new_start(void) {
     lpt_end_free(&ground);
 }
 
+/* The state of a ground end at start 0 and tick 1 that has used name 7 of source 1: written by
+   hand, its checksum computed elsewhere. */
+static const uint8_t STATE[] = {
+    0x4c, 0x50, 0x54, 0x53, 0x01, 0x00, 0x00, 0x64, 0x00, 0x00, 0x00, 0x00, 0x00, 0x08, 0x00, 0x00,
+    0x00, 0x13, 0x00, 0x00, 0x00, 0x02, 0x00, 0x00, 0x00, 0x02, 0x00, 0x00, 0x00, 0x00, 0x00, 0x00,
+    0x00, 0x00, 0x00, 0x00, 0x00, 0x00, 0x01, 0x00, 0x00, 0x00, 0x00, 0x00, 0x00, 0x00, 0x01, 0x00,
+    0x00, 0x00, 0x00, 0x00, 0x00, 0x00, 0x00, 0x00, 0x01, 0x00, 0x07, 0x00, 0x07, 0x9e, 0xaa};
+
+/* Makes a ground end of octets. */
+static uint32_t resumed(LptEnd *end, const uint8_t *state, size_t len) {
+    return lpt_end_resume(end, LPT_SIDE_GROUND, &CONFIG, state, len, MEMORIES, 0, MEMORY, 0);
+}
+
+/* The same of a state of which so many octets are this one, and its checksum made to fit. */
+static uint32_t resumed_with(LptEnd *end, size_t at, uint8_t octet, size_t count) {
+    uint8_t state[sizeof STATE];
+    uint16_t sum;
+    memcpy(state, STATE, sizeof state);
+    memset(state + at, octet, count);
+    sum = lpt_crc16(state, sizeof state - 2);
+    state[sizeof state - 2] = (uint8_t)(sum >> 8);
+    state[sizeof state - 1] = (uint8_t)sum;
+    return resumed(end, state, sizeof state);
+}
+
+/* An end is kept as octets and made again of them: it knows the names, the clock and the start. */
+static void kept(void) {
+    LptEnd ground = LPT_END_EMPTY, again = LPT_END_EMPTY;
+    uint32_t is = 99;
+    size_t len = 99;
+    make(&ground, LPT_SIDE_GROUND, &CONFIG);
+    DONE(lpt_end_open(&ground, &NAME, message, 20));
+    DONE(lpt_end_tick(&ground));
+    EXPECT(lpt_end_state(&again, got, sizeof got, &len) == LPT_E_EMPTY && len == 99);
+    got[0] = 9;
+    EXPECT(lpt_end_state(&ground, got, sizeof STATE - 1, &len) == LPT_E_ROOM);
+    EXPECT(len == sizeof STATE && got[0] == 9);
+    DONE(lpt_end_state(&ground, got, sizeof got, &len));
+    EXPECT(len == sizeof STATE && memcmp(got, STATE, len) == 0);
+    DONE(resumed(&again, STATE, sizeof STATE));
+    DONE(lpt_end_name(&again, LPT_DIRECTION_UP, &NAME, &is));
+    EXPECT(is == LPT_NAME_CLOSED);
+    EXPECT(lpt_end_open(&again, &NAME, message, 20) == LPT_E_IN_USE);
+    EXPECT(resumed(&again, STATE, sizeof STATE) == LPT_E_FULL);
+    DONE(lpt_end_restart(&ground));
+    DONE(lpt_end_state(&ground, packet, sizeof packet, &packet_len));
+    DONE(lpt_end_state(&again, got, sizeof got, &len));
+    EXPECT(packet_is(got, len) && got[34] == 1);
+    lpt_end_free(&again);
+    lpt_end_free(&ground);
+}
+
+/* Octets that are no state: each octet another one, and each length. */
+static void refused_states(void) {
+    LptEnd end = LPT_END_EMPTY;
+    LptConfig other = CONFIG;
+    uint8_t state[sizeof STATE];
+    size_t at;
+    memcpy(state, STATE, sizeof state);
+    for (at = 0; at < sizeof state; at++) {
+        uint32_t want = at < 4    ? LPT_E_STATE_TAG
+                        : at < 5  ? LPT_E_STATE_VERSION
+                        : at < 6  ? LPT_E_STATE_SIDE
+                        : at < 27 ? LPT_E_STATE_CONFIG
+                        : at < 39 ? LPT_E_STATE_CHECKSUM
+                        : at < 55 ? LPT_E_STATE_LENGTH
+                                  : LPT_E_STATE_CHECKSUM;
+        state[at] ^= 4;
+        EXPECT(resumed(&end, state, sizeof state) == want && !end.full);
+        state[at] ^= 4;
+        EXPECT(resumed(&end, state, at) == (at < 57 ? LPT_E_STATE_SHORT : LPT_E_STATE_LENGTH));
+    }
+    EXPECT(resumed_with(&end, 58, 8, 1) == LPT_E_STATE_ORDER); /* names 8 to 7 */
+    EXPECT(resumed_with(&end, 27, 0xff, 8) == LPT_E_NO_NUMBER);  /* no start follows */
+    EXPECT(lpt_end_resume(&end, LPT_SIDE_SPACECRAFT, &CONFIG, STATE, sizeof STATE, MEMORIES, 1,
+                          MEMORY, sizeof MEMORY) == LPT_E_STATE_SIDE);
+    EXPECT(lpt_end_resume(&end, LPT_SIDE_SPACECRAFT, &CONFIG, STATE, 0, MEMORIES, 0, MEMORY, 0) ==
+           LPT_E_MEMORIES);
+    EXPECT(lpt_end_resume(&end, 2, &CONFIG, STATE, 0, MEMORIES, 0, MEMORY, 0) == LPT_E_RANGE);
+    other.apid = 2047;
+    EXPECT(lpt_end_resume(&end, LPT_SIDE_GROUND, &other, STATE, 0, MEMORIES, 0, MEMORY, 0) ==
+           LPT_E_CONFIG_APID);
+    other = CONFIG;
+    other.clock = 77;
+    DONE(lpt_end_resume(&end, LPT_SIDE_GROUND, &other, STATE, sizeof STATE, MEMORIES, 0, MEMORY,
+                        0));
+    lpt_end_free(&end);
+}
+
+/* A message of 20 octets, which is no telecommand, is released. */
+static void long_release(LptEnd *craft) {
+    LptEnd ground = LPT_END_EMPTY;
+    uint16_t k;
+    make(&ground, LPT_SIDE_GROUND, &CONFIG);
+    DONE(lpt_end_open(&ground, &NAME, message, 20));
+    for (k = 1; k <= 3; k++) {
+        carry(&ground, craft, &NAME, k);
+    }
+    lpt_end_free(&ground);
+}
+
+/* Of two requests the first is dropped, and the second executed. */
+static void dropped(void) {
+    static const LptTcHead head = {100, 0, 1 + 8, 6, 9, 1};
+    static const uint8_t check[] = {1, 1, 0, 0, 0, 0, 0, 4};
+    LptEnd craft = LPT_END_EMPTY;
+    LptApplied applied = {9, NONE, 9};
+    uint8_t service = 1, subtype = 1;
+    EXPECT(lpt_end_drop(&craft) == LPT_E_EMPTY);
+    EXPECT(lpt_end_asked(&craft, &service, &subtype) == LPT_E_EMPTY);
+    make(&craft, LPT_SIDE_GROUND, &CONFIG);
+    EXPECT(lpt_end_drop(&craft) == LPT_E_NO_JOB);
+    lpt_end_free(&craft);
+    make(&craft, LPT_SIDE_SPACECRAFT, &CONFIG);
+    EXPECT(lpt_end_drop(&craft) == LPT_E_NO_JOB);
+    EXPECT(lpt_end_asked(&craft, &service, &subtype) == LPT_E_NO_JOB && service == 1);
+    EXPECT(command(&craft, head, check, sizeof check).kind == LPT_OUTCOME_PLAIN_RELEASED);
+    EXPECT(command(&craft, head, check, sizeof check).kind == LPT_OUTCOME_PLAIN_RELEASED);
+    DONE(lpt_end_asked(&craft, &service, &subtype));
+    EXPECT(service == 6 && subtype == 9);
+    DONE(lpt_end_drop(&craft));
+    DONE(lpt_end_read(&craft));
+    EXPECT(lpt_end_drop(&craft) == LPT_E_NO_JOB);
+    DONE(lpt_end_execute(&craft, &applied));
+    EXPECT(applied.kind == LPT_APPLIED_SILENT && !take_packet(&craft));
+    DONE(lpt_end_execute(&craft, &applied));
+    EXPECT(applied.kind == LPT_APPLIED_CARRIED_OUT && take_packet(&craft));
+    long_release(&craft);
+    EXPECT(lpt_end_asked(&craft, &service, &subtype) == LPT_E_NOTHING && subtype == 9);
+    lpt_end_free(&craft);
+}
+
 int main(void) {
     size_t k;
     for (k = 0; k < sizeof message; k++) {
@@ -570,6 +702,9 @@ int main(void) {
     refused_memories();
     refused_calls();
     new_start();
+    kept();
+    refused_states();
+    dropped();
     executed();
     requests();
     printf("%u passed, %u failed\n", passed, failed);

@@ -117,7 +117,14 @@ static void link_pass(void) {
     TRY(lpt_end_read(&craft));
     TRY(lpt_end_execute(&craft, &applied));
     EXPECT(applied.kind == LPT_APPLIED_CARRIED_OUT);
+    TRY(lpt_end_packet(&craft, packet, len, &told));
+    TRY(lpt_end_drop(&craft));
     TRY(lpt_end_restart(&craft));
+    TRY(lpt_end_state(&craft, got, sizeof got, &len));
+    lpt_end_free(&craft);
+    TRY(lpt_end_resume(&craft, LPT_SIDE_SPACECRAFT, &config, got, len, memories, 2, memory, 100));
+    TRY(lpt_end_state(&craft, packet, sizeof packet, &len));
+    EXPECT(packet[34] == got[34] + 1);
     lpt_end_free(&ground);
     lpt_end_free(&craft);
     EXPECT(lpt_pool_used() == 0);

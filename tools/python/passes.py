@@ -13,12 +13,18 @@ from forgesilver import Direction, End, Mode, OutcomeKind, Side
 from model.memories import load_body
 from model.packets import Fault as ModelFault
 from model.packets import Name, write_command
+from model import states
 from model.settings import Settings
 from model.world import World
 
 ENDS = {"up": ("ground", "craft"), "down": ("craft", "ground")}
 WAYS = {"up": Direction.UP, "down": Direction.DOWN}
 LANES = {"up": "s1", "down": "g1"}
+# The number of each fault of a state; where no number is left for a start, that of a restart.
+STATE_FAULTS = {
+    "Short": 111, "Tag": 112, "Version": 113, "Length": 114, "Side": 115, "Config": 116, "Checksum": 117,
+    "Boot": 108, "Order": 118,
+}
 
 
 def outcome_text(settings: Settings, side: str, outcome: forgesilver.Outcome) -> str:
@@ -68,9 +74,10 @@ class Pass:
             s.apid, s.part_size, s.timeout, s.receptions, s.outgoing, s.clock, Mode[s.mode.upper()]
         )
         content = {it: bytes([fill]) * size for it, size, fill in memory}
-        self.ends = {
-            "ground": End(Side.GROUND, config), "craft": End(Side.SPACECRAFT, config, content)
+        self.makings = {
+            "ground": (Side.GROUND, config), "craft": (Side.SPACECRAFT, config, content)
         }
+        self.ends = {side: End(*making) for side, making in self.makings.items()}
         self.names = [Name(r.randrange(1, 3), r.randrange(3)) for _ in range(3)]
         self.wrong: list[str] = []
 
@@ -238,6 +245,41 @@ class Pass:
         self.want("execute", 51 if applied is None else applied, wanted)
         self.sent("execute", "craft", before)
 
+    # ---- states ----
+
+    def stated(self, side: str) -> None:
+        """An end's state is the model's, and so is the end that is made of it, or why none is. An end of C
+        has no source of its own."""
+        node, settings = self.world.nodes[side], self.settings._replace(source=0)
+        octets = states.spelled(node, settings)
+        self.want("state", self.ends[side].state(), octets)
+        for given in (octets, self.changed(octets)):
+            try:
+                read = states.read(settings, node.is_craft, given)
+                wanted: object = states.spelled(read, settings)
+            except states.StateFault as fault:
+                wanted = STATE_FAULTS[str(fault)]
+            self.want("made again", self.called(self.made_again, side, given), wanted)
+
+    def made_again(self, side: str, octets: bytes) -> bytes:
+        """The state of an end that is made of these octets."""
+        with End(*self.makings[side], state=octets) as end:
+            return end.state()
+
+    def changed(self, octets: bytes) -> bytes:
+        """Octets of a state that were changed, cut or added to, with a right checksum or not."""
+        r, changed = self.random, bytearray(octets)
+        way = r.randrange(4)
+        if way == 0:
+            return octets[: r.randrange(len(octets))]
+        if way == 1:
+            changed += r.randbytes(r.choice([1, 6]))
+        at = r.randrange(r.choice([6, 39, len(changed)]))
+        changed[at] = r.choice([0, 255, changed[at] ^ 1 << r.randrange(8)])
+        if way < 3:
+            changed[-2:] = states.checksum(bytes(changed[:-2]))
+        return bytes(changed)
+
     def play(self, turns: int) -> list[str]:
         """Plays so many events, and says what differed."""
         events = [self.finish, self.time, self.expire, self.retire, self.damage, self.plain]
@@ -246,6 +288,8 @@ class Pass:
         try:
             for _ in range(turns):
                 self.random.choice(events)()
+            for side in self.ends:
+                self.stated(side)
             for name, octets in self.world.memories.octets.items():
                 self.want("memory", self.ends["craft"].memory(name), bytes(octets))
         finally:

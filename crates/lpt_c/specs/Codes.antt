@@ -4,6 +4,8 @@ use Rattle.lpt_pus.specs.FaultNames as pus
 use Rattle.lpt_pus.specs.declared.fault.PusFault.TheVariants as pus_fault
 use Rattle.lpt_packet.specs.FaultNames as packet
 use Rattle.lpt_packet.specs.declared.fault.PacketFault.TheVariants as packet_fault
+use Rattle.lpt_memory.specs.FaultNames as memory
+use Rattle.lpt_memory.specs.declared.fault.MemoryFault.TheVariants as memory_fault
 use Rattle.lpt_part.specs.FaultNames as part
 use Rattle.lpt_part.specs.declared.fault.PartFault.TheVariants as part_fault
 
@@ -34,6 +36,10 @@ kind_number_fault = part.code_of part_fault.KindNumber
 
 abbrev pub part_length : ℕ
 part_length = part.code_of part_fault.PartLength
+
+-- a request names no area of a memory, more than 255, or an empty one
+abbrev pub bad_area : ℕ
+bad_area = memory.code_of memory_fault.BadArea
 
 -- a message to be split isn't longer than a part, or is longer than the longest; it has no such
 -- part

@@ -1,10 +1,12 @@
 pub mod Aborts
 pub mod Buffers
+pub mod Checks
 pub mod Codes
 pub mod Commands
 pub mod Packets
 pub mod Parts
 pub mod Readings
 pub mod Reports
+pub mod Requests
 pub mod Streams
 pub mod Telemetry

@@ -1,5 +1,7 @@
 -- Parts of large messages, as they are read and written.
-use Rattle.std.specs.Prelude.{ℕ, ◌==◌, nat_lt, nat_le, Bool, ◌&&◌, if◌then◌else◌, List, length, Option, Some, None, Result, Ok, Err}
+use Rattle.std.specs.Prelude.{ℕ, ◌+◌, ◌==◌, nat_lt, nat_le, Bool, ◌&&◌, if◌then◌else◌, List, length, Option, Some, None, Result, Ok, Err}
+use Rattle.lpt_packet.specs.declared.packet.PacketKind.{PacketKind}
+use Rattle.lpt_packet.specs.declared.packet.PacketKind.TheVariants.{Tm, Tc}
 use Rattle.lpt_packet.specs.Sizes.{longest_packet}
 use Rattle.lpt_part.specs.declared.fault.PartFault.{PartFault}
 use Rattle.lpt_part.specs.FaultNames.{code_of}
@@ -24,6 +26,25 @@ abbrev pub kind_number : Kind → ℕ
 kind_number First = 1
 kind_number Middle = 2
 kind_number Last = 3
+
+-- the subtype of a message, in a packet of this kind, that carries a part of that kind
+abbrev pub part_subtype : PacketKind → Kind → ℕ
+part_subtype Tm kind = kind_number kind
+part_subtype Tc kind = 8 + kind_number kind
+
+-- the number of the kind of the part that a message of service 13 and this subtype carries, or 0
+abbrev pub kind_of_subtype : PacketKind → ℕ → ℕ
+kind_of_subtype packet subtype =
+    if subtype == part_subtype packet First then kind_number First
+    else if subtype == part_subtype packet Middle then kind_number Middle
+    else if subtype == part_subtype packet Last then kind_number Last
+    else 0
+
+-- the same for a message of any service, in a packet of any kind
+abbrev pub carried_kind : Option PacketKind → (service subtype : ℕ) → ℕ
+carried_kind None service subtype = 0
+carried_kind (Some packet) service subtype =
+    if service == 13 then kind_of_subtype packet subtype else 0
 
 -- whether it is a part size
 abbrev pub is_part_size : ℕ → Bool

@@ -13,6 +13,9 @@ pub(crate) const KIND_NUMBER: u32 = 22;
 
 pub(crate) const PART_LENGTH: u32 = 23;
 
+// No area of a memory, too many, or an empty one.
+pub(crate) const BAD_AREA: u32 = 28;
+
 // The faults of a message that is to be split.
 pub(crate) const SHORT: u32 = 42;
 

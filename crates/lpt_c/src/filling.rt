@@ -3,6 +3,7 @@
 ghost use Rattle.std.specs.Prelude.{◌≡◌, ◌+◌, ◌≤◌, ◌++◌, length, drop, Ok};
 ghost use Rattle.lpt_packet.specs.Packets.{fields_of, sealed, spelling};
 ghost use Rattle.lpt_packet.specs.Sizes.{longest_field, longest_packet};
+ghost use Rattle.lpt_memory.specs.Memories.{put_at};
 ghost use Rattle.lpt_c.specs.Buffers.{code_for, left_by};
 
 use crate::codes::{DONE, ROOM};
@@ -96,4 +97,12 @@ pub(crate) fn fill(front: &[u8], rest: &[u8], out: &mut [u8], needed: &mut usize
     let (text, _) = out.split_at_mut(*needed);
     join_into(&[], front, rest, text);
     DONE
+}
+
+// Writes octets over those of a buffer from a place on.
+pub(crate) fn put(out: &mut [u8], at: usize, octets: &[u8])
+    requires { at + length octets.now ≤ length out.old }
+    ensures { out.new ≡ put_at out.old at octets.now }
+{
+    out[at..at + octets.len()].copy_from_slice(octets);
 }

@@ -4,7 +4,8 @@ ghost use Rattle.std.specs.Prelude.{◌≡◌, ◌<◌, ◌≤◌, length, Ok, S
 ghost use Rattle.lpt_part.specs.Parts.{body_of};
 ghost use Rattle.lpt_part.specs.Splitting.{IsPartSize, kind_at, part_count, part_of};
 ghost use Rattle.lpt_c.specs.Buffers.{code_for, left_by, needed_by};
-ghost use Rattle.lpt_c.specs.Parts.{count_told, kind_in, kind_named, kind_number, kind_told, part_read, part_text, part_told, piece_of, slice_text};
+ghost use Rattle.lpt_c.specs.Packets.{kind_of_number};
+ghost use Rattle.lpt_c.specs.Parts.{carried_kind, count_told, kind_in, kind_named, kind_number, kind_told, part_read, part_text, part_told, piece_of, slice_text};
 ghost use Rattle.lpt_c.specs.Readings.{code_read, left_in};
 
 use crate::codes::{DONE, KIND_NUMBER, LONG, NO_SUCH_PART, PART_LENGTH, RANGE, SHORT, ZERO};
@@ -26,6 +27,23 @@ pub struct LptPart {
     pub at: usize,
     /// How many octets the part has.
     pub len: usize,
+}
+
+/// The service type of large packet transfer.
+const TRANSFER: u8 = 13;
+
+/// What a message of this service and subtype is, in a packet of this kind: 1 the first part of a
+/// message, 2 an intermediate one, 3 the last; 0 where it carries no part, or the packet's kind is
+/// above 1.
+pub fn lpt_part_kind(packet_kind: u32, service: u8, subtype: u8) -> u32
+    ensures { result ≡ carried_kind (kind_of_number packet_kind) service subtype }
+{
+    match (packet_kind, service, subtype) {
+        (0, TRANSFER, 1) | (1, TRANSFER, 9) => 1,
+        (0, TRANSFER, 2) | (1, TRANSFER, 10) => 2,
+        (0, TRANSFER, 3) | (1, TRANSFER, 11) => 3,
+        _ => 0,
+    }
 }
 
 /// How many parts of `part_size` octets a message of this length has; 0 where the size isn't 4 to

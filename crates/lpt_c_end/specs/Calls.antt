@@ -1,12 +1,14 @@
 -- What calls on a handle leave and report.
-use Rattle.std.specs.Prelude.{◌≡◌, ℕ, nat_lt, if◌then◌else◌, List, [], ◌∷◌, Option, Some, None, Ok, Err}
-use Rattle.std.specs.Option.{unwrap_or}
+use Rattle.std.specs.Prelude.{◌≡◌, ℕ, nat_lt, if◌then◌else◌, List, [], ◌∷◌, Option, Some, None, Ok, Err, is_some, option_map}
+use Rattle.std.specs.Option.{option_and_then, unwrap_or}
+use Rattle.lpt_jobs.specs.Jobs.{oldest}
 use Rattle.lpt_memory.specs.Memories.{Contents, content_of}
 use Rattle.lpt_c_end.specs.Changes.{delivery, execution_of}
-use Rattle.lpt_c_end.specs.Codes.{empty, nothing}
+use Rattle.lpt_c_end.specs.Codes.{empty, no_job, nothing}
 use Rattle.lpt_c_end.specs.Copies.{Text}
 use Rattle.lpt_node.specs.Restarts.{name_state}
 use Rattle.lpt_packet.specs.Names.{Name}
+use Rattle.lpt_pus.specs.Commands.{command_in}
 use Rattle.lpt_c_end.specs.Words.{direction_from, state_word, words, applied_words}
 use Rattle.lpt_c_end.specs.declared.end.End.{End}
 use Rattle.lpt_c_end.specs.declared.words.LptOutcome.{LptOutcome}
@@ -58,6 +60,23 @@ released_of (Some e) = text_or_nothing e.released
 abbrev pub outgoing_of : Option End → Text
 outgoing_of None = Err empty
 outgoing_of (Some e) = text_or_nothing (first e.outbox.items)
+
+-- the telecommand that the oldest job that waits is, by its service type and message subtype
+abbrev pub asked_in : End → Option (ℕ × ℕ)
+asked_in e =
+    option_map (λ c. (c.service, c.subtype))
+    (option_and_then (command_in e.config.apid) (oldest e.node.at.jobs.jobs))
+
+-- why none is told
+abbrev pub asked_refusal : End → Option ℕ
+asked_refusal e =
+    if is_some (oldest e.node.at.jobs.jobs) then
+    (if is_some (asked_in e) then None else Some nothing)
+    else Some no_job
+
+-- the service type and the message subtype are those of the telecommand
+abbrev pub IsAsked : (service subtype : ℕ) → End → Type 0
+IsAsked service subtype e = asked_in e ≡ Some (service, subtype)
 
 -- what is reported of the execution of a job
 abbrev pub IsApplied : LptApplied → End → Type 0

@@ -48,7 +48,8 @@ IsSame e = Becomes e.node.at e
 -- ---- a new end
 
 -- nothing has happened at the end
-pub record IsNew (s : Side) (c : Config) (ms : List LptMemory) (content : List ℕ) (e : End) : Type 0 where
+pub record IsNew (s : Side) (c : Config) (ms : List LptMemory) (content : List ℕ)
+    (e : End) : Type 0 where
   pub side : e.side ≡ s
   pub config : e.config ≡ c
   pub node : e.node ≡ new_node s c
@@ -60,7 +61,8 @@ pub record IsNew (s : Side) (c : Config) (ms : List LptMemory) (content : List �
 
 -- what the node does with octets that were delivered to it
 abbrev pub delivery : End → List ℕ → NodeData × Accepted
-delivery e b = accepted e.side e.config e.node.at (arrival e.side e.config.apid e.config.part_size b)
+delivery e b =
+    accepted e.side e.config e.node.at (arrival e.side e.config.apid e.config.part_size b)
 
 -- the octets were taken: what was released of them is kept until the next are taken, and a report
 -- is to be sent
@@ -129,26 +131,40 @@ IsRestarted e = Becomes (restarted e.node.at) e
 
 -- ---- jobs
 
--- the oldest job that waits is claimed, and what it means for these memories is handed in
-abbrev pub read_over : Config → Contents → NodeData → NodeData
-read_over c ms d =
+-- the oldest job that waits is claimed, and what this message means for these memories is handed in
+abbrev pub read_as : List ℕ → Config → Contents → NodeData → NodeData
+read_as message c ms d =
     (committed (claimed d).0 (claimed d).1.boot (claimed d).1.job (record {
       apid = c.apid;
       sizes = sizes_of ms;
-      message = (claimed d).1.message;
+      message = message;
     })).0
+
+-- the oldest job that waits is claimed, and what it means for these memories is handed in
+abbrev pub read_over : Config → Contents → NodeData → NodeData
+read_over c ms d = read_as (claimed d).1.message c ms d
 
 -- the same, where there are memories
 abbrev pub read_by : Config → Option Contents → NodeData → NodeData
 read_by c None d = d
 read_by c (Some ms) d = read_over c ms d
 
+-- a message in place of the oldest job's, where there are memories
+abbrev pub read_as_by : List ℕ → Config → Option Contents → NodeData → NodeData
+read_as_by message c None d = d
+read_as_by message c (Some ms) d = read_as message c ms d
+
 -- the oldest job that waited was read
 abbrev pub IsRead : End → End → Type 0
 IsRead e = Becomes (read_by e.config e.memories e.node.at) e
 
+-- a message of no octets was read in place of the oldest job that waited: it means nothing
+abbrev pub IsDropped : End → End → Type 0
+IsDropped e = Becomes (read_as_by [] e.config e.memories e.node.at) e
+
 -- the oldest job is executed, where there are memories: the node and its answer, and the memories
-abbrev pub execution_by : Config → Option Contents → NodeData → (NodeData × Execution) × Option Contents
+abbrev pub execution_by : Config → Option Contents → NodeData → (NodeData × Execution)
+    × Option Contents
 execution_by c None d = ((d, not_executed), None)
 execution_by c (Some ms) d = ((executed c d ms).0, Some (executed c d ms).1)
 

@@ -5,6 +5,7 @@ pub mod Contents
 pub mod Copies
 pub mod HandleCodes
 pub mod Held
+pub mod Keeping
 pub mod Ready
 pub mod Refusals
 pub mod Words

@@ -35,3 +35,27 @@ pub(crate) const NOTHING: u32 = 109;
 
 // Packets are to be sent first.
 pub(crate) const UNSENT: u32 = 110;
+
+// A state that is cut short.
+pub(crate) const SHORT: u32 = 111;
+
+// Octets that are no state.
+pub(crate) const TAG: u32 = 112;
+
+// A state of another version.
+pub(crate) const VERSION: u32 = 113;
+
+// A state that is cut, or has octets behind it.
+pub(crate) const LENGTH: u32 = 114;
+
+// The other side's state.
+pub(crate) const SIDE: u32 = 115;
+
+// Another configuration's state.
+pub(crate) const CONFIG: u32 = 116;
+
+// A state whose checksum is wrong.
+pub(crate) const CHECKSUM: u32 = 117;
+
+// A state whose names are out of order.
+pub(crate) const ORDER: u32 = 118;

@@ -3,7 +3,7 @@
 
 ghost use Rattle.std.specs.Prelude.{◌≡◌, option_map};
 ghost use Rattle.lpt_c_end.specs.Calls.{IfBoth, IfHeld, IsApplied, content_by, memory_in};
-ghost use Rattle.lpt_c_end.specs.Changes.{IsExecuted, IsRead, IsSame};
+ghost use Rattle.lpt_c_end.specs.Changes.{Becomes, IsExecuted, IsRead, IsSame, read_as_by};
 ghost use Rattle.lpt_c_end.specs.Codes.{IsAnswer};
 ghost use Rattle.lpt_c_end.specs.Copies.{code_for, left_by, needed_by};
 ghost use Rattle.lpt_c_end.specs.Refusals.{execute_refusal, read_refusal, refusal_by};
@@ -15,6 +15,7 @@ use crate::handle::{LptEnd, put, take};
 use crate::words::{LptApplied, applied_words_of};
 use lpt_memory::{Ticket, prepare};
 use lpt_node::{Ask, Executed};
+use lpt_packet::Octets;
 use std::alloc::Global;
 use std::collections::VecDeque;
 
@@ -100,14 +101,31 @@ impl End {
         ensures done { result ≡ 0 → IsRead self.old self.new }
         ensures refused { ¬ (result ≡ 0) → IsSame self.old self.new }
     {
+        if self.memories.is_none() {
+            return NO_JOB;
+        }
+        let Some((_, message)) = self.node.unclaimed() else {
+            return NO_JOB;
+        };
+        match message.copy() {
+            Ok(message) => self.hand_in(alloc, message),
+            Err(_) => MEMORY,
+        }
+    }
+
+    // Reads a message in place of the oldest request that was released and not read yet.
+    pub(crate) fn hand_in(&mut self, alloc: Global, message: Octets) -> u32
+        ensures code { IsAnswer (read_refusal self.old) result }
+        ensures done { result ≡ 0
+            → Becomes (read_as_by message self.old.config self.old.memories self.old.node.at)
+            self.old self.new }
+        ensures refused { ¬ (result ≡ 0) → IsSame self.old self.new }
+    {
         let Some(memories) = &self.memories else {
             return NO_JOB;
         };
-        let Some((number, message)) = self.node.unclaimed() else {
+        let Some((number, _)) = self.node.unclaimed() else {
             return NO_JOB;
-        };
-        let Ok(message) = message.copy() else {
-            return MEMORY;
         };
         let Ok(shape) = memories.shape() else {
             return MEMORY;

@@ -15,9 +15,11 @@
 mod box_fields;
 mod codes;
 mod copying;
+mod dropping;
 mod end;
 mod executing;
 mod handle;
+mod keeping;
 mod making;
 mod memories;
 mod outbox;
@@ -27,8 +29,10 @@ mod sending;
 mod upkeep;
 mod words;
 
+pub use dropping::{lpt_end_asked, lpt_end_drop};
 pub use executing::{lpt_end_execute, lpt_end_memory, lpt_end_read};
 pub use handle::{LptEnd, LptHeld};
+pub use keeping::{lpt_end_resume, lpt_end_state};
 pub use making::{lpt_end_free, lpt_end_new};
 pub use memories::LptMemory;
 pub use receiving::{lpt_end_expire, lpt_end_packet, lpt_end_released};

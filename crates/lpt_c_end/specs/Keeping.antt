@@ -1,0 +1,98 @@
+-- The state of an end as octets, and an end that is made again of them.
+use Rattle.std.specs.Prelude.{◌≡◌, ◌⊎◌, ℕ, ◌+◌, ◌<◌, ◌^◌, nat_lt, ◌||◌, if◌then◌else◌, List, [], Option, Some, None, Result, Ok, Err}
+use Rattle.lpt_events.specs.Configs.{config_fault}
+use Rattle.lpt_events.specs.declared.config.Config.{Config}
+use Rattle.lpt_events.specs.declared.config_fault.ConfigFault.{ConfigFault}
+use Rattle.lpt_events.specs.declared.side.Side.{Side}
+use Rattle.lpt_node.specs.Nodes.{NodeView}
+use Rattle.lpt_state.specs.declared.fault.StateFault.{StateFault}
+use Rattle.lpt_state.specs.declared.fault.StateFault.TheVariants as fault
+use Rattle.lpt_state.specs.Lastings.{restarted_node}
+use Rattle.lpt_state.specs.Spellings.{spelled}
+use Rattle.lpt_state.specs.Verdicts.{reading}
+use Rattle.lpt_c_end.specs.Codes.{config_code, empty, full, memory, no_number, range}
+use Rattle.lpt_c_end.specs.Contents.{memories_of}
+use Rattle.lpt_c_end.specs.Copies.{code_for, Text}
+use Rattle.lpt_c_end.specs.Refusals.{memory_refusal}
+use Rattle.lpt_c_end.specs.Words.{config_from, side_from}
+use Rattle.lpt_c_end.specs.declared.end.End.{End}
+use Rattle.lpt_c_end.specs.declared.memories.LptMemory.{LptMemory}
+use Rattle.lpt_c_end.specs.declared.words.LptConfig.{LptConfig}
+
+-- ---- the state of an end
+
+-- its octets
+abbrev pub state_text : Option End → Text
+state_text None = Err empty
+state_text (Some e) = Ok (spelled e.node)
+
+-- the answer where a text that takes memory is to be copied to a buffer that holds these octets
+abbrev pub IsCopied : Text → List ℕ → ℕ → Type 0
+IsCopied (Err e) old code = code ≡ e
+IsCopied (Ok text) old code = (code ≡ code_for (Ok text) old) ⊎ (code ≡ memory)
+
+-- what is read of the end's state, by its side and configuration, is the end that a restart leaves,
+-- where a number is left for one
+abbrev pub ReadsAsRestarted : End → Type 0
+ReadsAsRestarted e =
+    e.node.at.boot + 1 < 2 ^ 64
+    → reading e.side e.config (spelled e.node) ≡ Ok (restarted_node e.node)
+
+-- ---- an end that is made again
+
+-- the number of a fault of a state
+abbrev pub state_code : StateFault → ℕ
+state_code fault.Short = 111
+state_code fault.Tag = 112
+state_code fault.Version = 113
+state_code fault.Length = 114
+state_code fault.Side = 115
+state_code fault.Config = 116
+state_code fault.Checksum = 117
+state_code fault.Boot = no_number
+state_code fault.Order = 118
+state_code fault.Memory = memory
+
+-- the fault of a state, where there is one
+abbrev pub read_refused : Result NodeView StateFault → Option ℕ
+read_refused (Ok v) = None
+read_refused (Err e) = Some (state_code e)
+
+-- a refusal, or else that of a state
+abbrev pub then_read : Option ℕ → Result NodeView StateFault → Option ℕ
+then_read (Some code) r = Some code
+then_read None r = read_refused r
+
+-- why an end of this side and configuration isn't made of a state and memories
+abbrev pub kept_refusal : Side → Config → List ℕ → List LptMemory → List ℕ → Option ℕ
+kept_refusal side c state ms content =
+    then_read (memory_refusal side ms content) (reading side c state)
+
+-- the same, behind a fault of its configuration
+abbrev pub again_refusal : Option ConfigFault → Option ℕ → Option ℕ
+again_refusal (Some fault) refusal = config_code (Some fault)
+again_refusal None refusal = refusal
+
+-- why no end is made of a state into a handle that holds this
+abbrev pub resume_refusal : Option End
+    → ℕ
+    → LptConfig
+    → List ℕ
+    → List LptMemory
+    → List ℕ
+    → Option ℕ
+resume_refusal (Some e) side c state ms content = Some full
+resume_refusal None side c state ms content =
+    if nat_lt 1 side || nat_lt 1 c.mode then Some range
+    else again_refusal (config_fault (config_from c))
+    (kept_refusal (side_from side) (config_from c) state ms content)
+
+-- the end is the one that a state says, with these memories
+pub record IsResumed (s : Side) (c : Config) (state : List ℕ) (ms : List LptMemory)
+    (content : List ℕ) (e : End) : Type 0 where
+  pub side : e.side ≡ s
+  pub config : e.config ≡ c
+  pub node : reading s c state ≡ Ok e.node
+  pub memories : e.memories ≡ memories_of s ms content
+  pub released : e.released ≡ None
+  pub outbox : e.outbox.items ≡ []
