@@ -19,17 +19,17 @@ _lpt() {
     lint:*) options='--help --version' ;;
     chart:*) options+=' --from --to --refused' ;;
     list:*) options+=' --json --strict --from --to' ;;
-    split:*) options+=' --parts --count --whole --pcap' ;;
+    split:*) options+=' --parts --count --each --whole --pcap' ;;
     join:*) options+=' --id --first --any --each --from --to' ;;
     extract:*) options+=' --at --from --fill --whole' ;;
     link:*) options='--lose --repeat --damage --delay --seed --help --version' ;;
-    spacecraft:*) options+=' --memory --save --tick-every' ;;
-    request:load) options+=' --area --ack --count' ;;
-    request:dump | request:check) options+=' --ack --count' ;;
+    spacecraft:*) options+=' --memory --save --tick-every --state' ;;
+    request:load) options+=' --area --each --ack --count' ;;
+    request:dump | request:check) options+=' --each --ack --count' ;;
     esac
     COMPREPLY=()
     case $command:$request:$before:$word in
-    *:*:--config:*)
+    *:*:--config:* | *:*:--state:*)
         mapfile -t COMPREPLY < <(compgen -f -- "$word")
         return
         ;;
@@ -37,7 +37,7 @@ _lpt() {
         mapfile -t COMPREPLY < <(compgen -d -- "$word")
         return
         ;;
-    *:*:--from:* | *:*:--to:* | *:*:--at:* | *:*:--fill:* | *:*:--parts:* | *:*:--id:* | *:*:--ack:* | *:*:--count:* | *:*:--area:* | \
+    *:*:--from:* | *:*:--to:* | *:*:--at:* | *:*:--fill:* | *:*:--parts:* | *:*:--id:* | *:*:--ack:* | *:*:--count:* | *:*:--area:* | *:*:--each:* | \
         *:*:--lose:* | *:*:--repeat:* | *:*:--damage:* | *:*:--delay:* | *:*:--seed:* | *:*:--memory:* | *:*:--tick-every:*)
         return
         ;;

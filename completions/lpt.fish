@@ -61,7 +61,8 @@ for command in list join
     complete -c lpt -n "__lpt_at $command" -l from -x -d 'The place of the first octet that is read, as list prints it'
     complete -c lpt -n "__lpt_at $command" -l to -x -d "The place of the first octet that isn't read any more"
 end
-complete -c lpt -n '__lpt_at split' -l parts -x -d 'The parts to write, as 3,7-9,12-'
+complete -c lpt -n '__lpt_at split' -l parts -x -d 'The parts to write, as 3,7-9,12-; with --each as ID:LIST'
+complete -c lpt -n '__lpt_at split' -l each -d 'Split each packet, the first under this ID, the others under those behind'
 complete -c lpt -n '__lpt_at split' -l whole -d 'Pass on a message that has no more octets than a part'
 complete -c lpt -n '__lpt_at split' -l pcap -d 'Write the packets as a capture, a pcap file'
 complete -c lpt -n '__lpt_at join' -l id -x -d "The message's ID or SOURCE/ID; without one, it is the only one there"
@@ -81,7 +82,9 @@ complete -c lpt -n '__lpt_at link' -l seed -x -d 'The seed: the same one gives t
 complete -c lpt -n '__lpt_at spacecraft' -l memory -x -d 'A memory, and the file of its first content'
 complete -c lpt -n '__lpt_at spacecraft' -l save -d 'Write the memories back into their files at the end'
 complete -c lpt -n '__lpt_at spacecraft' -l tick-every -x -d 'Set the clock on behind each N packets'
+complete -c lpt -n '__lpt_at spacecraft' -l state -r -d 'Keep state and memories in this file, and go on where it says'
 for command in 'request load' 'request dump' 'request check'
+    complete -c lpt -n "__lpt_at $command" -l each -x -d 'How many octets one request asks for at most'
     complete -c lpt -n "__lpt_at $command" -l ack -x -d 'The acknowledgement flags, 0 to 15'
 end
 for command in split 'request load' 'request dump' 'request check'

@@ -278,7 +278,8 @@ pub fn tell_unfit(
     tell_of(rt, config, words, name, text)
 }
 
-/// Says on standard error which parts are missing. The only error is out of memory.
+/// Says on standard error which parts are missing, as a list for `split`, or for `split --each`
+/// where every message is written. The only error is out of memory.
 pub fn tell_missing(
     rt: &HostRuntime,
     config: &Config,
@@ -287,7 +288,13 @@ pub fn tell_missing(
     came: &PartNumbers,
 ) -> Result<(), AllocError> {
     let list = missing_list(rt.alloc(), came)?;
-    let text = format!(in rt.alloc(); "missing parts: {list}");
+    let text = match words.each {
+        Some(_) => {
+            let id = name.id;
+            format!(in rt.alloc(); "missing parts: {id}:{list}")
+        }
+        None => format!(in rt.alloc(); "missing parts: {list}"),
+    };
     tell_of(rt, config, words, name, text)
 }
 

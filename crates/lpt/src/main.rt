@@ -18,6 +18,7 @@ mod extracts;
 mod files;
 mod input;
 mod joins;
+mod keeping;
 mod links;
 mod linting;
 mod lists;
@@ -26,6 +27,7 @@ mod requests;
 mod saving;
 mod shelling;
 mod spacecraft;
+mod splits;
 mod streams;
 mod watched;
 mod work;
@@ -94,6 +96,7 @@ fn done<T: Threads + Wait + Sync>(
         Command::Decode(hex) => decoding::decode(rt, alone(rt, path)?, hex),
         Command::List(words) => lists::list(rt, &alone(rt, path)?, words),
         Command::Split(words) => files::split(rt, &alone(rt, path)?, words),
+        Command::SplitEach(words) => splits::split_all(rt, &alone(rt, path)?, words),
         Command::Join(words) => joined(rt, &alone(rt, path)?, words),
         Command::Link(words) => links::link(rt, words),
         Command::Extract(words) => extracts::extract(rt, &alone(rt, path)?, words),

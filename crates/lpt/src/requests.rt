@@ -7,14 +7,17 @@ use crate::input::{Incoming, opened, read_failure};
 use crate::streams::{finish, output};
 use lpt_command_line::{RequestWords, What};
 use lpt_events::Config;
-use lpt_memory::{Area, MemoryFault};
+use lpt_memory::{AREA_HEADER, AREA_LIMIT, Area, MemoryFault, load_fault};
 use lpt_packet::Octets;
-use lpt_requests::{Range, Request, write_request};
+use lpt_requests::{
+    CHECK_LIMIT, CutFault, DUMP_LIMIT, Place, Range, Read, Request, areas_fault, load_requests,
+    places_fault, read_requests, write_requests,
+};
 use lpt_text::{End, read_text, write_out};
 use lpt_tool::ToolFault;
-use std::alloc::Global;
+use std::alloc::{AllocError, Global};
 
-/// Writes a request to a memory as a telecommand.
+/// Writes what is asked of a memory as telecommands, one behind the other: as many as it needs.
 ///
 /// Errors: `Read` where a file can't be opened or read; `Write`, `Memory`.
 pub fn request(
@@ -24,19 +27,20 @@ pub fn request(
 ) -> Result<Status, Failure>
     requires { IsConfig config.now }
 {
-    let request = asked(rt, words)?;
-    let apid = config.apid;
-    let written = write_request(
-        rt.alloc(),
-        apid,
-        config.source,
-        words.count,
-        words.flags,
-        &request,
-    );
-    drop(request);
+    let requests = match asked(rt, words)? {
+        Ok(requests) => requests,
+        Err(CutFault::Memory) => return Err(Failure::from(ToolFault::Memory)),
+        Err(CutFault::Empty) => return Ok(refused(rt, "an area has at least one octet")),
+        Err(CutFault::PastEnd) => {
+            return Ok(refused(rt, "an area ends behind the last address, 4294967295"));
+        }
+    };
+    let (apid, source) = (config.apid, config.source);
+    let (count, flags) = (words.count, words.flags);
+    let written = write_requests(rt.alloc(), apid, source, count, flags, &requests);
+    drop(requests);
     match written {
-        Ok(octets) => put(rt, octets.as_slice()),
+        Ok(packets) => put(rt, &packets),
         Err(MemoryFault::TooLong) => Ok(refused(rt, "a packet has no more than 65542 octets")),
         Err(MemoryFault::Memory) => Err(Failure::from(ToolFault::Memory)),
         Err(_) => Ok(refused(rt, "a request has 1 to 255 areas, none of them empty")),
@@ -49,10 +53,16 @@ fn refused(rt: &HostRuntime, why: &str) -> Status {
     Status::Refused
 }
 
-// Writes octets to standard output.
-fn put(rt: &HostRuntime, octets: &[u8]) -> Result<Status, Failure> {
+// Writes packets to standard output.
+fn put(rt: &HostRuntime, packets: &[Octets]) -> Result<Status, Failure> {
     let mut out = output(rt)?;
-    let written = write_out(&mut out, octets);
+    let mut written = Ok(());
+    for packet in packets {
+        written = write_out(&mut out, packet.as_slice());
+        if written.is_err() {
+            break;
+        }
+    }
     finish(rt, out)?;
     match written {
         Ok(()) => Ok(Status::Done),
@@ -60,23 +70,104 @@ fn put(rt: &HostRuntime, octets: &[u8]) -> Result<Status, Failure> {
     }
 }
 
-// What the words ask of the memory, with the octets of the files that they name.
-fn asked(rt: &HostRuntime, words: &RequestWords<'_>) -> Result<Request, Failure> {
-    let memory = words.memory;
+// The requests for what the words ask of the memory, with the octets of the files that they name.
+fn asked(
+    rt: &HostRuntime,
+    words: &RequestWords<'_>,
+) -> Result<Result<Vec<Request>, CutFault>, Failure> {
+    let alloc = rt.alloc();
     match &words.what {
         What::Load(files) => {
-            let mut areas = Vec::new(rt.alloc());
+            let mut areas = Vec::new(alloc);
             match read_areas(rt, files, &mut areas) {
-                Ok(()) => Ok(Request::Load(memory, areas)),
+                Ok(()) => Ok(loads(alloc, words, areas)),
                 Err(failure) => {
                     drop(areas);
                     Err(failure)
                 }
             }
         }
-        What::Dump(places) => Ok(Request::Dump(memory, ranges_of(rt.alloc(), places)?)),
-        What::Check(places) => Ok(Request::Check(memory, ranges_of(rt.alloc(), places)?)),
+        What::Dump(places) => Ok(reads(alloc, words, Read::Dump, places)),
+        What::Check(places) => Ok(reads(alloc, words, Read::Check, places)),
     }
+}
+
+// One load of all areas, where one holds them and no other number of octets is given; else loads of
+// one area each.
+fn loads(
+    alloc: Global,
+    words: &RequestWords<'_>,
+    areas: Vec<Area>,
+) -> Result<Vec<Request>, CutFault> {
+    let memory = words.memory;
+    if let Some(fault) = areas_fault(&areas) {
+        return Err(fault);
+    }
+    if !words.cut && load_fault(&areas).is_none() {
+        return Ok(one(alloc, Request::Load(memory, areas))?);
+    }
+    load_requests(alloc, memory, &areas, words.each)
+}
+
+// One request of all places, where one holds them and no other number of octets is given; else
+// requests of one place each.
+fn reads(
+    alloc: Global,
+    words: &RequestWords<'_>,
+    what: Read,
+    places: &[(u32, u32)],
+) -> Result<Vec<Request>, CutFault> {
+    let memory = words.memory;
+    let places = places_of(alloc, places)?;
+    if let Some(fault) = places_fault(&places) {
+        return Err(fault);
+    }
+    if words.cut || !is_one_request(what, &places) {
+        return read_requests(alloc, what, memory, &places, words.each);
+    }
+    let ranges = ranges_of(alloc, &places)?;
+    let request = match what {
+        Read::Dump => Request::Dump(memory, ranges),
+        Read::Check => Request::Check(memory, ranges),
+    };
+    Ok(one(alloc, request)?)
+}
+
+// One request alone. The only error is out of memory.
+fn one(alloc: Global, request: Request) -> Result<Vec<Request>, AllocError> {
+    let mut requests = Vec::new(alloc);
+    requests.push(request)?;
+    Ok(requests)
+}
+
+// Whether one request holds these places, and one packet the answer.
+fn is_one_request(what: Read, places: &[Place]) -> bool {
+    let mut room = u64::from(DUMP_LIMIT) + AREA_HEADER as u64;
+    for place in places {
+        if place.len > u32::from(CHECK_LIMIT) {
+            return false;
+        }
+        let taken = match what {
+            Read::Dump => u64::from(place.len) + AREA_HEADER as u64,
+            Read::Check => 0,
+        };
+        if taken > room {
+            return false;
+        }
+        room -= taken;
+    }
+    places.len() <= AREA_LIMIT
+}
+
+// These places, of as many octets as a range has at most. The only error is out of memory.
+fn ranges_of(alloc: Global, places: &[Place]) -> Result<Vec<Range>, AllocError> {
+    let mut ranges = Vec::new(alloc);
+    for place in places {
+        let len = place.len.min(u32::from(CHECK_LIMIT)) as u16;
+        let address = place.address;
+        ranges.push(Range { address, len })?;
+    }
+    Ok(ranges)
 }
 
 // The octets of these files, each with its address.
@@ -95,16 +186,14 @@ fn read_areas(
     Ok(())
 }
 
-// The places of a dump or a check.
-fn ranges_of(alloc: Global, places: &[(u32, u16)]) -> Result<Vec<Range>, ToolFault> {
-    let mut ranges = Vec::new(alloc);
+// The places of a dump or a check. The only error is out of memory.
+fn places_of(alloc: Global, places: &[(u32, u32)]) -> Result<Vec<Place>, AllocError> {
+    let mut all = Vec::new(alloc);
     for (address, len) in places {
         let (address, len) = (*address, *len);
-        if ranges.push(Range { address, len }).is_err() {
-            return Err(ToolFault::Memory);
-        }
+        all.push(Place { address, len })?;
     }
-    Ok(ranges)
+    Ok(all)
 }
 
 // The octets of a file, or of standard input.

@@ -1,26 +1,32 @@
 //! The spacecraft's end, from standard input to standard output.
 
+ghost use Rattle.std.specs.Prelude.{IfOk};
 ghost use Rattle.lpt_events.specs.Configs.{IsConfig};
+ghost use Rattle.lpt_spacecraft.specs.Keeping.{IsKeptAs};
 ghost use Rattle.lpt_spacecraft.specs.Streams.{IsIdle};
 
 use crate::configuration::read;
 use crate::end::{Failure, Status, tell_place};
 use crate::input::{Incoming, STANDARD, opened, read_failure};
+use crate::keeping::StateFile;
 use crate::saving::write_beside;
 use crate::streams::{finish, first_failure, output};
 use lpt_command_line::SpacecraftWords;
 use lpt_events::Config;
 use lpt_memory::Memories;
 use lpt_packet::Octets;
-use lpt_spacecraft::{Spacecraft, Stop, serve_stream};
+use lpt_spacecraft::{Keeper, Spacecraft, Stop, Unkept, serve_stream};
 use lpt_text::{End, StreamFault, read_text};
 use lpt_tool::ToolFault;
+use std::fs;
 
 /// Takes the packets of standard input as the spacecraft does, and writes its reports to standard
-/// output. With `--save` the memories go back into their files, whatever ended it.
+/// output. With `--save` the memories go back into their files, whatever ended it. With `--state`
+/// it goes on from that file, if it is there, and is kept in it before anything is written.
 ///
-/// Errors: `Read` where a file or standard input can't be read; `Config` where the files make no
-/// memories; `Write`, also where a file can't be written; `Memory`.
+/// Errors: `Read` where a file or standard input can't be read, or a file isn't what was kept;
+/// `Config` where the files make no memories; `Write`, also where a file can't be written;
+/// `Memory`.
 pub fn spacecraft(
     rt: &HostRuntime,
     path: Option<&str>,
@@ -36,7 +42,8 @@ pub fn spacecraft(
     serve(rt, &config, memories, words)
 }
 
-// Serves standard input with these memories, and saves them where that is asked for.
+// Serves standard input with these memories, or those that were kept, and saves them where that is
+// asked for.
 fn serve(
     rt: &HostRuntime,
     config: &Config,
@@ -45,10 +52,11 @@ fn serve(
 ) -> Result<Status, Failure>
     requires { IsConfig config.now }
 {
-    let Ok(mut craft) = Spacecraft::new(rt.alloc(), config, memories) else {
-        return Err(Failure::from(ToolFault::Memory));
+    let mut craft = match words.state {
+        Some(path) => begun(rt, config, memories, path)?,
+        None => new_craft(rt, config, memories)?,
     };
-    let ended = serve_input(rt, &mut craft, words.tick_every);
+    let ended = serve_kept(rt, &mut craft, words);
     let saved = if words.save {
         save(rt, &craft, words)
     } else {
@@ -64,13 +72,81 @@ fn serve(
     }
 }
 
-// Serves standard input, and says where it stopped.
-fn serve_input(rt: &HostRuntime, craft: &mut Spacecraft, every: u64) -> Result<Status, Failure>
+// A spacecraft at which nothing has happened.
+fn new_craft(rt: &HostRuntime, config: &Config, memories: Memories) -> Result<Spacecraft, Failure>
+    requires { IsConfig config.now }
+    ensures { IfOk result IsIdle }
+{
+    match Spacecraft::new(rt.alloc(), config, memories) {
+        Ok(craft) => Ok(craft),
+        Err(_) => Err(Failure::from(ToolFault::Memory)),
+    }
+}
+
+// The spacecraft that was kept in this file, or a new one where there is no such file.
+fn begun(
+    rt: &HostRuntime,
+    config: &Config,
+    memories: Memories,
+    path: &str,
+) -> Result<Spacecraft, Failure>
+    requires { IsConfig config.now }
+    ensures { IfOk result IsIdle }
+{
+    if fs::symlink_metadata(rt, path).is_err() {
+        return new_craft(rt, config, memories);
+    }
+    drop(memories);
+    let mut source = opened(rt, path)?;
+    let octets = octets_from(rt, path, &mut source);
+    drop(source);
+    let octets = octets?;
+    match Spacecraft::read_kept(rt.alloc(), config, octets.as_slice()) {
+        Ok(craft) => Ok(craft),
+        Err(fault) => {
+            let place = format!(in rt.alloc(); "{path}: {fault}");
+            Err(Failure::at(ToolFault::Read, place))
+        }
+    }
+}
+
+// Serves standard input, and keeps the spacecraft where that is asked for.
+fn serve_kept(
+    rt: &HostRuntime,
+    craft: &mut Spacecraft,
+    words: &SpacecraftWords<'_>,
+) -> Result<Status, Failure>
     requires { IsIdle craft.old }
+{
+    let Some(path) = words.state else {
+        return serve_input(rt, craft, words.tick_every, &mut Unkept);
+    };
+    let mut keeper = StateFile::new(rt, path);
+    if !keeper.keep(craft) {
+        return Err(keeper.into_failure());
+    }
+    let ended = serve_input(rt, craft, words.tick_every, &mut keeper);
+    if keeper.has_failed() {
+        drop(ended);
+        return Err(keeper.into_failure());
+    }
+    drop(keeper);
+    ended
+}
+
+// Serves standard input, and says where it stopped.
+fn serve_input<H: Keeper>(
+    rt: &HostRuntime,
+    craft: &mut Spacecraft,
+    every: u64,
+    keeper: &mut H,
+) -> Result<Status, Failure>
+    requires idle { IsIdle craft.old }
+    requires kept { IsKeptAs (H.kept keeper.old) craft.old }
 {
     let mut source = opened(rt, STANDARD)?;
     let mut out = output(rt)?;
-    let ended = serve_stream(craft, every, &mut source, &mut out);
+    let ended = serve_stream(craft, every, &mut source, keeper, &mut out);
     let failure = match ended {
         Err(StreamFault::Read) => Some(read_failure(rt, &source, STANDARD)),
         _ => None,

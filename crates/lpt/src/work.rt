@@ -49,10 +49,9 @@ pub fn run<T: Threads + Wait + Sync>(
             return Err(failure);
         }
     };
-    let status = match lines_run(rt, threads, config, memories, turns, way, &mut source) {
-        Ok(ran) => status_at_end(rt, &source, script, ran),
-        Err(failure) => Err(failure),
-    };
+    let status = lines_run(rt, threads, config, memories, turns, way, &mut source).and_then(
+        |ran| status_at_end(rt, &source, script, ran),
+    );
     drop(source);
     status
 }

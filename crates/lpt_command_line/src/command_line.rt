@@ -8,6 +8,7 @@ use crate::file_words::{
 use crate::link_words::{LinkWords, link_words};
 use crate::request_words::{RequestWords, request_words};
 use crate::spacecraft_words::{SpacecraftWords, spacecraft_words};
+use crate::split_words::{SplitEachWords, split_each_words};
 use crate::word_fault::WordFault;
 use clap::{ArgMatches, Error};
 use std::alloc::{AllocError, Global};
@@ -40,6 +41,8 @@ pub enum Command<'a> {
     List(ListWords<'a>),
     /// `split up|down ID [FILE]`.
     Split(SplitWords<'a>),
+    /// `split up|down ID [FILE] --each`.
+    SplitEach(SplitEachWords<'a>),
     /// `join up|down [FILE]..`.
     Join(JoinWords<'a>),
     /// `link [FILE]..`.
@@ -129,6 +132,9 @@ fn command_of<'a>(
         "lint" => words.get_str("SCRIPT").map(Command::Lint),
         "chart" => Some(Command::Chart(chart_words(words)?)),
         "list" => Some(Command::List(list_words(alloc, words)?)),
+        "split" if words.get_flag("each") => {
+            Some(Command::SplitEach(split_each_words(alloc, words)?))
+        }
         "split" => Some(Command::Split(split_words(words)?)),
         "join" => Some(Command::Join(join_words(alloc, words)?)),
         "link" => Some(Command::Link(link_words(alloc, words)?)),

@@ -38,7 +38,7 @@ const PLACES: Word = Word {
     name: "PLACE",
     value: U32,
     need: Need::Several(&["ADDRESS", "LENGTH"]),
-    help: "Addresses, each with a number of octets, 1 to 65535",
+    help: "Addresses, each with a number of octets, 1 to 4294967295",
 };
 
 pub(crate) const PACKETS: Word = Word {
@@ -82,6 +82,15 @@ const COUNT: Named = Named {
     action: ArgAction::Set,
     other: &["0"],
     help: "The sequence count of the first packet, 0 to 16383",
+};
+
+const EACH: Named = Named {
+    name: "each",
+    value: ValueParser::Signed(1, 65_535),
+    behind: &["N"],
+    action: ArgAction::Set,
+    other: &[],
+    help: "How many octets one request asks for at most, as many as it holds without it",
 };
 
 const ACK: Named = Named {
@@ -211,11 +220,19 @@ pub(crate) static COMMANDS: [Row; 12] = [
                 name: "parts",
                 value: TEXT,
                 behind: &["LIST"],
-                action: ArgAction::Set,
+                action: ArgAction::Append,
                 other: &["1-"],
-                help: "The parts to write, as 3,7-9,12-",
+                help: "The parts to write, as 3,7-9,12-; with --each as ID:LIST",
             },
             COUNT,
+            Named {
+                name: "each",
+                value: ValueParser::Bool,
+                behind: &[],
+                action: ArgAction::SetTrue,
+                other: &[],
+                help: "Split each packet, the first under this ID, the others under those behind",
+            },
             Named {
                 name: "whole",
                 value: ValueParser::Bool,
@@ -353,6 +370,7 @@ pub(crate) static FAMILIES: [Family; 1] = [Family {
                     other: &[],
                     help: "Octets for another address",
                 },
+                EACH,
                 ACK,
                 COUNT,
                 CONFIG,
@@ -362,13 +380,13 @@ pub(crate) static FAMILIES: [Family; 1] = [Family {
             name: "dump",
             about: "Ask for octets of a memory",
             words: &[MEMORY, PLACES],
-            named: &[ACK, COUNT, CONFIG],
+            named: &[EACH, ACK, COUNT, CONFIG],
         },
         Row {
             name: "check",
             about: "Ask for checksums of a memory",
             words: &[MEMORY, PLACES],
-            named: &[ACK, COUNT, CONFIG],
+            named: &[EACH, ACK, COUNT, CONFIG],
         },
     ],
 }];

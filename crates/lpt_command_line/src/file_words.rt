@@ -92,18 +92,27 @@ pub struct ListWords<'a> {
 
 /// What the words of `split` ask for.
 ///
-/// Errors: `Missing`; `Id` where what should name the message doesn't.
+/// Errors: `Missing`; `Id` where what should name the message doesn't; `Beside`.
 pub fn split_words<'a>(matches: &ArgMatches<'a>) -> Result<SplitWords<'a>, WordFault<'a>> {
     let word = matches.get_str("ID").ok_or(WordFault::Missing)?;
     Ok(SplitWords {
         direction: direction_in(matches).ok_or(WordFault::Missing)?,
         name: name_in(word).ok_or(WordFault::Id("<ID>", word))?,
         file: matches.get_str("FILE").ok_or(WordFault::Missing)?,
-        parts: matches.get_str("parts").ok_or(WordFault::Missing)?,
+        parts: list_in(matches)?,
         first: count_in(matches).ok_or(WordFault::Missing)?,
         whole: matches.get_flag("whole"),
         pcap: matches.get_flag("pcap"),
     })
+}
+
+// The list of parts, of which there is one.
+fn list_in<'a>(matches: &ArgMatches<'a>) -> Result<&'a str, WordFault<'a>> {
+    match matches.get_strs("parts") {
+        Some([list]) => Ok(*list),
+        Some([]) | None => Err(WordFault::Missing),
+        Some(_) => Err(WordFault::Beside("--parts <LIST>", "--parts <LIST>")),
+    }
 }
 
 /// What the words of `join` ask for.
@@ -173,7 +182,7 @@ pub(crate) fn files_in<'a>(
 }
 
 // What a word names, as `ID` or as `SOURCE/ID`.
-fn name_in(word: &str) -> Option<GivenName> {
+pub(crate) fn name_in(word: &str) -> Option<GivenName> {
     let (source, id) = match word.split_once('/') {
         Some((source, id)) => (Some(source.parse().ok()?), id),
         None => (None, word),
@@ -209,7 +218,7 @@ pub(crate) fn count_in(matches: &ArgMatches<'_>) -> Option<u16>
     }
 }
 
-fn direction_in(matches: &ArgMatches<'_>) -> Option<Direction> {
+pub(crate) fn direction_in(matches: &ArgMatches<'_>) -> Option<Direction> {
     match matches.get_str("DIRECTION")? {
         "up" => Some(Direction::Up),
         _ => Some(Direction::Down),

@@ -19,6 +19,7 @@ mod passes;
 mod request_words;
 mod row;
 mod spacecraft_words;
+mod split_words;
 mod word_fault;
 
 pub use command_line::{ChartWords, Command, CommandLine, NoCommand, read_words};
@@ -29,4 +30,5 @@ pub use lpt_packet::{Direction, Name};
 pub use lpt_pus::AckFlags;
 pub use request_words::{RequestWords, What};
 pub use spacecraft_words::SpacecraftWords;
+pub use split_words::{GivenPick, SplitEachWords};
 pub use word_fault::WordFault;

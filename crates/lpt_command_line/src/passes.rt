@@ -84,6 +84,14 @@ pub(crate) const SPACECRAFT: Row = Row {
             other: &[],
             help: "Set the clock on behind each N packets; without it, or at 0, never",
         },
+        Named {
+            name: "state",
+            value: TEXT,
+            behind: &["FILE"],
+            action: ArgAction::Set,
+            other: &[],
+            help: "Keep state and memories in this file, and go on where it says",
+        },
         CONFIG,
     ],
 };

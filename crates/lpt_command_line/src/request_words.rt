@@ -1,11 +1,12 @@
 //! The words of the commands that write requests to a memory.
 
-ghost use Rattle.std.specs.Prelude.{◌≤◌};
+ghost use Rattle.std.specs.Prelude.{◌<◌, ◌≤◌, IfOk};
 
 use crate::file_words::count_in;
 use crate::word_fault::WordFault;
 use clap::ArgMatches;
 use lpt_pus::AckFlags;
+use lpt_requests::{CHECK_LIMIT, DUMP_LIMIT, LOAD_LIMIT};
 use std::alloc::Global;
 
 /// What `request` asks for.
@@ -15,11 +16,16 @@ pub struct RequestWords<'a> {
     pub memory: u8,
     /// What is asked of it.
     pub what: What<'a>,
-    /// The sequence count, 0 to 16,383.
+    /// How many octets of an area one request asks for at most.
+    pub each: u16,
+    /// Whether that is given, so that even what one request holds is cut into so many.
+    pub cut: bool,
+    /// The first sequence count, 0 to 16,383.
     pub count: u16,
     /// The acknowledgement flags.
     pub flags: AckFlags,
     ghost counts: { count ≤ 16383 },
+    ghost some_each: { 0 < each },
 }
 
 /// What is asked of a memory.
@@ -28,9 +34,9 @@ pub enum What<'a> {
     /// That it takes the octets of these files, each at its address.
     Load(Vec<(u32, &'a str)>),
     /// The octets of these places: their addresses and lengths.
-    Dump(Vec<(u32, u16)>),
+    Dump(Vec<(u32, u32)>),
     /// Their checksums.
-    Check(Vec<(u32, u16)>),
+    Check(Vec<(u32, u32)>),
 }
 
 /// What the words of the command of this name below `request` ask for.
@@ -41,19 +47,52 @@ pub fn request_words<'a>(
     name: &str,
     matches: &ArgMatches<'a>,
 ) -> Result<RequestWords<'a>, WordFault<'a>> {
+    let (each, cut) = each_in(name, matches)?;
     let what = match name {
         "load" => What::Load(areas_in(alloc, matches)?),
         "dump" => What::Dump(places_in(alloc, matches)?),
         _ => What::Check(places_in(alloc, matches)?),
     };
-    request_with(matches, what).ok_or(WordFault::Missing)
+    request_with(matches, what, each, cut).ok_or(WordFault::Missing)
+}
+
+// How many octets one request of this name asks for at most, and whether that is given.
+fn each_in<'a>(name: &str, matches: &ArgMatches<'a>) -> Result<(u16, bool), WordFault<'a>>
+    ensures { IfOk result (λ each. 0 < each.0) }
+{
+    let limit = limit_of(name);
+    match matches.get_one("each") {
+        None => Ok((limit, false)),
+        Some(each) if each == 0 || each > limit => Err(WordFault::Each(each, limit)),
+        Some(each) => Ok((each, true)),
+    }
+}
+
+// How many octets of an area one request of this name holds at most.
+fn limit_of(name: &str) -> u16
+    ensures { 0 < result }
+{
+    match name {
+        "load" => LOAD_LIMIT,
+        "dump" => DUMP_LIMIT,
+        _ => CHECK_LIMIT,
+    }
 }
 
 // The request of these words that asks for this.
-fn request_with<'a>(matches: &ArgMatches<'a>, what: What<'a>) -> Option<RequestWords<'a>> {
+fn request_with<'a>(
+    matches: &ArgMatches<'a>,
+    what: What<'a>,
+    each: u16,
+    cut: bool,
+) -> Option<RequestWords<'a>>
+    requires { 0 < each }
+{
     Some(RequestWords {
         memory: matches.get_one("MEMORY")?,
         what,
+        each,
+        cut,
         count: count_in(matches)?,
         flags: AckFlags::new(matches.get_one("ack")?)?,
     })
@@ -88,7 +127,7 @@ fn areas_in<'a>(
 fn places_in<'a>(
     alloc: Global,
     matches: &ArgMatches<'a>,
-) -> Result<Vec<(u32, u16)>, WordFault<'a>> {
+) -> Result<Vec<(u32, u32)>, WordFault<'a>> {
     let mut places = Vec::new(alloc);
     let Some(words) = matches.get_strs("PLACE") else {
         return Err(WordFault::Missing);
@@ -102,7 +141,7 @@ fn places_in<'a>(
 }
 
 // The place that two words name.
-fn place_in<'a>(pair: &[&'a str]) -> Result<(u32, u16), WordFault<'a>> {
+fn place_in<'a>(pair: &[&'a str]) -> Result<(u32, u32), WordFault<'a>> {
     match pair {
         [address, len] => Ok((address_in(address)?, length_in(len)?)),
         [address] => Err(WordFault::NoLength(address)),
@@ -119,7 +158,7 @@ fn address_in<'a>(word: &'a str) -> Result<u32, WordFault<'a>> {
 }
 
 // The number of octets that a word names.
-fn length_in<'a>(word: &'a str) -> Result<u16, WordFault<'a>> {
+fn length_in<'a>(word: &'a str) -> Result<u32, WordFault<'a>> {
     match word.parse() {
         Ok(0) | Err(_) => Err(WordFault::Length(word)),
         Ok(len) => Ok(len),

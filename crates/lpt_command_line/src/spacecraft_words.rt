@@ -13,6 +13,8 @@ pub struct SpacecraftWords<'a> {
     pub save: bool,
     /// Behind how many packets a tick comes, or never at 0.
     pub tick_every: u64,
+    /// The file in which the state and the memories are kept.
+    pub state: Option<&'a str>,
 }
 
 /// What the words of `spacecraft` ask for.
@@ -34,6 +36,7 @@ pub fn spacecraft_words<'a>(
         memories,
         save: matches.get_flag("save"),
         tick_every: matches.get_one("tick-every").unwrap_or(0),
+        state: matches.get_str("state"),
     })
 }
 

@@ -15,6 +15,8 @@ pub enum WordFault<'a> {
     Length(&'a str),
     /// Behind this address no number of octets stands.
     NoLength(&'a str),
+    /// So many octets are wanted of a request, more than these, which it holds at most.
+    Each(u16, u16),
     /// This one is no percentage.
     Odds(&'a str),
     /// These two don't stand beside each other.
@@ -23,6 +25,10 @@ pub enum WordFault<'a> {
     Order(u64, u64),
     /// This one is no memory's identifier with a file.
     NoMemory(&'a str),
+    /// This one is no identifier with a list of parts.
+    Pick(&'a str),
+    /// This one's identifier has a list already.
+    PickedTwice(&'a str),
     /// Standard input is to be read twice.
     Twice,
     /// Memory runs out.
@@ -40,22 +46,17 @@ impl WordFault<'_> {
     pub fn text(&self, alloc: Global) -> Result<String, AllocError> {
         match self {
             WordFault::Missing => format!(in alloc; "a word is missing"),
-            WordFault::Address(word) => {
-                format!(in alloc;
-                    "invalid value '{word}' for '<ADDRESS>': no number of 0 to 4294967295"
-                )
-            }
+            WordFault::Address(word) => invalid(alloc, word, "<ADDRESS>", 0),
             WordFault::Id(place, word) => {
                 format!(in alloc;
                     "invalid value '{word}' for '{place}': no ID or SOURCE/ID of 0 to 65535"
                 )
             }
-            WordFault::Length(word) => {
-                format!(in alloc; "invalid value '{word}' for '<LENGTH>': no number of 1 to 65535")
-            }
+            WordFault::Length(word) => invalid(alloc, word, "<LENGTH>", 1),
             WordFault::NoLength(word) => {
                 format!(in alloc; "no '<LENGTH>' stands behind the '<ADDRESS>' {word}")
             }
+            WordFault::Each(each, limit) => too_many(alloc, *each, *limit),
             WordFault::Odds(word) => {
                 format!(in alloc; "invalid value '{word}' for '<P>': no percentage of 0% to 100%")
             }
@@ -70,8 +71,26 @@ impl WordFault<'_> {
                     "invalid value '{word}' for '--memory': no ID=FILE, an ID of 0 to 255"
                 )
             }
+            WordFault::Pick(word) => {
+                format!(in alloc;
+                    "invalid value '{word}' for '--parts <LIST>': no ID:LIST, an ID of 0 to 65535"
+                )
+            }
+            WordFault::PickedTwice(word) => {
+                format!(in alloc; "the ID of '--parts {word}' has a list already")
+            }
             WordFault::Twice => format!(in alloc; "'-' stands twice: standard input is read once"),
             WordFault::Memory => format!(in alloc; "out of memory"),
         }
     }
+}
+
+// What is reported of a number of octets that is more than a request holds.
+fn too_many(alloc: Global, each: u16, limit: u16) -> Result<String, AllocError> {
+    format!(in alloc; "invalid value '{each}' for '--each <N>': no number of 1 to {limit}")
+}
+
+// What is reported of a word that is no number of 32 bits, or below the lowest.
+fn invalid(alloc: Global, word: &str, place: &str, lowest: u32) -> Result<String, AllocError> {
+    format!(in alloc; "invalid value '{word}' for '{place}': no number of {lowest} to 4294967295")
 }
