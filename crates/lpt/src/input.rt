@@ -4,14 +4,18 @@ use crate::end::{Failure, tell_place};
 use crate::recalled::{Kept, Recalled, Script};
 use crate::watched::Watched;
 use lpt_capture::Captured;
+use lpt_packet::Octets;
 use lpt_sources::{Chain, Span};
-use lpt_text::FromStd;
+use lpt_text::{End, FromStd, read_text};
 use lpt_tool::ToolFault;
 use std::fs::File;
 use std::io::{self, Read, StdinLock};
 
 /// The word for standard input.
 pub const STANDARD: &str = "-";
+
+/// How many texts of more than 16,777,216 octets have more than 2^32.
+const TEXTS_AT_MOST: usize = 257;
 
 /// A file, or standard input.
 #[derive(Drop)]
@@ -113,6 +117,25 @@ pub fn name_of(path: &str) -> &str {
     } else {
         path
     }
+}
+
+/// All octets of a file that was opened at this path, or more than the addresses of a memory.
+///
+/// Errors: `Read` where a read failed; `Memory`.
+pub fn octets_from(rt: &HostRuntime, path: &str, source: &mut Incoming) -> Result<Octets, Failure> {
+    let mut octets = Vec::new(rt.alloc());
+    for _ in 0..TEXTS_AT_MOST {
+        let (text, end) = read_text(rt.alloc(), source)?;
+        if octets.extend_from_slice(&text).is_err() {
+            return Err(Failure::from(ToolFault::Memory));
+        }
+        match end {
+            End::Whole => break,
+            End::Failed => return Err(read_failure(rt, source, path)),
+            End::TooLong => {}
+        }
+    }
+    Ok(Octets::from_vec(octets))
 }
 
 /// Why what is read at this path failed.

@@ -3,7 +3,7 @@
 ghost use Rattle.lpt_events.specs.Configs.{IsConfig};
 
 use crate::end::{Failure, Status, tell_place};
-use crate::input::{Incoming, opened, read_failure};
+use crate::input::{octets_from, opened};
 use crate::streams::{finish, output};
 use lpt_command_line::{RequestWords, What};
 use lpt_events::Config;
@@ -13,7 +13,7 @@ use lpt_requests::{
     CHECK_LIMIT, CutFault, DUMP_LIMIT, Place, Range, Read, Request, areas_fault, load_requests,
     places_fault, read_requests, write_requests,
 };
-use lpt_text::{End, read_text, write_out};
+use lpt_text::write_out;
 use lpt_tool::ToolFault;
 use std::alloc::{AllocError, Global};
 
@@ -202,13 +202,4 @@ fn octets_of(rt: &HostRuntime, file: &str) -> Result<Octets, Failure> {
     let octets = octets_from(rt, file, &mut source);
     drop(source);
     octets
-}
-
-// The same of a file that was opened.
-fn octets_from(rt: &HostRuntime, file: &str, source: &mut Incoming) -> Result<Octets, Failure> {
-    let (octets, end) = read_text(rt.alloc(), source)?;
-    match end {
-        End::Failed => Err(read_failure(rt, source, file)),
-        _ => Ok(Octets::from_vec(octets)),
-    }
 }

@@ -7,7 +7,7 @@ ghost use Rattle.lpt_spacecraft.specs.Streams.{IsIdle};
 
 use crate::configuration::read;
 use crate::end::{Failure, Status, tell_place};
-use crate::input::{Incoming, STANDARD, opened, read_failure};
+use crate::input::{STANDARD, octets_from, opened, read_failure};
 use crate::keeping::StateFile;
 use crate::saving::write_beside;
 use crate::streams::{finish, first_failure, output};
@@ -16,7 +16,7 @@ use lpt_events::Config;
 use lpt_memory::Memories;
 use lpt_packet::Octets;
 use lpt_spacecraft::{Keeper, Spacecraft, Stop, Unkept, serve_stream};
-use lpt_text::{End, StreamFault, read_text};
+use lpt_text::StreamFault;
 use lpt_tool::ToolFault;
 use std::fs;
 
@@ -207,15 +207,6 @@ fn read_memories(
         }
     }
     Ok(())
-}
-
-// The octets of a file that was opened.
-fn octets_from(rt: &HostRuntime, file: &str, source: &mut Incoming) -> Result<Octets, Failure> {
-    let (octets, end) = read_text(rt.alloc(), source)?;
-    match end {
-        End::Failed => Err(read_failure(rt, source, file)),
-        _ => Ok(Octets::from_vec(octets)),
-    }
 }
 
 // Writes each memory beside its file, and renames it.
