@@ -25,6 +25,9 @@ use Rattle.std.proofs.lemmas.Grind.{{common_steps}}
 pub {goal} : goal.{goal}
 {goal} = first_of (search rules steps 300000, grind (arith, common_steps) steps 300000)
 """
+# Goals that show no promise broken: a condition of what is called, a sum or an index out of range, a place
+# that isn't reached.
+BESIDE = re.compile(r"[\w-]*?\brequires\b|overflow_|slice_bounds|index_bounds|unreachable")
 FILE_NAME = re.compile(r"[A-Za-z0-9_-][A-Za-z0-9_.-]*\.edit")
 
 
@@ -48,6 +51,8 @@ class Written:
     changes: list[Change]
     # The functions that are to refuse it, where it names them.
     refused: list[str]
+    # What a goal's name has in it, where the edit says which goal is to be open.
+    clause: list[str]
     # The goal that was open, and a mark.
     goal: list[str]
 
@@ -56,7 +61,7 @@ def read(file: pathlib.Path) -> Written:
     """Reads an edit's file."""
     if not FILE_NAME.fullmatch(file.name):
         raise BadEdit("its name is none of an edit")
-    path, old, said = "", "", Written([], [], [])
+    path, old, said = "", "", Written([], [], [], [])
     for line in file.read_text(encoding="utf-8").split("\n"):
         word, _, rest = line.partition(":")
         if word == "file":
@@ -67,6 +72,8 @@ def read(file: pathlib.Path) -> Written:
             said.changes.append(Change(path, old, rest.removeprefix(" ")))
         elif word == "refused":
             said.refused.append(rest.strip())
+        elif word == "clause":
+            said.clause.append(rest.strip())
         elif word == "goal":
             said.goal[:] = rest.split()
     return said
@@ -83,6 +90,8 @@ class Mutant:
     # It can't share a run with others; each change stands in one function.
     is_alone: bool
     is_apart: bool
+    # What the name of the goal that is to be open has in it, where the edit says that.
+    clause: Optional[str] = None
     # The goal that was open before, where the edit says so and the mark is still that of the texts.
     noted: Optional[str] = None
     # The function and the goal of it whose answer is put aside, and those that were before.
@@ -106,9 +115,17 @@ class Mutant:
             mutant.functions.update([] if said.refused else map(mutant.whole, places))
         if not mutant.functions:
             raise BadEdit("it turns no function: a line 'refused: NAME' is missing")
-        if said.goal[1:] == [mutant.mark()]:
+        mutant.clause = said.clause[0] if said.clause else None
+        if said.goal[1:] == [mutant.mark()] and mutant.shown(said.goal[:1]):
             mutant.noted = said.goal[0]
         return mutant
+
+    def shown(self, goals: list[str]) -> Optional[str]:
+        """The first of these open goals that shows the edit's fault: of the clause that it names or, where it
+        names none, one that isn't only a condition of what is called."""
+        if self.clause:
+            return next((it for it in goals if self.clause in it), None)
+        return next((it for it in goals if not BESIDE.match(it)), None)
 
     @property
     def name(self) -> str:

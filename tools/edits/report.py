@@ -91,10 +91,13 @@ class Report:
         found = {it: self.findings(it, mutant) for it in names}
         if mutant.noted:
             return self.verdict_as_noted(mutant, found.values())
-        for it in found.values():
-            if it.refused:
-                mutant.open = it.refused[0]
-                return Verdict(True, f"refused, as it must be: `{it.refused[0]}` is not proved")
+        refused = [goal for it in found.values() for goal in it.refused]
+        if refused:
+            mutant.open = mutant.shown(refused)
+            if mutant.open:
+                return Verdict(True, f"refused, as it must be: `{mutant.open}` is not proved")
+            wanted = f"no goal of `{mutant.clause}` is open" if mutant.clause else "only conditions are open"
+            return Verdict(False, f"SHOWS NOTHING: {wanted}: {', '.join(refused)}"[:LONGEST_REASON])
         if mutant.put_aside([(name, goal) for name, it in found.items() for goal in it.unfit]):
             return None
         unread = [it for name in mutant.tried() for it in self.unread.get(name, [])]

@@ -20,6 +20,7 @@ from .trial import verdicts
 
 CRATE = "lpt_packet"
 REFUSED, LET_THROUGH = "refused, as it must be", "NOT REFUSED"
+NOTHING = "SHOWS NOTHING"
 
 
 @dataclass(frozen=True)
@@ -39,6 +40,8 @@ ROWS = [
     Row("same_number", "checksum", "let mut register = 0xffff;", "let mut register = 65535;", LET_THROUGH),
     Row("same_sum_in_a_copy", "checksum", "let mut register = 0xffff;", "let mut register = 65534 + 1;", LET_THROUGH),
     Row("turned_in_a_copy", "checksum", "let mut register = 0xffff;", "let mut register = 0;", REFUSED),
+    Row("another_clause_named", "checksum", "let mut register = 0xffff;", "let mut register = 1;", NOTHING, "clause: reader"),
+    Row("its_clause_named", "checksum", "let mut register = 0xffff;", "let mut register = 2;", REFUSED, "clause: loop-eight"),
     Row("callee_of_it_broken", "checksum", "(register % 256) as u8", "(register % 255) as u8", REFUSED),
     Row("same_bits", "reading", "second & 0x3fff", "second % 16384", LET_THROUGH, "goal: returns 00000000"),
     Row("said_to_be_open", "reading", "bytes[at + 1]]", "bytes[1 + at]]", LET_THROUGH, "goal: returns MARK"),
@@ -82,6 +85,7 @@ class Told:
     """A mutant of the function a::b::f, of which one answer is written."""
 
     functions: set[str] = {"a::b::f"}
+    clause: Optional[str] = None
     noted: Optional[str] = None
     copy = ""
 
@@ -97,6 +101,10 @@ class Told:
     def goal_aside(self, name: str) -> Optional[str]:
         """No answer is put aside."""
         del name
+
+    def shown(self, goals: list[str]) -> Optional[str]:
+        """The first goal is taken."""
+        return goals[0] if goals else None
 
     def put_aside(self, goals: list[tuple[str, str]]) -> bool:
         """Nor can one be."""
