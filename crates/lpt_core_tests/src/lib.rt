@@ -1,5 +1,6 @@
 //! Tests of the crates below the node that no script of tests/ can make: of receptions, tables, ledgers
-//! and links (`lpt_reception`, `lpt_table`, `lpt_ledger`, `lpt_link`), of faults, and of values.
+//! and links (`lpt_reception`, `lpt_table`, `lpt_ledger`, `lpt_link`), of missions' layouts
+//! (`lpt_layout`), of faults, and of values.
 //!
 //! They stand apart so that each of those crates is proved once, and not again with its tests, and in
 //! one crate since each crate of tests loads and compiles the libraries anew. A function that makes a
@@ -10,6 +11,8 @@
 
 #[cfg(test)]
 mod faults;
+#[cfg(test)]
+mod layouts;
 #[cfg(test)]
 mod ledgers;
 #[cfg(test)]

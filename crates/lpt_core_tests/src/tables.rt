@@ -10,9 +10,6 @@ use std::alloc::Global;
 use std::process::Abort;
 use std::test::Fail;
 
-/// The source of all parts.
-const SOURCE: u16 = 1;
-
 const ZEROS: [u8; 4] = [0, 0, 0, 0];
 
 const ONES: [u8; 4] = [1, 1, 1, 1];
@@ -34,25 +31,28 @@ enum Expected {
 /// What is asked of a table, or what it shows.
 #[derive(Clone, Copy)]
 enum Row {
-    /// A part is offered: its identifier, number, kind and octets, the tick, and what is to come of it.
-    Offers(u16, u16, Kind, [u8; 4], u32, Expected),
+    /// A part is offered: its source, identifier, number, kind and octets, the tick, and what is to come of it.
+    Offers(u16, u16, u16, Kind, [u8; 4], u32, Expected),
     /// Which reception is due at a tick, if one is.
-    Due(u32, Option<u16>),
-    /// A reception is given up, if there is one.
-    Expires(u16, bool),
+    Due(u32, Option<(u16, u16)>),
+    /// A reception is given up, by source and identifier, if there is one.
+    Expires(u16, u16, bool),
     /// How many receptions are open.
     Open(usize),
     /// Whether a reception is open.
-    IsOpen(u16, bool),
+    IsOpen(u16, u16, bool),
     /// All receptions are given up.
     Clears,
 }
 
-// The name of this identifier of the source.
-fn named(id: u16) -> Name
-    ensures { result ≡ record { source = 1; id = id } }
+// The name of an identifier of a source.
+fn named(of: (u16, u16)) -> Name
+    ensures { result ≡ record { source = of.0; id = of.1 } }
 {
-    Name { source: SOURCE, id }
+    Name {
+        source: of.0,
+        id: of.1,
+    }
 }
 
 // Gives up a reception that came out whole, or puts it back, also where there is no memory.
@@ -96,14 +96,14 @@ fn break_off(table: &mut Table, name: Name, broken: Broken, puts_back: bool) -> 
 }
 
 // Offers a part, and settles what comes out, or puts it back.
-fn offer(table: &mut Table, part: &Part<'_>, now: u32, puts_back: bool) -> Expected
+fn offer(table: &mut Table, source: u16, part: &Part<'_>, now: u32, puts_back: bool) -> Expected
     requires size { part.now.p ≡ table.old.p }
     requires settled { table.old.out ≡ None }
     ensures p { table.new.p ≡ table.old.p }
     ensures settled { table.new.out ≡ None }
 {
-    let name = named(part.id);
-    match table.offer(SOURCE, part, now) {
+    let name = named((source, part.id));
+    match table.offer(source, part, now) {
         Offer::Kept => Expected::Kept,
         Offer::Again => Expected::Again,
         Offer::NoRoom => Expected::NoRoom,
@@ -122,17 +122,17 @@ fn comes(table: &mut Table, row: &Row) -> bool
     ensures settled { table.new.out ≡ None }
 {
     match row {
-        Row::Offers(id, number, kind, octets, now, want) => {
+        Row::Offers(source, id, number, kind, octets, now, want) => {
             let came = match Part::new(*id, *number, *kind, octets, 4) {
-                Some(part) => offer(table, &part, *now, *want == Expected::PutBack),
+                Some(part) => offer(table, *source, &part, *now, *want == Expected::PutBack),
                 None => Expected::NoPart,
             };
             came == *want
         }
         Row::Due(now, want) => table.due(*now) == want.map(named),
-        Row::Expires(id, want) => table.expire(named(*id)) == *want,
+        Row::Expires(source, id, want) => table.expire(named((*source, *id))) == *want,
         Row::Open(count) => table.len() == *count,
-        Row::IsOpen(id, want) => table.is_open(named(*id)) == *want,
+        Row::IsOpen(source, id, want) => table.is_open(named((*source, *id))) == *want,
         Row::Clears => {
             table.clear_all();
             true
@@ -164,11 +164,12 @@ fn check(rt: &impl Abort, alloc: Global, limit: u32, mode: Mode, rows: &[Row]) -
 
 /// One reception at a time, of which a whole or a broken one makes room.
 static ROOM: [Row; 9] = [
-    Row::Offers(7, 1, Kind::First, ZEROS, 0, Expected::Kept),
-    Row::Offers(8, 1, Kind::First, ZEROS, 0, Expected::NoRoom),
-    Row::Offers(7, 2, Kind::Last, ONES, 0, Expected::Released(8)),
-    Row::Offers(8, 1, Kind::First, ZEROS, 0, Expected::Kept),
+    Row::Offers(1, 7, 1, Kind::First, ZEROS, 0, Expected::Kept),
+    Row::Offers(1, 8, 1, Kind::First, ZEROS, 0, Expected::NoRoom),
+    Row::Offers(1, 7, 2, Kind::Last, ONES, 0, Expected::Released(8)),
+    Row::Offers(1, 8, 1, Kind::First, ZEROS, 0, Expected::Kept),
     Row::Offers(
+        1,
         8,
         1,
         Kind::First,
@@ -176,20 +177,21 @@ static ROOM: [Row; 9] = [
         1,
         Expected::BrokenOff(Reason::Conflict),
     ),
-    Row::Offers(9, 1, Kind::First, ZEROS, 2, Expected::Kept),
+    Row::Offers(1, 9, 1, Kind::First, ZEROS, 2, Expected::Kept),
     Row::Open(1),
-    Row::IsOpen(9, true),
-    Row::IsOpen(8, false),
+    Row::IsOpen(1, 9, true),
+    Row::IsOpen(1, 8, false),
 ];
 
 /// Where parts are taken in order, a part that is neither kept nor the next one breaks off.
 static IN_ORDER: [Row; 11] = [
-    Row::Offers(7, 2, Kind::Last, ONES, 0, Expected::Gap),
-    Row::Offers(7, 1, Kind::First, ZEROS, 0, Expected::Kept),
-    Row::Offers(8, 2, Kind::Last, ONES, 0, Expected::NoRoom),
-    Row::Offers(7, 2, Kind::Middle, ONES, 1, Expected::Kept),
-    Row::Offers(7, 1, Kind::First, ZEROS, 2, Expected::Again),
+    Row::Offers(1, 7, 2, Kind::Last, ONES, 0, Expected::Gap),
+    Row::Offers(1, 7, 1, Kind::First, ZEROS, 0, Expected::Kept),
+    Row::Offers(1, 8, 2, Kind::Last, ONES, 0, Expected::NoRoom),
+    Row::Offers(1, 7, 2, Kind::Middle, ONES, 1, Expected::Kept),
+    Row::Offers(1, 7, 1, Kind::First, ZEROS, 2, Expected::Again),
     Row::Offers(
+        1,
         7,
         4,
         Kind::Last,
@@ -197,8 +199,9 @@ static IN_ORDER: [Row; 11] = [
         3,
         Expected::BrokenOff(Reason::Discontinuity),
     ),
-    Row::Offers(8, 1, Kind::First, ZEROS, 4, Expected::Kept),
+    Row::Offers(1, 8, 1, Kind::First, ZEROS, 4, Expected::Kept),
     Row::Offers(
+        1,
         8,
         1,
         Kind::First,
@@ -206,28 +209,28 @@ static IN_ORDER: [Row; 11] = [
         5,
         Expected::BrokenOff(Reason::Conflict),
     ),
-    Row::Offers(9, 1, Kind::First, ZEROS, 6, Expected::Kept),
-    Row::Offers(9, 2, Kind::Last, ONES, 7, Expected::Released(8)),
+    Row::Offers(1, 9, 1, Kind::First, ZEROS, 6, Expected::Kept),
+    Row::Offers(1, 9, 2, Kind::Last, ONES, 7, Expected::Released(8)),
     Row::Open(0),
 ];
 
 /// The oldest overdue reception is due, and of two that are as old the one of the least name. A table
 /// that is cleared has no reception.
 static DUE: [Row; 17] = [
-    Row::Offers(9, 1, Kind::First, ZEROS, 0, Expected::Kept),
-    Row::Offers(3, 1, Kind::First, ZEROS, 0, Expected::Kept),
-    Row::Offers(1, 1, Kind::First, ZEROS, 4, Expected::Kept),
+    Row::Offers(1, 9, 1, Kind::First, ZEROS, 0, Expected::Kept),
+    Row::Offers(1, 3, 1, Kind::First, ZEROS, 0, Expected::Kept),
+    Row::Offers(1, 1, 1, Kind::First, ZEROS, 4, Expected::Kept),
     Row::Due(9, None),
-    Row::Due(10, Some(3)),
-    Row::Due(14, Some(3)),
-    Row::Expires(3, true),
-    Row::Expires(3, false),
+    Row::Due(10, Some((1, 3))),
+    Row::Due(14, Some((1, 3))),
+    Row::Expires(1, 3, true),
+    Row::Expires(1, 3, false),
     Row::Due(9, None),
-    Row::Due(10, Some(9)),
-    Row::Due(14, Some(9)),
-    Row::Expires(9, true),
+    Row::Due(10, Some((1, 9))),
+    Row::Due(14, Some((1, 9))),
+    Row::Expires(1, 9, true),
     Row::Due(13, None),
-    Row::Due(14, Some(1)),
+    Row::Due(14, Some((1, 1))),
     Row::Clears,
     Row::Open(0),
     Row::Due(14, None),
@@ -235,26 +238,53 @@ static DUE: [Row; 17] = [
 
 /// A part that comes again renews the last tick, and what is put back keeps it.
 static RENEWED: [Row; 8] = [
-    Row::Offers(7, 1, Kind::First, ZEROS, 0, Expected::Kept),
-    Row::Offers(7, 1, Kind::First, ZEROS, 5, Expected::Again),
+    Row::Offers(1, 7, 1, Kind::First, ZEROS, 0, Expected::Kept),
+    Row::Offers(1, 7, 1, Kind::First, ZEROS, 5, Expected::Again),
     Row::Due(14, None),
-    Row::Due(15, Some(7)),
-    Row::Offers(7, 2, Kind::Last, ONES, 9, Expected::PutBack),
+    Row::Due(15, Some((1, 7))),
+    Row::Offers(1, 7, 2, Kind::Last, ONES, 9, Expected::PutBack),
     Row::Due(14, None),
-    Row::Due(15, Some(7)),
-    Row::Offers(7, 2, Kind::Last, ONES, 9, Expected::Released(8)),
+    Row::Due(15, Some((1, 7))),
+    Row::Offers(1, 7, 2, Kind::Last, ONES, 9, Expected::Released(8)),
 ];
 
 /// A part that comes again puts its reception behind the others.
 static BEHIND: [Row; 8] = [
-    Row::Offers(9, 1, Kind::First, ZEROS, 0, Expected::Kept),
-    Row::Offers(3, 1, Kind::First, ZEROS, 0, Expected::Kept),
-    Row::Offers(3, 1, Kind::First, ZEROS, 2, Expected::Again),
-    Row::Due(10, Some(9)),
-    Row::Due(12, Some(9)),
-    Row::Expires(9, true),
+    Row::Offers(1, 9, 1, Kind::First, ZEROS, 0, Expected::Kept),
+    Row::Offers(1, 3, 1, Kind::First, ZEROS, 0, Expected::Kept),
+    Row::Offers(1, 3, 1, Kind::First, ZEROS, 2, Expected::Again),
+    Row::Due(10, Some((1, 9))),
+    Row::Due(12, Some((1, 9))),
+    Row::Expires(1, 9, true),
     Row::Due(11, None),
-    Row::Due(12, Some(3)),
+    Row::Due(12, Some((1, 3))),
+];
+
+/// Two sources may use one identifier: their receptions are apart, and of two that are as old the one of
+/// the lesser source is due.
+static SOURCES: [Row; 14] = [
+    Row::Offers(2, 7, 1, Kind::First, ONES, 0, Expected::Kept),
+    Row::Offers(1, 7, 1, Kind::First, ZEROS, 0, Expected::Kept),
+    Row::Open(2),
+    Row::Offers(3, 7, 1, Kind::First, ZEROS, 0, Expected::NoRoom),
+    Row::Due(10, Some((1, 7))),
+    Row::Offers(1, 7, 1, Kind::First, ZEROS, 3, Expected::Again),
+    Row::Due(10, Some((2, 7))),
+    Row::Offers(
+        1,
+        7,
+        1,
+        Kind::First,
+        ONES,
+        4,
+        Expected::BrokenOff(Reason::Conflict),
+    ),
+    Row::IsOpen(2, 7, true),
+    Row::IsOpen(1, 7, false),
+    Row::Expires(1, 7, false),
+    Row::Offers(2, 7, 2, Kind::Last, ONES, 5, Expected::Released(8)),
+    Row::IsOpen(2, 7, false),
+    Row::Open(0),
 ];
 
 #[test]
@@ -263,5 +293,6 @@ fn parts_are_kept_under_a_limit_and_a_time_out(rt: HostRuntime) -> Result<(), Fa
     check(&rt, rt.alloc(), 1, Mode::Strict, &IN_ORDER)?;
     check(&rt, rt.alloc(), 3, Mode::Any, &DUE)?;
     check(&rt, rt.alloc(), 1, Mode::Any, &RENEWED)?;
-    check(&rt, rt.alloc(), 2, Mode::Any, &BEHIND)
+    check(&rt, rt.alloc(), 2, Mode::Any, &BEHIND)?;
+    check(&rt, rt.alloc(), 2, Mode::Any, &SOURCES)
 }

@@ -1,22 +1,22 @@
 -- The runs of a ledger ascend, and runs that ascend are those of the ledger that they close.
-use Rattle.std.proofs.Common.{◌≡◌, ◌≢◌, ◌∙◌, refl, sym, ap, subst, inl, inr, ◌⊎◌, ℕ, zero, suc, ◌+◌, ◌-◌, ◌<◌, ◌≤◌, ◌==◌, nat_lt, nat_le, Bool, true, false, cond, ◌&&◌, ◌||◌, if◌then◌else◌, List, [], ◌∷◌, ◌++◌, Option, Some, None, is_some, append_assoc, arith}
-use Rattle.std.specs.FinMap.{get, keys, empty, get-empty}
+use Rattle.std.proofs.Common.{◌≡◌, ◌∙◌, refl, sym, ap, subst, inl, inr, ◌⊎◌, ℕ, zero, suc, ◌+◌, ◌-◌, ◌<◌, ◌≤◌, ◌==◌, nat_lt, Bool, true, false, cond, ◌&&◌, ◌||◌, if◌then◌else◌, List, [], ◌∷◌, ◌++◌, Option, Some, None, is_some, arith}
+use Rattle.std.specs.FinMap.{keys, empty, get-empty}
 use Rattle.std.specs.List.{list_any}
 use Rattle.std.specs.Ordering.{eq_by_cmp}
 use Rattle.lpt_packet.proofs.BoolLemmas.{and_both, and_left, and_right, le_true, lt_true, or_left, or_right, true_le, true_lt}
 use Rattle.lpt_packet.proofs.NameLemmas.{same_name-refl, same_name-true}
 use Rattle.lpt_packet.proofs.Readings.{eq_true, not_lt, true_eq}
-use Rattle.lpt_packet.specs.Names.{Name, name_cmp, named_by, same_name}
+use Rattle.lpt_packet.specs.Names.{Name, name_cmp, named_by}
 use Rattle.lpt_ledger.specs.declared.run.Run.{Run}
-use Rattle.lpt_ledger.specs.Marks.{Mark, Shut, Marks}
-use Rattle.lpt_ledger.specs.Runs.{ascend, ascend_behind, closed_by, has_name, is_behind, is_next, lone, longer, names_in, names_of, runs_from, runs_of, runs_of_names, shut_names, some_names, stands}
+use Rattle.lpt_ledger.specs.Marks.{Shut, Marks}
+use Rattle.lpt_ledger.specs.Runs.{ascend, ascend_behind, closed_by, has_name, is_behind, is_next, lone, longer, names_in, names_of, runs_from, runs_of, runs_of_names, some_names, stands}
 use Rattle.lpt_ledger.proofs.RunsLemmas.{get-shut_names}
 use Rattle.lpt_ledger.proofs.RisingLemmas.{IsBy, AllFrom, Rise, all_from, keys_are, keys_rise}
 
 -- ---- the runs of names that rise ascend
 
 -- a run behind another in the words of numbers
-abbrev Behind : Run → Run → Type 0
+abbrev pub Behind : Run → Run → Type 0
 Behind r s = (r.source < s.source) ⊎ ((r.source ≡ s.source) × (r.last + 1 < s.first))
 
 behind_true : (r s : Run) → Behind r s → is_behind r s ≡ true
@@ -33,7 +33,7 @@ one_of : (a b : Bool) → (a || b) ≡ true → (a ≡ true) ⊎ (b ≡ true)
 one_of true b h = inl refl
 one_of false b h = inr h
 
-behind_says : (r s : Run) → is_behind r s ≡ true → Behind r s
+pub behind_says : (r s : Run) → is_behind r s ≡ true → Behind r s
 behind_says r s h =
     elim (one_of (nat_lt r.source s.source)
     ((r.source == s.source) && nat_lt (r.last + 1) s.first) h) [

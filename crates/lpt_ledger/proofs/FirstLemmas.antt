@@ -202,11 +202,6 @@ module _ (es : List (Name × Page)) (source : ℕ) where
           ∙ taken (i % 64) place
     ]
 
-    -- where all of a page are taken too, those below the next one are
-    pub page_taken : ((i : ℕ) → i < 64 → is_some (mark_on (page_in es (named_by source (n * 64))) i) ≡ true)
-        → AreTaken es source ((n + 1) * 64)
-    page_taken taken i below = in_page 64 taken (omega arith) i (omega (arith, below))
-
     -- the first of a page that is free, behind pages that are taken
     pub first_in_page : (b : ℕ)
         → n < 1024

@@ -1,5 +1,5 @@
 -- What the bits of full pages tell.
-use Rattle.std.proofs.Common.{◌≡◌, ◌≢◌, ◌∙◌, refl, sym, ap, rules, ℕ, ◌+◌, ◌*◌, ◌/◌, ◌%◌, ◌<◌, Bool, true, false, cond, List, [], Option, Some, None, is_some, unwrap_or, inl, inr, arith}
+use Rattle.std.proofs.Common.{◌≡◌, ◌≢◌, ◌∙◌, refl, sym, ap, rules, ℕ, ◌+◌, ◌*◌, ◌/◌, ◌%◌, ◌<◌, ◌≤◌, Bool, true, false, cond, List, [], Option, Some, None, is_some, unwrap_or, inl, inr, arith}
 use Rattle.std.proofs.lemmas.Bool.{cases_lt}
 use Rattle.std.proofs.lemmas.Bool.Decides.{eqb_tells}
 use Rattle.std.specs.BTreeMap.{is_at}
@@ -52,6 +52,12 @@ Tells-words es ws vs tells same q one =
     tells q (ap (λ (w : ℕ). bit_at w (q.id / 64 % 64)) (sym (same (word_first q))) ∙ one)
 
 -- ---- one bit is put
+
+-- a page's first name is its own first one
+pub first_first : (n : Name) → page_first (page_first n) ≡ page_first n
+first_first n =
+    let same : n.id / 64 * 64 / 64 * 64 ≡ n.id / 64 * 64 = omega arith in
+    ap (λ (i : ℕ). named_by n.source i) same
 
 -- names of one page have one word
 pub one_word : (q name : Name) → page_first q ≡ page_first name → word_first name ≡ word_first q
@@ -161,35 +167,69 @@ module _ (es fs : List (Name × Page)) (ws vs : List (Name
 
 -- ---- what is passed over is taken
 
-module _ (es : List (Name × Page)) (ws : List (Name
-    × ℕ)) (source number : ℕ) (tells : Tells es ws) where
-  -- a page whose bit is set
-  pub told_page : (bit : ℕ)
+-- the names of this number's word whose pages have their bits set in a word are taken
+abbrev pub AreTold : List (Name × Page) → (source number word : ℕ) → Type 0
+AreTold es source number word = (i : ℕ) → i / 4096 ≡ number → bit_at word (i / 64 % 64) ≡ 1
+    → is_some (mark_at es (named_by source i)) ≡ true
+
+module _ (es : List (Name × Page)) (source number : ℕ) where
+  -- what the word of full pages tells
+  pub told_first : (ws : List (Name × ℕ)) (word : ℕ)
+      → Tells es ws
+      → word ≡ word_in ws (named_by source (number * 4096))
+      → AreTold es source number word
+  told_first ws word tells is i of one =
+      let first : i / 4096 * 4096 ≡ number * 4096 = omega (arith, of) in
+      tells (named_by source i)
+      (ap (λ (n : ℕ). bit_at (word_in ws (named_by source n)) (i / 64 % 64)) first
+      ∙ ap (λ (w : ℕ). bit_at w (i / 64 % 64)) (sym is) ∙ one)
+
+  -- and the bit of a page that was found full
+  pub told_more : (word more bit : ℕ)
+      → AreTold es source number word
       → bit < 64
-      → AreTaken es source ((number * 64 + bit) * 64)
-      → bit_at (word_in ws (named_by source (number * 4096))) bit ≡ 1
-      → AreTaken es source ((number * 64 + (bit + 1)) * 64)
-  told_page bit within before one i below = elim (cases_lt i ((number * 64 + bit) * 64)) [
-    | inl low ↦ before i low
-    | inr high ↦
-        let first : i / 4096 * 4096 ≡ number * 4096 = omega (arith, below, high, within) in
-        let at : i / 64 % 64 ≡ bit = omega (arith, below, high, within) in
-        tells (named_by source i) ((λ k. bit_at (word_in ws (named_by source (first k))) (at k))
-        ∙ one)
+      → ((i : ℕ) → i ≢ bit → bit_at more i ≡ bit_at word i)
+      → ((k : ℕ) → k < 64
+      → is_some (mark_on (page_in es (named_by source (number * 4096 + bit * 64))) k) ≡ true)
+      → AreTold es source number more
+  told_more word more bit told within others taken i of one = elim (eqb_tells (i / 64 % 64) bit) [
+    | inl t ↦
+        let page : i / 64 * 64 ≡ number * 4096 + bit * 64 = omega (arith, of, t.1) in
+        ap (λ (p : ℕ). is_some (mark_on (page_in es (named_by source p)) (i % 64))) page
+        ∙ taken (i % 64) (omega arith)
+    | inr t ↦ told i of (sym (others (i / 64 % 64) t.1) ∙ one)
   ]
 
-  -- the pages of a word in which each bit is set
-  pub told_word : AreTaken es source (number * 4096)
-      → ((i : ℕ) → i < 64 → bit_at (word_in ws (named_by source (number * 4096))) i ≡ 1)
-      → AreTaken es source ((number + 1) * 4096)
-  told_word before ones i below = elim (cases_lt i (number * 4096)) [
+  -- where the lowest bits are set, the names of their pages are taken
+  pub told_below : (word bit : ℕ)
+      → AreTaken es source (number * 4096)
+      → AreTold es source number word
+      → bit ≤ 64
+      → ((i : ℕ) → i < bit → bit_at word i ≡ 1)
+      → AreTaken es source ((number * 64 + bit) * 64)
+  told_below word bit before told within ones i below = elim (cases_lt i (number * 4096)) [
     | inl low ↦ before i low
     | inr high ↦
-        let first : i / 4096 * 4096 ≡ number * 4096 = omega (arith, below, high) in
-        tells (named_by source i)
-        (ap (λ (n : ℕ). bit_at (word_in ws (named_by source n)) (i / 64 % 64)) first
-        ∙ ones (i / 64 % 64) (omega arith))
+        let of : i / 4096 ≡ number = omega (arith, below, high, within) in
+        told i of (ones (i / 64 % 64) (omega (arith, below, high, within)))
   ]
+
+-- a word grows by a bit that was clear
+pub word_grows : (word more bit : ℕ)
+    → bit_at word bit ≡ 0
+    → bit_at more bit ≡ 1
+    → word ≤ more
+    → word < more
+word_grows word more bit clear set least =
+    elim (eqb_tells word more) [
+      | inl t ↦
+          let same : bit_at word bit ≡ bit_at more bit = ap (λ (w : ℕ). bit_at w bit) t.1 in
+          absurd (omega (arith, clear, set, same))
+      | inr t ↦ apart t.1 least
+    ]
+  where
+    apart : word ≢ more → word ≤ more → word < more
+    apart other h = omega (arith, other, h)
 
 -- no pages and no words are as they are to be
 pub IsKept-none : (es : List (Name × Page)) (ws : List (Name × ℕ)) → es ≡ [] → ws ≡ []

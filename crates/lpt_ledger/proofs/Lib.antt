@@ -1,5 +1,7 @@
 pub mod AscendLemmas
+pub mod ChangeLemmas
 pub mod ClosingLemmas
+pub mod FewLemmas
 pub mod FirstLemmas
 pub mod FullLemmas
 pub mod MarksLemmas

@@ -4,7 +4,7 @@ use Rattle.std.proofs.lemmas.Bool.Decides.{eqb_tells}
 use Rattle.std.proofs.lemmas.List.{append-nil}
 use Rattle.std.proofs.lemmas.List.Folds.{list_any-append}
 use Rattle.std.specs.BTreeMap.{is_at}
-use Rattle.std.specs.FinMap.{get, keys}
+use Rattle.std.specs.FinMap.{keys}
 use Rattle.std.specs.List.{All, list_any}
 use Rattle.std.specs.List.Sorted.{IsStrictlySortedBy}
 use Rattle.std.specs.Map.{keys_of, lookup}
@@ -15,18 +15,9 @@ use Rattle.lpt_packet.proofs.NameLemmas.{name_cmp_total, name_cmp-IsAntisymmetri
 use Rattle.lpt_packet.specs.Names.{Name, name_cmp, named_by}
 use Rattle.lpt_ledger.specs.declared.page.Page.{Page}
 use Rattle.lpt_ledger.specs.LedgerInside.{mark_at, mark_on, marks, page_first, page_in, page_mark, ArePaged}
-use Rattle.lpt_ledger.specs.RunsInside.{listing, page_names}
+use Rattle.lpt_ledger.specs.RunsInside.{listing, page_names, AllFirst, IsFirst}
 use Rattle.lpt_ledger.proofs.MarksLemmas.{get-marks, on_page}
 use Rattle.lpt_ledger.proofs.RisingLemmas.{IsBy, AllFrom, Rise, all_from, keys_are, less_says, outside}
-
--- a name is the first of a page
-abbrev pub IsFirst : Name → Type 0
-IsFirst n = n.id / 64 * 64 ≡ n.id
-
--- pages stand under their first names
-abbrev pub AllFirst : List (Name × Page) → Type 0
-AllFirst [] = Unit {0}
-AllFirst (e ∷ es) = IsFirst e.0 × AllFirst es
 
 -- what is found stands so
 pub all_first : (es all : List (Name × Page))

@@ -1,5 +1,6 @@
 -- Runs have the names that they were made of, and closing them closes those.
 use Rattle.std.proofs.Common.{◌≡◌, ◌∙◌, refl, sym, ap, ℕ, zero, suc, ◌+◌, ◌-◌, ◌≤◌, Bool, true, false, cond, ◌||◌, if◌then◌else◌, List, [], ◌∷◌, ◌++◌, length, Option, Some, None, is_some, append_assoc, arith}
+use Rattle.std.specs.Option.{IfNone, IfSome}
 use Rattle.std.specs.FinMap.{get, insert, entries, keys, len, empty, get-insert, get-empty, contains_key-keys, len-entries}
 use Rattle.std.specs.List.{list_any}
 use Rattle.std.specs.Ordering.{eq_by_cmp}
@@ -9,68 +10,53 @@ use Rattle.lpt_packet.specs.Names.{Name, name_cmp, named_by}
 use Rattle.lpt_ledger.specs.declared.run.Run.{Run}
 use Rattle.lpt_ledger.specs.Marks.{Mark, Shut, Marks, shut_mark, all_closed}
 use Rattle.lpt_ledger.specs.Runs.{closed_by, is_next, lone, longer, names_in, names_of, runs_from, runs_of, runs_of_names, shut_names, some_names}
-use Rattle.lpt_ledger.specs.RunsInside.{with_name, with_names}
+use Rattle.lpt_ledger.specs.RunsInside.{runs_left}
 use Rattle.lpt_ledger.proofs.ClosingLemmas.{get-all_closed}
 use Rattle.lpt_ledger.proofs.MarksLemmas.{same_marks}
 
 -- ---- name by name
 
--- a name lengthens the last run, or stands behind it
-pub with_name-last : (xs : List Run) (r : Run) (n : Name)
-    → with_name (xs ++ r ∷ []) n ≡ xs ++ (if is_next r n then longer r ∷ [] else r ∷ lone n ∷ [])
-unfolding with_name
-with_name-last [] r n = refl
-with_name-last (x ∷ []) r n = refl
-with_name-last (x ∷ y ∷ xs) r n = ap (λ (rs : List Run). x ∷ rs) (with_name-last (y ∷ xs) r n)
+-- what is left behind the first name of all
+pub ahead_is : (o : Option Name) (all rest : List Name)
+    → IfSome o (λ n. all ≡ n ∷ rest)
+    → IfNone o (all ≡ [])
+    → runs_left o rest ≡ runs_of_names all
+unfolding runs_of_names
+ahead_is None all rest some none = ap (λ (ns : List Name). runs_of_names ns) (sym none)
+ahead_is (Some n) all rest some none = ap (λ (ns : List Name). runs_of_names ns) (sym some)
 
--- it is the first run where there is none
-pub with_name-first : (xs : List Run) (n : Name) → xs ≡ [] → with_name xs n ≡ lone n ∷ []
-unfolding with_name
-with_name-first xs n e = ap (λ (rs : List Run). with_name rs n) e
-
--- so names make of the last run what they are behind it
-with_names-last : (ns : List Name) (xs : List Run) (r : Run)
-    → with_names (xs ++ r ∷ []) ns ≡ xs ++ runs_from r ns
-unfolding with_names runs_from
-with_names-last [] xs r = refl
-with_names-last (n ∷ ns) xs r =
-    ap (λ (rs : List Run). with_names rs ns) (with_name-last xs r n)
-    ∙ elim (is_next r n) as
-    (λ b. with_names (xs ++ (if b then longer r ∷ [] else r ∷ lone n ∷ [])) ns
-    ≡ xs ++ (if b then runs_from (longer r) ns else r ∷ runs_from (lone n) ns)) [
-      | true ↦ with_names-last ns xs (longer r)
-      | false ↦
-          ap (λ (rs : List Run). with_names rs ns) (sym (append_assoc xs (r ∷ []) (lone n ∷ [])))
-          ∙ with_names-last ns (xs ++ r ∷ []) (lone n)
-          ∙ append_assoc xs (r ∷ []) (runs_from (lone n) ns)
-    ]
-
--- and behind none their runs
-pub with_names-none : (ns : List Name) → with_names [] ns ≡ runs_of_names ns
-unfolding with_name with_names runs_of_names
-with_names-none [] = refl
-with_names-none (n ∷ ns) = with_names-last ns [] (lone n)
-
--- names behind names
-pub with_names-append : (rs : List Run) (xs ys : List Name)
-    → with_names rs (xs ++ ys) ≡ with_names (with_names rs xs) ys
-unfolding with_names
-with_names-append rs [] ys = refl
-with_names-append rs (x ∷ xs) ys = with_names-append (with_name rs x) xs ys
-
--- one name of a list is put
-pub with_names-step : (rs new : List Run) (n : Name) (ns all : List Name)
-    → new ≡ with_name rs n
+-- a name that isn't the next one begins another run
+pub run_ends : (r : Run) (n : Name) (ns all : List Name)
+    → is_next r n ≡ false
     → all ≡ n ∷ ns
-    → with_names new ns ≡ with_names rs all
-unfolding with_names
-with_names-step rs new n ns all e f = ap (λ (x : List Run). with_names x ns) e
-    ∙ ap (with_names rs) (sym f)
+    → runs_from r all ≡ r ∷ runs_of_names (n ∷ ns)
+unfolding runs_from runs_of_names
+run_ends r n ns all other is =
+    ap (λ (xs : List Name). runs_from r xs) is
+    ∙ ap (λ (b : Bool). if b then runs_from (longer r) ns else r ∷ runs_from (lone n) ns) other
 
--- where none is left, none is put
-pub with_names-end : (rs : List Run) (ns : List Name) → ns ≡ [] → rs ≡ with_names rs ns
-unfolding with_names
-with_names-end rs ns e = ap (with_names rs) (sym e)
+-- the next one lengthens it
+pub run_goes_on : (r : Run) (n : Name) (ns all : List Name)
+    → is_next r n ≡ true
+    → all ≡ n ∷ ns
+    → runs_from r all ≡ runs_from (record r { last = n.id }) ns
+unfolding runs_from
+run_goes_on r n ns all next is =
+    let same : r.last + 1 ≡ n.id =
+    ap (λ (m : Name). m.id) (same_name-true (named_by r.source (r.last + 1)) n next) in
+    ap (λ (xs : List Name). runs_from r xs) is
+    ∙ ap (λ (b : Bool). if b then runs_from (longer r) ns else r ∷ runs_from (lone n) ns) next
+    ∙ ap (λ (k : ℕ). runs_from (record r { last = k }) ns) same
+
+-- it is the last one where no name is left
+pub run_is_last : (r : Run) (all : List Name) → all ≡ [] → runs_from r all ≡ r ∷ []
+unfolding runs_from
+run_is_last r all none = ap (λ (xs : List Name). runs_from r xs) none
+
+-- and the first of names begins with the first of them
+pub run_begins : (n : Name) (ns : List Name) → runs_from (lone n) ns ≡ runs_of_names (n ∷ ns)
+unfolding runs_of_names
+run_begins n ns = refl
 
 -- ---- the names of runs
 

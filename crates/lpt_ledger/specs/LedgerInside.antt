@@ -1,5 +1,5 @@
 -- How a ledger keeps the marks: in pages of 64 names, of which each has a bit in two words.
-use Rattle.std.specs.Prelude.{◌≡◌, ℕ, zero, suc, ◌+◌, ◌*◌, ◌/◌, ◌%◌, ◌==◌, Bool, true, false, List, [], ◌∷◌, Option, Some, None, is_some, unwrap_or}
+use Rattle.std.specs.Prelude.{◌≡◌, ◌≢◌, ℕ, zero, suc, ◌+◌, ◌*◌, ◌/◌, ◌%◌, ◌<◌, ◌==◌, Bool, true, false, cond, List, [], ◌∷◌, Option, Some, None, is_some, unwrap_or}
 use Rattle.std.specs.BTreeMap.{is_at}
 use Rattle.std.specs.FinMap as map
 use Rattle.std.specs.Int.{bit_at}
@@ -54,6 +54,18 @@ page_first name = named_by name.source (name.id / 64 * 64)
 -- the mark of a name
 abbrev pub mark_at : List (Name × Page) → Name → Option Mark
 mark_at es name = mark_on (page_in es (page_first name)) (name.id % 64)
+
+-- pages in which one stands in place of another, that gives the name at a place this state, and has
+-- the marks of the other names; where none of the other one's names was free, none is
+pub record IsChanged (es fs : List (Name × Page)) (first : Name) (place : ℕ) (s : State) : Type 0
+  where
+    pub page : Page
+    pub stands : (q : Name) → page_in fs q
+        ≡ cond (is_at (name_cmp first) q) (Some page) (page_in es q)
+    pub this : page_mark page place ≡ mark_of s
+    pub others : (b : ℕ) → b < 64 → b ≢ place → page_mark page b ≡ mark_on (page_in es first) b
+    pub full : ((b : ℕ) → b < 64 → is_some (mark_on (page_in es first) b) ≡ true)
+        → (b : ℕ) → b < 64 → is_some (page_mark page b) ≡ true
 
 -- ---- what they are seen as
 

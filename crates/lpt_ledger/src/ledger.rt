@@ -1,6 +1,6 @@
 //! The ledger of the names of one end.
 
-ghost use Rattle.std.specs.Prelude.{◌≡◌, ◌≢◌, ℕ, ◌<◌, true, false, None, Some, cond, is_some, IfOk, IfErr, IfSome, IfNone, OnOk, OnErr};
+ghost use Rattle.std.specs.Prelude.{◌≡◌, ◌≢◌, ℕ, ◌<◌, true, false, None, Some, cond, is_some, IfOk, IfErr, IfSome, IfNone, IsTrue, OnOk, OnErr};
 ghost use Rattle.std.specs.BTreeMap.{is_at};
 ghost use Rattle.std.specs.FinMap as map;
 ghost use Rattle.lpt_packet.specs.Names.{name_cmp};
@@ -8,10 +8,10 @@ ghost use Rattle.lpt_ledger.specs.Marks.{Opened, Shut, all_closed};
 ghost use Rattle.lpt_ledger.specs.States.{state_at};
 ghost use Rattle.lpt_ledger.specs.Refusals.{refusal_open, refusal_close, refusal_shut, refusal_retire, RefusedBy};
 ghost use Rattle.lpt_ledger.specs.LeastFree.{least_free_in, IsLeastFree};
-ghost use Rattle.lpt_ledger.specs.LedgerInside.{mark_on, page_first, page_in, page_mark, with_state};
+ghost use Rattle.lpt_ledger.specs.LedgerInside.{mark_on, page_first, page_in, page_mark, with_state, IsChanged};
 
-use crate::bits::has_bit;
-use crate::full::{WORD, WORD_NAMES, Words, keep_place, put_bit, word_of};
+use crate::bits::lowest_clear;
+use crate::full::{WORD_NAMES, Words, keep_place, put_bit, word_of};
 use crate::page::{PAGE, Page, first_among};
 use crate::{LedgerFault, State};
 use lpt_packet::Name;
@@ -71,19 +71,14 @@ impl Ledger {
     {
         for number in 0..WORDS {
             let first = number * WORD_NAMES;
-            let word = word_of(&self.full, Name { source, id: first });
-            if word == u64::MAX {
-                continue;
-            }
-            for bit in 0..WORD {
-                if has_bit(word, u32::from(bit)) {
-                    continue;
-                }
-                let id = first + bit * PAGE;
+            let mut word = word_of(&self.full, Name { source, id: first });
+            while let Some(bit) = lowest_clear(word) {
+                let id = first + bit as u16 * PAGE;
                 if let Some(place) = first_free(&self.pages, Name { source, id }) {
                     let id = id + place as u16;
                     return Some(Name { source, id });
                 }
+                word |= 1 << bit;
             }
         }
         None
@@ -201,6 +196,29 @@ impl Ledger {
         ensures free { OnErr result (state_at self.old name ≡ State.Free) }
         ensures err { OnErr result (self.new ≡ self.old) }
     {
+        if self.change(name, state) {
+            return Ok(());
+        }
+        self.put(name, state)
+    }
+
+    // Sets the state of a name where its page can be changed where it stands. Says whether it did;
+    // else nothing has changed.
+    fn change(&mut self, name: Name, state: State) -> bool
+        ensures done { IsTrue result → self.new ≡ with_state self.old name state }
+        ensures not_done { result ≡ false → self.new ≡ self.old }
+    {
+        let first = first_among(name, PAGE);
+        change_page(&mut self.pages, first, u32::from(name.id % PAGE), state)
+    }
+
+    // Sets the state of a name, with the bit of its page. The only error is out of memory, which
+    // comes for a free one alone.
+    fn put(&mut self, name: Name, state: State) -> Result<(), AllocError>
+        ensures ok { OnOk result (self.new ≡ with_state self.old name state) }
+        ensures free { OnErr result (state_at self.old name ≡ State.Free) }
+        ensures err { OnErr result (self.new ≡ self.old) }
+    {
         let first = first_among(name, PAGE);
         let before = page_of(&self.pages, first);
         let page = before.with(u32::from(name.id % PAGE), state);
@@ -218,6 +236,29 @@ fn page_of(pages: &BTreeMap<Name, Page>, first: Name) -> Page
     match pages.get(&first) {
         None => Page::new(),
         Some(page) => *page,
+    }
+}
+
+// Gives the name at a place of a page this state where the page stands, with one look at the pages;
+// not where the page has no place or would lose it, nor where it gets full or is full no more. Says
+// whether it did.
+fn change_page(pages: &mut BTreeMap<Name, Page>, first: Name, place: u32, state: State) -> bool
+    requires { place < 64 }
+    ensures done { IsTrue result
+        → IsChanged pages.old.entries pages.new.entries first place state }
+    ensures not_done { result ≡ false
+        → (q : Name) → page_in pages.new.entries q ≡ page_in pages.old.entries q }
+{
+    match pages.get_mut(&first) {
+        None => false,
+        Some(kept) => {
+            let page = kept.with(place, state);
+            if page.is_empty() || page.is_full() != kept.is_full() {
+                return false;
+            }
+            *kept = page;
+            true
+        }
     }
 }
 

@@ -1,26 +1,88 @@
 //! The names in use as runs, and runs of names closed.
 
-ghost use Rattle.std.specs.Prelude.{◌≡◌, ℕ, ◌+◌, ◌*◌, ◌/◌, ◌%◌, ◌<◌, IfOk, OnOk, OnErr};
+ghost use Rattle.std.specs.Prelude.{◌≡◌, ℕ, ◌≤◌, ◌^◌, [], ◌∷◌, length, IfSome, IfNone, OnOk, OnErr};
+ghost use Rattle.std.specs.Iterator.{YieldsFirst, item_count};
 ghost use Rattle.std.specs.List.{All};
-ghost use Rattle.lpt_ledger.specs.Runs.{IsRun, is_next, names_of, runs_of, shut_names, some_names};
-ghost use Rattle.lpt_ledger.specs.RunsInside.{page_names, with_name, with_names};
+ghost use Rattle.lpt_ledger.specs.Runs.{IsRun, is_next, lone, names_of, runs_of, shut_names, some_names};
 
-use crate::page::Page;
+use crate::names::Names;
 use crate::{Ledger, Run, State};
 use lpt_packet::Name;
-use std::alloc::{AllocError, Global};
+use std::alloc::AllocError;
+use std::marker::Model;
+
+/// The runs of names in use that are left, in their order.
+#[derive(Drop)]
+pub struct Runs<'a> {
+    // The name that the next run begins with.
+    ahead: Option<Name>,
+    // Those behind it.
+    names: Names<'a>,
+}
+
+impl<'a> Model for Runs<'a> {
+    ghost use Rattle.std.specs.Prelude.{List};
+    ghost use Rattle.lpt_ledger.specs.declared.run.Run.{Run as Ran};
+    ghost use Rattle.lpt_ledger.specs.RunsInside.{runs_left};
+
+    ghost Value = { List Ran };
+
+    ghost view = { λ a. runs_left a.ahead a.names };
+}
+
+impl<'a> Iterator for Runs<'a> {
+    type Item = Run;
+
+    ghost next_gives = { YieldsFirst (λ s. s) };
+
+    ghost remaining = { item_count (λ s. s) };
+
+    fn next(&mut self) -> Option<Run> {
+        self.next_run()
+    }
+}
+
+impl<'a> Runs<'a> {
+    // The next run, where one is left: the next name, and those that follow it.
+    fn next_run(&mut self) -> Option<Run>
+        ensures some { IfSome result (λ r. self.old ≡ r ∷ self.new) }
+        ensures none { IfNone result (self.old ≡ []) }
+        ensures end { IfNone result (self.new ≡ []) }
+    {
+        let mut run = lone(self.ahead?);
+        while let Some(name) = self.names.next() {
+            if !is_next(run, name) {
+                self.ahead = Some(name);
+                return Some(run);
+            }
+            run.last = name.id;
+        }
+        self.ahead = None;
+        Some(run)
+    }
+}
 
 impl Ledger {
-    /// The names in use, open or closed, as runs in their order. The only error is out of memory.
-    pub fn runs(&self, alloc: Global) -> Result<Vec<Run>, AllocError>
-        ensures runs { IfOk result (λ v. v.items ≡ runs_of self.now) }
-        ensures fit { IfOk result (λ v. All IsRun v.items) }
+    /// The names in use, open or closed, as runs in their order. It takes no memory.
+    pub fn runs(&self) -> Runs<'_>
+        ensures { result ≡ runs_of self.now }
     {
-        let mut runs = Vec::new(alloc);
-        for (first, page) in self.pages.iter() {
-            add_page(&mut runs, *first, *page)?;
+        let mut names = Names::of(self);
+        let ahead = names.next();
+        Runs { ahead, names }
+    }
+
+    /// How many runs there are. It takes no memory.
+    pub fn run_count(&self) -> usize
+        ensures count { result ≡ length (runs_of self.now) }
+        ensures fit { All IsRun (runs_of self.now) }
+        ensures few { result ≤ 2 ^ 32 }
+    {
+        let mut count = 0;
+        for _run in self.runs() {
+            count += 1;
         }
-        Ok(runs)
+        count
     }
 
     /// Closes each name of a run, whatever it was. The only error is out of memory, and then the
@@ -41,51 +103,15 @@ impl Ledger {
     }
 }
 
-// Puts the names of a page that are in use behind runs. The only error is out of memory.
-fn add_page(runs: &mut Vec<Run>, first: Name, page: Page) -> Result<(), AllocError>
-    requires { first.id / 64 * 64 ≡ first.id }
-    ensures names { OnOk result (runs.new.items
-        ≡ with_names runs.old.items (page_names 64 0 first page)) }
-    ensures fit { All IsRun runs.old.items → OnOk result (All IsRun runs.new.items) }
+// The run of one name.
+fn lone(name: Name) -> Run
+    ensures { result ≡ lone name }
 {
-    for place in 0u16..64 {
-        if !page.is_taken(u32::from(place)) {
-            continue;
-        }
-        let name = Name {
-            source: first.source,
-            id: first.id + place,
-        };
-        add_name(runs, name)?;
-    }
-    Ok(())
-}
-
-// Puts a name behind runs. The only error is out of memory.
-fn add_name(runs: &mut Vec<Run>, name: Name) -> Result<(), AllocError>
-    ensures name { OnOk result (runs.new.items ≡ with_name runs.old.items name) }
-    ensures fit { All IsRun runs.old.items → OnOk result (All IsRun runs.new.items) }
-{
-    let lone = Run {
+    Run {
         source: name.source,
         first: name.id,
         last: name.id,
-    };
-    let Some(run) = runs.pop() else {
-        runs.push(lone)?;
-        return Ok(());
-    };
-    if is_next(run, name) {
-        runs.push(Run {
-            source: run.source,
-            first: run.first,
-            last: name.id,
-        })?;
-        return Ok(());
     }
-    runs.push(run)?;
-    runs.push(lone)?;
-    Ok(())
 }
 
 // Whether a name is the next one behind a run.

@@ -1,8 +1,7 @@
 -- The numbers in the hands, and what the tests of a call tell of them.
-use Rattle.std.proofs.Common.{◌≡◌, ◌∙◌, refl, ap, sym, ℕ, zero, suc, ◌<◌, Bool, true, false, if◌then◌else◌, ◌&&◌, Option, None, Some, IfSome, is_some, List, [], ◌∷◌, length, slice_get, arith, length-append}
+use Rattle.std.proofs.Common.{◌≡◌, ◌∙◌, ap, sym, ℕ, zero, suc, ◌<◌, Bool, true, false, ◌&&◌, Option, None, Some, IfSome, List, [], ◌∷◌, length, slice_get, arith, length-append}
 use Rattle.std.specs.Option.{option_map, option_map_or}
 use Rattle.std.proofs.lemmas.Bool.{and_parts}
-use Rattle.std.proofs.lemmas.Option.{slice_get_within}
 use Rattle.lpt_events.proofs.LaneLemmas.{same_direction-true}
 use Rattle.lpt_packet.specs.Names.{Name}
 use Rattle.lpt_packet.specs.declared.direction.Direction.{Direction}
@@ -11,9 +10,8 @@ use Rattle.lpt_events.specs.declared.lane.Lane.TheVariants.{S1, S2, G1, G2}
 use Rattle.lpt_events.specs.Lanes.{lane_direction, same_direction}
 use Rattle.lpt_link.specs.declared.hands.Hands.{Hands}
 use Rattle.lpt_link.specs.declared.packet.LinkPacket.{LinkPacket}
-use Rattle.lpt_link.specs.declared.fault.LinkFault.TheVariants.{NotHeld, HandFull}
 use Rattle.lpt_link.specs.Hands.{hand_in, with_hand}
-use Rattle.lpt_link.specs.Links.{LinkData, hand_of, after_put, after_lose, refusal_take, is_held, is_held_for, IsNumberOf, IsSound}
+use Rattle.lpt_link.specs.Links.{LinkData, hand_of, after_put, after_lose, is_held, is_held_for, IsNumberOf, IsSound}
 use Rattle.lpt_link.proofs.PacketLists.{slice_get-push, length-with_lost, goes_lost}
 
 -- ---- what a call's test tells
@@ -36,21 +34,22 @@ pub held_mark : (d : LinkData) (n : ℕ) (p : LinkPacket)
 held_mark d n p is held =
     sym (ap (λ (o : Option LinkPacket). option_map_or (λ q. q.held) o false) is) ∙ held
 
+found_goes : (goes : Direction) (o : Option LinkPacket)
+    → option_map_or (λ p. p.held && same_direction p.direction goes) o false ≡ true
+    → option_map (λ p. p.direction) o ≡ Some goes
+found_goes goes None h = absurd cc
+found_goes goes (Some p) h =
+    ap Some (same_direction-true p.direction goes
+    (and_parts p.held (same_direction p.direction goes) h).1)
+
 -- and one that is found for a lane goes in its direction
-pub taken_number : (d : LinkData) (goes : Direction) (n : ℕ) (p : LinkPacket)
-    → slice_get d.packets n ≡ Some p
+pub taken_number : (d : LinkData) (goes : Direction) (n : ℕ)
     → is_held_for d goes n ≡ true
     → IsNumberOf d goes n
-taken_number d goes n p is held =
-    let test : LinkPacket → Bool = λ q. q.held && same_direction q.direction goes in
-    let passes : test p ≡ true =
-    sym (ap (λ (o : Option LinkPacket). option_map_or test o false) is) ∙ held in
-    let way = and_parts p.held (same_direction p.direction goes) passes in
-    record {
-      was_put = slice_get_within d.packets n p is;
-      goes = ap (option_map (λ q. q.direction)) is
-          ∙ ap Some (same_direction-true p.direction goes way.1);
-    }
+taken_number d goes n held = record {
+  was_put = found_within (λ p. p.held && same_direction p.direction goes) d.packets n held;
+  goes = found_goes goes (slice_get d.packets n) held;
+}
 
 found_held : (goes : Direction) (o : Option LinkPacket)
     → option_map_or (λ p. p.held && same_direction p.direction goes) o false ≡ true
@@ -63,18 +62,6 @@ pub taken_held : (d : LinkData) (goes : Direction) (n : ℕ)
     → is_held_for d goes n ≡ true
     → is_held d n ≡ true
 taken_held d goes n h = found_held goes (slice_get d.packets n) h
-
--- a lane that may take has an empty hand
-pub empty_hand : (d : LinkData) (lane : Lane) (n : ℕ)
-    → refusal_take d lane n ≡ None
-    → hand_of d lane ≡ None
-empty_hand d lane n e =
-    elim (hand_of d lane) as (λ h. (if is_some h then Some HandFull
-    else if is_held_for d (lane_direction lane) n then None
-    else Some NotHeld) ≡ None → h ≡ None) [
-      | None ↦ λ _. refl
-      | Some m ↦ λ full. absurd cc
-    ] e
 
 -- ---- numbers in hands
 

@@ -9,10 +9,10 @@ use Rattle.lpt_events.proofs.LaneLemmas.{same_direction-refl}
 use Rattle.lpt_packet.proofs.NameLemmas.{same_name-refl}
 use Rattle.lpt_packet.specs.Names.{Name, same_name}
 use Rattle.lpt_packet.specs.declared.direction.Direction.{Direction}
-use Rattle.lpt_events.specs.Lanes.{lanes, same_direction}
-use Rattle.lpt_link.specs.Links.{LinkData, is_of, hand_has, any_held, any_in_hand, holds}
+use Rattle.lpt_events.specs.Lanes.{same_direction}
+use Rattle.lpt_link.specs.Links.{LinkData, is_of, any_held}
 use Rattle.lpt_link.specs.Counts.{Counts, counts_in, found_in, one_of, count_of, HasPlace, IsOneMore}
-use Rattle.lpt_link.specs.LinksInside.{held_of, hands_of, present_of, IsIndex}
+use Rattle.lpt_link.specs.LinksInside.{held_of, IsIndex}
 use Rattle.lpt_link.proofs.CountLemmas.{IsMoved}
 
 -- ---- counted or not
@@ -30,28 +30,15 @@ any_counted p (x ∷ xs) =
     any_step (p x) (list_any p xs) (count_by p xs) (any_counted p xs)
     ∙ ap (nat_lt 0) (sym (sum_by-cons (λ y. cond (p y) 1 0) x xs))
 
-either : (a b : Bool) (m n : ℕ)
-    → a ≡ nat_lt 0 m
-    → b ≡ nat_lt 0 n
-    → (a || b) ≡ nat_lt 0 (m + n)
-either a b m n g h = rw (g, h) (grind (arith, nat_tests))
+-- some held packet is a part of a transaction exactly where the number isn't 0
+pub held_counted : (d : LinkData) (direction : Direction) (name : Name)
+    → any_held d direction name ≡ nat_lt 0 (held_of d direction name)
+held_counted d direction name = any_counted (λ p. p.held && is_of direction name p) d.packets
 
--- a link holds a transaction exactly where the number isn't 0
-pub holds_counted : (d : LinkData) (direction : Direction) (name : Name)
-    → holds d direction name ≡ nat_lt 0 (present_of d direction name)
-holds_counted d direction name =
-    either (any_held d direction name) (any_in_hand d direction name)
-    (held_of d direction name) (hands_of d direction name)
-    (any_counted (λ p. p.held && is_of direction name p) d.packets)
-    (any_counted (hand_has d direction name) lanes)
-
--- there are no more than packets and hands
-pub present_few : (d : LinkData) (direction : Direction) (name : Name)
-    → present_of d direction name ≤ length d.packets + 4
-present_few d direction name =
-    let held = count_by-le-length (λ p. p.held && is_of direction name p) d.packets in
-    let hands = count_by-le-length (hand_has d direction name) lanes in
-    omega (arith, held, hands)
+-- there are no more than packets
+pub held_few : (d : LinkData) (direction : Direction) (name : Name)
+    → held_of d direction name ≤ length d.packets
+held_few d direction name = count_by-le-length (λ p. p.held && is_of direction name p) d.packets
 
 -- ---- the index
 
@@ -76,8 +63,8 @@ pub index_less : (goes : Direction) (tag : Option Name) (old new : Counts) (d af
     → IsIndex new after
 index_less goes tag old new d after index more moved direction name =
     equal_rest (count_of old direction name) (count_of new direction name)
-    (present_of d direction name)
-    (present_of after direction name) (one_of goes tag direction name)
+    (held_of d direction name)
+    (held_of after direction name) (one_of goes tag direction name)
     (more direction name) (index direction name) (moved direction name)
 
 -- a number that there is, less what it is moved by

@@ -1,26 +1,17 @@
 -- What a link counts of each transaction.
-use Rattle.std.specs.Prelude.{◌≡◌, ℕ, ◌+◌, ◌&&◌}
+use Rattle.std.specs.Prelude.{◌≡◌, ℕ, ◌&&◌}
 use Rattle.std.specs.List.{count_by}
 use Rattle.lpt_packet.specs.Names.{Name}
 use Rattle.lpt_packet.specs.declared.direction.Direction.{Direction}
-use Rattle.lpt_events.specs.Lanes.{lanes}
 use Rattle.lpt_link.specs.Counts.{Counts, count_of}
-use Rattle.lpt_link.specs.Links.{LinkData, is_of, hand_has}
+use Rattle.lpt_link.specs.Links.{LinkData, is_of}
 
 -- how many held packets are a part of this transaction
 abbrev pub held_of : LinkData → Direction → Name → ℕ
 held_of d direction name = count_by (λ p. p.held && is_of direction name p) d.packets
 
--- how many hands have a packet that is
-abbrev pub hands_of : LinkData → Direction → Name → ℕ
-hands_of d direction name = count_by (hand_has d direction name) lanes
-
--- both together
-abbrev pub present_of : LinkData → Direction → Name → ℕ
-present_of d direction name = held_of d direction name + hands_of d direction name
-
--- the numbers are how many held packets, and hands, are of each transaction
+-- the numbers are how many held packets are of each transaction
 abbrev pub IsIndex : Counts → LinkData → Type 0
 IsIndex counts d =
     (direction : Direction) (name : Name) → count_of counts direction name
-    ≡ present_of d direction name
+    ≡ held_of d direction name

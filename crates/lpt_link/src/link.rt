@@ -5,7 +5,7 @@ ghost use Rattle.std.specs.Option.{option_copied};
 ghost use Rattle.std.specs.Result.{result_err};
 ghost use Rattle.lpt_events.specs.Lanes.{lane_direction};
 ghost use Rattle.lpt_link.specs.Counts.{HasPlace, KeepsPlaces};
-ghost use Rattle.lpt_link.specs.Links.{empty_link, octets_at, is_held, is_held_for, hand_of, holds, after_put, after_lose, after_take, after_drop, refusal_lose, refusal_take, refusal_drop, IsNumberOf};
+ghost use Rattle.lpt_link.specs.Links.{empty_link, octets_at, is_held, is_held_for, hand_of, hand_has, any_held, any_in_hand, holds, after_put, after_lose, after_take, after_drop, refusal_lose, refusal_take, refusal_drop, IsNumberOf};
 
 use crate::LinkFault;
 use crate::hands::Hands;
@@ -20,7 +20,7 @@ use thiserror::Error;
 /// For how many packets a new link has room.
 const FIRST_ROOM: usize = 16;
 
-/// The link: its packets and the lanes' hands, and how many of both are of each transaction.
+/// The link: its packets and the lanes' hands, and how many held packets are of each transaction.
 #[derive(Drop)]
 pub struct Link {
     packets: Vec<LinkPacket>,
@@ -131,7 +131,7 @@ impl Link {
     pub fn holds(&self, direction: Direction, name: Name) -> bool
         ensures { result ≡ holds self.now.at direction name }
     {
-        self.tags.of(direction, name) > 0
+        self.any_held(direction, name) || self.is_in_hand(direction, name)
     }
 
     /// Makes room for `n` packets more, and the place of a transaction, so that so many packets with
@@ -214,8 +214,6 @@ impl Link {
         if let Some(fault) = self.refusal_take(lane, n) {
             return Err(fault);
         }
-        let packet = &self.packets[n as usize];
-        self.tags.add(packet.direction, packet.tag);
         self.hands.put(lane, Some(n));
         Ok(())
     }
@@ -231,10 +229,38 @@ impl Link {
         ensures err { OnErr result (self.new.at ≡ self.old.at) }
     {
         let number = self.hands.of(lane).ok_or(LinkFault::HandEmpty)?;
-        let taken = &self.packets[number as usize];
-        self.tags.remove(taken.direction, taken.tag);
         self.hands.put(lane, None);
         Ok(number)
+    }
+
+    // Whether a held packet is a part of this transaction.
+    fn any_held(&self, direction: Direction, name: Name) -> bool
+        ensures { result ≡ any_held self.now.at direction name }
+    {
+        self.tags.of(direction, name) > 0
+    }
+
+    // Whether the packet in some hand is.
+    fn is_in_hand(&self, direction: Direction, name: Name) -> bool
+        ensures { result ≡ any_in_hand self.now.at direction name }
+    {
+        self.hand_has(direction, name, Lane::S1)
+            || self.hand_has(direction, name, Lane::S2)
+            || self.hand_has(direction, name, Lane::G1)
+            || self.hand_has(direction, name, Lane::G2)
+    }
+
+    // Whether the packet in the lane's hand is.
+    fn hand_has(&self, direction: Direction, name: Name, lane: Lane) -> bool
+        ensures { result ≡ hand_has self.now.at direction name lane }
+    {
+        let Some(n) = self.hands.of(lane) else {
+            return false;
+        };
+        match self.packets.get(n as usize) {
+            Some(packet) => packet.direction == direction && packet.tag == Some(name),
+            None => false,
+        }
     }
 
     // Makes the place of a transaction, if there is one. The only error is out of memory, which comes

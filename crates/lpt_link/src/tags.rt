@@ -1,4 +1,4 @@
-//! How many held packets, and hands, are of each transaction.
+//! How many held packets are of each transaction.
 
 ghost use Rattle.std.specs.Prelude.{◌≡◌, ◌+◌, ◌<◌, ◌≤◌, ◌^◌, IfSome, IsOk, OnOk};
 ghost use Rattle.lpt_packet.specs.Names.{Name};
@@ -126,10 +126,9 @@ fn add_one(counts: &mut BTreeMap<Name, u64>, name: Name)
     ensures more { IsOneMoreAt name counts.old.entries counts.new.entries }
     ensures places { (q : Name) → IsPlaced counts.old.entries q → IsPlaced counts.new.entries q }
 {
-    let number = number(counts, name);
-    match counts.insert(name, number + 1) {
-        Ok(_) => {}
-        Err(_) => unreachable!(),
+    match counts.get_mut(&name) {
+        Some(number) => *number += 1,
+        None => unreachable!(),
     }
 }
 
@@ -138,13 +137,14 @@ fn take_one(counts: &mut BTreeMap<Name, u64>, name: Name)
     requires { 1 ≤ number_in counts.old.entries name }
     ensures { IsOneMoreAt name counts.new.entries counts.old.entries }
 {
-    let number = number(counts, name);
-    if number == 1 {
-        let _ = counts.remove(&name);
-        return;
+    match counts.get_mut(&name) {
+        Some(number) => {
+            if *number > 1 {
+                *number -= 1;
+                return;
+            }
+        }
+        None => unreachable!(),
     }
-    match counts.insert(name, number - 1) {
-        Ok(_) => {}
-        Err(_) => unreachable!(),
-    }
+    let _ = counts.remove(&name);
 }

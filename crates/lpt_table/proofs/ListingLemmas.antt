@@ -76,6 +76,18 @@ len-map_of s xs h =
     len-from_entries name_cmp name_cmp_total (entries_of s xs) (AreApart-entries_of s xs h)
     ∙ length-map xs (λ (x : Place). (x.name, entry_at s x))
 
+-- what is found under a name has that name
+pub find-named : (q : Name) (xs : List Place) (x : Place)
+    → find name_cmp q (by_name xs) ≡ Some x
+    → x.name ≡ q
+find-named q [] x h = absurd cc
+find-named q (y ∷ ys) x h =
+    elim (eq_by_cmp name_cmp q y.name) as (λ b. eq_by_cmp name_cmp q y.name ≡ b
+    → cond b (Some y) (find name_cmp q (by_name ys)) ≡ Some x → x.name ≡ q) [
+      | true ↦ λ t g. ap (λ (z : Place). z.name) (sym (inside y x g)) ∙ sym (equal_tied q y.name t)
+      | false ↦ λ t g. find-named q ys x g
+    ] refl h
+
 -- receptions that stay where they are stay the same
 pub same_entries : (s t : Slab Received) (r : Option Place)
     → ((y : Place) → r ≡ Some y → get t y.key ≡ get s y.key)

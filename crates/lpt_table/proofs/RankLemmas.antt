@@ -5,7 +5,7 @@ use Rattle.std.specs.FinMap.Entries.{below_all, by_order, is_sorted}
 use Rattle.std.specs.declared.cmp.Ordering.{Ordering}
 use Rattle.std.specs.declared.cmp.Ordering.TheVariants.{Less, Equal, Greater}
 use Rattle.std.specs.Ordering.{is_lt}
-use Rattle.std.proofs.Common.{arith}
+use Rattle.std.proofs.Common.{ap, arith}
 use Rattle.lpt_packet.specs.Names.{Name}
 use Rattle.lpt_table.specs.declared.places.Place.{Place}
 use Rattle.lpt_table.specs.Places.{by_moment, rank, when_cmp}
@@ -34,7 +34,7 @@ rank-at-most m (x ∷ xs) (suc i) d in_it h =
     ]
 
 -- what is below all is below each
-below_each : (m : ℕ × Name) (xs : List Place) (i : ℕ) (d : Place)
+pub below_each : (m : ℕ × Name) (xs : List Place) (i : ℕ) (d : Place)
     → i < length xs
     → T (below_all when_cmp m (by_moment xs))
     → beside m (slice_index_or xs i d) ≡ Less
@@ -44,6 +44,16 @@ below_each m (x ∷ xs) zero d in_it up =
 below_each m (x ∷ xs) (suc i) d in_it up =
     below_each m xs i d (omega (arith, in_it))
     (second (is_lt (beside m x)) (below_all when_cmp m (by_moment xs)) up)
+
+-- what is below all belongs before them
+pub rank-below_all : (m : ℕ × Name) (xs : List Place)
+    → T (below_all when_cmp m (by_moment xs))
+    → rank when_cmp m (by_moment xs) ≡ 0
+rank-below_all m [] up = refl
+rank-below_all m (x ∷ xs) up =
+    let n = rank when_cmp m (by_moment xs) in
+    ap (λ r. by_order r 0 (suc n) (suc n))
+    (less (beside m x) (first (is_lt (beside m x)) (below_all when_cmp m (by_moment xs)) up))
 
 -- it belongs behind a place that is not later
 pub rank-beyond : (m : ℕ × Name) (xs : List Place) (i : ℕ) (d : Place)

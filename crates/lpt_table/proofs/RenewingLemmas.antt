@@ -1,14 +1,17 @@
 -- A reception that changes where it is, as on the finite map: as if it were taken out and put in.
 use Rattle.std.specs.Prelude.{◌≡◌, ℕ, suc, ◌+◌, ◌≤◌, ◌<◌, T, List, [], ◌∷◌, cond, length, take, Some, None, is_some, refl, slice_index_or, slice_set}
+use Rattle.std.specs.Ordering.{ordering_reverse}
+use Rattle.std.specs.declared.cmp.Ordering.TheVariants.{Less}
 use Prim.Native.Nat.{zero}
 use Rattle.std.specs.List.{insert, remove}
 use Rattle.std.specs.FinMap as maps
-use Rattle.std.specs.FinMap.Entries.{is_sorted}
+use Rattle.std.specs.FinMap.Entries.{below_all, by_order, is_sorted}
 use Rattle.std.proofs.Common.{sym, ◌∙◌, ap, subst, arith}
 use Rattle.std.proofs.lemmas.List.Edits.{length-remove}
 use Rattle.std.proofs.lemmas.List.Sums.{sum_by-set}
 use Rattle.slab.specs.Slab.{Slab, ContainsKey, get, slab_len, Updates, with_value}
 use Rattle.slab.proofs.SlabLemmas.{ContainsKey-within, Updates-set, Updates-with_value}
+use Rattle.lpt_packet.proofs.KeyLemmas.{first, second}
 use Rattle.lpt_packet.proofs.NameLemmas.{name_cmp-IsAntisymmetric, name_cmp_total}
 use Rattle.lpt_packet.specs.Names.{Name, name_cmp}
 use Rattle.lpt_reception.specs.Received.{Received}
@@ -18,9 +21,10 @@ use Rattle.lpt_table.specs.EntriesOf.{entry_in, map_of, IsListed}
 use Rattle.lpt_table.specs.Tables.{Entries}
 use Rattle.lpt_table.specs.Places.{by_name, by_moment, when_cmp, rank, spot, renewed}
 use Rattle.lpt_table.proofs.MapLemmas.{insert-remove, get-removed}
-use Rattle.lpt_table.proofs.OrderLemmas.{is_sorted-remove}
+use Rattle.lpt_table.proofs.OrderLemmas.{is_sorted-remove, when_cmp_total}
+use Rattle.lpt_table.proofs.RankLemmas.{below_each, beside, rank-below_all}
 use Rattle.lpt_table.proofs.PuttingLemmas.{placed-map, placed-len, placed-listed}
-use Rattle.lpt_table.proofs.TakingLemmas.{by_moment_remove, found-within, found-kept, removed-map, removed-len, removed-listed}
+use Rattle.lpt_table.proofs.TakingLemmas.{by_moment_remove, found-within, found-kept, found-named, removed-map, removed-len, removed-listed}
 
 -- ---- places
 
@@ -57,6 +61,50 @@ renewed-last xs at x last same =
     ∙ ap (λ i. insert (remove xs at) i x)
     (sym same ∙ ap (λ ys. rank when_cmp (x.last, x.name) (by_moment ys)) (sym (remove-last xs at last)))
 
+-- a place is put back where it was taken out
+put-back : (xs : List Place) (at : ℕ) (x : Place)
+    → at < length xs
+    → x ≡ slice_index_or xs at x
+    → insert (remove xs at) at x ≡ xs
+put-back [] at x l q = absurd (omega arith)
+put-back (y ∷ ys) zero x l q = ap (λ z. z ∷ ys) q
+put-back (y ∷ ys) (suc at) x l q = ap (λ zs. y ∷ zs) (put-back ys at x (omega arith) q)
+
+-- among the others a place belongs where it is
+rank-own : (xs : List Place) (at : ℕ) (x : Place)
+    → T (is_sorted when_cmp (by_moment xs))
+    → at < length xs
+    → x ≡ slice_index_or xs at x
+    → rank when_cmp (x.last, x.name) (by_moment (remove xs at)) ≡ at
+rank-own [] at x up l q = absurd (omega arith)
+rank-own (y ∷ ys) zero x up l q =
+    let below = below_all when_cmp (y.last, y.name) (by_moment ys) in
+    rank-below_all (x.last, x.name) ys
+    (subst (λ (z : Place). T (below_all when_cmp (z.last, z.name) (by_moment ys))) (sym q)
+    (first below (is_sorted when_cmp (by_moment ys)) up))
+rank-own (y ∷ ys) (suc at) x up l q =
+    let n = rank when_cmp (x.last, x.name) (by_moment (remove ys at)) in
+    let below = below_all when_cmp (y.last, y.name) (by_moment ys) in
+    let rest : n ≡ at =
+    rank-own ys at x (second below (is_sorted when_cmp (by_moment ys)) up) (omega arith) q in
+    let later : beside (y.last, y.name) x ≡ Less =
+    subst (λ (z : Place). beside (y.last, y.name) z ≡ Less) (sym q)
+    (below_each (y.last, y.name) ys at x (omega arith)
+    (first below (is_sorted when_cmp (by_moment ys)) up))
+    in
+    ap (λ r. by_order r 0 (suc n) (suc n))
+    (when_cmp_total.antisymm (x.last, x.name) (y.last, y.name) ∙ ap ordering_reverse later)
+    ∙ ap suc rest
+
+-- so the places stay as they are where one is renewed that is the same
+pub renewed-same : (xs : List Place) (at : ℕ) (x : Place)
+    → T (is_sorted when_cmp (by_moment xs))
+    → at < length xs
+    → x ≡ slice_index_or xs at x
+    → renewed xs at x ≡ xs
+renewed-same xs at x up l q =
+    ap (λ i. insert (remove xs at) i x) (rank-own xs at x up l q) ∙ put-back xs at x l q
+
 -- ---- a reception that changes
 
 module _ (limit p capacity : ℕ) (s : Slab Received) (xs : List Place)
@@ -74,9 +122,14 @@ module _ (limit p capacity : ℕ) (s : Slab Received) (xs : List Place)
   abbrev e : Entry
   e = record { name = name; filling = f; last = last }
 
-  -- its place
+  -- its place, which has the name
   abbrev pub place : Place
-  place = record { last = last; name = name; key = x.key }
+  place = record x { last = last }
+
+  its : record { last = last; name = name; key = x.key } ≡ place
+  its =
+      let named = sym (found-named limit p capacity s xs l name at is x q) in
+      λ i. record { last = last; name = named i; key = x.key }
 
   kept : ContainsKey s x.key
   kept = found-kept limit p capacity s xs l name at is x q
@@ -123,7 +176,8 @@ module _ (limit p capacity : ℕ) (s : Slab Received) (xs : List Place)
   -- the map has the entry under its name
   pub renewed-map : map_of after (renewed xs at place) ≡ maps.insert (map_of s xs) name (entry_in e)
   renewed-map =
-      placed-map limit p capacity gap (remove xs at) rest e absent after x.key back out.changed
+      ap (λ y. map_of after (renewed xs at y)) (sym its)
+      ∙ placed-map limit p capacity gap (remove xs at) rest e absent after x.key back out.changed
       ∙ ap (λ (m : Entries). maps.insert m name (entry_in e)) (sym without)
       ∙ insert-remove name_cmp_total name_cmp-IsAntisymmetric (map_of s xs) name (entry_in e)
 
@@ -132,6 +186,7 @@ module _ (limit p capacity : ℕ) (s : Slab Received) (xs : List Place)
   renewed-len =
       omega (
         arith,
+        ap (λ y. maps.len (map_of after (renewed xs at y))) its,
         placed-len limit p capacity gap (remove xs at) rest e absent after x.key back out.changed,
         removed-len limit p capacity s xs l name at is x q gap out,
       )
@@ -144,7 +199,8 @@ module _ (limit p capacity : ℕ) (s : Slab Received) (xs : List Place)
       → IsListed limit p more after (renewed xs at place)
   renewed-listed more named of_size grown =
       let within = found-within limit p capacity s xs l name at is in
-      placed-listed limit p capacity gap (remove xs at) rest e absent after x.key back out.changed
+      subst (λ y. IsListed limit p more after (renewed xs at y)) its
+      (placed-listed limit p capacity gap (remove xs at) rest e absent after x.key back out.changed
       more (record { of_size = of_size; named = named })
       (omega (arith, length-remove xs at within, l.within)) grown
-      (omega (arith, as_many, less)) refl
+      (omega (arith, as_many, less)) refl)

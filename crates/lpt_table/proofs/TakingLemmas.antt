@@ -21,7 +21,7 @@ use Rattle.lpt_table.specs.Places.{by_name, by_moment, when_cmp, spot, AreApart}
 use Rattle.lpt_table.proofs.MapLemmas.{find-others, remove-absent}
 use Rattle.lpt_table.proofs.OrderLemmas.{is_sorted-remove}
 use Rattle.lpt_table.proofs.PlaceLemmas.{Spots, IsSpot, Spots-spot, is_some-Spots, AreApart-where_key}
-use Rattle.lpt_table.proofs.ListingLemmas.{tied_equal, inside, under_name, length-by_name, get-map_of, len-map_of, same_entries}
+use Rattle.lpt_table.proofs.ListingLemmas.{tied_equal, inside, under_name, find-named, length-by_name, get-map_of, len-map_of, same_entries}
 
 -- what is found where one name is left out is another's
 not_none : {X : Type 0} (b : Bool) (r : Option X) (x : X)
@@ -94,6 +94,10 @@ module _ (limit p capacity : ℕ) (s : Slab Received) (xs : List Place)
           here.value (x.name, x)
           ∙ ap (λ (e : Name × Place). Some e.1)
           (get_or-map under_name xs at x ∙ ap under_name (sym q))
+
+      -- the place has the name
+      pub found-named : x.name ≡ name
+      found-named = find-named name xs x found
 
       found-held : IsHeld s p name x
       found-held = l.held name x found

@@ -111,10 +111,10 @@ impl EntryList {
         ensures len { map.len self.new.entries ≡ map.len self.old.entries }
     {
         let at = spot_of(&self.places, name)?;
-        let Place { last, name: _, key } = self.places[at];
-        let took = self.fillings[key].take(mode, part);
-        let last = last_after(&took, last, now);
-        renew(&mut self.places, at, Place { last, name, key });
+        let place = self.places[at];
+        let took = self.fillings[place.key].take(mode, part);
+        let last = last_after(&took, place.last, now);
+        renew(&mut self.places, at, place, last);
         Some(took)
     }
 

@@ -1,6 +1,6 @@
 //! Where the open receptions are kept, in the order in which they would be due.
 
-ghost use Rattle.std.specs.Prelude.{◌≡◌, ◌<◌, ◌≤◌, T, length, vec_capacity};
+ghost use Rattle.std.specs.Prelude.{◌≡◌, ◌<◌, ◌≤◌, T, length, slice_index_or, vec_capacity};
 ghost use Rattle.std.specs.FinMap as map;
 ghost use Rattle.lpt_packet.specs.Names.{name_cmp};
 ghost use Rattle.lpt_table.specs.Places.{AreApart, spot, rank, when_cmp, by_name, by_moment, first_overdue, renewed};
@@ -47,14 +47,20 @@ pub(crate) fn rank_of(places: &[Place], last: u32, name: Name) -> usize
     0
 }
 
-// Puts this place in place of the one at `at`, where it belongs. One that took a part just now mostly
-// is at the end and stays there. It takes no memory.
-pub(crate) fn renew(places: &mut Vec<Place>, at: usize, place: Place)
+// Gives the place at `at` this last tick, and puts it where it then belongs. One whose tick is the
+// same stays as it is; one that took a part just now mostly is at the end and stays there. It takes
+// no memory.
+pub(crate) fn renew(places: &mut Vec<Place>, at: usize, place: Place, last: u32)
     requires within { at < length places.old.items }
+    requires there { place ≡ slice_index_or places.old.items at place }
     requires ordered { T (map.is_sorted when_cmp (by_moment places.old.items)) }
-    ensures places { places.new.items ≡ renewed places.old.items at place }
+    ensures places { places.new.items ≡ renewed places.old.items at (record place { last = last }) }
     ensures room { vec_capacity places.old ≤ vec_capacity places.new }
 {
+    if last == place.last {
+        return;
+    }
+    let place = Place { last, ..place };
     if at + 1 == places.len() && rank_of(&places[..at], place.last, place.name) == at {
         places[at] = place;
         return;

@@ -1,10 +1,19 @@
--- A place that stays at the end is written there; another is taken out and put where it belongs.
+-- A place whose tick is the same stays; one that stays at the end is written there; another is
+-- taken out and put where it belongs.
 use Rattle.std.proofs.Common.{◌≡◌, ◌∙◌, ap, subst, sym, arith, ◌+◌, T, length, take}
 use Rattle.std.specs.FinMap as map
-use Rattle.lpt_table.specs.Places.{rank, when_cmp, by_moment}
+use Rattle.lpt_table.specs.Places.{rank, when_cmp, by_moment, renewed}
 use Rattle.lpt_table.proofs.PuttingLemmas.{belongs-within}
-use Rattle.lpt_table.proofs.RenewingLemmas.{remove-last, sorted-without, renewed-last}
+use Rattle.lpt_table.proofs.RenewingLemmas.{remove-last, sorted-without, renewed-last, renewed-same}
 use Rattle.lpt_table.proofs.places.renew.Goals as goal
+
+-- where the tick is the same, so is the place
+pub returns-then-last-place-clause-places : goal.returns-then-last-place-clause-places
+returns-then-last-place-clause-places c =
+    let xs = c.args.places.now.items in
+    let x = c.args.place in
+    sym (renewed-same xs c.args.at x c.requires.ordered c.requires.within c.requires.there)
+    ∙ ap (λ last. renewed xs c.args.at (record x { last = last })) (sym c.if-last-place.true)
 
 -- the places before the last one are in order
 pub rank_of-requires : goal.rank_of-requires
@@ -24,7 +33,7 @@ rank_of-requires c =
 
 pub returns-then-rank_of-at-clause-places : goal.returns-then-rank_of-at-clause-places
 returns-then-rank_of-at-clause-places c =
-    let x = c.args.place in
+    let x = record c.args.place { last = c.args.last } in
     let last : c.args.at + 1 ≡ length c.args.places.now.items = omega (
       arith,
       c.if-at-len.true,
@@ -46,7 +55,7 @@ rank_of-to-requires c =
 
 pub insert-requires : goal.insert-requires
 insert-requires c =
-    let x = c.args.place in
+    let x = record c.args.place { last = c.args.last } in
     let place : c.rank_of-to.result
     ≡ rank when_cmp (x.last, x.name) (by_moment c.remove.new.self.items) =
     c.rank_of-to.ensures

@@ -4,7 +4,7 @@ use Rattle.lpt_link.specs.Counts.{HasPlace}
 use Rattle.lpt_link.specs.Links.{LinkData, LinkView, after_put}
 use Rattle.lpt_link.proofs.CountLemmas.{put_counts}
 use Rattle.lpt_link.proofs.HandLemmas.{put_sound}
-use Rattle.lpt_link.proofs.IndexLemmas.{present_few, index_more}
+use Rattle.lpt_link.proofs.IndexLemmas.{held_few, index_more}
 use Rattle.lpt_link.proofs.link.Link.put_placed.Goals as goal
 
 pub add-requires-clause-place : goal.add-requires-clause-place
@@ -17,7 +17,7 @@ add-requires-clause-room c = λ name.
     let items = c.self.inside.packets in
     let d : LinkData = record { packets = items.items; hands = c.self.inside.hands } in
     let goes = c.args.direction in
-    omega (arith, items.ok, items.small, c.self.invariant.1 goes name, present_few d goes name)
+    omega (arith, items.ok, items.small, c.self.invariant.1 goes name, held_few d goes name)
 
 pub invariant_of-self : goal.invariant_of-self
 invariant_of-self c =
@@ -30,7 +30,7 @@ invariant_of-self c =
       put_sound d goes tag octets c.self.invariant.0,
       index_more goes tag c.self.inside.tags c.add.new.self d
           (after_put d goes tag octets) c.self.invariant.1 c.add.ensures.more
-          (put_counts d goes tag octets c.self.invariant.0),
+          (put_counts d goes tag octets),
     )
 
 -- and its number is how many were put before

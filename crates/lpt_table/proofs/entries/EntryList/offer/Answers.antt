@@ -35,8 +35,8 @@ returns-in_err-at-clause-none c =
 
 -- ---- it has one
 
-pub index-requires : goal.index-requires
-index-requires c =
+pub index-place-requires : goal.index-place-requires
+index-place-requires c =
     let k = c.self.inside in
     let is = c.in_ok-at.ensures
     ∙ ap (λ xs. spot name_cmp c.args.name (by_name xs)) c.deref.ensures.value
@@ -55,7 +55,7 @@ index_mut-requires c =
     ∙ ap (λ xs. spot name_cmp c.args.name (by_name xs)) c.deref.ensures.value
     in
     found-kept k.limit k.p (vec_capacity k.places) k.fillings k.places.items c.self.invariant
-    c.args.name c.in_ok-at.at is c.index.result.now c.index.ensures
+    c.args.name c.in_ok-at.at is c.index-place.result.now c.index-place.ensures
 
 spot_is : (c : After-index_mut)
     → Some c.in_ok-at.at ≡ spot name_cmp c.args.name (by_name c.self.inside.places.items)
@@ -68,7 +68,7 @@ abbrev found : After-index_mut → Entry
 found c = record {
   name = c.args.name;
   filling = c.index_mut.result.now;
-  last = c.index.result.now.last;
+  last = c.index-place.result.now.last;
 }
 
 is_entry : (c : After-index_mut)
@@ -77,7 +77,7 @@ is_entry : (c : After-index_mut)
 is_entry c =
     let k = c.self.inside in
     found-entry k.limit k.p (vec_capacity k.places) k.fillings k.places.items c.self.invariant
-    c.args.name c.in_ok-at.at (spot_is c) c.index.result.now c.index.ensures
+    c.args.name c.in_ok-at.at (spot_is c) c.index-place.result.now c.index-place.ensures
     c.index_mut.result.now (found c) c.index_mut.ensures.value refl
 
 pub take-took-requires-clause-id : goal.take-took-requires-clause-id
@@ -106,7 +106,7 @@ invariant_of-self c =
     in
     rw c.renew.ensures.places
     (renewed-listed k.limit k.p (vec_capacity k.places) k.fillings k.places.items c.self.invariant
-    c.args.name c.in_ok-at.at (spot_is d) c.index.result.now c.index.ensures
+    c.args.name c.in_ok-at.at (spot_is d) c.index-place.result.now c.index-place.ensures
     c.take-took.new.self c.last_after-last.result (vec_capacity c.renew.new.places)
     (keeps.0 ∙ e.its.named) (keeps.1 ∙ e.its.of_size) c.renew.ensures.room)
 
@@ -117,7 +117,7 @@ returns-clause-took c =
     let name = c.args.name in
     let f = c.index_mut.result.now in
     let g = c.take-took.new.self in
-    let t = with_value k.fillings c.index.result.now.key g in
+    let t = with_value k.fillings c.index-place.result.now.key g in
     let e = is_entry d in
     let keeps = takes_keeps c.args.mode c.index_mut.result.now c.take-took.new.self
     c.args.part.now.number (kept c.args.part.now) c.take-took.result c.take-took.ensures
@@ -128,7 +128,7 @@ returns-clause-took c =
     let becomes : g ≡ record { id = name.id; p = c.args.self.now.p; parts = g.parts } =
     λ i. record { id = (keeps.0 ∙ e.its.named) i; p = (keeps.1 ∙ e.its.of_size ∙ size) i; parts = g.parts } in
     record {
-      entry = record { parts = f.parts; last = c.index.result.now.last };
+      entry = record { parts = f.parts; last = c.index-place.result.now.last };
       parts = g.parts;
       was = ap (λ (l : Listing). map.get l.entries name) (sym c.self.view_is) ∙ e.found;
       takes = subst (λ (r : Received). Takes c.args.mode r c.args.part.now.number
@@ -138,11 +138,11 @@ returns-clause-took c =
           (kept c.args.part.now) c.take-took.result r) becomes c.take-took.ensures);
       becomes = changed k.limit k.p (map_of k.fillings k.places.items)
           (map_of t c.renew.new.places.items) c.args.self.now
-          (λ m. map.insert m name (record { parts = g.parts; last = last_after c.take-took.result c.index.result.now.last c.args.now })) c.self.view_is
+          (λ m. map.insert m name (record { parts = g.parts; last = last_after c.take-took.result c.index-place.result.now.last c.args.now })) c.self.view_is
           (ap (map_of t) c.renew.ensures.places
           ∙ renewed-map k.limit k.p (vec_capacity k.places) k.fillings k.places.items
-          c.self.invariant name c.in_ok-at.at (spot_is d) c.index.result.now
-          c.index.ensures g c.last_after-last.result
+          c.self.invariant name c.in_ok-at.at (spot_is d) c.index-place.result.now
+          c.index-place.ensures g c.last_after-last.result
           ∙ ap (λ last. map.insert (map_of k.fillings k.places.items) name
           (record { parts = g.parts; last = last })) c.last_after-last.ensures);
     }
@@ -151,9 +151,9 @@ pub returns-clause-len : goal.returns-clause-len
 returns-clause-len c =
     let k = c.self.inside in
     let d = (goal.at.returns-clause-len c).After-index_mut in
-    let t = with_value k.fillings c.index.result.now.key c.take-took.new.self in
+    let t = with_value k.fillings c.index-place.result.now.key c.take-took.new.self in
     ap (λ xs. map.len (map_of t xs)) c.renew.ensures.places
     ∙ renewed-len k.limit k.p (vec_capacity k.places) k.fillings k.places.items
     c.self.invariant c.args.name c.in_ok-at.at (spot_is d)
-    c.index.result.now c.index.ensures c.take-took.new.self c.last_after-last.result
+    c.index-place.result.now c.index-place.ensures c.take-took.new.self c.last_after-last.result
     ∙ ap (λ (l : Listing). map.len l.entries) c.self.view_is

@@ -1,17 +1,17 @@
 -- The page with the state of a name, in its place.
-use Rattle.std.proofs.Common.{◌≡◌, ◌≢◌, ◌∙◌, ap, sym, rules, inl, inr, ℕ, ◌*◌, ◌/◌, ◌<◌, ◌%◌, cond, None, List, Option, is_some, arith}
+use Rattle.std.proofs.Common.{◌≡◌, ◌≢◌, ◌∙◌, ap, sym, rules, inl, inr, ℕ, ◌<◌, ◌%◌, cond, None, List, Option, is_some}
 use Rattle.std.specs.BTreeMap.{is_at}
 use Rattle.lpt_packet.proofs.KeyLemmas as keyed
 use Rattle.lpt_packet.proofs.NameLemmas.{name_cmp_total, name_cmp-IsAntisymmetric}
-use Rattle.lpt_packet.specs.Names.{Name, name_cmp, named_by}
+use Rattle.lpt_packet.specs.Names.{Name, name_cmp}
 use Rattle.lpt_ledger.specs.declared.page.Page.{Page}
 use Rattle.lpt_ledger.specs.declared.state.State.TheVariants.{Free}
 use Rattle.lpt_ledger.specs.LedgerInside.{mark_of, mark_on, marks, page_first, page_in, page_mark, with_state, Tells}
 use Rattle.lpt_ledger.specs.Marks.{Mark, Marks}
 use Rattle.lpt_ledger.specs.States.{state_of, state_at}
-use Rattle.lpt_ledger.proofs.FullLemmas.{was_free, Tells-put, Tells-words}
+use Rattle.lpt_ledger.proofs.FullLemmas.{first_first, was_free, Tells-put, Tells-words}
 use Rattle.lpt_ledger.proofs.MarksLemmas.{get-marks, marks-put}
-use Rattle.lpt_ledger.proofs.ledger.Ledger.set.Goals as goal
+use Rattle.lpt_ledger.proofs.ledger.Ledger.put.Goals as goal
 
 -- the page is put
 put : (c : goal.After-put_bit) (q : Name) (b : ℕ)
@@ -78,11 +78,6 @@ returns-in_err-keep_place-clause-free c =
     search rules
 
 -- ---- the bits still tell, and pages stand under their first names
-
--- a page's first name is its own first one
-first_first : (n : Name) → page_first (page_first n) ≡ page_first n
-first_first n = let same : n.id / 64 * 64 / 64 * 64
-    ≡ n.id / 64 * 64 = omega arith in ap (λ (i : ℕ). named_by n.source i) same
 
 pub invariant_of-self : goal.invariant_of-self
 invariant_of-self c = record {
