@@ -13,6 +13,10 @@ use Rattle.lpt_frames.specs.Frames.{IsFound}
 abbrev pub held : FrameBuffer → List ℕ
 held b = drop b.start b.octets.items
 
+-- all octets that are kept, those that were passed over too
+abbrev pub kept : FrameBuffer → List ℕ
+kept b = b.octets.items
+
 -- octets were read, and are held behind the rest
 pub record Adds (old new : FrameBuffer) (before after : Option (List ℕ)) (read : List ℕ) : Type 0
   where

@@ -5,6 +5,10 @@ use Rattle.lpt_stream.specs.Streams.{all_octets, IsFramed, IsUnfinished}
 use Rattle.lpt_frames.specs.declared.front.Front.{Front}
 use Rattle.lpt_frames.specs.declared.front.Front.TheVariants.{Frame, Stray, End}
 
+-- a reader keeps at most so many octets: less than a packet, and what one read gives
+abbrev pub most_kept : ℕ
+most_kept = 131077
+
 -- whether a packet may begin with these octets, as far as their version says, which is 0
 abbrev pub may_begin : List ℕ → Bool
 may_begin b = (length b == 0) || (slice_index b 0 / 32 == 0)

@@ -1,6 +1,7 @@
 //! The frames of a stream, found as it comes.
 
 ghost use Rattle.std.specs.Prelude.{◌≤◌, length};
+ghost use Rattle.lpt_frames.specs.Frames.{most_kept};
 
 use crate::front::front_in;
 use crate::{Front, Peer};
@@ -10,21 +11,23 @@ use std::alloc::Global;
 /// How many octets are asked for at a time.
 const CHUNK: usize = 65_536;
 
-/// The octets of a stream that were read and not passed over yet: of a packet at most, and what one
-/// read gives.
+/// The octets of a stream that were read and not passed over yet: at most 131,077, which is less than
+/// a packet, and what one read gives.
 #[derive(Drop)]
 pub struct FrameBuffer {
     octets: Vec<u8>,
     // How many of them were passed over.
     start: usize,
     ghost within: { start ≤ length octets.items },
+    ghost few: { length octets.items ≤ most_kept },
 }
 
 impl FrameBuffer {
-    ghost use Rattle.std.specs.Prelude.{◌≡◌, ◌≢◌, ◌⊎◌, ◌++◌, [], drop, Err, IfErr, OnOk};
+    ghost use Rattle.std.specs.Prelude.{◌≡◌, ◌≢◌, ◌⊎◌, ◌+◌, ◌<◌, ◌++◌, [], drop, Err, IfErr, OnOk};
     ghost use Rattle.std.specs.Io.KnownBytes.{Keeps};
     ghost use Rattle.lpt_text.specs.Streams.{WriteEnds};
-    ghost use Rattle.lpt_frames.specs.Buffers.{held, Fills, FindsFrame};
+    ghost use Rattle.lpt_packet.specs.Sizes.{longest_packet};
+    ghost use Rattle.lpt_frames.specs.Buffers.{held, kept, Fills, FindsFrame};
 
     /// A stream of which nothing was read.
     pub fn new(alloc: Global) -> Self
@@ -41,6 +44,13 @@ impl FrameBuffer {
         ensures { result.now ≡ held self.now }
     {
         &self.octets[self.start..]
+    }
+
+    /// Cites how many octets are kept, of which some may have been passed over.
+    pub fn few_are_kept(&self)
+        ensures { length (kept self.now) ≤ most_kept }
+    {
+        let _start = self.start;
     }
 
     /// Passes over so many of the octets that are held.
@@ -82,7 +92,8 @@ impl FrameBuffer {
 
     // Reads some octets behind those that are held, and answers whether there were any.
     fn fill<P: Peer, K: Sink>(&mut self, peer: &mut P, out: &K) -> Result<bool, StreamFault>
-        requires { K.flushed out.now ≡ K.contents out.now }
+        requires flushed { K.flushed out.now ≡ K.contents out.now }
+        requires few { length (held self.old) < longest_packet }
         ensures { Fills result self.old self.new (P.remaining peer.old) (P.remaining peer.new)
             (P.failed peer.old) (P.failed peer.new) }
     {
@@ -99,6 +110,7 @@ impl FrameBuffer {
 
     // Holds octets behind the rest.
     fn push(&mut self, octets: &[u8]) -> Result<(), StreamFault>
+        requires { length (held self.old) + length octets.now ≤ most_kept }
         ensures held { OnOk result (held self.new ≡ held self.old ++ octets.now) }
         ensures fault { IfErr result (λ e. e ≡ StreamFault.Memory) }
     {
@@ -111,7 +123,8 @@ impl FrameBuffer {
 
     // Gives up the octets that were passed over.
     fn compact(&mut self)
-        ensures { held self.new ≡ held self.old }
+        ensures held { held self.new ≡ held self.old }
+        ensures all { length (kept self.new) ≡ length (held self.old) }
     {
         let left = self.octets.len() - self.start;
         self.octets.rotate_left(self.start);

@@ -171,10 +171,32 @@ passing-lost faults.Read old new a b had failed h = (h.0, h.1)
 passing-lost faults.Memory old new a b had failed h = (h.0, h.1)
 passing-lost faults.Write old new a b had failed h = (h.0, h.1.added.consumed)
 
+-- ---- what is kept
+
+-- where there is room, what is pushed behind others fits, and as well where it isn't pushed
+pub pushed_fits : (ok : Bool) (was more now : List ℕ) (most : ℕ)
+    → now ≡ (if ok then was ++ more else was)
+    → length was + length more ≤ most
+    → length now ≤ most
+pushed_fits true was more now most is room =
+    let size : length now ≡ length was + length more = ap length is ∙ length-append was more in
+    omega (arith, size, room)
+pushed_fits false was more now most is room = let size = ap length is in omega (arith, size, room)
+
+-- and none is lost
+pub pushed_keeps : (ok : Bool) (start : ℕ) (was more now : List ℕ)
+    → now ≡ (if ok then was ++ more else was)
+    → start ≤ length was
+    → start ≤ length now
+pushed_keeps true start was more now is least =
+    let size : length now ≡ length was + length more = ap length is ∙ length-append was more in
+    omega (arith, size, least)
+pushed_keeps false start was more now is least = let size = ap length is in omega (arith, size, least)
+
 -- ---- what is in front
 
 -- what is looked at is no longer than is held, nor than two packets
-near_size : (b near : List ℕ) (n : ℕ)
+pub near_size : (b near : List ℕ) (n : ℕ)
     → near ≡ take lookahead b
     → n ≤ length near
     → (n ≤ length b) × (n ≤ lookahead)

@@ -1,5 +1,5 @@
 -- The packets of a stream are found in it.
-use Rattle.std.proofs.Common.{◌≡◌, ◌∙◌, ap, sym, subst, refl, inl, inr, ℕ, ◌+◌, ◌≤◌, ◌<◌, true, List, [], ◌∷◌, ◌++◌, length, take, arith, take_all, length-append}
+use Rattle.std.proofs.Common.{◌≡◌, ◌∙◌, ap, sym, subst, refl, inl, inr, ℕ, ◌+◌, ◌≤◌, ◌<◌, Bool, true, List, [], ◌∷◌, ◌++◌, length, take, arith, append-nil, append_assoc, take_all, length-append}
 use Rattle.std.proofs.Math.Seq.{drop-append_seam}
 use Rattle.lpt_packet.specs.Numbers.{word_at}
 use Rattle.lpt_packet.specs.Packets.{IdlePacket, APacket, verdict}
@@ -53,20 +53,57 @@ some b rest h =
     let all = length-append b rest in
     omega (arith, head, all)
 
-lead : (bs : List (List ℕ)) → IsStream bs → Leads true (all_octets bs) (wholes bs) true []
-lead [] h = (refl, refl)
-lead (b ∷ bs) h =
-    let t = taken b h.0 in (
-      some b (all_octets bs) t,
-      sym (front_piece b (all_octets bs) t),
-      subst (λ x. Leads true x (wholes bs) true []) (sym (drop-append_seam b (all_octets bs)))
-          (lead bs h.1),
-    )
+-- a packet in front of what is cut
+lead_one : (b rest : List ℕ) (ps : List Piece) (t : Bool)
+    → IsTaken b
+    → Leads true rest ps t []
+    → Leads true (b ++ rest) (whole b ∷ ps) t []
+lead_one b rest ps t h leads = (
+  some b rest h,
+  sym (front_piece b rest h),
+  subst (λ x. Leads true x ps t []) (sym (drop-append_seam b rest)) leads,
+)
 
-same : (bs : List (List ℕ)) → packets_of (wholes bs) ≡ bs
-same [] = refl
-same (b ∷ bs) = ap (λ x. b ∷ x) (same bs)
+lead : (bs : List (List ℕ)) (rest : List ℕ) (ps : List Piece) (t : Bool)
+    → IsStream bs
+    → Leads true rest ps t []
+    → Leads true (all_octets bs ++ rest) (wholes bs ++ ps) t []
+lead [] rest ps t h leads = leads
+lead (b ∷ bs) rest ps t h leads =
+    subst (λ x. Leads true x (whole b ∷ (wholes bs ++ ps)) t [])
+    (sym (append_assoc b (all_octets bs) rest))
+    (lead_one b (all_octets bs ++ rest) (wholes bs ++ ps) t (taken b h.0)
+    (lead bs rest ps t h.1 leads))
+
+same : (bs : List (List ℕ)) (ps : List Piece) → packets_of (wholes bs ++ ps) ≡ bs ++ packets_of ps
+same [] ps = refl
+same (b ∷ bs) ps = ap (λ x. b ∷ x) (same bs ps)
+
+-- packets are found in front of what is found
+pub found_behind : (bs : List (List ℕ)) (rest : List ℕ) (packets : List (List ℕ))
+    → IsStream bs
+    → Finds rest packets
+    → Finds (all_octets bs ++ rest) (bs ++ packets)
+found_behind bs rest packets h found = (
+  wholes bs ++ found.0,
+  (found.1.0, lead bs rest found.0 found.1.0 h found.1.1),
+  same bs found.0 ∙ ap (λ x. bs ++ x) found.2,
+)
+
+-- one packet is
+pub packet_found : (b rest : List ℕ) (packets : List (List ℕ))
+    → IsPacketOrIdle b
+    → Finds rest packets
+    → Finds (b ++ rest) (b ∷ packets)
+packet_found b rest packets h found = (
+  whole b ∷ found.0,
+  (found.1.0, lead_one b rest found.0 found.1.0 (taken b h) found.1.1),
+  ap (λ x. b ∷ x) found.2,
+)
 
 -- in packets one behind the other just these are found
 pub stream_found : (bs : List (List ℕ)) → IsStream bs → Finds (all_octets bs) bs
-stream_found bs h = (wholes bs, (true, lead bs h), same bs)
+stream_found bs h =
+    let nothing : Finds [] [] = ([], (true, (refl, refl)), refl) in
+    subst (λ x. Finds x bs) (append-nil (all_octets bs))
+    (subst (λ x. Finds (all_octets bs ++ []) x) (append-nil bs) (found_behind bs [] [] h nothing))

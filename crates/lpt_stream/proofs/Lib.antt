@@ -1,7 +1,9 @@
 pub mod BufferLemmas
 pub mod CutLemmas
+pub mod DamageLemmas
 pub mod EndLemmas
 pub mod FoundLemmas
+pub mod FrontLemmas
 pub mod PieceLemmas
 pub mod SealLemmas
 pub mod StreamLemmas

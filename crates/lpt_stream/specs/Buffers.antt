@@ -13,6 +13,10 @@ use Rattle.lpt_stream.specs.Pieces.{Piece, begins, lookahead, piece_at, waits}
 abbrev pub held : PacketBuffer → List ℕ
 held b = drop b.start b.octets.items
 
+-- all octets that are kept, those that were passed over too
+abbrev pub kept : PacketBuffer → List ℕ
+kept b = b.octets.items
+
 -- whether they come right behind a packet
 abbrev pub is_in_step : PacketBuffer → Bool
 is_in_step b = b.in_step

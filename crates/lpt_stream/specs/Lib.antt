@@ -1,4 +1,5 @@
 pub mod Buffers
+pub mod Fronts
 pub mod Pieces
 pub mod Reads
 pub mod Streams

@@ -13,6 +13,10 @@ use Rattle.lpt_stream.specs.declared.piece_kind.PieceKind.TheVariants.{Whole, Da
 abbrev pub lookahead : ℕ
 lookahead = 131084
 
+-- a reader keeps at most so many: fewer than those, and what one read gives
+abbrev pub most_kept : ℕ
+most_kept = 196619
+
 -- the octets of the packet at the front, as its header says, or all where fewer have come
 abbrev pub frame : List ℕ → List ℕ
 frame b = take (7 + word_at b 4) b

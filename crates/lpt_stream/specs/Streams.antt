@@ -1,8 +1,9 @@
 -- The packet at the front of a stream, by the length that its header says.
-use Rattle.std.specs.Prelude.{◌≡◌, ℕ, ◌+◌, ◌<◌, ◌≤◌, ◌⊎◌, nat_lt, if◌then◌else◌, List, [], ◌∷◌, length, take, drop, Option, Some, None}
+use Rattle.std.specs.Prelude.{◌≡◌, ℕ, ◌+◌, ◌<◌, ◌≤◌, ◌⊎◌, ◌++◌, nat_lt, if◌then◌else◌, List, [], ◌∷◌, length, take, drop, Option, Some, None, Err}
 use Rattle.std.specs.List.{flat_map}
 use Rattle.lpt_packet.specs.Numbers.{word_at}
-use Rattle.lpt_packet.specs.Packets.{Fields, IsPacket, IsIdle}
+use Rattle.lpt_packet.specs.declared.fault.PacketFault.{PacketFault}
+use Rattle.lpt_packet.specs.Packets.{Fields, IsPacket, IsIdle, verdict}
 use Rattle.lpt_packet.specs.Sizes.{primary_header, longest_packet}
 
 -- ---- the front
@@ -48,3 +49,17 @@ IsPacketOrIdle b = ((f : Fields) × IsPacket b f) ⊎ (IsIdle b × (length b ≤
 abbrev pub IsStream : List (List ℕ) → Type 0
 IsStream [] = Unit {0}
 IsStream (b ∷ bs) = IsPacketOrIdle b × IsStream bs
+
+-- ---- damage
+
+-- as many octets as their header says, and no packet: a reader finds a fault
+pub record IsDamaged (b : List ℕ) : Type 0 where
+  pub framed : IsFramed b
+  pub short : length b ≤ longest_packet
+  pub fault : PacketFault
+  pub told : verdict b ≡ Err fault
+
+-- nothing comes, or a packet stands in front
+abbrev pub IsEndOrPacket : List ℕ → Type 0
+IsEndOrPacket b =
+    (b ≡ []) ⊎ ((p : List ℕ) × (rest : List ℕ) × (f : Fields) × IsPacket p f × (b ≡ p ++ rest))

@@ -1,6 +1,7 @@
 //! The pieces of a stream, packets and what is none, found as it comes.
 
 ghost use Rattle.std.specs.Prelude.{◌≤◌, length};
+ghost use Rattle.lpt_stream.specs.Pieces.{most_kept};
 
 use crate::PieceKind;
 use crate::cutting::whole_length;
@@ -17,7 +18,8 @@ const LOOKAHEAD: usize = 131_084;
 
 /// The octets of a stream that were read and not passed over yet.
 ///
-/// What it takes of memory doesn't grow with the stream.
+/// What it keeps doesn't grow with the stream: at most 196,619 octets, which are fewer than those of
+/// two packets, and what one read gives.
 #[derive(Drop)]
 pub struct PacketBuffer {
     octets: Vec<u8>,
@@ -28,13 +30,14 @@ pub struct PacketBuffer {
     // Whether the stream's end was read.
     ended: bool,
     ghost within: { start ≤ length octets.items },
+    ghost few: { length octets.items ≤ most_kept },
 }
 
 impl PacketBuffer {
-    ghost use Rattle.std.specs.Prelude.{◌≡◌, ◌≢◌, ◌⊎◌, ◌<◌, ◌++◌, [], drop, take, true, false, None, Err, IfErr, IfSome, OnOk};
+    ghost use Rattle.std.specs.Prelude.{◌≡◌, ◌≢◌, ◌⊎◌, ◌+◌, ◌<◌, ◌++◌, [], drop, take, true, false, None, Err, IfErr, IfSome, OnOk};
     ghost use Rattle.std.specs.Io.KnownBytes.{Keeps};
     ghost use Rattle.lpt_text.specs.Streams.{WriteEnds};
-    ghost use Rattle.lpt_stream.specs.Buffers.{held, is_ended, is_in_step, Fills, FindsPassing, FindsPiece, IsInFront, IsUnsettled};
+    ghost use Rattle.lpt_stream.specs.Buffers.{held, is_ended, is_in_step, kept, Fills, FindsPassing, FindsPiece, IsInFront, IsUnsettled};
     ghost use Rattle.lpt_stream.specs.Pieces.{begins, is_framed, keeps_step, lookahead, waits};
 
     /// A stream of which nothing was read.
@@ -56,6 +59,13 @@ impl PacketBuffer {
         ensures { result.now ≡ held self.now }
     {
         &self.octets[self.start..]
+    }
+
+    /// Cites how many octets are kept, of which some may have been passed over.
+    pub fn few_are_kept(&self)
+        ensures { length (kept self.now) ≤ most_kept }
+    {
+        let _start = self.start;
     }
 
     /// Passes over the piece that was found in front.
@@ -182,7 +192,8 @@ impl PacketBuffer {
 
     // Reads some octets behind those that are held, or the stream's end.
     fn fill<S: Source>(&mut self, source: &mut S) -> Result<(), StreamFault>
-        requires { is_ended self.old ≡ false }
+        requires more { is_ended self.old ≡ false }
+        requires few { length (held self.old) < lookahead }
         ensures { Fills result self.old self.new (S.remaining source.old) (S.remaining source.new)
             (S.failed source.old) (S.failed source.new) }
     {
@@ -202,6 +213,7 @@ impl PacketBuffer {
 
     // Holds octets behind the rest.
     fn push(&mut self, octets: &[u8]) -> Result<(), StreamFault>
+        requires { length (held self.old) + length octets.now ≤ most_kept }
         ensures held { OnOk result (held self.new ≡ held self.old ++ octets.now) }
         ensures step { is_in_step self.new ≡ is_in_step self.old }
         ensures end { is_ended self.new ≡ is_ended self.old }
@@ -217,6 +229,7 @@ impl PacketBuffer {
     // Gives up the octets that were passed over.
     fn compact(&mut self)
         ensures held { held self.new ≡ held self.old }
+        ensures all { length (kept self.new) ≡ length (held self.old) }
         ensures step { is_in_step self.new ≡ is_in_step self.old }
         ensures end { is_ended self.new ≡ is_ended self.old }
     {

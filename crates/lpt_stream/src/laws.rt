@@ -1,9 +1,9 @@
 //! What the definitions say of streams, proved of all of them: functions with empty bodies.
 
-ghost use Rattle.std.specs.Prelude.{◌≡◌, ◌++◌, ℕ, List, Some};
+ghost use Rattle.std.specs.Prelude.{◌≡◌, ◌++◌, ◌∷◌, ℕ, List, Some};
 ghost use Rattle.lpt_packet.specs.Packets.{Fields, IsPacket, IsIdle};
 ghost use Rattle.lpt_stream.specs.Pieces.{Piece, Cuts, Finds};
-ghost use Rattle.lpt_stream.specs.Streams.{IsStream, all_octets, front_of};
+ghost use Rattle.lpt_stream.specs.Streams.{IsDamaged, IsEndOrPacket, IsPacketOrIdle, IsStream, all_octets, front_of};
 
 /// A packet and an idle packet are cut out whole, whatever comes behind.
 pub fn packets_are_cut()
@@ -21,4 +21,16 @@ pub fn streams_are_cut_one_way()
 /// In packets and idle packets, one behind the other, just these are found.
 pub fn packets_are_found()
     ensures { (packets : List (List ℕ)) → IsStream packets → Finds (all_octets packets) packets }
+{}
+
+/// A packet that is damaged, but not in its length, costs itself and nothing else, where a packet
+/// stands behind it or the stream ends: those before it are found, and behind it what is found
+/// where it is whole.
+pub fn damage_costs_one_packet()
+    ensures whole { (before : List (List ℕ)) (packet rest : List ℕ) (packets : List (List ℕ))
+        → IsStream before → IsPacketOrIdle packet → Finds rest packets
+        → Finds (all_octets before ++ (packet ++ rest)) (before ++ packet ∷ packets) }
+    ensures damaged { (before : List (List ℕ)) (damaged rest : List ℕ) (packets : List (List ℕ))
+        → IsStream before → IsDamaged damaged → IsEndOrPacket rest → Finds rest packets
+        → Finds (all_octets before ++ (damaged ++ rest)) (before ++ packets) }
 {}

@@ -13,6 +13,7 @@
 mod buffer;
 mod cutting;
 mod found;
+mod front;
 pub mod laws;
 mod piece_kind;
 mod taking;
@@ -21,6 +22,7 @@ mod waiting;
 pub use buffer::PacketBuffer;
 pub use cutting::{packet_length, whole_length};
 pub use found::Found;
+pub use front::piece_in_front;
 pub use lpt_text::{Sink, Source, StreamFault};
 pub use piece_kind::PieceKind;
 pub use taking::{PieceTaker, each_piece};
