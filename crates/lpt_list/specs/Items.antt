@@ -21,6 +21,8 @@ use Rattle.lpt_part.specs.declared.reason.Reason.{Reason}
 use Rattle.lpt_part.specs.Aborts.{abort_in, reason_code}
 use Rattle.lpt_part.specs.Parts.{Piece, part_in}
 use Rattle.lpt_events.specs.Arrivals.{carried_kind}
+use Rattle.lpt_areas.specs.declared.areas.Areas.{Areas}
+use Rattle.lpt_areas.specs.Areas.{areas_in}
 use Rattle.lpt_list.specs.declared.form.Form.{Form}
 use Rattle.lpt_list.specs.declared.form.Form.TheVariants.{Text, Json}
 use Rattle.lpt_part.specs.Kinds.{kind_word}
@@ -127,6 +129,15 @@ abbrev pub report_items : Report → List Item
 report_items r =
     request_items (encode_lower (be r.request.value 4)) ++ code_items r.code
 
+-- the areas that a message of the memory service names, where it names any
+abbrev pub areas_said : Option Areas → List Item
+areas_said None = []
+areas_said (Some a) =
+    Number (codes "memory") (codes "memory_id") a.memory
+    ∷ Number (codes "areas") (codes "areas") a.count
+    ∷ Number (codes "address") (codes "start_address") a.address
+    ∷ Number (codes "length") (codes "area_length") a.len ∷ []
+
 -- the first test that octets fail
 abbrev pub fault_items : ℕ → List ℕ → List Item
 fault_items code name = Number (codes "fault") (codes "fault_code") code ∷ Alone (codes "fault") name ∷ []
@@ -145,16 +156,18 @@ abort_said body = option_map_or abort_items (abort_in body) []
 abbrev pub report_said : ℕ → List ℕ → List Item
 report_said subtype body = option_map_or report_items (report_in subtype body) []
 
--- what a telecommand carries, where that is a part
+-- what a telecommand carries, where that is a part or a request that names areas
 abbrev pub tc_carried : ℕ → Command → List Item
-tc_carried p c = option_map_or (part_said p c.body) (carried_kind Up c.service c.subtype) []
+tc_carried p c =
+    option_map_or (part_said p c.body) (carried_kind Up c.service c.subtype)
+    (areas_said (areas_in Up c.service c.subtype c.body))
 
 -- what telemetry carries that is no part, where that is a report
 abbrev pub tm_reported : Telemetry → List Item
 tm_reported t =
     if t.service == 1 then report_said t.subtype t.body
     else if (t.service == 13) && (t.subtype == 16) then abort_said t.body
-    else []
+    else areas_said (areas_in Down t.service t.subtype t.body)
 
 -- what telemetry carries, where that is a part or a report
 abbrev pub tm_carried : ℕ → Telemetry → List Item

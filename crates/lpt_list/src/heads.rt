@@ -10,7 +10,9 @@ ghost use Rattle.lpt_stream.specs.Pieces.{IsSealed};
 ghost use Rattle.lpt_list.specs.Items.{abort_items, abort_said, code_items, fault_items, field_said, items_text, packet_said, part_said, report_items, report_said, request_items, said, tc_carried, tc_said, tm_carried, tm_said, unread_items};
 
 use crate::Form;
+use crate::areas::print_areas;
 use crate::headers::{joined, primary, tc_head, tm_head};
+use lpt_areas::read_areas;
 use lpt_events::part_kind;
 use lpt_packet::{Direction, Packet, PacketFault, PacketKind, Seen, read_packet, read_sealed};
 use lpt_part::{ABORT, Kind, Reason, TRANSFER, read_abort, read_part};
@@ -120,7 +122,7 @@ fn fault_said(alloc: Global, form: Form, code: u16, name: &str) -> Result<String
     }
 }
 
-// The part that a telecommand carries, where it carries one.
+// The part or the request that a telecommand carries, where it carries one.
 fn tc_carried(
     alloc: Global,
     form: Form,
@@ -132,9 +134,14 @@ fn tc_carried(
     ensures { IfOk result (λ t. string_bytes t
         ≡ items_text form (tc_carried p (command head.now body.now))) }
 {
-    match part_kind(Direction::Up, head.service, head.subtype) {
+    let (service, subtype) = (head.service, head.subtype);
+    match part_kind(Direction::Up, service, subtype) {
         Some(kind) => part_said(alloc, form, kind, body, p),
-        None => Ok(String::new(alloc)),
+        None => print_areas(
+            alloc,
+            form,
+            read_areas(Direction::Up, service, subtype, body),
+        ),
     }
 }
 
@@ -150,12 +157,17 @@ fn tm_carried(
     ensures { IfOk result (λ t. string_bytes t
         ≡ items_text form (tm_carried p (telemetry head.now body.now))) }
 {
-    match part_kind(Direction::Down, head.service, head.subtype) {
+    let (service, subtype) = (head.service, head.subtype);
+    match part_kind(Direction::Down, service, subtype) {
         Some(kind) => part_said(alloc, form, kind, body, p),
-        None => match (head.service, head.subtype) {
-            (VERIFICATION, subtype) => report_said(alloc, form, subtype, body),
+        None => match (service, subtype) {
+            (VERIFICATION, _) => report_said(alloc, form, subtype, body),
             (TRANSFER, ABORT) => abort_said(alloc, form, body),
-            _ => Ok(String::new(alloc)),
+            _ => print_areas(
+                alloc,
+                form,
+                read_areas(Direction::Down, service, subtype, body),
+            ),
         },
     }
 }

@@ -6,6 +6,7 @@
 //! `list_stream`, with a source and a sink.
 #![tactic(auto)]
 
+mod areas;
 mod form;
 mod headers;
 mod heads;
@@ -13,7 +14,9 @@ mod lines;
 mod list_end;
 mod listing;
 
+pub use areas::print_areas;
 pub use form::Form;
 pub use list_end::{ListEnd, Listed, Tally};
 pub use listing::list_stream;
+pub use lpt_areas::Areas;
 pub use lpt_text::{Sink, Source, StreamFault};

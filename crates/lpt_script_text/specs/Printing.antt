@@ -204,6 +204,10 @@ memory_text id address (Some m) =
 memory_text id address None =
     line_of (codes "memory" ∷ decimal id ∷ decimal address ∷ codes "none" ∷ [])
 
+-- what stands before these octets
+abbrev pub memory_front : (id address : ℕ) → List ℕ
+memory_front id address = codes "memory " ++ (decimal id ++ (32 ∷ (decimal address ++ (32 ∷ []))))
+
 -- a message that was released, by its transaction, or as a plain request
 abbrev pub message_text : ℕ → Option (Direction × Name) → List ℕ → List ℕ
 message_text source (Some of) m =

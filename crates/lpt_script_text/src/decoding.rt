@@ -6,9 +6,10 @@ ghost use Rattle.lpt_packet.specs.Packets.{fields};
 ghost use Rattle.lpt_pus.specs.Commands.{command, tc_verdict};
 ghost use Rattle.lpt_pus.specs.Telemetry.{telemetry, tm_verdict};
 ghost use Rattle.lpt_part.specs.Splitting.{IsPartSize};
-ghost use Rattle.lpt_script_text.specs.Decoding.{Says, decoding, tc_decoding, tm_decoding, fault_text, tc_text, tm_text, body_text, part_line, abort_line, report_line, tc_carried, tm_carried};
+ghost use Rattle.lpt_script_text.specs.Decoding.{Says, decoding, tc_decoding, tm_decoding, fault_text, tc_text, tm_text, body_text, part_line, abort_line, report_line, tc_carried, tm_carried, areas_line};
 
 use crate::words::octets_word;
+use lpt_areas::{Areas, read_areas};
 use lpt_events::part_kind;
 use lpt_packet::{Direction, Packet, PacketKind, Seen, read_packet};
 use lpt_part::{ABORT, Kind, TRANSFER, read_abort, read_part};
@@ -32,8 +33,8 @@ pub struct Decoded {
 ///
 /// `idle`; or a line with what the headers of the telecommand or the telemetry say, one with its
 /// body, and one with the part, the verification report or the abortion report that the body is,
-/// where it is read as one; or `fault 3 Length`, the first test of the packet, and then of its
-/// secondary header, that fails.
+/// where it is read as one, or with the areas that it names; or `fault 3 Length`, the first test of
+/// the packet, and then of its secondary header, that fails.
 pub fn print_decoded(alloc: Global, octets: &[u8], p: u32) -> Result<Decoded, AllocError>
     requires { IsPartSize p }
     ensures { IfOk result (λ d. Says (string_bytes d.text) d.faulty (decoding p octets.now)) }
@@ -157,14 +158,15 @@ fn print_body(alloc: Global, body: &[u8]) -> Result<String, AllocError>
     format!(in alloc; "body {octets}\n")
 }
 
-// The part that a telecommand carries, where it carries one.
+// The part or the request that a telecommand carries, where it carries one.
 fn print_tc_carried(alloc: Global, head: &TcHead, body: &[u8], p: u32) -> Result<String, AllocError>
     requires { IsPartSize p }
     ensures { IfOk result (λ t. string_bytes t ≡ tc_carried p (command head.now body.now)) }
 {
-    match part_kind(Direction::Up, head.service, head.subtype) {
+    let (service, subtype) = (head.service, head.subtype);
+    match part_kind(Direction::Up, service, subtype) {
         Some(kind) => print_part(alloc, kind, body, p),
-        None => Ok(String::new(alloc)),
+        None => print_areas(alloc, read_areas(Direction::Up, service, subtype, body)),
     }
 }
 
@@ -173,14 +175,31 @@ fn print_tm_carried(alloc: Global, head: &TmHead, body: &[u8], p: u32) -> Result
     requires { IsPartSize p }
     ensures { IfOk result (λ t. string_bytes t ≡ tm_carried p (telemetry head.now body.now)) }
 {
-    match part_kind(Direction::Down, head.service, head.subtype) {
+    let (service, subtype) = (head.service, head.subtype);
+    match part_kind(Direction::Down, service, subtype) {
         Some(kind) => print_part(alloc, kind, body, p),
-        None => match (head.service, head.subtype) {
-            (VERIFICATION, subtype) => print_report(alloc, subtype, body),
+        None => match (service, subtype) {
+            (VERIFICATION, _) => print_report(alloc, subtype, body),
             (TRANSFER, ABORT) => print_abort(alloc, body),
-            _ => Ok(String::new(alloc)),
+            _ => print_areas(alloc, read_areas(Direction::Down, service, subtype, body)),
         },
     }
+}
+
+// The areas that a message names; nothing where it names none.
+fn print_areas(alloc: Global, areas: Option<Areas>) -> Result<String, AllocError>
+    ensures { IfOk result (λ t. string_bytes t ≡ areas_line areas) }
+{
+    let Some(areas) = areas else {
+        return Ok(String::new(alloc));
+    };
+    let Areas {
+        memory,
+        count,
+        address,
+        len,
+    } = areas;
+    format!(in alloc; "memory {memory} areas {count} address {address} length {len}\n")
 }
 
 // The part of this kind that a body is; nothing where it isn't read as one.

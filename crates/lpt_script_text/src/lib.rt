@@ -14,8 +14,9 @@ mod words;
 pub use decoding::{Decoded, print_decoded};
 pub use printing::{
     print_accepted, print_applied, print_applied_count, print_claimed, print_clear, print_clock,
-    print_committed, print_expired, print_finished, print_journal, print_lost, print_memory,
+    print_committed, print_expired, print_finished, print_journal, print_lost, print_memory_front,
     print_none, print_opened, print_outcome, print_packet, print_plain_count, print_put,
     print_refused, print_release, print_restarted, print_retired, print_stale, print_took,
     print_unreadable,
 };
+pub use words::write_digits;

@@ -4,7 +4,7 @@
 ghost use Rattle.std.specs.Prelude.{◌≡◌, IfOk};
 ghost use Rattle.std.specs.Option.{option_copied};
 ghost use Rattle.std.specs.String.{string_bytes};
-ghost use Rattle.lpt_script_text.specs.Printing.{accepted_text, opened_text, finished_text, lost_text, expired_text, claimed_text, committed_text, stale_text, applied_text, retired_text, restarted_text, clock_text, put_text, took_text, outcome_text, refused_text, unreadable_text, journal_text, plain_count_text, applied_count_text, packet_text, clear_text, memory_text, release_text, none_text};
+ghost use Rattle.lpt_script_text.specs.Printing.{accepted_text, opened_text, finished_text, lost_text, expired_text, claimed_text, committed_text, stale_text, applied_text, retired_text, restarted_text, clock_text, put_text, took_text, outcome_text, refused_text, unreadable_text, journal_text, plain_count_text, applied_count_text, packet_text, clear_text, memory_front, release_text, none_text};
 
 use crate::words::{octets_word, text_around, text_of};
 use lpt_events::{Answer, Applied, Event, Outcome, Release, Reply, Side, StepFault, name_word};
@@ -315,27 +315,11 @@ pub fn print_clear(alloc: Global, clear: bool) -> Result<String, AllocError>
     text_of(alloc, format_args!("clear {clear}\n"))
 }
 
-/// `memory 1 16 00ff`, or `memory 9 0 none`: octets of the memory of this identifier from this
-/// address on, where it has so many.
-pub fn print_memory(
-    alloc: Global,
-    id: u8,
-    address: u32,
-    octets: Option<&[u8]>,
-) -> Result<String, AllocError>
-    ensures { IfOk result (λ t. string_bytes t ≡ memory_text id address (option_copied octets.entry)) }
+/// `memory 1 16 `: what stands before the octets of the memory of this identifier from this address on.
+pub fn print_memory_front(alloc: Global, id: u8, address: u32) -> Result<String, AllocError>
+    ensures { IfOk result (λ t. string_bytes t ≡ memory_front id address) }
 {
-    match octets {
-        Some(octets) => {
-            let octets = octets_word(alloc, octets)?;
-            text_around(
-                alloc,
-                octets.len(),
-                format_args!("memory {id} {address} {octets}\n"),
-            )
-        }
-        None => text_of(alloc, format_args!("memory {id} {address} none\n")),
-    }
+    text_of(alloc, format_args!("memory {id} {address} "))
 }
 
 /// `up 7 1864c000`, or `plain 1864c000` where the message was of no transaction: a release.

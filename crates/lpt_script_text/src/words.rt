@@ -47,8 +47,8 @@ pub(crate) fn octets_word(alloc: Global, octets: &[u8]) -> Result<String, AllocE
     Ok(unsafe { String::from_utf8_unchecked(digits) })
 }
 
-// Writes two digits for each octet.
-fn write_digits(octets: &[u8], digits: &mut [u8])
+/// Writes two digits for each octet.
+pub fn write_digits(octets: &[u8], digits: &mut [u8])
     requires { length digits.old ≡ 2 * length octets.now }
     ensures { digits.new ≡ encode_lower octets.now }
 {

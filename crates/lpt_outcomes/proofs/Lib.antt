@@ -1,0 +1,2 @@
+pub mod SettleLemmas
+pub mod TakeLemmas

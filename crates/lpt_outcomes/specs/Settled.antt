@@ -1,0 +1,34 @@
+-- When a request is settled.
+use Rattle.std.specs.Prelude.{ℕ, ◌&&◌, not, is_some, Bool, true, if◌then◌else◌, List, Option}
+use Rattle.std.specs.List.{filter_map}
+use Rattle.std.specs.Option.{option_map}
+use Rattle.lpt_verify.specs.declared.report.EncodedReport.{EncodedReport}
+use Rattle.lpt_verify.specs.Reading.{report_in}
+use Rattle.lpt_verify.specs.Reports.{all_reports, asks}
+use Rattle.lpt_outcomes.specs.declared.asked.Asked.{Asked}
+use Rattle.lpt_outcomes.specs.declared.news.News.{News}
+use Rattle.lpt_outcomes.specs.declared.outcome.Outcome.{Outcome}
+use Rattle.lpt_outcomes.specs.Reports.{all_heard, news}
+
+-- whether the last report of success that acknowledgement flags ask for has come: of completion, of
+-- start or of acceptance
+abbrev pub has_last : (flags : ℕ) → Outcome → Bool
+has_last flags o =
+    if asks flags 8 then o.completed
+    else if asks flags 2 then o.started
+    else if asks flags 1 then o.accepted
+    else true
+
+-- whether a request didn't fail, and the last that it asks for has come
+abbrev pub is_settled : Asked → Bool
+is_settled a = not (is_some a.outcome.failure) && has_last a.flags a.outcome
+
+-- what a report that is sent tells
+abbrev pub news_sent : EncodedReport → Option News
+news_sent e = option_map (news e.subtype) (report_in e.subtype e.body)
+
+-- requests once all reports have come that are sent on one of this request ID and these flags,
+-- which failed with this code or was carried out
+abbrev pub answered : (id flags : ℕ) → (code : Option ℕ) → List Asked → List Asked
+answered id flags code requests =
+    all_heard requests (filter_map news_sent (all_reports id flags code))

@@ -1,0 +1,62 @@
+//! Requests, and whether they are settled.
+
+ghost use Rattle.std.specs.Prelude.{◌↔◌, IsTrue, All};
+ghost use Rattle.lpt_outcomes.specs.Settled.{is_settled};
+
+use crate::Outcome;
+use crate::news::News;
+use lpt_areas::Areas;
+use lpt_pus::RequestId;
+
+/// A telecommand of a stream, and what reports have told of it.
+#[derive(Clone, Copy)]
+pub struct Asked {
+    /// Its request ID.
+    pub request: RequestId,
+    /// The application process identifier, 0 to 2046.
+    pub apid: u16,
+    /// The packet sequence count, 0 to 16,383.
+    pub count: u16,
+    /// The acknowledgement flags, 0 to 15, a sum of: 1 acceptance, 2 start, 4 progress and
+    /// 8 completion of execution.
+    pub flags: u8,
+    /// The service type.
+    pub service: u8,
+    /// The message subtype.
+    pub subtype: u8,
+    /// The areas that it names, where it is a load, a dump or a check.
+    pub areas: Option<Areas>,
+    /// What reports have told of it.
+    pub outcome: Outcome,
+}
+
+impl Asked {
+    ghost use Rattle.std.specs.Prelude.{◌≡◌};
+    ghost use Rattle.lpt_outcomes.specs.Reports.{heard};
+    ghost use Rattle.lpt_outcomes.specs.Settled.{is_settled};
+
+    // Takes what a report tells, where it is on this request's ID.
+    pub(crate) fn hear(&mut self, news: &News)
+        ensures { self.new ≡ heard news.now self.old }
+    {
+        if self.request.value == news.report.request.value {
+            self.outcome = self.outcome.told(news);
+        }
+    }
+
+    // Whether it didn't fail, and the last report of success that it asks for has come.
+    pub(crate) fn is_settled(&self) -> bool
+        ensures { result ≡ is_settled self.now }
+    {
+        self.outcome.failure.is_none() && self.outcome.has_last(self.flags)
+    }
+}
+
+/// Whether all requests are settled: none failed, and of each the last report of success has come
+/// that its acknowledgement flags ask for, of acceptance, start and completion. No report of
+/// progress is waited for.
+pub fn are_settled(requests: &[Asked]) -> bool
+    ensures { IsTrue result ↔ All (λ a. IsTrue (is_settled a)) requests.now }
+{
+    requests.iter().all(|asked| asked.is_settled())
+}

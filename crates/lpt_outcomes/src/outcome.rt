@@ -1,0 +1,65 @@
+//! What verification reports have told of a request.
+
+use crate::news::News;
+
+/// What verification reports have told of a request.
+#[derive(Clone, Copy)]
+pub struct Outcome {
+    /// Whether its acceptance succeeded.
+    pub accepted: bool,
+    /// Whether the start of its execution succeeded.
+    pub started: bool,
+    /// Whether the completion of its execution succeeded.
+    pub completed: bool,
+    /// The failure code of the first report that its acceptance or the start of its execution
+    /// failed.
+    pub failure: Option<u16>,
+}
+
+impl Outcome {
+    ghost use Rattle.std.specs.Prelude.{◌≡◌};
+    ghost use Rattle.lpt_outcomes.specs.Requests.{nothing_told};
+    ghost use Rattle.lpt_outcomes.specs.Reports.{told};
+    ghost use Rattle.lpt_outcomes.specs.Settled.{has_last};
+
+    // Before any report.
+    pub(crate) fn new() -> Outcome
+        ensures { result ≡ nothing_told }
+    {
+        Outcome {
+            accepted: false,
+            started: false,
+            completed: false,
+            failure: None,
+        }
+    }
+
+    // With what one more report tells.
+    pub(crate) fn told(self, news: &News) -> Outcome
+        ensures { result ≡ told self news.now }
+    {
+        let mut outcome = self;
+        match (news.report.code, news.subtype) {
+            (Some(code), _) => outcome.failure = outcome.failure.or(Some(code)),
+            (None, 1) => outcome.accepted = true,
+            (None, 3) => outcome.started = true,
+            (None, _) => outcome.completed = true,
+        }
+        outcome
+    }
+
+    // Whether the last report of success that these flags ask for has come.
+    pub(crate) fn has_last(&self, flags: u8) -> bool
+        ensures { result ≡ has_last flags self.now }
+    {
+        if flags / 8 % 2 == 1 {
+            self.completed
+        } else if flags / 2 % 2 == 1 {
+            self.started
+        } else if flags % 2 == 1 {
+            self.accepted
+        } else {
+            true
+        }
+    }
+}
